@@ -1,0 +1,62 @@
+ghost use Rattle.std.specs.Prelude.{◌≡◌, ◌^◌, ◌<◌, ◌≤◌, length, Some, vec_len, slice_get};
+ghost use Rattle.std.specs.List.{enumerate_from};
+
+use field_entry::FieldEntry;
+use ii_io::Field;
+use schema_fields::SchemaFields;
+use std::marker::Model;
+
+pub mod field_entry;
+pub mod index_record_option;
+pub mod schema_fields;
+pub mod value_type;
+
+/// The fields of an index, numbered from 0. Clauses see the list of their entries.
+#[derive(Drop)]
+pub struct Schema {
+    entries: Vec<FieldEntry>,
+}
+
+impl Model for Schema {
+    ghost use Rattle.std.specs.Prelude.{List, ◌^◌, ◌≤◌, length};
+    ghost use Rattle.ii_base.specs.Schema.{Entry};
+
+    ghost Value = { List Entry };
+
+    ghost view = { λ s. s.entries.items };
+
+    ghost invariant = { λ s. length s.entries.items ≤ 2 ^ 32 };
+}
+
+impl Schema {
+    /// A schema of these entries, the first of which is field 0. It takes no memory.
+    pub fn new(entries: Vec<FieldEntry>) -> Schema
+        requires { vec_len entries ≤ 2 ^ 32 }
+        ensures { result ≡ entries.items }
+    {
+        Schema { entries }
+    }
+
+    /// How many fields there are.
+    pub fn num_fields(&self) -> usize
+        ensures value { result ≡ length self.now }
+        ensures bound { result ≤ 2 ^ 32 }
+    {
+        self.entries.len()
+    }
+
+    /// The entry of a field of this schema.
+    pub fn get_field_entry(&self, field: Field) -> &FieldEntry
+        requires { field < length self.now }
+        ensures { slice_get self.now field ≡ Some result.now }
+    {
+        &self.entries[field.field_id() as usize]
+    }
+
+    /// The fields with their entries, in order.
+    pub fn fields(&self) -> SchemaFields<'_>
+        ensures { result ≡ enumerate_from 0 self.now }
+    {
+        SchemaFields::new(&self.entries)
+    }
+}

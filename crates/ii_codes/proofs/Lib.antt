@@ -1,0 +1,10 @@
+pub mod BitLaws
+pub mod BitLemmas
+pub mod BlockLaws
+pub mod BlockLemmas
+pub mod PackedLaws
+pub mod PackedLemmas
+pub mod PaddingLemmas
+pub mod SortedVintLemmas
+pub mod WidthLemmas
+pub mod WorkedRows

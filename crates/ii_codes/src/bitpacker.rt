@@ -1,0 +1,222 @@
+ghost use Rattle.std.specs.Prelude.{◌≡◌, ℕ, ◌+◌, ◌*◌, ◌/◌, ◌^◌, ◌<◌, ◌≤◌, ◌↔◌, ◌⊎◌, [], ◌++◌, length, slice_index, OnOk, IfErr, IsErrOf};
+ghost use Rattle.ii_io.specs.Told.{Tells, TellsBeginning, IsFull};
+ghost use Rattle.ii_codes.specs.Packed.{bits_in, num_bits};
+ghost use Rattle.ii_codes.specs.Bits.{low_bits, whole_bytes, bits_left, bits_bytes, WritesOneRow, ReadsFromItsPlace};
+
+use ii_io::{CountingWriter, Fault, LimitName};
+use std::io::Write;
+use std::marker::Model;
+
+/// How many bits `n` takes, from 0 to 64: 0 for 0.
+pub fn compute_num_bits(n: u64) -> u8
+    ensures value { result ≡ num_bits n }
+    ensures most { result ≤ 64 }
+    ensures fits { n < 2 ^ result }
+{
+    (u64::BITS - n.leading_zeros()) as u8
+}
+
+/// The number that `num_bits` bits of `bytes`, at most 56, make from bit `addr_bits` on, the lowest
+/// first. Bit `j` of bytes is bit `j % 8` of byte `j / 8`.
+pub fn extract_bits(bytes: &[u8], addr_bits: usize, num_bits: u8) -> u64
+    requires narrow { num_bits ≤ 56 }
+    requires within { addr_bits + num_bits ≤ 8 * length bytes.now }
+    ensures value { result ≡ bits_in 8 bytes.now addr_bits num_bits }
+    ensures fits { result < 2 ^ num_bits }
+{
+    super::packed::read_bits(bytes, addr_bits, num_bits)
+}
+
+/// Writes numbers of any widths as one row of bits, the lowest first, and each whole byte at once.
+/// What it has still to write are fewer than eight bits.
+///
+/// After a fault nothing is known of it.
+#[derive(Drop)]
+pub struct BitPacker {
+    mini_buffer: u8,
+    mini_buffer_written: u8,
+}
+
+impl Model for BitPacker {
+    ghost use Rattle.std.specs.Prelude.{ℕ, ◌^◌, ◌<◌, List};
+    ghost use Rattle.ii_codes.specs.Bits.{low_bits};
+
+    ghost Value = { List ℕ };
+
+    ghost view = { λ p. low_bits p.mini_buffer_written p.mini_buffer };
+
+    ghost invariant = { λ p. (p.mini_buffer_written < 8) × (p.mini_buffer < 2 ^ p.mini_buffer_written) };
+}
+
+impl BitPacker {
+    /// A packer with no bit to write.
+    pub fn new() -> BitPacker
+        ensures { result ≡ [] }
+    {
+        BitPacker {
+            mini_buffer: 0,
+            mini_buffer_written: 0,
+        }
+    }
+
+    /// Adds the `num_bits` lowest bits of `val`, at most 64, which has no others, and writes the
+    /// bytes that are then whole. Answers `Write` where the writer fails, and `Limit(Offset)` where
+    /// one of its counts would pass `u64::MAX`.
+    pub fn write<W: Write>(
+        &mut self,
+        val: u64,
+        num_bits: u8,
+        output: &mut CountingWriter<W>,
+    ) -> Result<(), Fault>
+        requires narrow { num_bits ≤ 64 }
+        requires fits { val < 2 ^ num_bits }
+        ensures ok { OnOk result (Tells output.old output.new (whole_bytes (self.old ++ low_bits num_bits val))) }
+        ensures left { OnOk result (self.new ≡ bits_left (self.old ++ low_bits num_bits val)) }
+        ensures write { IsErrOf result Fault.Write ↔ (output.old.failed < output.new.failed) }
+        ensures limit { IsErrOf result (Fault.Limit LimitName.Offset) ↔ IsFull output.old ((length self.old + num_bits) / 8) }
+        ensures only { IfErr result (λ e. (e ≡ Fault.Write) ⊎ (e ≡ Fault.Limit LimitName.Offset)) }
+    {
+        let (low, len) = (self.mini_buffer, self.mini_buffer_written);
+        let end = len + num_bits;
+        let whole = end / 8;
+        let mut bytes = [0u8; 8];
+        for j in 0..whole {
+            bytes[usize::from(j)] = byte_of_bits(low, len, val, num_bits, j);
+        }
+        self.mini_buffer = byte_of_bits(low, len, val, num_bits, whole);
+        self.mini_buffer_written = end % 8;
+        output.write_all(&bytes[..usize::from(whole)])
+    }
+
+    /// Writes the bits that are left, with zero bits up to the end of the byte. Answers the faults
+    /// of `write`.
+    pub fn flush<W: Write>(&mut self, output: &mut CountingWriter<W>) -> Result<(), Fault>
+        ensures ok { OnOk result (Tells output.old output.new (bits_bytes self.old)) }
+        ensures left { OnOk result (self.new ≡ []) }
+        ensures write { IsErrOf result Fault.Write ↔ (output.old.failed < output.new.failed) }
+        ensures limit { IsErrOf result (Fault.Limit LimitName.Offset) ↔ IsFull output.old (length (bits_bytes self.old)) }
+        ensures only { IfErr result (λ e. (e ≡ Fault.Write) ⊎ (e ≡ Fault.Limit LimitName.Offset)) }
+    {
+        let byte = [self.mini_buffer];
+        let size = usize::from(self.mini_buffer_written.min(1));
+        self.mini_buffer = 0;
+        self.mini_buffer_written = 0;
+        output.write_all(&byte[..size])
+    }
+
+    /// Writes the bits that are left, as `flush` does.
+    pub fn close<W: Write>(&mut self, output: &mut CountingWriter<W>) -> Result<(), Fault>
+        ensures ok { OnOk result (Tells output.old output.new (bits_bytes self.old)) }
+        ensures left { OnOk result (self.new ≡ []) }
+        ensures write { IsErrOf result Fault.Write ↔ (output.old.failed < output.new.failed) }
+        ensures limit { IsErrOf result (Fault.Limit LimitName.Offset) ↔ IsFull output.old (length (bits_bytes self.old)) }
+        ensures only { IfErr result (λ e. (e ≡ Fault.Write) ⊎ (e ≡ Fault.Limit LimitName.Offset)) }
+    {
+        self.flush(output)
+    }
+}
+
+impl Default for BitPacker {
+    ghost use Rattle.std.specs.Prelude.{◌≡◌, []};
+
+    ghost is_default = { λ p. p ≡ [] };
+
+    fn default() -> BitPacker {
+        BitPacker::new()
+    }
+}
+
+// Bit `place` of the `len` bits of `low` and those of `val` behind them, 0 behind all.
+fn bit_of(low: u8, len: u8, val: u64, num_bits: u8, place: u8) -> u8
+    requires short { len < 8 }
+    requires narrow { num_bits ≤ 64 }
+    ensures { result ≡ slice_index (low_bits len low ++ low_bits num_bits val) place }
+{
+    if place < len {
+        return (low >> place) % 2;
+    }
+    if place - len < num_bits {
+        return ((val >> (place - len)) % 2) as u8;
+    }
+    0
+}
+
+// Byte `j` of that row of bits.
+fn byte_of_bits(low: u8, len: u8, val: u64, num_bits: u8, j: u8) -> u8
+    requires short { len < 8 }
+    requires narrow { num_bits ≤ 64 }
+    requires near { j ≤ 8 }
+    ensures { result ≡ bits_in 1 (low_bits len low ++ low_bits num_bits val) (j * 8) 8 }
+{
+    let mut byte = 0u8;
+    for i in 0..8u8 {
+        byte += bit_of(low, len, val, num_bits, j * 8 + i) << i;
+    }
+    byte
+}
+
+/// The law of writing: what is written piece by piece is what is written as one row of bits.
+pub fn writes_one_row()
+    ensures { WritesOneRow }
+{}
+
+/// The law of reading: a number of a row is extracted from its place, whatever stands around it.
+pub fn reads_from_its_place()
+    ensures { ReadsFromItsPlace }
+{}
+
+#[cfg(test)]
+mod tests {
+    use super::*;
+    use std::test::Fail;
+
+    #[test]
+    fn packs_and_extracts(rt: HostRuntime) -> Result<(), Fail> {
+        let mut output = CountingWriter::wrap(Vec::new(rt.alloc()));
+        let mut packer = BitPacker::default();
+        packer.write(321, compute_num_bits(321), &mut output)?;
+        packer.write(2, compute_num_bits(2), &mut output)?;
+        packer.write(51, compute_num_bits(51), &mut output)?;
+        packer.close(&mut output)?;
+        let bytes = output.finish();
+        assert_eq!(rt; bytes.as_slice(), [0x41, 0x9D, 0x01].as_slice());
+        assert!(rt; bytes.len() == 3);
+        assert_eq!(rt; extract_bits(&bytes, 0, 9), 321);
+        assert_eq!(rt; extract_bits(&bytes, 9, 2), 2);
+        assert_eq!(rt; extract_bits(&bytes, 11, 6), 51);
+        Ok(())
+    }
+
+    #[test]
+    fn packs_all_64_bits(rt: HostRuntime) -> Result<(), Fail> {
+        let mut output = CountingWriter::wrap(Vec::new(rt.alloc()));
+        let mut packer = BitPacker::new();
+        packer.write(1, 1, &mut output)?;
+        packer.write(u64::MAX, 64, &mut output)?;
+        packer.write(0, 0, &mut output)?;
+        packer.flush(&mut output)?;
+        packer.flush(&mut output)?;
+        let bytes = output.finish();
+        assert_eq!(rt;
+            bytes.as_slice(),
+            [255, 255, 255, 255, 255, 255, 255, 255, 1].as_slice()
+        );
+        Ok(())
+    }
+
+    #[test]
+    fn extracts_up_to_56_bits(rt: HostRuntime) {
+        let bytes = [0xFFu8; 8];
+        assert_eq!(rt; extract_bits(&bytes, 7, 56), 72_057_594_037_927_935);
+        assert_eq!(rt; extract_bits(&bytes, 8, 56), 72_057_594_037_927_935);
+        assert_eq!(rt; extract_bits(&bytes, 64, 0), 0);
+        assert_eq!(rt;
+            (
+                compute_num_bits(0),
+                compute_num_bits(1),
+                compute_num_bits(u64::MAX)
+            ),
+            (0, 1, 64)
+        );
+    }
+}

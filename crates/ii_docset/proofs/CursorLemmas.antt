@@ -1,0 +1,118 @@
+-- Laws of cursors.
+use Rattle.std.proofs.Common.{◌≡◌, ℕ, zero, suc, ◌+◌, ◌<◌, ◌≤◌, Bool, true, false, ◌&&◌, List, [], ◌∷◌, ◌++◌, length, take, drop, map, nat_le, nat_lt, get_or, refl, sym, ap, arith, add-one, ◌^◌}
+use Rattle.std.proofs.lemmas.Bool.{lt-ltb, le-ltb, ltb-true, le-leb, lt-leb, leb-true}
+use Rattle.std.proofs.lemmas.List.{drop-drop, drop_all, take_more}
+use Rattle.std.proofs.Math.Seq.{drop-cons}
+use Rattle.ii_docset.specs.Entries.{Entry, document, ascend_from, are_documents}
+use Rattle.ii_docset.specs.Cursor.{doc_at, IsAscending, from_doc}
+
+pub IsAscending_drop_1 : (es : List Entry) → IsAscending es → IsAscending (drop 1 es)
+IsAscending_drop_1 [] h = tt
+IsAscending_drop_1 (e ∷ es) h = h.1
+
+pub IsAscending_drop : (n : ℕ) (es : List Entry) → IsAscending es → IsAscending (drop n es)
+IsAscending_drop zero es h = h
+IsAscending_drop (suc n) [] h = tt
+IsAscending_drop (suc n) (e ∷ es) h = IsAscending_drop n es h.1
+
+-- a document below the target is dropped by both
+pub from_doc_step : (target : ℕ) (es : List Entry) → doc_at es < target → target ≤ 2147483647 → from_doc target (drop 1 es) ≡ from_doc target es
+from_doc_step target [] h up = refl
+from_doc_step target (e ∷ es) h up = rw (lt-leb target e.doc h) refl
+
+-- from the current document on nothing is dropped
+pub from_doc_here : (target : ℕ) (es : List Entry) → IsAscending es → target ≤ doc_at es → from_doc target es ≡ es
+from_doc_here target [] h at_least = refl
+from_doc_here target (e ∷ es) h at_least =
+    let first = h.0 in
+    rw (le-leb target e.doc at_least) (ap (λ (later : List Entry). e ∷ later) (from_doc_here target es h.1 (omega arith)))
+
+pub length_below : (es : List Entry) → IsAscending es → length es + doc_at es ≤ 2147483647
+length_below [] h = omega arith
+length_below (e ∷ es) h = let ih = length_below es h.1 in let first = h.0 in omega arith
+
+pub nothing_left : (es : List Entry) → IsAscending es → 2147483647 ≤ doc_at es → [] ≡ es
+nothing_left [] h end = refl
+nothing_left (e ∷ es) h end = absurd (let ih = length_below (e ∷ es) h in omega arith)
+
+pub length_step : (es : List Entry) → doc_at es < 2147483647 → suc (length (drop 1 es)) ≡ length es
+length_step [] h = absurd (omega arith)
+length_step (e ∷ es) h = refl
+
+pub doc_below : (es : List Entry) → IsAscending es → doc_at es ≤ 2147483647
+doc_below es h = let below = length_below es h in omega arith
+
+-- the current document of documents from a place on
+pub doc_at_inside : (docs : List ℕ) (i : ℕ) → i < length docs → get_or docs i 0 ≡ doc_at (drop i (map document docs))
+doc_at_inside [] i h = absurd (omega arith)
+doc_at_inside (d ∷ ds) zero h = refl
+doc_at_inside (d ∷ ds) (suc i) h = doc_at_inside ds i (omega arith)
+
+pub advanced : (es : List Entry) (i : ℕ) → drop (i + 1) es ≡ drop 1 (drop i es)
+advanced es i = sym (drop-drop 1 i es)
+
+-- at its end a list has nothing to drop
+pub ended : (docs : List ℕ) (i : ℕ) → length docs ≤ i → drop i (map document docs) ≡ []
+ended [] zero h = refl
+ended [] (suc i) h = refl
+ended (d ∷ ds) zero h = absurd (omega arith)
+ended (d ∷ ds) (suc i) h = ended ds i (omega arith)
+
+pub doc_at_end : (docs : List ℕ) (i : ℕ) → length docs ≤ i → 2147483647 ≡ doc_at (drop i (map document docs))
+doc_at_end docs i h = rw (ended docs i h) refl
+
+-- documents in order are an ascending list, and no others are
+pub and_parts : (a b c : Bool) → (a && b && c) ≡ true → (a ≡ true) × (b ≡ true) × (c ≡ true)
+and_parts true true c h = (refl, refl, h)
+and_parts true false c h = absurd (cc)
+and_parts false b c h = absurd (cc)
+
+ascending_from : (least : ℕ) (docs : List ℕ) → ascend_from least docs ≡ true → IsAscending (map document docs) × (least ≤ 2147483647 → least ≤ doc_at (map document docs))
+ascending_from least [] h = (tt, λ up. up)
+ascending_from least (d ∷ ds) h =
+    let parts = and_parts (nat_le least d) (nat_lt d 2147483647) (ascend_from (d + 1) ds) h in
+    let low = leb-true least d parts.0 in
+    let high = ltb-true d 2147483647 parts.1 in
+    let later = ascending_from (d + 1) ds parts.2 in
+    let next = later.1 (omega arith) in
+    ((omega arith, later.0), λ up. low)
+
+pub ascending : (docs : List ℕ) → are_documents docs ≡ true → IsAscending (map document docs)
+ascending docs h = (ascending_from 0 docs h).0
+
+pub ruleset cursor_steps = (IsAscending_drop_1, from_doc_step, from_doc_here, length_below, nothing_left, length_step, doc_below)
+
+-- documents read one by one
+next_cases : (least d : ℕ) (later : List ℕ) (low high : Bool) → nat_le least d ≡ low → nat_lt d 2147483647 ≡ high → (low && high) ≡ true → ascend_from least (d ∷ later) ≡ ascend_from (d + 1) later
+next_cases least d later true true p q h = rw (p, q) refl
+next_cases least d later true false p q h = absurd (cc)
+next_cases least d later false high p q h = absurd (cc)
+
+pub ascend_next : (docs : List ℕ) (i least d : ℕ) → i < length docs → get_or docs i 0 ≡ d → least ≤ d → d < 2147483647 → ascend_from least (drop i docs) ≡ ascend_from (d + 1) (drop (i + 1) docs)
+ascend_next docs i least d h e low high =
+    let next = next_cases least d (drop (suc i) docs) true true (le-leb least d low) (lt-ltb d 2147483647 high) refl in
+    rw (drop-cons docs i 0 h, e, add-one i) next
+
+pub ascend_low : (docs : List ℕ) (i least : ℕ) → i < length docs → get_or docs i 0 < least → false ≡ ascend_from least (drop i docs)
+ascend_low docs i least h low = rw (drop-cons docs i 0 h, lt-leb least (get_or docs i 0) low) refl
+
+high_case : (least d : ℕ) (later : List ℕ) (low : Bool) → nat_le least d ≡ low → 2147483647 ≤ d → false ≡ ascend_from least (d ∷ later)
+high_case least d later true p h = rw (p, le-ltb d 2147483647 h) refl
+high_case least d later false p h = rw p refl
+
+pub ascend_high : (docs : List ℕ) (i least : ℕ) → i < length docs → 2147483647 ≤ get_or docs i 0 → false ≡ ascend_from least (drop i docs)
+ascend_high docs i least h high = rw (drop-cons docs i 0 h) (high_case least (get_or docs i 0) (drop (suc i) docs) (nat_le least (get_or docs i 0)) refl high)
+
+pub ascend_all : (docs : List ℕ) (i least : ℕ) → length docs ≤ i → ascend_from least (drop i docs) ≡ true
+ascend_all docs i least h = rw (drop_all i docs h) refl
+
+-- documents from the front are documents
+ascend_take : (n least : ℕ) (docs : List ℕ) → ascend_from least docs ≡ true → ascend_from least (take n docs) ≡ true
+ascend_take zero least docs h = refl
+ascend_take (suc n) least [] h = refl
+ascend_take (suc n) least (d ∷ ds) h =
+    let parts = and_parts (nat_le least d) (nat_lt d 2147483647) (ascend_from (d + 1) ds) h in
+    rw (parts.0, parts.1) (ascend_take n (d + 1) ds parts.2)
+
+pub documents_take : (i : ℕ) (docs : List ℕ) → i < length docs → are_documents docs ≡ true → are_documents (take i docs ++ get_or docs i 0 ∷ []) ≡ true
+documents_take i docs within h = rw (← take_more docs i 0 within) (ascend_take (i + 1) 0 docs h)

@@ -1,0 +1,23 @@
+-- A cursor is the rest of a list of entries.
+use Rattle.std.specs.Prelude.{ℕ, ◌<◌, ◌≤◌, List, [], ◌∷◌, filter, nat_le, ⊤}
+use Rattle.ii_docset.specs.declared.docset.TheConstants.{TERMINATED}
+use Rattle.ii_docset.specs.Entries.{Entry}
+
+-- the first document of the rest, or the end
+abbrev pub doc_at : List Entry → ℕ
+doc_at [] = TERMINATED
+doc_at (e ∷ es) = e.doc
+
+-- Each document is below the next one, and the last is below TERMINATED.
+abbrev pub IsAscending : List Entry → Type 0
+IsAscending [] = ⊤
+IsAscending (e ∷ es) = (e.doc < doc_at es) × IsAscending es
+
+-- the rest from the target on
+abbrev pub from_doc : ℕ → List Entry → List Entry
+from_doc target es = filter (λ (e : Entry). nat_le target e.doc) es
+
+-- A target lies up to the end, and not below a current document.
+pub record IsTarget (target : ℕ) (es : List Entry) : Type 0 where
+  pub up_to : target ≤ TERMINATED
+  pub forward : doc_at es < TERMINATED → doc_at es ≤ target

@@ -1,0 +1,3 @@
+pub mod BufferLemmas
+pub mod NormLemmas
+pub mod WrittenNorms

@@ -1,0 +1,7 @@
+use Rattle.ii_fieldnorm.specs.Buffers.{norm_bodies}
+use Rattle.ii_fieldnorm.proofs.BufferLemmas.{closing_full}
+use Rattle.ii_fieldnorm.proofs.writer.FieldNormsWriter.serialize.Goals as goal
+
+pub returns-in-Ok-clause-limit : goal.returns-in-Ok-clause-limit
+returns-in-Ok-clause-limit g c =
+    λ e. rw (← c.self.view_is) (closing_full _ _ (norm_bodies c.self.inside.buffers.items) (rw c.deref.ensures.value at c.in-Ok.ensures.ok) (c.close-writer.ensures.limit.0 e).1)

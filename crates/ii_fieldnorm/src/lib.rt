@@ -1,0 +1,14 @@
+//! The norm of a document in a field, its number of tokens, kept in one byte.
+#![tactic(auto)]
+
+pub mod code;
+pub mod reader;
+pub mod serializer;
+#[cfg(test)]
+mod tests;
+pub mod writer;
+
+pub use code::{FIELD_NORMS_TABLE, fieldnorm_to_id, id_to_fieldnorm};
+pub use reader::{FieldNormReader, FieldNormReaders};
+pub use serializer::FieldNormsSerializer;
+pub use writer::FieldNormsWriter;

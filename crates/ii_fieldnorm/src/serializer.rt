@@ -1,0 +1,103 @@
+ghost use Rattle.std.specs.Prelude.{◌≡◌, ◌<◌, ◌⊎◌, ◌↔◌, [], List, false, length, IsTrue, OnOk, OnErr, IfErr, IsErrOf};
+ghost use Rattle.ii_io.specs.Told.{Told, Tells, IsFull};
+ghost use Rattle.ii_io.specs.Composite.{Body, table_bytes, written_composite};
+ghost use Rattle.ii_io.specs.Composing.{has_start, places_of, AddsBody, HasBodies};
+
+use ii_base::{CompositeWrite, CountingWriter, Fault, Field, LimitName};
+use std::alloc::Global;
+use std::io::Write;
+use std::marker::Model;
+
+/// Writes the norms file: a composite file whose bodies have a byte for each document.
+///
+/// It is closed by the first call that is refused, and answers `SerializerClosed` from then on.
+#[derive(Drop)]
+pub struct FieldNormsSerializer<W: Write> {
+    composite_write: CompositeWrite<W>,
+    is_closed: bool,
+}
+
+impl<W: Write> Model for FieldNormsSerializer<W> {
+    ghost use Rattle.std.specs.Prelude.{◌||◌};
+    ghost use Rattle.ii_io.specs.Composing.{Composing};
+
+    ghost Value = { Composing };
+
+    ghost view = { λ s. record s.composite_write { closed = s.composite_write.closed || s.is_closed } };
+}
+
+impl<W: Write> FieldNormsSerializer<W> {
+    /// A serializer over `writer`, whose places are counted from where that stands now.
+    pub fn from_write(alloc: Global, writer: CountingWriter<W>) -> FieldNormsSerializer<W>
+        ensures { result ≡ record { told = writer; base = writer.written; starts = []; closed = false } }
+    {
+        FieldNormsSerializer {
+            composite_write: CompositeWrite::wrap(alloc, writer),
+            is_closed: false,
+        }
+    }
+
+    /// Writes the norms of a field, which weren't written before, and flushes.
+    ///
+    /// `Write` where the writer fails, `Limit(Offset)` where a count of the writer would pass
+    /// `u64::MAX`, `OutOfMemory` where the table can't grow; `SerializerClosed` after an earlier
+    /// refusal.
+    pub fn serialize_field(&mut self, field: Field, fieldnorms_data: &[u8]) -> Result<(), Fault>
+        requires { has_start field self.old.starts ≡ false }
+        ensures ok { OnOk result (AddsBody self.old self.new field fieldnorms_data.now) }
+        ensures write { IsErrOf result Fault.Write ↔ (self.old.told.failed < self.new.told.failed) }
+        ensures limit { IsErrOf result (Fault.Limit LimitName.Offset)
+            → IsFull self.old.told (length fieldnorms_data.now) }
+        ensures fits { OnOk result (¬ IsFull self.old.told (length fieldnorms_data.now)) }
+        ensures closed { IsErrOf result Fault.SerializerClosed ↔ IsTrue self.old.closed }
+        ensures only { IfErr result (λ e. (e ≡ Fault.Write) ⊎ (e ≡ Fault.Limit LimitName.Offset)
+            ⊎ (e ≡ Fault.OutOfMemory) ⊎ (e ≡ Fault.SerializerClosed)) }
+        ensures stays { OnOk result (self.new.closed ≡ false) }
+        ensures err { OnErr result (IsTrue self.new.closed) }
+    {
+        if self.is_closed {
+            return Err(Fault::SerializerClosed);
+        }
+        let writer = self.composite_write.for_field(field)?;
+        let written = write_norms(writer, fieldnorms_data);
+        self.is_closed = written.is_err();
+        written
+    }
+
+    /// Writes the table of the fields, flushes, and hands the writer back.
+    ///
+    /// `Write` where the writer fails, `Limit(Offset)` where a count of the writer would pass
+    /// `u64::MAX`, which writes nothing; `SerializerClosed` after an earlier refusal.
+    pub fn close(self) -> (CountingWriter<W>, Result<(), Fault>)
+        ensures ok { OnOk result.1 (Tells self.told result.0 (table_bytes (places_of self))) }
+        ensures bodies { (begun : Told) (bodies : List Body) → HasBodies begun self bodies
+            → OnOk result.1 (Tells begun result.0 (written_composite bodies)) }
+        ensures write { IsErrOf result.1 Fault.Write ↔ (self.told.failed < (result.0).failed) }
+        ensures limit { IsErrOf result.1 (Fault.Limit LimitName.Offset)
+            ↔ ((self.closed ≡ false) × IsFull self.told (length (table_bytes (places_of self)))) }
+        ensures closed { IsErrOf result.1 Fault.SerializerClosed ↔ IsTrue self.closed }
+        ensures untouched { IsTrue self.closed → result.0 ≡ self.told }
+        ensures only { IfErr result.1 (λ e. (e ≡ Fault.Write) ⊎ (e ≡ Fault.Limit LimitName.Offset)
+            ⊎ (e ≡ Fault.SerializerClosed)) }
+    {
+        let FieldNormsSerializer {
+            composite_write,
+            is_closed,
+        } = self;
+        if is_closed {
+            return (composite_write.into_writer(), Err(Fault::SerializerClosed));
+        }
+        composite_write.close()
+    }
+}
+
+// Writes the bytes and flushes.
+fn write_norms<W: Write>(writer: &mut CountingWriter<W>, bytes: &[u8]) -> Result<(), Fault>
+    ensures ok { OnOk result (Tells writer.old writer.new bytes.now) }
+    ensures write { IsErrOf result Fault.Write ↔ (writer.old.failed < writer.new.failed) }
+    ensures limit { IsErrOf result (Fault.Limit LimitName.Offset) ↔ IsFull writer.old (length bytes.now) }
+    ensures only { IfErr result (λ e. (e ≡ Fault.Write) ⊎ (e ≡ Fault.Limit LimitName.Offset)) }
+{
+    writer.write_all(bytes)?;
+    writer.flush()
+}

@@ -1,0 +1,145 @@
+ghost use Rattle.std.specs.Prelude.{◌≡◌, [], ◌∷◌, Some, None, IfOk};
+ghost use Rattle.ii_fieldnorm.specs.Buffers.{empty_buffers};
+
+use crate::code::ids_approximate_from_below;
+use crate::writer::reads_norms_back;
+use crate::{
+    FIELD_NORMS_TABLE, FieldNormReader, FieldNormReaders, FieldNormsSerializer, FieldNormsWriter,
+    fieldnorm_to_id, id_to_fieldnorm,
+};
+use bytes::Bytes;
+use ii_base::{
+    CompositeFile, CountingWriter, FailingWriter, Fault, Field, FieldEntry, IndexRecordOption,
+    Part, Schema, ValueType,
+};
+use std::alloc::{AllocError, Global};
+use std::test::Fail;
+
+#[test]
+fn numbers_have_ids(rt: HostRuntime) {
+    let rows = [
+        (41, 40, 40),
+        (42, 41, 42),
+        (300, 72, 280),
+        (1_000_000, 167, 983_064),
+    ];
+    for (fieldnorm, id, norm) in rows {
+        assert_eq!(rt; fieldnorm_to_id(fieldnorm), id);
+        assert_eq!(rt; id_to_fieldnorm(id), norm);
+    }
+    assert_eq!(rt; fieldnorm_to_id(u32::MAX), 255);
+    assert_eq!(rt; id_to_fieldnorm(255), 2_013_265_944);
+    for fieldnorm in 0..5 {
+        assert_eq!(rt; id_to_fieldnorm(fieldnorm_to_id(fieldnorm)), fieldnorm);
+    }
+    for (id, norm) in FIELD_NORMS_TABLE.iter().enumerate().skip(43) {
+        assert_eq!(rt;
+            usize::from(fieldnorm_to_id(norm.saturating_sub(1))),
+            id.saturating_sub(1)
+        );
+        assert_eq!(rt; usize::from(fieldnorm_to_id(norm.saturating_add(1))), id);
+    }
+    ids_approximate_from_below();
+    reads_norms_back();
+}
+
+#[test]
+fn constants_answer_for_any_document(rt: HostRuntime) -> Result<(), Fail> {
+    let reader = FieldNormReader::constant(1_000_000, 300);
+    assert_eq!(rt; reader.num_docs(), 1_000_000);
+    assert_eq!(rt; (reader.fieldnorm(0), reader.fieldnorm_id(0)), (280, 72));
+    let reader = FieldNormReader::constant(1_000_000, 10);
+    assert_eq!(rt;
+        (reader.fieldnorm(u32::MAX), reader.fieldnorm_id(0)),
+        (10, 10)
+    );
+    assert_eq!(rt; reader.clone()?.num_docs(), 1_000_000);
+    assert_eq!(rt; FieldNormReader::fieldnorm_to_id(300), 72);
+    assert_eq!(rt; FieldNormReader::id_to_fieldnorm(72), 280);
+    Ok(())
+}
+
+// One field of texts with norms, and one without.
+fn two_fields(alloc: Global) -> Result<Schema, AllocError>
+    ensures { IfOk result (λ schema. empty_buffers schema ≡ Some [] ∷ None ∷ []) }
+{
+    let option = IndexRecordOption::WithFreqs;
+    let text = FieldEntry::text(String::from_str(alloc, "text")?, option, true);
+    let number = FieldEntry::value(String::from_str(alloc, "number")?, ValueType::U64, false);
+    Ok(Schema::new(vec![in alloc; text, number]?))
+}
+
+const TWO_NORMS: [u8; 26] = [
+    0x0D, 2, 0, 0, 0, 0, 0, 0, 0, 0, 0, 0, 0, 0, 2, 0, 0, 0, 0, 0, 0, 0, 1, 0, 0, 0,
+];
+
+fn written(alloc: Global, failing_call: u64) -> Result<(FailingWriter, Result<(), Fault>), Fault> {
+    let mut norms = FieldNormsWriter::for_schema(alloc, &two_fields(alloc)?)?;
+    norms.record(0, Field::from_field_id(0), 13)?;
+    norms.record(1, Field::from_field_id(0), 2)?;
+    norms.record(0, Field::from_field_id(1), 7)?;
+    norms.record(5, Field::from_field_id(9), 7)?;
+    let writer = CountingWriter::wrap(FailingWriter::new(alloc, failing_call));
+    let (writer, answer) = norms.serialize(FieldNormsSerializer::from_write(alloc, writer));
+    Ok((writer.finish(), answer))
+}
+
+#[test]
+fn norms_are_written_and_read(rt: HostRuntime) -> Result<(), Fail> {
+    let (writer, answer) = written(rt.alloc(), 0)?;
+    assert_eq!(rt; answer, Ok(()));
+    assert_eq!(rt; writer.bytes(), TWO_NORMS.as_slice());
+    for k in 1..8 {
+        let (_, answer) = written(rt.alloc(), k)?;
+        assert_eq!(rt; answer.is_err(), k < 6, "call {k}");
+        assert!(rt; answer.is_ok() || answer == Err(Fault::Write));
+    }
+    let readers = FieldNormReaders::open(rt.alloc(), Bytes::from_static(&TWO_NORMS))?.clone()?;
+    assert!(rt; readers.get_field(Field::from_field_id(1))?.is_none());
+    let reader = readers.get_field(Field::from_field_id(0))?.ok_or("norms")?;
+    assert_eq!(rt; reader.num_docs(), 2);
+    for doc in 0..reader.num_docs() {
+        let norm = if doc == 0 { 13 } else { 2 };
+        assert_eq!(rt; reader.fieldnorm(doc), norm);
+    }
+    Ok(())
+}
+
+#[test]
+fn norms_are_filled_up_and_cut(rt: HostRuntime) -> Result<(), Fail> {
+    let mut norms = FieldNormsWriter::for_schema(rt.alloc(), &two_fields(rt.alloc())?)?;
+    norms.record(0, Field::from_field_id(0), 13)?;
+    norms.record(3, Field::from_field_id(0), 41)?;
+    assert_eq!(rt;
+        body(rt.alloc(), &norms)?.as_slice(),
+        [13, 0, 0, 40].as_slice()
+    );
+    norms.fill_up_to_max_doc(1)?;
+    assert_eq!(rt; body(rt.alloc(), &norms)?.as_slice(), [13].as_slice());
+    norms.fill_up_to_max_doc(2)?;
+    assert_eq!(rt; body(rt.alloc(), &norms)?.as_slice(), [13, 0].as_slice());
+    let fields = FieldNormsWriter::fields_with_fieldnorm(rt.alloc(), &two_fields(rt.alloc())?)?;
+    assert_eq!(rt; fields.as_slice(), [Field::from_field_id(0)].as_slice());
+    Ok(())
+}
+
+// The bytes of field 0 in the file that is written.
+fn body(alloc: Global, norms: &FieldNormsWriter) -> Result<Bytes, Fault> {
+    let writer = CountingWriter::wrap(Vec::new(alloc));
+    let (writer, answer) = norms.serialize(FieldNormsSerializer::from_write(alloc, writer));
+    answer?;
+    let file = CompositeFile::open(alloc, Bytes::from_vec(writer.finish())?)?;
+    let body = file.open_read(Field::from_field_id(0))?;
+    body.ok_or(Fault::Damaged(Part::FieldNorms))
+}
+
+#[test]
+fn a_serializer_is_closed_by_a_fault(rt: HostRuntime) {
+    let writer = CountingWriter::wrap(FailingWriter::new(rt.alloc(), 1));
+    let mut serializer = FieldNormsSerializer::from_write(rt.alloc(), writer);
+    let first = serializer.serialize_field(Field::from_field_id(0), &[1]);
+    assert_eq!(rt; first, Err(Fault::Write));
+    let (writer, answer) = serializer.close();
+    assert_eq!(rt; answer, Err(Fault::SerializerClosed));
+    assert!(rt; writer.finish().bytes().is_empty());
+}

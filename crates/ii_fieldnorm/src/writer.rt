@@ -1,0 +1,250 @@
+ghost use Rattle.std.specs.Prelude.{◌≡◌, ◌<◌, ◌≤◌, ◌-◌, ◌^◌, ◌⊎◌, ◌↔◌, [], ◌∷◌, ◌++◌, List, length, replicate, vec_len, Some, None, false, if◌then◌else◌, IsTrue, IfSome, IfOk, OnOk, OnErr, IfErr, IsErrOf};
+ghost use Rattle.std.specs.Option.{option_map, option_copied};
+ghost use Rattle.ii_io.specs.Told.{Tells, IsFull};
+ghost use Rattle.ii_io.specs.Composite.{bodies_bytes, written_composite};
+ghost use Rattle.ii_io.specs.Composing.{HasBodies, has_start};
+ghost use Rattle.ii_fieldnorm.specs.Buffers.{norm_fields, empty_buffers, filled, filled_buffers, buffer_of, recorded, recorded_buffers, IsFilledFront, norm_bodies, IsFresh, AddsBuffer, ReadsWrittenNorms, buffer_size};
+
+use super::code::fieldnorm_to_id;
+use super::serializer::FieldNormsSerializer;
+use ii_base::{CountingWriter, Fault, Field, LimitName, Schema};
+use ii_io::composite_file::reads_composites_back;
+use std::alloc::{AllocError, Global};
+use std::io::Write;
+use std::marker::Model;
+
+/// Keeps a byte for each document of each field with norms. Clauses see, for each field of the
+/// schema, the bytes that it has so far, if it has norms.
+#[derive(Drop)]
+pub struct FieldNormsWriter {
+    buffers: Vec<NormBuffer>,
+}
+
+impl Model for FieldNormsWriter {
+    ghost use Rattle.std.specs.Prelude.{◌≤◌, ◌^◌, length};
+    ghost use Rattle.ii_fieldnorm.specs.Buffers.{Buffers};
+
+    ghost Value = { Buffers };
+
+    ghost view = { λ w. w.buffers.items };
+
+    ghost invariant = { λ w. length w.buffers.items ≤ 2 ^ 32 };
+}
+
+impl FieldNormsWriter {
+    /// The fields of a schema that are indexed and have norms, in order.
+    pub fn fields_with_fieldnorm(alloc: Global, schema: &Schema) -> Result<Vec<Field>, Fault>
+        ensures fields { IfOk result (λ fields. fields.items ≡ norm_fields schema.now) }
+        ensures only { IfErr result (λ e. e ≡ Fault.OutOfMemory) }
+    {
+        let mut fields = Vec::new(alloc);
+        for (field, entry) in schema.fields() {
+            if entry.is_indexed() && entry.has_fieldnorms() {
+                fields.push(field)?;
+            }
+        }
+        Ok(fields)
+    }
+
+    /// A writer with no document yet.
+    pub fn for_schema(alloc: Global, schema: &Schema) -> Result<FieldNormsWriter, Fault>
+        ensures empty { IfOk result (λ writer. writer ≡ empty_buffers schema.now) }
+        ensures only { IfErr result (λ e. e ≡ Fault.OutOfMemory) }
+    {
+        let mut buffers = Vec::with_capacity(alloc, schema.num_fields())?;
+        for (_field, entry) in schema.fields() {
+            let keeps_norms = entry.is_indexed() && entry.has_fieldnorms();
+            buffers.push(NormBuffer::new(alloc, keeps_norms))?;
+        }
+        Ok(FieldNormsWriter { buffers })
+    }
+
+    /// Gives each field with norms exactly `max_doc` documents: those that lack get the norm 0, later
+    /// ones are cut off.
+    ///
+    /// `OutOfMemory` where a buffer can't grow; the fields before it are then filled, and the others
+    /// stay.
+    pub fn fill_up_to_max_doc(&mut self, max_doc: u32) -> Result<(), Fault>
+        ensures ok { OnOk result (self.new ≡ filled_buffers max_doc self.old) }
+        ensures err { OnErr result (IsFilledFront max_doc self.old self.new) }
+        ensures only { IfErr result (λ e. e ≡ Fault.OutOfMemory) }
+    {
+        for i in 0..self.buffers.len() {
+            self.buffers[i].fill_up(max_doc)?;
+        }
+        Ok(())
+    }
+
+    /// Records the norm of a document that lies behind those of the field so far. Documents between
+    /// get the norm 0. For a field without norms it does nothing.
+    ///
+    /// `OutOfMemory` where the buffer can't grow; nothing changes then.
+    pub fn record(&mut self, doc: u32, field: Field, fieldnorm: u32) -> Result<(), Fault>
+        requires { IfSome (buffer_of field self.old) (λ ids. length ids ≤ doc) }
+        ensures ok { OnOk result (self.new ≡ recorded_buffers field doc fieldnorm self.old) }
+        ensures err { OnErr result (self.new ≡ self.old) }
+        ensures only { IfErr result (λ e. e ≡ Fault.OutOfMemory) }
+    {
+        let index = field.field_id() as usize;
+        if index < self.buffers.len() {
+            self.buffers[index].record(doc, fieldnorm)?;
+        }
+        Ok(())
+    }
+
+    /// Writes the bytes of each field with norms and closes the serializer, which wrote nothing
+    /// before; hands its writer back. The faults are those of the serializer.
+    pub fn serialize<W: Write>(
+        &self,
+        serializer: FieldNormsSerializer<W>,
+    ) -> (CountingWriter<W>, Result<(), Fault>)
+        requires { IsFresh serializer }
+        ensures ok { OnOk result.1 (Tells serializer.told result.0 (written_composite (norm_bodies self.now))) }
+        ensures write { IsErrOf result.1 Fault.Write ↔ (serializer.told.failed < (result.0).failed) }
+        ensures limit { IsErrOf result.1 (Fault.Limit LimitName.Offset)
+            → IsFull serializer.told (length (written_composite (norm_bodies self.now))) }
+        ensures closed { IsErrOf result.1 Fault.SerializerClosed ↔ IsTrue serializer.closed }
+        ensures only { IfErr result.1 (λ e. (e ≡ Fault.Write) ⊎ (e ≡ Fault.Limit LimitName.Offset)
+            ⊎ (e ≡ Fault.OutOfMemory) ⊎ (e ≡ Fault.SerializerClosed)) }
+    {
+        let mut serializer = serializer;
+        let written = write_buffers(&mut serializer, &self.buffers);
+        let (writer, closed) = serializer.close();
+        match written {
+            Ok(()) => (writer, closed),
+            Err(fault) => (writer, Err(fault)),
+        }
+    }
+}
+
+// Writes the bytes of each field with norms.
+fn write_buffers<W: Write>(
+    serializer: &mut FieldNormsSerializer<W>,
+    buffers: &[NormBuffer],
+) -> Result<(), Fault>
+    requires fresh { IsFresh serializer.old }
+    requires few { length buffers.now ≤ 2 ^ 32 }
+    ensures ok { OnOk result (HasBodies serializer.old.told serializer.new (norm_bodies buffers.now)) }
+    ensures write { IsErrOf result Fault.Write ↔ (serializer.old.told.failed < serializer.new.told.failed) }
+    ensures limit { IsErrOf result (Fault.Limit LimitName.Offset)
+        → IsFull serializer.old.told (length (bodies_bytes (norm_bodies buffers.now))) }
+    ensures closed { IsErrOf result Fault.SerializerClosed → IsTrue serializer.old.closed }
+    ensures was_closed { IsTrue serializer.old.closed → IfErr result (λ e. e ≡ Fault.SerializerClosed) }
+    ensures only { IfErr result (λ e. (e ≡ Fault.Write) ⊎ (e ≡ Fault.Limit LimitName.Offset)
+        ⊎ (e ≡ Fault.OutOfMemory) ⊎ (e ≡ Fault.SerializerClosed)) }
+    ensures stays { OnOk result (serializer.new.closed ≡ serializer.old.closed) }
+    ensures err { OnErr result (IsTrue serializer.new.closed) }
+{
+    for i in 0..buffers.len() {
+        write_buffer(serializer, Field::from_field_id(i as u32), &buffers[i])?;
+    }
+    Ok(())
+}
+
+// Writes the bytes of a field that wasn't written, if it has norms.
+fn write_buffer<W: Write>(
+    serializer: &mut FieldNormsSerializer<W>,
+    field: Field,
+    buffer: &NormBuffer,
+) -> Result<(), Fault>
+    requires { has_start field serializer.old.starts ≡ false }
+    ensures ok { OnOk result (AddsBuffer serializer.old serializer.new field buffer.now) }
+    ensures write { IsErrOf result Fault.Write ↔ (serializer.old.told.failed < serializer.new.told.failed) }
+    ensures limit { IsErrOf result (Fault.Limit LimitName.Offset)
+        → IsFull serializer.old.told (buffer_size buffer.now) }
+    ensures closed { IsErrOf result Fault.SerializerClosed → IsTrue serializer.old.closed }
+    ensures was_closed { IsTrue serializer.old.closed → IfErr result (λ e. e ≡ Fault.SerializerClosed) }
+    ensures only { IfErr result (λ e. (e ≡ Fault.Write) ⊎ (e ≡ Fault.Limit LimitName.Offset)
+        ⊎ (e ≡ Fault.OutOfMemory) ⊎ (e ≡ Fault.SerializerClosed)) }
+    ensures stays { OnOk result (serializer.new.closed ≡ serializer.old.closed) }
+    ensures err { OnErr result (IsTrue serializer.new.closed) }
+{
+    match buffer.ids() {
+        Some(ids) => serializer.serialize_field(field, ids),
+        None => Ok(()),
+    }
+}
+
+/// The bytes of a field, if it has norms.
+#[derive(Drop)]
+struct NormBuffer {
+    ids: Option<Vec<u8>>,
+}
+
+impl Model for NormBuffer {
+    ghost use Rattle.std.specs.Prelude.{ℕ, List, Option};
+    ghost use Rattle.std.specs.Option.{option_map};
+
+    ghost Value = { Option (List ℕ) };
+
+    ghost view = { λ b. option_map (λ v. v.items) b.ids };
+}
+
+impl NormBuffer {
+    // A buffer of no document.
+    fn new(alloc: Global, keeps_norms: bool) -> NormBuffer
+        ensures { result ≡ (if keeps_norms then Some [] else None) }
+    {
+        NormBuffer {
+            ids: if keeps_norms {
+                Some(Vec::new(alloc))
+            } else {
+                None
+            },
+        }
+    }
+
+    // The bytes so far.
+    fn ids(&self) -> Option<&[u8]>
+        ensures { option_copied result ≡ self.now }
+    {
+        match &self.ids {
+            Some(ids) => Some(ids.as_slice()),
+            None => None,
+        }
+    }
+
+    // Exactly so many documents.
+    fn fill_up(&mut self, docs: u32) -> Result<(), AllocError>
+        ensures ok { OnOk result (self.new ≡ option_map (filled docs) self.old) }
+        ensures err { OnErr result (self.new ≡ self.old) }
+    {
+        match &mut self.ids {
+            Some(ids) => ids.resize(docs as usize, 0),
+            None => Ok(()),
+        }
+    }
+
+    // One document more.
+    fn record(&mut self, doc: u32, fieldnorm: u32) -> Result<(), AllocError>
+        requires { IfSome self.old (λ ids. length ids ≤ doc) }
+        ensures ok { OnOk result (self.new ≡ option_map (recorded doc fieldnorm) self.old) }
+        ensures err { OnErr result (self.new ≡ self.old) }
+    {
+        match &mut self.ids {
+            Some(ids) => record_id(ids, doc as usize, fieldnorm_to_id(fieldnorm)),
+            None => Ok(()),
+        }
+    }
+}
+
+// Puts a byte at a place behind the others, and 0 between.
+fn record_id(ids: &mut Vec<u8>, place: usize, id: u8) -> Result<(), AllocError>
+    requires behind { vec_len ids.old ≤ place }
+    requires room { place < 2 ^ 32 }
+    ensures ok { OnOk result (ids.new.items
+        ≡ ids.old.items ++ replicate (place - length ids.old.items) 0 ++ id ∷ []) }
+    ensures err { OnErr result (ids.new.items ≡ ids.old.items) }
+{
+    ids.resize(place + 1, 0)?;
+    ids[place] = id;
+    Ok(())
+}
+
+/// The law of norms that are written: the file that is written for the buffers of a writer, opened
+/// again, has for each field with norms the bytes of its buffer.
+pub fn reads_norms_back()
+    ensures { ReadsWrittenNorms }
+{
+    reads_composites_back();
+}

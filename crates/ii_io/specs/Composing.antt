@@ -1,0 +1,52 @@
+-- What a composite writer has written so far, and what it writes when it is closed.
+use Rattle.std.specs.Prelude.{◌≡◌, ℕ, ◌+◌, ◌-◌, Bool, List, [], ◌∷◌, ◌++◌, length, ◌==◌}
+use Rattle.std.specs.List.{list_any}
+use Rattle.ii_io.specs.declared.composite_file.place.Place.{Place}
+use Rattle.ii_io.specs.declared.composite_file.place.BodyStart.{BodyStart}
+use Rattle.ii_io.specs.Told.{Told, Tells}
+use Rattle.ii_io.specs.Composite.{Body, bodies_bytes}
+
+-- what the writer tells, how much it had written at first, where each body began from there on, and whether a call was refused
+pub record Composing : Type 0 where
+  pub told : Told
+  pub base : ℕ
+  pub starts : List BodyStart
+  pub closed : Bool
+
+abbrev pub has_start : ℕ → List BodyStart → Bool
+has_start field starts = list_any (λ (s : BodyStart). s.field == field) starts
+
+-- how many bytes of bodies were written
+abbrev pub written_bodies : Composing → ℕ
+written_bodies c = c.told.written - c.base
+
+-- where the body of a field begins that is written next
+abbrev pub next_start : Composing → ℕ → BodyStart
+next_start c field = record { field = field; start = written_bodies c }
+
+-- each body ends where the next begins, the last one at the given end
+abbrev pub places_until : List BodyStart → ℕ → List Place
+places_until [] end = []
+places_until (s ∷ []) end = record { field = s.field; start = s.start; end = end } ∷ []
+places_until (s ∷ t ∷ ss) end = record { field = s.field; start = s.start; end = t.start } ∷ places_until (t ∷ ss) end
+
+-- the places of the bodies written
+abbrev pub places_of : Composing → List Place
+places_of c = places_until c.starts (written_bodies c)
+
+-- A body was written behind the old ones.
+pub record AddsBody (old new : Composing) (field : ℕ) (bytes : List ℕ) : Type 0 where
+  pub told : Tells old.told new.told bytes
+  pub base : new.base ≡ old.base
+  pub starts : new.starts ≡ old.starts ++ next_start old field ∷ []
+
+-- where bodies begin that stand one after the other from a place on
+abbrev pub starts_from : ℕ → List Body → List BodyStart
+starts_from start [] = []
+starts_from start (b ∷ bs) = record { field = b.field; start = start } ∷ starts_from (start + length b.bytes) bs
+
+-- Since the writer was wrapped, these bodies and nothing else were written.
+pub record HasBodies (begun : Told) (c : Composing) (bodies : List Body) : Type 0 where
+  pub told : Tells begun c.told (bodies_bytes bodies)
+  pub base : c.base ≡ begun.written
+  pub starts : c.starts ≡ starts_from 0 bodies

@@ -1,0 +1,63 @@
+-- Laws of what a composite writer has written so far, for those who write bodies.
+use Rattle.std.proofs.Common.{◌≡◌, ℕ, ◌+◌, ◌-◌, List, [], ◌∷◌, ◌++◌, length, refl, ap, ◌∙◌, arith, length-append}
+use Rattle.std.proofs.KnownBytes.{Appends-trans}
+use Rattle.std.proofs.lemmas.Grind.{flat_map-append}
+use Rattle.ii_io.specs.declared.composite_file.place.BodyStart.{BodyStart}
+use Rattle.ii_io.specs.declared.composite_file.place.Place.{Place}
+use Rattle.ii_io.specs.Told.{Told, Tells}
+use Rattle.ii_io.specs.Composite.{Body, bodies_bytes, places_from}
+use Rattle.ii_io.specs.Composing.{Composing, AddsBody, HasBodies, written_bodies, starts_from, places_until, places_of}
+
+pub Tells-trans : (a b c : Told) (xs ys : List ℕ) → Tells a b xs → Tells b c ys → Tells a c (xs ++ ys)
+Tells-trans a b c xs ys front back = record {
+  appends = Appends-trans a.contents b.contents c.contents xs ys front.appends back.appends;
+  written = let one = front.written in let two = back.written in omega (arith, length-append xs ys);
+  failed = back.failed ∙ front.failed;
+}
+
+append_nil : {A : Type 0} (xs : List A) → xs ++ [] ≡ xs
+append_nil [] = refl
+append_nil {A = A} (x ∷ xs) = ap (λ (ys : List A). x ∷ ys) (append_nil xs)
+
+starts_from-more : (start : ℕ) (bodies : List Body) (b : Body) → starts_from start (bodies ++ b ∷ []) ≡ starts_from start bodies ++ record { field = b.field; start = start + length (bodies_bytes bodies) } ∷ []
+starts_from-more start [] b =
+    let same : start ≡ start + 0 = omega arith in
+    ap (λ (s : ℕ). record { field = b.field; start = s } ∷ []) same
+starts_from-more start (c ∷ bs) b =
+    let same : start + length c.bytes + length (bodies_bytes bs) ≡ start + length (c.bytes ++ bodies_bytes bs) = omega (arith, length-append c.bytes (bodies_bytes bs)) in
+    let ih = starts_from-more (start + length c.bytes) bs b in
+    ap (λ (ss : List BodyStart). record { field = c.field; start = start } ∷ ss) (rw same at ih)
+
+-- one body more
+pub HasBodies-more : (begun : Told) (old new : Composing) (bodies : List Body) (field : ℕ) (bytes : List ℕ) → HasBodies begun old bodies → AddsBody old new field bytes
+    → HasBodies begun new (bodies ++ record { field = field; bytes = bytes } ∷ [])
+HasBodies-more begun old new bodies field bytes has adds =
+    let written = has.told.written in
+    let base = has.base in
+    let start : written_bodies old ≡ 0 + length (bodies_bytes bodies) = omega arith in
+    let more = starts_from-more 0 bodies (record { field = field; bytes = bytes }) in
+    let content : bodies_bytes (bodies ++ record { field = field; bytes = bytes } ∷ []) ≡ bodies_bytes bodies ++ bytes = flat_map-append (λ (b : Body). b.bytes) bodies (record { field = field; bytes = bytes } ∷ []) ∙ ap (λ (xs : List ℕ). bodies_bytes bodies ++ xs) (append_nil bytes) in
+    record {
+      told = rw content (Tells-trans begun old.told new.told (bodies_bytes bodies) bytes has.told adds.told);
+      base = adds.base ∙ has.base;
+      starts = adds.starts ∙ rw (has.starts, start, more) refl;
+    }
+
+-- bodies that stand one after the other have their places where they begin
+places_until-from : (start : ℕ) (bodies : List Body) → places_until (starts_from start bodies) (start + length (bodies_bytes bodies)) ≡ places_from start bodies
+places_until-from start [] = refl
+places_until-from start (b ∷ []) = rw append_nil refl
+places_until-from start (b ∷ c ∷ bs) =
+    let rest = bodies_bytes (c ∷ bs) in
+    let end : start + length (b.bytes ++ rest) ≡ (start + length b.bytes) + length rest = omega (arith, length-append b.bytes rest) in
+    let ih = places_until-from (start + length b.bytes) (c ∷ bs) in
+    rw end (ap (λ (ps : List Place). record { field = b.field; start = start; end = start + length b.bytes } ∷ ps) ih)
+
+pub places_of-bodies : (begun : Told) (c : Composing) (bodies : List Body) → HasBodies begun c bodies → places_of c ≡ places_from 0 bodies
+places_of-bodies begun c bodies h =
+    let written = h.told.written in
+    let base = h.base in
+    let end : c.told.written - c.base ≡ length (bodies_bytes bodies) = omega arith in
+    let law = places_until-from 0 bodies in
+    let zero_end : 0 + length (bodies_bytes bodies) ≡ length (bodies_bytes bodies) = omega arith in
+    rw (h.starts, end) (rw zero_end at law)

@@ -1,0 +1,22 @@
+-- Faults and their numbers.
+use Rattle.std.specs.Prelude.{ℕ}
+use Rattle.ii_io.specs.declared.faults.Fault.{Fault}
+use Rattle.ii_io.specs.declared.faults.Fault.TheVariants.{OutOfMemory, Write, SerializerClosed, IndexerFailed, UnsupportedLeaf, DecreasingPosition, Limit}
+use Rattle.ii_io.specs.declared.faults.Fault as fault
+use Rattle.ii_io.specs.declared.faults.LayoutFault.{LayoutFault}
+use Rattle.ii_io.specs.declared.faults.LayoutFault.TheVariants as layout
+
+-- the number by which a fault is told
+abbrev pub number_of : Fault → ℕ
+number_of OutOfMemory = 1
+number_of Write = 2
+number_of SerializerClosed = 3
+number_of IndexerFailed = 4
+number_of (UnsupportedLeaf kind) = 5
+number_of DecreasingPosition = 6
+number_of (Limit name) = 7
+number_of (fault.TheVariants.Damaged part) = 8
+
+-- the fault of a damaged part
+abbrev pub damage : LayoutFault → Fault
+damage (layout.Damaged part) = fault.TheVariants.Damaged part

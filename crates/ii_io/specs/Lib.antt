@@ -1,0 +1,12 @@
+pub mod Composing
+pub mod ComposingLemmas
+pub mod Composite
+pub mod CompositeLemmas
+pub mod Faults
+pub mod Lending
+pub mod NumberLemmas
+pub mod Numbers
+pub mod Steps
+pub mod Told
+pub mod Vints
+pub mod Parts

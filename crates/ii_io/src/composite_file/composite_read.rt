@@ -1,0 +1,116 @@
+ghost use Rattle.std.specs.Prelude.{◌≡◌, ◌⊎◌, ◌∷◌, [], length, drop, Some, None, IfOk, IfErr, IsErrOf, MatchResult};
+ghost use Rattle.ii_io.specs.Composite.{composite, body_of, table_of, lawful_places};
+
+use super::place::Place;
+use crate::faults::{Fault, Part};
+use crate::field::Field;
+use crate::serialize::BinarySerializable;
+use bytes::Bytes;
+use std::alloc::Global;
+use std::collections::BTreeSet;
+use std::marker::Model;
+
+/// A file that holds a body for each of some fields. Clauses see the bodies, in the order written.
+///
+/// The bodies stay in the buffer that the file was opened from, and are shared with those who read
+/// them.
+#[derive(Drop)]
+pub struct CompositeFile {
+    bytes: Bytes,
+    places: Vec<Place>,
+}
+
+impl Model for CompositeFile {
+    ghost use Rattle.std.specs.Prelude.{List, map, length, IsTrue};
+    ghost use Rattle.std.specs.List.{list_all};
+    ghost use Rattle.ii_io.specs.Composite.{Body, body_at, lies_within};
+
+    ghost Value = { List Body };
+
+    ghost view = { λ file. map (body_at file.bytes) file.places.items };
+
+    ghost invariant = { λ file. IsTrue (list_all (lies_within (length file.bytes)) file.places.items) };
+}
+
+impl CompositeFile {
+    /// Opens a file: the bodies, then for each its `Place`, then their number in 4 bytes.
+    ///
+    /// `Damaged(Composite)` where the table doesn't fit, an end lies before its start or past the
+    /// bodies, or a field has two places. It copies no body; memory is taken for the table alone.
+    pub fn open(alloc: Global, bytes: Bytes) -> Result<CompositeFile, Fault>
+        ensures opened { IfOk result (λ file. composite bytes ≡ Some file) }
+        ensures damaged { IsErrOf result (Fault.Damaged Part.Composite) → composite bytes ≡ None }
+        ensures only { IfErr result (λ e. (e ≡ Fault.OutOfMemory) ⊎ (e ≡ Fault.Damaged Part.Composite)) }
+    {
+        let places = read_table(alloc, bytes.as_slice())?;
+        Ok(CompositeFile { bytes, places })
+    }
+
+    /// The body of a field, if the file has one, as a part of the buffer. It takes no copy, and fails
+    /// for want of memory only where the buffer can't be shared once more.
+    pub fn open_read(&self, field: Field) -> Result<Option<Bytes>, Fault>
+        ensures body { IfOk result (λ body. body ≡ body_of field self.now) }
+        ensures only { IfErr result (λ e. e ≡ Fault.OutOfMemory) }
+    {
+        for place in &self.places {
+            if place.field == field {
+                let body = self.bytes.slice(place.start as usize..place.end as usize)?;
+                return Ok(Some(body));
+            }
+        }
+        Ok(None)
+    }
+
+    /// The same bodies, over the same buffer. It fails where the buffer can't be shared once more, or
+    /// the table finds no memory.
+    pub fn clone(&self) -> Result<CompositeFile, Fault>
+        ensures same { IfOk result (λ copy. copy ≡ self.now) }
+        ensures only { IfErr result (λ e. e ≡ Fault.OutOfMemory) }
+    {
+        let bytes = self.bytes.clone()?;
+        let places = self.places.clone()?;
+        Ok(CompositeFile { bytes, places })
+    }
+}
+
+// The places of the table at the end of a file.
+fn read_table(alloc: Global, bytes: &[u8]) -> Result<Vec<Place>, Fault>
+    ensures read { IfOk result (λ places. table_of bytes.now ≡ Some places.items) }
+    ensures damaged { IsErrOf result (Fault.Damaged Part.Composite) → table_of bytes.now ≡ None }
+    ensures only { IfErr result (λ e. (e ≡ Fault.OutOfMemory) ⊎ (e ≡ Fault.Damaged Part.Composite)) }
+{
+    let mut footer = &bytes[bytes.len().saturating_sub(4)..];
+    let Some(count) = u32::deserialize(&mut footer) else {
+        return Err(Fault::Damaged(Part::Composite));
+    };
+    let table_size = 20 * u64::from(count) + 4;
+    if (bytes.len() as u64) < table_size {
+        return Err(Fault::Damaged(Part::Composite));
+    }
+    let size = bytes.len() - table_size as usize;
+    read_places(alloc, size as u64, count, &bytes[size..])
+}
+
+// So many places from the front of a table, all within the bodies and of distinct fields.
+fn read_places(alloc: Global, size: u64, count: u32, table: &[u8]) -> Result<Vec<Place>, Fault>
+    ensures read { IfOk result (λ places. lawful_places size count table.now ≡ Some places.items) }
+    ensures damaged { IsErrOf result (Fault.Damaged Part.Composite) → lawful_places size count table.now ≡ None }
+    ensures only { IfErr result (λ e. (e ≡ Fault.OutOfMemory) ⊎ (e ≡ Fault.Damaged Part.Composite)) }
+{
+    let mut places = Vec::new(alloc);
+    let mut fields = BTreeSet::new(alloc);
+    let mut rest = table;
+    for _i in 0..count {
+        let Some(place) = Place::deserialize(&mut rest) else {
+            return Err(Fault::Damaged(Part::Composite));
+        };
+        if !place.lies_within(size) {
+            return Err(Fault::Damaged(Part::Composite));
+        }
+        if !fields.insert(place.field.field_id())? {
+            return Err(Fault::Damaged(Part::Composite));
+        }
+        places.push(place)?;
+    }
+    Ok(places)
+}

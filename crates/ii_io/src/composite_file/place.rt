@@ -1,0 +1,114 @@
+ghost use Rattle.std.specs.Prelude.{◌≡◌, length};
+ghost use Rattle.ii_io.specs.Numbers.{le_bytes};
+ghost use Rattle.ii_io.specs.Composite.{place_bytes, lies_within};
+
+use crate::counting_writer::CountingWriter;
+use crate::faults::Fault;
+use crate::field::Field;
+use crate::serialize::{BinarySerializable, FixedSize};
+use byteorder::{ByteOrder, LittleEndian};
+use std::io::Write;
+
+/// Where the body of a field lies: from `start` to before `end`, counted from the first body. It has
+/// 20 bytes: the field's number in 4, the start in 8, the end in 8, the lowest byte first.
+#[derive(Clone, Copy, Debug, PartialEq, Eq)]
+pub struct Place {
+    pub field: Field,
+    pub start: u64,
+    pub end: u64,
+}
+
+impl Place {
+    /// Whether the body ends within so many bytes, and not before its start.
+    pub fn lies_within(&self, size: u64) -> bool
+        ensures { result ≡ lies_within size self.now }
+    {
+        self.start <= self.end && self.end <= size
+    }
+}
+
+impl BinarySerializable for Place {
+    ghost use Rattle.std.specs.Prelude.{◌<◌, ◌^◌};
+    ghost use Rattle.ii_io.specs.Composite.{place_bytes, place_at};
+    ghost use Rattle.ii_io.specs.CompositeLemmas.{reads_place_back};
+
+    ghost bytes_of = { λ p. place_bytes p };
+
+    ghost value_at = { λ bytes. place_at bytes };
+
+    ghost in_range = { λ p. (p.field < 256 ^ 4) × (p.start < 256 ^ 8) × (p.end < 256 ^ 8) };
+
+    ghost reads_back = { λ p rest fits _. reads_place_back p rest fits.0 fits.1 fits.2 };
+
+    fn serialize<W: Write>(&self, writer: &mut CountingWriter<W>) -> Result<(), Fault> {
+        let mut bytes = [0; 20];
+        put_place(&mut bytes, self);
+        writer.write_all(&bytes)
+    }
+
+    #[tactic(auto, unfolding(crate::specs::Composite::place_at))]
+    fn deserialize(reader: &mut &[u8]) -> Option<Place> {
+        let mut rest = *reader;
+        let Some(field) = u32::deserialize(&mut rest) else {
+            return None;
+        };
+        let Some(start) = u64::deserialize(&mut rest) else {
+            return None;
+        };
+        let Some(end) = u64::deserialize(&mut rest) else {
+            return None;
+        };
+        *reader = rest;
+        Some(Place {
+            field: Field::from_field_id(field),
+            start,
+            end,
+        })
+    }
+}
+
+impl FixedSize for Place {
+    const SIZE_IN_BYTES: usize = 20;
+
+    ghost size = { 20 };
+
+    #[tactic(auto, using(crate::specs::CompositeLemmas::length_place_bytes))]
+    fn fixed_size() -> usize {
+        Self::SIZE_IN_BYTES
+    }
+}
+
+// The bytes of a place, in a buffer of their size.
+#[tactic(auto, unfolding(crate::specs::Composite::place_bytes))]
+fn put_place(buf: &mut [u8], place: &Place)
+    requires { length buf.old ≡ 20 }
+    ensures { buf.new ≡ place_bytes place.now }
+{
+    let (field, rest) = buf.split_at_mut(4);
+    let (start, end) = rest.split_at_mut(8);
+    put_u32(field, place.field.field_id());
+    put_u64(start, place.start);
+    put_u64(end, place.end);
+}
+
+// The bytes of a number, in a buffer of their size.
+fn put_u32(buf: &mut [u8], n: u32)
+    requires { length buf.old ≡ 4 }
+    ensures { buf.new ≡ le_bytes 4 n }
+{
+    LittleEndian::write_u32(buf, n);
+}
+
+fn put_u64(buf: &mut [u8], n: u64)
+    requires { length buf.old ≡ 8 }
+    ensures { buf.new ≡ le_bytes 8 n }
+{
+    LittleEndian::write_u64(buf, n);
+}
+
+/// Where the body of a field begins, counted from the first body.
+#[derive(Clone, Copy, Debug, PartialEq, Eq)]
+pub struct BodyStart {
+    pub field: Field,
+    pub start: u64,
+}

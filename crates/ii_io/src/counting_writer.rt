@@ -1,0 +1,122 @@
+ghost use Rattle.std.specs.Prelude.{◌≡◌, ◌-◌, ◌^◌, ◌<◌, ◌↔◌, ◌⊎◌, [], length, OnOk, OnErr, IfErr, IsErrOf};
+ghost use Rattle.ii_io.specs.Told.{Tells, TellsBeginning, IsFull};
+
+use super::faults::{Fault, LimitName};
+use std::io::Write;
+use std::marker::Model;
+
+/// A writer that counts the bytes written through it and the calls that failed.
+///
+/// A call fails where its writer answers an error, an interruption too, which isn't tried again,
+/// and where a write takes none of some bytes.
+#[derive(Drop)]
+pub struct CountingWriter<W: Write> {
+    underlying: W,
+    written_bytes: u64,
+    failed_calls: u64,
+}
+
+impl<W: Write> Model for CountingWriter<W> {
+    ghost use Rattle.ii_io.specs.Told.{Told};
+
+    ghost Value = { Told };
+
+    ghost view = { λ a. record {
+      contents = W.contents a.underlying;
+      written = a.written_bytes;
+      failed = a.failed_calls;
+    } };
+}
+
+impl<W: Write> CountingWriter<W> {
+    /// A counting writer over `underlying`, with both counts 0.
+    pub fn wrap(underlying: W) -> CountingWriter<W>
+        ensures { result ≡ record { contents = W.contents underlying; written = 0; failed = 0 } }
+    {
+        CountingWriter {
+            underlying,
+            written_bytes: 0,
+            failed_calls: 0,
+        }
+    }
+
+    /// How many bytes were written through this writer.
+    pub fn written_bytes(&self) -> u64
+        ensures { result ≡ self.now.written }
+    {
+        let CountingWriter { written_bytes, .. } = self;
+        *written_bytes
+    }
+
+    /// How many calls failed.
+    pub fn failed_calls(&self) -> u64
+        ensures { result ≡ self.now.failed }
+    {
+        let CountingWriter { failed_calls, .. } = self;
+        *failed_calls
+    }
+
+    /// The underlying writer. Nothing is flushed.
+    pub fn finish(self) -> W
+        ensures { W.contents result ≡ self.contents }
+    {
+        let CountingWriter {
+            underlying,
+            written_bytes: _,
+            failed_calls: _,
+        } = self;
+        underlying
+    }
+
+    /// Writes all of `buf`, or answers `Write` where the writer fails; a beginning of `buf` is then
+    /// written. Where a count would pass `u64::MAX` the answer is `Limit(Offset)`, and nothing is
+    /// touched.
+    pub fn write_all(&mut self, buf: &[u8]) -> Result<(), Fault>
+        ensures ok { OnOk result (Tells self.old self.new buf.now) }
+        ensures write { IsErrOf result Fault.Write ↔ (self.old.failed < self.new.failed) }
+        ensures limit { IsErrOf result (Fault.Limit LimitName.Offset) ↔ IsFull self.old (length buf.now) }
+        ensures only { IfErr result (λ e. (e ≡ Fault.Write) ⊎ (e ≡ Fault.Limit LimitName.Offset)) }
+        ensures err { OnErr result (TellsBeginning self.old self.new buf.now) }
+        ensures full { IsFull self.old (length buf.now) → self.new ≡ self.old }
+    {
+        if self.failed_calls == u64::MAX || u64::MAX - self.written_bytes < buf.len() as u64 {
+            return Err(Fault::Limit(LimitName::Offset));
+        }
+        let mut done = 0;
+        while done < buf.len() {
+            match self.underlying.write(&buf[done..]) {
+                Ok(0) | Err(_) => {
+                    self.failed_calls += 1;
+                    return Err(Fault::Write);
+                }
+                Ok(n) => {
+                    self.written_bytes += n as u64;
+                    done += n;
+                }
+            }
+        }
+        Ok(())
+    }
+
+    /// Flushes the writer, or answers `Write` where it fails. Where the count of failed calls is
+    /// `u64::MAX` the answer is `Limit(Offset)`, and nothing is touched.
+    pub fn flush(&mut self) -> Result<(), Fault>
+        ensures ok { OnOk result (Tells self.old self.new []) }
+        ensures write { IsErrOf result Fault.Write ↔ (self.old.failed < self.new.failed) }
+        ensures limit { IsErrOf result (Fault.Limit LimitName.Offset) ↔ (self.old.failed ≡ 2 ^ 64 - 1) }
+        ensures only { IfErr result (λ e. (e ≡ Fault.Write) ⊎ (e ≡ Fault.Limit LimitName.Offset)) }
+        ensures err { OnErr result (TellsBeginning self.old self.new []) }
+        ensures full { self.old.failed ≡ 2 ^ 64 - 1 → self.new ≡ self.old }
+    {
+        if self.failed_calls == u64::MAX {
+            return Err(Fault::Limit(LimitName::Offset));
+        }
+        match self.underlying.flush() {
+            Ok(()) => Ok(()),
+            Err(_) => {
+                self.failed_calls += 1;
+                Err(Fault::Write)
+            }
+        }
+    }
+}

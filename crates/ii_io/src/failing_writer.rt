@@ -1,0 +1,69 @@
+ghost use Rattle.std.specs.Prelude.{◌≡◌, []};
+
+use std::alloc::Global;
+use std::io::{self, Write};
+use std::marker::Model;
+
+/// A writer over memory, of which one call fails: a write or a flush, the first call being call 1.
+/// With 0 none does. Clauses see the bytes that it holds.
+#[derive(Drop)]
+pub struct FailingWriter {
+    bytes: Vec<u8>,
+    calls: u64,
+    failing_call: u64,
+}
+
+impl Model for FailingWriter {
+    ghost use Rattle.std.specs.Prelude.{ℕ, List};
+
+    ghost Value = { List ℕ };
+
+    ghost view = { λ w. w.bytes.items };
+}
+
+impl FailingWriter {
+    /// A writer that holds nothing yet.
+    pub fn new(alloc: Global, failing_call: u64) -> FailingWriter
+        ensures { result ≡ [] }
+    {
+        FailingWriter {
+            bytes: Vec::new(alloc),
+            calls: 0,
+            failing_call,
+        }
+    }
+
+    /// The bytes that were written.
+    pub fn bytes(&self) -> &[u8]
+        ensures { result.now ≡ self.now }
+    {
+        self.bytes.as_slice()
+    }
+
+    // Counts a call, which fails if it is the one that does.
+    fn call(&mut self) -> io::Result<()>
+        ensures { self.new ≡ self.old }
+    {
+        self.calls = self.calls.saturating_add(1);
+        if self.calls == self.failing_call {
+            return Err(io::Error::other("the call that fails"));
+        }
+        Ok(())
+    }
+}
+
+impl Write for FailingWriter {
+    ghost use Rattle.std.specs.Prelude.{Some};
+
+    ghost contents = { λ w. Some w };
+
+    fn write(&mut self, buf: &[u8]) -> io::Result<usize> {
+        self.call()?;
+        self.bytes.extend_from_slice(buf)?;
+        Ok(buf.len())
+    }
+
+    fn flush(&mut self) -> io::Result<()> {
+        self.call()
+    }
+}

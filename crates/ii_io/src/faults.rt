@@ -1,0 +1,175 @@
+ghost use Rattle.std.specs.Prelude.{◌≡◌};
+ghost use Rattle.ii_io.specs.Faults.{number_of, damage};
+
+use std::alloc::{AllocError, AllocFailed};
+use thiserror::Error;
+
+/// The kind of a JSON leaf that the index doesn't take.
+#[derive(Clone, Copy, Debug, PartialEq, Eq, Error)]
+pub enum LeafKind {
+    #[error("float")]
+    Float,
+    #[error("pre-tokenized text")]
+    PreTok,
+    #[error("bytes")]
+    Bytes,
+    #[error("facet")]
+    Facet,
+    #[error("IP address")]
+    Ip,
+}
+
+/// The limit that a number passed.
+#[derive(Clone, Copy, Debug, PartialEq, Eq, Error)]
+pub enum LimitName {
+    /// The start or end of a kept token, the end of a text plus its gap, or a recorded position.
+    #[error("position")]
+    Position,
+    /// The tokens of a text group (at most `u32::MAX`) or of a field (at most `u64::MAX`).
+    #[error("number of tokens")]
+    Tokens,
+    /// A term's count in one document, at most `u32::MAX`.
+    #[error("count in a document")]
+    Count,
+    /// The sum of the counts of a full block, at most `u32::MAX`.
+    #[error("sum of the counts of a block")]
+    BlockFrequencySum,
+    /// The bytes of a term's postings or positions, at most `u32::MAX`.
+    #[error("bytes of a term")]
+    TermBytes,
+    /// A term's end offset, below 2^56; or the bytes that a writer counts, or its failed calls, at
+    /// most `u64::MAX`.
+    #[error("offset")]
+    Offset,
+    /// The id of a JSON path, at most `u32::MAX`.
+    #[error("number of paths")]
+    Paths,
+    /// The positions of a loaded list, at most `u32::MAX`.
+    #[error("loaded positions")]
+    LoadedPositions,
+}
+
+/// The part of an index that bytes fail to hold.
+#[derive(Clone, Copy, Debug, PartialEq, Eq, Error)]
+pub enum Part {
+    /// The skip list of a term's postings.
+    #[error("skip list")]
+    Skip,
+    /// The documents of a term's postings.
+    #[error("documents")]
+    Documents,
+    /// The counts of a term's postings.
+    #[error("frequencies")]
+    Frequencies,
+    /// The positions of a term.
+    #[error("positions")]
+    Positions,
+    /// The ranges of a term, which have to lie in its field's files.
+    #[error("range")]
+    Range,
+    /// The table of a composite file.
+    #[error("composite file")]
+    Composite,
+    /// The keys of a dictionary.
+    #[error("dictionary")]
+    Dictionary,
+    /// The term infos of a dictionary.
+    #[error("term store")]
+    TermStore,
+    /// The number of tokens of a field.
+    #[error("number of tokens")]
+    TokenCount,
+    /// The norms of a field.
+    #[error("field norms")]
+    FieldNorms,
+    /// A key of a JSON field.
+    #[error("JSON key")]
+    JsonKey,
+}
+
+/// Why a call of the index was refused.
+#[derive(Clone, Copy, Debug, PartialEq, Eq, Error)]
+pub enum Fault {
+    /// A growth found no memory in this call.
+    #[error("out of memory")]
+    OutOfMemory,
+    /// The writer failed in this call: its count of failed calls rose.
+    #[error("the writer failed")]
+    Write,
+    /// An earlier call of this serializer answered a fault.
+    #[error("the serializer is closed")]
+    SerializerClosed,
+    /// An earlier call of this indexer answered a fault.
+    #[error("the indexer failed")]
+    IndexerFailed,
+    /// A JSON leaf of a kind that the index doesn't take was reached.
+    #[error("unsupported JSON leaf: {0}")]
+    UnsupportedLeaf(LeafKind),
+    /// A term was recorded below its last position in the same document.
+    #[error("decreasing position")]
+    DecreasingPosition,
+    /// A number passed its limit.
+    #[error("limit passed: {0}")]
+    Limit(LimitName),
+    /// Bytes don't hold what they are opened as.
+    #[error("damaged: {0}")]
+    Damaged(Part),
+}
+
+/// Why the postings or the positions of a term were refused. What answers it takes no memory.
+#[derive(Clone, Copy, Debug, PartialEq, Eq, Error)]
+pub enum LayoutFault {
+    /// The first part, in the order skip list, documents, frequencies, positions, that the bytes
+    /// fail to hold.
+    #[error("damaged: {0}")]
+    Damaged(Part),
+}
+
+impl Fault {
+    /// The fault's number, from 1 to 8.
+    pub fn number(self) -> u8
+        ensures { result ≡ number_of self }
+    {
+        match self {
+            Fault::OutOfMemory => 1,
+            Fault::Write => 2,
+            Fault::SerializerClosed => 3,
+            Fault::IndexerFailed => 4,
+            Fault::UnsupportedLeaf(_) => 5,
+            Fault::DecreasingPosition => 6,
+            Fault::Limit(_) => 7,
+            Fault::Damaged(_) => 8,
+        }
+    }
+}
+
+impl From<LayoutFault> for Fault {
+    ghost from_gives = { λ e f. f ≡ damage e };
+
+    fn from(e: LayoutFault) -> Fault {
+        let LayoutFault::Damaged(part) = e;
+        Fault::Damaged(part)
+    }
+}
+
+impl From<AllocError> for Fault {
+    ghost use Rattle.std.specs.Prelude.{◌≡◌};
+    ghost use Rattle.ii_io.specs.declared.faults.Fault.TheVariants.{OutOfMemory};
+
+    ghost from_gives = { λ _ f. f ≡ OutOfMemory };
+
+    fn from(_e: AllocError) -> Fault {
+        Fault::OutOfMemory
+    }
+}
+
+impl<T: Drop> From<AllocFailed<T>> for Fault {
+    ghost use Rattle.std.specs.Prelude.{◌≡◌};
+    ghost use Rattle.ii_io.specs.declared.faults.Fault.TheVariants.{OutOfMemory};
+
+    ghost from_gives = { λ _ f. f ≡ OutOfMemory };
+
+    fn from(_e: AllocFailed<T>) -> Fault {
+        Fault::OutOfMemory
+    }
+}

@@ -1,0 +1,26 @@
+//! What every layer of the index speaks of: faults, counted writers, and the spelling of numbers.
+#![tactic(auto)]
+
+pub mod composite_file;
+pub mod counting_writer;
+pub mod failing_reader;
+pub mod failing_writer;
+pub mod faults;
+pub mod field;
+pub mod has_len;
+pub mod serialize;
+pub mod tally;
+#[cfg(test)]
+mod tests;
+pub mod vint;
+
+pub use composite_file::composite_read::CompositeFile;
+pub use composite_file::composite_write::CompositeWrite;
+pub use counting_writer::CountingWriter;
+pub use failing_reader::FailingReader;
+pub use failing_writer::FailingWriter;
+pub use faults::{Fault, LayoutFault, LeafKind, LimitName, Part};
+pub use field::Field;
+pub use has_len::HasLen;
+pub use serialize::{BinarySerializable, FixedSize};
+pub use tally::Tally;

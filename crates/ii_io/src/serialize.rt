@@ -1,0 +1,148 @@
+ghost use Rattle.std.specs.Prelude.{◌≡◌, ◌↔◌, ◌<◌, ◌^◌, ◌++◌, ◌⊎◌, ℕ, List, ◌∷◌, [], length, Option, Some, OnOk, IfErr, IfNone, IsErrOf};
+ghost use Rattle.std.specs.Option.{option_map};
+ghost use Rattle.ii_io.specs.Told.{Tells, IsFull};
+ghost use Rattle.ii_io.specs.Numbers.{le_bytes, number_at, ReadsWhatIsWritten, HasOneSpelling};
+
+use super::counting_writer::CountingWriter;
+use super::faults::{Fault, LimitName};
+use super::field::Field;
+use byteorder::{ByteOrder, LittleEndian};
+use std::io::Write;
+
+/// A value that has bytes, and is read back from the front of them.
+pub trait BinarySerializable: Sized {
+    // The bytes of a value.
+    ghost bytes_of: { Self → List ℕ };
+
+    // The value that stands at the front of bytes, if one does, and the bytes behind it.
+    ghost value_at: { List ℕ → Option (Self × List ℕ) };
+
+    // What a value has to meet to be written.
+    ghost can_serialize: { Self → Type 0 } = { λ _. Unit {0} };
+
+    // What each value of the type meets.
+    ghost in_range: { Self → Type 0 } = { λ _. Unit {0} };
+
+    /// Writes the value's bytes, or answers `Write` where the writer fails, `Limit(Offset)` where a
+    /// count of the writer would pass `u64::MAX`, which writes nothing.
+    fn serialize<W: Write>(&self, writer: &mut CountingWriter<W>) -> Result<(), Fault>
+        requires { can_serialize self.now }
+        ensures ok { OnOk result (Tells writer.old writer.new (bytes_of self.now)) }
+        ensures write { IsErrOf result Fault.Write ↔ (writer.old.failed < writer.new.failed) }
+        ensures limit { IsErrOf result (Fault.Limit LimitName.Offset)
+            ↔ IsFull writer.old (length (bytes_of self.now)) }
+        ensures only { IfErr result (λ e. (e ≡ Fault.Write) ⊎ (e ≡ Fault.Limit LimitName.Offset)) };
+
+    /// Takes the value from the front of the bytes. `None` where none stands there, and the bytes
+    /// then stay as they were.
+    fn deserialize(reader: &mut &[u8]) -> Option<Self>
+        ensures value { option_map (λ v. (v, reader.new.now)) result ≡ value_at reader.old.now }
+        ensures stays { IfNone result (reader.new.now ≡ reader.old.now) };
+
+    // A value that was written is read back, whatever follows.
+    ghost reads_back: { (v : Self) (rest : List ℕ) → in_range v → can_serialize v
+        → value_at (bytes_of v ++ rest) ≡ Some (v, rest) };
+}
+
+/// A type whose values have as many bytes each.
+pub trait FixedSize: BinarySerializable {
+    /// How many bytes a value has.
+    const SIZE_IN_BYTES: usize;
+
+    // The same number.
+    ghost size: { ℕ };
+
+    /// `SIZE_IN_BYTES`, and the law that each value has so many bytes.
+    fn fixed_size() -> usize
+        ensures value { result ≡ size }
+        ensures each { (v : Self) → length (Self.bytes_of v) ≡ size };
+}
+
+/// Four bytes, the lowest first.
+impl BinarySerializable for u32 {
+    ghost use Rattle.ii_io.specs.NumberLemmas.{reads_what_is_written};
+    ghost use Rattle.std.specs.Prelude.{◌<◌, ◌^◌};
+    ghost use Rattle.ii_io.specs.Numbers.{le_bytes, number_at};
+
+    ghost bytes_of = { λ n. le_bytes 4 n };
+
+    ghost value_at = { λ bytes. number_at 4 bytes };
+
+    ghost in_range = { λ n. n < 256 ^ 4 };
+
+    ghost reads_back = { λ n rest fits _. reads_what_is_written 4 n rest fits };
+
+    fn serialize<W: Write>(&self, writer: &mut CountingWriter<W>) -> Result<(), Fault> {
+        let mut bytes = [0; 4];
+        LittleEndian::write_u32(&mut bytes, *self);
+        writer.write_all(&bytes)
+    }
+
+    fn deserialize(reader: &mut &[u8]) -> Option<u32> {
+        let bytes = *reader;
+        if bytes.len() < 4 {
+            return None;
+        }
+        *reader = &bytes[4..];
+        Some(LittleEndian::read_u32(bytes))
+    }
+}
+
+impl FixedSize for u32 {
+    const SIZE_IN_BYTES: usize = 4;
+
+    ghost size = { 4 };
+
+    #[tactic(auto, using(crate::specs::NumberLemmas::length_le_bytes))]
+    fn fixed_size() -> usize {
+        Self::SIZE_IN_BYTES
+    }
+}
+
+/// Eight bytes, the lowest first.
+impl BinarySerializable for u64 {
+    ghost use Rattle.ii_io.specs.NumberLemmas.{reads_what_is_written};
+    ghost use Rattle.std.specs.Prelude.{◌<◌, ◌^◌};
+    ghost use Rattle.ii_io.specs.Numbers.{le_bytes, number_at};
+
+    ghost bytes_of = { λ n. le_bytes 8 n };
+
+    ghost value_at = { λ bytes. number_at 8 bytes };
+
+    ghost in_range = { λ n. n < 256 ^ 8 };
+
+    ghost reads_back = { λ n rest fits _. reads_what_is_written 8 n rest fits };
+
+    fn serialize<W: Write>(&self, writer: &mut CountingWriter<W>) -> Result<(), Fault> {
+        let mut bytes = [0; 8];
+        LittleEndian::write_u64(&mut bytes, *self);
+        writer.write_all(&bytes)
+    }
+
+    fn deserialize(reader: &mut &[u8]) -> Option<u64> {
+        let bytes = *reader;
+        if bytes.len() < 8 {
+            return None;
+        }
+        *reader = &bytes[8..];
+        Some(LittleEndian::read_u64(bytes))
+    }
+}
+
+impl FixedSize for u64 {
+    const SIZE_IN_BYTES: usize = 8;
+
+    ghost size = { 8 };
+
+    #[tactic(auto, using(crate::specs::NumberLemmas::length_le_bytes))]
+    fn fixed_size() -> usize {
+        Self::SIZE_IN_BYTES
+    }
+}
+
+/// The law of numbers: what is written is read, whatever follows, and no other bytes of the same
+/// size give the same number.
+pub fn reads_numbers_back()
+    ensures reads { ReadsWhatIsWritten }
+    ensures one { HasOneSpelling }
+{}

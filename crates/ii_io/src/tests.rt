@@ -1,0 +1,193 @@
+ghost use Rattle.std.specs.Prelude.{◌≡◌, []};
+
+use crate::composite_file::place::Place;
+use crate::composite_file::reads_composites_back;
+use crate::counting_writer::CountingWriter;
+use crate::failing_reader::FailingReader;
+use crate::serialize::reads_numbers_back;
+use crate::{
+    BinarySerializable, CompositeFile, CompositeWrite, FailingWriter, Fault, Field, FixedSize,
+    HasLen, Part, vint,
+};
+use bytes::Bytes;
+use std::alloc::Global;
+use std::io::{Read, Write};
+use std::test::Fail;
+
+// Bodies of the fields 7 and 1 behind a byte that was written before.
+const WRITTEN: [u8; 48] = [
+    9, 5, 6, 8, 7, 0, 0, 0, 0, 0, 0, 0, 0, 0, 0, 0, 2, 0, 0, 0, 0, 0, 0, 0, 1, 0, 0, 0, 2, 0, 0, 0,
+    0, 0, 0, 0, 3, 0, 0, 0, 0, 0, 0, 0, 2, 0, 0, 0,
+];
+
+fn write_two<W: Write>(composite: &mut CompositeWrite<W>) -> Result<(), Fault>
+    requires { composite.old.starts ≡ [] }
+{
+    composite
+        .for_field(Field::from_field_id(7))?
+        .write_all(&[5, 6])?;
+    composite
+        .for_field(Field::from_field_id(1))?
+        .write_all(&[8])
+}
+
+fn composite_over(alloc: Global, failing_call: u64) -> (FailingWriter, Result<(), Fault>) {
+    let mut writer = CountingWriter::wrap(FailingWriter::new(alloc, failing_call));
+    let before = writer.write_all(&[9]);
+    let mut composite = CompositeWrite::wrap(alloc, writer);
+    let written = write_two(&mut composite);
+    let (writer, closed) = composite.close();
+    (writer.finish(), before.and(written).and(closed))
+}
+
+#[test]
+fn composites_are_written(rt: HostRuntime) {
+    let (writer, answer) = composite_over(rt.alloc(), 0);
+    assert_eq!(rt; answer, Ok(()));
+    assert_eq!(rt; writer.bytes(), WRITTEN.as_slice());
+    for k in 1..8 {
+        let (writer, answer) = composite_over(rt.alloc(), k);
+        assert_eq!(rt; answer, Err(Fault::Write), "call {k}");
+    }
+    let (writer, answer) = composite_over(rt.alloc(), 8);
+    assert_eq!(rt; answer, Ok(()));
+    let none = CompositeWrite::wrap(rt.alloc(), CountingWriter::wrap(Vec::new(rt.alloc())));
+    let (writer, answer) = none.close();
+    assert_eq!(rt; answer, Ok(()));
+    assert_eq!(rt; writer.finish().as_slice(), [0; 4].as_slice());
+    reads_composites_back();
+}
+
+#[test]
+fn composites_are_read(rt: HostRuntime) -> Result<(), Fail> {
+    let mut bytes = Bytes::from_static(&WRITTEN);
+    bytes.advance(1);
+    let file = CompositeFile::open(rt.alloc(), bytes)?;
+    for (field, want) in [
+        (7, Some([5, 6].as_slice())),
+        (1, Some([8].as_slice())),
+        (0, None),
+    ] {
+        let body = file.open_read(Field::from_field_id(field))?;
+        assert_eq!(rt; body.as_ref().map(|b| b.as_slice()), want, "field {field}");
+    }
+    CompositeFile::open(rt.alloc(), Bytes::from_static(&[0; 4]))?;
+    Ok(())
+}
+
+const NO_TABLE: [u8; 4] = [1, 0, 0, 0];
+
+// 20 times this count wraps to 4 in 32 bits.
+const WRAPPING_COUNT: [u8; 12] = [0, 0, 0, 0, 0, 0, 0, 0, 0xCD, 0xCC, 0xCC, 0x0C];
+
+const END_BEFORE_START: [u8; 26] = [
+    5, 6, 0, 0, 0, 0, 2, 0, 0, 0, 0, 0, 0, 0, 1, 0, 0, 0, 0, 0, 0, 0, 1, 0, 0, 0,
+];
+
+const END_PAST_BODIES: [u8; 26] = [
+    5, 6, 0, 0, 0, 0, 0, 0, 0, 0, 0, 0, 0, 0, 3, 0, 0, 0, 0, 0, 0, 0, 1, 0, 0, 0,
+];
+
+const GREATEST: [u8; 26] = [
+    5, 6, 0, 0, 0, 0, 255, 255, 255, 255, 255, 255, 255, 255, 255, 255, 255, 255, 255, 255, 255,
+    255, 1, 0, 0, 0,
+];
+
+const ONE_BYTE_SHORT: [u8; 23] = [
+    0, 0, 0, 0, 0, 0, 0, 0, 0, 0, 0, 0, 0, 0, 0, 0, 0, 0, 0, 1, 0, 0, 0,
+];
+
+const REPEATED: [u8; 44] = [
+    7, 0, 0, 0, 0, 0, 0, 0, 0, 0, 0, 0, 0, 0, 0, 0, 0, 0, 0, 0, 7, 0, 0, 0, 0, 0, 0, 0, 0, 0, 0, 0,
+    0, 0, 0, 0, 0, 0, 0, 0, 2, 0, 0, 0,
+];
+
+fn refusal(alloc: Global, bytes: &'static [u8]) -> Option<Fault> {
+    CompositeFile::open(alloc, Bytes::from_static(bytes)).err()
+}
+
+#[test]
+fn damaged_composites_are_refused(rt: HostRuntime) {
+    let damaged = Some(Fault::Damaged(Part::Composite));
+    assert_eq!(rt; refusal(rt.alloc(), &[]), damaged);
+    assert_eq!(rt; refusal(rt.alloc(), &[0; 3]), damaged);
+    assert_eq!(rt; refusal(rt.alloc(), &NO_TABLE), damaged);
+    assert_eq!(rt; refusal(rt.alloc(), &WRAPPING_COUNT), damaged);
+    assert_eq!(rt; refusal(rt.alloc(), &END_BEFORE_START), damaged);
+    assert_eq!(rt; refusal(rt.alloc(), &END_PAST_BODIES), damaged);
+    assert_eq!(rt; refusal(rt.alloc(), &GREATEST), damaged);
+    assert_eq!(rt; refusal(rt.alloc(), &ONE_BYTE_SHORT), damaged);
+    assert_eq!(rt; refusal(rt.alloc(), &REPEATED), damaged);
+}
+
+#[test]
+fn numbers_are_written_and_read(rt: HostRuntime) -> Result<(), Fail> {
+    let mut writer = CountingWriter::wrap(Vec::new(rt.alloc()));
+    0x0403_0201_u32.serialize(&mut writer)?;
+    0x0F0E_0D0C_0B0A_0908_u64.serialize(&mut writer)?;
+    let place = Place {
+        field: Field::from_field_id(3),
+        start: 1,
+        end: 2,
+    };
+    place.serialize(&mut writer)?;
+    assert!(rt; place.lies_within(2) && !place.lies_within(1));
+    assert_eq!(rt; writer.written_bytes(), 32);
+    let bytes = writer.finish();
+    let mut rest = bytes.as_slice();
+    assert_eq!(rt; u32::deserialize(&mut rest), Some(0x0403_0201));
+    assert_eq!(rt; u64::deserialize(&mut rest), Some(0x0F0E_0D0C_0B0A_0908));
+    assert_eq!(rt; Place::deserialize(&mut rest), Some(place));
+    assert_eq!(rt; u32::deserialize(&mut rest), None);
+    let sizes = [u32::fixed_size(), u64::fixed_size(), Place::fixed_size()];
+    assert_eq!(rt; sizes, [4, 8, 20]);
+    assert_eq!(rt;
+        u32::SIZE_IN_BYTES + u64::SIZE_IN_BYTES + Place::SIZE_IN_BYTES,
+        32
+    );
+    reads_numbers_back();
+    Ok(())
+}
+
+fn len_of<T: HasLen>(value: &T) -> (usize, bool) {
+    (value.len(), value.is_empty())
+}
+
+#[test]
+fn fields_and_lengths(rt: HostRuntime) {
+    assert_eq!(rt; Field::from_field_id(5).field_id(), 5);
+    let two: Bytes = Bytes::from_static(&[1, 2]);
+    assert_eq!(rt; len_of(&two), (2, false));
+}
+
+#[test]
+fn one_call_fails(rt: HostRuntime) -> Result<(), Fail> {
+    let mut writer = FailingWriter::new(rt.alloc(), 2);
+    assert!(rt; writer.write(&[1]).is_ok());
+    assert!(rt; writer.flush().is_err());
+    assert!(rt; writer.write(&[2]).is_ok());
+    assert_eq!(rt; writer.bytes(), [1, 2].as_slice());
+    let mut reader = FailingReader::new(&[1, 2, 3], 2);
+    let mut buf = [0; 2];
+    assert!(rt; reader.read(&mut buf).is_ok());
+    assert_eq!(rt; buf, [1, 2]);
+    assert!(rt; reader.read(&mut buf).is_err());
+    assert!(rt; reader.read(&mut buf).is_ok());
+    assert_eq!(rt; buf, [3, 2]);
+    Ok(())
+}
+
+#[test]
+fn vints_of_64_bits_are_written(rt: HostRuntime) {
+    let mut bytes = [0xFFu8; 12];
+    assert_eq!(rt; vint::write_u64(5, &mut bytes, 1), 2);
+    assert_eq!(rt; bytes[0], 0xFF);
+    assert_eq!(rt; bytes[1], 0x85);
+    assert_eq!(rt; vint::write_u64(u64::MAX, &mut bytes, 0), 10);
+    assert_eq!(rt;
+        bytes,
+        [
+            0x7F, 0x7F, 0x7F, 0x7F, 0x7F, 0x7F, 0x7F, 0x7F, 0x7F, 0x81, 0xFF, 0xFF
+        ]
+    );
+}

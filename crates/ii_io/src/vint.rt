@@ -1,0 +1,107 @@
+ghost use Rattle.std.specs.Prelude.{◌≡◌, ◌+◌, ◌^◌, ◌<◌, ◌≤◌, ◌++◌, length, take, drop, IfSome};
+ghost use Rattle.std.specs.Option.{option_map};
+ghost use Rattle.ii_io.specs.Vints.{u32_at, u64_at, vint_u32, vint_u64, ReadsWhatIsSpelled, SpellsInFewest};
+
+/// The most bytes of a vint of 32 bits.
+pub const MAX_VINT_SIZE: usize = 5;
+
+/// The most bytes of a vint of 64 bits.
+pub const MAX_LONG_VINT_SIZE: usize = 10;
+
+/// The number of 32 bits that is spelled at the front of `bytes`, and how many bytes spell it: 1 to
+/// 5 bytes of seven bits each, the lowest first, of which the last alone is 128 or more. `None`
+/// where no such spelling begins the bytes, or the number passes `u32::MAX`.
+pub fn read_u32(bytes: &[u8]) -> Option<(u32, usize)>
+    ensures value { option_map (λ read. (read.0, drop read.1 bytes.now)) result ≡ u32_at bytes.now }
+    ensures within { IfSome result (λ read. read.1 ≤ length bytes.now) }
+{
+    let mut value: u64 = 0;
+    let mut place: u64 = 1;
+    for (i, byte) in bytes.iter().enumerate() {
+        if i == MAX_VINT_SIZE {
+            return None;
+        }
+        value += u64::from(*byte % 128) * place;
+        if *byte >= 128 {
+            let Ok(number) = u32::try_from(value) else {
+                return None;
+            };
+            return Some((number, i + 1));
+        }
+        place *= 128;
+    }
+    None
+}
+
+/// The number of 64 bits that is spelled at the front of `bytes`, and how many bytes spell it, 1 to
+/// 10: as `read_u32` reads one of 32 bits.
+pub fn read_u64(bytes: &[u8]) -> Option<(u64, usize)>
+    ensures value { option_map (λ read. (read.0, drop read.1 bytes.now)) result ≡ u64_at bytes.now }
+    ensures within { IfSome result (λ read. read.1 ≤ length bytes.now) }
+{
+    let mut value: u128 = 0;
+    let mut place: u128 = 1;
+    for (i, byte) in bytes.iter().enumerate() {
+        if i == MAX_LONG_VINT_SIZE {
+            return None;
+        }
+        value += u128::from(*byte % 128) * place;
+        if *byte >= 128 {
+            let Ok(number) = u64::try_from(value) else {
+                return None;
+            };
+            return Some((number, i + 1));
+        }
+        place *= 128;
+    }
+    None
+}
+
+/// Writes the shortest spelling of `value` into `output` from `start` on, and answers the place
+/// behind it.
+pub fn write_u32(value: u32, output: &mut [u8], start: usize) -> usize
+    requires { start + 5 ≤ length output.old }
+    ensures written { take result output.new ≡ take start output.old ++ vint_u32 value }
+    ensures within { result ≤ start + 5 }
+{
+    let mut end = start;
+    let mut high = value;
+    while high >= 128 {
+        output[end] = (high % 128) as u8;
+        end += 1;
+        high /= 128;
+    }
+    output[end] = high as u8 + 128;
+    end + 1
+}
+
+/// Writes the shortest spelling of `value`, which has 1 to 10 bytes, into `output` from `start` on,
+/// and answers the place behind it.
+pub fn write_u64(value: u64, output: &mut [u8], start: usize) -> usize
+    requires { start + 10 ≤ length output.old }
+    ensures written { take result output.new ≡ take start output.old ++ vint_u64 value }
+    ensures within { result ≤ start + 10 }
+{
+    let mut end = start;
+    let mut left = value;
+    while left >= 128 {
+        output[end] = (left % 128) as u8;
+        end += 1;
+        left /= 128;
+    }
+    output[end] = left as u8 + 128;
+    end + 1
+}
+
+/// The law of reading: at 32 and at 64 bits what is spelled is read, whatever follows, and nothing
+/// else is.
+pub fn reads_what_is_spelled()
+    ensures u32 { ReadsWhatIsSpelled 5 (2 ^ 32) }
+    ensures u64 { ReadsWhatIsSpelled 10 (2 ^ 64) }
+{}
+
+/// The law of writing: what is written spells its number, in the fewest bytes.
+pub fn spells_in_fewest()
+    ensures u32 { SpellsInFewest 4 }
+    ensures u64 { SpellsInFewest 9 }
+{}

@@ -1,0 +1,103 @@
+ghost use Rattle.std.specs.Prelude.{◌≤◌};
+
+use crate::skip::{BlockInfo, decode_bitwidth, decode_block_wand_max_tf, encode_bitwidth};
+use crate::written::reads_documents_back;
+use crate::{PostingsSerializer, SkipReader, SkipSerializer};
+use ii_base::{CountingWriter, Fault, IndexRecordOption};
+use ii_docset::TERMINATED;
+use ii_io::FailingWriter;
+use std::alloc::Global;
+use std::test::Fail;
+
+// What is written of the documents below `count`.
+fn bytes_below(alloc: Global, count: u32) -> Result<Vec<u8>, Fault>
+    requires { count ≤ 256 }
+{
+    let mut serializer = PostingsSerializer::new(alloc, IndexRecordOption::Basic);
+    for doc in 0..count {
+        serializer.write_doc(doc, 1)?;
+    }
+    let mut output = CountingWriter::wrap(Vec::new(alloc));
+    serializer.close_term(count, &mut output)?;
+    Ok(output.finish())
+}
+
+#[test]
+fn blocks_are_written(rt: HostRuntime) -> Result<(), Fail> {
+    let bytes = bytes_below(rt.alloc(), 128)?;
+    assert_eq!(rt; bytes.as_slice(), [0x85, 0x7F, 0, 0, 0, 0x40].as_slice());
+    reads_documents_back();
+    Ok(())
+}
+
+#[test]
+fn terms_are_written_one_after_the_other(rt: HostRuntime) -> Result<(), Fail> {
+    let mut serializer = PostingsSerializer::new(rt.alloc(), IndexRecordOption::Basic);
+    serializer.write_doc(7, 1)?;
+    serializer.new_term(3, false);
+    serializer.write_doc(0, 1)?;
+    serializer.write_doc(2, 1)?;
+    serializer.write_doc(10, 1)?;
+    let mut output = CountingWriter::wrap(Vec::new(rt.alloc()));
+    serializer.close_term(3, &mut output)?;
+    serializer.close_term(0, &mut output)?;
+    assert_eq!(rt; output.finish().as_slice(), [0x80, 0x82, 0x88].as_slice());
+    Ok(())
+}
+
+#[test]
+fn a_refused_serializer_is_closed(rt: HostRuntime) {
+    let mut serializer = PostingsSerializer::new(rt.alloc(), IndexRecordOption::Basic);
+    let mut output = CountingWriter::wrap(FailingWriter::new(rt.alloc(), 1));
+    serializer.new_term(1, false);
+    let answer = serializer.write_doc(1, 1);
+    assert_eq!(rt; answer, Ok(()));
+    assert_eq!(rt; serializer.close_term(1, &mut output), Err(Fault::Write));
+    serializer.new_term(1, false);
+    assert_eq!(rt; serializer.write_doc(1, 1), Err(Fault::SerializerClosed));
+    serializer.new_term(0, false);
+    let answer = serializer.close_term(0, &mut output);
+    assert_eq!(rt; answer, Err(Fault::SerializerClosed));
+}
+
+#[test]
+fn skip_entries_are_written(rt: HostRuntime) -> Result<(), Fail> {
+    let mut skip = SkipSerializer::new(rt.alloc());
+    skip.write_doc(1, 2)?;
+    skip.write_doc(5, 5)?;
+    assert_eq!(rt;
+        skip.data(),
+        [1, 0, 0, 0, 0x42, 5, 0, 0, 0, 0x45].as_slice()
+    );
+    skip.clear();
+    assert_eq!(rt; skip.data().len(), 0);
+    assert_eq!(rt; encode_bitwidth(5, false), 5);
+    assert_eq!(rt; decode_bitwidth(0x45), (5, true));
+    assert_eq!(rt; decode_bitwidth(0x9F), (31, false));
+    Ok(())
+}
+
+#[test]
+fn skip_entries_are_read(rt: HostRuntime) {
+    let bytes = [1, 0, 0, 0, 0x42, 5, 0, 0, 0, 0x45];
+    let mut skip = SkipReader::new(&bytes, 259, IndexRecordOption::Basic);
+    assert_eq!(rt; skip.last_doc_in_block(), 1);
+    assert_eq!(rt; skip.last_doc_in_previous_block(), 0);
+    assert_eq!(rt; skip.byte_offset(), 0);
+    skip.advance(&bytes);
+    assert_eq!(rt; skip.last_doc_in_block(), 5);
+    assert_eq!(rt; skip.last_doc_in_previous_block(), 1);
+    assert_eq!(rt; skip.byte_offset(), 32);
+    skip.advance(&bytes);
+    assert_eq!(rt; skip.last_doc_in_block(), TERMINATED);
+    assert_eq!(rt; skip.byte_offset(), 112);
+    assert_eq!(rt; skip.block_info(), BlockInfo::VInt { num_docs: 3 });
+    skip.advance(&bytes);
+    assert_eq!(rt; skip.byte_offset(), usize::MAX);
+    assert_eq!(rt; skip.block_info(), BlockInfo::default());
+    skip.advance(&bytes);
+    assert_eq!(rt; skip.block_info(), BlockInfo::VInt { num_docs: 0 });
+    skip.reset(&[], 7);
+    assert_eq!(rt; skip.block_info(), BlockInfo::VInt { num_docs: 7 });
+    assert_eq!(rt; decode_block_wand_max_tf(254), 254);
+}

@@ -1,0 +1,71 @@
+-- What a dictionary is written from.
+use Rattle.std.proofs.Common.{◌≡◌, ℕ, suc, ◌+◌, ◌<◌, List, [], ◌∷◌, ◌++◌, length, take, drop, get_or, Result, Ok, Err, true, false, refl, sym, ap, ◌∙◌, arith, append_assoc, length-append}
+use Rattle.std.specs.Prelude.{is_err, OnOk}
+use Rattle.std.specs.List.{flat_map}
+use Rattle.std.proofs.lemmas.List.{append-nil, take-append-drop, drop_more}
+use Rattle.ii_io.specs.declared.faults.Fault.{Fault}
+use Rattle.ii_io.specs.Told.{Told, Tells}
+use Rattle.ii_io.specs.Numbers.{le_bytes}
+use Rattle.ii_termdict.specs.declared.term_info.TermInfo.{TermInfo}
+use Rattle.ii_termdict.specs.Written.{Writes, Building, HasKeys, ends_from, written_dictionary, written_store}
+use Rattle.ii_termdict.proofs.PackLemmas.{writes_then, writes_refused_by}
+
+flat_append : (f : ℕ → List ℕ) (xs ys : List ℕ) → flat_map f (xs ++ ys) ≡ flat_map f xs ++ flat_map f ys
+flat_append f [] ys = refl
+flat_append f (x ∷ xs) ys = ap (λ (zs : List ℕ). f x ++ zs) (flat_append f xs ys) ∙ sym (append_assoc (f x) (flat_map f xs) (flat_map f ys))
+
+flat_around : (f : ℕ → List ℕ) (xs : List ℕ) (i : ℕ) → i < length xs → flat_map f xs ≡ (flat_map f (take i xs) ++ f (get_or xs i 0)) ++ flat_map f (drop (i + 1) xs)
+flat_around f xs i h =
+    let whole = sym (take-append-drop i xs) in
+    let rest = drop_more xs i 0 h in
+    ap (flat_map f) whole ∙ flat_append f (take i xs) (drop i xs) ∙ ap (λ (zs : List ℕ). flat_map f (take i xs) ++ flat_map f zs) rest
+    ∙ sym (append_assoc (flat_map f (take i xs)) (f (get_or xs i 0)) (flat_map f (drop (i + 1) xs)))
+
+-- a number that was refused among others
+pub numbers_refused : (numbers : List ℕ) (i : ℕ) (begun told new : Told) (result : Result (Unit {0}) Fault) → i < length numbers → Tells begun told (flat_map (le_bytes 8) (take i numbers)) → true ≡ is_err result
+    → Writes told new (le_bytes 8 (get_or numbers i 0)) result → Writes begun new (flat_map (le_bytes 8) numbers) result
+numbers_refused numbers i begun told new result within h refused put =
+    rw (flat_around (le_bytes 8) numbers i within)
+    (writes_refused_by begun new (flat_map (le_bytes 8) (take i numbers) ++ le_bytes 8 (get_or numbers i 0)) (flat_map (le_bytes 8) (drop (i + 1) numbers)) result refused
+    (writes_then begun told new (flat_map (le_bytes 8) (take i numbers)) (le_bytes 8 (get_or numbers i 0)) result h put))
+
+keys_push : (keys : List (List ℕ)) (key : List ℕ) → flat_map (λ (k : List ℕ). k) (keys ++ key ∷ []) ≡ flat_map (λ (k : List ℕ). k) keys ++ key
+keys_push [] key = append-nil key
+keys_push (k ∷ ks) key = ap (λ (zs : List ℕ). k ++ zs) (keys_push ks key) ∙ sym (append_assoc k (flat_map (λ (k : List ℕ). k) ks) key)
+
+ends_push : (start : ℕ) (keys : List (List ℕ)) (key : List ℕ) → ends_from start (keys ++ key ∷ []) ≡ ends_from start keys ++ (start + length (flat_map (λ (k : List ℕ). k) keys ++ key)) ∷ []
+ends_push start [] key = refl
+ends_push start (k ∷ ks) key =
+    let ih = ends_push (start + length k) ks key in
+    let size : start + length k + length (flat_map (λ (k : List ℕ). k) ks ++ key) ≡ start + length ((k ++ flat_map (λ (k : List ℕ). k) ks) ++ key) =
+    omega (arith, length-append (k ++ flat_map (λ (k : List ℕ). k) ks) key, length-append k (flat_map (λ (k : List ℕ). k) ks), length-append (flat_map (λ (k : List ℕ). k) ks) key) in
+    ap (λ (es : List ℕ). (start + length k) ∷ es) (ih ∙ ap (λ (n : ℕ). ends_from (start + length k) ks ++ n ∷ []) size)
+
+length-ends_from : (start : ℕ) (keys : List (List ℕ)) → length (ends_from start keys) ≡ length keys
+length-ends_from start [] = refl
+length-ends_from start (k ∷ ks) = ap suc (length-ends_from (start + length k) ks)
+
+-- one key more
+pub has_more : (old new : Building) (keys : List (List ℕ)) (key : List ℕ) → HasKeys old keys → new.key_bytes ≡ old.key_bytes ++ key → new.ends ≡ old.ends ++ length new.key_bytes ∷ [] → HasKeys new (keys ++ key ∷ [])
+has_more old new keys key h bytes ends =
+    let whole : new.key_bytes ≡ flat_map (λ (k : List ℕ). k) keys ++ key = bytes ∙ ap (λ (bs : List ℕ). bs ++ key) h.bytes in
+    let none : 0 + length (flat_map (λ (k : List ℕ). k) keys ++ key) ≡ length (flat_map (λ (k : List ℕ). k) keys ++ key) = omega arith in
+    record {
+      bytes = whole ∙ sym (keys_push keys key);
+      ends = ends ∙ ap (λ (es : List ℕ). es ++ length new.key_bytes ∷ []) h.ends ∙ ap (λ (bs : List ℕ). ends_from 0 keys ++ length bs ∷ []) whole
+          ∙ ap (λ (n : ℕ). ends_from 0 keys ++ n ∷ []) (sym none) ∙ sym (ends_push 0 keys key);
+    }
+
+-- what is written of a builder's parts
+pub dictionary_written : (b : Building) (keys : List (List ℕ)) → HasKeys b keys
+    → le_bytes 8 (length b.ends) ++ flat_map (le_bytes 8) b.ends ++ b.key_bytes ++ written_store b.infos ≡ written_dictionary keys b.infos
+unfolding written_dictionary
+dictionary_written b keys h = rw (h.ends, h.bytes, length-ends_from 0 keys) refl
+
+pub dictionary_written_by : (b : Building) (keys : List (List ℕ)) (ends bytes : List ℕ) (infos : List TermInfo) → ends ≡ b.ends → bytes ≡ b.key_bytes → infos ≡ b.infos → HasKeys b keys
+    → le_bytes 8 (length ends) ++ flat_map (le_bytes 8) ends ++ bytes ++ written_store infos ≡ written_dictionary keys b.infos
+dictionary_written_by b keys ends bytes infos e y i h = rw (e, y, i) (dictionary_written b keys h)
+
+pub on_ok_went : {P : Type 0} (result : Result (Unit {0}) Fault) → false ≡ is_err result → OnOk result P → P
+on_ok_went (Ok u) e h = h
+on_ok_went (Err f) e h = absurd (cc)

@@ -1,0 +1,98 @@
+-- Keys in order, each with what is kept of its term.
+use Rattle.std.specs.Prelude.{◌≡◌, ◌≤◌, ℕ, ◌+◌, ◌-◌, ◌*◌, Bool, true, ◌&&◌, List, [], IsSomeAnd, length, drop, map, nat_le, ◌==◌, if◌then◌else◌, Option, None, Some, Result, Ok, Err, unwrap_or, bytes_eq}
+use Rattle.std.specs.Ordering.{nat_cmp, is_lt}
+use Rattle.std.specs.Cmp.Lexicographic.{slice_cmp}
+use Rattle.std.specs.List.{list_all, range_with_len, slice_range, zip}
+use Rattle.std.specs.Map.{lookup}
+use Rattle.std.specs.Option.{option_map}
+use Rattle.ii_io.specs.declared.faults.Part.{Part}
+use Rattle.ii_io.specs.declared.faults.Part.TheVariants.{Dictionary, TermStore}
+use Rattle.ii_io.specs.Steps.{◌>>=◌, needs}
+use Rattle.ii_io.specs.Numbers.{number_at}
+use Rattle.ii_termdict.specs.declared.term_info.TermInfo.{TermInfo}
+use Rattle.ii_termdict.specs.TermStore.{term_store}
+
+-- a key and what is kept of its term
+abbrev pub Entry : Type 0
+Entry = List ℕ × TermInfo
+
+abbrev pub is_below : List ℕ → List ℕ → Bool
+is_below k l = is_lt (slice_cmp nat_cmp k l)
+
+-- where key i ends and begins, by the numbers of eight bytes
+unfoldable pub end_of : List ℕ → ℕ → ℕ
+end_of ends i = unwrap_or (option_map (λ found. found.0) (number_at 8 (drop (8 * i) ends))) 0
+
+abbrev pub start_of : List ℕ → ℕ → ℕ
+start_of ends i = if i == 0 then 0 else end_of ends (i - 1)
+
+abbrev pub key_of : List ℕ → List ℕ → ℕ → List ℕ
+key_of ends body i = slice_range body (start_of ends i) (end_of ends i)
+
+-- no end is below the one before it, and the last one lies within the body
+abbrev pub ends_rise : ℕ → List ℕ → List ℕ → Bool
+ends_rise n ends body = list_all (λ i. nat_le (start_of ends i) (end_of ends i)) (range_with_len 0 n) && nat_le (start_of ends n) (length body)
+
+-- each key is below the next
+abbrev pub keys_ascend : ℕ → List ℕ → List ℕ → Bool
+keys_ascend n ends body = list_all (λ i. is_below (key_of ends body i) (key_of ends body (i + 1))) (range_with_len 0 (n - 1))
+
+abbrev pub keys_of : ℕ → List ℕ → List ℕ → List (List ℕ)
+keys_of n ends body = map (key_of ends body) (range_with_len 0 n)
+
+-- the number of keys, their ends and what stands behind, and the body of keys and store
+unfoldable pub key_parts : List ℕ → Option (ℕ × List ℕ × List ℕ)
+key_parts bytes = do
+  n ← number_at 8 bytes
+  _ ← needs (nat_le (8 * n.0) (length n.1))
+  Some (n.0, n.1, drop (8 * n.0) n.1)
+
+-- the keys, and the bytes of the store behind them
+unfoldable pub keys_at : List ℕ → Option (List (List ℕ) × List ℕ)
+keys_at bytes = do
+  parts ← key_parts bytes
+  _ ← needs (ends_rise parts.0 parts.1 parts.2)
+  _ ← needs (keys_ascend parts.0 parts.1 parts.2)
+  Some (keys_of parts.0 parts.1 parts.2, drop (start_of parts.1 parts.0) parts.2)
+
+abbrev pub with_infos : List (List ℕ) → Option (List TermInfo) → Result (List Entry) Part
+with_infos keys None = Err TermStore
+with_infos keys (Some infos) = if length infos == length keys then Ok (zip keys infos) else Err Dictionary
+
+abbrev pub with_keys : Option (List (List ℕ) × List ℕ) → Result (List Entry) Part
+with_keys None = Err Dictionary
+with_keys (Some found) = with_infos found.0 (term_store found.1)
+
+-- the list that a dictionary's bytes hold, or the first part that fails
+unfoldable pub dictionary : List ℕ → Result (List Entry) Part
+dictionary bytes = with_keys (keys_at bytes)
+
+-- what is kept under a key
+abbrev pub info_under : List ℕ → List Entry → Option TermInfo
+info_under key entries = lookup (bytes_eq key) entries
+
+-- the keys of entries
+abbrev pub entry_keys : List Entry → List (List ℕ)
+entry_keys entries = map (λ (e : Entry). e.0) entries
+
+-- the bytes of the store behind the keys, and the entries of lawful parts
+abbrev pub store_behind : ℕ → List ℕ → List ℕ → List ℕ
+store_behind n ends body = drop (start_of ends n) body
+
+unfoldable pub entries_of : ℕ → List ℕ → List ℕ → List Entry
+entries_of n ends body = zip (keys_of n ends body) (unwrap_or (term_store (store_behind n ends body)) [])
+
+-- What the parts of an opened dictionary meet.
+pub record AreOpened (n : ℕ) (ends body : List ℕ) : Type 0 where
+  pub there : 8 * n ≤ length ends
+  pub rise : ends_rise n ends body ≡ true
+  pub ascend : keys_ascend n ends body ≡ true
+  pub store : IsSomeAnd (term_store (store_behind n ends body)) (λ infos. length infos ≡ n)
+
+-- The entries of a dictionary, and how many of them were passed.
+pub record Streaming : Type 0 where
+  pub entries : List Entry
+  pub passed : ℕ
+
+abbrev pub entry_infos : List Entry → List TermInfo
+entry_infos entries = map (λ (e : Entry). e.1) entries

@@ -1,0 +1,6 @@
+pub mod Dictionary
+pub mod TermInfoLemmas
+pub mod TermInfos
+pub mod TermStore
+pub mod TermStoreLemmas
+pub mod Written

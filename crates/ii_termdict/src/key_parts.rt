@@ -1,0 +1,226 @@
+ghost use Rattle.std.specs.Prelude.{◌≡◌, ℕ, ◌+◌, ◌-◌, ◌*◌, ◌<◌, ◌≤◌, true, length, drop, Some, slice_get, IfSome, IfNone, IfOk, IsOk, IsOkAnd, Ok, Err, MatchOption};
+ghost use Rattle.std.specs.List.{slice_range};
+ghost use Rattle.std.specs.Option.{option_map};
+ghost use Rattle.ii_termdict.specs.Dictionary.{end_of, start_of, key_of, ends_rise, keys_ascend, key_parts, is_below, store_behind, entries_of, AreOpened, info_under, entry_keys, entry_infos, dictionary};
+
+use crate::term_info::TermInfo;
+use crate::term_info_store::{info_at, is_store, num_terms};
+use ii_io::{BinarySerializable, Part};
+use std::cmp::Ordering;
+
+/// The parts of a dictionary's bytes: the number of its terms, the ends of their keys and what stands
+/// behind, and the keys with the store behind them.
+#[derive(Clone, Copy)]
+pub(crate) struct KeyParts<'a> {
+    pub num_terms: u64,
+    pub ends: &'a [u8],
+    pub body: &'a [u8],
+}
+
+// The parts, where bytes hold them.
+#[tactic(auto, unfolding(crate::specs::Dictionary::key_parts))]
+fn parts_of(bytes: &[u8]) -> Option<KeyParts<'_>>
+    ensures value { option_map (λ p. (p.num_terms, p.ends.now, p.body.now)) result ≡ key_parts bytes.now }
+    ensures there { IfSome result (λ p. 8 * p.num_terms ≤ length p.ends.now) }
+{
+    let mut rest = bytes;
+    let Some(num_terms) = u64::deserialize(&mut rest) else {
+        return None;
+    };
+    if num_terms > count_bytes(rest) / 8 {
+        return None;
+    }
+    Some(KeyParts {
+        num_terms,
+        ends: rest,
+        body: &rest[8 * num_terms as usize..],
+    })
+}
+
+// How many bytes there are.
+fn count_bytes(bytes: &[u8]) -> u64
+    ensures { result ≡ length bytes.now }
+{
+    bytes.len() as u64
+}
+
+// Where key `i` ends.
+#[tactic(auto, unfolding(crate::specs::Dictionary::end_of))]
+fn read_end(ends: &[u8], i: u64) -> u64
+    requires { 8 * i ≤ length ends.now }
+    ensures { result ≡ end_of ends.now i }
+{
+    let mut rest = &ends[8 * i as usize..];
+    match u64::deserialize(&mut rest) {
+        Some(end) => end,
+        None => 0,
+    }
+}
+
+// Where key `i` begins.
+fn read_start(ends: &[u8], i: u64) -> u64
+    requires { 8 * i ≤ length ends.now }
+    ensures { result ≡ start_of ends.now i }
+{
+    if i == 0 { 0 } else { read_end(ends, i - 1) }
+}
+
+// Whether no end is below the one before it, and the last one lies within the body.
+fn do_ends_rise(n: u64, ends: &[u8], body: &[u8]) -> bool
+    requires { 8 * n ≤ length ends.now }
+    ensures { result ≡ ends_rise n ends.now body.now }
+{
+    for i in 0..n {
+        if read_start(ends, i) > read_end(ends, i) {
+            return false;
+        }
+    }
+    read_start(ends, n) <= body.len() as u64
+}
+
+// Key `i`.
+pub(crate) fn read_key<'a>(n: u64, ends: &[u8], body: &'a [u8], i: u64) -> &'a [u8]
+    requires there { 8 * n ≤ length ends.now }
+    requires rise { ends_rise n ends.now body.now ≡ true }
+    requires within { i < n }
+    ensures { result.now ≡ key_of ends.now body.now i }
+{
+    piece(
+        body,
+        read_start(ends, i) as usize,
+        read_end(ends, i) as usize,
+    )
+}
+
+// The bytes from a place to before another.
+fn piece(body: &[u8], start: usize, end: usize) -> &[u8]
+    requires forward { start ≤ end }
+    requires within { end ≤ length body.now }
+    ensures { result.now ≡ slice_range body.now start end }
+{
+    &body[start..end]
+}
+
+// Whether a key is below another by its bytes.
+fn is_key_below(key: &[u8], other: &[u8]) -> bool
+    ensures { result ≡ is_below key.now other.now }
+{
+    key.cmp(other) == Ordering::Less
+}
+
+// Whether each key is below the next.
+fn do_keys_ascend(n: u64, ends: &[u8], body: &[u8]) -> bool
+    requires there { 8 * n ≤ length ends.now }
+    requires rise { ends_rise n ends.now body.now ≡ true }
+    ensures { result ≡ keys_ascend n ends.now body.now }
+{
+    for i in 0..n.saturating_sub(1) {
+        if !is_key_below(read_key(n, ends, body, i), read_key(n, ends, body, i + 1)) {
+            return false;
+        }
+    }
+    true
+}
+
+// The store behind the keys.
+fn store_of<'a>(n: u64, ends: &[u8], body: &'a [u8]) -> &'a [u8]
+    requires there { 8 * n ≤ length ends.now }
+    requires rise { ends_rise n ends.now body.now ≡ true }
+    ensures { result.now ≡ store_behind n ends.now body.now }
+{
+    &body[read_start(ends, n) as usize..]
+}
+
+/// The first part that bytes fail to hold, if they are no dictionary. It takes no memory, and time of
+/// the bytes given.
+pub(crate) fn damage(bytes: &[u8]) -> Option<Part>
+    ensures { MatchOption result (IsOk (dictionary bytes.now)) (λ part. dictionary bytes.now ≡ Err part) }
+{
+    let Some(parts) = parts_of(bytes) else {
+        return Some(Part::Dictionary);
+    };
+    if !do_ends_rise(parts.num_terms, parts.ends, parts.body) {
+        return Some(Part::Dictionary);
+    }
+    if !do_keys_ascend(parts.num_terms, parts.ends, parts.body) {
+        return Some(Part::Dictionary);
+    }
+    let store = store_of(parts.num_terms, parts.ends, parts.body);
+    if !is_store(store) {
+        return Some(Part::TermStore);
+    }
+    if num_terms(store) != parts.num_terms {
+        return Some(Part::Dictionary);
+    }
+    None
+}
+
+/// The parts of a dictionary.
+pub(crate) fn opened(bytes: &[u8]) -> KeyParts<'_>
+    requires { IsOk (dictionary bytes.now) }
+    ensures lawful { AreOpened result.num_terms result.ends.now result.body.now }
+    ensures entries { dictionary bytes.now ≡ Ok (entries_of result.num_terms result.ends.now result.body.now) }
+{
+    match parts_of(bytes) {
+        Some(parts) => parts,
+        None => unreachable!(),
+    }
+}
+
+// The place of a key, if a term has it: a binary search.
+fn find(n: u64, ends: &[u8], body: &[u8], key: &[u8]) -> Option<u64>
+    requires { AreOpened n ends.now body.now }
+    ensures within { IfSome result (λ ord. ord < n) }
+    ensures found { IfSome result (λ ord. key_of ends.now body.now ord ≡ key.now) }
+    ensures none { IfNone result ((i : ℕ) → i < n → key_of ends.now body.now i ≡ key.now → ⊥) }
+{
+    let mut low = 0u64;
+    let mut high = n;
+    while low < high {
+        let middle = low + (high - low) / 2;
+        match key.cmp(read_key(n, ends, body, middle)) {
+            Ordering::Less => high = middle,
+            Ordering::Equal => return Some(middle),
+            Ordering::Greater => low = middle + 1,
+        }
+    }
+    None
+}
+
+/// What is kept under a key of a dictionary.
+pub(crate) fn get(bytes: &[u8], key: &[u8]) -> Option<TermInfo>
+    requires { IsOk (dictionary bytes.now) }
+    ensures { IfOk (dictionary bytes.now) (λ entries. result ≡ info_under key.now entries) }
+{
+    let parts = opened(bytes);
+    match find(parts.num_terms, parts.ends, parts.body, key) {
+        Some(ord) => Some(info_at(store_of(parts.num_terms, parts.ends, parts.body), ord)),
+        None => None,
+    }
+}
+
+/// How many terms a dictionary has.
+pub(crate) fn count_terms(bytes: &[u8]) -> u64
+    requires { IsOk (dictionary bytes.now) }
+    ensures { IfOk (dictionary bytes.now) (λ entries. result ≡ length entries) }
+{
+    opened(bytes).num_terms
+}
+
+/// The key at a place of a dictionary.
+pub(crate) fn key_at(bytes: &[u8], ord: u64) -> &[u8]
+    requires { IsOkAnd (dictionary bytes.now) (λ entries. ord < length entries) }
+    ensures { IfOk (dictionary bytes.now) (λ entries. slice_get (entry_keys entries) ord ≡ Some result.now) }
+{
+    let parts = opened(bytes);
+    read_key(parts.num_terms, parts.ends, parts.body, ord)
+}
+
+/// What is kept of the term at a place of a dictionary.
+pub(crate) fn value_at(bytes: &[u8], ord: u64) -> TermInfo
+    requires { IsOkAnd (dictionary bytes.now) (λ entries. ord < length entries) }
+    ensures { IfOk (dictionary bytes.now) (λ entries. slice_get (entry_infos entries) ord ≡ Some result) }
+{
+    let parts = opened(bytes);
+    info_at(store_of(parts.num_terms, parts.ends, parts.body), ord)
+}

@@ -1,0 +1,196 @@
+ghost use Rattle.std.specs.Prelude.{◌≡◌, ◌≤◌, ◌<◌, ◌+◌, ◌*◌};
+ghost use Rattle.ii_termdict.specs.TermInfos.{HasLengths};
+
+use crate::{
+    TermDictionary, TermDictionaryBuilder, TermInfo, TermInfoBlockMeta, TermInfoStore,
+    TermInfoStoreWriter,
+};
+use bytes::Bytes;
+use ii_io::{BinarySerializable, CountingWriter, FailingWriter, Fault, Part};
+use std::alloc::Global;
+use std::test::Fail;
+
+// One key, `a`, in 3 documents with 3 bytes of postings. A function, so that no proof looks inside.
+fn one() -> [u8; 73] {
+    [
+        1, 0, 0, 0, 0, 0, 0, 0, 1, 0, 0, 0, 0, 0, 0, 0, 0x61, 0x27, 0, 0, 0, 0, 0, 0, 0, 1, 0, 0,
+        0, 0, 0, 0, 0, 0, 0, 0, 0, 0, 0, 0, 0, 3, 0, 0, 0, 0, 0, 0, 0, 0, 0, 0, 0, 3, 0, 0, 0, 0,
+        0, 0, 0, 0, 0, 0, 0, 0, 0, 0, 0, 0, 2, 0, 3,
+    ]
+}
+
+// That dictionary with another byte at a place.
+fn changed(place: usize, byte: u8) -> [u8; 73] {
+    let mut bytes = one();
+    if place < bytes.len() {
+        bytes[place] = byte;
+    }
+    bytes
+}
+
+// The key twice, over a store of no terms.
+fn twice() -> [u8; 42] {
+    let mut bytes = [0u8; 42];
+    for (place, byte) in [(0usize, 2u8), (8, 1), (16, 2), (24, 0x61), (25, 0x61)] {
+        if place < bytes.len() {
+            bytes[place] = byte;
+        }
+    }
+    bytes
+}
+
+fn term(doc_freq: u32, start: u32, len: u32) -> TermInfo
+    requires near { start ≤ 1000000000 }
+    requires short { len ≤ 1000000000 }
+    ensures { HasLengths result }
+{
+    let (start, len) = (start as usize, len as usize);
+    TermInfo {
+        doc_freq,
+        postings_range: start..start + len,
+        positions_range: 3 * start..3 * start + 3 * len,
+    }
+}
+
+fn build(alloc: Global, failing_call: u64) -> (FailingWriter, Result<(), Fault>) {
+    let writer = CountingWriter::wrap(FailingWriter::new(alloc, failing_call));
+    let mut builder = TermDictionaryBuilder::create(alloc, writer);
+    let info = TermInfo {
+        doc_freq: 3,
+        postings_range: 0..3,
+        positions_range: 0..0,
+    };
+    let key = builder.insert_key(b"a");
+    let value = builder.insert_value(&info);
+    let (writer, finished) = builder.finish();
+    (writer.finish(), key.and(value).and(finished))
+}
+
+#[test]
+fn writes_one_key(rt: HostRuntime) -> Result<(), Fail> {
+    let (writer, answer) = build(rt.alloc(), 0);
+    assert_eq!(rt; answer, Ok(()));
+    assert!(rt; writer.bytes() == one().as_slice());
+    for k in 1..8 {
+        let (writer, answer) = build(rt.alloc(), k);
+        assert!(rt; one().starts_with(writer.bytes()), "call {k}");
+        assert!(rt; answer == Err(Fault::Write) || answer == Ok(()), "call {k}");
+    }
+    Ok(())
+}
+
+#[test]
+fn looks_keys_up(rt: HostRuntime) -> Result<(), Fail> {
+    let terms = TermDictionary::open(Bytes::copy_from_slice(rt.alloc(), &one())?)?;
+    assert_eq!(rt; terms.num_terms(), 1);
+    assert_eq!(rt; terms.get(b"b"), None);
+    assert_eq!(rt; terms.get(b""), None);
+    let info = terms.get(b"a").ok_or("lost")?;
+    assert_eq!(rt; (info.doc_freq, info.postings_range), (3, 0..3));
+    let mut key = Vec::new(rt.alloc());
+    assert!(rt; terms.ord_to_term(0, &mut key)?);
+    assert_eq!(rt; key.as_slice(), b"a".as_slice());
+    assert!(rt; !terms.ord_to_term(1, &mut key)?);
+    assert!(rt; key.is_empty());
+    let mut stream = terms.stream();
+    assert!(rt; stream.next().is_some());
+    assert!(rt; !stream.advance());
+    assert_eq!(rt; TermDictionary::empty().num_terms(), 0);
+    Ok(())
+}
+
+// The first n bytes.
+fn front(bytes: &[u8], n: usize) -> &[u8] {
+    if n <= bytes.len() { &bytes[..n] } else { bytes }
+}
+
+// What opening answers to some bytes.
+fn opened(alloc: Global, bytes: &[u8]) -> Result<usize, Fault> {
+    let terms = TermDictionary::open(Bytes::copy_from_slice(alloc, bytes)?)?;
+    Ok(terms.num_terms())
+}
+
+#[test]
+fn refuses_damaged_dictionaries(rt: HostRuntime) {
+    let (keys, store) = (Part::Dictionary, Part::TermStore);
+    for (bytes, part) in [
+        (front(&[0u8; 24], 7), keys),
+        (front(&[0u8; 24], 23), store),
+        (front(&one(), 71), store),
+        (front(&twice(), 42), keys),
+    ] {
+        assert!(rt; opened(rt.alloc(), bytes) == Err(Fault::Damaged(part)));
+    }
+    assert!(rt; opened(rt.alloc(), &[0u8; 24]) == Ok(0));
+    assert!(rt; opened(rt.alloc(), front(&one(), 72)) == Ok(1));
+}
+
+#[test]
+fn refuses_hostile_numbers(rt: HostRuntime) {
+    for (place, byte, part) in [
+        (70, 57, Part::TermStore),
+        (69, 33, Part::TermStore),
+        (7, 0x20, Part::Dictionary),
+        (7, 0xFF, Part::Dictionary),
+        (15, 0xFF, Part::Dictionary),
+        (24, 0xFF, Part::TermStore),
+        (32, 0xFF, Part::TermStore),
+    ] {
+        let answer = opened(rt.alloc(), &changed(place, byte));
+        assert!(rt; answer == Err(Fault::Damaged(part)), "byte {place}");
+    }
+    assert!(rt; opened(rt.alloc(), &changed(70, 56)) == Ok(1));
+    assert!(rt; opened(rt.alloc(), &changed(40, 0x20)) == Ok(1));
+}
+
+#[test]
+fn stores_a_thousand_terms(rt: HostRuntime) -> Result<(), Fail> {
+    let mut store = TermInfoStoreWriter::new(rt.alloc());
+    for i in 0..1000u32 {
+        store.write_term_info(&term(i, 13 * i + i * i, 14 + 2 * i))?;
+    }
+    let mut writer = CountingWriter::wrap(Vec::new(rt.alloc()));
+    store.serialize(&mut writer)?;
+    let infos = TermInfoStore::open(Bytes::from_vec(writer.finish())?)?.clone()?;
+    assert_eq!(rt; infos.num_terms(), 1000);
+    for i in 0..1000u32 {
+        assert_eq!(rt;
+            infos.get(u64::from(i)),
+            term(i, 13 * i + i * i, 14 + 2 * i),
+            "term {i}"
+        );
+    }
+    let far = infos.get(256);
+    assert_eq!(rt;
+        (far.postings_range, far.positions_range),
+        (68864..69390, 206592..208170)
+    );
+    Ok(())
+}
+
+#[test]
+fn metas_are_read_back(rt: HostRuntime) -> Result<(), Fail> {
+    let meta = TermInfoBlockMeta {
+        offset: 2009,
+        ref_term_info: TermInfo {
+            doc_freq: 512,
+            postings_range: 51..57,
+            positions_range: 110..134,
+        },
+        doc_freq_nbits: 10,
+        postings_offset_nbits: 5,
+        positions_offset_nbits: 8,
+    };
+    let mut writer = CountingWriter::wrap(Vec::new(rt.alloc()));
+    meta.serialize(&mut writer)?;
+    let bytes = writer.finish();
+    assert_eq!(rt; bytes.len(), 39);
+    let mut rest = bytes.as_slice();
+    assert_eq!(rt; TermInfoBlockMeta::deserialize(&mut rest), Some(meta));
+    assert!(rt; rest.is_empty());
+    assert_eq!(rt;
+        TermInfoBlockMeta::default().ref_term_info,
+        TermInfo::default()
+    );
+    Ok(())
+}

@@ -1,0 +1,10 @@
+pub mod PostingsLemmas
+pub mod WordLemmas
+pub mod DocumentLemmas
+pub mod OutputLemmas
+pub mod ReplyLemmas
+pub mod RunLemmas
+pub mod WorkedRows
+pub mod LayoutLemmas
+pub mod PlaceLemmas
+pub mod CheckLemmas

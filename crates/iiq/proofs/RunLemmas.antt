@@ -1,0 +1,200 @@
+-- Laws of runs.
+use Rattle.std.proofs.Common.{◌≡◌, ℕ, Bool, true, false, ◌&&◌, List, [], ◌∷◌, ◌++◌, take, drop, Option, Some, None, refl, sym, ap, ◌∙◌, codes, cond, eqb, eq-eqb, nat_eq, not, append_assoc, inl, inr, Result, Ok, Err}
+use Rattle.std.specs.Result.{OnErr, IfOk}
+use Rattle.std.specs.Option.{IfSome}
+use Rattle.std.specs.List.{onto_first, list_all, starts_with}
+use Rattle.std.specs.Io.KnownBytes.{Appends, Keeps}
+use Rattle.std.proofs.KnownBytes.{Appends-trans, Appends-nil}
+use Rattle.std.proofs.lemmas.List.{append-nil, take-append-drop}
+use Rattle.std.proofs.lemmas.List.Folds.{list_all-append}
+use Rattle.iiq.specs.Words.{parts, lines_of}
+use Rattle.iiq.specs.Output.{with_ends, reply_to, texts_of, Prints, has_no_error, PrintsAll, PrintsBeginning, PutsBeginning}
+
+-- parts are never none
+some_part_cases : (c x : ℕ) (xs : List ℕ) (t : Bool) → (q : List ℕ) × (qs : List (List ℕ)) × (parts c xs ≡ q ∷ qs)
+    → (q : List ℕ) × (qs : List (List ℕ)) × (cond t ([] ∷ parts c xs) (onto_first x (parts c xs)) ≡ q ∷ qs)
+some_part_cases c x xs true rest = ([], parts c xs, refl)
+some_part_cases c x xs false rest = (x ∷ rest.0, rest.1, ap (onto_first x) rest.2)
+
+some_part : (c : ℕ) (xs : List ℕ) → (q : List ℕ) × (qs : List (List ℕ)) × (parts c xs ≡ q ∷ qs)
+some_part c [] = ([], [], refl)
+some_part c (x ∷ xs) = some_part_cases c x xs (eqb x c) (some_part c xs)
+
+onto_append : (x : ℕ) (xs ys : List (List ℕ)) (q : List ℕ) (qs : List (List ℕ)) → xs ≡ q ∷ qs → onto_first x (xs ++ ys) ≡ onto_first x xs ++ ys
+onto_append x xs ys q qs e = rw e refl
+
+append_cases : (c x : ℕ) (xs ys : List ℕ) (t : Bool) → parts c (xs ++ c ∷ ys) ≡ parts c xs ++ parts c ys
+    → cond t ([] ∷ parts c (xs ++ c ∷ ys)) (onto_first x (parts c (xs ++ c ∷ ys))) ≡ cond t ([] ∷ parts c xs) (onto_first x (parts c xs)) ++ parts c ys
+append_cases c x xs ys true ih = ap (λ (rest : List (List ℕ)). [] ∷ rest) ih
+append_cases c x xs ys false ih =
+    let some = some_part c xs in
+    ap (onto_first x) ih ∙ onto_append x (parts c xs) (parts c ys) some.0 some.1 some.2
+
+-- the parts before a separator, and those behind it
+parts-append : (c : ℕ) (xs ys : List ℕ) → parts c (xs ++ c ∷ ys) ≡ parts c xs ++ parts c ys
+parts-append c [] ys = rw (eq-eqb c c refl) refl
+parts-append c (x ∷ xs) ys = append_cases c x xs ys (eqb x c) (parts-append c xs ys)
+
+no_error_append : (xs ys : List ℕ) → has_no_error (xs ++ 10 ∷ ys) ≡ (has_no_error xs && has_no_error ys)
+no_error_append xs ys =
+    ap (list_all (λ line. not (starts_with nat_eq line (codes "error")))) (parts-append 10 xs ys)
+    ∙ list_all-append (λ line. not (starts_with nat_eq line (codes "error"))) (lines_of xs) (lines_of ys)
+
+and_assoc : (a b c : Bool) → ((a && b) && c) ≡ (a && (b && c))
+and_assoc true b c = refl
+and_assoc false b c = refl
+
+and_true : (a : Bool) → (a && true) ≡ a
+and_true true = refl
+and_true false = refl
+
+and_false : (a : Bool) → (a && false) ≡ false
+and_false true = refl
+and_false false = refl
+
+-- what stands behind whole lines is looked at by itself
+no_error_ends : (texts : List (List ℕ)) (more : List ℕ) → has_no_error (with_ends texts ++ more) ≡ (has_no_error (with_ends texts) && has_no_error more)
+no_error_ends [] more = refl
+no_error_ends (t ∷ ts) more =
+    let left : (t ++ 10 ∷ [] ++ with_ends ts) ++ more ≡ t ++ 10 ∷ (with_ends ts ++ more) = rw (append_assoc, append_assoc) refl in
+    let right : t ++ 10 ∷ [] ++ with_ends ts ≡ t ++ 10 ∷ with_ends ts = rw append_assoc refl in
+    ap has_no_error left ∙ no_error_append t (with_ends ts ++ more)
+    ∙ ap (λ b. has_no_error t && b) (no_error_ends ts more)
+    ∙ sym (and_assoc (has_no_error t) (has_no_error (with_ends ts)) (has_no_error more))
+    ∙ ap (λ b. b && has_no_error more) (sym (ap has_no_error right ∙ no_error_append t (with_ends ts)))
+
+-- What a run knows that has answered some lines and has these left.
+pub record IsAnswering (old now : Option (List ℕ)) (text : List ℕ) (left : List (List ℕ)) (fine : Bool) : Type 0 where
+  pub written : List ℕ
+  pub appends : Appends old now written
+  pub prints : (out : List ℕ) → Prints left out → Prints (lines_of text) (written ++ out)
+  pub fine_is : (more : List ℕ) → has_no_error (written ++ more) ≡ (fine && has_no_error more)
+
+pub answering_first : (old : Option (List ℕ)) (text : List ℕ) → Appends old old [] → IsAnswering old old text (lines_of text) true
+answering_first old text same = record { written = []; appends = same; prints = λ out p. p; fine_is = λ more. refl }
+
+-- one more line answered
+pub answering_next : (old now new : Option (List ℕ)) (text line answer : List ℕ) (left more : List (List ℕ)) (fine : Bool) → IsAnswering old now text left fine
+    → left ≡ line ∷ more → answer ≡ reply_to line → Appends now new answer → IsAnswering old new text more (fine && has_no_error answer)
+answering_next old now new text line answer left more fine a e reply appends =
+    let known = a.fine_is in
+    let prints = a.prints in
+    record {
+      written = a.written ++ answer;
+      appends = Appends-trans old now new a.written answer a.appends appends;
+      prints = λ out p. rw append_assoc (prints (answer ++ out) (rw (e, reply) (inl (out, refl, p))));
+      fine_is = λ rest.
+          rw append_assoc (known (answer ++ rest)
+          ∙ ap (λ b. fine && b) (rw reply (no_error_ends (texts_of line) rest))
+          ∙ sym (and_assoc fine (has_no_error answer) (has_no_error rest)));
+    }
+
+-- no line is left
+pub answered : (old now : Option (List ℕ)) (text : List ℕ) (left : List (List ℕ)) (fine : Bool) → IsAnswering old now text left fine → left ≡ [] → PrintsAll old now text fine
+answered old now text left fine a e =
+    let prints = a.prints in
+    let known = a.fine_is in
+    record {
+      out = a.written;
+      appends = a.appends;
+      prints = rw append-nil at (prints [] (rw e refl));
+      fine_is = sym (rw append-nil at (known []) ∙ and_true fine);
+    }
+
+-- memory for a line was refused
+pub answered_no_memory : (old now new : Option (List ℕ)) (text line : List ℕ) (left more : List (List ℕ)) (fine : Bool) → IsAnswering old now text left fine
+    → left ≡ line ∷ more → Appends now new (codes "error 1\n") → PrintsAll old new text false
+answered_no_memory old now new text line left more fine a e appends =
+    let prints = a.prints in
+    let known = a.fine_is in
+    record {
+      out = a.written ++ codes "error 1\n";
+      appends = Appends-trans old now new a.written (codes "error 1\n") a.appends appends;
+      prints = prints (codes "error 1\n") (rw e (inr refl));
+      fine_is = sym (known (codes "error 1\n") ∙ and_false fine);
+    }
+
+-- the writer failed within these bytes, behind which the rest of the run would have been written
+pub answered_beginning : (old now new : Option (List ℕ)) (text bytes rest : List ℕ) (left : List (List ℕ)) (fine : Bool) → IsAnswering old now text left fine
+    → Prints left (bytes ++ rest) → PutsBeginning now new bytes → PrintsBeginning old new text
+answered_beginning old now new text bytes rest left fine a p (out, behind, appends, e) =
+    let prints = a.prints in
+    let whole : a.written ++ (bytes ++ rest) ≡ (a.written ++ out) ++ (behind ++ rest) = rw (e, append_assoc, append_assoc) refl in
+    record {
+      out = a.written ++ out;
+      rest = behind ++ rest;
+      appends = Appends-trans old now new a.written out a.appends appends;
+      prints = rw (← whole) (prints (bytes ++ rest) p);
+    }
+
+-- some text is written for any lines
+pub prints_some : (lines : List (List ℕ)) → (out : List ℕ) × Prints lines out
+prints_some [] = ([], refl)
+prints_some (line ∷ lines) =
+    let later = prints_some lines in
+    (reply_to line ++ later.0, inl (later.0, refl, later.1))
+
+-- the writer failed within the answer to a line
+pub answered_part : (old now new : Option (List ℕ)) (text line answer : List ℕ) (left more : List (List ℕ)) (fine : Bool) → IsAnswering old now text left fine
+    → left ≡ line ∷ more → answer ≡ reply_to line → PutsBeginning now new answer → PrintsBeginning old new text
+answered_part old now new text line answer left more fine a e reply puts =
+    let later = prints_some more in
+    answered_beginning old now new text answer later.0 left fine a (rw (e, reply) (inl (later.0, refl, later.1))) puts
+
+-- the writer failed within the last line of a run that found no memory
+pub answered_no_memory_part : (old now new : Option (List ℕ)) (text line : List ℕ) (left more : List (List ℕ)) (fine : Bool) → IsAnswering old now text left fine
+    → left ≡ line ∷ more → PutsBeginning now new (codes "error 1\n") → PrintsBeginning old new text
+answered_no_memory_part old now new text line left more fine a e puts =
+    answered_beginning old now new text (codes "error 1\n") [] left fine a (rw (e, append-nil) (inr refl)) puts
+
+-- a run that writes nothing, or that found no memory for its input
+lines_some : (text : List ℕ) → (line : List ℕ) × (lines : List (List ℕ)) × (lines_of text ≡ line ∷ lines)
+lines_some text = some_part 10 text
+
+pub nothing_answered : (old : Option (List ℕ)) (text : List ℕ) → Appends old old [] → PrintsBeginning old old text
+nothing_answered old text same = record { out = []; rest = (prints_some (lines_of text)).0; appends = same; prints = (prints_some (lines_of text)).1 }
+
+pub no_memory_answered : (old new : Option (List ℕ)) (text : List ℕ) → Appends old old [] → Appends old new (codes "error 1\n") → PrintsAll old new text false
+no_memory_answered old new text same appends =
+    let some = lines_some text in
+    answered_no_memory old old new text some.0 (lines_of text) some.1 true (answering_first old text same) some.2 appends
+
+pub no_memory_answered_part : (old new : Option (List ℕ)) (text : List ℕ) → Appends old old [] → PutsBeginning old new (codes "error 1\n") → PrintsBeginning old new text
+no_memory_answered_part old new text same puts =
+    let some = lines_some text in
+    answered_no_memory_part old old new text some.0 (lines_of text) some.1 true (answering_first old text same) some.2 puts
+
+appends_kept : (a b c : Option (List ℕ)) (bs : List ℕ) → Appends a b bs → Keeps b c → Appends a c bs
+appends_kept None b c bs p q = tt
+appends_kept (Some x) None c bs p q = absurd p
+appends_kept (Some x) (Some y) None bs p q = absurd q
+appends_kept (Some x) (Some y) (Some z) bs p q = q ∙ p
+
+-- what a failed write leaves is a beginning
+pub puts_kept : (a b c : Option (List ℕ)) (bs : List ℕ) (i : ℕ) → Appends a b (take i bs) → Keeps b c → PutsBeginning a c bs
+puts_kept a b c bs i front kept = (take i bs, drop i bs, appends_kept a b c (take i bs) front kept, sym (take-append-drop i bs))
+
+pub puts_nothing : (a b c : Option (List ℕ)) (bs : List ℕ) (i : ℕ) → Appends a b (take i bs) → Appends b c [] → PutsBeginning a c bs
+puts_nothing a b c bs i front none =
+    (take i bs, drop i bs, rw append-nil at (Appends-trans a b c (take i bs) [] front none), sym (take-append-drop i bs))
+
+pub on_err_from : {A E Q : Type 0} (r : Result A E) → Q → OnErr r Q
+on_err_from (Ok x) q = tt
+on_err_from (Err e) q = q
+
+-- where nothing of the input was answered
+pub nothing_read : (o old : Option (List ℕ)) → IfSome o (λ input. PrintsBeginning old old input)
+nothing_read None old = tt
+nothing_read (Some input) old = nothing_answered old input (Appends-nil old)
+
+pub no_memory_read : {E : Type 0} (o old new : Option (List ℕ)) (r : Result Bool E) → IfOk r (λ fine. (fine ≡ false) × Appends old new (codes "error 1\n"))
+    → IfOk r (λ fine. IfSome o (λ input. PrintsAll old new input fine))
+no_memory_read None old new (Ok fine) h = tt
+no_memory_read (Some input) old new (Ok fine) h = rw h.0 (no_memory_answered old new input (Appends-nil old) h.1)
+no_memory_read o old new (Err e) h = tt
+
+pub no_memory_read_part : {E : Type 0} (o old new : Option (List ℕ)) (r : Result Bool E) → OnErr r (PutsBeginning old new (codes "error 1\n"))
+    → OnErr r (IfSome o (λ input. PrintsBeginning old new input))
+no_memory_read_part o old new (Ok fine) h = tt
+no_memory_read_part None old new (Err e) h = tt
+no_memory_read_part (Some input) old new (Err e) h = no_memory_answered_part old new input (Appends-nil old) h

@@ -1,0 +1,108 @@
+-- Laws of parts and numbers.
+use Rattle.std.proofs.Common.{◌≡◌, ◌≢◌, ℕ, zero, suc, ◌+◌, ◌*◌, ◌-◌, ◌^◌, ◌<◌, Bool, true, false, ◌&&◌, List, [], ◌∷◌, length, take, drop, get_or, Some, None, Result, Ok, Err, nat_lt, nat_le, refl, sym, ap, arith, cond, eqb, not, subst}
+use Rattle.std.proofs.lemmas.List.Sums.{prefix_len_passes}
+use Rattle.std.proofs.lemmas.Bool.{ltb-true, ltb-false, leb-true}
+use Rattle.std.proofs.lemmas.List.Splits.{slice_split_first, slice_split_none}
+use Rattle.std.proofs.lemmas.Str.{IsUtf8-from_ascii}
+use Rattle.std.proofs.lemmas.Str.Parse.{IsNumeralModel, numerals_by_fold, tells_all_ascii_digits, parse_plain}
+use Rattle.std.specs.Str.Parse.{ParsesUnsigned}
+use Rattle.std.specs.List.{position, position_or_len, All}
+use Rattle.std.specs.Result.{result_ok, OkIff}
+use Rattle.std.specs.Char.{is_ascii_digit}
+use Rattle.std.specs.Str.{all_ascii_digits, IsUtf8}
+use Rattle.ii_io.specs.Steps.{◌>>=◌, needs}
+use Rattle.iiq.specs.Words.{parts, parts_left, number_on, number_below}
+
+some_if : (t : Bool) (n i : ℕ) → cond t (Some n) None ≡ Some i → (t ≡ true) × (n ≡ i)
+some_if true n i e = (refl, cc)
+some_if false n i e = absurd (cc)
+
+none_if : (t : Bool) (n : ℕ) → cond t (Some n) None ≡ None → t ≡ false
+none_if true n e = absurd (cc)
+none_if false n e = refl
+
+-- a text with a separator
+pub parts_at : (c : ℕ) (text : List ℕ) (i : ℕ) → Some i ≡ position (λ b. eqb b c) text → parts c text ≡ take i text ∷ parts_left c (Some (drop (i + 1) text))
+parts_at c text i e =
+    let found = some_if (nat_lt (position_or_len (λ b. eqb b c) text) (length text)) (position_or_len (λ b. eqb b c) text) i (sym e) in
+    let within = ltb-true (position_or_len (λ b. eqb b c) text) (length text) found.0 in
+    rw (← found.1) (slice_split_first (λ b. eqb b c) text 0 within)
+
+not_true : (b : Bool) → not b ≡ true → b ≡ false
+not_true true e = absurd (cc)
+not_true false e = refl
+
+-- a text with none
+none_before : (c : ℕ) (text : List ℕ) → None ≡ position (λ b. eqb b c) text → All (λ b. eqb b c ≡ false) text
+none_before c text e k d h =
+    let none = none_if (nat_lt (position_or_len (λ b. eqb b c) text) (length text)) (position_or_len (λ b. eqb b c) text) (sym e) in
+    let all = ltb-false (position_or_len (λ b. eqb b c) text) (length text) none in
+    not_true (eqb (get_or text k d) c) (prefix_len_passes (λ b. not (eqb b c)) text k d (omega arith))
+
+pub parts_whole : (c : ℕ) (text : List ℕ) → None ≡ position (λ b. eqb b c) text → parts c text ≡ text ∷ []
+parts_whole c text e = slice_split_none (λ b. eqb b c) text (none_before c text e)
+
+own : IsNumeralModel (λ ds. all_ascii_digits ds ≡ true) (number_on 0)
+own = numerals_by_fold (λ ds. all_ascii_digits ds ≡ true) tells_all_ascii_digits number_on (record { empty = λ n. refl; more = λ n c cs h. let moved : 10 * n + (c - 48) ≡ n * 10 + (c - 48) = omega arith in ap (λ (m : ℕ). number_on m cs) moved })
+
+number_cases : (n : ℕ) (word : List ℕ) (some digits fits : Bool) → nat_lt 0 (length word) ≡ some → all_ascii_digits word ≡ digits → nat_lt (number_on 0 word) (2 ^ 64) ≡ fits
+    → (E : Type 0) (r : Result ℕ E) → OkIff r ((all_ascii_digits word ≡ true) × (0 < length word) × (number_on 0 word < 2 ^ 64)) (number_on 0 word)
+    → result_ok r ≡ (needs (some && digits && fits) >>= λ _. Some (number_on 0 word))
+number_cases n word true true true a b c E (Ok x) h = ap Some h.1
+number_cases n word true true true a b c E (Err e) h = absurd (h (b, ltb-true 0 (length word) a, ltb-true (number_on 0 word) 18446744073709551616 c))
+number_cases n word false digits fits a b c E (Ok x) h = absurd (let low = ltb-false 0 (length word) a in let high = h.0.1 in omega arith)
+number_cases n word false digits fits a b c E (Err e) h = refl
+number_cases n word true false fits a b c E (Ok x) h = absurd (let digits = h.0.0 in cc)
+number_cases n word true false fits a b c E (Err e) h = refl
+number_cases n word true true false a b c E (Ok x) h = absurd (let low = ltb-false (number_on 0 word) 18446744073709551616 c in let high = h.0.2 in omega arith)
+number_cases n word true true false a b c E (Err e) h = refl
+
+-- what std reads of a word that begins with no sign
+pub number_read : {E : Type 0} (word text : List ℕ) (r : Result ℕ E) → text ≡ word → ParsesUnsigned 64 10 text r → get_or word 0 0 ≢ 43 → result_ok r ≡ number_below (2 ^ 64) word
+number_read {E = E} word text r e h plain =
+    let parsed = rw e at h in
+    number_cases 0 word (nat_lt 0 (length word)) (all_ascii_digits word) (nat_lt (number_on 0 word) 18446744073709551616) refl refl refl E r (parse_plain own 64 word r parsed plain)
+
+and_left : (a b : Bool) → (a && b) ≡ true → a ≡ true
+and_left true b p = refl
+and_left false b p = absurd (cc)
+
+and_right : (a b : Bool) → (a && b) ≡ true → b ≡ true
+and_right true b p = p
+and_right false b p = absurd (cc)
+
+digit_small : (c : ℕ) → is_ascii_digit c ≡ true → c < 128
+digit_small c h =
+    let high = leb-true c 57 (and_right (nat_le 48 c) (nat_le c 57) h) in
+    omega arith
+
+ascii_at : (word : List ℕ) → all_ascii_digits word ≡ true → (i : ℕ) → get_or word i 0 < 128
+ascii_at [] h i = omega arith
+ascii_at (c ∷ cs) h zero = digit_small c (and_left (is_ascii_digit c) (all_ascii_digits cs) h)
+ascii_at (c ∷ cs) h (suc i) = ascii_at cs (and_right (is_ascii_digit c) (all_ascii_digits cs) h) i
+
+no_digits_cases : (word : List ℕ) (some fits : Bool) → None ≡ (needs (some && false && fits) >>= λ _. Some (number_on 0 word))
+no_digits_cases word true fits = refl
+no_digits_cases word false fits = refl
+
+-- a word that is not all digits is no number
+pub number_no_digits : (limit : ℕ) (word : List ℕ) → all_ascii_digits word ≡ false → None ≡ number_below limit word
+number_no_digits limit word e = rw e (no_digits_cases word (nat_lt 0 (length word)) (nat_lt (number_on 0 word) limit))
+
+no_text_cases : (word : List ℕ) (digits : Bool) → all_ascii_digits word ≡ digits → ¬ (IsUtf8 word) → digits ≡ false
+no_text_cases word true e h = absurd (h (IsUtf8-from_ascii word (ascii_at word e)))
+no_text_cases word false e h = refl
+
+-- a word that is no text is no number
+pub number_no_text : (word : List ℕ) → ¬ (IsUtf8 word) → None ≡ number_below (2 ^ 64) word
+number_no_text word h = number_no_digits (2 ^ 64) word (no_text_cases word (all_ascii_digits word) refl h)
+
+plus_first : (word : List ℕ) → get_or word 0 0 ≡ 43 → all_ascii_digits word ≡ false
+plus_first [] e = absurd (omega arith)
+plus_first (c ∷ cs) e =
+    let P : ℕ → Type 0 = λ b. all_ascii_digits (b ∷ cs) ≡ false in
+    subst P (sym e) refl
+
+-- a word that begins with a plus is no number
+pub number_plus : (word : List ℕ) → get_or word 0 0 ≡ 43 → None ≡ number_below (2 ^ 64) word
+number_plus word e = number_no_digits (2 ^ 64) word (plus_first word e)

@@ -1,0 +1,54 @@
+-- Worked rows of the program's text, each computed.
+use Rattle.std.proofs.Common.{◌≡◌, codes, refl}
+use Rattle.std.specs.Fmt.{digits}
+use Rattle.std.specs.Str.{is_utf8, chars}
+use Rattle.hex.specs.Hex.{encode_with, decode_pairs}
+use Rattle.ii_io.specs.Vints.{u32_at, vint_u32}
+use Rattle.iiq.specs.Output.{reply_to}
+
+pub row_ids : reply_to (codes "ids 0 2 10") ≡ codes "808288\n0 2 10\n"
+unfolding is_utf8 chars digits lib.Utf8.encode encode_with vint_u32
+row_ids = refl
+
+pub row_no_ids : reply_to (codes "ids") ≡ codes "-\n-\n"
+unfolding is_utf8 chars digits lib.Utf8.encode encode_with vint_u32
+row_no_ids = refl
+
+pub row_repeated : reply_to (codes "ids 1 1") ≡ codes "error line\n"
+unfolding is_utf8 chars digits lib.Utf8.encode encode_with vint_u32
+row_repeated = refl
+
+pub row_empty : reply_to (codes "") ≡ codes ""
+row_empty = refl
+
+pub row_cut : reply_to (codes "open b b 3 8082") ≡ codes "damaged documents\n"
+unfolding is_utf8 chars digits lib.Utf8.encode decode_pairs u32_at
+row_cut = refl
+
+pub row_zero_groups : reply_to (codes "open b b 1 0000000080") ≡ codes "0\n"
+unfolding is_utf8 chars digits lib.Utf8.encode decode_pairs u32_at
+row_zero_groups = refl
+
+pub row_six_groups : reply_to (codes "open b b 1 000000000080") ≡ codes "damaged documents\n"
+unfolding is_utf8 chars digits lib.Utf8.encode decode_pairs u32_at
+row_six_groups = refl
+
+pub row_largest : reply_to (codes "open b p 1 7E7F7F7f87 00") ≡ codes "2147483646\n"
+unfolding is_utf8 chars digits lib.Utf8.encode decode_pairs u32_at
+row_largest = refl
+
+pub row_end : reply_to (codes "open b b 1 7F7F7F7F87") ≡ codes "damaged documents\n"
+unfolding is_utf8 chars digits lib.Utf8.encode decode_pairs u32_at
+row_end = refl
+
+pub row_past : reply_to (codes "open b b 1 7F7F7F7F9F") ≡ codes "damaged documents\n"
+unfolding is_utf8 chars digits lib.Utf8.encode decode_pairs u32_at
+row_past = refl
+
+pub row_nothing : reply_to (codes "open b b 0 -") ≡ codes "-\n"
+unfolding is_utf8 chars digits lib.Utf8.encode decode_pairs u32_at
+row_nothing = refl
+
+pub row_spaces : reply_to (codes "ids 1  2") ≡ codes "error line\n"
+unfolding is_utf8 chars digits lib.Utf8.encode
+row_spaces = refl

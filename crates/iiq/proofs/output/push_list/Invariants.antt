@@ -1,0 +1,16 @@
+use Rattle.std.proofs.Common.{◌≡◌, ◌++◌, length}
+use Rattle.std.specs.String.{string_bytes}
+use Rattle.ii_docset.specs.Cursor.{doc_at, IsAscending}
+use Rattle.iiq.specs.Output.{list_text}
+use Rattle.iiq.proofs.OutputLemmas.{more_items}
+use Rattle.iiq.proofs.output.push_list.Given as goal
+
+abbrev pub invariant-loop-doc : goal.invariant-loop-doc
+invariant-loop-doc l = record {
+  here : l.doc ≡ doc_at l.cursor;
+  ascending : IsAscending l.cursor;
+  written : string_bytes l.text ++ more_items l.cursor ≡ string_bytes l.fn.text ++ list_text l.fn.cursor;
+}
+
+abbrev pub decreases-loop-doc : goal.decreases-loop-doc
+decreases-loop-doc l = length l.cursor

@@ -1,0 +1,54 @@
+-- Lines, words, numbers and bytes in a text.
+use Rattle.std.specs.Prelude.{ℕ, ◌+◌, ◌-◌, ◌*◌, ◌&&◌, List, [], ◌∷◌, length, nat_lt, ◌==◌, if◌then◌else◌, Option, Some, None}
+use Rattle.std.specs.List.{slice_split}
+use Rattle.std.specs.Result.{result_ok}
+use Rattle.std.specs.Str.{all_ascii_digits, bytes_eq}
+use Rattle.hex.specs.Hex.{encode_lower, decode_of}
+use Rattle.ii_io.specs.Steps.{◌>>=◌, needs}
+
+-- the parts of a text between the bytes c; an empty one where two of them meet, or one stands at an end
+abbrev pub parts : ℕ → List ℕ → List (List ℕ)
+parts c text = slice_split (λ b. b == c) text
+
+-- the parts of a text that is left, if one is
+abbrev pub parts_left : ℕ → Option (List ℕ) → List (List ℕ)
+parts_left c None = []
+parts_left c (Some text) = parts c text
+
+-- the lines of a text, and what stands behind its last line's end
+abbrev pub lines_of : List ℕ → List (List ℕ)
+lines_of text = parts 10 text
+
+abbrev pub words_of : List ℕ → List (List ℕ)
+words_of line = parts 32 line
+
+-- the number that decimal digits write behind another
+abbrev pub number_on : ℕ → List ℕ → ℕ
+number_on n [] = n
+number_on n (c ∷ cs) = number_on (10 * n + (c - 48)) cs
+
+-- the number below a limit that a word of decimal digits writes
+abbrev pub number_below : ℕ → List ℕ → Option ℕ
+number_below limit word = do
+  _ ← needs (nat_lt 0 (length word) && all_ascii_digits word && nat_lt (number_on 0 word) limit)
+  Some (number_on 0 word)
+
+abbrev pub numbers_below : ℕ → List (List ℕ) → Option (List ℕ)
+numbers_below limit [] = Some []
+numbers_below limit (w ∷ ws) = do
+  first ← number_below limit w
+  others ← numbers_below limit ws
+  Some (first ∷ others)
+
+-- a dash
+abbrev pub nothing : List ℕ
+nothing = 45 ∷ []
+
+-- the bytes that a word of hexadecimal writes, in either case; a dash for none
+abbrev pub bytes_of_word : List ℕ → Option (List ℕ)
+bytes_of_word word = if bytes_eq word nothing then Some [] else (needs (nat_lt 0 (length word)) >>= λ _. result_ok (decode_of word))
+
+-- what is written for bytes
+abbrev pub written_hex : List ℕ → List ℕ
+written_hex [] = nothing
+written_hex (b ∷ bs) = encode_lower (b ∷ bs)

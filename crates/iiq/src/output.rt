@@ -1,0 +1,75 @@
+ghost use Rattle.std.specs.Prelude.{◌≡◌, ◌++◌, ◌<◌, length, string_bytes, IfOk, OnOk, IsTrue};
+ghost use Rattle.ii_docset.specs.Entries.{are_documents, document};
+ghost use Rattle.iiq.specs.Commands.{documents_of_words};
+ghost use Rattle.iiq.specs.Words.{written_hex};
+ghost use Rattle.iiq.specs.Postings.{written_postings};
+ghost use Rattle.iiq.specs.Output.{list_text, part_name, reply_to};
+
+use crate::postings::segment_postings::SegmentPostings;
+use crate::postings::serializer::PostingsSerializer;
+use ii_base::{CountingWriter, IndexRecordOption, Part};
+use ii_docset::{DocSet, TERMINATED};
+use std::alloc::{AllocError, Global};
+
+/// The bytes that the postings of these documents are written as.
+pub fn written(alloc: Global, docs: &[u32]) -> Result<Vec<u8>, AllocError>
+    requires short { length docs.now < 128 }
+    requires ascending { IsTrue (are_documents docs.now) }
+    ensures { IfOk result (λ bytes. bytes.items ≡ written_postings docs.now) }
+{
+    let mut output = CountingWriter::wrap(Vec::new(alloc));
+    let mut serializer = PostingsSerializer::new(IndexRecordOption::Basic);
+    serializer.new_term(docs.len() as u32, false);
+    for doc in docs {
+        if serializer.write_doc(*doc, 1).is_err() {
+            return Err(AllocError);
+        }
+    }
+    if serializer
+        .close_term(docs.len() as u32, &mut output)
+        .is_err()
+    {
+        return Err(AllocError);
+    }
+    Ok(output.finish())
+}
+
+/// The lower case hexadecimal digits of `bytes`, or a dash for none.
+pub fn hex_text(alloc: Global, bytes: &[u8]) -> Result<String, AllocError>
+    ensures { IfOk result (λ text. string_bytes text ≡ written_hex bytes.now) }
+{
+    if bytes.is_empty() {
+        return String::from_str(alloc, "-");
+    }
+    hex::encode(alloc, bytes)
+}
+
+/// Adds the documents that a cursor has left to a text, parted by spaces, or a dash for none.
+pub fn push_list(text: &mut String, cursor: &mut SegmentPostings) -> Result<(), AllocError>
+    ensures { OnOk result (string_bytes text.new ≡ string_bytes text.old ++ list_text cursor.old) }
+{
+    let first = cursor.doc();
+    if first == TERMINATED {
+        return text.push('-');
+    }
+    write!(text, "{first}")?;
+    let mut doc = cursor.advance();
+    while doc != TERMINATED {
+        write!(text, " {doc}")?;
+        doc = cursor.advance();
+    }
+    Ok(())
+}
+
+/// The name of a part of a term's bytes.
+pub fn name_of(part: Part) -> &'static str
+    ensures { result.now ≡ part_name part }
+{
+    match part {
+        Part::Skip => "skip",
+        Part::Documents => "documents",
+        Part::Frequencies => "frequencies",
+        Part::Positions => "positions",
+        _ => "",
+    }
+}

@@ -1,0 +1,63 @@
+ghost use Rattle.std.specs.Prelude.{◌≡◌, ◌==◌, [], ◌∷◌, IfNone, MatchOption, position};
+ghost use Rattle.std.specs.Option.{option_copied};
+ghost use Rattle.iiq.specs.Words.{parts, parts_left};
+
+use std::marker::Model;
+
+/// The parts of a text between separators, one after the other.
+#[derive(Drop)]
+pub struct Parts<'a> {
+    separator: u8,
+    rest: Option<&'a [u8]>,
+}
+
+impl<'a> Model for Parts<'a> {
+    ghost use Rattle.std.specs.Prelude.{List, ℕ};
+    ghost use Rattle.std.specs.Option.{option_copied};
+    ghost use Rattle.iiq.specs.Words.{parts_left};
+
+    ghost Value = { List (List ℕ) };
+
+    ghost view = { λ p. parts_left p.separator (option_copied p.rest) };
+}
+
+impl<'a> Parts<'a> {
+    /// The parts of `text`: an empty one where two separators meet, or one stands at an end.
+    pub fn of(text: &'a [u8], separator: u8) -> Parts<'a>
+        ensures { result ≡ parts separator text.now }
+    {
+        Parts {
+            separator,
+            rest: Some(text),
+        }
+    }
+
+    /// The next part, if one is left.
+    pub fn next(&mut self) -> Option<&'a [u8]>
+        ensures part { MatchOption result (self.old ≡ []) (λ part. self.old ≡ part.now ∷ self.new) }
+        ensures end { IfNone result (self.new ≡ []) }
+    {
+        let Some(text) = self.rest else {
+            return None;
+        };
+        let (part, rest) = cut(text, self.separator);
+        self.rest = rest;
+        Some(part)
+    }
+}
+
+// The text before the first separator, and the text behind it, if there is one.
+fn cut(text: &[u8], separator: u8) -> (&[u8], Option<&[u8]>)
+    ensures { parts separator text.now ≡ result.0.now ∷ parts_left separator (option_copied result.1) }
+{
+    match find(text, separator) {
+        Some(i) => (&text[..i], Some(&text[i + 1..])),
+        None => (text, None),
+    }
+}
+
+fn find(text: &[u8], byte: u8) -> Option<usize>
+    ensures { result ≡ position (λ b. b == byte) text.now }
+{
+    text.iter().position(|b| *b == byte)
+}

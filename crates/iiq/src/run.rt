@@ -1,0 +1,166 @@
+ghost use Rattle.std.specs.Prelude.{◌≡◌, ◌++◌, false, IfOk, OnOk, OnErr, IfSome, codes};
+ghost use Rattle.std.specs.Io.KnownBytes.{Appends};
+ghost use Rattle.iiq.specs.Output.{PrintsAll, PrintsBeginning, PutsBeginning, has_no_error as has_no_error_in};
+
+use crate::parts::Parts;
+use crate::replies::reply;
+use std::alloc::Global;
+use std::io::{Read, Write};
+
+/// Why a run ended early.
+#[derive(Clone, Copy, Debug, PartialEq, Eq)]
+pub enum RunFault {
+    /// The reader failed.
+    Input,
+    /// The writer failed.
+    Output,
+}
+
+/// Answers each line that the reader gives, in order, and says whether no line that begins with
+/// `error` was written. Where memory for a line is refused its answer is `error 1`, and the last.
+pub fn run<R: Read, W: Write>(
+    alloc: Global,
+    reader: &mut R,
+    writer: &mut W,
+) -> Result<bool, RunFault>
+    ensures ok { IfOk result (λ fine. IfSome (R.remaining reader.old)
+        (λ input. PrintsAll (W.contents writer.old) (W.contents writer.new) input fine)) }
+    ensures err { OnErr result (IfSome (R.remaining reader.old)
+        (λ input. PrintsBeginning (W.contents writer.old) (W.contents writer.new) input)) }
+{
+    let mut text = Vec::new(alloc);
+    match read_all(reader, &mut text) {
+        Ok(()) => answer_lines(alloc, &text, writer),
+        Err(ReadFault::Input) => Err(RunFault::Input),
+        Err(ReadFault::Memory) => end_run(writer),
+    }
+}
+
+// Why not all bytes of a reader were taken.
+#[derive(Clone, Copy)]
+enum ReadFault {
+    Input,
+    Memory,
+}
+
+// Adds all bytes that the reader gives to the text.
+fn read_all<R: Read>(reader: &mut R, text: &mut Vec<u8>) -> Result<(), ReadFault>
+    ensures { OnOk result (IfSome (R.remaining reader.old) (λ input. text.new.items ≡ text.old.items ++ input)) }
+{
+    let mut chunk = [0; 4096];
+    for _ in 0..u64::MAX {
+        let Ok(count) = reader.read(&mut chunk) else {
+            return Err(ReadFault::Input);
+        };
+        if count == 0 {
+            return Ok(());
+        }
+        if text.extend_from_slice(&chunk[..count]).is_err() {
+            return Err(ReadFault::Memory);
+        }
+    }
+    Err(ReadFault::Memory)
+}
+
+// Answers the lines of a text.
+fn answer_lines<W: Write>(alloc: Global, text: &[u8], writer: &mut W) -> Result<bool, RunFault>
+    ensures ok { IfOk result (λ fine. PrintsAll (W.contents writer.old) (W.contents writer.new) text.now fine) }
+    ensures err { OnErr result (PrintsBeginning (W.contents writer.old) (W.contents writer.new) text.now) }
+{
+    let mut lines = Parts::of(text, b'\n');
+    let mut fine = true;
+    while let Some(line) = lines.next() {
+        let Ok(answer) = reply(alloc, line) else {
+            return end_run(writer);
+        };
+        fine &= has_no_error(answer.as_bytes());
+        put(writer, answer.as_bytes())?;
+    }
+    Ok(fine)
+}
+
+// Writes the last line of a run that found no memory.
+fn end_run<W: Write>(writer: &mut W) -> Result<bool, RunFault>
+    ensures ok { IfOk result (λ fine. (fine ≡ false) × Appends (W.contents writer.old) (W.contents writer.new) (codes "error 1\n")) }
+    ensures err { OnErr result (PutsBeginning (W.contents writer.old) (W.contents writer.new) (codes "error 1\n")) }
+{
+    put(writer, b"error 1\n")?;
+    Ok(false)
+}
+
+// Writes all of the bytes, or a beginning of them where the writer fails.
+fn put<W: Write>(writer: &mut W, bytes: &[u8]) -> Result<(), RunFault>
+    ensures ok { OnOk result (Appends (W.contents writer.old) (W.contents writer.new) bytes.now) }
+    ensures err { OnErr result (PutsBeginning (W.contents writer.old) (W.contents writer.new) bytes.now) }
+{
+    let mut done = 0;
+    while done < bytes.len() {
+        let Ok(count) = writer.write(&bytes[done..]) else {
+            return Err(RunFault::Output);
+        };
+        if count == 0 {
+            return Err(RunFault::Output);
+        }
+        done += count;
+    }
+    Ok(())
+}
+
+// Whether no line of the text begins with `error`.
+fn has_no_error(text: &[u8]) -> bool
+    ensures { result ≡ has_no_error_in text.now }
+{
+    let mut lines = Parts::of(text, b'\n');
+    while let Some(line) = lines.next() {
+        if line.starts_with(b"error") {
+            return false;
+        }
+    }
+    true
+}
+
+#[cfg(test)]
+mod tests {
+    use super::*;
+    use ii_io::{FailingReader, FailingWriter};
+
+    const INPUT: &[u8] = b"ids 0 2 10\n\nopen b b 3 8082\nids 2 1";
+
+    const OUTPUT: &[u8] = b"808288\n0 2 10\ndamaged documents\nerror line\n";
+
+    #[test]
+    fn answers_each_line(rt: HostRuntime) {
+        let mut writer = FailingWriter::new(rt.alloc(), 0);
+        let mut reader = FailingReader::new(INPUT, 0);
+        let fine = run(rt.alloc(), &mut reader, &mut writer);
+        assert_eq!(rt; fine, Ok(false));
+        assert_eq!(rt; writer.bytes(), OUTPUT);
+        let mut writer = FailingWriter::new(rt.alloc(), 0);
+        let mut reader = FailingReader::new(b"ids 7\n", 0);
+        let fine = run(rt.alloc(), &mut reader, &mut writer);
+        assert_eq!(rt; fine, Ok(true));
+        assert_eq!(rt; writer.bytes(), b"87\n7\n".as_slice());
+    }
+
+    #[test]
+    fn tells_failed_reads_and_writes(rt: HostRuntime) {
+        for k in 1..3 {
+            let mut writer = FailingWriter::new(rt.alloc(), 0);
+            let mut reader = FailingReader::new(INPUT, k);
+            let answer = run(rt.alloc(), &mut reader, &mut writer);
+            assert_eq!(rt; answer, Err(RunFault::Input), "read {k}");
+            assert!(rt; writer.bytes().is_empty());
+        }
+        for k in 1..100 {
+            let mut writer = FailingWriter::new(rt.alloc(), k);
+            let mut reader = FailingReader::new(INPUT, 0);
+            let answer = run(rt.alloc(), &mut reader, &mut writer);
+            assert!(rt; OUTPUT.starts_with(writer.bytes()));
+            if answer.is_ok() {
+                assert_eq!(rt; k, 4);
+                return;
+            }
+            assert_eq!(rt; answer, Err(RunFault::Output), "write {k}");
+        }
+    }
+}

@@ -1,0 +1,70 @@
+ghost use Rattle.std.specs.Prelude.{◌≡◌, ◌^◌, ◌≤◌, IfOk};
+ghost use Rattle.std.specs.Option.{option_map};
+ghost use Rattle.iiq.specs.Words.{number_below, bytes_of_word};
+ghost use Rattle.iiq.specs.Commands.{option_of_word};
+
+use ii_base::IndexRecordOption;
+use std::alloc::{AllocError, Global};
+
+/// The number of 64 bits that decimal digits write.
+pub fn number(word: &[u8]) -> Option<u64>
+    ensures { result ≡ number_below (2 ^ 64) word.now }
+{
+    if word.is_empty() {
+        return None;
+    }
+    if word[0] == b'+' {
+        return None;
+    }
+    let Ok(text) = std::str::from_utf8(word) else {
+        return None;
+    };
+    text.parse().ok()
+}
+
+/// The number below `limit` that decimal digits write.
+pub fn number_up_to(word: &[u8], limit: u64) -> Option<u32>
+    requires { limit ≤ 2 ^ 32 }
+    ensures { result ≡ number_below limit word.now }
+{
+    let Some(value) = number(word) else {
+        return None;
+    };
+    if value < limit {
+        Some(value as u32)
+    } else {
+        None
+    }
+}
+
+/// The option that a letter stands for.
+pub fn option_of(word: &[u8]) -> Option<IndexRecordOption>
+    ensures { result ≡ option_of_word word.now }
+{
+    if word == b"b".as_slice() {
+        Some(IndexRecordOption::Basic)
+    } else if word == b"f".as_slice() {
+        Some(IndexRecordOption::WithFreqs)
+    } else if word == b"p".as_slice() {
+        Some(IndexRecordOption::WithFreqsAndPositions)
+    } else {
+        None
+    }
+}
+
+/// The bytes that hexadecimal digits write, or a dash for none.
+pub fn bytes_of(alloc: Global, word: &[u8]) -> Result<Option<Vec<u8>>, AllocError>
+    ensures { IfOk result (λ bytes. option_map (λ v. v.items) bytes ≡ bytes_of_word word.now) }
+{
+    if word == b"-".as_slice() {
+        return Ok(Some(Vec::new(alloc)));
+    }
+    if word.is_empty() {
+        return Ok(None);
+    }
+    match hex::decode(alloc, word) {
+        Ok(bytes) => Ok(Some(bytes)),
+        Err(hex::FromHexError::OutOfMemory) => Err(AllocError),
+        Err(_) => Ok(None),
+    }
+}
