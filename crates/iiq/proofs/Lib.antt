@@ -1,4 +1,3 @@
-pub mod PostingsLemmas
 pub mod WordLemmas
 pub mod DocumentLemmas
 pub mod OutputLemmas
@@ -8,3 +7,4 @@ pub mod WorkedRows
 pub mod LayoutLemmas
 pub mod PlaceLemmas
 pub mod CheckLemmas
+pub mod LoadLemmas

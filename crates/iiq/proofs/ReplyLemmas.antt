@@ -1,14 +1,16 @@
 -- Laws of replies.
-use Rattle.std.proofs.Common.{◌≡◌, ℕ, Bool, true, false, List, [], ◌∷◌, length, map, Option, Some, None, Result, Ok, Err, refl, sym, ◌∙◌, codes, eqb}
+use Rattle.std.proofs.Common.{◌≡◌, ◌<◌, ℕ, arith, Bool, true, false, List, [], ◌∷◌, length, map, Option, Some, None, Result, Ok, Err, refl, sym, ◌∙◌, codes, eqb}
 use Rattle.std.specs.Option.{option_map}
 use Rattle.std.specs.Str.{IsUtf8, is_utf8}
 use Rattle.std.proofs.lemmas.Str.{IsUtf8-from_is_utf8, is_utf8-from_IsUtf8}
-use Rattle.std.proofs.lemmas.List.{append-nil}
+use Rattle.std.proofs.lemmas.List.{append-nil, length-map}
+use Rattle.ii_docset.proofs.CursorLemmas.{ascending, length_below}
 use Rattle.ii_docset.specs.Entries.{document, are_documents}
-use Rattle.iiq.specs.Postings.{postings, written_postings}
+use Rattle.ii_base.specs.declared.schema.index_record_option.IndexRecordOption.TheVariants.{Basic}
+use Rattle.ii_layout.specs.Postings.{document_list}
+use Rattle.ii_layout.specs.Written.{written_documents, ReadsDocumentsBack}
 use Rattle.iiq.specs.Commands.{Command, command_of}
 use Rattle.iiq.specs.Output.{with_ends, command_texts, maybe_texts, reply_to}
-use Rattle.iiq.proofs.PostingsLemmas.{reads_postings_back}
 
 not_utf8 : (line : List ℕ) (t : Bool) → is_utf8 line ≡ t → ¬ (IsUtf8 line) → t ≡ false
 not_utf8 line true e h = absurd (h (IsUtf8-from_is_utf8 line e))
@@ -42,10 +44,18 @@ pub reply_error : (line : List ℕ) → false ≡ (eqb (length line) 0) → IsUt
     → None ≡ option_map (λ command. with_ends (command_texts command)) (command_of line) → codes "error line\n" ≡ reply_to line
 reply_error line some h r = none_cases line (command_of line) some h refl r
 
+-- documents lie below 2 ^ 31, so there are fewer
+pub few_documents : (docs : List ℕ) → are_documents docs ≡ true → length docs < 4294967296
+few_documents docs h =
+    let below = length_below (map document docs) (ascending docs h) in
+    let many = length-map docs document in
+    omega arith
+
 -- what is written opens as its list
-pub opens_written : (docs bytes : List ℕ) → are_documents docs ≡ true → bytes ≡ written_postings docs → postings (length docs) bytes ≡ Ok (map document docs)
-opens_written docs bytes h e =
-    let whole = rw append-nil at (reads_postings_back docs [] h) in
+pub opens_written : (docs bytes : List ℕ) → ReadsDocumentsBack → are_documents docs ≡ true → bytes ≡ written_documents docs → document_list Basic (length docs) bytes ≡ Ok (map document docs)
+opens_written docs bytes law h e =
+    let few = few_documents docs h in
+    let whole = rw append-nil at (law docs [] h (omega arith)) in
     rw e whole
 
 pub ok_is : {A E : Type 0} (r : Result A E) (x y : A) → r ≡ Ok x → r ≡ Ok y → x ≡ y

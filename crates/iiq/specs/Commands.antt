@@ -1,5 +1,5 @@
 -- What a line asks for.
-use Rattle.std.specs.Prelude.{ℕ, ◌^◌, Bool, false, List, [], ◌∷◌, length, nat_lt, if◌then◌else◌, Option, Some, None, option_map, codes}
+use Rattle.std.specs.Prelude.{ℕ, ◌^◌, Bool, true, false, List, [], ◌∷◌, if◌then◌else◌, Option, Some, None, option_map, codes}
 use Rattle.std.specs.Str.{bytes_eq}
 use Rattle.ii_base.specs.declared.schema.index_record_option.IndexRecordOption.{IndexRecordOption}
 use Rattle.ii_base.specs.declared.schema.index_record_option.IndexRecordOption.TheVariants.{Basic, WithFreqs, WithFreqsAndPositions}
@@ -57,10 +57,10 @@ words_command (word ∷ words) =
     else if bytes_eq word (codes "open") then open_command words
     else None
 
--- Lists of at least 128 documents, and lists with counts, are answered by a later version.
+-- Lists with counts are answered by a later version.
 abbrev pub is_built : Command → Bool
-is_built (show_ids docs) = nat_lt (length docs) 128
-is_built (open_list Basic requested doc_freq bytes positions) = nat_lt doc_freq 128
+is_built (show_ids docs) = true
+is_built (open_list Basic requested doc_freq bytes positions) = true
 is_built (open_list _ requested doc_freq bytes positions) = false
 
 -- a command that is answered yet

@@ -1,6 +1,5 @@
 pub mod Placed
-pub mod Postings
-pub mod Serializing
+pub mod Loaded
 pub mod Words
 pub mod Commands
 pub mod Opening

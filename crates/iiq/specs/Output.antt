@@ -3,10 +3,12 @@ use Rattle.std.specs.Prelude.{◌≡◌, ℕ, Bool, not, ◌⊎◌, nat_eq, List
 use Rattle.std.specs.List.{join_with_byte, list_all, starts_with}
 use Rattle.std.specs.Str.{is_utf8}
 use Rattle.std.specs.Io.KnownBytes.{Appends}
+use Rattle.ii_base.specs.declared.schema.index_record_option.IndexRecordOption.TheVariants.{Basic}
 use Rattle.ii_io.specs.declared.faults.Part.{Part}
 use Rattle.ii_io.specs.declared.faults.Part.TheVariants.{Skip, Documents, Frequencies, Positions}
 use Rattle.ii_docset.specs.Entries.{Entry, document}
-use Rattle.iiq.specs.Postings.{postings, written_postings}
+use Rattle.ii_layout.specs.Postings.{document_list}
+use Rattle.ii_layout.specs.Written.{written_documents}
 use Rattle.iiq.specs.Words.{lines_of, nothing, written_hex}
 use Rattle.iiq.specs.Commands.{Command, show_ids, open_list, command_of}
 
@@ -31,8 +33,8 @@ opened_text (Err part) = codes "damaged " ++ part_name part
 
 -- the texts that are written for a command
 abbrev pub command_texts : Command → List (List ℕ)
-command_texts (show_ids docs) = written_hex (written_postings docs) ∷ list_text (map document docs) ∷ []
-command_texts (open_list recorded requested doc_freq bytes positions) = opened_text (postings doc_freq bytes) ∷ []
+command_texts (show_ids docs) = written_hex (written_documents docs) ∷ list_text (map document docs) ∷ []
+command_texts (open_list recorded requested doc_freq bytes positions) = opened_text (document_list Basic doc_freq bytes) ∷ []
 
 abbrev pub maybe_texts : Option Command → List (List ℕ)
 maybe_texts None = codes "error line" ∷ []

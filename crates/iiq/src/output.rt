@@ -1,24 +1,23 @@
-ghost use Rattle.std.specs.Prelude.{◌≡◌, ◌++◌, ◌<◌, length, string_bytes, IfOk, OnOk, IsTrue};
+ghost use Rattle.std.specs.Prelude.{◌≡◌, ◌++◌, string_bytes, IfOk, OnOk, IsTrue};
 ghost use Rattle.ii_docset.specs.Entries.{are_documents, document};
 ghost use Rattle.iiq.specs.Commands.{documents_of_words};
 ghost use Rattle.iiq.specs.Words.{written_hex};
-ghost use Rattle.iiq.specs.Postings.{written_postings};
+ghost use Rattle.ii_layout.specs.Written.{written_documents};
 ghost use Rattle.iiq.specs.Output.{list_text, part_name, reply_to};
 
 use crate::postings::segment_postings::SegmentPostings;
-use crate::postings::serializer::PostingsSerializer;
 use ii_base::{CountingWriter, IndexRecordOption, Part};
 use ii_docset::{DocSet, TERMINATED};
+use ii_layout::PostingsSerializer;
 use std::alloc::{AllocError, Global};
 
 /// The bytes that the postings of these documents are written as.
 pub fn written(alloc: Global, docs: &[u32]) -> Result<Vec<u8>, AllocError>
-    requires short { length docs.now < 128 }
-    requires ascending { IsTrue (are_documents docs.now) }
-    ensures { IfOk result (λ bytes. bytes.items ≡ written_postings docs.now) }
+    requires { IsTrue (are_documents docs.now) }
+    ensures { IfOk result (λ bytes. bytes.items ≡ written_documents docs.now) }
 {
     let mut output = CountingWriter::wrap(Vec::new(alloc));
-    let mut serializer = PostingsSerializer::new(IndexRecordOption::Basic);
+    let mut serializer = PostingsSerializer::new(alloc, IndexRecordOption::Basic);
     serializer.new_term(docs.len() as u32, false);
     for doc in docs {
         if serializer.write_doc(*doc, 1).is_err() {

@@ -1,7 +1,7 @@
-ghost use Rattle.std.specs.Prelude.{◌≡◌, ◌<◌, length, IsTrue, IfOk, string_bytes, option_map, map};
+ghost use Rattle.std.specs.Prelude.{◌≡◌, IsTrue, IfOk, string_bytes, option_map, map};
 ghost use Rattle.ii_base.specs.declared.schema.index_record_option.IndexRecordOption.TheVariants.{Basic};
 ghost use Rattle.ii_docset.specs.Entries.{are_documents, document};
-ghost use Rattle.iiq.specs.Postings.{written_postings};
+ghost use Rattle.ii_layout.specs.Written.{written_documents};
 ghost use Rattle.iiq.specs.Commands.{show_ids, built, ids_command, open_command, command_of};
 ghost use Rattle.iiq.specs.Opening.{opening_command};
 ghost use Rattle.iiq.specs.Output.{reply_to, command_texts, with_ends};
@@ -12,7 +12,7 @@ use crate::parts::Parts;
 use crate::postings::segment_postings::SegmentPostings;
 use bytes::Bytes;
 use ii_base::{IndexRecordOption, LayoutFault};
-use ii_codes::COMPRESSION_BLOCK_SIZE;
+use ii_layout::written::reads_documents_back;
 use std::alloc::{AllocError, Global};
 
 /// What a line is answered with: nothing for an empty line, `error line` for one that is not well
@@ -56,16 +56,12 @@ fn ids_reply(alloc: Global, words: &mut Parts<'_>) -> Result<Option<String>, All
     let Some(docs) = documents(alloc, words)? else {
         return Ok(None);
     };
-    if docs.len() >= COMPRESSION_BLOCK_SIZE {
-        return Ok(None);
-    }
     Ok(Some(ids_text(alloc, &docs)?))
 }
 
 // The bytes of a list of documents, and the list read back from them.
 fn ids_text(alloc: Global, docs: &[u32]) -> Result<String, AllocError>
-    requires short { length docs.now < 128 }
-    requires ascending { IsTrue (are_documents docs.now) }
+    requires { IsTrue (are_documents docs.now) }
     ensures { IfOk result (λ text. string_bytes text ≡ with_ends (command_texts (show_ids docs.now))) }
 {
     let bytes = written(alloc, docs)?;
@@ -79,11 +75,11 @@ fn ids_text(alloc: Global, docs: &[u32]) -> Result<String, AllocError>
 
 // A cursor over the list that was written.
 fn reopened(docs: &[u32], postings: Bytes) -> SegmentPostings
-    requires short { length docs.now < 128 }
     requires ascending { IsTrue (are_documents docs.now) }
-    requires written { postings ≡ written_postings docs.now }
+    requires written { postings ≡ written_documents docs.now }
     ensures { result ≡ map document docs.now }
 {
+    reads_documents_back();
     let basic = IndexRecordOption::Basic;
     match SegmentPostings::open(docs.len() as u32, postings, None, basic, basic) {
         Ok(cursor) => cursor,
@@ -101,16 +97,12 @@ fn open_reply(alloc: Global, words: &mut Parts<'_>) -> Result<Option<String>, Al
     if opening.record_option != IndexRecordOption::Basic {
         return Ok(None);
     }
-    if opening.doc_freq >= 128 {
-        return Ok(None);
-    }
     Ok(Some(open_text(alloc, opening)?))
 }
 
 // The list that bytes give, or the part of them that is damaged.
 fn open_text(alloc: Global, opening: Opening) -> Result<String, AllocError>
-    requires recorded { opening.record_option ≡ Basic }
-    requires short { opening.doc_freq < 128 }
+    requires { opening.record_option ≡ Basic }
     ensures { IfOk result (λ text. string_bytes text ≡ with_ends (command_texts (opening_command opening))) }
 {
     let mut text = String::new(alloc);
