@@ -51,7 +51,8 @@ impl BlockDecoder {
         ensures len { result ≡ self.now.len }
         ensures few { result ≤ 128 }
     {
-        self.output_len
+        let BlockDecoder { output_len, .. } = self;
+        *output_len
     }
 
     /// The entry at `idx`, below 128; behind the values decoded last it is padding.

@@ -5,7 +5,8 @@ use Rattle.std.specs.Option.{option_map}
 use Rattle.std.proofs.lemmas.List.{take_more, set-get_or}
 use Rattle.std.proofs.lemmas.List.Edits.{map_over_more}
 use Rattle.std.proofs.lemmas.Bool.Decides.{nat_tests}
-use Rattle.ii_io.specs.Told.{Told, Tells, IsFull}
+use Rattle.ii_io.specs.Told.{Told, IsFull}
+use Rattle.ii_io.specs.ToldLemmas.{full_before}
 use Rattle.ii_io.specs.Composite.{Body, bodies_bytes, places_from, table_bytes, written_composite}
 use Rattle.ii_io.specs.Composing.{Composing, HasBodies, has_start, starts_from, places_of}
 use Rattle.ii_io.specs.ComposingLemmas.{HasBodies-more, places_of-bodies}
@@ -68,15 +69,6 @@ all_made bs rest es none made =
     let whole = rw none at made in
     sym (append_nil bs) ∙ whole ∙ empty_entries 0 es
 
--- what was written before a part that passes a count makes the whole pass it
-pub full_whole : (begun now : Told) (front : List ℕ) (n whole : ℕ) → Tells begun now front → length front + n ≤ whole → IsFull now n → IsFull begun whole
-full_whole begun now front n whole told within (inl long) = let written = told.written in inl (omega arith)
-full_whole begun now front n whole told within (inr most) = inr (sym told.failed ∙ most)
-
-pub full_more : (told : Told) (n whole : ℕ) → n ≤ whole → IsFull told n → IsFull told whole
-full_more told n whole within (inl long) = inl (omega arith)
-full_more told n whole within (inr most) = inr most
-
 pub part_size : (field : ℕ) (bs : Buffers) (i : ℕ) (b : Option (List ℕ)) → i < length bs → b ≡ get_or bs i b → length (bodies_bytes (norm_bodies_from field (take i bs))) + buffer_size b ≤ length (bodies_bytes (norm_bodies_from field bs))
 part_size field [] i b within here = absurd (omega arith)
 part_size field (None ∷ bs) zero b within here = rw here (omega arith)
@@ -95,4 +87,4 @@ pub closing_full : (begun : Told) (c : Composing) (bodies : List Body) → HasBo
 closing_full begun c bodies has full =
     let table = places_of-bodies begun c bodies has in
     let sum = length-append (bodies_bytes bodies) (table_bytes (places_from 0 bodies)) in
-    full_whole begun c.told (bodies_bytes bodies) (length (table_bytes (places_from 0 bodies))) (length (written_composite bodies)) has.told (omega arith) (rw table at full)
+    full_before begun c.told (bodies_bytes bodies) (length (table_bytes (places_from 0 bodies))) (length (written_composite bodies)) has.told (omega arith) (rw table at full)

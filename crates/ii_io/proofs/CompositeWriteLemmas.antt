@@ -13,7 +13,8 @@ use Rattle.ii_io.specs.Numbers.{le_bytes}
 use Rattle.ii_io.specs.NumberLemmas.{length_le_bytes}
 use Rattle.ii_io.specs.Composite.{Body, place_bytes, table_bytes, bodies_bytes, places_from, written_composite}
 use Rattle.ii_io.specs.CompositeLemmas.{length_place_bytes}
-use Rattle.ii_io.specs.ComposingLemmas.{Tells-trans, places_of-bodies}
+use Rattle.ii_io.specs.ComposingLemmas.{places_of-bodies}
+use Rattle.ii_io.specs.ToldLemmas.{Tells-trans}
 use Rattle.ii_io.specs.Composing.{Composing, places_until, places_of, starts_from, HasBodies}
 
 -- a place ends where the next body begins

@@ -1,19 +1,12 @@
 -- Laws of what a composite writer has written so far, for those who write bodies.
 use Rattle.std.proofs.Common.{◌≡◌, ℕ, ◌+◌, ◌-◌, List, [], ◌∷◌, ◌++◌, length, refl, ap, ◌∙◌, arith, length-append}
-use Rattle.std.proofs.KnownBytes.{Appends-trans}
 use Rattle.std.proofs.lemmas.Grind.{flat_map-append}
 use Rattle.ii_io.specs.declared.composite_file.place.BodyStart.{BodyStart}
 use Rattle.ii_io.specs.declared.composite_file.place.Place.{Place}
-use Rattle.ii_io.specs.Told.{Told, Tells}
+use Rattle.ii_io.specs.Told.{Told}
+use Rattle.ii_io.specs.ToldLemmas.{Tells-trans}
 use Rattle.ii_io.specs.Composite.{Body, bodies_bytes, places_from}
 use Rattle.ii_io.specs.Composing.{Composing, AddsBody, HasBodies, written_bodies, starts_from, places_until, places_of}
-
-pub Tells-trans : (a b c : Told) (xs ys : List ℕ) → Tells a b xs → Tells b c ys → Tells a c (xs ++ ys)
-Tells-trans a b c xs ys front back = record {
-  appends = Appends-trans a.contents b.contents c.contents xs ys front.appends back.appends;
-  written = let one = front.written in let two = back.written in omega (arith, length-append xs ys);
-  failed = back.failed ∙ front.failed;
-}
 
 append_nil : {A : Type 0} (xs : List A) → xs ++ [] ≡ xs
 append_nil [] = refl

@@ -8,5 +8,6 @@ pub mod NumberLemmas
 pub mod Numbers
 pub mod Steps
 pub mod Told
+pub mod ToldLemmas
 pub mod Vints
 pub mod Parts

@@ -61,11 +61,11 @@ impl<W: Write> CountingWriter<W> {
         ensures { W.contents result ≡ self.contents }
     {
         let CountingWriter {
-            underlying,
+            underlying: writer,
             written_bytes: _,
             failed_calls: _,
         } = self;
-        underlying
+        writer
     }
 
     /// Writes all of `buf`, or answers `Write` where the writer fails; a beginning of `buf` is then

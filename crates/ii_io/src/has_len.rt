@@ -23,6 +23,6 @@ impl HasLen for Bytes {
     ghost length_of = { λ bytes. length bytes };
 
     fn len(&self) -> usize {
-        self.len()
+        self.as_slice().len()
     }
 }

@@ -1,11 +1,15 @@
 -- What a serializer keeps of documents, and what it writes.
 use Rattle.std.proofs.Common.{◌≡◌, ℕ, zero, suc, ◌+◌, ◌*◌, ◌/◌, ◌%◌, ◌<◌, ◌≤◌, true, List, [], ◌∷◌, ◌++◌, length, take, drop, get_or, refl, sym, ap, ◌∙◌, arith, length-append, Result, Ok, Err, OnOk}
+use Rattle.std.specs.Prelude.{IsErrOf, ◌↔◌}
 use Rattle.std.proofs.lemmas.List.{flat_map_more, take_all, drop_at, get_or-append-add}
-use Rattle.std.proofs.KnownBytes.{Appends-trans}
 use Rattle.std.specs.List.{flat_map, range_with_len}
 use Rattle.ii_io.specs.Numbers.{le_bytes}
 use Rattle.ii_io.specs.NumberLemmas.{length_le_bytes}
-use Rattle.ii_io.specs.Told.{Told, Tells}
+use Rattle.ii_io.specs.declared.faults.Fault.{Fault}
+use Rattle.ii_io.specs.declared.faults.Fault.TheVariants.{Limit}
+use Rattle.ii_io.specs.declared.faults.LimitName.TheVariants.{Offset}
+use Rattle.ii_io.specs.Told.{Told, Tells, IsFull}
+use Rattle.ii_io.specs.ToldLemmas.{Tells-trans, full_more, full_before, full_after}
 use Rattle.ii_io.specs.Vints.{vint_u64}
 use Rattle.ii_docset.specs.Entries.{are_documents}
 use Rattle.ii_codes.specs.Blocks.{least_first, sorted_entries, sorted_width, sorted_bytes}
@@ -160,17 +164,6 @@ written_is docs rest skip postings last p few =
     ap (λ (m : ℕ). skip_bytes (docs ++ rest) m ++ flat_map (block_bytes (docs ++ rest)) (range_with_len 0 m) ++ sorted_vints (last_before (docs ++ rest) m) (drop (128 * m) (docs ++ rest))) blocks
     ∙ (λ j. list j ++ (bytes ∙ sym p.postings_is) j ++ sorted_vints (end j) (behind j))
 
--- bytes behind others
-pub Tells-trans : (a b c : Told) (xs ys : List ℕ) → Tells a b xs → Tells b c ys → Tells a c (xs ++ ys)
-Tells-trans a b c xs ys front more =
-    let first = front.written in
-    let second = more.written in
-    record {
-      appends = Appends-trans a.contents b.contents c.contents xs ys front.appends more.appends;
-      written = omega (arith, length-append xs ys);
-      failed = more.failed ∙ front.failed;
-    }
-
 last_told : {T E : Type 0} (r : Result T E) (a b c : Told) (xs ys all : List ℕ) → Tells a b xs → OnOk r (Tells b c ys) → all ≡ xs ++ ys → OnOk r (Tells a c all)
 last_told (Ok v) a b c xs ys all front more e = rw e (Tells-trans a b c xs ys front more)
 last_told (Err x) a b c xs ys all front more e = tt
@@ -183,3 +176,52 @@ written_told r docs rest skip postings ids entries middle tail last a b c d p fe
     last_told r a c d (sized entries ++ middle) tail (written_documents (docs ++ rest)) (Tells-trans a b c (sized entries) middle first second) third
     (written_is docs rest skip postings last p few
     ∙ sym (λ j. sized (entries_are j) ++ middle_is j ++ (tail_is ∙ ap (sorted_vints last) ids_are) j))
+
+-- how many bytes are written of blocks and fewer documents behind them
+length-written : (docs rest skip postings : List ℕ) (last : ℕ) → ArePacked docs last skip postings → length rest < 128
+    → length (written_documents (docs ++ rest)) ≡ length (sized skip) + length postings + length (sorted_vints last rest)
+length-written docs rest skip postings last p few =
+    ap length (written_is docs rest skip postings last p few) ∙ omega (arith, length-append (sized skip ++ postings) (sorted_vints last rest), length-append (sized skip) postings)
+
+-- a part that passes a count makes the whole pass it
+pub full_list : (docs rest skip postings entries : List ℕ) (last : ℕ) (a : Told) → ArePacked docs last skip postings → length rest < 128 → entries ≡ skip
+    → IsFull a (length (sized entries)) → IsFull a (length (written_documents (docs ++ rest)))
+full_list docs rest skip postings entries last a p few entries_are full =
+    let size = length-written docs rest skip postings last p few in
+    let part : length (sized entries) ≡ length (sized skip) = ap (λ (xs : List ℕ). length (sized xs)) entries_are in
+    full_more a (length (sized entries)) (length (written_documents (docs ++ rest))) (omega arith) full
+
+pub full_blocks : (docs rest skip postings entries middle : List ℕ) (last : ℕ) (a b : Told) → ArePacked docs last skip postings → length rest < 128 → entries ≡ skip → middle ≡ postings
+    → Tells a b (sized entries) → IsFull b (length middle) → IsFull a (length (written_documents (docs ++ rest)))
+full_blocks docs rest skip postings entries middle last a b p few entries_are middle_is first full =
+    let size = length-written docs rest skip postings last p few in
+    let list : length (sized entries) ≡ length (sized skip) = ap (λ (xs : List ℕ). length (sized xs)) entries_are in
+    let blocks : length middle ≡ length postings = ap length middle_is in
+    full_before a b (sized entries) (length middle) (length (written_documents (docs ++ rest))) first (omega arith) full
+
+-- what comes before the documents behind the blocks
+front_size : (docs rest skip postings ids entries middle tail : List ℕ) (last : ℕ) → ArePacked docs last skip postings → length rest < 128 → entries ≡ skip → middle ≡ postings
+    → ids ≡ rest → tail ≡ sorted_vints last ids → length (written_documents (docs ++ rest)) ≡ length (sized entries ++ middle) + length tail
+front_size docs rest skip postings ids entries middle tail last p few entries_are middle_is ids_are tail_is =
+    let size = length-written docs rest skip postings last p few in
+    let list : length (sized entries) ≡ length (sized skip) = ap (λ (xs : List ℕ). length (sized xs)) entries_are in
+    let blocks : length middle ≡ length postings = ap length middle_is in
+    let behind : length tail ≡ length (sorted_vints last rest) = ap length (tail_is ∙ ap (sorted_vints last) ids_are) in
+    omega (arith, length-append (sized entries) middle)
+
+pub full_rest : (docs rest skip postings ids entries middle tail : List ℕ) (last : ℕ) (a b c : Told) → ArePacked docs last skip postings → length rest < 128 → entries ≡ skip → middle ≡ postings
+    → ids ≡ rest → tail ≡ sorted_vints last ids → Tells a b (sized entries) → Tells b c middle → IsFull c (length tail) → IsFull a (length (written_documents (docs ++ rest)))
+full_rest docs rest skip postings ids entries middle tail last a b c p few entries_are middle_is ids_are tail_is first second full =
+    let size = front_size docs rest skip postings ids entries middle tail last p few entries_are middle_is ids_are tail_is in
+    full_before a c (sized entries ++ middle) (length tail) (length (written_documents (docs ++ rest))) (Tells-trans a b c (sized entries) middle first second) (omega arith) full
+
+-- what was written fitted
+pub all_fits : {T : Type 0} (r : Result T Fault) (docs rest skip postings ids entries middle tail : List ℕ) (last : ℕ) (a b c : Told) → ArePacked docs last skip postings → length rest < 128
+    → entries ≡ skip → middle ≡ postings → ids ≡ rest → tail ≡ sorted_vints last ids → Tells a b (sized entries) → Tells b c middle → (IsErrOf r (Limit Offset) ↔ IsFull c (length tail))
+    → OnOk r (¬ IsFull a (length (written_documents (docs ++ rest))))
+all_fits (Err e) docs rest skip postings ids entries middle tail last a b c p few entries_are middle_is ids_are tail_is first second limit = tt
+all_fits (Ok v) docs rest skip postings ids entries middle tail last a b c p few entries_are middle_is ids_are tail_is first second limit = λ full.
+    let size = front_size docs rest skip postings ids entries middle tail last p few entries_are middle_is ids_are tail_is in
+    let told = Tells-trans a b c (sized entries) middle first second in
+    let given = limit.1 (full_after a c (sized entries ++ middle) (length tail) (length (written_documents (docs ++ rest))) told (omega arith) full) in
+    absurd (cc)

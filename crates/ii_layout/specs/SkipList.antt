@@ -1,5 +1,5 @@
 -- What stands of each full block beside it, so that a reader may pass over the block.
-use Rattle.std.specs.Prelude.{ℕ, zero, suc, ◌+◌, ◌-◌, ◌*◌, ◌/◌, ◌%◌, Bool, List, [], length, take, drop, map, slice_index, nat_lt, nat_le, ◌==◌, if◌then◌else◌, Option, Some}
+use Rattle.std.specs.Prelude.{ℕ, zero, suc, ◌+◌, ◌*◌, ◌/◌, ◌%◌, Bool, List, [], length, take, drop, map, slice_index, nat_lt, nat_le, ◌==◌, if◌then◌else◌, Option, Some}
 use Rattle.std.specs.List.{sum_by, list_all, range_with_len}
 use Rattle.ii_base.specs.declared.schema.index_record_option.IndexRecordOption.{IndexRecordOption}
 use Rattle.ii_base.specs.declared.schema.index_record_option.IndexRecordOption.TheVariants.{Basic, WithFreqs, WithFreqsAndPositions}

@@ -1,6 +1,6 @@
 ghost use Rattle.std.specs.Prelude.{◌≡◌, ◌<◌, ◌↔◌, ◌⊎◌, [], ◌∷◌, ◌++◌, length, slice_index, false, IsTrue, OnOk, OnErr, IfErr, IsErrOf};
 ghost use Rattle.ii_base.specs.declared.schema.index_record_option.IndexRecordOption.TheVariants.{Basic};
-ghost use Rattle.ii_io.specs.Told.{Tells};
+ghost use Rattle.ii_io.specs.Told.{Tells, IsFull};
 ghost use Rattle.ii_io.specs.Numbers.{le_bytes};
 ghost use Rattle.ii_codes.specs.Blocks.{sorted_width, sorted_bytes};
 ghost use Rattle.ii_docset.specs.Entries.{are_documents};
@@ -13,6 +13,7 @@ use super::skip::SkipSerializer;
 use ii_base::{CountingWriter, Fault, IndexRecordOption, LimitName};
 use ii_codes::{BlockEncoder, VIntEncoder};
 use ii_docset::DocId;
+use ii_fieldnorm::FieldNormReader;
 use ii_io::vint;
 use std::alloc::{AllocError, Global};
 use std::io::Write;
@@ -104,6 +105,9 @@ impl PackedBlocks {
         ensures same { self.new ≡ self.old }
         ensures ok { OnOk result (Tells output_write.old output_write.new (written_documents (self.old ++ rest.now))) }
         ensures write { IsErrOf result Fault.Write ↔ (output_write.old.failed < output_write.new.failed) }
+        ensures limit { IsErrOf result (Fault.Limit LimitName.Offset)
+            → IsFull output_write.old (length (written_documents (self.old ++ rest.now))) }
+        ensures fits { OnOk result (¬ IsFull output_write.old (length (written_documents (self.old ++ rest.now)))) }
         ensures only { IfErr result (λ e. (e ≡ Fault.Write) ⊎ (e ≡ Fault.Limit LimitName.Offset)) }
     {
         write_skip_list(self.skip_write.data(), output_write)?;
@@ -140,6 +144,7 @@ fn write_skip_list<W: Write>(
 ) -> Result<(), Fault>
     ensures ok { OnOk result (Tells output_write.old output_write.new (sized skip_data.now)) }
     ensures write { IsErrOf result Fault.Write ↔ (output_write.old.failed < output_write.new.failed) }
+    ensures limit { IsErrOf result (Fault.Limit LimitName.Offset) → IsFull output_write.old (length (sized skip_data.now)) }
     ensures only { IfErr result (λ e. (e ≡ Fault.Write) ⊎ (e ≡ Fault.Limit LimitName.Offset)) }
 {
     if skip_data.is_empty() {
@@ -174,6 +179,7 @@ fn append_doc(blocks: &mut PackedBlocks, block: &mut Block, doc_id: DocId) -> Re
 pub struct PostingsSerializer {
     blocks: PackedBlocks,
     block: Block,
+    fieldnorm_reader: Option<FieldNormReader>,
     is_closed: bool,
 }
 
@@ -189,8 +195,13 @@ impl Model for PostingsSerializer {
 }
 
 impl PostingsSerializer {
-    /// A serializer of postings as the field records them.
-    pub fn new(alloc: Global, mode: IndexRecordOption) -> PostingsSerializer
+    /// A serializer of postings as the field records them. The norms of the field are kept for
+    /// bounds, which aren't written yet.
+    pub fn new(
+        alloc: Global,
+        mode: IndexRecordOption,
+        fieldnorm_reader: Option<FieldNormReader>,
+    ) -> PostingsSerializer
         requires { mode ≡ Basic }
         ensures { result ≡ record { docs = []; closed = false } }
     {
@@ -198,6 +209,7 @@ impl PostingsSerializer {
         PostingsSerializer {
             blocks: PackedBlocks::new(alloc),
             block: Block::new(),
+            fieldnorm_reader,
             is_closed: false,
         }
     }
@@ -253,6 +265,9 @@ impl PostingsSerializer {
         ensures ended { OnOk result (self.new ≡ record { docs = []; closed = false }) }
         ensures closed { IsErrOf result Fault.SerializerClosed ↔ IsTrue self.old.closed }
         ensures write { IsErrOf result Fault.Write ↔ (output_write.old.failed < output_write.new.failed) }
+        ensures limit { IsErrOf result (Fault.Limit LimitName.Offset)
+            → IsFull output_write.old (length (written_documents self.old.docs)) }
+        ensures fits { OnOk result (¬ IsFull output_write.old (length (written_documents self.old.docs))) }
         ensures only { IfErr result (λ e. (e ≡ Fault.Write) ⊎ (e ≡ Fault.Limit LimitName.Offset) ⊎ (e ≡ Fault.SerializerClosed)) }
         ensures err { OnErr result (IsTrue self.new.closed) }
     {

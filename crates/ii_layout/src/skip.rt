@@ -313,28 +313,38 @@ impl SkipReader {
     pub fn last_doc_in_block(&self) -> DocId
         ensures { result ≡ self.now.last_doc }
     {
-        self.last_doc_in_block
+        let SkipReader {
+            last_doc_in_block,
+            ..
+        } = self;
+        *last_doc_in_block
     }
 
     /// The last document before the block, 0 at the first one.
     pub fn last_doc_in_previous_block(&self) -> DocId
         ensures { result ≡ self.now.doc_before }
     {
-        self.last_doc_in_previous_block
+        let SkipReader {
+            last_doc_in_previous_block,
+            ..
+        } = self;
+        *last_doc_in_previous_block
     }
 
     /// Where the block begins behind the skip list, or `usize::MAX` behind the last block.
     pub fn byte_offset(&self) -> usize
         ensures { result ≡ self.now.place }
     {
-        self.byte_offset
+        let SkipReader { byte_offset, .. } = self;
+        *byte_offset
     }
 
     /// What is told of the block.
     pub fn block_info(&self) -> BlockInfo
         ensures { result ≡ self.now.info }
     {
-        self.block_info
+        let SkipReader { block_info, .. } = self;
+        *block_info
     }
 }
 

@@ -5,6 +5,7 @@ use crate::written::reads_documents_back;
 use crate::{PostingsSerializer, SkipReader, SkipSerializer};
 use ii_base::{CountingWriter, Fault, IndexRecordOption};
 use ii_docset::TERMINATED;
+use ii_fieldnorm::FieldNormReader;
 use ii_io::FailingWriter;
 use std::alloc::Global;
 use std::test::Fail;
@@ -13,7 +14,7 @@ use std::test::Fail;
 fn bytes_below(alloc: Global, count: u32) -> Result<Vec<u8>, Fault>
     requires { count ≤ 256 }
 {
-    let mut serializer = PostingsSerializer::new(alloc, IndexRecordOption::Basic);
+    let mut serializer = PostingsSerializer::new(alloc, IndexRecordOption::Basic, None);
     for doc in 0..count {
         serializer.write_doc(doc, 1)?;
     }
@@ -32,7 +33,8 @@ fn blocks_are_written(rt: HostRuntime) -> Result<(), Fail> {
 
 #[test]
 fn terms_are_written_one_after_the_other(rt: HostRuntime) -> Result<(), Fail> {
-    let mut serializer = PostingsSerializer::new(rt.alloc(), IndexRecordOption::Basic);
+    let norms = Some(FieldNormReader::constant(11, 10));
+    let mut serializer = PostingsSerializer::new(rt.alloc(), IndexRecordOption::Basic, norms);
     serializer.write_doc(7, 1)?;
     serializer.new_term(3, false);
     serializer.write_doc(0, 1)?;
@@ -47,7 +49,7 @@ fn terms_are_written_one_after_the_other(rt: HostRuntime) -> Result<(), Fail> {
 
 #[test]
 fn a_refused_serializer_is_closed(rt: HostRuntime) {
-    let mut serializer = PostingsSerializer::new(rt.alloc(), IndexRecordOption::Basic);
+    let mut serializer = PostingsSerializer::new(rt.alloc(), IndexRecordOption::Basic, None);
     let mut output = CountingWriter::wrap(FailingWriter::new(rt.alloc(), 1));
     serializer.new_term(1, false);
     let answer = serializer.write_doc(1, 1);

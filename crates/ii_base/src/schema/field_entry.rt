@@ -69,14 +69,10 @@ impl FieldEntry {
           expands_dots = false;
         } }
     {
-        FieldEntry {
-            name,
-            value_type,
-            option: IndexRecordOption::Basic,
-            is_indexed: true,
-            has_fieldnorms: norms,
-            expands_dots: false,
-        }
+        let mut entry = FieldEntry::unindexed(name, value_type);
+        entry.is_indexed = true;
+        entry.has_fieldnorms = norms;
+        entry
     }
 
     /// A field of JSON values, with no norms. With dots expanded, a dot in a key parts it into two.

@@ -98,12 +98,12 @@ impl<W: Write> CompositeWrite<W> {
         ensures { result ≡ self.told }
     {
         let CompositeWrite {
-            writer,
+            writer: unclosed,
             base: _,
             starts: _,
             is_closed: _,
         } = self;
-        writer
+        unclosed
     }
 
     /// Writes the places of the bodies and their number, flushes, and hands the writer back.

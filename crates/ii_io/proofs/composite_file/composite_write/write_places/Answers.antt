@@ -5,7 +5,7 @@ use Rattle.ii_io.specs.Composite.{place_bytes}
 use Rattle.ii_io.specs.Composing.{places_until}
 use Rattle.ii_io.specs.CompositeLemmas.{length_place_bytes}
 use Rattle.ii_io.proofs.CompositeWriteLemmas.{length-places_until, front_size, places_more}
-use Rattle.ii_io.specs.ComposingLemmas.{Tells-trans}
+use Rattle.ii_io.specs.ToldLemmas.{Tells-trans}
 use Rattle.ii_io.proofs.composite_file.composite_write.write_places.Goals as goal
 
 pub write_value-requires-clause-room : goal.write_value-requires-clause-room

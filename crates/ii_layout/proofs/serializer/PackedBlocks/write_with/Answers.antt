@@ -1,4 +1,5 @@
-use Rattle.ii_layout.proofs.PackingLemmas.{rest_behind, written_told}
+use Rattle.std.proofs.lemmas.Result.{err_from_is_err_and}
+use Rattle.ii_layout.proofs.PackingLemmas.{rest_behind, written_told, full_list, full_blocks, full_rest, all_fits}
 use Rattle.ii_layout.proofs.serializer.PackedBlocks.write_with.Goals as goal
 
 pub compress_vint_sorted-bytes-requires-clause-sorted : goal.compress_vint_sorted-bytes-requires-clause-sorted
@@ -9,3 +10,23 @@ pub returns-clause-ok : goal.returns-clause-ok
 returns-clause-ok g c =
     rw (← c.self.view_is) (written_told _ _ _ _ _ _ _ _ _ _ _ _ _ _ c.self.invariant c.requires.few c.data.ensures c.deref.ensures.value c.doc_ids.ensures c.compress_vint_sorted-bytes.ensures
     c.in_ok-write_skip_list.ensures.ok c.in_ok-write_all.ensures.ok c.write_all-2.ensures.ok)
+
+pub returns-in_err-write_skip_list-clause-limit : goal.returns-in_err-write_skip_list-clause-limit
+returns-in_err-write_skip_list-clause-limit g c =
+    let given = err_from_is_err_and c.from_residual.result c.from_residual.ensures.1 in
+    rw (given.1, given.2, ← c.self.view_is) (λ e. full_list _ _ _ _ _ _ c.args.output_write.now c.self.invariant c.requires.few c.data.ensures (c.in_err-write_skip_list.ensures.limit e))
+
+pub returns-in_err-write_all-clause-limit : goal.returns-in_err-write_all-clause-limit
+returns-in_err-write_all-clause-limit g c =
+    let given = err_from_is_err_and c.from_residual-in_err-write_all.result c.from_residual-in_err-write_all.ensures.1 in
+    rw (given.1, given.2, ← c.self.view_is) (λ e. full_blocks _ _ _ _ _ _ _ c.args.output_write.now c.write_skip_list.new.output_write c.self.invariant c.requires.few c.data.ensures c.deref.ensures.value c.in_ok-write_skip_list.ensures.ok (c.in_err-write_all.ensures.limit.0 e))
+
+pub returns-clause-limit : goal.returns-clause-limit
+returns-clause-limit g c =
+    rw (← c.self.view_is) (λ e. full_rest _ _ _ _ _ _ _ _ _ c.args.output_write.now c.write_skip_list.new.output_write c.write_all.new.self c.self.invariant c.requires.few c.data.ensures c.deref.ensures.value c.doc_ids.ensures c.compress_vint_sorted-bytes.ensures
+    c.in_ok-write_skip_list.ensures.ok c.in_ok-write_all.ensures.ok (c.write_all-2.ensures.limit.0 e))
+
+pub returns-clause-fits : goal.returns-clause-fits
+returns-clause-fits g c =
+    rw (← c.self.view_is) (all_fits _ _ _ _ _ _ _ _ _ _ c.args.output_write.now c.write_skip_list.new.output_write c.write_all.new.self c.self.invariant c.requires.few c.data.ensures c.deref.ensures.value c.doc_ids.ensures c.compress_vint_sorted-bytes.ensures
+    c.in_ok-write_skip_list.ensures.ok c.in_ok-write_all.ensures.ok c.write_all-2.ensures.limit)

@@ -1,0 +1,52 @@
+-- Laws of what a counting writer is told, step by step.
+use Rattle.std.proofs.Common.{◌≡◌, ◌≤◌, ℕ, ◌+◌, true, false, List, ◌++◌, length, Result, Ok, Err, is_err, sym, ◌∙◌, arith, length-append, ⊎_elim, inl, inr}
+use Rattle.std.proofs.KnownBytes.{Appends-trans}
+use Rattle.ii_io.specs.declared.faults.Fault.{Fault}
+use Rattle.ii_io.specs.Told.{Told, Tells, IsFull, Writes}
+
+-- bytes behind others
+pub Tells-trans : (a b c : Told) (xs ys : List ℕ) → Tells a b xs → Tells b c ys → Tells a c (xs ++ ys)
+Tells-trans a b c xs ys front back = record {
+  appends = Appends-trans a.contents b.contents c.contents xs ys front.appends back.appends;
+  written = let one = front.written in let two = back.written in omega (arith, length-append xs ys);
+  failed = back.failed ∙ front.failed;
+}
+
+-- a count that fewer bytes pass is passed by more
+pub full_more : (told : Told) (n size : ℕ) → n ≤ size → IsFull told n → IsFull told size
+full_more told n size within full = ⊎_elim (λ past. inl (omega arith)) (λ most. inr most) full
+
+-- a count that is full later is full for all that is written from the beginning, and the other way round
+pub full_before : (a b : Told) (bytes : List ℕ) (more size : ℕ) → Tells a b bytes → length bytes + more ≤ size → IsFull b more → IsFull a size
+full_before a b bytes more size told within full =
+    let written = told.written in
+    ⊎_elim (λ past. inl (omega arith)) (λ most. inr (sym told.failed ∙ most)) full
+
+pub full_after : (a b : Told) (bytes : List ℕ) (more size : ℕ) → Tells a b bytes → size ≤ length bytes + more → IsFull a size → IsFull b more
+full_after a b bytes more size told within full =
+    let written = told.written in
+    ⊎_elim (λ past. inl (omega arith)) (λ most. inr (told.failed ∙ most)) full
+
+-- a call that writes behind what was written
+pub writes_then : (a b c : Told) (xs ys : List ℕ) (result : Result (Unit {0}) Fault) → Tells a b xs → Writes b c ys result → Writes a c (xs ++ ys) result
+writes_then a b c xs ys (Ok u) h k = record { ok = Tells-trans a b c xs ys h k.ok; write = rw (← h.failed) k.write; limit = λ e. absurd (cc); only = tt }
+writes_then a b c xs ys (Err e) h k = record {
+  ok = tt;
+  write = rw (← h.failed) k.write;
+  limit = λ is. full_before a b xs (length ys) (length (xs ++ ys)) h (omega (arith, length-append xs ys)) (k.limit is);
+  only = k.only;
+}
+
+-- a call that was refused, whatever was to follow
+pub writes_refused : (a b : Told) (xs ys : List ℕ) (e : Fault) → Writes a b xs (Err e) → Writes a b (xs ++ ys) (Err e)
+writes_refused a b xs ys e h =
+    record { ok = tt; write = h.write; limit = λ is. full_more a (length xs) (length (xs ++ ys)) (omega (arith, length-append xs ys)) (h.limit is); only = h.only }
+
+pub writes_refused_by : (a b : Told) (xs ys : List ℕ) (result : Result (Unit {0}) Fault) → true ≡ is_err result → Writes a b xs result → Writes a b (xs ++ ys) result
+writes_refused_by a b xs ys (Ok u) e h = absurd (cc)
+writes_refused_by a b xs ys (Err f) e h = writes_refused a b xs ys f h
+
+-- a call that was not refused
+pub writes_went : (a b : Told) (xs : List ℕ) (result : Result (Unit {0}) Fault) → false ≡ is_err result → Writes a b xs result → Tells a b xs
+writes_went a b xs (Ok u) e h = h.ok
+writes_went a b xs (Err f) e h = absurd (cc)
