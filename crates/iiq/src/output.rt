@@ -17,7 +17,7 @@ pub fn written(alloc: Global, docs: &[u32]) -> Result<Vec<u8>, AllocError>
     ensures { IfOk result (λ bytes. bytes.items ≡ written_documents docs.now) }
 {
     let mut output = CountingWriter::wrap(Vec::new(alloc));
-    let mut serializer = PostingsSerializer::new(alloc, IndexRecordOption::Basic);
+    let mut serializer = PostingsSerializer::new(alloc, IndexRecordOption::Basic, None);
     serializer.new_term(docs.len() as u32, false);
     for doc in docs {
         if serializer.write_doc(*doc, 1).is_err() {
