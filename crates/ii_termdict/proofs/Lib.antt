@@ -6,3 +6,6 @@ pub mod SearchLemmas
 pub mod PackLemmas
 pub mod WriterLemmas
 pub mod BuilderLemmas
+pub mod PieceLemmas
+pub mod RowLemmas
+pub mod ReadStoreLemmas

@@ -43,7 +43,7 @@ pieces_more f b begun told new result h went put =
 flat_from : (f : ℕ → List ℕ) (a n : ℕ) → flat_map f (range_with_len a (suc n)) ≡ f a ++ flat_map f (range_with_len (a + 1) n)
 flat_from f a n = refl
 
-flat_split : (f : ℕ → List ℕ) (n b m : ℕ) → n ≡ b + suc m → (rest : List ℕ) × (flat_map f (range_with_len 0 n) ≡ (flat_map f (range_with_len 0 b) ++ f b) ++ rest)
+pub flat_split : (f : ℕ → List ℕ) (n b m : ℕ) → n ≡ b + suc m → (rest : List ℕ) × (flat_map f (range_with_len 0 n) ≡ (flat_map f (range_with_len 0 b) ++ f b) ++ rest)
 flat_split f n b zero e =
     let one : n ≡ b + 1 = omega arith in
     ([], rw (one, flat_more f b) (sym (append-nil (flat_map f (range_with_len 0 b) ++ f b))))

@@ -1,4 +1,5 @@
 pub mod Dictionary
+pub mod ReadBack
 pub mod TermInfoLemmas
 pub mod TermInfos
 pub mod TermStore

@@ -9,6 +9,7 @@ pub mod term_info_store;
 pub mod termdict;
 #[cfg(test)]
 mod tests;
+pub mod written;
 
 pub use builder::TermDictionaryBuilder;
 pub use streamer::TermStreamer;
