@@ -41,7 +41,7 @@ ends_push start (k ∷ ks) key =
     omega (arith, length-append (k ++ flat_map (λ (k : List ℕ). k) ks) key, length-append k (flat_map (λ (k : List ℕ). k) ks), length-append (flat_map (λ (k : List ℕ). k) ks) key) in
     ap (λ (es : List ℕ). (start + length k) ∷ es) (ih ∙ ap (λ (n : ℕ). ends_from (start + length k) ks ++ n ∷ []) size)
 
-length-ends_from : (start : ℕ) (keys : List (List ℕ)) → length (ends_from start keys) ≡ length keys
+pub length-ends_from : (start : ℕ) (keys : List (List ℕ)) → length (ends_from start keys) ≡ length keys
 length-ends_from start [] = refl
 length-ends_from start (k ∷ ks) = ap suc (length-ends_from (start + length k) ks)
 

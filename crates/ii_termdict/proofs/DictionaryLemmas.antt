@@ -26,7 +26,7 @@ rise_more ends i h le = all_more (λ i. nat_le (start_of ends i) (end_of ends i)
 pub rise_end : (n i : ℕ) (ends body : List ℕ) → i ≡ n → list_all (λ i. nat_le (start_of ends i) (end_of ends i)) (range_with_len 0 i) ≡ true → nat_le (start_of ends n) (length body) ≡ ends_rise n ends body
 rise_end n i ends body e h = let all = rw e at h in rw all refl
 
-start_of-suc : (ends : List ℕ) (j : ℕ) → start_of ends (suc j) ≡ end_of ends j
+pub start_of-suc : (ends : List ℕ) (j : ℕ) → start_of ends (suc j) ≡ end_of ends j
 start_of-suc ends j =
     let later : eqb (suc j) 0 ≡ false = ne_eqb (suc j) 0 (λ e. absurd (omega arith)) in
     let back : suc j - 1 ≡ j = omega arith in

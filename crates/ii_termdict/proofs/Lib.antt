@@ -9,3 +9,4 @@ pub mod BuilderLemmas
 pub mod PieceLemmas
 pub mod RowLemmas
 pub mod ReadStoreLemmas
+pub mod ReadDictionaryLemmas
