@@ -1,12 +1,14 @@
 -- What a dictionary is written from.
 use Rattle.std.proofs.Common.{◌≡◌, ℕ, suc, ◌+◌, ◌<◌, List, [], ◌∷◌, ◌++◌, length, take, drop, get_or, Result, Ok, Err, true, false, refl, sym, ap, ◌∙◌, arith, append_assoc, length-append}
-use Rattle.std.specs.Prelude.{is_err, OnOk}
-use Rattle.std.specs.List.{flat_map}
+use Rattle.std.specs.Prelude.{is_err, OnOk, ◌^◌}
+use Rattle.std.specs.List.{flat_map, zip}
 use Rattle.std.proofs.lemmas.List.{append-nil, take-append-drop, drop_more}
 use Rattle.ii_io.specs.declared.faults.Fault.{Fault}
 use Rattle.ii_io.specs.Told.{Told, Tells}
 use Rattle.ii_io.specs.Numbers.{le_bytes}
 use Rattle.ii_termdict.specs.declared.term_info.TermInfo.{TermInfo}
+use Rattle.ii_termdict.specs.Dictionary.{dictionary}
+use Rattle.ii_termdict.specs.ReadBack.{AreJoined, AreStorable, AreAscending, ReadsDictionaryBack}
 use Rattle.ii_termdict.specs.Written.{Writes, Building, HasKeys, ends_from, written_dictionary, written_store}
 use Rattle.ii_termdict.proofs.PackLemmas.{writes_then, writes_refused_by}
 
@@ -69,3 +71,12 @@ dictionary_written_by b keys ends bytes infos e y i h = rw (e, y, i) (dictionary
 pub on_ok_went : {P : Type 0} (result : Result (Unit {0}) Fault) → false ≡ is_err result → OnOk result P → P
 on_ok_went (Ok u) e h = h
 on_ok_went (Err f) e h = absurd (cc)
+
+-- what was built is read back
+pub built_holds : (law : ReadsDictionaryBack) (b : Building) (keys : List (List ℕ)) (bytes : List ℕ) (result : Result (Unit {0}) Fault) → bytes ≡ b.key_bytes → length bytes < 2 ^ 64 → AreStorable b.infos → HasKeys b keys
+    → length keys ≡ length b.infos → AreAscending keys → AreJoined b.infos → OnOk result (dictionary (written_dictionary keys b.infos) ≡ Ok (zip keys b.infos))
+built_holds law b keys bytes (Ok u) e small storable h same ascend joined =
+    let size = ap length (sym (e ∙ h.bytes)) in
+    let none = append-nil (written_dictionary keys b.infos) in
+    rw none at (law keys b.infos [] same ascend (omega arith) storable joined)
+built_holds law b keys bytes (Err f) e small storable h same ascend joined = tt

@@ -1,14 +1,18 @@
 -- What is read of a store.
-use Rattle.std.proofs.Common.{◌≡◌, ℕ, ◌/◌, ◌%◌, ◌<◌, Bool, true, false, ◌&&◌, List, length, map, Some, None, refl, sym, ap, ◌∙◌, arith}
-use Rattle.std.specs.Prelude.{IfSome, IsSomeAnd, slice_get}
+use Rattle.std.proofs.Common.{◌≡◌, ℕ, ◌/◌, ◌%◌, ◌<◌, Bool, true, false, ◌&&◌, List, [], length, map, Some, None, Result, Ok, Err, refl, sym, ap, ◌∙◌, arith}
+use Rattle.std.specs.Prelude.{IfSome, IsSomeAnd, OnOk, slice_get}
 use Rattle.std.specs.List.{list_all, range_with_len}
+use Rattle.std.proofs.lemmas.List.{append-nil}
 use Rattle.std.proofs.lemmas.List.FromFn.{length-map-range_with_len, get_or-map-range_with_len}
 use Rattle.std.proofs.lemmas.Option.{slice_get-get_or}
+use Rattle.ii_io.specs.declared.faults.Fault.{Fault}
 use Rattle.ii_io.specs.Steps.{◌>>=◌, needs}
 use Rattle.ii_termdict.specs.declared.term_info.TermInfo.{TermInfo}
 use Rattle.ii_termdict.specs.declared.term_info_store.block_meta.TermInfoBlockMeta.{TermInfoBlockMeta as Meta}
 use Rattle.ii_termdict.specs.TermInfos.{is_sound}
 use Rattle.ii_termdict.specs.TermStore.{block_info, block_count, block_terms, widths_fit, bits_lie, is_block, meta_of, has_block, are_blocks, stored_info, store_parts, term_store}
+use Rattle.ii_termdict.specs.Written.{written_store}
+use Rattle.ii_termdict.specs.ReadBack.{AreJoined, AreStorable, ReadsStoreBack}
 use Rattle.ii_termdict.proofs.BlockLemmas.{all_at, not_all}
 
 pub and_parts : (a b : Bool) → (a && b) ≡ true → (a ≡ true) × (b ≡ true)
@@ -83,3 +87,8 @@ stored_at n i metas bits info h e =
     let there : i < length (map (stored_info metas bits) (range_with_len 0 n)) = rw (length-map-range_with_len (stored_info metas bits) 0 n) h in
     slice_get-get_or (map (stored_info metas bits) (range_with_len 0 n)) i info there
     ∙ ap (λ (x : TermInfo). Some x) (get_or-map-range_with_len (stored_info metas bits) 0 n i i info h (omega arith) ∙ sym e)
+
+-- what was stored is read back
+pub stored_holds : (law : ReadsStoreBack) (infos : List TermInfo) (result : Result (Unit {0}) Fault) → AreStorable infos → AreJoined infos → OnOk result (term_store (written_store infos) ≡ Some infos)
+stored_holds law infos (Ok u) storable joined = let none = append-nil (written_store infos) in rw none at (law infos [] storable joined)
+stored_holds law infos (Err f) storable joined = tt

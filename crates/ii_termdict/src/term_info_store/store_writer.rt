@@ -1,14 +1,16 @@
-ghost use Rattle.std.specs.Prelude.{◌≡◌, ◌+◌, ◌*◌, ◌≤◌, ◌<◌, ◌↔◌, ◌⊎◌, [], ◌∷◌, ◌++◌, true, false, length, drop, OnOk, OnErr, IfErr, IsErrOf, IsTrue};
+ghost use Rattle.std.specs.Prelude.{◌≡◌, ◌+◌, ◌*◌, ◌≤◌, ◌<◌, ◌↔◌, ◌⊎◌, [], ◌∷◌, ◌++◌, true, false, length, drop, Some, OnOk, OnErr, IfErr, IsErrOf, IsTrue};
 ghost use Rattle.ii_io.specs.Told.{Tells, IsFull};
 ghost use Rattle.ii_io.specs.Numbers.{le_bytes};
 ghost use Rattle.ii_termdict.specs.TermInfos.{HasLengths};
-ghost use Rattle.ii_termdict.specs.TermStore.{block_count, meta_bytes};
+ghost use Rattle.ii_termdict.specs.TermStore.{block_count, meta_bytes, term_store};
+ghost use Rattle.ii_termdict.specs.ReadBack.{AreJoined};
 ghost use Rattle.ii_termdict.specs.Written.{AreNarrow, FitsBlock, Writes, HaveLengths, block_of, first_of, meta_for, meta_at_block, block_bytes, offset_of, metas_bytes, blocks_bytes, written_store};
 
 use super::block_meta::TermInfoBlockMeta;
 use super::count_blocks;
 use super::packing::{meta_of, put_block};
 use crate::term_info::{TermInfo, put_u64};
+use crate::written::reads_store_back;
 use ii_io::{BinarySerializable, CountingWriter, Fault, LimitName};
 use std::alloc::Global;
 use std::io::Write;
@@ -26,14 +28,14 @@ pub struct TermInfoStoreWriter {
 }
 
 impl Model for TermInfoStoreWriter {
-    ghost use Rattle.std.specs.Prelude.{◌≤◌, length};
-    ghost use Rattle.ii_termdict.specs.Written.{Storing, HaveLengths};
+    ghost use Rattle.ii_termdict.specs.ReadBack.{AreStorable};
+    ghost use Rattle.ii_termdict.specs.Written.{Storing};
 
     ghost Value = { Storing };
 
     ghost view = { λ w. record { infos = w.term_infos.items; closed = w.is_closed } };
 
-    ghost invariant = { λ w. (length w.term_infos.items ≤ 1099511627776) × HaveLengths w.term_infos.items };
+    ghost invariant = { λ w. AreStorable w.term_infos.items };
 }
 
 impl TermInfoStoreWriter {
@@ -76,6 +78,7 @@ impl TermInfoStoreWriter {
     /// `u64::MAX`; `SerializerClosed` after an earlier refusal. It takes no memory.
     pub fn serialize<W: Write>(&mut self, writer: &mut CountingWriter<W>) -> Result<(), Fault>
         ensures ok { OnOk result (Tells writer.old writer.new (written_store self.old.infos)) }
+        ensures holds { AreJoined self.old.infos → OnOk result (term_store (written_store self.old.infos) ≡ Some self.old.infos) }
         ensures stays { OnOk result (self.new ≡ self.old) }
         ensures err { OnErr result (self.new ≡ record self.old { closed = true }) }
         ensures write { IsErrOf result Fault.Write ↔ (writer.old.failed < writer.new.failed) }
@@ -86,6 +89,7 @@ impl TermInfoStoreWriter {
         if self.is_closed {
             return Err(Fault::SerializerClosed);
         }
+        reads_store_back();
         let written = put_store(&self.term_infos, writer);
         self.is_closed = written.is_err();
         written
