@@ -6,11 +6,13 @@ use Rattle.std.proofs.lemmas.List.{append-nil, take-append-drop, drop_more}
 use Rattle.ii_io.specs.declared.faults.Fault.{Fault}
 use Rattle.ii_io.specs.Told.{Told, Tells}
 use Rattle.ii_io.specs.Numbers.{le_bytes}
-use Rattle.ii_termdict.specs.declared.term_info.TermInfo.{TermInfo}
+use Rattle.ii_termstore.specs.declared.term_info.TermInfo.{TermInfo}
 use Rattle.ii_termdict.specs.Dictionary.{dictionary}
-use Rattle.ii_termdict.specs.ReadBack.{AreJoined, AreStorable, AreAscending, ReadsDictionaryBack}
-use Rattle.ii_termdict.specs.Written.{Writes, Building, HasKeys, ends_from, written_dictionary, written_store}
-use Rattle.ii_termdict.proofs.PackLemmas.{writes_then, writes_refused_by}
+use Rattle.ii_termstore.specs.ReadBack.{AreJoined, AreStorable}
+use Rattle.ii_termdict.specs.ReadBack.{AreAscending, ReadsDictionaryBack}
+use Rattle.ii_termstore.specs.Written.{Writes, written_store}
+use Rattle.ii_termdict.specs.Written.{Building, HasKeys, ends_from, written_dictionary}
+use Rattle.ii_termstore.specs.WritesLemmas.{writes_then, writes_refused_by}
 
 flat_append : (f : ℕ → List ℕ) (xs ys : List ℕ) → flat_map f (xs ++ ys) ≡ flat_map f xs ++ flat_map f ys
 flat_append f [] ys = refl

@@ -1,27 +1,25 @@
 -- What is written of a dictionary is read back.
-use Rattle.std.proofs.Common.{◌≡◌, ℕ, zero, suc, ◌+◌, ◌-◌, ◌*◌, ◌^◌, ◌<◌, ◌≤◌, true, List, [], ◌∷◌, ◌++◌, length, take, drop, map, get_or, nat_le, Some, Ok, refl, sym, ap, ◌∙◌, arith, append_assoc, length-append}
+use Rattle.std.proofs.Common.{◌≡◌, ℕ, zero, suc, ◌+◌, ◌-◌, ◌*◌, ◌^◌, ◌<◌, ◌≤◌, true, List, [], ◌∷◌, ◌++◌, length, take, drop, get_or, nat_le, Some, refl, sym, ap, ◌∙◌, arith, append_assoc, length-append}
 use Rattle.std.specs.Ordering.{nat_cmp, is_lt}
 use Rattle.std.specs.Cmp.Lexicographic.{slice_cmp}
-use Rattle.std.specs.List.{flat_map, list_all, range_with_len, zip}
+use Rattle.std.specs.List.{flat_map}
 use Rattle.std.proofs.lemmas.Bool.{le-leb, eq-eqb}
 use Rattle.std.proofs.lemmas.List.{append-nil, take_at, drop_at, take_all, take_more, take-append-drop, length-take-le}
 use Rattle.std.proofs.lemmas.List.FromFn.{fill_by_all}
 use Rattle.std.proofs.lemmas.Grind.{flat_map-append}
 use Rattle.std.proofs.lemmas.Map.Keys.{Less-from_sorted}
-use Rattle.ii_io.specs.Steps.{◌>>=◌, needs}
-use Rattle.ii_io.specs.Numbers.{le_bytes, number_at}
+use Rattle.ii_io.specs.Numbers.{le_bytes}
 use Rattle.ii_io.specs.NumberLemmas.{reads_what_is_written, length_le_bytes}
-use Rattle.ii_codes.specs.Packed.{HoldsFromLeastWidth}
-use Rattle.ii_codes.specs.Bits.{ReadsFromItsPlace}
-use Rattle.ii_termdict.specs.declared.term_info.TermInfo.{TermInfo}
-use Rattle.ii_termdict.specs.TermStore.{term_store}
-use Rattle.ii_termdict.specs.Dictionary.{end_of, start_of, key_of, keys_of, ends_rise, keys_ascend, is_below, key_parts, store_behind, with_infos, dictionary}
-use Rattle.ii_termdict.specs.Written.{ends_from, written_store, written_dictionary}
-use Rattle.ii_termdict.specs.ReadBack.{AreJoined, AreStorable, AreAscending, ReadsDictionaryBack}
+use Rattle.ii_termstore.specs.declared.term_info.TermInfo.{TermInfo}
+use Rattle.ii_termstore.specs.TermStore.{term_store}
+use Rattle.ii_termdict.specs.Dictionary.{end_of, start_of, key_of, keys_of, ends_rise, keys_ascend, is_below, key_parts, store_behind, with_infos}
+use Rattle.ii_termdict.specs.Written.{ends_from, written_dictionary}
+use Rattle.ii_termstore.specs.Written.{written_store}
+use Rattle.ii_termstore.specs.ReadBack.{ReadsStoreBack}
+use Rattle.ii_termdict.specs.ReadBack.{AreAscending, ReadsDictionaryBack}
 use Rattle.ii_termdict.proofs.BuilderLemmas.{length-ends_from}
 use Rattle.ii_termdict.proofs.DictionaryLemmas.{start_of-suc, dictionary-is}
-use Rattle.ii_termdict.proofs.PieceLemmas.{behind_front, flat_around, length-each, all_pass}
-use Rattle.ii_termdict.proofs.ReadStoreLemmas.{reads_store_back}
+use Rattle.ii_termstore.specs.ListLemmas.{behind_front, flat_around, length-each, all_pass}
 
 -- keys one after the other, and the first of them
 abbrev joined : List (List ℕ) → List ℕ
@@ -139,8 +137,8 @@ parts_read keys infos rest few =
     rw (shape, first, there, behind) refl
 
 -- The law of a dictionary.
-pub reads_dictionary_back : ReadsFromItsPlace → HoldsFromLeastWidth → ReadsDictionaryBack
-reads_dictionary_back law widths keys infos rest same ascend small storable are_joined =
+pub reads_dictionary_back : ReadsStoreBack → ReadsDictionaryBack
+reads_dictionary_back law keys infos rest same ascend small storable are_joined =
     let few = storable.few in
     let store = written_store infos ++ rest in
     let parts = parts_read keys infos rest (omega arith) in
@@ -148,7 +146,7 @@ reads_dictionary_back law widths keys infos rest same ascend small storable are_
     let up = ascend_read keys (written_store infos ++ rest) small ascend in
     let whole = dictionary-is (written_dictionary keys infos ++ rest) (length keys) (ends_and keys (written_store infos ++ rest)) (body_and keys (written_store infos ++ rest)) (sym parts) (sym rise) (sym up) in
     let behind = store_read keys (written_store infos ++ rest) small ∙ refl in
-    let holds = ap term_store behind ∙ reads_store_back law widths infos rest storable are_joined in
+    let holds = ap term_store behind ∙ law infos rest storable are_joined in
     let counts = eq-eqb (length infos) (length keys) (sym same) in
     whole ∙ ap (λ (ks : List (List ℕ)). with_infos ks (term_store (store_behind (length keys) (ends_and keys store) (body_and keys store)))) (keys_read keys store small)
     ∙ ap (with_infos keys) holds ∙ rw counts refl

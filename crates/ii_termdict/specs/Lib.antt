@@ -1,7 +1,3 @@
 pub mod Dictionary
 pub mod ReadBack
-pub mod TermInfoLemmas
-pub mod TermInfos
-pub mod TermStore
-pub mod TermStoreLemmas
 pub mod Written

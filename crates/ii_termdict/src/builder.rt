@@ -3,14 +3,16 @@ ghost use Rattle.std.specs.List.{flat_map, zip};
 ghost use Rattle.ii_io.specs.Numbers.{le_bytes};
 ghost use Rattle.ii_io.specs.Told.{Tells, IsFull};
 ghost use Rattle.ii_termdict.specs.Dictionary.{dictionary};
-ghost use Rattle.ii_termdict.specs.ReadBack.{AreAscending, AreJoined};
-ghost use Rattle.ii_termdict.specs.TermInfos.{HasLengths};
-ghost use Rattle.ii_termdict.specs.Written.{Building, HasKeys, HaveLengths, Writes, written_dictionary, written_store};
+ghost use Rattle.ii_termdict.specs.ReadBack.{AreAscending};
+ghost use Rattle.ii_termstore.specs.ReadBack.{AreJoined};
+ghost use Rattle.ii_termstore.specs.TermInfos.{HasLengths};
+ghost use Rattle.ii_termdict.specs.Written.{Building, HasKeys, written_dictionary};
+ghost use Rattle.ii_termstore.specs.Written.{HaveLengths, Writes, written_store};
 
-use crate::term_info::{TermInfo, put_u64};
-use crate::term_info_store::store_writer::put_store;
 use crate::written::reads_dictionary_back;
-use ii_io::{CountingWriter, Fault, LimitName};
+use ii_io::{BinarySerializable, CountingWriter, Fault, LimitName};
+use ii_termstore::TermInfo;
+use ii_termstore::term_info_store::store_writer::put_store;
 use std::alloc::Global;
 use std::io::Write;
 use std::marker::Model;
@@ -32,7 +34,7 @@ pub struct TermDictionaryBuilder<W: Write> {
 
 impl<W: Write> Model for TermDictionaryBuilder<W> {
     ghost use Rattle.ii_termdict.specs.Written.{Building};
-    ghost use Rattle.ii_termdict.specs.ReadBack.{AreStorable};
+    ghost use Rattle.ii_termstore.specs.ReadBack.{AreStorable};
 
     ghost Value = { Building };
 
@@ -180,9 +182,7 @@ fn put_bytes<W: Write>(bytes: &[u8], writer: &mut CountingWriter<W>) -> Result<(
 fn put_number<W: Write>(n: u64, writer: &mut CountingWriter<W>) -> Result<(), Fault>
     ensures { Writes writer.old writer.new (le_bytes 8 n) result }
 {
-    let mut bytes = [0; 8];
-    put_u64(&mut bytes, n);
-    writer.write_all(&bytes)
+    n.serialize(writer)
 }
 
 // Writes numbers, 8 bytes each.
