@@ -1,3 +1,6 @@
+ghost use Rattle.std.specs.Prelude.{◌≤◌};
+ghost use Rattle.ii_termstore.specs.TermInfos.{HasLengths};
+
 use crate::written::reads_dictionary_back;
 use crate::{TermDictionary, TermDictionaryBuilder, TermInfo};
 use bytes::Bytes;
@@ -53,11 +56,61 @@ fn writes_one_key(rt: HostRuntime) -> Result<(), Fail> {
     let (writer, answer) = build(rt.alloc(), 0);
     assert_eq!(rt; answer, Ok(()));
     assert!(rt; writer.bytes() == one().as_slice());
-    for k in 1..8 {
+    let mut failed = 0;
+    for k in 1..20 {
         let (writer, answer) = build(rt.alloc(), k);
         assert!(rt; one().starts_with(writer.bytes()), "call {k}");
-        assert!(rt; answer == Err(Fault::Write) || answer == Ok(()), "call {k}");
+        if writer.bytes().len() == 73 {
+            assert!(rt; answer == Ok(()), "call {k}");
+        } else {
+            assert!(rt; answer == Err(Fault::Write), "call {k}");
+            failed = k;
+        }
     }
+    assert!(rt; 0 < failed && failed < 19);
+    Ok(())
+}
+
+// Key `i` of keys that ascend.
+fn numbered(i: u32) -> [u8; 4] {
+    i.to_be_bytes()
+}
+
+// What is kept of term `i`: its ranges join those of the term before.
+fn kept(i: u32) -> TermInfo
+    requires { i ≤ 1000000 }
+    ensures { HasLengths result }
+{
+    let start = 7 * i as usize;
+    TermInfo {
+        doc_freq: i % 1000,
+        postings_range: start..start + 7,
+        positions_range: 3 * start..3 * start + 21,
+    }
+}
+
+#[test]
+fn looks_a_hundred_thousand_keys_up(rt: HostRuntime) -> Result<(), Fail> {
+    let writer = CountingWriter::wrap(Vec::new(rt.alloc()));
+    let mut builder = TermDictionaryBuilder::create(rt.alloc(), writer);
+    for i in 0..100_000u32 {
+        builder.insert_key(&numbered(2 * i + 1))?;
+        builder.insert_value(&kept(i))?;
+    }
+    let (writer, finished) = builder.finish();
+    finished?;
+    let terms = TermDictionary::open(Bytes::from_vec(writer.finish())?)?;
+    assert_eq!(rt; terms.num_terms(), 100_000);
+    let mut stream = terms.stream();
+    for i in 0..100_000u32 {
+        let key = numbered(2 * i + 1);
+        assert!(rt; terms.get(&key) == Some(kept(i)), "term {i}");
+        assert!(rt; terms.get(&numbered(2 * i)).is_none(), "term {i}");
+        assert!(rt; stream.advance(), "term {i}");
+        assert!(rt; stream.key() == key.as_slice(), "term {i}");
+        assert!(rt; stream.value() == kept(i), "term {i}");
+    }
+    assert!(rt; !stream.advance());
     Ok(())
 }
 
