@@ -1,14 +1,18 @@
 -- What a dictionary is written from.
 use Rattle.std.proofs.Common.{◌≡◌, ℕ, suc, ◌+◌, ◌<◌, List, [], ◌∷◌, ◌++◌, length, take, drop, get_or, Result, Ok, Err, true, false, refl, sym, ap, ◌∙◌, arith, append_assoc, length-append}
-use Rattle.std.specs.Prelude.{is_err, OnOk}
-use Rattle.std.specs.List.{flat_map}
+use Rattle.std.specs.Prelude.{is_err, OnOk, ◌^◌}
+use Rattle.std.specs.List.{flat_map, zip}
 use Rattle.std.proofs.lemmas.List.{append-nil, take-append-drop, drop_more}
 use Rattle.ii_io.specs.declared.faults.Fault.{Fault}
 use Rattle.ii_io.specs.Told.{Told, Tells}
 use Rattle.ii_io.specs.Numbers.{le_bytes}
-use Rattle.ii_termdict.specs.declared.term_info.TermInfo.{TermInfo}
-use Rattle.ii_termdict.specs.Written.{Writes, Building, HasKeys, ends_from, written_dictionary, written_store}
-use Rattle.ii_termdict.proofs.PackLemmas.{writes_then, writes_refused_by}
+use Rattle.ii_termstore.specs.declared.term_info.TermInfo.{TermInfo}
+use Rattle.ii_termdict.specs.Dictionary.{dictionary}
+use Rattle.ii_termstore.specs.ReadBack.{AreJoined, AreStorable}
+use Rattle.ii_termdict.specs.ReadBack.{AreAscending, ReadsDictionaryBack}
+use Rattle.ii_termstore.specs.Written.{Writes, written_store}
+use Rattle.ii_termdict.specs.Written.{Building, HasKeys, ends_from, written_dictionary}
+use Rattle.ii_termstore.specs.WritesLemmas.{writes_then, writes_refused_by}
 
 flat_append : (f : ℕ → List ℕ) (xs ys : List ℕ) → flat_map f (xs ++ ys) ≡ flat_map f xs ++ flat_map f ys
 flat_append f [] ys = refl
@@ -41,7 +45,7 @@ ends_push start (k ∷ ks) key =
     omega (arith, length-append (k ++ flat_map (λ (k : List ℕ). k) ks) key, length-append k (flat_map (λ (k : List ℕ). k) ks), length-append (flat_map (λ (k : List ℕ). k) ks) key) in
     ap (λ (es : List ℕ). (start + length k) ∷ es) (ih ∙ ap (λ (n : ℕ). ends_from (start + length k) ks ++ n ∷ []) size)
 
-length-ends_from : (start : ℕ) (keys : List (List ℕ)) → length (ends_from start keys) ≡ length keys
+pub length-ends_from : (start : ℕ) (keys : List (List ℕ)) → length (ends_from start keys) ≡ length keys
 length-ends_from start [] = refl
 length-ends_from start (k ∷ ks) = ap suc (length-ends_from (start + length k) ks)
 
@@ -69,3 +73,12 @@ dictionary_written_by b keys ends bytes infos e y i h = rw (e, y, i) (dictionary
 pub on_ok_went : {P : Type 0} (result : Result (Unit {0}) Fault) → false ≡ is_err result → OnOk result P → P
 on_ok_went (Ok u) e h = h
 on_ok_went (Err f) e h = absurd (cc)
+
+-- what was built is read back
+pub built_holds : (law : ReadsDictionaryBack) (b : Building) (keys : List (List ℕ)) (bytes : List ℕ) (result : Result (Unit {0}) Fault) → bytes ≡ b.key_bytes → length bytes < 2 ^ 64 → AreStorable b.infos → HasKeys b keys
+    → length keys ≡ length b.infos → AreAscending keys → AreJoined b.infos → OnOk result (dictionary (written_dictionary keys b.infos) ≡ Ok (zip keys b.infos))
+built_holds law b keys bytes (Ok u) e small storable h same ascend joined =
+    let size = ap length (sym (e ∙ h.bytes)) in
+    let none = append-nil (written_dictionary keys b.infos) in
+    rw none at (law keys b.infos [] same ascend (omega arith) storable joined)
+built_holds law b keys bytes (Err f) e small storable h same ascend joined = tt

@@ -7,11 +7,11 @@ use Rattle.std.proofs.lemmas.List.FromFn.{length-map-range_with_len}
 use Rattle.ii_io.specs.declared.faults.Part.{Part}
 use Rattle.ii_io.specs.declared.faults.Part.TheVariants.{Dictionary, TermStore}
 use Rattle.ii_io.specs.Steps.{◌>>=◌, needs}
-use Rattle.ii_termdict.specs.declared.term_info.TermInfo.{TermInfo}
-use Rattle.ii_termdict.specs.TermStore.{term_store}
+use Rattle.ii_termstore.specs.declared.term_info.TermInfo.{TermInfo}
+use Rattle.ii_termstore.specs.TermStore.{term_store}
 use Rattle.ii_termdict.specs.Dictionary.{end_of, start_of, key_of, keys_of, ends_rise, keys_ascend, key_parts, keys_at, with_infos, with_keys, dictionary, store_behind, entries_of, AreOpened, Entry}
-use Rattle.ii_termdict.proofs.BlockLemmas.{all_more, all_at, not_all}
-use Rattle.ii_termdict.proofs.StoreLemmas.{and_parts}
+use Rattle.ii_termstore.specs.ListLemmas.{all_more, all_at, not_all}
+use Rattle.ii_termstore.specs.ListLemmas.{and_parts}
 
 -- an end below the one before it
 pub falls : (n : ℕ) (ends body : List ℕ) (i : ℕ) → i < n → end_of ends i < start_of ends i → false ≡ ends_rise n ends body
@@ -26,7 +26,7 @@ rise_more ends i h le = all_more (λ i. nat_le (start_of ends i) (end_of ends i)
 pub rise_end : (n i : ℕ) (ends body : List ℕ) → i ≡ n → list_all (λ i. nat_le (start_of ends i) (end_of ends i)) (range_with_len 0 i) ≡ true → nat_le (start_of ends n) (length body) ≡ ends_rise n ends body
 rise_end n i ends body e h = let all = rw e at h in rw all refl
 
-start_of-suc : (ends : List ℕ) (j : ℕ) → start_of ends (suc j) ≡ end_of ends j
+pub start_of-suc : (ends : List ℕ) (j : ℕ) → start_of ends (suc j) ≡ end_of ends j
 start_of-suc ends j =
     let later : eqb (suc j) 0 ≡ false = ne_eqb (suc j) 0 (λ e. absurd (omega arith)) in
     let back : suc j - 1 ≡ j = omega arith in

@@ -12,10 +12,10 @@ use Rattle.std.proofs.lemmas.Cmp.{nat_list_cmp_total, tied_itself}
 use Rattle.std.proofs.lemmas.Map.Text.{is_eq-slice_cmp}
 use Rattle.std.proofs.lemmas.List.FromFn.{get_or-map-range_with_len}
 use Rattle.std.proofs.lemmas.Option.{slice_get-get_or}
-use Rattle.ii_termdict.specs.declared.term_info.TermInfo.{TermInfo}
-use Rattle.ii_termdict.specs.TermStore.{term_store}
+use Rattle.ii_termstore.specs.declared.term_info.TermInfo.{TermInfo}
+use Rattle.ii_termstore.specs.TermStore.{term_store}
 use Rattle.ii_termdict.specs.Dictionary.{key_of, keys_of, keys_ascend, is_below, store_behind, entries_of, entry_keys, entry_infos, info_under, AreOpened}
-use Rattle.ii_termdict.proofs.BlockLemmas.{all_at}
+use Rattle.ii_termstore.specs.ListLemmas.{all_at}
 use Rattle.ii_termdict.proofs.DictionaryLemmas.{length-keys_of}
 
 less_of : (o : Ordering) → is_lt o ≡ true → o ≡ Less

@@ -1,12 +1,9 @@
 -- Worked rows, each computed.
 use Rattle.std.specs.Prelude.{◌≡◌, [], ◌∷◌, ◌++◌, replicate, Ok, Err, List, ℕ, refl}
 use Rattle.ii_io.specs.declared.faults.Part.TheVariants.{Dictionary, TermStore}
-use Rattle.ii_io.specs.Numbers.{number_at, le_bytes}
-use Rattle.ii_codes.specs.Packed.{bits_in, entries_in, num_bits}
-use Rattle.ii_codes.specs.Bits.{bits_bytes}
-use Rattle.ii_termdict.specs.TermInfos.{info_of, info_at, info_bytes}
-use Rattle.ii_termdict.specs.TermStore.{meta_at, meta_bytes, later_info, is_block, meta_of, stored_info, store_parts, term_store}
-use Rattle.ii_termdict.specs.Written.{written_store, meta_at_block, meta_for, block_bytes}
+use Rattle.ii_io.specs.Numbers.{number_at}
+use Rattle.ii_termstore.specs.TermInfos.{info_of, info_at}
+use Rattle.ii_termstore.specs.TermStore.{meta_at, later_info, is_block, meta_of, stored_info, store_parts, term_store}
 use Rattle.ii_termdict.specs.Dictionary.{end_of, key_parts, keys_at, dictionary}
 
 -- one key, 61, in 3 documents with 3 bytes of postings
@@ -28,9 +25,5 @@ unfolding dictionary keys_at key_parts end_of number_at term_store store_parts
 no_store = refl
 
 pub one_key : dictionary one ≡ Ok ((0x61 ∷ [], info_of 3 0 3 0 0) ∷ [])
-unfolding dictionary keys_at key_parts end_of number_at term_store store_parts meta_of meta_at info_at is_block later_info stored_info bits_in
+unfolding dictionary keys_at key_parts end_of number_at term_store store_parts meta_of meta_at info_at is_block later_info stored_info
 one_key = refl
-
-pub one_written : written_store (info_of 3 0 3 0 0 ∷ []) ≡ 0x27 ∷ replicate 7 0 ++ 1 ∷ replicate 7 0 ++ replicate 8 0 ++ 3 ∷ replicate 11 0 ++ 3 ∷ replicate 15 0 ++ 0 ∷ 2 ∷ 0 ∷ 3 ∷ []
-unfolding written_store meta_at_block meta_for meta_bytes info_bytes le_bytes block_bytes bits_bytes entries_in bits_in num_bits
-one_written = refl

@@ -9,8 +9,8 @@ use Rattle.ii_io.specs.declared.faults.Part.{Part}
 use Rattle.ii_io.specs.declared.faults.Part.TheVariants.{Dictionary, TermStore}
 use Rattle.ii_io.specs.Steps.{◌>>=◌, needs}
 use Rattle.ii_io.specs.Numbers.{number_at}
-use Rattle.ii_termdict.specs.declared.term_info.TermInfo.{TermInfo}
-use Rattle.ii_termdict.specs.TermStore.{term_store}
+use Rattle.ii_termstore.specs.declared.term_info.TermInfo.{TermInfo}
+use Rattle.ii_termstore.specs.TermStore.{term_store}
 
 -- a key and what is kept of its term
 abbrev pub Entry : Type 0

@@ -1,6 +1,3 @@
 pub mod Dictionary
-pub mod TermInfoLemmas
-pub mod TermInfos
-pub mod TermStore
-pub mod TermStoreLemmas
+pub mod ReadBack
 pub mod Written

@@ -1,13 +1,18 @@
-ghost use Rattle.std.specs.Prelude.{◌≡◌, ◌≤◌, ◌<◌, ◌↔◌, ◌⊎◌, ℕ, List, [], ◌∷◌, ◌++◌, true, false, length, OnOk, OnErr, IfErr, IsErrOf, IsTrue};
-ghost use Rattle.std.specs.List.{flat_map};
+ghost use Rattle.std.specs.Prelude.{◌≡◌, ◌≤◌, ◌<◌, ◌↔◌, ◌⊎◌, ℕ, List, [], ◌∷◌, ◌++◌, true, false, length, Ok, OnOk, OnErr, IfErr, IsErrOf, IsTrue};
+ghost use Rattle.std.specs.List.{flat_map, zip};
 ghost use Rattle.ii_io.specs.Numbers.{le_bytes};
 ghost use Rattle.ii_io.specs.Told.{Tells, IsFull};
-ghost use Rattle.ii_termdict.specs.TermInfos.{HasLengths};
-ghost use Rattle.ii_termdict.specs.Written.{Building, HasKeys, HaveLengths, Writes, written_dictionary, written_store};
+ghost use Rattle.ii_termdict.specs.Dictionary.{dictionary};
+ghost use Rattle.ii_termdict.specs.ReadBack.{AreAscending};
+ghost use Rattle.ii_termstore.specs.ReadBack.{AreJoined};
+ghost use Rattle.ii_termstore.specs.TermInfos.{HasLengths};
+ghost use Rattle.ii_termdict.specs.Written.{Building, HasKeys, written_dictionary};
+ghost use Rattle.ii_termstore.specs.Written.{HaveLengths, Writes, written_store};
 
-use crate::term_info::{TermInfo, put_u64};
-use crate::term_info_store::store_writer::put_store;
-use ii_io::{CountingWriter, Fault, LimitName};
+use crate::written::reads_dictionary_back;
+use ii_io::{BinarySerializable, CountingWriter, Fault, LimitName};
+use ii_termstore::TermInfo;
+use ii_termstore::term_info_store::store_writer::put_store;
 use std::alloc::Global;
 use std::io::Write;
 use std::marker::Model;
@@ -28,8 +33,8 @@ pub struct TermDictionaryBuilder<W: Write> {
 }
 
 impl<W: Write> Model for TermDictionaryBuilder<W> {
-    ghost use Rattle.std.specs.Prelude.{◌≤◌, length};
-    ghost use Rattle.ii_termdict.specs.Written.{Building, HaveLengths};
+    ghost use Rattle.ii_termdict.specs.Written.{Building};
+    ghost use Rattle.ii_termstore.specs.ReadBack.{AreStorable};
 
     ghost Value = { Building };
 
@@ -41,7 +46,7 @@ impl<W: Write> Model for TermDictionaryBuilder<W> {
       closed = b.is_closed;
     } };
 
-    ghost invariant = { λ b. (length b.term_infos.items ≤ 1099511627776) × HaveLengths b.term_infos.items };
+    ghost invariant = { λ b. AreStorable b.term_infos.items };
 }
 
 impl<W: Write> TermDictionaryBuilder<W> {
@@ -107,6 +112,8 @@ impl<W: Write> TermDictionaryBuilder<W> {
     pub fn finish(self) -> (CountingWriter<W>, Result<(), Fault>)
         ensures ok { (keys : List (List ℕ)) → HasKeys self keys → OnOk result.1 (Tells self.told result.0 (written_dictionary keys self.infos)) }
         ensures write { IsErrOf result.1 Fault.Write ↔ (self.told.failed < (result.0).failed) }
+        ensures holds { (keys : List (List ℕ)) → HasKeys self keys → length keys ≡ length self.infos → AreAscending keys → AreJoined self.infos
+            → OnOk result.1 (dictionary (written_dictionary keys self.infos) ≡ Ok (zip keys self.infos)) }
         ensures limit { (keys : List (List ℕ)) → HasKeys self keys → IsErrOf result.1 (Fault.Limit LimitName.Offset)
             → IsFull self.told (length (written_dictionary keys self.infos)) }
         ensures closed { IsErrOf result.1 Fault.SerializerClosed ↔ IsTrue self.closed }
@@ -122,6 +129,7 @@ impl<W: Write> TermDictionaryBuilder<W> {
         if is_closed {
             return (writer, Err(Fault::SerializerClosed));
         }
+        reads_dictionary_back();
         let written = put_dictionary(&ends, &key_bytes, &term_infos, &mut writer);
         (writer, written)
     }
@@ -174,9 +182,7 @@ fn put_bytes<W: Write>(bytes: &[u8], writer: &mut CountingWriter<W>) -> Result<(
 fn put_number<W: Write>(n: u64, writer: &mut CountingWriter<W>) -> Result<(), Fault>
     ensures { Writes writer.old writer.new (le_bytes 8 n) result }
 {
-    let mut bytes = [0; 8];
-    put_u64(&mut bytes, n);
-    writer.write_all(&bytes)
+    n.serialize(writer)
 }
 
 // Writes numbers, 8 bytes each.

@@ -3,9 +3,9 @@ ghost use Rattle.std.specs.List.{slice_range};
 ghost use Rattle.std.specs.Option.{option_map};
 ghost use Rattle.ii_termdict.specs.Dictionary.{end_of, start_of, key_of, ends_rise, keys_ascend, key_parts, is_below, store_behind, entries_of, AreOpened, info_under, entry_keys, entry_infos, dictionary};
 
-use crate::term_info::TermInfo;
-use crate::term_info_store::{info_at, is_store, num_terms};
 use ii_io::{BinarySerializable, Part};
+use ii_termstore::TermInfo;
+use ii_termstore::term_info_store::{info_at, is_store, num_terms};
 use std::cmp::Ordering;
 
 /// The parts of a dictionary's bytes: the number of its terms, the ends of their keys and what stands

@@ -3,7 +3,7 @@ ghost use Rattle.std.specs.Option.{option_map};
 ghost use Rattle.ii_termdict.specs.Dictionary.{dictionary, entry_keys, entry_infos};
 
 use crate::key_parts::{count_terms, key_at, value_at};
-use crate::term_info::TermInfo;
+use ii_termstore::TermInfo;
 use std::marker::Model;
 
 /// Goes over the terms of a dictionary in order. Clauses see all entries, and how many were passed.

@@ -2,12 +2,11 @@ ghost use Rattle.std.specs.Prelude.{◌≡◌, ◌<◌, ◌+◌, [], length, Err
 ghost use Rattle.ii_io.specs.declared.faults.Part.{Part};
 ghost use Rattle.ii_termdict.specs.Dictionary.{dictionary, info_under, entry_keys};
 
-use crate::TermOrdinal;
 use crate::key_parts::{count_terms, damage, get, key_at};
 use crate::streamer::TermStreamer;
-use crate::term_info::TermInfo;
 use bytes::Bytes;
 use ii_io::Fault;
+use ii_termstore::{TermInfo, TermOrdinal};
 use std::marker::Model;
 
 /// Keys in order, each with what is kept of its term, over bytes that were checked whole. Clauses see
@@ -20,7 +19,7 @@ pub struct TermDictionary {
 impl Model for TermDictionary {
     ghost use Rattle.std.specs.Prelude.{List, ℕ, [], IsOk};
     ghost use Rattle.std.specs.Result.{result_unwrap_or};
-    ghost use Rattle.ii_termdict.specs.declared.term_info.TermInfo.{TermInfo};
+    ghost use Rattle.ii_termstore.specs.declared.term_info.TermInfo.{TermInfo};
     ghost use Rattle.ii_termdict.specs.Dictionary.{dictionary};
 
     ghost Value = { List (List ℕ × TermInfo) };

@@ -1,12 +1,10 @@
-ghost use Rattle.std.specs.Prelude.{◌≡◌, ◌≤◌, ◌<◌, ◌+◌, ◌*◌};
-ghost use Rattle.ii_termdict.specs.TermInfos.{HasLengths};
+ghost use Rattle.std.specs.Prelude.{◌≤◌};
+ghost use Rattle.ii_termstore.specs.TermInfos.{HasLengths};
 
-use crate::{
-    TermDictionary, TermDictionaryBuilder, TermInfo, TermInfoBlockMeta, TermInfoStore,
-    TermInfoStoreWriter,
-};
+use crate::written::reads_dictionary_back;
+use crate::{TermDictionary, TermDictionaryBuilder, TermInfo};
 use bytes::Bytes;
-use ii_io::{BinarySerializable, CountingWriter, FailingWriter, Fault, Part};
+use ii_io::{CountingWriter, FailingWriter, Fault, Part};
 use std::alloc::Global;
 use std::test::Fail;
 
@@ -39,19 +37,6 @@ fn twice() -> [u8; 42] {
     bytes
 }
 
-fn term(doc_freq: u32, start: u32, len: u32) -> TermInfo
-    requires near { start ≤ 1000000000 }
-    requires short { len ≤ 1000000000 }
-    ensures { HasLengths result }
-{
-    let (start, len) = (start as usize, len as usize);
-    TermInfo {
-        doc_freq,
-        postings_range: start..start + len,
-        positions_range: 3 * start..3 * start + 3 * len,
-    }
-}
-
 fn build(alloc: Global, failing_call: u64) -> (FailingWriter, Result<(), Fault>) {
     let writer = CountingWriter::wrap(FailingWriter::new(alloc, failing_call));
     let mut builder = TermDictionaryBuilder::create(alloc, writer);
@@ -71,11 +56,61 @@ fn writes_one_key(rt: HostRuntime) -> Result<(), Fail> {
     let (writer, answer) = build(rt.alloc(), 0);
     assert_eq!(rt; answer, Ok(()));
     assert!(rt; writer.bytes() == one().as_slice());
-    for k in 1..8 {
+    let mut failed = 0;
+    for k in 1..20 {
         let (writer, answer) = build(rt.alloc(), k);
         assert!(rt; one().starts_with(writer.bytes()), "call {k}");
-        assert!(rt; answer == Err(Fault::Write) || answer == Ok(()), "call {k}");
+        if writer.bytes().len() == 73 {
+            assert!(rt; answer == Ok(()), "call {k}");
+        } else {
+            assert!(rt; answer == Err(Fault::Write), "call {k}");
+            failed = k;
+        }
     }
+    assert!(rt; 0 < failed && failed < 19);
+    Ok(())
+}
+
+// Key `i` of keys that ascend.
+fn numbered(i: u32) -> [u8; 4] {
+    i.to_be_bytes()
+}
+
+// What is kept of term `i`: its ranges join those of the term before.
+fn kept(i: u32) -> TermInfo
+    requires { i ≤ 1000000 }
+    ensures { HasLengths result }
+{
+    let start = 7 * i as usize;
+    TermInfo {
+        doc_freq: i % 1000,
+        postings_range: start..start + 7,
+        positions_range: 3 * start..3 * start + 21,
+    }
+}
+
+#[test]
+fn looks_a_hundred_thousand_keys_up(rt: HostRuntime) -> Result<(), Fail> {
+    let writer = CountingWriter::wrap(Vec::new(rt.alloc()));
+    let mut builder = TermDictionaryBuilder::create(rt.alloc(), writer);
+    for i in 0..100_000u32 {
+        builder.insert_key(&numbered(2 * i + 1))?;
+        builder.insert_value(&kept(i))?;
+    }
+    let (writer, finished) = builder.finish();
+    finished?;
+    let terms = TermDictionary::open(Bytes::from_vec(writer.finish())?)?;
+    assert_eq!(rt; terms.num_terms(), 100_000);
+    let mut stream = terms.stream();
+    for i in 0..100_000u32 {
+        let key = numbered(2 * i + 1);
+        assert!(rt; terms.get(&key) == Some(kept(i)), "term {i}");
+        assert!(rt; terms.get(&numbered(2 * i)).is_none(), "term {i}");
+        assert!(rt; stream.advance(), "term {i}");
+        assert!(rt; stream.key() == key.as_slice(), "term {i}");
+        assert!(rt; stream.value() == kept(i), "term {i}");
+    }
+    assert!(rt; !stream.advance());
     Ok(())
 }
 
@@ -96,6 +131,7 @@ fn looks_keys_up(rt: HostRuntime) -> Result<(), Fail> {
     assert!(rt; stream.next().is_some());
     assert!(rt; !stream.advance());
     assert_eq!(rt; TermDictionary::empty().num_terms(), 0);
+    reads_dictionary_back();
     Ok(())
 }
 
@@ -141,56 +177,4 @@ fn refuses_hostile_numbers(rt: HostRuntime) {
     }
     assert!(rt; opened(rt.alloc(), &changed(70, 56)) == Ok(1));
     assert!(rt; opened(rt.alloc(), &changed(40, 0x20)) == Ok(1));
-}
-
-#[test]
-fn stores_a_thousand_terms(rt: HostRuntime) -> Result<(), Fail> {
-    let mut store = TermInfoStoreWriter::new(rt.alloc());
-    for i in 0..1000u32 {
-        store.write_term_info(&term(i, 13 * i + i * i, 14 + 2 * i))?;
-    }
-    let mut writer = CountingWriter::wrap(Vec::new(rt.alloc()));
-    store.serialize(&mut writer)?;
-    let infos = TermInfoStore::open(Bytes::from_vec(writer.finish())?)?.clone()?;
-    assert_eq!(rt; infos.num_terms(), 1000);
-    for i in 0..1000u32 {
-        assert_eq!(rt;
-            infos.get(u64::from(i)),
-            term(i, 13 * i + i * i, 14 + 2 * i),
-            "term {i}"
-        );
-    }
-    let far = infos.get(256);
-    assert_eq!(rt;
-        (far.postings_range, far.positions_range),
-        (68864..69390, 206592..208170)
-    );
-    Ok(())
-}
-
-#[test]
-fn metas_are_read_back(rt: HostRuntime) -> Result<(), Fail> {
-    let meta = TermInfoBlockMeta {
-        offset: 2009,
-        ref_term_info: TermInfo {
-            doc_freq: 512,
-            postings_range: 51..57,
-            positions_range: 110..134,
-        },
-        doc_freq_nbits: 10,
-        postings_offset_nbits: 5,
-        positions_offset_nbits: 8,
-    };
-    let mut writer = CountingWriter::wrap(Vec::new(rt.alloc()));
-    meta.serialize(&mut writer)?;
-    let bytes = writer.finish();
-    assert_eq!(rt; bytes.len(), 39);
-    let mut rest = bytes.as_slice();
-    assert_eq!(rt; TermInfoBlockMeta::deserialize(&mut rest), Some(meta));
-    assert!(rt; rest.is_empty());
-    assert_eq!(rt;
-        TermInfoBlockMeta::default().ref_term_info,
-        TermInfo::default()
-    );
-    Ok(())
 }

@@ -1,6 +1,6 @@
 use Rattle.std.proofs.Common.{◌∙◌, sym}
 use Rattle.ii_termdict.specs.Dictionary.{keys_of, store_behind}
-use Rattle.ii_termdict.specs.TermStore.{term_store}
+use Rattle.ii_termstore.specs.TermStore.{term_store}
 use Rattle.ii_termdict.proofs.DictionaryLemmas.{dictionary-no_parts, dictionary-falls, dictionary-unordered, dictionary-is, length-keys_of, infos-none, infos-other, infos-ok}
 use Rattle.ii_termdict.proofs.key_parts.damage.Goals as goal
 

@@ -1,5 +1,5 @@
 use Rattle.ii_termdict.proofs.SearchLemmas.{opened_within, info_hit, info_miss}
-use Rattle.ii_termdict.specs.TermStore.{term_store}
+use Rattle.ii_termstore.specs.TermStore.{term_store}
 use Rattle.ii_termdict.specs.Dictionary.{store_behind}
 use Rattle.ii_termdict.proofs.key_parts.get.Goals as goal
 

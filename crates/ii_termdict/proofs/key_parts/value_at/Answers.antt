@@ -1,5 +1,5 @@
 use Rattle.ii_termdict.proofs.SearchLemmas.{length-entries_of, opened_within, value_found}
-use Rattle.ii_termdict.specs.TermStore.{term_store}
+use Rattle.ii_termstore.specs.TermStore.{term_store}
 use Rattle.ii_termdict.specs.Dictionary.{store_behind}
 use Rattle.ii_termdict.proofs.key_parts.value_at.Goals as goal
 

@@ -1,0 +1,8 @@
+pub mod ListLemmas
+pub mod ReadBack
+pub mod TermInfoLemmas
+pub mod TermInfos
+pub mod TermStore
+pub mod TermStoreLemmas
+pub mod Written
+pub mod WritesLemmas

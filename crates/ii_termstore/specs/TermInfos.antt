@@ -1,0 +1,52 @@
+-- What is kept of a term: in how many documents it is, and where its postings and positions stand.
+use Rattle.std.specs.Prelude.{ℕ, ◌+◌, ◌-◌, ◌^◌, ◌<◌, ◌≤◌, Bool, ◌&&◌, List, ◌++◌, Option, Some, nat_lt, nat_le}
+use Rattle.ii_io.specs.Steps.{◌>>=◌, needs}
+use Rattle.ii_io.specs.Numbers.{le_bytes, number_at}
+use Rattle.ii_termstore.specs.declared.term_info.TermInfo.{TermInfo}
+
+-- a term in so many documents, its postings and its positions each from a start to before an end
+abbrev pub info_of : ℕ → ℕ → ℕ → ℕ → ℕ → TermInfo
+info_of doc_freq a b p q = record { doc_freq = doc_freq; postings_range = record { start = a; end = b }; positions_range = record { start = p; end = q } }
+
+abbrev pub postings_len : TermInfo → ℕ
+postings_len i = i.postings_range.end - i.postings_range.start
+
+abbrev pub positions_len : TermInfo → ℕ
+positions_len i = i.positions_range.end - i.positions_range.start
+
+-- the 28 bytes: the number of documents, and each range by its start and its length
+unfoldable pub info_bytes : TermInfo → List ℕ
+info_bytes i =
+    le_bytes 4 i.doc_freq ++ le_bytes 8 i.postings_range.start ++ le_bytes 4 (postings_len i)
+    ++ le_bytes 8 i.positions_range.start ++ le_bytes 4 (positions_len i)
+
+-- the term in the 28 bytes in front, and the bytes behind; nothing where an end passes 64 bits
+unfoldable pub info_at : List ℕ → Option (TermInfo × List ℕ)
+info_at bytes = do
+  doc_freq ← number_at 4 bytes
+  postings ← number_at 8 doc_freq.1
+  postings_len ← number_at 4 postings.1
+  positions ← number_at 8 postings_len.1
+  positions_len ← number_at 4 positions.1
+  _ ← needs (nat_lt (postings.0 + postings_len.0) (2 ^ 64))
+  _ ← needs (nat_lt (positions.0 + positions_len.0) (2 ^ 64))
+  Some (info_of doc_freq.0 postings.0 (postings.0 + postings_len.0) positions.0 (positions.0 + positions_len.0), positions_len.1)
+
+-- Each range begins at or before its end, and has at most 2 ^ 32 - 1 bytes.
+pub record HasLengths (i : TermInfo) : Type 0 where
+  pub postings : i.postings_range.start ≤ i.postings_range.end
+  pub postings_short : postings_len i < 2 ^ 32
+  pub positions : i.positions_range.start ≤ i.positions_range.end
+  pub positions_short : positions_len i < 2 ^ 32
+
+-- Its numbers have the bits of their types.
+pub record IsInRange (i : TermInfo) : Type 0 where
+  pub doc_freq : i.doc_freq < 256 ^ 4
+  pub postings : i.postings_range.end < 2 ^ 64
+  pub positions : i.positions_range.end < 2 ^ 64
+
+-- a range that ends before it begins, has 2 ^ 32 bytes or more or passes 64 bits is refused
+abbrev pub is_sound : TermInfo → Bool
+is_sound i =
+    nat_le i.postings_range.start i.postings_range.end && nat_lt (postings_len i) (2 ^ 32) && nat_lt i.postings_range.end (2 ^ 64)
+    && (nat_le i.positions_range.start i.positions_range.end && nat_lt (positions_len i) (2 ^ 32) && nat_lt i.positions_range.end (2 ^ 64))

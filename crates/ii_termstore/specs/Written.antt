@@ -1,0 +1,140 @@
+-- The bytes that are written for term infos.
+use Rattle.std.specs.Prelude.{Bool, ℕ, ◌-◌, ◌*◌, ◌^◌, ◌≤◌, ◌<◌, ◌↔◌, ◌⊎◌, ◌≡◌, max, List, [], ◌∷◌, ◌++◌, map, take, drop, length, slice_index_or, Result, OnOk, IfErr, IsErrOf}
+use Rattle.std.specs.List.{flat_map, sum_by, range_with_len}
+use Rattle.ii_io.specs.declared.faults.Fault.{Fault}
+use Rattle.ii_io.specs.declared.faults.Fault.TheVariants.{Write, Limit}
+use Rattle.ii_io.specs.declared.faults.LimitName.TheVariants.{Offset}
+use Rattle.ii_io.specs.Numbers.{le_bytes}
+use Rattle.ii_io.specs.Told.{Told, Tells, IsFull}
+use Rattle.ii_codes.specs.Packed.{num_bits}
+use Rattle.ii_codes.specs.Bits.{low_bits, whole_bytes, bits_left, bits_bytes}
+use Rattle.ii_termstore.specs.declared.term_info.TermInfo.{TermInfo}
+use Rattle.ii_termstore.specs.declared.term_info_store.block_meta.TermInfoBlockMeta.{TermInfoBlockMeta as Meta}
+use Rattle.ii_termstore.specs.TermInfos.{info_of, HasLengths}
+use Rattle.ii_termstore.specs.TermStore.{meta_bytes, block_count}
+
+-- How a call ends that writes these bytes.
+pub record Writes (old new : Told) (bytes : List ℕ) (result : Result (Unit {0}) Fault) : Type 0 where
+  pub ok : OnOk result (Tells old new bytes)
+  pub write : IsErrOf result Write ↔ (old.failed < new.failed)
+  pub limit : IsErrOf result (Limit Offset) → IsFull old (length bytes)
+  pub only : IfErr result (λ e. (e ≡ Write) ⊎ (e ≡ Limit Offset))
+
+-- Since the beginning a row of bits was written but for those that are left.
+pub record IsPacking (begun told : Told) (pending row : List ℕ) : Type 0 where
+  pub tells : Tells begun told (whole_bytes row)
+  pub left : pending ≡ bits_left row
+
+-- How a call ends after which a row of bits is being written that has so many bytes at most.
+pub record Packs (begun told : Told) (pending row : List ℕ) (size : ℕ) (result : Result (Unit {0}) Fault) : Type 0 where
+  pub ok : OnOk result (IsPacking begun told pending row)
+  pub write : IsErrOf result Write ↔ (begun.failed < told.failed)
+  pub limit : IsErrOf result (Limit Offset) → IsFull begun size
+  pub only : IfErr result (λ e. (e ≡ Write) ⊎ (e ≡ Limit Offset))
+
+abbrev pub first_of : List TermInfo → TermInfo
+first_of [] = info_of 0 0 0 0 0
+first_of (i ∷ is) = i
+
+abbrev pub last_of : TermInfo → List TermInfo → TermInfo
+last_of first [] = first
+last_of first (i ∷ is) = last_of i is
+
+abbrev pub largest : List ℕ → ℕ
+largest [] = 0
+largest (n ∷ ns) = max n (largest ns)
+
+-- The numbers of a term, counted from the first of its block.
+abbrev pub postings_behind : TermInfo → TermInfo → ℕ
+postings_behind first i = i.postings_range.start - first.postings_range.start
+
+abbrev pub positions_behind : TermInfo → TermInfo → ℕ
+positions_behind first i = i.positions_range.start - first.positions_range.start
+
+-- where the last term of a block ends, counted likewise
+abbrev pub postings_end : TermInfo → List TermInfo → ℕ
+postings_end first others = (last_of first others).postings_range.end - first.postings_range.start
+
+abbrev pub positions_end : TermInfo → List TermInfo → ℕ
+positions_end first others = (last_of first others).positions_range.end - first.positions_range.start
+
+-- what stands beside the bits of a block: each width is that of the largest number
+unfoldable pub meta_for : ℕ → TermInfo → List TermInfo → Meta
+meta_for offset first others = record {
+  offset = offset;
+  ref_term_info = first;
+  doc_freq_nbits = num_bits (largest (map (λ (i : TermInfo). i.doc_freq) others));
+  postings_offset_nbits = num_bits (max (largest (map (postings_behind first) others)) (postings_end first others));
+  positions_offset_nbits = num_bits (max (largest (map (positions_behind first) others)) (positions_end first others));
+}
+
+-- the bits of a term behind the first, and of a block
+abbrev pub term_row : Meta → TermInfo → List ℕ
+term_row m i =
+    low_bits m.postings_offset_nbits (postings_behind m.ref_term_info i) ++ low_bits m.positions_offset_nbits (positions_behind m.ref_term_info i)
+    ++ low_bits m.doc_freq_nbits i.doc_freq
+
+abbrev pub block_row : Meta → List TermInfo → List ℕ
+block_row m others =
+    flat_map (term_row m) others ++ low_bits m.postings_offset_nbits (postings_end m.ref_term_info others)
+    ++ low_bits m.positions_offset_nbits (positions_end m.ref_term_info others)
+
+-- the terms of block b
+abbrev pub block_of : List TermInfo → ℕ → List TermInfo
+block_of infos b = take 256 (drop (256 * b) infos)
+
+-- the bits of block b, and where they begin
+unfoldable pub block_bytes : List TermInfo → ℕ → List ℕ
+block_bytes infos b = bits_bytes (block_row (meta_for 0 (first_of (block_of infos b)) (drop 1 (block_of infos b))) (drop 1 (block_of infos b)))
+
+abbrev pub offset_of : List TermInfo → ℕ → ℕ
+offset_of infos b = sum_by (λ a. length (block_bytes infos a)) (range_with_len 0 b)
+
+unfoldable pub meta_at_block : List TermInfo → ℕ → Meta
+meta_at_block infos b = meta_for (offset_of infos b) (first_of (block_of infos b)) (drop 1 (block_of infos b))
+
+abbrev pub metas_bytes : List TermInfo → ℕ → List ℕ
+metas_bytes infos n = flat_map (λ b. meta_bytes (meta_at_block infos b)) (range_with_len 0 n)
+
+abbrev pub blocks_bytes : List TermInfo → ℕ → List ℕ
+blocks_bytes infos n = flat_map (block_bytes infos) (range_with_len 0 n)
+
+-- the store of these terms
+unfoldable pub written_store : List TermInfo → List ℕ
+written_store infos =
+    le_bytes 8 (39 * block_count (length infos)) ++ le_bytes 8 (length infos) ++ metas_bytes infos (block_count (length infos))
+    ++ blocks_bytes infos (block_count (length infos))
+
+-- The widths hold the numbers of their types, and the numbers of a term.
+pub record AreNarrow (m : Meta) : Type 0 where
+  pub doc_freq : m.doc_freq_nbits ≤ 64
+  pub postings : m.postings_offset_nbits ≤ 64
+  pub positions : m.positions_offset_nbits ≤ 64
+
+pub record FitsWidths (m : Meta) (i : TermInfo) : Type 0 where
+  pub doc_freq : i.doc_freq < 2 ^ m.doc_freq_nbits
+  pub postings : postings_behind m.ref_term_info i < 2 ^ m.postings_offset_nbits
+  pub positions : positions_behind m.ref_term_info i < 2 ^ m.positions_offset_nbits
+
+-- The widths hold the ends of a block.
+pub record EndsFit (m : Meta) (others : List TermInfo) : Type 0 where
+  pub postings : postings_end m.ref_term_info others < 2 ^ m.postings_offset_nbits
+  pub positions : positions_end m.ref_term_info others < 2 ^ m.positions_offset_nbits
+
+abbrev pub info_in : List TermInfo → ℕ → TermInfo
+info_in infos k = slice_index_or infos k (info_of 0 0 0 0 0)
+
+-- The terms that a writer has gathered, and whether a call was refused.
+pub record Storing : Type 0 where
+  pub infos : List TermInfo
+  pub closed : Bool
+
+-- Each term has lengths that fit.
+abbrev pub HaveLengths : List TermInfo → Type 0
+HaveLengths infos = (k : ℕ) → k < length infos → HasLengths (info_in infos k)
+
+-- The widths hold the numbers of a block.
+pub record FitsBlock (m : Meta) (others : List TermInfo) : Type 0 where
+  pub doc_freq : largest (map (λ (i : TermInfo). i.doc_freq) others) < 2 ^ m.doc_freq_nbits
+  pub postings : max (largest (map (postings_behind m.ref_term_info) others)) (postings_end m.ref_term_info others) < 2 ^ m.postings_offset_nbits
+  pub positions : max (largest (map (positions_behind m.ref_term_info) others)) (positions_end m.ref_term_info others) < 2 ^ m.positions_offset_nbits

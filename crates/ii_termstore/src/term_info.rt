@@ -1,0 +1,180 @@
+ghost use Rattle.std.specs.Prelude.{◌≡◌, ◌-◌, ◌^◌, ◌<◌, ◌≤◌, ◌↔◌, ◌⊎◌, ℕ, List, ◌++◌, length, Option, Some, OnOk, IfErr, IfNone, IsErrOf, if◌then◌else◌};
+ghost use Rattle.ii_io.specs.Told.{Tells, IsFull};
+ghost use Rattle.ii_io.specs.Numbers.{le_bytes};
+
+use byteorder::{ByteOrder, LittleEndian};
+use ii_io::{BinarySerializable, CountingWriter, Fault, FixedSize};
+use std::alloc::AllocError;
+use std::io::Write;
+use std::ops::Range;
+
+/// What is kept of a term.
+#[derive(Debug, PartialEq, Eq, Drop)]
+pub struct TermInfo {
+    /// In how many documents it is.
+    pub doc_freq: u32,
+    /// The bytes of its postings.
+    pub postings_range: Range<usize>,
+    /// The bytes of its positions.
+    pub positions_range: Range<usize>,
+}
+
+impl TermInfo {
+    /// How many bytes its postings have.
+    pub fn posting_num_bytes(&self) -> u32
+        requires forward { self.now.postings_range.start ≤ self.now.postings_range.end }
+        requires short { self.now.postings_range.end - self.now.postings_range.start < 2 ^ 32 }
+        ensures { result ≡ self.now.postings_range.end - self.now.postings_range.start }
+    {
+        (self.postings_range.end - self.postings_range.start) as u32
+    }
+
+    /// How many bytes its positions have.
+    pub fn positions_num_bytes(&self) -> u32
+        requires forward { self.now.positions_range.start ≤ self.now.positions_range.end }
+        requires short { self.now.positions_range.end - self.now.positions_range.start < 2 ^ 32 }
+        ensures { result ≡ self.now.positions_range.end - self.now.positions_range.start }
+    {
+        (self.positions_range.end - self.positions_range.start) as u32
+    }
+
+    /// The same once more. It takes no memory.
+    pub fn copied(&self) -> TermInfo
+        ensures { result ≡ self.now }
+    {
+        TermInfo {
+            doc_freq: self.doc_freq,
+            postings_range: self.postings_range.start..self.postings_range.end,
+            positions_range: self.positions_range.start..self.positions_range.end,
+        }
+    }
+}
+
+impl Default for TermInfo {
+    ghost use Rattle.std.specs.Prelude.{◌≡◌};
+    ghost use Rattle.ii_termstore.specs.TermInfos.{info_of};
+
+    ghost is_default = { λ i. i ≡ info_of 0 0 0 0 0 };
+
+    fn default() -> TermInfo {
+        TermInfo {
+            doc_freq: 0,
+            postings_range: 0..0,
+            positions_range: 0..0,
+        }
+    }
+}
+
+/// It takes no memory.
+impl Clone for TermInfo {
+    ghost use Rattle.std.specs.Prelude.{◌≡◌, ⊤};
+
+    ghost is_clone = { λ old new. new ≡ old };
+
+    ghost is_infallible = { λ _. ⊤ };
+
+    fn clone(&self) -> Result<TermInfo, AllocError> {
+        Ok(self.copied())
+    }
+}
+
+/// 28 bytes, numbers with the lowest byte first: `doc_freq` in 4, the start of the postings in 8 and
+/// their length in 4, the start of the positions in 8 and their length in 4.
+impl BinarySerializable for TermInfo {
+    ghost use Rattle.ii_termstore.specs.TermInfos.{info_bytes, info_at, HasLengths, IsInRange};
+    ghost use Rattle.ii_termstore.specs.TermInfoLemmas.{reads_info_back};
+
+    ghost bytes_of = { λ i. info_bytes i };
+
+    ghost value_at = { λ bytes. info_at bytes };
+
+    ghost can_serialize = { λ i. HasLengths i };
+
+    ghost in_range = { λ i. IsInRange i };
+
+    ghost reads_back = { λ i rest range lengths. reads_info_back i rest range lengths };
+
+    fn serialize<W: Write>(&self, writer: &mut CountingWriter<W>) -> Result<(), Fault> {
+        let mut bytes = [0; 28];
+        put_info(&mut bytes, self);
+        writer.write_all(&bytes)
+    }
+
+    #[tactic(auto, unfolding(crate::specs::TermInfos::info_at))]
+    fn deserialize(reader: &mut &[u8]) -> Option<TermInfo> {
+        let mut rest = *reader;
+        let Some(doc_freq) = u32::deserialize(&mut rest) else {
+            return None;
+        };
+        let Some(postings) = u64::deserialize(&mut rest) else {
+            return None;
+        };
+        let Some(postings_len) = u32::deserialize(&mut rest) else {
+            return None;
+        };
+        let Some(positions) = u64::deserialize(&mut rest) else {
+            return None;
+        };
+        let Some(positions_len) = u32::deserialize(&mut rest) else {
+            return None;
+        };
+        let Some(postings_end) = postings.checked_add(u64::from(postings_len)) else {
+            return None;
+        };
+        let Some(positions_end) = positions.checked_add(u64::from(positions_len)) else {
+            return None;
+        };
+        *reader = rest;
+        Some(TermInfo {
+            doc_freq,
+            postings_range: postings as usize..postings_end as usize,
+            positions_range: positions as usize..positions_end as usize,
+        })
+    }
+}
+
+impl FixedSize for TermInfo {
+    const SIZE_IN_BYTES: usize = 28;
+
+    ghost size = { 28 };
+
+    #[tactic(auto, using(crate::specs::TermInfoLemmas::length_info_bytes))]
+    fn fixed_size() -> usize {
+        Self::SIZE_IN_BYTES
+    }
+}
+
+ghost use Rattle.ii_termstore.specs.TermInfos.{info_bytes, HasLengths};
+
+// The bytes of a term, in a buffer of their size.
+#[tactic(auto, unfolding(crate::specs::TermInfos::info_bytes))]
+pub(crate) fn put_info(buf: &mut [u8], info: &TermInfo)
+    requires room { length buf.old ≡ 28 }
+    requires lengths { HasLengths info.now }
+    ensures { buf.new ≡ info_bytes info.now }
+{
+    let (doc_freq, rest) = buf.split_at_mut(4);
+    let (postings, rest) = rest.split_at_mut(8);
+    let (postings_len, rest) = rest.split_at_mut(4);
+    let (positions, positions_len) = rest.split_at_mut(8);
+    put_u32(doc_freq, info.doc_freq);
+    put_u64(postings, info.postings_range.start as u64);
+    put_u32(postings_len, info.posting_num_bytes());
+    put_u64(positions, info.positions_range.start as u64);
+    put_u32(positions_len, info.positions_num_bytes());
+}
+
+// The bytes of a number, in a buffer of their size.
+fn put_u32(buf: &mut [u8], n: u32)
+    requires { length buf.old ≡ 4 }
+    ensures { buf.new ≡ le_bytes 4 n }
+{
+    LittleEndian::write_u32(buf, n);
+}
+
+pub(crate) fn put_u64(buf: &mut [u8], n: u64)
+    requires { length buf.old ≡ 8 }
+    ensures { buf.new ≡ le_bytes 8 n }
+{
+    LittleEndian::write_u64(buf, n);
+}

@@ -1,0 +1,146 @@
+ghost use Rattle.std.specs.Prelude.{◌≡◌, ◌<◌, ◌++◌, ◌↔◌, ◌⊎◌, ◌∷◌, [], ℕ, List, length, Option, Some, OnOk, IfErr, IfNone, IsErrOf};
+ghost use Rattle.std.specs.Option.{option_map};
+ghost use Rattle.ii_io.specs.Told.{Tells, IsFull};
+ghost use Rattle.ii_io.specs.Numbers.{number_at};
+
+use crate::term_info::{TermInfo, put_info, put_u64};
+use ii_io::{BinarySerializable, CountingWriter, Fault, FixedSize};
+use std::io::Write;
+
+/// What stands of a block of terms beside its bits.
+#[derive(Debug, PartialEq, Eq, Drop)]
+pub struct TermInfoBlockMeta {
+    /// The byte, counted from the first bits of the store, at which the block's bits begin.
+    pub offset: u64,
+    /// The block's first term.
+    pub ref_term_info: TermInfo,
+    /// How many bits a number of documents takes, at most 32.
+    pub doc_freq_nbits: u8,
+    /// How many bits the start of a term's postings takes, counted from the first term's.
+    pub postings_offset_nbits: u8,
+    /// How many bits the start of a term's positions takes, counted from the first term's.
+    pub positions_offset_nbits: u8,
+}
+
+impl Default for TermInfoBlockMeta {
+    ghost use Rattle.std.specs.Prelude.{◌≡◌};
+    ghost use Rattle.ii_termstore.specs.TermInfos.{info_of};
+
+    ghost is_default = { λ m. m ≡ record { offset = 0; ref_term_info = info_of 0 0 0 0 0; doc_freq_nbits = 0; postings_offset_nbits = 0; positions_offset_nbits = 0 } };
+
+    fn default() -> TermInfoBlockMeta {
+        TermInfoBlockMeta {
+            offset: 0,
+            ref_term_info: TermInfo::default(),
+            doc_freq_nbits: 0,
+            postings_offset_nbits: 0,
+            positions_offset_nbits: 0,
+        }
+    }
+}
+
+/// 39 bytes: `offset` in 8 with the lowest first, the first term in 28, then the widths of `doc_freq`,
+/// postings and positions in one each.
+impl BinarySerializable for TermInfoBlockMeta {
+    ghost use Rattle.std.specs.Prelude.{◌<◌, ◌^◌};
+    ghost use Rattle.ii_termstore.specs.TermInfos.{HasLengths, IsInRange};
+    ghost use Rattle.ii_termstore.specs.TermStore.{meta_bytes, meta_at};
+    ghost use Rattle.ii_termstore.specs.TermStoreLemmas.{reads_meta_back};
+
+    ghost bytes_of = { λ m. meta_bytes m };
+
+    ghost value_at = { λ bytes. meta_at bytes };
+
+    ghost can_serialize = { λ m. HasLengths m.ref_term_info };
+
+    ghost in_range = { λ m. (m.offset < 256 ^ 8) × IsInRange m.ref_term_info };
+
+    ghost reads_back = { λ m rest range lengths. reads_meta_back m rest range.0 range.1 lengths };
+
+    fn serialize<W: Write>(&self, writer: &mut CountingWriter<W>) -> Result<(), Fault> {
+        let mut bytes = [0; 39];
+        put_meta(&mut bytes, self);
+        writer.write_all(&bytes)
+    }
+
+    #[tactic(auto, unfolding(crate::specs::TermStore::meta_at))]
+    fn deserialize(reader: &mut &[u8]) -> Option<TermInfoBlockMeta> {
+        let mut rest = *reader;
+        let Some(offset) = u64::deserialize(&mut rest) else {
+            return None;
+        };
+        let Some(ref_term_info) = TermInfo::deserialize(&mut rest) else {
+            return None;
+        };
+        let Some(doc_freq_nbits) = take_byte(&mut rest) else {
+            return None;
+        };
+        let Some(postings_offset_nbits) = take_byte(&mut rest) else {
+            return None;
+        };
+        let Some(positions_offset_nbits) = take_byte(&mut rest) else {
+            return None;
+        };
+        *reader = rest;
+        Some(TermInfoBlockMeta {
+            offset,
+            ref_term_info,
+            doc_freq_nbits,
+            postings_offset_nbits,
+            positions_offset_nbits,
+        })
+    }
+}
+
+impl FixedSize for TermInfoBlockMeta {
+    const SIZE_IN_BYTES: usize = 39;
+
+    ghost size = { 39 };
+
+    #[tactic(auto, using(crate::specs::TermStoreLemmas::length_meta_bytes))]
+    fn fixed_size() -> usize {
+        Self::SIZE_IN_BYTES
+    }
+}
+
+ghost use Rattle.ii_termstore.specs.TermInfos.{HasLengths};
+ghost use Rattle.ii_termstore.specs.TermStore.{meta_bytes};
+
+// The bytes of a meta, in a buffer of their size.
+#[tactic(auto, unfolding(crate::specs::TermStore::meta_bytes))]
+fn put_meta(buf: &mut [u8], meta: &TermInfoBlockMeta)
+    requires room { length buf.old ≡ 39 }
+    requires lengths { HasLengths meta.now.ref_term_info }
+    ensures { buf.new ≡ meta_bytes meta.now }
+{
+    let (offset, rest) = buf.split_at_mut(8);
+    let (info, widths) = rest.split_at_mut(28);
+    put_u64(offset, meta.offset);
+    put_info(info, &meta.ref_term_info);
+    put_widths(widths, meta);
+}
+
+fn put_widths(buf: &mut [u8], meta: &TermInfoBlockMeta)
+    requires { length buf.old ≡ 3 }
+    ensures { buf.new ≡ meta.now.doc_freq_nbits ∷ meta.now.postings_offset_nbits ∷ meta.now.positions_offset_nbits ∷ [] }
+{
+    let widths = [
+        meta.doc_freq_nbits,
+        meta.postings_offset_nbits,
+        meta.positions_offset_nbits,
+    ];
+    buf.copy_from_slice(&widths);
+}
+
+// Takes a byte from the front.
+fn take_byte(reader: &mut &[u8]) -> Option<u8>
+    ensures value { option_map (λ b. (b, reader.new.now)) result ≡ number_at 1 reader.old.now }
+    ensures stays { IfNone result (reader.new.now ≡ reader.old.now) }
+{
+    let bytes = *reader;
+    if bytes.len() < 1 {
+        return None;
+    }
+    *reader = &bytes[1..];
+    Some(bytes[0])
+}
