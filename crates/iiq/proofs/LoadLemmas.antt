@@ -73,9 +73,11 @@ block_there doc_freq entries body bytes skip w f c norm count s at is =
     let count_is = all.many in
     let block = stands_block list i (get_or st.blocks i []) (all.at i (omega arith)) in
     let docs_are : docs_of_block (docs_placed doc_freq bytes entries body) i ≡ get_or st.blocks i [] =
-        ap (λ (ds : List ℕ). docs_of_block ds i) st.docs_are ∙ concat_block i st.blocks st.rest (are_whole list (length list.entries) st.blocks st.read) (omega arith) in
-    (block.behind, moved_block s (entry_of list.entries i).strict skip.doc_before (doc_before list.entries i) w (entry_of list.entries i).doc_width skip.place (block_place list.entries i) (drop body bytes)
-    (docs_of_block (docs_placed doc_freq bytes entries body) i) (get_or st.blocks i []) block.behind says.strict (before_is doc_freq entries body bytes skip at) says.width (place_is doc_freq entries body bytes skip at) docs_are block.read)
+    ap (λ (ds : List ℕ). docs_of_block ds i) st.docs_are ∙ concat_block i st.blocks st.rest (are_whole list (length list.entries) st.blocks st.read) (omega arith) in (
+      block.behind,
+      moved_block s (entry_of list.entries i).strict skip.doc_before (doc_before list.entries i) w (entry_of list.entries i).doc_width skip.place (block_place list.entries i) (drop body bytes)
+          (docs_of_block (docs_placed doc_freq bytes entries body) i) (get_or st.blocks i []) block.behind says.strict (before_is doc_freq entries body bytes skip at) says.width (place_is doc_freq entries body bytes skip at) docs_are block.read,
+    )
 
 -- the last documents of a list are its last block
 last_block : (i : ℕ) (blocks : List (List ℕ)) (rest : List ℕ) → AreWhole blocks → i ≡ length blocks → length rest ≤ 128 → docs_of_block (concat blocks ++ rest) i ≡ rest
@@ -104,10 +106,15 @@ rest_there doc_freq entries body bytes skip n at is =
     let last : i ≡ length list.entries = end ∙ sym many in
     let size = length-sorted_vints_at _ (doc_freq % 128) _ st.rest there.0 st.rest_read in
     let docs_are : docs_of_block (docs_placed doc_freq bytes entries body) i ≡ st.rest =
-        ap (λ (ds : List ℕ). docs_of_block ds i) st.docs_are ∙ last_block i st.blocks st.rest (are_whole list (length list.entries) st.blocks st.read) (omega arith) (omega arith) in
-    (omega arith, (there.0, moved_vints skip.doc_before (doc_before list.entries (length list.entries)) n (doc_freq % 128) skip.place (block_place list.entries (length list.entries)) (drop body bytes)
-    (docs_of_block (docs_placed doc_freq bytes entries body) i) st.rest there.0
-    (before_is doc_freq entries body bytes skip at ∙ ap (doc_before list.entries) last) number (place_is doc_freq entries body bytes skip at ∙ ap (block_place list.entries) last) docs_are st.rest_read))
+    ap (λ (ds : List ℕ). docs_of_block ds i) st.docs_are ∙ last_block i st.blocks st.rest (are_whole list (length list.entries) st.blocks st.read) (omega arith) (omega arith) in (
+      omega arith,
+      (
+        there.0,
+        moved_vints skip.doc_before (doc_before list.entries (length list.entries)) n (doc_freq % 128) skip.place (block_place list.entries (length list.entries)) (drop body bytes)
+            (docs_of_block (docs_placed doc_freq bytes entries body) i) st.rest there.0
+            (before_is doc_freq entries body bytes skip at ∙ ap (doc_before list.entries) last) number (place_is doc_freq entries body bytes skip at ∙ ap (block_place list.entries) last) docs_are st.rest_read,
+      ),
+    )
 
 -- What was asked of the reader, in the words of the call.
 pub record Stood (body : ℕ) (bytes : List ℕ) (skip : SkipReading) (before place : ℕ) (behind_skip here : List ℕ) : Type 0 where
@@ -181,25 +188,29 @@ pub goes_on : (doc_freq entries body count : ℕ) (bytes : List ℕ) (skip new :
 goes_on doc_freq entries body count bytes skip new at below e =
     let block : new.block ≡ min (skip.block + 1) (doc_freq / 128 + 1) = ap (λ (r : SkipReading). r.block) e in
     let count_is : new.count ≡ count = ap (λ (r : SkipReading). r.count) e in
-    let next : new.block ≡ skip.block + 1 = omega arith in
-    (record {
-      placed = at.placed;
-      there = at.there;
-      reading = e ∙ ap (λ (b : ℕ). reading_at Basic doc_freq (drop entries bytes) b count) (sym block) ∙ ap (reading_at Basic doc_freq (drop entries bytes) new.block) (sym count_is);
-      within = omega arith;
-    }, next)
+    let next : new.block ≡ skip.block + 1 = omega arith in (
+      record {
+        placed = at.placed;
+        there = at.there;
+        reading = e ∙ ap (λ (b : ℕ). reading_at Basic doc_freq (drop entries bytes) b count) (sym block) ∙ ap (reading_at Basic doc_freq (drop entries bytes) new.block) (sym count_is);
+        within = omega arith;
+      },
+      next,
+    )
 
 pub begins : (doc_freq entries body count : ℕ) (bytes : List ℕ) (new : SkipReading) → IsPlaced doc_freq bytes entries body → HasDocuments doc_freq bytes entries body
     → new ≡ reading_at Basic doc_freq (drop entries bytes) 0 count → IsAtBlock doc_freq bytes entries body new × (new.block ≡ 0)
 begins doc_freq entries body count bytes new placed there e =
     let block : new.block ≡ 0 = ap (λ (r : SkipReading). r.block) e in
-    let count_is : new.count ≡ count = ap (λ (r : SkipReading). r.count) e in
-    (record {
-      placed = placed;
-      there = there;
-      reading = e ∙ ap (λ (b : ℕ). reading_at Basic doc_freq (drop entries bytes) b count) (sym block) ∙ ap (reading_at Basic doc_freq (drop entries bytes) new.block) (sym count_is);
-      within = omega arith;
-    }, block)
+    let count_is : new.count ≡ count = ap (λ (r : SkipReading). r.count) e in (
+      record {
+        placed = placed;
+        there = there;
+        reading = e ∙ ap (λ (b : ℕ). reading_at Basic doc_freq (drop entries bytes) b count) (sym block) ∙ ap (reading_at Basic doc_freq (drop entries bytes) new.block) (sym count_is);
+        within = omega arith;
+      },
+      block,
+    )
 
 -- a check that found all documents
 has_cases : (doc_freq entries body : ℕ) (bytes : List ℕ) (o : Option (List ℕ × List ℕ)) → documents_at (skip_at doc_freq bytes entries body) (doc_freq % 128) ≡ o → is_some o ≡ true → HasDocuments doc_freq bytes entries body
@@ -222,7 +233,7 @@ pub opens_at : (doc_freq entries body count : ℕ) (bytes checked placed behind 
 opens_at doc_freq entries body count bytes checked placed behind all new f =
     let P : List ℕ → Type 0 = λ b. IsPlaced doc_freq b entries body in
     let there = has_cases doc_freq entries body bytes (documents_at (skip_at doc_freq bytes entries body) (doc_freq % 128)) refl
-        (ap (λ (b : List ℕ). is_some (documents_at (skip_at doc_freq b entries body) (doc_freq % 128))) (sym f.checked_is) ∙ sym f.all_is ∙ f.all_there) in
+    (ap (λ (b : List ℕ). is_some (documents_at (skip_at doc_freq b entries body) (doc_freq % 128))) (sym f.checked_is) ∙ sym f.all_is ∙ f.all_there) in
     (begins doc_freq entries body count bytes new (subst P f.placed_is f.is_placed) there (f.new_is ∙ ap (λ (d : List ℕ). reading_at Basic doc_freq d 0 count) f.behind_is)).0
 
 -- a term has as many documents as it says

@@ -3,7 +3,10 @@ use Rattle.std.proofs.Common.{◌≡◌, codes, refl}
 use Rattle.std.specs.Fmt.{digits}
 use Rattle.std.specs.Str.{is_utf8, chars}
 use Rattle.hex.specs.Hex.{encode_with, decode_pairs}
-use Rattle.ii_io.specs.Vints.{u32_at, vint_u32}
+use Rattle.ii_io.specs.Vints.{u32_at, u64_at, vint_u32}
+use Rattle.ii_codes.specs.Packed.{bits_in, entries_in, unpacked}
+use Rattle.ii_codes.specs.Blocks.{sorted_block_at}
+use Rattle.ii_layout.specs.SkipList.{entry_at}
 use Rattle.iiq.specs.Output.{reply_to}
 
 pub row_ids : reply_to (codes "ids 0 2 10") ≡ codes "808288\n0 2 10\n"
@@ -52,3 +55,11 @@ row_nothing = refl
 pub row_spaces : reply_to (codes "ids 1  2") ≡ codes "error line\n"
 unfolding is_utf8 chars digits lib.Utf8.encode
 row_spaces = refl
+
+pub row_many : reply_to (codes "open b b 4294967295 857F00000040") ≡ codes "damaged skip\n"
+unfolding is_utf8 chars digits lib.Utf8.encode decode_pairs u64_at entry_at
+row_many = refl
+
+pub row_last_document : reply_to (codes "open b b 128 858000000040") ≡ codes "damaged documents\n"
+unfolding is_utf8 chars digits lib.Utf8.encode decode_pairs u64_at entry_at sorted_block_at unpacked entries_in bits_in
+row_last_document = refl
