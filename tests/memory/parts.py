@@ -1,6 +1,6 @@
 #!/usr/bin/env python3
 """Runs the parts that `ii_tests` puts together with each allocation refused in turn: each line has to be the right
-one, but for one that may say that memory or its writer, which is over memory, was refused."""
+one, but for the one that says that memory was refused, or its writer, which is over memory."""
 import os
 import sys
 import tempfile
@@ -37,7 +37,7 @@ def main():
         for refused in range(1, 100000):
             done, was_refused = refusing.run('ii_tests', b'', library, refused, folder)
             count = refusals(done.stdout, right)
-            if done.stderr or done.returncode != 0 or count is None or count > (1 if was_refused else 0):
+            if done.stderr or done.returncode != 0 or count != (1 if was_refused else 0):
                 print(f'tests/memory: allocation {refused} of the parts refused: status {done.returncode}, {done.stdout!r}')
                 return 1
             if not was_refused:
