@@ -2,7 +2,7 @@
 use Rattle.std.proofs.Common.{◌≡◌, ℕ, zero, suc, ◌+◌, ◌<◌, ◌≤◌, false, ◌==◌, List, [], ◌∷◌, ◌++◌, map, length, take, drop, get_or, set, Option, Some, None, Result, Ok, Err, OnErr, refl, sym, ap, ◌∙◌, inl, inr, length-append, arith}
 use Rattle.std.specs.List.{enumerate_from}
 use Rattle.std.specs.Option.{option_map}
-use Rattle.std.proofs.lemmas.List.{take_more, set-get_or}
+use Rattle.std.proofs.lemmas.List.{take_more, set-get_or, append-nil}
 use Rattle.std.proofs.lemmas.List.Edits.{map_over_more}
 use Rattle.std.proofs.lemmas.Bool.Decides.{nat_tests}
 use Rattle.ii_io.specs.Told.{Told, IsFull}
@@ -12,10 +12,6 @@ use Rattle.ii_io.specs.Composing.{Composing, HasBodies, has_start, starts_from, 
 use Rattle.ii_io.specs.ComposingLemmas.{HasBodies-more, places_of-bodies}
 use Rattle.ii_base.specs.Schema.{Entry}
 use Rattle.ii_fieldnorm.specs.Buffers.{Buffers, filled, filled_buffers, IsFilledFront, norm_bodies, norm_bodies_from, AddsBuffer, empty_buffer, buffer_size}
-
-append_nil : {A : Type 0} (xs : List A) → xs ++ [] ≡ xs
-append_nil [] = refl
-append_nil {A = A} (x ∷ xs) = ap (λ (ys : List A). x ∷ ys) (append_nil xs)
 
 norm_bodies_from-more : (field : ℕ) (bs : Buffers) (b : Option (List ℕ)) → norm_bodies_from field (bs ++ b ∷ []) ≡ norm_bodies_from field bs ++ norm_bodies_from (field + length bs) (b ∷ [])
 norm_bodies_from-more field [] b =
@@ -28,7 +24,7 @@ norm_bodies_from-more field (Some ids ∷ bs) b =
     let same : field + 1 + length bs ≡ field + suc (length bs) = omega arith in
     rw (← same) (ap (λ (bodies : List Body). record { field = field; bytes = ids } ∷ bodies) (norm_bodies_from-more (field + 1) bs b))
 
-eqb_below : (a b : ℕ) → a < b → (a == b) ≡ false
+pub eqb_below : (a b : ℕ) → a < b → (a == b) ≡ false
 eqb_below a b h = grind (arith, nat_tests)
 
 -- no field behind those of the buffers has a body
@@ -39,7 +35,7 @@ has_start-behind field start behind (Some ids ∷ bs) h =
     rw (eqb_below field behind (omega arith), has_start-behind (field + 1) (start + length ids) behind bs (omega arith)) refl
 
 written_cases : (begun : Told) (old new : Composing) (bodies : List Body) (field : ℕ) (b : Option (List ℕ)) → HasBodies begun old bodies → AddsBuffer old new field b → HasBodies begun new (bodies ++ norm_bodies_from field (b ∷ []))
-written_cases begun old new bodies field None has adds = rw (adds, append_nil bodies) has
+written_cases begun old new bodies field None has adds = rw (adds, append-nil bodies) has
 written_cases begun old new bodies field (Some ids) has adds = HasBodies-more begun old new bodies field ids has adds
 
 -- one buffer more
@@ -67,7 +63,7 @@ empty_entries i (e ∷ es) = ap (λ (bs : Buffers). empty_buffer e ∷ bs) (empt
 pub all_made : (bs : Buffers) (rest : List (ℕ × Entry)) (es : List Entry) → rest ≡ [] → bs ++ map (λ (f : ℕ × Entry). empty_buffer f.1) rest ≡ map (λ (f : ℕ × Entry). empty_buffer f.1) (enumerate_from 0 es) → bs ≡ map empty_buffer es
 all_made bs rest es none made =
     let whole = rw none at made in
-    sym (append_nil bs) ∙ whole ∙ empty_entries 0 es
+    sym (append-nil bs) ∙ whole ∙ empty_entries 0 es
 
 pub part_size : (field : ℕ) (bs : Buffers) (i : ℕ) (b : Option (List ℕ)) → i < length bs → b ≡ get_or bs i b → length (bodies_bytes (norm_bodies_from field (take i bs))) + buffer_size b ≤ length (bodies_bytes (norm_bodies_from field bs))
 part_size field [] i b within here = absurd (omega arith)

@@ -1,6 +1,6 @@
 -- Laws of norms.
 use Rattle.std.proofs.Common.{◌≡◌, ℕ, zero, suc, ◌+◌, ◌<◌, ◌≤◌, ◌⊎◌, inl, inr, Bool, true, false, ◌&&◌, cond, List, [], ◌∷◌, map, length, get_or, nat_le, nat_lt, refl, sym, ◌∙◌, ap, add-one, arith}
-use Rattle.std.proofs.lemmas.Bool.{leb-true, leb-false, ltb-true}
+use Rattle.std.proofs.lemmas.Bool.{leb-true, leb-false, ltb-true, and_parts}
 use Rattle.std.specs.List.{range_with_len}
 use Rattle.ii_fieldnorm.specs.Norms.{norm_of_id, norms, greatest_id, id_of_norm, IsGreatestNotAbove, ApproximatesFromBelow}
 use Rattle.ii_fieldnorm.specs.declared.code.TheConstants.{FIELD_NORMS_TABLE}
@@ -27,22 +27,18 @@ get_or-norms start (suc count) (suc b) h =
     let same : start + 1 + b ≡ start + suc b = omega arith in
     get_or-norms (start + 1) count b (omega arith) ∙ ap norm_of_id same
 
-and_true : (a b : Bool) → a && b ≡ true → (a ≡ true) × (b ≡ true)
-and_true true b e = (refl, e)
-and_true false b e = absurd (cc)
-
 head_below : (x : ℕ) (xs : List ℕ) (j : ℕ) → are_ascending (x ∷ xs) ≡ true → j < length xs → x < get_or xs j 0
 head_below x [] j e h = absurd (omega arith)
-head_below x (y ∷ ys) zero e h = ltb-true x y (and_true (nat_lt x y) (are_ascending (y ∷ ys)) e).0
+head_below x (y ∷ ys) zero e h = ltb-true x y (and_parts (nat_lt x y) (are_ascending (y ∷ ys)) e).0
 head_below x (y ∷ ys) (suc j) e h =
-    let both = and_true (nat_lt x y) (are_ascending (y ∷ ys)) e in
+    let both = and_parts (nat_lt x y) (are_ascending (y ∷ ys)) e in
     let first = ltb-true x y both.0 in
     let later = head_below y ys j both.1 (omega arith) in
     omega arith
 
 tail_ascends : (x : ℕ) (xs : List ℕ) → are_ascending (x ∷ xs) ≡ true → are_ascending xs ≡ true
 tail_ascends x [] e = refl
-tail_ascends x (y ∷ ys) e = (and_true (nat_lt x y) (are_ascending (y ∷ ys)) e).1
+tail_ascends x (y ∷ ys) e = (and_parts (nat_lt x y) (are_ascending (y ∷ ys)) e).1
 
 ascends : (xs : List ℕ) (i j : ℕ) → are_ascending xs ≡ true → i < j → j < length xs → get_or xs i 0 < get_or xs j 0
 ascends [] i j e order within = absurd (omega arith)

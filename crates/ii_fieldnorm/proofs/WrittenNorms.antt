@@ -6,6 +6,7 @@ use Rattle.std.proofs.lemmas.Bool.{le-leb}
 use Rattle.std.proofs.lemmas.Bool.Decides.{nat_tests}
 use Rattle.ii_io.specs.Composite.{Body, has_place, are_distinct, places_from, body_of, bodies_bytes, AreBodies}
 use Rattle.ii_fieldnorm.specs.Buffers.{Buffers, buffer_of, norm_bodies, norm_bodies_from}
+use Rattle.ii_fieldnorm.proofs.BufferLemmas.{eqb_below}
 
 eqb_above : (a b : ℕ) → b < a → (a == b) ≡ false
 eqb_above a b h = grind (arith, nat_tests)
@@ -47,11 +48,8 @@ none_before first field [] h = refl
 none_before first field (None ∷ bs) h = none_before (first + 1) field bs (omega arith)
 none_before first field (Some ids ∷ bs) h = rw (eqb_above first field h) (none_before (first + 1) field bs (omega arith))
 
-eqb_less : (a b : ℕ) → a < b → (a == b) ≡ false
-eqb_less a b h = grind (arith, nat_tests)
-
 skips : (field first : ℕ) (ids : List ℕ) (rest : List Body) → first < field → body_of field (record { field = first; bytes = ids } ∷ rest) ≡ body_of field rest
-skips field first ids rest h = rw (eqb_less first field h) refl
+skips field first ids rest h = rw (eqb_below first field h) refl
 
 -- each field's body is its buffer
 body_of-norms : (first k : ℕ) (bs : Buffers) → body_of (first + k) (norm_bodies_from first bs) ≡ buffer_of k bs

@@ -7,6 +7,7 @@ ghost use Rattle.ii_fieldnorm.specs.Readers.{norms_of_ids, CoversDoc, id_of_doc}
 use super::code::{fieldnorm_to_id, id_to_fieldnorm};
 use bytes::Bytes;
 use ii_base::{CompositeFile, Fault, Field, Part};
+use ii_docset::DocId;
 use std::alloc::Global;
 use std::marker::Model;
 
@@ -126,7 +127,7 @@ impl FieldNormReader {
     }
 
     /// The norm of a document.
-    pub fn fieldnorm(&self, doc: u32) -> u32
+    pub fn fieldnorm(&self, doc: DocId) -> u32
         requires { CoversDoc self.now doc }
         ensures { result ≡ norm_of_id (id_of_doc self.now doc) }
     {
@@ -134,7 +135,7 @@ impl FieldNormReader {
     }
 
     /// The id of a document's norm.
-    pub fn fieldnorm_id(&self, doc: u32) -> u8
+    pub fn fieldnorm_id(&self, doc: DocId) -> u8
         requires { CoversDoc self.now doc }
         ensures { result ≡ id_of_doc self.now doc }
     {

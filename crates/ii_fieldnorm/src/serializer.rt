@@ -1,5 +1,5 @@
 ghost use Rattle.std.specs.Prelude.{◌≡◌, ◌<◌, ◌⊎◌, ◌↔◌, [], List, false, length, IsTrue, OnOk, OnErr, IfErr, IsErrOf};
-ghost use Rattle.ii_io.specs.Told.{Told, Tells, IsFull};
+ghost use Rattle.ii_io.specs.Told.{Told, Tells, TellsBeginning, IsFull};
 ghost use Rattle.ii_io.specs.Composite.{Body, table_bytes, written_composite};
 ghost use Rattle.ii_io.specs.Composing.{has_start, places_of, AddsBody, HasBodies};
 
@@ -40,8 +40,8 @@ impl<W: Write> FieldNormsSerializer<W> {
     /// Writes the norms of a field, which weren't written before, and flushes.
     ///
     /// `Write` where the writer fails, `Limit(Offset)` where a count of the writer would pass
-    /// `u64::MAX`, `OutOfMemory` where the table can't grow; `SerializerClosed` after an earlier
-    /// refusal.
+    /// `u64::MAX`, `OutOfMemory` where the table can't grow: a beginning of the norms is then written.
+    /// `SerializerClosed` after an earlier refusal, and nothing is written.
     pub fn serialize_field(&mut self, field: Field, fieldnorms_data: &[u8]) -> Result<(), Fault>
         requires { has_start field self.old.starts ≡ false }
         ensures ok { OnOk result (AddsBody self.old self.new field fieldnorms_data.now) }
@@ -52,6 +52,8 @@ impl<W: Write> FieldNormsSerializer<W> {
         ensures closed { IsErrOf result Fault.SerializerClosed ↔ IsTrue self.old.closed }
         ensures only { IfErr result (λ e. (e ≡ Fault.Write) ⊎ (e ≡ Fault.Limit LimitName.Offset)
             ⊎ (e ≡ Fault.OutOfMemory) ⊎ (e ≡ Fault.SerializerClosed)) }
+        ensures begun { OnErr result (TellsBeginning self.old.told self.new.told fieldnorms_data.now) }
+        ensures untouched { IsTrue self.old.closed → self.new.told ≡ self.old.told }
         ensures stays { OnOk result (self.new.closed ≡ false) }
         ensures err { OnErr result (IsTrue self.new.closed) }
     {
@@ -96,6 +98,7 @@ fn write_norms<W: Write>(writer: &mut CountingWriter<W>, bytes: &[u8]) -> Result
     ensures ok { OnOk result (Tells writer.old writer.new bytes.now) }
     ensures write { IsErrOf result Fault.Write ↔ (writer.old.failed < writer.new.failed) }
     ensures limit { IsErrOf result (Fault.Limit LimitName.Offset) ↔ IsFull writer.old (length bytes.now) }
+    ensures begun { OnErr result (TellsBeginning writer.old writer.new bytes.now) }
     ensures only { IfErr result (λ e. (e ≡ Fault.Write) ⊎ (e ≡ Fault.Limit LimitName.Offset)) }
 {
     writer.write_all(bytes)?;

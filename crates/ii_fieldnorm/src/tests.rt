@@ -90,7 +90,8 @@ fn norms_are_written_and_read(rt: HostRuntime) -> Result<(), Fail> {
     assert_eq!(rt; answer, Ok(()));
     assert_eq!(rt; writer.bytes(), TWO_NORMS.as_slice());
     for k in 1..8 {
-        let (_, answer) = written(rt.alloc(), k)?;
+        let (writer, answer) = written(rt.alloc(), k)?;
+        assert!(rt; TWO_NORMS.starts_with(writer.bytes()), "call {k}");
         assert_eq!(rt; answer.is_err(), k < 6, "call {k}");
         assert!(rt; answer.is_ok() || answer == Err(Fault::Write));
     }

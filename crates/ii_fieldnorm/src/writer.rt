@@ -8,6 +8,7 @@ ghost use Rattle.ii_fieldnorm.specs.Buffers.{norm_fields, empty_buffers, filled,
 use super::code::fieldnorm_to_id;
 use super::serializer::FieldNormsSerializer;
 use ii_base::{CountingWriter, Fault, Field, LimitName, Schema};
+use ii_docset::DocId;
 use ii_io::composite_file::reads_composites_back;
 use std::alloc::{AllocError, Global};
 use std::io::Write;
@@ -64,7 +65,7 @@ impl FieldNormsWriter {
     ///
     /// `OutOfMemory` where a buffer can't grow; the fields before it are then filled, and the others
     /// stay.
-    pub fn fill_up_to_max_doc(&mut self, max_doc: u32) -> Result<(), Fault>
+    pub fn fill_up_to_max_doc(&mut self, max_doc: DocId) -> Result<(), Fault>
         ensures ok { OnOk result (self.new ≡ filled_buffers max_doc self.old) }
         ensures err { OnErr result (IsFilledFront max_doc self.old self.new) }
         ensures only { IfErr result (λ e. e ≡ Fault.OutOfMemory) }
@@ -79,7 +80,7 @@ impl FieldNormsWriter {
     /// get the norm 0. For a field without norms it does nothing.
     ///
     /// `OutOfMemory` where the buffer can't grow; nothing changes then.
-    pub fn record(&mut self, doc: u32, field: Field, fieldnorm: u32) -> Result<(), Fault>
+    pub fn record(&mut self, doc: DocId, field: Field, fieldnorm: u32) -> Result<(), Fault>
         requires { IfSome (buffer_of field self.old) (λ ids. length ids ≤ doc) }
         ensures ok { OnOk result (self.new ≡ recorded_buffers field doc fieldnorm self.old) }
         ensures err { OnErr result (self.new ≡ self.old) }
@@ -216,7 +217,7 @@ impl NormBuffer {
     }
 
     // One document more.
-    fn record(&mut self, doc: u32, fieldnorm: u32) -> Result<(), AllocError>
+    fn record(&mut self, doc: DocId, fieldnorm: u32) -> Result<(), AllocError>
         requires { IfSome self.old (λ ids. length ids ≤ doc) }
         ensures ok { OnOk result (self.new ≡ option_map (recorded doc fieldnorm) self.old) }
         ensures err { OnErr result (self.new ≡ self.old) }

@@ -1,22 +1,14 @@
 -- A composite file that was written is read back.
 use Rattle.std.proofs.Common.{◌≡◌, ℕ, suc, ◌+◌, ◌-◌, ◌^◌, ◌<◌, ◌≤◌, Bool, true, false, ◌&&◌, nat_le, List, [], ◌∷◌, ◌++◌, map, length, drop, Some, refl, sym, ap, ◌∙◌, arith, length-append, append_assoc}
 use Rattle.std.specs.List.{list_all, flat_map, slice_range}
-use Rattle.std.proofs.lemmas.Bool.{le-leb, leb-true}
-use Rattle.std.proofs.lemmas.List.{take_at, drop_at}
+use Rattle.std.proofs.lemmas.Bool.{le-leb, leb-true, and_parts}
+use Rattle.std.proofs.lemmas.List.{take_at, drop_at, append-nil}
 use Rattle.ii_io.specs.declared.composite_file.place.Place.{Place}
 use Rattle.ii_io.specs.Numbers.{number_at, le_bytes}
 use Rattle.ii_io.specs.NumberLemmas.{reads_what_is_written, length_le_bytes}
 use Rattle.ii_io.specs.Composite.{Body, place_bytes, places_at, lies_within, table_size, body_at, places_from, bodies_bytes, ReadsWrittenComposites}
 use Rattle.ii_io.specs.CompositeLemmas.{reads_place_back}
 use Rattle.ii_io.proofs.CompositeWriteLemmas.{length-places_bytes}
-
-append_nil : {A : Type 0} (xs : List A) → xs ++ [] ≡ xs
-append_nil [] = refl
-append_nil {A = A} (x ∷ xs) = ap (λ (ys : List A). x ∷ ys) (append_nil xs)
-
-and_true : (a b : Bool) → a && b ≡ true → (a ≡ true) × (b ≡ true)
-and_true true b e = (refl, e)
-and_true false b e = absurd (cc)
 
 abbrev fits_field : Body → Bool
 fits_field b = nat_le (b.field + 1) (2 ^ 32)
@@ -32,7 +24,7 @@ places_read start [] rest fields small = refl
 places_read start (b ∷ bs) rest fields small =
     let place : Place = record { field = b.field; start = start; end = start + length b.bytes } in
     let others = flat_map place_bytes (places_from (start + length b.bytes) bs) in
-    let both = and_true (fits_field b) (list_all fits_field bs) fields in
+    let both = and_parts (fits_field b) (list_all fits_field bs) fields in
     let field = leb-true (b.field + 1) (2 ^ 32) both.0 in
     let size = length-append b.bytes (bodies_bytes bs) in
     let first = reads_place_back place (others ++ rest) (omega arith) (omega arith) (omega arith) in
@@ -80,7 +72,7 @@ reads_written_composites bodies h =
     let split : file ≡ (content ++ table) ++ last = sym (append_assoc content table last) in
     let front_length : length (content ++ table) ≡ length file - 4 = omega (arith, length-append content table) in
     let footer : drop (length file - 4) file ≡ last = ap (λ (xs : List ℕ). drop (length file - 4) xs) split ∙ drop_at (content ++ table) last (length file - 4) front_length in
-    let number : number_at 4 last ≡ Some (length places, []) = ap (number_at 4) (sym (append_nil last)) ∙ reads_what_is_written 4 (length places) [] (omega arith) in
+    let number : number_at 4 last ≡ Some (length places, []) = ap (number_at 4) (sym (append-nil last)) ∙ reads_what_is_written 4 (length places) [] (omega arith) in
     let enough = le-leb (table_size (length places)) (length file) (omega arith) in
     let size : length file - table_size (length places) ≡ length content = omega arith in
     let behind : drop (length content) file ≡ table ++ last = drop_at content (table ++ last) (length content) refl in

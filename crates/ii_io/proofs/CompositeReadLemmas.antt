@@ -1,10 +1,11 @@
 -- Laws of reading a composite file place by place.
 use Rattle.std.proofs.Common.{◌≡◌, ℕ, zero, suc, ◌-◌, ◌<◌, ◌≤◌, Bool, true, false, ◌&&◌, ◌||◌, not, cond, nat_le, ◌==◌, List, [], ◌∷◌, ◌++◌, length, drop, Option, Some, None, refl, sym, ap, ◌∙◌, arith, append_assoc}
+use Rattle.std.proofs.lemmas.List.{append-nil}
 use Rattle.std.specs.List.{list_all}
 use Rattle.std.specs.Ordering.{is_eq, nat_cmp}
 use Rattle.std.proofs.lemmas.List.Folds.{list_all-append, list_any-append}
 use Rattle.std.proofs.lemmas.Bool.Decides.{nat_tests}
-use Rattle.std.proofs.lemmas.Bool.{leb-true, le-leb}
+use Rattle.std.proofs.lemmas.Bool.{leb-true, le-leb, and_parts}
 use Rattle.ii_io.specs.declared.composite_file.place.Place.{Place}
 use Rattle.ii_io.specs.Steps.{◌>>=◌, needs}
 use Rattle.ii_io.specs.Numbers.{number_at}
@@ -17,10 +18,6 @@ left size read n bytes = do
   later ← places_at n bytes
   _ ← needs (list_all (lies_within size) (read ++ later) && are_distinct (read ++ later))
   Some (read ++ later)
-
-append_nil : {A : Type 0} (xs : List A) → xs ++ [] ≡ xs
-append_nil [] = refl
-append_nil (x ∷ xs) = ap (λ (ys : List _). x ∷ ys) (append_nil xs)
 
 pub left-short : (size : ℕ) (read : List Place) (n : ℕ) (bytes : List ℕ) → 0 < n → place_at bytes ≡ None → left size read n bytes ≡ None
 left-short size read zero bytes some e = absurd (omega arith)
@@ -110,29 +107,25 @@ pub seen-more : (read : List Place) (p : Place) (q : ℕ) → cond (is_eq (nat_c
 seen-more read p q = same_tests p.field q (has_place q read) ∙ sym (list_any-append (λ (r : Place). r.field == q) read (p ∷ []))
 
 pub left-end : (size : ℕ) (read : List Place) (bytes : List ℕ) → list_all (lies_within size) read ≡ true → are_distinct read ≡ true → left size read 0 bytes ≡ Some read
-left-end size read bytes all distinct = rw (append_nil read, all, distinct) refl
-
-and_true : (a b : Bool) → a && b ≡ true → (a ≡ true) × (b ≡ true)
-and_true true b e = (refl, e)
-and_true false b e = absurd (cc)
+left-end size read bytes all distinct = rw (append-nil read, all, distinct) refl
 
 lies_wider : (size wider : ℕ) (p : Place) → size ≤ wider → lies_within size p ≡ true → lies_within wider p ≡ true
 lies_wider size wider p h e =
-    let parts = and_true (nat_le p.start p.end) (nat_le p.end size) e in
+    let parts = and_parts (nat_le p.start p.end) (nat_le p.end size) e in
     let end = leb-true p.end size parts.1 in
     rw (parts.0, le-leb p.end wider (omega arith)) refl
 
 all_wider : (size wider : ℕ) (places : List Place) → size ≤ wider → list_all (lies_within size) places ≡ true → list_all (lies_within wider) places ≡ true
 all_wider size wider [] h e = refl
 all_wider size wider (p ∷ ps) h e =
-    let parts = and_true (lies_within size p) (list_all (lies_within size) ps) e in
+    let parts = and_parts (lies_within size p) (list_all (lies_within size) ps) e in
     rw (lies_wider size wider p h parts.0, all_wider size wider ps h parts.1) refl
 
 lawful_lie : (size count : ℕ) (table : List ℕ) (places : List Place) → lawful_places size count table ≡ Some places → list_all (lies_within size) places ≡ true
 lawful_lie size count table places e =
     let found = step-some (places_at count table) (λ ps. needs (list_all (lies_within size) ps && are_distinct ps) >>= λ _. Some ps) places e in
     let tested = needs-some (list_all (lies_within size) found.0 && are_distinct found.0) (λ _. Some found.0) places found.2 in
-    let both = and_true (list_all (lies_within size) found.0) (are_distinct found.0) tested.0 in
+    let both = and_parts (list_all (lies_within size) found.0) (are_distinct found.0) tested.0 in
     rw (some-same tested.1) at both.0
 
 -- the places of a table lie in the file

@@ -1,7 +1,7 @@
 -- Laws of writing a composite file.
 use Rattle.std.proofs.Common.{◌≡◌, ℕ, zero, suc, ◌+◌, ◌-◌, ◌*◌, ◌<◌, ◌≤◌, List, [], ◌∷◌, ◌++◌, length, take, get_or, Some, Result, Ok, Err, OnOk, IfErr, IsErrOf, refl, sym, ap, ◌∙◌, arith, length-append, append_assoc}
 use Rattle.std.specs.List.{flat_map, slice_get}
-use Rattle.std.proofs.lemmas.List.{length-take-le}
+use Rattle.std.proofs.lemmas.List.{length-take-le, append-nil}
 use Rattle.ii_io.specs.declared.composite_file.place.Place.{Place}
 use Rattle.ii_io.specs.declared.composite_file.place.BodyStart.{BodyStart}
 use Rattle.ii_io.specs.declared.faults.Fault.{Fault}
@@ -52,16 +52,12 @@ length-table_bytes ps =
     let size = length_le_bytes 4 (length ps) in
     omega (arith, length-append (flat_map place_bytes ps) (le_bytes 4 (length ps)))
 
-append_nil : {A : Type 0} (xs : List A) → xs ++ [] ≡ xs
-append_nil [] = refl
-append_nil {A = A} (x ∷ xs) = ap (λ (ys : List A). x ∷ ys) (append_nil xs)
-
 -- one more place
 pub places_more : (ps : List Place) (i : ℕ) (p : Place) → slice_get ps i ≡ Some p → flat_map place_bytes (take (suc i) ps) ≡ flat_map place_bytes (take i ps) ++ place_bytes p
 places_more [] i p e = absurd (cc)
 places_more (q ∷ ps) zero p e =
     let same = some-same e in
-    append_nil (place_bytes q) ∙ ap place_bytes same
+    append-nil (place_bytes q) ∙ ap place_bytes same
 places_more (q ∷ ps) (suc i) p e =
     ap (λ (bs : List ℕ). place_bytes q ++ bs) (places_more ps i p e) ∙ sym (append_assoc (place_bytes q) (flat_map place_bytes (take i ps)) (place_bytes p))
 
@@ -73,7 +69,7 @@ front_size ps i h = length-places_bytes (take i ps) ∙ ap (λ (n : ℕ). 20 * n
 pub table_told : (r : Result (Unit {0}) Fault) (a b c d : Told) (ps : List Place) (n : ℕ) → length ps ≡ n → Tells a b (flat_map place_bytes ps) → Tells b c (le_bytes 4 n) → OnOk r (Tells c d []) → OnOk r (Tells a d (table_bytes ps))
 table_told (Ok x) a b c d ps n count places number flushed =
     let whole = Tells-trans a c d (flat_map place_bytes ps ++ le_bytes 4 n) [] (Tells-trans a b c (flat_map place_bytes ps) (le_bytes 4 n) places number) flushed in
-    rw count (rw append_nil at whole)
+    rw count (rw append-nil at whole)
 table_told (Err e) a b c d ps n count places number flushed = tt
 
 pub not_limit : (r : Result (Unit {0}) Fault) (name : LimitName) → IfErr r (λ e. e ≡ Write) → IsErrOf r (Limit name) → ⊥

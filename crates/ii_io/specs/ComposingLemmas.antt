@@ -1,16 +1,13 @@
 -- Laws of what a composite writer has written so far, for those who write bodies.
 use Rattle.std.proofs.Common.{◌≡◌, ℕ, ◌+◌, ◌-◌, List, [], ◌∷◌, ◌++◌, length, refl, ap, ◌∙◌, arith, length-append}
 use Rattle.std.proofs.lemmas.Grind.{flat_map-append}
+use Rattle.std.proofs.lemmas.List.{append-nil}
 use Rattle.ii_io.specs.declared.composite_file.place.BodyStart.{BodyStart}
 use Rattle.ii_io.specs.declared.composite_file.place.Place.{Place}
 use Rattle.ii_io.specs.Told.{Told}
 use Rattle.ii_io.specs.ToldLemmas.{Tells-trans}
 use Rattle.ii_io.specs.Composite.{Body, bodies_bytes, places_from}
 use Rattle.ii_io.specs.Composing.{Composing, AddsBody, HasBodies, written_bodies, starts_from, places_until, places_of}
-
-append_nil : {A : Type 0} (xs : List A) → xs ++ [] ≡ xs
-append_nil [] = refl
-append_nil {A = A} (x ∷ xs) = ap (λ (ys : List A). x ∷ ys) (append_nil xs)
 
 starts_from-more : (start : ℕ) (bodies : List Body) (b : Body) → starts_from start (bodies ++ b ∷ []) ≡ starts_from start bodies ++ record { field = b.field; start = start + length (bodies_bytes bodies) } ∷ []
 starts_from-more start [] b =
@@ -29,7 +26,7 @@ HasBodies-more begun old new bodies field bytes has adds =
     let base = has.base in
     let start : written_bodies old ≡ 0 + length (bodies_bytes bodies) = omega arith in
     let more = starts_from-more 0 bodies (record { field = field; bytes = bytes }) in
-    let content : bodies_bytes (bodies ++ record { field = field; bytes = bytes } ∷ []) ≡ bodies_bytes bodies ++ bytes = flat_map-append (λ (b : Body). b.bytes) bodies (record { field = field; bytes = bytes } ∷ []) ∙ ap (λ (xs : List ℕ). bodies_bytes bodies ++ xs) (append_nil bytes) in
+    let content : bodies_bytes (bodies ++ record { field = field; bytes = bytes } ∷ []) ≡ bodies_bytes bodies ++ bytes = flat_map-append (λ (b : Body). b.bytes) bodies (record { field = field; bytes = bytes } ∷ []) ∙ ap (λ (xs : List ℕ). bodies_bytes bodies ++ xs) (append-nil bytes) in
     record {
       told = rw content (Tells-trans begun old.told new.told (bodies_bytes bodies) bytes has.told adds.told);
       base = adds.base ∙ has.base;
@@ -39,7 +36,7 @@ HasBodies-more begun old new bodies field bytes has adds =
 -- bodies that stand one after the other have their places where they begin
 places_until-from : (start : ℕ) (bodies : List Body) → places_until (starts_from start bodies) (start + length (bodies_bytes bodies)) ≡ places_from start bodies
 places_until-from start [] = refl
-places_until-from start (b ∷ []) = rw append_nil refl
+places_until-from start (b ∷ []) = rw append-nil refl
 places_until-from start (b ∷ c ∷ bs) =
     let rest = bodies_bytes (c ∷ bs) in
     let end : start + length (b.bytes ++ rest) ≡ (start + length b.bytes) + length rest = omega (arith, length-append b.bytes rest) in

@@ -1,8 +1,10 @@
 -- Laws of what a counting writer is told, step by step.
 use Rattle.std.proofs.Common.{◌≡◌, ◌≤◌, ℕ, ◌+◌, true, false, List, ◌++◌, length, Result, Ok, Err, is_err, sym, ◌∙◌, arith, length-append, ⊎_elim, inl, inr}
-use Rattle.std.proofs.KnownBytes.{Appends-trans}
+use Rattle.std.proofs.KnownBytes.{Appends-nil, Appends-trans}
+use Rattle.std.proofs.lemmas.List.{take-append-le}
+use Rattle.std.proofs.Math.Seq.{take-append-add}
 use Rattle.ii_io.specs.declared.faults.Fault.{Fault}
-use Rattle.ii_io.specs.Told.{Told, Tells, IsFull, Writes}
+use Rattle.ii_io.specs.Told.{Told, Tells, TellsBeginning, IsFull, Writes}
 
 -- bytes behind others
 pub Tells-trans : (a b c : Told) (xs ys : List ℕ) → Tells a b xs → Tells b c ys → Tells a c (xs ++ ys)
@@ -11,6 +13,28 @@ Tells-trans a b c xs ys front back = record {
   written = let one = front.written in let two = back.written in omega (arith, length-append xs ys);
   failed = back.failed ∙ front.failed;
 }
+
+-- a beginning of bytes is one of what they begin
+pub begins_all : (a b : Told) (xs ys : List ℕ) → TellsBeginning a b xs → TellsBeginning a b (xs ++ ys)
+begins_all a b xs ys h = record {
+  count = h.count;
+  within = let within = h.within in omega (arith, length-append xs ys);
+  appends = rw (take-append-le h.count xs ys h.within) h.appends;
+  written = h.written;
+}
+
+-- a beginning behind bytes
+pub begins_then : (a b c : Told) (xs ys : List ℕ) → Tells a b xs → TellsBeginning b c ys → TellsBeginning a c (xs ++ ys)
+begins_then a b c xs ys front h = record {
+  count = length xs + h.count;
+  within = let within = h.within in omega (arith, length-append xs ys);
+  appends = rw (take-append-add xs ys h.count) (Appends-trans a.contents b.contents c.contents xs _ front.appends h.appends);
+  written = let one = front.written in let two = h.written in omega arith;
+}
+
+-- nothing was written yet
+pub begins_nothing : (a : Told) (xs : List ℕ) → TellsBeginning a a xs
+begins_nothing a xs = record { count = 0; within = omega arith; appends = Appends-nil a.contents; written = omega arith }
 
 -- a count that fewer bytes pass is passed by more
 pub full_more : (told : Told) (n size : ℕ) → n ≤ size → IsFull told n → IsFull told size

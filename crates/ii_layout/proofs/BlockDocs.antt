@@ -3,15 +3,11 @@ use Rattle.std.proofs.Common.{◌≡◌, ℕ, zero, suc, ◌+◌, ◌*◌, ◌<�
 use Rattle.std.proofs.lemmas.Bool.{ltb-true, leb-true}
 use Rattle.std.proofs.lemmas.List.{get_or-take, get_or-drop, get_or_append_left, drop-append-le, take-append-le, length-take-le, length-drop}
 use Rattle.ii_docset.specs.Entries.{ascend_from, are_documents}
+use Rattle.ii_docset.proofs.CursorLemmas.{and_parts}
 use Rattle.ii_codes.proofs.SortedVintLemmas.{falls_by}
 use Rattle.ii_codes.specs.Sums.{DoNotFall}
 use Rattle.ii_layout.specs.Written.{docs_of_block, last_before}
 use Rattle.ii_layout.specs.Serializing.{IsFullBlock}
-
-and_parts : (a b c : Bool) → (a && b && c) ≡ true → (a ≡ true) × (b ≡ true) × (c ≡ true)
-and_parts true true c h = (refl, refl, h)
-and_parts true false c h = absurd (cc)
-and_parts false b c h = absurd (cc)
 
 ascend_parts : (least d : ℕ) (ds : List ℕ) → ascend_from least (d ∷ ds) ≡ true → (least ≤ d) × (d < 2147483647) × (ascend_from (d + 1) ds ≡ true)
 ascend_parts least d ds h =

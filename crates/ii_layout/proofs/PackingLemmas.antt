@@ -1,5 +1,5 @@
 -- What a serializer keeps of documents, and what it writes.
-use Rattle.std.proofs.Common.{◌≡◌, ℕ, zero, suc, ◌+◌, ◌*◌, ◌/◌, ◌%◌, ◌<◌, ◌≤◌, true, List, [], ◌∷◌, ◌++◌, length, take, drop, get_or, refl, sym, ap, ◌∙◌, arith, length-append, Result, Ok, Err, OnOk}
+use Rattle.std.proofs.Common.{◌≡◌, ℕ, zero, suc, ◌+◌, ◌*◌, ◌/◌, ◌%◌, ◌<◌, ◌≤◌, true, List, [], ◌∷◌, ◌++◌, length, take, drop, get_or, refl, sym, ap, ◌∙◌, arith, length-append, Result, Ok, Err, OnOk, OnErr}
 use Rattle.std.specs.Prelude.{IsErrOf, ◌↔◌}
 use Rattle.std.proofs.lemmas.List.{flat_map_more, take_all, drop_at, get_or-append-add}
 use Rattle.std.specs.List.{flat_map, range_with_len}
@@ -8,8 +8,8 @@ use Rattle.ii_io.specs.NumberLemmas.{length_le_bytes}
 use Rattle.ii_io.specs.declared.faults.Fault.{Fault}
 use Rattle.ii_io.specs.declared.faults.Fault.TheVariants.{Limit}
 use Rattle.ii_io.specs.declared.faults.LimitName.TheVariants.{Offset}
-use Rattle.ii_io.specs.Told.{Told, Tells, IsFull}
-use Rattle.ii_io.specs.ToldLemmas.{Tells-trans, full_more, full_before, full_after}
+use Rattle.ii_io.specs.Told.{Told, Tells, TellsBeginning, IsFull}
+use Rattle.ii_io.specs.ToldLemmas.{Tells-trans, begins_all, begins_then, full_more, full_before, full_after}
 use Rattle.ii_io.specs.Vints.{vint_u64}
 use Rattle.ii_docset.specs.Entries.{are_documents}
 use Rattle.ii_codes.specs.Blocks.{least_first, sorted_entries, sorted_width, sorted_bytes}
@@ -225,3 +225,37 @@ all_fits (Ok v) docs rest skip postings ids entries middle tail last a b c p few
     let told = Tells-trans a b c (sized entries) middle first second in
     let given = limit.1 (full_after a c (sized entries ++ middle) (length tail) (length (written_documents (docs ++ rest))) told (omega arith) full) in
     absurd (cc)
+
+-- a beginning of a skip list behind its number
+pub list_begun : {T E : Type 0} (r : Result T E) (skip front : List ℕ) (a b c : Told) → 0 < length skip → front ≡ vint_u64 (length skip) → Tells a b front
+    → OnErr r (TellsBeginning b c skip) → OnErr r (TellsBeginning a c (sized skip))
+list_begun (Ok v) skip front a b c some front_is first more = tt
+list_begun (Err e) [] front a b c some front_is first more = absurd (omega arith)
+list_begun (Err e) (x ∷ xs) front a b c some front_is first more = rw (← front_is) (begins_then a b c front (x ∷ xs) first more)
+
+-- a beginning of one of the three parts, behind those before it
+pub list_begins : (docs rest skip postings entries : List ℕ) (last : ℕ) (a b : Told) → ArePacked docs last skip postings → length rest < 128 → entries ≡ skip
+    → TellsBeginning a b (sized entries) → TellsBeginning a b (written_documents (docs ++ rest))
+list_begins docs rest skip postings entries last a b p few entries_are begun =
+    let list = rw entries_are at begun in
+    rw (written_is docs rest skip postings last p few)
+    (begins_all a b (sized skip ++ postings) (sorted_vints last rest) (begins_all a b (sized skip) postings list))
+
+pub blocks_begin : (docs rest skip postings entries middle : List ℕ) (last : ℕ) (a b c : Told) → ArePacked docs last skip postings → length rest < 128 → entries ≡ skip → middle ≡ postings
+    → Tells a b (sized entries) → TellsBeginning b c middle → TellsBeginning a c (written_documents (docs ++ rest))
+blocks_begin docs rest skip postings entries middle last a b c p few entries_are middle_is first begun =
+    let list = rw entries_are at first in
+    let blocks = rw middle_is at begun in
+    rw (written_is docs rest skip postings last p few)
+    (begins_all a c (sized skip ++ postings) (sorted_vints last rest) (begins_then a b c (sized skip) postings list blocks))
+
+pub rest_begins : {T E : Type 0} (r : Result T E) (docs rest skip postings ids entries middle tail : List ℕ) (last : ℕ) (a b c d : Told) → ArePacked docs last skip postings → length rest < 128
+    → entries ≡ skip → middle ≡ postings → ids ≡ rest → tail ≡ sorted_vints last ids → Tells a b (sized entries) → Tells b c middle → OnErr r (TellsBeginning c d tail)
+    → OnErr r (TellsBeginning a d (written_documents (docs ++ rest)))
+rest_begins (Ok v) docs rest skip postings ids entries middle tail last a b c d p few entries_are middle_is ids_are tail_is first second begun = tt
+rest_begins (Err e) docs rest skip postings ids entries middle tail last a b c d p few entries_are middle_is ids_are tail_is first second begun =
+    let list = rw entries_are at first in
+    let blocks = rw middle_is at second in
+    let behind = rw (tail_is ∙ ap (sorted_vints last) ids_are) at begun in
+    rw (written_is docs rest skip postings last p few)
+    (begins_then a c d (sized skip ++ postings) (sorted_vints last rest) (Tells-trans a b c (sized skip) postings list blocks) behind)

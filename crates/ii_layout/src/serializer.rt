@@ -1,6 +1,6 @@
 ghost use Rattle.std.specs.Prelude.{◌≡◌, ◌<◌, ◌↔◌, ◌⊎◌, [], ◌∷◌, ◌++◌, length, slice_index, false, IsTrue, OnOk, OnErr, IfErr, IsErrOf};
 ghost use Rattle.ii_base.specs.declared.schema.index_record_option.IndexRecordOption.TheVariants.{Basic};
-ghost use Rattle.ii_io.specs.Told.{Tells, IsFull};
+ghost use Rattle.ii_io.specs.Told.{Tells, TellsBeginning, IsFull};
 ghost use Rattle.ii_io.specs.Numbers.{le_bytes};
 ghost use Rattle.ii_codes.specs.Blocks.{sorted_width, sorted_bytes};
 ghost use Rattle.ii_docset.specs.Entries.{are_documents};
@@ -108,6 +108,7 @@ impl PackedBlocks {
         ensures limit { IsErrOf result (Fault.Limit LimitName.Offset)
             → IsFull output_write.old (length (written_documents (self.old ++ rest.now))) }
         ensures fits { OnOk result (¬ IsFull output_write.old (length (written_documents (self.old ++ rest.now)))) }
+        ensures begun { OnErr result (TellsBeginning output_write.old output_write.new (written_documents (self.old ++ rest.now))) }
         ensures only { IfErr result (λ e. (e ≡ Fault.Write) ⊎ (e ≡ Fault.Limit LimitName.Offset)) }
     {
         write_skip_list(self.skip_write.data(), output_write)?;
@@ -145,6 +146,7 @@ fn write_skip_list<W: Write>(
     ensures ok { OnOk result (Tells output_write.old output_write.new (sized skip_data.now)) }
     ensures write { IsErrOf result Fault.Write ↔ (output_write.old.failed < output_write.new.failed) }
     ensures limit { IsErrOf result (Fault.Limit LimitName.Offset) → IsFull output_write.old (length (sized skip_data.now)) }
+    ensures begun { OnErr result (TellsBeginning output_write.old output_write.new (sized skip_data.now)) }
     ensures only { IfErr result (λ e. (e ≡ Fault.Write) ⊎ (e ≡ Fault.Limit LimitName.Offset)) }
 {
     if skip_data.is_empty() {
@@ -253,7 +255,8 @@ impl PostingsSerializer {
     /// Writes the postings of the term, which has `doc_freq` documents, and ends it.
     ///
     /// `Write` where the writer fails, `Limit(Offset)` where a count of the writer would pass
-    /// `u64::MAX`; `SerializerClosed` after an earlier refusal.
+    /// `u64::MAX`: a beginning of the postings is then written. `SerializerClosed` after an earlier
+    /// refusal, and nothing is written.
     pub fn close_term<W: Write>(
         &mut self,
         doc_freq: u32,
@@ -268,6 +271,8 @@ impl PostingsSerializer {
         ensures limit { IsErrOf result (Fault.Limit LimitName.Offset)
             → IsFull output_write.old (length (written_documents self.old.docs)) }
         ensures fits { OnOk result (¬ IsFull output_write.old (length (written_documents self.old.docs))) }
+        ensures begun { OnErr result (TellsBeginning output_write.old output_write.new (written_documents self.old.docs)) }
+        ensures untouched { IsTrue self.old.closed → output_write.new ≡ output_write.old }
         ensures only { IfErr result (λ e. (e ≡ Fault.Write) ⊎ (e ≡ Fault.Limit LimitName.Offset) ⊎ (e ≡ Fault.SerializerClosed)) }
         ensures err { OnErr result (IsTrue self.new.closed) }
     {

@@ -8,27 +8,52 @@ use ii_docset::TERMINATED;
 use ii_fieldnorm::FieldNormReader;
 use ii_io::FailingWriter;
 use std::alloc::Global;
+use std::io::Write;
 use std::test::Fail;
 
-// What is written of the documents below `count`.
-fn bytes_below(alloc: Global, count: u32) -> Result<Vec<u8>, Fault>
+// Writes the documents below `count`.
+fn write_below<W: Write>(
+    alloc: Global,
+    count: u32,
+    output: &mut CountingWriter<W>,
+) -> Result<(), Fault>
     requires { count ≤ 256 }
 {
     let mut serializer = PostingsSerializer::new(alloc, IndexRecordOption::Basic, None);
     for doc in 0..count {
         serializer.write_doc(doc, 1)?;
     }
-    let mut output = CountingWriter::wrap(Vec::new(alloc));
-    serializer.close_term(count, &mut output)?;
-    Ok(output.finish())
+    serializer.close_term(count, output)
 }
 
 #[test]
 fn blocks_are_written(rt: HostRuntime) -> Result<(), Fail> {
-    let bytes = bytes_below(rt.alloc(), 128)?;
-    assert_eq!(rt; bytes.as_slice(), [0x85, 0x7F, 0, 0, 0, 0x40].as_slice());
+    let mut output = CountingWriter::wrap(Vec::new(rt.alloc()));
+    write_below(rt.alloc(), 128, &mut output)?;
+    assert_eq!(rt;
+        output.finish().as_slice(),
+        [0x85, 0x7F, 0, 0, 0, 0x40].as_slice()
+    );
     reads_documents_back();
     Ok(())
+}
+
+#[test]
+fn a_failing_writer_is_told(rt: HostRuntime) {
+    let right = [0x85, 0x7F, 0, 0, 0, 0x40, 0x81, 0x81];
+    for k in 1..6 {
+        let mut output = CountingWriter::wrap(FailingWriter::new(rt.alloc(), k));
+        let answer = write_below(rt.alloc(), 130, &mut output);
+        assert_eq!(rt; answer.is_err(), k < 4, "call {k}");
+        assert!(rt; answer.is_ok() || answer == Err(Fault::Write), "call {k}");
+        let writer = output.finish();
+        let written = if k < 4 {
+            usize::from(k > 1) + usize::from(k > 2) * 5
+        } else {
+            8
+        };
+        assert_eq!(rt; writer.bytes(), &right[..written], "call {k}");
+    }
 }
 
 #[test]

@@ -1,0 +1,44 @@
+ghost use Rattle.std.specs.Prelude.{◌≡◌, []};
+
+use bytes::Bytes;
+use ii_io::{CompositeFile, CompositeWrite, CountingWriter, Fault, Field};
+use std::alloc::{AllocError, Global};
+use std::io::Write;
+
+/// A composite file of two bodies is written and opened; then three fields are asked for.
+pub fn read_back(alloc: Global) -> Result<String, Fault> {
+    let mut composite = CompositeWrite::wrap(alloc, CountingWriter::wrap(Vec::new(alloc)));
+    let written = write_two(&mut composite);
+    let (writer, closed) = composite.close();
+    written.and(closed)?;
+    let file = CompositeFile::open(alloc, Bytes::from_vec(writer.finish())?)?.clone()?;
+    let mut text = String::new(alloc);
+    for id in [7, 1, 2] {
+        write!(text, " {id} is")?;
+        match file.open_read(Field::from_field_id(id))? {
+            Some(body) => push_bytes(&mut text, body.as_slice())?,
+            None => write!(text, " not there")?,
+        }
+    }
+    Ok(text)
+}
+
+// Bodies of the fields 7 and 1.
+fn write_two<W: Write>(composite: &mut CompositeWrite<W>) -> Result<(), Fault>
+    requires { composite.old.starts ≡ [] }
+{
+    composite
+        .for_field(Field::from_field_id(7))?
+        .write_all(&[5, 6])?;
+    composite
+        .for_field(Field::from_field_id(1))?
+        .write_all(&[8])
+}
+
+// Adds numbers to a text.
+fn push_bytes(text: &mut String, bytes: &[u8]) -> Result<(), AllocError> {
+    for byte in bytes {
+        write!(text, " {byte}")?;
+    }
+    Ok(())
+}

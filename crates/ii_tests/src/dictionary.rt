@@ -1,0 +1,67 @@
+ghost use Rattle.std.specs.Prelude.{◌≡◌, ◌≤◌};
+ghost use Rattle.ii_termdict.specs.TermInfos.{HasLengths};
+
+use bytes::Bytes;
+use ii_io::{CountingWriter, Fault};
+use ii_termdict::{TermDictionary, TermDictionaryBuilder, TermInfo};
+use std::alloc::Global;
+use std::io::Write;
+
+/// A dictionary of three keys is built and opened; then each is looked up by its place, and a key
+/// that isn't there.
+pub fn read_back(alloc: Global) -> Result<String, Fault> {
+    let writer = CountingWriter::wrap(Vec::new(alloc));
+    let mut builder = TermDictionaryBuilder::create(alloc, writer);
+    let inserted = insert_three(&mut builder);
+    let (writer, finished) = builder.finish();
+    inserted.and(finished)?;
+    let terms = TermDictionary::open(Bytes::from_vec(writer.finish())?)?;
+    let mut text = String::new(alloc);
+    let mut key = Vec::new(alloc);
+    for ord in 0..4 {
+        if terms.ord_to_term(ord, &mut key)? {
+            push_term(&mut text, terms.get(&key))?;
+        }
+    }
+    push_term(&mut text, terms.get(b"c"))?;
+    Ok(text)
+}
+
+// The keys a, ab and b.
+fn insert_three<W: Write>(builder: &mut TermDictionaryBuilder<W>) -> Result<(), Fault> {
+    builder.insert_key(b"a")?;
+    builder.insert_value(&term(1, 0, 10))?;
+    builder.insert_key(b"ab")?;
+    builder.insert_value(&term(2, 10, 20))?;
+    builder.insert_key(b"b")?;
+    builder.insert_value(&term(3, 30, 30))
+}
+
+// A term without positions.
+fn term(doc_freq: u32, start: u32, len: u32) -> TermInfo
+    requires near { start ≤ 1000 }
+    requires short { len ≤ 1000 }
+    ensures { HasLengths result }
+{
+    let (start, len) = (start as usize, len as usize);
+    TermInfo {
+        doc_freq,
+        postings_range: start..start + len,
+        positions_range: 0..0,
+    }
+}
+
+// Adds what is kept of a term.
+fn push_term(text: &mut String, info: Option<TermInfo>) -> Result<(), Fault> {
+    let Some(info) = info else {
+        write!(text, " not there")?;
+        return Ok(());
+    };
+    let (count, start, end) = (
+        info.doc_freq,
+        info.postings_range.start,
+        info.postings_range.end,
+    );
+    write!(text, " {count} in {start}..{end}")?;
+    Ok(())
+}

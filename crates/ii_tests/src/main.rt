@@ -1,0 +1,37 @@
+//! Parts of the index put together: what was read back is printed, or the fault of a call that was
+//! refused. The tests of memory run it with each allocation refused in turn.
+#![tactic(auto)]
+
+mod composite;
+mod dictionary;
+mod norms;
+mod postings;
+mod schema;
+
+use ii_io::Fault;
+use std::io;
+use std::process::ExitCode;
+
+fn main(rt: HostRuntime) -> ExitCode {
+    match report_all(&rt) {
+        Ok(()) => ExitCode::SUCCESS,
+        Err(_) => ExitCode::from(2),
+    }
+}
+
+// A line for each part.
+fn report_all(rt: &HostRuntime) -> io::Result<()> {
+    report(rt, "composite", composite::read_back(rt.alloc()))?;
+    report(rt, "schema", schema::read_back(rt.alloc()))?;
+    report(rt, "norms", norms::read_back(rt.alloc()))?;
+    report(rt, "postings", postings::read_back(rt.alloc()))?;
+    report(rt, "dictionary", dictionary::read_back(rt.alloc()))
+}
+
+// Prints what was read back, or the fault.
+fn report(rt: &HostRuntime, name: &str, answer: Result<String, Fault>) -> io::Result<()> {
+    match answer {
+        Ok(text) => println!(rt; "{name}:{text}"),
+        Err(fault) => println!(rt; "{name}: {fault}"),
+    }
+}

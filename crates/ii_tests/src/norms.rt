@@ -1,0 +1,28 @@
+use crate::schema::two_fields;
+use bytes::Bytes;
+use ii_base::{CountingWriter, Fault, Field, Part};
+use ii_fieldnorm::{FieldNormReaders, FieldNormsSerializer, FieldNormsWriter};
+use std::alloc::Global;
+
+/// Norms of four documents are recorded, written and opened.
+pub fn read_back(alloc: Global) -> Result<String, Fault> {
+    let mut norms = FieldNormsWriter::for_schema(alloc, &two_fields(alloc)?)?;
+    norms.record(0, Field::from_field_id(0), 13)?;
+    norms.record(2, Field::from_field_id(0), 41)?;
+    norms.fill_up_to_max_doc(4)?;
+    let writer = CountingWriter::wrap(Vec::new(alloc));
+    let (writer, written) = norms.serialize(FieldNormsSerializer::from_write(alloc, writer));
+    written?;
+    let bytes = Bytes::from_vec(writer.finish())?;
+    let readers = FieldNormReaders::open(alloc, bytes)?.clone()?;
+    let Some(reader) = readers.get_field(Field::from_field_id(0))? else {
+        return Err(Fault::Damaged(Part::FieldNorms));
+    };
+    let reader = reader.clone()?;
+    let mut text = String::new(alloc);
+    for doc in 0..reader.num_docs() {
+        let norm = reader.fieldnorm(doc);
+        write!(text, " {norm}")?;
+    }
+    Ok(text)
+}

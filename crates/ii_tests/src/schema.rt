@@ -1,0 +1,26 @@
+ghost use Rattle.std.specs.Prelude.{◌≡◌, [], ◌∷◌, Some, None, IfOk};
+ghost use Rattle.ii_fieldnorm.specs.Buffers.{empty_buffers};
+
+use ii_base::{Fault, FieldEntry, IndexRecordOption, Schema, ValueType};
+use std::alloc::{AllocError, Global};
+
+/// A schema is made, and its fields are gone over.
+pub fn read_back(alloc: Global) -> Result<String, Fault> {
+    let schema = two_fields(alloc)?;
+    let mut text = String::new(alloc);
+    for (field, entry) in schema.fields() {
+        let (id, name, code) = (field.field_id(), entry.name(), entry.value_type().to_code());
+        write!(text, " {id} is {name} of {code}")?;
+    }
+    Ok(text)
+}
+
+/// One field of texts with norms, and one of numbers without.
+pub fn two_fields(alloc: Global) -> Result<Schema, AllocError>
+    ensures { IfOk result (λ schema. empty_buffers schema ≡ Some [] ∷ None ∷ []) }
+{
+    let option = IndexRecordOption::WithFreqs;
+    let text = FieldEntry::text(String::from_str(alloc, "text")?, option, true);
+    let number = FieldEntry::value(String::from_str(alloc, "number")?, ValueType::U64, false);
+    Ok(Schema::new(vec![in alloc; text, number]?))
+}

@@ -1,0 +1,49 @@
+#!/usr/bin/env python3
+"""Runs the parts that `ii_tests` puts together with each allocation refused in turn: each line has to be the right
+one, but for the one that says that memory was refused, or its writer, which is over memory."""
+import os
+import sys
+import tempfile
+
+sys.dont_write_bytecode = True
+sys.path.insert(0, os.path.dirname(os.path.dirname(os.path.abspath(__file__))))
+import refusing
+
+REFUSALS = (b'out of memory', b'the writer failed')
+
+
+def refusals(got, right):
+    """How many lines say that they were refused, or None where a line is neither that nor the right one."""
+    lines, wanted = got.split(b'\n'), right.split(b'\n')
+    if len(lines) != len(wanted):
+        return None
+    others = [(line, want) for line, want in zip(lines, wanted) if line != want]
+    for line, want in others:
+        name = want.split(b':')[0]
+        if line not in [name + b': ' + refusal for refusal in REFUSALS]:
+            return None
+    return len(others)
+
+
+def main():
+    if not refusing.build('ii_tests'):
+        print('tests/memory: the parts were not built')
+        return 1
+    with open(os.path.join(refusing.TOP, 'crates', 'ii_tests', 'stdout'), 'rb') as f:
+        right = f.read()
+    os.dup2(2, 3)
+    with tempfile.TemporaryDirectory() as folder:
+        library = refusing.shim(folder)
+        for refused in range(1, 100000):
+            done, was_refused = refusing.run('ii_tests', b'', library, refused, folder)
+            count = refusals(done.stdout, right)
+            if done.stderr or done.returncode != 0 or count != (1 if was_refused else 0):
+                print(f'tests/memory: allocation {refused} of the parts refused: status {done.returncode}, {done.stdout!r}')
+                return 1
+            if not was_refused:
+                print(f'tests/memory: {refused - 1} allocations of the parts refused in turn')
+                return 0 if refused > 1 else 1
+    return 1
+
+
+sys.exit(main())
