@@ -105,7 +105,8 @@ impl<W: Write> TermDictionaryBuilder<W> {
         Ok(())
     }
 
-    /// Writes the dictionary of all terms, and hands the writer back.
+    /// Writes the dictionary of all terms, and hands the writer back. Opened again it holds these keys
+    /// and terms, where the keys ascend and the terms' ranges join.
     ///
     /// `Write` where the writer fails, `Limit(Offset)` where a count of the writer would pass
     /// `u64::MAX`; `SerializerClosed` after an earlier refusal.

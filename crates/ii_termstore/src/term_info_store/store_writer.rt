@@ -72,7 +72,8 @@ impl TermInfoStoreWriter {
     }
 
     /// Writes the store of all terms: the length of the metas and the number of terms in 8 bytes each,
-    /// the metas of the blocks, and their bits.
+    /// the metas of the blocks, and their bits. Opened again it holds these terms, where their ranges
+    /// join.
     ///
     /// `Write` where the writer fails, `Limit(Offset)` where a count of the writer would pass
     /// `u64::MAX`; `SerializerClosed` after an earlier refusal. It takes no memory.
