@@ -1,9 +1,12 @@
 -- Laws of what a counting writer is told, step by step.
-use Rattle.std.proofs.Common.{◌≡◌, ◌≤◌, ℕ, ◌+◌, true, false, List, ◌++◌, length, Result, Ok, Err, is_err, sym, ◌∙◌, arith, length-append, ⊎_elim, inl, inr}
+use Rattle.std.proofs.Common.{◌≡◌, ◌<◌, ◌≤◌, ℕ, ◌+◌, true, false, List, ◌++◌, length, Result, Ok, Err, is_err, sym, ◌∙◌, arith, length-append, ⊎_elim, inl, inr}
+use Rattle.std.specs.Prelude.{OnOk, IfErr, IsErrOf, ◌⊎◌, ◌↔◌}
 use Rattle.std.proofs.KnownBytes.{Appends-nil, Appends-trans}
 use Rattle.std.proofs.lemmas.List.{take-append-le}
 use Rattle.std.proofs.Math.Seq.{take-append-add}
 use Rattle.ii_io.specs.declared.faults.Fault.{Fault}
+use Rattle.ii_io.specs.declared.faults.Fault.TheVariants.{Write, Limit}
+use Rattle.ii_io.specs.declared.faults.LimitName.TheVariants.{Offset}
 use Rattle.ii_io.specs.Told.{Told, Tells, TellsBeginning, IsFull, Writes}
 
 -- bytes behind others
@@ -74,3 +77,8 @@ writes_refused_by a b xs ys (Err f) e h = writes_refused a b xs ys f h
 pub writes_went : (a b : Told) (xs : List ℕ) (result : Result (Unit {0}) Fault) → false ≡ is_err result → Writes a b xs result → Tells a b xs
 writes_went a b xs (Ok u) e h = h.ok
 writes_went a b xs (Err f) e h = absurd (cc)
+
+-- a call that answers Limit exactly where a count is full
+pub writes_by : {old new : Told} {bytes : List ℕ} (result : Result (Unit {0}) Fault) → OnOk result (Tells old new bytes) → (IsErrOf result Write ↔ (old.failed < new.failed)) → (IsErrOf result (Limit Offset) ↔ IsFull old (length bytes))
+    → IfErr result (λ e. (e ≡ Write) ⊎ (e ≡ Limit Offset)) → Writes old new bytes result
+writes_by result ok write limit only = record { ok = ok; write = write; limit = limit.0; only = only }

@@ -4,15 +4,15 @@ use Rattle.std.specs.Prelude.{is_err, OnOk, ◌^◌}
 use Rattle.std.specs.List.{flat_map, zip}
 use Rattle.std.proofs.lemmas.List.{append-nil, take-append-drop, drop_more}
 use Rattle.ii_io.specs.declared.faults.Fault.{Fault}
-use Rattle.ii_io.specs.Told.{Told, Tells}
+use Rattle.ii_io.specs.Told.{Told, Tells, Writes}
 use Rattle.ii_io.specs.Numbers.{le_bytes}
 use Rattle.ii_termstore.specs.declared.term_info.TermInfo.{TermInfo}
 use Rattle.ii_termdict.specs.Dictionary.{dictionary}
 use Rattle.ii_termstore.specs.ReadBack.{AreJoined, AreStorable}
 use Rattle.ii_termdict.specs.ReadBack.{AreAscending, ReadsDictionaryBack}
-use Rattle.ii_termstore.specs.Written.{Writes, written_store}
+use Rattle.ii_termstore.specs.Written.{written_store}
 use Rattle.ii_termdict.specs.Written.{Building, HasKeys, ends_from, written_dictionary}
-use Rattle.ii_termstore.specs.WritesLemmas.{writes_then, writes_refused_by}
+use Rattle.ii_io.specs.ToldLemmas.{writes_then, writes_refused_by}
 
 flat_append : (f : ℕ → List ℕ) (xs ys : List ℕ) → flat_map f (xs ++ ys) ≡ flat_map f xs ++ flat_map f ys
 flat_append f [] ys = refl

@@ -1,13 +1,13 @@
 ghost use Rattle.std.specs.Prelude.{◌≡◌, ◌≤◌, ◌<◌, ◌↔◌, ◌⊎◌, ℕ, List, [], ◌∷◌, ◌++◌, true, false, length, Ok, OnOk, OnErr, IfErr, IsErrOf, IsTrue};
 ghost use Rattle.std.specs.List.{flat_map, zip};
 ghost use Rattle.ii_io.specs.Numbers.{le_bytes};
-ghost use Rattle.ii_io.specs.Told.{Tells, IsFull};
+ghost use Rattle.ii_io.specs.Told.{Tells, IsFull, Writes};
 ghost use Rattle.ii_termdict.specs.Dictionary.{dictionary};
 ghost use Rattle.ii_termdict.specs.ReadBack.{AreAscending};
 ghost use Rattle.ii_termstore.specs.ReadBack.{AreJoined};
 ghost use Rattle.ii_termstore.specs.TermInfos.{HasLengths};
 ghost use Rattle.ii_termdict.specs.Written.{Building, HasKeys, written_dictionary};
-ghost use Rattle.ii_termstore.specs.Written.{HaveLengths, Writes, written_store};
+ghost use Rattle.ii_termstore.specs.Written.{HaveLengths, written_store};
 
 use crate::written::reads_dictionary_back;
 use ii_io::{BinarySerializable, CountingWriter, Fault, LimitName};

@@ -1,5 +1,5 @@
 -- Rows of bits that are written step by step.
-use Rattle.ii_termstore.specs.WritesLemmas.{tells_then, full_before}
+use Rattle.ii_io.specs.ToldLemmas.{Tells-trans, full_before}
 use Rattle.std.proofs.Common.{◌≡◌, ℕ, zero, suc, ◌+◌, ◌-◌, ◌*◌, ◌/◌, ◌%◌, ◌<◌, ◌≤◌, List, [], ◌∷◌, ◌++◌, length, take, map, get_or, Result, Ok, Err, max, true, false, refl, sym, ap, ◌∙◌, arith, length-append, length-drop, append_assoc}
 use Rattle.std.specs.Prelude.{OnOk, IfErr, IsErrOf, is_err, ◌⊎◌, ◌↔◌}
 use Rattle.std.proofs.KnownBytes.{Appends-nil}
@@ -8,10 +8,10 @@ use Rattle.std.proofs.lemmas.List.FromFn.{length-map-range_with_len}
 use Rattle.ii_io.specs.declared.faults.Fault.{Fault}
 use Rattle.ii_io.specs.declared.faults.Fault.TheVariants.{Write, Limit}
 use Rattle.ii_io.specs.declared.faults.LimitName.TheVariants.{Offset}
-use Rattle.ii_io.specs.Told.{Told, Tells, IsFull}
+use Rattle.ii_io.specs.Told.{Told, Tells, IsFull, Writes}
 use Rattle.ii_codes.specs.Packed.{bits_in, entries_in}
 use Rattle.ii_codes.specs.Bits.{low_bits, whole_bytes, bits_left, bits_bytes, WritesOneRow}
-use Rattle.ii_termstore.specs.Written.{Writes, IsPacking, Packs, largest, last_of, term_row, block_row, info_in, postings_behind, positions_behind, postings_end, positions_end}
+use Rattle.ii_termstore.specs.Written.{IsPacking, Packs, largest, last_of, term_row, block_row, info_in, postings_behind, positions_behind, postings_end, positions_end}
 use Rattle.ii_termstore.specs.TermStore.{term_bits}
 use Rattle.ii_termstore.specs.TermInfos.{info_of}
 use Rattle.ii_termstore.specs.declared.term_info_store.block_meta.TermInfoBlockMeta.{TermInfoBlockMeta as Meta}
@@ -41,7 +41,7 @@ pub pack_more : (law : WritesOneRow) (begun told new : Told) (pending left row :
 pack_more law begun told new pending left row w val size (Ok u) h small ok rest write limit only =
     let joined = law row (low_bits w val) in
     let tells = h.tells in
-    let told_all = tells_then begun told new (whole_bytes row) (whole_bytes (pending ++ low_bits w val)) tells ok in
+    let told_all = Tells-trans begun told new (whole_bytes row) (whole_bytes (pending ++ low_bits w val)) tells ok in
     let whole = rw h.left at told_all in
     let left_all = rw h.left at rest in
     record {
@@ -72,7 +72,7 @@ pub pack_end : (law : WritesOneRow) (begun told new : Told) (pending row : List 
 pack_end law begun told new pending row (Ok u) h ok write limit only =
     let joined = law row [] in
     let tells = h.tells in
-    let all = rw h.left at (tells_then begun told new (whole_bytes row) (bits_bytes pending) tells ok) in
+    let all = rw h.left at (Tells-trans begun told new (whole_bytes row) (bits_bytes pending) tells ok) in
     record { ok = rw (← joined.2) all; write = rw (← tells.failed) write; limit = λ e. absurd (cc); only = tt }
 pack_end law begun told new pending row (Err e) h ok write limit only =
     let tells = h.tells in

@@ -7,16 +7,16 @@ use Rattle.std.proofs.lemmas.Nat.{mul-le}
 use Rattle.std.proofs.lemmas.List.{append-nil, take_rest, take_min, length-take, get_or-take, get_or-drop, flat_map_more}
 use Rattle.std.proofs.lemmas.List.Sums.{sum_by-append, sum_by-cons}
 use Rattle.ii_io.specs.declared.faults.Fault.{Fault}
-use Rattle.ii_io.specs.Told.{Told, Tells}
+use Rattle.ii_io.specs.Told.{Told, Tells, Writes}
 use Rattle.ii_io.specs.Numbers.{le_bytes}
 use Rattle.ii_codes.specs.Bits.{bits_bytes}
 use Rattle.ii_termstore.specs.declared.term_info.TermInfo.{TermInfo}
 use Rattle.ii_termstore.specs.declared.term_info_store.block_meta.TermInfoBlockMeta.{TermInfoBlockMeta as Meta}
 use Rattle.ii_termstore.specs.TermInfos.{info_of, HasLengths}
 use Rattle.ii_termstore.specs.TermStore.{term_bits, block_count}
-use Rattle.ii_termstore.specs.Written.{Writes, HaveLengths, info_in, first_of, largest, postings_behind, positions_behind, meta_for, block_row, block_of, block_bytes, offset_of, meta_at_block, metas_bytes, blocks_bytes, written_store, AreNarrow, FitsWidths, EndsFit, FitsBlock}
+use Rattle.ii_termstore.specs.Written.{HaveLengths, info_in, first_of, largest, postings_behind, positions_behind, meta_for, block_row, block_of, block_bytes, offset_of, meta_at_block, metas_bytes, blocks_bytes, written_store, AreNarrow, FitsWidths, EndsFit, FitsBlock}
 use Rattle.ii_termstore.specs.ListLemmas.{range_more}
-use Rattle.ii_termstore.specs.WritesLemmas.{tells_then, writes_then, writes_refused_by, writes_went}
+use Rattle.ii_io.specs.ToldLemmas.{Tells-trans, writes_then, writes_refused_by, writes_went}
 use Rattle.ii_termstore.proofs.PackLemmas.{length-bits_bytes, length-block_row}
 
 pub front_of_rest : (infos : List TermInfo) (at_place n : ℕ) → n ≡ min (length (take (length infos - at_place) (drop at_place infos))) 256 → take n (take (length infos - at_place) (drop at_place infos)) ≡ take 256 (drop at_place infos)
@@ -37,7 +37,7 @@ flat_more f b =
 pub pieces_more : (f : ℕ → List ℕ) (b : ℕ) (begun told new : Told) (result : Result (Unit {0}) Fault) → Tells begun told (flat_map f (range_with_len 0 b)) → false ≡ is_err result → Writes told new (f b) result
     → Tells begun new (flat_map f (range_with_len 0 (b + 1)))
 pieces_more f b begun told new result h went put =
-    rw (flat_more f b) (tells_then begun told new (flat_map f (range_with_len 0 b)) (f b) h (writes_went told new (f b) result went put))
+    rw (flat_more f b) (Tells-trans begun told new (flat_map f (range_with_len 0 b)) (f b) h (writes_went told new (f b) result went put))
 
 flat_from : (f : ℕ → List ℕ) (a n : ℕ) → flat_map f (range_with_len a (suc n)) ≡ f a ++ flat_map f (range_with_len (a + 1) n)
 flat_from f a n = refl
@@ -150,7 +150,7 @@ pub store_written : (infos : List TermInfo) (begun told then_told new : Told) (f
 unfolding written_store
 store_written infos begun told then_told new first second result went h went_too k l =
     writes_then begun then_told new (le_bytes 8 (39 * block_count (length infos)) ++ le_bytes 8 (length infos) ++ metas_bytes infos (block_count (length infos))) (blocks_bytes infos (block_count (length infos))) result
-    (tells_then begun told then_told (le_bytes 8 (39 * block_count (length infos)) ++ le_bytes 8 (length infos)) (metas_bytes infos (block_count (length infos))) (writes_went begun told _ first went h) (writes_went told then_told _ second went_too k)) l
+    (Tells-trans begun told then_told (le_bytes 8 (39 * block_count (length infos)) ++ le_bytes 8 (length infos)) (metas_bytes infos (block_count (length infos))) (writes_went begun told _ first went h) (writes_went told then_told _ second went_too k)) l
 
 pub size_of_block : (infos : List TermInfo) (b : ℕ) (slice : List TermInfo) (m : Meta) (p q d : ℕ) → slice ≡ block_of infos b → p ≡ m.postings_offset_nbits → q ≡ m.positions_offset_nbits → d ≡ m.doc_freq_nbits
     → m ≡ meta_for 0 (first_of (block_of infos b)) (drop 1 (block_of infos b)) → ((length slice - 1) * (p + q + d) + (p + q) + 7) / 8 ≡ length (block_bytes infos b)

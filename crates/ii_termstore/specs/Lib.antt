@@ -5,4 +5,3 @@ pub mod TermInfos
 pub mod TermStore
 pub mod TermStoreLemmas
 pub mod Written
-pub mod WritesLemmas

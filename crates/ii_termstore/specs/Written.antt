@@ -13,13 +13,6 @@ use Rattle.ii_termstore.specs.declared.term_info_store.block_meta.TermInfoBlockM
 use Rattle.ii_termstore.specs.TermInfos.{info_of, HasLengths}
 use Rattle.ii_termstore.specs.TermStore.{meta_bytes, block_count}
 
--- How a call ends that writes these bytes.
-pub record Writes (old new : Told) (bytes : List ℕ) (result : Result (Unit {0}) Fault) : Type 0 where
-  pub ok : OnOk result (Tells old new bytes)
-  pub write : IsErrOf result Write ↔ (old.failed < new.failed)
-  pub limit : IsErrOf result (Limit Offset) → IsFull old (length bytes)
-  pub only : IfErr result (λ e. (e ≡ Write) ⊎ (e ≡ Limit Offset))
-
 -- Since the beginning a row of bits was written but for those that are left.
 pub record IsPacking (begun told : Told) (pending row : List ℕ) : Type 0 where
   pub tells : Tells begun told (whole_bytes row)

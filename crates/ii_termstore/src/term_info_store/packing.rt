@@ -1,9 +1,9 @@
 ghost use Rattle.std.specs.Prelude.{◌≡◌, ℕ, ◌+◌, ◌-◌, ◌*◌, ◌^◌, ◌<◌, ◌≤◌, List, ◌++◌, length, map, max, drop};
-ghost use Rattle.ii_io.specs.Told.{Told};
+ghost use Rattle.ii_io.specs.Told.{Told, Writes};
 ghost use Rattle.ii_codes.specs.Bits.{low_bits, bits_bytes};
 ghost use Rattle.ii_codes.specs.Packed.{num_bits};
 ghost use Rattle.ii_termstore.specs.declared.term_info.TermInfo.{TermInfo};
-ghost use Rattle.ii_termstore.specs.Written.{Writes, IsPacking, Packs, largest, postings_behind, positions_behind, postings_end, positions_end, last_of, meta_for, term_row, block_row, AreNarrow, FitsWidths, EndsFit, FitsBlock, info_in};
+ghost use Rattle.ii_termstore.specs.Written.{IsPacking, Packs, largest, postings_behind, positions_behind, postings_end, positions_end, last_of, meta_for, term_row, block_row, AreNarrow, FitsWidths, EndsFit, FitsBlock, info_in};
 ghost use Rattle.ii_termstore.specs.TermStore.{term_bits};
 
 use super::block_meta::TermInfoBlockMeta;

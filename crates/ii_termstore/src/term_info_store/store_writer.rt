@@ -1,10 +1,10 @@
 ghost use Rattle.std.specs.Prelude.{◌≡◌, ◌+◌, ◌*◌, ◌≤◌, ◌<◌, ◌↔◌, ◌⊎◌, [], ◌∷◌, ◌++◌, true, false, length, drop, Some, OnOk, OnErr, IfErr, IsErrOf, IsTrue};
-ghost use Rattle.ii_io.specs.Told.{Tells, IsFull};
+ghost use Rattle.ii_io.specs.Told.{Tells, IsFull, Writes};
 ghost use Rattle.ii_io.specs.Numbers.{le_bytes};
 ghost use Rattle.ii_termstore.specs.TermInfos.{HasLengths};
 ghost use Rattle.ii_termstore.specs.TermStore.{block_count, meta_bytes, term_store};
 ghost use Rattle.ii_termstore.specs.ReadBack.{AreJoined};
-ghost use Rattle.ii_termstore.specs.Written.{AreNarrow, FitsBlock, Writes, HaveLengths, block_of, first_of, meta_for, meta_at_block, block_bytes, offset_of, metas_bytes, blocks_bytes, written_store};
+ghost use Rattle.ii_termstore.specs.Written.{AreNarrow, FitsBlock, HaveLengths, block_of, first_of, meta_for, meta_at_block, block_bytes, offset_of, metas_bytes, blocks_bytes, written_store};
 
 use super::block_meta::TermInfoBlockMeta;
 use super::count_blocks;

@@ -1,5 +1,5 @@
 use Rattle.ii_termstore.proofs.WriterLemmas.{first_lengths, meta_placed}
-use Rattle.ii_termstore.specs.WritesLemmas.{writes_by}
+use Rattle.ii_io.specs.ToldLemmas.{writes_by}
 use Rattle.ii_termstore.proofs.term_info_store.store_writer.put_meta.Goals as goal
 
 pub serialize-requires : goal.serialize-requires
