@@ -6,6 +6,9 @@ ghost use Rattle.iiq.specs.Commands.{option_of_word};
 use ii_base::IndexRecordOption;
 use std::alloc::{AllocError, Global};
 
+// The sign that `parse` takes in front of digits.
+const PLUS: u8 = b'+';
+
 /// The number of 64 bits that decimal digits write.
 pub fn number(word: &[u8]) -> Option<u64>
     ensures { result ≡ number_below (2 ^ 64) word.now }
@@ -13,7 +16,7 @@ pub fn number(word: &[u8]) -> Option<u64>
     if word.is_empty() {
         return None;
     }
-    if word[0] == b'+' {
+    if word[0] == PLUS {
         return None;
     }
     let Ok(text) = std::str::from_utf8(word) else {

@@ -25,7 +25,7 @@ fn is_read_back(first: u32, step: u32, offset: u32) -> bool
     requires low { first ≤ 100 }
     requires forward { 0 < step }
     requires short { step ≤ 100 }
-    requires behind { offset < first }
+    requires behind { 0 < offset → offset < first }
 {
     let block = stepped(first, step);
     let mut bytes = [0xADu8; 640];
@@ -46,6 +46,7 @@ fn packs_sorted_blocks(rt: HostRuntime) {
     assert_eq!(rt; bytes[0], 1);
     assert!(rt; bytes[1..16].iter().all(|b| *b == 0));
     assert_eq!(rt; pack_sorted(&stepped(0, 1), 0, &mut bytes), (0, 0));
+    assert!(rt; is_read_back(0, 7, 0));
     assert!(rt; is_read_back(1, 7, 0));
     assert!(rt; is_read_back(11, 7, 10));
 }

@@ -2,11 +2,11 @@ use Rattle.std.proofs.Common.{◌∙◌}
 use Rattle.iiq.proofs.WordLemmas.{number_read, number_no_text, number_plus}
 use Rattle.iiq.proofs.words.number.Goals as goal
 
-pub returns-then-word-eq43 : goal.returns-then-word-eq43
-returns-then-word-eq43 c = number_plus c.args.word.now c.if-word-eq43.true
+pub returns-then-word-eq-PLUS : goal.returns-then-word-eq-PLUS
+returns-then-word-eq-PLUS c = number_plus c.args.word.now c.if-word-eq-PLUS.true
 
 pub returns-in_default : goal.returns-in_default
 returns-in_default c = number_no_text c.args.word.now c.in_default.ensures.cases.0
 
 pub returns : goal.returns
-returns c = c.ok.ensures.value ∙ number_read c.args.word.now c.in-Ok.text.now c.parse.result c.in-Ok.ensures.cases.0 c.parse.ensures.value.0 c.if-word-eq43.false
+returns c = c.ok.ensures.value ∙ number_read c.args.word.now c.in-Ok.text.now c.parse.result c.in-Ok.ensures.cases.0 c.parse.ensures.value.0 c.if-word-eq-PLUS.false
