@@ -1,5 +1,5 @@
 ghost use Rattle.std.specs.Prelude.{◌≡◌, ◌≤◌};
-ghost use Rattle.ii_termdict.specs.TermInfos.{HasLengths};
+ghost use Rattle.ii_termstore.specs.TermInfos.{HasLengths};
 
 use bytes::Bytes;
 use ii_io::{CountingWriter, Fault};
