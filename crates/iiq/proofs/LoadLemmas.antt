@@ -1,5 +1,5 @@
 -- Laws of the block that a cursor holds.
-use Rattle.std.proofs.Common.{◌≡◌, ℕ, zero, suc, ◌+◌, ◌-◌, ◌*◌, ◌/◌, ◌%◌, ◌<◌, ◌≤◌, Bool, true, false, List, [], ◌∷◌, ◌++◌, length, take, drop, map, min, get_or, Option, Some, None, Ok, cond, eqb, eq-eqb, nat_eq, nat_lt, nat_le, refl, sym, ap, ◌∙◌, arith, length-take, length-drop, length-append, is_some, subst}
+use Rattle.std.proofs.Common.{◌≡◌, ℕ, ◌+◌, ◌*◌, ◌/◌, ◌%◌, ◌<◌, ◌≤◌, Bool, true, false, List, [], ◌++◌, length, take, drop, map, min, get_or, Option, Some, None, cond, eqb, eq-eqb, nat_lt, nat_le, refl, sym, ap, ◌∙◌, arith, length-take, length-drop, length-append, is_some, subst}
 use Rattle.std.proofs.lemmas.Bool.{ltb-true, ltb-false, le-leb}
 use Rattle.std.proofs.lemmas.List.{take_all}
 use Rattle.std.proofs.Math.Seq.{drop-append_seam}
@@ -15,15 +15,15 @@ use Rattle.ii_codes.specs.SortedVints.{sorted_vints_at}
 use Rattle.ii_codes.specs.Decoded.{Decoded}
 use Rattle.ii_layout.specs.declared.skip.BlockInfo.{BlockInfo}
 use Rattle.ii_layout.specs.declared.skip.BlockInfo.TheVariants.{BitPacked, VInt}
-use Rattle.ii_layout.specs.SkipList.{SkipEntry, SkipList, entries_at, block_place}
-use Rattle.ii_layout.specs.Documents.{entry_of, doc_before, block_docs, rest_docs, documents_at}
+use Rattle.ii_layout.specs.SkipList.{SkipEntry, block_place}
+use Rattle.ii_layout.specs.Documents.{entry_of, doc_before, block_docs, documents_at}
 use Rattle.ii_layout.specs.SkipReading.{SkipReading, info_of, reading_at}
 use Rattle.ii_layout.specs.Written.{docs_of_block}
 use Rattle.ii_layout.proofs.BlockDocs.{get_or-docs_of_block}
 use Rattle.iiq.specs.Placed.{skip_at, docs_placed, docs_or_none, HasDocuments, IsPlaced}
 use Rattle.iiq.specs.Loaded.{IsAtBlock, IsLoaded}
 use Rattle.iiq.proofs.LayoutLemmas.{length-sorted_block_at, length-sorted_vints_at, each_gives, concat_block, length-concat, AreWhole}
-use Rattle.iiq.proofs.CheckLemmas.{Stands, stands, stands_block, are_whole, many_entries}
+use Rattle.iiq.proofs.CheckLemmas.{stands, stands_block, are_whole, many_entries}
 
 -- What a reader says of a full block, and of the documents behind the full blocks.
 pub record SaysFull (i blocks : ℕ) (e : SkipEntry) (w : ℕ) (s : Bool) : Type 0 where
