@@ -1,4 +1,4 @@
-ghost use Rattle.std.specs.Prelude.{◌≡◌, ℕ, ◌+◌, ◌*◌, ◌/◌, ◌^◌, ◌<◌, ◌≤◌, ◌↔◌, ◌⊎◌, [], ◌++◌, length, slice_index, OnOk, IfErr, IsErrOf};
+ghost use Rattle.std.specs.Prelude.{◌≡◌, ℕ, ◌+◌, ◌*◌, ◌/◌, ◌^◌, ◌<◌, ◌≤◌, ◌↔◌, ◌⊎◌, [], ◌++◌, length, slice_index, OnOk, OnErr, IfErr, IsErrOf};
 ghost use Rattle.ii_io.specs.Told.{Tells, TellsBeginning, IsFull};
 ghost use Rattle.ii_codes.specs.Packed.{bits_in, num_bits};
 ghost use Rattle.ii_codes.specs.Bits.{low_bits, whole_bytes, bits_left, bits_bytes, WritesOneRow, ReadsFromItsPlace};
@@ -74,6 +74,7 @@ impl BitPacker {
         ensures left { OnOk result (self.new ≡ bits_left (self.old ++ low_bits num_bits val)) }
         ensures write { IsErrOf result Fault.Write ↔ (output.old.failed < output.new.failed) }
         ensures limit { IsErrOf result (Fault.Limit LimitName.Offset) ↔ IsFull output.old ((length self.old + num_bits) / 8) }
+        ensures begun { OnErr result (TellsBeginning output.old output.new (whole_bytes (self.old ++ low_bits num_bits val))) }
         ensures only { IfErr result (λ e. (e ≡ Fault.Write) ⊎ (e ≡ Fault.Limit LimitName.Offset)) }
     {
         let (low, len) = (self.mini_buffer, self.mini_buffer_written);
@@ -95,6 +96,7 @@ impl BitPacker {
         ensures left { OnOk result (self.new ≡ []) }
         ensures write { IsErrOf result Fault.Write ↔ (output.old.failed < output.new.failed) }
         ensures limit { IsErrOf result (Fault.Limit LimitName.Offset) ↔ IsFull output.old (length (bits_bytes self.old)) }
+        ensures begun { OnErr result (TellsBeginning output.old output.new (bits_bytes self.old)) }
         ensures only { IfErr result (λ e. (e ≡ Fault.Write) ⊎ (e ≡ Fault.Limit LimitName.Offset)) }
     {
         let byte = [self.mini_buffer];
@@ -110,6 +112,7 @@ impl BitPacker {
         ensures left { OnOk result (self.new ≡ []) }
         ensures write { IsErrOf result Fault.Write ↔ (output.old.failed < output.new.failed) }
         ensures limit { IsErrOf result (Fault.Limit LimitName.Offset) ↔ IsFull output.old (length (bits_bytes self.old)) }
+        ensures begun { OnErr result (TellsBeginning output.old output.new (bits_bytes self.old)) }
         ensures only { IfErr result (λ e. (e ≡ Fault.Write) ⊎ (e ≡ Fault.Limit LimitName.Offset)) }
     {
         self.flush(output)

@@ -1,17 +1,18 @@
 -- Laws of the buffers of a writer of norms.
-use Rattle.std.proofs.Common.{◌≡◌, ℕ, zero, suc, ◌+◌, ◌<◌, ◌≤◌, false, ◌==◌, List, [], ◌∷◌, ◌++◌, map, length, take, drop, get_or, set, Option, Some, None, Result, Ok, Err, OnErr, refl, sym, ap, ◌∙◌, inl, inr, length-append, arith}
+use Rattle.std.proofs.Common.{◌≡◌, ℕ, zero, suc, ◌+◌, ◌<◌, ◌≤◌, false, ◌==◌, List, [], ◌∷◌, ◌++◌, map, length, take, drop, get_or, set, Option, Some, None, Result, Ok, Err, OnErr, refl, sym, ap, ◌∙◌, length-append, append_assoc, arith}
 use Rattle.std.specs.List.{enumerate_from}
 use Rattle.std.specs.Option.{option_map}
 use Rattle.std.proofs.lemmas.List.{take_more, set-get_or, append-nil}
 use Rattle.std.proofs.lemmas.List.Edits.{map_over_more}
 use Rattle.std.proofs.lemmas.Bool.Decides.{nat_tests}
-use Rattle.ii_io.specs.Told.{Told, IsFull}
-use Rattle.ii_io.specs.ToldLemmas.{full_before}
+use Rattle.ii_io.specs.declared.faults.Fault.{Fault}
+use Rattle.ii_io.specs.Told.{Told, Tells, TellsBeginning, IsFull}
+use Rattle.ii_io.specs.ToldLemmas.{begins_all, begins_then, full_before}
 use Rattle.ii_io.specs.Composite.{Body, bodies_bytes, places_from, table_bytes, written_composite}
 use Rattle.ii_io.specs.Composing.{Composing, HasBodies, has_start, starts_from, places_of}
 use Rattle.ii_io.specs.ComposingLemmas.{HasBodies-more, places_of-bodies}
 use Rattle.ii_base.specs.Schema.{Entry}
-use Rattle.ii_fieldnorm.specs.Buffers.{Buffers, filled, filled_buffers, IsFilledFront, norm_bodies, norm_bodies_from, AddsBuffer, empty_buffer, buffer_size}
+use Rattle.ii_fieldnorm.specs.Buffers.{Buffers, filled, filled_buffers, IsFilledFront, norm_bodies, norm_bodies_from, AddsBuffer, empty_buffer, buffer_bytes, buffer_size}
 
 norm_bodies_from-more : (field : ℕ) (bs : Buffers) (b : Option (List ℕ)) → norm_bodies_from field (bs ++ b ∷ []) ≡ norm_bodies_from field bs ++ norm_bodies_from (field + length bs) (b ∷ [])
 norm_bodies_from-more field [] b =
@@ -84,3 +85,40 @@ closing_full begun c bodies has full =
     let table = places_of-bodies begun c bodies has in
     let sum = length-append (bodies_bytes bodies) (table_bytes (places_from 0 bodies)) in
     full_before begun c.told (bodies_bytes bodies) (length (table_bytes (places_from 0 bodies))) (length (written_composite bodies)) has.told (omega arith) (rw table at full)
+
+-- what stands behind the bytes of a buffer and of those before it
+bytes_behind : ℕ → Buffers → ℕ → List ℕ
+bytes_behind field [] i = []
+bytes_behind field (b ∷ bs) zero = bodies_bytes (norm_bodies_from (field + 1) bs)
+bytes_behind field (b ∷ bs) (suc i) = bytes_behind (field + 1) bs i
+
+all_bytes : (field : ℕ) (bs : Buffers) (i : ℕ) (b : Option (List ℕ)) → i < length bs → b ≡ get_or bs i b
+    → bodies_bytes (norm_bodies_from field bs) ≡ (bodies_bytes (norm_bodies_from field (take i bs)) ++ buffer_bytes b) ++ bytes_behind field bs i
+unfolding bytes_behind
+all_bytes field [] i b within here = absurd (omega arith)
+all_bytes field (None ∷ bs) zero b within here = rw here refl
+all_bytes field (Some ids ∷ bs) zero b within here = rw here refl
+all_bytes field (None ∷ bs) (suc i) b within here = all_bytes (field + 1) bs i b (omega arith) here
+all_bytes field (Some ids ∷ bs) (suc i) b within here =
+    let front = bodies_bytes (norm_bodies_from (field + 1) (take i bs)) in
+    let rest = bytes_behind (field + 1) bs i in
+    ap (λ (xs : List ℕ). ids ++ xs) (all_bytes (field + 1) bs i b (omega arith) here)
+    ∙ sym (append_assoc ids (front ++ buffer_bytes b) rest)
+    ∙ ap (λ (xs : List ℕ). xs ++ rest) (sym (append_assoc ids front (buffer_bytes b)))
+
+-- a beginning of a buffer behind those before it begins all of them
+pub buffer_begins : (a b c : Told) (bs : Buffers) (i : ℕ) (x : Option (List ℕ)) → i < length bs → x ≡ get_or bs i x → Tells a b (bodies_bytes (norm_bodies (take i bs))) → TellsBeginning b c (buffer_bytes x)
+    → TellsBeginning a c (bodies_bytes (norm_bodies bs))
+buffer_begins a b c bs i x within here front begun =
+    rw (all_bytes 0 bs i x within here) (begins_all a c (bodies_bytes (norm_bodies (take i bs)) ++ buffer_bytes x) (bytes_behind 0 bs i) (begins_then a b c (bodies_bytes (norm_bodies (take i bs))) (buffer_bytes x) front begun))
+
+-- a beginning of the bodies, or of the table behind them, begins the file
+pub bodies_begin : (a b : Told) (bodies : List Body) → TellsBeginning a b (bodies_bytes bodies) → TellsBeginning a b (written_composite bodies)
+bodies_begin a b bodies begun = begins_all a b (bodies_bytes bodies) (table_bytes (places_from 0 bodies)) begun
+
+pub table_begins : {A : Type 0} (r : Result A Fault) (begun new : Told) (c : Composing) (bodies : List Body) → HasBodies begun c bodies → OnErr r (TellsBeginning c.told new (table_bytes (places_of c)))
+    → OnErr r (TellsBeginning begun new (written_composite bodies))
+table_begins (Ok x) begun new c bodies has begins = tt
+table_begins (Err e) begun new c bodies has begins =
+    let table = rw (places_of-bodies begun c bodies has) at begins in
+    begins_then begun c.told new (bodies_bytes bodies) (table_bytes (places_from 0 bodies)) has.told table

@@ -69,7 +69,11 @@ ReadsWrittenNorms =
     → (composite (written_composite (norm_bodies buffers)) ≡ Some (norm_bodies buffers))
     × ((field : ℕ) → body_of field (norm_bodies buffers) ≡ buffer_of field buffers)
 
--- the bytes of a buffer that are written
+-- the bytes of a buffer that are written, and how many these are
+abbrev pub buffer_bytes : Option (List ℕ) → List ℕ
+buffer_bytes None = []
+buffer_bytes (Some ids) = ids
+
 abbrev pub buffer_size : Option (List ℕ) → ℕ
 buffer_size None = 0
 buffer_size (Some ids) = length ids

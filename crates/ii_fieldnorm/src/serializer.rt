@@ -68,8 +68,9 @@ impl<W: Write> FieldNormsSerializer<W> {
 
     /// Writes the table of the fields, flushes, and hands the writer back.
     ///
-    /// `Write` where the writer fails, `Limit(Offset)` where a count of the writer would pass
-    /// `u64::MAX`, which writes nothing; `SerializerClosed` after an earlier refusal.
+    /// `Write` where the writer fails, and a beginning of the table is then written; `Limit(Offset)`
+    /// where a count of the writer would pass `u64::MAX`; `SerializerClosed` after an earlier refusal,
+    /// and nothing is written.
     pub fn close(self) -> (CountingWriter<W>, Result<(), Fault>)
         ensures ok { OnOk result.1 (Tells self.told result.0 (table_bytes (places_of self))) }
         ensures bodies { (begun : Told) (bodies : List Body) → HasBodies begun self bodies
@@ -77,6 +78,7 @@ impl<W: Write> FieldNormsSerializer<W> {
         ensures write { IsErrOf result.1 Fault.Write ↔ (self.told.failed < (result.0).failed) }
         ensures limit { IsErrOf result.1 (Fault.Limit LimitName.Offset)
             ↔ ((self.closed ≡ false) × IsFull self.told (length (table_bytes (places_of self)))) }
+        ensures begun { OnErr result.1 (TellsBeginning self.told result.0 (table_bytes (places_of self))) }
         ensures closed { IsErrOf result.1 Fault.SerializerClosed ↔ IsTrue self.closed }
         ensures untouched { IsTrue self.closed → result.0 ≡ self.told }
         ensures only { IfErr result.1 (λ e. (e ≡ Fault.Write) ⊎ (e ≡ Fault.Limit LimitName.Offset)

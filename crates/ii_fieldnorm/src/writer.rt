@@ -1,9 +1,9 @@
 ghost use Rattle.std.specs.Prelude.{◌≡◌, ◌<◌, ◌≤◌, ◌-◌, ◌^◌, ◌⊎◌, ◌↔◌, [], ◌∷◌, ◌++◌, List, length, replicate, vec_len, Some, None, false, if◌then◌else◌, IsTrue, IfSome, IfOk, OnOk, OnErr, IfErr, IsErrOf};
 ghost use Rattle.std.specs.Option.{option_map, option_copied};
-ghost use Rattle.ii_io.specs.Told.{Tells, IsFull};
+ghost use Rattle.ii_io.specs.Told.{Tells, TellsBeginning, IsFull};
 ghost use Rattle.ii_io.specs.Composite.{bodies_bytes, written_composite};
 ghost use Rattle.ii_io.specs.Composing.{HasBodies, has_start};
-ghost use Rattle.ii_fieldnorm.specs.Buffers.{norm_fields, empty_buffers, filled, filled_buffers, buffer_of, recorded, recorded_buffers, IsFilledFront, norm_bodies, IsFresh, AddsBuffer, ReadsWrittenNorms, buffer_size};
+ghost use Rattle.ii_fieldnorm.specs.Buffers.{norm_fields, empty_buffers, filled, filled_buffers, buffer_of, recorded, recorded_buffers, IsFilledFront, norm_bodies, IsFresh, AddsBuffer, ReadsWrittenNorms, buffer_bytes, buffer_size};
 
 use super::code::fieldnorm_to_id;
 use super::serializer::FieldNormsSerializer;
@@ -94,7 +94,8 @@ impl FieldNormsWriter {
     }
 
     /// Writes the bytes of each field with norms and closes the serializer, which wrote nothing
-    /// before; hands its writer back. The faults are those of the serializer.
+    /// before; hands its writer back. The faults are those of the serializer, and where there is one
+    /// a beginning of the file is written.
     pub fn serialize<W: Write>(
         &self,
         serializer: FieldNormsSerializer<W>,
@@ -104,6 +105,7 @@ impl FieldNormsWriter {
         ensures write { IsErrOf result.1 Fault.Write ↔ (serializer.told.failed < (result.0).failed) }
         ensures limit { IsErrOf result.1 (Fault.Limit LimitName.Offset)
             → IsFull serializer.told (length (written_composite (norm_bodies self.now))) }
+        ensures begun { OnErr result.1 (TellsBeginning serializer.told result.0 (written_composite (norm_bodies self.now))) }
         ensures closed { IsErrOf result.1 Fault.SerializerClosed ↔ IsTrue serializer.closed }
         ensures only { IfErr result.1 (λ e. (e ≡ Fault.Write) ⊎ (e ≡ Fault.Limit LimitName.Offset)
             ⊎ (e ≡ Fault.OutOfMemory) ⊎ (e ≡ Fault.SerializerClosed)) }
@@ -129,6 +131,8 @@ fn write_buffers<W: Write>(
     ensures write { IsErrOf result Fault.Write ↔ (serializer.old.told.failed < serializer.new.told.failed) }
     ensures limit { IsErrOf result (Fault.Limit LimitName.Offset)
         → IsFull serializer.old.told (length (bodies_bytes (norm_bodies buffers.now))) }
+    ensures begun { OnErr result (TellsBeginning serializer.old.told serializer.new.told
+        (bodies_bytes (norm_bodies buffers.now))) }
     ensures closed { IsErrOf result Fault.SerializerClosed → IsTrue serializer.old.closed }
     ensures was_closed { IsTrue serializer.old.closed → IfErr result (λ e. e ≡ Fault.SerializerClosed) }
     ensures only { IfErr result (λ e. (e ≡ Fault.Write) ⊎ (e ≡ Fault.Limit LimitName.Offset)
@@ -153,6 +157,7 @@ fn write_buffer<W: Write>(
     ensures write { IsErrOf result Fault.Write ↔ (serializer.old.told.failed < serializer.new.told.failed) }
     ensures limit { IsErrOf result (Fault.Limit LimitName.Offset)
         → IsFull serializer.old.told (buffer_size buffer.now) }
+    ensures begun { OnErr result (TellsBeginning serializer.old.told serializer.new.told (buffer_bytes buffer.now)) }
     ensures closed { IsErrOf result Fault.SerializerClosed → IsTrue serializer.old.closed }
     ensures was_closed { IsTrue serializer.old.closed → IfErr result (λ e. e ≡ Fault.SerializerClosed) }
     ensures only { IfErr result (λ e. (e ≡ Fault.Write) ⊎ (e ≡ Fault.Limit LimitName.Offset)

@@ -1,20 +1,21 @@
 -- Laws of writing a composite file.
-use Rattle.std.proofs.Common.{◌≡◌, ℕ, zero, suc, ◌+◌, ◌-◌, ◌*◌, ◌<◌, ◌≤◌, List, [], ◌∷◌, ◌++◌, length, take, get_or, Some, Result, Ok, Err, OnOk, IfErr, IsErrOf, refl, sym, ap, ◌∙◌, arith, length-append, append_assoc}
+use Rattle.std.proofs.Common.{◌≡◌, ℕ, zero, suc, ◌+◌, ◌-◌, ◌*◌, ◌<◌, ◌≤◌, List, [], ◌∷◌, ◌++◌, length, take, drop, get_or, Some, Result, Ok, Err, OnOk, OnErr, IfErr, IsErrOf, refl, sym, ap, ◌∙◌, arith, length-append, append_assoc}
 use Rattle.std.specs.List.{flat_map, slice_get}
-use Rattle.std.proofs.lemmas.List.{length-take-le, append-nil}
+use Rattle.std.proofs.lemmas.List.{length-take-le, append-nil, take-append-drop}
+use Rattle.std.proofs.lemmas.Grind.{flat_map-append}
 use Rattle.ii_io.specs.declared.composite_file.place.Place.{Place}
 use Rattle.ii_io.specs.declared.composite_file.place.BodyStart.{BodyStart}
 use Rattle.ii_io.specs.declared.faults.Fault.{Fault}
 use Rattle.ii_io.specs.declared.faults.Fault.TheVariants.{Write, Limit}
 use Rattle.ii_io.specs.declared.faults.LimitName.{LimitName}
-use Rattle.ii_io.specs.Told.{Told, Tells}
+use Rattle.ii_io.specs.Told.{Told, Tells, TellsBeginning}
 use Rattle.ii_io.proofs.VintLemmas.{some-same}
 use Rattle.ii_io.specs.Numbers.{le_bytes}
 use Rattle.ii_io.specs.NumberLemmas.{length_le_bytes}
 use Rattle.ii_io.specs.Composite.{Body, place_bytes, table_bytes, bodies_bytes, places_from, written_composite}
 use Rattle.ii_io.specs.CompositeLemmas.{length_place_bytes}
 use Rattle.ii_io.specs.ComposingLemmas.{places_of-bodies}
-use Rattle.ii_io.specs.ToldLemmas.{Tells-trans}
+use Rattle.ii_io.specs.ToldLemmas.{Tells-trans, begins_all, begins_then}
 use Rattle.ii_io.specs.Composing.{Composing, places_until, places_of, starts_from, HasBodies}
 
 -- a place ends where the next body begins
@@ -82,3 +83,27 @@ closed_bodies (Ok x) begun new c bodies h e =
     let table = rw (places_of-bodies begun c bodies h) at e in
     Tells-trans begun c.told new (bodies_bytes bodies) (table_bytes (places_from 0 bodies)) h.told table
 closed_bodies (Err f) begun new c bodies h e = tt
+
+-- a beginning of a place behind others begins the places
+pub place_begins : (a b c : Told) (ps : List Place) (i : ℕ) (p : Place) → slice_get ps i ≡ Some p → Tells a b (flat_map place_bytes (take i ps)) → TellsBeginning b c (place_bytes p)
+    → TellsBeginning a c (flat_map place_bytes ps)
+place_begins a b c ps i p here front begun =
+    let more = places_more ps i p here in
+    let parts : flat_map place_bytes ps ≡ flat_map place_bytes (take (suc i) ps) ++ flat_map place_bytes (drop (suc i) ps) =
+    ap (flat_map place_bytes) (sym (take-append-drop (suc i) ps)) ∙ flat_map-append place_bytes (take (suc i) ps) (drop (suc i) ps)
+    in
+    rw (parts, more) (begins_all a c (flat_map place_bytes (take i ps) ++ place_bytes p) (flat_map place_bytes (drop (suc i) ps)) (begins_then a b c (flat_map place_bytes (take i ps)) (place_bytes p) front begun))
+
+-- a beginning of the places, of their number behind them, and of nothing behind both
+pub table_begins : (a b : Told) (ps : List Place) → TellsBeginning a b (flat_map place_bytes ps) → TellsBeginning a b (table_bytes ps)
+table_begins a b ps begun = begins_all a b (flat_map place_bytes ps) (le_bytes 4 (length ps)) begun
+
+pub number_begins : (a b c : Told) (ps : List Place) (n : ℕ) → length ps ≡ n → Tells a b (flat_map place_bytes ps) → TellsBeginning b c (le_bytes 4 n) → TellsBeginning a c (table_bytes ps)
+number_begins a b c ps n count places begun = begins_then a b c (flat_map place_bytes ps) (le_bytes 4 (length ps)) places (rw count begun)
+
+pub flush_begins : (r : Result (Unit {0}) Fault) (a b c d : Told) (ps : List Place) (n : ℕ) → length ps ≡ n → Tells a b (flat_map place_bytes ps) → Tells b c (le_bytes 4 n) → OnErr r (TellsBeginning c d [])
+    → OnErr r (TellsBeginning a d (table_bytes ps))
+flush_begins (Ok x) a b c d ps n count places number flushed = tt
+flush_begins (Err e) a b c d ps n count places number flushed =
+    let whole = begins_then a c d (flat_map place_bytes ps ++ le_bytes 4 n) [] (Tells-trans a b c (flat_map place_bytes ps) (le_bytes 4 n) places number) flushed in
+    rw count (rw append-nil at whole)

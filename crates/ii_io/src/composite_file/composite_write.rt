@@ -1,6 +1,6 @@
 ghost use Rattle.std.specs.Prelude.{◌≡◌, ◌<◌, ◌⊎◌, ◌↔◌, ◌+◌, ◌*◌, ◌^◌, List, [], ◌∷◌, ◌++◌, true, false, length, Some, IsTrue, IfOk, OnOk, OnErr, IfErr, IsErrOf, slice_get};
 ghost use Rattle.std.specs.Borrow.{sem};
-ghost use Rattle.ii_io.specs.Told.{Told, Tells, IsFull};
+ghost use Rattle.ii_io.specs.Told.{Told, Tells, TellsBeginning, IsFull};
 ghost use Rattle.std.specs.List.{flat_map};
 ghost use Rattle.ii_io.specs.Composite.{Body, place_bytes, table_bytes, written_composite};
 ghost use Rattle.ii_io.specs.Composing.{has_start, places_of, places_until, next_start, HasBodies};
@@ -108,8 +108,9 @@ impl<W: Write> CompositeWrite<W> {
 
     /// Writes the places of the bodies and their number, flushes, and hands the writer back.
     ///
-    /// `Write` where the writer fails, `Limit(Offset)` where a count of the writer would pass
-    /// `u64::MAX`, which writes nothing; `SerializerClosed` after an earlier refusal.
+    /// `Write` where the writer fails, and a beginning of the table is then written; `Limit(Offset)`
+    /// where a count of the writer would pass `u64::MAX`; `SerializerClosed` after an earlier refusal,
+    /// and nothing is written.
     pub fn close(self) -> (CountingWriter<W>, Result<(), Fault>)
         ensures ok { OnOk result.1 (Tells self.told result.0 (table_bytes (places_of self))) }
         ensures bodies { (begun : Told) (bodies : List Body) → HasBodies begun self bodies
@@ -117,6 +118,7 @@ impl<W: Write> CompositeWrite<W> {
         ensures write { IsErrOf result.1 Fault.Write ↔ (self.told.failed < (result.0).failed) }
         ensures limit { IsErrOf result.1 (Fault.Limit LimitName.Offset)
             ↔ ((self.closed ≡ false) × IsFull self.told (length (table_bytes (places_of self)))) }
+        ensures begun { OnErr result.1 (TellsBeginning self.told result.0 (table_bytes (places_of self))) }
         ensures closed { IsErrOf result.1 Fault.SerializerClosed ↔ IsTrue self.closed }
         ensures untouched { IsTrue self.closed → result.0 ≡ self.told }
         ensures only { IfErr result.1 (λ e. (e ≡ Fault.Write) ⊎ (e ≡ Fault.Limit LimitName.Offset)
@@ -151,6 +153,7 @@ fn write_table<W: Write>(
     ensures write { IsErrOf result Fault.Write ↔ (writer.old.failed < writer.new.failed) }
     ensures limit { IsErrOf result (Fault.Limit LimitName.Offset)
         ↔ IsFull writer.old (length (table_bytes (places_until starts.now end))) }
+    ensures begun { OnErr result (TellsBeginning writer.old writer.new (table_bytes (places_until starts.now end))) }
     ensures only { IfErr result (λ e. (e ≡ Fault.Write) ⊎ (e ≡ Fault.Limit LimitName.Offset)) }
 {
     let size = 20 * starts.len() as u64 + 4;
@@ -173,6 +176,7 @@ fn write_within<W: Write>(
     requires room { writer.old.written + (20 * length starts.now + 4) < 2 ^ 64 }
     requires can_fail { writer.old.failed + 1 < 2 ^ 64 }
     ensures ok { OnOk result (Tells writer.old writer.new (table_bytes (places_until starts.now end))) }
+    ensures begun { OnErr result (TellsBeginning writer.old writer.new (table_bytes (places_until starts.now end))) }
     ensures write { IsErrOf result Fault.Write ↔ (writer.old.failed < writer.new.failed) }
     ensures only { IfErr result (λ e. e ≡ Fault.Write) }
 {
@@ -190,6 +194,8 @@ fn write_places<W: Write>(
     requires room { writer.old.written + 20 * length starts.now < 2 ^ 64 }
     requires can_fail { writer.old.failed + 1 < 2 ^ 64 }
     ensures ok { OnOk result (Tells writer.old writer.new (flat_map place_bytes (places_until starts.now end))) }
+    ensures begun { OnErr result (TellsBeginning writer.old writer.new
+        (flat_map place_bytes (places_until starts.now end))) }
     ensures write { IsErrOf result Fault.Write ↔ (writer.old.failed < writer.new.failed) }
     ensures only { IfErr result (λ e. e ≡ Fault.Write) }
 {
@@ -208,6 +214,7 @@ fn write_value<T: BinarySerializable, W: Write>(
     requires room { writer.old.written + length (T.bytes_of value.now) < 2 ^ 64 }
     requires can_fail { writer.old.failed + 1 < 2 ^ 64 }
     ensures ok { OnOk result (Tells writer.old writer.new (T.bytes_of value.now)) }
+    ensures begun { OnErr result (TellsBeginning writer.old writer.new (T.bytes_of value.now)) }
     ensures write { IsErrOf result Fault.Write ↔ (writer.old.failed < writer.new.failed) }
     ensures only { IfErr result (λ e. e ≡ Fault.Write) }
 {
@@ -218,6 +225,7 @@ fn write_value<T: BinarySerializable, W: Write>(
 fn flush<W: Write>(writer: &mut CountingWriter<W>) -> Result<(), Fault>
     requires { writer.old.failed + 1 < 2 ^ 64 }
     ensures ok { OnOk result (Tells writer.old writer.new []) }
+    ensures begun { OnErr result (TellsBeginning writer.old writer.new []) }
     ensures write { IsErrOf result Fault.Write ↔ (writer.old.failed < writer.new.failed) }
     ensures only { IfErr result (λ e. e ≡ Fault.Write) }
 {

@@ -7,3 +7,6 @@ returns-clause-ok g c = rw (← (bytes_low_first-le_bytes 4 c.args.self.now)) (s
 
 pub returns-clause-limit : goal.returns-clause-limit
 returns-clause-limit g c = rw (← (bytes_low_first-le_bytes 4 c.args.self.now)) (search rules)
+
+pub returns-clause-begun : goal.returns-clause-begun
+returns-clause-begun g c = rw (← (bytes_low_first-le_bytes 4 c.args.self.now)) (search rules)
