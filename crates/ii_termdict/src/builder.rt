@@ -84,7 +84,7 @@ impl<W: Write> TermDictionaryBuilder<W> {
     }
 
     /// Adds what is kept of the term whose key was added last. Its ranges begin where those of the
-    /// term before it end, have lengths that fit `u32` and end below 2^56.
+    /// term before it end, and have lengths that fit `u32`.
     ///
     /// `OutOfMemory` where memory lacks, of which 2^40 terms are the most; `SerializerClosed` after an
     /// earlier refusal.

@@ -146,6 +146,17 @@ fn opened(alloc: Global, bytes: &[u8]) -> Result<usize, Fault> {
     Ok(terms.num_terms())
 }
 
+// That key over a store of no terms.
+fn without_terms() -> [u8; 33] {
+    let mut bytes = [0u8; 33];
+    for (place, byte) in [(0usize, 1u8), (8, 1), (16, 0x61)] {
+        if place < bytes.len() {
+            bytes[place] = byte;
+        }
+    }
+    bytes
+}
+
 #[test]
 fn refuses_damaged_dictionaries(rt: HostRuntime) {
     let (keys, store) = (Part::Dictionary, Part::TermStore);
@@ -154,6 +165,7 @@ fn refuses_damaged_dictionaries(rt: HostRuntime) {
         (front(&[0u8; 24], 23), store),
         (front(&one(), 71), store),
         (front(&twice(), 42), keys),
+        (front(&without_terms(), 33), keys),
     ] {
         assert!(rt; opened(rt.alloc(), bytes) == Err(Fault::Damaged(part)));
     }

@@ -58,33 +58,23 @@ last_in P first (i ∷ is) h each = last_in P i is (each 0 (omega arith)) (λ k 
 -- What is known of terms that are written.
 record IsGood (i : TermInfo) : Type 0 where
   pub lengths : HasLengths i
-  pub count : i.doc_freq < 2 ^ 32
-  pub postings : i.postings_range.end < 2 ^ 56
-  pub positions : i.positions_range.end < 2 ^ 56
+  pub range : IsInRange i
 
-good_at : (infos : List TermInfo) → AreStorable infos → AreJoined infos → (k : ℕ) → k < length infos → IsGood (info_in infos k)
-good_at infos h j k within = record { lengths = h.lengths k within; count = h.counts k within; postings = j.postings_near k within; positions = j.positions_near k within }
+good_at : (infos : List TermInfo) → AreStorable infos → (k : ℕ) → k < length infos → IsGood (info_in infos k)
+good_at infos h k within = record { lengths = h.lengths k within; range = h.ranges k within }
 
 sound : (i : TermInfo) → IsGood i → is_sound i ≡ true
 sound i h =
     let lengths = h.lengths in
-    let a = h.postings in
-    let b = h.positions in
+    let range = h.range in
     rw (
       le-leb i.postings_range.start i.postings_range.end lengths.postings,
       lt-ltb (postings_len i) (2 ^ 32) lengths.postings_short,
-      lt-ltb i.postings_range.end (2 ^ 64) (omega arith),
+      lt-ltb i.postings_range.end (2 ^ 64) range.postings,
       le-leb i.positions_range.start i.positions_range.end lengths.positions,
       lt-ltb (positions_len i) (2 ^ 32) lengths.positions_short,
-      lt-ltb i.positions_range.end (2 ^ 64) (omega arith),
+      lt-ltb i.positions_range.end (2 ^ 64) range.positions,
     ) refl
-
-in_range : (i : TermInfo) → IsGood i → IsInRange i
-in_range i h =
-    let a = h.postings in
-    let b = h.positions in
-    let c = h.count in
-    record { doc_freq = omega arith; postings = omega arith; positions = omega arith }
 
 -- no term begins before one that stands before it
 rises : (infos : List TermInfo) → AreStorable infos → AreJoined infos → (i m : ℕ) → i + m < length infos
@@ -102,6 +92,42 @@ rises infos h j i (suc m) within =
     let below_too = ih.1 in
     rw next (omega arith, omega arith)
 
+-- each term takes fewer than 2 ^ 32 bytes
+spans : (infos : List TermInfo) → AreStorable infos → AreJoined infos → (i m : ℕ) → i + m < length infos
+    → ((info_in infos (i + m)).postings_range.start ≤ (info_in infos i).postings_range.start + m * 4294967296)
+    × ((info_in infos (i + m)).positions_range.start ≤ (info_in infos i).positions_range.start + m * 4294967296)
+spans infos h j i zero within = let same : i + 0 ≡ i = omega arith in rw same (omega arith, omega arith)
+spans infos h j i (suc m) within =
+    let ih = spans infos h j i m (omega arith) in
+    let next : i + suc m ≡ suc (i + m) = omega arith in
+    let lengths = h.lengths (i + m) (omega arith) in
+    let short = lengths.postings_short in
+    let short_too = lengths.positions_short in
+    let first = j.postings (i + m) (omega arith) in
+    let second = j.positions (i + m) (omega arith) in
+    let below = ih.0 in
+    let below_too = ih.1 in
+    rw next (omega arith, omega arith)
+
+-- What is known of a term behind another of its block.
+record IsNear (first i : TermInfo) : Type 0 where
+  pub lengths : HasLengths i
+  pub count : i.doc_freq < 2 ^ 32
+  pub postings : i.postings_range.end < first.postings_range.start + 2 ^ 56
+  pub positions : i.positions_range.end < first.positions_range.start + 2 ^ 56
+
+near_at : (infos : List TermInfo) → AreStorable infos → AreJoined infos → (i m : ℕ) → m < 256 → i + m < length infos → IsNear (info_in infos i) (info_in infos (i + m))
+near_at infos h joined i m few within =
+    let span = spans infos h joined i m within in
+    let low = span.0 in
+    let low_too = span.1 in
+    let lengths = h.lengths (i + m) within in
+    let short = lengths.postings_short in
+    let short_too = lengths.positions_short in
+    let range = h.ranges (i + m) within in
+    let count = range.doc_freq in
+    record { lengths = lengths; count = omega arith; postings = omega arith; positions = omega arith }
+
 -- the terms of a block
 abbrev others_of : List TermInfo → ℕ → List TermInfo
 others_of infos b = drop 1 (block_of infos b)
@@ -116,10 +142,11 @@ other_is infos b j h within =
     get_or-drop 1 (block_of infos b) j (info_of 0 0 0 0 0) ∙ get_or-take 256 (drop (256 * b) infos) (1 + j) (info_of 0 0 0 0 0) (omega arith)
     ∙ get_or-drop (256 * b) infos (1 + j) (info_of 0 0 0 0 0) ∙ ap (info_in infos) place
 
-other_good : (infos : List TermInfo) → AreStorable infos → AreJoined infos → (b : ℕ) → 256 * b < length infos → (k : ℕ) → k < length (others_of infos b) → IsGood (info_in (others_of infos b) k)
-other_good infos h joined b start k within =
+other_near : (infos : List TermInfo) → AreStorable infos → AreJoined infos → (b : ℕ) → 256 * b < length infos → (k : ℕ) → k < length (others_of infos b)
+    → IsNear (info_in infos (256 * b)) (info_in (others_of infos b) k)
+other_near infos h joined b start k within =
     let size = length-others infos b start in
-    rw (other_is infos b k start within) (good_at infos h joined (256 * b + suc k) (omega arith))
+    rw (other_is infos b k start within) (near_at infos h joined (256 * b) (suc k) (omega arith) (omega arith))
 
 follows : (infos : List TermInfo) → AreStorable infos → AreJoined infos → (b : ℕ) → 256 * b < length infos → Follow (info_in infos (256 * b)) (others_of infos b)
 follows infos h joined b start =
@@ -137,7 +164,7 @@ follows infos h joined b start =
           rw (here, next, place) (joined.positions (256 * b + suc j) (omega arith));
       postings_above = λ j within. rw (other_is infos b j start within) (rises infos h joined (256 * b) (suc j) (omega arith)).0;
       positions_above = λ j within. rw (other_is infos b j start within) (rises infos h joined (256 * b) (suc j) (omega arith)).1;
-      lengths = λ j within. let good = other_good infos h joined b start j within in good.lengths;
+      lengths = λ j within. let near = other_near infos h joined b start j within in near.lengths;
     }
 
 -- What the meta of a block has: its first term, widths that fit, and where its bits begin.
@@ -156,10 +183,9 @@ record AreLow (first : TermInfo) (others : List TermInfo) : Type 0 where
   pub postings : max (largest (map (postings_behind first) others)) (postings_end first others) < 2 ^ 56
   pub positions : max (largest (map (positions_behind first) others)) (positions_end first others) < 2 ^ 56
 
-are_low : (first : TermInfo) (others : List TermInfo) → IsGood first → ((k : ℕ) → k < length others → IsGood (info_in others k)) → AreLow first others
-are_low first others good each =
-    let none = info_of 0 0 0 0 0 in
-    let last = last_in IsGood first others good each in
+are_low : (first : TermInfo) (others : List TermInfo) → IsNear first first → ((k : ℕ) → k < length others → IsNear first (info_in others k)) → AreLow first others
+are_low first others itself each =
+    let last = last_in (IsNear first) first others itself each in
     let last_low = last.postings in
     let last_low_too = last.positions in
     let starts = largest_below (postings_behind first) others (info_of 0 0 0 0 0) (2 ^ 56) (omega arith)
@@ -209,12 +235,15 @@ metas_and infos bits = metas_bytes infos (block_count (length infos)) ++ bits
 abbrev bits_and : List TermInfo → List ℕ → List ℕ
 bits_and infos rest = blocks_bytes infos (block_count (length infos)) ++ rest
 
-first_good : (infos : List TermInfo) → AreStorable infos → AreJoined infos → (b : ℕ) → 256 * b < length infos → IsGood (first_of (block_of infos b))
-first_good infos h joined b start = rw (first_is infos b) (good_at infos h joined (256 * b) start)
+first_good : (infos : List TermInfo) → AreStorable infos → (b : ℕ) → 256 * b < length infos → IsGood (first_of (block_of infos b))
+first_good infos h b start = rw (first_is infos b) (good_at infos h (256 * b) start)
 
 meta_known : (widths : HoldsFromLeastWidth) (infos : List TermInfo) → AreStorable infos → AreJoined infos → (b : ℕ) → 256 * b < length infos → IsMetaOf infos b (meta_at_block infos b)
 meta_known widths infos h joined b start =
-    meta_is widths infos b (are_low (first_of (block_of infos b)) (others_of infos b) (first_good infos h joined b start) (other_good infos h joined b start))
+    let place : 256 * b + 0 ≡ 256 * b = omega arith in
+    let itself = rw place at (near_at infos h joined (256 * b) 0 (omega arith) (omega arith)) in
+    let low = are_low (info_in infos (256 * b)) (others_of infos b) itself (other_near infos h joined b start) in
+    meta_is widths infos b (rw (first_is infos b) low)
 
 small_block : (infos : List TermInfo) (b : ℕ) (m : Meta) → 256 * b < length infos → IsMetaOf infos b m → length (block_bytes infos b) ≤ 8192
 small_block infos b m start known =
@@ -255,11 +284,11 @@ meta_read widths infos bits h joined b within =
     let place : 39 * b ≡ length (metas_bytes infos b) =
     (let swapped : 39 * b ≡ b * 39 = omega arith in swapped ∙ sym (length-pieces (λ b. meta_bytes (meta_at_block infos b)) 39 b (λ k. length_meta_bytes (meta_at_block infos k)))) in
     let piece = piece_at (λ b. meta_bytes (meta_at_block infos b)) (block_count (length infos)) b (39 * b) bits within place in
-    let good = first_good infos h joined b start in
+    let good = first_good infos h b start in
     let same : (meta_at_block infos b).ref_term_info ≡ first_of (block_of infos b) = known.first ∙ sym (first_is infos b) in
     let offset = known.offset in
     let small = offset_small widths infos h joined b start in
-    let back = reads_meta_back (meta_at_block infos b) piece.0 (omega arith) (rw same (in_range (first_of (block_of infos b)) good)) (rw same good.lengths) in
+    let back = reads_meta_back (meta_at_block infos b) piece.0 (omega arith) (rw same good.range) (rw same good.lengths) in
     rw (piece.1, back) refl
 
 -- a term of block b is read back
@@ -300,7 +329,7 @@ block_read law infos rest h joined b m start known =
     let row = length-block_row m (others_of infos b) ∙ ap (λ (n : ℕ). n * term_bits m + m.postings_offset_nbits + m.positions_offset_nbits) size in
     let lie = le-leb (8 * m.offset + block_bits m (block_terms (length infos) b)) (8 * length (bits_and infos rest)) (omega arith) in
     let all = all_pass (λ k. is_sound (block_info m (bits_and infos rest) k)) (block_terms (length infos) b)
-    (λ k within. rw (term_read law infos rest h joined b m start known k within) (sound (info_in infos (256 * b + k)) (good_at infos h joined (256 * b + k) (omega arith)))) in
+    (λ k within. rw (term_read law infos rest h joined b m start known k within) (sound (info_in infos (256 * b + k)) (good_at infos h (256 * b + k) (omega arith)))) in
     rw (
       le-leb m.doc_freq_nbits 32 d,
       le-leb m.postings_offset_nbits 56 p,

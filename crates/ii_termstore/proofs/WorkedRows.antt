@@ -1,13 +1,25 @@
 -- Worked rows, each computed.
-use Rattle.std.specs.Prelude.{◌≡◌, [], ◌∷◌, ◌++◌, replicate, refl}
-use Rattle.ii_io.specs.Numbers.{le_bytes}
+use Rattle.std.specs.Prelude.{◌≡◌, [], ◌∷◌, ◌++◌, replicate, Some, List, ℕ, refl}
+use Rattle.ii_io.specs.Numbers.{le_bytes, number_at}
 use Rattle.ii_codes.specs.Packed.{bits_in, entries_in, num_bits}
 use Rattle.ii_codes.specs.Bits.{bits_bytes}
-use Rattle.ii_termstore.specs.TermInfos.{info_of, info_bytes}
-use Rattle.ii_termstore.specs.TermStore.{meta_bytes}
+use Rattle.ii_termstore.specs.TermInfos.{info_of, info_at, info_bytes}
+use Rattle.ii_termstore.specs.TermStore.{meta_at, meta_bytes, later_info, is_block, meta_of, stored_info, store_parts, term_store}
 use Rattle.ii_termstore.specs.Written.{written_store, meta_at_block, meta_for, block_bytes}
 
 -- the store of one term, in 3 documents with 3 bytes of postings
 pub one_written : written_store (info_of 3 0 3 0 0 ∷ []) ≡ 0x27 ∷ replicate 7 0 ++ 1 ∷ replicate 7 0 ++ replicate 8 0 ++ 3 ∷ replicate 11 0 ++ 3 ∷ replicate 15 0 ++ 0 ∷ 2 ∷ 0 ∷ 3 ∷ []
 unfolding written_store meta_at_block meta_for meta_bytes info_bytes le_bytes block_bytes bits_bytes entries_in bits_in num_bits
 one_written = refl
+
+-- two terms: 1 document with bytes 0 to 2, and 2 documents with bytes 2 to 5, in widths 2, 3 and 0
+abbrev two : List ℕ
+two = 0x27 ∷ replicate 7 0 ++ 2 ∷ replicate 7 0 ++ replicate 8 0 ++ 1 ∷ replicate 11 0 ++ 2 ∷ replicate 15 0 ++ 2 ∷ 3 ∷ 0 ∷ 0xB2 ∷ []
+
+pub two_written : written_store (info_of 1 0 2 0 0 ∷ info_of 2 2 5 0 0 ∷ []) ≡ two
+unfolding written_store meta_at_block meta_for meta_bytes info_bytes le_bytes block_bytes bits_bytes entries_in bits_in num_bits
+two_written = refl
+
+pub two_read : term_store two ≡ Some (info_of 1 0 2 0 0 ∷ info_of 2 2 5 0 0 ∷ [])
+unfolding number_at term_store store_parts meta_of meta_at info_at is_block later_info stored_info bits_in
+two_read = refl

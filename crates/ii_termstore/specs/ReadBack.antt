@@ -1,25 +1,20 @@
 -- The law of stores: what is written is read back.
 use Rattle.std.specs.Prelude.{◌≡◌, ℕ, suc, ◌^◌, ◌<◌, ◌≤◌, List, ◌++◌, length, Some}
 use Rattle.ii_termstore.specs.declared.term_info.TermInfo.{TermInfo}
+use Rattle.ii_termstore.specs.TermInfos.{IsInRange}
 use Rattle.ii_termstore.specs.TermStore.{term_store}
 use Rattle.ii_termstore.specs.Written.{info_in, HaveLengths, written_store}
 
--- Each range begins where that of the term before ends, and none ends at 2 ^ 56 or above.
+-- Each range begins where that of the term before ends.
 pub record AreJoined (infos : List TermInfo) : Type 0 where
   pub postings : (k : ℕ) → suc k < length infos → (info_in infos (suc k)).postings_range.start ≡ (info_in infos k).postings_range.end
   pub positions : (k : ℕ) → suc k < length infos → (info_in infos (suc k)).positions_range.start ≡ (info_in infos k).positions_range.end
-  pub postings_near : (k : ℕ) → k < length infos → (info_in infos k).postings_range.end < 2 ^ 56
-  pub positions_near : (k : ℕ) → k < length infos → (info_in infos k).positions_range.end < 2 ^ 56
 
--- Each number of documents has 32 bits.
-abbrev pub HaveCounts : List TermInfo → Type 0
-HaveCounts infos = (k : ℕ) → k < length infos → (info_in infos k).doc_freq < 2 ^ 32
-
--- What a store is written from: at most 2 ^ 40 terms, with lengths and numbers of documents that fit.
+-- What a store is written from: at most 2 ^ 40 terms, with lengths that fit and numbers of their types.
 pub record AreStorable (infos : List TermInfo) : Type 0 where
   pub few : length infos ≤ 2 ^ 40
   pub lengths : HaveLengths infos
-  pub counts : HaveCounts infos
+  pub ranges : (k : ℕ) → k < length infos → IsInRange (info_in infos k)
 
 -- The store of joined terms holds these terms, whatever follows.
 abbrev pub ReadsStoreBack : Type 0

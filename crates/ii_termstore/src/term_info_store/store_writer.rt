@@ -49,8 +49,8 @@ impl TermInfoStoreWriter {
         }
     }
 
-    /// Adds a term, whose ranges begin where those of the term before it end, have lengths that fit
-    /// `u32` and end below 2^56.
+    /// Adds a term, whose ranges begin where those of the term before it end, and have lengths that
+    /// fit `u32`.
     ///
     /// `OutOfMemory` where the list can't grow, of which 2^40 terms are the most; `SerializerClosed`
     /// after an earlier refusal.
