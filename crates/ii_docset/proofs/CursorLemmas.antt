@@ -1,5 +1,5 @@
 -- Laws of cursors.
-use Rattle.std.proofs.Common.{◌≡◌, ℕ, zero, suc, ◌+◌, ◌<◌, ◌≤◌, Bool, true, false, ◌&&◌, List, [], ◌∷◌, ◌++◌, length, take, drop, map, nat_le, nat_lt, get_or, refl, sym, ap, arith, add-one, ◌^◌}
+use Rattle.std.proofs.Common.{◌≡◌, ℕ, zero, suc, ◌+◌, ◌<◌, ◌≤◌, Bool, true, false, ◌&&◌, List, [], ◌∷◌, ◌++◌, length, take, drop, map, nat_le, nat_lt, get_or, refl, sym, ap, arith, add-one}
 use Rattle.std.proofs.lemmas.Bool.{lt-ltb, le-ltb, ltb-true, le-leb, lt-leb, leb-true}
 use Rattle.std.proofs.lemmas.List.{drop-drop, drop_all, take_more}
 use Rattle.std.proofs.Math.Seq.{drop-cons}

@@ -1,5 +1,5 @@
 -- Laws of writing a composite file.
-use Rattle.std.proofs.Common.{◌≡◌, ℕ, zero, suc, ◌+◌, ◌-◌, ◌*◌, ◌<◌, ◌≤◌, List, [], ◌∷◌, ◌++◌, length, take, drop, get_or, Some, Result, Ok, Err, OnOk, OnErr, IfErr, IsErrOf, refl, sym, ap, ◌∙◌, arith, length-append, append_assoc}
+use Rattle.std.proofs.Common.{◌≡◌, ℕ, zero, suc, ◌+◌, ◌*◌, ◌<◌, ◌≤◌, List, [], ◌∷◌, ◌++◌, length, take, drop, get_or, Some, Result, Ok, Err, OnOk, OnErr, IfErr, IsErrOf, refl, sym, ap, ◌∙◌, arith, length-append, append_assoc}
 use Rattle.std.specs.List.{flat_map, slice_get}
 use Rattle.std.proofs.lemmas.List.{length-take-le, append-nil, take-append-drop}
 use Rattle.std.proofs.lemmas.Grind.{flat_map-append}
@@ -16,7 +16,7 @@ use Rattle.ii_io.specs.Composite.{Body, place_bytes, table_bytes, bodies_bytes, 
 use Rattle.ii_io.specs.CompositeLemmas.{length_place_bytes}
 use Rattle.ii_io.specs.ComposingLemmas.{places_of-bodies}
 use Rattle.ii_io.specs.ToldLemmas.{Tells-trans, begins_all, begins_then}
-use Rattle.ii_io.specs.Composing.{Composing, places_until, places_of, starts_from, HasBodies}
+use Rattle.ii_io.specs.Composing.{Composing, places_until, places_of, HasBodies}
 
 -- a place ends where the next body begins
 pub place_next : (ss : List BodyStart) (i end : ℕ) (s t : BodyStart) → suc i < length ss → s ≡ get_or ss i s → t ≡ get_or ss (suc i) t
