@@ -1,5 +1,5 @@
 -- What a counting writer tells: the bytes that its writer holds, where they are known, how many were written through it, and how many of its calls failed.
-use Rattle.std.specs.Prelude.{◌≡◌, ℕ, ◌+◌, ◌-◌, ◌^◌, ◌≤◌, ◌<◌, ◌↔◌, ◌⊎◌, List, length, take, Option, Result, OnOk, IfErr, IsErrOf}
+use Rattle.std.specs.Prelude.{◌≡◌, ℕ, ◌+◌, ◌-◌, ◌^◌, ◌≤◌, ◌<◌, ◌↔◌, ◌⊎◌, List, length, take, Option, Result, OnOk, OnErr, IfErr, IsErrOf}
 use Rattle.std.specs.Io.KnownBytes.{Appends}
 use Rattle.ii_io.specs.declared.faults.Fault.{Fault}
 use Rattle.ii_io.specs.declared.faults.Fault.TheVariants.{Write, Limit}
@@ -32,4 +32,5 @@ pub record Writes (old new : Told) (bytes : List ℕ) (result : Result (Unit {0}
   pub ok : OnOk result (Tells old new bytes)
   pub write : IsErrOf result Write ↔ (old.failed < new.failed)
   pub limit : IsErrOf result (Limit Offset) → IsFull old (length bytes)
+  pub begun : OnErr result (TellsBeginning old new bytes)
   pub only : IfErr result (λ e. (e ≡ Write) ⊎ (e ≡ Limit Offset))

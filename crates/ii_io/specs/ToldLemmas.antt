@@ -1,6 +1,6 @@
 -- Laws of what a counting writer is told, step by step.
 use Rattle.std.proofs.Common.{◌≡◌, ◌<◌, ◌≤◌, ℕ, ◌+◌, true, false, List, ◌++◌, length, Result, Ok, Err, is_err, sym, ◌∙◌, arith, length-append, ⊎_elim, inl, inr}
-use Rattle.std.specs.Prelude.{OnOk, IfErr, IsErrOf, ◌⊎◌, ◌↔◌}
+use Rattle.std.specs.Prelude.{OnOk, OnErr, IfErr, IsErrOf, ◌⊎◌, ◌↔◌}
 use Rattle.std.proofs.KnownBytes.{Appends-nil, Appends-trans}
 use Rattle.std.proofs.lemmas.List.{take-append-le}
 use Rattle.std.proofs.Math.Seq.{take-append-add}
@@ -56,18 +56,19 @@ full_after a b bytes more size told within full =
 
 -- a call that writes behind what was written
 pub writes_then : (a b c : Told) (xs ys : List ℕ) (result : Result (Unit {0}) Fault) → Tells a b xs → Writes b c ys result → Writes a c (xs ++ ys) result
-writes_then a b c xs ys (Ok u) h k = record { ok = Tells-trans a b c xs ys h k.ok; write = rw (← h.failed) k.write; limit = λ e. absurd (cc); only = tt }
+writes_then a b c xs ys (Ok u) h k = record { ok = Tells-trans a b c xs ys h k.ok; write = rw (← h.failed) k.write; limit = λ e. absurd (cc); begun = tt; only = tt }
 writes_then a b c xs ys (Err e) h k = record {
   ok = tt;
   write = rw (← h.failed) k.write;
   limit = λ is. full_before a b xs (length ys) (length (xs ++ ys)) h (omega (arith, length-append xs ys)) (k.limit is);
+  begun = begins_then a b c xs ys h k.begun;
   only = k.only;
 }
 
 -- a call that was refused, whatever was to follow
 pub writes_refused : (a b : Told) (xs ys : List ℕ) (e : Fault) → Writes a b xs (Err e) → Writes a b (xs ++ ys) (Err e)
 writes_refused a b xs ys e h =
-    record { ok = tt; write = h.write; limit = λ is. full_more a (length xs) (length (xs ++ ys)) (omega (arith, length-append xs ys)) (h.limit is); only = h.only }
+    record { ok = tt; write = h.write; limit = λ is. full_more a (length xs) (length (xs ++ ys)) (omega (arith, length-append xs ys)) (h.limit is); begun = begins_all a b xs ys h.begun; only = h.only }
 
 pub writes_refused_by : (a b : Told) (xs ys : List ℕ) (result : Result (Unit {0}) Fault) → true ≡ is_err result → Writes a b xs result → Writes a b (xs ++ ys) result
 writes_refused_by a b xs ys (Ok u) e h = absurd (cc)
@@ -80,5 +81,5 @@ writes_went a b xs (Err f) e h = absurd (cc)
 
 -- a call that answers Limit exactly where a count is full
 pub writes_by : {old new : Told} {bytes : List ℕ} (result : Result (Unit {0}) Fault) → OnOk result (Tells old new bytes) → (IsErrOf result Write ↔ (old.failed < new.failed)) → (IsErrOf result (Limit Offset) ↔ IsFull old (length bytes))
-    → IfErr result (λ e. (e ≡ Write) ⊎ (e ≡ Limit Offset)) → Writes old new bytes result
-writes_by result ok write limit only = record { ok = ok; write = write; limit = limit.0; only = only }
+    → OnErr result (TellsBeginning old new bytes) → IfErr result (λ e. (e ≡ Write) ⊎ (e ≡ Limit Offset)) → Writes old new bytes result
+writes_by result ok write limit begun only = record { ok = ok; write = write; limit = limit.0; begun = begun; only = only }

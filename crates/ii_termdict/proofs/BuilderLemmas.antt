@@ -12,7 +12,7 @@ use Rattle.ii_termstore.specs.ReadBack.{AreJoined, AreStorable}
 use Rattle.ii_termdict.specs.ReadBack.{AreAscending, ReadsDictionaryBack}
 use Rattle.ii_termstore.specs.Written.{written_store}
 use Rattle.ii_termdict.specs.Written.{Building, HasKeys, ends_from, written_dictionary}
-use Rattle.ii_io.specs.ToldLemmas.{writes_then, writes_refused_by}
+use Rattle.ii_io.specs.ToldLemmas.{Tells-trans, writes_then, writes_refused_by, writes_went}
 
 flat_append : (f : ℕ → List ℕ) (xs ys : List ℕ) → flat_map f (xs ++ ys) ≡ flat_map f xs ++ flat_map f ys
 flat_append f [] ys = refl
@@ -32,6 +32,25 @@ numbers_refused numbers i begun told new result within h refused put =
     rw (flat_around (le_bytes 8) numbers i within)
     (writes_refused_by begun new (flat_map (le_bytes 8) (take i numbers) ++ le_bytes 8 (get_or numbers i 0)) (flat_map (le_bytes 8) (drop (i + 1) numbers)) result refused
     (writes_then begun told new (flat_map (le_bytes 8) (take i numbers)) (le_bytes 8 (get_or numbers i 0)) result h put))
+
+-- parts one after the other, of which a later one was refused
+pub second_refused : (a b k more : List ℕ) (begun told new : Told) (first result : Result (Unit {0}) Fault) → false ≡ is_err first → Writes begun told a first → true ≡ is_err result → Writes told new b result
+    → Writes begun new (a ++ b ++ k ++ more) result
+second_refused a b k more begun told new first result went h refused put =
+    writes_refused_by begun new (a ++ b ++ k) more result refused
+    (writes_refused_by begun new (a ++ b) k result refused (writes_then begun told new a b result (writes_went begun told a first went h) put))
+
+pub third_refused : (a b k more : List ℕ) (begun one two new : Told) (first second result : Result (Unit {0}) Fault) → false ≡ is_err first → Writes begun one a first → false ≡ is_err second → Writes one two b second
+    → true ≡ is_err result → Writes two new k result → Writes begun new (a ++ b ++ k ++ more) result
+third_refused a b k more begun one two new first second result went h went_too put refused third =
+    writes_refused_by begun new (a ++ b ++ k) more result refused
+    (writes_then begun two new (a ++ b) k result (Tells-trans begun one two a b (writes_went begun one a first went h) (writes_went one two b second went_too put)) third)
+
+pub four_written : (a b k more : List ℕ) (begun one two three new : Told) (first second third result : Result (Unit {0}) Fault) → false ≡ is_err first → Writes begun one a first → false ≡ is_err second → Writes one two b second
+    → false ≡ is_err third → Writes two three k third → Writes three new more result → Writes begun new (a ++ b ++ k ++ more) result
+four_written a b k more begun one two three new first second third result went h went_too put went_all keys last =
+    writes_then begun three new (a ++ b ++ k) more result
+    (Tells-trans begun two three (a ++ b) k (Tells-trans begun one two a b (writes_went begun one a first went h) (writes_went one two b second went_too put)) (writes_went two three k third went_all keys)) last
 
 keys_push : (keys : List (List ℕ)) (key : List ℕ) → flat_map (λ (k : List ℕ). k) (keys ++ key ∷ []) ≡ flat_map (λ (k : List ℕ). k) keys ++ key
 keys_push [] key = append-nil key

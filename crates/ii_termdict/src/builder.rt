@@ -1,7 +1,7 @@
 ghost use Rattle.std.specs.Prelude.{◌≡◌, ◌≤◌, ◌<◌, ◌↔◌, ◌⊎◌, ℕ, List, [], ◌∷◌, ◌++◌, true, false, length, Ok, OnOk, OnErr, IfErr, IsErrOf, IsTrue};
 ghost use Rattle.std.specs.List.{flat_map, zip};
 ghost use Rattle.ii_io.specs.Numbers.{le_bytes};
-ghost use Rattle.ii_io.specs.Told.{Tells, IsFull, Writes};
+ghost use Rattle.ii_io.specs.Told.{Tells, TellsBeginning, IsFull, Writes};
 ghost use Rattle.ii_termdict.specs.Dictionary.{dictionary};
 ghost use Rattle.ii_termdict.specs.ReadBack.{AreAscending};
 ghost use Rattle.ii_termstore.specs.ReadBack.{AreJoined};
@@ -109,7 +109,8 @@ impl<W: Write> TermDictionaryBuilder<W> {
     /// and terms, where the keys ascend and the terms' ranges join.
     ///
     /// `Write` where the writer fails, `Limit(Offset)` where a count of the writer would pass
-    /// `u64::MAX`; `SerializerClosed` after an earlier refusal.
+    /// `u64::MAX`: a beginning of the dictionary is then written. `SerializerClosed` after an earlier
+    /// refusal, and nothing is written.
     pub fn finish(self) -> (CountingWriter<W>, Result<(), Fault>)
         ensures ok { (keys : List (List ℕ)) → HasKeys self keys → OnOk result.1 (Tells self.told result.0 (written_dictionary keys self.infos)) }
         ensures write { IsErrOf result.1 Fault.Write ↔ (self.told.failed < (result.0).failed) }
@@ -117,6 +118,8 @@ impl<W: Write> TermDictionaryBuilder<W> {
             → OnOk result.1 (dictionary (written_dictionary keys self.infos) ≡ Ok (zip keys self.infos)) }
         ensures limit { (keys : List (List ℕ)) → HasKeys self keys → IsErrOf result.1 (Fault.Limit LimitName.Offset)
             → IsFull self.told (length (written_dictionary keys self.infos)) }
+        ensures begun { (keys : List (List ℕ)) → HasKeys self keys → OnErr result.1 (TellsBeginning self.told result.0 (written_dictionary keys self.infos)) }
+        ensures untouched { IsTrue self.closed → result.0 ≡ self.told }
         ensures closed { IsErrOf result.1 Fault.SerializerClosed ↔ IsTrue self.closed }
         ensures only { IfErr result.1 (λ e. (e ≡ Fault.Write) ⊎ (e ≡ Fault.Limit LimitName.Offset) ⊎ (e ≡ Fault.SerializerClosed)) }
     {

@@ -60,7 +60,7 @@ pieces_refused f n b begun told new result within h refused put =
 pub all_pieces : (begun told : Told) (bytes : List ℕ) → Tells begun told bytes → Writes begun told bytes (Ok tt)
 all_pieces begun told bytes h =
     let failed = h.failed in
-    record { ok = h; write = (λ e. absurd (cc), λ less. absurd (omega arith)); limit = λ e. absurd (cc); only = tt }
+    record { ok = h; write = (λ e. absurd (cc), λ less. absurd (omega arith)); limit = λ e. absurd (cc); begun = tt; only = tt }
 
 pub offset_more : (infos : List TermInfo) (b offset size : ℕ) → offset ≡ offset_of infos b → size ≡ length (block_bytes infos b) → offset + size ≡ offset_of infos (b + 1)
 offset_more infos b offset size e s =

@@ -1,11 +1,11 @@
 -- The bytes that are written for term infos.
-use Rattle.std.specs.Prelude.{Bool, ℕ, ◌-◌, ◌*◌, ◌^◌, ◌≤◌, ◌<◌, ◌↔◌, ◌⊎◌, ◌≡◌, max, List, [], ◌∷◌, ◌++◌, map, take, drop, length, slice_index_or, Result, OnOk, IfErr, IsErrOf}
+use Rattle.std.specs.Prelude.{Bool, ℕ, ◌-◌, ◌*◌, ◌^◌, ◌≤◌, ◌<◌, ◌↔◌, ◌⊎◌, ◌≡◌, max, List, [], ◌∷◌, ◌++◌, map, take, drop, length, slice_index_or, Result, OnOk, OnErr, IfErr, IsErrOf}
 use Rattle.std.specs.List.{flat_map, sum_by, range_with_len}
 use Rattle.ii_io.specs.declared.faults.Fault.{Fault}
 use Rattle.ii_io.specs.declared.faults.Fault.TheVariants.{Write, Limit}
 use Rattle.ii_io.specs.declared.faults.LimitName.TheVariants.{Offset}
 use Rattle.ii_io.specs.Numbers.{le_bytes}
-use Rattle.ii_io.specs.Told.{Told, Tells, IsFull}
+use Rattle.ii_io.specs.Told.{Told, Tells, TellsBeginning, IsFull}
 use Rattle.ii_codes.specs.Packed.{num_bits}
 use Rattle.ii_codes.specs.Bits.{low_bits, whole_bytes, bits_left, bits_bytes}
 use Rattle.ii_termstore.specs.declared.term_info.TermInfo.{TermInfo}
@@ -23,6 +23,7 @@ pub record Packs (begun told : Told) (pending row : List ℕ) (size : ℕ) (resu
   pub ok : OnOk result (IsPacking begun told pending row)
   pub write : IsErrOf result Write ↔ (begun.failed < told.failed)
   pub limit : IsErrOf result (Limit Offset) → IsFull begun size
+  pub part : OnErr result (TellsBeginning begun told (whole_bytes row))
   pub only : IfErr result (λ e. (e ≡ Write) ⊎ (e ≡ Limit Offset))
 
 abbrev pub first_of : List TermInfo → TermInfo

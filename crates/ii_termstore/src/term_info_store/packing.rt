@@ -142,6 +142,7 @@ fn pack_term<W: Write>(
         → length row + term_bits meta.now ≤ 8 * size
         → Packs begun writer.new packer.new (row ++ term_row meta.now info.now) size result }
 {
+    writes_one_row();
     let first = &meta.ref_term_info;
     let postings = pack(
         packer,

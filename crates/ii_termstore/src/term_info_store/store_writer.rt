@@ -1,5 +1,5 @@
 ghost use Rattle.std.specs.Prelude.{◌≡◌, ◌+◌, ◌*◌, ◌≤◌, ◌<◌, ◌↔◌, ◌⊎◌, [], ◌∷◌, ◌++◌, true, false, length, drop, Some, OnOk, OnErr, IfErr, IsErrOf, IsTrue};
-ghost use Rattle.ii_io.specs.Told.{Tells, IsFull, Writes};
+ghost use Rattle.ii_io.specs.Told.{Tells, TellsBeginning, IsFull, Writes};
 ghost use Rattle.ii_io.specs.Numbers.{le_bytes};
 ghost use Rattle.ii_termstore.specs.TermInfos.{HasLengths};
 ghost use Rattle.ii_termstore.specs.TermStore.{block_count, meta_bytes, term_store};
@@ -76,7 +76,8 @@ impl TermInfoStoreWriter {
     /// join.
     ///
     /// `Write` where the writer fails, `Limit(Offset)` where a count of the writer would pass
-    /// `u64::MAX`; `SerializerClosed` after an earlier refusal. It takes no memory.
+    /// `u64::MAX`: a beginning of the store is then written. `SerializerClosed` after an earlier
+    /// refusal, and nothing is written. It takes no memory.
     pub fn serialize<W: Write>(&mut self, writer: &mut CountingWriter<W>) -> Result<(), Fault>
         ensures ok { OnOk result (Tells writer.old writer.new (written_store self.old.infos)) }
         ensures holds { AreJoined self.old.infos → OnOk result (term_store (written_store self.old.infos) ≡ Some self.old.infos) }
@@ -84,6 +85,8 @@ impl TermInfoStoreWriter {
         ensures err { OnErr result (self.new ≡ record self.old { closed = true }) }
         ensures write { IsErrOf result Fault.Write ↔ (writer.old.failed < writer.new.failed) }
         ensures limit { IsErrOf result (Fault.Limit LimitName.Offset) → IsFull writer.old (length (written_store self.old.infos)) }
+        ensures begun { OnErr result (TellsBeginning writer.old writer.new (written_store self.old.infos)) }
+        ensures untouched { IsTrue self.old.closed → writer.new ≡ writer.old }
         ensures closed { IsErrOf result Fault.SerializerClosed ↔ IsTrue self.old.closed }
         ensures only { IfErr result (λ e. (e ≡ Fault.Write) ⊎ (e ≡ Fault.Limit LimitName.Offset) ⊎ (e ≡ Fault.SerializerClosed)) }
     {
@@ -99,7 +102,8 @@ impl TermInfoStoreWriter {
 
 /// Writes the store of these terms, of which there are at most 2^40. It takes no memory.
 ///
-/// `Write` where the writer fails, `Limit(Offset)` where a count of the writer would pass `u64::MAX`.
+/// `Write` where the writer fails, `Limit(Offset)` where a count of the writer would pass `u64::MAX`:
+/// a beginning of the store is then written.
 pub fn put_store<W: Write>(infos: &[TermInfo], writer: &mut CountingWriter<W>) -> Result<(), Fault>
     requires few { length infos.now ≤ 1099511627776 }
     requires lengths { HaveLengths infos.now }
