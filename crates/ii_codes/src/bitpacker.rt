@@ -1,5 +1,5 @@
 ghost use Rattle.std.specs.Prelude.{◌≡◌, ℕ, ◌+◌, ◌*◌, ◌/◌, ◌^◌, ◌<◌, ◌≤◌, ◌↔◌, ◌⊎◌, [], ◌++◌, length, slice_index, OnOk, OnErr, IfErr, IsErrOf};
-ghost use Rattle.ii_io.specs.Told.{Tells, TellsBeginning, IsFull};
+ghost use Rattle.ii_io.specs.CountingWriter.{Wrote, WrotePrefix, IsFull};
 ghost use Rattle.ii_codes.specs.Packed.{bits_in, num_bits};
 ghost use Rattle.ii_codes.specs.Bits.{low_bits, whole_bytes, bits_left, bits_bytes, WritesOneRow, ReadsFromItsPlace};
 
@@ -70,11 +70,11 @@ impl BitPacker {
     ) -> Result<(), Fault>
         requires narrow { num_bits ≤ 64 }
         requires fits { val < 2 ^ num_bits }
-        ensures ok { OnOk result (Tells output.old output.new (whole_bytes (self.old ++ low_bits num_bits val))) }
+        ensures ok { OnOk result (Wrote output.old output.new (whole_bytes (self.old ++ low_bits num_bits val))) }
         ensures left { OnOk result (self.new ≡ bits_left (self.old ++ low_bits num_bits val)) }
-        ensures write { IsErrOf result Fault.Write ↔ (output.old.failed < output.new.failed) }
+        ensures write { IsErrOf result Fault.Write ↔ (output.old.failed_calls < output.new.failed_calls) }
         ensures limit { IsErrOf result (Fault.Limit LimitName.Offset) ↔ IsFull output.old ((length self.old + num_bits) / 8) }
-        ensures begun { OnErr result (TellsBeginning output.old output.new (whole_bytes (self.old ++ low_bits num_bits val))) }
+        ensures prefix { OnErr result (WrotePrefix output.old output.new (whole_bytes (self.old ++ low_bits num_bits val))) }
         ensures only { IfErr result (λ e. (e ≡ Fault.Write) ⊎ (e ≡ Fault.Limit LimitName.Offset)) }
     {
         let (low, len) = (self.mini_buffer, self.mini_buffer_written);
@@ -92,11 +92,11 @@ impl BitPacker {
     /// Writes the bits that are left, with zero bits up to the end of the byte. Answers the faults
     /// of `write`.
     pub fn flush<W: Write>(&mut self, output: &mut CountingWriter<W>) -> Result<(), Fault>
-        ensures ok { OnOk result (Tells output.old output.new (bits_bytes self.old)) }
+        ensures ok { OnOk result (Wrote output.old output.new (bits_bytes self.old)) }
         ensures left { OnOk result (self.new ≡ []) }
-        ensures write { IsErrOf result Fault.Write ↔ (output.old.failed < output.new.failed) }
+        ensures write { IsErrOf result Fault.Write ↔ (output.old.failed_calls < output.new.failed_calls) }
         ensures limit { IsErrOf result (Fault.Limit LimitName.Offset) ↔ IsFull output.old (length (bits_bytes self.old)) }
-        ensures begun { OnErr result (TellsBeginning output.old output.new (bits_bytes self.old)) }
+        ensures prefix { OnErr result (WrotePrefix output.old output.new (bits_bytes self.old)) }
         ensures only { IfErr result (λ e. (e ≡ Fault.Write) ⊎ (e ≡ Fault.Limit LimitName.Offset)) }
     {
         let byte = [self.mini_buffer];
@@ -108,11 +108,11 @@ impl BitPacker {
 
     /// Writes the bits that are left, as `flush` does.
     pub fn close<W: Write>(&mut self, output: &mut CountingWriter<W>) -> Result<(), Fault>
-        ensures ok { OnOk result (Tells output.old output.new (bits_bytes self.old)) }
+        ensures ok { OnOk result (Wrote output.old output.new (bits_bytes self.old)) }
         ensures left { OnOk result (self.new ≡ []) }
-        ensures write { IsErrOf result Fault.Write ↔ (output.old.failed < output.new.failed) }
+        ensures write { IsErrOf result Fault.Write ↔ (output.old.failed_calls < output.new.failed_calls) }
         ensures limit { IsErrOf result (Fault.Limit LimitName.Offset) ↔ IsFull output.old (length (bits_bytes self.old)) }
-        ensures begun { OnErr result (TellsBeginning output.old output.new (bits_bytes self.old)) }
+        ensures prefix { OnErr result (WrotePrefix output.old output.new (bits_bytes self.old)) }
         ensures only { IfErr result (λ e. (e ≡ Fault.Write) ⊎ (e ≡ Fault.Limit LimitName.Offset)) }
     {
         self.flush(output)

@@ -6,11 +6,11 @@ use Rattle.std.proofs.lemmas.List.{take_more, set-get_or, append-nil}
 use Rattle.std.proofs.lemmas.List.Edits.{map_over_more}
 use Rattle.std.proofs.lemmas.Bool.Decides.{nat_tests}
 use Rattle.ii_io.specs.declared.faults.Fault.{Fault}
-use Rattle.ii_io.specs.Told.{Told, Tells, TellsBeginning, IsFull}
-use Rattle.ii_io.specs.ToldLemmas.{begins_all, begins_then, full_before}
+use Rattle.ii_io.specs.CountingWriter.{CountingWriterState, Wrote, WrotePrefix, IsFull}
+use Rattle.ii_io.specs.CountingWriterLemmas.{prefix_of_more, prefix_after, full_before}
 use Rattle.ii_io.specs.Composite.{Body, bodies_bytes, places_from, table_bytes, written_composite}
-use Rattle.ii_io.specs.Composing.{Composing, HasBodies, has_start, starts_from, places_of}
-use Rattle.ii_io.specs.ComposingLemmas.{HasBodies-more, places_of-bodies}
+use Rattle.ii_io.specs.CompositeWrite.{CompositeWriteState, HasBodies, has_start, starts_from, places_of}
+use Rattle.ii_io.specs.CompositeWriteLemmas.{HasBodies-more, places_of-bodies}
 use Rattle.ii_base.specs.Schema.{Entry}
 use Rattle.ii_fieldnorm.specs.Buffers.{Buffers, filled, filled_buffers, IsFilledFront, norm_bodies, norm_bodies_from, AddsBuffer, empty_buffer, buffer_bytes, buffer_size}
 
@@ -35,17 +35,17 @@ has_start-behind field start behind (None ∷ bs) h = has_start-behind (field + 
 has_start-behind field start behind (Some ids ∷ bs) h =
     rw (eqb_below field behind (omega arith), has_start-behind (field + 1) (start + length ids) behind bs (omega arith)) refl
 
-written_cases : (begun : Told) (old new : Composing) (bodies : List Body) (field : ℕ) (b : Option (List ℕ)) → HasBodies begun old bodies → AddsBuffer old new field b → HasBodies begun new (bodies ++ norm_bodies_from field (b ∷ []))
-written_cases begun old new bodies field None has adds = rw (adds, append-nil bodies) has
-written_cases begun old new bodies field (Some ids) has adds = HasBodies-more begun old new bodies field ids has adds
+written_cases : (initial : CountingWriterState) (old new : CompositeWriteState) (bodies : List Body) (field : ℕ) (b : Option (List ℕ)) → HasBodies initial old bodies → AddsBuffer old new field b → HasBodies initial new (bodies ++ norm_bodies_from field (b ∷ []))
+written_cases initial old new bodies field None has adds = rw (adds, append-nil bodies) has
+written_cases initial old new bodies field (Some ids) has adds = HasBodies-more initial old new bodies field ids has adds
 
 -- one buffer more
-pub buffer_written : (begun : Told) (old new : Composing) (bs : Buffers) (i : ℕ) (b : Option (List ℕ)) → i < length bs → b ≡ get_or bs i b → length (take i bs) ≡ i → HasBodies begun old (norm_bodies (take i bs)) → AddsBuffer old new i b → HasBodies begun new (norm_bodies (take (i + 1) bs))
-buffer_written begun old new bs i b within here size has adds =
+pub buffer_written : (initial : CountingWriterState) (old new : CompositeWriteState) (bs : Buffers) (i : ℕ) (b : Option (List ℕ)) → i < length bs → b ≡ get_or bs i b → length (take i bs) ≡ i → HasBodies initial old (norm_bodies (take i bs)) → AddsBuffer old new i b → HasBodies initial new (norm_bodies (take (i + 1) bs))
+buffer_written initial old new bs i b within here size has adds =
     let place : 0 + length (take i bs) ≡ i = omega arith in
     let front : take (i + 1) bs ≡ take i bs ++ b ∷ [] = take_more bs i b within ∙ ap (λ (x : Option (List ℕ)). take i bs ++ x ∷ []) (sym here) in
     let bodies : norm_bodies (take i bs ++ b ∷ []) ≡ norm_bodies (take i bs) ++ norm_bodies_from i (b ∷ []) = norm_bodies_from-more 0 (take i bs) b ∙ ap (λ (f : ℕ). norm_bodies (take i bs) ++ norm_bodies_from f (b ∷ [])) place in
-    rw (front, bodies) (written_cases begun old new (norm_bodies (take i bs)) i b has adds)
+    rw (front, bodies) (written_cases initial old new (norm_bodies (take i bs)) i b has adds)
 
 -- a buffer that could not be filled stays, and so do those behind it
 pub filled_front : {A E : Type 0} (r : Result A E) (docs : ℕ) (init now : Buffers) (i : ℕ) (old new : Option (List ℕ)) → now ≡ filled_buffers docs (take i init) ++ drop i init → old ≡ get_or now i old → new ≡ old → OnErr r (IsFilledFront docs init (set now i new))
@@ -80,11 +80,11 @@ part_size field (Some ids ∷ bs) (suc i) b within here =
     omega arith
 
 -- a table behind the bodies that passes a count makes the whole file pass it
-pub closing_full : (begun : Told) (c : Composing) (bodies : List Body) → HasBodies begun c bodies → IsFull c.told (length (table_bytes (places_of c))) → IsFull begun (length (written_composite bodies))
-closing_full begun c bodies has full =
-    let table = places_of-bodies begun c bodies has in
+pub closing_full : (initial : CountingWriterState) (c : CompositeWriteState) (bodies : List Body) → HasBodies initial c bodies → IsFull c.writer (length (table_bytes (places_of c))) → IsFull initial (length (written_composite bodies))
+closing_full initial c bodies has full =
+    let table = places_of-bodies initial c bodies has in
     let sum = length-append (bodies_bytes bodies) (table_bytes (places_from 0 bodies)) in
-    full_before begun c.told (bodies_bytes bodies) (length (table_bytes (places_from 0 bodies))) (length (written_composite bodies)) has.told (omega arith) (rw table at full)
+    full_before initial c.writer (bodies_bytes bodies) (length (table_bytes (places_from 0 bodies))) (length (written_composite bodies)) has.writer (omega arith) (rw table at full)
 
 -- what stands behind the bytes of a buffer and of those before it
 bytes_behind : ℕ → Buffers → ℕ → List ℕ
@@ -107,18 +107,18 @@ all_bytes field (Some ids ∷ bs) (suc i) b within here =
     ∙ ap (λ (xs : List ℕ). xs ++ rest) (sym (append_assoc ids front (buffer_bytes b)))
 
 -- a beginning of a buffer behind those before it begins all of them
-pub buffer_begins : (a b c : Told) (bs : Buffers) (i : ℕ) (x : Option (List ℕ)) → i < length bs → x ≡ get_or bs i x → Tells a b (bodies_bytes (norm_bodies (take i bs))) → TellsBeginning b c (buffer_bytes x)
-    → TellsBeginning a c (bodies_bytes (norm_bodies bs))
-buffer_begins a b c bs i x within here front begun =
-    rw (all_bytes 0 bs i x within here) (begins_all a c (bodies_bytes (norm_bodies (take i bs)) ++ buffer_bytes x) (bytes_behind 0 bs i) (begins_then a b c (bodies_bytes (norm_bodies (take i bs))) (buffer_bytes x) front begun))
+pub buffer_begins : (a b c : CountingWriterState) (bs : Buffers) (i : ℕ) (x : Option (List ℕ)) → i < length bs → x ≡ get_or bs i x → Wrote a b (bodies_bytes (norm_bodies (take i bs))) → WrotePrefix b c (buffer_bytes x)
+    → WrotePrefix a c (bodies_bytes (norm_bodies bs))
+buffer_begins a b c bs i x within here front initial =
+    rw (all_bytes 0 bs i x within here) (prefix_of_more a c (bodies_bytes (norm_bodies (take i bs)) ++ buffer_bytes x) (bytes_behind 0 bs i) (prefix_after a b c (bodies_bytes (norm_bodies (take i bs))) (buffer_bytes x) front initial))
 
 -- a beginning of the bodies, or of the table behind them, begins the file
-pub bodies_begin : (a b : Told) (bodies : List Body) → TellsBeginning a b (bodies_bytes bodies) → TellsBeginning a b (written_composite bodies)
-bodies_begin a b bodies begun = begins_all a b (bodies_bytes bodies) (table_bytes (places_from 0 bodies)) begun
+pub bodies_begin : (a b : CountingWriterState) (bodies : List Body) → WrotePrefix a b (bodies_bytes bodies) → WrotePrefix a b (written_composite bodies)
+bodies_begin a b bodies prefix = prefix_of_more a b (bodies_bytes bodies) (table_bytes (places_from 0 bodies)) initial
 
-pub table_begins : {A : Type 0} (r : Result A Fault) (begun new : Told) (c : Composing) (bodies : List Body) → HasBodies begun c bodies → OnErr r (TellsBeginning c.told new (table_bytes (places_of c)))
-    → OnErr r (TellsBeginning begun new (written_composite bodies))
-table_begins (Ok x) begun new c bodies has begins = tt
-table_begins (Err e) begun new c bodies has begins =
-    let table = rw (places_of-bodies begun c bodies has) at begins in
-    begins_then begun c.told new (bodies_bytes bodies) (table_bytes (places_from 0 bodies)) has.told table
+pub table_begins : {A : Type 0} (r : Result A Fault) (initial new : CountingWriterState) (c : CompositeWriteState) (bodies : List Body) → HasBodies initial c bodies → OnErr r (WrotePrefix c.writer new (table_bytes (places_of c)))
+    → OnErr r (WrotePrefix initial new (written_composite bodies))
+table_begins (Ok x) initial new c bodies has begins = tt
+table_begins (Err e) initial new c bodies has begins =
+    let table = rw (places_of-bodies initial c bodies has) at begins in
+    prefix_after initial c.writer new (bodies_bytes bodies) (table_bytes (places_from 0 bodies)) has.writer table

@@ -3,7 +3,7 @@ use Rattle.std.specs.Prelude.{◌≡◌, ℕ, ◌+◌, ◌-◌, ◌^◌, ◌<◌
 use Rattle.std.specs.List.{enumerate_from}
 use Rattle.std.specs.Option.{option_map, option_flatten}
 use Rattle.ii_io.specs.Composite.{Body, bodies_bytes, composite, written_composite, body_of}
-use Rattle.ii_io.specs.Composing.{Composing, AddsBody}
+use Rattle.ii_io.specs.CompositeWrite.{CompositeWriteState, AddsBody}
 use Rattle.ii_base.specs.Schema.{Entry, keeps_norms}
 use Rattle.ii_fieldnorm.specs.Norms.{id_of_norm}
 
@@ -53,12 +53,12 @@ abbrev pub norm_bodies : Buffers → List Body
 norm_bodies buffers = norm_bodies_from 0 buffers
 
 -- A serializer that wrote nothing yet.
-pub record IsFresh (c : Composing) : Type 0 where
+pub record IsFresh (c : CompositeWriteState) : Type 0 where
   pub starts : c.starts ≡ []
-  pub base : c.base ≡ c.told.written
+  pub base : c.base ≡ c.writer.written_bytes
 
 -- The buffer of a field was written, if the field has norms.
-abbrev pub AddsBuffer : Composing → Composing → ℕ → Option (List ℕ) → Type 0
+abbrev pub AddsBuffer : CompositeWriteState → CompositeWriteState → ℕ → Option (List ℕ) → Type 0
 AddsBuffer old new field None = new ≡ old
 AddsBuffer old new field (Some ids) = AddsBody old new field ids
 

@@ -1,8 +1,8 @@
 ghost use Rattle.std.specs.Prelude.{◌≡◌, ◌<◌, ◌≤◌, ◌-◌, ◌^◌, ◌⊎◌, ◌↔◌, [], ◌∷◌, ◌++◌, List, length, replicate, vec_len, Some, None, false, if◌then◌else◌, IsTrue, IfSome, IfOk, OnOk, OnErr, IfErr, IsErrOf};
 ghost use Rattle.std.specs.Option.{option_map, option_copied};
-ghost use Rattle.ii_io.specs.Told.{Tells, TellsBeginning, IsFull};
+ghost use Rattle.ii_io.specs.CountingWriter.{Wrote, WrotePrefix, IsFull};
 ghost use Rattle.ii_io.specs.Composite.{bodies_bytes, written_composite};
-ghost use Rattle.ii_io.specs.Composing.{HasBodies, has_start};
+ghost use Rattle.ii_io.specs.CompositeWrite.{HasBodies, has_start};
 ghost use Rattle.ii_fieldnorm.specs.Buffers.{norm_fields, empty_buffers, filled, filled_buffers, buffer_of, recorded, recorded_buffers, IsFilledFront, norm_bodies, IsFresh, AddsBuffer, ReadsWrittenNorms, buffer_bytes, buffer_size};
 
 use super::code::fieldnorm_to_id;
@@ -101,11 +101,11 @@ impl FieldNormsWriter {
         serializer: FieldNormsSerializer<W>,
     ) -> (CountingWriter<W>, Result<(), Fault>)
         requires { IsFresh serializer }
-        ensures ok { OnOk result.1 (Tells serializer.told result.0 (written_composite (norm_bodies self.now))) }
-        ensures write { IsErrOf result.1 Fault.Write ↔ (serializer.told.failed < (result.0).failed) }
+        ensures ok { OnOk result.1 (Wrote serializer.writer result.0 (written_composite (norm_bodies self.now))) }
+        ensures write { IsErrOf result.1 Fault.Write ↔ (serializer.writer.failed_calls < (result.0).failed_calls) }
         ensures limit { IsErrOf result.1 (Fault.Limit LimitName.Offset)
-            → IsFull serializer.told (length (written_composite (norm_bodies self.now))) }
-        ensures begun { OnErr result.1 (TellsBeginning serializer.told result.0 (written_composite (norm_bodies self.now))) }
+            → IsFull serializer.writer (length (written_composite (norm_bodies self.now))) }
+        ensures prefix { OnErr result.1 (WrotePrefix serializer.writer result.0 (written_composite (norm_bodies self.now))) }
         ensures closed { IsErrOf result.1 Fault.SerializerClosed ↔ IsTrue serializer.closed }
         ensures only { IfErr result.1 (λ e. (e ≡ Fault.Write) ⊎ (e ≡ Fault.Limit LimitName.Offset)
             ⊎ (e ≡ Fault.OutOfMemory) ⊎ (e ≡ Fault.SerializerClosed)) }
@@ -127,11 +127,11 @@ fn write_buffers<W: Write>(
 ) -> Result<(), Fault>
     requires fresh { IsFresh serializer.old }
     requires few { length buffers.now ≤ 2 ^ 32 }
-    ensures ok { OnOk result (HasBodies serializer.old.told serializer.new (norm_bodies buffers.now)) }
-    ensures write { IsErrOf result Fault.Write ↔ (serializer.old.told.failed < serializer.new.told.failed) }
+    ensures ok { OnOk result (HasBodies serializer.old.writer serializer.new (norm_bodies buffers.now)) }
+    ensures write { IsErrOf result Fault.Write ↔ (serializer.old.writer.failed_calls < serializer.new.writer.failed_calls) }
     ensures limit { IsErrOf result (Fault.Limit LimitName.Offset)
-        → IsFull serializer.old.told (length (bodies_bytes (norm_bodies buffers.now))) }
-    ensures begun { OnErr result (TellsBeginning serializer.old.told serializer.new.told
+        → IsFull serializer.old.writer (length (bodies_bytes (norm_bodies buffers.now))) }
+    ensures prefix { OnErr result (WrotePrefix serializer.old.writer serializer.new.writer
         (bodies_bytes (norm_bodies buffers.now))) }
     ensures closed { IsErrOf result Fault.SerializerClosed → IsTrue serializer.old.closed }
     ensures was_closed { IsTrue serializer.old.closed → IfErr result (λ e. e ≡ Fault.SerializerClosed) }
@@ -154,10 +154,10 @@ fn write_buffer<W: Write>(
 ) -> Result<(), Fault>
     requires { has_start field serializer.old.starts ≡ false }
     ensures ok { OnOk result (AddsBuffer serializer.old serializer.new field buffer.now) }
-    ensures write { IsErrOf result Fault.Write ↔ (serializer.old.told.failed < serializer.new.told.failed) }
+    ensures write { IsErrOf result Fault.Write ↔ (serializer.old.writer.failed_calls < serializer.new.writer.failed_calls) }
     ensures limit { IsErrOf result (Fault.Limit LimitName.Offset)
-        → IsFull serializer.old.told (buffer_size buffer.now) }
-    ensures begun { OnErr result (TellsBeginning serializer.old.told serializer.new.told (buffer_bytes buffer.now)) }
+        → IsFull serializer.old.writer (buffer_size buffer.now) }
+    ensures prefix { OnErr result (WrotePrefix serializer.old.writer serializer.new.writer (buffer_bytes buffer.now)) }
     ensures closed { IsErrOf result Fault.SerializerClosed → IsTrue serializer.old.closed }
     ensures was_closed { IsTrue serializer.old.closed → IfErr result (λ e. e ≡ Fault.SerializerClosed) }
     ensures only { IfErr result (λ e. (e ≡ Fault.Write) ⊎ (e ≡ Fault.Limit LimitName.Offset)

@@ -1,5 +1,5 @@
 -- Laws of writing a composite file.
-use Rattle.std.proofs.Common.{◌≡◌, ℕ, zero, suc, ◌+◌, ◌*◌, ◌<◌, ◌≤◌, List, [], ◌∷◌, ◌++◌, length, take, drop, get_or, Some, Result, Ok, Err, OnOk, OnErr, IfErr, IsErrOf, refl, sym, ap, ◌∙◌, arith, length-append, append_assoc}
+use Rattle.std.proofs.Common.{◌≡◌, ℕ, zero, suc, ◌+◌, ◌*◌, ◌<◌, ◌≤◌, List, [], ◌∷◌, ◌++◌, length, take, drop, get_or, Some, Result, Ok, Err, is_err, true, false, OnOk, OnErr, IfErr, IsErrOf, refl, sym, ap, ◌∙◌, arith, length-append, append_assoc}
 use Rattle.std.specs.List.{flat_map, slice_get}
 use Rattle.std.proofs.lemmas.List.{length-take-le, append-nil, take-append-drop}
 use Rattle.std.proofs.lemmas.Grind.{flat_map-append}
@@ -8,15 +8,15 @@ use Rattle.ii_io.specs.declared.composite_file.place.BodyStart.{BodyStart}
 use Rattle.ii_io.specs.declared.faults.Fault.{Fault}
 use Rattle.ii_io.specs.declared.faults.Fault.TheVariants.{Write, Limit}
 use Rattle.ii_io.specs.declared.faults.LimitName.{LimitName}
-use Rattle.ii_io.specs.Told.{Told, Tells, TellsBeginning}
+use Rattle.ii_io.specs.CountingWriter.{CountingWriterState, Wrote, Writes}
 use Rattle.ii_io.proofs.VintLemmas.{some-same}
 use Rattle.ii_io.specs.Numbers.{le_bytes}
 use Rattle.ii_io.specs.NumberLemmas.{length_le_bytes}
 use Rattle.ii_io.specs.Composite.{Body, place_bytes, table_bytes, bodies_bytes, places_from, written_composite}
 use Rattle.ii_io.specs.CompositeLemmas.{length_place_bytes}
-use Rattle.ii_io.specs.ComposingLemmas.{places_of-bodies}
-use Rattle.ii_io.specs.ToldLemmas.{Tells-trans, begins_all, begins_then}
-use Rattle.ii_io.specs.Composing.{Composing, places_until, places_of, HasBodies}
+use Rattle.ii_io.specs.CompositeWriteLemmas.{places_of-bodies}
+use Rattle.ii_io.specs.CountingWriterLemmas.{Wrote-trans, writes_then, writes_refused_by, writes_went}
+use Rattle.ii_io.specs.CompositeWrite.{CompositeWriteState, places_until, places_of, HasBodies}
 
 -- a place ends where the next body begins
 pub place_next : (ss : List BodyStart) (i end : ℕ) (s t : BodyStart) → suc i < length ss → s ≡ get_or ss i s → t ≡ get_or ss (suc i) t
@@ -66,44 +66,27 @@ places_more (q ∷ ps) (suc i) p e =
 pub front_size : (ps : List Place) (i : ℕ) → i ≤ length ps → length (flat_map place_bytes (take i ps)) ≡ 20 * i
 front_size ps i h = length-places_bytes (take i ps) ∙ ap (λ (n : ℕ). 20 * n) (length-take-le i ps h)
 
--- the places, their number, and a flush
-pub table_told : (r : Result (Unit {0}) Fault) (a b c d : Told) (ps : List Place) (n : ℕ) → length ps ≡ n → Tells a b (flat_map place_bytes ps) → Tells b c (le_bytes 4 n) → OnOk r (Tells c d []) → OnOk r (Tells a d (table_bytes ps))
-table_told (Ok x) a b c d ps n count places number flushed =
-    let whole = Tells-trans a c d (flat_map place_bytes ps ++ le_bytes 4 n) [] (Tells-trans a b c (flat_map place_bytes ps) (le_bytes 4 n) places number) flushed in
-    rw count (rw append-nil at whole)
-table_told (Err e) a b c d ps n count places number flushed = tt
-
-pub not_limit : (r : Result (Unit {0}) Fault) (name : LimitName) → IfErr r (λ e. e ≡ Write) → IsErrOf r (Limit name) → ⊥
-not_limit (Ok x) name only e = cc
-not_limit (Err f) name only e = cc
-
 -- the bodies, and the table behind them
-pub closed_bodies : {A : Type 0} (r : Result A Fault) (begun new : Told) (c : Composing) (bodies : List Body) → HasBodies begun c bodies → OnOk r (Tells c.told new (table_bytes (places_of c))) → OnOk r (Tells begun new (written_composite bodies))
-closed_bodies (Ok x) begun new c bodies h e =
-    let table = rw (places_of-bodies begun c bodies h) at e in
-    Tells-trans begun c.told new (bodies_bytes bodies) (table_bytes (places_from 0 bodies)) h.told table
-closed_bodies (Err f) begun new c bodies h e = tt
+pub closed_bodies : {A : Type 0} (r : Result A Fault) (initial new : CountingWriterState) (c : CompositeWriteState) (bodies : List Body) → HasBodies initial c bodies → OnOk r (Wrote c.writer new (table_bytes (places_of c))) → OnOk r (Wrote initial new (written_composite bodies))
+closed_bodies (Ok x) initial new c bodies h e =
+    let table = rw (places_of-bodies initial c bodies h) at e in
+    Wrote-trans initial c.writer new (bodies_bytes bodies) (table_bytes (places_from 0 bodies)) h.writer table
+closed_bodies (Err f) initial new c bodies h e = tt
 
--- a beginning of a place behind others begins the places
-pub place_begins : (a b c : Told) (ps : List Place) (i : ℕ) (p : Place) → slice_get ps i ≡ Some p → Tells a b (flat_map place_bytes (take i ps)) → TellsBeginning b c (place_bytes p)
-    → TellsBeginning a c (flat_map place_bytes ps)
-place_begins a b c ps i p here front begun =
+-- a place that was refused, after others
+pub place_refused : (a b c : CountingWriterState) (ps : List Place) (i : ℕ) (p : Place) (result : Result (Unit {0}) Fault) → slice_get ps i ≡ Some p → Wrote a b (flat_map place_bytes (take i ps)) → true ≡ is_err result
+    → Writes b c (place_bytes p) result → Writes a c (flat_map place_bytes ps) result
+place_refused a b c ps i p result here front refused writes =
     let more = places_more ps i p here in
     let parts : flat_map place_bytes ps ≡ flat_map place_bytes (take (suc i) ps) ++ flat_map place_bytes (drop (suc i) ps) =
     ap (flat_map place_bytes) (sym (take-append-drop (suc i) ps)) ∙ flat_map-append place_bytes (take (suc i) ps) (drop (suc i) ps)
     in
-    rw (parts, more) (begins_all a c (flat_map place_bytes (take i ps) ++ place_bytes p) (flat_map place_bytes (drop (suc i) ps)) (begins_then a b c (flat_map place_bytes (take i ps)) (place_bytes p) front begun))
+    rw (parts, more) (writes_refused_by a c (flat_map place_bytes (take i ps) ++ place_bytes p) (flat_map place_bytes (drop (suc i) ps)) result refused (writes_then a b c (flat_map place_bytes (take i ps)) (place_bytes p) result front writes))
 
--- a beginning of the places, of their number behind them, and of nothing behind both
-pub table_begins : (a b : Told) (ps : List Place) → TellsBeginning a b (flat_map place_bytes ps) → TellsBeginning a b (table_bytes ps)
-table_begins a b ps begun = begins_all a b (flat_map place_bytes ps) (le_bytes 4 (length ps)) begun
+-- the number, which was refused or is followed by a flush
+pub number_refused : (a b c : CountingWriterState) (ps : List Place) (n : ℕ) (first result : Result (Unit {0}) Fault) → length ps ≡ n → false ≡ is_err first → Writes a b (flat_map place_bytes ps) first → Writes b c (le_bytes 4 n) result
+    → Writes a c (table_bytes ps) result
+number_refused a b c ps n first result count went places number = rw count (writes_then a b c (flat_map place_bytes ps) (le_bytes 4 n) result (writes_went a b (flat_map place_bytes ps) first went places) number)
 
-pub number_begins : (a b c : Told) (ps : List Place) (n : ℕ) → length ps ≡ n → Tells a b (flat_map place_bytes ps) → TellsBeginning b c (le_bytes 4 n) → TellsBeginning a c (table_bytes ps)
-number_begins a b c ps n count places begun = begins_then a b c (flat_map place_bytes ps) (le_bytes 4 (length ps)) places (rw count begun)
-
-pub flush_begins : (r : Result (Unit {0}) Fault) (a b c d : Told) (ps : List Place) (n : ℕ) → length ps ≡ n → Tells a b (flat_map place_bytes ps) → Tells b c (le_bytes 4 n) → OnErr r (TellsBeginning c d [])
-    → OnErr r (TellsBeginning a d (table_bytes ps))
-flush_begins (Ok x) a b c d ps n count places number flushed = tt
-flush_begins (Err e) a b c d ps n count places number flushed =
-    let whole = begins_then a c d (flat_map place_bytes ps ++ le_bytes 4 n) [] (Tells-trans a b c (flat_map place_bytes ps) (le_bytes 4 n) places number) flushed in
-    rw count (rw append-nil at whole)
+pub flush_after : (a b c : CountingWriterState) (ps : List Place) (number result : Result (Unit {0}) Fault) → false ≡ is_err number → Writes a b (table_bytes ps) number → Writes b c [] result → Writes a c (table_bytes ps) result
+flush_after a b c ps number result went table flushed = rw append-nil at (writes_then a b c (table_bytes ps) [] result (writes_went a b (table_bytes ps) number went table) flushed)

@@ -1,5 +1,5 @@
 pub mod CompositeLaws
 pub mod CompositeReadLemmas
 pub mod CompositeWriteLemmas
-pub mod ToldLemmas
+pub mod CountingWriterLemmas
 pub mod VintLemmas

@@ -1,5 +1,5 @@
-pub mod Composing
-pub mod ComposingLemmas
+pub mod CompositeWrite
+pub mod CompositeWriteLemmas
 pub mod Composite
 pub mod CompositeLemmas
 pub mod Faults
@@ -7,7 +7,7 @@ pub mod Lending
 pub mod NumberLemmas
 pub mod Numbers
 pub mod Steps
-pub mod Told
-pub mod ToldLemmas
+pub mod CountingWriter
+pub mod CountingWriterLemmas
 pub mod Vints
 pub mod Parts

@@ -1,5 +1,5 @@
 ghost use Rattle.std.specs.Prelude.{◌≡◌, ◌-◌, ◌^◌, ◌<◌, ◌↔◌, ◌⊎◌, [], length, OnOk, OnErr, IfErr, IsErrOf};
-ghost use Rattle.ii_io.specs.Told.{Tells, TellsBeginning, IsFull};
+ghost use Rattle.ii_io.specs.CountingWriter.{Writes, IsFull};
 
 use super::faults::{Fault, LimitName};
 use std::io::Write;
@@ -17,21 +17,21 @@ pub struct CountingWriter<W: Write> {
 }
 
 impl<W: Write> Model for CountingWriter<W> {
-    ghost use Rattle.ii_io.specs.Told.{Told};
+    ghost use Rattle.ii_io.specs.CountingWriter.{CountingWriterState};
 
-    ghost Value = { Told };
+    ghost Value = { CountingWriterState };
 
     ghost view = { λ a. record {
       contents = W.contents a.underlying;
-      written = a.written_bytes;
-      failed = a.failed_calls;
+      written_bytes = a.written_bytes;
+      failed_calls = a.failed_calls;
     } };
 }
 
 impl<W: Write> CountingWriter<W> {
     /// A counting writer over `underlying`, with both counts 0.
     pub fn wrap(underlying: W) -> CountingWriter<W>
-        ensures { result ≡ record { contents = W.contents underlying; written = 0; failed = 0 } }
+        ensures { result ≡ record { contents = W.contents underlying; written_bytes = 0; failed_calls = 0 } }
     {
         CountingWriter {
             underlying,
@@ -42,18 +42,16 @@ impl<W: Write> CountingWriter<W> {
 
     /// How many bytes were written through this writer.
     pub fn written_bytes(&self) -> u64
-        ensures { result ≡ self.now.written }
+        ensures { result ≡ self.now.written_bytes }
     {
-        let CountingWriter { written_bytes, .. } = self;
-        *written_bytes
+        self.written_bytes
     }
 
     /// How many calls failed.
     pub fn failed_calls(&self) -> u64
-        ensures { result ≡ self.now.failed }
+        ensures { result ≡ self.now.failed_calls }
     {
-        let CountingWriter { failed_calls, .. } = self;
-        *failed_calls
+        self.failed_calls
     }
 
     /// The underlying writer. Nothing is flushed.
@@ -72,11 +70,8 @@ impl<W: Write> CountingWriter<W> {
     /// written. Where a count would pass `u64::MAX` the answer is `Limit(Offset)`, and nothing is
     /// touched.
     pub fn write_all(&mut self, buf: &[u8]) -> Result<(), Fault>
-        ensures ok { OnOk result (Tells self.old self.new buf.now) }
-        ensures write { IsErrOf result Fault.Write ↔ (self.old.failed < self.new.failed) }
+        ensures written { Writes self.old self.new buf.now result }
         ensures limit { IsErrOf result (Fault.Limit LimitName.Offset) ↔ IsFull self.old (length buf.now) }
-        ensures only { IfErr result (λ e. (e ≡ Fault.Write) ⊎ (e ≡ Fault.Limit LimitName.Offset)) }
-        ensures err { OnErr result (TellsBeginning self.old self.new buf.now) }
         ensures full { IsFull self.old (length buf.now) → self.new ≡ self.old }
     {
         if self.failed_calls == u64::MAX || u64::MAX - self.written_bytes < buf.len() as u64 {
@@ -101,12 +96,9 @@ impl<W: Write> CountingWriter<W> {
     /// Flushes the writer, or answers `Write` where it fails. Where the count of failed calls is
     /// `u64::MAX` the answer is `Limit(Offset)`, and nothing is touched.
     pub fn flush(&mut self) -> Result<(), Fault>
-        ensures ok { OnOk result (Tells self.old self.new []) }
-        ensures write { IsErrOf result Fault.Write ↔ (self.old.failed < self.new.failed) }
-        ensures limit { IsErrOf result (Fault.Limit LimitName.Offset) ↔ (self.old.failed ≡ 2 ^ 64 - 1) }
-        ensures only { IfErr result (λ e. (e ≡ Fault.Write) ⊎ (e ≡ Fault.Limit LimitName.Offset)) }
-        ensures err { OnErr result (TellsBeginning self.old self.new []) }
-        ensures full { self.old.failed ≡ 2 ^ 64 - 1 → self.new ≡ self.old }
+        ensures written { Writes self.old self.new [] result }
+        ensures limit { IsErrOf result (Fault.Limit LimitName.Offset) ↔ (self.old.failed_calls ≡ 2 ^ 64 - 1) }
+        ensures full { self.old.failed_calls ≡ 2 ^ 64 - 1 → self.new ≡ self.old }
     {
         if self.failed_calls == u64::MAX {
             return Err(Fault::Limit(LimitName::Offset));

@@ -1,6 +1,6 @@
 ghost use Rattle.std.specs.Prelude.{◌≡◌, ◌↔◌, ◌<◌, ◌^◌, ◌++◌, ◌⊎◌, ℕ, List, ◌∷◌, [], length, Option, Some, OnOk, OnErr, IfErr, IfNone, IsErrOf};
 ghost use Rattle.std.specs.Option.{option_map};
-ghost use Rattle.ii_io.specs.Told.{Tells, TellsBeginning, IsFull};
+ghost use Rattle.ii_io.specs.CountingWriter.{Writes, IsFull};
 ghost use Rattle.ii_io.specs.Numbers.{le_bytes, number_at, ReadsWhatIsWritten, HasOneSpelling};
 
 use super::counting_writer::CountingWriter;
@@ -27,12 +27,9 @@ pub trait BinarySerializable: Sized {
     /// is then written; `Limit(Offset)` where a count of the writer would pass `u64::MAX`.
     fn serialize<W: Write>(&self, writer: &mut CountingWriter<W>) -> Result<(), Fault>
         requires { can_serialize self.now }
-        ensures ok { OnOk result (Tells writer.old writer.new (bytes_of self.now)) }
-        ensures write { IsErrOf result Fault.Write ↔ (writer.old.failed < writer.new.failed) }
+        ensures written { Writes writer.old writer.new (bytes_of self.now) result }
         ensures limit { IsErrOf result (Fault.Limit LimitName.Offset)
-            ↔ IsFull writer.old (length (bytes_of self.now)) }
-        ensures begun { OnErr result (TellsBeginning writer.old writer.new (bytes_of self.now)) }
-        ensures only { IfErr result (λ e. (e ≡ Fault.Write) ⊎ (e ≡ Fault.Limit LimitName.Offset)) };
+            ↔ IsFull writer.old (length (bytes_of self.now)) };
 
     /// Takes the value from the front of the bytes. `None` where none stands there, and the bytes
     /// then stay as they were.

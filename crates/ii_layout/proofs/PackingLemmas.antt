@@ -8,8 +8,8 @@ use Rattle.ii_io.specs.NumberLemmas.{length_le_bytes}
 use Rattle.ii_io.specs.declared.faults.Fault.{Fault}
 use Rattle.ii_io.specs.declared.faults.Fault.TheVariants.{Limit}
 use Rattle.ii_io.specs.declared.faults.LimitName.TheVariants.{Offset}
-use Rattle.ii_io.specs.Told.{Told, Tells, TellsBeginning, IsFull}
-use Rattle.ii_io.specs.ToldLemmas.{Tells-trans, begins_all, begins_then, full_more, full_before, full_after}
+use Rattle.ii_io.specs.CountingWriter.{CountingWriterState, Wrote, WrotePrefix, IsFull}
+use Rattle.ii_io.specs.CountingWriterLemmas.{Wrote-trans, prefix_of_more, prefix_after, full_more, full_before, full_after}
 use Rattle.ii_io.specs.Vints.{vint_u64}
 use Rattle.ii_docset.specs.Entries.{are_documents}
 use Rattle.ii_codes.specs.Blocks.{least_first, sorted_entries, sorted_width, sorted_bytes}
@@ -164,16 +164,16 @@ written_is docs rest skip postings last p few =
     ap (λ (m : ℕ). skip_bytes (docs ++ rest) m ++ flat_map (block_bytes (docs ++ rest)) (range_with_len 0 m) ++ sorted_vints (last_before (docs ++ rest) m) (drop (128 * m) (docs ++ rest))) blocks
     ∙ (λ j. list j ++ (bytes ∙ sym p.postings_is) j ++ sorted_vints (end j) (behind j))
 
-last_told : {T E : Type 0} (r : Result T E) (a b c : Told) (xs ys all : List ℕ) → Tells a b xs → OnOk r (Tells b c ys) → all ≡ xs ++ ys → OnOk r (Tells a c all)
-last_told (Ok v) a b c xs ys all front more e = rw e (Tells-trans a b c xs ys front more)
+last_told : {T E : Type 0} (r : Result T E) (a b c : CountingWriterState) (xs ys all : List ℕ) → Wrote a b xs → OnOk r (Wrote b c ys) → all ≡ xs ++ ys → OnOk r (Wrote a c all)
+last_told (Ok v) a b c xs ys all front more e = rw e (Wrote-trans a b c xs ys front more)
 last_told (Err x) a b c xs ys all front more e = tt
 
 -- the three parts that are written one behind the other
-pub written_told : {T E : Type 0} (r : Result T E) (docs rest skip postings ids entries middle tail : List ℕ) (last : ℕ) (a b c d : Told)
+pub written_told : {T E : Type 0} (r : Result T E) (docs rest skip postings ids entries middle tail : List ℕ) (last : ℕ) (a b c d : CountingWriterState)
     → ArePacked docs last skip postings → length rest < 128 → entries ≡ skip → middle ≡ postings → ids ≡ rest → tail ≡ sorted_vints last ids
-    → Tells a b (sized entries) → Tells b c middle → OnOk r (Tells c d tail) → OnOk r (Tells a d (written_documents (docs ++ rest)))
+    → Wrote a b (sized entries) → Wrote b c middle → OnOk r (Wrote c d tail) → OnOk r (Wrote a d (written_documents (docs ++ rest)))
 written_told r docs rest skip postings ids entries middle tail last a b c d p few entries_are middle_is ids_are tail_is first second third =
-    last_told r a c d (sized entries ++ middle) tail (written_documents (docs ++ rest)) (Tells-trans a b c (sized entries) middle first second) third
+    last_told r a c d (sized entries ++ middle) tail (written_documents (docs ++ rest)) (Wrote-trans a b c (sized entries) middle first second) third
     (written_is docs rest skip postings last p few
     ∙ sym (λ j. sized (entries_are j) ++ middle_is j ++ (tail_is ∙ ap (sorted_vints last) ids_are) j))
 
@@ -184,15 +184,15 @@ length-written docs rest skip postings last p few =
     ap length (written_is docs rest skip postings last p few) ∙ omega (arith, length-append (sized skip ++ postings) (sorted_vints last rest), length-append (sized skip) postings)
 
 -- a part that passes a count makes the whole pass it
-pub full_list : (docs rest skip postings entries : List ℕ) (last : ℕ) (a : Told) → ArePacked docs last skip postings → length rest < 128 → entries ≡ skip
+pub full_list : (docs rest skip postings entries : List ℕ) (last : ℕ) (a : CountingWriterState) → ArePacked docs last skip postings → length rest < 128 → entries ≡ skip
     → IsFull a (length (sized entries)) → IsFull a (length (written_documents (docs ++ rest)))
 full_list docs rest skip postings entries last a p few entries_are full =
     let size = length-written docs rest skip postings last p few in
     let part : length (sized entries) ≡ length (sized skip) = ap (λ (xs : List ℕ). length (sized xs)) entries_are in
     full_more a (length (sized entries)) (length (written_documents (docs ++ rest))) (omega arith) full
 
-pub full_blocks : (docs rest skip postings entries middle : List ℕ) (last : ℕ) (a b : Told) → ArePacked docs last skip postings → length rest < 128 → entries ≡ skip → middle ≡ postings
-    → Tells a b (sized entries) → IsFull b (length middle) → IsFull a (length (written_documents (docs ++ rest)))
+pub full_blocks : (docs rest skip postings entries middle : List ℕ) (last : ℕ) (a b : CountingWriterState) → ArePacked docs last skip postings → length rest < 128 → entries ≡ skip → middle ≡ postings
+    → Wrote a b (sized entries) → IsFull b (length middle) → IsFull a (length (written_documents (docs ++ rest)))
 full_blocks docs rest skip postings entries middle last a b p few entries_are middle_is first full =
     let size = length-written docs rest skip postings last p few in
     let list : length (sized entries) ≡ length (sized skip) = ap (λ (xs : List ℕ). length (sized xs)) entries_are in
@@ -209,53 +209,53 @@ front_size docs rest skip postings ids entries middle tail last p few entries_ar
     let behind : length tail ≡ length (sorted_vints last rest) = ap length (tail_is ∙ ap (sorted_vints last) ids_are) in
     omega (arith, length-append (sized entries) middle)
 
-pub full_rest : (docs rest skip postings ids entries middle tail : List ℕ) (last : ℕ) (a b c : Told) → ArePacked docs last skip postings → length rest < 128 → entries ≡ skip → middle ≡ postings
-    → ids ≡ rest → tail ≡ sorted_vints last ids → Tells a b (sized entries) → Tells b c middle → IsFull c (length tail) → IsFull a (length (written_documents (docs ++ rest)))
+pub full_rest : (docs rest skip postings ids entries middle tail : List ℕ) (last : ℕ) (a b c : CountingWriterState) → ArePacked docs last skip postings → length rest < 128 → entries ≡ skip → middle ≡ postings
+    → ids ≡ rest → tail ≡ sorted_vints last ids → Wrote a b (sized entries) → Wrote b c middle → IsFull c (length tail) → IsFull a (length (written_documents (docs ++ rest)))
 full_rest docs rest skip postings ids entries middle tail last a b c p few entries_are middle_is ids_are tail_is first second full =
     let size = front_size docs rest skip postings ids entries middle tail last p few entries_are middle_is ids_are tail_is in
-    full_before a c (sized entries ++ middle) (length tail) (length (written_documents (docs ++ rest))) (Tells-trans a b c (sized entries) middle first second) (omega arith) full
+    full_before a c (sized entries ++ middle) (length tail) (length (written_documents (docs ++ rest))) (Wrote-trans a b c (sized entries) middle first second) (omega arith) full
 
 -- what was written fitted
-pub all_fits : {T : Type 0} (r : Result T Fault) (docs rest skip postings ids entries middle tail : List ℕ) (last : ℕ) (a b c : Told) → ArePacked docs last skip postings → length rest < 128
-    → entries ≡ skip → middle ≡ postings → ids ≡ rest → tail ≡ sorted_vints last ids → Tells a b (sized entries) → Tells b c middle → (IsErrOf r (Limit Offset) ↔ IsFull c (length tail))
+pub all_fits : {T : Type 0} (r : Result T Fault) (docs rest skip postings ids entries middle tail : List ℕ) (last : ℕ) (a b c : CountingWriterState) → ArePacked docs last skip postings → length rest < 128
+    → entries ≡ skip → middle ≡ postings → ids ≡ rest → tail ≡ sorted_vints last ids → Wrote a b (sized entries) → Wrote b c middle → (IsErrOf r (Limit Offset) ↔ IsFull c (length tail))
     → OnOk r (¬ IsFull a (length (written_documents (docs ++ rest))))
 all_fits (Err e) docs rest skip postings ids entries middle tail last a b c p few entries_are middle_is ids_are tail_is first second limit = tt
 all_fits (Ok v) docs rest skip postings ids entries middle tail last a b c p few entries_are middle_is ids_are tail_is first second limit = λ full.
     let size = front_size docs rest skip postings ids entries middle tail last p few entries_are middle_is ids_are tail_is in
-    let told = Tells-trans a b c (sized entries) middle first second in
-    let given = limit.1 (full_after a c (sized entries ++ middle) (length tail) (length (written_documents (docs ++ rest))) told (omega arith) full) in
+    let writer = Wrote-trans a b c (sized entries) middle first second in
+    let given = limit.1 (full_after a c (sized entries ++ middle) (length tail) (length (written_documents (docs ++ rest))) writer (omega arith) full) in
     absurd (cc)
 
 -- a beginning of a skip list behind its number
-pub list_begun : {T E : Type 0} (r : Result T E) (skip front : List ℕ) (a b c : Told) → 0 < length skip → front ≡ vint_u64 (length skip) → Tells a b front
-    → OnErr r (TellsBeginning b c skip) → OnErr r (TellsBeginning a c (sized skip))
+pub list_begun : {T E : Type 0} (r : Result T E) (skip front : List ℕ) (a b c : CountingWriterState) → 0 < length skip → front ≡ vint_u64 (length skip) → Wrote a b front
+    → OnErr r (WrotePrefix b c skip) → OnErr r (WrotePrefix a c (sized skip))
 list_begun (Ok v) skip front a b c some front_is first more = tt
 list_begun (Err e) [] front a b c some front_is first more = absurd (omega arith)
-list_begun (Err e) (x ∷ xs) front a b c some front_is first more = rw (← front_is) (begins_then a b c front (x ∷ xs) first more)
+list_begun (Err e) (x ∷ xs) front a b c some front_is first more = rw (← front_is) (prefix_after a b c front (x ∷ xs) first more)
 
 -- a beginning of one of the three parts, behind those before it
-pub list_begins : (docs rest skip postings entries : List ℕ) (last : ℕ) (a b : Told) → ArePacked docs last skip postings → length rest < 128 → entries ≡ skip
-    → TellsBeginning a b (sized entries) → TellsBeginning a b (written_documents (docs ++ rest))
-list_begins docs rest skip postings entries last a b p few entries_are begun =
-    let list = rw entries_are at begun in
+pub list_begins : (docs rest skip postings entries : List ℕ) (last : ℕ) (a b : CountingWriterState) → ArePacked docs last skip postings → length rest < 128 → entries ≡ skip
+    → WrotePrefix a b (sized entries) → WrotePrefix a b (written_documents (docs ++ rest))
+list_begins docs rest skip postings entries last a b p few entries_are initial =
+    let list = rw entries_are at initial in
     rw (written_is docs rest skip postings last p few)
-    (begins_all a b (sized skip ++ postings) (sorted_vints last rest) (begins_all a b (sized skip) postings list))
+    (prefix_of_more a b (sized skip ++ postings) (sorted_vints last rest) (prefix_of_more a b (sized skip) postings list))
 
-pub blocks_begin : (docs rest skip postings entries middle : List ℕ) (last : ℕ) (a b c : Told) → ArePacked docs last skip postings → length rest < 128 → entries ≡ skip → middle ≡ postings
-    → Tells a b (sized entries) → TellsBeginning b c middle → TellsBeginning a c (written_documents (docs ++ rest))
-blocks_begin docs rest skip postings entries middle last a b c p few entries_are middle_is first begun =
+pub blocks_begin : (docs rest skip postings entries middle : List ℕ) (last : ℕ) (a b c : CountingWriterState) → ArePacked docs last skip postings → length rest < 128 → entries ≡ skip → middle ≡ postings
+    → Wrote a b (sized entries) → WrotePrefix b c middle → WrotePrefix a c (written_documents (docs ++ rest))
+blocks_begin docs rest skip postings entries middle last a b c p few entries_are middle_is first initial =
     let list = rw entries_are at first in
-    let blocks = rw middle_is at begun in
+    let blocks = rw middle_is at initial in
     rw (written_is docs rest skip postings last p few)
-    (begins_all a c (sized skip ++ postings) (sorted_vints last rest) (begins_then a b c (sized skip) postings list blocks))
+    (prefix_of_more a c (sized skip ++ postings) (sorted_vints last rest) (prefix_after a b c (sized skip) postings list blocks))
 
-pub rest_begins : {T E : Type 0} (r : Result T E) (docs rest skip postings ids entries middle tail : List ℕ) (last : ℕ) (a b c d : Told) → ArePacked docs last skip postings → length rest < 128
-    → entries ≡ skip → middle ≡ postings → ids ≡ rest → tail ≡ sorted_vints last ids → Tells a b (sized entries) → Tells b c middle → OnErr r (TellsBeginning c d tail)
-    → OnErr r (TellsBeginning a d (written_documents (docs ++ rest)))
-rest_begins (Ok v) docs rest skip postings ids entries middle tail last a b c d p few entries_are middle_is ids_are tail_is first second begun = tt
-rest_begins (Err e) docs rest skip postings ids entries middle tail last a b c d p few entries_are middle_is ids_are tail_is first second begun =
+pub rest_begins : {T E : Type 0} (r : Result T E) (docs rest skip postings ids entries middle tail : List ℕ) (last : ℕ) (a b c d : CountingWriterState) → ArePacked docs last skip postings → length rest < 128
+    → entries ≡ skip → middle ≡ postings → ids ≡ rest → tail ≡ sorted_vints last ids → Wrote a b (sized entries) → Wrote b c middle → OnErr r (WrotePrefix c d tail)
+    → OnErr r (WrotePrefix a d (written_documents (docs ++ rest)))
+rest_begins (Ok v) docs rest skip postings ids entries middle tail last a b c d p few entries_are middle_is ids_are tail_is first second prefix = tt
+rest_begins (Err e) docs rest skip postings ids entries middle tail last a b c d p few entries_are middle_is ids_are tail_is first second initial =
     let list = rw entries_are at first in
     let blocks = rw middle_is at second in
-    let behind = rw (tail_is ∙ ap (sorted_vints last) ids_are) at begun in
+    let behind = rw (tail_is ∙ ap (sorted_vints last) ids_are) at initial in
     rw (written_is docs rest skip postings last p few)
-    (begins_then a c d (sized skip ++ postings) (sorted_vints last rest) (Tells-trans a b c (sized skip) postings list blocks) behind)
+    (prefix_after a c d (sized skip ++ postings) (sorted_vints last rest) (Wrote-trans a b c (sized skip) postings list blocks) behind)

@@ -20,7 +20,7 @@ abbrev pub packed_size_of : BlockInfo → ℕ
 packed_size_of (BitPacked doc_width strict freq_width count_sum norm count) = 16 * (doc_width + freq_width)
 packed_size_of (VInt n) = 0
 
--- Where a reader stands: the shape of the entries, the number of documents, the number of the block and what is told of it, and how many entries were read.
+-- Where a reader stands: the shape of the entries, the number of documents, the number of the block and what is writer of it, and how many entries were read.
 pub record SkipReading : Type 0 where
   pub shape : IndexRecordOption
   pub doc_freq : ℕ

@@ -1,6 +1,6 @@
 ghost use Rattle.std.specs.Prelude.{◌≡◌, ◌<◌, ◌↔◌, ◌⊎◌, [], ◌∷◌, ◌++◌, length, slice_index, false, IsTrue, OnOk, OnErr, IfErr, IsErrOf};
 ghost use Rattle.ii_base.specs.declared.schema.index_record_option.IndexRecordOption.TheVariants.{Basic};
-ghost use Rattle.ii_io.specs.Told.{Tells, TellsBeginning, IsFull};
+ghost use Rattle.ii_io.specs.CountingWriter.{Wrote, WrotePrefix, IsFull};
 ghost use Rattle.ii_io.specs.Numbers.{le_bytes};
 ghost use Rattle.ii_codes.specs.Blocks.{sorted_width, sorted_bytes};
 ghost use Rattle.ii_docset.specs.Entries.{are_documents};
@@ -103,12 +103,12 @@ impl PackedBlocks {
         requires few { length rest.now < 128 }
         requires ascending { IsTrue (are_documents (self.old ++ rest.now)) }
         ensures same { self.new ≡ self.old }
-        ensures ok { OnOk result (Tells output_write.old output_write.new (written_documents (self.old ++ rest.now))) }
-        ensures write { IsErrOf result Fault.Write ↔ (output_write.old.failed < output_write.new.failed) }
+        ensures ok { OnOk result (Wrote output_write.old output_write.new (written_documents (self.old ++ rest.now))) }
+        ensures write { IsErrOf result Fault.Write ↔ (output_write.old.failed_calls < output_write.new.failed_calls) }
         ensures limit { IsErrOf result (Fault.Limit LimitName.Offset)
             → IsFull output_write.old (length (written_documents (self.old ++ rest.now))) }
         ensures fits { OnOk result (¬ IsFull output_write.old (length (written_documents (self.old ++ rest.now)))) }
-        ensures begun { OnErr result (TellsBeginning output_write.old output_write.new (written_documents (self.old ++ rest.now))) }
+        ensures prefix { OnErr result (WrotePrefix output_write.old output_write.new (written_documents (self.old ++ rest.now))) }
         ensures only { IfErr result (λ e. (e ≡ Fault.Write) ⊎ (e ≡ Fault.Limit LimitName.Offset)) }
     {
         write_skip_list(self.skip_write.data(), output_write)?;
@@ -143,10 +143,10 @@ fn write_skip_list<W: Write>(
     skip_data: &[u8],
     output_write: &mut CountingWriter<W>,
 ) -> Result<(), Fault>
-    ensures ok { OnOk result (Tells output_write.old output_write.new (sized skip_data.now)) }
-    ensures write { IsErrOf result Fault.Write ↔ (output_write.old.failed < output_write.new.failed) }
+    ensures ok { OnOk result (Wrote output_write.old output_write.new (sized skip_data.now)) }
+    ensures write { IsErrOf result Fault.Write ↔ (output_write.old.failed_calls < output_write.new.failed_calls) }
     ensures limit { IsErrOf result (Fault.Limit LimitName.Offset) → IsFull output_write.old (length (sized skip_data.now)) }
-    ensures begun { OnErr result (TellsBeginning output_write.old output_write.new (sized skip_data.now)) }
+    ensures prefix { OnErr result (WrotePrefix output_write.old output_write.new (sized skip_data.now)) }
     ensures only { IfErr result (λ e. (e ≡ Fault.Write) ⊎ (e ≡ Fault.Limit LimitName.Offset)) }
 {
     if skip_data.is_empty() {
@@ -264,14 +264,14 @@ impl PostingsSerializer {
     ) -> Result<(), Fault>
         requires counted { doc_freq ≡ length self.old.docs }
         requires ascending { IsTrue (are_documents self.old.docs) }
-        ensures ok { OnOk result (Tells output_write.old output_write.new (written_documents self.old.docs)) }
+        ensures ok { OnOk result (Wrote output_write.old output_write.new (written_documents self.old.docs)) }
         ensures ended { OnOk result (self.new ≡ record { docs = []; closed = false }) }
         ensures closed { IsErrOf result Fault.SerializerClosed ↔ IsTrue self.old.closed }
-        ensures write { IsErrOf result Fault.Write ↔ (output_write.old.failed < output_write.new.failed) }
+        ensures write { IsErrOf result Fault.Write ↔ (output_write.old.failed_calls < output_write.new.failed_calls) }
         ensures limit { IsErrOf result (Fault.Limit LimitName.Offset)
             → IsFull output_write.old (length (written_documents self.old.docs)) }
         ensures fits { OnOk result (¬ IsFull output_write.old (length (written_documents self.old.docs))) }
-        ensures begun { OnErr result (TellsBeginning output_write.old output_write.new (written_documents self.old.docs)) }
+        ensures prefix { OnErr result (WrotePrefix output_write.old output_write.new (written_documents self.old.docs)) }
         ensures untouched { IsTrue self.old.closed → output_write.new ≡ output_write.old }
         ensures only { IfErr result (λ e. (e ≡ Fault.Write) ⊎ (e ≡ Fault.Limit LimitName.Offset) ⊎ (e ≡ Fault.SerializerClosed)) }
         ensures err { OnErr result (IsTrue self.new.closed) }

@@ -91,7 +91,7 @@ pub fn decode_block_wand_max_tf(max_tf_code: u8) -> u32
     }
 }
 
-/// What is told of a block.
+/// What is writer of a block.
 #[derive(Clone, Copy, Debug, PartialEq, Eq)]
 pub enum BlockInfo {
     /// A full block. A number that its entry lacks is 0.
@@ -339,7 +339,7 @@ impl SkipReader {
         *byte_offset
     }
 
-    /// What is told of the block.
+    /// What is writer of the block.
     pub fn block_info(&self) -> BlockInfo
         ensures { result ≡ self.now.info }
     {

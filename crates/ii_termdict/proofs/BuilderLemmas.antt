@@ -4,7 +4,7 @@ use Rattle.std.specs.Prelude.{is_err, OnOk, ◌^◌}
 use Rattle.std.specs.List.{flat_map, zip}
 use Rattle.std.proofs.lemmas.List.{append-nil, take-append-drop, drop_more}
 use Rattle.ii_io.specs.declared.faults.Fault.{Fault}
-use Rattle.ii_io.specs.Told.{Told, Tells, Writes}
+use Rattle.ii_io.specs.CountingWriter.{CountingWriterState, Wrote, Writes}
 use Rattle.ii_io.specs.Numbers.{le_bytes}
 use Rattle.ii_termstore.specs.declared.term_info.TermInfo.{TermInfo}
 use Rattle.ii_termdict.specs.Dictionary.{dictionary}
@@ -12,7 +12,7 @@ use Rattle.ii_termstore.specs.ReadBack.{AreJoined, AreStorable}
 use Rattle.ii_termdict.specs.ReadBack.{AreAscending, ReadsDictionaryBack}
 use Rattle.ii_termstore.specs.Written.{written_store}
 use Rattle.ii_termdict.specs.Written.{Building, HasKeys, ends_from, written_dictionary}
-use Rattle.ii_io.specs.ToldLemmas.{Tells-trans, writes_then, writes_refused_by, writes_went}
+use Rattle.ii_io.specs.CountingWriterLemmas.{Wrote-trans, writes_then, writes_refused_by, writes_went}
 
 flat_append : (f : ℕ → List ℕ) (xs ys : List ℕ) → flat_map f (xs ++ ys) ≡ flat_map f xs ++ flat_map f ys
 flat_append f [] ys = refl
@@ -26,31 +26,31 @@ flat_around f xs i h =
     ∙ sym (append_assoc (flat_map f (take i xs)) (f (get_or xs i 0)) (flat_map f (drop (i + 1) xs)))
 
 -- a number that was refused among others
-pub numbers_refused : (numbers : List ℕ) (i : ℕ) (begun told new : Told) (result : Result (Unit {0}) Fault) → i < length numbers → Tells begun told (flat_map (le_bytes 8) (take i numbers)) → true ≡ is_err result
-    → Writes told new (le_bytes 8 (get_or numbers i 0)) result → Writes begun new (flat_map (le_bytes 8) numbers) result
-numbers_refused numbers i begun told new result within h refused put =
+pub numbers_refused : (numbers : List ℕ) (i : ℕ) (initial writer new : CountingWriterState) (result : Result (Unit {0}) Fault) → i < length numbers → Wrote initial writer (flat_map (le_bytes 8) (take i numbers)) → true ≡ is_err result
+    → Writes writer new (le_bytes 8 (get_or numbers i 0)) result → Writes initial new (flat_map (le_bytes 8) numbers) result
+numbers_refused numbers i initial writer new result within h refused put =
     rw (flat_around (le_bytes 8) numbers i within)
-    (writes_refused_by begun new (flat_map (le_bytes 8) (take i numbers) ++ le_bytes 8 (get_or numbers i 0)) (flat_map (le_bytes 8) (drop (i + 1) numbers)) result refused
-    (writes_then begun told new (flat_map (le_bytes 8) (take i numbers)) (le_bytes 8 (get_or numbers i 0)) result h put))
+    (writes_refused_by initial new (flat_map (le_bytes 8) (take i numbers) ++ le_bytes 8 (get_or numbers i 0)) (flat_map (le_bytes 8) (drop (i + 1) numbers)) result refused
+    (writes_then initial writer new (flat_map (le_bytes 8) (take i numbers)) (le_bytes 8 (get_or numbers i 0)) result h put))
 
 -- parts one after the other, of which a later one was refused
-pub second_refused : (a b k more : List ℕ) (begun told new : Told) (first result : Result (Unit {0}) Fault) → false ≡ is_err first → Writes begun told a first → true ≡ is_err result → Writes told new b result
-    → Writes begun new (a ++ b ++ k ++ more) result
-second_refused a b k more begun told new first result went h refused put =
-    writes_refused_by begun new (a ++ b ++ k) more result refused
-    (writes_refused_by begun new (a ++ b) k result refused (writes_then begun told new a b result (writes_went begun told a first went h) put))
+pub second_refused : (a b k more : List ℕ) (initial writer new : CountingWriterState) (first result : Result (Unit {0}) Fault) → false ≡ is_err first → Writes initial writer a first → true ≡ is_err result → Writes writer new b result
+    → Writes initial new (a ++ b ++ k ++ more) result
+second_refused a b k more initial writer new first result went h refused put =
+    writes_refused_by initial new (a ++ b ++ k) more result refused
+    (writes_refused_by initial new (a ++ b) k result refused (writes_then initial writer new a b result (writes_went initial writer a first went h) put))
 
-pub third_refused : (a b k more : List ℕ) (begun one two new : Told) (first second result : Result (Unit {0}) Fault) → false ≡ is_err first → Writes begun one a first → false ≡ is_err second → Writes one two b second
-    → true ≡ is_err result → Writes two new k result → Writes begun new (a ++ b ++ k ++ more) result
-third_refused a b k more begun one two new first second result went h went_too put refused third =
-    writes_refused_by begun new (a ++ b ++ k) more result refused
-    (writes_then begun two new (a ++ b) k result (Tells-trans begun one two a b (writes_went begun one a first went h) (writes_went one two b second went_too put)) third)
+pub third_refused : (a b k more : List ℕ) (initial one two new : CountingWriterState) (first second result : Result (Unit {0}) Fault) → false ≡ is_err first → Writes initial one a first → false ≡ is_err second → Writes one two b second
+    → true ≡ is_err result → Writes two new k result → Writes initial new (a ++ b ++ k ++ more) result
+third_refused a b k more initial one two new first second result went h went_too put refused third =
+    writes_refused_by initial new (a ++ b ++ k) more result refused
+    (writes_then initial two new (a ++ b) k result (Wrote-trans initial one two a b (writes_went initial one a first went h) (writes_went one two b second went_too put)) third)
 
-pub four_written : (a b k more : List ℕ) (begun one two three new : Told) (first second third result : Result (Unit {0}) Fault) → false ≡ is_err first → Writes begun one a first → false ≡ is_err second → Writes one two b second
-    → false ≡ is_err third → Writes two three k third → Writes three new more result → Writes begun new (a ++ b ++ k ++ more) result
-four_written a b k more begun one two three new first second third result went h went_too put went_all keys last =
-    writes_then begun three new (a ++ b ++ k) more result
-    (Tells-trans begun two three (a ++ b) k (Tells-trans begun one two a b (writes_went begun one a first went h) (writes_went one two b second went_too put)) (writes_went two three k third went_all keys)) last
+pub four_written : (a b k more : List ℕ) (initial one two three new : CountingWriterState) (first second third result : Result (Unit {0}) Fault) → false ≡ is_err first → Writes initial one a first → false ≡ is_err second → Writes one two b second
+    → false ≡ is_err third → Writes two three k third → Writes three new more result → Writes initial new (a ++ b ++ k ++ more) result
+four_written a b k more initial one two three new first second third result went h went_too put went_all keys last =
+    writes_then initial three new (a ++ b ++ k) more result
+    (Wrote-trans initial two three (a ++ b) k (Wrote-trans initial one two a b (writes_went initial one a first went h) (writes_went one two b second went_too put)) (writes_went two three k third went_all keys)) last
 
 keys_push : (keys : List (List ℕ)) (key : List ℕ) → flat_map (λ (k : List ℕ). k) (keys ++ key ∷ []) ≡ flat_map (λ (k : List ℕ). k) keys ++ key
 keys_push [] key = append-nil key

@@ -2,7 +2,7 @@
 use Rattle.std.specs.Prelude.{Bool, ℕ, ◌+◌, ◌≡◌, List, [], ◌∷◌, ◌++◌, length}
 use Rattle.std.specs.List.{flat_map}
 use Rattle.ii_io.specs.Numbers.{le_bytes}
-use Rattle.ii_io.specs.Told.{Told}
+use Rattle.ii_io.specs.CountingWriter.{CountingWriterState}
 use Rattle.ii_termstore.specs.declared.term_info.TermInfo.{TermInfo}
 use Rattle.ii_termstore.specs.Written.{written_store}
 
@@ -18,7 +18,7 @@ written_dictionary keys infos =
 
 -- What a builder tells: its writer, the bytes of the keys and where each ends, the terms, and whether a call was refused.
 pub record Building : Type 0 where
-  pub told : Told
+  pub writer : CountingWriterState
   pub key_bytes : List ℕ
   pub ends : List ℕ
   pub infos : List TermInfo

@@ -1,7 +1,7 @@
 ghost use Rattle.std.specs.Prelude.{◌≡◌, ◌≤◌, ◌<◌, ◌↔◌, ◌⊎◌, ℕ, List, [], ◌∷◌, ◌++◌, true, false, length, Ok, OnOk, OnErr, IfErr, IsErrOf, IsTrue};
 ghost use Rattle.std.specs.List.{flat_map, zip};
 ghost use Rattle.ii_io.specs.Numbers.{le_bytes};
-ghost use Rattle.ii_io.specs.Told.{Tells, TellsBeginning, IsFull, Writes};
+ghost use Rattle.ii_io.specs.CountingWriter.{Wrote, WrotePrefix, IsFull, Writes};
 ghost use Rattle.ii_termdict.specs.Dictionary.{dictionary};
 ghost use Rattle.ii_termdict.specs.ReadBack.{AreAscending};
 ghost use Rattle.ii_termstore.specs.ReadBack.{AreJoined};
@@ -39,7 +39,7 @@ impl<W: Write> Model for TermDictionaryBuilder<W> {
     ghost Value = { Building };
 
     ghost view = { λ b. record {
-      told = b.writer;
+      writer = b.writer;
       key_bytes = b.key_bytes.items;
       ends = b.ends.items;
       infos = b.term_infos.items;
@@ -52,7 +52,7 @@ impl<W: Write> Model for TermDictionaryBuilder<W> {
 impl<W: Write> TermDictionaryBuilder<W> {
     /// A builder that has no terms, and writes to `writer` when it is finished.
     pub fn create(alloc: Global, writer: CountingWriter<W>) -> TermDictionaryBuilder<W>
-        ensures { result ≡ record { told = writer; key_bytes = []; ends = []; infos = []; closed = false } }
+        ensures { result ≡ record { writer = writer; key_bytes = []; ends = []; infos = []; closed = false } }
     {
         TermDictionaryBuilder {
             writer,
@@ -68,8 +68,8 @@ impl<W: Write> TermDictionaryBuilder<W> {
     /// `OutOfMemory` where memory lacks; `SerializerClosed` after an earlier refusal.
     pub fn insert_key(&mut self, key: &[u8]) -> Result<(), Fault>
         ensures keys { OnOk result ((keys : List (List ℕ)) → HasKeys self.old keys → HasKeys self.new (keys ++ key.now ∷ [])) }
-        ensures infos { OnOk result ((self.new.infos ≡ self.old.infos) × (self.new.told ≡ self.old.told) × (self.new.closed ≡ false)) }
-        ensures err { OnErr result ((self.new.told ≡ self.old.told) × IsTrue self.new.closed) }
+        ensures infos { OnOk result ((self.new.infos ≡ self.old.infos) × (self.new.writer ≡ self.old.writer) × (self.new.closed ≡ false)) }
+        ensures err { OnErr result ((self.new.writer ≡ self.old.writer) × IsTrue self.new.closed) }
         ensures closed { IsErrOf result Fault.SerializerClosed ↔ IsTrue self.old.closed }
         ensures only { IfErr result (λ e. (e ≡ Fault.OutOfMemory) ⊎ (e ≡ Fault.SerializerClosed)) }
     {
@@ -112,14 +112,14 @@ impl<W: Write> TermDictionaryBuilder<W> {
     /// `u64::MAX`: a beginning of the dictionary is then written. `SerializerClosed` after an earlier
     /// refusal, and nothing is written.
     pub fn finish(self) -> (CountingWriter<W>, Result<(), Fault>)
-        ensures ok { (keys : List (List ℕ)) → HasKeys self keys → OnOk result.1 (Tells self.told result.0 (written_dictionary keys self.infos)) }
-        ensures write { IsErrOf result.1 Fault.Write ↔ (self.told.failed < (result.0).failed) }
+        ensures ok { (keys : List (List ℕ)) → HasKeys self keys → OnOk result.1 (Wrote self.writer result.0 (written_dictionary keys self.infos)) }
+        ensures write { IsErrOf result.1 Fault.Write ↔ (self.writer.failed_calls < (result.0).failed_calls) }
         ensures holds { (keys : List (List ℕ)) → HasKeys self keys → length keys ≡ length self.infos → AreAscending keys → AreJoined self.infos
             → OnOk result.1 (dictionary (written_dictionary keys self.infos) ≡ Ok (zip keys self.infos)) }
         ensures limit { (keys : List (List ℕ)) → HasKeys self keys → IsErrOf result.1 (Fault.Limit LimitName.Offset)
-            → IsFull self.told (length (written_dictionary keys self.infos)) }
-        ensures begun { (keys : List (List ℕ)) → HasKeys self keys → OnErr result.1 (TellsBeginning self.told result.0 (written_dictionary keys self.infos)) }
-        ensures untouched { IsTrue self.closed → result.0 ≡ self.told }
+            → IsFull self.writer (length (written_dictionary keys self.infos)) }
+        ensures prefix { (keys : List (List ℕ)) → HasKeys self keys → OnErr result.1 (WrotePrefix self.writer result.0 (written_dictionary keys self.infos)) }
+        ensures untouched { IsTrue self.closed → result.0 ≡ self.writer }
         ensures closed { IsErrOf result.1 Fault.SerializerClosed ↔ IsTrue self.closed }
         ensures only { IfErr result.1 (λ e. (e ≡ Fault.Write) ⊎ (e ≡ Fault.Limit LimitName.Offset) ⊎ (e ≡ Fault.SerializerClosed)) }
     {

@@ -1,5 +1,5 @@
 -- Rows of bits that are written step by step.
-use Rattle.ii_io.specs.ToldLemmas.{Tells-trans, full_before, begins_all, begins_then}
+use Rattle.ii_io.specs.CountingWriterLemmas.{Wrote-trans, full_before, prefix_of_more, prefix_after}
 use Rattle.std.proofs.Common.{◌≡◌, ℕ, zero, suc, ◌+◌, ◌-◌, ◌*◌, ◌/◌, ◌%◌, ◌<◌, ◌≤◌, List, [], ◌∷◌, ◌++◌, length, take, drop, map, get_or, subst, Result, Ok, Err, max, true, false, refl, sym, ap, ◌∙◌, arith, length-append, length-drop, append_assoc}
 use Rattle.std.specs.Prelude.{OnOk, OnErr, IfErr, IsErrOf, is_err, ◌⊎◌, ◌↔◌}
 use Rattle.std.proofs.KnownBytes.{Appends-nil}
@@ -9,7 +9,7 @@ use Rattle.std.proofs.lemmas.List.FromFn.{length-map-range_with_len}
 use Rattle.ii_io.specs.declared.faults.Fault.{Fault}
 use Rattle.ii_io.specs.declared.faults.Fault.TheVariants.{Write, Limit}
 use Rattle.ii_io.specs.declared.faults.LimitName.TheVariants.{Offset}
-use Rattle.ii_io.specs.Told.{Told, Tells, TellsBeginning, IsFull, Writes}
+use Rattle.ii_io.specs.CountingWriter.{CountingWriterState, Wrote, WrotePrefix, IsFull, Writes}
 use Rattle.ii_codes.specs.Packed.{bits_in, entries_in}
 use Rattle.ii_codes.specs.Bits.{low_bits, whole_bytes, bits_left, bits_bytes, WritesOneRow}
 use Rattle.ii_termstore.specs.Written.{IsPacking, Packs, largest, last_of, term_row, block_row, info_in, postings_behind, positions_behind, postings_end, positions_end}
@@ -36,78 +36,78 @@ length-bits_left : (row : List ℕ) → length (bits_left row) ≡ length row % 
 length-bits_left row = omega (arith, length-drop (length row / 8 * 8) row)
 
 -- one number more
-pub pack_more : (law : WritesOneRow) (begun told new : Told) (pending left row : List ℕ) (w val size : ℕ) (result : Result (Unit {0}) Fault) → IsPacking begun told pending row → length row + w ≤ 8 * size
-    → OnOk result (Tells told new (whole_bytes (pending ++ low_bits w val))) → OnOk result (left ≡ bits_left (pending ++ low_bits w val)) → (IsErrOf result Write ↔ (told.failed < new.failed))
-    → (IsErrOf result (Limit Offset) ↔ IsFull told ((length pending + w) / 8)) → OnErr result (TellsBeginning told new (whole_bytes (pending ++ low_bits w val))) → IfErr result (λ e. (e ≡ Write) ⊎ (e ≡ Limit Offset)) → Packs begun new left (row ++ low_bits w val) size result
-pack_more law begun told new pending left row w val size (Ok u) h small ok rest write limit part only =
+pub pack_more : (law : WritesOneRow) (initial writer new : CountingWriterState) (pending left row : List ℕ) (w val size : ℕ) (result : Result (Unit {0}) Fault) → IsPacking initial writer pending row → length row + w ≤ 8 * size
+    → OnOk result (Wrote writer new (whole_bytes (pending ++ low_bits w val))) → OnOk result (left ≡ bits_left (pending ++ low_bits w val)) → (IsErrOf result Write ↔ (writer.failed_calls < new.failed_calls))
+    → (IsErrOf result (Limit Offset) ↔ IsFull writer ((length pending + w) / 8)) → OnErr result (WrotePrefix writer new (whole_bytes (pending ++ low_bits w val))) → IfErr result (λ e. (e ≡ Write) ⊎ (e ≡ Limit Offset)) → Packs initial new left (row ++ low_bits w val) size result
+pack_more law initial writer new pending left row w val size (Ok u) h small ok rest write limit part only =
     let joined = law row (low_bits w val) in
     let tells = h.tells in
-    let told_all = Tells-trans begun told new (whole_bytes row) (whole_bytes (pending ++ low_bits w val)) tells ok in
+    let told_all = Wrote-trans initial writer new (whole_bytes row) (whole_bytes (pending ++ low_bits w val)) tells ok in
     let whole = rw h.left at told_all in
     let left_all = rw h.left at rest in
     record {
       ok = record { tells = rw (← joined.0) whole; left = left_all ∙ joined.1 };
-      write = rw (← tells.failed) write;
+      write = rw (← tells.failed_calls) write;
       limit = λ e. absurd (cc);
       part = tt;
       only = tt;
     }
-pack_more law begun told new pending left row w val size (Err e) h small ok rest write limit part only =
+pack_more law initial writer new pending left row w val size (Err e) h small ok rest write limit part only =
     let joined = law row (low_bits w val) in
     let tells = h.tells in
-    let part_all = rw h.left at (begins_then begun told new (whole_bytes row) (whole_bytes (pending ++ low_bits w val)) tells part) in
+    let part_all = rw h.left at (prefix_after initial writer new (whole_bytes row) (whole_bytes (pending ++ low_bits w val)) tells part) in
     let size_whole = length-whole_bytes row in
     let size_left = ap length h.left ∙ length-bits_left row in
     record {
       ok = tt;
-      write = rw (← tells.failed) write;
-      limit = λ is. full_before begun told (whole_bytes row) ((length pending + w) / 8) size tells (omega arith) (limit.0 is);
+      write = rw (← tells.failed_calls) write;
+      limit = λ is. full_before initial writer (whole_bytes row) ((length pending + w) / 8) size tells (omega arith) (limit.0 is);
       part = rw (← joined.0) part_all;
       only = only;
     }
 
 -- a row of which an earlier part was refused
-pub pack_refused : (law : WritesOneRow) (begun told : Told) (pending row more other : List ℕ) (size : ℕ) (e : Fault) → (row ++ more) ≡ other → Packs begun told pending row size (Err e) → Packs begun told pending other size (Err e)
-pack_refused law begun told pending row more other size e same h =
-    let P : List ℕ → Type 0 = λ bs. TellsBeginning begun told bs in
+pub pack_refused : (law : WritesOneRow) (initial writer : CountingWriterState) (pending row more other : List ℕ) (size : ℕ) (e : Fault) → (row ++ more) ≡ other → Packs initial writer pending row size (Err e) → Packs initial writer pending other size (Err e)
+pack_refused law initial writer pending row more other size e same h =
+    let P : List ℕ → Type 0 = λ bs. WrotePrefix initial writer bs in
     let joined = law row more in
     record {
       ok = tt;
       write = h.write;
       limit = h.limit;
-      part = subst P (joined.0 ∙ ap whole_bytes same) (begins_all begun told (whole_bytes row) (whole_bytes (bits_left row ++ more)) h.part);
+      part = subst P (joined.0 ∙ ap whole_bytes same) (prefix_of_more initial writer (whole_bytes row) (whole_bytes (bits_left row ++ more)) h.part);
       only = h.only;
     }
 
 -- the end of a row
-pub pack_end : (law : WritesOneRow) (begun told new : Told) (pending row : List ℕ) (result : Result (Unit {0}) Fault) → IsPacking begun told pending row
-    → OnOk result (Tells told new (bits_bytes pending)) → (IsErrOf result Write ↔ (told.failed < new.failed)) → (IsErrOf result (Limit Offset) ↔ IsFull told (length (bits_bytes pending)))
-    → OnErr result (TellsBeginning told new (bits_bytes pending)) → IfErr result (λ e. (e ≡ Write) ⊎ (e ≡ Limit Offset)) → Writes begun new (bits_bytes row) result
-pack_end law begun told new pending row (Ok u) h ok write limit part only =
+pub pack_end : (law : WritesOneRow) (initial writer new : CountingWriterState) (pending row : List ℕ) (result : Result (Unit {0}) Fault) → IsPacking initial writer pending row
+    → OnOk result (Wrote writer new (bits_bytes pending)) → (IsErrOf result Write ↔ (writer.failed_calls < new.failed_calls)) → (IsErrOf result (Limit Offset) ↔ IsFull writer (length (bits_bytes pending)))
+    → OnErr result (WrotePrefix writer new (bits_bytes pending)) → IfErr result (λ e. (e ≡ Write) ⊎ (e ≡ Limit Offset)) → Writes initial new (bits_bytes row) result
+pack_end law initial writer new pending row (Ok u) h ok write limit part only =
     let joined = law row [] in
     let tells = h.tells in
-    let all = rw h.left at (Tells-trans begun told new (whole_bytes row) (bits_bytes pending) tells ok) in
-    record { ok = rw (← joined.2) all; write = rw (← tells.failed) write; limit = λ e. absurd (cc); begun = tt; only = tt }
-pack_end law begun told new pending row (Err e) h ok write limit part only =
+    let all = rw h.left at (Wrote-trans initial writer new (whole_bytes row) (bits_bytes pending) tells ok) in
+    record { ok = rw (← joined.2) all; write = rw (← tells.failed_calls) write; limit = λ e. absurd (cc); prefix = tt; only = tt }
+pack_end law initial writer new pending row (Err e) h ok write limit part only =
     let joined = law row [] in
     let tells = h.tells in
-    let part_all = rw h.left at (begins_then begun told new (whole_bytes row) (bits_bytes pending) tells part) in
+    let part_all = rw h.left at (prefix_after initial writer new (whole_bytes row) (bits_bytes pending) tells part) in
     let size_whole = length-whole_bytes row in
     let size_left = ap length h.left ∙ length-bits_left row in
     let size_end = length-bits_bytes pending in
     let size_all = length-bits_bytes row in
     record {
       ok = tt;
-      write = rw (← tells.failed) write;
-      limit = λ is. full_before begun told (whole_bytes row) (length (bits_bytes pending)) (length (bits_bytes row)) tells (omega arith) (limit.0 is);
-      begun = rw (← joined.2) part_all;
+      write = rw (← tells.failed_calls) write;
+      limit = λ is. full_before initial writer (whole_bytes row) (length (bits_bytes pending)) (length (bits_bytes row)) tells (omega arith) (limit.0 is);
+      prefix = rw (← joined.2) part_all;
       only = only;
     }
 
-pub packs_refused : (law : WritesOneRow) (begun told : Told) (pending row more whole : List ℕ) (size : ℕ) (e : Fault) → (row ++ more) ≡ whole → size ≡ length (bits_bytes whole) → Packs begun told pending row size (Err e)
-    → Writes begun told (bits_bytes whole) (Err e)
-packs_refused law begun told pending row more whole size e all same h =
-    let P : List ℕ → Type 0 = λ bs. TellsBeginning begun told bs in
+pub packs_refused : (law : WritesOneRow) (initial writer : CountingWriterState) (pending row more whole : List ℕ) (size : ℕ) (e : Fault) → (row ++ more) ≡ whole → size ≡ length (bits_bytes whole) → Packs initial writer pending row size (Err e)
+    → Writes initial writer (bits_bytes whole) (Err e)
+packs_refused law initial writer pending row more whole size e all same h =
+    let P : List ℕ → Type 0 = λ bs. WrotePrefix initial writer bs in
     let joined = law row more in
     let ended = law whole [] in
     let bytes : (whole_bytes row ++ whole_bytes (bits_left row ++ more)) ++ bits_bytes (bits_left whole) ≡ bits_bytes whole =
@@ -116,7 +116,7 @@ packs_refused law begun told pending row more whole size e all same h =
       ok = tt;
       write = h.write;
       limit = rw (← same) h.limit;
-      begun = subst P bytes (begins_all begun told (whole_bytes row ++ whole_bytes (bits_left row ++ more)) (bits_bytes (bits_left whole)) (begins_all begun told (whole_bytes row) (whole_bytes (bits_left row ++ more)) h.part));
+      prefix = subst P bytes (prefix_of_more initial writer (whole_bytes row ++ whole_bytes (bits_left row ++ more)) (bits_bytes (bits_left whole)) (prefix_of_more initial writer (whole_bytes row) (whole_bytes (bits_left row ++ more)) h.part));
       only = h.only;
     }
 
@@ -128,19 +128,19 @@ largest-push (m ∷ ns) n = let ih = largest-push ns n in rw ih (omega arith)
 pub largest_more : {X : Type 0} (f : X → ℕ) (xs : List X) (i : ℕ) (d : X) (most next : ℕ) → i < length xs → most ≡ largest (map f (take i xs)) → next ≡ max most (f (get_or xs i d)) → next ≡ largest (map f (take (i + 1) xs))
 largest_more f xs i d most next h e n = rw (map_more f xs i d h) (sym (largest-push (map f (take i xs)) (f (get_or xs i d)) ∙ ap (λ (m : ℕ). max m (f (get_or xs i d))) (sym e) ∙ sym n))
 
-pub pack_refused_by : (law : WritesOneRow) (begun told : Told) (pending row more other : List ℕ) (size : ℕ) (result : Result (Unit {0}) Fault) → (row ++ more) ≡ other → true ≡ is_err result → Packs begun told pending row size result
-    → Packs begun told pending other size result
-pack_refused_by law begun told pending row more other size (Ok u) same e h = absurd (cc)
-pack_refused_by law begun told pending row more other size (Err f) same e h = pack_refused law begun told pending row more other size f same h
+pub pack_refused_by : (law : WritesOneRow) (initial writer : CountingWriterState) (pending row more other : List ℕ) (size : ℕ) (result : Result (Unit {0}) Fault) → (row ++ more) ≡ other → true ≡ is_err result → Packs initial writer pending row size result
+    → Packs initial writer pending other size result
+pack_refused_by law initial writer pending row more other size (Ok u) same e h = absurd (cc)
+pack_refused_by law initial writer pending row more other size (Err f) same e h = pack_refused law initial writer pending row more other size f same h
 
-pub pack_went : (begun told : Told) (pending row : List ℕ) (size : ℕ) (result : Result (Unit {0}) Fault) → false ≡ is_err result → Packs begun told pending row size result → IsPacking begun told pending row
-pack_went begun told pending row size (Ok u) e h = h.ok
-pack_went begun told pending row size (Err f) e h = absurd (cc)
+pub pack_went : (initial writer : CountingWriterState) (pending row : List ℕ) (size : ℕ) (result : Result (Unit {0}) Fault) → false ≡ is_err result → Packs initial writer pending row size result → IsPacking initial writer pending row
+pack_went initial writer pending row size (Ok u) e h = h.ok
+pack_went initial writer pending row size (Err f) e h = absurd (cc)
 
-pub packs_refused_by : (law : WritesOneRow) (begun told : Told) (pending row more whole : List ℕ) (size : ℕ) (result : Result (Unit {0}) Fault) → true ≡ is_err result → (row ++ more) ≡ whole → size ≡ length (bits_bytes whole) → Packs begun told pending row size result
-    → Writes begun told (bits_bytes whole) result
-packs_refused_by law begun told pending row more whole size (Ok u) e all same h = absurd (cc)
-packs_refused_by law begun told pending row more whole size (Err f) e all same h = packs_refused law begun told pending row more whole size f all same h
+pub packs_refused_by : (law : WritesOneRow) (initial writer : CountingWriterState) (pending row more whole : List ℕ) (size : ℕ) (result : Result (Unit {0}) Fault) → true ≡ is_err result → (row ++ more) ≡ whole → size ≡ length (bits_bytes whole) → Packs initial writer pending row size result
+    → Writes initial writer (bits_bytes whole) result
+packs_refused_by law initial writer pending row more whole size (Ok u) e all same h = absurd (cc)
+packs_refused_by law initial writer pending row more whole size (Err f) e all same h = packs_refused law initial writer pending row more whole size f all same h
 
 pub first_of_three : (row a b c : List ℕ) → (row ++ a) ++ (b ++ c) ≡ row ++ ((a ++ b) ++ c)
 first_of_three row a b c = append_assoc row a (b ++ c) ∙ ap (λ (xs : List ℕ). row ++ xs) (sym (append_assoc a b c))
@@ -216,10 +216,10 @@ rows_behind m others k h =
     sym (three_rows (flat_map (term_row m) (take k others) ++ term_row m (info_in others k)) (flat_map (term_row m) (drop (k + 1) others)) p q)
     ∙ ap (λ (xs : List ℕ). (xs ++ p) ++ q) (ap (λ (xs : List ℕ). xs ++ flat_map (term_row m) (drop (k + 1) others)) (sym front) ∙ all)
 
-pub packing_begins : (told : Told) (pending : List ℕ) → pending ≡ [] → IsPacking told told pending []
+pub packing_begins : (writer : CountingWriterState) (pending : List ℕ) → pending ≡ [] → IsPacking writer writer pending []
 unfolding whole_bytes entries_in
-packing_begins told pending e =
-    record { tells = record { appends = Appends-nil told.contents; written = omega arith; failed = refl }; left = e }
+packing_begins writer pending e =
+    record { tells = record { appends = Appends-nil writer.contents; written = omega arith; failed = refl }; left = e }
 
 pub rows_all : (m : Meta) (others : List TermInfo) (k : ℕ) → length others ≤ k → flat_map (term_row m) (take k others) ≡ flat_map (term_row m) others
 rows_all m others k h = ap (flat_map (term_row m)) (take_all k others h)

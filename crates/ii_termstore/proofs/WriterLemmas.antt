@@ -7,7 +7,7 @@ use Rattle.std.proofs.lemmas.Nat.{mul-le}
 use Rattle.std.proofs.lemmas.List.{append-nil, take_rest, take_min, length-take, get_or-take, get_or-drop, flat_map_more}
 use Rattle.std.proofs.lemmas.List.Sums.{sum_by-append, sum_by-cons}
 use Rattle.ii_io.specs.declared.faults.Fault.{Fault}
-use Rattle.ii_io.specs.Told.{Told, Tells, Writes}
+use Rattle.ii_io.specs.CountingWriter.{CountingWriterState, Wrote, Writes}
 use Rattle.ii_io.specs.Numbers.{le_bytes}
 use Rattle.ii_codes.specs.Bits.{bits_bytes}
 use Rattle.ii_termstore.specs.declared.term_info.TermInfo.{TermInfo}
@@ -16,7 +16,7 @@ use Rattle.ii_termstore.specs.TermInfos.{info_of, HasLengths}
 use Rattle.ii_termstore.specs.TermStore.{term_bits, block_count}
 use Rattle.ii_termstore.specs.Written.{HaveLengths, info_in, first_of, largest, postings_behind, positions_behind, meta_for, block_row, block_of, block_bytes, offset_of, meta_at_block, metas_bytes, blocks_bytes, written_store, AreNarrow, FitsWidths, EndsFit, FitsBlock}
 use Rattle.ii_termstore.specs.ListLemmas.{range_more}
-use Rattle.ii_io.specs.ToldLemmas.{Tells-trans, writes_then, writes_refused_by, writes_went}
+use Rattle.ii_io.specs.CountingWriterLemmas.{Wrote-trans, writes_then, writes_refused_by, writes_went}
 use Rattle.ii_termstore.proofs.PackLemmas.{length-bits_bytes, length-block_row}
 
 pub front_of_rest : (infos : List TermInfo) (at_place n : ℕ) → n ≡ min (length (take (length infos - at_place) (drop at_place infos))) 256 → take n (take (length infos - at_place) (drop at_place infos)) ≡ take 256 (drop at_place infos)
@@ -25,8 +25,8 @@ front_of_rest infos at_place n e =
     let fewer : min (length (drop at_place infos)) 256 ≡ min 256 (length (drop at_place infos)) = omega arith in
     rw (e, whole, fewer) (take_min 256 (drop at_place infos))
 
-pub told_nothing : (told : Told) → Tells told told []
-told_nothing told = record { appends = Appends-nil told.contents; written = omega arith; failed = refl }
+pub told_nothing : (writer : CountingWriterState) → Wrote writer writer []
+told_nothing writer = record { appends = Appends-nil writer.contents; written = omega arith; failed = refl }
 
 -- pieces one after the other
 pub flat_more : (f : ℕ → List ℕ) (b : ℕ) → flat_map f (range_with_len 0 (b + 1)) ≡ flat_map f (range_with_len 0 b) ++ f b
@@ -34,10 +34,10 @@ flat_more f b =
     let here : 0 + b ≡ b = omega arith in
     rw (range_more 0 b, here) (sym (flat_map_more f [] (range_with_len 0 b) b))
 
-pub pieces_more : (f : ℕ → List ℕ) (b : ℕ) (begun told new : Told) (result : Result (Unit {0}) Fault) → Tells begun told (flat_map f (range_with_len 0 b)) → false ≡ is_err result → Writes told new (f b) result
-    → Tells begun new (flat_map f (range_with_len 0 (b + 1)))
-pieces_more f b begun told new result h went put =
-    rw (flat_more f b) (Tells-trans begun told new (flat_map f (range_with_len 0 b)) (f b) h (writes_went told new (f b) result went put))
+pub pieces_more : (f : ℕ → List ℕ) (b : ℕ) (initial writer new : CountingWriterState) (result : Result (Unit {0}) Fault) → Wrote initial writer (flat_map f (range_with_len 0 b)) → false ≡ is_err result → Writes writer new (f b) result
+    → Wrote initial new (flat_map f (range_with_len 0 (b + 1)))
+pieces_more f b initial writer new result h went put =
+    rw (flat_more f b) (Wrote-trans initial writer new (flat_map f (range_with_len 0 b)) (f b) h (writes_went writer new (f b) result went put))
 
 flat_from : (f : ℕ → List ℕ) (a n : ℕ) → flat_map f (range_with_len a (suc n)) ≡ f a ++ flat_map f (range_with_len (a + 1) n)
 flat_from f a n = refl
@@ -51,16 +51,16 @@ flat_split f n b (suc m) e =
     let one : n ≡ b + suc m + 1 = omega arith in
     (ih.0 ++ f (b + suc m), rw (one, flat_more f (b + suc m)) (ap (λ (xs : List ℕ). xs ++ f (b + suc m)) ih.1 ∙ append_assoc (flat_map f (range_with_len 0 b) ++ f b) ih.0 (f (b + suc m))))
 
-pub pieces_refused : (f : ℕ → List ℕ) (n b : ℕ) (begun told new : Told) (result : Result (Unit {0}) Fault) → b < n → Tells begun told (flat_map f (range_with_len 0 b)) → true ≡ is_err result → Writes told new (f b) result
-    → Writes begun new (flat_map f (range_with_len 0 n)) result
-pieces_refused f n b begun told new result within h refused put =
+pub pieces_refused : (f : ℕ → List ℕ) (n b : ℕ) (initial writer new : CountingWriterState) (result : Result (Unit {0}) Fault) → b < n → Wrote initial writer (flat_map f (range_with_len 0 b)) → true ≡ is_err result → Writes writer new (f b) result
+    → Writes initial new (flat_map f (range_with_len 0 n)) result
+pieces_refused f n b initial writer new result within h refused put =
     let split = flat_split f n b (n - suc b) (omega arith) in
-    rw split.1 (writes_refused_by begun new (flat_map f (range_with_len 0 b) ++ f b) split.0 result refused (writes_then begun told new (flat_map f (range_with_len 0 b)) (f b) result h put))
+    rw split.1 (writes_refused_by initial new (flat_map f (range_with_len 0 b) ++ f b) split.0 result refused (writes_then initial writer new (flat_map f (range_with_len 0 b)) (f b) result h put))
 
-pub all_pieces : (begun told : Told) (bytes : List ℕ) → Tells begun told bytes → Writes begun told bytes (Ok tt)
-all_pieces begun told bytes h =
-    let failed = h.failed in
-    record { ok = h; write = (λ e. absurd (cc), λ less. absurd (omega arith)); limit = λ e. absurd (cc); begun = tt; only = tt }
+pub all_pieces : (initial writer : CountingWriterState) (bytes : List ℕ) → Wrote initial writer bytes → Writes initial writer bytes (Ok tt)
+all_pieces initial writer bytes h =
+    let failed = h.failed_calls in
+    record { ok = h; write = (λ e. absurd (cc), λ less. absurd (omega arith)); limit = λ e. absurd (cc); prefix = tt; only = tt }
 
 pub offset_more : (infos : List TermInfo) (b offset size : ℕ) → offset ≡ offset_of infos b → size ≡ length (block_bytes infos b) → offset + size ≡ offset_of infos (b + 1)
 offset_more infos b offset size e s =
@@ -130,27 +130,27 @@ small_block infos b slice m p q d e x y z narrow =
     mul-le (length slice - 1) (p + q + d) 255 192 (omega arith) (omega arith)
 
 -- a store step by step
-pub store_head_refused : (infos : List TermInfo) (begun new : Told) (result : Result (Unit {0}) Fault) → true ≡ is_err result
-    → Writes begun new (le_bytes 8 (39 * block_count (length infos)) ++ le_bytes 8 (length infos)) result → Writes begun new (written_store infos) result
+pub store_head_refused : (infos : List TermInfo) (initial new : CountingWriterState) (result : Result (Unit {0}) Fault) → true ≡ is_err result
+    → Writes initial new (le_bytes 8 (39 * block_count (length infos)) ++ le_bytes 8 (length infos)) result → Writes initial new (written_store infos) result
 unfolding written_store
-store_head_refused infos begun new result e h =
-    writes_refused_by begun new (le_bytes 8 (39 * block_count (length infos)) ++ le_bytes 8 (length infos) ++ metas_bytes infos (block_count (length infos))) (blocks_bytes infos (block_count (length infos))) result e
-    (writes_refused_by begun new (le_bytes 8 (39 * block_count (length infos)) ++ le_bytes 8 (length infos)) (metas_bytes infos (block_count (length infos))) result e h)
+store_head_refused infos initial new result e h =
+    writes_refused_by initial new (le_bytes 8 (39 * block_count (length infos)) ++ le_bytes 8 (length infos) ++ metas_bytes infos (block_count (length infos))) (blocks_bytes infos (block_count (length infos))) result e
+    (writes_refused_by initial new (le_bytes 8 (39 * block_count (length infos)) ++ le_bytes 8 (length infos)) (metas_bytes infos (block_count (length infos))) result e h)
 
-pub store_metas_refused : (infos : List TermInfo) (begun told new : Told) (first result : Result (Unit {0}) Fault) → false ≡ is_err first
-    → Writes begun told (le_bytes 8 (39 * block_count (length infos)) ++ le_bytes 8 (length infos)) first → true ≡ is_err result → Writes told new (metas_bytes infos (block_count (length infos))) result → Writes begun new (written_store infos) result
+pub store_metas_refused : (infos : List TermInfo) (initial writer new : CountingWriterState) (first result : Result (Unit {0}) Fault) → false ≡ is_err first
+    → Writes initial writer (le_bytes 8 (39 * block_count (length infos)) ++ le_bytes 8 (length infos)) first → true ≡ is_err result → Writes writer new (metas_bytes infos (block_count (length infos))) result → Writes initial new (written_store infos) result
 unfolding written_store
-store_metas_refused infos begun told new first result went h e k =
-    writes_refused_by begun new (le_bytes 8 (39 * block_count (length infos)) ++ le_bytes 8 (length infos) ++ metas_bytes infos (block_count (length infos))) (blocks_bytes infos (block_count (length infos))) result e
-    (writes_then begun told new (le_bytes 8 (39 * block_count (length infos)) ++ le_bytes 8 (length infos)) (metas_bytes infos (block_count (length infos))) result (writes_went begun told _ first went h) k)
+store_metas_refused infos initial writer new first result went h e k =
+    writes_refused_by initial new (le_bytes 8 (39 * block_count (length infos)) ++ le_bytes 8 (length infos) ++ metas_bytes infos (block_count (length infos))) (blocks_bytes infos (block_count (length infos))) result e
+    (writes_then initial writer new (le_bytes 8 (39 * block_count (length infos)) ++ le_bytes 8 (length infos)) (metas_bytes infos (block_count (length infos))) result (writes_went initial writer _ first went h) k)
 
-pub store_written : (infos : List TermInfo) (begun told then_told new : Told) (first second result : Result (Unit {0}) Fault) → false ≡ is_err first
-    → Writes begun told (le_bytes 8 (39 * block_count (length infos)) ++ le_bytes 8 (length infos)) first → false ≡ is_err second → Writes told then_told (metas_bytes infos (block_count (length infos))) second
-    → Writes then_told new (blocks_bytes infos (block_count (length infos))) result → Writes begun new (written_store infos) result
+pub store_written : (infos : List TermInfo) (initial writer then_told new : CountingWriterState) (first second result : Result (Unit {0}) Fault) → false ≡ is_err first
+    → Writes initial writer (le_bytes 8 (39 * block_count (length infos)) ++ le_bytes 8 (length infos)) first → false ≡ is_err second → Writes writer then_told (metas_bytes infos (block_count (length infos))) second
+    → Writes then_told new (blocks_bytes infos (block_count (length infos))) result → Writes initial new (written_store infos) result
 unfolding written_store
-store_written infos begun told then_told new first second result went h went_too k l =
-    writes_then begun then_told new (le_bytes 8 (39 * block_count (length infos)) ++ le_bytes 8 (length infos) ++ metas_bytes infos (block_count (length infos))) (blocks_bytes infos (block_count (length infos))) result
-    (Tells-trans begun told then_told (le_bytes 8 (39 * block_count (length infos)) ++ le_bytes 8 (length infos)) (metas_bytes infos (block_count (length infos))) (writes_went begun told _ first went h) (writes_went told then_told _ second went_too k)) l
+store_written infos initial writer then_told new first second result went h went_too k l =
+    writes_then initial then_told new (le_bytes 8 (39 * block_count (length infos)) ++ le_bytes 8 (length infos) ++ metas_bytes infos (block_count (length infos))) (blocks_bytes infos (block_count (length infos))) result
+    (Wrote-trans initial writer then_told (le_bytes 8 (39 * block_count (length infos)) ++ le_bytes 8 (length infos)) (metas_bytes infos (block_count (length infos))) (writes_went initial writer _ first went h) (writes_went writer then_told _ second went_too k)) l
 
 pub size_of_block : (infos : List TermInfo) (b : ℕ) (slice : List TermInfo) (m : Meta) (p q d : ℕ) → slice ≡ block_of infos b → p ≡ m.postings_offset_nbits → q ≡ m.positions_offset_nbits → d ≡ m.doc_freq_nbits
     → m ≡ meta_for 0 (first_of (block_of infos b)) (drop 1 (block_of infos b)) → ((length slice - 1) * (p + q + d) + (p + q) + 7) / 8 ≡ length (block_bytes infos b)

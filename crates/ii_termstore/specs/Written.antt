@@ -5,7 +5,7 @@ use Rattle.ii_io.specs.declared.faults.Fault.{Fault}
 use Rattle.ii_io.specs.declared.faults.Fault.TheVariants.{Write, Limit}
 use Rattle.ii_io.specs.declared.faults.LimitName.TheVariants.{Offset}
 use Rattle.ii_io.specs.Numbers.{le_bytes}
-use Rattle.ii_io.specs.Told.{Told, Tells, TellsBeginning, IsFull}
+use Rattle.ii_io.specs.CountingWriter.{CountingWriterState, Wrote, WrotePrefix, IsFull}
 use Rattle.ii_codes.specs.Packed.{num_bits}
 use Rattle.ii_codes.specs.Bits.{low_bits, whole_bytes, bits_left, bits_bytes}
 use Rattle.ii_termstore.specs.declared.term_info.TermInfo.{TermInfo}
@@ -14,16 +14,16 @@ use Rattle.ii_termstore.specs.TermInfos.{info_of, HasLengths}
 use Rattle.ii_termstore.specs.TermStore.{meta_bytes, block_count}
 
 -- Since the beginning a row of bits was written but for those that are left.
-pub record IsPacking (begun told : Told) (pending row : List ℕ) : Type 0 where
-  pub tells : Tells begun told (whole_bytes row)
+pub record IsPacking (initial writer : CountingWriterState) (pending row : List ℕ) : Type 0 where
+  pub tells : Wrote initial writer (whole_bytes row)
   pub left : pending ≡ bits_left row
 
 -- How a call ends after which a row of bits is being written that has so many bytes at most.
-pub record Packs (begun told : Told) (pending row : List ℕ) (size : ℕ) (result : Result (Unit {0}) Fault) : Type 0 where
-  pub ok : OnOk result (IsPacking begun told pending row)
-  pub write : IsErrOf result Write ↔ (begun.failed < told.failed)
-  pub limit : IsErrOf result (Limit Offset) → IsFull begun size
-  pub part : OnErr result (TellsBeginning begun told (whole_bytes row))
+pub record Packs (initial writer : CountingWriterState) (pending row : List ℕ) (size : ℕ) (result : Result (Unit {0}) Fault) : Type 0 where
+  pub ok : OnOk result (IsPacking initial writer pending row)
+  pub write : IsErrOf result Write ↔ (initial.failed_calls < writer.failed_calls)
+  pub limit : IsErrOf result (Limit Offset) → IsFull initial size
+  pub part : OnErr result (WrotePrefix initial writer (whole_bytes row))
   pub only : IfErr result (λ e. (e ≡ Write) ⊎ (e ≡ Limit Offset))
 
 abbrev pub first_of : List TermInfo → TermInfo

@@ -1,5 +1,5 @@
 ghost use Rattle.std.specs.Prelude.{◌≡◌, ◌-◌, ◌^◌, ◌<◌, ◌≤◌, ◌↔◌, ◌⊎◌, ℕ, List, ◌++◌, length, Option, Some, OnOk, IfErr, IfNone, IsErrOf, if◌then◌else◌};
-ghost use Rattle.ii_io.specs.Told.{Tells, IsFull};
+ghost use Rattle.ii_io.specs.CountingWriter.{Wrote, IsFull};
 ghost use Rattle.ii_io.specs.Numbers.{le_bytes};
 
 use byteorder::{ByteOrder, LittleEndian};

@@ -1,9 +1,9 @@
 ghost use Rattle.std.specs.Prelude.{◌≡◌, ◌<◌, ◌⊎◌, ◌↔◌, ◌+◌, ◌*◌, ◌^◌, List, [], ◌∷◌, ◌++◌, true, false, length, Some, IsTrue, IfOk, OnOk, OnErr, IfErr, IsErrOf, slice_get};
 ghost use Rattle.std.specs.Borrow.{sem};
-ghost use Rattle.ii_io.specs.Told.{Told, Tells, TellsBeginning, IsFull};
+ghost use Rattle.ii_io.specs.CountingWriter.{CountingWriterState, Wrote, Writes, WritesUnlessClosed, IsFull};
 ghost use Rattle.std.specs.List.{flat_map};
 ghost use Rattle.ii_io.specs.Composite.{Body, place_bytes, table_bytes, written_composite};
-ghost use Rattle.ii_io.specs.Composing.{has_start, places_of, places_until, next_start, HasBodies};
+ghost use Rattle.ii_io.specs.CompositeWrite.{has_start, places_of, places_until, next_start, HasBodies};
 ghost use Rattle.ii_io.specs.Lending.{LendsForField};
 
 use super::place::{BodyStart, Place};
@@ -28,12 +28,12 @@ pub struct CompositeWrite<W: Write> {
 
 impl<W: Write> Model for CompositeWrite<W> {
     ghost use Rattle.std.specs.Prelude.{◌<◌, ◌^◌, length};
-    ghost use Rattle.ii_io.specs.Composing.{Composing};
+    ghost use Rattle.ii_io.specs.CompositeWrite.{CompositeWriteState};
 
-    ghost Value = { Composing };
+    ghost Value = { CompositeWriteState };
 
     ghost view = { λ a. record {
-      told = a.writer;
+      writer = a.writer;
       base = a.base;
       starts = a.starts.items;
       closed = a.is_closed;
@@ -45,7 +45,7 @@ impl<W: Write> Model for CompositeWrite<W> {
 impl<W: Write> CompositeWrite<W> {
     /// A composite writer over `writer`, whose places are counted from where that stands now.
     pub fn wrap(alloc: Global, writer: CountingWriter<W>) -> CompositeWrite<W>
-        ensures { result ≡ record { told = writer; base = writer.written; starts = []; closed = false } }
+        ensures { result ≡ record { writer = writer; base = writer.written_bytes; starts = []; closed = false } }
     {
         let base = writer.written_bytes();
         CompositeWrite {
@@ -64,7 +64,7 @@ impl<W: Write> CompositeWrite<W> {
     pub fn for_field(&mut self, field: Field) -> Result<&mut CountingWriter<W>, Fault>
         requires { has_start field self.old.starts ≡ false }
         ensures* lends { sem 𝓛 (LendsForField W.row W.Write self.entry field result) }
-        ensures value { IfOk result (λ writer. writer.now ≡ self.old.told) }
+        ensures value { IfOk result (λ writer. writer.now ≡ self.old.writer) }
         ensures closed { IsErrOf result Fault.SerializerClosed ↔ IsTrue self.old.closed }
         ensures only { IfErr result (λ e. (e ≡ Fault.OutOfMemory) ⊎ (e ≡ Fault.SerializerClosed)) }
     {
@@ -95,7 +95,7 @@ impl<W: Write> CompositeWrite<W> {
 
     /// The writer as it stands, with no table written.
     pub fn into_writer(self) -> CountingWriter<W>
-        ensures { result ≡ self.told }
+        ensures { result ≡ self.writer }
     {
         let CompositeWrite {
             writer: unclosed,
@@ -112,17 +112,11 @@ impl<W: Write> CompositeWrite<W> {
     /// where a count of the writer would pass `u64::MAX`; `SerializerClosed` after an earlier refusal,
     /// and nothing is written.
     pub fn close(self) -> (CountingWriter<W>, Result<(), Fault>)
-        ensures ok { OnOk result.1 (Tells self.told result.0 (table_bytes (places_of self))) }
-        ensures bodies { (begun : Told) (bodies : List Body) → HasBodies begun self bodies
-            → OnOk result.1 (Tells begun result.0 (written_composite bodies)) }
-        ensures write { IsErrOf result.1 Fault.Write ↔ (self.told.failed < (result.0).failed) }
+        ensures written { WritesUnlessClosed self.closed self.writer result.0 (table_bytes (places_of self)) result.1 }
+        ensures bodies { (initial : CountingWriterState) (bodies : List Body) → HasBodies initial self bodies
+            → OnOk result.1 (Wrote initial result.0 (written_composite bodies)) }
         ensures limit { IsErrOf result.1 (Fault.Limit LimitName.Offset)
-            ↔ ((self.closed ≡ false) × IsFull self.told (length (table_bytes (places_of self)))) }
-        ensures begun { OnErr result.1 (TellsBeginning self.told result.0 (table_bytes (places_of self))) }
-        ensures closed { IsErrOf result.1 Fault.SerializerClosed ↔ IsTrue self.closed }
-        ensures untouched { IsTrue self.closed → result.0 ≡ self.told }
-        ensures only { IfErr result.1 (λ e. (e ≡ Fault.Write) ⊎ (e ≡ Fault.Limit LimitName.Offset)
-            ⊎ (e ≡ Fault.SerializerClosed)) }
+            ↔ ((self.closed ≡ false) × IsFull self.writer (length (table_bytes (places_of self)))) }
     {
         let CompositeWrite {
             mut writer,
@@ -149,12 +143,9 @@ fn write_table<W: Write>(
     end: u64,
 ) -> Result<(), Fault>
     requires { length starts.now < 2 ^ 32 }
-    ensures ok { OnOk result (Tells writer.old writer.new (table_bytes (places_until starts.now end))) }
-    ensures write { IsErrOf result Fault.Write ↔ (writer.old.failed < writer.new.failed) }
+    ensures written { Writes writer.old writer.new (table_bytes (places_until starts.now end)) result }
     ensures limit { IsErrOf result (Fault.Limit LimitName.Offset)
         ↔ IsFull writer.old (length (table_bytes (places_until starts.now end))) }
-    ensures begun { OnErr result (TellsBeginning writer.old writer.new (table_bytes (places_until starts.now end))) }
-    ensures only { IfErr result (λ e. (e ≡ Fault.Write) ⊎ (e ≡ Fault.Limit LimitName.Offset)) }
 {
     let size = 20 * starts.len() as u64 + 4;
     if writer.failed_calls() == u64::MAX {
@@ -163,73 +154,44 @@ fn write_table<W: Write>(
     if u64::MAX - writer.written_bytes() < size {
         return Err(Fault::Limit(LimitName::Offset));
     }
-    write_within(writer, starts, end)
+    write_places_and_number(writer, starts, end)
 }
 
-// The same where the counts of the writer have room.
-fn write_within<W: Write>(
+// The places, their number, and a flush.
+fn write_places_and_number<W: Write>(
     writer: &mut CountingWriter<W>,
     starts: &[BodyStart],
     end: u64,
 ) -> Result<(), Fault>
-    requires few { length starts.now < 2 ^ 32 }
-    requires room { writer.old.written + (20 * length starts.now + 4) < 2 ^ 64 }
-    requires can_fail { writer.old.failed + 1 < 2 ^ 64 }
-    ensures ok { OnOk result (Tells writer.old writer.new (table_bytes (places_until starts.now end))) }
-    ensures begun { OnErr result (TellsBeginning writer.old writer.new (table_bytes (places_until starts.now end))) }
-    ensures write { IsErrOf result Fault.Write ↔ (writer.old.failed < writer.new.failed) }
-    ensures only { IfErr result (λ e. e ≡ Fault.Write) }
+    requires { length starts.now < 2 ^ 32 }
+    ensures { Writes writer.old writer.new (table_bytes (places_until starts.now end)) result }
 {
-    write_places(writer, starts, end)?;
-    write_value(writer, &(starts.len() as u32))?;
-    flush(writer)
+    let places = write_places(writer, starts, end);
+    if places.is_err() {
+        return places;
+    }
+    let number = (starts.len() as u32).serialize(writer);
+    if number.is_err() {
+        return number;
+    }
+    writer.flush()
 }
 
-// The places alone, where the counts of the writer have room.
+// The places alone.
 fn write_places<W: Write>(
     writer: &mut CountingWriter<W>,
     starts: &[BodyStart],
     end: u64,
 ) -> Result<(), Fault>
-    requires room { writer.old.written + 20 * length starts.now < 2 ^ 64 }
-    requires can_fail { writer.old.failed + 1 < 2 ^ 64 }
-    ensures ok { OnOk result (Tells writer.old writer.new (flat_map place_bytes (places_until starts.now end))) }
-    ensures begun { OnErr result (TellsBeginning writer.old writer.new
-        (flat_map place_bytes (places_until starts.now end))) }
-    ensures write { IsErrOf result Fault.Write ↔ (writer.old.failed < writer.new.failed) }
-    ensures only { IfErr result (λ e. e ≡ Fault.Write) }
+    ensures { Writes writer.old writer.new (flat_map place_bytes (places_until starts.now end)) result }
 {
     for i in 0..starts.len() {
-        write_value(writer, &place_of(starts, i, end))?;
+        let place = place_of(starts, i, end).serialize(writer);
+        if place.is_err() {
+            return place;
+        }
     }
     Ok(())
-}
-
-// Writes a value where the counts of the writer have room for it.
-fn write_value<T: BinarySerializable, W: Write>(
-    writer: &mut CountingWriter<W>,
-    value: &T,
-) -> Result<(), Fault>
-    requires lawful { T.can_serialize value.now }
-    requires room { writer.old.written + length (T.bytes_of value.now) < 2 ^ 64 }
-    requires can_fail { writer.old.failed + 1 < 2 ^ 64 }
-    ensures ok { OnOk result (Tells writer.old writer.new (T.bytes_of value.now)) }
-    ensures begun { OnErr result (TellsBeginning writer.old writer.new (T.bytes_of value.now)) }
-    ensures write { IsErrOf result Fault.Write ↔ (writer.old.failed < writer.new.failed) }
-    ensures only { IfErr result (λ e. e ≡ Fault.Write) }
-{
-    value.serialize(writer)
-}
-
-// Flushes a writer whose failed calls can be counted.
-fn flush<W: Write>(writer: &mut CountingWriter<W>) -> Result<(), Fault>
-    requires { writer.old.failed + 1 < 2 ^ 64 }
-    ensures ok { OnOk result (Tells writer.old writer.new []) }
-    ensures begun { OnErr result (TellsBeginning writer.old writer.new []) }
-    ensures write { IsErrOf result Fault.Write ↔ (writer.old.failed < writer.new.failed) }
-    ensures only { IfErr result (λ e. e ≡ Fault.Write) }
-{
-    writer.flush()
 }
 
 // The place of the i-th body, which ends where the next begins, the last one at `end`.
@@ -237,18 +199,18 @@ fn place_of(starts: &[BodyStart], i: usize, end: u64) -> Place
     requires { i < length starts.now }
     ensures { slice_get (places_until starts.now end) i ≡ Some result }
 {
-    let begun = starts[i];
+    let body = starts[i];
     if i + 1 < starts.len() {
         let next = starts[i + 1];
         return Place {
-            field: begun.field,
-            start: begun.start,
+            field: body.field,
+            start: body.start,
             end: next.start,
         };
     }
     Place {
-        field: begun.field,
-        start: begun.start,
+        field: body.field,
+        start: body.start,
         end,
     }
 }

@@ -1,6 +1,6 @@
 ghost use Rattle.std.specs.Prelude.{◌≡◌, ◌<◌, ◌++◌, ◌↔◌, ◌⊎◌, ◌∷◌, [], ℕ, List, length, Option, Some, OnOk, IfErr, IfNone, IsErrOf};
 ghost use Rattle.std.specs.Option.{option_map};
-ghost use Rattle.ii_io.specs.Told.{Tells, IsFull};
+ghost use Rattle.ii_io.specs.CountingWriter.{Wrote, IsFull};
 ghost use Rattle.ii_io.specs.Numbers.{number_at};
 
 use crate::term_info::{TermInfo, put_info, put_u64};

@@ -1,5 +1,5 @@
 ghost use Rattle.std.specs.Prelude.{◌≡◌, ℕ, ◌+◌, ◌-◌, ◌*◌, ◌^◌, ◌<◌, ◌≤◌, List, ◌++◌, length, map, max, drop};
-ghost use Rattle.ii_io.specs.Told.{Told, Writes};
+ghost use Rattle.ii_io.specs.CountingWriter.{CountingWriterState, Writes};
 ghost use Rattle.ii_codes.specs.Bits.{low_bits, bits_bytes};
 ghost use Rattle.ii_codes.specs.Packed.{num_bits};
 ghost use Rattle.ii_termstore.specs.declared.term_info.TermInfo.{TermInfo};
@@ -22,7 +22,7 @@ fn pack<W: Write>(
 ) -> Result<(), Fault>
     requires narrow { width ≤ 64 }
     requires fits { val < 2 ^ width }
-    ensures { (begun : Told) (row : List ℕ) (size : ℕ) → IsPacking begun writer.old packer.old row
+    ensures { (initial : CountingWriterState) (row : List ℕ) (size : ℕ) → IsPacking begun writer.old packer.old row
         → length row + width ≤ 8 * size
         → Packs begun writer.new packer.new (row ++ low_bits width val) size result }
 {
@@ -138,7 +138,7 @@ fn pack_term<W: Write>(
 ) -> Result<(), Fault>
     requires narrow { AreNarrow meta.now }
     requires fits { FitsWidths meta.now info.now }
-    ensures { (begun : Told) (row : List ℕ) (size : ℕ) → IsPacking begun writer.old packer.old row
+    ensures { (initial : CountingWriterState) (row : List ℕ) (size : ℕ) → IsPacking begun writer.old packer.old row
         → length row + term_bits meta.now ≤ 8 * size
         → Packs begun writer.new packer.new (row ++ term_row meta.now info.now) size result }
 {

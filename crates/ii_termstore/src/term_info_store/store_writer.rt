@@ -1,5 +1,5 @@
 ghost use Rattle.std.specs.Prelude.{◌≡◌, ◌+◌, ◌*◌, ◌≤◌, ◌<◌, ◌↔◌, ◌⊎◌, [], ◌∷◌, ◌++◌, true, false, length, drop, Some, OnOk, OnErr, IfErr, IsErrOf, IsTrue};
-ghost use Rattle.ii_io.specs.Told.{Tells, TellsBeginning, IsFull, Writes};
+ghost use Rattle.ii_io.specs.CountingWriter.{Wrote, WrotePrefix, IsFull, Writes};
 ghost use Rattle.ii_io.specs.Numbers.{le_bytes};
 ghost use Rattle.ii_termstore.specs.TermInfos.{HasLengths};
 ghost use Rattle.ii_termstore.specs.TermStore.{block_count, meta_bytes, term_store};
@@ -79,13 +79,13 @@ impl TermInfoStoreWriter {
     /// `u64::MAX`: a beginning of the store is then written. `SerializerClosed` after an earlier
     /// refusal, and nothing is written. It takes no memory.
     pub fn serialize<W: Write>(&mut self, writer: &mut CountingWriter<W>) -> Result<(), Fault>
-        ensures ok { OnOk result (Tells writer.old writer.new (written_store self.old.infos)) }
+        ensures ok { OnOk result (Wrote writer.old writer.new (written_store self.old.infos)) }
         ensures holds { AreJoined self.old.infos → OnOk result (term_store (written_store self.old.infos) ≡ Some self.old.infos) }
         ensures stays { OnOk result (self.new ≡ self.old) }
         ensures err { OnErr result (self.new ≡ record self.old { closed = true }) }
-        ensures write { IsErrOf result Fault.Write ↔ (writer.old.failed < writer.new.failed) }
+        ensures write { IsErrOf result Fault.Write ↔ (writer.old.failed_calls < writer.new.failed_calls) }
         ensures limit { IsErrOf result (Fault.Limit LimitName.Offset) → IsFull writer.old (length (written_store self.old.infos)) }
-        ensures begun { OnErr result (TellsBeginning writer.old writer.new (written_store self.old.infos)) }
+        ensures prefix { OnErr result (WrotePrefix writer.old writer.new (written_store self.old.infos)) }
         ensures untouched { IsTrue self.old.closed → writer.new ≡ writer.old }
         ensures closed { IsErrOf result Fault.SerializerClosed ↔ IsTrue self.old.closed }
         ensures only { IfErr result (λ e. (e ≡ Fault.Write) ⊎ (e ≡ Fault.Limit LimitName.Offset) ⊎ (e ≡ Fault.SerializerClosed)) }

@@ -2,7 +2,7 @@ use Rattle.std.proofs.Common.{◌∙◌, length, take, arith}
 use Rattle.std.proofs.lemmas.List.{length-take-le}
 use Rattle.std.proofs.lemmas.Result.{err_from_is_err_and}
 use Rattle.ii_io.specs.Composite.{bodies_bytes}
-use Rattle.ii_io.specs.ToldLemmas.{full_before}
+use Rattle.ii_io.specs.CountingWriterLemmas.{full_before}
 use Rattle.ii_fieldnorm.specs.Buffers.{norm_bodies, buffer_size}
 use Rattle.ii_fieldnorm.proofs.BufferLemmas.{has_start-behind, buffer_written, part_size, buffer_begins}
 use Rattle.ii_fieldnorm.proofs.writer.write_buffers.Goals as goal
@@ -26,9 +26,9 @@ returns-in_err-write_buffer-clause-limit g c =
     let given = err_from_is_err_and c.from_residual.result c.from_residual.ensures.1 in
     let buffers = c.args.buffers.now in
     let part = part_size 0 buffers c.loop-i.i c.index-buffers-i.result (omega arith) c.index-buffers-i.is in
-    rw (given.1, given.2) (λ e. full_before _ _ (bodies_bytes (norm_bodies (take c.loop-i.i buffers))) (buffer_size c.index-buffers-i.result) (length (bodies_bytes (norm_bodies buffers))) c.loop-i.invariant.bodies.told part (c.in_err-write_buffer.ensures.limit e))
+    rw (given.1, given.2) (λ e. full_before _ _ (bodies_bytes (norm_bodies (take c.loop-i.i buffers))) (buffer_size c.index-buffers-i.result) (length (bodies_bytes (norm_bodies buffers))) c.loop-i.invariant.bodies.writer part (c.in_err-write_buffer.ensures.limit e))
 
-pub returns-in_err-write_buffer-clause-begun : goal.returns-in_err-write_buffer-clause-begun
-returns-in_err-write_buffer-clause-begun g c =
+pub returns-in_err-write_buffer-clause-prefix : goal.returns-in_err-write_buffer-clause-prefix
+returns-in_err-write_buffer-clause-prefix g c =
     let given = err_from_is_err_and c.from_residual.result c.from_residual.ensures.1 in
-    rw given.1 (buffer_begins _ _ _ c.args.buffers.now c.loop-i.i c.index-buffers-i.result (omega arith) c.index-buffers-i.is c.loop-i.invariant.bodies.told c.in_err-write_buffer.ensures.begun)
+    rw given.1 (buffer_begins _ _ _ c.args.buffers.now c.loop-i.i c.index-buffers-i.result (omega arith) c.index-buffers-i.is c.loop-i.invariant.bodies.writer c.in_err-write_buffer.ensures.prefix)

@@ -1,5 +1,5 @@
 use Rattle.std.proofs.Common.{arith}
-use Rattle.ii_io.proofs.ToldLemmas.{Appends-more}
+use Rattle.ii_io.proofs.CountingWriterLemmas.{Appends-more}
 use Rattle.iiq.proofs.RunLemmas.{puts_kept, puts_nothing}
 use Rattle.iiq.proofs.run.put.Goals as goal
 

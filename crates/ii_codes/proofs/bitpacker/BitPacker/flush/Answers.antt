@@ -17,8 +17,8 @@ returns-clause-limit g c =
     rw size (bits_bytes-left c.self.inside.mini_buffer_written c.self.inside.mini_buffer c.self.invariant.0 c.self.invariant.1) in
     rw (← c.self.view_is, ← left) c.write_all.ensures.limit
 
-pub returns-clause-begun : goal.returns-clause-begun
-returns-clause-begun g c =
+pub returns-clause-prefix : goal.returns-clause-prefix
+returns-clause-prefix g c =
     let size = c.from-size.ensures ∙ c.min.ensures in
     let left : take c.from-size.result (c.self.inside.mini_buffer ∷ []) ≡ bits_bytes (low_bits c.self.inside.mini_buffer_written c.self.inside.mini_buffer) =
     rw size (bits_bytes-left c.self.inside.mini_buffer_written c.self.inside.mini_buffer c.self.invariant.0 c.self.invariant.1) in

@@ -36,7 +36,7 @@ returns-clause-limit g c =
     let size = length-written_whole c.self.inside.mini_buffer_written c.self.inside.mini_buffer c.args.num_bits c.args.val c.loop-j.j c.from-2.result c.loop-j.bytes (omega arith) (omega arith) c.loop-j.invariant.written in
     rw (← c.self.view_is, ← size) c.write_all.ensures.limit
 
-pub returns-clause-begun : goal.returns-clause-begun
-returns-clause-begun g c =
+pub returns-clause-prefix : goal.returns-clause-prefix
+returns-clause-prefix g c =
     let written = written_whole c.self.inside.mini_buffer_written c.self.inside.mini_buffer c.args.num_bits c.args.val c.loop-j.j c.from-2.result c.loop-j.bytes (omega arith) (omega arith) c.loop-j.invariant.written in
     rw (← c.self.view_is, ← written) c.write_all.ensures.err

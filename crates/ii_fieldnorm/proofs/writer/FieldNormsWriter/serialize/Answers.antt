@@ -6,6 +6,6 @@ pub returns-in-Ok-clause-limit : goal.returns-in-Ok-clause-limit
 returns-in-Ok-clause-limit g c =
     λ e. rw (← c.self.view_is) (closing_full _ _ (norm_bodies c.self.inside.buffers.items) (rw c.deref.ensures.value at c.in-Ok.ensures.ok) (c.close-writer.ensures.limit.0 e).1)
 
-pub returns-in-Ok-clause-begun : goal.returns-in-Ok-clause-begun
-returns-in-Ok-clause-begun g c =
-    rw (← c.self.view_is) (table_begins c.close-writer.result.1 c.args.serializer.told c.close-writer.result.0 _ (norm_bodies c.self.inside.buffers.items) (rw c.deref.ensures.value at c.in-Ok.ensures.ok) c.close-writer.ensures.begun)
+pub returns-in-Ok-clause-prefix : goal.returns-in-Ok-clause-prefix
+returns-in-Ok-clause-prefix g c =
+    rw (← c.self.view_is) (table_begins c.close-writer.result.1 c.args.serializer.writer c.close-writer.result.0 _ (norm_bodies c.self.inside.buffers.items) (rw c.deref.ensures.value at c.in-Ok.ensures.ok) c.close-writer.ensures.prefix)

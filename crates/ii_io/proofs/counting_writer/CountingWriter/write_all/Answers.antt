@@ -1,5 +1,5 @@
 use Rattle.std.proofs.Common.{arith}
-use Rattle.ii_io.proofs.ToldLemmas.{Appends-more}
+use Rattle.ii_io.proofs.CountingWriterLemmas.{Appends-more}
 use Rattle.ii_io.proofs.counting_writer.CountingWriter.write_all.Goals as goal
 
 pub loop-done-preserved : goal.loop-done-preserved

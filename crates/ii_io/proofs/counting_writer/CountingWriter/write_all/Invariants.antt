@@ -6,9 +6,9 @@ abbrev pub invariant-loop-done : goal.invariant-loop-done
 invariant-loop-done g l = record {
   within : l.done ≤ length l.buf;
   appends : Appends l.fn.self.contents (g.W.Write.contents l.self-inside.underlying) (take l.done l.buf);
-  written : l.self-inside.written_bytes ≡ l.fn.self.written + l.done;
-  room : l.fn.self.written + length l.buf < 2 ^ 64;
-  failed : l.self-inside.failed_calls ≡ l.fn.self.failed;
+  written : l.self-inside.written_bytes ≡ l.fn.self.written_bytes + l.done;
+  room : l.fn.self.written_bytes + length l.buf < 2 ^ 64;
+  failed : l.self-inside.failed_calls ≡ l.fn.self.failed_calls;
   can_fail : l.self-inside.failed_calls + 1 < 2 ^ 64;
 }
 

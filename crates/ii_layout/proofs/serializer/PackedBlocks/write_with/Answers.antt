@@ -31,17 +31,17 @@ returns-clause-fits g c =
     rw (← c.self.view_is) (all_fits _ _ _ _ _ _ _ _ _ _ c.args.output_write.now c.write_skip_list.new.output_write c.write_all.new.self c.self.invariant c.requires.few c.data.ensures c.deref.ensures.value c.doc_ids.ensures c.compress_vint_sorted-bytes.ensures
     c.in_ok-write_skip_list.ensures.ok c.in_ok-write_all.ensures.ok c.write_all-2.ensures.limit)
 
-pub returns-in_err-write_skip_list-clause-begun : goal.returns-in_err-write_skip_list-clause-begun
-returns-in_err-write_skip_list-clause-begun g c =
+pub returns-in_err-write_skip_list-clause-prefix : goal.returns-in_err-write_skip_list-clause-prefix
+returns-in_err-write_skip_list-clause-prefix g c =
     let given = err_from_is_err_and c.from_residual.result c.from_residual.ensures.1 in
-    rw (given.1, ← c.self.view_is) (list_begins _ _ _ _ _ _ c.args.output_write.now c.write_skip_list.new.output_write c.self.invariant c.requires.few c.data.ensures c.in_err-write_skip_list.ensures.begun)
+    rw (given.1, ← c.self.view_is) (list_begins _ _ _ _ _ _ c.args.output_write.now c.write_skip_list.new.output_write c.self.invariant c.requires.few c.data.ensures c.in_err-write_skip_list.ensures.prefix)
 
-pub returns-in_err-write_all-clause-begun : goal.returns-in_err-write_all-clause-begun
-returns-in_err-write_all-clause-begun g c =
+pub returns-in_err-write_all-clause-prefix : goal.returns-in_err-write_all-clause-prefix
+returns-in_err-write_all-clause-prefix g c =
     let given = err_from_is_err_and c.from_residual-in_err-write_all.result c.from_residual-in_err-write_all.ensures.1 in
     rw (given.1, ← c.self.view_is) (blocks_begin _ _ _ _ _ _ _ c.args.output_write.now c.write_skip_list.new.output_write c.write_all.new.self c.self.invariant c.requires.few c.data.ensures c.deref.ensures.value c.in_ok-write_skip_list.ensures.ok c.in_err-write_all.ensures.err)
 
-pub returns-clause-begun : goal.returns-clause-begun
-returns-clause-begun g c =
+pub returns-clause-prefix : goal.returns-clause-prefix
+returns-clause-prefix g c =
     rw (← c.self.view_is) (rest_begins _ _ _ _ _ _ _ _ _ _ c.args.output_write.now c.write_skip_list.new.output_write c.write_all.new.self c.write_all-2.new.self c.self.invariant c.requires.few c.data.ensures c.deref.ensures.value c.doc_ids.ensures c.compress_vint_sorted-bytes.ensures
     c.in_ok-write_skip_list.ensures.ok c.in_ok-write_all.ensures.ok c.write_all-2.ensures.err)

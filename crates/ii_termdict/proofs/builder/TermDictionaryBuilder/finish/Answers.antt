@@ -15,12 +15,12 @@ returns-clause-limit g c = λ keys h.
     let bytes = dictionary_written_by _ keys c.deref.result.now c.deref-2.result.now c.deref-3.result.now c.deref.ensures.value c.deref-2.ensures.value c.deref-3.ensures.value same in
     rw (← c.self.view_is, ← bytes) put.limit
 
-pub returns-clause-begun : goal.returns-clause-begun
-returns-clause-begun g c = λ keys h.
+pub returns-clause-prefix : goal.returns-clause-prefix
+returns-clause-prefix g c = λ keys h.
     let put = c.put_dictionary-written.ensures in
     let same = rw (← c.self.view_is) at h in
     let bytes = dictionary_written_by _ keys c.deref.result.now c.deref-2.result.now c.deref-3.result.now c.deref.ensures.value c.deref-2.ensures.value c.deref-3.ensures.value same in
-    rw (← c.self.view_is, ← bytes) put.begun
+    rw (← c.self.view_is, ← bytes) put.prefix
 
 pub returns-clause-holds : goal.returns-clause-holds
 returns-clause-holds g c = λ keys h same ascend joined.

@@ -51,4 +51,4 @@ returns g c =
     let went_too = pack_went c.args.writer.now c.pack-positions.new.writer c.pack-positions.new.packer _ (length (bits_bytes (block_row c.args.meta.now c.args.others.now))) c.pack-positions.result c.if-is_err-3.ensures.value second in
     let whole = rw (c.end_of_postings.ensures, c.end_of_positions.ensures) at went_too in
     pack_end c.writes_one_row.ensures c.args.writer.now c.pack-positions.new.writer c.close.new.output c.pack-positions.new.packer (block_row c.args.meta.now c.args.others.now) c.close.result whole
-    c.close.ensures.ok c.close.ensures.write c.close.ensures.limit c.close.ensures.begun c.close.ensures.only
+    c.close.ensures.ok c.close.ensures.write c.close.ensures.limit c.close.ensures.prefix c.close.ensures.only

@@ -4,10 +4,10 @@ use Rattle.std.proofs.lemmas.Grind.{flat_map-append}
 use Rattle.std.proofs.lemmas.List.{append-nil}
 use Rattle.ii_io.specs.declared.composite_file.place.BodyStart.{BodyStart}
 use Rattle.ii_io.specs.declared.composite_file.place.Place.{Place}
-use Rattle.ii_io.specs.Told.{Told}
-use Rattle.ii_io.specs.ToldLemmas.{Tells-trans}
+use Rattle.ii_io.specs.CountingWriter.{CountingWriterState}
+use Rattle.ii_io.specs.CountingWriterLemmas.{Wrote-trans}
 use Rattle.ii_io.specs.Composite.{Body, bodies_bytes, places_from}
-use Rattle.ii_io.specs.Composing.{Composing, AddsBody, HasBodies, written_bodies, starts_from, places_until, places_of}
+use Rattle.ii_io.specs.CompositeWrite.{CompositeWriteState, AddsBody, HasBodies, written_bodies, starts_from, places_until, places_of}
 
 starts_from-more : (start : ℕ) (bodies : List Body) (b : Body) → starts_from start (bodies ++ b ∷ []) ≡ starts_from start bodies ++ record { field = b.field; start = start + length (bodies_bytes bodies) } ∷ []
 starts_from-more start [] b =
@@ -19,16 +19,16 @@ starts_from-more start (c ∷ bs) b =
     ap (λ (ss : List BodyStart). record { field = c.field; start = start } ∷ ss) (rw same at ih)
 
 -- one body more
-pub HasBodies-more : (begun : Told) (old new : Composing) (bodies : List Body) (field : ℕ) (bytes : List ℕ) → HasBodies begun old bodies → AddsBody old new field bytes
-    → HasBodies begun new (bodies ++ record { field = field; bytes = bytes } ∷ [])
-HasBodies-more begun old new bodies field bytes has adds =
-    let written = has.told.written in
+pub HasBodies-more : (initial : CountingWriterState) (old new : CompositeWriteState) (bodies : List Body) (field : ℕ) (bytes : List ℕ) → HasBodies initial old bodies → AddsBody old new field bytes
+    → HasBodies initial new (bodies ++ record { field = field; bytes = bytes } ∷ [])
+HasBodies-more initial old new bodies field bytes has adds =
+    let written = has.writer.written_bytes in
     let base = has.base in
     let start : written_bodies old ≡ 0 + length (bodies_bytes bodies) = omega arith in
     let more = starts_from-more 0 bodies (record { field = field; bytes = bytes }) in
     let content : bodies_bytes (bodies ++ record { field = field; bytes = bytes } ∷ []) ≡ bodies_bytes bodies ++ bytes = flat_map-append (λ (b : Body). b.bytes) bodies (record { field = field; bytes = bytes } ∷ []) ∙ ap (λ (xs : List ℕ). bodies_bytes bodies ++ xs) (append-nil bytes) in
     record {
-      told = rw content (Tells-trans begun old.told new.told (bodies_bytes bodies) bytes has.told adds.told);
+      writer = rw content (Wrote-trans initial old.writer new.writer (bodies_bytes bodies) bytes has.writer adds.writer);
       base = adds.base ∙ has.base;
       starts = adds.starts ∙ rw (has.starts, start, more) refl;
     }
@@ -43,11 +43,11 @@ places_until-from start (b ∷ c ∷ bs) =
     let ih = places_until-from (start + length b.bytes) (c ∷ bs) in
     rw end (ap (λ (ps : List Place). record { field = b.field; start = start; end = start + length b.bytes } ∷ ps) ih)
 
-pub places_of-bodies : (begun : Told) (c : Composing) (bodies : List Body) → HasBodies begun c bodies → places_of c ≡ places_from 0 bodies
-places_of-bodies begun c bodies h =
-    let written = h.told.written in
+pub places_of-bodies : (initial : CountingWriterState) (c : CompositeWriteState) (bodies : List Body) → HasBodies initial c bodies → places_of c ≡ places_from 0 bodies
+places_of-bodies initial c bodies h =
+    let written = h.writer.written_bytes in
     let base = h.base in
-    let end : c.told.written - c.base ≡ length (bodies_bytes bodies) = omega arith in
+    let end : c.writer.written_bytes - c.base ≡ length (bodies_bytes bodies) = omega arith in
     let law = places_until-from 0 bodies in
     let zero_end : 0 + length (bodies_bytes bodies) ≡ length (bodies_bytes bodies) = omega arith in
     rw (h.starts, end) (rw zero_end at law)

@@ -3,12 +3,12 @@ use Rattle.std.specs.Prelude.{◌≡◌, ℕ, ◌+◌, ◌-◌, Bool, List, [], 
 use Rattle.std.specs.List.{list_any}
 use Rattle.ii_io.specs.declared.composite_file.place.Place.{Place}
 use Rattle.ii_io.specs.declared.composite_file.place.BodyStart.{BodyStart}
-use Rattle.ii_io.specs.Told.{Told, Tells}
+use Rattle.ii_io.specs.CountingWriter.{CountingWriterState, Wrote}
 use Rattle.ii_io.specs.Composite.{Body, bodies_bytes}
 
 -- what the writer tells, how much it had written at first, where each body began from there on, and whether a call was refused
-pub record Composing : Type 0 where
-  pub told : Told
+pub record CompositeWriteState : Type 0 where
+  pub writer : CountingWriterState
   pub base : ℕ
   pub starts : List BodyStart
   pub closed : Bool
@@ -17,11 +17,11 @@ abbrev pub has_start : ℕ → List BodyStart → Bool
 has_start field starts = list_any (λ (s : BodyStart). s.field == field) starts
 
 -- how many bytes of bodies were written
-abbrev pub written_bodies : Composing → ℕ
-written_bodies c = c.told.written - c.base
+abbrev pub written_bodies : CompositeWriteState → ℕ
+written_bodies c = c.writer.written_bytes - c.base
 
 -- where the body of a field begins that is written next
-abbrev pub next_start : Composing → ℕ → BodyStart
+abbrev pub next_start : CompositeWriteState → ℕ → BodyStart
 next_start c field = record { field = field; start = written_bodies c }
 
 -- each body ends where the next begins, the last one at the given end
@@ -31,12 +31,12 @@ places_until (s ∷ []) end = record { field = s.field; start = s.start; end = e
 places_until (s ∷ t ∷ ss) end = record { field = s.field; start = s.start; end = t.start } ∷ places_until (t ∷ ss) end
 
 -- the places of the bodies written
-abbrev pub places_of : Composing → List Place
+abbrev pub places_of : CompositeWriteState → List Place
 places_of c = places_until c.starts (written_bodies c)
 
 -- A body was written behind the old ones.
-pub record AddsBody (old new : Composing) (field : ℕ) (bytes : List ℕ) : Type 0 where
-  pub told : Tells old.told new.told bytes
+pub record AddsBody (old new : CompositeWriteState) (field : ℕ) (bytes : List ℕ) : Type 0 where
+  pub writer : Wrote old.writer new.writer bytes
   pub base : new.base ≡ old.base
   pub starts : new.starts ≡ old.starts ++ next_start old field ∷ []
 
@@ -46,7 +46,7 @@ starts_from start [] = []
 starts_from start (b ∷ bs) = record { field = b.field; start = start } ∷ starts_from (start + length b.bytes) bs
 
 -- Since the writer was wrapped, these bodies and nothing else were written.
-pub record HasBodies (begun : Told) (c : Composing) (bodies : List Body) : Type 0 where
-  pub told : Tells begun c.told (bodies_bytes bodies)
-  pub base : c.base ≡ begun.written
+pub record HasBodies (initial : CountingWriterState) (c : CompositeWriteState) (bodies : List Body) : Type 0 where
+  pub writer : Wrote initial c.writer (bodies_bytes bodies)
+  pub base : c.base ≡ initial.written_bytes
   pub starts : c.starts ≡ starts_from 0 bodies
