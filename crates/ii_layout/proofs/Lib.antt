@@ -2,6 +2,6 @@ pub mod BlockDocs
 pub mod PackingLemmas
 pub mod ReadBackLemmas
 pub mod RunLemmas
-pub mod SkipReadLemmas
+pub mod SkipReaderLemmas
 pub mod SkipWriting
 pub mod WorkedRows

@@ -5,14 +5,14 @@ use Rattle.ii_io.specs.Numbers.{le_bytes}
 use Rattle.ii_io.specs.NumberLemmas.{bytes_low_first-le_bytes}
 use Rattle.ii_layout.specs.Written.{code_of_width}
 
--- a code behind the four bytes of a document
-pub code_behind : (n w code : ℕ) → code ≡ w + 64 → set (bytes_low_first 0 4 n ++ 0 ∷ []) 4 code ≡ le_bytes 4 n ++ code_of_width w ∷ []
+-- a code after the four bytes of a document
+pub code_after : (n w code : ℕ) → code ≡ w + 64 → set (bytes_low_first 0 4 n ++ 0 ∷ []) 4 code ≡ le_bytes 4 n ++ code_of_width w ∷ []
 unfolding le_bytes
-code_behind n w code e =
+code_after n w code e =
     let same : code ≡ 64 + w = omega arith in
     ap (λ (bytes : List ℕ). set (bytes ++ 0 ∷ []) 4 code) (bytes_low_first-le_bytes 4 n) ∙ rw same refl
 
--- bytes behind others, where memory is not refused
+-- bytes after others, where memory is not refused
 pub extended : {T E : Type 0} (r : Result T E) (old new more want : List ℕ) → new ≡ cond (is_ok r) (old ++ more) old → more ≡ want → OnOk r (new ≡ old ++ want)
 extended (Ok v) old new more want e same = rw (← same) e
 extended (Err x) old new more want e same = tt

@@ -14,7 +14,7 @@ use Rattle.ii_codes.specs.Blocks.{sorted_block_at}
 use Rattle.ii_codes.specs.SortedVints.{sorted_vints_at}
 use Rattle.ii_layout.specs.Each.{each}
 use Rattle.ii_layout.specs.SkipList.{SkipEntry, SkipList, entry_at, no_entry, block_place, block_size}
-use Rattle.ii_layout.specs.Documents.{entry_of, doc_before, block_docs, rest_docs, documents_at}
+use Rattle.ii_layout.specs.Documents.{entry_of, last_doc_before, block_docs, rest_docs, documents_at}
 use Rattle.iiq.specs.Placed.{skip_at, fits_by, block_fits, rest_fits}
 use Rattle.iiq.proofs.LayoutLemmas.{length-sorted_block_at, each_gives, least_after, ascend-append, least_after-append, least_after-last, least_at, AreWhole, least_at-last, block_ascends}
 
@@ -23,15 +23,15 @@ pub record Stands (skip : SkipList) (n : ℕ) (docs behind : List ℕ) : Type 0 
   pub blocks : List (List ℕ)
   pub rest : List ℕ
   pub read : each (block_docs skip) (length skip.entries) ≡ Some blocks
-  pub rest_read : rest_docs skip n ≡ Some (rest, behind)
+  pub rest_read : rest_docs skip n ≡ Some (rest, after)
   pub up : are_documents (concat blocks ++ rest) ≡ true
   pub docs_are : docs ≡ concat blocks ++ rest
 
 pub stands : (skip : SkipList) (n : ℕ) (docs behind : List ℕ) → documents_at skip n ≡ Some (docs, behind) → Stands skip n docs behind
-stands skip n docs behind e =
-    let blocks = step-some (each (block_docs skip) (length skip.entries)) _ (docs, behind) e in
-    let rest = step-some (rest_docs skip n) _ (docs, behind) blocks.2 in
-    let up = needs-some (are_documents (concat blocks.0 ++ rest.0.0)) _ (docs, behind) rest.2 in
+stands skip n docs after e =
+    let blocks = step-some (each (block_docs skip) (length skip.entries)) _ (docs, after) e in
+    let rest = step-some (rest_docs skip n) _ (docs, after) blocks.2 in
+    let up = needs-some (are_documents (concat blocks.0 ++ rest.0.0)) _ (docs, after) rest.2 in
     let same = some-same up.1 in
     record {
       blocks = blocks.0;
@@ -45,12 +45,12 @@ stands skip n docs behind e =
 -- What is known of a block that stands.
 pub record StandsBlock (skip : SkipList) (i : ℕ) (docs : List ℕ) : Type 0 where
   pub behind : List ℕ
-  pub read : sorted_block_at (entry_of skip.entries i).strict (doc_before skip.entries i) (entry_of skip.entries i).doc_width (drop (block_place skip.entries i) skip.body) ≡ Some (docs, behind)
+  pub read : sorted_block_at (entry_of skip.entries i).strict (last_doc_before skip.entries i) (entry_of skip.entries i).doc_num_bits (drop (block_place skip.entries i) skip.body) ≡ Some (docs, after)
   pub last : get_or docs 127 0 ≡ (entry_of skip.entries i).last_doc
 
 pub stands_block : (skip : SkipList) (i : ℕ) (docs : List ℕ) → block_docs skip i ≡ Some docs → StandsBlock skip i docs
 stands_block skip i docs e =
-    let found = step-some (sorted_block_at (entry_of skip.entries i).strict (doc_before skip.entries i) (entry_of skip.entries i).doc_width (drop (block_place skip.entries i) skip.body)) _ docs e in
+    let found = step-some (sorted_block_at (entry_of skip.entries i).strict (last_doc_before skip.entries i) (entry_of skip.entries i).doc_num_bits (drop (block_place skip.entries i) skip.body)) _ docs e in
     let last = needs-some (eqb (get_or found.0.0 127 0) (entry_of skip.entries i).last_doc) _ docs found.2 in
     let same = some-same last.1 in
     record {
@@ -60,9 +60,9 @@ stands_block skip i docs e =
     }
 
 pub block_stands : (skip : SkipList) (i : ℕ) (docs behind : List ℕ)
-    → sorted_block_at (entry_of skip.entries i).strict (doc_before skip.entries i) (entry_of skip.entries i).doc_width (drop (block_place skip.entries i) skip.body) ≡ Some (docs, behind)
+    → sorted_block_at (entry_of skip.entries i).strict (last_doc_before skip.entries i) (entry_of skip.entries i).doc_num_bits (drop (block_place skip.entries i) skip.body) ≡ Some (docs, after)
     → get_or docs 127 0 ≡ (entry_of skip.entries i).last_doc → block_docs skip i ≡ Some docs
-block_stands skip i docs behind read last = rw (read, eq-eqb (get_or docs 127 0) (entry_of skip.entries i).last_doc last) refl
+block_stands skip i docs after read last = rw (read, eq-eqb (get_or docs 127 0) (entry_of skip.entries i).last_doc last) refl
 
 pub are_whole : (skip : SkipList) (n : ℕ) (blocks : List (List ℕ)) → each (block_docs skip) n ≡ Some blocks → AreWhole blocks
 are_whole skip n blocks e i h =
@@ -74,7 +74,7 @@ are_whole skip n blocks e i h =
 -- the least document of block i by the entry before it
 abbrev pub least_of : List SkipEntry → ℕ → ℕ
 least_of entries zero = 0
-least_of entries (suc i) = doc_before entries (suc i) + 1
+least_of entries (suc i) = last_doc_before entries (suc i) + 1
 
 least_of_all : (skip : SkipList) (n i : ℕ) (blocks : List (List ℕ)) → each (block_docs skip) n ≡ Some blocks → i < n → least_at 0 blocks i ≡ least_of skip.entries i
 least_of_all skip n zero blocks e h = refl
@@ -91,7 +91,7 @@ pub record IsCheckedTo (skip : SkipList) (i before least place : ℕ) : Type 0 w
   pub up : ascend_from 0 (concat blocks) ≡ true
   pub least_after_is : least ≡ least_after 0 (concat blocks)
   pub least_is : least ≡ least_of skip.entries i
-  pub before_is : before ≡ doc_before skip.entries i
+  pub before_is : before ≡ last_doc_before skip.entries i
   pub place_is : place ≡ block_place skip.entries i
 
 pub checked_first : (skip : SkipList) → IsCheckedTo skip 0 0 0 0
@@ -101,7 +101,7 @@ checked_first skip = record { blocks = []; read = refl; up = refl; least_after_i
 pub record FitsBlock (strict : Bool) (before width last_doc least : ℕ) (bytes : List ℕ) : Type 0 where
   pub docs : List ℕ
   pub behind : List ℕ
-  pub read : sorted_block_at strict before width bytes ≡ Some (docs, behind)
+  pub read : sorted_block_at strict before width bytes ≡ Some (docs, after)
   pub last : get_or docs 127 0 ≡ last_doc
   pub up : ascend_from least docs ≡ true
 
@@ -138,8 +138,8 @@ last_below strict before width last_doc least bytes h =
 
 pub fits_found : (strict : Bool) (before width last_doc least len : ℕ) (bytes entries docs behind : List ℕ) → Some (entries, behind) ≡ sorted_block_at strict before width bytes
     → docs ≡ take len entries → len ≡ 128 → get_or entries 127 0 ≡ last_doc → ascend_from least docs ≡ block_fits strict before width last_doc least bytes
-fits_found strict before width last_doc least len bytes entries docs behind read e size last =
-    let many = length-sorted_block_at strict before width bytes entries behind (sym read) in
+fits_found strict before width last_doc least len bytes entries docs after read e size last =
+    let many = length-sorted_block_at strict before width bytes entries after (sym read) in
     let whole : docs ≡ entries = e ∙ take_all len entries (omega arith) in
     rw (← read, eq-eqb (get_or entries 127 0) last_doc last, whole) refl
 
@@ -153,7 +153,7 @@ entry_placed doc_freq entries body i bytes h =
     ∙ ap (λ (k : ℕ). entry_at Basic (drop (5 * k) (drop entries bytes))) (index ∙ here)
     ∙ ap (entry_at Basic) (drop-drop (5 * i) entries bytes)
 
-basic_freqs : (bytes : List ℕ) → (entry_at Basic bytes).freq_width ≡ 0
+basic_freqs : (bytes : List ℕ) → (entry_at Basic bytes).tf_num_bits ≡ 0
 unfolding entry_at
 basic_freqs bytes = refl
 
@@ -170,28 +170,28 @@ size_is : (p place w f : ℕ) → place ≡ p → f ≡ 0 → p + 16 * (w + f) �
 size_is p place w f e none = omega arith
 
 -- what is read of a block, by the parts of its entry
-moved : (skip : SkipList) (i before : ℕ) (bytes docs behind : List ℕ) (e : SkipEntry) → entry_of skip.entries i ≡ e → before ≡ doc_before skip.entries i → drop (block_place skip.entries i) skip.body ≡ bytes
-    → sorted_block_at e.strict before e.doc_width bytes ≡ Some (docs, behind)
-    → sorted_block_at (entry_of skip.entries i).strict (doc_before skip.entries i) (entry_of skip.entries i).doc_width (drop (block_place skip.entries i) skip.body) ≡ Some (docs, behind)
-moved skip i before bytes docs behind e entry before_is bytes_are read = rw (entry, ← before_is, bytes_are) read
+moved : (skip : SkipList) (i before : ℕ) (bytes docs behind : List ℕ) (e : SkipEntry) → entry_of skip.entries i ≡ e → before ≡ last_doc_before skip.entries i → drop (block_place skip.entries i) skip.body ≡ bytes
+    → sorted_block_at e.strict before e.doc_num_bits bytes ≡ Some (docs, after)
+    → sorted_block_at (entry_of skip.entries i).strict (last_doc_before skip.entries i) (entry_of skip.entries i).doc_num_bits (drop (block_place skip.entries i) skip.body) ≡ Some (docs, after)
+moved skip i before bytes docs after e entry before_is bytes_are read = rw (entry, ← before_is, bytes_are) read
 
-moved_back : (skip : SkipList) (i before : ℕ) (bytes docs behind : List ℕ) (e : SkipEntry) → entry_of skip.entries i ≡ e → before ≡ doc_before skip.entries i → drop (block_place skip.entries i) skip.body ≡ bytes
-    → sorted_block_at (entry_of skip.entries i).strict (doc_before skip.entries i) (entry_of skip.entries i).doc_width (drop (block_place skip.entries i) skip.body) ≡ Some (docs, behind)
-    → sorted_block_at e.strict before e.doc_width bytes ≡ Some (docs, behind)
-moved_back skip i before bytes docs behind e entry before_is bytes_are read = rw (← entry, before_is, ← bytes_are) read
+moved_back : (skip : SkipList) (i before : ℕ) (bytes docs behind : List ℕ) (e : SkipEntry) → entry_of skip.entries i ≡ e → before ≡ last_doc_before skip.entries i → drop (block_place skip.entries i) skip.body ≡ bytes
+    → sorted_block_at (entry_of skip.entries i).strict (last_doc_before skip.entries i) (entry_of skip.entries i).doc_num_bits (drop (block_place skip.entries i) skip.body) ≡ Some (docs, after)
+    → sorted_block_at e.strict before e.doc_num_bits bytes ≡ Some (docs, after)
+moved_back skip i before bytes docs after e entry before_is bytes_are read = rw (← entry, before_is, ← bytes_are) read
 
 -- one more block, by its documents
 checked_more : (doc_freq entries body i before least place : ℕ) (bytes docs behind : List ℕ) (e : SkipEntry)
     → i < doc_freq / 128 → IsCheckedTo (skip_at doc_freq bytes entries body) i before least place → e ≡ entry_at Basic (drop (entries + 5 * i) bytes)
-    → sorted_block_at e.strict before e.doc_width (drop (body + place) bytes) ≡ Some (docs, behind) → get_or docs 127 0 ≡ e.last_doc → ascend_from least docs ≡ true
-    → IsCheckedTo (skip_at doc_freq bytes entries body) (i + 1) e.last_doc (e.last_doc + 1) (place + 16 * e.doc_width)
-checked_more doc_freq entries body i before least place bytes docs behind e h c is read last up =
+    → sorted_block_at e.strict before e.doc_num_bits (drop (body + place) bytes) ≡ Some (docs, after) → get_or docs 127 0 ≡ e.last_doc → ascend_from least docs ≡ true
+    → IsCheckedTo (skip_at doc_freq bytes entries body) (i + 1) e.last_doc (e.last_doc + 1) (place + 16 * e.doc_num_bits)
+checked_more doc_freq entries body i before least place bytes docs after e h c is read last up =
     let skip = skip_at doc_freq bytes entries body in
     let entry : entry_of skip.entries i ≡ e = entry_placed doc_freq entries body i bytes h ∙ sym is in
     let body_is : drop (block_place skip.entries i) (drop body bytes) ≡ drop (body + place) bytes = drop-drop (block_place skip.entries i) body bytes ∙ ap (λ (k : ℕ). drop (body + k) bytes) (sym c.place_is) in
-    let stands = block_stands skip i docs behind (moved skip i before (drop (body + place) bytes) docs behind e entry c.before_is body_is read) (last ∙ ap (λ (x : SkipEntry). x.last_doc) (sym entry)) in
+    let stands = block_stands skip i docs after (moved skip i before (drop (body + place) bytes) docs after e entry c.before_is body_is read) (last ∙ ap (λ (x : SkipEntry). x.last_doc) (sym entry)) in
     let many = many_entries doc_freq entries body bytes in
-    let whole = length-sorted_block_at e.strict before e.doc_width (drop (body + place) bytes) docs behind read in
+    let whole = length-sorted_block_at e.strict before e.doc_num_bits (drop (body + place) bytes) docs after read in
     let joined = concat-append c.blocks (docs ∷ []) ∙ ap (λ (ds : List ℕ). concat c.blocks ++ ds) (append-nil docs) in
     let one : suc i ≡ i + 1 = omega arith in
     let up_from : ascend_from (least_after 0 (concat c.blocks)) docs ≡ true = ap (λ (l : ℕ). ascend_from l docs) (sym c.least_after_is) ∙ up in
@@ -201,27 +201,27 @@ checked_more doc_freq entries body i before least place bytes docs behind e h c 
       up = ap (ascend_from 0) joined ∙ ascend-append 0 (concat c.blocks) docs ∙ (rw (c.up, up_from) refl);
       least_after_is = sym (ap (least_after 0) joined ∙ least_after-append 0 (concat c.blocks) docs ∙ least_after-last (least_after 0 (concat c.blocks)) 127 docs whole ∙ ap (λ (d : ℕ). d + 1) last);
       least_is = sym (ap (least_of skip.entries) (sym one) ∙ ap (λ (x : SkipEntry). x.last_doc + 1) entry);
-      before_is = sym (ap (doc_before skip.entries) (sym one) ∙ ap (λ (x : SkipEntry). x.last_doc) entry);
-      place_is = sym (place_next skip.entries i (omega arith) ∙ ap (λ (x : SkipEntry). block_place skip.entries i + block_size x) entry ∙ size_is (block_place skip.entries i) place e.doc_width e.freq_width c.place_is (ap (λ (x : SkipEntry). x.freq_width) is ∙ basic_freqs (drop (entries + 5 * i) bytes)));
+      before_is = sym (ap (last_doc_before skip.entries) (sym one) ∙ ap (λ (x : SkipEntry). x.last_doc) entry);
+      place_is = sym (place_next skip.entries i (omega arith) ∙ ap (λ (x : SkipEntry). block_place skip.entries i + block_size x) entry ∙ size_is (block_place skip.entries i) place e.doc_num_bits e.tf_num_bits c.place_is (ap (λ (x : SkipEntry). x.tf_num_bits) is ∙ basic_freqs (drop (entries + 5 * i) bytes)));
     }
 
 -- one more block that fits
 pub checked_next : (doc_freq entries body i before least place : ℕ) (bytes : List ℕ) (e : SkipEntry)
     → i < doc_freq / 128 → IsCheckedTo (skip_at doc_freq bytes entries body) i before least place → e ≡ entry_at Basic (drop (entries + 5 * i) bytes)
-    → block_fits e.strict before e.doc_width e.last_doc least (drop (body + place) bytes) ≡ true
-    → IsCheckedTo (skip_at doc_freq bytes entries body) (i + 1) e.last_doc (e.last_doc + 1) (place + 16 * e.doc_width)
+    → block_fits e.strict before e.doc_num_bits e.last_doc least (drop (body + place) bytes) ≡ true
+    → IsCheckedTo (skip_at doc_freq bytes entries body) (i + 1) e.last_doc (e.last_doc + 1) (place + 16 * e.doc_num_bits)
 checked_next doc_freq entries body i before least place bytes e h c is fits =
-    let block = fits_block e.strict before e.doc_width e.last_doc least (drop (body + place) bytes) fits in
+    let block = fits_block e.strict before e.doc_num_bits e.last_doc least (drop (body + place) bytes) fits in
     checked_more doc_freq entries body i before least place bytes block.docs block.behind e h c is block.read block.last block.up
 
 -- a block that does not fit: all of the documents lack
 fail_cases : (doc_freq entries body i before least place n : ℕ) (bytes : List ℕ) (e : SkipEntry) (o : Option (List ℕ × List ℕ))
     → i < doc_freq / 128 → IsCheckedTo (skip_at doc_freq bytes entries body) i before least place → entry_of (skip_at doc_freq bytes entries body).entries i ≡ e
-    → block_fits e.strict before e.doc_width e.last_doc least (drop (body + place) bytes) ≡ false → documents_at (skip_at doc_freq bytes entries body) n ≡ o → is_some o ≡ false
+    → block_fits e.strict before e.doc_num_bits e.last_doc least (drop (body + place) bytes) ≡ false → documents_at (skip_at doc_freq bytes entries body) n ≡ o → is_some o ≡ false
 fail_cases doc_freq entries body i before least place n bytes e None h c is fits found = refl
-fail_cases doc_freq entries body i before least place n bytes e (Some (docs, behind)) h c is fits found =
+fail_cases doc_freq entries body i before least place n bytes e (Some (docs, after)) h c is fits found =
     let skip = skip_at doc_freq bytes entries body in
-    let s = stands skip n docs behind found in
+    let s = stands skip n docs after found in
     let many = many_entries doc_freq entries body bytes in
     let all = each_gives (block_docs skip) (length skip.entries) s.blocks s.read in
     let count = all.many in
@@ -232,12 +232,12 @@ fail_cases doc_freq entries body i before least place n bytes e (Some (docs, beh
     let body_is : drop (block_place skip.entries i) (drop body bytes) ≡ drop (body + place) bytes = drop-drop (block_place skip.entries i) body bytes ∙ ap (λ (k : ℕ). drop (body + k) bytes) (sym c.place_is) in
     let read = moved_back skip i before (drop (body + place) bytes) (get_or s.blocks i []) block.behind e is c.before_is body_is block.read in
     let last = block.last ∙ ap (λ (x : SkipEntry). x.last_doc) is in
-    let does : block_fits e.strict before e.doc_width e.last_doc least (drop (body + place) bytes) ≡ true = rw (read, eq-eqb (get_or (get_or s.blocks i []) 127 0) e.last_doc last, up_here) refl in
+    let does : block_fits e.strict before e.doc_num_bits e.last_doc least (drop (body + place) bytes) ≡ true = rw (read, eq-eqb (get_or (get_or s.blocks i []) 127 0) e.last_doc last, up_here) refl in
     absurd (cc)
 
 pub checked_fail : (doc_freq entries body i before least place n : ℕ) (bytes : List ℕ) (e : SkipEntry)
     → i < doc_freq / 128 → IsCheckedTo (skip_at doc_freq bytes entries body) i before least place → e ≡ entry_at Basic (drop (entries + 5 * i) bytes)
-    → block_fits e.strict before e.doc_width e.last_doc least (drop (body + place) bytes) ≡ false → false ≡ is_some (documents_at (skip_at doc_freq bytes entries body) n)
+    → block_fits e.strict before e.doc_num_bits e.last_doc least (drop (body + place) bytes) ≡ false → false ≡ is_some (documents_at (skip_at doc_freq bytes entries body) n)
 checked_fail doc_freq entries body i before least place n bytes e h c is fits =
     sym (fail_cases doc_freq entries body i before least place n bytes e (documents_at (skip_at doc_freq bytes entries body) n) h c
     (entry_placed doc_freq entries body i bytes h ∙ sym is) fits refl)
@@ -266,13 +266,13 @@ checked_all doc_freq entries body i before least place n bytes end c =
 -- What was asked of the next block, in the words of the call.
 pub record Asked (entries i place : ℕ) (bytes : List ℕ) (strict : Bool) (width last_doc : ℕ) (block : List ℕ) : Type 0 where
   pub last_is : last_doc ≡ (entry_at Basic (drop (entries + 5 * i) bytes)).last_doc
-  pub width_is : width ≡ (entry_at Basic (drop (entries + 5 * i) bytes)).doc_width
+  pub width_is : width ≡ (entry_at Basic (drop (entries + 5 * i) bytes)).doc_num_bits
   pub strict_is : strict ≡ (entry_at Basic (drop (entries + 5 * i) bytes)).strict
   pub block_is : block ≡ drop place bytes
 
 asked_is : (entries i place body before least : ℕ) (bytes : List ℕ) (strict : Bool) (width last_doc : ℕ) (block : List ℕ) (r : Bool)
     → Asked entries i place bytes strict width last_doc block → body ≤ place → r ≡ block_fits strict before width last_doc least block
-    → block_fits (entry_at Basic (drop (entries + 5 * i) bytes)).strict before (entry_at Basic (drop (entries + 5 * i) bytes)).doc_width
+    → block_fits (entry_at Basic (drop (entries + 5 * i) bytes)).strict before (entry_at Basic (drop (entries + 5 * i) bytes)).doc_num_bits
     (entry_at Basic (drop (entries + 5 * i) bytes)).last_doc least (drop (body + (place - body)) bytes) ≡ r
 asked_is entries i place body before least bytes strict width last_doc block r a forward fits =
     let here : body + (place - body) ≡ place = omega arith in
@@ -297,7 +297,7 @@ asked_next doc_freq entries body i before least place size bytes strict width la
     let next = checked_next doc_freq entries body i before least (place - body) bytes (entry_at Basic (drop (entries + 5 * i) bytes)) h c refl
     (asked_is entries i place body before least bytes strict width last_doc block r a forward fits ∙ fine) in
     let width_is = a.width_is in
-    let sum : place + size - body ≡ (place - body) + 16 * (entry_at Basic (drop (entries + 5 * i) bytes)).doc_width = omega arith in
+    let sum : place + size - body ≡ (place - body) + 16 * (entry_at Basic (drop (entries + 5 * i) bytes)).doc_num_bits = omega arith in
     rw (a.last_is, sum) next
 
 pub asked_all : (doc_freq entries body i before least place n : ℕ) (bytes rest : List ℕ) (r : Bool) → i ≡ doc_freq / 128

@@ -11,4 +11,4 @@ documents_from least words = numbers_below 2147483647 words >>= λ (docs : List 
 
 -- documents in front of those that are read on
 abbrev pub behind : List ℕ → Option (List ℕ) → Option (List ℕ)
-behind docs found = option_map (λ (others : List ℕ). docs ++ others) found
+after docs found = option_map (λ (others : List ℕ). docs ++ others) found

@@ -88,7 +88,7 @@ none_cases f i n (Some xs) e h none = absurd (let found = (each_gives f n xs e).
 pub each_none : (f : ℕ → Option (List ℕ)) (i n : ℕ) → i < n → f i ≡ None → each f n ≡ None
 each_none f i n h e = none_cases f i n (each f n) refl h e
 
--- the least document behind documents
+-- the least document after documents
 abbrev pub least_after : ℕ → List ℕ → ℕ
 least_after least [] = least
 least_after least (d ∷ ds) = least_after (d + 1) ds
@@ -108,7 +108,7 @@ pub least_after-append : (least : ℕ) (xs ys : List ℕ) → least_after least 
 least_after-append least [] ys = refl
 least_after-append least (x ∷ xs) ys = least_after-append (x + 1) xs ys
 
--- the least document behind some documents is one above the last of them
+-- the least document after some documents is one above the last of them
 pub least_after-last : (least n : ℕ) (xs : List ℕ) → length xs ≡ suc n → least_after least xs ≡ get_or xs n 0 + 1
 least_after-last least n [] e = absurd (omega arith)
 least_after-last least zero (x ∷ []) e = refl
@@ -141,7 +141,7 @@ and_right : (a b : Bool) → (a && b) ≡ true → b ≡ true
 and_right true b e = e
 and_right false b e = absurd (cc)
 
--- where all ascends, each block does behind the ones before it
+-- where all ascends, each block does after the ones before it
 pub block_ascends : (least i : ℕ) (blocks : List (List ℕ)) (rest : List ℕ) → ascend_from least (concat blocks ++ rest) ≡ true → i < length blocks
     → ascend_from (least_at least blocks i) (get_or blocks i []) ≡ true
 block_ascends least i [] rest up h = absurd (omega arith)

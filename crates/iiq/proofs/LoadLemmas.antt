@@ -16,8 +16,8 @@ use Rattle.ii_codes.specs.Decoded.{Decoded}
 use Rattle.ii_layout.specs.declared.skip.BlockInfo.{BlockInfo}
 use Rattle.ii_layout.specs.declared.skip.BlockInfo.TheVariants.{BitPacked, VInt}
 use Rattle.ii_layout.specs.SkipList.{SkipEntry, block_place}
-use Rattle.ii_layout.specs.Documents.{entry_of, doc_before, block_docs, documents_at}
-use Rattle.ii_layout.specs.SkipReading.{SkipReading, info_of, reading_at}
+use Rattle.ii_layout.specs.Documents.{entry_of, last_doc_before, block_docs, documents_at}
+use Rattle.ii_layout.specs.SkipReader.{SkipReaderState, block_info_of, reading_at}
 use Rattle.ii_layout.specs.Written.{docs_of_block}
 use Rattle.ii_layout.proofs.BlockDocs.{get_or-docs_of_block}
 use Rattle.iiq.specs.Placed.{skip_at, docs_placed, docs_or_none, HasDocuments, IsPlaced}
@@ -25,46 +25,46 @@ use Rattle.iiq.specs.Loaded.{IsAtBlock, IsLoaded}
 use Rattle.iiq.proofs.LayoutLemmas.{length-sorted_block_at, length-sorted_vints_at, each_gives, concat_block, length-concat, AreWhole}
 use Rattle.iiq.proofs.CheckLemmas.{stands, stands_block, are_whole, many_entries}
 
--- What a reader says of a full block, and of the documents behind the full blocks.
+-- What a reader says of a full block, and of the documents after the full blocks.
 pub record SaysFull (i blocks : ℕ) (e : SkipEntry) (w : ℕ) (s : Bool) : Type 0 where
   pub below : i < blocks
-  pub width : w ≡ e.doc_width
+  pub width : w ≡ e.doc_num_bits
   pub strict : s ≡ e.strict
 
-says_full : (i blocks w f c norm count n : ℕ) (s t : Bool) (e : SkipEntry) → nat_lt i blocks ≡ t → BitPacked w s f c norm count ≡ cond t (info_of e) (VInt n) → SaysFull i blocks e w s
+says_full : (i blocks w f c norm count n : ℕ) (s t : Bool) (e : SkipEntry) → nat_lt i blocks ≡ t → BitPacked w s f c norm count ≡ cond t (block_info_of e) (VInt n) → SaysFull i blocks e w s
 says_full i blocks w f c norm count n s true e test is = record { below = ltb-true i blocks test; width = cc; strict = cc }
 says_full i blocks w f c norm count n s false e test is = absurd (cc)
 
-says_rest : (i blocks n m : ℕ) (t : Bool) (e : SkipEntry) → nat_lt i blocks ≡ t → i ≤ blocks → VInt n ≡ cond t (info_of e) (VInt m) → (i ≡ blocks) × (n ≡ m)
+says_rest : (i blocks n m : ℕ) (t : Bool) (e : SkipEntry) → nat_lt i blocks ≡ t → i ≤ blocks → VInt n ≡ cond t (block_info_of e) (VInt m) → (i ≡ blocks) × (n ≡ m)
 says_rest i blocks n m true e test most is = absurd (cc)
 says_rest i blocks n m false e test most is = let above = ltb-false i blocks test in (omega arith, cc)
 
 moved_block : (s s' : Bool) (b b' w w' p p' : ℕ) (body docs docs' behind : List ℕ) → s ≡ s' → b ≡ b' → w ≡ w' → p ≡ p' → docs ≡ docs'
-    → sorted_block_at s' b' w' (drop p' body) ≡ Some (docs', behind) → sorted_block_at s b w (drop p body) ≡ Some (docs, behind)
-moved_block s s' b b' w w' p p' body docs docs' behind es eb ew ep ed h = rw (es, eb, ew, ep, ed) h
+    → sorted_block_at s' b' w' (drop p' body) ≡ Some (docs', after) → sorted_block_at s b w (drop p body) ≡ Some (docs, after)
+moved_block s s' b b' w w' p p' body docs docs' after es eb ew ep ed h = rw (es, eb, ew, ep, ed) h
 
 moved_vints : (b b' n n' p p' : ℕ) (body docs docs' behind : List ℕ) → b ≡ b' → n ≡ n' → p ≡ p' → docs ≡ docs'
-    → sorted_vints_at b' n' (drop p' body) ≡ Some (docs', behind) → sorted_vints_at b n (drop p body) ≡ Some (docs, behind)
-moved_vints b b' n n' p p' body docs docs' behind eb en ep ed h = rw (eb, en, ep, ed) h
+    → sorted_vints_at b' n' (drop p' body) ≡ Some (docs', after) → sorted_vints_at b n (drop p body) ≡ Some (docs, after)
+moved_vints b b' n n' p p' body docs docs' after eb en ep ed h = rw (eb, en, ep, ed) h
 
 chosen : {A : Type 0} (t : Bool) (x y : A) → t ≡ true → cond t x y ≡ x
 chosen true x y e = refl
 chosen false x y e = absurd (cc)
 
 -- where a reader stands, by the skip list
-before_is : (doc_freq entries body : ℕ) (bytes : List ℕ) (skip : SkipReading) → IsAtBlock doc_freq bytes entries body skip → skip.doc_before ≡ doc_before (skip_at doc_freq bytes entries body).entries skip.block
-before_is doc_freq entries body bytes skip at = ap (λ (r : SkipReading). r.doc_before) at.reading ∙ chosen (nat_le skip.block (doc_freq / 128)) _ _ (le-leb skip.block (doc_freq / 128) at.within)
+before_is : (doc_freq entries body : ℕ) (bytes : List ℕ) (skip : SkipReaderState) → IsAtBlock doc_freq bytes entries body skip → skip.last_doc_before ≡ last_doc_before (skip_at doc_freq bytes entries body).entries skip.block
+before_is doc_freq entries body bytes skip at = ap (λ (r : SkipReaderState). r.last_doc_before) at.reading ∙ chosen (nat_le skip.block (doc_freq / 128)) _ _ (le-leb skip.block (doc_freq / 128) at.within)
 
-place_is : (doc_freq entries body : ℕ) (bytes : List ℕ) (skip : SkipReading) → IsAtBlock doc_freq bytes entries body skip → skip.place ≡ block_place (skip_at doc_freq bytes entries body).entries skip.block
-place_is doc_freq entries body bytes skip at = ap (λ (r : SkipReading). r.place) at.reading ∙ chosen (nat_le skip.block (doc_freq / 128)) _ _ (le-leb skip.block (doc_freq / 128) at.within)
+place_is : (doc_freq entries body : ℕ) (bytes : List ℕ) (skip : SkipReaderState) → IsAtBlock doc_freq bytes entries body skip → skip.place ≡ block_place (skip_at doc_freq bytes entries body).entries skip.block
+place_is doc_freq entries body bytes skip at = ap (λ (r : SkipReaderState). r.place) at.reading ∙ chosen (nat_le skip.block (doc_freq / 128)) _ _ (le-leb skip.block (doc_freq / 128) at.within)
 
 -- a full block stands where the reader does
-pub block_there : (doc_freq entries body : ℕ) (bytes : List ℕ) (skip : SkipReading) (w f c norm count : ℕ) (s : Bool) → IsAtBlock doc_freq bytes entries body skip → BitPacked w s f c norm count ≡ skip.info
-    → (behind : List ℕ) × (sorted_block_at s skip.doc_before w (drop skip.place (drop body bytes)) ≡ Some (docs_of_block (docs_placed doc_freq bytes entries body) skip.block, behind))
+pub block_there : (doc_freq entries body : ℕ) (bytes : List ℕ) (skip : SkipReaderState) (w f c norm count : ℕ) (s : Bool) → IsAtBlock doc_freq bytes entries body skip → BitPacked w s f c norm count ≡ skip.info
+    → (behind : List ℕ) × (sorted_block_at s skip.last_doc_before w (drop skip.place (drop body bytes)) ≡ Some (docs_of_block (docs_placed doc_freq bytes entries body) skip.block, behind))
 block_there doc_freq entries body bytes skip w f c norm count s at is =
     let list = skip_at doc_freq bytes entries body in
     let i = skip.block in
-    let says = says_full i (doc_freq / 128) w f c norm count _ s (nat_lt i (doc_freq / 128)) (entry_of list.entries i) refl (is ∙ ap (λ (r : SkipReading). r.info) at.reading) in
+    let says = says_full i (doc_freq / 128) w f c norm count _ s (nat_lt i (doc_freq / 128)) (entry_of list.entries i) refl (is ∙ ap (λ (r : SkipReaderState). r.info) at.reading) in
     let below = says.below in
     let many = many_entries doc_freq entries body bytes in
     let there = at.there in
@@ -75,7 +75,7 @@ block_there doc_freq entries body bytes skip w f c norm count s at is =
     let docs_are : docs_of_block (docs_placed doc_freq bytes entries body) i ≡ get_or st.blocks i [] =
     ap (λ (ds : List ℕ). docs_of_block ds i) st.docs_are ∙ concat_block i st.blocks st.rest (are_whole list (length list.entries) st.blocks st.read) (omega arith) in (
       block.behind,
-      moved_block s (entry_of list.entries i).strict skip.doc_before (doc_before list.entries i) w (entry_of list.entries i).doc_width skip.place (block_place list.entries i) (drop body bytes)
+      moved_block s (entry_of list.entries i).strict skip.last_doc_before (last_doc_before list.entries i) w (entry_of list.entries i).doc_num_bits skip.place (block_place list.entries i) (drop body bytes)
           (docs_of_block (docs_placed doc_freq bytes entries body) i) (get_or st.blocks i []) block.behind says.strict (before_is doc_freq entries body bytes skip at) says.width (place_is doc_freq entries body bytes skip at) docs_are block.read,
     )
 
@@ -89,13 +89,13 @@ last_block i blocks rest whole end few =
 rest_of_doc_freq : (i blocks n : ℕ) → i ≡ blocks → cond (eqb i blocks) n 0 ≡ n
 rest_of_doc_freq i blocks n e = chosen (eqb i blocks) n 0 (eq-eqb i blocks e)
 
--- the documents behind the full blocks stand where the reader does
-pub rest_there : (doc_freq entries body : ℕ) (bytes : List ℕ) (skip : SkipReading) (n : ℕ) → IsAtBlock doc_freq bytes entries body skip → VInt n ≡ skip.info
-    → (n < 128) × ((behind : List ℕ) × (sorted_vints_at skip.doc_before n (drop skip.place (drop body bytes)) ≡ Some (docs_of_block (docs_placed doc_freq bytes entries body) skip.block, behind)))
+-- the documents after the full blocks stand where the reader does
+pub rest_there : (doc_freq entries body : ℕ) (bytes : List ℕ) (skip : SkipReaderState) (n : ℕ) → IsAtBlock doc_freq bytes entries body skip → VInt n ≡ skip.info
+    → (n < 128) × ((behind : List ℕ) × (sorted_vints_at skip.last_doc_before n (drop skip.place (drop body bytes)) ≡ Some (docs_of_block (docs_placed doc_freq bytes entries body) skip.block, behind)))
 rest_there doc_freq entries body bytes skip n at is =
     let list = skip_at doc_freq bytes entries body in
     let i = skip.block in
-    let says = says_rest i (doc_freq / 128) n _ (nat_lt i (doc_freq / 128)) (entry_of list.entries i) refl at.within (is ∙ ap (λ (r : SkipReading). r.info) at.reading) in
+    let says = says_rest i (doc_freq / 128) n _ (nat_lt i (doc_freq / 128)) (entry_of list.entries i) refl at.within (is ∙ ap (λ (r : SkipReaderState). r.info) at.reading) in
     let end = says.0 in
     let number : n ≡ doc_freq % 128 = says.1 ∙ rest_of_doc_freq i (doc_freq / 128) (doc_freq % 128) end in
     let many = many_entries doc_freq entries body bytes in
@@ -110,49 +110,49 @@ rest_there doc_freq entries body bytes skip n at is =
       omega arith,
       (
         there.0,
-        moved_vints skip.doc_before (doc_before list.entries (length list.entries)) n (doc_freq % 128) skip.place (block_place list.entries (length list.entries)) (drop body bytes)
+        moved_vints skip.last_doc_before (last_doc_before list.entries (length list.entries)) n (doc_freq % 128) skip.place (block_place list.entries (length list.entries)) (drop body bytes)
             (docs_of_block (docs_placed doc_freq bytes entries body) i) st.rest there.0
-            (before_is doc_freq entries body bytes skip at ∙ ap (doc_before list.entries) last) number (place_is doc_freq entries body bytes skip at ∙ ap (block_place list.entries) last) docs_are st.rest_read,
+            (before_is doc_freq entries body bytes skip at ∙ ap (last_doc_before list.entries) last) number (place_is doc_freq entries body bytes skip at ∙ ap (block_place list.entries) last) docs_are st.rest_read,
       ),
     )
 
 -- What was asked of the reader, in the words of the call.
-pub record Stood (body : ℕ) (bytes : List ℕ) (skip : SkipReading) (before place : ℕ) (behind_skip here : List ℕ) : Type 0 where
-  pub before_is : before ≡ skip.doc_before
+pub record Stood (body : ℕ) (bytes : List ℕ) (skip : SkipReaderState) (before place : ℕ) (behind_skip here : List ℕ) : Type 0 where
+  pub before_is : before ≡ skip.last_doc_before
   pub place_is : place ≡ skip.place
   pub body_is : behind_skip ≡ drop body bytes
   pub here_is : here ≡ drop place behind_skip
 
-stood_here : (body before place : ℕ) (bytes behind_skip here : List ℕ) (skip : SkipReading) → Stood body bytes skip before place behind_skip here → here ≡ drop skip.place (drop body bytes)
+stood_here : (body before place : ℕ) (bytes behind_skip here : List ℕ) (skip : SkipReaderState) → Stood body bytes skip before place behind_skip here → here ≡ drop skip.place (drop body bytes)
 stood_here body before place bytes behind_skip here skip s = s.here_is ∙ ap (drop place) s.body_is ∙ ap (λ (k : ℕ). drop k (drop body bytes)) s.place_is
 
-pub full_here : (doc_freq entries body before place : ℕ) (bytes behind_skip here : List ℕ) (skip : SkipReading) (info : BlockInfo) (w f c norm count : ℕ) (s : Bool) → IsAtBlock doc_freq bytes entries body skip
+pub full_here : (doc_freq entries body before place : ℕ) (bytes behind_skip here : List ℕ) (skip : SkipReaderState) (info : BlockInfo) (w f c norm count : ℕ) (s : Bool) → IsAtBlock doc_freq bytes entries body skip
     → Stood body bytes skip before place behind_skip here → info ≡ skip.info → info ≡ BitPacked w s f c norm count
     → (behind : List ℕ) × (sorted_block_at s before w here ≡ Some (docs_of_block (docs_placed doc_freq bytes entries body) skip.block, behind))
 full_here doc_freq entries body before place bytes behind_skip here skip info w f c norm count s at stood says is =
     let found = block_there doc_freq entries body bytes skip w f c norm count s at (sym is ∙ says) in
-    (found.0, ap (λ (b : ℕ). sorted_block_at s b w here) stood.before_is ∙ ap (sorted_block_at s skip.doc_before w) (stood_here body before place bytes behind_skip here skip stood) ∙ found.1)
+    (found.0, ap (λ (b : ℕ). sorted_block_at s b w here) stood.before_is ∙ ap (sorted_block_at s skip.last_doc_before w) (stood_here body before place bytes behind_skip here skip stood) ∙ found.1)
 
-pub rest_here : (doc_freq entries body before place : ℕ) (bytes behind_skip here : List ℕ) (skip : SkipReading) (info : BlockInfo) (n : ℕ) → IsAtBlock doc_freq bytes entries body skip
+pub rest_here : (doc_freq entries body before place : ℕ) (bytes behind_skip here : List ℕ) (skip : SkipReaderState) (info : BlockInfo) (n : ℕ) → IsAtBlock doc_freq bytes entries body skip
     → Stood body bytes skip before place behind_skip here → info ≡ skip.info → info ≡ VInt n
     → (n < 128) × ((behind : List ℕ) × (sorted_vints_at before n here ≡ Some (docs_of_block (docs_placed doc_freq bytes entries body) skip.block, behind)))
 rest_here doc_freq entries body before place bytes behind_skip here skip info n at stood says is =
     let found = rest_there doc_freq entries body bytes skip n at (sym is ∙ says) in
-    (found.0, (found.1.0, ap (λ (b : ℕ). sorted_vints_at b n here) stood.before_is ∙ ap (sorted_vints_at skip.doc_before n) (stood_here body before place bytes behind_skip here skip stood) ∙ found.1.1))
+    (found.0, (found.1.0, ap (λ (b : ℕ). sorted_vints_at b n here) stood.before_is ∙ ap (sorted_vints_at skip.last_doc_before n) (stood_here body before place bytes behind_skip here skip stood) ∙ found.1.1))
 
 pub is_there : {A : Type 0} (o : Option A) (x : A) → o ≡ Some x → IsSome o
 is_there None x e = absurd (cc)
 is_there (Some y) x e = refl
 
 -- what a decoder holds once it read them
-pub loaded_full : (doc_freq entries body before : ℕ) (bytes here rest : List ℕ) (skip : SkipReading) (decoder : Decoded) (w : ℕ) (s : Bool) → IsAtBlock doc_freq bytes entries body skip
+pub loaded_full : (doc_freq entries body before : ℕ) (bytes here rest : List ℕ) (skip : SkipReaderState) (decoder : Decoded) (w : ℕ) (s : Bool) → IsAtBlock doc_freq bytes entries body skip
     → (behind : List ℕ) × (sorted_block_at s before w here ≡ Some (docs_of_block (docs_placed doc_freq bytes entries body) skip.block, behind))
     → Some (decoder.entries, rest) ≡ sorted_block_at s before w here → decoder.len ≡ 128 → IsLoaded doc_freq bytes entries body skip decoder
 loaded_full doc_freq entries body before bytes here rest skip decoder w s at there read size =
     let whole = length-sorted_block_at s before w here decoder.entries rest (sym read) in
     record { at = at; docs = take_all decoder.len decoder.entries (omega arith) ∙ ap (λ (p : List ℕ × List ℕ). p.0) (some-same (read ∙ there.1)) }
 
-pub loaded_rest : (doc_freq entries body before n : ℕ) (bytes here rest : List ℕ) (skip : SkipReading) (decoder : Decoded) → IsAtBlock doc_freq bytes entries body skip
+pub loaded_rest : (doc_freq entries body before n : ℕ) (bytes here rest : List ℕ) (skip : SkipReaderState) (decoder : Decoded) → IsAtBlock doc_freq bytes entries body skip
     → (behind : List ℕ) × (sorted_vints_at before n here ≡ Some (docs_of_block (docs_placed doc_freq bytes entries body) skip.block, behind))
     → Some (take n decoder.entries, rest) ≡ sorted_vints_at before n here → decoder.len ≡ n → IsLoaded doc_freq bytes entries body skip decoder
 loaded_rest doc_freq entries body before n bytes here rest skip decoder at there read size =
@@ -183,11 +183,11 @@ pub doc_past : (docs held : List ℕ) (i c : ℕ) → held ≡ docs_of_block doc
 doc_past docs held i c e h outside = doc_at_end docs (128 * i + c) (block_ends docs i c h (rw e at outside))
 
 -- the next block
-pub goes_on : (doc_freq entries body count : ℕ) (bytes : List ℕ) (skip new : SkipReading) → IsAtBlock doc_freq bytes entries body skip → skip.block < doc_freq / 128
+pub goes_on : (doc_freq entries body count : ℕ) (bytes : List ℕ) (skip new : SkipReaderState) → IsAtBlock doc_freq bytes entries body skip → skip.block < doc_freq / 128
     → new ≡ reading_at Basic doc_freq (drop entries bytes) (min (skip.block + 1) (doc_freq / 128 + 1)) count → IsAtBlock doc_freq bytes entries body new × (new.block ≡ skip.block + 1)
 goes_on doc_freq entries body count bytes skip new at below e =
-    let block : new.block ≡ min (skip.block + 1) (doc_freq / 128 + 1) = ap (λ (r : SkipReading). r.block) e in
-    let count_is : new.count ≡ count = ap (λ (r : SkipReading). r.count) e in
+    let block : new.block ≡ min (skip.block + 1) (doc_freq / 128 + 1) = ap (λ (r : SkipReaderState). r.block) e in
+    let count_is : new.count ≡ count = ap (λ (r : SkipReaderState). r.count) e in
     let next : new.block ≡ skip.block + 1 = omega arith in (
       record {
         placed = at.placed;
@@ -198,11 +198,11 @@ goes_on doc_freq entries body count bytes skip new at below e =
       next,
     )
 
-pub begins : (doc_freq entries body count : ℕ) (bytes : List ℕ) (new : SkipReading) → IsPlaced doc_freq bytes entries body → HasDocuments doc_freq bytes entries body
+pub begins : (doc_freq entries body count : ℕ) (bytes : List ℕ) (new : SkipReaderState) → IsPlaced doc_freq bytes entries body → HasDocuments doc_freq bytes entries body
     → new ≡ reading_at Basic doc_freq (drop entries bytes) 0 count → IsAtBlock doc_freq bytes entries body new × (new.block ≡ 0)
 begins doc_freq entries body count bytes new placed there e =
-    let block : new.block ≡ 0 = ap (λ (r : SkipReading). r.block) e in
-    let count_is : new.count ≡ count = ap (λ (r : SkipReading). r.count) e in (
+    let block : new.block ≡ 0 = ap (λ (r : SkipReaderState). r.block) e in
+    let count_is : new.count ≡ count = ap (λ (r : SkipReaderState). r.count) e in (
       record {
         placed = placed;
         there = there;
@@ -219,18 +219,18 @@ has_cases doc_freq entries body bytes None e h = absurd (cc)
 has_cases doc_freq entries body bytes (Some found) e h = (found.1, e ∙ ap (λ (docs : List ℕ). Some (docs, found.1)) (sym (ap docs_or_none e)))
 
 -- What an opening found, in the words of its calls.
-pub record Found (doc_freq entries body count : ℕ) (bytes checked placed behind : List ℕ) (all : Bool) (new : SkipReading) : Type 0 where
+pub record Found (doc_freq entries body count : ℕ) (bytes checked placed behind : List ℕ) (all : Bool) (new : SkipReaderState) : Type 0 where
   pub placed_is : placed ≡ bytes
   pub checked_is : checked ≡ bytes
   pub behind_is : behind ≡ drop entries bytes
   pub is_placed : IsPlaced doc_freq placed entries body
   pub all_is : all ≡ is_some (documents_at (skip_at doc_freq checked entries body) (doc_freq % 128))
   pub all_there : all ≡ true
-  pub new_is : new ≡ reading_at Basic doc_freq behind 0 count
+  pub new_is : new ≡ reading_at Basic doc_freq after 0 count
 
-pub opens_at : (doc_freq entries body count : ℕ) (bytes checked placed behind : List ℕ) (all : Bool) (new : SkipReading) → Found doc_freq entries body count bytes checked placed behind all new
+pub opens_at : (doc_freq entries body count : ℕ) (bytes checked placed behind : List ℕ) (all : Bool) (new : SkipReaderState) → Found doc_freq entries body count bytes checked placed behind all new
     → IsAtBlock doc_freq bytes entries body new
-opens_at doc_freq entries body count bytes checked placed behind all new f =
+opens_at doc_freq entries body count bytes checked placed after all new f =
     let P : List ℕ → Type 0 = λ b. IsPlaced doc_freq b entries body in
     let there = has_cases doc_freq entries body bytes (documents_at (skip_at doc_freq bytes entries body) (doc_freq % 128)) refl
     (ap (λ (b : List ℕ). is_some (documents_at (skip_at doc_freq b entries body) (doc_freq % 128))) (sym f.checked_is) ∙ sym f.all_is ∙ f.all_there) in

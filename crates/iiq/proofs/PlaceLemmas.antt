@@ -22,7 +22,7 @@ pub entry_last_doc : (bytes rest : List ℕ) (n : ℕ) → 4 ≤ length bytes �
 unfolding entry_at
 entry_last_doc bytes rest n enough e = ap (λ (p : ℕ × List ℕ). p.0) (some-same (e ∙ number_is bytes enough))
 
-pub entry_width : (bytes : List ℕ) (place : ℕ) → get_or bytes (place + 4) 0 % 32 ≡ (entry_at Basic (drop place bytes)).doc_width
+pub entry_width : (bytes : List ℕ) (place : ℕ) → get_or bytes (place + 4) 0 % 32 ≡ (entry_at Basic (drop place bytes)).doc_num_bits
 unfolding entry_at
 entry_width bytes place = ap (λ (n : ℕ). n % 32) (sym (get_or-drop place bytes 4 0))
 
@@ -34,7 +34,7 @@ shape_basic : (t : Bool) → cond t Basic Basic ≡ Basic
 shape_basic true = refl
 shape_basic false = refl
 
-no_freqs : (from n : ℕ) (bytes : List ℕ) → list_all (λ (e : SkipEntry). nat_le e.freq_width 32) (map (λ i. entry_at Basic (drop (5 * i) bytes)) (range_with_len from n)) ≡ true
+no_freqs : (from n : ℕ) (bytes : List ℕ) → list_all (λ (e : SkipEntry). nat_le e.tf_num_bits 32) (map (λ i. entry_at Basic (drop (5 * i) bytes)) (range_with_len from n)) ≡ true
 unfolding entry_at
 no_freqs from zero bytes = refl
 no_freqs from (suc n) bytes = no_freqs (from + 1) n bytes
@@ -51,7 +51,7 @@ skip_cut (suc more) bytes rest len h e cut = rw (← e, lt-leb len (length rest)
 abbrev pub by_shape : ℕ → ℕ → List ℕ → IndexRecordOption → Option SkipList
 by_shape more len rest shape =
     needs (nat_le (entry_size shape * suc more) len) >>= λ _.
-    needs (list_all (λ (e : SkipEntry). nat_le e.freq_width 32) (entries_at shape (suc more) rest)) >>= λ _.
+    needs (list_all (λ (e : SkipEntry). nat_le e.tf_num_bits 32) (entries_at shape (suc more) rest)) >>= λ _.
     Some (record { shape = shape; entries = entries_at shape (suc more) rest; body = drop len rest })
 
 skip_by_shape : (more : ℕ) (bytes rest : List ℕ) (len : ℕ) → Some (len, rest) ≡ u64_at bytes → len ≤ length rest → skip_list Basic (suc more) bytes ≡ by_shape more len rest Basic

@@ -29,7 +29,7 @@ abbrev pub HasDocuments : ℕ → List ℕ → ℕ → ℕ → Type 0
 HasDocuments doc_freq bytes entries body =
     (behind : List ℕ) × (documents_at (skip_at doc_freq bytes entries body) (doc_freq % 128) ≡ Some (docs_placed doc_freq bytes entries body, behind))
 
--- the documents behind a block that is not there do not fit
+-- the documents after a block that is not there do not fit
 abbrev pub fits_by : (List ℕ → Bool) → Option (List ℕ × List ℕ) → Bool
 fits_by test None = false
 fits_by test (Some found) = test found.0

@@ -39,7 +39,7 @@ impl Model for SegmentPostings {
 
 impl SegmentPostings {
     /// A cursor over the list of `doc_freq` documents that `postings` begins with, or the first part
-    /// of it that is damaged. The whole list is looked at, and memory is never taken. Bytes behind
+    /// of it that is damaged. The whole list is looked at, and memory is never taken. Bytes after
     /// the list aren't looked at, nor are positions where no counts are read.
     pub fn open(
         doc_freq: u32,
@@ -109,7 +109,7 @@ impl DocSet for SegmentPostings {
     }
 }
 
-// Goes on to the block behind a full one, and decodes it.
+// Goes on to the block after a full one, and decodes it.
 fn next_block(
     decoder: &mut BlockDecoder,
     skip: &mut SkipReader,

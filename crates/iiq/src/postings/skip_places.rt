@@ -55,7 +55,7 @@ pub fn skip_places(doc_freq: u32, postings: &[u8]) -> Option<SkipPlaces>
 pub fn block_entry(postings: &[u8], place: usize) -> BlockEntry
     requires { place + 5 ≤ length postings.now }
     ensures last_doc { result.last_doc ≡ (entry_at Basic (drop place postings.now)).last_doc }
-    ensures doc_num_bits { result.doc_num_bits ≡ (entry_at Basic (drop place postings.now)).doc_width }
+    ensures doc_num_bits { result.doc_num_bits ≡ (entry_at Basic (drop place postings.now)).doc_num_bits }
     ensures strict_delta { result.strict_delta ≡ (entry_at Basic (drop place postings.now)).strict }
     ensures narrow { result.doc_num_bits ≤ 31 }
 {

@@ -1,5 +1,5 @@
 use Rattle.std.proofs.Common.{arith}
-use Rattle.ii_layout.proofs.SkipReadLemmas.{advanced_rest, advanced_full, advances}
+use Rattle.ii_layout.proofs.SkipReaderLemmas.{advanced_rest, advanced_full, advances}
 use Rattle.ii_layout.proofs.skip.SkipReader.advance.Goals as goal
 
 pub returns-then-self-blocks-2 : goal.returns-then-self-blocks-2

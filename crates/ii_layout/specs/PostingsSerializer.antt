@@ -6,7 +6,7 @@ use Rattle.ii_io.specs.Vints.{vint_u64}
 use Rattle.ii_layout.specs.Written.{last_before, entry_bytes, block_bytes}
 
 -- The documents written so far, and whether an earlier call was refused.
-pub record OpenTerm : Type 0 where
+pub record PostingsSerializerState : Type 0 where
   pub docs : List ℕ
   pub closed : Bool
 
@@ -17,11 +17,11 @@ pub record ArePacked (docs : List ℕ) (last : ℕ) (skip postings : List ℕ) :
   pub skip_is : skip ≡ flat_map (entry_bytes docs) (range_with_len 0 (length docs / 128))
   pub postings_is : postings ≡ flat_map (block_bytes docs) (range_with_len 0 (length docs / 128))
 
--- A block that may be packed behind a last document, which is 0 where there is none.
+-- A block that may be packed after a last document, which is 0 where there is none.
 pub record IsFullBlock (last : ℕ) (block : List ℕ) : Type 0 where
   pub many : length block ≡ 128
   pub ascending : IsStrictlyIncreasing block
-  pub behind : 0 < last → last < slice_index block 0
+  pub after : 0 < last → last < slice_index block 0
   pub low : (k : ℕ) → k < 128 → slice_index block k < 2 ^ 31
 
 -- the number of bytes, and the bytes; nothing where there are none
