@@ -1,4 +1,5 @@
 pub mod Bits
+pub mod BitsLemmas
 pub mod Blocks
 pub mod Decoded
 pub mod Packed
