@@ -1,6 +1,6 @@
 pub mod Bits
+pub mod BlockDecoder
 pub mod Blocks
-pub mod Decoded
 pub mod Packed
 pub mod SortedVints
 pub mod Sums
