@@ -3,12 +3,12 @@ use Rattle.std.proofs.Common.{◌≡◌, ℕ, zero, suc, ◌+◌, ◌-◌, ◌*�
 use Rattle.std.proofs.lemmas.Bool.{le-leb, lt-ltb}
 use Rattle.std.proofs.lemmas.List.{drop_at, length-map}
 use Rattle.ii_codes.specs.Packed.{unpacked, packed, least_width}
-use Rattle.ii_codes.specs.Blocks.{least_first, values_from, entries_from, sorted_values, sorted_entries, unsorted_values, unsorted_entries, block_at, sorted_block_at, unsorted_block_at, IsBlock, AscendsBehind, ReadsSortedBlocks, ReadsUnsortedBlocks}
+use Rattle.ii_codes.specs.Blocks.{least_first, values_from, entries_from, sorted_values, sorted_entries, unsorted_values, unsorted_entries, block_at, sorted_block_at, unsorted_block_at, IsBlock, AscendsAfter, ReadsSortedBlocks, ReadsUnsortedBlocks}
 use Rattle.ii_codes.specs.Sums.{fit_u32}
 use Rattle.ii_codes.proofs.PackedLaws.{length-packed, unpacked-packed, unpacked-append}
 use Rattle.ii_codes.proofs.WidthLemmas.{least_width-fits, least_width-least}
 
--- Values that may stand behind a least one, each with its gap.
+-- Values that may stand after a least one, each with its gap.
 pub record AreSpaced (gap least : ℕ) (vs : List ℕ) : Type 0 where
   pub first : 0 < length vs → least ≤ get_or vs 0 0
   pub others : (k : ℕ) → suc k < length vs → get_or vs k 0 + gap ≤ get_or vs (suc k) 0
@@ -70,11 +70,11 @@ block_at-packed values es vs rest many fits same block =
     let fit = all_fit vs (λ k within. block.fit k (omega arith)) in
     rw (le-leb (least_width es) 32 narrow, le-leb (16 * least_width es) (length (packed (least_width es) es ++ rest)) enough, back, same, fit, drop_at (packed (least_width es) es) rest (16 * least_width es) size) refl
 
-spaced_cases : (offset : ℕ) (vs : List ℕ) (b : Bool) → eqb offset 0 ≡ b → AscendsBehind offset vs → AreSpaced 1 (cond b 0 (offset + 1)) vs
+spaced_cases : (offset : ℕ) (vs : List ℕ) (b : Bool) → eqb offset 0 ≡ b → AscendsAfter offset vs → AreSpaced 1 (cond b 0 (offset + 1)) vs
 spaced_cases offset vs true e h = record { first = λ some. omega arith; others = λ k within. let next = rw add-one at (h.ascending k (omega arith)) in omega arith }
 spaced_cases offset vs false e h =
     let apart : offset ≢ 0 = λ none. absurd (false_true (sym e ∙ ap (λ (n : ℕ). eqb n 0) none)) in
-    record { first = λ some. let behind = h.behind (omega arith) in omega arith; others = λ k within. let next = rw add-one at (h.ascending k (omega arith)) in omega arith }
+    record { first = λ some. let after = h.after (omega arith) in omega arith; others = λ k within. let next = rw add-one at (h.ascending k (omega arith)) in omega arith }
   where
     false_true : false ≡ true → ⊥
     false_true e = cc

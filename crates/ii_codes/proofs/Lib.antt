@@ -4,7 +4,6 @@ pub mod BlockLaws
 pub mod BlockLemmas
 pub mod PackedLaws
 pub mod PackedLemmas
-pub mod PaddingLemmas
 pub mod SortedVintLemmas
 pub mod WidthLemmas
 pub mod WorkedRows

@@ -140,7 +140,7 @@ pub entries_in-zero : (w v : ℕ) (row : List ℕ) → entries_in w v 0 row ≡ 
 unfolding entries_in
 entries_in-zero w v row = refl
 
--- one entry more is written behind those before it
+-- one entry more is written after those before it
 pub entries_written : (w v k x : ℕ) (row out : List ℕ) → take k out ≡ entries_in w v k row → x ≡ bits_in w row (k * v) v → k < length out
     → take (k + 1) (set out k x) ≡ entries_in w v (k + 1) row
 entries_written w v k x row out before e within =

@@ -43,7 +43,7 @@ in_front-in_front : (xs ys : List ℕ) (o : Option (List ℕ × List ℕ)) → i
 in_front-in_front xs ys None = refl
 in_front-in_front xs ys (Some f) = ap (λ (zs : List ℕ). Some (zs, f.1)) (sym (append_assoc xs ys f.0))
 
--- the next value lacks
+-- the next value is missing
 sorted_vints_at-none : (before n : ℕ) (bytes : List ℕ) → None ≡ u32_at bytes → sorted_vints_at before (suc n) bytes ≡ None
 sorted_vints_at-none before n bytes e = rw (← e) refl
 

@@ -1,10 +1,10 @@
 -- Laws of widths. Of the m powers of two from 2 ^ a on, those not above n are counted.
-use Rattle.std.proofs.Common.{◌≡◌, ℕ, zero, suc, ◌+◌, ◌-◌, ◌^◌, ◌<◌, ◌≤◌, ◌≢◌, Bool, true, false, List, [], ◌∷◌, ◌++◌, length, slice_index, max, nat_le, refl, ap, arith, cond, count_by, ⊎_elim}
+use Rattle.std.proofs.Common.{◌≡◌, ℕ, zero, suc, ◌+◌, ◌-◌, ◌^◌, ◌<◌, ◌≤◌, ◌≢◌, Bool, true, false, List, [], ◌∷◌, ◌++◌, length, slice_index, max, nat_le, bit_or, refl, ap, arith, cond, count_by, ⊎_elim}
 use Rattle.std.proofs.Math.Nat.{two-pow-succ}
 use Rattle.std.proofs.Math.Pow.{pow_mono}
 use Rattle.std.proofs.lemmas.Bool.{leb-true, leb-false, cases_lt}
 use Rattle.std.proofs.lemmas.List.Sums.{sum_by-cons}
-use Rattle.std.proofs.lemmas.Nat.{leading_length}
+use Rattle.std.proofs.lemmas.Nat.{leading_length, or_lt, le_or_l, le_or_r}
 use Rattle.std.specs.Int.Count.{count_leading_zeros}
 use Rattle.std.specs.List.{range_with_len}
 use Rattle.ii_codes.specs.Packed.{num_bits, least_width, HoldsFromLeastWidth}
@@ -58,13 +58,14 @@ pub num_bits-least : (n w : ℕ) → n < 2 ^ w → num_bits n ≤ w
 unfolding num_bits
 num_bits-least n w h = let all = least_powers 64 0 n w h (omega arith) in omega arith
 
--- what is left of 64 bits behind the leading zeros
-pub num_bits-leading : (n : ℕ) → n < 2 ^ 64 → 64 - count_leading_zeros 64 n ≡ num_bits n
-num_bits-leading n h =
-    let found = leading_length 64 n h in
+-- what is left of m bits after the leading zeros
+pub num_bits-leading_of : (m n : ℕ) → m ≤ 64 → n < 2 ^ m → m - count_leading_zeros m n ≡ num_bits n
+num_bits-leading_of m n few h =
+    let found = leading_length m n h in
     let sum = found.1 in
+    let wide = pow_mono {i = m} {j = 64} few in
     let least = num_bits-least n found.0 found.2 in
-    let fits = num_bits-fits n h in
+    let fits = num_bits-fits n (omega arith) in
     let top = found.3 in
     ⊎_elim
     (λ below.
@@ -73,6 +74,24 @@ num_bits-leading n h =
     absurd (omega arith))
     (λ above. omega arith)
     (cases_lt (num_bits n) found.0)
+
+pub num_bits-leading : (n : ℕ) → n < 2 ^ 64 → 64 - count_leading_zeros 64 n ≡ num_bits n
+num_bits-leading n h = num_bits-leading_of 64 n (omega arith) h
+
+-- the bits of two numbers together take as many as the greater one's
+pub num_bits-or : (a b : ℕ) → a < 2 ^ 32 → b < 2 ^ 32 → num_bits (bit_or a b) ≡ max (num_bits a) (num_bits b)
+num_bits-or a b fits_a fits_b =
+    let both = or_lt 32 a b fits_a fits_b in
+    let m = max (num_bits a) (num_bits b) in
+    let left = num_bits-fits a (omega arith) in
+    let right = num_bits-fits b (omega arith) in
+    let wide_a = pow_mono {i = num_bits a} {j = max (num_bits a) (num_bits b)} (omega arith) in
+    let wide_b = pow_mono {i = num_bits b} {j = max (num_bits a) (num_bits b)} (omega arith) in
+    let most = num_bits-least (bit_or a b) (max (num_bits a) (num_bits b)) (or_lt (max (num_bits a) (num_bits b)) a b (omega arith) (omega arith)) in
+    let whole = num_bits-fits (bit_or a b) (omega arith) in
+    let first = num_bits-least a (num_bits (bit_or a b)) (let le = le_or_l a b in omega arith) in
+    let second = num_bits-least b (num_bits (bit_or a b)) (let le = le_or_r a b in omega arith) in
+    omega arith
 
 -- the least width of all is that of the first or of the others
 pub least_width-fits : (es : List ℕ) → ((k : ℕ) → k < length es → slice_index es k < 2 ^ 64) → (k : ℕ) → k < length es → slice_index es k < 2 ^ least_width es

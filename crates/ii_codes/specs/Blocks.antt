@@ -10,7 +10,7 @@ abbrev pub gap_of : Bool → ℕ
 gap_of true = 1
 gap_of false = 0
 
--- the least first value behind an offset, which at offset 0 is 0
+-- the least first value after an offset, which at offset 0 is 0
 abbrev pub least_first : Bool → ℕ → ℕ
 least_first strict offset = if offset == 0 then 0 else offset + gap_of strict
 
@@ -39,7 +39,7 @@ abbrev pub unsorted_entries : Bool → List ℕ → List ℕ
 unsorted_entries true vs = map (λ v. v - 1) vs
 unsorted_entries false vs = vs
 
--- the block of w bits that bytes begin with, as the values of its entries, and the bytes behind it; nothing where the width is above 32, bytes lack or a value passes 32 bits
+-- the block of w bits that bytes begin with, as the values of its entries, and the bytes after it; nothing where the width is above 32, bytes are missing or a value passes 32 bits
 abbrev pub block_at : (List ℕ → List ℕ) → ℕ → List ℕ → Option (List ℕ × List ℕ)
 block_at values w bytes = do
   _ ← needs (nat_le w 32)
@@ -71,15 +71,15 @@ pub record IsBlock (vs : List ℕ) : Type 0 where
   pub many : length vs ≡ 128
   pub fit : (k : ℕ) → k < 128 → slice_index vs k < 2 ^ 32
 
--- Values that ascend strictly, behind an offset that is 0 or below them all.
-pub record AscendsBehind (offset : ℕ) (vs : List ℕ) : Type 0 where
+-- Values that ascend strictly, after an offset that is 0 or below them all.
+pub record AscendsAfter (offset : ℕ) (vs : List ℕ) : Type 0 where
   pub ascending : IsStrictlyIncreasing vs
-  pub behind : 0 < offset → offset < slice_index vs 0
+  pub after : 0 < offset → offset < slice_index vs 0
 
 -- A sorted block that is written is read back by its offset and width, whatever follows.
 abbrev pub ReadsSortedBlocks : Type 0
 ReadsSortedBlocks =
-    (offset : ℕ) (vs rest : List ℕ) → IsBlock vs → AscendsBehind offset vs
+    (offset : ℕ) (vs rest : List ℕ) → IsBlock vs → AscendsAfter offset vs
     → sorted_block_at true offset (sorted_width offset vs) (sorted_bytes offset vs ++ rest) ≡ Some (vs, rest)
 
 -- An unsorted block that is written is read back by its width, whatever follows; where values are lowered by one, none may be 0.

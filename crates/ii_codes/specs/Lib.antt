@@ -1,7 +1,7 @@
 pub mod Bits
 pub mod BitsLemmas
+pub mod BlockDecoder
 pub mod Blocks
-pub mod Decoded
 pub mod Packed
 pub mod SortedVints
 pub mod Sums

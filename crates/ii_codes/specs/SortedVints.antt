@@ -5,14 +5,14 @@ use Rattle.ii_io.specs.Steps.{◌>>=◌, needs}
 use Rattle.ii_io.specs.Vints.{u32s_at, vint_u32}
 use Rattle.ii_codes.specs.Sums.{running_sums, differences, DoNotFall, fit_u32}
 
--- the n values that stand at the front behind an offset, and the bytes behind them; nothing where a vint lacks or a value passes 32 bits
+-- the n values that stand at the front after an offset, and the bytes after them; nothing where a vint is missing or a value passes 32 bits
 abbrev pub sorted_vints_at : ℕ → ℕ → List ℕ → Option (List ℕ × List ℕ)
 sorted_vints_at offset n bytes = do
   found ← u32s_at n bytes
   _ ← needs (fit_u32 (running_sums offset found.0))
   Some (running_sums offset found.0, found.1)
 
--- the bytes that are written for values behind an offset
+-- the bytes that are written for values after an offset
 abbrev pub sorted_vints : ℕ → List ℕ → List ℕ
 sorted_vints offset values = flat_map vint_u32 (differences offset values)
 

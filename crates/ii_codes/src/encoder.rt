@@ -28,12 +28,12 @@ impl BlockEncoder {
     }
 
     /// The width, from 0 to 32, and the bytes of a block of 128 values that ascend strictly, packed
-    /// by strict deltas behind `offset` in the least width. An offset other than 0 is below the
+    /// by strict deltas after `offset` in the least width. An offset other than 0 is below the
     /// first value.
     pub fn compress_block_sorted(&mut self, block: &[u32], offset: u32) -> (u8, &[u8])
         requires many { length block.now ≡ 128 }
         requires ascending { IsStrictlyIncreasing block.now }
-        requires behind { 0 < offset → offset < slice_index block.now 0 }
+        requires after { 0 < offset → offset < slice_index block.now 0 }
         ensures width { result.0 ≡ sorted_width offset block.now }
         ensures narrow { result.0 ≤ 32 }
         ensures bytes { result.1.now ≡ sorted_bytes offset block.now }

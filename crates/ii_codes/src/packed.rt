@@ -6,7 +6,6 @@ ghost use Rattle.ii_codes.specs.Packed.{bits_in, unpacked, packed, least_width, 
 ghost use Rattle.ii_codes.specs.Blocks.{gap_of, least_first, values_from, sorted_entries, unsorted_values, unsorted_entries, sorted_block_at, unsorted_block_at, sorted_width, sorted_bytes, unsorted_width, unsorted_bytes, ReadsSortedBlocks, ReadsUnsortedBlocks};
 ghost use Rattle.ii_codes.specs.Sums.{fit_u32};
 
-use super::bitpacker::compute_num_bits;
 use super::{COMPRESSION_BLOCK_SIZE, compressed_block_size};
 
 /// The number that `width` bits of `bytes` make from bit `place` on, the lowest first.
@@ -71,11 +70,11 @@ pub(crate) fn least_width_of(entries: &[u32]) -> u8
     ensures value { result ≡ least_width entries.now }
     ensures narrow { result ≤ 32 }
 {
-    let mut width = 0u8;
+    let mut all = 0u32;
     for entry in entries {
-        width = width.max(compute_num_bits(u64::from(*entry)));
+        all |= *entry;
     }
-    width
+    (u32::BITS - all.leading_zeros()) as u8
 }
 
 /// How far a value of a sorted block is above the one before it at least.
@@ -85,7 +84,7 @@ fn gap_of(strict: bool) -> u64
     if strict { 1 } else { 0 }
 }
 
-/// The least first value of a sorted block behind `offset`.
+/// The least first value of a sorted block after `offset`.
 fn least_first(strict: bool, offset: u32) -> u64
     ensures { result ≡ least_first strict offset }
 {
@@ -98,7 +97,7 @@ fn least_first(strict: bool, offset: u32) -> u64
 
 /// Makes entries the values of a sorted block, of which the first is at least `least` and each
 /// other one at least `gap` above the one before it. False where a value passes `u32::MAX`.
-fn sum_up(output: &mut [u32], gap: u64, least: u64) -> bool
+fn prefix_sum(output: &mut [u32], gap: u64, least: u64) -> bool
     requires gap { gap ≤ 1 }
     requires least { least ≤ 2 ^ 32 }
     ensures fits { result ≡ fit_u32 (values_from gap least output.old) }
@@ -117,7 +116,7 @@ fn sum_up(output: &mut [u32], gap: u64, least: u64) -> bool
 }
 
 /// Adds one to each entry. False where one is `u32::MAX`.
-fn raise(output: &mut [u32]) -> bool
+fn add_one(output: &mut [u32]) -> bool
     ensures fits { result ≡ fit_u32 (unsorted_values true output.old) }
     ensures values { OnTrue result (output.new ≡ unsorted_values true output.old) }
 {
@@ -130,11 +129,11 @@ fn raise(output: &mut [u32]) -> bool
     true
 }
 
-/// The entries of values that ascend strictly behind `offset`, by strict deltas.
+/// The entries of values that ascend strictly after `offset`, by strict deltas.
 fn strict_deltas(block: &[u32], offset: u32) -> [u32; COMPRESSION_BLOCK_SIZE]
     requires many { length block.now ≡ 128 }
     requires ascending { IsStrictlyIncreasing block.now }
-    requires behind { 0 < offset → offset < slice_index block.now 0 }
+    requires after { 0 < offset → offset < slice_index block.now 0 }
     ensures { result ≡ sorted_entries true offset block.now }
 {
     let mut entries = [0u32; COMPRESSION_BLOCK_SIZE];
@@ -160,12 +159,12 @@ fn less_one(block: &[u32]) -> [u32; COMPRESSION_BLOCK_SIZE]
     entries
 }
 
-/// Packs 128 values that ascend strictly behind `offset` into the front of `output`, by strict
+/// Packs 128 values that ascend strictly after `offset` into the front of `output`, by strict
 /// deltas in the least width. Answers the width, from 0 to 32, and the number of bytes.
 pub(crate) fn pack_sorted(block: &[u32], offset: u32, output: &mut [u8]) -> (u8, usize)
     requires many { length block.now ≡ 128 }
     requires ascending { IsStrictlyIncreasing block.now }
-    requires behind { 0 < offset → offset < slice_index block.now 0 }
+    requires after { 0 < offset → offset < slice_index block.now 0 }
     requires room { 512 ≤ length output.old }
     ensures width { result.0 ≡ sorted_width offset block.now }
     ensures narrow { result.0 ≤ 32 }
@@ -201,7 +200,7 @@ pub(crate) fn pack_unsorted(block: &[u32], minus_one: bool, output: &mut [u8]) -
 }
 
 /// Puts the values of the sorted block of `width` bits that `bytes` begin with into `output`, and
-/// answers how many bytes it has. `None` where the width is above 32, bytes lack or a value passes
+/// answers how many bytes it has. `None` where the width is above 32, bytes are missing or a value passes
 /// `u32::MAX`; nothing is then known of `output`.
 pub(crate) fn unpack_sorted(
     bytes: &[u8],
@@ -223,7 +222,7 @@ pub(crate) fn unpack_sorted(
         return None;
     }
     unpack(bytes, width, output);
-    if sum_up(output, gap_of(strict), least_first(strict, offset)) {
+    if prefix_sum(output, gap_of(strict), least_first(strict, offset)) {
         Some(size)
     } else {
         None
@@ -232,7 +231,7 @@ pub(crate) fn unpack_sorted(
 
 /// Puts the values of the unsorted block of `width` bits that `bytes` begin with into `output`, one
 /// more than each entry where `minus_one` is set, and answers how many bytes it has. `None` where
-/// the width is above 32, bytes lack or a value passes `u32::MAX`; nothing is then known of
+/// the width is above 32, bytes are missing or a value passes `u32::MAX`; nothing is then known of
 /// `output`.
 pub(crate) fn unpack_unsorted(
     bytes: &[u8],
@@ -256,7 +255,7 @@ pub(crate) fn unpack_unsorted(
     if !minus_one {
         return Some(size);
     }
-    if raise(output) { Some(size) } else { None }
+    if add_one(output) { Some(size) } else { None }
 }
 
 /// The law of packed bytes: bytes hold the entries that are unpacked from them and no others, and

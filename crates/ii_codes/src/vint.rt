@@ -34,7 +34,7 @@ fn write_sorted(input: &[u32], output: &mut [u8], offset: u32) -> usize
 /// Reads as many values as `output` has room for, each the sum of a vint and the value before it,
 /// beginning with `offset`. Answers how many bytes they take.
 pub fn uncompress_sorted(compressed_data: &[u8], output: &mut [u32], offset: u32) -> usize
-    requires lawful { IsSome (sorted_vints_at offset (length output.old) compressed_data.now) }
+    requires valid { IsSome (sorted_vints_at offset (length output.old) compressed_data.now) }
     ensures value { Some (output.new, drop result compressed_data.now)
         ≡ sorted_vints_at offset (length output.old) compressed_data.now }
     ensures within { result ≤ length compressed_data.now }
@@ -45,7 +45,7 @@ pub fn uncompress_sorted(compressed_data: &[u8], output: &mut [u32], offset: u32
     }
 }
 
-/// Reads as `uncompress_sorted` does, from any bytes: `None` where a vint lacks, or a value passes
+/// Reads as `uncompress_sorted` does, from any bytes: `None` where a vint is missing, or a value passes
 /// `u32::MAX`.
 pub(crate) fn try_uncompress_sorted(
     compressed_data: &[u8],

@@ -20,12 +20,12 @@ fn stepped(first: u32, step: u32) -> [u32; 128]
     block
 }
 
-// Packs the block with a byte behind it, and looks whether it is read back without that byte.
+// Packs the block with a byte after it, and looks whether it is read back without that byte.
 fn is_read_back(first: u32, step: u32, offset: u32) -> bool
     requires low { first ≤ 100 }
     requires forward { 0 < step }
     requires short { step ≤ 100 }
-    requires behind { 0 < offset → offset < first }
+    requires after { 0 < offset → offset < first }
 {
     let block = stepped(first, step);
     let mut bytes = [0xADu8; 640];

@@ -15,7 +15,7 @@ fn values() -> [u32; 123]
     values
 }
 
-// Writes the values behind an offset, reads them back, and looks at the padding.
+// Writes the values after an offset, reads them back, and looks at the padding.
 fn is_read_back(offset: u32) -> bool
     requires { offset ≤ 4 }
 {

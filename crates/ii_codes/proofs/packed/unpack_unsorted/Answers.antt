@@ -13,12 +13,12 @@ returns-then-not-minus_one-clause-value c =
     unsorted-plain c.args.minus_one c.args.width c.compressed_block_size-size.result c.args.bytes.now c.unpack.new.output
     (omega arith) (omega arith) c.compressed_block_size-size.ensures c.unpack.ensures c.if-not-minus_one.true
 
-pub returns-then-raise-clause-value : goal.returns-then-raise-clause-value
-returns-then-raise-clause-value c =
-    rw c.if-not-minus_one.false (unsorted-found true c.args.width c.compressed_block_size-size.result c.args.bytes.now c.unpack.new.output c.raise.new.output
-    (omega arith) (omega arith) c.compressed_block_size-size.ensures c.unpack.ensures c.if-raise.ensures.fits c.if-raise.ensures.values)
+pub returns-then-add_one-clause-value : goal.returns-then-add_one-clause-value
+returns-then-add_one-clause-value c =
+    rw c.if-not-minus_one.false (unsorted-found true c.args.width c.compressed_block_size-size.result c.args.bytes.now c.unpack.new.output c.add_one.new.output
+    (omega arith) (omega arith) c.compressed_block_size-size.ensures c.unpack.ensures c.if-add_one.ensures.fits c.if-add_one.ensures.values)
 
-pub returns-else-raise-clause-value : goal.returns-else-raise-clause-value
-returns-else-raise-clause-value c =
+pub returns-else-add_one-clause-value : goal.returns-else-add_one-clause-value
+returns-else-add_one-clause-value c =
     rw c.if-not-minus_one.false (unsorted-unfit true c.args.width c.args.bytes.now c.unpack.new.output
-    (omega arith) (omega arith) c.unpack.ensures c.if-raise.ensures.fits)
+    (omega arith) (omega arith) c.unpack.ensures c.if-add_one.ensures.fits)

@@ -1,7 +1,7 @@
 use Rattle.std.proofs.Common.{◌≡◌, ◌≤◌, ◌^◌, ◌++◌, true, take, drop}
 use Rattle.ii_codes.specs.Blocks.{values_from}
 use Rattle.ii_codes.specs.Sums.{fit_u32}
-use Rattle.ii_codes.proofs.packed.sum_up.Given as goal
+use Rattle.ii_codes.proofs.packed.prefix_sum.Given as goal
 
 abbrev pub invariant-loop-k : goal.invariant-loop-k
 invariant-loop-k l = record {

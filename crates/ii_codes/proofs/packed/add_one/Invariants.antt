@@ -1,7 +1,7 @@
 use Rattle.std.proofs.Common.{◌≡◌, ◌++◌, true, take, drop}
 use Rattle.ii_codes.specs.Blocks.{unsorted_values}
 use Rattle.ii_codes.specs.Sums.{fit_u32}
-use Rattle.ii_codes.proofs.packed.raise.Given as goal
+use Rattle.ii_codes.proofs.packed.add_one.Given as goal
 
 abbrev pub invariant-loop-k : goal.invariant-loop-k
 invariant-loop-k l = record {

@@ -1,11 +1,11 @@
--- What a decoder holds.
+-- The state of a decoder.
 use Rattle.std.specs.Prelude.{ℕ, zero, suc, List}
 
 -- The 128 entries, how many of them were decoded last, and how many decodes there were of at least one value.
-pub record Decoded : Type 0 where
-  pub entries : List ℕ
-  pub len : ℕ
-  pub count : ℕ
+pub record BlockDecoderState : Type 0 where
+  pub output : List ℕ
+  pub output_len : ℕ
+  pub decodes : ℕ
 
 -- a decode of no value is not counted
 abbrev pub decodes_of : ℕ → ℕ
