@@ -2,7 +2,7 @@
 use Rattle.std.proofs.Common.{◌≡◌, ℕ, zero, suc, ◌+◌, ◌-◌, ◌*◌, ◌/◌, ◌%◌, ◌^◌, ◌<◌, ◌≤◌, Bool, true, false, List, [], ◌∷◌, ◌++◌, length, take, drop, Option, Some, None, nat_lt, refl, sym, ap, ◌∙◌, arith, cond, get_or, set, add-one, append_assoc}
 use Rattle.std.proofs.Math.Nat.{pow-suc, mul-le-mul_left, pow-le-pow_right}
 use Rattle.std.proofs.Math.Seq.{drop-cons}
-use Rattle.std.proofs.lemmas.List.{drop_all, take_more_set}
+use Rattle.std.proofs.lemmas.List.{drop_all, drop-drop, drop-set-lt, take_more_set}
 use Rattle.std.specs.Option.{option_map}
 use Rattle.std.proofs.lemmas.Bool.{lt-ltb, le-ltb, ltb-true, ltb-false}
 use Rattle.ii_io.specs.Steps.{◌>>=◌, needs}
@@ -282,38 +282,48 @@ pub record IsWriting (more : ℕ) (before after : List ℕ) (start end high valu
   pub few : end ≤ start + more
   pub fits : high < 128 ^ suc (start + more - end)
   pub written : take end after ++ fewest_groups (start + more - end) high ≡ take start before ++ fewest_groups more value
+  pub kept : drop end after ≡ drop end before
 
 pub writing-first : (more : ℕ) (before : List ℕ) (start value : ℕ) → value < 128 ^ suc more → IsWriting more before before start start value value
 writing-first more before start value h =
     let left : start + more - start ≡ more = omega arith in
-    record { forward = omega arith; few = omega arith; fits = rw left h; written = rw left refl }
+    record { forward = omega arith; few = omega arith; fits = rw left h; written = rw left refl; kept = refl }
+
+-- what stands after a byte that was put stays
+kept_after : (before after : List ℕ) (end byte : ℕ) → drop end after ≡ drop end before → drop (end + 1) (set after end byte) ≡ drop (end + 1) before
+kept_after before after end byte same =
+    drop-set-lt (end + 1) after end byte (omega arith) ∙ sym (drop-drop 1 end after) ∙ ap (drop 1) same ∙ drop-drop 1 end before
 
 more_cases : (m more : ℕ) (before after new : List ℕ) (start end high value : ℕ) → start + more - end ≡ m → IsWriting more before after start end high value → 128 ≤ high
-    → take (end + 1) new ≡ take end after ++ high % 128 ∷ [] → IsWriting more before new start (end + 1) (high / 128) value
-more_cases zero more before after new start end high value is w large e =
+    → take (end + 1) new ≡ take end after ++ high % 128 ∷ [] → drop (end + 1) new ≡ drop (end + 1) before → IsWriting more before new start (end + 1) (high / 128) value
+more_cases zero more before after new start end high value is w large e kept =
     absurd (let low = rw is at w.fits in omega arith)
-more_cases (suc m) more before after new start end high value is w large e =
+more_cases (suc m) more before after new start end high value is w large e kept =
     let forward = w.forward in
     let left : start + more - (end + 1) ≡ m = omega arith in
     let below = rw (is, pow-suc) at w.fits in
     let groups = ap (λ (k : ℕ). fewest_groups k high) is ∙ fewest_groups-more (suc m) m high refl large in
-    let kept = append_assoc (take end after) (high % 128 ∷ []) (fewest_groups m (high / 128)) in
+    let parts = append_assoc (take end after) (high % 128 ∷ []) (fewest_groups m (high / 128)) in
     record {
       forward = omega arith;
       few = omega arith;
       fits = rw left (omega arith);
-      written = rw (left, e) (kept ∙ sym (ap (λ (gs : List ℕ). take end after ++ gs) groups) ∙ w.written);
+      kept = kept;
+      written = rw (left, e) (parts ∙ sym (ap (λ (gs : List ℕ). take end after ++ gs) groups) ∙ w.written);
     }
 
 pub writing-more : (more : ℕ) (before after new : List ℕ) (start end high value : ℕ) → IsWriting more before after start end high value → 128 ≤ high → end < length after
     → new ≡ set after end (high % 128) → IsWriting more before new start (end + 1) (high / 128) value
 writing-more more before after new start end high value w large within e =
-    more_cases (start + more - end) more before after new start end high value refl w large (rw e (take_more_set after end (high % 128) within))
+    more_cases (start + more - end) more before after new start end high value refl w large (rw e (take_more_set after end (high % 128) within)) (rw e (kept_after before after end (high % 128) w.kept))
 
 pub writing-last : (more : ℕ) (before after new : List ℕ) (start end high value : ℕ) → IsWriting more before after start end high value → high < 128 → end < length after
     → new ≡ set after end (high + 128) → take (end + 1) new ≡ take start before ++ fewest_groups more value
 writing-last more before after new start end high value w low within e =
     rw (e, take_more_set after end (high + 128) within) (sym (ap (λ (gs : List ℕ). take end after ++ gs) (fewest_groups-last (start + more - end) high low)) ∙ w.written)
+
+pub writing-last-after : (more : ℕ) (before after new : List ℕ) (start end high value : ℕ) → IsWriting more before after start end high value → new ≡ set after end (high + 128) → drop (end + 1) new ≡ drop (end + 1) before
+writing-last-after more before after new start end high value w e = rw e (kept_after before after end (high + 128) w.kept)
 
 -- a value below its place, one group on
 pub next_place : (value place b : ℕ) → value < place → value + b % 128 * place < place * 128

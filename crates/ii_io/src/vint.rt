@@ -58,10 +58,11 @@ pub fn read_u64(bytes: &[u8]) -> Option<(u64, usize)>
 }
 
 /// Writes the shortest spelling of `value` into `output` from `start` on, and answers the place
-/// behind it.
+/// after it.
 pub fn write_u32(value: u32, output: &mut [u8], start: usize) -> usize
     requires { start + 5 ≤ length output.old }
     ensures written { take result output.new ≡ take start output.old ++ vint_u32 value }
+    ensures after { drop result output.new ≡ drop result output.old }
     ensures within { result ≤ start + 5 }
 {
     let mut end = start;
@@ -76,20 +77,21 @@ pub fn write_u32(value: u32, output: &mut [u8], start: usize) -> usize
 }
 
 /// Writes the shortest spelling of `value`, which has 1 to 10 bytes, into `output` from `start` on,
-/// and answers the place behind it.
+/// and answers the place after it.
 pub fn write_u64(value: u64, output: &mut [u8], start: usize) -> usize
     requires { start + 10 ≤ length output.old }
     ensures written { take result output.new ≡ take start output.old ++ vint_u64 value }
+    ensures after { drop result output.new ≡ drop result output.old }
     ensures within { result ≤ start + 10 }
 {
     let mut end = start;
-    let mut left = value;
-    while left >= 128 {
-        output[end] = (left % 128) as u8;
+    let mut high = value;
+    while high >= 128 {
+        output[end] = (high % 128) as u8;
         end += 1;
-        left /= 128;
+        high /= 128;
     }
-    output[end] = left as u8 + 128;
+    output[end] = high as u8 + 128;
     end + 1
 }
 
