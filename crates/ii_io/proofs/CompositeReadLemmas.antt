@@ -9,7 +9,7 @@ use Rattle.std.proofs.lemmas.Bool.{leb-true, le-leb, and_parts}
 use Rattle.ii_io.specs.declared.composite_file.place.Place.{Place}
 use Rattle.ii_io.specs.Steps.{◌>>=◌, needs}
 use Rattle.ii_io.specs.Numbers.{number_at}
-use Rattle.ii_io.proofs.VintLemmas.{needs-some, step-some, some-same}
+use Rattle.ii_io.specs.StepLemmas.{needs-some, step-some, some-same}
 use Rattle.ii_io.specs.Composite.{place_at, places_at, has_place, are_distinct, lies_within, lawful_places, table_of, table_size}
 
 -- what the rest of a table gives, where these places were read before it

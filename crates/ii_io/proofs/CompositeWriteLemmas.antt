@@ -9,7 +9,7 @@ use Rattle.ii_io.specs.declared.faults.Fault.{Fault}
 use Rattle.ii_io.specs.declared.faults.Fault.TheVariants.{Write, Limit}
 use Rattle.ii_io.specs.declared.faults.LimitName.{LimitName}
 use Rattle.ii_io.specs.CountingWriter.{CountingWriterState, Wrote, Writes}
-use Rattle.ii_io.proofs.VintLemmas.{some-same}
+use Rattle.ii_io.specs.StepLemmas.{some-same}
 use Rattle.ii_io.specs.Numbers.{le_bytes}
 use Rattle.ii_io.specs.NumberLemmas.{length_le_bytes}
 use Rattle.ii_io.specs.Composite.{Body, place_bytes, table_bytes, bodies_bytes, places_from, written_composite}

@@ -2,6 +2,12 @@ ghost use Rattle.std.specs.Prelude.{◌≡◌, ◌+◌, ◌^◌, ◌<◌, ◌≤
 ghost use Rattle.std.specs.Option.{option_map};
 ghost use Rattle.ii_io.specs.Vints.{u32_at, u64_at, vint_u32, vint_u64, ReadsWhatIsSpelled, SpellsInFewest};
 
+use super::counting_writer::CountingWriter;
+use super::faults::Fault;
+use super::serialize::BinarySerializable;
+use std::io::Write;
+use std::marker::Model;
+
 /// The most bytes of a vint of 32 bits.
 pub const MAX_VINT_SIZE: usize = 5;
 
@@ -58,10 +64,11 @@ pub fn read_u64(bytes: &[u8]) -> Option<(u64, usize)>
 }
 
 /// Writes the shortest spelling of `value` into `output` from `start` on, and answers the place
-/// behind it.
+/// after it.
 pub fn write_u32(value: u32, output: &mut [u8], start: usize) -> usize
     requires { start + 5 ≤ length output.old }
     ensures written { take result output.new ≡ take start output.old ++ vint_u32 value }
+    ensures after { drop result output.new ≡ drop result output.old }
     ensures within { result ≤ start + 5 }
 {
     let mut end = start;
@@ -76,21 +83,66 @@ pub fn write_u32(value: u32, output: &mut [u8], start: usize) -> usize
 }
 
 /// Writes the shortest spelling of `value`, which has 1 to 10 bytes, into `output` from `start` on,
-/// and answers the place behind it.
+/// and answers the place after it.
 pub fn write_u64(value: u64, output: &mut [u8], start: usize) -> usize
     requires { start + 10 ≤ length output.old }
     ensures written { take result output.new ≡ take start output.old ++ vint_u64 value }
+    ensures after { drop result output.new ≡ drop result output.old }
     ensures within { result ≤ start + 10 }
 {
     let mut end = start;
-    let mut left = value;
-    while left >= 128 {
-        output[end] = (left % 128) as u8;
+    let mut high = value;
+    while high >= 128 {
+        output[end] = (high % 128) as u8;
         end += 1;
-        left /= 128;
+        high /= 128;
     }
-    output[end] = left as u8 + 128;
+    output[end] = high as u8 + 128;
     end + 1
+}
+
+/// A number of 64 bits with the bytes of its shortest spelling, 1 to 10. Any spelling of at most 10
+/// bytes is read. Clauses see it as the number.
+#[derive(Clone, Copy, Debug, PartialEq, Eq)]
+pub struct VInt(pub u64);
+
+impl Model for VInt {
+    ghost use Rattle.std.specs.Prelude.{ℕ};
+
+    ghost Value = { ℕ };
+
+    ghost view = { λ number. number.0 };
+
+    ghost inverse = { λ number. record { 0 = number } };
+}
+
+impl BinarySerializable for VInt {
+    ghost use Rattle.std.specs.Prelude.{◌<◌, ◌^◌};
+    ghost use Rattle.ii_io.specs.Vints.{vint_u64, u64_at};
+    ghost use Rattle.ii_io.specs.VintLemmas.{u64_at-vint_u64};
+
+    ghost bytes_of = { λ number. vint_u64 number };
+
+    ghost value_at = { λ bytes. u64_at bytes };
+
+    ghost in_range = { λ number. number < 2 ^ 64 };
+
+    ghost reads_back = { λ number rest fits _. u64_at-vint_u64 number rest fits };
+
+    fn serialize<W: Write>(&self, writer: &mut CountingWriter<W>) -> Result<(), Fault> {
+        let mut bytes = [0; MAX_LONG_VINT_SIZE];
+        let end = write_u64(self.0, &mut bytes, 0);
+        writer.write_all(&bytes[..end])
+    }
+
+    fn deserialize(reader: &mut &[u8]) -> Option<VInt> {
+        let bytes = *reader;
+        let Some((number, used)) = read_u64(bytes) else {
+            return None;
+        };
+        *reader = &bytes[used..];
+        Some(VInt(number))
+    }
 }
 
 /// The law of reading: at 32 and at 64 bits what is spelled is read, whatever follows, and nothing

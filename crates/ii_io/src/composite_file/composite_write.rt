@@ -1,10 +1,10 @@
-ghost use Rattle.std.specs.Prelude.{◌≡◌, ◌<◌, ◌⊎◌, ◌↔◌, ◌+◌, ◌*◌, ◌^◌, List, [], ◌∷◌, ◌++◌, true, false, length, Some, IsTrue, IfOk, OnOk, OnErr, IfErr, IsErrOf, slice_get};
+ghost use Rattle.std.specs.Prelude.{◌≡◌, ◌<◌, ◌⊎◌, ◌↔◌, ◌+◌, ◌-◌, ◌*◌, ◌^◌, List, [], ◌∷◌, ◌++◌, true, false, length, Some, IsTrue, IfOk, OnOk, OnErr, IfErr, IsErrOf, slice_get};
 ghost use Rattle.std.specs.Borrow.{sem};
 ghost use Rattle.ii_io.specs.CountingWriter.{CountingWriterState, Wrote, Writes, WritesUnlessClosed, IsFull};
 ghost use Rattle.std.specs.List.{flat_map};
 ghost use Rattle.ii_io.specs.Composite.{Body, place_bytes, table_bytes, written_composite};
 ghost use Rattle.ii_io.specs.CompositeWrite.{has_start, places_of, places_until, next_start, HasBodies};
-ghost use Rattle.ii_io.specs.Lending.{LendsForField};
+ghost use Rattle.ii_io.specs.Lending.{LendsForField, LendsWriter};
 
 use super::place::{BodyStart, Place};
 use crate::counting_writer::CountingWriter;
@@ -59,10 +59,11 @@ impl<W: Write> CompositeWrite<W> {
     /// The writer for the body of a field, which no earlier body has. The body ends where the next
     /// begins, or where this writer is closed.
     ///
-    /// `OutOfMemory` where the table can't grow, of which `u32::MAX` bodies are the most;
-    /// `SerializerClosed` after an earlier refusal.
+    /// There are at most `u32::MAX` bodies, whose number has 32 bits. `OutOfMemory` where the table
+    /// can't grow; `SerializerClosed` after an earlier refusal.
     pub fn for_field(&mut self, field: Field) -> Result<&mut CountingWriter<W>, Fault>
-        requires { has_start field self.old.starts ≡ false }
+        requires unwritten { has_start field self.old.starts ≡ false }
+        requires few { length self.old.starts < 2 ^ 32 - 1 }
         ensures* lends { sem 𝓛 (LendsForField W.row W.Write self.entry field result) }
         ensures value { IfOk result (λ writer. writer.now ≡ self.old.writer) }
         ensures closed { IsErrOf result Fault.SerializerClosed ↔ IsTrue self.old.closed }
@@ -72,8 +73,18 @@ impl<W: Write> CompositeWrite<W> {
         Ok(&mut self.writer)
     }
 
+    /// The writer for more of the body that was begun last.
+    pub fn writer(&mut self) -> &mut CountingWriter<W>
+        requires { 0 < length self.old.starts }
+        ensures* lends { sem 𝓛 (LendsWriter W.row W.Write self.entry result) }
+        ensures value { result.now ≡ self.old.writer }
+    {
+        &mut self.writer
+    }
+
     // Notes that the body of a field begins.
     fn begin_body(&mut self, field: Field) -> Result<(), Fault>
+        requires { length self.old.starts < 2 ^ 32 - 1 }
         ensures ok { OnOk result (self.new
             ≡ record self.old { starts = self.old.starts ++ next_start self.old field ∷ [] }) }
         ensures err { OnErr result (self.new ≡ record self.old { closed = true }) }
@@ -84,13 +95,9 @@ impl<W: Write> CompositeWrite<W> {
             return Err(Fault::SerializerClosed);
         }
         let start = self.writer.written_bytes().saturating_sub(self.base);
-        if self.starts.len() >= MAX_BODIES
-            || self.starts.push(BodyStart { field, start }).is_err()
-        {
-            self.is_closed = true;
-            return Err(Fault::OutOfMemory);
-        }
-        Ok(())
+        let pushed = self.starts.push(BodyStart { field, start });
+        self.is_closed = pushed.is_err();
+        Ok(pushed?)
     }
 
     /// The writer as it stands, with no table written.
@@ -132,9 +139,6 @@ impl<W: Write> CompositeWrite<W> {
         (writer, written)
     }
 }
-
-/// The most bodies of a composite file, whose number has 32 bits.
-const MAX_BODIES: usize = u32::MAX as usize;
 
 // Writes the places of bodies that end at `end`, and their number, and flushes.
 fn write_table<W: Write>(
