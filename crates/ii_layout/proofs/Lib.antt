@@ -5,3 +5,4 @@ pub mod RunLemmas
 pub mod SkipReaderLemmas
 pub mod SkipWriting
 pub mod WorkedRows
+pub mod SplitLemmas

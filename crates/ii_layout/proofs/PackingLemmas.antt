@@ -161,9 +161,9 @@ written_is docs rest skip postings last p few =
     ∙ (λ j. list j ++ (bytes ∙ sym p.postings_is) j ++ sorted_vints (end j) (after j))
 
 -- the parts that are written, by the values that calls lent
-pub parts_are : (docs rest skip postings ids entries middle tail : List ℕ) (last : ℕ) → ArePacked docs last skip postings → length rest < 128 → entries ≡ skip → middle ≡ postings → ids ≡ rest → tail ≡ sorted_vints last ids
+pub written_lent : (docs rest skip postings ids entries middle tail : List ℕ) (last : ℕ) → ArePacked docs last skip postings → length rest < 128 → entries ≡ skip → middle ≡ postings → ids ≡ rest → tail ≡ sorted_vints last ids
     → written_documents (docs ++ rest) ≡ sized entries ++ middle ++ tail
-parts_are docs rest skip postings ids entries middle tail last p few entries_are middle_is ids_are tail_is =
+written_lent docs rest skip postings ids entries middle tail last p few entries_are middle_is ids_are tail_is =
     written_is docs rest skip postings last p few ∙ sym (λ j. sized (entries_are j) ++ middle_is j ++ (tail_is ∙ ap (sorted_vints last) ids_are) j)
 
 -- three parts that are written one after the other

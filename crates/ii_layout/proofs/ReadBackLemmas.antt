@@ -11,15 +11,15 @@ use Rattle.ii_base.specs.declared.schema.index_record_option.IndexRecordOption.T
 use Rattle.ii_io.specs.Numbers.{le_bytes}
 use Rattle.ii_io.specs.Steps.{◌>>=◌, needs}
 use Rattle.ii_io.specs.Vints.{vint_u64}
-use Rattle.ii_io.proofs.VintLemmas.{u64_at-vint_u64}
+use Rattle.ii_io.specs.VintLemmas.{u64_at-vint_u64}
 use Rattle.ii_docset.specs.Entries.{are_documents}
-use Rattle.ii_codes.specs.Blocks.{sorted_width, sorted_entries, IsBlock, AscendsBehind}
+use Rattle.ii_codes.specs.Blocks.{sorted_width, sorted_entries, IsBlock, AscendsAfter}
 use Rattle.ii_codes.specs.SortedVints.{sorted_vints_at, sorted_vints}
 use Rattle.ii_codes.proofs.BlockLaws.{reads_sorted_blocks}
 use Rattle.ii_codes.proofs.PackedLaws.{length-packed}
 use Rattle.ii_codes.proofs.SortedVintLemmas.{reads_back}
 use Rattle.ii_layout.specs.Each.{each}
-use Rattle.ii_layout.specs.SkipList.{SkipEntry, SkipList, no_entry, entry_at, entry_size, entries_at, shape_of, skip_list, block_size, block_place}
+use Rattle.ii_layout.specs.SkipList.{SkipEntry, SkipList, no_entry, entry_at, entry_size, entries_at, skip_info_of, skip_list, block_size, block_place}
 use Rattle.ii_layout.specs.Documents.{entry_of, last_doc_before, block_docs, rest_docs, documents_at}
 use Rattle.ii_layout.specs.Written.{docs_of_block, last_before, code_of_width, entry_bytes, block_bytes, skip_bytes, ReadsDocumentsBack}
 use Rattle.ii_layout.specs.PostingsSerializer.{IsFullBlock}
@@ -120,7 +120,7 @@ abbrev sized_list : IndexRecordOption → ℕ → ℕ → List ℕ → Option Sk
 sized_list shape more len bytes =
     needs (nat_le len (length bytes)) >>= λ _. needs (nat_le (entry_size shape * suc more) len) >>= λ _.
     needs (list_all (λ (e : SkipEntry). nat_le e.tf_num_bits 32) (entries_at shape (suc more) bytes)) >>= λ _.
-    Some (record { shape = shape; entries = entries_at shape (suc more) bytes; body = drop len bytes })
+    Some (record { skip_info = shape; entries = entries_at shape (suc more) bytes; body = drop len bytes })
 
 skip_list_read : (docs body : List ℕ) (n : ℕ) → are_documents docs ≡ true → 128 * n ≤ length docs → length docs < 2 ^ 32
     → skip_list Basic n (skip_bytes docs n ++ body) ≡ Some (list_for docs n body)
@@ -130,14 +130,14 @@ skip_list_read docs body (suc more) h whole few =
     let size = length-entries docs 0 (suc more) in
     let read = u64_at-vint_u64 (5 * suc more) (flat_map (entry_bytes docs) (range_with_len 0 (suc more)) ++ body) (omega arith) in
     let short = lt-ltb (5 * suc more) (8 * suc more) (omega arith) in
-    let shape : shape_of Basic (suc more) (5 * suc more) ≡ Basic = rw short refl in
+    let shape : skip_info_of Basic (suc more) (5 * suc more) ≡ Basic = rw short refl in
     let enough = le-leb (5 * suc more) (length (flat_map (entry_bytes docs) (range_with_len 0 (suc more)) ++ body)) (omega (arith, length-append (flat_map (entry_bytes docs) (range_with_len 0 (suc more))) body)) in
     let exact = le-leb (5 * suc more) (5 * suc more) (omega arith) in
     let found = entries_found docs body (suc more) h whole in
     let none = no_frequencies docs 0 (suc more) in
     let after = drop_at (flat_map (entry_bytes docs) (range_with_len 0 (suc more))) body (5 * suc more) size in
     ap (skip_list Basic (suc more)) (append_assoc (vint_u64 (5 * suc more)) (flat_map (entry_bytes docs) (range_with_len 0 (suc more))) body)
-    ∙ ap (λ (o : Option (ℕ × List ℕ)). o >>= λ len. sized_list (shape_of Basic (suc more) len.0) more len.0 len.1) read
+    ∙ ap (λ (o : Option (ℕ × List ℕ)). o >>= λ len. sized_list (skip_info_of Basic (suc more) len.0) more len.0 len.1) read
     ∙ ap (λ (shape : IndexRecordOption). sized_list shape more (5 * suc more) (flat_map (entry_bytes docs) (range_with_len 0 (suc more)) ++ body)) shape
     ∙ rw (enough, exact) (ap (λ (es : List SkipEntry). listed es (drop (5 * suc more) (flat_map (entry_bytes docs) (range_with_len 0 (suc more)) ++ body))) found ∙ rw (none, after) refl)
 
@@ -169,8 +169,8 @@ last_doc_before-is docs n (suc j) h =
 is_block : (last : ℕ) (block : List ℕ) → IsFullBlock last block → IsBlock block
 is_block last block b = record { many = b.many; fit = λ k h. let low = b.low k h in omega arith }
 
-ascends_after : (last : ℕ) (block : List ℕ) → IsFullBlock last block → AscendsBehind last block
-ascends_after last block b = record { ascending = b.ascending; behind = b.after }
+ascends_after : (last : ℕ) (block : List ℕ) → IsFullBlock last block → AscendsAfter last block
+ascends_after last block b = record { ascending = b.ascending; after = b.after }
 
 block_read : (docs after : List ℕ) (n i : ℕ) → are_documents docs ≡ true → 128 * n ≤ length docs → i < n
     → block_docs (list_for docs n (flat_map (block_bytes docs) (range_with_len 0 n) ++ after)) i ≡ Some (docs_of_block docs i)

@@ -10,11 +10,11 @@ use Rattle.ii_layout.specs.declared.skip.BlockInfo.{BlockInfo}
 use Rattle.ii_layout.specs.declared.skip.BlockInfo.TheVariants.{VInt}
 use Rattle.ii_layout.specs.SkipList.{SkipEntry, no_entry, entry_at, entry_size, entries_at, block_size, block_place}
 use Rattle.ii_layout.specs.Documents.{entry_of, last_doc_before}
-use Rattle.ii_layout.specs.SkipReader.{SkipReaderState, block_info_of, packed_size_of, reading_at}
+use Rattle.ii_layout.specs.SkipReader.{SkipReaderState, block_info_of, packed_size_of, reader_at}
 use Rattle.byteorder.specs.Endian.{little_number}
 use Rattle.ii_io.specs.Numbers.{little_endian, number_at}
 use Rattle.ii_io.specs.NumberLemmas.{number_at-some}
-use Rattle.ii_io.proofs.VintLemmas.{some-same}
+use Rattle.ii_io.specs.StepLemmas.{some-same}
 
 -- the number in the four bytes at the front
 pub number_front : (n : ℕ) (bytes : List ℕ) → n ≡ little_number 4 bytes → 4 ≤ length bytes → n ≡ little_endian (take 4 bytes)
@@ -36,47 +36,51 @@ place_next shape blocks i bytes h =
 before_next : (entries : List SkipEntry) (i : ℕ) → last_doc_before entries (i + 1) ≡ (entry_of entries i).last_doc
 before_next entries i = let next : i + 1 ≡ suc i = omega arith in rw next refl
 
--- What a reader knows at a full block, as it goes on.
-pub record Advances (shape : IndexRecordOption) (df i last place size : ℕ) (bytes : List ℕ) : Type 0 where
-  pub before_is : last ≡ last_doc_before (entries_at shape (df / 128) bytes) (i + 1)
-  pub place_is : place + size ≡ block_place (entries_at shape (df / 128) bytes) (i + 1)
+-- What a reader knows at a full block, as it goes on, in the words of its fields.
+pub record Advances (skip_info : IndexRecordOption) (doc_freq i last offset : ℕ) (entries : List SkipEntry) : Type 0 where
+  pub last_is : last ≡ last_doc_before entries (i + 1)
+  pub offset_is : offset ≡ block_place entries (i + 1)
+  pub read : (count : ℕ) → count ≡ min (i + 1) (doc_freq / 128) → count ≡ i + 1
 
-pub advances : (shape : IndexRecordOption) (df i last before place count size : ℕ) (info : BlockInfo) (bytes : List ℕ)
-    → record { shape = shape; doc_freq = df; block = i; last_doc = last; last_doc_before = before; place = place; info = info; count = count } ≡ reading_at shape df bytes i count → i < df / 128
-    → size ≡ packed_size_of info → Advances shape df i last place size bytes
-advances shape df i last before place count size info bytes h within size_is =
-    let here = lt-ltb i (df / 128) within in
-    let low = le-leb i (df / 128) (omega arith) in
-    let last_is = rw here at (ap (λ (r : SkipReaderState). r.last_doc) h) in
-    let place_is = rw low at (ap (λ (r : SkipReaderState). r.place) h) in
-    let info_is = rw here at (ap (λ (r : SkipReaderState). r.info) h) in
+pub advances : (old : SkipReaderState) (size : ℕ) (bytes : List ℕ)
+    → old ≡ reader_at old.skip_info old.doc_freq (entries_at old.skip_info (old.doc_freq / 128) bytes) old.block → old.block < old.doc_freq / 128
+    → size ≡ packed_size_of old.block_info
+    → Advances old.skip_info old.doc_freq old.block old.last_doc_in_block (old.byte_offset + size) (entries_at old.skip_info (old.doc_freq / 128) bytes)
+advances old size bytes same within size_is =
+    let here = lt-ltb old.block (old.doc_freq / 128) within in
+    let low = le-leb old.block (old.doc_freq / 128) (omega arith) in
+    let last_is = rw here at (ap (λ (r : SkipReaderState). r.last_doc_in_block) same) in
+    let offset_is = rw low at (ap (λ (r : SkipReaderState). r.byte_offset) same) in
+    let info_is = rw here at (ap (λ (r : SkipReaderState). r.block_info) same) in
     let all = size_is ∙ ap packed_size_of info_is in
-    let next = place_next shape (df / 128) i bytes within in
+    let next = place_next old.skip_info (old.doc_freq / 128) old.block bytes within in
     record {
-      before_is = last_is ∙ sym (before_next (entries_at shape (df / 128) bytes) i);
-      place_is = omega arith;
+      last_is = last_is ∙ sym (before_next (entries_at old.skip_info (old.doc_freq / 128) bytes) old.block);
+      offset_is = omega arith;
+      read = λ count e. omega arith;
     }
 
 -- to the documents after the full blocks
-pub advanced_rest : (shape : IndexRecordOption) (df i last place count size : ℕ) (bytes : List ℕ) → Advances shape df i last place size bytes → i + 1 ≡ df / 128
-    → record { shape = shape; doc_freq = df; block = i + 1; last_doc = 2147483647; last_doc_before = last; place = place + size; info = VInt (df % 128); count = count }
-    ≡ reading_at shape df bytes (min (i + 1) (df / 128 + 1)) (count + cond (nat_lt (i + 1) (df / 128)) 1 0)
-advanced_rest shape df i last place count size bytes a e =
-    let here : min (i + 1) (df / 128 + 1) ≡ i + 1 = omega arith in
-    let none = le-ltb (i + 1) (df / 128) (omega arith) in
-    let low = le-leb (i + 1) (df / 128) (omega arith) in
-    let same = eq-eqb (i + 1) (df / 128) e in
-    let sum : count + 0 ≡ count = omega arith in
-    rw (here, none, low, same, a.before_is, a.place_is, sum) refl
+pub advanced_rest : (skip_info : IndexRecordOption) (doc_freq i last offset read : ℕ) (entries : List SkipEntry) → Advances skip_info doc_freq i last offset entries → i + 1 ≡ doc_freq / 128 → read ≡ min (i + 1) (doc_freq / 128)
+    → record { skip_info = skip_info; doc_freq = doc_freq; block = i + 1; last_doc_in_block = 2147483647; last_doc_in_previous_block = last; byte_offset = offset; block_info = VInt (doc_freq % 128); entries_read = read }
+    ≡ reader_at skip_info doc_freq entries (min (i + 1) (doc_freq / 128 + 1))
+advanced_rest skip_info doc_freq i last offset read entries a e read_is =
+    let here : min (i + 1) (doc_freq / 128 + 1) ≡ i + 1 = omega arith in
+    let none = le-ltb (i + 1) (doc_freq / 128) (omega arith) in
+    let low = le-leb (i + 1) (doc_freq / 128) (omega arith) in
+    let same = eq-eqb (i + 1) (doc_freq / 128) e in
+    let count : read ≡ min (i + 1 + 1) (doc_freq / 128) = omega arith in
+    rw (here, none, low, same, a.last_is, a.offset_is, count) refl
 
 -- to another full block
-pub advanced_full : (shape : IndexRecordOption) (df i last place count size last' count' : ℕ) (info' : BlockInfo) (bytes : List ℕ) → Advances shape df i last place size bytes → i + 1 < df / 128
-    → last' ≡ (entry_at shape (drop (entry_size shape * (i + 1)) bytes)).last_doc → info' ≡ block_info_of (entry_at shape (drop (entry_size shape * (i + 1)) bytes)) → count' ≡ count + 1
-    → record { shape = shape; doc_freq = df; block = i + 1; last_doc = last'; last_doc_before = last; place = place + size; info = info'; count = count' }
-    ≡ reading_at shape df bytes (min (i + 1) (df / 128 + 1)) (count + cond (nat_lt (i + 1) (df / 128)) 1 0)
-advanced_full shape df i last place count size last' count' info' bytes a h last_is info_is count_is =
-    let here : min (i + 1) (df / 128 + 1) ≡ i + 1 = omega arith in
-    let more = lt-ltb (i + 1) (df / 128) h in
-    let low = le-leb (i + 1) (df / 128) (omega arith) in
-    let entry = get_or-map-range_with_len (λ k. entry_at shape (drop (entry_size shape * k) bytes)) 0 (df / 128) (i + 1) (i + 1) no_entry h (omega arith) in
-    rw (here, more, low, entry, last_is, info_is, count_is, a.before_is, a.place_is) refl
+pub advanced_full : (skip_info : IndexRecordOption) (doc_freq i last offset last' read : ℕ) (info' : BlockInfo) (bytes : List ℕ) → Advances skip_info doc_freq i last offset (entries_at skip_info (doc_freq / 128) bytes) → i + 1 < doc_freq / 128
+    → last' ≡ (entry_at skip_info (drop (entry_size skip_info * (i + 1)) bytes)).last_doc → info' ≡ block_info_of (entry_at skip_info (drop (entry_size skip_info * (i + 1)) bytes)) → read ≡ min (i + 1) (doc_freq / 128) + 1
+    → record { skip_info = skip_info; doc_freq = doc_freq; block = i + 1; last_doc_in_block = last'; last_doc_in_previous_block = last; byte_offset = offset; block_info = info'; entries_read = read }
+    ≡ reader_at skip_info doc_freq (entries_at skip_info (doc_freq / 128) bytes) (min (i + 1) (doc_freq / 128 + 1))
+advanced_full skip_info doc_freq i last offset last' read info' bytes a h last_is info_is read_is =
+    let here : min (i + 1) (doc_freq / 128 + 1) ≡ i + 1 = omega arith in
+    let more = lt-ltb (i + 1) (doc_freq / 128) h in
+    let low = le-leb (i + 1) (doc_freq / 128) (omega arith) in
+    let count : read ≡ min (i + 1 + 1) (doc_freq / 128) = omega arith in
+    let entry = get_or-map-range_with_len (λ k. entry_at skip_info (drop (entry_size skip_info * k) bytes)) 0 (doc_freq / 128) (i + 1) (i + 1) no_entry h (omega arith) in
+    rw (here, more, low, entry, last_is, info_is, count, a.last_is, a.offset_is) refl

@@ -20,6 +20,11 @@ abbrev pub packed_size_of : BlockInfo → ℕ
 packed_size_of (BitPacked doc_num_bits strict_delta tf_num_bits tf_sum norm term_freq) = 16 * (doc_num_bits + tf_num_bits)
 packed_size_of (VInt n) = 0
 
+-- the width of a block's counts
+abbrev pub tf_num_bits_of : BlockInfo → ℕ
+tf_num_bits_of (BitPacked doc_num_bits strict_delta tf_num_bits tf_sum norm term_freq) = tf_num_bits
+tf_num_bits_of (VInt n) = 0
+
 pub record SkipReaderState : Type 0 where
   pub skip_info : IndexRecordOption
   pub doc_freq : ℕ

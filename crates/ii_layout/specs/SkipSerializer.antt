@@ -2,5 +2,5 @@
 use Rattle.std.specs.Prelude.{ℕ, Bool, List}
 
 pub record SkipSerializerState : Type 0 where
-  pub data : List ℕ
+  pub bytes : List ℕ
   pub closed : Bool

@@ -12,7 +12,7 @@ use super::skip::SkipSerializer;
 use ii_base::{CountingWriter, Fault, IndexRecordOption};
 use ii_codes::{BlockEncoder, VIntEncoder};
 use ii_docset::DocId;
-use ii_fieldnorm::FieldNormReader;
+type FieldNormReader = u8;
 use ii_io::vint::{self, MAX_LONG_VINT_SIZE};
 use std::alloc::Global;
 use std::io::Write;
@@ -35,7 +35,7 @@ impl Model for PackedBlocks {
 
     ghost view = { λ b. record { docs = b.docs.items; closed = b.skip_write.closed } };
 
-    ghost invariant = { λ b. ArePacked b.docs.items b.last_doc_id_encoded b.skip_write.data b.postings_write.items };
+    ghost invariant = { λ b. ArePacked b.docs.items b.last_doc_id_encoded b.skip_write.bytes b.postings_write.items };
 }
 
 impl PackedBlocks {
@@ -129,7 +129,7 @@ fn write_block(
 ) -> Result<(), Fault>
     requires block { IsFullBlock last_doc block.now }
     requires open { skip_write.old.closed ≡ false }
-    ensures skip { OnOk result (skip_write.new ≡ record { data = skip_write.old.data ++ entry_of_block last_doc block.now; closed = false }) }
+    ensures skip { OnOk result (skip_write.new ≡ record { bytes = skip_write.old.bytes ++ entry_of_block last_doc block.now; closed = false }) }
     ensures postings { OnOk result (postings_write.new.items ≡ postings_write.old.items ++ sorted_bytes last_doc block.now) }
     ensures only { IfErr result (λ e. e ≡ Fault.OutOfMemory) }
 {

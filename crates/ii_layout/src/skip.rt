@@ -23,7 +23,7 @@ pub fn encode_bitwidth(bitwidth: u8, delta_1: bool) -> u8
 /// The width of a code, below 32, and whether its deltas are strict.
 pub fn decode_bitwidth(raw_bitwidth: u8) -> (u8, bool)
     ensures width { result.0 ≡ width_of_code raw_bitwidth }
-    ensures strict { result.1 ≡ strict_of_code raw_bitwidth }
+    ensures strict_delta { result.1 ≡ strict_of_code raw_bitwidth }
 {
     (raw_bitwidth % 32, raw_bitwidth / 64 % 2 == 1)
 }
@@ -42,13 +42,13 @@ impl Model for SkipSerializer {
 
     ghost Value = { SkipSerializerState };
 
-    ghost view = { λ s. record { data = s.buffer.items; closed = s.is_closed } };
+    ghost view = { λ s. record { bytes = s.buffer.items; closed = s.is_closed } };
 }
 
 impl SkipSerializer {
     /// A serializer of no entry.
     pub fn new(alloc: Global) -> SkipSerializer
-        ensures { result ≡ record { data = []; closed = false } }
+        ensures { result ≡ record { bytes = []; closed = false } }
     {
         SkipSerializer {
             buffer: Vec::new(alloc),
@@ -64,7 +64,7 @@ impl SkipSerializer {
     pub fn write_doc(&mut self, last_doc: DocId, doc_num_bits: u8) -> Result<(), Fault>
         requires { doc_num_bits < 32 }
         ensures ok { OnOk result (self.new
-            ≡ record { data = self.old.data ++ (le_bytes 4 last_doc ++ code_of_width doc_num_bits ∷ []); closed = false }) }
+            ≡ record { bytes = self.old.bytes ++ (le_bytes 4 last_doc ++ code_of_width doc_num_bits ∷ []); closed = false }) }
         ensures err { OnErr result (self.new ≡ record self.old { closed = true }) }
         ensures closed { IsErrOf result Fault.SerializerClosed ↔ IsTrue self.old.closed }
         ensures only { IfErr result (λ e. (e ≡ Fault.OutOfMemory) ⊎ (e ≡ Fault.SerializerClosed)) }
@@ -83,14 +83,14 @@ impl SkipSerializer {
 
     /// The bytes of the entries.
     pub fn data(&self) -> &[u8]
-        ensures { result.now ≡ self.now.data }
+        ensures { result.now ≡ self.now.bytes }
     {
         self.buffer.as_slice()
     }
 
     /// Drops all entries.
     pub fn clear(&mut self)
-        ensures { self.new ≡ record self.old { data = [] } }
+        ensures { self.new ≡ record self.old { bytes = [] } }
     {
         self.buffer.clear();
     }
@@ -144,7 +144,7 @@ impl Default for BlockInfo {
 }
 
 // How many bytes an entry takes.
-fn entry_size(skip_info: IndexRecordOption) -> usize
+pub(crate) fn entry_size(skip_info: IndexRecordOption) -> usize
     ensures { result ≡ entry_size skip_info }
 {
     match skip_info {
@@ -200,7 +200,7 @@ fn read_entry(bytes: &[u8], skip_info: IndexRecordOption) -> (DocId, BlockInfo)
 }
 
 // The entry of block `block`, as `read_entry` answers it.
-fn read_entry_at(data: &[u8], skip_info: IndexRecordOption, block: u32) -> (DocId, BlockInfo)
+pub(crate) fn read_entry_at(data: &[u8], skip_info: IndexRecordOption, block: u32) -> (DocId, BlockInfo)
     requires { entry_size skip_info * (block + 1) ≤ length data.now }
     ensures last_doc { result.0 ≡ (entry_at skip_info (drop (entry_size skip_info * block) data.now)).last_doc }
     ensures info { result.1 ≡ block_info_of (entry_at skip_info (drop (entry_size skip_info * block) data.now)) }

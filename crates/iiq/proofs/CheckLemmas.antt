@@ -8,7 +8,7 @@ use Rattle.std.proofs.lemmas.List.Sums.{sum_by-append}
 use Rattle.std.proofs.lemmas.List.Folds.{concat-append}
 use Rattle.ii_base.specs.declared.schema.index_record_option.IndexRecordOption.TheVariants.{Basic}
 use Rattle.ii_io.specs.Steps.{◌>>=◌, needs}
-use Rattle.ii_io.proofs.VintLemmas.{needs-some, step-some, some-same}
+use Rattle.ii_io.specs.StepLemmas.{needs-some, step-some, some-same}
 use Rattle.ii_docset.specs.Entries.{ascend_from, are_documents}
 use Rattle.ii_codes.specs.Blocks.{sorted_block_at}
 use Rattle.ii_codes.specs.SortedVints.{sorted_vints_at}

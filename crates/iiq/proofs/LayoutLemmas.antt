@@ -5,7 +5,7 @@ use Rattle.std.proofs.lemmas.Bool.{ltb-true, ltb-false}
 use Rattle.std.proofs.Math.Seq.{take-append_seam, drop-append_seam}
 use Rattle.std.specs.List.{concat}
 use Rattle.ii_io.specs.Steps.{needs}
-use Rattle.ii_io.proofs.VintLemmas.{step-some, some-same}
+use Rattle.ii_io.specs.StepLemmas.{step-some, some-same}
 use Rattle.ii_docset.specs.Entries.{ascend_from}
 use Rattle.ii_codes.specs.Packed.{unpacked}
 use Rattle.ii_codes.specs.Blocks.{sorted_block_at, sorted_values, values_from, gap_of, least_first}

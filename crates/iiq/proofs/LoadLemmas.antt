@@ -6,7 +6,7 @@ use Rattle.std.proofs.Math.Seq.{drop-append_seam}
 use Rattle.std.specs.List.{concat}
 use Rattle.std.specs.Option.{IsSome}
 use Rattle.ii_base.specs.declared.schema.index_record_option.IndexRecordOption.TheVariants.{Basic}
-use Rattle.ii_io.proofs.VintLemmas.{some-same}
+use Rattle.ii_io.specs.StepLemmas.{some-same}
 use Rattle.ii_docset.specs.Entries.{Entry, document, are_documents}
 use Rattle.ii_docset.specs.Cursor.{doc_at, IsAscending}
 use Rattle.ii_docset.proofs.CursorLemmas.{ascending, doc_at_inside, doc_at_end, ended, advanced, IsAscending_drop}

@@ -8,7 +8,7 @@ use Rattle.ii_base.specs.declared.schema.index_record_option.IndexRecordOption.T
 use Rattle.ii_io.specs.Steps.{◌>>=◌, needs}
 use Rattle.ii_io.specs.Numbers.{little_endian, number_at}
 use Rattle.ii_io.specs.Vints.{u64_at}
-use Rattle.ii_io.proofs.VintLemmas.{some-same}
+use Rattle.ii_io.specs.StepLemmas.{some-same}
 use Rattle.ii_layout.specs.SkipList.{SkipEntry, SkipList, entry_at, entries_at, skip_list, entry_size}
 
 number_is : (bytes : List ℕ) → 4 ≤ length bytes → number_at 4 bytes ≡ Some (little_endian (take 4 bytes), drop 4 bytes)
