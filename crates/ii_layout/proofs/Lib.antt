@@ -1,8 +1,9 @@
 pub mod BlockDocs
+pub mod DocumentLemmas
 pub mod PackingLemmas
 pub mod ReadBackLemmas
 pub mod RunLemmas
 pub mod SkipReaderLemmas
 pub mod SkipWriting
-pub mod WorkedRows
 pub mod SplitLemmas
+pub mod WorkedRows

@@ -1,6 +1,6 @@
 -- Entries as a reader finds them.
 use Rattle.std.proofs.Common.{◌≡◌, ℕ, suc, ◌+◌, ◌*◌, ◌/◌, ◌%◌, ◌<◌, ◌≤◌, min, cond, nat_lt, List, [], ◌∷◌, length, take, drop, Some, refl, sym, ap, ◌∙◌, arith}
-use Rattle.std.proofs.lemmas.Bool.{le-leb, lt-ltb, le-ltb, eq-eqb}
+use Rattle.std.proofs.lemmas.Bool.{le-leb, lt-leb, lt-ltb, le-ltb, eq-eqb, ne_eqb}
 use Rattle.std.proofs.lemmas.List.{take_more}
 use Rattle.std.proofs.lemmas.List.Sums.{sum_by-append}
 use Rattle.std.proofs.lemmas.List.FromFn.{length-map-range_with_len, get_or-map-range_with_len}
@@ -84,3 +84,51 @@ advanced_full skip_info doc_freq i last offset last' read info' bytes a h last_i
     let count : read ≡ min (i + 1 + 1) (doc_freq / 128) = omega arith in
     let entry = get_or-map-range_with_len (λ k. entry_at skip_info (drop (entry_size skip_info * k) bytes)) 0 (doc_freq / 128) (i + 1) (i + 1) no_entry h (omega arith) in
     rw (here, more, low, entry, last_is, info_is, count, a.last_is, a.offset_is) refl
+
+-- What a reader tells at a full block, at the block of vints, and after it.
+pub record AtFullBlock (reader : SkipReaderState) (entries : List SkipEntry) (i : ℕ) : Type 0 where
+  pub info : reader.block_info ≡ block_info_of (entry_of entries i)
+  pub last : reader.last_doc_in_block ≡ (entry_of entries i).last_doc
+  pub before : reader.last_doc_in_previous_block ≡ last_doc_before entries i
+  pub offset : reader.byte_offset ≡ block_place entries i
+
+pub at_full_block : (reader : SkipReaderState) (skip_info : IndexRecordOption) (doc_freq i : ℕ) (entries : List SkipEntry) → reader ≡ reader_at skip_info doc_freq entries i → i < doc_freq / 128 → AtFullBlock reader entries i
+at_full_block reader skip_info doc_freq i entries e h =
+    let here = lt-ltb i (doc_freq / 128) h in
+    let low = le-leb i (doc_freq / 128) (omega arith) in
+    record {
+      info = rw here at (ap (λ (r : SkipReaderState). r.block_info) e);
+      last = rw here at (ap (λ (r : SkipReaderState). r.last_doc_in_block) e);
+      before = rw low at (ap (λ (r : SkipReaderState). r.last_doc_in_previous_block) e);
+      offset = rw low at (ap (λ (r : SkipReaderState). r.byte_offset) e);
+    }
+
+pub record AtVInts (reader : SkipReaderState) (entries : List SkipEntry) (i n : ℕ) : Type 0 where
+  pub info : reader.block_info ≡ VInt n
+  pub before : reader.last_doc_in_previous_block ≡ last_doc_before entries i
+  pub offset : reader.byte_offset ≡ block_place entries i
+
+pub at_vints : (reader : SkipReaderState) (skip_info : IndexRecordOption) (doc_freq i : ℕ) (entries : List SkipEntry) → reader ≡ reader_at skip_info doc_freq entries i → i ≡ doc_freq / 128 → AtVInts reader entries i (doc_freq % 128)
+at_vints reader skip_info doc_freq i entries e h =
+    let past = le-ltb i (doc_freq / 128) (omega arith) in
+    let low = le-leb i (doc_freq / 128) (omega arith) in
+    let same = eq-eqb i (doc_freq / 128) h in
+    record {
+      info = rw (past, same) at (ap (λ (r : SkipReaderState). r.block_info) e);
+      before = rw low at (ap (λ (r : SkipReaderState). r.last_doc_in_previous_block) e);
+      offset = rw low at (ap (λ (r : SkipReaderState). r.byte_offset) e);
+    }
+
+pub record AtEnd (reader : SkipReaderState) : Type 0 where
+  pub info : reader.block_info ≡ VInt 0
+  pub offset : reader.byte_offset ≡ 18446744073709551615
+
+pub at_end : (reader : SkipReaderState) (skip_info : IndexRecordOption) (doc_freq i : ℕ) (entries : List SkipEntry) → reader ≡ reader_at skip_info doc_freq entries i → doc_freq / 128 < i → AtEnd reader
+at_end reader skip_info doc_freq i entries e h =
+    let past = le-ltb i (doc_freq / 128) (omega arith) in
+    let high = lt-leb i (doc_freq / 128) h in
+    let other = ne_eqb i (doc_freq / 128) (λ same. absurd (omega arith)) in
+    record {
+      info = rw (past, other) at (ap (λ (r : SkipReaderState). r.block_info) e);
+      offset = rw high at (ap (λ (r : SkipReaderState). r.byte_offset) e);
+    }
