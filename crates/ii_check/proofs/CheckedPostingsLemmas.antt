@@ -5,6 +5,7 @@ use Rattle.std.specs.Result.{result_unwrap_or}
 use Rattle.std.proofs.lemmas.Bool.{ltb-true, ltb-false}
 use Rattle.std.proofs.lemmas.List.{take_all, drop_all}
 use Rattle.ii_base.specs.declared.schema.index_record_option.IndexRecordOption.{IndexRecordOption}
+use Rattle.ii_base.specs.declared.schema.index_record_option.IndexRecordOption.TheVariants.{Basic}
 use Rattle.ii_io.specs.declared.faults.Part.{Part}
 use Rattle.ii_io.specs.declared.faults.Part.TheVariants.{Documents}
 use Rattle.ii_io.specs.StepLemmas.{some-same}
@@ -192,6 +193,7 @@ full_held docs here rest after block before w s decoder there read size =
     let whole = length-sorted_block_at s before w here decoder.output rest (sym read) in
     let same = ap (λ (p : List ℕ × List ℕ). p.0) (some-same (read ∙ there)) in (
       record {
+        many = size ∙ sym (ap length (sym same) ∙ whole);
         held = take_all decoder.output_len decoder.output (omega arith) ∙ same;
         filled = drop_all decoder.output_len decoder.output (omega arith) ∙ (let none : 0 ≡ 128 - decoder.output_len = omega arith in ap (λ (n : ℕ). replicate n 2147483647) none);
       },
@@ -203,6 +205,7 @@ pub vints_held : (docs here rest after : List ℕ) (block before n : ℕ) (decod
     → Some (take n decoder.output, rest) ≡ sorted_vints_at before n here → drop n decoder.output ≡ replicate (128 - n) 2147483647 → decoder.output_len ≡ n → HoldsBlock docs block decoder × (length (docs_of_block docs block) ≡ n)
 vints_held docs here rest after block before n decoder there read filled size = (
       record {
+        many = size ∙ sym (length-sorted_vints_at before n here (docs_of_block docs block) after there);
         held = ap (λ (k : ℕ). take k decoder.output) size ∙ ap (λ (p : List ℕ × List ℕ). p.0) (some-same (read ∙ there));
         filled = ap (λ (k : ℕ). drop k decoder.output) size ∙ filled ∙ ap (λ (k : ℕ). replicate (128 - k) 2147483647) (sym size);
       },
@@ -220,7 +223,7 @@ short_held p decoder g few h =
     let here : sorted_vints_at 0 p.doc_freq skip.body ≡ Some (docs_of_block p.postings.docs 0, p.postings.after) =
     ap (λ (k : ℕ). sorted_vints_at 0 k skip.body) (sym number) ∙ ap (λ (k : ℕ). sorted_vints_at (last_doc_before skip.entries k) (p.doc_freq % 128) (drop (block_place skip.entries k) skip.body)) none ∙ rest
     in
-    record { held = ap (λ (q : List ℕ × List ℕ). q.0) (some-same (sym h.read ∙ here)); filled = h.filled }
+    record { many = h.many ∙ sym (length-sorted_vints_at 0 p.doc_freq skip.body (docs_of_block p.postings.docs 0) p.postings.after here); held = ap (λ (q : List ℕ × List ℕ). q.0) (some-same (sym h.read ∙ here)); filled = h.filled }
 
 pub decodes_short : (n : ℕ) → decodes_of n ≡ min 1 n
 decodes_short zero = refl
@@ -238,3 +241,16 @@ decodes_new p decoder new block h none first e =
     let more = decodes_first p.postings.docs p.doc_freq h.many in
     let here = ap (λ (b : ℕ). decodes_of (length (docs_of_block p.postings.docs b))) first in
     omega arith
+
+-- no bytes give no documents
+empty_split : (bytes : List ℕ) → IsSplit Basic (0 / 128) bytes Basic 0 0
+empty_split bytes = record { skip = refl; room = omega arith; within = omega arith }
+
+pub empty_checked : (bytes : List ℕ) → IsChecked Basic 0 bytes Basic 0 0
+empty_checked bytes = is_checked Basic 0 0 0 bytes Basic true (empty_split bytes) refl refl
+
+pub empty_documents : (bytes : List ℕ) → (given Basic 0 bytes).docs ≡ []
+empty_documents bytes = ap (λ (p : Postings). p.docs) (given_is Basic 0 bytes _ (postings_are Basic 0 0 0 bytes Basic ([], bytes) (empty_split bytes) refl))
+
+pub empty_has : (bytes : List ℕ) → HasDocuments (record { doc_freq = 0; postings = given Basic 0 bytes })
+empty_has bytes = has_documents 0 (given Basic 0 bytes) (are_given Basic 0 0 0 bytes Basic (empty_checked bytes))

@@ -32,6 +32,7 @@ rest_fits before n least bytes = fits_by (λ docs. ascend_from least docs) (sort
 -- A decoder read so many documents as vints, and holds them.
 pub record HoldsVInts (before n : ℕ) (bytes : List ℕ) (old new : BlockDecoderState) : Type 0 where
   pub after : List ℕ
+  pub many : new.output_len ≡ n
   pub read : sorted_vints_at before n bytes ≡ Some (take new.output_len new.output, after)
   pub filled : drop new.output_len new.output ≡ replicate (128 - new.output_len) TERMINATED
   pub decodes : new.decodes ≡ old.decodes + decodes_of n

@@ -50,6 +50,7 @@ pub record IsAtBlock (p : CheckedPostingsState) (skip : SkipReaderState) : Type 
 
 -- A decoder holds the documents of a block; after them it is filled with the end.
 pub record HoldsBlock (docs : List ℕ) (block : ℕ) (decoder : BlockDecoderState) : Type 0 where
+  pub many : decoder.output_len ≡ length (docs_of_block docs block)
   pub held : take decoder.output_len decoder.output ≡ docs_of_block docs block
   pub filled : drop decoder.output_len decoder.output ≡ replicate (128 - decoder.output_len) TERMINATED
 

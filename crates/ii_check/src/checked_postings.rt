@@ -1,4 +1,4 @@
-ghost use Rattle.std.specs.Prelude.{◌≡◌, ◌+◌, ◌/◌, ◌<◌, length, min, Ok, Err, IfOk, IfErr};
+ghost use Rattle.std.specs.Prelude.{◌≡◌, ◌+◌, ◌/◌, ◌<◌, [], length, min, Ok, Err, IfOk, IfErr};
 ghost use Rattle.ii_io.specs.Parts.{part_of};
 ghost use Rattle.ii_codes.specs.BlockDecoder.{decodes_of};
 ghost use Rattle.ii_layout.specs.Postings.{postings};
@@ -74,6 +74,24 @@ impl CheckedPostings {
         };
         let decoder = checked.first_block(decoder);
         Ok((checked, decoder))
+    }
+
+    /// The postings of a term in no documents.
+    pub fn empty() -> CheckedPostings
+        ensures doc_freq { result.doc_freq ≡ 0 }
+        ensures documents { result.postings.docs ≡ [] }
+        ensures has { HasDocuments result }
+    {
+        CheckedPostings {
+            bytes: Bytes::from_static(&[]),
+            record_option: IndexRecordOption::Basic,
+            doc_freq: 0,
+            places: SkipPlaces {
+                skip_info: IndexRecordOption::Basic,
+                entries: 0,
+                body: 0,
+            },
+        }
     }
 
     // The decoder that is left of the check of a short list, since it holds all its documents; else a
