@@ -1,11 +1,10 @@
 -- Laws of what is written in steps.
 use Rattle.std.proofs.Common.{◌≡◌, ◌<◌, ◌≤◌, ℕ, ◌+◌, true, false, List, [], ◌∷◌, ◌++◌, length, Result, Ok, Err, is_err, refl, sym, ◌∙◌, arith, length-append, ⊎_elim, inl, inr}
-use Rattle.std.specs.Prelude.{OnOk, OnErr, IfErr, IsErrOf, ◌⊎◌, ◌↔◌}
 use Rattle.std.proofs.KnownBytes.{Appends-nil, Appends-trans}
 use Rattle.std.proofs.lemmas.List.{take-append-le, append-nil}
 use Rattle.std.proofs.Math.Seq.{take-append-add}
 use Rattle.ii_io.specs.declared.faults.Fault.{Fault}
-use Rattle.ii_io.specs.declared.faults.Fault.TheVariants.{Write, Limit}
+use Rattle.ii_io.specs.declared.faults.Fault.TheVariants.{Limit}
 use Rattle.ii_io.specs.declared.faults.LimitName.TheVariants.{Offset}
 use Rattle.ii_io.specs.CountingWriter.{CountingWriterState, Wrote, WrotePrefix, IsFull, Writes}
 
