@@ -44,16 +44,13 @@ pub trait BinarySerializable: Sized {
 
 /// A type whose values have as many bytes each.
 pub trait FixedSize: BinarySerializable {
+    ghost SIZE_IN_BYTES: { ℕ };
+
     /// How many bytes a value has.
     const SIZE_IN_BYTES: usize;
 
-    // The same number.
-    ghost size: { ℕ };
-
-    /// `SIZE_IN_BYTES`, and the law that each value has so many bytes.
-    fn fixed_size() -> usize
-        ensures value { result ≡ size }
-        ensures each { (v : Self) → length (Self.bytes_of v) ≡ size };
+    // Each value has so many bytes.
+    ghost has_size: { (v : Self) → length (Self.bytes_of v) ≡ SIZE_IN_BYTES };
 }
 
 /// Four bytes, the lowest first.
@@ -87,14 +84,13 @@ impl BinarySerializable for u32 {
 }
 
 impl FixedSize for u32 {
+    ghost use Rattle.ii_io.specs.NumberLemmas.{length_le_bytes};
+
     const SIZE_IN_BYTES: usize = 4;
 
-    ghost size = { 4 };
+    ghost SIZE_IN_BYTES = { 4 };
 
-    #[tactic(auto, using(crate::specs::NumberLemmas::length_le_bytes))]
-    fn fixed_size() -> usize {
-        Self::SIZE_IN_BYTES
-    }
+    ghost has_size = { λ n. length_le_bytes 4 n };
 }
 
 /// Eight bytes, the lowest first.
@@ -128,14 +124,13 @@ impl BinarySerializable for u64 {
 }
 
 impl FixedSize for u64 {
+    ghost use Rattle.ii_io.specs.NumberLemmas.{length_le_bytes};
+
     const SIZE_IN_BYTES: usize = 8;
 
-    ghost size = { 8 };
+    ghost SIZE_IN_BYTES = { 8 };
 
-    #[tactic(auto, using(crate::specs::NumberLemmas::length_le_bytes))]
-    fn fixed_size() -> usize {
-        Self::SIZE_IN_BYTES
-    }
+    ghost has_size = { λ n. length_le_bytes 8 n };
 }
 
 /// The law of numbers: what is written is read, whatever follows, and no other bytes of the same

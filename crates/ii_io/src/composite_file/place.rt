@@ -68,14 +68,13 @@ impl BinarySerializable for Place {
 }
 
 impl FixedSize for Place {
+    ghost use Rattle.ii_io.specs.CompositeLemmas.{length_place_bytes};
+
     const SIZE_IN_BYTES: usize = 20;
 
-    ghost size = { 20 };
+    ghost SIZE_IN_BYTES = { 20 };
 
-    #[tactic(auto, using(crate::specs::CompositeLemmas::length_place_bytes))]
-    fn fixed_size() -> usize {
-        Self::SIZE_IN_BYTES
-    }
+    ghost has_size = { length_place_bytes };
 }
 
 // The bytes of a place, in a buffer of their size.
