@@ -20,7 +20,7 @@ pub trait BinarySerializable: Sized {
     // What a value has to meet to be written.
     ghost can_serialize: { Self → Type 0 } = { λ _. Unit {0} };
 
-    // What each value of the type meets.
+    // What each value of the type meets, as `serialize` shows.
     ghost in_range: { Self → Type 0 } = { λ _. Unit {0} };
 
     /// Writes the value's bytes, or answers `Write` where the writer fails, and a beginning of them
@@ -29,7 +29,8 @@ pub trait BinarySerializable: Sized {
         requires { can_serialize self.now }
         ensures written { Writes writer.old writer.new (bytes_of self.now) result }
         ensures limit { IsErrOf result (Fault.Limit LimitName.Offset)
-            ↔ IsFull writer.old (length (bytes_of self.now)) };
+            ↔ IsFull writer.old (length (bytes_of self.now)) }
+        ensures value { in_range self.now };
 
     /// Takes the value from the front of the bytes. `None` where none stands there, and the bytes
     /// then stay as they were.
