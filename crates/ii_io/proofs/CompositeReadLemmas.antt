@@ -1,5 +1,6 @@
 -- Laws of reading a composite file place by place.
 use Rattle.std.proofs.Common.{◌≡◌, ℕ, zero, suc, ◌-◌, ◌<◌, ◌≤◌, Bool, true, false, ◌&&◌, ◌||◌, not, cond, nat_le, ◌==◌, List, [], ◌∷◌, ◌++◌, length, drop, Option, Some, None, refl, sym, ◌∙◌, arith, append_assoc}
+use Rattle.std.proofs.Math.Bool.{and-false, or-true}
 use Rattle.std.proofs.lemmas.List.{append-nil}
 use Rattle.std.specs.List.{list_all}
 use Rattle.std.specs.Ordering.{is_eq, nat_cmp}
@@ -29,16 +30,8 @@ refused : (size : ℕ) (read : List Place) (p : Place) (o : Option (List Place))
 refused size read p None bad = refl
 refused size read p (Some later) bad = rw (bad later) refl
 
-and_false : (a : Bool) → a && false ≡ false
-and_false true = refl
-and_false false = refl
-
-or_true : (a : Bool) → a || true ≡ true
-or_true true = refl
-or_true false = refl
-
 outside : (size : ℕ) (read later : List Place) (p : Place) → lies_within size p ≡ false → list_all (lies_within size) (read ++ p ∷ later) ≡ false
-outside size read later p e = rw (list_all-append (lies_within size) read (p ∷ later), e, and_false) refl
+outside size read later p e = rw (list_all-append (lies_within size) read (p ∷ later), e, and-false) refl
 
 pub left-outside : (size : ℕ) (read : List Place) (n : ℕ) (bytes rest : List ℕ) (p : Place) → 0 < n → place_at bytes ≡ Some (p, rest) → lies_within size p ≡ false → left size read n bytes ≡ None
 left-outside size read zero bytes rest p some e bad = absurd (omega arith)
@@ -47,7 +40,7 @@ left-outside size read (suc n) bytes rest p some e bad =
 
 has_place-among : (f : ℕ) (qs later : List Place) (p : Place) → (p.field == f) ≡ true → has_place f (qs ++ p ∷ later) ≡ true
 has_place-among f qs later p e =
-    rw (list_any-append (λ (q : Place). q.field == f) qs (p ∷ later), e, or_true) refl
+    rw (list_any-append (λ (q : Place). q.field == f) qs (p ∷ later), e, or-true) refl
 
 eqb_true_sym : (a b : ℕ) → (a == b) ≡ true → (b == a) ≡ true
 eqb_true_sym a b e = grind (arith, nat_tests)
@@ -58,7 +51,7 @@ repeated_cases : (f : ℕ) (q p : Place) (qs later : List Place) (t : Bool) → 
 repeated_cases f q p qs later true e ih h =
     let among = has_place-among q.field qs later p (eqb_true_sym q.field p.field e) in
     rw among refl
-repeated_cases f q p qs later false e ih h = rw (ih h, and_false) refl
+repeated_cases f q p qs later false e ih h = rw (ih h, and-false) refl
 
 repeated : (read later : List Place) (p : Place) → has_place p.field read ≡ true → are_distinct (read ++ p ∷ later) ≡ false
 repeated [] later p e = absurd (cc)
@@ -67,7 +60,7 @@ repeated (q ∷ qs) later p e = repeated_cases 0 q p qs later (q.field == p.fiel
 pub left-repeated : (size : ℕ) (read : List Place) (n : ℕ) (bytes rest : List ℕ) (p : Place) → 0 < n → place_at bytes ≡ Some (p, rest) → has_place p.field read ≡ true → left size read n bytes ≡ None
 left-repeated size read zero bytes rest p some e bad = absurd (omega arith)
 left-repeated size read (suc n) bytes rest p some e bad =
-    rw e (refused size read p (places_at n rest) (λ later. rw (repeated read later p bad, and_false) refl))
+    rw e (refused size read p (places_at n rest) (λ later. rw (repeated read later p bad, and-false) refl))
 
 more : (size : ℕ) (read : List Place) (p : Place) (o : Option (List Place))
     → ((o >>= λ others. Some (p ∷ others)) >>= λ later. needs (list_all (lies_within size) (read ++ later) && are_distinct (read ++ later)) >>= λ _. Some (read ++ later))

@@ -87,10 +87,14 @@ table_bytes places = flat_map place_bytes places ++ le_bytes 4 (length places)
 abbrev pub written_composite : List Body → List ℕ
 written_composite bodies = bodies_bytes bodies ++ table_bytes (places_from 0 bodies)
 
+-- field ids have 32 bits
+abbrev pub fit_fields : List Body → Bool
+fit_fields bodies = list_all (λ (b : Body). nat_le (b.field + 1) (2 ^ 32)) bodies
+
 -- Bodies that a file can hold: fields of 32 bits, none twice, and sizes that their numbers hold.
 pub record AreBodies (bodies : List Body) : Type 0 where
   pub distinct : are_distinct (places_from 0 bodies) ≡ true
-  pub fields : list_all (λ (b : Body). nat_le (b.field + 1) (2 ^ 32)) bodies ≡ true
+  pub fields : fit_fields bodies ≡ true
   pub few : length bodies < 2 ^ 32
   pub small : length (bodies_bytes bodies) < 2 ^ 64
 
