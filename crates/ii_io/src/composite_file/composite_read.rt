@@ -1,5 +1,5 @@
 ghost use Rattle.std.specs.Prelude.{◌≡◌, ◌⊎◌, ◌∷◌, [], length, drop, Some, None, IfOk, IfErr, IsErrOf, MatchResult};
-ghost use Rattle.ii_io.specs.Composite.{composite, body_of, table_of, lawful_places};
+ghost use Rattle.ii_io.specs.Composite.{composite, body_of, table_of, HasTable, lawful_places};
 
 use super::place::Place;
 use crate::faults::{Fault, Part};
@@ -36,10 +36,12 @@ impl CompositeFile {
     /// Opens a file: the bodies, then for each its `Place`, then their number in 4 bytes.
     ///
     /// `Damaged(Composite)` where the table doesn't fit, an end lies before its start or past the
-    /// bodies, or a field has two places. It copies no body; memory is taken for the table alone.
+    /// bodies, or a field has two places. It copies no body; memory is taken for the table alone, once
+    /// it is known to fit.
     pub fn open(alloc: Global, bytes: Bytes) -> Result<CompositeFile, Fault>
         ensures opened { IfOk result (λ file. composite bytes ≡ Some file) }
         ensures damaged { IsErrOf result (Fault.Damaged Part.Composite) → composite bytes ≡ None }
+        ensures memory { IsErrOf result Fault.OutOfMemory → HasTable bytes }
         ensures only { IfErr result (λ e. (e ≡ Fault.OutOfMemory) ⊎ (e ≡ Fault.Damaged Part.Composite)) }
     {
         let places = read_table(alloc, bytes.as_slice())?;
@@ -77,6 +79,7 @@ impl CompositeFile {
 fn read_table(alloc: Global, bytes: &[u8]) -> Result<Vec<Place>, Fault>
     ensures read { IfOk result (λ places. table_of bytes.now ≡ Some places.items) }
     ensures damaged { IsErrOf result (Fault.Damaged Part.Composite) → table_of bytes.now ≡ None }
+    ensures memory { IsErrOf result Fault.OutOfMemory → HasTable bytes.now }
     ensures only { IfErr result (λ e. (e ≡ Fault.OutOfMemory) ⊎ (e ≡ Fault.Damaged Part.Composite)) }
 {
     let mut footer = &bytes[bytes.len().saturating_sub(4)..];
