@@ -61,8 +61,8 @@ impl<W: Write> CompositeWrite<W> {
     /// There are at most `u32::MAX` bodies, whose number has 32 bits. `OutOfMemory` where the table
     /// can't grow; `SerializerClosed` after an earlier refusal.
     pub fn for_field(&mut self, field: Field) -> Result<&mut CountingWriter<W>, Fault>
-        requires unwritten { has_start field self.old.starts ≡ false }
-        requires few { length self.old.starts < 2 ^ 32 - 1 }
+        requires unwritten { self.old.closed ≡ false → has_start field self.old.starts ≡ false }
+        requires few { self.old.closed ≡ false → length self.old.starts < 2 ^ 32 - 1 }
         ensures* lends { sem 𝓛 (LendsForField W.row W.Write self.entry field result) }
         ensures value { IfOk result (λ writer. writer.now ≡ self.old.writer) }
         ensures closed { IsErrOf result Fault.SerializerClosed ↔ IsTrue self.old.closed }
@@ -74,7 +74,7 @@ impl<W: Write> CompositeWrite<W> {
 
     /// The writer for more of the body that was begun last.
     pub fn writer(&mut self) -> &mut CountingWriter<W>
-        requires { 0 < length self.old.starts }
+        requires { self.old.closed ≡ false → 0 < length self.old.starts }
         ensures* lends { sem 𝓛 (LendsWriter W.row W.Write self.entry result) }
         ensures value { result.now ≡ self.old.writer }
     {
@@ -83,8 +83,8 @@ impl<W: Write> CompositeWrite<W> {
 
     // Notes that the body of a field begins.
     fn begin_body(&mut self, field: Field) -> Result<(), Fault>
-        requires unwritten { has_start field self.old.starts ≡ false }
-        requires few { length self.old.starts < 2 ^ 32 - 1 }
+        requires unwritten { self.old.closed ≡ false → has_start field self.old.starts ≡ false }
+        requires few { self.old.closed ≡ false → length self.old.starts < 2 ^ 32 - 1 }
         ensures ok { OnOk result (self.new
             ≡ record self.old { starts = self.old.starts ++ next_start self.old field ∷ [] }) }
         ensures err { OnErr result (self.new ≡ record self.old { closed = true }) }
@@ -116,7 +116,7 @@ impl<W: Write> CompositeWrite<W> {
     /// Writes the places of the bodies and their number, flushes, and hands the writer back. The
     /// bodies are then read back from what was written.
     ///
-    /// `Write` where the writer fails, and a beginning of the table is then written; `Limit(Offset)`
+    /// `Write` where the writer fails, and a prefix of the table is then written; `Limit(Offset)`
     /// where a count of the writer would pass `u64::MAX`; `SerializerClosed` after an earlier refusal,
     /// and nothing is written.
     pub fn close(self) -> (CountingWriter<W>, Result<(), Fault>)
