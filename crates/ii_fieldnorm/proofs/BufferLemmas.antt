@@ -11,7 +11,6 @@ use Rattle.std.proofs.lemmas.List.Edits.{map_over_more}
 use Rattle.std.proofs.lemmas.Bool.Decides.{nat_tests}
 use Rattle.ii_io.specs.declared.faults.Fault.{Fault}
 use Rattle.ii_io.specs.declared.composite_file.place.BodyStart.{BodyStart}
-use Rattle.ii_io.specs.CountingWriter.{CountingWriterState, Wrote}
 use Rattle.ii_io.specs.CountingWriterLemmas.{wrote_nothing, Wrote-trans, writes_all, memory_then, memory_refused_by}
 use Rattle.ii_io.specs.Composite.{Body, bodies_bytes}
 use Rattle.ii_io.specs.CompositeWrite.{CompositeWriteState, has_start, next_start}
@@ -136,9 +135,9 @@ module _ (a b c : CompositeWriteState) (bs : Buffers) (i : ℕ) (x : Option (Lis
       let front = bodies_bytes (norm_bodies (take i bs)) in
       record {
         writes = λ still.
-        let step = w.writes (has.closed ∙ still) in
-        let both = memory_then a.writer b.writer c.writer front (buffer_bytes x) result has.adds.wrote step.0 in
-        (rw (all_bytes 0 bs i x within here) (memory_refused_by a.writer c.writer (front ++ buffer_bytes x) (bytes_after 0 bs i) result refused both), step.1);
+            let step = w.writes (has.closed ∙ still) in
+            let both = memory_then a.writer b.writer c.writer front (buffer_bytes x) result has.adds.wrote step.0 in
+            (rw (all_bytes 0 bs i x within here) (memory_refused_by a.writer c.writer (front ++ buffer_bytes x) (bytes_after 0 bs i) result refused both), step.1);
         refused = λ closed. let step = w.refused (has.closed ∙ closed) in (step.0 ∙ has.same closed, step.1, step.2);
       }
 

@@ -1,4 +1,4 @@
-use Rattle.ii_fieldnorm.proofs.BufferLemmas.{next_asked, written_more, written_refused, written_all, written_first}
+use Rattle.ii_fieldnorm.proofs.BufferLemmas.{next_asked, written_more, written_refused, written_first}
 use Rattle.ii_fieldnorm.proofs.writer.write_buffers.Goals as goal
 
 pub write_buffer-written-requires : goal.write_buffer-written-requires
