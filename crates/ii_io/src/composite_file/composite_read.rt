@@ -1,4 +1,7 @@
-ghost use Rattle.std.specs.Prelude.{◌≡◌, ◌⊎◌, ◌∷◌, [], length, drop, Some, None, IfOk, IfErr, IsErrOf, MatchResult};
+ghost use Rattle.std.specs.Prelude.{◌≡◌, ◌==◌, ◌⊎◌, ◌∷◌, [], length, drop, Some, None, IfOk, IfErr, IsErrOf, MatchResult};
+ghost use Rattle.std.specs.Option.{option_map};
+ghost use Rattle.std.specs.List.{find};
+ghost use Rattle.ii_io.specs.declared.composite_file.place.Place.{Place};
 ghost use Rattle.ii_io.specs.Composite.{composite, body_of, table_of, HasTable, lawful_places};
 
 use super::place::Place;
@@ -48,19 +51,27 @@ impl CompositeFile {
         Ok(CompositeFile { bytes, places })
     }
 
+    /// How many bytes the body of a field has, if the file has one.
+    pub fn body_len(&self, field: Field) -> Option<usize>
+        ensures { result ≡ option_map length (body_of field self.now) }
+    {
+        let Some(place) = place_of_field(&self.places, field) else {
+            return None;
+        };
+        Some((place.end - place.start) as usize)
+    }
+
     /// The body of a field, if the file has one, as a part of the buffer. It takes no copy, and fails
     /// for want of memory only where the buffer can't be shared once more.
     pub fn open_read(&self, field: Field) -> Result<Option<Bytes>, Fault>
         ensures body { IfOk result (λ body. body ≡ body_of field self.now) }
         ensures only { IfErr result (λ e. e ≡ Fault.OutOfMemory) }
     {
-        for place in &self.places {
-            if place.field == field {
-                let body = self.bytes.slice(place.start as usize..place.end as usize)?;
-                return Ok(Some(body));
-            }
-        }
-        Ok(None)
+        let Some(place) = place_of_field(&self.places, field) else {
+            return Ok(None);
+        };
+        let body = self.bytes.slice(place.start as usize..place.end as usize)?;
+        Ok(Some(body))
     }
 
     /// The same bodies, over the same buffer. It fails where the buffer can't be shared once more, or
@@ -73,6 +84,18 @@ impl CompositeFile {
         let places = self.places.clone()?;
         Ok(CompositeFile { bytes, places })
     }
+}
+
+// The first place of a field.
+fn place_of_field(places: &[Place], field: Field) -> Option<Place>
+    ensures { result ≡ find (λ (p : Place). p.field == field) places.now }
+{
+    for place in places {
+        if place.field == field {
+            return Some(*place);
+        }
+    }
+    None
 }
 
 // The places of the table at the end of a file.
