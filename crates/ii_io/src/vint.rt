@@ -94,13 +94,13 @@ pub fn write_u64(value: u64, output: &mut [u8], start: usize) -> usize
     ensures within { result ≤ start + 10 }
 {
     let mut end = start;
-    let mut high = value;
-    while high >= 128 {
-        output[end] = (high % 128) as u8;
+    let mut left = value;
+    while left >= 128 {
+        output[end] = (left % 128) as u8;
         end += 1;
-        high /= 128;
+        left /= 128;
     }
-    output[end] = high as u8 + 128;
+    output[end] = left as u8 + 128;
     end + 1
 }
 
