@@ -1,12 +1,13 @@
 -- What those who read and write vints know on the way.
-use Rattle.std.proofs.Common.{◌≡◌, ℕ, zero, suc, ◌+◌, ◌-◌, ◌*◌, ◌/◌, ◌%◌, ◌^◌, ◌<◌, ◌≤◌, Bool, true, false, List, [], ◌∷◌, ◌++◌, length, take, drop, Option, Some, None, nat_lt, refl, sym, ap, ◌∙◌, arith, cond, get_or, set, add-one, append_assoc}
+use Rattle.std.proofs.Common.{◌≡◌, ℕ, zero, suc, ◌+◌, ◌-◌, ◌*◌, ◌/◌, ◌%◌, ◌^◌, ◌<◌, ◌≤◌, List, [], ◌∷◌, ◌++◌, length, take, drop, Option, Some, None, nat_lt, refl, sym, ap, ◌∙◌, arith, get_or, set, add-one, append_assoc, ⊎_elim}
 use Rattle.std.proofs.Math.Nat.{pow-suc, mul-le-mul_left, pow-le-pow_right}
 use Rattle.std.proofs.Math.Seq.{drop-cons}
 use Rattle.std.proofs.lemmas.List.{drop_all, drop-drop, drop-set-lt, take_more_set}
 use Rattle.std.specs.Option.{option_map}
-use Rattle.std.proofs.lemmas.Bool.{lt-ltb, le-ltb, ltb-true, ltb-false}
+use Rattle.std.proofs.lemmas.Bool.{lt-ltb, le-ltb, cases_lt}
 use Rattle.ii_io.specs.Steps.{◌>>=◌, needs}
-use Rattle.ii_io.specs.Vints.{groups_sum, Spells, groups_at, vint_at, u32_at, u64_at, fewest_groups, vint_u32, vint_u64, ReadsWhatIsSpelled, SpellsInFewest}
+use Rattle.ii_io.specs.StepLemmas.{some-same}
+use Rattle.ii_io.specs.Vints.{groups_at, vint_at, u32_at, fewest_groups}
 
 -- what a reader has gathered goes in front of what it reads on
 abbrev pub gathered : ℕ → ℕ → Option (ℕ × List ℕ) → Option (ℕ × List ℕ)
@@ -79,35 +80,15 @@ pub reading-short : (most : ℕ) (bytes : List ℕ) (i value place : ℕ) → Is
 reading-short most bytes i value place r e =
     (rw (drop_all i bytes e) at r.groups) ∙ gathered-nothing value place (most - i)
 
--- what a reader answers for 32 bits
-pub u32_at-full : (bytes : List ℕ) (i value place : ℕ) → IsReading 5 bytes i value place → i ≡ 5 → None ≡ u32_at bytes
-unfolding u32_at
-u32_at-full bytes i value place r e = rw (reading-full 5 bytes i value place r e) refl
+-- what a reader answers: nothing, or the sum of the groups where it is below the limit
+vint_at-none : (most limit : ℕ) (bytes : List ℕ) → groups_at most bytes ≡ None → None ≡ vint_at most limit bytes
+vint_at-none most limit bytes e = rw e refl
 
-pub u32_at-short : (bytes : List ℕ) (i value place : ℕ) → IsReading 5 bytes i value place → length bytes ≤ i → None ≡ u32_at bytes
-unfolding u32_at
-u32_at-short bytes i value place r e = rw (reading-short 5 bytes i value place r e) refl
+vint_at-found : (most limit n : ℕ) (bytes rest : List ℕ) → groups_at most bytes ≡ Some (n, rest) → n < limit → Some (n, rest) ≡ vint_at most limit bytes
+vint_at-found most limit n bytes rest e fits = rw (e, lt-ltb n limit fits) refl
 
-pub u32_at-found : (bytes : List ℕ) (i value place b n : ℕ) → IsReading 5 bytes i value place → i < 5 → i < length bytes → get_or bytes i 0 ≡ b → 128 ≤ b
-    → value + b % 128 * place ≡ n → n < 2 ^ 32 → Some (n, drop (i + 1) bytes) ≡ u32_at bytes
-unfolding u32_at
-u32_at-found bytes i value place b n r few within e high value_is fits =
-    rw (reading-high 5 bytes i value place b r few within e high, value_is, lt-ltb n 4294967296 fits) refl
-
-pub u32_at-past : (bytes : List ℕ) (i value place b : ℕ) → IsReading 5 bytes i value place → i < 5 → i < length bytes → get_or bytes i 0 ≡ b → 128 ≤ b
-    → 2 ^ 32 ≤ value + b % 128 * place → None ≡ u32_at bytes
-unfolding u32_at
-u32_at-past bytes i value place b r few within e high past =
-    rw (reading-high 5 bytes i value place b r few within e high, le-ltb (value + b % 128 * place) 4294967296 past) refl
-
--- a place of at most five groups fits 64 bits
-pub place_fits : (i : ℕ) → i < 5 → 128 ^ i ≤ 268435456
-place_fits zero h = omega arith
-place_fits (suc zero) h = omega arith
-place_fits (suc (suc zero)) h = omega arith
-place_fits (suc (suc (suc zero))) h = omega arith
-place_fits (suc (suc (suc (suc zero)))) h = omega arith
-place_fits (suc (suc (suc (suc (suc i))))) h = absurd (omega arith)
+vint_at-past : (most limit n : ℕ) (bytes rest : List ℕ) → groups_at most bytes ≡ Some (n, rest) → limit ≤ n → None ≡ vint_at most limit bytes
+vint_at-past most limit n bytes rest e past = rw (e, le-ltb n limit past) refl
 
 -- one more of the fewest groups
 pub fewest_groups-more : (m k n : ℕ) → m ≡ suc k → 128 ≤ n → fewest_groups m n ≡ n % 128 ∷ fewest_groups k (n / 128)
@@ -167,47 +148,127 @@ pub writing-last-after : (more : ℕ) (before after new : List ℕ) (start end h
 writing-last-after more before after new start end high value w e = rw e (kept_after before after end (high + 128) w.kept)
 
 -- a value below its place, one group on
-pub next_place : (value place b : ℕ) → value < place → value + b % 128 * place < place * 128
+next_place : (value place b : ℕ) → value < place → value + b % 128 * place < place * 128
 next_place value place b below =
     let group : b % 128 ≤ 127 = omega arith in
     let most = mul-le-mul_left place group in
     omega arith
 
-pub sum_fits : (i value place b : ℕ) → i < 5 → place ≡ 128 ^ i → value < place → value + b % 128 * place < 2 ^ 35
-sum_fits i value place b few e below =
-    let fits = place_fits i few in
-    let next = next_place value place b below in
-    omega arith
+-- What a reader of 64 bits knows after i bytes.
+pub record IsReadingLong (most : ℕ) (bytes : List ℕ) (i value place : ℕ) : Type 0 where
+  pub reading : IsReading most bytes i value place
+  pub power : place ≡ 128 ^ i
+  pub below : value < place
 
--- what a reader answers for 64 bits
-pub u64_at-full : (bytes : List ℕ) (i value place : ℕ) → IsReading 10 bytes i value place → i ≡ 10 → None ≡ u64_at bytes
-unfolding u64_at
-u64_at-full bytes i value place r e = rw (reading-full 10 bytes i value place r e) refl
+-- And at a byte that is there, one of at most ten.
+pub record IsAtByte (most : ℕ) (bytes : List ℕ) (i value place b : ℕ) : Type 0 where
+  pub known : IsReadingLong most bytes i value place
+  pub ten : most ≤ 10
+  pub left : i < most
+  pub within : i < length bytes
+  pub byte : get_or bytes i 0 ≡ b
 
-pub u64_at-short : (bytes : List ℕ) (i value place : ℕ) → IsReading 10 bytes i value place → length bytes ≤ i → None ≡ u64_at bytes
-unfolding u64_at
-u64_at-short bytes i value place r e = rw (reading-short 10 bytes i value place r e) refl
+module _ (most : ℕ) (bytes : List ℕ) (i value place b : ℕ) (at : IsAtByte most bytes i value place b) where
+  -- nine groups fit 63 bits
+  nine_fit : i < 9 → place * 128 ≤ 2 ^ 63
+  nine_fit few =
+      let power = at.known.power in
+      let fits : 128 ^ i ≤ 128 ^ 8 = pow-le-pow_right {n = 128} (omega arith) {i = i} {j = 8} (omega arith) in
+      omega arith
 
-pub u64_at-found : (bytes : List ℕ) (i value place b n : ℕ) → IsReading 10 bytes i value place → i < 10 → i < length bytes → get_or bytes i 0 ≡ b → 128 ≤ b
-    → value + b % 128 * place ≡ n → n < 2 ^ 64 → Some (n, drop (i + 1) bytes) ≡ u64_at bytes
-unfolding u64_at
-u64_at-found bytes i value place b n r few within e high value_is fits =
-    rw (reading-high 10 bytes i value place b r few within e high, value_is, lt-ltb n 18446744073709551616 fits) refl
+  -- the tenth byte is the last
+  tenth : b < 128 → ¬ (i < 9) → None ≡ vint_at most (2 ^ 64) bytes
+  tenth low more =
+      let left = at.left in
+      let ten = at.ten in
+      let nine : 9 ≤ i = ⊎_elim (λ few. absurd (more few)) (λ nine. nine) (cases_lt i 9) in
+      let next = reading-low most bytes i value place b at.known.reading at.left at.within at.byte low in
+      vint_at-none most (2 ^ 64) bytes (reading-full most bytes (i + 1) (value + b % 128 * place) (place * 128) next (omega arith))
 
-pub u64_at-past : (bytes : List ℕ) (i value place b : ℕ) → IsReading 10 bytes i value place → i < 10 → i < length bytes → get_or bytes i 0 ≡ b → 128 ≤ b
-    → 2 ^ 64 ≤ value + b % 128 * place → None ≡ u64_at bytes
-unfolding u64_at
-u64_at-past bytes i value place b r few within e high past =
-    rw (reading-high 10 bytes i value place b r few within e high, le-ltb (value + b % 128 * place) 18446744073709551616 past) refl
+  -- a group that passes 64 bits
+  pub group_past : ¬ (b % 128 * place < 2 ^ 64) → None ≡ vint_at most (2 ^ 64) bytes
+  group_past past =
+      let next = next_place value place b at.known.below in
+      ⊎_elim
+      (λ low. tenth low (λ few. let fits = nine_fit few in past (omega arith)))
+      (λ high. vint_at-past most (2 ^ 64) (value + b % 128 * place) bytes (drop (i + 1) bytes) (reading-high most bytes i value place b at.known.reading at.left at.within at.byte high) (⊎_elim (λ fits. absurd (past (omega arith))) (λ large. large) (cases_lt (value + b % 128 * place) (2 ^ 64))))
+      (cases_lt b 128)
 
--- a place of at most ten groups fits 128 bits
-pub long_sum_fits : (i value place b : ℕ) → i < 10 → place ≡ 128 ^ i → value < place → value + b % 128 * place < 2 ^ 70
-long_sum_fits i value place b few e below =
-    let fits : 128 ^ i ≤ 128 ^ 9 = pow-le-pow_right {n = 128} (omega arith) {i = i} {j = 9} (omega arith) in
-    let next = next_place value place b below in
-    omega arith
+  -- a place that passes 64 bits
+  pub place_past : b < 128 → ¬ (place * 128 < 2 ^ 64) → None ≡ vint_at most (2 ^ 64) bytes
+  place_past low past = tenth low (λ few. let fits = nine_fit few in past (omega arith))
 
-pub long_place_fits : (i place : ℕ) → i < 10 → place ≡ 128 ^ i → place * 128 ≤ 2 ^ 70
-long_place_fits i place few e =
-    let fits : 128 ^ i ≤ 128 ^ 9 = pow-le-pow_right {n = 128} (omega arith) {i = i} {j = 9} (omega arith) in
-    omega arith
+  -- a group that fits 64 bits fits with those before it
+  pub sum_fits : b % 128 * place < 2 ^ 64 → value + b % 128 * place < 2 ^ 64
+  sum_fits fits =
+      let left = at.left in
+      let ten = at.ten in
+      let power = at.known.power in
+      let below = at.known.below in
+      let next = next_place value place b at.known.below in
+      ⊎_elim
+      (λ few. let fit = nine_fit few in omega arith)
+      (λ nine. let last : i ≡ 9 = omega arith in let tenth_place : place ≡ 2 ^ 63 = rw last at power in let low = rw tenth_place at below in let group = rw tenth_place at fits in rw tenth_place (omega arith))
+      (cases_lt i 9)
+
+  -- the last byte
+  pub last_read : 128 ≤ b → b % 128 * place < 2 ^ 64 → Some (value + b % 128 * place, drop (i + 1) bytes) ≡ vint_at most (2 ^ 64) bytes
+  last_read high fits =
+      vint_at-found most (2 ^ 64) (value + b % 128 * place) bytes (drop (i + 1) bytes) (reading-high most bytes i value place b at.known.reading at.left at.within at.byte high) (sum_fits fits)
+
+  -- one that is not
+  pub low_read : b < 128 → IsReadingLong most bytes (i + 1) (value + b % 128 * place) (place * 128)
+  low_read low =
+      let power = at.known.power in
+      record {
+        reading = reading-low most bytes i value place b at.known.reading at.left at.within at.byte low;
+        power = rw (add-one, pow-suc) (omega arith);
+        below = next_place value place b at.known.below;
+      }
+
+pub first_read : (most : ℕ) (bytes : List ℕ) → IsReadingLong most bytes 0 0 1
+first_read most bytes = record { reading = reading-first most bytes; power = refl; below = omega arith }
+
+pub all_read : (most : ℕ) (bytes : List ℕ) (i value place : ℕ) → IsReadingLong most bytes i value place → length bytes ≤ i → None ≡ vint_at most (2 ^ 64) bytes
+all_read most bytes i value place known end = vint_at-none most (2 ^ 64) bytes (reading-short most bytes i value place known.reading end)
+
+pub full_read : (most : ℕ) (bytes : List ℕ) (i value place : ℕ) → IsReadingLong most bytes i value place → i ≡ most → None ≡ vint_at most (2 ^ 64) bytes
+full_read most bytes i value place known full = vint_at-none most (2 ^ 64) bytes (reading-full most bytes i value place known.reading full)
+
+-- what is read below a limit, where it was read below a greater one
+abbrev below_limit : ℕ → Option (ℕ × List ℕ) → Option (ℕ × List ℕ)
+below_limit limit found = found >>= λ f. needs (nat_lt f.0 limit) >>= λ _. Some f
+
+none_below : (big limit : ℕ) (found : Option (ℕ × List ℕ)) → limit ≤ big → None ≡ below_limit big found → None ≡ below_limit limit found
+none_below big limit None less e = refl
+none_below big limit (Some (n, rest)) less e =
+    ⊎_elim (λ fits. absurd (let some = rw (lt-ltb n big fits) at e in cc)) (λ past. rw (le-ltb n limit (omega arith)) refl) (cases_lt n big)
+
+some_below : (big limit n : ℕ) (rest : List ℕ) (found : Option (ℕ × List ℕ)) → n < limit → Some (n, rest) ≡ below_limit big found → Some (n, rest) ≡ below_limit limit found
+some_below big limit n rest None fits e = absurd (cc)
+some_below big limit n rest (Some (m, others)) fits e =
+    ⊎_elim
+    (λ below. let both = some-same (rw (lt-ltb m big below) at e) in let same : n ≡ m = ap (λ (f : ℕ × List ℕ). f.0) both in rw (lt-ltb m limit (rw same at fits)) (rw (lt-ltb m big below) at e))
+    (λ past. absurd (let none = rw (le-ltb m big past) at e in cc))
+    (cases_lt m big)
+
+past_below : (big limit n : ℕ) (rest : List ℕ) (found : Option (ℕ × List ℕ)) → ¬ (n < limit) → Some (n, rest) ≡ below_limit big found → None ≡ below_limit limit found
+past_below big limit n rest None past e = absurd (cc)
+past_below big limit n rest (Some (m, others)) past e =
+    ⊎_elim
+    (λ below. let both = some-same (rw (lt-ltb m big below) at e) in let same : n ≡ m = ap (λ (f : ℕ × List ℕ). f.0) both in ⊎_elim (λ fits. absurd (past (rw same fits))) (λ large. rw (le-ltb m limit large) refl) (cases_lt m limit))
+    (λ none. absurd (let none = rw (le-ltb m big none) at e in cc))
+    (cases_lt m big)
+
+-- what a reader of 32 bits answers by one of 64
+pub u32_at-none : (bytes : List ℕ) → None ≡ vint_at 5 (2 ^ 64) bytes → None ≡ u32_at bytes
+unfolding u32_at
+u32_at-none bytes e = none_below (2 ^ 64) (2 ^ 32) (groups_at 5 bytes) (omega arith) e
+
+pub u32_at-some : (n : ℕ) (bytes rest : List ℕ) → n < 2 ^ 32 → Some (n, rest) ≡ vint_at 5 (2 ^ 64) bytes → Some (n, rest) ≡ u32_at bytes
+unfolding u32_at
+u32_at-some n bytes rest fits e = some_below (2 ^ 64) (2 ^ 32) n rest (groups_at 5 bytes) fits e
+
+pub u32_at-past : (n : ℕ) (bytes rest : List ℕ) → ¬ (n < 2 ^ 32) → Some (n, rest) ≡ vint_at 5 (2 ^ 64) bytes → None ≡ u32_at bytes
+unfolding u32_at
+u32_at-past n bytes rest past e = past_below (2 ^ 64) (2 ^ 32) n rest (groups_at 5 bytes) past e

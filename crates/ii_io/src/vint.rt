@@ -1,6 +1,6 @@
 ghost use Rattle.std.specs.Prelude.{◌≡◌, ◌+◌, ◌^◌, ◌<◌, ◌≤◌, ◌++◌, length, take, drop, IfSome};
 ghost use Rattle.std.specs.Option.{option_map};
-ghost use Rattle.ii_io.specs.Vints.{u32_at, u64_at, vint_u32, vint_u64, ReadsWhatIsSpelled, SpellsInFewest};
+ghost use Rattle.ii_io.specs.Vints.{u32_at, u64_at, vint_at, vint_u32, vint_u64, ReadsWhatIsSpelled, SpellsInFewest};
 
 use super::counting_writer::CountingWriter;
 use super::faults::Fault;
@@ -21,22 +21,13 @@ pub fn read_u32(bytes: &[u8]) -> Option<(u32, usize)>
     ensures value { option_map (λ read. (read.0, drop read.1 bytes.now)) result ≡ u32_at bytes.now }
     ensures within { IfSome result (λ read. read.1 ≤ length bytes.now) }
 {
-    let mut value: u64 = 0;
-    let mut place: u64 = 1;
-    for (i, byte) in bytes.iter().enumerate() {
-        if i == MAX_VINT_SIZE {
-            return None;
-        }
-        value += u64::from(*byte % 128) * place;
-        if *byte >= 128 {
-            let Ok(number) = u32::try_from(value) else {
-                return None;
-            };
-            return Some((number, i + 1));
-        }
-        place *= 128;
-    }
-    None
+    let Some((number, used)) = read_groups(bytes, MAX_VINT_SIZE) else {
+        return None;
+    };
+    let Ok(number) = u32::try_from(number) else {
+        return None;
+    };
+    Some((number, used))
 }
 
 /// The number of 64 bits that is spelled at the front of `bytes`, and how many bytes spell it, 1 to
@@ -45,20 +36,32 @@ pub fn read_u64(bytes: &[u8]) -> Option<(u64, usize)>
     ensures value { option_map (λ read. (read.0, drop read.1 bytes.now)) result ≡ u64_at bytes.now }
     ensures within { IfSome result (λ read. read.1 ≤ length bytes.now) }
 {
-    let mut value: u128 = 0;
-    let mut place: u128 = 1;
+    read_groups(bytes, MAX_LONG_VINT_SIZE)
+}
+
+// The number of 64 bits that `most` bytes or fewer spell at the front, and how many do.
+fn read_groups(bytes: &[u8], most: usize) -> Option<(u64, usize)>
+    requires { most ≤ 10 }
+    ensures value { option_map (λ read. (read.0, drop read.1 bytes.now)) result ≡ vint_at most (2 ^ 64) bytes.now }
+    ensures within { IfSome result (λ read. read.1 ≤ length bytes.now) }
+{
+    let mut value: u64 = 0;
+    let mut place: u64 = 1;
     for (i, byte) in bytes.iter().enumerate() {
-        if i == MAX_LONG_VINT_SIZE {
+        if i == most {
             return None;
         }
-        value += u128::from(*byte % 128) * place;
+        let Some(group) = u64::from(*byte % 128).checked_mul(place) else {
+            return None;
+        };
+        value += group;
         if *byte >= 128 {
-            let Ok(number) = u64::try_from(value) else {
-                return None;
-            };
-            return Some((number, i + 1));
+            return Some((value, i + 1));
         }
-        place *= 128;
+        let Some(next) = place.checked_mul(128) else {
+            return None;
+        };
+        place = next;
     }
     None
 }
@@ -91,13 +94,13 @@ pub fn write_u64(value: u64, output: &mut [u8], start: usize) -> usize
     ensures within { result ≤ start + 10 }
 {
     let mut end = start;
-    let mut high = value;
-    while high >= 128 {
-        output[end] = (high % 128) as u8;
+    let mut left = value;
+    while left >= 128 {
+        output[end] = (left % 128) as u8;
         end += 1;
-        high /= 128;
+        left /= 128;
     }
-    output[end] = high as u8 + 128;
+    output[end] = left as u8 + 128;
     end + 1
 }
 
