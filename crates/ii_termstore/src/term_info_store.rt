@@ -4,6 +4,8 @@ ghost use Rattle.ii_termstore.specs.TermStore.{block_count, block_terms, has_blo
 
 mod block;
 pub mod block_meta;
+mod gathered_blocks;
+mod given_terms;
 mod packing;
 pub mod store_writer;
 
@@ -14,6 +16,9 @@ use bytes::Bytes;
 use ii_io::{BinarySerializable, Fault, Part};
 use std::marker::Model;
 pub use store_writer::TermInfoStoreWriter;
+
+/// How many terms a block has; the last one may have fewer.
+pub const BLOCK_LEN: usize = 256;
 
 /// A list of term infos, over bytes that were checked whole. Clauses see the list.
 #[derive(Drop)]
