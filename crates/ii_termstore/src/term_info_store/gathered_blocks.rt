@@ -8,9 +8,10 @@ ghost use Rattle.ii_termstore.specs.Written.{AreNarrow, FitsBlock, HaveLengths, 
 ghost use Rattle.ii_termstore.specs.TermInfoStoreWriter.{AreGathered, open_meta, open_bits};
 ghost use Rattle.ii_codes.specs.Bits.{bits_bytes};
 
+use super::BLOCK_LEN;
 use super::block_meta::{TermInfoBlockMeta, put_meta};
 use super::packing::{MAX_BLOCK_BYTES, meta_of, pack_block};
-use super::{BLOCK_LEN, count_blocks};
+use super::store_view::count_blocks;
 use crate::term_info::{TermInfo, put_u64};
 use ii_io::{BinarySerializable, CountingWriter, Fault, FixedSize, LimitName};
 use std::alloc::Global;
