@@ -1,6 +1,6 @@
 use Rattle.std.proofs.Common.{arith}
-use Rattle.ii_termdict.proofs.BuilderLemmas.{numbers_refused}
-use Rattle.ii_termdict.proofs.builder.put_numbers.Goals as goal
+use Rattle.ii_termdict.proofs.WriterLemmas.{numbers_refused}
+use Rattle.ii_termdict.proofs.writer.put_numbers.Goals as goal
 
 pub returns-then-is_err : goal.returns-then-is_err
 returns-then-is_err g c =
