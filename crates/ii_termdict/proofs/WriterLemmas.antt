@@ -2,7 +2,6 @@
 use Rattle.std.proofs.Common.{◌≡◌, ℕ, suc, ◌+◌, ◌<◌, List, [], ◌∷◌, ◌++◌, length, take, drop, get_or, Bool, Result, Ok, Err, true, false, ⊎_elim, inl, inr, refl, sym, ap, ◌∙◌, arith, append_assoc, length-append}
 use Rattle.std.specs.Prelude.{is_err, OnOk, OnErr, IfErr, IsErrOf, ◌⊎◌, Some, ◌-◌, ◌^◌}
 use Rattle.std.specs.List.{flat_map, slice_range, zip}
-use Rattle.std.specs.List.Sorted.{IsStrictlySortedBy}
 use Rattle.std.proofs.Math.Seq.{take-append_seam}
 use Rattle.std.proofs.lemmas.List.{append-nil, drop_at}
 use Rattle.ii_termstore.specs.TermStore.{term_store}
@@ -143,7 +142,3 @@ pub without_limit : (result : Result (Unit {0}) Fault) → IfErr result (λ e. (
     → IfErr result (λ e. (e ≡ OutOfMemory) ⊎ (e ≡ SerializerClosed))
 without_limit (Ok u) only never = tt
 without_limit (Err f) only never = ⊎_elim (λ memory. inl memory) (λ others. ⊎_elim (λ limit. absurd (never (ap (λ (e : Fault). Err e) limit))) (λ closed. inr closed) others) only
-
-pub none_ascend : AreAscending []
-unfolding IsStrictlySortedBy
-none_ascend = tt

@@ -101,8 +101,8 @@ fn piece(body: &[u8], start: usize, end: usize) -> &[u8]
     &body[start..end]
 }
 
-// Whether a key is below another by its bytes.
-fn is_key_below(key: &[u8], other: &[u8]) -> bool
+/// Whether a key is below another by its bytes.
+pub(crate) fn is_key_below(key: &[u8], other: &[u8]) -> bool
     ensures { result ≡ is_below key.now other.now }
 {
     key.cmp(other) == Ordering::Less
