@@ -6,4 +6,5 @@ pub mod PackedLaws
 pub mod PackedLemmas
 pub mod SortedVintLemmas
 pub mod WidthLemmas
+pub mod WindowLemmas
 pub mod WorkedRows

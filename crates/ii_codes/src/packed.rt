@@ -1,4 +1,4 @@
-ghost use Rattle.std.specs.Prelude.{◌≡◌, ℕ, ◌+◌, ◌*◌, ◌^◌, ◌<◌, ◌≤◌, true, length, take, drop, slice_index, IfSome};
+ghost use Rattle.std.specs.Prelude.{◌≡◌, ℕ, ◌+◌, ◌*◌, ◌-◌, ◌^◌, ◌<◌, ◌≤◌, ◌++◌, true, length, take, drop, replicate, slice_index, IfSome};
 ghost use Rattle.std.specs.Bool.{OnTrue};
 ghost use Rattle.std.specs.List.Sorted.{IsStrictlyIncreasing};
 ghost use Rattle.std.specs.Option.{option_map};
@@ -7,20 +7,50 @@ ghost use Rattle.ii_codes.specs.Blocks.{gap_of, least_first, values_from, sorted
 ghost use Rattle.ii_codes.specs.Sums.{fit_u32};
 
 use super::{COMPRESSION_BLOCK_SIZE, compressed_block_size};
+use byteorder::{ByteOrder, LittleEndian};
+
+/// A block of entries of 32 bits and eight bytes more.
+const PADDED_BLOCK_SIZE: usize = 520;
+
+/// The first 64 bits of bytes as one number, the lowest first.
+#[inline(always)]
+fn window(bytes: &[u8]) -> u64
+    requires { 8 ≤ length bytes.now }
+    ensures { result ≡ bits_in 8 bytes.now 0 64 }
+{
+    LittleEndian::read_u64(bytes)
+}
+
+/// Fewer than eight bytes, and zero bytes after them.
+fn padded(bytes: &[u8]) -> [u8; 8]
+    requires { length bytes.now < 8 }
+    ensures { result ≡ bytes.now ++ replicate (8 - length bytes.now) 0 }
+{
+    let mut window = [0u8; 8];
+    window[..bytes.len()].copy_from_slice(bytes);
+    window
+}
+
+/// The first 64 bits of bytes, where bits past their end are 0.
+#[inline(always)]
+fn window_or_less(bytes: &[u8]) -> u64
+    ensures { result ≡ bits_in 8 bytes.now 0 64 }
+{
+    if bytes.len() >= 8 {
+        return window(bytes);
+    }
+    window(&padded(bytes))
+}
 
 /// The number that `width` bits of `bytes` make from bit `place` on, the lowest first.
+#[inline(always)]
 pub(crate) fn read_bits(bytes: &[u8], place: usize, width: u8) -> u64
-    requires narrow { width ≤ 64 }
+    requires narrow { width ≤ 56 }
     requires within { place + width ≤ 8 * length bytes.now }
     ensures { result ≡ bits_in 8 bytes.now place width }
 {
-    let mut value = 0u64;
-    for i in 0..width {
-        let bit = place % 8 + usize::from(i);
-        let byte = bytes[place / 8 + bit / 8];
-        value += u64::from((byte >> (bit % 8)) % 2) << i;
-    }
-    value
+    let window = window_or_less(&bytes[place / 8..]);
+    (window >> (place % 8)) % (1 << width)
 }
 
 /// The byte that eight bits of 128 entries of `width` bits make from bit `place` on.
@@ -41,6 +71,90 @@ fn read_byte(entries: &[u32], width: u8, place: usize) -> u8
     byte
 }
 
+/// Entry `i` of the eight whose first bit is that of byte `group * width`.
+#[inline(always)]
+fn entry_of(bytes: &[u8], width: usize, group: usize, i: usize) -> u32
+    requires narrow { width ≤ 32 }
+    requires enough { 16 * width + 8 ≤ length bytes.now }
+    requires group { group < 16 }
+    requires near { i < 8 }
+    ensures { result ≡ bits_in 8 bytes.now ((8 * group + i) * width) width }
+{
+    let bit = i * width;
+    let window = window(&bytes[group * width + bit / 8..]);
+    ((window >> (bit % 8)) % (1 << width)) as u32
+}
+
+/// Unpacks entries of a width that is known where this is compiled, so that shifts are constants.
+/// Eight bytes more than the block's are at hand.
+#[inline(never)]
+fn unpack_width<const W: usize>(bytes: &[u8], output: &mut [u32])
+    requires narrow { W ≤ 32 }
+    requires enough { 16 * W + 8 ≤ length bytes.now }
+    requires room { length output.old ≡ 128 }
+    ensures { output.new ≡ unpacked W bytes.now }
+{
+    for group in 0..16usize {
+        for i in 0..8usize {
+            output[8 * group + i] = entry_of(bytes, W, group, i);
+        }
+    }
+}
+
+/// Unpacks entries, where eight bytes more than the block's are at hand.
+fn unpack_from(bytes: &[u8], width: u8, output: &mut [u32])
+    requires narrow { width ≤ 32 }
+    requires enough { 16 * width + 8 ≤ length bytes.now }
+    requires room { length output.old ≡ 128 }
+    ensures { output.new ≡ unpacked width bytes.now }
+{
+    match width {
+        0 => unpack_width::<0>(bytes, output),
+        1 => unpack_width::<1>(bytes, output),
+        2 => unpack_width::<2>(bytes, output),
+        3 => unpack_width::<3>(bytes, output),
+        4 => unpack_width::<4>(bytes, output),
+        5 => unpack_width::<5>(bytes, output),
+        6 => unpack_width::<6>(bytes, output),
+        7 => unpack_width::<7>(bytes, output),
+        8 => unpack_width::<8>(bytes, output),
+        9 => unpack_width::<9>(bytes, output),
+        10 => unpack_width::<10>(bytes, output),
+        11 => unpack_width::<11>(bytes, output),
+        12 => unpack_width::<12>(bytes, output),
+        13 => unpack_width::<13>(bytes, output),
+        14 => unpack_width::<14>(bytes, output),
+        15 => unpack_width::<15>(bytes, output),
+        16 => unpack_width::<16>(bytes, output),
+        17 => unpack_width::<17>(bytes, output),
+        18 => unpack_width::<18>(bytes, output),
+        19 => unpack_width::<19>(bytes, output),
+        20 => unpack_width::<20>(bytes, output),
+        21 => unpack_width::<21>(bytes, output),
+        22 => unpack_width::<22>(bytes, output),
+        23 => unpack_width::<23>(bytes, output),
+        24 => unpack_width::<24>(bytes, output),
+        25 => unpack_width::<25>(bytes, output),
+        26 => unpack_width::<26>(bytes, output),
+        27 => unpack_width::<27>(bytes, output),
+        28 => unpack_width::<28>(bytes, output),
+        29 => unpack_width::<29>(bytes, output),
+        30 => unpack_width::<30>(bytes, output),
+        31 => unpack_width::<31>(bytes, output),
+        _ => unpack_width::<32>(bytes, output),
+    }
+}
+
+/// A block, and zero bytes after it.
+fn padded_block(bytes: &[u8]) -> [u8; PADDED_BLOCK_SIZE]
+    requires { length bytes.now ≤ 512 }
+    ensures { result ≡ bytes.now ++ replicate (520 - length bytes.now) 0 }
+{
+    let mut block = [0u8; PADDED_BLOCK_SIZE];
+    block[..bytes.len()].copy_from_slice(bytes);
+    block
+}
+
 /// Puts the 128 entries of `width` bits that `bytes` begin with into `output`.
 pub(crate) fn unpack(bytes: &[u8], width: u8, output: &mut [u32])
     requires narrow { width ≤ 32 }
@@ -48,9 +162,12 @@ pub(crate) fn unpack(bytes: &[u8], width: u8, output: &mut [u32])
     requires room { length output.old ≡ 128 }
     ensures { output.new ≡ unpacked width bytes.now }
 {
-    for k in 0..COMPRESSION_BLOCK_SIZE {
-        output[k] = read_bits(bytes, k * usize::from(width), width) as u32;
+    let size = compressed_block_size(width);
+    if bytes.len() - size >= 8 {
+        unpack_from(bytes, width, output);
+        return;
     }
+    unpack_from(&padded_block(&bytes[..size]), width, output);
 }
 
 /// Puts the bytes of 128 entries of `width` bits in front of `output`.
