@@ -2,8 +2,10 @@ pub mod BitLaws
 pub mod BitLemmas
 pub mod BlockLaws
 pub mod BlockLemmas
+pub mod PackLemmas
 pub mod PackedLaws
 pub mod PackedLemmas
+pub mod PrefixLemmas
 pub mod SortedVintLemmas
 pub mod WidthLemmas
 pub mod WindowLemmas

@@ -44,15 +44,24 @@ little_bits row (suc n) i h =
     rw (sum, bits_in-split 8 row (i * 8) 8 (n * 8), byte, ih, next) refl
 
 -- w bits of a number of n bits, from bit s on
-pub window_cut : (row : List ℕ) (place n s w x : ℕ) → x ≡ bits_in 8 row place n → s + w ≤ n → x / 2 ^ s % 2 ^ w ≡ bits_in 8 row (place + s) w
-window_cut row place n s w x e within =
+pub window_cut : (v : ℕ) (row : List ℕ) (place n s w x : ℕ) → x ≡ bits_in v row place n → s + w ≤ n → x / 2 ^ s % 2 ^ w ≡ bits_in v row (place + s) w
+window_cut v row place n s w x e within =
     let whole : n ≡ s + (w + (n - s - w)) = omega arith in
-    let low = bits_in-split 8 row place s (w + (n - s - w)) in
-    let mid = bits_in-split 8 row (place + s) w (n - s - w) in
+    let low = bits_in-split v row place s (w + (n - s - w)) in
+    let mid = bits_in-split v row (place + s) w (n - s - w) in
     let parts = rw (← whole) at low in
-    let value : x ≡ bits_in 8 row (place + s) (w + (n - s - w)) * 2 ^ s + bits_in 8 row place s = rw (e, parts) (omega arith) in
-    let above : bits_in 8 row (place + s) (w + (n - s - w)) ≡ bits_in 8 row (place + s + w) (n - s - w) * 2 ^ w + bits_in 8 row (place + s) w = rw mid (omega arith) in
-    rw (value, div-mul-add (bits_in 8 row (place + s) (w + (n - s - w))) (2 ^ s) (bits_in 8 row place s) (bits_in-lt 8 row place s), above) (mod-mul-add (bits_in 8 row (place + s + w) (n - s - w)) (2 ^ w) (bits_in 8 row (place + s) w) (bits_in-lt 8 row (place + s) w))
+    let value : x ≡ bits_in v row (place + s) (w + (n - s - w)) * 2 ^ s + bits_in v row place s = rw (e, parts) (omega arith) in
+    let above : bits_in v row (place + s) (w + (n - s - w)) ≡ bits_in v row (place + s + w) (n - s - w) * 2 ^ w + bits_in v row (place + s) w = rw mid (omega arith) in
+    rw (value, div-mul-add (bits_in v row (place + s) (w + (n - s - w))) (2 ^ s) (bits_in v row place s) (bits_in-lt v row place s), above) (mod-mul-add (bits_in v row (place + s + w) (n - s - w)) (2 ^ w) (bits_in v row (place + s) w) (bits_in-lt v row (place + s) w))
+
+-- what is left of it from bit s on
+pub window_rest : (v : ℕ) (row : List ℕ) (place n s x : ℕ) → x ≡ bits_in v row place n → s ≤ n → x / 2 ^ s ≡ bits_in v row (place + s) (n - s)
+window_rest v row place n s x e within =
+    let whole : n ≡ s + (n - s) = omega arith in
+    let low = bits_in-split v row place s (n - s) in
+    let parts = rw (← whole) at low in
+    let value : x ≡ bits_in v row (place + s) (n - s) * 2 ^ s + bits_in v row place s = rw (e, parts) (omega arith) in
+    rw value (div-mul-add (bits_in v row (place + s) (n - s)) (2 ^ s) (bits_in v row place s) (bits_in-lt v row place s))
 
 -- bits from byte s on
 pub bits_in-drop : (row : List ℕ) (s place n : ℕ) → bits_in 8 (drop s row) place n ≡ bits_in 8 row (s * 8 + place) n
@@ -91,7 +100,7 @@ read_window row rest place w x shape e narrow =
     let power : 1 * 2 ^ w ≡ 2 ^ w = omega arith in
     let bit : 0 + place % 8 ≡ place % 8 = omega arith in
     let there : place / 8 * 8 + place % 8 ≡ place = omega arith in
-    let cut = rw bit at (window_cut rest 0 64 (place % 8) w x e (omega arith)) in
+    let cut = rw bit at (window_cut 8 rest 0 64 (place % 8) w x e (omega arith)) in
     let moved = rw there at (bits_in-drop row (place / 8) (place % 8) w) in
     rw (one, power) (cut ∙ ap (λ (xs : List ℕ). bits_in 8 xs (place % 8) w) shape ∙ moved)
 
@@ -105,7 +114,7 @@ group_entry row g i w b x here e narrow =
     let one : 1 * 2 ^ w % 2 ^ 64 ≡ 1 * 2 ^ w = shl_whole 1 1 w 64 (omega arith) (omega arith) in
     let power : 1 * 2 ^ w ≡ 2 ^ w = omega arith in
     let bit : 0 + b % 8 ≡ b % 8 = omega arith in
-    let cut = rw bit at (window_cut (drop (g * w + b / 8) row) 0 64 (b % 8) w x e (omega arith)) in
+    let cut = rw bit at (window_cut 8 (drop (g * w + b / 8) row) 0 64 (b % 8) w x e (omega arith)) in
     rw (one, power, place) (cut ∙ bits_in-drop row (g * w + b / 8) (b % 8) w)
 
 -- a block and zero bytes after it

@@ -2,6 +2,7 @@ ghost use Rattle.std.specs.Prelude.{◌≡◌, ℕ, ◌+◌, ◌*◌, ◌-◌, �
 ghost use Rattle.std.specs.Bool.{OnTrue};
 ghost use Rattle.std.specs.List.Sorted.{IsStrictlyIncreasing};
 ghost use Rattle.std.specs.Option.{option_map};
+ghost use Rattle.std.specs.Int.{bytes_low_first};
 ghost use Rattle.ii_codes.specs.Packed.{bits_in, unpacked, packed, least_width, HoldsWhatIsUnpacked, HoldsWhatIsPacked, HoldsFromLeastWidth};
 ghost use Rattle.ii_codes.specs.Blocks.{gap_of, least_first, values_from, sorted_entries, unsorted_values, unsorted_entries, sorted_block_at, unsorted_block_at, sorted_width, sorted_bytes, unsorted_width, unsorted_bytes, ReadsSortedBlocks, ReadsUnsortedBlocks};
 ghost use Rattle.ii_codes.specs.Sums.{fit_u32};
@@ -51,24 +52,6 @@ pub(crate) fn read_bits(bytes: &[u8], place: usize, width: u8) -> u64
 {
     let window = window_or_less(&bytes[place / 8..]);
     (window >> (place % 8)) % (1 << width)
-}
-
-/// The byte that eight bits of 128 entries of `width` bits make from bit `place` on.
-fn read_byte(entries: &[u32], width: u8, place: usize) -> u8
-    requires many { length entries.now ≡ 128 }
-    requires narrow { width ≤ 32 }
-    requires within { place + 8 ≤ 128 * width }
-    ensures { result ≡ bits_in width entries.now place 8 }
-{
-    let width = usize::from(width);
-    let mut byte = 0u8;
-    for i in 0..8u8 {
-        let bit = place + usize::from(i);
-        let entry = entries[bit / width];
-        let value = ((entry >> (bit % width)) % 2) as u8;
-        byte += value << i;
-    }
-    byte
 }
 
 /// Entry `i` of the eight whose first bit is that of byte `group * width`.
@@ -170,6 +153,42 @@ pub(crate) fn unpack(bytes: &[u8], width: u8, output: &mut [u32])
     unpack_from(&padded_block(&bytes[..size]), width, output);
 }
 
+/// Writes a word of 32 bits at byte `end`, the lowest byte first.
+#[inline(always)]
+fn put_word(output: &mut [u8], end: usize, word: u32)
+    requires { end + 4 ≤ length output.old }
+    ensures { take (end + 4) output.new ≡ take end output.old ++ bytes_low_first 0 4 word }
+{
+    LittleEndian::write_u32(&mut output[end..], word);
+}
+
+/// Packs entries of a width that is known where this is compiled, so that shifts are constants:
+/// 32 entries fill as many words of 32 bits as a width has bits.
+#[inline(never)]
+fn pack_width<const W: usize>(entries: &[u32], output: &mut [u8])
+    requires many { length entries.now ≡ 128 }
+    requires narrow { W ≤ 32 }
+    requires room { 16 * W ≤ length output.old }
+    ensures { take (16 * W) output.new ≡ packed W entries.now }
+{
+    for group in 0..4usize {
+        let mut end = 4 * group * W;
+        let mut word = 0u64;
+        let mut bits = 0;
+        for i in 0..32usize {
+            word += (u64::from(entries[32 * group + i]) % (1 << W)) << bits;
+            bits += W;
+            if bits < 32 {
+                continue;
+            }
+            put_word(output, end, (word % (1 << 32)) as u32);
+            end += 4;
+            word >>= 32;
+            bits -= 32;
+        }
+    }
+}
+
 /// Puts the bytes of 128 entries of `width` bits in front of `output`.
 pub(crate) fn pack(entries: &[u32], width: u8, output: &mut [u8])
     requires many { length entries.now ≡ 128 }
@@ -177,8 +196,40 @@ pub(crate) fn pack(entries: &[u32], width: u8, output: &mut [u8])
     requires room { 16 * width ≤ length output.old }
     ensures { take (16 * width) output.new ≡ packed width entries.now }
 {
-    for j in 0..compressed_block_size(width) {
-        output[j] = read_byte(entries, width, j * 8);
+    match width {
+        0 => pack_width::<0>(entries, output),
+        1 => pack_width::<1>(entries, output),
+        2 => pack_width::<2>(entries, output),
+        3 => pack_width::<3>(entries, output),
+        4 => pack_width::<4>(entries, output),
+        5 => pack_width::<5>(entries, output),
+        6 => pack_width::<6>(entries, output),
+        7 => pack_width::<7>(entries, output),
+        8 => pack_width::<8>(entries, output),
+        9 => pack_width::<9>(entries, output),
+        10 => pack_width::<10>(entries, output),
+        11 => pack_width::<11>(entries, output),
+        12 => pack_width::<12>(entries, output),
+        13 => pack_width::<13>(entries, output),
+        14 => pack_width::<14>(entries, output),
+        15 => pack_width::<15>(entries, output),
+        16 => pack_width::<16>(entries, output),
+        17 => pack_width::<17>(entries, output),
+        18 => pack_width::<18>(entries, output),
+        19 => pack_width::<19>(entries, output),
+        20 => pack_width::<20>(entries, output),
+        21 => pack_width::<21>(entries, output),
+        22 => pack_width::<22>(entries, output),
+        23 => pack_width::<23>(entries, output),
+        24 => pack_width::<24>(entries, output),
+        25 => pack_width::<25>(entries, output),
+        26 => pack_width::<26>(entries, output),
+        27 => pack_width::<27>(entries, output),
+        28 => pack_width::<28>(entries, output),
+        29 => pack_width::<29>(entries, output),
+        30 => pack_width::<30>(entries, output),
+        31 => pack_width::<31>(entries, output),
+        _ => pack_width::<32>(entries, output),
     }
 }
 
@@ -212,24 +263,23 @@ fn least_first(strict: bool, offset: u32) -> u64
     }
 }
 
-/// Makes entries the values of a sorted block, of which the first is at least `least` and each
-/// other one at least `gap` above the one before it. False where a value passes `u32::MAX`.
+/// Makes 128 entries the values of a sorted block, of which the first is at least `least` and each
+/// other one at least `gap` above the one before it. False where a value passes `u32::MAX`: since
+/// values don't fall, the last one tells.
 fn prefix_sum(output: &mut [u32], gap: u64, least: u64) -> bool
+    requires many { length output.old ≡ 128 }
     requires gap { gap ≤ 1 }
-    requires least { least ≤ 2 ^ 32 }
+    requires least { least < 2 ^ 32 + gap }
     ensures fits { result ≡ fit_u32 (values_from gap least output.old) }
     ensures values { OnTrue result (output.new ≡ values_from gap least output.old) }
 {
     let mut next = least;
-    for k in 0..output.len() {
-        let value = next + u64::from(output[k]);
-        let Ok(number) = u32::try_from(value) else {
-            return false;
-        };
-        output[k] = number;
-        next = value + gap;
+    for k in 0..COMPRESSION_BLOCK_SIZE {
+        let entry = u64::from(output[k]);
+        output[k] = ((next + entry) % (1 << 32)) as u32;
+        next += entry + gap;
     }
-    true
+    next < (1 << 32) + gap
 }
 
 /// Adds one to each entry. False where one is `u32::MAX`.
