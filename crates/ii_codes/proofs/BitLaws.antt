@@ -6,7 +6,8 @@ use Rattle.ii_codes.specs.Packed.{bit_in, bits_in, entries_in}
 use Rattle.ii_codes.specs.Bits.{low_bits, whole_bytes, bits_left, bits_bytes, WritesOneRow, ReadsFromItsPlace}
 use Rattle.ii_codes.proofs.PackedLemmas.{same_as_bits_in, entries_in-zero, entries_in-more, length-entries_in, bit_in-entries_in}
 use Rattle.ii_codes.proofs.PackedLaws.{bits_in_same, bits_in-append}
-use Rattle.ii_codes.proofs.BitLemmas.{length-low_bits, get_or-low_bits}
+use Rattle.ii_codes.specs.BitsLemmas.{length-low_bits, length-bits_left}
+use Rattle.ii_codes.proofs.BitLemmas.{get_or-low_bits}
 
 -- entries of the front
 front_entries : (p q : List ℕ) (n : ℕ) → n * 8 ≤ length p → entries_in 1 8 n (p ++ q) ≡ entries_in 1 8 n p
@@ -58,9 +59,6 @@ rows_join xs ys m total e =
     let size = length-take-le (length xs / 8 * 8) xs within in
     let parts = ap (λ (zs : List ℕ). zs ++ ys) (split_row xs) ∙ append_assoc (take (length xs / 8 * 8) xs) (bits_left xs) ys in
     rw (e, whole_is xs) (ap (entries_in 1 8 (length xs / 8 + m)) parts ∙ aligned (take (length xs / 8 * 8) xs) (bits_left xs ++ ys) (length xs / 8) m size)
-
-length-bits_left : (xs : List ℕ) → length (bits_left xs) ≡ length xs % 8
-length-bits_left xs = omega (arith, length-drop (length xs / 8 * 8) xs)
 
 whole_join : (xs ys : List ℕ) → whole_bytes xs ++ whole_bytes (bits_left xs ++ ys) ≡ whole_bytes (xs ++ ys)
 unfolding whole_bytes

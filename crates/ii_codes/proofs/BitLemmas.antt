@@ -1,17 +1,14 @@
 -- Laws of rows of single bits.
-use Rattle.std.proofs.Common.{◌≡◌, ℕ, zero, suc, ◌+◌, ◌-◌, ◌*◌, ◌/◌, ◌%◌, ◌^◌, ◌<◌, ◌≤◌, List, [], ◌∷◌, ◌++◌, length, take, drop, get_or, refl, sym, ap, ◌∙◌, arith, length-append, length-drop, min, ⊎_elim, Result, Ok, Err}
-use Rattle.std.specs.Prelude.{OnOk}
+use Rattle.std.proofs.Common.{◌≡◌, ℕ, zero, suc, ◌+◌, ◌-◌, ◌*◌, ◌/◌, ◌%◌, ◌^◌, ◌<◌, ◌≤◌, List, [], ◌∷◌, ◌++◌, length, take, drop, get_or, refl, sym, ap, ◌∙◌, arith, length-append, length-drop, min, ⊎_elim}
+use Rattle.std.specs.Prelude.{slice_set}
 use Rattle.std.proofs.lemmas.Bool.{cases_lt}
 use Rattle.std.proofs.lemmas.Nat.Bits.{bit_at-suc, bit_at_lowest, bit_at-lt}
 use Rattle.std.proofs.lemmas.List.{append-nil, same_lists, get_or_append_left, get_or-append_right, get_or_past, get_or-drop, get_or_default}
 use Rattle.std.specs.Int.{bit_at}
 use Rattle.ii_codes.specs.Packed.{bit_in, bits_in, entries_in}
 use Rattle.ii_codes.specs.Bits.{low_bits, whole_bytes, bits_left, bits_bytes}
+use Rattle.ii_codes.specs.BitsLemmas.{length-low_bits}
 use Rattle.ii_codes.proofs.PackedLemmas.{bits_in-lt, bit_at-bits_in, bits_in-push, same_as_bits_in, length-entries_in, entries_in-zero, entries_in-more, read_more}
-
-pub length-low_bits : (w n : ℕ) → length (low_bits w n) ≡ w
-length-low_bits zero n = refl
-length-low_bits (suc w) n = ap suc (length-low_bits w (n / 2))
 
 pub get_or-low_bits : (w n i : ℕ) → i < w → get_or (low_bits w n) i 0 ≡ bit_at n i
 get_or-low_bits zero n i h = absurd (omega arith)
@@ -152,11 +149,8 @@ pub written_whole : (len low w val whole size : ℕ) (bytes : List ℕ) → whol
 written_whole len low w val whole size bytes e s h =
     rw s (all_whole (low_bits len low ++ low_bits w val) bytes whole (rw (length-two len low w val) e) h)
 
-pub length-written_whole : (len low w val whole size : ℕ) (bytes : List ℕ) → whole ≡ (len + w) / 8 → size ≡ whole → take whole bytes ≡ entries_in 1 8 whole (low_bits len low ++ low_bits w val)
-    → length (take size bytes) ≡ (length (low_bits len low) + w) / 8
-length-written_whole len low w val whole size bytes e s h =
-    rw (s, h, length-low_bits) (length-entries_in 1 8 whole (low_bits len low ++ low_bits w val) ∙ e)
-
-pub on_ok : {T E : Type 0} (r : Result T E) {P : Type 0} → P → OnOk r P
-on_ok (Ok x) p = p
-on_ok (Err e) p = tt
+pub finish_front : (n low : ℕ) (last : List ℕ) → n ≤ 1 → 0 < length last → take n (slice_set last 0 low) ≡ take n (low ∷ [])
+finish_front n low [] h some = absurd (omega arith)
+finish_front zero low (x ∷ xs) h some = refl
+finish_front (suc zero) low (x ∷ xs) h some = refl
+finish_front (suc (suc n)) low (x ∷ xs) h some = absurd (omega arith)

@@ -1,4 +1,5 @@
 pub mod Bits
+pub mod BitsLemmas
 pub mod BlockDecoder
 pub mod Blocks
 pub mod Packed

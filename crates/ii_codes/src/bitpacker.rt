@@ -1,5 +1,5 @@
-ghost use Rattle.std.specs.Prelude.{◌≡◌, ℕ, ◌+◌, ◌*◌, ◌/◌, ◌^◌, ◌<◌, ◌≤◌, ◌↔◌, ◌⊎◌, [], ◌++◌, length, slice_index, OnOk, OnErr, IfErr, IsErrOf};
-ghost use Rattle.ii_io.specs.CountingWriter.{Wrote, WrotePrefix, IsFull};
+ghost use Rattle.std.specs.Prelude.{◌≡◌, ◌+◌, ◌*◌, ◌/◌, ◌^◌, ◌<◌, ◌≤◌, ◌↔◌, [], ◌++◌, length, take, slice_index, IsErrOf};
+ghost use Rattle.ii_io.specs.CountingWriter.{Writes, IsFull};
 ghost use Rattle.ii_codes.specs.Packed.{bits_in, num_bits};
 ghost use Rattle.ii_codes.specs.Bits.{low_bits, whole_bytes, bits_left, bits_bytes, WritesOneRow, ReadsFromItsPlace};
 
@@ -28,9 +28,8 @@ pub fn extract_bits(bytes: &[u8], addr_bits: usize, num_bits: u8) -> u64
 }
 
 /// Writes numbers of any widths as one row of bits, the lowest first, and each whole byte at once.
-/// What it has still to write are fewer than eight bits.
-///
-/// After a fault nothing is known of it.
+/// What it has still to write are fewer than eight bits. Bytes that a fault kept from the writer are
+/// not written again.
 #[derive(Drop)]
 pub struct BitPacker {
     mini_buffer: u8,
@@ -59,6 +58,46 @@ impl BitPacker {
         }
     }
 
+    /// Adds the `num_bits` lowest bits of `val`, at most 64, which has no others, and puts the bytes
+    /// that are then whole at the front of `whole`, which has room for 8. Answers how many they are.
+    pub fn push(&mut self, val: u64, num_bits: u8, whole: &mut [u8]) -> usize
+        requires narrow { num_bits ≤ 64 }
+        requires fits { val < 2 ^ num_bits }
+        requires room { 8 ≤ length whole.old }
+        ensures bytes { take result whole.new ≡ whole_bytes (self.old ++ low_bits num_bits val) }
+        ensures count { result ≡ (length self.old + num_bits) / 8 }
+        ensures few { result ≤ 8 }
+        ensures size { length whole.new ≡ length whole.old }
+        ensures left { self.new ≡ bits_left (self.old ++ low_bits num_bits val) }
+    {
+        let (low, len) = (self.mini_buffer, self.mini_buffer_written);
+        let end = len + num_bits;
+        let count = end / 8;
+        for j in 0..count {
+            whole[usize::from(j)] = byte_of_bits(low, len, val, num_bits, j);
+        }
+        self.mini_buffer = byte_of_bits(low, len, val, num_bits, count);
+        self.mini_buffer_written = end % 8;
+        usize::from(count)
+    }
+
+    /// Puts the bits that are left, with zero bits up to the end of the byte, at the front of `last`.
+    /// Answers how many bytes they are, 0 or 1.
+    pub fn finish(&mut self, last: &mut [u8]) -> usize
+        requires room { 0 < length last.old }
+        ensures bytes { take result last.new ≡ bits_bytes self.old }
+        ensures count { result ≡ (length self.old + 7) / 8 }
+        ensures few { result ≤ 1 }
+        ensures size { length last.new ≡ length last.old }
+        ensures left { self.new ≡ [] }
+    {
+        let count = usize::from(self.mini_buffer_written.min(1));
+        last[0] = self.mini_buffer;
+        self.mini_buffer = 0;
+        self.mini_buffer_written = 0;
+        count
+    }
+
     /// Adds the `num_bits` lowest bits of `val`, at most 64, which has no others, and writes the
     /// bytes that are then whole. Answers `Write` where the writer fails, and `Limit(Offset)` where
     /// one of its counts would pass `u64::MAX`.
@@ -70,50 +109,32 @@ impl BitPacker {
     ) -> Result<(), Fault>
         requires narrow { num_bits ≤ 64 }
         requires fits { val < 2 ^ num_bits }
-        ensures ok { OnOk result (Wrote output.old output.new (whole_bytes (self.old ++ low_bits num_bits val))) }
-        ensures left { OnOk result (self.new ≡ bits_left (self.old ++ low_bits num_bits val)) }
-        ensures write { IsErrOf result Fault.Write ↔ (output.old.failed_calls < output.new.failed_calls) }
+        ensures written { Writes output.old output.new (whole_bytes (self.old ++ low_bits num_bits val)) result }
+        ensures left { self.new ≡ bits_left (self.old ++ low_bits num_bits val) }
         ensures limit { IsErrOf result (Fault.Limit LimitName.Offset) ↔ IsFull output.old ((length self.old + num_bits) / 8) }
-        ensures prefix { OnErr result (WrotePrefix output.old output.new (whole_bytes (self.old ++ low_bits num_bits val))) }
-        ensures only { IfErr result (λ e. (e ≡ Fault.Write) ⊎ (e ≡ Fault.Limit LimitName.Offset)) }
     {
-        let (low, len) = (self.mini_buffer, self.mini_buffer_written);
-        let end = len + num_bits;
-        let whole = end / 8;
         let mut bytes = [0u8; 8];
-        for j in 0..whole {
-            bytes[usize::from(j)] = byte_of_bits(low, len, val, num_bits, j);
-        }
-        self.mini_buffer = byte_of_bits(low, len, val, num_bits, whole);
-        self.mini_buffer_written = end % 8;
-        output.write_all(&bytes[..usize::from(whole)])
+        let count = self.push(val, num_bits, &mut bytes);
+        output.write_all(&bytes[..count])
     }
 
     /// Writes the bits that are left, with zero bits up to the end of the byte. Answers the faults
     /// of `write`.
     pub fn flush<W: Write>(&mut self, output: &mut CountingWriter<W>) -> Result<(), Fault>
-        ensures ok { OnOk result (Wrote output.old output.new (bits_bytes self.old)) }
-        ensures left { OnOk result (self.new ≡ []) }
-        ensures write { IsErrOf result Fault.Write ↔ (output.old.failed_calls < output.new.failed_calls) }
-        ensures limit { IsErrOf result (Fault.Limit LimitName.Offset) ↔ IsFull output.old (length (bits_bytes self.old)) }
-        ensures prefix { OnErr result (WrotePrefix output.old output.new (bits_bytes self.old)) }
-        ensures only { IfErr result (λ e. (e ≡ Fault.Write) ⊎ (e ≡ Fault.Limit LimitName.Offset)) }
+        ensures written { Writes output.old output.new (bits_bytes self.old) result }
+        ensures left { self.new ≡ [] }
+        ensures limit { IsErrOf result (Fault.Limit LimitName.Offset) ↔ IsFull output.old ((length self.old + 7) / 8) }
     {
-        let byte = [self.mini_buffer];
-        let size = usize::from(self.mini_buffer_written.min(1));
-        self.mini_buffer = 0;
-        self.mini_buffer_written = 0;
-        output.write_all(&byte[..size])
+        let mut byte = [0u8; 1];
+        let count = self.finish(&mut byte);
+        output.write_all(&byte[..count])
     }
 
     /// Writes the bits that are left, as `flush` does.
     pub fn close<W: Write>(&mut self, output: &mut CountingWriter<W>) -> Result<(), Fault>
-        ensures ok { OnOk result (Wrote output.old output.new (bits_bytes self.old)) }
-        ensures left { OnOk result (self.new ≡ []) }
-        ensures write { IsErrOf result Fault.Write ↔ (output.old.failed_calls < output.new.failed_calls) }
-        ensures limit { IsErrOf result (Fault.Limit LimitName.Offset) ↔ IsFull output.old (length (bits_bytes self.old)) }
-        ensures prefix { OnErr result (WrotePrefix output.old output.new (bits_bytes self.old)) }
-        ensures only { IfErr result (λ e. (e ≡ Fault.Write) ⊎ (e ≡ Fault.Limit LimitName.Offset)) }
+        ensures written { Writes output.old output.new (bits_bytes self.old) result }
+        ensures left { self.new ≡ [] }
+        ensures limit { IsErrOf result (Fault.Limit LimitName.Offset) ↔ IsFull output.old ((length self.old + 7) / 8) }
     {
         self.flush(output)
     }

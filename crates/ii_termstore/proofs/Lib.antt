@@ -6,3 +6,4 @@ pub mod WriterLemmas
 pub mod PieceLemmas
 pub mod RowLemmas
 pub mod ReadStoreLemmas
+pub mod GatherLemmas

@@ -1,6 +1,6 @@
 -- A piece among pieces that stand one after the other.
 use Rattle.ii_termstore.specs.ListLemmas.{behind_front}
-use Rattle.std.proofs.Common.{◌≡◌, ℕ, zero, suc, ◌+◌, ◌-◌, ◌*◌, ◌<◌, List, ◌++◌, length, drop, sym, ap, ◌∙◌, arith, length-append}
+use Rattle.std.proofs.Common.{◌≡◌, ℕ, zero, suc, ◌+◌, ◌-◌, ◌*◌, ◌<◌, ◌≤◌, List, ◌++◌, length, drop, refl, sym, ap, ◌∙◌, arith, length-append}
 use Rattle.std.specs.List.{flat_map, range_with_len}
 use Rattle.std.proofs.Math.Nat.{zero-mul, suc-mul}
 use Rattle.ii_termstore.proofs.WriterLemmas.{flat_more, flat_split}
@@ -30,3 +30,20 @@ length-pieces f size (suc b) h =
     let next : b * size + size ≡ suc b * size = omega (arith, suc-mul b size) in
     ap (λ (n : ℕ). length (flat_map f (range_with_len 0 n))) one ∙ ap length (flat_more f b) ∙ length-append (flat_map f (range_with_len 0 b)) (f b)
     ∙ ap (λ (n : ℕ). n + length (f b)) (length-pieces f size b h) ∙ ap (λ (n : ℕ). b * size + n) (h b) ∙ next
+
+-- more pieces have no fewer bytes
+pub pieces_le : (f : ℕ → List ℕ) (b m : ℕ) → length (flat_map f (range_with_len 0 b)) ≤ length (flat_map f (range_with_len 0 (b + m)))
+pieces_le f b zero = let same : b + 0 ≡ b = omega arith in rw same (omega arith)
+pieces_le f b (suc m) =
+    let one : b + suc m ≡ b + m + 1 = omega arith in
+    let ih = pieces_le f b m in
+    rw (one, flat_more f (b + m)) (omega (arith, length-append (flat_map f (range_with_len 0 (b + m))) (f (b + m))))
+
+-- pieces that are the same from 0 on
+pub pieces_same : (f g : ℕ → List ℕ) (n : ℕ) → ((k : ℕ) → k < n → f k ≡ g k) → flat_map f (range_with_len 0 n) ≡ flat_map g (range_with_len 0 n)
+pieces_same f g zero h = refl
+pieces_same f g (suc n) h =
+    let one : suc n ≡ n + 1 = omega arith in
+    let ih = pieces_same f g n (λ k within. h k (omega arith)) in
+    ap (λ (m : ℕ). flat_map f (range_with_len 0 m)) one ∙ flat_more f n ∙ ap (λ (bs : List ℕ). bs ++ f n) ih ∙ ap (λ (bs : List ℕ). flat_map g (range_with_len 0 n) ++ bs) (h n (omega arith)) ∙ sym (flat_more g n)
+    ∙ ap (λ (m : ℕ). flat_map g (range_with_len 0 m)) (sym one)

@@ -2,7 +2,6 @@
 use Rattle.std.proofs.Common.{◌≡◌, ℕ, zero, suc, ◌+◌, ◌-◌, ◌*◌, ◌/◌, ◌%◌, ◌^◌, ◌<◌, ◌≤◌, Bool, true, false, ◌||◌, List, [], ◌∷◌, ◌++◌, length, drop, map, get_or, max, nat_le, eqb, Some, refl, sym, ap, ◌∙◌, arith, append_assoc, length-append, length-drop}
 use Rattle.std.specs.List.{range_with_len}
 use Rattle.std.proofs.lemmas.Bool.{le-leb, lt-ltb, eq-eqb, ne_eqb}
-use Rattle.std.proofs.lemmas.Nat.{mul-le}
 use Rattle.std.proofs.lemmas.List.{drop_at, length-take, get_or-take, get_or-drop}
 use Rattle.std.proofs.lemmas.List.Concat.{length-flat_map}
 use Rattle.std.proofs.lemmas.List.FromFn.{fill_by_all}
@@ -17,9 +16,10 @@ use Rattle.ii_termstore.specs.TermStore.{meta_bytes, term_bits, block_bits, bloc
 use Rattle.ii_termstore.specs.TermStoreLemmas.{length_meta_bytes, reads_meta_back}
 use Rattle.ii_termstore.specs.Written.{first_of, last_of, largest, postings_behind, positions_behind, postings_end, positions_end, meta_for, block_row, block_of, block_bytes, offset_of, meta_at_block, metas_bytes, blocks_bytes, written_store, info_in, FitsBlock}
 use Rattle.ii_termstore.specs.ReadBack.{AreJoined, AreStorable, ReadsStoreBack}
-use Rattle.ii_termstore.proofs.PackLemmas.{length-bits_bytes, length-block_row}
-use Rattle.ii_termstore.proofs.WriterLemmas.{first_is, terms_fit, ends_fit, offset_more}
-use Rattle.ii_termstore.proofs.PieceLemmas.{piece_at, length-pieces}
+use Rattle.ii_codes.specs.BitsLemmas.{length-bits_bytes}
+use Rattle.ii_termstore.proofs.PackLemmas.{length-block_row}
+use Rattle.ii_termstore.proofs.WriterLemmas.{first_is, terms_fit, ends_fit}
+use Rattle.ii_termstore.proofs.PieceLemmas.{piece_at, length-pieces, pieces_le}
 use Rattle.ii_termstore.specs.ListLemmas.{all_pass}
 use Rattle.ii_termstore.proofs.RowLemmas.{Follow, later_is}
 
@@ -245,33 +245,13 @@ meta_known widths infos h joined b start =
     let low = are_low (info_in infos (256 * b)) (others_of infos b) itself (other_near infos h joined b start) in
     meta_is widths infos b (rw (first_is infos b) low)
 
-small_block : (infos : List TermInfo) (b : ℕ) (m : Meta) → 256 * b < length infos → IsMetaOf infos b m → length (block_bytes infos b) ≤ 8192
-small_block infos b m start known =
-    let size = length-others infos b start in
-    let bytes = ap length known.bits ∙ length-bits_bytes (block_row m (others_of infos b)) in
-    let row = length-block_row m (others_of infos b) in
-    let d = known.doc_freq in
-    let p = known.postings in
-    let q = known.positions in
-    let most = mul-le (length (others_of infos b)) (term_bits m) 255 144 (omega arith) (omega arith) in
-    omega arith
-
-offset_low : (infos : List TermInfo) (b : ℕ) → ((a : ℕ) → a < b → length (block_bytes infos a) ≤ 8192) → offset_of infos b ≤ 8192 * b
-offset_low infos zero h = omega arith
-offset_low infos (suc b) h =
-    let ih = offset_low infos b (λ a below. h a (omega arith)) in
-    let one : suc b ≡ b + 1 = omega arith in
-    let last = h b (omega arith) in
-    let more = offset_more infos b (offset_of infos b) (length (block_bytes infos b)) refl refl in
-    let next = ap (offset_of infos) one ∙ sym more in
-    rw next (omega arith)
-
 -- Where the bits of block b begin.
-offset_small : (widths : HoldsFromLeastWidth) (infos : List TermInfo) → AreStorable infos → AreJoined infos → (b : ℕ) → 256 * b < length infos → offset_of infos b < 256 ^ 8
-offset_small widths infos h joined b start =
-    let few = h.few in
-    let low = offset_low infos b
-    (λ a below. small_block infos a (meta_at_block infos a) (omega arith) (meta_known widths infos h joined a (omega arith))) in
+offset_small : (infos : List TermInfo) → AreStorable infos → (b : ℕ) → 256 * b < length infos → offset_of infos b < 256 ^ 8
+offset_small infos h b start =
+    let place = length-flat_map (block_bytes infos) (range_with_len 0 b) in
+    let full : b + (length infos / 256 - b) ≡ length infos / 256 = omega arith in
+    let low = rw full at (pieces_le (block_bytes infos) b (length infos / 256 - b)) in
+    let bits = h.bits in
     omega arith
 
 -- the meta of block b is read back
@@ -287,7 +267,7 @@ meta_read widths infos bits h joined b within =
     let good = first_good infos h b start in
     let same : (meta_at_block infos b).ref_term_info ≡ first_of (block_of infos b) = known.first ∙ sym (first_is infos b) in
     let offset = known.offset in
-    let small = offset_small widths infos h joined b start in
+    let small = offset_small infos h b start in
     let back = reads_meta_back (meta_at_block infos b) piece.0 (omega arith) (rw same good.range) (rw same good.lengths) in
     rw (piece.1, back) refl
 

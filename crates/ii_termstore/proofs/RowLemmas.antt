@@ -10,7 +10,8 @@ use Rattle.ii_termstore.specs.declared.term_info_store.block_meta.TermInfoBlockM
 use Rattle.ii_termstore.specs.TermInfos.{info_of}
 use Rattle.ii_termstore.specs.TermStore.{term_bits, postings_at, positions_at, doc_freq_at, later_info}
 use Rattle.ii_termstore.specs.Written.{term_row, block_row, info_in, last_of, postings_behind, positions_behind, postings_end, positions_end, FitsWidths, EndsFit, HaveLengths}
-use Rattle.ii_termstore.proofs.PackLemmas.{length-low_bits, length-rows, last_of-get_or}
+use Rattle.ii_codes.specs.BitsLemmas.{length-low_bits}
+use Rattle.ii_termstore.proofs.PackLemmas.{length-rows, last_of-get_or}
 use Rattle.ii_termstore.specs.ListLemmas.{flat_around}
 
 -- Two numbers stand at a place, one behind the other, in the widths of a block.

@@ -1,6 +1,7 @@
 pub mod ListLemmas
 pub mod ReadBack
 pub mod TermInfoLemmas
+pub mod TermInfoStoreWriter
 pub mod TermInfos
 pub mod TermStore
 pub mod TermStoreLemmas

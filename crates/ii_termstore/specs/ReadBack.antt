@@ -1,18 +1,19 @@
 -- The law of stores: what is written is read back.
-use Rattle.std.specs.Prelude.{◌≡◌, ℕ, suc, ◌^◌, ◌<◌, ◌≤◌, List, ◌++◌, length, Some}
+use Rattle.std.specs.Prelude.{◌≡◌, ℕ, suc, ◌/◌, ◌^◌, ◌<◌, List, ◌++◌, length, Some}
 use Rattle.ii_termstore.specs.declared.term_info.TermInfo.{TermInfo}
 use Rattle.ii_termstore.specs.TermInfos.{IsInRange}
 use Rattle.ii_termstore.specs.TermStore.{term_store}
-use Rattle.ii_termstore.specs.Written.{info_in, HaveLengths, written_store}
+use Rattle.ii_termstore.specs.Written.{info_in, HaveLengths, blocks_bytes, written_store}
 
 -- Each range begins where that of the term before ends.
 pub record AreJoined (infos : List TermInfo) : Type 0 where
   pub postings : (k : ℕ) → suc k < length infos → (info_in infos (suc k)).postings_range.start ≡ (info_in infos k).postings_range.end
   pub positions : (k : ℕ) → suc k < length infos → (info_in infos (suc k)).positions_range.start ≡ (info_in infos k).positions_range.end
 
--- What a store is written from: at most 2 ^ 40 terms, with lengths that fit and numbers of their types.
+-- What a store is written from: numbers and lengths of their types, and full blocks whose bits have fewer than 2 ^ 64 bytes.
 pub record AreStorable (infos : List TermInfo) : Type 0 where
-  pub few : length infos ≤ 2 ^ 40
+  pub few : length infos < 2 ^ 64
+  pub bits : length (blocks_bytes infos (length infos / 256)) < 2 ^ 64
   pub lengths : HaveLengths infos
   pub ranges : (k : ℕ) → k < length infos → IsInRange (info_in infos k)
 

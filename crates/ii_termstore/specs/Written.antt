@@ -1,11 +1,7 @@
 -- The bytes that are written for term infos.
-use Rattle.std.specs.Prelude.{Bool, ℕ, ◌-◌, ◌*◌, ◌^◌, ◌≤◌, ◌<◌, ◌↔◌, ◌⊎◌, ◌≡◌, max, List, [], ◌∷◌, ◌++◌, map, take, drop, length, slice_index_or, Result, OnOk, OnErr, IfErr, IsErrOf}
+use Rattle.std.specs.Prelude.{ℕ, ◌-◌, ◌*◌, ◌/◌, ◌^◌, ◌≤◌, ◌<◌, ◌≡◌, max, List, [], ◌∷◌, ◌++◌, map, take, drop, length, slice_index_or}
 use Rattle.std.specs.List.{flat_map, sum_by, range_with_len}
-use Rattle.ii_io.specs.declared.faults.Fault.{Fault}
-use Rattle.ii_io.specs.declared.faults.Fault.TheVariants.{Write, Limit}
-use Rattle.ii_io.specs.declared.faults.LimitName.TheVariants.{Offset}
 use Rattle.ii_io.specs.Numbers.{le_bytes}
-use Rattle.ii_io.specs.CountingWriter.{CountingWriterState, Wrote, WrotePrefix, IsFull}
 use Rattle.ii_codes.specs.Packed.{num_bits}
 use Rattle.ii_codes.specs.Bits.{low_bits, whole_bytes, bits_left, bits_bytes}
 use Rattle.ii_termstore.specs.declared.term_info.TermInfo.{TermInfo}
@@ -13,18 +9,11 @@ use Rattle.ii_termstore.specs.declared.term_info_store.block_meta.TermInfoBlockM
 use Rattle.ii_termstore.specs.TermInfos.{info_of, HasLengths}
 use Rattle.ii_termstore.specs.TermStore.{meta_bytes, block_count}
 
--- Since the beginning a row of bits was written but for those that are left.
-pub record IsPacking (initial writer : CountingWriterState) (pending row : List ℕ) : Type 0 where
-  pub tells : Wrote initial writer (whole_bytes row)
+-- At the front of a buffer stand so many bytes of a row of bits, and the packer holds the bits that are left.
+pub record IsPacking (buffer : List ℕ) (count : ℕ) (pending row : List ℕ) : Type 0 where
+  pub bytes : take count buffer ≡ whole_bytes row
+  pub size : count ≡ length row / 8
   pub left : pending ≡ bits_left row
-
--- How a call ends after which a row of bits is being written that has so many bytes at most.
-pub record Packs (initial writer : CountingWriterState) (pending row : List ℕ) (size : ℕ) (result : Result (Unit {0}) Fault) : Type 0 where
-  pub ok : OnOk result (IsPacking initial writer pending row)
-  pub write : IsErrOf result Write ↔ (initial.failed_calls < writer.failed_calls)
-  pub limit : IsErrOf result (Limit Offset) → IsFull initial size
-  pub part : OnErr result (WrotePrefix initial writer (whole_bytes row))
-  pub only : IfErr result (λ e. (e ≡ Write) ⊎ (e ≡ Limit Offset))
 
 abbrev pub first_of : List TermInfo → TermInfo
 first_of [] = info_of 0 0 0 0 0
@@ -117,11 +106,6 @@ pub record EndsFit (m : Meta) (others : List TermInfo) : Type 0 where
 
 abbrev pub info_in : List TermInfo → ℕ → TermInfo
 info_in infos k = slice_index_or infos k (info_of 0 0 0 0 0)
-
--- The terms that a writer has gathered, and whether a call was refused.
-pub record Storing : Type 0 where
-  pub infos : List TermInfo
-  pub closed : Bool
 
 -- Each term has lengths that fit.
 abbrev pub HaveLengths : List TermInfo → Type 0

@@ -8,7 +8,9 @@ mod tests;
 pub mod written;
 
 pub use term_info::TermInfo;
-pub use term_info_store::{TermInfoBlockMeta, TermInfoStore, TermInfoStoreWriter};
+pub use term_info_store::{
+    TermInfoBlockMeta, TermInfoStore, TermInfoStoreView, TermInfoStoreWriter,
+};
 
 /// The place of a term in the order of the keys, from 0.
 pub type TermOrdinal = u64;

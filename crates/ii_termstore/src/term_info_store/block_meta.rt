@@ -58,7 +58,7 @@ impl BinarySerializable for TermInfoBlockMeta {
     ghost reads_back = { λ m rest range lengths. reads_meta_back m rest range.0 range.1 lengths };
 
     fn serialize<W: Write>(&self, writer: &mut CountingWriter<W>) -> Result<(), Fault> {
-        let mut bytes = [0; 39];
+        let mut bytes = [0; Self::SIZE_IN_BYTES];
         put_meta(&mut bytes, self);
         writer.write_all(&bytes)
     }
@@ -108,7 +108,7 @@ ghost use Rattle.ii_termstore.specs.TermStore.{meta_bytes};
 
 // The bytes of a meta, in a buffer of their size.
 #[tactic(auto, unfolding(crate::specs::TermStore::meta_bytes))]
-fn put_meta(buf: &mut [u8], meta: &TermInfoBlockMeta)
+pub(super) fn put_meta(buf: &mut [u8], meta: &TermInfoBlockMeta)
     requires room { length buf.old ≡ 39 }
     requires lengths { HasLengths meta.now.ref_term_info }
     ensures { buf.new ≡ meta_bytes meta.now }

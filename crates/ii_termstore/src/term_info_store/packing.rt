@@ -1,33 +1,29 @@
-ghost use Rattle.std.specs.Prelude.{◌≡◌, ℕ, ◌+◌, ◌-◌, ◌*◌, ◌^◌, ◌<◌, ◌≤◌, List, ◌++◌, length, map, max, drop};
-ghost use Rattle.ii_io.specs.CountingWriter.{CountingWriterState, Writes};
+ghost use Rattle.std.specs.Prelude.{◌≡◌, ℕ, ◌+◌, ◌-◌, ◌*◌, ◌^◌, ◌<◌, ◌≤◌, List, ◌++◌, length, map, max, drop, take};
 ghost use Rattle.ii_codes.specs.Bits.{low_bits, bits_bytes};
 ghost use Rattle.ii_codes.specs.Packed.{num_bits};
 ghost use Rattle.ii_termstore.specs.declared.term_info.TermInfo.{TermInfo};
-ghost use Rattle.ii_termstore.specs.Written.{IsPacking, Packs, largest, postings_behind, positions_behind, postings_end, positions_end, last_of, meta_for, term_row, block_row, AreNarrow, FitsWidths, EndsFit, FitsBlock, info_in};
-ghost use Rattle.ii_termstore.specs.TermStore.{term_bits};
+ghost use Rattle.ii_termstore.specs.Written.{IsPacking, largest, postings_behind, positions_behind, postings_end, positions_end, last_of, meta_for, term_row, block_row, AreNarrow, FitsWidths, EndsFit, FitsBlock, info_in};
 
+use super::BLOCK_LEN;
 use super::block_meta::TermInfoBlockMeta;
 use crate::term_info::TermInfo;
 use ii_codes::bitpacker::writes_one_row;
 use ii_codes::{BitPacker, compute_num_bits};
-use ii_io::{CountingWriter, Fault};
-use std::io::Write;
 
-// Packs one number more of a row.
-fn pack<W: Write>(
-    packer: &mut BitPacker,
-    val: u64,
-    width: u8,
-    writer: &mut CountingWriter<W>,
-) -> Result<(), Fault>
+// The most bytes that the bits of a block take: a term has three numbers of at most 64 bits.
+pub(super) const MAX_BLOCK_BYTES: usize = 24 * BLOCK_LEN;
+
+// Packs one number more of a row into a buffer that has so many bytes, and answers how many it has then.
+fn pack(packer: &mut BitPacker, val: u64, width: u8, buffer: &mut [u8], count: usize) -> usize
     requires narrow { width ≤ 64 }
     requires fits { val < 2 ^ width }
-    ensures { (initial : CountingWriterState) (row : List ℕ) (size : ℕ) → IsPacking begun writer.old packer.old row
-        → length row + width ≤ 8 * size
-        → Packs begun writer.new packer.new (row ++ low_bits width val) size result }
+    requires room { count + 8 ≤ length buffer.old }
+    ensures row { (row : List ℕ) → IsPacking buffer.old count packer.old row → IsPacking buffer.new result packer.new (row ++ low_bits width val) }
+    ensures few { result ≤ count + 8 }
+    ensures size { length buffer.new ≡ length buffer.old }
 {
     writes_one_row();
-    packer.write(val, width, writer)
+    count + packer.push(val, width, &mut buffer[count..])
 }
 
 // The largest number of documents of some terms.
@@ -130,83 +126,74 @@ pub(super) fn meta_of(offset: u64, first: &TermInfo, others: &[TermInfo]) -> Ter
 }
 
 // Packs the numbers of a term behind the first of its block.
-fn pack_term<W: Write>(
+fn pack_term(
     packer: &mut BitPacker,
     meta: &TermInfoBlockMeta,
     info: &TermInfo,
-    writer: &mut CountingWriter<W>,
-) -> Result<(), Fault>
+    buffer: &mut [u8],
+    count: usize,
+) -> usize
     requires narrow { AreNarrow meta.now }
     requires fits { FitsWidths meta.now info.now }
-    ensures { (initial : CountingWriterState) (row : List ℕ) (size : ℕ) → IsPacking begun writer.old packer.old row
-        → length row + term_bits meta.now ≤ 8 * size
-        → Packs begun writer.new packer.new (row ++ term_row meta.now info.now) size result }
+    requires room { count + 24 ≤ length buffer.old }
+    ensures row { (row : List ℕ) → IsPacking buffer.old count packer.old row → IsPacking buffer.new result packer.new (row ++ term_row meta.now info.now) }
+    ensures few { result ≤ count + 24 }
+    ensures size { length buffer.new ≡ length buffer.old }
 {
-    writes_one_row();
     let first = &meta.ref_term_info;
-    let postings = pack(
+    let (postings, positions) = (postings_of(first, info), positions_of(first, info));
+    let count = pack(packer, postings, meta.postings_offset_nbits, buffer, count);
+    let count = pack(
         packer,
-        postings_of(first, info),
-        meta.postings_offset_nbits,
-        writer,
-    );
-    if postings.is_err() {
-        return postings;
-    }
-    let positions = pack(
-        packer,
-        positions_of(first, info),
+        positions,
         meta.positions_offset_nbits,
-        writer,
+        buffer,
+        count,
     );
-    if positions.is_err() {
-        return positions;
-    }
     pack(
         packer,
         u64::from(info.doc_freq),
         meta.doc_freq_nbits,
-        writer,
+        buffer,
+        count,
     )
 }
 
-/// Writes the bits of a block.
-pub(super) fn put_block<W: Write>(
-    meta: &TermInfoBlockMeta,
-    others: &[TermInfo],
-    writer: &mut CountingWriter<W>,
-) -> Result<(), Fault>
+/// Puts the bits of a block at the front of a buffer, and answers how many bytes they are.
+pub(super) fn pack_block(meta: &TermInfoBlockMeta, others: &[TermInfo], buffer: &mut [u8]) -> usize
     requires narrow { AreNarrow meta.now }
     requires fits { (k : ℕ) → k < length others.now → FitsWidths meta.now (info_in others.now k) }
     requires ends { EndsFit meta.now others.now }
-    ensures { Writes writer.old writer.new (bits_bytes (block_row meta.now others.now)) result }
+    requires few { length others.now < 256 }
+    requires room { 6144 ≤ length buffer.old }
+    ensures bytes { take result buffer.new ≡ bits_bytes (block_row meta.now others.now) }
+    ensures within { result ≤ 6144 }
+    ensures size { length buffer.new ≡ length buffer.old }
 {
     writes_one_row();
     let mut packer = BitPacker::new();
+    let mut count = 0;
     for info in others {
-        let packed = pack_term(&mut packer, meta, info, writer);
-        if packed.is_err() {
-            return packed;
-        }
+        count = pack_term(&mut packer, meta, info, buffer, count);
     }
     let first = &meta.ref_term_info;
-    let postings = pack(
-        &mut packer,
+    let (postings, positions) = (
         end_of_postings(first, others),
-        meta.postings_offset_nbits,
-        writer,
-    );
-    if postings.is_err() {
-        return postings;
-    }
-    let positions = pack(
-        &mut packer,
         end_of_positions(first, others),
-        meta.positions_offset_nbits,
-        writer,
     );
-    if positions.is_err() {
-        return positions;
-    }
-    packer.close(writer)
+    let count = pack(
+        &mut packer,
+        postings,
+        meta.postings_offset_nbits,
+        buffer,
+        count,
+    );
+    let count = pack(
+        &mut packer,
+        positions,
+        meta.positions_offset_nbits,
+        buffer,
+        count,
+    );
+    count + packer.finish(&mut buffer[count..])
 }

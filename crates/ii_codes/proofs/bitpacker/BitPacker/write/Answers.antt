@@ -1,42 +1,19 @@
-use Rattle.std.proofs.Common.{◌+◌, ◌/◌, ◌++◌, ◌∙◌, arith, refl, sym, length-set}
-use Rattle.ii_codes.specs.Bits.{low_bits}
-use Rattle.ii_codes.proofs.PackedLemmas.{entries_in-zero, entries_written}
-use Rattle.ii_codes.proofs.BitLemmas.{left_behind, written_whole, length-written_whole, on_ok}
+use Rattle.std.proofs.Common.{◌≡◌, ◌≤◌, ◌+◌, ◌/◌, length, take, sym, ◌∙◌, arith}
+use Rattle.std.proofs.lemmas.List.{length-take-le}
 use Rattle.ii_codes.proofs.bitpacker.BitPacker.write.Goals as goal
 
-pub loop-j-init : goal.loop-j-init
-loop-j-init g c = record { many = refl; written = sym (entries_in-zero 1 8 (low_bits c.self.inside.mini_buffer_written c.self.inside.mini_buffer ++ low_bits c.args.num_bits c.args.val)) }
+pub slice_bounds-bytes-end : goal.slice_bounds-bytes-end
+slice_bounds-bytes-end g c = let few = c.push-count.ensures.few in let size = c.push-count.ensures.size in omega arith
 
-pub loop-j-preserved : goal.loop-j-preserved
-loop-j-preserved g c = record {
-  many = length-set _ _ _ ∙ c.loop-j.invariant.many;
-  written = rw c.from.ensures (entries_written 1 8 c.loop-j.j c.byte_of_bits.result (low_bits c.self.inside.mini_buffer_written c.self.inside.mini_buffer ++ low_bits c.args.num_bits c.args.val) c.loop-j.bytes
-      c.loop-j.invariant.written c.byte_of_bits.ensures (omega arith));
-}
-
-pub invariant_of-self : goal.invariant_of-self
-invariant_of-self g c =
-    let left = left_behind c.self.inside.mini_buffer_written c.self.inside.mini_buffer c.args.num_bits c.args.val (c.self.inside.mini_buffer_written + c.args.num_bits) ((c.self.inside.mini_buffer_written + c.args.num_bits) / 8)
-    c.byte_of_bits-self-inside.result refl refl c.byte_of_bits-self-inside.ensures in
-    (omega arith, left.0)
-
-pub returns-clause-ok : goal.returns-clause-ok
-returns-clause-ok g c =
-    let written = written_whole c.self.inside.mini_buffer_written c.self.inside.mini_buffer c.args.num_bits c.args.val c.loop-j.j c.from-2.result c.loop-j.bytes (omega arith) (omega arith) c.loop-j.invariant.written in
-    rw (← c.self.view_is, ← written) c.write_all.ensures.ok
-
-pub returns-clause-left : goal.returns-clause-left
-returns-clause-left g c =
-    let left = left_behind c.self.inside.mini_buffer_written c.self.inside.mini_buffer c.args.num_bits c.args.val (c.self.inside.mini_buffer_written + c.args.num_bits) ((c.self.inside.mini_buffer_written + c.args.num_bits) / 8)
-    c.byte_of_bits-self-inside.result refl refl c.byte_of_bits-self-inside.ensures in
-    on_ok c.write_all.result (rw (← c.self.view_is) left.1)
+pub slice_bounds-write_all-end : goal.slice_bounds-write_all-end
+slice_bounds-write_all-end g c =
+    let few = c.push-count.ensures.few in
+    let size = c.push-count.ensures.size in
+    sym (length-take-le c.push-count.result c.push-count.new.whole (omega arith))
 
 pub returns-clause-limit : goal.returns-clause-limit
 returns-clause-limit g c =
-    let size = length-written_whole c.self.inside.mini_buffer_written c.self.inside.mini_buffer c.args.num_bits c.args.val c.loop-j.j c.from-2.result c.loop-j.bytes (omega arith) (omega arith) c.loop-j.invariant.written in
-    rw (← c.self.view_is, ← size) c.write_all.ensures.limit
-
-pub returns-clause-prefix : goal.returns-clause-prefix
-returns-clause-prefix g c =
-    let written = written_whole c.self.inside.mini_buffer_written c.self.inside.mini_buffer c.args.num_bits c.args.val c.loop-j.j c.from-2.result c.loop-j.bytes (omega arith) (omega arith) c.loop-j.invariant.written in
-    rw (← c.self.view_is, ← written) c.write_all.ensures.err
+    let few = c.push-count.ensures.few in
+    let size = c.push-count.ensures.size in
+    let whole = length-take-le c.push-count.result c.push-count.new.whole (omega arith) in
+    rw (← (whole ∙ c.push-count.ensures.count)) c.write_all.ensures.limit

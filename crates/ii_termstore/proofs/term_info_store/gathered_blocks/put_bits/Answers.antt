@@ -1,0 +1,8 @@
+use Rattle.ii_io.specs.CountingWriterLemmas.{writes_then, writes_went}
+use Rattle.ii_termstore.proofs.term_info_store.gathered_blocks.put_bits.Goals as goal
+
+pub returns : goal.returns
+returns g c =
+    let put = rw c.deref.ensures.value at c.write_all-put.ensures.written in
+    let bits = rw c.deref-2.ensures.value at c.put_open_bits.ensures in
+    writes_then _ _ _ _ _ c.put_open_bits.result (writes_went _ _ _ c.write_all-put.result c.if-is_err.ensures.value put) bits

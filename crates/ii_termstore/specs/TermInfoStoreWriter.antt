@@ -1,0 +1,34 @@
+-- A writer of a store: the terms that it was given, and whether a call was refused.
+use Rattle.std.specs.Prelude.{Bool, ℕ, ◌≡◌, ◌*◌, ◌/◌, ◌^◌, ◌<◌, List, [], ◌∷◌, length, drop}
+use Rattle.ii_codes.specs.Bits.{bits_bytes}
+use Rattle.ii_termstore.specs.declared.term_info.TermInfo.{TermInfo}
+use Rattle.ii_termstore.specs.TermInfos.{IsInRange}
+use Rattle.ii_termstore.specs.TermStore.{meta_bytes}
+use Rattle.ii_termstore.specs.Written.{HaveLengths, info_in, meta_for, block_row, metas_bytes, blocks_bytes}
+use Rattle.ii_termstore.specs.ReadBack.{AreJoined}
+
+pub record TermInfoStoreWriterState : Type 0 where
+  pub infos : List TermInfo
+  pub closed : Bool
+
+-- The full blocks of the terms stand in bytes, their metas and their bits, and the terms after them are kept.
+pub record AreGathered (infos : List TermInfo) (num_terms : ℕ) (block_metas block_bits : List ℕ) (open_block : List TermInfo) : Type 0 where
+  pub count : num_terms ≡ length infos
+  pub metas : block_metas ≡ metas_bytes infos (length infos / 256)
+  pub bits : block_bits ≡ blocks_bytes infos (length infos / 256)
+  pub rest : open_block ≡ drop (256 * (length infos / 256)) infos
+
+-- The terms can be written and read back.
+pub record AreSound (infos : List TermInfo) : Type 0 where
+  pub lengths : HaveLengths infos
+  pub ranges : (k : ℕ) → k < length infos → IsInRange (info_in infos k)
+  pub joined : AreJoined infos
+
+-- the meta and the bits of a block that begins at an offset, nothing for no terms
+abbrev pub open_meta : ℕ → List TermInfo → List ℕ
+open_meta offset [] = []
+open_meta offset (first ∷ others) = meta_bytes (meta_for offset first others)
+
+abbrev pub open_bits : List TermInfo → List ℕ
+open_bits [] = []
+open_bits (first ∷ others) = bits_bytes (block_row (meta_for 0 first others) others)
