@@ -1,12 +1,12 @@
 -- Laws of packing by words of 32 bits.
-use Rattle.std.proofs.Common.{◌≡◌, ℕ, suc, ◌+◌, ◌-◌, ◌*◌, ◌/◌, ◌%◌, ◌^◌, ◌<◌, ◌≤◌, List, [], ◌∷◌, ◌++◌, length, take, get_or, refl, sym, ap, ◌∙◌, arith, append_assoc}
+use Rattle.std.proofs.Common.{◌≡◌, ℕ, ◌+◌, ◌-◌, ◌*◌, ◌/◌, ◌%◌, ◌^◌, ◌<◌, ◌≤◌, List, [], ◌∷◌, ◌++◌, take, get_or, refl, sym, ap, ◌∙◌, arith}
 use Rattle.std.proofs.Math.Nat.{mod-lt}
 use Rattle.std.proofs.Math.Pow.{pow_mono}
 use Rattle.std.proofs.lemmas.Nat.{div-add-mod', shl_whole, pow_pos}
 use Rattle.std.proofs.lemmas.Nat.Bits.{bit_at_cat_low}
-use Rattle.std.specs.Int.{bit_at, bytes_low_first}
+use Rattle.std.specs.Int.{bytes_low_first}
 use Rattle.ii_codes.specs.Packed.{bits_in, entries_in}
-use Rattle.ii_codes.proofs.PackedLemmas.{bits_in-zero, bits_in-lt, same_as_bits_in, bit_in_at, entries_in-more}
+use Rattle.ii_codes.proofs.PackedLemmas.{bits_in-lt, same_as_bits_in, bit_in_at, entries_in-more}
 use Rattle.ii_codes.proofs.WindowLemmas.{bits_in-split, window_cut, window_rest}
 
 -- an entry is its w lowest bits

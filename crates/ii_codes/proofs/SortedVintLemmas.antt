@@ -1,11 +1,11 @@
 -- Laws of rows of vints.
-use Rattle.std.proofs.Common.{◌≡◌, ℕ, zero, suc, ◌+◌, ◌-◌, ◌%◌, ◌^◌, ◌<◌, ◌≤◌, Bool, true, false, ◌&&◌, List, [], ◌∷◌, ◌++◌, length, take, drop, set, Option, Some, None, refl, sym, ap, ◌∙◌, arith, append_assoc, get_or}
+use Rattle.std.proofs.Common.{◌≡◌, ℕ, zero, suc, ◌+◌, ◌-◌, ◌%◌, ◌^◌, ◌<◌, ◌≤◌, true, false, List, [], ◌∷◌, ◌++◌, length, take, drop, set, Option, Some, None, refl, sym, ap, ◌∙◌, arith, append_assoc, get_or}
 use Rattle.std.specs.Option.{option_map}
 use Rattle.std.specs.List.{flat_map, AllByRecursion}
 use Rattle.std.proofs.lemmas.Bool.{lt-ltb, le-ltb}
 use Rattle.std.proofs.lemmas.List.{take_more_set, take_all, drop-drop, length-set, length-drop}
 use Rattle.std.proofs.lemmas.List.{append-nil}
-use Rattle.ii_io.specs.Steps.{◌>>=◌, needs}
+use Rattle.ii_io.specs.Steps.{◌>>=◌}
 use Rattle.ii_io.specs.Vints.{u32_at, u32s_at, vint_u32}
 use Rattle.ii_io.proofs.VintLemmas.{u32_at-vint_u32}
 use Rattle.ii_codes.specs.Sums.{running_sums, differences, DoNotFall, fit_u32}

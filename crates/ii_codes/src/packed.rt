@@ -263,23 +263,92 @@ fn least_first(strict: bool, offset: u32) -> u64
     }
 }
 
-/// Makes 128 entries the values of a sorted block, of which the first is at least `least` and each
-/// other one at least `gap` above the one before it. False where a value passes `u32::MAX`: since
-/// values don't fall, the last one tells.
-fn prefix_sum(output: &mut [u32], gap: u64, least: u64) -> bool
-    requires many { length output.old ≡ 128 }
+/// Unpacks entries as `unpack_width` does and makes them the values of a sorted block, of which the
+/// first is at least `least` and each other one at least `gap` above the one before it. False where
+/// a value passes `u32::MAX`: since values don't fall, the last one tells.
+#[inline(never)]
+fn sorted_width<const W: usize>(bytes: &[u8], gap: u64, least: u64, output: &mut [u32]) -> bool
+    requires narrow { W ≤ 32 }
+    requires enough { 16 * W + 8 ≤ length bytes.now }
+    requires room { length output.old ≡ 128 }
     requires gap { gap ≤ 1 }
     requires least { least < 2 ^ 32 + gap }
-    ensures fits { result ≡ fit_u32 (values_from gap least output.old) }
-    ensures values { OnTrue result (output.new ≡ values_from gap least output.old) }
+    ensures fits { result ≡ fit_u32 (values_from gap least (unpacked W bytes.now)) }
+    ensures values { OnTrue result (output.new ≡ values_from gap least (unpacked W bytes.now)) }
 {
     let mut next = least;
-    for k in 0..COMPRESSION_BLOCK_SIZE {
-        let entry = u64::from(output[k]);
-        output[k] = ((next + entry) % (1 << 32)) as u32;
-        next += entry + gap;
+    for group in 0..16usize {
+        for i in 0..8usize {
+            let entry = u64::from(entry_of(bytes, W, group, i));
+            output[8 * group + i] = ((next + entry) % (1 << 32)) as u32;
+            next += entry + gap;
+        }
     }
     next < (1 << 32) + gap
+}
+
+/// Unpacks values of a sorted block, where eight bytes more than the block's are at hand.
+fn sorted_from(bytes: &[u8], width: u8, gap: u64, least: u64, output: &mut [u32]) -> bool
+    requires narrow { width ≤ 32 }
+    requires enough { 16 * width + 8 ≤ length bytes.now }
+    requires room { length output.old ≡ 128 }
+    requires gap { gap ≤ 1 }
+    requires least { least < 2 ^ 32 + gap }
+    ensures fits { result ≡ fit_u32 (values_from gap least (unpacked width bytes.now)) }
+    ensures values { OnTrue result (output.new ≡ values_from gap least (unpacked width bytes.now)) }
+{
+    match width {
+        0 => sorted_width::<0>(bytes, gap, least, output),
+        1 => sorted_width::<1>(bytes, gap, least, output),
+        2 => sorted_width::<2>(bytes, gap, least, output),
+        3 => sorted_width::<3>(bytes, gap, least, output),
+        4 => sorted_width::<4>(bytes, gap, least, output),
+        5 => sorted_width::<5>(bytes, gap, least, output),
+        6 => sorted_width::<6>(bytes, gap, least, output),
+        7 => sorted_width::<7>(bytes, gap, least, output),
+        8 => sorted_width::<8>(bytes, gap, least, output),
+        9 => sorted_width::<9>(bytes, gap, least, output),
+        10 => sorted_width::<10>(bytes, gap, least, output),
+        11 => sorted_width::<11>(bytes, gap, least, output),
+        12 => sorted_width::<12>(bytes, gap, least, output),
+        13 => sorted_width::<13>(bytes, gap, least, output),
+        14 => sorted_width::<14>(bytes, gap, least, output),
+        15 => sorted_width::<15>(bytes, gap, least, output),
+        16 => sorted_width::<16>(bytes, gap, least, output),
+        17 => sorted_width::<17>(bytes, gap, least, output),
+        18 => sorted_width::<18>(bytes, gap, least, output),
+        19 => sorted_width::<19>(bytes, gap, least, output),
+        20 => sorted_width::<20>(bytes, gap, least, output),
+        21 => sorted_width::<21>(bytes, gap, least, output),
+        22 => sorted_width::<22>(bytes, gap, least, output),
+        23 => sorted_width::<23>(bytes, gap, least, output),
+        24 => sorted_width::<24>(bytes, gap, least, output),
+        25 => sorted_width::<25>(bytes, gap, least, output),
+        26 => sorted_width::<26>(bytes, gap, least, output),
+        27 => sorted_width::<27>(bytes, gap, least, output),
+        28 => sorted_width::<28>(bytes, gap, least, output),
+        29 => sorted_width::<29>(bytes, gap, least, output),
+        30 => sorted_width::<30>(bytes, gap, least, output),
+        31 => sorted_width::<31>(bytes, gap, least, output),
+        _ => sorted_width::<32>(bytes, gap, least, output),
+    }
+}
+
+/// Puts the values of the sorted block of `width` bits that `bytes` begin with into `output`.
+fn sorted_values(bytes: &[u8], width: u8, gap: u64, least: u64, output: &mut [u32]) -> bool
+    requires narrow { width ≤ 32 }
+    requires enough { 16 * width ≤ length bytes.now }
+    requires room { length output.old ≡ 128 }
+    requires gap { gap ≤ 1 }
+    requires least { least < 2 ^ 32 + gap }
+    ensures fits { result ≡ fit_u32 (values_from gap least (unpacked width bytes.now)) }
+    ensures values { OnTrue result (output.new ≡ values_from gap least (unpacked width bytes.now)) }
+{
+    let size = compressed_block_size(width);
+    if bytes.len() - size >= 8 {
+        return sorted_from(bytes, width, gap, least, output);
+    }
+    sorted_from(&padded_block(&bytes[..size]), width, gap, least, output)
 }
 
 /// Adds one to each entry. False where one is `u32::MAX`.
@@ -287,13 +356,12 @@ fn add_one(output: &mut [u32]) -> bool
     ensures fits { result ≡ fit_u32 (unsorted_values true output.old) }
     ensures values { OnTrue result (output.new ≡ unsorted_values true output.old) }
 {
+    let mut fits = true;
     for k in 0..output.len() {
-        if output[k] == u32::MAX {
-            return false;
-        }
-        output[k] += 1;
+        fits &= output[k] < u32::MAX;
+        output[k] = output[k].wrapping_add(1);
     }
-    true
+    fits
 }
 
 /// The entries of values that ascend strictly after `offset`, by strict deltas.
@@ -388,8 +456,8 @@ pub(crate) fn unpack_sorted(
     if bytes.len() < size {
         return None;
     }
-    unpack(bytes, width, output);
-    if prefix_sum(output, gap_of(strict), least_first(strict, offset)) {
+    let least = least_first(strict, offset);
+    if sorted_values(bytes, width, gap_of(strict), least, output) {
         Some(size)
     } else {
         None
@@ -444,5 +512,7 @@ pub fn reads_what_is_packed()
     ensures unsorted { ReadsUnsortedBlocks }
 {}
 
+#[cfg(test)]
+mod plain;
 #[cfg(test)]
 mod tests;
