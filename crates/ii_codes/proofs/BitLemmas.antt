@@ -8,7 +8,7 @@ use Rattle.std.specs.Int.{bit_at}
 use Rattle.ii_codes.specs.Packed.{bit_in, bits_in, entries_in}
 use Rattle.ii_codes.specs.Bits.{low_bits, whole_bytes, bits_left, bits_bytes}
 use Rattle.ii_codes.specs.BitsLemmas.{length-low_bits}
-use Rattle.ii_codes.proofs.PackedLemmas.{bits_in-lt, bit_at-bits_in, bits_in-push, same_as_bits_in, length-entries_in, entries_in-zero, entries_in-more, read_more}
+use Rattle.ii_codes.proofs.PackedLemmas.{bits_in-lt, bit_at-bits_in, bits_in-push, same_as_bits_in, entries_in-zero, entries_in-more, read_more}
 
 pub get_or-low_bits : (w n i : ℕ) → i < w → get_or (low_bits w n) i 0 ≡ bit_at n i
 get_or-low_bits zero n i h = absurd (omega arith)

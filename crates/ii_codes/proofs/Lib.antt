@@ -3,8 +3,11 @@ pub mod BitLemmas
 pub mod BlockLaws
 pub mod BlockLemmas
 pub mod LengthLemmas
+pub mod PackLemmas
 pub mod PackedLaws
 pub mod PackedLemmas
+pub mod PrefixLemmas
 pub mod SortedVintLemmas
 pub mod WidthLemmas
+pub mod WindowLemmas
 pub mod WorkedRows

@@ -1,15 +1,16 @@
 -- Laws of rows of vints.
-use Rattle.std.proofs.Common.{◌≡◌, ℕ, suc, ◌+◌, ◌-◌, ◌^◌, ◌<◌, ◌≤◌, Bool, true, false, ◌&&◌, List, [], ◌∷◌, ◌++◌, length, take, drop, set, Option, Some, None, refl, sym, ap, ◌∙◌, arith, append_assoc, get_or}
+use Rattle.std.proofs.Common.{◌≡◌, ℕ, zero, suc, ◌+◌, ◌-◌, ◌%◌, ◌^◌, ◌<◌, ◌≤◌, true, false, List, [], ◌∷◌, ◌++◌, length, take, drop, set, Option, Some, None, refl, sym, ap, ◌∙◌, arith, append_assoc, get_or}
 use Rattle.std.specs.Option.{option_map}
 use Rattle.std.specs.List.{flat_map, AllByRecursion}
 use Rattle.std.proofs.lemmas.Bool.{lt-ltb, le-ltb}
 use Rattle.std.proofs.lemmas.List.{take_more_set, take_all, drop-drop, length-set, length-drop}
 use Rattle.std.proofs.lemmas.List.{append-nil}
-use Rattle.ii_io.specs.Steps.{◌>>=◌, needs}
+use Rattle.ii_io.specs.Steps.{◌>>=◌}
 use Rattle.ii_io.specs.Vints.{u32_at, u32s_at, vint_u32}
 use Rattle.ii_io.specs.VintLemmas.{u32_at-vint_u32}
 use Rattle.ii_codes.specs.Sums.{running_sums, differences, DoNotFall, fit_u32}
 use Rattle.ii_codes.specs.SortedVints.{sorted_vints_at, ReadsSortedVintsBack}
+use Rattle.ii_codes.specs.UnsortedVints.{u32s_until_end, ReadsUnsortedVintsBack}
 
 -- the sums of differences are the values
 pub running_sums-differences : (before : ℕ) (vs : List ℕ) → DoNotFall before vs → running_sums before (differences before vs) ≡ vs
@@ -23,13 +24,23 @@ pub fit_u32-all : (vs : List ℕ) → AllByRecursion (λ v. v < 2 ^ 32) vs → f
 fit_u32-all [] h = refl
 fit_u32-all (v ∷ vs) h = rw (lt-ltb v 4294967296 h.0, fit_u32-all vs h.1) refl
 
--- vints of differences are read back
+-- vints are read back
+pub reads_unsorted_back : ReadsUnsortedVintsBack
+reads_unsorted_back [] rest h = refl
+reads_unsorted_back (v ∷ vs) rest h =
+    let first = u32_at-vint_u32 v (flat_map vint_u32 vs ++ rest) h.0 in
+    rw (append_assoc, first, reads_unsorted_back vs rest h.1) refl
+
+length-differences : (before : ℕ) (vs : List ℕ) → length (differences before vs) ≡ length vs
+length-differences before [] = refl
+length-differences before (v ∷ vs) = ap suc (length-differences v vs)
+
+differences-fit : (before : ℕ) (vs : List ℕ) → AllByRecursion (λ v. v < 2 ^ 32) vs → AllByRecursion (λ v. v < 2 ^ 32) (differences before vs)
+differences-fit before [] h = tt
+differences-fit before (v ∷ vs) h = let fits = h.0 in (omega arith, differences-fit v vs h.1)
+
 u32s_at-differences : (before : ℕ) (vs rest : List ℕ) → AllByRecursion (λ v. v < 2 ^ 32) vs → u32s_at (length vs) (flat_map vint_u32 (differences before vs) ++ rest) ≡ Some (differences before vs, rest)
-u32s_at-differences before [] rest h = refl
-u32s_at-differences before (v ∷ vs) rest h =
-    let fits = h.0 in
-    let first = u32_at-vint_u32 (v - before) (flat_map vint_u32 (differences v vs) ++ rest) (omega arith) in
-    rw (append_assoc, first, u32s_at-differences v vs rest h.1) refl
+u32s_at-differences before vs rest h = rw length-differences at (reads_unsorted_back (differences before vs) rest (differences-fit before vs h))
 
 pub reads_back : ReadsSortedVintsBack
 reads_back offset vs rest up fit =
@@ -44,90 +55,139 @@ in_front-in_front xs ys None = refl
 in_front-in_front xs ys (Some f) = ap (λ (zs : List ℕ). Some (zs, f.1)) (sym (append_assoc xs ys f.0))
 
 -- the next value is missing
-sorted_vints_at-none : (before n : ℕ) (bytes : List ℕ) → None ≡ u32_at bytes → sorted_vints_at before (suc n) bytes ≡ None
-sorted_vints_at-none before n bytes e = rw (← e) refl
-
--- the values of these differences, where each fits
-abbrev pub summed : ℕ → Option (List ℕ × List ℕ) → Option (List ℕ × List ℕ)
-summed before found = found >>= λ (f : List ℕ × List ℕ). needs (fit_u32 (running_sums before f.0)) >>= λ _. Some (running_sums before f.0, f.1)
-
-past_cases : (before d : ℕ) (o : Option (List ℕ × List ℕ)) → 2 ^ 32 ≤ before + d → summed before (in_front (d ∷ []) o) ≡ None
-past_cases before d None past = refl
-past_cases before d (Some f) past = rw (le-ltb (before + d) 4294967296 past) refl
+u32s_at-none : (n : ℕ) (bytes : List ℕ) → None ≡ u32_at bytes → u32s_at (suc n) bytes ≡ None
+u32s_at-none n bytes e = rw (← e) refl
 
 first_in_front : (d n : ℕ) (rest : List ℕ) (o : Option (List ℕ × List ℕ)) → (o >>= λ (others : List ℕ × List ℕ). Some (d ∷ others.0, others.1)) ≡ in_front (d ∷ []) o
 first_in_front d n rest None = refl
 first_in_front d n rest (Some f) = refl
 
--- the next value passes 32 bits
-sorted_vints_at-past : (before n d : ℕ) (bytes rest : List ℕ) → Some (d, rest) ≡ u32_at bytes → 2 ^ 32 ≤ before + d → sorted_vints_at before (suc n) bytes ≡ None
-sorted_vints_at-past before n d bytes rest e past =
-    rw (← e) (ap (summed before) (first_in_front d n rest (u32s_at n rest)) ∙ past_cases before d (u32s_at n rest) past)
-
-fit_cases : (v : ℕ) (vs rest : List ℕ) (t : Bool) → (needs (true && t) >>= λ _. Some (v ∷ vs, rest)) ≡ in_front (v ∷ []) (needs t >>= λ _. Some (vs, rest))
-fit_cases v vs rest true = refl
-fit_cases v vs rest false = refl
-
-more_cases : (before d : ℕ) (o : Option (List ℕ × List ℕ)) → before + d < 2 ^ 32 → summed before (in_front (d ∷ []) o) ≡ in_front ((before + d) ∷ []) (summed (before + d) o)
-more_cases before d None fits = refl
-more_cases before d (Some f) fits =
-    rw (lt-ltb (before + d) 4294967296 fits) (fit_cases (before + d) (running_sums (before + d) f.0) f.1 (fit_u32 (running_sums (before + d) f.0)))
-
 -- the next value stands
-sorted_vints_at-more : (before n d : ℕ) (bytes rest : List ℕ) → Some (d, rest) ≡ u32_at bytes → before + d < 2 ^ 32
-    → sorted_vints_at before (suc n) bytes ≡ in_front ((before + d) ∷ []) (sorted_vints_at (before + d) n rest)
-sorted_vints_at-more before n d bytes rest e fits =
-    rw (← e) (ap (summed before) (first_in_front d n rest (u32s_at n rest)) ∙ more_cases before d (u32s_at n rest) fits)
+u32s_at-more : (n d : ℕ) (bytes rest : List ℕ) → Some (d, rest) ≡ u32_at bytes → u32s_at (suc n) bytes ≡ in_front (d ∷ []) (u32s_at n rest)
+u32s_at-more n d bytes rest e = rw (← e) (first_in_front d n rest (u32s_at n rest))
 
--- What a reader knows that has i values in its output, the last of them value, from so many bytes.
-pub record IsReadingRow (offset : ℕ) (bytes output : List ℕ) (i value used : ℕ) : Type 0 where
+-- What a reader knows that has i values in its output, from so many bytes.
+pub record IsReadingRow (bytes output : List ℕ) (i used : ℕ) : Type 0 where
   pub within : used ≤ length bytes
-  pub row : sorted_vints_at offset (length output) bytes ≡ in_front (take i output) (sorted_vints_at value (length output - i) (drop used bytes))
+  pub row : u32s_at (length output) bytes ≡ in_front (take i output) (u32s_at (length output - i) (drop used bytes))
 
 row_first : (o : Option (List ℕ × List ℕ)) → o ≡ in_front [] o
 row_first None = refl
 row_first (Some f) = refl
 
-pub row-first : (offset : ℕ) (bytes output : List ℕ) → IsReadingRow offset bytes output 0 offset 0
-row-first offset bytes output =
+pub row-first : (bytes output : List ℕ) → IsReadingRow bytes output 0 0
+row-first bytes output =
     let all : length output - 0 ≡ length output = omega arith in
-    record { within = omega arith; row = rw all (row_first (sorted_vints_at offset (length output) bytes)) }
+    record { within = omega arith; row = rw all (row_first (u32s_at (length output) bytes)) }
 
 -- the values that are still to come, of which one is next
 left_is : (n i : ℕ) → i < n → n - i ≡ suc (n - (i + 1))
 left_is n i h = omega arith
 
-pub row-none : (offset : ℕ) (bytes output : List ℕ) (i value used : ℕ) → IsReadingRow offset bytes output i value used → i < length output
-    → None ≡ u32_at (drop used bytes) → None ≡ sorted_vints_at offset (length output) bytes
-row-none offset bytes output i value used r more e =
+pub row-none : (bytes output : List ℕ) (i used : ℕ) → IsReadingRow bytes output i used → i < length output → None ≡ u32_at (drop used bytes) → None ≡ u32s_at (length output) bytes
+row-none bytes output i used r more e =
     let row = rw (left_is (length output) i more) at r.row in
-    sym (row ∙ ap (in_front (take i output)) (sorted_vints_at-none value (length output - (i + 1)) (drop used bytes) e))
+    sym (row ∙ ap (in_front (take i output)) (u32s_at-none (length output - (i + 1)) (drop used bytes) e))
 
-pub row-past : (offset : ℕ) (bytes output : List ℕ) (i value used d size : ℕ) → IsReadingRow offset bytes output i value used → i < length output
-    → Some (d, drop size (drop used bytes)) ≡ u32_at (drop used bytes) → 2 ^ 32 ≤ value + d → None ≡ sorted_vints_at offset (length output) bytes
-row-past offset bytes output i value used d size r more e past =
-    let row = rw (left_is (length output) i more) at r.row in
-    sym (row ∙ ap (in_front (take i output)) (sorted_vints_at-past value (length output - (i + 1)) d (drop used bytes) (drop size (drop used bytes)) e past))
-
-pub row-more : (offset : ℕ) (bytes output : List ℕ) (i value used d size : ℕ) → IsReadingRow offset bytes output i value used → i < length output
-    → Some (d, drop size (drop used bytes)) ≡ u32_at (drop used bytes) → size ≤ length (drop used bytes) → value + d < 2 ^ 32
-    → IsReadingRow offset bytes (set output i (value + d)) (i + 1) (value + d) (used + size)
-row-more offset bytes output i value used d size r more e within fits =
+pub row-more : (bytes output : List ℕ) (i used d size : ℕ) → IsReadingRow bytes output i used → i < length output
+    → Some (d, drop size (drop used bytes)) ≡ u32_at (drop used bytes) → size ≤ length (drop used bytes) → IsReadingRow bytes (set output i d) (i + 1) (used + size)
+row-more bytes output i used d size r more e within =
     let inside = r.within in
     let row = rw (left_is (length output) i more) at r.row in
-    let next = sorted_vints_at-more value (length output - (i + 1)) d (drop used bytes) (drop size (drop used bytes)) e fits in
-    let whole = row ∙ ap (in_front (take i output)) next ∙ in_front-in_front (take i output) ((value + d) ∷ []) _ in
+    let next = u32s_at-more (length output - (i + 1)) d (drop used bytes) (drop size (drop used bytes)) e in
+    let whole = row ∙ ap (in_front (take i output)) next ∙ in_front-in_front (take i output) (d ∷ []) _ in
     record {
       within = let room = rw length-drop at within in omega arith;
-      row = rw (length-set output i (value + d), take_more_set output i (value + d) more, ← drop-drop size used bytes) whole;
+      row = rw (length-set output i d, take_more_set output i d more, ← drop-drop size used bytes) whole;
     }
 
-pub row-all : (offset : ℕ) (bytes output : List ℕ) (i value used : ℕ) → IsReadingRow offset bytes output i value used → length output ≤ i
-    → Some (output, drop used bytes) ≡ sorted_vints_at offset (length output) bytes
-row-all offset bytes output i value used r done =
+pub row-all : (bytes output : List ℕ) (i used : ℕ) → IsReadingRow bytes output i used → length output ≤ i → Some (output, drop used bytes) ≡ u32s_at (length output) bytes
+row-all bytes output i used r done =
     let left : length output - i ≡ 0 = omega arith in
     let row = rw (left, take_all i output done) at r.row in
     sym (row ∙ ap (λ (xs : List ℕ). Some (xs, drop used bytes)) (append-nil output))
+
+-- values in front of those that are read to the end
+abbrev pub ends_with : List ℕ → Option (List ℕ) → Option (List ℕ)
+ends_with xs found = option_map (λ (ys : List ℕ). xs ++ ys) found
+
+ends_with-twice : (xs ys : List ℕ) (o : Option (List ℕ)) → ends_with xs (ends_with ys o) ≡ ends_with (xs ++ ys) o
+ends_with-twice xs ys None = refl
+ends_with-twice xs ys (Some zs) = ap (λ (us : List ℕ). Some us) (sym (append_assoc xs ys zs))
+
+ends_first : (d : ℕ) (o : Option (List ℕ)) → (o >>= λ (others : List ℕ). Some (d ∷ others)) ≡ ends_with (d ∷ []) o
+ends_first d None = refl
+ends_first d (Some f) = refl
+
+until_end-some : (n : ℕ) (bytes : List ℕ) → 0 < length bytes → u32s_until_end (suc n) bytes ≡ (u32_at bytes >>= λ (first : ℕ × List ℕ). u32s_until_end n first.1 >>= λ (others : List ℕ). Some (first.0 ∷ others))
+until_end-some n [] some = absurd (omega arith)
+until_end-some n (b ∷ bs) some = refl
+
+until_end-none : (n : ℕ) (bytes : List ℕ) → length bytes ≡ 0 → u32s_until_end n bytes ≡ Some []
+until_end-none zero bytes h = refl
+until_end-none (suc n) [] h = refl
+until_end-none (suc n) (b ∷ bs) h = absurd (omega arith)
+
+-- What a reader to the end knows that has k values in its output, from so many bytes.
+pub record IsReadingOn (bytes output : List ℕ) (k used : ℕ) : Type 0 where
+  pub inside : used ≤ length bytes
+  pub on : u32s_until_end (length output) bytes ≡ ends_with (take k output) (u32s_until_end (length output - k) (drop used bytes))
+
+on_first : (o : Option (List ℕ)) → o ≡ ends_with [] o
+on_first None = refl
+on_first (Some f) = refl
+
+pub on-first : (bytes output : List ℕ) → IsReadingOn bytes output 0 0
+on-first bytes output =
+    let all : length output - 0 ≡ length output = omega arith in
+    record { inside = omega arith; on = rw all (on_first (u32s_until_end (length output) bytes)) }
+
+pub on-end : (bytes output : List ℕ) (k used : ℕ) → IsReadingOn bytes output k used → length (drop used bytes) ≡ 0 → Some (take k output) ≡ u32s_until_end (length output) bytes
+on-end bytes output k used r end =
+    sym (r.on ∙ ap (ends_with (take k output)) (until_end-none (length output - k) (drop used bytes) end) ∙ ap (λ (xs : List ℕ). Some xs) (append-nil (take k output)))
+
+pub on-none : (bytes output : List ℕ) (k used : ℕ) → IsReadingOn bytes output k used → k < length output → 0 < length (drop used bytes) → None ≡ u32_at (drop used bytes)
+    → None ≡ u32s_until_end (length output) bytes
+on-none bytes output k used r more some e =
+    let on = rw (left_is (length output) k more) at r.on in
+    let next = rw (← e) at (until_end-some (length output - (k + 1)) (drop used bytes) some) in
+    sym (on ∙ ap (ends_with (take k output)) next)
+
+pub on-more : (bytes output : List ℕ) (k used d size : ℕ) → IsReadingOn bytes output k used → k < length output → 0 < length (drop used bytes)
+    → Some (d, drop size (drop used bytes)) ≡ u32_at (drop used bytes) → size ≤ length (drop used bytes) → IsReadingOn bytes (set output k d) (k + 1) (used + size)
+on-more bytes output k used d size r more some e within =
+    let inside = r.inside in
+    let on = rw (left_is (length output) k more) at r.on in
+    let next = rw (← e) at (until_end-some (length output - (k + 1)) (drop used bytes) some) in
+    let whole = on ∙ ap (ends_with (take k output)) (next ∙ ends_first d _) ∙ ends_with-twice (take k output) (d ∷ []) _ in
+    record {
+      inside = let room = rw length-drop at within in omega arith;
+      on = rw (length-set output k d, take_more_set output k d more, ← drop-drop size used bytes) whole;
+    }
+
+pub on-all : (bytes output : List ℕ) (k used n : ℕ) → IsReadingOn bytes output k used → length output ≤ k → n ≡ length output → Some (take n output) ≡ u32s_until_end (length output) bytes
+on-all bytes output k used n r done all =
+    let left : length output - k ≡ 0 = omega arith in
+    let on = rw (left, take_all k output done) at r.on in
+    rw (all, take_all (length output) output (omega arith)) (sym (on ∙ ap (λ (xs : List ℕ). Some xs) (append-nil output)))
+
+-- sums of what is read, as the code names its parts
+pub sorted-none : (offset n : ℕ) (bytes : List ℕ) → None ≡ u32s_at n bytes → None ≡ sorted_vints_at offset n bytes
+sorted-none offset n bytes e = rw (← e) refl
+
+pub sorted-fits : (offset n : ℕ) (bytes ds vs rest : List ℕ) → Some (ds, rest) ≡ u32s_at n bytes → true ≡ fit_u32 (running_sums offset ds) → vs ≡ running_sums offset ds → Some (vs, rest) ≡ sorted_vints_at offset n bytes
+sorted-fits offset n bytes ds vs rest e fits same = rw (← e, ← fits, same) refl
+
+pub sorted-past : (offset n : ℕ) (bytes ds rest : List ℕ) → Some (ds, rest) ≡ u32s_at n bytes → false ≡ fit_u32 (running_sums offset ds) → None ≡ sorted_vints_at offset n bytes
+sorted-past offset n bytes ds rest e past = rw (← e, ← past) refl
+
+-- a number of one byte
+pub u32_at-one : (bytes : List ℕ) (n : ℕ) → 128 ≤ get_or bytes 0 0 → get_or bytes 0 0 < 256 → n ≡ get_or bytes 0 0 - 128 → Some (n, drop 1 bytes) ≡ u32_at bytes
+unfolding u32_at
+u32_at-one [] n high byte e = absurd (omega arith)
+u32_at-one (b ∷ rest) n high byte e =
+    let low : b % 128 ≡ n = omega arith in
+    rw (le-ltb b 128 high, low, lt-ltb n 4294967296 (omega arith)) refl
 
 -- values by their places
 pub falls_by : (before : ℕ) (vs : List ℕ) → (0 < length vs → before ≤ get_or vs 0 0) → ((k : ℕ) → suc k < length vs → get_or vs k 0 ≤ get_or vs (suc k) 0) → DoNotFall before vs

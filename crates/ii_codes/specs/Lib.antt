@@ -5,3 +5,4 @@ pub mod Blocks
 pub mod Packed
 pub mod SortedVints
 pub mod Sums
+pub mod UnsortedVints

@@ -3,6 +3,8 @@ ghost use Rattle.std.specs.Option.{option_map};
 ghost use Rattle.ii_codes.specs.Blocks.{sorted_block_at, unsorted_block_at};
 ghost use Rattle.ii_codes.specs.BlockDecoder.{BlockDecoderState, decodes_of};
 ghost use Rattle.ii_codes.specs.SortedVints.{sorted_vints_at};
+ghost use Rattle.ii_codes.specs.UnsortedVints.{u32s_until_end};
+ghost use Rattle.ii_io.specs.Vints.{u32s_at};
 
 use super::{COMPRESSION_BLOCK_SIZE, packed, vint};
 use ii_io::{LayoutFault, Part, Tally};
@@ -85,8 +87,50 @@ impl BlockDecoder {
         ensures fault { IfErr result (λ e. e ≡ LayoutFault.Damaged Part.Documents) }
         ensures cleared { OnErr result (self.new ≡ record { output = replicate 128 0; output_len = 0; decodes = self.old.decodes }) }
     {
-        let read = read_row(compressed_data, offset, num_els, padding, &mut self.output);
+        let read = read_sorted_row(compressed_data, offset, num_els, padding, &mut self.output);
         self.finish(read, num_els, Part::Documents)
+    }
+
+    /// Decodes `num_els` values as `uncompress_vint_unsorted` does, from any bytes. Where a vint is
+    /// missing the part `Frequencies` is damaged: nothing is held then, and the decode isn't counted.
+    pub fn try_uncompress_vint_unsorted(
+        &mut self,
+        compressed_data: &[u8],
+        num_els: usize,
+        padding: u32,
+    ) -> Result<usize, LayoutFault>
+        requires few { num_els ≤ 128 }
+        ensures read { IfOk result (λ used. Some (take num_els self.new.output, drop used compressed_data.now)
+            ≡ u32s_at num_els compressed_data.now) }
+        ensures within { IfOk result (λ used. used ≤ length compressed_data.now) }
+        ensures padded { OnOk result (drop num_els self.new.output ≡ replicate (128 - num_els) padding) }
+        ensures len { OnOk result (self.new.output_len ≡ num_els) }
+        ensures decodes { OnOk result (self.new.decodes ≡ self.old.decodes + decodes_of num_els) }
+        ensures refused { OnErr result (u32s_at num_els compressed_data.now ≡ None) }
+        ensures fault { IfErr result (λ e. e ≡ LayoutFault.Damaged Part.Frequencies) }
+        ensures cleared { OnErr result (self.new ≡ record { output = replicate 128 0; output_len = 0; decodes = self.old.decodes }) }
+    {
+        let read = read_unsorted_row(compressed_data, num_els, padding, &mut self.output);
+        self.finish(read, num_els, Part::Frequencies)
+    }
+
+    /// Decodes values until the bytes end, at most 128, as `uncompress_vint_unsorted_until_end` does,
+    /// from any bytes. Where a vint is missing the part `Positions` is damaged: nothing is held then,
+    /// and the decode isn't counted.
+    pub fn try_uncompress_vint_unsorted_until_end(
+        &mut self,
+        compressed_data: &[u8],
+    ) -> Result<(), LayoutFault>
+        ensures read { OnOk result (Some (take self.new.output_len self.new.output) ≡ u32s_until_end 128 compressed_data.now) }
+        ensures decodes { OnOk result (self.new.decodes ≡ self.old.decodes + decodes_of self.new.output_len) }
+        ensures refused { OnErr result (u32s_until_end 128 compressed_data.now ≡ None) }
+        ensures fault { IfErr result (λ e. e ≡ LayoutFault.Damaged Part.Positions) }
+        ensures cleared { OnErr result (self.new ≡ record { output = replicate 128 0; output_len = 0; decodes = self.old.decodes }) }
+    {
+        let read = vint::try_uncompress_unsorted_until_end(compressed_data, &mut self.output);
+        let num_els = read.unwrap_or(0);
+        self.finish(read, num_els, Part::Positions)?;
+        Ok(())
     }
 
     /// Decodes the block of 128 values of `num_bits` bits that the bytes begin with: the deltas of
@@ -223,8 +267,8 @@ impl BlockDecoder {
     }
 }
 
-// Puts a row of values in front of the output and the padding after them.
-fn read_row(
+// Puts a row of sorted values in front of the output and the padding after them.
+fn read_sorted_row(
     compressed_data: &[u8],
     offset: u32,
     num_els: usize,
@@ -241,6 +285,25 @@ fn read_row(
     let (values, others) = output.split_at_mut(num_els);
     others.fill(padding);
     vint::try_uncompress_sorted(compressed_data, values, offset)
+}
+
+// The same for values in any order.
+fn read_unsorted_row(
+    compressed_data: &[u8],
+    num_els: usize,
+    padding: u32,
+    output: &mut [u32],
+) -> Option<usize>
+    requires few { num_els ≤ 128 }
+    requires room { length output.old ≡ 128 }
+    ensures read { option_map (λ used. (take num_els output.new, drop used compressed_data.now)) result
+        ≡ u32s_at num_els compressed_data.now }
+    ensures within { IfSome result (λ used. used ≤ length compressed_data.now) }
+    ensures padded { drop num_els output.new ≡ replicate (128 - num_els) padding }
+{
+    let (values, others) = output.split_at_mut(num_els);
+    others.fill(padding);
+    vint::try_uncompress_unsorted(compressed_data, values)
 }
 
 impl Clone for BlockDecoder {
@@ -290,6 +353,29 @@ pub trait VIntDecoder {
         ensures padded { drop num_els (state self.new).output ≡ replicate (128 - num_els) padding }
         ensures len { (state self.new).output_len ≡ num_els }
         ensures decodes { (state self.new).decodes ≡ (state self.old).decodes + decodes_of num_els };
+
+    /// Decodes `num_els` values, each a vint, and sets the entries after them to `padding`. Answers
+    /// how many bytes they take.
+    fn uncompress_vint_unsorted(
+        &mut self,
+        compressed_data: &[u8],
+        num_els: usize,
+        padding: u32,
+    ) -> usize
+        requires few { num_els ≤ 128 }
+        requires valid { IsSome (u32s_at num_els compressed_data.now) }
+        ensures read { Some (take num_els (state self.new).output, drop result compressed_data.now)
+            ≡ u32s_at num_els compressed_data.now }
+        ensures within { result ≤ length compressed_data.now }
+        ensures padded { drop num_els (state self.new).output ≡ replicate (128 - num_els) padding }
+        ensures len { (state self.new).output_len ≡ num_els }
+        ensures decodes { (state self.new).decodes ≡ (state self.old).decodes + decodes_of num_els };
+
+    /// Decodes values, each a vint, until the bytes end, at most 128.
+    fn uncompress_vint_unsorted_until_end(&mut self, compressed_data: &[u8])
+        requires valid { IsSome (u32s_until_end 128 compressed_data.now) }
+        ensures read { Some (take (state self.new).output_len (state self.new).output) ≡ u32s_until_end 128 compressed_data.now }
+        ensures decodes { (state self.new).decodes ≡ (state self.old).decodes + decodes_of (state self.new).output_len };
 }
 
 impl VIntDecoder for BlockDecoder {
@@ -304,6 +390,25 @@ impl VIntDecoder for BlockDecoder {
     ) -> usize {
         match self.try_uncompress_vint_sorted(compressed_data, offset, num_els, padding) {
             Ok(used) => used,
+            Err(_) => unreachable!(),
+        }
+    }
+
+    fn uncompress_vint_unsorted(
+        &mut self,
+        compressed_data: &[u8],
+        num_els: usize,
+        padding: u32,
+    ) -> usize {
+        match self.try_uncompress_vint_unsorted(compressed_data, num_els, padding) {
+            Ok(used) => used,
+            Err(_) => unreachable!(),
+        }
+    }
+
+    fn uncompress_vint_unsorted_until_end(&mut self, compressed_data: &[u8]) {
+        match self.try_uncompress_vint_unsorted_until_end(compressed_data) {
+            Ok(()) => {}
             Err(_) => unreachable!(),
         }
     }

@@ -4,6 +4,7 @@ ghost use Rattle.std.specs.List.Sorted.{IsStrictlyIncreasing};
 ghost use Rattle.ii_codes.specs.Blocks.{sorted_width, sorted_bytes, unsorted_width, unsorted_bytes};
 ghost use Rattle.ii_codes.specs.Sums.{DoNotFall};
 ghost use Rattle.ii_codes.specs.SortedVints.{sorted_vints};
+ghost use Rattle.ii_codes.specs.UnsortedVints.{unsorted_vints};
 
 use super::{COMPRESSION_BLOCK_SIZE, packed, vint};
 
@@ -70,10 +71,19 @@ pub trait VIntEncoder {
         requires few { length input.now ≤ 128 }
         requires sorted { DoNotFall offset input.now }
         ensures { result.now ≡ sorted_vints offset input.now };
+
+    /// The shortest vints of the values.
+    fn compress_vint_unsorted(&mut self, input: &[u32]) -> &[u8]
+        requires few { length input.now ≤ 128 }
+        ensures { result.now ≡ unsorted_vints input.now };
 }
 
 impl VIntEncoder for BlockEncoder {
     fn compress_vint_sorted(&mut self, input: &[u32], offset: u32) -> &[u8] {
         vint::compress_sorted(input, &mut self.output, offset)
+    }
+
+    fn compress_vint_unsorted(&mut self, input: &[u32]) -> &[u8] {
+        vint::compress_unsorted(input, &mut self.output)
     }
 }

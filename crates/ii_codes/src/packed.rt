@@ -1,44 +1,141 @@
-ghost use Rattle.std.specs.Prelude.{◌≡◌, ℕ, ◌+◌, ◌*◌, ◌^◌, ◌<◌, ◌≤◌, true, length, take, drop, slice_index, IfSome};
+ghost use Rattle.std.specs.Prelude.{◌≡◌, ℕ, ◌+◌, ◌*◌, ◌-◌, ◌^◌, ◌<◌, ◌≤◌, ◌++◌, true, length, take, drop, replicate, slice_index, IfSome};
 ghost use Rattle.std.specs.Bool.{OnTrue};
 ghost use Rattle.std.specs.List.Sorted.{IsStrictlyIncreasing};
 ghost use Rattle.std.specs.Option.{option_map};
+ghost use Rattle.std.specs.Int.{bytes_low_first};
 ghost use Rattle.ii_codes.specs.Packed.{bits_in, unpacked, packed, least_width, HoldsWhatIsUnpacked, HoldsWhatIsPacked, HoldsFromLeastWidth};
 ghost use Rattle.ii_codes.specs.Blocks.{gap_of, least_first, values_from, sorted_entries, unsorted_values, unsorted_entries, sorted_block_at, unsorted_block_at, sorted_width, sorted_bytes, unsorted_width, unsorted_bytes, ReadsSortedBlocks, ReadsUnsortedBlocks};
 ghost use Rattle.ii_codes.specs.Sums.{fit_u32};
 
 use super::{COMPRESSION_BLOCK_SIZE, compressed_block_size};
+use byteorder::{ByteOrder, LittleEndian};
+
+/// A block of entries of 32 bits and eight bytes more.
+const PADDED_BLOCK_SIZE: usize = 520;
+
+/// The first 64 bits of bytes as one number, the lowest first.
+#[inline(always)]
+fn window(bytes: &[u8]) -> u64
+    requires { 8 ≤ length bytes.now }
+    ensures { result ≡ bits_in 8 bytes.now 0 64 }
+{
+    LittleEndian::read_u64(bytes)
+}
+
+/// Fewer than eight bytes, and zero bytes after them.
+fn padded(bytes: &[u8]) -> [u8; 8]
+    requires { length bytes.now < 8 }
+    ensures { result ≡ bytes.now ++ replicate (8 - length bytes.now) 0 }
+{
+    let mut window = [0u8; 8];
+    window[..bytes.len()].copy_from_slice(bytes);
+    window
+}
+
+/// The first 64 bits of bytes, where bits past their end are 0.
+#[inline(always)]
+fn window_or_less(bytes: &[u8]) -> u64
+    ensures { result ≡ bits_in 8 bytes.now 0 64 }
+{
+    if bytes.len() >= 8 {
+        return window(bytes);
+    }
+    window(&padded(bytes))
+}
 
 /// The number that `width` bits of `bytes` make from bit `place` on, the lowest first.
+#[inline(always)]
 pub(crate) fn read_bits(bytes: &[u8], place: usize, width: u8) -> u64
-    requires narrow { width ≤ 64 }
+    requires narrow { width ≤ 56 }
     requires within { place + width ≤ 8 * length bytes.now }
     ensures { result ≡ bits_in 8 bytes.now place width }
 {
-    let mut value = 0u64;
-    for i in 0..width {
-        let bit = place % 8 + usize::from(i);
-        let byte = bytes[place / 8 + bit / 8];
-        value += u64::from((byte >> (bit % 8)) % 2) << i;
-    }
-    value
+    let window = window_or_less(&bytes[place / 8..]);
+    (window >> (place % 8)) % (1 << width)
 }
 
-/// The byte that eight bits of 128 entries of `width` bits make from bit `place` on.
-fn read_byte(entries: &[u32], width: u8, place: usize) -> u8
-    requires many { length entries.now ≡ 128 }
+/// Entry `i` of the eight whose first bit is that of byte `group * width`.
+#[inline(always)]
+fn entry_of(bytes: &[u8], width: usize, group: usize, i: usize) -> u32
     requires narrow { width ≤ 32 }
-    requires within { place + 8 ≤ 128 * width }
-    ensures { result ≡ bits_in width entries.now place 8 }
+    requires enough { 16 * width + 8 ≤ length bytes.now }
+    requires group { group < 16 }
+    requires near { i < 8 }
+    ensures { result ≡ bits_in 8 bytes.now ((8 * group + i) * width) width }
 {
-    let width = usize::from(width);
-    let mut byte = 0u8;
-    for i in 0..8u8 {
-        let bit = place + usize::from(i);
-        let entry = entries[bit / width];
-        let value = ((entry >> (bit % width)) % 2) as u8;
-        byte += value << i;
+    let bit = i * width;
+    let window = window(&bytes[group * width + bit / 8..]);
+    ((window >> (bit % 8)) % (1 << width)) as u32
+}
+
+/// Unpacks entries of a width that is known where this is compiled, so that shifts are constants.
+/// Eight bytes more than the block's are at hand.
+#[inline(never)]
+fn unpack_width<const W: usize>(bytes: &[u8], output: &mut [u32])
+    requires narrow { W ≤ 32 }
+    requires enough { 16 * W + 8 ≤ length bytes.now }
+    requires room { length output.old ≡ 128 }
+    ensures { output.new ≡ unpacked W bytes.now }
+{
+    for group in 0..16usize {
+        for i in 0..8usize {
+            output[8 * group + i] = entry_of(bytes, W, group, i);
+        }
     }
-    byte
+}
+
+/// Unpacks entries, where eight bytes more than the block's are at hand.
+fn unpack_from(bytes: &[u8], width: u8, output: &mut [u32])
+    requires narrow { width ≤ 32 }
+    requires enough { 16 * width + 8 ≤ length bytes.now }
+    requires room { length output.old ≡ 128 }
+    ensures { output.new ≡ unpacked width bytes.now }
+{
+    match width {
+        0 => unpack_width::<0>(bytes, output),
+        1 => unpack_width::<1>(bytes, output),
+        2 => unpack_width::<2>(bytes, output),
+        3 => unpack_width::<3>(bytes, output),
+        4 => unpack_width::<4>(bytes, output),
+        5 => unpack_width::<5>(bytes, output),
+        6 => unpack_width::<6>(bytes, output),
+        7 => unpack_width::<7>(bytes, output),
+        8 => unpack_width::<8>(bytes, output),
+        9 => unpack_width::<9>(bytes, output),
+        10 => unpack_width::<10>(bytes, output),
+        11 => unpack_width::<11>(bytes, output),
+        12 => unpack_width::<12>(bytes, output),
+        13 => unpack_width::<13>(bytes, output),
+        14 => unpack_width::<14>(bytes, output),
+        15 => unpack_width::<15>(bytes, output),
+        16 => unpack_width::<16>(bytes, output),
+        17 => unpack_width::<17>(bytes, output),
+        18 => unpack_width::<18>(bytes, output),
+        19 => unpack_width::<19>(bytes, output),
+        20 => unpack_width::<20>(bytes, output),
+        21 => unpack_width::<21>(bytes, output),
+        22 => unpack_width::<22>(bytes, output),
+        23 => unpack_width::<23>(bytes, output),
+        24 => unpack_width::<24>(bytes, output),
+        25 => unpack_width::<25>(bytes, output),
+        26 => unpack_width::<26>(bytes, output),
+        27 => unpack_width::<27>(bytes, output),
+        28 => unpack_width::<28>(bytes, output),
+        29 => unpack_width::<29>(bytes, output),
+        30 => unpack_width::<30>(bytes, output),
+        31 => unpack_width::<31>(bytes, output),
+        _ => unpack_width::<32>(bytes, output),
+    }
+}
+
+/// A block, and zero bytes after it.
+fn padded_block(bytes: &[u8]) -> [u8; PADDED_BLOCK_SIZE]
+    requires { length bytes.now ≤ 512 }
+    ensures { result ≡ bytes.now ++ replicate (520 - length bytes.now) 0 }
+{
+    let mut block = [0u8; PADDED_BLOCK_SIZE];
+    block[..bytes.len()].copy_from_slice(bytes);
+    block
 }
 
 /// Puts the 128 entries of `width` bits that `bytes` begin with into `output`.
@@ -48,8 +145,47 @@ pub(crate) fn unpack(bytes: &[u8], width: u8, output: &mut [u32])
     requires room { length output.old ≡ 128 }
     ensures { output.new ≡ unpacked width bytes.now }
 {
-    for k in 0..COMPRESSION_BLOCK_SIZE {
-        output[k] = read_bits(bytes, k * usize::from(width), width) as u32;
+    let size = compressed_block_size(width);
+    if bytes.len() - size >= 8 {
+        unpack_from(bytes, width, output);
+        return;
+    }
+    unpack_from(&padded_block(&bytes[..size]), width, output);
+}
+
+/// Writes a word of 32 bits at byte `end`, the lowest byte first.
+#[inline(always)]
+fn put_word(output: &mut [u8], end: usize, word: u32)
+    requires { end + 4 ≤ length output.old }
+    ensures { take (end + 4) output.new ≡ take end output.old ++ bytes_low_first 0 4 word }
+{
+    LittleEndian::write_u32(&mut output[end..], word);
+}
+
+/// Packs entries of a width that is known where this is compiled, so that shifts are constants:
+/// 32 entries fill as many words of 32 bits as a width has bits.
+#[inline(never)]
+fn pack_width<const W: usize>(entries: &[u32], output: &mut [u8])
+    requires many { length entries.now ≡ 128 }
+    requires narrow { W ≤ 32 }
+    requires room { 16 * W ≤ length output.old }
+    ensures { take (16 * W) output.new ≡ packed W entries.now }
+{
+    for group in 0..4usize {
+        let mut end = 4 * group * W;
+        let mut word = 0u64;
+        let mut bits = 0;
+        for i in 0..32usize {
+            word += (u64::from(entries[32 * group + i]) % (1 << W)) << bits;
+            bits += W;
+            if bits < 32 {
+                continue;
+            }
+            put_word(output, end, (word % (1 << 32)) as u32);
+            end += 4;
+            word >>= 32;
+            bits -= 32;
+        }
     }
 }
 
@@ -60,8 +196,40 @@ pub(crate) fn pack(entries: &[u32], width: u8, output: &mut [u8])
     requires room { 16 * width ≤ length output.old }
     ensures { take (16 * width) output.new ≡ packed width entries.now }
 {
-    for j in 0..compressed_block_size(width) {
-        output[j] = read_byte(entries, width, j * 8);
+    match width {
+        0 => pack_width::<0>(entries, output),
+        1 => pack_width::<1>(entries, output),
+        2 => pack_width::<2>(entries, output),
+        3 => pack_width::<3>(entries, output),
+        4 => pack_width::<4>(entries, output),
+        5 => pack_width::<5>(entries, output),
+        6 => pack_width::<6>(entries, output),
+        7 => pack_width::<7>(entries, output),
+        8 => pack_width::<8>(entries, output),
+        9 => pack_width::<9>(entries, output),
+        10 => pack_width::<10>(entries, output),
+        11 => pack_width::<11>(entries, output),
+        12 => pack_width::<12>(entries, output),
+        13 => pack_width::<13>(entries, output),
+        14 => pack_width::<14>(entries, output),
+        15 => pack_width::<15>(entries, output),
+        16 => pack_width::<16>(entries, output),
+        17 => pack_width::<17>(entries, output),
+        18 => pack_width::<18>(entries, output),
+        19 => pack_width::<19>(entries, output),
+        20 => pack_width::<20>(entries, output),
+        21 => pack_width::<21>(entries, output),
+        22 => pack_width::<22>(entries, output),
+        23 => pack_width::<23>(entries, output),
+        24 => pack_width::<24>(entries, output),
+        25 => pack_width::<25>(entries, output),
+        26 => pack_width::<26>(entries, output),
+        27 => pack_width::<27>(entries, output),
+        28 => pack_width::<28>(entries, output),
+        29 => pack_width::<29>(entries, output),
+        30 => pack_width::<30>(entries, output),
+        31 => pack_width::<31>(entries, output),
+        _ => pack_width::<32>(entries, output),
     }
 }
 
@@ -95,24 +263,92 @@ fn least_first(strict: bool, offset: u32) -> u64
     }
 }
 
-/// Makes entries the values of a sorted block, of which the first is at least `least` and each
-/// other one at least `gap` above the one before it. False where a value passes `u32::MAX`.
-fn prefix_sum(output: &mut [u32], gap: u64, least: u64) -> bool
+/// Unpacks entries as `unpack_width` does and makes them the values of a sorted block, of which the
+/// first is at least `least` and each other one at least `gap` above the one before it. False where
+/// a value passes `u32::MAX`: since values don't fall, the last one tells.
+#[inline(never)]
+fn sorted_width<const W: usize>(bytes: &[u8], gap: u64, least: u64, output: &mut [u32]) -> bool
+    requires narrow { W ≤ 32 }
+    requires enough { 16 * W + 8 ≤ length bytes.now }
+    requires room { length output.old ≡ 128 }
     requires gap { gap ≤ 1 }
-    requires least { least ≤ 2 ^ 32 }
-    ensures fits { result ≡ fit_u32 (values_from gap least output.old) }
-    ensures values { OnTrue result (output.new ≡ values_from gap least output.old) }
+    requires least { least < 2 ^ 32 + gap }
+    ensures fits { result ≡ fit_u32 (values_from gap least (unpacked W bytes.now)) }
+    ensures values { OnTrue result (output.new ≡ values_from gap least (unpacked W bytes.now)) }
 {
     let mut next = least;
-    for k in 0..output.len() {
-        let value = next + u64::from(output[k]);
-        let Ok(number) = u32::try_from(value) else {
-            return false;
-        };
-        output[k] = number;
-        next = value + gap;
+    for group in 0..16usize {
+        for i in 0..8usize {
+            let entry = u64::from(entry_of(bytes, W, group, i));
+            output[8 * group + i] = ((next + entry) % (1 << 32)) as u32;
+            next += entry + gap;
+        }
     }
-    true
+    next < (1 << 32) + gap
+}
+
+/// Unpacks values of a sorted block, where eight bytes more than the block's are at hand.
+fn sorted_from(bytes: &[u8], width: u8, gap: u64, least: u64, output: &mut [u32]) -> bool
+    requires narrow { width ≤ 32 }
+    requires enough { 16 * width + 8 ≤ length bytes.now }
+    requires room { length output.old ≡ 128 }
+    requires gap { gap ≤ 1 }
+    requires least { least < 2 ^ 32 + gap }
+    ensures fits { result ≡ fit_u32 (values_from gap least (unpacked width bytes.now)) }
+    ensures values { OnTrue result (output.new ≡ values_from gap least (unpacked width bytes.now)) }
+{
+    match width {
+        0 => sorted_width::<0>(bytes, gap, least, output),
+        1 => sorted_width::<1>(bytes, gap, least, output),
+        2 => sorted_width::<2>(bytes, gap, least, output),
+        3 => sorted_width::<3>(bytes, gap, least, output),
+        4 => sorted_width::<4>(bytes, gap, least, output),
+        5 => sorted_width::<5>(bytes, gap, least, output),
+        6 => sorted_width::<6>(bytes, gap, least, output),
+        7 => sorted_width::<7>(bytes, gap, least, output),
+        8 => sorted_width::<8>(bytes, gap, least, output),
+        9 => sorted_width::<9>(bytes, gap, least, output),
+        10 => sorted_width::<10>(bytes, gap, least, output),
+        11 => sorted_width::<11>(bytes, gap, least, output),
+        12 => sorted_width::<12>(bytes, gap, least, output),
+        13 => sorted_width::<13>(bytes, gap, least, output),
+        14 => sorted_width::<14>(bytes, gap, least, output),
+        15 => sorted_width::<15>(bytes, gap, least, output),
+        16 => sorted_width::<16>(bytes, gap, least, output),
+        17 => sorted_width::<17>(bytes, gap, least, output),
+        18 => sorted_width::<18>(bytes, gap, least, output),
+        19 => sorted_width::<19>(bytes, gap, least, output),
+        20 => sorted_width::<20>(bytes, gap, least, output),
+        21 => sorted_width::<21>(bytes, gap, least, output),
+        22 => sorted_width::<22>(bytes, gap, least, output),
+        23 => sorted_width::<23>(bytes, gap, least, output),
+        24 => sorted_width::<24>(bytes, gap, least, output),
+        25 => sorted_width::<25>(bytes, gap, least, output),
+        26 => sorted_width::<26>(bytes, gap, least, output),
+        27 => sorted_width::<27>(bytes, gap, least, output),
+        28 => sorted_width::<28>(bytes, gap, least, output),
+        29 => sorted_width::<29>(bytes, gap, least, output),
+        30 => sorted_width::<30>(bytes, gap, least, output),
+        31 => sorted_width::<31>(bytes, gap, least, output),
+        _ => sorted_width::<32>(bytes, gap, least, output),
+    }
+}
+
+/// Puts the values of the sorted block of `width` bits that `bytes` begin with into `output`.
+fn sorted_values(bytes: &[u8], width: u8, gap: u64, least: u64, output: &mut [u32]) -> bool
+    requires narrow { width ≤ 32 }
+    requires enough { 16 * width ≤ length bytes.now }
+    requires room { length output.old ≡ 128 }
+    requires gap { gap ≤ 1 }
+    requires least { least < 2 ^ 32 + gap }
+    ensures fits { result ≡ fit_u32 (values_from gap least (unpacked width bytes.now)) }
+    ensures values { OnTrue result (output.new ≡ values_from gap least (unpacked width bytes.now)) }
+{
+    let size = compressed_block_size(width);
+    if bytes.len() - size >= 8 {
+        return sorted_from(bytes, width, gap, least, output);
+    }
+    sorted_from(&padded_block(&bytes[..size]), width, gap, least, output)
 }
 
 /// Adds one to each entry. False where one is `u32::MAX`.
@@ -120,13 +356,12 @@ fn add_one(output: &mut [u32]) -> bool
     ensures fits { result ≡ fit_u32 (unsorted_values true output.old) }
     ensures values { OnTrue result (output.new ≡ unsorted_values true output.old) }
 {
+    let mut fits = true;
     for k in 0..output.len() {
-        if output[k] == u32::MAX {
-            return false;
-        }
-        output[k] += 1;
+        fits &= output[k] < u32::MAX;
+        output[k] = output[k].wrapping_add(1);
     }
-    true
+    fits
 }
 
 /// The entries of values that ascend strictly after `offset`, by strict deltas.
@@ -221,8 +456,8 @@ pub(crate) fn unpack_sorted(
     if bytes.len() < size {
         return None;
     }
-    unpack(bytes, width, output);
-    if prefix_sum(output, gap_of(strict), least_first(strict, offset)) {
+    let least = least_first(strict, offset);
+    if sorted_values(bytes, width, gap_of(strict), least, output) {
         Some(size)
     } else {
         None
@@ -277,5 +512,7 @@ pub fn reads_what_is_packed()
     ensures unsorted { ReadsUnsortedBlocks }
 {}
 
+#[cfg(test)]
+mod plain;
 #[cfg(test)]
 mod tests;

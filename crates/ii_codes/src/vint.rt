@@ -1,7 +1,10 @@
-ghost use Rattle.std.specs.Prelude.{◌≡◌, ◌*◌, ◌≤◌, length, drop, take, Some, IsSome, IfSome};
+ghost use Rattle.std.specs.Prelude.{◌≡◌, ℕ, ◌+◌, ◌*◌, ◌<◌, ◌≤◌, length, drop, take, Some, IsSome, IfSome};
+ghost use Rattle.std.specs.Bool.{OnTrue};
 ghost use Rattle.std.specs.Option.{option_map};
-ghost use Rattle.ii_codes.specs.Sums.{DoNotFall};
+ghost use Rattle.ii_io.specs.Vints.{u32_at, u32s_at};
+ghost use Rattle.ii_codes.specs.Sums.{DoNotFall, fit_u32, running_sums};
 ghost use Rattle.ii_codes.specs.SortedVints.{sorted_vints_at, sorted_vints, ReadsSortedVintsBack};
+ghost use Rattle.ii_codes.specs.UnsortedVints.{unsorted_vints, u32s_until_end, ReadsUnsortedVintsBack};
 
 use ii_io::vint;
 
@@ -31,6 +34,27 @@ fn write_sorted(input: &[u32], output: &mut [u8], offset: u32) -> usize
     end
 }
 
+/// Writes the shortest vints of the values to the front of `output`, and lends what was written.
+pub fn compress_unsorted<'a>(input: &[u32], output: &'a mut [u8]) -> &'a [u8]
+    requires room { 5 * length input.now ≤ length output.old }
+    ensures { result.now ≡ unsorted_vints input.now }
+{
+    let end = write_unsorted(input, output);
+    &output[..end]
+}
+
+fn write_unsorted(input: &[u32], output: &mut [u8]) -> usize
+    requires room { 5 * length input.now ≤ length output.old }
+    ensures written { take result output.new ≡ unsorted_vints input.now }
+    ensures within { result ≤ length output.old }
+{
+    let mut end = 0;
+    for value in input {
+        end = vint::write_u32(*value, output, end);
+    }
+    end
+}
+
 /// Reads as many values as `output` has room for, each the sum of a vint and the value before it,
 /// beginning with `offset`. Answers how many bytes they take.
 pub fn uncompress_sorted(compressed_data: &[u8], output: &mut [u32], offset: u32) -> usize
@@ -45,8 +69,8 @@ pub fn uncompress_sorted(compressed_data: &[u8], output: &mut [u32], offset: u32
     }
 }
 
-/// Reads as `uncompress_sorted` does, from any bytes: `None` where a vint is missing, or a value passes
-/// `u32::MAX`.
+/// Reads as `uncompress_sorted` does, from any bytes: `None` where a vint is missing, or a value
+/// passes `u32::MAX`.
 pub(crate) fn try_uncompress_sorted(
     compressed_data: &[u8],
     output: &mut [u32],
@@ -56,25 +80,118 @@ pub(crate) fn try_uncompress_sorted(
         ≡ sorted_vints_at offset (length output.old) compressed_data.now }
     ensures within { IfSome result (λ used. used ≤ length compressed_data.now) }
 {
+    let Some(used) = try_uncompress_unsorted(compressed_data, output) else {
+        return None;
+    };
+    if add_up(output, offset) {
+        Some(used)
+    } else {
+        None
+    }
+}
+
+/// Makes each difference the sum of it and the value before it, beginning with `offset`. False where
+/// a value passes `u32::MAX`.
+fn add_up(output: &mut [u32], offset: u32) -> bool
+    ensures fits { result ≡ fit_u32 (running_sums offset output.old) }
+    ensures values { OnTrue result (output.new ≡ running_sums offset output.old) }
+{
+    let mut before = offset;
+    for k in 0..output.len() {
+        let Some(value) = before.checked_add(output[k]) else {
+            return false;
+        };
+        output[k] = value;
+        before = value;
+    }
+    true
+}
+
+/// Reads as many values as `output` has room for. Answers how many bytes they take.
+pub fn uncompress_unsorted(compressed_data: &[u8], output: &mut [u32]) -> usize
+    requires valid { IsSome (u32s_at (length output.old) compressed_data.now) }
+    ensures value { Some (output.new, drop result compressed_data.now)
+        ≡ u32s_at (length output.old) compressed_data.now }
+    ensures within { result ≤ length compressed_data.now }
+{
+    match try_uncompress_unsorted(compressed_data, output) {
+        Some(used) => used,
+        None => unreachable!(),
+    }
+}
+
+/// Reads as `uncompress_unsorted` does, from any bytes: `None` where a vint is missing.
+pub(crate) fn try_uncompress_unsorted(compressed_data: &[u8], output: &mut [u32]) -> Option<usize>
+    ensures value { option_map (λ used. (output.new, drop used compressed_data.now)) result
+        ≡ u32s_at (length output.old) compressed_data.now }
+    ensures within { IfSome result (λ used. used ≤ length compressed_data.now) }
+{
     let mut used = 0;
-    let mut value = offset;
     for entry in output.iter_mut() {
-        let Some((delta, size)) = vint::read_u32(&compressed_data[used..]) else {
+        let Some((value, size)) = read_u32(&compressed_data[used..]) else {
             return None;
         };
-        let Some(sum) = value.checked_add(delta) else {
-            return None;
-        };
-        value = sum;
         *entry = value;
         used += size;
     }
     Some(used)
 }
 
+/// Reads values until the bytes end, at most as many as `output` has room for. Answers how many.
+pub fn uncompress_unsorted_until_end(compressed_data: &[u8], output: &mut [u32]) -> usize
+    requires valid { IsSome (u32s_until_end (length output.old) compressed_data.now) }
+    ensures value { Some (take result output.new) ≡ u32s_until_end (length output.old) compressed_data.now }
+    ensures few { result ≤ length output.old }
+{
+    match try_uncompress_unsorted_until_end(compressed_data, output) {
+        Some(num_els) => num_els,
+        None => unreachable!(),
+    }
+}
+
+/// Reads as `uncompress_unsorted_until_end` does, from any bytes: `None` where a vint is missing.
+pub(crate) fn try_uncompress_unsorted_until_end(
+    compressed_data: &[u8],
+    output: &mut [u32],
+) -> Option<usize>
+    ensures value { option_map (λ num_els. take num_els output.new) result
+        ≡ u32s_until_end (length output.old) compressed_data.now }
+    ensures few { IfSome result (λ num_els. num_els ≤ length output.old) }
+{
+    let mut used = 0;
+    for k in 0..output.len() {
+        if used == compressed_data.len() {
+            return Some(k);
+        }
+        let Some((value, size)) = read_u32(&compressed_data[used..]) else {
+            return None;
+        };
+        output[k] = value;
+        used += size;
+    }
+    Some(output.len())
+}
+
+/// Reads a number as `ii_io::vint::read_u32` does, of which most have one byte.
+#[inline(always)]
+fn read_u32(bytes: &[u8]) -> Option<(u32, usize)>
+    ensures value { option_map (λ read. (read.0, drop read.1 bytes.now)) result ≡ u32_at bytes.now }
+    ensures within { IfSome result (λ read. read.1 ≤ length bytes.now) }
+{
+    if !bytes.is_empty() && bytes[0] >= 128 {
+        return Some((u32::from(bytes[0] - 128), 1));
+    }
+    vint::read_u32(bytes)
+}
+
 /// The law of rows of vints: what is written is read back, whatever follows.
 pub fn reads_sorted_vints_back()
     ensures { ReadsSortedVintsBack }
+{}
+
+/// The same law of values in any order.
+pub fn reads_unsorted_vints_back()
+    ensures { ReadsUnsortedVintsBack }
 {}
 
 #[cfg(test)]

@@ -12,7 +12,7 @@ use super::skip::SkipSerializer;
 use ii_base::{CountingWriter, Fault, IndexRecordOption};
 use ii_codes::{BlockEncoder, VIntEncoder};
 use ii_docset::DocId;
-type FieldNormReader = u8;
+use ii_fieldnorm::FieldNormReader;
 use ii_io::vint::{self, MAX_LONG_VINT_SIZE};
 use std::alloc::Global;
 use std::io::Write;

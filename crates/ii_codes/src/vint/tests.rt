@@ -2,7 +2,8 @@ ghost use Rattle.std.specs.Prelude.{ℕ, ◌≤◌};
 ghost use Rattle.ii_codes.specs.Sums.{DoNotFall};
 
 use super::compress_sorted;
-use crate::{BlockDecoder, BlockEncoder, VIntDecoder, VIntEncoder};
+use crate::{BlockDecoder, BlockEncoder, VIntEncoder};
+use ii_io::{LayoutFault, Part};
 
 // 4, 7, 11, 14, ..: each three and a half above the one before it, in whole numbers.
 fn values() -> [u32; 123]
@@ -39,4 +40,51 @@ fn encodes_sorted_vints(rt: HostRuntime) {
         compress_sorted(&[0, 2, 10], &mut buffer, 0),
         [0x80, 0x82, 0x88].as_slice()
     );
+}
+
+#[test]
+fn encodes_unsorted_vints(rt: HostRuntime) {
+    let mut encoder = BlockEncoder::new();
+    assert_eq!(rt;
+        encoder.compress_vint_unsorted(&[1, 2, 3]),
+        [0x81, 0x82, 0x83].as_slice()
+    );
+    let bytes = encoder.compress_vint_unsorted(&[u32::MAX; 128]);
+    assert_eq!(rt; bytes.len(), 640);
+    let mut decoder = BlockDecoder::default();
+    assert_eq!(rt;
+        decoder.try_uncompress_vint_unsorted(bytes, 128, 0),
+        Ok(640)
+    );
+    assert_eq!(rt; decoder.output_array(), [u32::MAX; 128].as_slice());
+    let refused = decoder.try_uncompress_vint_unsorted(&[0x81, 0x7F], 2, 0);
+    assert_eq!(rt; refused, Err(LayoutFault::Damaged(Part::Frequencies)));
+    assert_eq!(rt; decoder.output_len(), 0);
+    assert_eq!(rt;
+        decoder.try_uncompress_vint_unsorted(&[0x81, 0x7F], 1, 9),
+        Ok(1)
+    );
+    assert_eq!(rt; (decoder.output(0), decoder.output(127)), (1, 9));
+}
+
+#[test]
+fn decodes_unsorted_vints_until_the_end(rt: HostRuntime) {
+    let mut decoder = BlockDecoder::with_val(5);
+    assert_eq!(rt;
+        decoder.try_uncompress_vint_unsorted_until_end(&[0x83, 0x00, 0x82, 0x80]),
+        Ok(())
+    );
+    assert_eq!(rt; decoder.output_array(), [3, 256, 0].as_slice());
+    assert_eq!(rt;
+        decoder.try_uncompress_vint_unsorted_until_end(&[0x83, 0x00]),
+        Err(LayoutFault::Damaged(Part::Positions))
+    );
+    assert_eq!(rt; decoder.output_len(), 0);
+    assert_eq!(rt;
+        decoder.try_uncompress_vint_unsorted_until_end(&[0x81; 200]),
+        Ok(())
+    );
+    assert_eq!(rt; decoder.output_array(), [1; 128].as_slice());
+    assert_eq!(rt; decoder.try_uncompress_vint_unsorted_until_end(&[]), Ok(()));
+    assert_eq!(rt; decoder.output_len(), 0);
 }

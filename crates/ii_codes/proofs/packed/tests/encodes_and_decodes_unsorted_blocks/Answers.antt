@@ -7,4 +7,4 @@ pub compress_block_unsorted-requires-clause-positive : goal.compress_block_unsor
 compress_block_unsorted-requires-clause-positive c after = λ k h. omega (arith, get_or-replicate {A = ℕ} 128 k 3 0 h)
 
 pub uncompress_block_unsorted-requires : goal.uncompress_block_unsorted-requires
-uncompress_block_unsorted-requires c after = rw threes (record { lawful = refl })
+uncompress_block_unsorted-requires c after = rw threes (record { valid = refl })

@@ -1,0 +1,125 @@
+-- Laws of values that are summed up without a test of each.
+use Rattle.std.proofs.Common.{◌≡◌, ℕ, ◌+◌, ◌-◌, ◌*◌, ◌%◌, ◌^◌, ◌<◌, ◌≤◌, Bool, true, false, ◌&&◌, List, [], ◌∷◌, ◌++◌, length, take, drop, map, get_or, set, nat_lt, refl, sym, ◌∙◌, arith, append_assoc, ⊎_elim}
+use Rattle.std.proofs.lemmas.Bool.{cases_lt, lt-ltb, le-ltb, ltb-true, and_parts}
+use Rattle.std.proofs.lemmas.List.{drop_more, drop-set-lt, append-nil, take_more_set, take_all, drop_all}
+use Rattle.std.specs.Bool.{OnTrue}
+use Rattle.ii_codes.specs.Blocks.{values_from, unsorted_values}
+use Rattle.ii_codes.specs.Sums.{fit_u32}
+
+-- the values as they stand in 32 bits
+abbrev pub wrapped_from : ℕ → ℕ → List ℕ → List ℕ
+wrapped_from gap least es = map (λ v. v % 2 ^ 32) (values_from gap least es)
+
+-- What a loop knows that has k values in its output, of which the next is at least so great.
+pub record IsSumming (gap least next k : ℕ) (es out : List ℕ) : Type 0 where
+  pub bound : next < (k + 2) * 2 ^ 32
+  pub values : take k out ++ wrapped_from gap next (drop k es) ≡ wrapped_from gap least es
+  pub fit : fit_u32 (values_from gap least es) ≡ (nat_lt next (2 ^ 32 + gap) && fit_u32 (values_from gap next (drop k es)))
+
+pub summing-first : (gap least : ℕ) (es out : List ℕ) → gap ≤ 1 → least < 2 ^ 32 + gap → IsSumming gap least least 0 es out
+summing-first gap least es out g low = record {
+  bound = omega arith;
+  values = refl;
+  fit = rw (lt-ltb least (4294967296 + gap) low) refl;
+}
+
+none : (b : Bool) → (b && false) ≡ false
+none true = refl
+none false = refl
+
+fit_more : (gap next v : ℕ) (t : Bool) → next ≤ v → (nat_lt next (2 ^ 32 + gap) && (nat_lt v (2 ^ 32) && t)) ≡ (nat_lt (v + gap) (2 ^ 32 + gap) && t)
+fit_more gap next v t up =
+    ⊎_elim
+    (λ below. rw (lt-ltb v 4294967296 below, lt-ltb (v + gap) (4294967296 + gap) (omega arith), lt-ltb next (4294967296 + gap) (omega arith)) refl)
+    (λ above. rw (le-ltb v 4294967296 above, le-ltb (v + gap) (4294967296 + gap) (omega arith)) (none (nat_lt next (2 ^ 32 + gap))))
+    (cases_lt v 4294967296)
+
+pub summing-more : (gap least next k e x n : ℕ) (es out : List ℕ) → IsSumming gap least next k es out → k < length es → k < length out → e ≡ get_or es k 0 → e < 2 ^ 32 → gap ≤ 1
+    → x ≡ (next + e) % 2 ^ 32 → n ≡ next + (e + gap) → IsSumming gap least n (k + 1) es (set out k x)
+summing-more gap least next k e x n es out h more within entry small g wrapped step =
+    let bound = h.bound in
+    let here = drop_more es k 0 more in
+    let place : n ≡ next + e + gap = omega arith in
+    let values = rw (here, ← entry) at h.values in
+    let fit = rw (here, ← entry) at h.fit in
+    record {
+      bound = omega arith;
+      values = rw (take_more_set out k x within, place, wrapped) (append_assoc (take k out) ((next + e) % 2 ^ 32 ∷ []) (wrapped_from gap (next + e + gap) (drop (k + 1) es)) ∙ values);
+      fit = rw place (fit ∙ fit_more gap next (next + e) (fit_u32 (values_from gap (next + e + gap) (drop (k + 1) es))) (omega arith));
+    }
+
+on_true : (b : Bool) {P : Type 0} → (b ≡ true → P) → OnTrue b P
+on_true true p = p refl
+on_true false p = tt
+
+true_and : (b : Bool) → (b && true) ≡ b
+true_and true = refl
+true_and false = refl
+
+-- values that fit stand as they are
+fit_wrapped : (vs : List ℕ) → fit_u32 vs ≡ true → map (λ v. v % 2 ^ 32) vs ≡ vs
+fit_wrapped [] h = refl
+fit_wrapped (v ∷ vs) h =
+    let both = and_parts (nat_lt v (2 ^ 32)) (fit_u32 vs) h in
+    let small = ltb-true v 4294967296 both.0 in
+    let same : v % 4294967296 ≡ v = omega arith in
+    rw (same, fit_wrapped vs both.1) refl
+
+pub summing-fits : (gap least next k : ℕ) (es out : List ℕ) → IsSumming gap least next k es out → length es ≤ k → nat_lt next (2 ^ 32 + gap) ≡ fit_u32 (values_from gap least es)
+summing-fits gap least next k es out h done =
+    let fit = rw (drop_all k es done) at h.fit in
+    sym (fit ∙ true_and (nat_lt next (2 ^ 32 + gap)))
+
+summing-all : (gap least next k : ℕ) (es out : List ℕ) → IsSumming gap least next k es out → length es ≤ k → length out ≤ k → fit_u32 (values_from gap least es) ≡ true → out ≡ values_from gap least es
+summing-all gap least next k es out h done full fits =
+    let values = rw (drop_all k es done, take_all k out full, append-nil out) at h.values in
+    values ∙ fit_wrapped (values_from gap least es) fits
+
+pub summing-values : (gap least next k : ℕ) (es out : List ℕ) → IsSumming gap least next k es out → length es ≤ k → length out ≤ k → OnTrue (nat_lt next (2 ^ 32 + gap)) (out ≡ values_from gap least es)
+summing-values gap least next k es out h done full =
+    on_true (nat_lt next (2 ^ 32 + gap)) (λ fits. summing-all gap least next k es out h done full (sym (summing-fits gap least next k es out h done) ∙ fits))
+
+-- the values one above entries, as they stand in 32 bits
+abbrev pub wrapped_above : List ℕ → List ℕ
+wrapped_above es = map (λ v. v % 2 ^ 32) (unsorted_values true es)
+
+-- What a loop knows that has added one to k entries.
+pub record IsAddingOne (fits : Bool) (k : ℕ) (es out : List ℕ) : Type 0 where
+  pub values : take k out ++ wrapped_above (drop k out) ≡ wrapped_above es
+  pub fit : fit_u32 (unsorted_values true es) ≡ (fits && fit_u32 (unsorted_values true (drop k out)))
+
+pub adding-first : (es : List ℕ) → IsAddingOne true 0 es es
+adding-first es = record { values = refl; fit = refl }
+
+and_assoc : (a b c : Bool) → (a && (b && c)) ≡ ((a && b) && c)
+and_assoc true b c = refl
+and_assoc false b c = refl
+
+below_most : (e : ℕ) → nat_lt (e + 1) (2 ^ 32) ≡ nat_lt e (2 ^ 32 - 1)
+below_most e =
+    ⊎_elim
+    (λ below. rw (lt-ltb e 4294967295 below, lt-ltb (e + 1) 4294967296 (omega arith)) refl)
+    (λ above. rw (le-ltb e 4294967295 above, le-ltb (e + 1) 4294967296 (omega arith)) refl)
+    (cases_lt e 4294967295)
+
+pub adding-more : (fits b : Bool) (k e x : ℕ) (es out : List ℕ) → IsAddingOne fits k es out → k < length out → e ≡ get_or out k 0 → x ≡ (e + 1) % 2 ^ 32 → b ≡ nat_lt e (2 ^ 32 - 1)
+    → IsAddingOne (fits && b) (k + 1) es (set out k x)
+adding-more fits b k e x es out h within entry wrapped below =
+    let more = drop_more out k 0 within in
+    let rest = drop-set-lt (k + 1) out k x (omega arith) in
+    let values = rw (more, ← entry) at h.values in
+    let fit = rw (more, ← entry) at h.fit in
+    record {
+      values = rw (rest, take_more_set out k x within, wrapped) (append_assoc (take k out) ((e + 1) % 2 ^ 32 ∷ []) (wrapped_above (drop (k + 1) out)) ∙ values);
+      fit = rw (rest, below, ← below_most e) (fit ∙ and_assoc fits (nat_lt (e + 1) (2 ^ 32)) (fit_u32 (unsorted_values true (drop (k + 1) out))));
+    }
+
+pub adding-fits : (fits : Bool) (k : ℕ) (es out : List ℕ) → IsAddingOne fits k es out → length out ≤ k → fits ≡ fit_u32 (unsorted_values true es)
+adding-fits fits k es out h done = let fit = rw (drop_all k out done) at h.fit in sym (fit ∙ true_and fits)
+
+pub adding-values : (fits : Bool) (k : ℕ) (es out : List ℕ) → IsAddingOne fits k es out → length out ≤ k → OnTrue fits (out ≡ unsorted_values true es)
+adding-values fits k es out h done =
+    on_true fits
+    (λ all.
+    let values = rw (drop_all k out done, take_all k out done, append-nil out) at h.values in
+    values ∙ fit_wrapped (unsorted_values true es) (sym (adding-fits fits k es out h done) ∙ all))
