@@ -204,13 +204,13 @@ full_held docs here rest after block before w s decoder there read size =
 pub vints_held : (docs here rest after : List ℕ) (block before n : ℕ) (decoder : BlockDecoderState) → sorted_vints_at before n here ≡ Some (docs_of_block docs block, after)
     → Some (take n decoder.output, rest) ≡ sorted_vints_at before n here → drop n decoder.output ≡ replicate (128 - n) 2147483647 → decoder.output_len ≡ n → HoldsBlock docs block decoder × (length (docs_of_block docs block) ≡ n)
 vints_held docs here rest after block before n decoder there read filled size = (
-      record {
-        many = size ∙ sym (length-sorted_vints_at before n here (docs_of_block docs block) after there);
-        held = ap (λ (k : ℕ). take k decoder.output) size ∙ ap (λ (p : List ℕ × List ℕ). p.0) (some-same (read ∙ there));
-        filled = ap (λ (k : ℕ). drop k decoder.output) size ∙ filled ∙ ap (λ (k : ℕ). replicate (128 - k) 2147483647) (sym size);
-      },
-      length-sorted_vints_at before n here (docs_of_block docs block) after there,
-    )
+  record {
+    many = size ∙ sym (length-sorted_vints_at before n here (docs_of_block docs block) after there);
+    held = ap (λ (k : ℕ). take k decoder.output) size ∙ ap (λ (p : List ℕ × List ℕ). p.0) (some-same (read ∙ there));
+    filled = ap (λ (k : ℕ). drop k decoder.output) size ∙ filled ∙ ap (λ (k : ℕ). replicate (128 - k) 2147483647) (sym size);
+  },
+  length-sorted_vints_at before n here (docs_of_block docs block) after there,
+)
 
 -- the decoder that is left of the check of a short list
 pub short_held : (p : CheckedPostingsState) (decoder : BlockDecoderState) → AreGiven p.doc_freq p.postings → p.doc_freq < 128 → HoldsVInts 0 p.doc_freq p.postings.skip.body new_decoder decoder → HoldsBlock p.postings.docs 0 decoder

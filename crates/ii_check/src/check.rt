@@ -57,9 +57,12 @@ fn is_block(decoder: &mut BlockDecoder, skip: &SkipReader, least: DocId, bytes: 
         return false;
     };
     let before = skip.last_doc_in_previous_block();
-    let Ok(_) =
-        decoder.try_uncompress_block_sorted(bytes, before, doc_num_bits, strict_delta_encoded)
-    else {
+    let Ok(_) = decoder.try_uncompress_block_sorted(
+        bytes,
+        before,
+        doc_num_bits,
+        strict_delta_encoded,
+    ) else {
         return false;
     };
     if decoder.output(COMPRESSION_BLOCK_SIZE - 1) != skip.last_doc_in_block() {

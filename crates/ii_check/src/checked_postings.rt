@@ -51,8 +51,7 @@ impl CheckedPostings {
         ensures decodes { IfOk result (λ opened. opened.1.decodes ≡ min 1 doc_freq) }
         ensures err { IfErr result (λ fault. postings record_option doc_freq bytes ≡ Err (part_of fault)) }
     {
-        let Some(places) =
-            split_into_skips_and_postings(doc_freq, bytes.as_slice(), record_option)
+        let Some(places) = split_into_skips_and_postings(doc_freq, bytes.as_slice(), record_option)
         else {
             return Err(LayoutFault::Damaged(Part::Skip));
         };

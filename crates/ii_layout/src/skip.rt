@@ -200,7 +200,11 @@ fn read_entry(bytes: &[u8], skip_info: IndexRecordOption) -> (DocId, BlockInfo)
 }
 
 // The entry of block `block`, as `read_entry` answers it.
-pub(crate) fn read_entry_at(data: &[u8], skip_info: IndexRecordOption, block: u32) -> (DocId, BlockInfo)
+pub(crate) fn read_entry_at(
+    data: &[u8],
+    skip_info: IndexRecordOption,
+    block: u32,
+) -> (DocId, BlockInfo)
     requires { entry_size skip_info * (block + 1) ≤ length data.now }
     ensures last_doc { result.0 ≡ (entry_at skip_info (drop (entry_size skip_info * block) data.now)).last_doc }
     ensures info { result.1 ≡ block_info_of (entry_at skip_info (drop (entry_size skip_info * block) data.now)) }

@@ -55,8 +55,12 @@ impl SegmentPostings {
         ensures doc_decodes { IfOk result (λ cursor. cursor.doc_decodes ≤ 1) }
         ensures err { IfErr result (λ fault. document_list record_option doc_freq postings ≡ Err (part_of fault)) }
     {
-        let opened =
-            BlockSegmentPostings::open(doc_freq, postings, record_option, requested_option);
+        let opened = BlockSegmentPostings::open(
+            doc_freq,
+            postings,
+            record_option,
+            requested_option,
+        );
         match opened {
             Ok(block_cursor) => Ok(SegmentPostings {
                 block_cursor,

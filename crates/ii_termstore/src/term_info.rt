@@ -134,34 +134,36 @@ impl BinarySerializable for TermInfo {
 }
 
 impl FixedSize for TermInfo {
+    ghost use Rattle.ii_termstore.specs.TermInfoLemmas.{length_info_bytes};
+
     const SIZE_IN_BYTES: usize = 28;
 
-    ghost size = { 28 };
+    ghost SIZE_IN_BYTES = { 28 };
 
-    #[tactic(auto, using(crate::specs::TermInfoLemmas::length_info_bytes))]
-    fn fixed_size() -> usize {
-        Self::SIZE_IN_BYTES
-    }
+    ghost has_size = { λ i. length_info_bytes i };
 }
 
-ghost use Rattle.ii_termstore.specs.TermInfos.{info_bytes, HasLengths};
+ghost use Rattle.ii_termstore.specs.TermInfos.{info_bytes, HasLengths, IsInRange};
 
 // The bytes of a term, in a buffer of their size.
 #[tactic(auto, unfolding(crate::specs::TermInfos::info_bytes))]
 pub(crate) fn put_info(buf: &mut [u8], info: &TermInfo)
     requires room { length buf.old ≡ 28 }
     requires lengths { HasLengths info.now }
-    ensures { buf.new ≡ info_bytes info.now }
+    ensures bytes { buf.new ≡ info_bytes info.now }
+    ensures range { IsInRange info.now }
 {
     let (doc_freq, rest) = buf.split_at_mut(4);
     let (postings, rest) = rest.split_at_mut(8);
     let (postings_len, rest) = rest.split_at_mut(4);
     let (positions, positions_len) = rest.split_at_mut(8);
+    let Range { start, end } = info.postings_range;
+    put_u64(postings, start as u64);
+    put_u32(postings_len, (end - start) as u32);
+    let Range { start, end } = info.positions_range;
+    put_u64(positions, start as u64);
+    put_u32(positions_len, (end - start) as u32);
     put_u32(doc_freq, info.doc_freq);
-    put_u64(postings, info.postings_range.start as u64);
-    put_u32(postings_len, info.posting_num_bytes());
-    put_u64(positions, info.positions_range.start as u64);
-    put_u32(positions_len, info.positions_num_bytes());
 }
 
 // The bytes of a number, in a buffer of their size.

@@ -1,4 +1,4 @@
-ghost use Rattle.std.specs.Prelude.{◌≡◌, ◌<◌, ◌++◌, ◌↔◌, ◌⊎◌, ◌∷◌, [], ℕ, List, length, Option, Some, OnOk, IfErr, IfNone, IsErrOf};
+ghost use Rattle.std.specs.Prelude.{◌≡◌, ◌<◌, ◌^◌, ◌++◌, ◌↔◌, ◌⊎◌, ◌∷◌, [], ℕ, List, length, Option, Some, OnOk, IfErr, IfNone, IsErrOf};
 ghost use Rattle.std.specs.Option.{option_map};
 ghost use Rattle.ii_io.specs.CountingWriter.{Wrote, IsFull};
 ghost use Rattle.ii_io.specs.Numbers.{number_at};
@@ -93,17 +93,16 @@ impl BinarySerializable for TermInfoBlockMeta {
 }
 
 impl FixedSize for TermInfoBlockMeta {
+    ghost use Rattle.ii_termstore.specs.TermStoreLemmas.{length_meta_bytes};
+
     const SIZE_IN_BYTES: usize = 39;
 
-    ghost size = { 39 };
+    ghost SIZE_IN_BYTES = { 39 };
 
-    #[tactic(auto, using(crate::specs::TermStoreLemmas::length_meta_bytes))]
-    fn fixed_size() -> usize {
-        Self::SIZE_IN_BYTES
-    }
+    ghost has_size = { λ i. length_meta_bytes i };
 }
 
-ghost use Rattle.ii_termstore.specs.TermInfos.{HasLengths};
+ghost use Rattle.ii_termstore.specs.TermInfos.{HasLengths, IsInRange};
 ghost use Rattle.ii_termstore.specs.TermStore.{meta_bytes};
 
 // The bytes of a meta, in a buffer of their size.
@@ -111,7 +110,8 @@ ghost use Rattle.ii_termstore.specs.TermStore.{meta_bytes};
 pub(super) fn put_meta(buf: &mut [u8], meta: &TermInfoBlockMeta)
     requires room { length buf.old ≡ 39 }
     requires lengths { HasLengths meta.now.ref_term_info }
-    ensures { buf.new ≡ meta_bytes meta.now }
+    ensures bytes { buf.new ≡ meta_bytes meta.now }
+    ensures range { (meta.now.offset < 256 ^ 8) × IsInRange meta.now.ref_term_info }
 {
     let (offset, rest) = buf.split_at_mut(8);
     let (info, widths) = rest.split_at_mut(28);
