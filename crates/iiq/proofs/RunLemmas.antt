@@ -170,6 +170,29 @@ appends_kept (Some x) None c bs p q = absurd p
 appends_kept (Some x) (Some y) None bs p q = absurd q
 appends_kept (Some x) (Some y) (Some z) bs p q = q ∙ p
 
+-- a flush at the end
+pub answered_kept : (old now new : Option (List ℕ)) (text : List ℕ) (left : List (List ℕ)) (fine : Bool) → IsAnswering old now text left fine → Keeps now new → IsAnswering old new text left fine
+answered_kept old now new text left fine a kept = record { written = a.written; appends = appends_kept old now new a.written a.appends kept; prints = a.prints; fine_is = a.fine_is }
+
+pub answered_all : {E : Type 0} (r : Result Bool E) (old now new : Option (List ℕ)) (text : List ℕ) (left : List (List ℕ)) (fine : Bool) → IsAnswering old now text left fine → left ≡ [] → Keeps now new → IfOk r (λ answer. answer ≡ fine)
+    → IfOk r (λ answer. PrintsAll old new text answer)
+answered_all (Ok answer) old now new text left fine a e kept same = rw same (answered old new text left fine (answered_kept old now new text left fine a kept) e)
+answered_all (Err x) old now new text left fine a e kept same = tt
+
+pub answered_all_part : {E : Type 0} (r : Result Bool E) (old now new : Option (List ℕ)) (text : List ℕ) (left : List (List ℕ)) (fine : Bool) → IsAnswering old now text left fine → left ≡ [] → Keeps now new → OnErr r (PrintsBeginning old new text)
+answered_all_part (Ok answer) old now new text left fine a e kept = tt
+answered_all_part (Err x) old now new text left fine a e kept =
+    let all = answered old new text left fine (answered_kept old now new text left fine a kept) e in
+    record { out = all.out; rest = []; appends = all.appends; prints = rw append-nil all.prints }
+
+pub ended : {E : Type 0} (r : Result Bool E) (old now new : Option (List ℕ)) (bs : List ℕ) → Appends old now bs → Keeps now new → IfOk r (λ answer. answer ≡ false) → IfOk r (λ answer. (answer ≡ false) × Appends old new bs)
+ended (Ok answer) old now new bs front kept same = (same, appends_kept old now new bs front kept)
+ended (Err x) old now new bs front kept same = tt
+
+pub ended_part : {E : Type 0} (r : Result Bool E) (old now new : Option (List ℕ)) (bs : List ℕ) → Appends old now bs → Keeps now new → OnErr r (PutsBeginning old new bs)
+ended_part (Ok answer) old now new bs front kept = tt
+ended_part (Err x) old now new bs front kept = (bs, [], appends_kept old now new bs front kept, sym (append-nil bs))
+
 -- what a failed write leaves is a beginning
 pub puts_kept : (a b c : Option (List ℕ)) (bs : List ℕ) (i : ℕ) → Appends a b (take i bs) → Keeps b c → PutsBeginning a c bs
 puts_kept a b c bs i front kept = (take i bs, drop i bs, appends_kept a b c (take i bs) front kept, sym (take-append-drop i bs))

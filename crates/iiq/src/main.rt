@@ -9,11 +9,15 @@ mod run;
 mod words;
 
 use run::{RunFault, run as run_lines};
-use std::io;
+use std::io::{self, BufWriter};
 use std::process::ExitCode;
 
 fn main(rt: HostRuntime) -> ExitCode {
-    match run_lines(rt.alloc(), &mut rt.reader(), &mut io::writer(&rt)) {
+    let answered = match BufWriter::new(rt.alloc(), io::writer(&rt)) {
+        Ok(mut writer) => run_lines(rt.alloc(), &mut rt.reader(), &mut writer),
+        Err(_) => run_lines(rt.alloc(), &mut rt.reader(), &mut io::writer(&rt)),
+    };
+    match answered {
         Ok(true) => ExitCode::SUCCESS,
         Ok(false) => ExitCode::from(1),
         Err(RunFault::Input | RunFault::Output) => ExitCode::from(2),

@@ -1,5 +1,5 @@
 ghost use Rattle.std.specs.Prelude.{◌≡◌, ◌++◌, false, IfOk, OnOk, OnErr, IfSome, codes};
-ghost use Rattle.std.specs.Io.KnownBytes.{Appends};
+ghost use Rattle.std.specs.Io.KnownBytes.{Appends, Keeps};
 ghost use Rattle.iiq.specs.Output.{PrintsAll, PrintsBeginning, PutsBeginning, has_no_error as has_no_error_in};
 
 use crate::parts::Parts;
@@ -18,6 +18,7 @@ pub enum RunFault {
 
 /// Answers each line that the reader gives, in order, and says whether no line that begins with
 /// `error` was written. Where memory for a line is refused its answer is `error 1`, and the last.
+/// The writer is flushed at the end.
 pub fn run<R: Read, W: Write>(
     alloc: Global,
     reader: &mut R,
@@ -76,7 +77,7 @@ fn answer_lines<W: Write>(alloc: Global, text: &[u8], writer: &mut W) -> Result<
         fine &= has_no_error(answer.as_bytes());
         put(writer, answer.as_bytes())?;
     }
-    Ok(fine)
+    finish(writer, fine)
 }
 
 // Writes the last line of a run that found no memory.
@@ -85,7 +86,18 @@ fn end_run<W: Write>(writer: &mut W) -> Result<bool, RunFault>
     ensures err { OnErr result (PutsBeginning (W.contents writer.old) (W.contents writer.new) (codes "error 1\n")) }
 {
     put(writer, b"error 1\n")?;
-    Ok(false)
+    finish(writer, false)
+}
+
+// Flushes the writer, and answers what the run found.
+fn finish<W: Write>(writer: &mut W, fine: bool) -> Result<bool, RunFault>
+    ensures same { IfOk result (λ answer. answer ≡ fine) }
+    ensures keeps { Keeps (W.contents writer.old) (W.contents writer.new) }
+{
+    match writer.flush() {
+        Ok(()) => Ok(fine),
+        Err(_) => Err(RunFault::Output),
+    }
 }
 
 // Writes all of the bytes, or a beginning of them where the writer fails.
@@ -157,7 +169,8 @@ mod tests {
             let answer = run(rt.alloc(), &mut reader, &mut writer);
             assert!(rt; OUTPUT.starts_with(writer.bytes()));
             if answer.is_ok() {
-                assert_eq!(rt; k, 4);
+                // three answers, and a flush
+                assert_eq!(rt; k, 5);
                 return;
             }
             assert_eq!(rt; answer, Err(RunFault::Output), "write {k}");

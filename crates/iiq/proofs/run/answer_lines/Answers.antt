@@ -1,7 +1,7 @@
 use Rattle.std.proofs.Common.{◌∙◌}
 use Rattle.std.proofs.KnownBytes.{Appends-nil}
 use Rattle.std.proofs.lemmas.Result.{IfOk-weaker, on_err_weaker}
-use Rattle.iiq.proofs.RunLemmas.{answering_first, answering_next, answered, answered_no_memory, answered_no_memory_part, answered_part, on_err_from}
+use Rattle.iiq.proofs.RunLemmas.{answering_first, answering_next, answered_all, answered_all_part, answered_no_memory, answered_no_memory_part, answered_part, on_err_from}
 use Rattle.iiq.proofs.run.answer_lines.Goals as goal
 
 pub loop-line-init : goal.loop-line-init
@@ -30,4 +30,7 @@ loop-line-preserved g c =
     (answering_next _ _ _ c.args.text.now c.in-Some.line.now _ c.loop-line.lines c.next.new.self c.loop-line.fine c.loop-line.invariant c.in-Some.ensures.part c.in-Ok.ensures (rw c.as_bytes-in-Some.ensures.value at c.in_ok-put.ensures.ok))
 
 pub returns-clause-ok : goal.returns-clause-ok
-returns-clause-ok g c = answered _ _ c.args.text.now c.loop-line.lines c.loop-line.fine c.loop-line.invariant c.in_default.ensures.part
+returns-clause-ok g c = answered_all c.finish.result _ _ _ c.args.text.now c.loop-line.lines c.loop-line.fine c.loop-line.invariant c.in_default.ensures.part c.finish.ensures.keeps c.finish.ensures.same
+
+pub returns-clause-err : goal.returns-clause-err
+returns-clause-err g c = answered_all_part c.finish.result _ _ _ c.args.text.now c.loop-line.lines c.loop-line.fine c.loop-line.invariant c.in_default.ensures.part c.finish.ensures.keeps
