@@ -141,13 +141,6 @@ module _ (a b c : CompositeWriteState) (bs : Buffers) (i : ℕ) (x : Option (Lis
         refused = λ closed. let step = w.refused (has.closed ∙ closed) in (step.0 ∙ has.same closed, step.1, step.2);
       }
 
--- all buffers were written
-pub written_all : (a b : CompositeWriteState) (bs : Buffers) → HasWritten a b bs → WritesNorms a b (bodies_bytes (norm_bodies bs)) (Ok tt)
-written_all a b bs has = record {
-  writes = λ still. (record { writes = λ _ _. writes_all a.writer b.writer (bodies_bytes (norm_bodies bs)) has.adds.wrote; memory = λ none. absurd (cc); refused = λ closed. absurd (cc) }, record { ok = has.closed ∙ still; err = tt });
-  refused = λ closed. (has.same closed, has.closed ∙ closed, tt);
-}
-
 -- a buffer's body comes after those before it
 front_bodies : (field : ℕ) (bs : Buffers) (i : ℕ) (ids : List ℕ) → i < length bs → Some ids ≡ get_or bs i (Some ids) → suc (length (norm_bodies_from field (take i bs))) ≤ length (norm_bodies_from field bs)
 front_bodies field [] i ids within here = absurd (omega arith)
