@@ -11,7 +11,7 @@ use Rattle.std.proofs.lemmas.List.Edits.{map_over_more}
 use Rattle.std.proofs.lemmas.Bool.Decides.{nat_tests}
 use Rattle.ii_io.specs.declared.faults.Fault.{Fault}
 use Rattle.ii_io.specs.declared.composite_file.place.BodyStart.{BodyStart}
-use Rattle.ii_io.specs.CountingWriterLemmas.{wrote_nothing, Wrote-trans, writes_all, memory_then, memory_refused_by}
+use Rattle.ii_io.specs.CountingWriterLemmas.{wrote_nothing, Wrote-trans, memory_then, memory_refused_by}
 use Rattle.ii_io.specs.Composite.{Body, bodies_bytes}
 use Rattle.ii_io.specs.CompositeWrite.{CompositeWriteState, has_start, next_start}
 use Rattle.ii_io.specs.CompositeWriteLemmas.{HasBodies-more}
