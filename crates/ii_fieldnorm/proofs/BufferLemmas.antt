@@ -11,7 +11,7 @@ use Rattle.std.proofs.lemmas.List.Edits.{map_over_more}
 use Rattle.std.proofs.lemmas.Bool.Decides.{nat_tests}
 use Rattle.ii_io.specs.declared.faults.Fault.{Fault}
 use Rattle.ii_io.specs.declared.composite_file.place.BodyStart.{BodyStart}
-use Rattle.ii_io.specs.CountingWriterLemmas.{wrote_nothing, Wrote-trans, writes_all, memory_then, memory_refused_by}
+use Rattle.ii_io.specs.CountingWriterLemmas.{wrote_nothing, Wrote-trans, memory_then, memory_refused_by}
 use Rattle.ii_io.specs.Composite.{Body, bodies_bytes}
 use Rattle.ii_io.specs.CompositeWrite.{CompositeWriteState, has_start, next_start}
 use Rattle.ii_io.specs.CompositeWriteLemmas.{HasBodies-more}
@@ -140,13 +140,6 @@ module _ (a b c : CompositeWriteState) (bs : Buffers) (i : ℕ) (x : Option (Lis
             (rw (all_bytes 0 bs i x within here) (memory_refused_by a.writer c.writer (front ++ buffer_bytes x) (bytes_after 0 bs i) result refused both), step.1);
         refused = λ closed. let step = w.refused (has.closed ∙ closed) in (step.0 ∙ has.same closed, step.1, step.2);
       }
-
--- all buffers were written
-pub written_all : (a b : CompositeWriteState) (bs : Buffers) → HasWritten a b bs → WritesNorms a b (bodies_bytes (norm_bodies bs)) (Ok tt)
-written_all a b bs has = record {
-  writes = λ still. (record { writes = λ _ _. writes_all a.writer b.writer (bodies_bytes (norm_bodies bs)) has.adds.wrote; memory = λ none. absurd (cc); refused = λ closed. absurd (cc) }, record { ok = has.closed ∙ still; err = tt });
-  refused = λ closed. (has.same closed, has.closed ∙ closed, tt);
-}
 
 -- a buffer's body comes after those before it
 front_bodies : (field : ℕ) (bs : Buffers) (i : ℕ) (ids : List ℕ) → i < length bs → Some ids ≡ get_or bs i (Some ids) → suc (length (norm_bodies_from field (take i bs))) ≤ length (norm_bodies_from field bs)

@@ -1,7 +1,7 @@
 -- Laws of reading a composite file place by place.
 use Rattle.std.proofs.Common.{◌≡◌, ℕ, zero, suc, ◌-◌, ◌<◌, ◌≤◌, Bool, true, false, ◌&&◌, ◌||◌, not, cond, nat_le, ◌==◌, List, [], ◌∷◌, ◌++◌, map, length, drop, Option, Some, None, refl, sym, ◌∙◌, arith, append_assoc, length-drop}
 use Rattle.std.proofs.Math.Bool.{and-false, or-true}
-use Rattle.std.proofs.lemmas.List.{append-nil, length-take-le}
+use Rattle.std.proofs.lemmas.List.{length-take-le}
 use Rattle.std.specs.List.{list_all, find, slice_range}
 use Rattle.std.specs.Ordering.{is_eq, nat_cmp}
 use Rattle.std.proofs.lemmas.List.Folds.{list_all-append, list_any-append}
@@ -98,9 +98,6 @@ same_tests key q false = grind (arith, nat_tests)
 
 pub seen-more : (read : List Place) (p : Place) (q : ℕ) → cond (is_eq (nat_cmp p.field q)) true (has_place q read) ≡ has_place q (read ++ p ∷ [])
 seen-more read p q = same_tests p.field q (has_place q read) ∙ sym (list_any-append (λ (r : Place). r.field == q) read (p ∷ []))
-
-pub left-end : (size : ℕ) (read : List Place) (bytes : List ℕ) → list_all (lies_within size) read ≡ true → are_distinct read ≡ true → left size read 0 bytes ≡ Some read
-left-end size read bytes all distinct = rw (append-nil read, all, distinct) refl
 
 lies_wider : (size wider : ℕ) (p : Place) → size ≤ wider → lies_within size p ≡ true → lies_within wider p ≡ true
 lies_wider size wider p h e =

@@ -1,7 +1,7 @@
 -- Laws of writing a composite file.
-use Rattle.std.proofs.Common.{◌≡◌, ℕ, zero, suc, ◌+◌, ◌*◌, ◌<◌, ◌≤◌, List, [], ◌∷◌, ◌++◌, length, take, drop, get_or, Some, Result, is_err, true, false, refl, sym, ap, ◌∙◌, arith, length-append, append_assoc}
+use Rattle.std.proofs.Common.{◌≡◌, ℕ, zero, suc, ◌+◌, ◌*◌, ◌<◌, List, [], ◌∷◌, ◌++◌, length, take, drop, get_or, Some, Result, is_err, true, false, refl, sym, ap, ◌∙◌, arith, length-append, append_assoc}
 use Rattle.std.specs.List.{flat_map, slice_get}
-use Rattle.std.proofs.lemmas.List.{length-take-le, append-nil, take-append-drop}
+use Rattle.std.proofs.lemmas.List.{append-nil, take-append-drop}
 use Rattle.std.proofs.lemmas.Grind.{flat_map-append}
 use Rattle.ii_io.specs.declared.composite_file.place.Place.{Place}
 use Rattle.ii_io.specs.declared.composite_file.place.BodyStart.{BodyStart}
@@ -58,10 +58,6 @@ places_more (q ∷ ps) zero p e =
     append-nil (place_bytes q) ∙ ap place_bytes same
 places_more (q ∷ ps) (suc i) p e =
     ap (λ (bs : List ℕ). place_bytes q ++ bs) (places_more ps i p e) ∙ sym (append_assoc (place_bytes q) (flat_map place_bytes (take i ps)) (place_bytes p))
-
--- what the places before one take
-pub front_size : (ps : List Place) (i : ℕ) → i ≤ length ps → length (flat_map place_bytes (take i ps)) ≡ 20 * i
-front_size ps i h = length-places_bytes (take i ps) ∙ ap (λ (n : ℕ). 20 * n) (length-take-le i ps h)
 
 -- a place that was refused, after others
 pub place_refused : (a b c : CountingWriterState) (ps : List Place) (i : ℕ) (p : Place) (result : Result (Unit {0}) Fault) → slice_get ps i ≡ Some p → Wrote a b (flat_map place_bytes (take i ps)) → true ≡ is_err result

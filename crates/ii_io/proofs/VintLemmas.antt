@@ -198,18 +198,25 @@ module _ (most : ℕ) (bytes : List ℕ) (i value place b : ℕ) (at : IsAtByte 
   pub place_past : b < 128 → ¬ (place * 128 < 2 ^ 64) → None ≡ vint_at most (2 ^ 64) bytes
   place_past low past = tenth low (λ few. let fits = nine_fit few in past (omega arith))
 
+  tenth_place : 9 ≤ i → place ≡ 2 ^ 63
+  tenth_place nine =
+      let left = at.left in
+      let ten = at.ten in
+      let last : i ≡ 9 = omega arith in
+      rw last at at.known.power
+
+  tenth_fits : place ≡ 2 ^ 63 → value < place → b % 128 * place < 2 ^ 64 → value + b % 128 * place < 2 ^ 64
+  tenth_fits is below fits =
+      let low = rw is at below in
+      let group = rw is at fits in
+      rw is (omega (arith, low, group))
+
   -- a group that fits 64 bits fits with those before it
   pub sum_fits : b % 128 * place < 2 ^ 64 → value + b % 128 * place < 2 ^ 64
   sum_fits fits =
-      let left = at.left in
-      let ten = at.ten in
-      let power = at.known.power in
       let below = at.known.below in
       let next = next_place value place b at.known.below in
-      ⊎_elim
-      (λ few. let fit = nine_fit few in omega arith)
-      (λ nine. let last : i ≡ 9 = omega arith in let tenth_place : place ≡ 2 ^ 63 = rw last at power in let low = rw tenth_place at below in let group = rw tenth_place at fits in rw tenth_place (omega arith))
-      (cases_lt i 9)
+      ⊎_elim (λ few. let fit = nine_fit few in omega arith) (λ nine. tenth_fits (tenth_place nine) below fits) (cases_lt i 9)
 
   -- the last byte
   pub last_read : 128 ≤ b → b % 128 * place < 2 ^ 64 → Some (value + b % 128 * place, drop (i + 1) bytes) ≡ vint_at most (2 ^ 64) bytes

@@ -16,13 +16,6 @@ pub record Spells (most limit : ℕ) (bytes : List ℕ) (v : ℕ) : Type 0 where
   pub value : v ≡ groups_sum bytes
   pub fits : v < limit
 
--- The bytes spell a number of 32 bits, or of 64.
-abbrev pub IsVintU32 : List ℕ → ℕ → Type 0
-IsVintU32 bytes v = Spells 5 (2 ^ 32) bytes v
-
-abbrev pub IsVintU64 : List ℕ → ℕ → Type 0
-IsVintU64 bytes v = Spells 10 (2 ^ 64) bytes v
-
 -- the sum of the groups up to the first byte from 128 on, if it is among so many, and the bytes behind it
 abbrev pub groups_at : ℕ → List ℕ → Option (ℕ × List ℕ)
 groups_at zero bytes = None
