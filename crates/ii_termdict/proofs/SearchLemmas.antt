@@ -18,7 +18,7 @@ use Rattle.ii_termdict.specs.Dictionary.{key_of, keys_of, keys_ascend, is_below,
 use Rattle.ii_termstore.specs.ListLemmas.{all_at}
 use Rattle.ii_termdict.proofs.DictionaryLemmas.{length-keys_of}
 
-less_of : (o : Ordering) → is_lt o ≡ true → o ≡ Less
+pub less_of : (o : Ordering) → is_lt o ≡ true → o ≡ Less
 less_of Less h = refl
 less_of Equal h = absurd (cc)
 less_of Greater h = absurd (cc)
