@@ -113,10 +113,6 @@ pub opened_infos : (o : Option (List TermInfo)) (n : ℕ) → IsSomeAnd o (λ in
 opened_infos None n h = absurd h
 opened_infos (Some infos) n h = h
 
-pub opened_within : (o : Option (List TermInfo)) (n ord : ℕ) → IsSomeAnd o (λ infos. length infos ≡ n) → ord < n → IsSomeAnd o (λ infos. ord < length infos)
-opened_within None n ord h within = absurd h
-opened_within (Some infos) n ord h within = rw h within
-
 pub opened_get : (o : Option (List TermInfo)) (n ord : ℕ) (x : TermInfo) → IsSomeAnd o (λ infos. length infos ≡ n) → IfSome o (λ infos. slice_get infos ord ≡ Some x) → slice_get (unwrap_or o []) ord ≡ Some x
 opened_get None n ord x h e = absurd h
 opened_get (Some infos) n ord x h e = e

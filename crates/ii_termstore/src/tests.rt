@@ -3,9 +3,9 @@ ghost use Rattle.ii_termstore.specs.TermInfos.{HasLengths};
 
 use crate::written::reads_store_back;
 use crate::{TermInfo, TermInfoBlockMeta, TermInfoStore};
-use joined_terms::JoinedTerms;
 use bytes::Bytes;
 use ii_io::{BinarySerializable, CountingWriter, FailingWriter, Fault};
+use joined_terms::JoinedTerms;
 use std::alloc::Global;
 use std::test::Fail;
 
@@ -115,19 +115,39 @@ fn stores_end_at_the_call_that_fails(rt: HostRuntime) -> Result<(), Fail> {
 
 #[test]
 fn blocks_end_where_they_are_full(rt: HostRuntime) -> Result<(), Fail> {
-    for (terms, blocks) in [(0, 0), (1, 1), (255, 1), (256, 1), (257, 2), (512, 2), (513, 3)] {
+    for (terms, blocks) in [
+        (0, 0),
+        (1, 1),
+        (255, 1),
+        (256, 1),
+        (257, 2),
+        (512, 2),
+        (513, 3),
+    ] {
         let mut store = many(rt.alloc(), terms)?;
         let mut writer = CountingWriter::wrap(Vec::new(rt.alloc()));
         store.serialize(&mut writer)?;
         let bytes = writer.finish();
         let mut head = bytes.as_slice();
-        assert_eq!(rt; u64::deserialize(&mut head), Some(39 * blocks), "{terms} terms");
-        assert_eq!(rt; u64::deserialize(&mut head), Some(u64::from(terms)), "{terms} terms");
+        assert_eq!(rt;
+            u64::deserialize(&mut head),
+            Some(39 * blocks),
+            "{terms} terms"
+        );
+        assert_eq!(rt;
+            u64::deserialize(&mut head),
+            Some(u64::from(terms)),
+            "{terms} terms"
+        );
         let infos = TermInfoStore::open(Bytes::from_vec(bytes)?)?;
         assert_eq!(rt; infos.num_terms(), terms as usize);
         for i in 0..infos.num_terms() {
             let info = infos.get(i as u64);
-            assert_eq!(rt; (info.doc_freq, info.postings_range.start), (i as u32, 2 * i), "term {i}");
+            assert_eq!(rt;
+                (info.doc_freq, info.postings_range.start),
+                (i as u32, 2 * i),
+                "term {i}"
+            );
         }
     }
     Ok(())

@@ -39,8 +39,9 @@ impl JoinedTerms {
         let info = TermInfo {
             doc_freq,
             postings_range: self.postings_end..self.postings_end.saturating_add(postings as usize),
-            positions_range: self.positions_end
-                ..self.positions_end.saturating_add(positions as usize),
+            positions_range: self.positions_end..self
+                .positions_end
+                .saturating_add(positions as usize),
         };
         self.store.write_term_info(&info)?;
         self.postings_end = info.postings_range.end;
