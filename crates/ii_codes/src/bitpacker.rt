@@ -150,7 +150,7 @@ impl Default for BitPacker {
     }
 }
 
-// Bit `place` of the `len` bits of `low` and those of `val` behind them, 0 behind all.
+// Bit `place` of the `len` bits of `low` and those of `val` after them, 0 after all.
 fn bit_of(low: u8, len: u8, val: u64, num_bits: u8, place: u8) -> u8
     requires short { len < 8 }
     requires narrow { num_bits ≤ 64 }

@@ -18,7 +18,7 @@ use Rattle.ii_termdict.specs.Dictionary.{key_of, keys_of, keys_ascend, is_below,
 use Rattle.ii_termstore.specs.ListLemmas.{all_at}
 use Rattle.ii_termdict.proofs.DictionaryLemmas.{length-keys_of}
 
-less_of : (o : Ordering) → is_lt o ≡ true → o ≡ Less
+pub less_of : (o : Ordering) → is_lt o ≡ true → o ≡ Less
 less_of Less h = refl
 less_of Equal h = absurd (cc)
 less_of Greater h = absurd (cc)
@@ -112,10 +112,6 @@ keys_at_place n ends body i h = get_or-map-range_with_len (key_of ends body) 0 n
 pub opened_infos : (o : Option (List TermInfo)) (n : ℕ) → IsSomeAnd o (λ infos. length infos ≡ n) → length (unwrap_or o []) ≡ n
 opened_infos None n h = absurd h
 opened_infos (Some infos) n h = h
-
-pub opened_within : (o : Option (List TermInfo)) (n ord : ℕ) → IsSomeAnd o (λ infos. length infos ≡ n) → ord < n → IsSomeAnd o (λ infos. ord < length infos)
-opened_within None n ord h within = absurd h
-opened_within (Some infos) n ord h within = rw h within
 
 pub opened_get : (o : Option (List TermInfo)) (n ord : ℕ) (x : TermInfo) → IsSomeAnd o (λ infos. length infos ≡ n) → IfSome o (λ infos. slice_get infos ord ≡ Some x) → slice_get (unwrap_or o []) ord ≡ Some x
 opened_get None n ord x h e = absurd h

@@ -89,10 +89,5 @@ pub record AreOpened (n : ℕ) (ends body : List ℕ) : Type 0 where
   pub ascend : keys_ascend n ends body ≡ true
   pub store : IsSomeAnd (term_store (store_behind n ends body)) (λ infos. length infos ≡ n)
 
--- The entries of a dictionary, and how many of them were passed.
-pub record Streaming : Type 0 where
-  pub entries : List Entry
-  pub passed : ℕ
-
 abbrev pub entry_infos : List Entry → List TermInfo
 entry_infos entries = map (λ (e : Entry). e.1) entries

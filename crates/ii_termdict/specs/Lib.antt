@@ -4,3 +4,4 @@ pub mod ReadBackLemmas
 pub mod TermDictionaryBuilder
 pub mod TermDictionaryWriter
 pub mod Written
+pub mod TermStreamer

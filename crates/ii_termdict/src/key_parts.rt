@@ -9,7 +9,7 @@ use ii_termstore::{TermInfo, TermInfoStoreView};
 use std::cmp::Ordering;
 
 /// The parts of a dictionary's bytes: the number of its terms, the ends of their keys and what stands
-/// behind, and the keys with the store behind them.
+/// after them, and the keys with the store behind them.
 #[derive(Clone, Copy)]
 pub(crate) struct KeyParts<'a> {
     pub num_terms: u64,
@@ -122,7 +122,7 @@ fn do_keys_ascend(n: u64, ends: &[u8], body: &[u8]) -> bool
     true
 }
 
-// The store behind the keys.
+// The store after the keys.
 fn store_of<'a>(n: u64, ends: &[u8], body: &'a [u8]) -> &'a [u8]
     requires there { 8 * n ≤ length ends.now }
     requires rise { ends_rise n ends.now body.now ≡ true }
@@ -155,7 +155,7 @@ pub(crate) fn first_damaged_part(bytes: &[u8]) -> Option<Part>
     None
 }
 
-// The store behind the keys of a dictionary.
+// The store after the keys of a dictionary.
 fn view_of<'a>(parts: &KeyParts<'a>) -> TermInfoStoreView<'a>
     requires { AreOpened parts.now.num_terms parts.now.ends.now parts.now.body.now }
     ensures value { term_store (store_behind parts.now.num_terms parts.now.ends.now parts.now.body.now) ≡ Some result }

@@ -16,9 +16,10 @@ pub struct TermStreamer<'a> {
 impl<'a> Model for TermStreamer<'a> {
     ghost use Rattle.std.specs.Prelude.{◌≤◌, List, ℕ, [], IsOk, length};
     ghost use Rattle.std.specs.Result.{result_unwrap_or};
-    ghost use Rattle.ii_termdict.specs.Dictionary.{dictionary, Streaming};
+    ghost use Rattle.ii_termdict.specs.Dictionary.{dictionary};
+    ghost use Rattle.ii_termdict.specs.TermStreamer.{TermStreamerState};
 
-    ghost Value = { Streaming };
+    ghost Value = { TermStreamerState };
 
     ghost view = { λ s. record { entries = result_unwrap_or (dictionary s.bytes.now) []; passed = s.passed } };
 
@@ -47,7 +48,8 @@ impl<'a> TermStreamer<'a> {
         true
     }
 
-    /// The key of the current term. It asks for an `advance` that answered true.
+    /// The key of the term that was passed last. It asks for an `advance` that answered true; one that
+    /// answered false since then changed nothing.
     pub fn key(&self) -> &'a [u8]
         requires { 0 < self.now.passed }
         ensures { slice_get (entry_keys self.now.entries) (self.now.passed - 1) ≡ Some result.now }
@@ -55,7 +57,7 @@ impl<'a> TermStreamer<'a> {
         key_at(self.bytes, self.passed - 1)
     }
 
-    /// What is kept of the current term. It asks for an `advance` that answered true.
+    /// What is kept of the term that was passed last. It asks what `key` does.
     pub fn value(&self) -> TermInfo
         requires { 0 < self.now.passed }
         ensures { slice_get (entry_infos self.now.entries) (self.now.passed - 1) ≡ Some result }

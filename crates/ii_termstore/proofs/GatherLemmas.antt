@@ -87,11 +87,6 @@ pub record Gathered : Type 0 where
 abbrev pub Holds : List TermInfo → Gathered → Type 0
 Holds infos g = AreGathered infos g.num_terms g.block_metas g.block_bits g.open_block
 
-pub gathered_few : (infos : List TermInfo) (g : Gathered) → Holds infos g → length g.open_block < 256
-gathered_few infos g h =
-    let size = ap length h.rest ∙ length-drop (256 * (length infos / 256)) infos in
-    omega arith
-
 -- a term more in the open block
 pub gathered_more : (infos : List TermInfo) (info : TermInfo) (g : Gathered) → Holds infos g → length g.open_block + 1 < 256
     → AreGathered (infos ++ info ∷ []) (g.num_terms + 1) g.block_metas g.block_bits (g.open_block ++ info ∷ [])

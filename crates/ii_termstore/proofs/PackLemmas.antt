@@ -46,9 +46,6 @@ pub packing_begins : (buffer pending : List ℕ) → pending ≡ [] → IsPackin
 unfolding whole_bytes entries_in
 packing_begins buffer pending e = record { bytes = refl; size = omega arith; left = e }
 
-pub packing_row : (buffer : List ℕ) (count : ℕ) (pending row other : List ℕ) → row ≡ other → IsPacking buffer count pending row → IsPacking buffer count pending other
-packing_row buffer count pending row other e h = rw (← e) h
-
 -- one number more among which the largest is sought
 pub largest-push : (ns : List ℕ) (n : ℕ) → largest (ns ++ n ∷ []) ≡ max (largest ns) n
 largest-push [] n = omega arith

@@ -1,5 +1,5 @@
-ghost use Rattle.std.specs.Prelude.{◌≡◌, ◌≤◌};
-ghost use Rattle.ii_termstore.specs.TermInfos.{HasLengths};
+ghost use Rattle.std.specs.Prelude.{◌≡◌, ◌≤◌, ◌+◌, [], false, length};
+ghost use Rattle.ii_termstore.specs.TermInfos.{info_of};
 
 use bytes::Bytes;
 use ii_io::{CountingWriter, Fault};
@@ -28,7 +28,10 @@ pub fn read_back(alloc: Global) -> Result<String, Fault> {
 }
 
 // The keys a, ab and b.
-fn insert_three<W: Write>(builder: &mut TermDictionaryBuilder<W>) -> Result<(), Fault> {
+fn insert_three<W: Write>(builder: &mut TermDictionaryBuilder<W>) -> Result<(), Fault>
+    requires fresh { (builder.old.keys ≡ []) × (builder.old.infos ≡ []) }
+    ensures whole { builder.new.closed ≡ false → length builder.new.keys ≡ length builder.new.infos }
+{
     builder.insert_key(b"a")?;
     builder.insert_value(&term(1, 0, 10))?;
     builder.insert_key(b"ab")?;
@@ -41,7 +44,7 @@ fn insert_three<W: Write>(builder: &mut TermDictionaryBuilder<W>) -> Result<(), 
 fn term(doc_freq: u32, start: u32, len: u32) -> TermInfo
     requires near { start ≤ 1000 }
     requires short { len ≤ 1000 }
-    ensures { HasLengths result }
+    ensures { result ≡ info_of doc_freq start (start + len) 0 0 }
 {
     let (start, len) = (start as usize, len as usize);
     TermInfo {

@@ -8,7 +8,7 @@ use crate::term_info::TermInfo;
 use ii_codes::extract_bits;
 use std::ops::Range;
 
-// The number of `width` bits at a place behind an offset in bytes. No bit is read at width 0.
+// The number of `width` bits at a place after an offset in bytes. No bit is read at width 0.
 fn number_behind(bits: &[u8], offset: u64, place: usize, width: u8) -> u64
     requires narrow { width ≤ 56 }
     requires near { place < 65536 }
@@ -22,7 +22,7 @@ fn number_behind(bits: &[u8], offset: u64, place: usize, width: u8) -> u64
     extract_bits(&bits[offset as usize..], place, width)
 }
 
-// A range from two places behind a first one. `None` where it ends before it begins, has 2^32 bytes
+// A range from two places after a first one. `None` where it ends before it begins, has 2^32 bytes
 // or more, or passes `u64::MAX`.
 fn range_behind(first: usize, start: u64, end: u64) -> Option<Range<usize>>
     ensures { result ≡ (if nat_le start end && nat_lt (end - start) (2 ^ 32) && nat_lt (first + end) (2 ^ 64)
@@ -100,7 +100,7 @@ fn sound_first(info: &TermInfo) -> Option<TermInfo>
     None
 }
 
-// Whether a range ends at or behind its start and has fewer than 2^32 bytes.
+// Whether a range ends at or after its start and has fewer than 2^32 bytes.
 fn is_short(start: usize, end: usize) -> bool
     ensures { result ≡ (nat_le start end && nat_lt (end - start) (2 ^ 32)) }
 {
@@ -137,7 +137,7 @@ fn do_bits_lie(meta: &TermInfoBlockMeta, terms: usize, size: usize) -> bool
     bits.div_ceil(8) as u64 <= room
 }
 
-/// Whether a block of so many terms is lawful.
+/// Whether a block of so many terms is valid.
 pub(super) fn is_block(meta: &TermInfoBlockMeta, terms: usize, bits: &[u8]) -> bool
     requires few { terms ≤ 256 }
     ensures { result ≡ is_block meta.now terms bits.now }

@@ -105,7 +105,7 @@ fn add_meta(meta: &TermInfoBlockMeta, metas: &mut Vec<u8>) -> Result<(), Fault>
     Ok(())
 }
 
-// Adds the bits of a block, whose terms behind the first are given.
+// Adds the bits of a block, whose terms after the first are given.
 fn add_bits(meta: &TermInfoBlockMeta, others: &[TermInfo], bits: &mut Vec<u8>) -> Result<(), Fault>
     requires narrow { AreNarrow meta.now }
     requires fits { FitsBlock meta.now others.now }
@@ -185,7 +185,7 @@ fn put_open_bits<W: Write>(infos: &[TermInfo], writer: &mut CountingWriter<W>) -
     }
 }
 
-// Writes the bits of a block, whose terms behind the first are given.
+// Writes the bits of a block, whose terms after the first are given.
 fn put_block<W: Write>(
     meta: &TermInfoBlockMeta,
     others: &[TermInfo],

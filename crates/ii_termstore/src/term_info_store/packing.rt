@@ -125,7 +125,7 @@ pub(super) fn meta_of(offset: u64, first: &TermInfo, others: &[TermInfo]) -> Ter
     }
 }
 
-// Packs the numbers of a term behind the first of its block.
+// Packs the numbers of a term after the first of its block.
 fn pack_term(
     packer: &mut BitPacker,
     meta: &TermInfoBlockMeta,
