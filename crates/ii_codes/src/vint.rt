@@ -181,6 +181,14 @@ fn read_u32(bytes: &[u8]) -> Option<(u32, usize)>
     if !bytes.is_empty() && bytes[0] >= 128 {
         return Some((u32::from(bytes[0] - 128), 1));
     }
+    read_longer(bytes)
+}
+
+#[inline(never)]
+fn read_longer(bytes: &[u8]) -> Option<(u32, usize)>
+    ensures value { option_map (λ read. (read.0, drop read.1 bytes.now)) result ≡ u32_at bytes.now }
+    ensures within { IfSome result (λ read. read.1 ≤ length bytes.now) }
+{
     vint::read_u32(bytes)
 }
 
