@@ -1,10 +1,12 @@
-//! The index's own words for fields, and all of `ii_io` that is public.
+//! The index's own words for fields, and the types of `ii_io`: faults, numbers, writers and readers,
+//! and composite files.
 #![tactic(auto)]
 
 pub mod schema;
 #[cfg(test)]
 mod tests;
 
+pub use ii_io::vint::VInt;
 pub use ii_io::{
     BinarySerializable, CompositeFile, CompositeWrite, CountingWriter, FailingReader,
     FailingWriter, Fault, Field, FixedSize, HasLen, LayoutFault, LeafKind, LimitName, Part,

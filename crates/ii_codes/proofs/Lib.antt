@@ -3,6 +3,7 @@ pub mod BitLemmas
 pub mod BlockLaws
 pub mod BlockLemmas
 pub mod LastLemmas
+pub mod LengthLemmas
 pub mod PackLemmas
 pub mod PackedLaws
 pub mod PackedLemmas

@@ -7,7 +7,7 @@ use Rattle.std.proofs.lemmas.List.{take_more_set, take_all, drop-drop, length-se
 use Rattle.std.proofs.lemmas.List.{append-nil}
 use Rattle.ii_io.specs.Steps.{◌>>=◌}
 use Rattle.ii_io.specs.Vints.{u32_at, u32s_at, vint_u32}
-use Rattle.ii_io.proofs.VintLemmas.{u32_at-vint_u32}
+use Rattle.ii_io.specs.VintLemmas.{u32_at-vint_u32}
 use Rattle.ii_codes.specs.Sums.{running_sums, differences, DoNotFall, fit_u32}
 use Rattle.ii_codes.specs.SortedVints.{sorted_vints_at, ReadsSortedVintsBack}
 use Rattle.ii_codes.specs.UnsortedVints.{u32s_until_end, ReadsUnsortedVintsBack}

@@ -1,10 +1,12 @@
 -- Laws of cursors.
-use Rattle.std.proofs.Common.{◌≡◌, ℕ, zero, suc, ◌+◌, ◌<◌, ◌≤◌, Bool, true, false, ◌&&◌, List, [], ◌∷◌, ◌++◌, length, take, drop, map, nat_le, nat_lt, get_or, refl, sym, ap, arith, add-one}
+use Rattle.std.proofs.Common.{◌≡◌, ℕ, zero, suc, ◌+◌, ◌<◌, ◌≤◌, Bool, true, false, ◌&&◌, List, [], ◌∷◌, ◌++◌, length, take, drop, map, nat_le, nat_lt, get_or, lit<, ◌-◌, refl, sym, ap, arith, add-one}
 use Rattle.std.proofs.lemmas.Bool.{lt-ltb, le-ltb, ltb-true, le-leb, lt-leb, leb-true}
 use Rattle.std.proofs.lemmas.List.{drop-drop, drop_all, take_more}
+use Rattle.std.proofs.lemmas.List.Elements.{All-drop, All-map}
+use Rattle.std.specs.List.{All, range_with_len}
 use Rattle.std.proofs.Math.Seq.{drop-cons}
 use Rattle.ii_docset.specs.Entries.{Entry, document, ascend_from, are_documents}
-use Rattle.ii_docset.specs.Cursor.{doc_at, IsAscending, from_doc}
+use Rattle.ii_docset.specs.Cursor.{doc_at, IsAscending, FitsU32, IsSound, from_doc}
 
 pub IsAscending_drop_1 : (es : List Entry) → IsAscending es → IsAscending (drop 1 es)
 IsAscending_drop_1 [] h = tt
@@ -79,6 +81,24 @@ ascending_from least (d ∷ ds) h =
 
 pub ascending : (docs : List ℕ) → are_documents docs ≡ true → IsAscending (map document docs)
 ascending docs h = (ascending_from 0 docs h).0
+
+-- documents alone are sound, and so is what is left of a sound rest
+documents_fit : (docs : List ℕ) → All FitsU32 (map document docs)
+documents_fit docs = All-map FitsU32 document docs (λ k d within. (lit< tt, λ j p none. absurd (omega arith)))
+
+pub documents_sound : (docs : List ℕ) → are_documents docs ≡ true → IsSound (map document docs)
+documents_sound docs h = record { ascending = ascending docs h; fits = documents_fit docs }
+
+pub IsSound_drop : (n : ℕ) (es : List Entry) → IsSound es → IsSound (drop n es)
+IsSound_drop n es h = record { ascending = IsAscending_drop n es h.ascending; fits = All-drop FitsU32 n es h.fits }
+
+-- all numbers from one to another
+range_ascends : (least first n : ℕ) → least ≤ first → first + n ≤ 2147483647 → ascend_from least (range_with_len first n) ≡ true
+range_ascends least first zero low high = refl
+range_ascends least first (suc n) low high = rw (le-leb least first low, lt-ltb first 2147483647 (omega arith)) (range_ascends (first + 1) (first + 1) n (omega arith) (omega arith))
+
+pub range_sound : (first end : ℕ) → first ≤ end → end ≤ 2147483647 → IsSound (map document (range_with_len first (end - first)))
+range_sound first end within low = documents_sound (range_with_len first (end - first)) (range_ascends 0 first (end - first) (omega arith) (omega arith))
 
 pub ruleset cursor_steps = (IsAscending_drop_1, from_doc_step, from_doc_here, length_below, nothing_left, length_step, doc_below)
 

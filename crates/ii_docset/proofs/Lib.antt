@@ -1,1 +1,2 @@
+pub mod AscentLemmas
 pub mod CursorLemmas

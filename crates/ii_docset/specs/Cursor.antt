@@ -1,5 +1,6 @@
 -- A cursor is the rest of a list of entries.
-use Rattle.std.specs.Prelude.{ℕ, ◌<◌, ◌≤◌, List, [], ◌∷◌, filter, nat_le, ⊤}
+use Rattle.std.specs.Prelude.{ℕ, ◌^◌, ◌<◌, ◌≤◌, List, [], ◌∷◌, filter, nat_le, ⊤}
+use Rattle.std.specs.List.{All}
 use Rattle.ii_docset.specs.declared.docset.TheConstants.{TERMINATED}
 use Rattle.ii_docset.specs.Entries.{Entry}
 
@@ -12,6 +13,15 @@ doc_at (e ∷ es) = e.doc
 abbrev pub IsAscending : List Entry → Type 0
 IsAscending [] = ⊤
 IsAscending (e ∷ es) = (e.doc < doc_at es) × IsAscending es
+
+-- The count of an entry and its positions have 32 bits.
+abbrev pub FitsU32 : Entry → Type 0
+FitsU32 e = (e.term_freq < 2 ^ 32) × All (λ (p : ℕ). p < 2 ^ 32) e.positions
+
+-- What holds of the rest of any cursor.
+pub record IsSound (es : List Entry) : Type 0 where
+  pub ascending : IsAscending es
+  pub fits : All FitsU32 es
 
 -- the rest from the target on
 abbrev pub from_doc : ℕ → List Entry → List Entry

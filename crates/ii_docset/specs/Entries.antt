@@ -1,18 +1,15 @@
--- What a term's list has of a document.
-use Rattle.std.specs.Prelude.{ℕ, ◌+◌, Bool, true, ◌&&◌, List, [], ◌∷◌, map, nat_lt, nat_le}
+-- What a term's list has of a document: the document, how often the term occurs there, and where.
+use Rattle.std.specs.Prelude.{ℕ, ◌+◌, Bool, true, ◌&&◌, List, [], ◌∷◌, nat_lt, nat_le}
 use Rattle.ii_docset.specs.declared.docset.TheConstants.{TERMINATED}
 
 pub record Entry : Type 0 where
   pub doc : ℕ
-  pub count : ℕ
+  pub term_freq : ℕ
   pub positions : List ℕ
 
 -- a document of which nothing more is kept: it counts once and has no positions
 abbrev pub document : ℕ → Entry
-document d = record { doc = d; count = 1; positions = [] }
-
-abbrev pub docs_of : List Entry → List ℕ
-docs_of entries = map (λ (e : Entry). e.doc) entries
+document d = record { doc = d; term_freq = 1; positions = [] }
 
 -- the numbers ascend strictly, from a least one on, and stay below the end
 abbrev pub ascend_from : ℕ → List ℕ → Bool

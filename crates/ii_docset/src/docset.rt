@@ -1,11 +1,11 @@
-ghost use Rattle.std.specs.Prelude.{◌≡◌, Bool, false, List, [], drop, length};
+ghost use Rattle.std.specs.Prelude.{◌≡◌, Bool, false, ⊤, List, [], drop, length};
 ghost use Rattle.ii_docset.specs.Entries.{Entry};
-ghost use Rattle.ii_docset.specs.Cursor.{doc_at, from_doc, IsAscending, IsTarget};
+ghost use Rattle.ii_docset.specs.Cursor.{doc_at, from_doc, IsSound, IsTarget};
 
 /// The number of a document in its index.
 pub type DocId = u32;
 
-/// What a cursor answers behind its last document. Documents lie below it.
+/// What a cursor answers after its last document. Documents lie below it.
 pub const TERMINATED: DocId = 2_147_483_647;
 
 /// A cursor over the documents of a list, in strictly ascending order.
@@ -18,17 +18,22 @@ pub trait DocSet: Drop {
     // Whether counts aren't read, so that each is 1, also at the end.
     ghost always_one: { Self → Bool } = { λ _. false };
 
-    /// Drops the current document, and answers the next one, or `TERMINATED` behind the last.
+    // What calls that move the cursor from one state to another may have done, as a bound on what
+    // was decoded. It holds where nothing moved, and of one move after another, by the laws below.
+    ghost went: { Self → Self → Type 0 } = { λ _ _. ⊤ };
+
+    /// Drops the current document, and answers the next one, or `TERMINATED` after the last.
     fn advance(&mut self) -> DocId
         ensures doc { result ≡ doc_at (rest self.new) }
         ensures rest { rest self.new ≡ drop 1 (rest self.old) }
-        ensures ascending { IsAscending (rest self.new) }
-        ensures kind { always_one self.new ≡ always_one self.old };
+        ensures sound { IsSound (rest self.new) }
+        ensures kind { always_one self.new ≡ always_one self.old }
+        ensures work { went self.old self.new };
 
-    /// The current document, or `TERMINATED` behind the last.
+    /// The current document, or `TERMINATED` after the last.
     fn doc(&self) -> DocId
         ensures doc { result ≡ doc_at (rest self.now) }
-        ensures ascending { IsAscending (rest self.now) };
+        ensures sound { IsSound (rest self.now) };
 
     /// A hint of how many documents the cursor goes over.
     fn size_hint(&self) -> u32;
@@ -39,8 +44,9 @@ pub trait DocSet: Drop {
         requires { IsTarget target (rest self.old) }
         ensures doc { result ≡ doc_at (rest self.new) }
         ensures rest { rest self.new ≡ from_doc target (rest self.old) }
-        ensures ascending { IsAscending (rest self.new) }
+        ensures sound { IsSound (rest self.new) }
         ensures kind { always_one self.new ≡ always_one self.old }
+        ensures work { went self.old self.new }
     {
         let mut doc = self.doc();
         while doc < target {
@@ -59,6 +65,7 @@ pub trait DocSet: Drop {
         ensures count { result ≡ length (rest self.old) }
         ensures rest { rest self.new ≡ [] }
         ensures kind { always_one self.new ≡ always_one self.old }
+        ensures work { went self.old self.new }
     {
         let mut count = 0;
         let mut doc = self.doc();
@@ -68,4 +75,8 @@ pub trait DocSet: Drop {
         }
         count
     }
+
+    ghost went_nowhere: { (s : Self) → went s s };
+
+    ghost went_on: { (a b c : Self) → went a b → went b c → went a c };
 }

@@ -2,5 +2,7 @@
 #![tactic(auto)]
 
 pub mod docset;
+#[cfg(test)]
+mod tests;
 
 pub use docset::{DocId, DocSet, TERMINATED};

@@ -1,9 +1,12 @@
 -- What a writer of norms holds: for each field of the schema that has norms, a byte for each document so far.
-use Rattle.std.specs.Prelude.{◌≡◌, ℕ, ◌+◌, ◌-◌, ◌^◌, ◌<◌, List, [], ◌∷◌, ◌++◌, map, filter, length, take, replicate, Option, Some, None, if◌then◌else◌, drop, slice_get, slice_set}
+use Rattle.std.specs.Prelude.{◌≡◌, ℕ, ◌+◌, ◌-◌, ◌≤◌, false, List, [], ◌∷◌, ◌++◌, map, filter, length, take, replicate, Option, Some, None, if◌then◌else◌, drop, slice_get, slice_set, IsTrue, IfSome, IfErr, Result}
 use Rattle.std.specs.List.{enumerate_from}
 use Rattle.std.specs.Option.{option_map, option_flatten}
-use Rattle.ii_io.specs.Composite.{Body, bodies_bytes, composite, written_composite, body_of}
-use Rattle.ii_io.specs.CompositeWrite.{CompositeWriteState, AddsBody}
+use Rattle.ii_io.specs.Composite.{Body, bodies_bytes, places_from, table_bytes, body_of}
+use Rattle.ii_io.specs.CompositeWrite.{CompositeWriteState, has_start, AddsBody, HasBodies, WroteComposite}
+use Rattle.ii_io.specs.CountingWriter.{CountingWriterState, Wrote, WritesInMemory, Closes}
+use Rattle.ii_io.specs.declared.faults.Fault.{Fault}
+use Rattle.ii_io.specs.declared.faults.Fault.TheVariants.{SerializerClosed}
 use Rattle.ii_base.specs.Schema.{Entry, keeps_norms}
 use Rattle.ii_fieldnorm.specs.Norms.{id_of_norm}
 
@@ -21,7 +24,7 @@ empty_buffer e = if keeps_norms e then Some [] else None
 abbrev pub empty_buffers : List Entry → Buffers
 empty_buffers entries = map empty_buffer entries
 
--- so many documents: the later ones are cut off, and those that lack get the byte 0
+-- so many documents: the later ones are cut off, and missing ones get the byte 0
 abbrev pub filled : ℕ → List ℕ → List ℕ
 filled docs ids = take docs ids ++ replicate (docs - length ids) 0
 
@@ -32,7 +35,7 @@ filled_buffers docs buffers = map (option_map (filled docs)) buffers
 abbrev pub buffer_of : ℕ → Buffers → Option (List ℕ)
 buffer_of field buffers = option_flatten (slice_get buffers field)
 
--- one document more: those before it that lack get the byte 0
+-- one document more: missing ones before it get the byte 0
 abbrev pub recorded : ℕ → ℕ → List ℕ → List ℕ
 recorded doc fieldnorm ids = ids ++ replicate (doc - length ids) 0 ++ id_of_norm fieldnorm ∷ []
 
@@ -52,28 +55,37 @@ norm_bodies_from field (Some ids ∷ bs) = record { field = field; bytes = ids }
 abbrev pub norm_bodies : Buffers → List Body
 norm_bodies buffers = norm_bodies_from 0 buffers
 
--- A serializer that wrote nothing yet.
-pub record IsFresh (c : CompositeWriteState) : Type 0 where
-  pub starts : c.starts ≡ []
-  pub base : c.base ≡ c.writer.written_bytes
+-- No field with norms was written before.
+abbrev pub AreUnwritten : CompositeWriteState → Buffers → Type 0
+AreUnwritten c buffers = (field : ℕ) → IfSome (buffer_of field buffers) (λ _. has_start field c.starts ≡ false)
 
 -- The buffer of a field was written, if the field has norms.
 abbrev pub AddsBuffer : CompositeWriteState → CompositeWriteState → ℕ → Option (List ℕ) → Type 0
 AddsBuffer old new field None = new ≡ old
 AddsBuffer old new field (Some ids) = AddsBody old new field ids
 
--- What is written for buffers is read back: each field's body is its buffer.
-abbrev pub ReadsWrittenNorms : Type 0
-ReadsWrittenNorms =
-    (buffers : Buffers) → length buffers < 2 ^ 32 → length (bodies_bytes (norm_bodies buffers)) < 2 ^ 64
-    → (composite (written_composite (norm_bodies buffers)) ≡ Some (norm_bodies buffers))
-    × ((field : ℕ) → body_of field (norm_bodies buffers) ≡ buffer_of field buffers)
+-- The buffers were written, each as a body after those that were there.
+pub record AddsNorms (old new : CompositeWriteState) (buffers : Buffers) : Type 0 where
+  pub wrote : Wrote old.writer new.writer (bodies_bytes (norm_bodies buffers))
+  pub count : length new.starts ≡ length old.starts + length (norm_bodies buffers)
+  pub starts : (field : ℕ) → length buffers ≤ field → has_start field new.starts ≡ has_start field old.starts
+  pub bodies : (initial : CountingWriterState) (bodies : List Body) → HasBodies initial old bodies → HasBodies initial new (bodies ++ norm_bodies buffers)
 
--- the bytes of a buffer that are written, and how many these are
+-- How writing norms ends: a serializer that was closed stays so, and the writer is not touched.
+pub record WritesNorms (old new : CompositeWriteState) (bytes : List ℕ) (result : Result (Unit {0}) Fault) : Type 0 where
+  pub writes : old.closed ≡ false → WritesInMemory false old.writer new.writer bytes result × Closes result new.closed
+  pub refused : IsTrue old.closed → (new.writer ≡ old.writer) × IsTrue new.closed × IfErr result (λ e. e ≡ SerializerClosed)
+
+-- the rest of a file, after these bodies: those of the buffers, and the table
+abbrev pub rest_of_file : List Body → Buffers → List ℕ
+rest_of_file bodies buffers = bodies_bytes (norm_bodies buffers) ++ table_bytes (places_from 0 (bodies ++ norm_bodies buffers))
+
+-- The file of these bodies and of the buffers was written, and each buffer is read back from it.
+pub record WroteNorms (old new : CountingWriterState) (bodies : List Body) (buffers : Buffers) : Type 0 where
+  pub composite : WroteComposite old new (bodies ++ norm_bodies buffers)
+  pub norms : (field : ℕ) → IfSome (buffer_of field buffers) (λ ids. body_of field (bodies ++ norm_bodies buffers) ≡ Some ids)
+
+-- the bytes of a buffer that are written
 abbrev pub buffer_bytes : Option (List ℕ) → List ℕ
 buffer_bytes None = []
 buffer_bytes (Some ids) = ids
-
-abbrev pub buffer_size : Option (List ℕ) → ℕ
-buffer_size None = 0
-buffer_size (Some ids) = length ids

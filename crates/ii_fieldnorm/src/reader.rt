@@ -1,6 +1,6 @@
 ghost use Rattle.std.specs.Prelude.{◌≡◌, ◌<◌, ◌≤◌, ◌^◌, ◌⊎◌, ◌↔◌, [], length, Some, None, IfOk, IfErr, IsOk, IsErrOf, IsSomeAnd};
 ghost use Rattle.std.specs.Option.{option_map};
-ghost use Rattle.ii_io.specs.Composite.{composite, body_of};
+ghost use Rattle.ii_io.specs.Composite.{composite, body_of, HasTable};
 ghost use Rattle.ii_fieldnorm.specs.Norms.{norm_of_id, id_of_norm};
 ghost use Rattle.ii_fieldnorm.specs.Readers.{norms_of_ids, CoversDoc, id_of_doc};
 
@@ -33,6 +33,7 @@ impl FieldNormReaders {
     pub fn open(alloc: Global, bytes: Bytes) -> Result<FieldNormReaders, Fault>
         ensures opened { IfOk result (λ readers. composite bytes ≡ Some readers) }
         ensures damaged { IsErrOf result (Fault.Damaged Part.Composite) → composite bytes ≡ None }
+        ensures memory { IsErrOf result Fault.OutOfMemory → HasTable bytes }
         ensures only { IfErr result (λ e. (e ≡ Fault.OutOfMemory) ⊎ (e ≡ Fault.Damaged Part.Composite)) }
     {
         let composite = CompositeFile::open(alloc, bytes)?;
@@ -41,13 +42,19 @@ impl FieldNormReaders {
 
     /// The reader of a field, if the file has its norms.
     ///
-    /// `Damaged(FieldNorms)` where there are more than `u32::MAX` of them.
+    /// `Damaged(FieldNorms)` where there are more than `u32::MAX` of them, before memory is taken.
     pub fn get_field(&self, field: Field) -> Result<Option<FieldNormReader>, Fault>
         ensures found { IfOk result (λ reader. reader ≡ option_map norms_of_ids (body_of field self.now)) }
         ensures damaged { IsErrOf result (Fault.Damaged Part.FieldNorms)
-            → IsSomeAnd (body_of field self.now) (λ ids. 2 ^ 32 ≤ length ids) }
+            ↔ IsSomeAnd (body_of field self.now) (λ ids. 2 ^ 32 ≤ length ids) }
         ensures only { IfErr result (λ e. (e ≡ Fault.OutOfMemory) ⊎ (e ≡ Fault.Damaged Part.FieldNorms)) }
     {
+        let Some(num_docs) = self.composite.body_len(field) else {
+            return Ok(None);
+        };
+        if num_docs > u32::MAX as usize {
+            return Err(Fault::Damaged(Part::FieldNorms));
+        }
         match self.composite.open_read(field)? {
             Some(ids) => Ok(Some(FieldNormReader::open(ids)?)),
             None => Ok(None),

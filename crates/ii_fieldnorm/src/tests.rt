@@ -1,8 +1,7 @@
-ghost use Rattle.std.specs.Prelude.{◌≡◌, [], ◌∷◌, Some, None, IfOk};
-ghost use Rattle.ii_fieldnorm.specs.Buffers.{empty_buffers};
+ghost use Rattle.std.specs.Prelude.{◌≡◌, ◌<◌, ◌^◌, [], ◌∷◌, length, Some, None, IfOk};
+ghost use Rattle.ii_fieldnorm.specs.Buffers.{empty_buffers, norm_bodies};
 
 use crate::code::ids_approximate_from_below;
-use crate::writer::reads_norms_back;
 use crate::{
     FIELD_NORMS_TABLE, FieldNormReader, FieldNormReaders, FieldNormsSerializer, FieldNormsWriter,
     fieldnorm_to_id, id_to_fieldnorm,
@@ -40,7 +39,6 @@ fn numbers_have_ids(rt: HostRuntime) {
         assert_eq!(rt; usize::from(fieldnorm_to_id(norm.saturating_add(1))), id);
     }
     ids_approximate_from_below();
-    reads_norms_back();
 }
 
 #[test]
@@ -125,7 +123,9 @@ fn norms_are_filled_up_and_cut(rt: HostRuntime) -> Result<(), Fail> {
 }
 
 // The bytes of field 0 in the file that is written.
-fn body(alloc: Global, norms: &FieldNormsWriter) -> Result<Bytes, Fault> {
+fn body(alloc: Global, norms: &FieldNormsWriter) -> Result<Bytes, Fault>
+    requires { length (norm_bodies norms.now) < 2 ^ 32 }
+{
     let writer = CountingWriter::wrap(Vec::new(alloc));
     let (writer, answer) = norms.serialize(FieldNormsSerializer::from_write(alloc, writer));
     answer?;
@@ -140,7 +140,32 @@ fn a_serializer_is_closed_by_a_fault(rt: HostRuntime) {
     let mut serializer = FieldNormsSerializer::from_write(rt.alloc(), writer);
     let first = serializer.serialize_field(Field::from_field_id(0), &[1]);
     assert_eq!(rt; first, Err(Fault::Write));
+    let again = serializer.serialize_field(Field::from_field_id(0), &[1]);
+    assert_eq!(rt; again, Err(Fault::SerializerClosed));
+    let other = serializer.serialize_field(Field::from_field_id(1), &[1]);
+    assert_eq!(rt; other, Err(Fault::SerializerClosed));
     let (writer, answer) = serializer.close();
     assert_eq!(rt; answer, Err(Fault::SerializerClosed));
+    assert_eq!(rt; writer.failed_calls(), 1);
     assert!(rt; writer.finish().bytes().is_empty());
+}
+
+// A write and a flush for the field; then a write for its place, one for the number of places, and a
+// flush.
+#[test]
+fn a_serializer_flushes(rt: HostRuntime) {
+    for k in 1..7 {
+        let writer = CountingWriter::wrap(FailingWriter::new(rt.alloc(), k));
+        let mut serializer = FieldNormsSerializer::from_write(rt.alloc(), writer);
+        let written = serializer.serialize_field(Field::from_field_id(0), &[1]);
+        assert_eq!(rt; written.err(), (k < 3).then_some(Fault::Write), "call {k}");
+        let (writer, closed) = serializer.close();
+        let want = match k {
+            1 | 2 => Err(Fault::SerializerClosed),
+            6 => Ok(()),
+            _ => Err(Fault::Write),
+        };
+        assert_eq!(rt; closed, want, "call {k}");
+        assert_eq!(rt; writer.failed_calls(), if k < 6 { 1 } else { 0 });
+    }
 }

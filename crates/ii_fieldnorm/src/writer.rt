@@ -1,15 +1,14 @@
-ghost use Rattle.std.specs.Prelude.{◌≡◌, ◌<◌, ◌≤◌, ◌-◌, ◌^◌, ◌⊎◌, ◌↔◌, [], ◌∷◌, ◌++◌, List, length, replicate, vec_len, Some, None, false, if◌then◌else◌, IsTrue, IfSome, IfOk, OnOk, OnErr, IfErr, IsErrOf};
+ghost use Rattle.std.specs.Prelude.{◌≡◌, ◌<◌, ◌≤◌, ◌+◌, ◌-◌, ◌^◌, [], ◌∷◌, ◌++◌, List, length, replicate, vec_len, Some, None, true, false, if◌then◌else◌, IfSome, IfOk, OnOk, OnErr, IfErr};
 ghost use Rattle.std.specs.Option.{option_map, option_copied};
-ghost use Rattle.ii_io.specs.CountingWriter.{Wrote, WrotePrefix, IsFull};
-ghost use Rattle.ii_io.specs.Composite.{bodies_bytes, written_composite};
+ghost use Rattle.ii_io.specs.CountingWriter.{CountingWriterState, WritesInMemory};
+ghost use Rattle.ii_io.specs.Composite.{Body, bodies_bytes, fit_fields};
 ghost use Rattle.ii_io.specs.CompositeWrite.{HasBodies, has_start};
-ghost use Rattle.ii_fieldnorm.specs.Buffers.{norm_fields, empty_buffers, filled, filled_buffers, buffer_of, recorded, recorded_buffers, IsFilledFront, norm_bodies, IsFresh, AddsBuffer, ReadsWrittenNorms, buffer_bytes, buffer_size};
+ghost use Rattle.ii_fieldnorm.specs.Buffers.{norm_fields, empty_buffers, filled, filled_buffers, buffer_of, recorded, recorded_buffers, IsFilledFront, norm_bodies, AreUnwritten, AddsBuffer, AddsNorms, WritesNorms, WroteNorms, rest_of_file, buffer_bytes};
 
 use super::code::fieldnorm_to_id;
 use super::serializer::FieldNormsSerializer;
-use ii_base::{CountingWriter, Fault, Field, LimitName, Schema};
+use ii_base::{CountingWriter, Fault, Field, Schema};
 use ii_docset::DocId;
-use ii_io::composite_file::reads_composites_back;
 use std::alloc::{AllocError, Global};
 use std::io::Write;
 use std::marker::Model;
@@ -60,7 +59,7 @@ impl FieldNormsWriter {
         Ok(FieldNormsWriter { buffers })
     }
 
-    /// Gives each field with norms exactly `max_doc` documents: those that lack get the norm 0, later
+    /// Gives each field with norms exactly `max_doc` documents: missing ones get the norm 0, later
     /// ones are cut off.
     ///
     /// `OutOfMemory` where a buffer can't grow; the fields before it are then filled, and the others
@@ -76,7 +75,7 @@ impl FieldNormsWriter {
         Ok(())
     }
 
-    /// Records the norm of a document that lies behind those of the field so far. Documents between
+    /// Records the norm of a document that lies after those of the field so far. Documents between
     /// get the norm 0. For a field without norms it does nothing.
     ///
     /// `OutOfMemory` where the buffer can't grow; nothing changes then.
@@ -93,22 +92,21 @@ impl FieldNormsWriter {
         Ok(())
     }
 
-    /// Writes the bytes of each field with norms and closes the serializer, which wrote nothing
-    /// before; hands its writer back. The faults are those of the serializer, and where there is one
-    /// a beginning of the file is written.
+    /// Writes the bytes of each field with norms and closes the serializer, to which none of these
+    /// fields was written before; hands its writer back. There are at most `u32::MAX` fields in all.
+    ///
+    /// The faults are those of the serializer. Where there is one, a prefix of the bytes is written,
+    /// and nothing after `SerializerClosed`.
     pub fn serialize<W: Write>(
         &self,
         serializer: FieldNormsSerializer<W>,
     ) -> (CountingWriter<W>, Result<(), Fault>)
-        requires { IsFresh serializer }
-        ensures ok { OnOk result.1 (Wrote serializer.writer result.0 (written_composite (norm_bodies self.now))) }
-        ensures write { IsErrOf result.1 Fault.Write ↔ (serializer.writer.failed_calls < (result.0).failed_calls) }
-        ensures limit { IsErrOf result.1 (Fault.Limit LimitName.Offset)
-            → IsFull serializer.writer (length (written_composite (norm_bodies self.now))) }
-        ensures prefix { OnErr result.1 (WrotePrefix serializer.writer result.0 (written_composite (norm_bodies self.now))) }
-        ensures closed { IsErrOf result.1 Fault.SerializerClosed ↔ IsTrue serializer.closed }
-        ensures only { IfErr result.1 (λ e. (e ≡ Fault.Write) ⊎ (e ≡ Fault.Limit LimitName.Offset)
-            ⊎ (e ≡ Fault.OutOfMemory) ⊎ (e ≡ Fault.SerializerClosed)) }
+        requires unwritten { serializer.closed ≡ false → AreUnwritten serializer self.now }
+        requires few { serializer.closed ≡ false → length serializer.starts + length (norm_bodies self.now) < 2 ^ 32 }
+        ensures written { (initial : CountingWriterState) (bodies : List Body) → HasBodies initial serializer bodies
+            → WritesInMemory serializer.closed serializer.writer result.0 (rest_of_file bodies self.now) result.1 }
+        ensures norms { (initial : CountingWriterState) (bodies : List Body) → HasBodies initial serializer bodies
+            → fit_fields bodies ≡ true → OnOk result.1 (WroteNorms initial result.0 bodies self.now) }
     {
         let mut serializer = serializer;
         let written = write_buffers(&mut serializer, &self.buffers);
@@ -120,28 +118,23 @@ impl FieldNormsWriter {
     }
 }
 
-// Writes the bytes of each field with norms.
+// Writes the bytes of each field with norms. A closed serializer refuses the first of them.
 fn write_buffers<W: Write>(
     serializer: &mut FieldNormsSerializer<W>,
     buffers: &[NormBuffer],
 ) -> Result<(), Fault>
-    requires fresh { IsFresh serializer.old }
-    requires few { length buffers.now ≤ 2 ^ 32 }
-    ensures ok { OnOk result (HasBodies serializer.old.writer serializer.new (norm_bodies buffers.now)) }
-    ensures write { IsErrOf result Fault.Write ↔ (serializer.old.writer.failed_calls < serializer.new.writer.failed_calls) }
-    ensures limit { IsErrOf result (Fault.Limit LimitName.Offset)
-        → IsFull serializer.old.writer (length (bodies_bytes (norm_bodies buffers.now))) }
-    ensures prefix { OnErr result (WrotePrefix serializer.old.writer serializer.new.writer
-        (bodies_bytes (norm_bodies buffers.now))) }
-    ensures closed { IsErrOf result Fault.SerializerClosed → IsTrue serializer.old.closed }
-    ensures was_closed { IsTrue serializer.old.closed → IfErr result (λ e. e ≡ Fault.SerializerClosed) }
-    ensures only { IfErr result (λ e. (e ≡ Fault.Write) ⊎ (e ≡ Fault.Limit LimitName.Offset)
-        ⊎ (e ≡ Fault.OutOfMemory) ⊎ (e ≡ Fault.SerializerClosed)) }
-    ensures stays { OnOk result (serializer.new.closed ≡ serializer.old.closed) }
-    ensures err { OnErr result (IsTrue serializer.new.closed) }
+    requires unwritten { serializer.old.closed ≡ false → AreUnwritten serializer.old buffers.now }
+    requires few { serializer.old.closed ≡ false
+        → length serializer.old.starts + length (norm_bodies buffers.now) < 2 ^ 32 }
+    requires fields { length buffers.now ≤ 2 ^ 32 }
+    ensures written { WritesNorms serializer.old serializer.new (bodies_bytes (norm_bodies buffers.now)) result }
+    ensures adds { OnOk result (AddsNorms serializer.old serializer.new buffers.now) }
 {
     for i in 0..buffers.len() {
-        write_buffer(serializer, Field::from_field_id(i as u32), &buffers[i])?;
+        let written = write_buffer(serializer, Field::from_field_id(i as u32), &buffers[i]);
+        if written.is_err() {
+            return written;
+        }
     }
     Ok(())
 }
@@ -152,18 +145,10 @@ fn write_buffer<W: Write>(
     field: Field,
     buffer: &NormBuffer,
 ) -> Result<(), Fault>
-    requires { has_start field serializer.old.starts ≡ false }
-    ensures ok { OnOk result (AddsBuffer serializer.old serializer.new field buffer.now) }
-    ensures write { IsErrOf result Fault.Write ↔ (serializer.old.writer.failed_calls < serializer.new.writer.failed_calls) }
-    ensures limit { IsErrOf result (Fault.Limit LimitName.Offset)
-        → IsFull serializer.old.writer (buffer_size buffer.now) }
-    ensures prefix { OnErr result (WrotePrefix serializer.old.writer serializer.new.writer (buffer_bytes buffer.now)) }
-    ensures closed { IsErrOf result Fault.SerializerClosed → IsTrue serializer.old.closed }
-    ensures was_closed { IsTrue serializer.old.closed → IfErr result (λ e. e ≡ Fault.SerializerClosed) }
-    ensures only { IfErr result (λ e. (e ≡ Fault.Write) ⊎ (e ≡ Fault.Limit LimitName.Offset)
-        ⊎ (e ≡ Fault.OutOfMemory) ⊎ (e ≡ Fault.SerializerClosed)) }
-    ensures stays { OnOk result (serializer.new.closed ≡ serializer.old.closed) }
-    ensures err { OnErr result (IsTrue serializer.new.closed) }
+    requires { serializer.old.closed ≡ false → IfSome buffer.now (λ _.
+        (has_start field serializer.old.starts ≡ false) × length serializer.old.starts < 2 ^ 32 - 1) }
+    ensures written { WritesNorms serializer.old serializer.new (buffer_bytes buffer.now) result }
+    ensures adds { OnOk result (AddsBuffer serializer.old serializer.new field buffer.now) }
 {
     match buffer.ids() {
         Some(ids) => serializer.serialize_field(field, ids),
@@ -234,9 +219,9 @@ impl NormBuffer {
     }
 }
 
-// Puts a byte at a place behind the others, and 0 between.
+// Puts a byte at a place after the others, and 0 between.
 fn record_id(ids: &mut Vec<u8>, place: usize, id: u8) -> Result<(), AllocError>
-    requires behind { vec_len ids.old ≤ place }
+    requires after { vec_len ids.old ≤ place }
     requires room { place < 2 ^ 32 }
     ensures ok { OnOk result (ids.new.items
         ≡ ids.old.items ++ replicate (place - length ids.old.items) 0 ++ id ∷ []) }
@@ -245,12 +230,4 @@ fn record_id(ids: &mut Vec<u8>, place: usize, id: u8) -> Result<(), AllocError>
     ids.resize(place + 1, 0)?;
     ids[place] = id;
     Ok(())
-}
-
-/// The law of norms that are written: the file that is written for the buffers of a writer, opened
-/// again, has for each field with norms the bytes of its buffer.
-pub fn reads_norms_back()
-    ensures { ReadsWrittenNorms }
-{
-    reads_composites_back();
 }

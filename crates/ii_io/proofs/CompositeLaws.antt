@@ -1,30 +1,27 @@
 -- A composite file that was written is read back.
-use Rattle.std.proofs.Common.{◌≡◌, ℕ, suc, ◌+◌, ◌-◌, ◌^◌, ◌<◌, ◌≤◌, Bool, true, nat_le, List, [], ◌∷◌, ◌++◌, map, length, drop, Some, refl, sym, ap, ◌∙◌, arith, length-append, append_assoc}
+use Rattle.std.proofs.Common.{◌≡◌, ℕ, suc, ◌+◌, ◌-◌, ◌^◌, ◌<◌, ◌≤◌, true, nat_le, List, [], ◌∷◌, ◌++◌, map, length, drop, Some, refl, sym, ap, ◌∙◌, arith, length-append, append_assoc}
 use Rattle.std.specs.List.{list_all, flat_map, slice_range}
 use Rattle.std.proofs.lemmas.Bool.{le-leb, leb-true, and_parts}
 use Rattle.std.proofs.lemmas.List.{take_at, drop_at, append-nil}
 use Rattle.ii_io.specs.declared.composite_file.place.Place.{Place}
 use Rattle.ii_io.specs.Numbers.{number_at, le_bytes}
 use Rattle.ii_io.specs.NumberLemmas.{reads_what_is_written, length_le_bytes}
-use Rattle.ii_io.specs.Composite.{Body, place_bytes, places_at, lies_within, table_size, body_at, places_from, bodies_bytes, ReadsWrittenComposites}
+use Rattle.ii_io.specs.Composite.{Body, place_bytes, places_at, lies_within, table_size, body_at, places_from, bodies_bytes, fit_fields, ReadsWrittenComposites}
 use Rattle.ii_io.specs.CompositeLemmas.{reads_place_back}
 use Rattle.ii_io.proofs.CompositeWriteLemmas.{length-places_bytes}
-
-abbrev fits_field : Body → Bool
-fits_field b = nat_le (b.field + 1) (2 ^ 32)
 
 length-places_from : (start : ℕ) (bodies : List Body) → length (places_from start bodies) ≡ length bodies
 length-places_from start [] = refl
 length-places_from start (b ∷ bs) = ap suc (length-places_from (start + length b.bytes) bs)
 
 -- the places are read back
-places_read : (start : ℕ) (bodies : List Body) (rest : List ℕ) → list_all fits_field bodies ≡ true → start + length (bodies_bytes bodies) < 2 ^ 64
+places_read : (start : ℕ) (bodies : List Body) (rest : List ℕ) → fit_fields bodies ≡ true → start + length (bodies_bytes bodies) < 2 ^ 64
     → places_at (length bodies) (flat_map place_bytes (places_from start bodies) ++ rest) ≡ Some (places_from start bodies)
 places_read start [] rest fields small = refl
 places_read start (b ∷ bs) rest fields small =
     let place : Place = record { field = b.field; start = start; end = start + length b.bytes } in
     let others = flat_map place_bytes (places_from (start + length b.bytes) bs) in
-    let both = and_parts (fits_field b) (list_all fits_field bs) fields in
+    let both = and_parts (nat_le (b.field + 1) (2 ^ 32)) (fit_fields bs) fields in
     let field = leb-true (b.field + 1) (2 ^ 32) both.0 in
     let size = length-append b.bytes (bodies_bytes bs) in
     let first = reads_place_back place (others ++ rest) (omega arith) (omega arith) (omega arith) in

@@ -1,7 +1,8 @@
 -- Laws of reading a composite file place by place.
-use Rattle.std.proofs.Common.{◌≡◌, ℕ, zero, suc, ◌-◌, ◌<◌, ◌≤◌, Bool, true, false, ◌&&◌, ◌||◌, not, cond, nat_le, ◌==◌, List, [], ◌∷◌, ◌++◌, length, drop, Option, Some, None, refl, sym, ◌∙◌, arith, append_assoc}
-use Rattle.std.proofs.lemmas.List.{append-nil}
-use Rattle.std.specs.List.{list_all}
+use Rattle.std.proofs.Common.{◌≡◌, ℕ, zero, suc, ◌-◌, ◌<◌, ◌≤◌, Bool, true, false, ◌&&◌, ◌||◌, not, cond, nat_le, ◌==◌, List, [], ◌∷◌, ◌++◌, map, length, drop, Option, Some, None, refl, sym, ◌∙◌, arith, append_assoc, length-drop}
+use Rattle.std.proofs.Math.Bool.{and-false, or-true}
+use Rattle.std.proofs.lemmas.List.{append-nil, length-take-le}
+use Rattle.std.specs.List.{list_all, find, slice_range}
 use Rattle.std.specs.Ordering.{is_eq, nat_cmp}
 use Rattle.std.proofs.lemmas.List.Folds.{list_all-append, list_any-append}
 use Rattle.std.proofs.lemmas.Bool.Decides.{nat_tests}
@@ -9,8 +10,8 @@ use Rattle.std.proofs.lemmas.Bool.{leb-true, le-leb, and_parts}
 use Rattle.ii_io.specs.declared.composite_file.place.Place.{Place}
 use Rattle.ii_io.specs.Steps.{◌>>=◌, needs}
 use Rattle.ii_io.specs.Numbers.{number_at}
-use Rattle.ii_io.proofs.VintLemmas.{needs-some, step-some, some-same}
-use Rattle.ii_io.specs.Composite.{place_at, places_at, has_place, are_distinct, lies_within, lawful_places, table_of, table_size}
+use Rattle.ii_io.specs.StepLemmas.{needs-some, step-some, some-same}
+use Rattle.ii_io.specs.Composite.{place_at, places_at, has_place, are_distinct, lies_within, lawful_places, table_of, table_size, body_at, body_of}
 
 -- what the rest of a table gives, where these places were read before it
 abbrev pub left : ℕ → List Place → ℕ → List ℕ → Option (List Place)
@@ -29,16 +30,8 @@ refused : (size : ℕ) (read : List Place) (p : Place) (o : Option (List Place))
 refused size read p None bad = refl
 refused size read p (Some later) bad = rw (bad later) refl
 
-and_false : (a : Bool) → a && false ≡ false
-and_false true = refl
-and_false false = refl
-
-or_true : (a : Bool) → a || true ≡ true
-or_true true = refl
-or_true false = refl
-
 outside : (size : ℕ) (read later : List Place) (p : Place) → lies_within size p ≡ false → list_all (lies_within size) (read ++ p ∷ later) ≡ false
-outside size read later p e = rw (list_all-append (lies_within size) read (p ∷ later), e, and_false) refl
+outside size read later p e = rw (list_all-append (lies_within size) read (p ∷ later), e, and-false) refl
 
 pub left-outside : (size : ℕ) (read : List Place) (n : ℕ) (bytes rest : List ℕ) (p : Place) → 0 < n → place_at bytes ≡ Some (p, rest) → lies_within size p ≡ false → left size read n bytes ≡ None
 left-outside size read zero bytes rest p some e bad = absurd (omega arith)
@@ -47,7 +40,7 @@ left-outside size read (suc n) bytes rest p some e bad =
 
 has_place-among : (f : ℕ) (qs later : List Place) (p : Place) → (p.field == f) ≡ true → has_place f (qs ++ p ∷ later) ≡ true
 has_place-among f qs later p e =
-    rw (list_any-append (λ (q : Place). q.field == f) qs (p ∷ later), e, or_true) refl
+    rw (list_any-append (λ (q : Place). q.field == f) qs (p ∷ later), e, or-true) refl
 
 eqb_true_sym : (a b : ℕ) → (a == b) ≡ true → (b == a) ≡ true
 eqb_true_sym a b e = grind (arith, nat_tests)
@@ -58,7 +51,7 @@ repeated_cases : (f : ℕ) (q p : Place) (qs later : List Place) (t : Bool) → 
 repeated_cases f q p qs later true e ih h =
     let among = has_place-among q.field qs later p (eqb_true_sym q.field p.field e) in
     rw among refl
-repeated_cases f q p qs later false e ih h = rw (ih h, and_false) refl
+repeated_cases f q p qs later false e ih h = rw (ih h, and-false) refl
 
 repeated : (read later : List Place) (p : Place) → has_place p.field read ≡ true → are_distinct (read ++ p ∷ later) ≡ false
 repeated [] later p e = absurd (cc)
@@ -67,7 +60,7 @@ repeated (q ∷ qs) later p e = repeated_cases 0 q p qs later (q.field == p.fiel
 pub left-repeated : (size : ℕ) (read : List Place) (n : ℕ) (bytes rest : List ℕ) (p : Place) → 0 < n → place_at bytes ≡ Some (p, rest) → has_place p.field read ≡ true → left size read n bytes ≡ None
 left-repeated size read zero bytes rest p some e bad = absurd (omega arith)
 left-repeated size read (suc n) bytes rest p some e bad =
-    rw e (refused size read p (places_at n rest) (λ later. rw (repeated read later p bad, and_false) refl))
+    rw e (refused size read p (places_at n rest) (λ later. rw (repeated read later p bad, and-false) refl))
 
 more : (size : ℕ) (read : List Place) (p : Place) (o : Option (List Place))
     → ((o >>= λ others. Some (p ∷ others)) >>= λ later. needs (list_all (lies_within size) (read ++ later) && are_distinct (read ++ later)) >>= λ _. Some (read ++ later))
@@ -146,3 +139,42 @@ was_added added false had e f g = sym g
 
 pub seen-step : (old new : ℕ → Bool) (read : List Place) (p : Place) (field : ℕ) → field ≡ p.field → ((q : ℕ) → old q ≡ has_place q read) → ((q : ℕ) → new q ≡ cond (is_eq (nat_cmp field q)) true (old q)) → (q : ℕ) → new q ≡ has_place q (read ++ p ∷ [])
 seen-step old new read p field same seen updates q = updates q ∙ rw (same, seen q) (seen-more read p q)
+
+-- the place of a field tells its body, and lies in the file
+body_cases : (t : Bool) (field : ℕ) (bytes : List ℕ) (p q : Place) (ps : List Place) → (q.field == field) ≡ t → Some p ≡ cond t (Some q) (find (λ (r : Place). r.field == field) ps) → (Some p ≡ find (λ (r : Place). r.field == field) ps → body_of field (map (body_at bytes) ps) ≡ Some (slice_range bytes p.start p.end))
+    → body_of field (map (body_at bytes) (q ∷ ps)) ≡ Some (slice_range bytes p.start p.end)
+body_cases true field bytes p q ps is e ih = rw (is, some-same e) refl
+body_cases false field bytes p q ps is e ih = rw is (ih e)
+
+pub body_found : (field : ℕ) (bytes : List ℕ) (p : Place) (ps : List Place) → Some p ≡ find (λ (r : Place). r.field == field) ps → body_of field (map (body_at bytes) ps) ≡ Some (slice_range bytes p.start p.end)
+body_found field bytes p [] e = absurd (cc)
+body_found field bytes p (q ∷ ps) e = body_cases (q.field == field) field bytes p q ps refl e (body_found field bytes p ps)
+
+missing_cases : (t : Bool) (field : ℕ) (bytes : List ℕ) (q : Place) (ps : List Place) → (q.field == field) ≡ t → None ≡ cond t (Some q) (find (λ (r : Place). r.field == field) ps) → (None ≡ find (λ (r : Place). r.field == field) ps → body_of field (map (body_at bytes) ps) ≡ None)
+    → body_of field (map (body_at bytes) (q ∷ ps)) ≡ None
+missing_cases true field bytes q ps is e ih = absurd (cc)
+missing_cases false field bytes q ps is e ih = rw is (ih e)
+
+pub body_missing : (field : ℕ) (bytes : List ℕ) (ps : List Place) → None ≡ find (λ (r : Place). r.field == field) ps → body_of field (map (body_at bytes) ps) ≡ None
+body_missing field bytes [] e = refl
+body_missing field bytes (q ∷ ps) e = missing_cases (q.field == field) field bytes q ps refl e (body_missing field bytes ps)
+
+lies_cases : (t : Bool) (field size : ℕ) (p q : Place) (ps : List Place) → (q.field == field) ≡ t → Some p ≡ cond t (Some q) (find (λ (r : Place). r.field == field) ps) → (lies_within size q && list_all (lies_within size) ps) ≡ true → (list_all (lies_within size) ps ≡ true → Some p ≡ find (λ (r : Place). r.field == field) ps → lies_within size p ≡ true)
+    → lies_within size p ≡ true
+lies_cases true field size p q ps is e all ih = rw (some-same e) (and_parts (lies_within size q) (list_all (lies_within size) ps) all).0
+lies_cases false field size p q ps is e all ih = ih (and_parts (lies_within size q) (list_all (lies_within size) ps) all).1 e
+
+found_lies : (field size : ℕ) (p : Place) (ps : List Place) → list_all (lies_within size) ps ≡ true → Some p ≡ find (λ (r : Place). r.field == field) ps → lies_within size p ≡ true
+found_lies field size p [] all e = absurd (cc)
+found_lies field size p (q ∷ ps) all e = lies_cases (q.field == field) field size p q ps refl e all (found_lies field size p ps)
+
+pub found_order : (field size : ℕ) (p : Place) (ps : List Place) → list_all (lies_within size) ps ≡ true → Some p ≡ find (λ (r : Place). r.field == field) ps → (p.start ≤ p.end) × (p.end ≤ size)
+found_order field size p ps all e =
+    let both = and_parts (nat_le p.start p.end) (nat_le p.end size) (found_lies field size p ps all e) in
+    (leb-true p.start p.end both.0, leb-true p.end size both.1)
+
+pub body_size : (bytes : List ℕ) (p : Place) → (p.start ≤ p.end) × (p.end ≤ length bytes) → length (slice_range bytes p.start p.end) ≡ p.end - p.start
+body_size bytes p order =
+    let start = order.0 in
+    let end = order.1 in
+    length-take-le (p.end - p.start) (drop p.start bytes) (omega (arith, length-drop p.start bytes))

@@ -1,22 +1,19 @@
 -- Laws of writing a composite file.
-use Rattle.std.proofs.Common.{◌≡◌, ℕ, zero, suc, ◌+◌, ◌*◌, ◌<◌, ◌≤◌, List, [], ◌∷◌, ◌++◌, length, take, drop, get_or, Some, Result, Ok, Err, is_err, true, false, OnOk, OnErr, IfErr, IsErrOf, refl, sym, ap, ◌∙◌, arith, length-append, append_assoc}
+use Rattle.std.proofs.Common.{◌≡◌, ℕ, zero, suc, ◌+◌, ◌*◌, ◌<◌, ◌≤◌, List, [], ◌∷◌, ◌++◌, length, take, drop, get_or, Some, Result, is_err, true, false, refl, sym, ap, ◌∙◌, arith, length-append, append_assoc}
 use Rattle.std.specs.List.{flat_map, slice_get}
 use Rattle.std.proofs.lemmas.List.{length-take-le, append-nil, take-append-drop}
 use Rattle.std.proofs.lemmas.Grind.{flat_map-append}
 use Rattle.ii_io.specs.declared.composite_file.place.Place.{Place}
 use Rattle.ii_io.specs.declared.composite_file.place.BodyStart.{BodyStart}
 use Rattle.ii_io.specs.declared.faults.Fault.{Fault}
-use Rattle.ii_io.specs.declared.faults.Fault.TheVariants.{Write, Limit}
-use Rattle.ii_io.specs.declared.faults.LimitName.{LimitName}
 use Rattle.ii_io.specs.CountingWriter.{CountingWriterState, Wrote, Writes}
-use Rattle.ii_io.proofs.VintLemmas.{some-same}
+use Rattle.ii_io.specs.StepLemmas.{some-same}
 use Rattle.ii_io.specs.Numbers.{le_bytes}
 use Rattle.ii_io.specs.NumberLemmas.{length_le_bytes}
-use Rattle.ii_io.specs.Composite.{Body, place_bytes, table_bytes, bodies_bytes, places_from, written_composite}
+use Rattle.ii_io.specs.Composite.{place_bytes, table_bytes}
 use Rattle.ii_io.specs.CompositeLemmas.{length_place_bytes}
-use Rattle.ii_io.specs.CompositeWriteLemmas.{places_of-bodies}
-use Rattle.ii_io.specs.CountingWriterLemmas.{Wrote-trans, writes_then, writes_refused_by, writes_went}
-use Rattle.ii_io.specs.CompositeWrite.{CompositeWriteState, places_until, places_of, HasBodies}
+use Rattle.ii_io.specs.CountingWriterLemmas.{writes_then, writes_refused_by, writes_went}
+use Rattle.ii_io.specs.CompositeWrite.{places_until}
 
 -- a place ends where the next body begins
 pub place_next : (ss : List BodyStart) (i end : ℕ) (s t : BodyStart) → suc i < length ss → s ≡ get_or ss i s → t ≡ get_or ss (suc i) t
@@ -65,13 +62,6 @@ places_more (q ∷ ps) (suc i) p e =
 -- what the places before one take
 pub front_size : (ps : List Place) (i : ℕ) → i ≤ length ps → length (flat_map place_bytes (take i ps)) ≡ 20 * i
 front_size ps i h = length-places_bytes (take i ps) ∙ ap (λ (n : ℕ). 20 * n) (length-take-le i ps h)
-
--- the bodies, and the table behind them
-pub closed_bodies : {A : Type 0} (r : Result A Fault) (initial new : CountingWriterState) (c : CompositeWriteState) (bodies : List Body) → HasBodies initial c bodies → OnOk r (Wrote c.writer new (table_bytes (places_of c))) → OnOk r (Wrote initial new (written_composite bodies))
-closed_bodies (Ok x) initial new c bodies h e =
-    let table = rw (places_of-bodies initial c bodies h) at e in
-    Wrote-trans initial c.writer new (bodies_bytes bodies) (table_bytes (places_from 0 bodies)) h.writer table
-closed_bodies (Err f) initial new c bodies h e = tt
 
 -- a place that was refused, after others
 pub place_refused : (a b c : CountingWriterState) (ps : List Place) (i : ℕ) (p : Place) (result : Result (Unit {0}) Fault) → slice_get ps i ≡ Some p → Wrote a b (flat_map place_bytes (take i ps)) → true ≡ is_err result

@@ -1,5 +1,6 @@
 pub mod CompositeLaws
 pub mod CompositeReadLemmas
+pub mod CompositeStartLemmas
 pub mod CompositeWriteLemmas
 pub mod CountingWriterLemmas
 pub mod VintLemmas

@@ -1,5 +1,5 @@
 -- Several bodies in one file, each under the number of its field: the bodies, then a place of 20 bytes for each, then how many there are.
-use Rattle.std.specs.Prelude.{◌≡◌, ℕ, zero, suc, ◌+◌, ◌-◌, ◌*◌, ◌^◌, ◌<◌, Bool, true, ◌&&◌, not, List, [], ◌∷◌, ◌++◌, map, drop, length, nat_le, ◌==◌, Option, Some}
+use Rattle.std.specs.Prelude.{◌≡◌, ℕ, zero, suc, ◌+◌, ◌-◌, ◌*◌, ◌^◌, ◌<◌, Bool, true, ◌&&◌, not, List, [], ◌∷◌, ◌++◌, map, drop, length, nat_le, ◌==◌, Option, Some, IsSomeAnd, ◌≤◌}
 use Rattle.std.specs.List.{list_all, list_any, find, flat_map, slice_range}
 use Rattle.std.specs.Option.{option_map}
 use Rattle.ii_io.specs.declared.composite_file.place.Place.{Place}
@@ -60,6 +60,10 @@ table_of bytes = do
   _ ← needs (nat_le (table_size count.0) (length bytes))
   lawful_places (length bytes - table_size count.0) count.0 (drop (length bytes - table_size count.0) bytes)
 
+-- The table of as many places as the last four bytes say lies in the file.
+abbrev pub HasTable : List ℕ → Type 0
+HasTable bytes = IsSomeAnd (number_at 4 (drop (length bytes - 4) bytes)) (λ count. table_size count.0 ≤ length bytes)
+
 abbrev pub body_at : List ℕ → Place → Body
 body_at bytes p = record { field = p.field; bytes = slice_range bytes p.start p.end }
 
@@ -87,10 +91,14 @@ table_bytes places = flat_map place_bytes places ++ le_bytes 4 (length places)
 abbrev pub written_composite : List Body → List ℕ
 written_composite bodies = bodies_bytes bodies ++ table_bytes (places_from 0 bodies)
 
+-- field ids have 32 bits
+abbrev pub fit_fields : List Body → Bool
+fit_fields bodies = list_all (λ (b : Body). nat_le (b.field + 1) (2 ^ 32)) bodies
+
 -- Bodies that a file can hold: fields of 32 bits, none twice, and sizes that their numbers hold.
 pub record AreBodies (bodies : List Body) : Type 0 where
   pub distinct : are_distinct (places_from 0 bodies) ≡ true
-  pub fields : list_all (λ (b : Body). nat_le (b.field + 1) (2 ^ 32)) bodies ≡ true
+  pub fields : fit_fields bodies ≡ true
   pub few : length bodies < 2 ^ 32
   pub small : length (bodies_bytes bodies) < 2 ^ 64
 

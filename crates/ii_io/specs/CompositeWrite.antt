@@ -1,10 +1,10 @@
 -- What a composite writer has written so far, and what it writes when it is closed.
-use Rattle.std.specs.Prelude.{◌≡◌, ℕ, ◌+◌, ◌-◌, Bool, List, [], ◌∷◌, ◌++◌, length, ◌==◌}
+use Rattle.std.specs.Prelude.{◌≡◌, ℕ, ◌+◌, ◌-◌, ◌^◌, ◌<◌, Bool, true, map, List, [], ◌∷◌, ◌++◌, length, ◌==◌, Some}
 use Rattle.std.specs.List.{list_any}
 use Rattle.ii_io.specs.declared.composite_file.place.Place.{Place}
 use Rattle.ii_io.specs.declared.composite_file.place.BodyStart.{BodyStart}
 use Rattle.ii_io.specs.CountingWriter.{CountingWriterState, Wrote}
-use Rattle.ii_io.specs.Composite.{Body, bodies_bytes}
+use Rattle.ii_io.specs.Composite.{Body, are_distinct, bodies_bytes, written_composite, composite}
 
 -- what the writer tells, how much it had written at first, where each body began from there on, and whether a call was refused
 pub record CompositeWriteState : Type 0 where
@@ -15,6 +15,15 @@ pub record CompositeWriteState : Type 0 where
 
 abbrev pub has_start : ℕ → List BodyStart → Bool
 has_start field starts = list_any (λ (s : BodyStart). s.field == field) starts
+
+-- a start as a place, whose end is not known yet
+abbrev pub open_place : BodyStart → Place
+open_place s = record { field = s.field; start = s.start; end = s.start }
+
+-- Where bodies begin that a table can hold: no field twice, and fewer than 2^32.
+pub record AreStarts (starts : List BodyStart) : Type 0 where
+  pub few : length starts < 2 ^ 32
+  pub distinct : are_distinct (map open_place starts) ≡ true
 
 -- how many bytes of bodies were written
 abbrev pub written_bodies : CompositeWriteState → ℕ
@@ -50,3 +59,8 @@ pub record HasBodies (initial : CountingWriterState) (c : CompositeWriteState) (
   pub writer : Wrote initial c.writer (bodies_bytes bodies)
   pub base : c.base ≡ initial.written_bytes
   pub starts : c.starts ≡ starts_from 0 bodies
+
+-- The file of these bodies was written, and they are read back from it.
+pub record WroteComposite (old new : CountingWriterState) (bodies : List Body) : Type 0 where
+  pub wrote : Wrote old new (written_composite bodies)
+  pub reads_back : composite (written_composite bodies) ≡ Some bodies

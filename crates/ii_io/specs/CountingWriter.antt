@@ -2,7 +2,7 @@
 use Rattle.std.specs.Prelude.{◌≡◌, ℕ, ◌+◌, ◌-◌, ◌^◌, ◌≤◌, ◌<◌, ◌↔◌, ◌⊎◌, List, length, take, Bool, false, IsTrue, Option, Result, Err, OnOk, OnErr, IfErr, IsErrOf}
 use Rattle.std.specs.Io.KnownBytes.{Appends}
 use Rattle.ii_io.specs.declared.faults.Fault.{Fault}
-use Rattle.ii_io.specs.declared.faults.Fault.TheVariants.{Write, Limit, SerializerClosed}
+use Rattle.ii_io.specs.declared.faults.Fault.TheVariants.{OutOfMemory, Write, Limit, SerializerClosed}
 use Rattle.ii_io.specs.declared.faults.LimitName.TheVariants.{Offset}
 
 pub record CountingWriterState : Type 0 where
@@ -41,6 +41,12 @@ pub record Writes (old new : CountingWriterState) (bytes : List ℕ) (result : R
 -- How a call of a serializer ends that writes these bytes: once closed it is refused, and touches nothing.
 pub record WritesUnlessClosed (is_closed : Bool) (old new : CountingWriterState) (bytes : List ℕ) (result : Result (Unit {0}) Fault) : Type 0 where
   pub writes : is_closed ≡ false → Writes old new bytes result
+  pub refused : IsTrue is_closed → (result ≡ Err SerializerClosed) × (new ≡ old)
+
+-- And of one that may find no memory before all is written.
+pub record WritesInMemory (is_closed : Bool) (old new : CountingWriterState) (bytes : List ℕ) (result : Result (Unit {0}) Fault) : Type 0 where
+  pub writes : is_closed ≡ false → ¬ IsErrOf result OutOfMemory → Writes old new bytes result
+  pub memory : IsErrOf result OutOfMemory → WrotePrefix old new bytes × (new.failed_calls ≡ old.failed_calls)
   pub refused : IsTrue is_closed → (result ≡ Err SerializerClosed) × (new ≡ old)
 
 -- A fault closes, and what went well is not closed.

@@ -1,13 +1,12 @@
 -- Laws of what is written in steps.
 use Rattle.std.proofs.Common.{◌≡◌, ◌<◌, ◌≤◌, ℕ, ◌+◌, true, false, List, [], ◌∷◌, ◌++◌, length, Result, Ok, Err, is_err, refl, sym, ◌∙◌, arith, length-append, ⊎_elim, inl, inr}
-use Rattle.std.specs.Prelude.{OnOk, OnErr, IfErr, IsErrOf, ◌⊎◌, ◌↔◌}
 use Rattle.std.proofs.KnownBytes.{Appends-nil, Appends-trans}
 use Rattle.std.proofs.lemmas.List.{take-append-le, append-nil}
 use Rattle.std.proofs.Math.Seq.{take-append-add}
 use Rattle.ii_io.specs.declared.faults.Fault.{Fault}
-use Rattle.ii_io.specs.declared.faults.Fault.TheVariants.{Write, Limit}
+use Rattle.ii_io.specs.declared.faults.Fault.TheVariants.{Limit}
 use Rattle.ii_io.specs.declared.faults.LimitName.TheVariants.{Offset}
-use Rattle.ii_io.specs.CountingWriter.{CountingWriterState, Wrote, WrotePrefix, IsFull, Writes}
+use Rattle.ii_io.specs.CountingWriter.{CountingWriterState, Wrote, WrotePrefix, IsFull, Writes, WritesInMemory}
 
 -- a count that fewer bytes pass is passed by more
 pub full_more : (writer : CountingWriterState) (n size : ℕ) → n ≤ size → IsFull writer n → IsFull writer size
@@ -27,6 +26,10 @@ full_after a b bytes more size wrote within full =
 fits_both : (a b c : CountingWriterState) (xs ys : List ℕ) → Wrote a b xs → Wrote b c ys → 0 < length (xs ++ ys) → ¬ IsFull a (length (xs ++ ys))
 fits_both a b c xs [] front back some full = front.fits (rw append-nil at some) (rw append-nil at full)
 fits_both a b c xs (y ∷ ys) front back some full = back.fits (omega arith) (full_after a b xs (length (y ∷ ys)) (length (xs ++ y ∷ ys)) front (omega (arith, length-append xs (y ∷ ys))) full)
+
+-- no bytes
+pub wrote_nothing : (a : CountingWriterState) → Wrote a a []
+wrote_nothing a = record { appends = Appends-nil a.contents; written_bytes = omega arith; failed_calls = refl; fits = λ some. absurd (omega arith) }
 
 -- bytes after others
 pub Wrote-trans : (a b c : CountingWriterState) (xs ys : List ℕ) → Wrote a b xs → Wrote b c ys → Wrote a c (xs ++ ys)
@@ -96,3 +99,18 @@ writes_all a b xs h =
 -- a call that is refused before it touches the writer, since a count is full
 pub writes_limit : (a : CountingWriterState) (xs : List ℕ) → IsFull a (length xs) → Writes a a xs (Err (Limit Offset))
 writes_limit a xs full = record { ok = tt; write = (λ e. absurd (cc), λ more. absurd (omega arith)); by_one = λ e. absurd (cc); limit = λ e. full; prefix = prefix_of_all a xs; only = inr refl }
+
+-- the same of calls that may find no memory
+pub memory_then : (a b c : CountingWriterState) (xs ys : List ℕ) (result : Result (Unit {0}) Fault) → Wrote a b xs → WritesInMemory false b c ys result → WritesInMemory false a c (xs ++ ys) result
+memory_then a b c xs ys result h k = record {
+  writes = λ still had. writes_then a b c xs ys result h (k.writes still had);
+  memory = λ none. let found = k.memory none in (prefix_after a b c xs ys h found.0, found.1 ∙ h.failed_calls);
+  refused = λ closed. absurd (cc);
+}
+
+pub memory_refused_by : (a b : CountingWriterState) (xs ys : List ℕ) (result : Result (Unit {0}) Fault) → true ≡ is_err result → WritesInMemory false a b xs result → WritesInMemory false a b (xs ++ ys) result
+memory_refused_by a b xs ys result refused k = record {
+  writes = λ still had. writes_refused_by a b xs ys result refused (k.writes still had);
+  memory = λ none. let found = k.memory none in (prefix_of_more a b xs ys found.0, found.1);
+  refused = λ closed. absurd (cc);
+}

@@ -1,6 +1,6 @@
--- How a composite writer lends its writer for the body of a field.
+-- How a composite writer lends its writer for a body.
 use Rattle.std.specs.Prelude.{◌≡◌, ℕ, true, ◌∷◌, [], ◌++◌, Result}
-use Rattle.std.specs.Borrow.{LendsSoOk, MutBor, Fml, RattleType}
+use Rattle.std.specs.Borrow.{Lends, LendsSoOk, MutBor, Fml, RattleType}
 use Rattle.std.specs.declared.io.Write as write
 use Rattle.ii_io.specs.declared.faults.Fault.{Fault}
 use Rattle.ii_io.specs.CountingWriter.{CountingWriterState}
@@ -14,3 +14,7 @@ module _ (W : RattleType) (g : write.Ghosts W.Denot) where
   LendsForField s field r =
       LendsSoOk (composite_write.the_row W g) (counting_writer.the_row W g) s r
       (λ n w. n ≡ record s.now { writer = w; starts = s.now.starts ++ next_start s.now field ∷ [] }) (λ n. n ≡ record s.now { closed = true })
+
+  -- The writer is lent for more of the body that was begun last.
+  abbrev pub LendsWriter : MutBor CompositeWriteState → MutBor CountingWriterState → Fml
+  LendsWriter s r = Lends (composite_write.the_row W g) (counting_writer.the_row W g) s r (λ w. record s.now { writer = w })

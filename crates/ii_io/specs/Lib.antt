@@ -11,3 +11,5 @@ pub mod CountingWriter
 pub mod CountingWriterLemmas
 pub mod Vints
 pub mod Parts
+pub mod StepLemmas
+pub mod VintLemmas

@@ -66,7 +66,7 @@ impl<W: Write> CountingWriter<W> {
         writer
     }
 
-    /// Writes all of `buf`, or answers `Write` where the writer fails; a beginning of `buf` is then
+    /// Writes all of `buf`, or answers `Write` where the writer fails; a prefix of `buf` is then
     /// written. Where a count would pass `u64::MAX` the answer is `Limit(Offset)`, and nothing is
     /// touched.
     pub fn write_all(&mut self, buf: &[u8]) -> Result<(), Fault>

@@ -4,6 +4,7 @@ use std::io::{self, Read};
 use std::marker::Model;
 
 /// A reader over memory, of which one call fails, the first call being call 1. With 0 none does.
+/// The call fails as if it was interrupted, so that one that is tried again is seen.
 #[derive(Drop)]
 pub struct FailingReader<'a> {
     rest: &'a [u8],
@@ -40,7 +41,7 @@ impl Read for FailingReader<'_> {
     fn read(&mut self, buf: &mut [u8]) -> io::Result<usize> {
         self.calls = self.calls.saturating_add(1);
         if self.calls == self.failing_call {
-            return Err(io::Error::other("the call that fails"));
+            return Err(io::Error::from(io::ErrorKind::Interrupted));
         }
         let count = buf.len().min(self.rest.len());
         let (front, rest) = self.rest.split_at(count);

@@ -5,7 +5,8 @@ use std::io::{self, Write};
 use std::marker::Model;
 
 /// A writer over memory, of which one call fails: a write or a flush, the first call being call 1.
-/// With 0 none does. Clauses see the bytes that it holds.
+/// With 0 none does. The call fails as if it was interrupted, so that one that is tried again is
+/// seen. Clauses see the bytes that it holds.
 #[derive(Drop)]
 pub struct FailingWriter {
     bytes: Vec<u8>,
@@ -46,7 +47,7 @@ impl FailingWriter {
     {
         self.calls = self.calls.saturating_add(1);
         if self.calls == self.failing_call {
-            return Err(io::Error::other("the call that fails"));
+            return Err(io::Error::from(io::ErrorKind::Interrupted));
         }
         Ok(())
     }

@@ -20,7 +20,7 @@ pub trait BinarySerializable: Sized {
     // What a value has to meet to be written.
     ghost can_serialize: { Self → Type 0 } = { λ _. Unit {0} };
 
-    // What each value of the type meets.
+    // What each value of the type meets, as `serialize` shows.
     ghost in_range: { Self → Type 0 } = { λ _. Unit {0} };
 
     /// Writes the value's bytes, or answers `Write` where the writer fails, and a beginning of them
@@ -29,7 +29,8 @@ pub trait BinarySerializable: Sized {
         requires { can_serialize self.now }
         ensures written { Writes writer.old writer.new (bytes_of self.now) result }
         ensures limit { IsErrOf result (Fault.Limit LimitName.Offset)
-            ↔ IsFull writer.old (length (bytes_of self.now)) };
+            ↔ IsFull writer.old (length (bytes_of self.now)) }
+        ensures value { in_range self.now };
 
     /// Takes the value from the front of the bytes. `None` where none stands there, and the bytes
     /// then stay as they were.
@@ -44,16 +45,13 @@ pub trait BinarySerializable: Sized {
 
 /// A type whose values have as many bytes each.
 pub trait FixedSize: BinarySerializable {
+    ghost SIZE_IN_BYTES: { ℕ };
+
     /// How many bytes a value has.
     const SIZE_IN_BYTES: usize;
 
-    // The same number.
-    ghost size: { ℕ };
-
-    /// `SIZE_IN_BYTES`, and the law that each value has so many bytes.
-    fn fixed_size() -> usize
-        ensures value { result ≡ size }
-        ensures each { (v : Self) → length (Self.bytes_of v) ≡ size };
+    // Each value has so many bytes.
+    ghost has_size: { (v : Self) → length (Self.bytes_of v) ≡ SIZE_IN_BYTES };
 }
 
 /// Four bytes, the lowest first.
@@ -87,14 +85,13 @@ impl BinarySerializable for u32 {
 }
 
 impl FixedSize for u32 {
+    ghost use Rattle.ii_io.specs.NumberLemmas.{length_le_bytes};
+
     const SIZE_IN_BYTES: usize = 4;
 
-    ghost size = { 4 };
+    ghost SIZE_IN_BYTES = { 4 };
 
-    #[tactic(auto, using(crate::specs::NumberLemmas::length_le_bytes))]
-    fn fixed_size() -> usize {
-        Self::SIZE_IN_BYTES
-    }
+    ghost has_size = { λ n. length_le_bytes 4 n };
 }
 
 /// Eight bytes, the lowest first.
@@ -128,14 +125,13 @@ impl BinarySerializable for u64 {
 }
 
 impl FixedSize for u64 {
+    ghost use Rattle.ii_io.specs.NumberLemmas.{length_le_bytes};
+
     const SIZE_IN_BYTES: usize = 8;
 
-    ghost size = { 8 };
+    ghost SIZE_IN_BYTES = { 8 };
 
-    #[tactic(auto, using(crate::specs::NumberLemmas::length_le_bytes))]
-    fn fixed_size() -> usize {
-        Self::SIZE_IN_BYTES
-    }
+    ghost has_size = { λ n. length_le_bytes 8 n };
 }
 
 /// The law of numbers: what is written is read, whatever follows, and no other bytes of the same

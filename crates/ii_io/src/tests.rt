@@ -5,13 +5,14 @@ use crate::composite_file::reads_composites_back;
 use crate::counting_writer::CountingWriter;
 use crate::failing_reader::FailingReader;
 use crate::serialize::reads_numbers_back;
+use crate::vint::VInt;
 use crate::{
     BinarySerializable, CompositeFile, CompositeWrite, FailingWriter, Fault, Field, FixedSize,
     HasLen, Part, vint,
 };
 use bytes::Bytes;
 use std::alloc::Global;
-use std::io::{Read, Write};
+use std::io::{self, Read, Write};
 use std::test::Fail;
 
 // Bodies of the fields 7 and 1 behind a byte that was written before.
@@ -45,6 +46,7 @@ fn composites_are_written(rt: HostRuntime) {
     let (writer, answer) = composite_over(rt.alloc(), 0);
     assert_eq!(rt; answer, Ok(()));
     assert_eq!(rt; writer.bytes(), WRITTEN.as_slice());
+    // The three writes before the table, one for each place, one for their number, and a flush.
     for k in 1..8 {
         let (writer, answer) = composite_over(rt.alloc(), k);
         assert_eq!(rt; answer, Err(Fault::Write), "call {k}");
@@ -72,6 +74,57 @@ fn composites_are_read(rt: HostRuntime) -> Result<(), Fail> {
         assert_eq!(rt; body.as_ref().map(|b| b.as_slice()), want, "field {field}");
     }
     CompositeFile::open(rt.alloc(), Bytes::from_static(&[0; 4]))?;
+    Ok(())
+}
+
+// One body in two writes.
+fn write_twice<W: Write>(composite: &mut CompositeWrite<W>) -> Result<(), Fault>
+    requires { composite.old.starts ≡ [] }
+{
+    composite
+        .for_field(Field::from_field_id(3))?
+        .write_all(&[5])?;
+    composite.writer().write_all(&[6])
+}
+
+#[test]
+fn a_body_is_written_on(rt: HostRuntime) -> Result<(), Fail> {
+    let writer = CountingWriter::wrap(Vec::new(rt.alloc()));
+    let mut composite = CompositeWrite::wrap(rt.alloc(), writer);
+    write_twice(&mut composite)?;
+    let (writer, closed) = composite.close();
+    closed?;
+    let file = CompositeFile::open(rt.alloc(), Bytes::from_vec(writer.finish())?)?;
+    assert_eq!(rt; file.body_len(Field::from_field_id(3)), Some(2));
+    assert_eq!(rt; file.body_len(Field::from_field_id(5)), None);
+    let body = file.open_read(Field::from_field_id(3))?.ok_or("a body")?;
+    assert_eq!(rt; body.as_slice(), [5, 6].as_slice());
+    Ok(())
+}
+
+// A file of so many empty bodies, of which the last has this field, and the others have their number.
+fn many_bodies(alloc: Global, count: u32, last: u32) -> Result<Bytes, Fault> {
+    let mut writer = CountingWriter::wrap(Vec::new(alloc));
+    for i in 0..count {
+        let place = Place {
+            field: Field::from_field_id(if i < count - 1 { i } else { last }),
+            start: 0,
+            end: 0,
+        };
+        place.serialize(&mut writer)?;
+    }
+    count.serialize(&mut writer)?;
+    Ok(Bytes::from_vec(writer.finish())?)
+}
+
+#[test]
+fn files_of_many_bodies_are_read(rt: HostRuntime) -> Result<(), Fail> {
+    let file = CompositeFile::open(rt.alloc(), many_bodies(rt.alloc(), 1000, 4_000_000_000)?)?;
+    assert_eq!(rt; file.body_len(Field::from_field_id(998)), Some(0));
+    assert_eq!(rt; file.body_len(Field::from_field_id(999)), None);
+    assert_eq!(rt; file.body_len(Field::from_field_id(4_000_000_000)), Some(0));
+    let repeated = CompositeFile::open(rt.alloc(), many_bodies(rt.alloc(), 1000, 17)?);
+    assert_eq!(rt; repeated.err(), Some(Fault::Damaged(Part::Composite)));
     Ok(())
 }
 
@@ -139,12 +192,8 @@ fn numbers_are_written_and_read(rt: HostRuntime) -> Result<(), Fail> {
     assert_eq!(rt; u64::deserialize(&mut rest), Some(0x0F0E_0D0C_0B0A_0908));
     assert_eq!(rt; Place::deserialize(&mut rest), Some(place));
     assert_eq!(rt; u32::deserialize(&mut rest), None);
-    let sizes = [u32::fixed_size(), u64::fixed_size(), Place::fixed_size()];
+    let sizes = [u32::SIZE_IN_BYTES, u64::SIZE_IN_BYTES, Place::SIZE_IN_BYTES];
     assert_eq!(rt; sizes, [4, 8, 20]);
-    assert_eq!(rt;
-        u32::SIZE_IN_BYTES + u64::SIZE_IN_BYTES + Place::SIZE_IN_BYTES,
-        32
-    );
     reads_numbers_back();
     Ok(())
 }
@@ -174,6 +223,91 @@ fn one_call_fails(rt: HostRuntime) -> Result<(), Fail> {
     assert!(rt; reader.read(&mut buf).is_err());
     assert!(rt; reader.read(&mut buf).is_ok());
     assert_eq!(rt; buf, [3, 2]);
+    Ok(())
+}
+
+// A writer whose first call takes nothing.
+#[derive(Drop)]
+struct TakesNothingOnce {
+    bytes: Vec<u8>,
+    calls: u64,
+}
+
+impl Write for TakesNothingOnce {
+    fn write(&mut self, buf: &[u8]) -> io::Result<usize> {
+        self.calls = self.calls.saturating_add(1);
+        if self.calls == 1 {
+            return Ok(0);
+        }
+        self.bytes.extend_from_slice(buf)?;
+        Ok(buf.len())
+    }
+
+    fn flush(&mut self) -> io::Result<()> {
+        Ok(())
+    }
+}
+
+#[test]
+fn a_write_that_takes_nothing_fails(rt: HostRuntime) {
+    let mut writer = CountingWriter::wrap(TakesNothingOnce {
+        bytes: Vec::new(rt.alloc()),
+        calls: 0,
+    });
+    assert_eq!(rt; writer.write_all(&[1, 2]), Err(Fault::Write));
+    assert_eq!(rt; (writer.written_bytes(), writer.failed_calls()), (0, 1));
+    assert_eq!(rt; writer.write_all(&[3]), Ok(()));
+    assert_eq!(rt; (writer.written_bytes(), writer.failed_calls()), (1, 1));
+    assert_eq!(rt; writer.finish().bytes.as_slice(), [3].as_slice());
+}
+
+#[test]
+fn interrupted_calls_are_not_tried_again(rt: HostRuntime) {
+    let mut writer = CountingWriter::wrap(FailingWriter::new(rt.alloc(), 2));
+    assert_eq!(rt; writer.write_all(&[1]), Ok(()));
+    assert_eq!(rt; writer.flush(), Err(Fault::Write));
+    assert_eq!(rt; writer.failed_calls(), 1);
+    let mut writer = CountingWriter::wrap(FailingWriter::new(rt.alloc(), 1));
+    assert_eq!(rt; writer.write_all(&[1]), Err(Fault::Write));
+    assert_eq!(rt; writer.flush(), Ok(()));
+    assert_eq!(rt; (writer.written_bytes(), writer.failed_calls()), (0, 1));
+    let mut reader = FailingReader::new(&[1], 1);
+    let interrupted = reader.read(&mut [0; 1]).err();
+    assert_eq!(rt;
+        interrupted.map(|e| e.kind()),
+        Some(io::ErrorKind::Interrupted)
+    );
+}
+
+#[test]
+fn numbers_of_64_bits_are_values(rt: HostRuntime) -> Result<(), Fail> {
+    let spelled = [
+        0x80, 0xFF, 0x00, 0x81, 0x7A, 0x57, 0x4D, 0x1A, 0x81, 0x7F, 0x7F, 0x7F, 0x7F, 0x7F, 0x7F,
+        0x7F, 0x7F, 0x7F, 0x81,
+    ];
+    let numbers = [0, 127, 128, 324_234_234, u64::MAX];
+    let mut writer = CountingWriter::wrap(Vec::new(rt.alloc()));
+    for number in numbers {
+        VInt(number).serialize(&mut writer)?;
+    }
+    let bytes = writer.finish();
+    assert_eq!(rt; bytes.as_slice(), spelled.as_slice());
+    let mut rest = bytes.as_slice();
+    for number in numbers {
+        assert_eq!(rt; VInt::deserialize(&mut rest), Some(VInt(number)));
+    }
+    assert_eq!(rt; VInt::deserialize(&mut rest), None);
+    let past: [u8; 11] = [0, 0, 0, 0, 0, 0, 0, 0, 0, 0, 0x80];
+    let mut rest = past.as_slice();
+    assert_eq!(rt; VInt::deserialize(&mut rest), None);
+    assert_eq!(rt; rest.len(), 11);
+    let great = [0x7F, 0x7F, 0x7F, 0x7F, 0x7F, 0x7F, 0x7F, 0x7F, 0x7F, 0x82];
+    assert_eq!(rt; VInt::deserialize(&mut great.as_slice()), None);
+    let zero_groups = [0, 0, 0, 0, 0, 0, 0, 0, 0, 0x80];
+    assert_eq!(rt;
+        VInt::deserialize(&mut zero_groups.as_slice()),
+        Some(VInt(0))
+    );
     Ok(())
 }
 

@@ -1,6 +1,12 @@
 ghost use Rattle.std.specs.Prelude.{◌≡◌, ◌+◌, ◌^◌, ◌<◌, ◌≤◌, ◌++◌, length, take, drop, IfSome};
 ghost use Rattle.std.specs.Option.{option_map};
-ghost use Rattle.ii_io.specs.Vints.{u32_at, u64_at, vint_u32, vint_u64, ReadsWhatIsSpelled, SpellsInFewest};
+ghost use Rattle.ii_io.specs.Vints.{u32_at, u64_at, vint_at, vint_u32, vint_u64, ReadsWhatIsSpelled, SpellsInFewest};
+
+use super::counting_writer::CountingWriter;
+use super::faults::Fault;
+use super::serialize::BinarySerializable;
+use std::io::Write;
+use std::marker::Model;
 
 /// The most bytes of a vint of 32 bits.
 pub const MAX_VINT_SIZE: usize = 5;
@@ -15,22 +21,13 @@ pub fn read_u32(bytes: &[u8]) -> Option<(u32, usize)>
     ensures value { option_map (λ read. (read.0, drop read.1 bytes.now)) result ≡ u32_at bytes.now }
     ensures within { IfSome result (λ read. read.1 ≤ length bytes.now) }
 {
-    let mut value: u64 = 0;
-    let mut place: u64 = 1;
-    for (i, byte) in bytes.iter().enumerate() {
-        if i == MAX_VINT_SIZE {
-            return None;
-        }
-        value += u64::from(*byte % 128) * place;
-        if *byte >= 128 {
-            let Ok(number) = u32::try_from(value) else {
-                return None;
-            };
-            return Some((number, i + 1));
-        }
-        place *= 128;
-    }
-    None
+    let Some((number, used)) = read_groups(bytes, MAX_VINT_SIZE) else {
+        return None;
+    };
+    let Ok(number) = u32::try_from(number) else {
+        return None;
+    };
+    Some((number, used))
 }
 
 /// The number of 64 bits that is spelled at the front of `bytes`, and how many bytes spell it, 1 to
@@ -39,29 +36,42 @@ pub fn read_u64(bytes: &[u8]) -> Option<(u64, usize)>
     ensures value { option_map (λ read. (read.0, drop read.1 bytes.now)) result ≡ u64_at bytes.now }
     ensures within { IfSome result (λ read. read.1 ≤ length bytes.now) }
 {
-    let mut value: u128 = 0;
-    let mut place: u128 = 1;
+    read_groups(bytes, MAX_LONG_VINT_SIZE)
+}
+
+// The number of 64 bits that `most` bytes or fewer spell at the front, and how many do.
+fn read_groups(bytes: &[u8], most: usize) -> Option<(u64, usize)>
+    requires { most ≤ 10 }
+    ensures value { option_map (λ read. (read.0, drop read.1 bytes.now)) result ≡ vint_at most (2 ^ 64) bytes.now }
+    ensures within { IfSome result (λ read. read.1 ≤ length bytes.now) }
+{
+    let mut value: u64 = 0;
+    let mut place: u64 = 1;
     for (i, byte) in bytes.iter().enumerate() {
-        if i == MAX_LONG_VINT_SIZE {
+        if i == most {
             return None;
         }
-        value += u128::from(*byte % 128) * place;
+        let Some(group) = u64::from(*byte % 128).checked_mul(place) else {
+            return None;
+        };
+        value += group;
         if *byte >= 128 {
-            let Ok(number) = u64::try_from(value) else {
-                return None;
-            };
-            return Some((number, i + 1));
+            return Some((value, i + 1));
         }
-        place *= 128;
+        let Some(next) = place.checked_mul(128) else {
+            return None;
+        };
+        place = next;
     }
     None
 }
 
 /// Writes the shortest spelling of `value` into `output` from `start` on, and answers the place
-/// behind it.
+/// after it.
 pub fn write_u32(value: u32, output: &mut [u8], start: usize) -> usize
     requires { start + 5 ≤ length output.old }
     ensures written { take result output.new ≡ take start output.old ++ vint_u32 value }
+    ensures after { drop result output.new ≡ drop result output.old }
     ensures within { result ≤ start + 5 }
 {
     let mut end = start;
@@ -76,10 +86,11 @@ pub fn write_u32(value: u32, output: &mut [u8], start: usize) -> usize
 }
 
 /// Writes the shortest spelling of `value`, which has 1 to 10 bytes, into `output` from `start` on,
-/// and answers the place behind it.
+/// and answers the place after it.
 pub fn write_u64(value: u64, output: &mut [u8], start: usize) -> usize
     requires { start + 10 ≤ length output.old }
     ensures written { take result output.new ≡ take start output.old ++ vint_u64 value }
+    ensures after { drop result output.new ≡ drop result output.old }
     ensures within { result ≤ start + 10 }
 {
     let mut end = start;
@@ -91,6 +102,50 @@ pub fn write_u64(value: u64, output: &mut [u8], start: usize) -> usize
     }
     output[end] = left as u8 + 128;
     end + 1
+}
+
+/// A number of 64 bits with the bytes of its shortest spelling, 1 to 10. Any spelling of at most 10
+/// bytes is read. Clauses see it as the number.
+#[derive(Clone, Copy, Debug, PartialEq, Eq)]
+pub struct VInt(pub u64);
+
+impl Model for VInt {
+    ghost use Rattle.std.specs.Prelude.{ℕ};
+
+    ghost Value = { ℕ };
+
+    ghost view = { λ number. number.0 };
+
+    ghost inverse = { λ number. record { 0 = number } };
+}
+
+impl BinarySerializable for VInt {
+    ghost use Rattle.std.specs.Prelude.{◌<◌, ◌^◌};
+    ghost use Rattle.ii_io.specs.Vints.{vint_u64, u64_at};
+    ghost use Rattle.ii_io.specs.VintLemmas.{u64_at-vint_u64};
+
+    ghost bytes_of = { λ number. vint_u64 number };
+
+    ghost value_at = { λ bytes. u64_at bytes };
+
+    ghost in_range = { λ number. number < 2 ^ 64 };
+
+    ghost reads_back = { λ number rest fits _. u64_at-vint_u64 number rest fits };
+
+    fn serialize<W: Write>(&self, writer: &mut CountingWriter<W>) -> Result<(), Fault> {
+        let mut bytes = [0; MAX_LONG_VINT_SIZE];
+        let end = write_u64(self.0, &mut bytes, 0);
+        writer.write_all(&bytes[..end])
+    }
+
+    fn deserialize(reader: &mut &[u8]) -> Option<VInt> {
+        let bytes = *reader;
+        let Some((number, used)) = read_u64(bytes) else {
+            return None;
+        };
+        *reader = &bytes[used..];
+        Some(VInt(number))
+    }
 }
 
 /// The law of reading: at 32 and at 64 bits what is spelled is read, whatever follows, and nothing

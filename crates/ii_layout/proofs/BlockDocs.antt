@@ -7,7 +7,7 @@ use Rattle.ii_docset.proofs.CursorLemmas.{and_parts}
 use Rattle.ii_codes.proofs.SortedVintLemmas.{falls_by}
 use Rattle.ii_codes.specs.Sums.{DoNotFall}
 use Rattle.ii_layout.specs.Written.{docs_of_block, last_before}
-use Rattle.ii_layout.specs.Serializing.{IsFullBlock}
+use Rattle.ii_layout.specs.PostingsSerializer.{IsFullBlock}
 
 ascend_parts : (least d : ℕ) (ds : List ℕ) → ascend_from least (d ∷ ds) ≡ true → (least ≤ d) × (d < 2147483647) × (ascend_from (d + 1) ds ≡ true)
 ascend_parts least d ds h =
@@ -58,7 +58,7 @@ full_block docs i h whole =
           let next = get_or-docs_of_block docs i (k + 1) (omega arith) in
           let more = document_more docs (128 * i + k) (128 * i + (k + 1)) (omega arith) h (omega arith) in
           omega arith;
-      behind = λ some.
+      after = λ some.
           let here = get_or-docs_of_block docs i 0 (omega arith) in
           let first : 128 * i + 0 ≡ 128 * i = omega arith in
           let below = last_below docs i h (omega arith) some in
@@ -73,7 +73,7 @@ before_next : (docs : List ℕ) (i : ℕ) → are_documents docs ≡ true → 12
 before_next docs zero h within = omega arith
 before_next docs (suc i) h within = let more = document_more docs (128 * i + 127) (128 * suc i) (omega arith) h within in omega arith
 
--- the documents behind so many blocks don't fall
+-- the documents after so many blocks don't fall
 pub rest_falls : (docs : List ℕ) (i : ℕ) → are_documents docs ≡ true → DoNotFall (last_before docs i) (drop (128 * i) docs)
 rest_falls docs i h =
     let size = length-drop (128 * i) docs in
@@ -88,7 +88,7 @@ rest_falls docs i h =
     let more = document_more docs (128 * i + k) (128 * i + suc k) (omega arith) h (omega arith) in
     omega arith)
 
--- documents behind leave blocks as they are
+-- documents after leave blocks as they are
 pub docs_of_block-append : (docs more : List ℕ) (i : ℕ) → 128 * i + 128 ≤ length docs → docs_of_block (docs ++ more) i ≡ docs_of_block docs i
 docs_of_block-append docs more i whole =
     ap (λ (xs : List ℕ). take 128 xs) (drop-append-le (128 * i) docs more (omega arith))

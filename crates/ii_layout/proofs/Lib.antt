@@ -1,7 +1,9 @@
 pub mod BlockDocs
+pub mod DocumentLemmas
 pub mod PackingLemmas
 pub mod ReadBackLemmas
 pub mod RunLemmas
-pub mod SkipReadLemmas
+pub mod SkipReaderLemmas
 pub mod SkipWriting
+pub mod SplitLemmas
 pub mod WorkedRows

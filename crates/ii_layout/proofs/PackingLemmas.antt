@@ -1,5 +1,5 @@
 -- What a serializer keeps of documents, and what it writes.
-use Rattle.std.proofs.Common.{◌≡◌, ℕ, zero, suc, ◌+◌, ◌*◌, ◌/◌, ◌%◌, ◌<◌, ◌≤◌, true, List, [], ◌∷◌, ◌++◌, length, take, drop, get_or, refl, sym, ap, ◌∙◌, arith, length-append, Result, Ok, Err, OnOk, OnErr}
+use Rattle.std.proofs.Common.{◌≡◌, ℕ, zero, suc, ◌+◌, ◌*◌, ◌/◌, ◌%◌, ◌<◌, ◌≤◌, true, List, [], ◌∷◌, ◌++◌, length, take, drop, get_or, refl, sym, ap, ◌∙◌, arith, length-append, true, false, Result, Ok, Err, is_err, OnOk}
 use Rattle.std.specs.Prelude.{IsErrOf, ◌↔◌}
 use Rattle.std.proofs.lemmas.List.{flat_map_more, take_all, drop_at, get_or-append-add}
 use Rattle.std.specs.List.{flat_map, range_with_len}
@@ -8,8 +8,8 @@ use Rattle.ii_io.specs.NumberLemmas.{length_le_bytes}
 use Rattle.ii_io.specs.declared.faults.Fault.{Fault}
 use Rattle.ii_io.specs.declared.faults.Fault.TheVariants.{Limit}
 use Rattle.ii_io.specs.declared.faults.LimitName.TheVariants.{Offset}
-use Rattle.ii_io.specs.CountingWriter.{CountingWriterState, Wrote, WrotePrefix, IsFull}
-use Rattle.ii_io.specs.CountingWriterLemmas.{Wrote-trans, prefix_of_more, prefix_after, full_more, full_before, full_after}
+use Rattle.ii_io.specs.CountingWriter.{CountingWriterState, Wrote, Writes, IsFull}
+use Rattle.ii_io.specs.CountingWriterLemmas.{Wrote-trans, full_after, writes_then, writes_refused_by, writes_went}
 use Rattle.ii_io.specs.Vints.{vint_u64}
 use Rattle.ii_docset.specs.Entries.{are_documents}
 use Rattle.ii_codes.specs.Blocks.{least_first, sorted_entries, sorted_width, sorted_bytes}
@@ -17,8 +17,8 @@ use Rattle.ii_codes.specs.Sums.{DoNotFall}
 use Rattle.ii_codes.specs.SortedVints.{sorted_vints}
 use Rattle.ii_codes.proofs.BlockLaws.{entries_from-le, length-entries_from}
 use Rattle.ii_codes.proofs.WidthLemmas.{least_width-least}
-use Rattle.ii_layout.specs.Written.{docs_of_block, last_before, code_of_width, entry_bytes, block_bytes, skip_bytes, written_documents}
-use Rattle.ii_layout.specs.Serializing.{ArePacked, IsFullBlock, sized}
+use Rattle.ii_layout.specs.Written.{docs_of_block, last_before, code_of_width, entry_of_block, entry_bytes, block_bytes, skip_bytes, written_documents}
+use Rattle.ii_layout.specs.PostingsSerializer.{ArePacked, IsFullBlock, sized}
 use Rattle.ii_layout.proofs.BlockDocs.{full_block, rest_falls, docs_of_block-append, last_before-append}
 
 -- documents need fewer than 32 bits
@@ -48,10 +48,6 @@ flat_map-range f n =
     let last : 0 + n ≡ n = omega arith in
     ap (flat_map f) (range-push 0 n ∙ ap (λ (k : ℕ). range_with_len 0 n ++ k ∷ []) last) ∙ sym (flat_map_more f [] (range_with_len 0 n) n)
 
--- the entry and the bytes of a block
-abbrev pub entry_of_block : ℕ → List ℕ → List ℕ
-entry_of_block last block = le_bytes 4 (get_or block 127 0) ++ code_of_width (sorted_width last block) ∷ []
-
 pub entry_bytes-append : (docs more : List ℕ) (i : ℕ) → 128 * i + 128 ≤ length docs → entry_bytes (docs ++ more) i ≡ entry_bytes docs i
 entry_bytes-append docs more i whole =
     let last = last_before-append docs more i (omega arith) in
@@ -64,7 +60,7 @@ block_bytes-append docs more i whole =
     let block = docs_of_block-append docs more i whole in
     λ j. sorted_bytes (last j) (block j)
 
--- so many blocks, and documents behind them
+-- so many blocks, and documents after them
 all_blocks : (docs : List ℕ) → length docs % 128 ≡ 0 → length docs ≡ 128 * (length docs / 128)
 all_blocks docs h = omega arith
 
@@ -72,7 +68,7 @@ pub docs_of_block-last : (docs block : List ℕ) (n : ℕ) → length docs ≡ 1
 docs_of_block-last docs block n all many =
     ap (λ (xs : List ℕ). take 128 xs) (drop_at docs block (128 * n) all) ∙ take_all 128 block (omega arith)
 
--- a block that comes behind others may be packed
+-- a block that comes after others may be packed
 pub next_block : (docs block skip postings : List ℕ) (last : ℕ) → ArePacked docs last skip postings → length block ≡ 128 → are_documents (docs ++ block) ≡ true → IsFullBlock last block
 next_block docs block skip postings last p many h =
     let all = all_blocks docs p.whole in
@@ -118,13 +114,13 @@ packed_more docs block skip postings docs' skip' postings' last last' p many doc
     }
     in rw docs_is packed
 
--- what stands behind the blocks doesn't fall
-pub rest_behind : (docs rest skip postings : List ℕ) (last : ℕ) → ArePacked docs last skip postings → are_documents (docs ++ rest) ≡ true → DoNotFall last rest
-rest_behind docs rest skip postings last p h =
+-- what stands after the blocks doesn't fall
+pub rest_after : (docs rest skip postings : List ℕ) (last : ℕ) → ArePacked docs last skip postings → are_documents (docs ++ rest) ≡ true → DoNotFall last rest
+rest_after docs rest skip postings last p h =
     let all = all_blocks docs p.whole in
     let same_last = last_before-append docs rest (length docs / 128) (omega arith) in
-    let behind = rw (drop_at docs rest (128 * (length docs / 128)) all, same_last) at (rest_falls (docs ++ rest) (length docs / 128) h) in
-    rw p.last_is behind
+    let after = rw (drop_at docs rest (128 * (length docs / 128)) all, same_last) at (rest_falls (docs ++ rest) (length docs / 128) h) in
+    rw p.last_is after
 
 -- a skip list has five bytes for each block
 length-entry_bytes : (docs : List ℕ) (i : ℕ) → length (entry_bytes docs i) ≡ 5
@@ -148,7 +144,7 @@ pub skip_bytes-sized : (docs : List ℕ) (n : ℕ) → skip_bytes docs n ≡ siz
 skip_bytes-sized docs zero = refl
 skip_bytes-sized docs (suc m) = sized_some (flat_map (entry_bytes docs) (range_with_len 0 (suc m))) m (length-entries docs 0 (suc m))
 
--- what is written of blocks and fewer documents behind them
+-- what is written of blocks and fewer documents after them
 pub written_is : (docs rest skip postings : List ℕ) (last : ℕ) → ArePacked docs last skip postings → length rest < 128
     → written_documents (docs ++ rest) ≡ sized skip ++ postings ++ sorted_vints last rest
 written_is docs rest skip postings last p few =
@@ -160,102 +156,43 @@ written_is docs rest skip postings last p few =
     let bytes = flat_map-same (block_bytes docs) (block_bytes (docs ++ rest)) 0 (length docs / 128) (λ k h. block_bytes-append docs rest k (omega arith)) in
     let list = skip_bytes-sized (docs ++ rest) (length docs / 128) ∙ ap sized (entries ∙ sym p.skip_is) in
     let end = last_before-append docs rest (length docs / 128) (omega arith) ∙ sym p.last_is in
-    let behind = drop_at docs rest (128 * (length docs / 128)) all in
+    let after = drop_at docs rest (128 * (length docs / 128)) all in
     ap (λ (m : ℕ). skip_bytes (docs ++ rest) m ++ flat_map (block_bytes (docs ++ rest)) (range_with_len 0 m) ++ sorted_vints (last_before (docs ++ rest) m) (drop (128 * m) (docs ++ rest))) blocks
-    ∙ (λ j. list j ++ (bytes ∙ sym p.postings_is) j ++ sorted_vints (end j) (behind j))
+    ∙ (λ j. list j ++ (bytes ∙ sym p.postings_is) j ++ sorted_vints (end j) (after j))
 
-last_told : {T E : Type 0} (r : Result T E) (a b c : CountingWriterState) (xs ys all : List ℕ) → Wrote a b xs → OnOk r (Wrote b c ys) → all ≡ xs ++ ys → OnOk r (Wrote a c all)
-last_told (Ok v) a b c xs ys all front more e = rw e (Wrote-trans a b c xs ys front more)
-last_told (Err x) a b c xs ys all front more e = tt
+-- the parts that are written, by the values that calls lent
+pub written_lent : (docs rest skip postings ids entries middle tail : List ℕ) (last : ℕ) → ArePacked docs last skip postings → length rest < 128 → entries ≡ skip → middle ≡ postings → ids ≡ rest → tail ≡ sorted_vints last ids
+    → written_documents (docs ++ rest) ≡ sized entries ++ middle ++ tail
+written_lent docs rest skip postings ids entries middle tail last p few entries_are middle_is ids_are tail_is =
+    written_is docs rest skip postings last p few ∙ sym (λ j. sized (entries_are j) ++ middle_is j ++ (tail_is ∙ ap (sorted_vints last) ids_are) j)
 
--- the three parts that are written one behind the other
-pub written_told : {T E : Type 0} (r : Result T E) (docs rest skip postings ids entries middle tail : List ℕ) (last : ℕ) (a b c d : CountingWriterState)
-    → ArePacked docs last skip postings → length rest < 128 → entries ≡ skip → middle ≡ postings → ids ≡ rest → tail ≡ sorted_vints last ids
-    → Wrote a b (sized entries) → Wrote b c middle → OnOk r (Wrote c d tail) → OnOk r (Wrote a d (written_documents (docs ++ rest)))
-written_told r docs rest skip postings ids entries middle tail last a b c d p few entries_are middle_is ids_are tail_is first second third =
-    last_told r a c d (sized entries ++ middle) tail (written_documents (docs ++ rest)) (Wrote-trans a b c (sized entries) middle first second) third
-    (written_is docs rest skip postings last p few
-    ∙ sym (λ j. sized (entries_are j) ++ middle_is j ++ (tail_is ∙ ap (sorted_vints last) ids_are) j))
+-- three parts that are written one after the other
+pub first_refused : (a b : CountingWriterState) (xs ys zs : List ℕ) (result : Result (Unit {0}) Fault) → true ≡ is_err result → Writes a b xs result → Writes a b (xs ++ ys ++ zs) result
+first_refused a b xs ys zs result refused first = writes_refused_by a b (xs ++ ys) zs result refused (writes_refused_by a b xs ys result refused first)
 
--- how many bytes are written of blocks and fewer documents behind them
-length-written : (docs rest skip postings : List ℕ) (last : ℕ) → ArePacked docs last skip postings → length rest < 128
-    → length (written_documents (docs ++ rest)) ≡ length (sized skip) + length postings + length (sorted_vints last rest)
-length-written docs rest skip postings last p few =
-    ap length (written_is docs rest skip postings last p few) ∙ omega (arith, length-append (sized skip ++ postings) (sorted_vints last rest), length-append (sized skip) postings)
+pub second_refused : (a b c : CountingWriterState) (xs ys zs : List ℕ) (one result : Result (Unit {0}) Fault) → false ≡ is_err one → Writes a b xs one → true ≡ is_err result → Writes b c ys result → Writes a c (xs ++ ys ++ zs) result
+second_refused a b c xs ys zs one result went first refused second =
+    writes_refused_by a c (xs ++ ys) zs result refused (writes_then a b c xs ys result (writes_went a b xs one went first) second)
 
--- a part that passes a count makes the whole pass it
-pub full_list : (docs rest skip postings entries : List ℕ) (last : ℕ) (a : CountingWriterState) → ArePacked docs last skip postings → length rest < 128 → entries ≡ skip
-    → IsFull a (length (sized entries)) → IsFull a (length (written_documents (docs ++ rest)))
-full_list docs rest skip postings entries last a p few entries_are full =
-    let size = length-written docs rest skip postings last p few in
-    let part : length (sized entries) ≡ length (sized skip) = ap (λ (xs : List ℕ). length (sized xs)) entries_are in
-    full_more a (length (sized entries)) (length (written_documents (docs ++ rest))) (omega arith) full
+two_went : (a b c : CountingWriterState) (xs ys : List ℕ) (one two : Result (Unit {0}) Fault) → false ≡ is_err one → Writes a b xs one → false ≡ is_err two → Writes b c ys two → Wrote a c (xs ++ ys)
+two_went a b c xs ys one two went first went_too second = Wrote-trans a b c xs ys (writes_went a b xs one went first) (writes_went b c ys two went_too second)
 
-pub full_blocks : (docs rest skip postings entries middle : List ℕ) (last : ℕ) (a b : CountingWriterState) → ArePacked docs last skip postings → length rest < 128 → entries ≡ skip → middle ≡ postings
-    → Wrote a b (sized entries) → IsFull b (length middle) → IsFull a (length (written_documents (docs ++ rest)))
-full_blocks docs rest skip postings entries middle last a b p few entries_are middle_is first full =
-    let size = length-written docs rest skip postings last p few in
-    let list : length (sized entries) ≡ length (sized skip) = ap (λ (xs : List ℕ). length (sized xs)) entries_are in
-    let blocks : length middle ≡ length postings = ap length middle_is in
-    full_before a b (sized entries) (length middle) (length (written_documents (docs ++ rest))) first (omega arith) full
+pub third_written : (a b c d : CountingWriterState) (xs ys zs : List ℕ) (one two result : Result (Unit {0}) Fault) → false ≡ is_err one → Writes a b xs one → false ≡ is_err two → Writes b c ys two → Writes c d zs result
+    → Writes a d (xs ++ ys ++ zs) result
+third_written a b c d xs ys zs one two result went first went_too second third =
+    writes_then a c d (xs ++ ys) zs result (two_went a b c xs ys one two went first went_too second) third
 
--- what comes before the documents behind the blocks
-front_size : (docs rest skip postings ids entries middle tail : List ℕ) (last : ℕ) → ArePacked docs last skip postings → length rest < 128 → entries ≡ skip → middle ≡ postings
-    → ids ≡ rest → tail ≡ sorted_vints last ids → length (written_documents (docs ++ rest)) ≡ length (sized entries ++ middle) + length tail
-front_size docs rest skip postings ids entries middle tail last p few entries_are middle_is ids_are tail_is =
-    let size = length-written docs rest skip postings last p few in
-    let list : length (sized entries) ≡ length (sized skip) = ap (λ (xs : List ℕ). length (sized xs)) entries_are in
-    let blocks : length middle ≡ length postings = ap length middle_is in
-    let behind : length tail ≡ length (sorted_vints last rest) = ap length (tail_is ∙ ap (sorted_vints last) ids_are) in
-    omega (arith, length-append (sized entries) middle)
-
-pub full_rest : (docs rest skip postings ids entries middle tail : List ℕ) (last : ℕ) (a b c : CountingWriterState) → ArePacked docs last skip postings → length rest < 128 → entries ≡ skip → middle ≡ postings
-    → ids ≡ rest → tail ≡ sorted_vints last ids → Wrote a b (sized entries) → Wrote b c middle → IsFull c (length tail) → IsFull a (length (written_documents (docs ++ rest)))
-full_rest docs rest skip postings ids entries middle tail last a b c p few entries_are middle_is ids_are tail_is first second full =
-    let size = front_size docs rest skip postings ids entries middle tail last p few entries_are middle_is ids_are tail_is in
-    full_before a c (sized entries ++ middle) (length tail) (length (written_documents (docs ++ rest))) (Wrote-trans a b c (sized entries) middle first second) (omega arith) full
-
--- what was written fitted
-pub all_fits : {T : Type 0} (r : Result T Fault) (docs rest skip postings ids entries middle tail : List ℕ) (last : ℕ) (a b c : CountingWriterState) → ArePacked docs last skip postings → length rest < 128
-    → entries ≡ skip → middle ≡ postings → ids ≡ rest → tail ≡ sorted_vints last ids → Wrote a b (sized entries) → Wrote b c middle → (IsErrOf r (Limit Offset) ↔ IsFull c (length tail))
-    → OnOk r (¬ IsFull a (length (written_documents (docs ++ rest))))
-all_fits (Err e) docs rest skip postings ids entries middle tail last a b c p few entries_are middle_is ids_are tail_is first second limit = tt
-all_fits (Ok v) docs rest skip postings ids entries middle tail last a b c p few entries_are middle_is ids_are tail_is first second limit = λ full.
-    let size = front_size docs rest skip postings ids entries middle tail last p few entries_are middle_is ids_are tail_is in
-    let writer = Wrote-trans a b c (sized entries) middle first second in
-    let given = limit.1 (full_after a c (sized entries ++ middle) (length tail) (length (written_documents (docs ++ rest))) writer (omega arith) full) in
+fits_cases : (a c : CountingWriterState) (xs ys : List ℕ) (result : Result (Unit {0}) Fault) → Wrote a c xs → (IsErrOf result (Limit Offset) ↔ IsFull c (length ys)) → OnOk result (¬ IsFull a (length (xs ++ ys)))
+fits_cases a c xs ys (Err e) front limit = tt
+fits_cases a c xs ys (Ok v) front limit = λ full.
+    let given = limit.1 (full_after a c xs (length ys) (length (xs ++ ys)) front (omega (arith, length-append xs ys)) full) in
     absurd (cc)
 
--- a beginning of a skip list behind its number
-pub list_begun : {T E : Type 0} (r : Result T E) (skip front : List ℕ) (a b c : CountingWriterState) → 0 < length skip → front ≡ vint_u64 (length skip) → Wrote a b front
-    → OnErr r (WrotePrefix b c skip) → OnErr r (WrotePrefix a c (sized skip))
-list_begun (Ok v) skip front a b c some front_is first more = tt
-list_begun (Err e) [] front a b c some front_is first more = absurd (omega arith)
-list_begun (Err e) (x ∷ xs) front a b c some front_is first more = rw (← front_is) (prefix_after a b c front (x ∷ xs) first more)
+pub all_fits : (a b c : CountingWriterState) (xs ys zs : List ℕ) (one two result : Result (Unit {0}) Fault) → false ≡ is_err one → Writes a b xs one → false ≡ is_err two → Writes b c ys two
+    → (IsErrOf result (Limit Offset) ↔ IsFull c (length zs)) → OnOk result (¬ IsFull a (length (xs ++ ys ++ zs)))
+all_fits a b c xs ys zs one two result went first went_too second limit = fits_cases a c (xs ++ ys) zs result (two_went a b c xs ys one two went first went_too second) limit
 
--- a beginning of one of the three parts, behind those before it
-pub list_begins : (docs rest skip postings entries : List ℕ) (last : ℕ) (a b : CountingWriterState) → ArePacked docs last skip postings → length rest < 128 → entries ≡ skip
-    → WrotePrefix a b (sized entries) → WrotePrefix a b (written_documents (docs ++ rest))
-list_begins docs rest skip postings entries last a b p few entries_are initial =
-    let list = rw entries_are at initial in
-    rw (written_is docs rest skip postings last p few)
-    (prefix_of_more a b (sized skip ++ postings) (sorted_vints last rest) (prefix_of_more a b (sized skip) postings list))
-
-pub blocks_begin : (docs rest skip postings entries middle : List ℕ) (last : ℕ) (a b c : CountingWriterState) → ArePacked docs last skip postings → length rest < 128 → entries ≡ skip → middle ≡ postings
-    → Wrote a b (sized entries) → WrotePrefix b c middle → WrotePrefix a c (written_documents (docs ++ rest))
-blocks_begin docs rest skip postings entries middle last a b c p few entries_are middle_is first initial =
-    let list = rw entries_are at first in
-    let blocks = rw middle_is at initial in
-    rw (written_is docs rest skip postings last p few)
-    (prefix_of_more a c (sized skip ++ postings) (sorted_vints last rest) (prefix_after a b c (sized skip) postings list blocks))
-
-pub rest_begins : {T E : Type 0} (r : Result T E) (docs rest skip postings ids entries middle tail : List ℕ) (last : ℕ) (a b c d : CountingWriterState) → ArePacked docs last skip postings → length rest < 128
-    → entries ≡ skip → middle ≡ postings → ids ≡ rest → tail ≡ sorted_vints last ids → Wrote a b (sized entries) → Wrote b c middle → OnErr r (WrotePrefix c d tail)
-    → OnErr r (WrotePrefix a d (written_documents (docs ++ rest)))
-rest_begins (Ok v) docs rest skip postings ids entries middle tail last a b c d p few entries_are middle_is ids_are tail_is first second prefix = tt
-rest_begins (Err e) docs rest skip postings ids entries middle tail last a b c d p few entries_are middle_is ids_are tail_is first second initial =
-    let list = rw entries_are at first in
-    let blocks = rw middle_is at second in
-    let behind = rw (tail_is ∙ ap (sorted_vints last) ids_are) at initial in
-    rw (written_is docs rest skip postings last p few)
-    (prefix_after a c d (sized skip ++ postings) (sorted_vints last rest) (Wrote-trans a b c (sized skip) postings list blocks) behind)
+-- a skip list after its number
+pub sized_is : (skip front : List ℕ) → 0 < length skip → front ≡ vint_u64 (length skip) → sized skip ≡ front ++ skip
+sized_is [] front some e = absurd (omega arith)
+sized_is (x ∷ xs) front some e = ap (λ (f : List ℕ). f ++ x ∷ xs) (sym e)

@@ -21,17 +21,17 @@ pub row_full : written_documents (range_with_len 0 128) ≡ 0x85 ∷ 0x7F ∷ 0 
 unfolding vint_u32 vint_u64 le_bytes packed num_bits entries_in bits_in
 row_full = refl
 
--- two documents behind a full block
-pub row_behind : written_documents (range_with_len 0 128 ++ 129 ∷ 130 ∷ []) ≡ 0x85 ∷ 0x7F ∷ 0 ∷ 0 ∷ 0 ∷ 0x40 ∷ 0x82 ∷ 0x81 ∷ []
+-- two documents after a full block
+pub row_after : written_documents (range_with_len 0 128 ++ 129 ∷ 130 ∷ []) ≡ 0x85 ∷ 0x7F ∷ 0 ∷ 0 ∷ 0 ∷ 0x40 ∷ 0x82 ∷ 0x81 ∷ []
 unfolding vint_u32 vint_u64 le_bytes packed num_bits entries_in bits_in
-row_behind = refl
+row_after = refl
 
 -- every second document, by entries of one bit
 pub row_even : written_documents (map (λ k. 2 * k) (range_with_len 0 128)) ≡ 0x85 ∷ 0xFE ∷ 0 ∷ 0 ∷ 0 ∷ 0x41 ∷ 0xFE ∷ replicate 15 0xFF
 unfolding vint_u32 vint_u64 le_bytes packed num_bits entries_in bits_in
 row_even = refl
 
--- from 1 on, behind the offset 0
+-- from 1 on, after the offset 0
 pub row_from_one : written_documents (range_with_len 1 128) ≡ 0x85 ∷ 0x80 ∷ 0 ∷ 0 ∷ 0 ∷ 0x41 ∷ 1 ∷ replicate 15 0
 unfolding vint_u32 vint_u64 le_bytes packed num_bits entries_in bits_in
 row_from_one = refl

@@ -12,25 +12,25 @@ abbrev pub entry_of : List SkipEntry → ℕ → SkipEntry
 entry_of entries i = slice_index_or entries i no_entry
 
 -- the last document before block i, which is 0 where there is none
-abbrev pub doc_before : List SkipEntry → ℕ → ℕ
-doc_before entries zero = 0
-doc_before entries (suc i) = (entry_of entries i).last_doc
+abbrev pub last_doc_before : List SkipEntry → ℕ → ℕ
+last_doc_before entries zero = 0
+last_doc_before entries (suc i) = (entry_of entries i).last_doc
 
 -- the documents of block i, the last of which its entry names
 abbrev pub block_docs : SkipList → ℕ → Option (List ℕ)
 block_docs skip i = do
   let e = entry_of skip.entries i
-  found ← sorted_block_at e.strict (doc_before skip.entries i) e.doc_width (drop (block_place skip.entries i) skip.body)
+  found ← sorted_block_at e.strict_delta (last_doc_before skip.entries i) e.doc_num_bits (drop (block_place skip.entries i) skip.body)
   _ ← needs (slice_index found.0 127 == e.last_doc)
   Some found.0
 
--- the n documents behind the full blocks, and the bytes behind those
+-- the n documents after the full blocks, and the bytes after those
 abbrev pub rest_docs : SkipList → ℕ → Option (List ℕ × List ℕ)
 rest_docs skip n =
     let blocks = length skip.entries in
-    sorted_vints_at (doc_before skip.entries blocks) n (drop (block_place skip.entries blocks) skip.body)
+    sorted_vints_at (last_doc_before skip.entries blocks) n (drop (block_place skip.entries blocks) skip.body)
 
--- all documents, and the bytes behind the last ones
+-- all documents, and the bytes after the last ones
 abbrev pub documents_at : SkipList → ℕ → Option (List ℕ × List ℕ)
 documents_at skip n = do
   blocks ← each (block_docs skip) (length skip.entries)

@@ -3,5 +3,6 @@ pub mod SkipList
 pub mod Documents
 pub mod Postings
 pub mod Written
-pub mod Serializing
-pub mod SkipReading
+pub mod PostingsSerializer
+pub mod SkipReader
+pub mod SkipSerializer

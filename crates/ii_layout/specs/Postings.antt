@@ -8,18 +8,18 @@ use Rattle.ii_docset.specs.Entries.{Entry, document}
 use Rattle.ii_layout.specs.SkipList.{SkipList, skip_list}
 use Rattle.ii_layout.specs.Documents.{documents_at}
 
--- The skip list of a term, its documents, and the bytes behind them.
+-- The skip list of a term, its documents, and the bytes after them.
 pub record Postings : Type 0 where
   pub skip : SkipList
   pub docs : List ℕ
-  pub behind : List ℕ
+  pub after : List ℕ
 
 -- what the bytes of a term in so many documents give, by the option that its field records
 abbrev pub postings : IndexRecordOption → ℕ → List ℕ → Result Postings Part
 postings recorded doc_freq bytes = do
   skip ← ok_or (skip_list recorded (doc_freq / 128) bytes) Skip
   found ← ok_or (documents_at skip (doc_freq % 128)) Documents
-  Ok (record { skip = skip; docs = found.0; behind = found.1 })
+  Ok (record { skip = skip; docs = found.0; after = found.1 })
 
 -- the list of a term whose field records documents alone
 abbrev pub document_list : IndexRecordOption → ℕ → List ℕ → Result (List Entry) Part

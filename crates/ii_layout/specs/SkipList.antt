@@ -1,5 +1,5 @@
 -- What stands of each full block beside it, so that a reader may pass over the block.
-use Rattle.std.specs.Prelude.{ℕ, zero, suc, ◌+◌, ◌*◌, ◌/◌, ◌%◌, Bool, List, [], length, take, drop, map, slice_index, nat_lt, nat_le, ◌==◌, if◌then◌else◌, Option, Some}
+use Rattle.std.specs.Prelude.{◌≡◌, ◌≤◌, ℕ, zero, suc, ◌+◌, ◌*◌, ◌/◌, ◌%◌, Bool, List, [], length, take, drop, map, slice_index, nat_lt, nat_le, ◌==◌, if◌then◌else◌, Option, Some}
 use Rattle.std.specs.List.{sum_by, list_all, range_with_len}
 use Rattle.ii_base.specs.declared.schema.index_record_option.IndexRecordOption.{IndexRecordOption}
 use Rattle.ii_base.specs.declared.schema.index_record_option.IndexRecordOption.TheVariants.{Basic, WithFreqs, WithFreqsAndPositions}
@@ -7,15 +7,15 @@ use Rattle.ii_io.specs.Steps.{◌>>=◌, needs}
 use Rattle.ii_io.specs.Numbers.{little_endian}
 use Rattle.ii_io.specs.Vints.{u64_at}
 
--- An entry; a number that it lacks is 0.
+-- An entry; a number that is missing is 0.
 pub record SkipEntry : Type 0 where
   pub last_doc : ℕ
-  pub strict : Bool
-  pub doc_width : ℕ
-  pub freq_width : ℕ
-  pub count_sum : ℕ
-  pub norm_bound : ℕ
-  pub count_bound : ℕ
+  pub strict_delta : Bool
+  pub doc_num_bits : ℕ
+  pub tf_num_bits : ℕ
+  pub tf_sum : ℕ
+  pub block_wand_fieldnorm_id : ℕ
+  pub block_wand_term_freq : ℕ
 
 -- how many bytes an entry takes
 abbrev pub entry_size : IndexRecordOption → ℕ
@@ -39,67 +39,77 @@ unfoldable pub entry_at : IndexRecordOption → List ℕ → SkipEntry
 entry_at Basic bytes =
     record {
       last_doc = number_from 0 4 bytes;
-      strict = strict_of_code (slice_index bytes 4);
-      doc_width = width_of_code (slice_index bytes 4);
-      freq_width = 0;
-      count_sum = 0;
-      norm_bound = 0;
-      count_bound = 0;
+      strict_delta = strict_of_code (slice_index bytes 4);
+      doc_num_bits = width_of_code (slice_index bytes 4);
+      tf_num_bits = 0;
+      tf_sum = 0;
+      block_wand_fieldnorm_id = 0;
+      block_wand_term_freq = 0;
     }
 entry_at WithFreqs bytes =
     record {
       last_doc = number_from 0 4 bytes;
-      strict = strict_of_code (slice_index bytes 4);
-      doc_width = width_of_code (slice_index bytes 4);
-      freq_width = slice_index bytes 5;
-      count_sum = 0;
-      norm_bound = slice_index bytes 6;
-      count_bound = slice_index bytes 7;
+      strict_delta = strict_of_code (slice_index bytes 4);
+      doc_num_bits = width_of_code (slice_index bytes 4);
+      tf_num_bits = slice_index bytes 5;
+      tf_sum = 0;
+      block_wand_fieldnorm_id = slice_index bytes 6;
+      block_wand_term_freq = slice_index bytes 7;
     }
 entry_at WithFreqsAndPositions bytes =
     record {
       last_doc = number_from 0 4 bytes;
-      strict = strict_of_code (slice_index bytes 4);
-      doc_width = width_of_code (slice_index bytes 4);
-      freq_width = slice_index bytes 5;
-      count_sum = number_from 6 4 bytes;
-      norm_bound = slice_index bytes 10;
-      count_bound = slice_index bytes 11;
+      strict_delta = strict_of_code (slice_index bytes 4);
+      doc_num_bits = width_of_code (slice_index bytes 4);
+      tf_num_bits = slice_index bytes 5;
+      tf_sum = number_from 6 4 bytes;
+      block_wand_fieldnorm_id = slice_index bytes 10;
+      block_wand_term_freq = slice_index bytes 11;
     }
 
--- the entries of so many blocks, one behind the other
+-- the entries of so many blocks, one after the other
 abbrev pub entries_at : IndexRecordOption → ℕ → List ℕ → List SkipEntry
-entries_at shape blocks bytes = map (λ i. entry_at shape (drop (entry_size shape * i) bytes)) (range_with_len 0 blocks)
+entries_at skip_info blocks bytes = map (λ i. entry_at skip_info (drop (entry_size skip_info * i) bytes)) (range_with_len 0 blocks)
 
--- A term's skip list: as which option its entries stand, the entries, and the bytes behind them.
+-- A term's skip list: as which option its entries stand, the entries, and the bytes after them.
 pub record SkipList : Type 0 where
-  pub shape : IndexRecordOption
+  pub skip_info : IndexRecordOption
   pub entries : List SkipEntry
   pub body : List ℕ
 
 -- a list too short for entries with frequencies has none
-abbrev pub shape_of : IndexRecordOption → ℕ → ℕ → IndexRecordOption
-shape_of recorded blocks len = if nat_lt len (8 * blocks) then Basic else recorded
+abbrev pub skip_info_of : IndexRecordOption → ℕ → ℕ → IndexRecordOption
+skip_info_of recorded blocks len = if nat_lt len (8 * blocks) then Basic else recorded
 
 -- the skip list of a term with so many full blocks; a term with none has no skip list
 abbrev pub skip_list : IndexRecordOption → ℕ → List ℕ → Option SkipList
-skip_list recorded zero bytes = Some (record { shape = recorded; entries = []; body = bytes })
+skip_list recorded zero bytes = Some (record { skip_info = recorded; entries = []; body = bytes })
 skip_list recorded (suc more) bytes = do
   len ← u64_at bytes
-  let shape = shape_of recorded (suc more) len.0
+  let skip_info = skip_info_of recorded (suc more) len.0
   _ ← needs (nat_le len.0 (length len.1))
-  _ ← needs (nat_le (entry_size shape * suc more) len.0)
-  _ ← needs (list_all (λ (e : SkipEntry). nat_le e.freq_width 32) (entries_at shape (suc more) len.1))
-  Some (record { shape = shape; entries = entries_at shape (suc more) len.1; body = drop len.0 len.1 })
+  _ ← needs (nat_le (entry_size skip_info * suc more) len.0)
+  _ ← needs (list_all (λ (e : SkipEntry). nat_le e.tf_num_bits 32) (entries_at skip_info (suc more) len.1))
+  Some (record { skip_info = skip_info; entries = entries_at skip_info (suc more) len.1; body = drop len.0 len.1 })
 
 -- where no entry stands
 abbrev pub no_entry : SkipEntry
-no_entry = record { last_doc = 0; strict = strict_of_code 0; doc_width = 0; freq_width = 0; count_sum = 0; norm_bound = 0; count_bound = 0 }
+no_entry = record { last_doc = 0; strict_delta = strict_of_code 0; doc_num_bits = 0; tf_num_bits = 0; tf_sum = 0; block_wand_fieldnorm_id = 0; block_wand_term_freq = 0 }
 
 -- how many bytes a block takes
 abbrev pub block_size : SkipEntry → ℕ
-block_size e = 16 * (e.doc_width + e.freq_width)
+block_size e = 16 * (e.doc_num_bits + e.tf_num_bits)
 
 -- the place of block i in the body: all blocks before it
 abbrev pub block_place : List SkipEntry → ℕ → ℕ
 block_place entries i = sum_by block_size (take i entries)
+
+-- the skip list whose entries and body begin at these places
+abbrev pub skip_list_at : IndexRecordOption → ℕ → List ℕ → ℕ → ℕ → SkipList
+skip_list_at skip_info blocks bytes entries body = record { skip_info = skip_info; entries = entries_at skip_info blocks (drop entries bytes); body = drop body bytes }
+
+-- A term's skip list lies at these places in its bytes.
+pub record IsSplit (recorded : IndexRecordOption) (blocks : ℕ) (bytes : List ℕ) (skip_info : IndexRecordOption) (entries body : ℕ) : Type 0 where
+  pub skip : skip_list recorded blocks bytes ≡ Some (skip_list_at skip_info blocks bytes entries body)
+  pub room : entries + entry_size skip_info * blocks ≤ length bytes
+  pub within : body ≤ length bytes

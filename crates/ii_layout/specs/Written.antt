@@ -21,11 +21,13 @@ last_before docs (suc i) = slice_index docs (128 * i + 127)
 abbrev pub code_of_width : ℕ → ℕ
 code_of_width width = 64 + width
 
+-- the skip entry of a block after a last document
+abbrev pub entry_of_block : ℕ → List ℕ → List ℕ
+entry_of_block last block = le_bytes 4 (slice_index block 127) ++ code_of_width (sorted_width last block) ∷ []
+
 -- the skip entry of block i
 abbrev pub entry_bytes : List ℕ → ℕ → List ℕ
-entry_bytes docs i =
-    let block = docs_of_block docs i in
-    le_bytes 4 (slice_index block 127) ++ code_of_width (sorted_width (last_before docs i) block) ∷ []
+entry_bytes docs i = entry_of_block (last_before docs i) (docs_of_block docs i)
 
 abbrev pub block_bytes : List ℕ → ℕ → List ℕ
 block_bytes docs i = sorted_bytes (last_before docs i) (docs_of_block docs i)
@@ -35,7 +37,7 @@ abbrev pub skip_bytes : List ℕ → ℕ → List ℕ
 skip_bytes docs zero = []
 skip_bytes docs (suc more) = vint_u64 (5 * suc more) ++ flat_map (entry_bytes docs) (range_with_len 0 (suc more))
 
--- the one written form of documents: the skip list, the full blocks in their least widths, and the documents behind them in the shortest vints
+-- the one written form of documents: the skip list, the full blocks in their least widths, and the documents after them in the shortest vints
 abbrev pub written_documents : List ℕ → List ℕ
 written_documents docs =
     let blocks = length docs / 128 in

@@ -22,7 +22,7 @@ impl DocList {
         DocList {}
     }
 
-    /// The list with the documents of a block behind it.
+    /// The list with the documents of a block after it.
     pub(crate) fn and(&self, _block: &Block) -> DocList
         ensures { result.items ≡ self.now.items ++ _block.now }
     {

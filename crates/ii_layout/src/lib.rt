@@ -5,9 +5,11 @@ mod block;
 mod doc_list;
 pub mod serializer;
 pub mod skip;
+pub mod split;
 #[cfg(test)]
 mod tests;
 pub mod written;
 
 pub use serializer::PostingsSerializer;
 pub use skip::{BlockInfo, SkipReader, SkipSerializer};
+pub use split::{SkipPlaces, bytes_from, split_into_skips_and_postings};

@@ -1,25 +1,22 @@
-ghost use Rattle.std.specs.Prelude.{◌≡◌, ◌<◌, ◌↔◌, ◌⊎◌, [], ◌∷◌, ◌++◌, length, slice_index, false, IsTrue, OnOk, OnErr, IfErr, IsErrOf};
+ghost use Rattle.std.specs.Prelude.{◌≡◌, ◌<◌, ◌↔◌, ◌⊎◌, [], ◌∷◌, ◌++◌, length, false, true, IsTrue, OnOk, OnErr, IfErr, IsErrOf};
 ghost use Rattle.ii_base.specs.declared.schema.index_record_option.IndexRecordOption.TheVariants.{Basic};
-ghost use Rattle.ii_io.specs.CountingWriter.{Wrote, WrotePrefix, IsFull};
-ghost use Rattle.ii_io.specs.Numbers.{le_bytes};
-ghost use Rattle.ii_codes.specs.Blocks.{sorted_width, sorted_bytes};
+ghost use Rattle.ii_io.specs.CountingWriter.{Writes, WritesUnlessClosed, IsFull};
+ghost use Rattle.ii_codes.specs.Blocks.{sorted_bytes};
 ghost use Rattle.ii_docset.specs.Entries.{are_documents};
-ghost use Rattle.ii_layout.specs.Serializing.{IsFullBlock, sized};
-ghost use Rattle.ii_layout.specs.Written.{code_of_width, written_documents};
+ghost use Rattle.ii_layout.specs.PostingsSerializer.{IsFullBlock, sized};
+ghost use Rattle.ii_layout.specs.Written.{entry_of_block, written_documents};
 
 use super::block::Block;
 use super::doc_list::DocList;
 use super::skip::SkipSerializer;
-use ii_base::{CountingWriter, Fault, IndexRecordOption, LimitName};
+use ii_base::{CountingWriter, Fault, IndexRecordOption};
 use ii_codes::{BlockEncoder, VIntEncoder};
 use ii_docset::DocId;
 use ii_fieldnorm::FieldNormReader;
-use ii_io::vint;
-use std::alloc::{AllocError, Global};
+use ii_io::vint::{self, MAX_LONG_VINT_SIZE};
+use std::alloc::Global;
 use std::io::Write;
 use std::marker::Model;
-
-const MAX_SIZE_OF_LEN: usize = 10;
 
 /// The full blocks of the open term, packed, and their skip list.
 #[derive(Drop)]
@@ -32,19 +29,18 @@ struct PackedBlocks {
 }
 
 impl Model for PackedBlocks {
-    ghost use Rattle.std.specs.Prelude.{List, ℕ};
-    ghost use Rattle.ii_layout.specs.Serializing.{ArePacked};
+    ghost use Rattle.ii_layout.specs.PostingsSerializer.{ArePacked, PostingsSerializerState};
 
-    ghost Value = { List ℕ };
+    ghost Value = { PostingsSerializerState };
 
-    ghost view = { λ b. b.docs.items };
+    ghost view = { λ b. record { docs = b.docs.items; closed = b.skip_write.closed } };
 
-    ghost invariant = { λ b. ArePacked b.docs.items b.last_doc_id_encoded b.skip_write b.postings_write.items };
+    ghost invariant = { λ b. ArePacked b.docs.items b.last_doc_id_encoded b.skip_write.bytes b.postings_write.items };
 }
 
 impl PackedBlocks {
     fn new(alloc: Global) -> PackedBlocks
-        ensures { result ≡ [] }
+        ensures { result ≡ record { docs = []; closed = false } }
     {
         PackedBlocks {
             block_encoder: BlockEncoder::new(),
@@ -56,7 +52,7 @@ impl PackedBlocks {
     }
 
     fn clear(&mut self)
-        ensures { self.new ≡ [] }
+        ensures { self.new ≡ record self.old { docs = [] } }
     {
         self.skip_write.clear();
         self.postings_write.clear();
@@ -64,12 +60,14 @@ impl PackedBlocks {
         self.docs = DocList::new();
     }
 
-    // Packs a full block behind the others. Where memory is refused no block is left.
-    fn push(&mut self, block: &Block) -> Result<(), AllocError>
+    // Packs a full block after the others. Where memory is refused no block is left.
+    fn push(&mut self, block: &Block) -> Result<(), Fault>
         requires full { length block.now ≡ 128 }
-        requires ascending { IsTrue (are_documents (self.old ++ block.now)) }
-        ensures ok { OnOk result (self.new ≡ self.old ++ block.now) }
-        ensures err { OnErr result (self.new ≡ []) }
+        requires ascending { IsTrue (are_documents (self.old.docs ++ block.now)) }
+        requires open { self.old.closed ≡ false }
+        ensures ok { OnOk result (self.new ≡ record { docs = self.old.docs ++ block.now; closed = false }) }
+        ensures err { OnErr result (self.new.docs ≡ []) }
+        ensures only { IfErr result (λ e. e ≡ Fault.OutOfMemory) }
     {
         let packed = write_block(
             block,
@@ -84,35 +82,36 @@ impl PackedBlocks {
                 self.docs = self.docs.and(block);
                 Ok(())
             }
-            Err(e) => {
+            Err(fault) => {
                 self.skip_write.clear();
                 self.postings_write.clear();
                 self.last_doc_id_encoded = 0;
                 self.docs = DocList::new();
-                Err(e)
+                Err(fault)
             }
         }
     }
 
-    // Writes the skip list and the blocks, and behind them fewer documents than a block has.
+    // Writes the skip list and the blocks, and after them fewer documents than a block has.
     fn write_with<W: Write>(
         &mut self,
         rest: &Block,
         output_write: &mut CountingWriter<W>,
     ) -> Result<(), Fault>
         requires few { length rest.now < 128 }
-        requires ascending { IsTrue (are_documents (self.old ++ rest.now)) }
+        requires ascending { IsTrue (are_documents (self.old.docs ++ rest.now)) }
         ensures same { self.new ≡ self.old }
-        ensures ok { OnOk result (Wrote output_write.old output_write.new (written_documents (self.old ++ rest.now))) }
-        ensures write { IsErrOf result Fault.Write ↔ (output_write.old.failed_calls < output_write.new.failed_calls) }
-        ensures limit { IsErrOf result (Fault.Limit LimitName.Offset)
-            → IsFull output_write.old (length (written_documents (self.old ++ rest.now))) }
-        ensures fits { OnOk result (¬ IsFull output_write.old (length (written_documents (self.old ++ rest.now)))) }
-        ensures prefix { OnErr result (WrotePrefix output_write.old output_write.new (written_documents (self.old ++ rest.now))) }
-        ensures only { IfErr result (λ e. (e ≡ Fault.Write) ⊎ (e ≡ Fault.Limit LimitName.Offset)) }
+        ensures written { Writes output_write.old output_write.new (written_documents (self.old.docs ++ rest.now)) result }
+        ensures fits { OnOk result (¬ IsFull output_write.old (length (written_documents (self.old.docs ++ rest.now)))) }
     {
-        write_skip_list(self.skip_write.data(), output_write)?;
-        output_write.write_all(&self.postings_write)?;
+        let skip_list = write_skip_list(self.skip_write.data(), output_write);
+        if skip_list.is_err() {
+            return skip_list;
+        }
+        let blocks = output_write.write_all(&self.postings_write);
+        if blocks.is_err() {
+            return blocks;
+        }
         let bytes = self
             .block_encoder
             .compress_vint_sorted(rest.doc_ids(), self.last_doc_id_encoded);
@@ -127,15 +126,17 @@ fn write_block(
     block_encoder: &mut BlockEncoder,
     skip_write: &mut SkipSerializer,
     postings_write: &mut Vec<u8>,
-) -> Result<(), AllocError>
-    requires { IsFullBlock last_doc block.now }
-    ensures skip { OnOk result (skip_write.new ≡ skip_write.old
-        ++ (le_bytes 4 (slice_index block.now 127) ++ code_of_width (sorted_width last_doc block.now) ∷ [])) }
+) -> Result<(), Fault>
+    requires block { IsFullBlock last_doc block.now }
+    requires open { skip_write.old.closed ≡ false }
+    ensures skip { OnOk result (skip_write.new ≡ record { bytes = skip_write.old.bytes ++ entry_of_block last_doc block.now; closed = false }) }
     ensures postings { OnOk result (postings_write.new.items ≡ postings_write.old.items ++ sorted_bytes last_doc block.now) }
+    ensures only { IfErr result (λ e. e ≡ Fault.OutOfMemory) }
 {
     let (num_bits, bytes) = block_encoder.compress_block_sorted(block.doc_ids(), last_doc);
     skip_write.write_doc(block.last_doc(), num_bits)?;
-    postings_write.extend_from_slice(bytes)
+    postings_write.extend_from_slice(bytes)?;
+    Ok(())
 }
 
 // Writes the number of bytes of a skip list and these bytes, or nothing where there is no entry.
@@ -143,27 +144,31 @@ fn write_skip_list<W: Write>(
     skip_data: &[u8],
     output_write: &mut CountingWriter<W>,
 ) -> Result<(), Fault>
-    ensures ok { OnOk result (Wrote output_write.old output_write.new (sized skip_data.now)) }
-    ensures write { IsErrOf result Fault.Write ↔ (output_write.old.failed_calls < output_write.new.failed_calls) }
-    ensures limit { IsErrOf result (Fault.Limit LimitName.Offset) → IsFull output_write.old (length (sized skip_data.now)) }
-    ensures prefix { OnErr result (WrotePrefix output_write.old output_write.new (sized skip_data.now)) }
-    ensures only { IfErr result (λ e. (e ≡ Fault.Write) ⊎ (e ≡ Fault.Limit LimitName.Offset)) }
+    ensures { Writes output_write.old output_write.new (sized skip_data.now) result }
 {
     if skip_data.is_empty() {
         return Ok(());
     }
-    let mut size = [0; MAX_SIZE_OF_LEN];
+    let mut size = [0; MAX_LONG_VINT_SIZE];
     let end = vint::write_u64(skip_data.len() as u64, &mut size, 0);
-    output_write.write_all(&size[..end])?;
+    let len = output_write.write_all(&size[..end]);
+    if len.is_err() {
+        return len;
+    }
     output_write.write_all(skip_data)
 }
 
-// Adds a document to the open block, and packs that once it is full.
-fn append_doc(blocks: &mut PackedBlocks, block: &mut Block, doc_id: DocId) -> Result<(), AllocError>
+// Adds a document to the open block, and packs that once it is full. Where memory is refused no
+// document is left.
+fn append_doc(blocks: &mut PackedBlocks, block: &mut Block, doc_id: DocId) -> Result<(), Fault>
     requires few { length block.old < 128 }
-    requires ascending { IsTrue (are_documents (blocks.old ++ block.old ++ doc_id ∷ [])) }
+    requires ascending { IsTrue (are_documents (blocks.old.docs ++ block.old ++ doc_id ∷ [])) }
+    requires open { blocks.old.closed ≡ false }
     ensures few { length block.new < 128 }
-    ensures ok { OnOk result (blocks.new ++ block.new ≡ blocks.old ++ block.old ++ doc_id ∷ []) }
+    ensures ok { OnOk result (blocks.new.docs ++ block.new ≡ blocks.old.docs ++ block.old ++ doc_id ∷ []) }
+    ensures stays { OnOk result (blocks.new.closed ≡ false) }
+    ensures err { OnErr result (blocks.new.docs ++ block.new ≡ []) }
+    ensures only { IfErr result (λ e. e ≡ Fault.OutOfMemory) }
 {
     block.append_doc(doc_id);
     if !block.is_full() {
@@ -179,21 +184,22 @@ fn append_doc(blocks: &mut PackedBlocks, block: &mut Block, doc_id: DocId) -> Re
 /// After a refused call it is closed: each further call answers `SerializerClosed`.
 #[derive(Drop)]
 pub struct PostingsSerializer {
+    mode: IndexRecordOption,
+    fieldnorm_reader: Option<FieldNormReader>,
     blocks: PackedBlocks,
     block: Block,
-    fieldnorm_reader: Option<FieldNormReader>,
     is_closed: bool,
 }
 
 impl Model for PostingsSerializer {
-    ghost use Rattle.std.specs.Prelude.{◌++◌, ◌<◌, length};
-    ghost use Rattle.ii_layout.specs.Serializing.{OpenTerm};
+    ghost use Rattle.std.specs.Prelude.{◌≡◌, [], ◌++◌, ◌<◌, false, length, IsTrue};
+    ghost use Rattle.ii_layout.specs.PostingsSerializer.{PostingsSerializerState};
 
-    ghost Value = { OpenTerm };
+    ghost Value = { PostingsSerializerState };
 
-    ghost view = { λ s. record { docs = s.blocks ++ s.block; closed = s.is_closed } };
+    ghost view = { λ s. record { docs = s.blocks.docs ++ s.block; closed = s.is_closed } };
 
-    ghost invariant = { λ s. length s.block < 128 };
+    ghost invariant = { λ s. (length s.block < 128) × (IsTrue s.is_closed → s.blocks.docs ++ s.block ≡ []) × (s.is_closed ≡ false → s.blocks.closed ≡ false) };
 }
 
 impl PostingsSerializer {
@@ -207,11 +213,11 @@ impl PostingsSerializer {
         requires { mode ≡ Basic }
         ensures { result ≡ record { docs = []; closed = false } }
     {
-        let _ = mode;
         PostingsSerializer {
+            mode,
+            fieldnorm_reader,
             blocks: PackedBlocks::new(alloc),
             block: Block::new(),
-            fieldnorm_reader,
             is_closed: false,
         }
     }
@@ -231,50 +237,41 @@ impl PostingsSerializer {
         self.block.clear();
     }
 
-    /// Adds a document, above the ones before it and below `TERMINATED`. `OutOfMemory` where a
-    /// growth was refused; `SerializerClosed` after an earlier refusal.
+    /// Adds a document, above the ones before it and below `TERMINATED`.
+    ///
+    /// `OutOfMemory` where a growth was refused: the documents are then dropped. `SerializerClosed`
+    /// after an earlier refusal, whatever the document is.
     pub fn write_doc(&mut self, doc_id: DocId, _term_freq: u32) -> Result<(), Fault>
-        requires { IsTrue (are_documents (self.old.docs ++ doc_id ∷ [])) }
+        requires { self.old.closed ≡ false → IsTrue (are_documents (self.old.docs ++ doc_id ∷ [])) }
         ensures ok { OnOk result (self.new ≡ record { docs = self.old.docs ++ doc_id ∷ []; closed = false }) }
+        ensures err { OnErr result (self.new ≡ record { docs = []; closed = true }) }
         ensures closed { IsErrOf result Fault.SerializerClosed ↔ IsTrue self.old.closed }
         ensures only { IfErr result (λ e. (e ≡ Fault.OutOfMemory) ⊎ (e ≡ Fault.SerializerClosed)) }
-        ensures err { OnErr result (IsTrue self.new.closed) }
     {
         if self.is_closed {
             return Err(Fault::SerializerClosed);
         }
-        match append_doc(&mut self.blocks, &mut self.block, doc_id) {
-            Ok(()) => Ok(()),
-            Err(_) => {
-                self.is_closed = true;
-                Err(Fault::OutOfMemory)
-            }
-        }
+        let appended = append_doc(&mut self.blocks, &mut self.block, doc_id);
+        self.is_closed = appended.is_err();
+        appended
     }
 
     /// Writes the postings of the term, which has `doc_freq` documents, and ends it.
     ///
     /// `Write` where the writer fails, `Limit(Offset)` where a count of the writer would pass
-    /// `u64::MAX`: a beginning of the postings is then written. `SerializerClosed` after an earlier
-    /// refusal, and nothing is written.
+    /// `u64::MAX`: a prefix of the postings is then written. `SerializerClosed` after an earlier
+    /// refusal, whatever `doc_freq` is, and nothing is written.
     pub fn close_term<W: Write>(
         &mut self,
         doc_freq: u32,
         output_write: &mut CountingWriter<W>,
     ) -> Result<(), Fault>
-        requires counted { doc_freq ≡ length self.old.docs }
+        requires counted { self.old.closed ≡ false → doc_freq ≡ length self.old.docs }
         requires ascending { IsTrue (are_documents self.old.docs) }
-        ensures ok { OnOk result (Wrote output_write.old output_write.new (written_documents self.old.docs)) }
-        ensures ended { OnOk result (self.new ≡ record { docs = []; closed = false }) }
-        ensures closed { IsErrOf result Fault.SerializerClosed ↔ IsTrue self.old.closed }
-        ensures write { IsErrOf result Fault.Write ↔ (output_write.old.failed_calls < output_write.new.failed_calls) }
-        ensures limit { IsErrOf result (Fault.Limit LimitName.Offset)
-            → IsFull output_write.old (length (written_documents self.old.docs)) }
+        ensures written { WritesUnlessClosed self.old.closed output_write.old output_write.new (written_documents self.old.docs) result }
         ensures fits { OnOk result (¬ IsFull output_write.old (length (written_documents self.old.docs))) }
-        ensures prefix { OnErr result (WrotePrefix output_write.old output_write.new (written_documents self.old.docs)) }
-        ensures untouched { IsTrue self.old.closed → output_write.new ≡ output_write.old }
-        ensures only { IfErr result (λ e. (e ≡ Fault.Write) ⊎ (e ≡ Fault.Limit LimitName.Offset) ⊎ (e ≡ Fault.SerializerClosed)) }
-        ensures err { OnErr result (IsTrue self.new.closed) }
+        ensures ok { OnOk result (self.new ≡ record { docs = []; closed = false }) }
+        ensures err { OnErr result (self.new ≡ record { docs = []; closed = true }) }
     {
         if self.is_closed {
             return Err(Fault::SerializerClosed);

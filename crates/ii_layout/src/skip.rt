@@ -1,14 +1,14 @@
-ghost use Rattle.std.specs.Prelude.{◌≡◌, ◌+◌, ◌*◌, ◌/◌, ◌<◌, ◌≤◌, min, nat_lt, [], ◌∷◌, ◌++◌, length, drop, if◌then◌else◌, OnOk, OnErr};
+ghost use Rattle.std.specs.Prelude.{◌≡◌, ◌+◌, ◌*◌, ◌/◌, ◌<◌, ◌≤◌, ◌↔◌, ◌⊎◌, min, [], ◌∷◌, ◌++◌, false, true, length, drop, if◌then◌else◌, IsTrue, OnOk, OnErr, IfErr, IsErrOf};
 ghost use Rattle.ii_io.specs.Numbers.{le_bytes};
-ghost use Rattle.ii_layout.specs.SkipList.{width_of_code, strict_of_code, entry_size, entry_at};
-ghost use Rattle.ii_layout.specs.SkipReading.{bound_of_code, info_of, packed_size_of, reading_at};
+ghost use Rattle.ii_layout.specs.SkipList.{width_of_code, strict_of_code, entry_size, entry_at, entries_at};
+ghost use Rattle.ii_layout.specs.SkipReader.{max_tf_of_code, block_info_of, packed_size_of, reader_at};
 ghost use Rattle.ii_layout.specs.Written.{code_of_width};
 
 use byteorder::{ByteOrder, LittleEndian};
 use ii_base::IndexRecordOption;
 use ii_codes::compressed_block_size;
 use ii_docset::{DocId, TERMINATED};
-use ii_io::Tally;
+use ii_io::{Fault, Tally};
 use std::alloc::{AllocError, Global};
 use std::marker::Model;
 
@@ -23,58 +23,74 @@ pub fn encode_bitwidth(bitwidth: u8, delta_1: bool) -> u8
 /// The width of a code, below 32, and whether its deltas are strict.
 pub fn decode_bitwidth(raw_bitwidth: u8) -> (u8, bool)
     ensures width { result.0 ≡ width_of_code raw_bitwidth }
-    ensures strict { result.1 ≡ strict_of_code raw_bitwidth }
+    ensures strict_delta { result.1 ≡ strict_of_code raw_bitwidth }
 {
     (raw_bitwidth % 32, raw_bitwidth / 64 % 2 == 1)
 }
 
-/// The entries of a skip list, one for each full block.
+/// Writes the entries of a skip list, one for each full block.
+///
+/// After a refused call it is closed: each further call answers `SerializerClosed`.
 #[derive(Drop)]
 pub struct SkipSerializer {
     buffer: Vec<u8>,
+    is_closed: bool,
 }
 
 impl Model for SkipSerializer {
-    ghost use Rattle.std.specs.Prelude.{List, ℕ};
+    ghost use Rattle.ii_layout.specs.SkipSerializer.{SkipSerializerState};
 
-    ghost Value = { List ℕ };
+    ghost Value = { SkipSerializerState };
 
-    ghost view = { λ s. s.buffer.items };
+    ghost view = { λ s. record { bytes = s.buffer.items; closed = s.is_closed } };
 }
 
 impl SkipSerializer {
     /// A serializer of no entry.
     pub fn new(alloc: Global) -> SkipSerializer
-        ensures { result ≡ [] }
+        ensures { result ≡ record { bytes = []; closed = false } }
     {
         SkipSerializer {
             buffer: Vec::new(alloc),
+            is_closed: false,
         }
     }
 
     /// Adds the last document of a block, in four bytes, the lowest first, and the code of the
-    /// width of its strict deltas, which is below 32. Where memory is refused nothing is added.
-    pub fn write_doc(&mut self, last_doc: DocId, doc_num_bits: u8) -> Result<(), AllocError>
+    /// width of its strict deltas, which is below 32.
+    ///
+    /// `OutOfMemory` where a growth was refused: nothing is added then. `SerializerClosed` after an
+    /// earlier refusal.
+    pub fn write_doc(&mut self, last_doc: DocId, doc_num_bits: u8) -> Result<(), Fault>
         requires { doc_num_bits < 32 }
-        ensures ok { OnOk result (self.new ≡ self.old ++ (le_bytes 4 last_doc ++ code_of_width doc_num_bits ∷ [])) }
-        ensures err { OnErr result (self.new ≡ self.old) }
+        ensures ok { OnOk result (self.new
+            ≡ record { bytes = self.old.bytes ++ (le_bytes 4 last_doc ++ code_of_width doc_num_bits ∷ []); closed = false }) }
+        ensures err { OnErr result (self.new ≡ record self.old { closed = true }) }
+        ensures closed { IsErrOf result Fault.SerializerClosed ↔ IsTrue self.old.closed }
+        ensures only { IfErr result (λ e. (e ≡ Fault.OutOfMemory) ⊎ (e ≡ Fault.SerializerClosed)) }
     {
+        if self.is_closed {
+            return Err(Fault::SerializerClosed);
+        }
         let mut entry = [0; 5];
         LittleEndian::write_u32(&mut entry, last_doc);
         entry[4] = encode_bitwidth(doc_num_bits, true);
-        self.buffer.extend_from_slice(&entry)
+        let added = self.buffer.extend_from_slice(&entry);
+        self.is_closed = added.is_err();
+        added?;
+        Ok(())
     }
 
     /// The bytes of the entries.
     pub fn data(&self) -> &[u8]
-        ensures { result.now ≡ self.now }
+        ensures { result.now ≡ self.now.bytes }
     {
         self.buffer.as_slice()
     }
 
     /// Drops all entries.
     pub fn clear(&mut self)
-        ensures { self.new ≡ [] }
+        ensures { self.new ≡ record self.old { bytes = [] } }
     {
         self.buffer.clear();
     }
@@ -82,7 +98,7 @@ impl SkipSerializer {
 
 /// The count that a byte codes: the byte, or `u32::MAX` for the largest one.
 pub fn decode_block_wand_max_tf(max_tf_code: u8) -> u32
-    ensures { result ≡ bound_of_code max_tf_code }
+    ensures { result ≡ max_tf_of_code max_tf_code }
 {
     if max_tf_code == 255 {
         u32::MAX
@@ -91,7 +107,7 @@ pub fn decode_block_wand_max_tf(max_tf_code: u8) -> u32
     }
 }
 
-/// What is writer of a block.
+/// What a skip list tells of a block.
 #[derive(Clone, Copy, Debug, PartialEq, Eq)]
 pub enum BlockInfo {
     /// A full block. A number that its entry lacks is 0.
@@ -109,7 +125,7 @@ pub enum BlockInfo {
         /// The count of the entry's bound.
         block_wand_term_freq: u32,
     },
-    /// Documents behind the full blocks.
+    /// Documents after the full blocks.
     VInt {
         /// How many these are, below 128.
         num_docs: u32,
@@ -128,7 +144,7 @@ impl Default for BlockInfo {
 }
 
 // How many bytes an entry takes.
-fn entry_size(skip_info: IndexRecordOption) -> usize
+pub(crate) fn entry_size(skip_info: IndexRecordOption) -> usize
     ensures { result ≡ entry_size skip_info }
 {
     match skip_info {
@@ -142,7 +158,7 @@ fn entry_size(skip_info: IndexRecordOption) -> usize
 fn read_entry(bytes: &[u8], skip_info: IndexRecordOption) -> (DocId, BlockInfo)
     requires { entry_size skip_info ≤ length bytes.now }
     ensures last_doc { result.0 ≡ (entry_at skip_info bytes.now).last_doc }
-    ensures info { result.1 ≡ info_of (entry_at skip_info bytes.now) }
+    ensures info { result.1 ≡ block_info_of (entry_at skip_info bytes.now) }
 {
     let last_doc = LittleEndian::read_u32(bytes);
     let (doc_num_bits, strict_delta_encoded) = decode_bitwidth(bytes[4]);
@@ -184,10 +200,10 @@ fn read_entry(bytes: &[u8], skip_info: IndexRecordOption) -> (DocId, BlockInfo)
 }
 
 // The entry of block `block`, as `read_entry` answers it.
-fn read_entry_at(data: &[u8], skip_info: IndexRecordOption, block: u32) -> (DocId, BlockInfo)
+pub(crate) fn read_entry_at(data: &[u8], skip_info: IndexRecordOption, block: u32) -> (DocId, BlockInfo)
     requires { entry_size skip_info * (block + 1) ≤ length data.now }
     ensures last_doc { result.0 ≡ (entry_at skip_info (drop (entry_size skip_info * block) data.now)).last_doc }
-    ensures info { result.1 ≡ info_of (entry_at skip_info (drop (entry_size skip_info * block) data.now)) }
+    ensures info { result.1 ≡ block_info_of (entry_at skip_info (drop (entry_size skip_info * block) data.now)) }
 {
     let start = entry_size(skip_info) * block as usize;
     read_entry(&data[start..], skip_info)
@@ -224,19 +240,19 @@ pub struct SkipReader {
 
 impl Model for SkipReader {
     ghost use Rattle.std.specs.Prelude.{◌+◌, ◌*◌, ◌/◌, ◌≤◌};
-    ghost use Rattle.ii_layout.specs.SkipReading.{SkipReading};
+    ghost use Rattle.ii_layout.specs.SkipReader.{SkipReaderState};
 
-    ghost Value = { SkipReading };
+    ghost Value = { SkipReaderState };
 
     ghost view = { λ r. record {
-      shape = r.skip_info;
+      skip_info = r.skip_info;
       doc_freq = r.doc_freq;
       block = r.block;
-      last_doc = r.last_doc_in_block;
-      doc_before = r.last_doc_in_previous_block;
-      place = r.byte_offset;
-      info = r.block_info;
-      count = r.entries_read.value;
+      last_doc_in_block = r.last_doc_in_block;
+      last_doc_in_previous_block = r.last_doc_in_previous_block;
+      byte_offset = r.byte_offset;
+      block_info = r.block_info;
+      entries_read = r.entries_read.value;
     } };
 
     ghost invariant = { λ r. (r.block ≤ r.doc_freq / 128 + 1) × (r.block ≤ r.doc_freq / 128 → r.byte_offset ≤ 8160 * r.block) };
@@ -247,7 +263,7 @@ impl SkipReader {
     /// `skip_info`. The bytes begin with an entry for each full block.
     pub fn new(data: &[u8], doc_freq: u32, skip_info: IndexRecordOption) -> SkipReader
         requires { entry_size skip_info * (doc_freq / 128) ≤ length data.now }
-        ensures { result ≡ reading_at skip_info doc_freq data.now 0 (min 1 (doc_freq / 128)) }
+        ensures { result ≡ reader_at skip_info doc_freq (entries_at skip_info (doc_freq / 128) data.now) 0 }
     {
         let mut reader = SkipReader {
             skip_info,
@@ -270,20 +286,21 @@ impl SkipReader {
 
     /// Begins anew at the first block of another term, with entries of the same shape.
     pub fn reset(&mut self, data: &[u8], doc_freq: u32)
-        requires { entry_size self.old.shape * (doc_freq / 128) ≤ length data.now }
-        ensures { self.new ≡ reading_at self.old.shape doc_freq data.now 0 (min 1 (doc_freq / 128)) }
+        requires { entry_size self.old.skip_info * (doc_freq / 128) ≤ length data.now }
+        ensures { self.new ≡ reader_at self.old.skip_info doc_freq (entries_at self.old.skip_info (doc_freq / 128) data.now) 0 }
     {
         *self = SkipReader::new(data, doc_freq, self.skip_info);
     }
 
-    /// Goes on to the next block; behind the last one it stays. Where the next block is full its
+    /// Goes on to the next block; after the last one it stays. Where the next block is full its
     /// entry is read.
     pub fn advance(&mut self, data: &[u8])
-        requires whole { entry_size self.old.shape * (self.old.doc_freq / 128) ≤ length data.now }
-        requires same { self.old ≡ reading_at self.old.shape self.old.doc_freq data.now self.old.block self.old.count }
-        ensures { self.new ≡ reading_at self.old.shape self.old.doc_freq data.now
-            (min (self.old.block + 1) (self.old.doc_freq / 128 + 1))
-            (self.old.count + (if nat_lt (self.old.block + 1) (self.old.doc_freq / 128) then 1 else 0)) }
+        requires whole { entry_size self.old.skip_info * (self.old.doc_freq / 128) ≤ length data.now }
+        requires same { self.old ≡ reader_at self.old.skip_info self.old.doc_freq
+            (entries_at self.old.skip_info (self.old.doc_freq / 128) data.now) self.old.block }
+        ensures { self.new ≡ reader_at self.old.skip_info self.old.doc_freq
+            (entries_at self.old.skip_info (self.old.doc_freq / 128) data.now)
+            (min (self.old.block + 1) (self.old.doc_freq / 128 + 1)) }
     {
         let blocks = self.doc_freq / 128;
         self.last_doc_in_previous_block = self.last_doc_in_block;
@@ -311,40 +328,30 @@ impl SkipReader {
 
     /// The last document of the block, or `TERMINATED` where it isn't full.
     pub fn last_doc_in_block(&self) -> DocId
-        ensures { result ≡ self.now.last_doc }
+        ensures { result ≡ self.now.last_doc_in_block }
     {
-        let SkipReader {
-            last_doc_in_block,
-            ..
-        } = self;
-        *last_doc_in_block
+        self.last_doc_in_block
     }
 
     /// The last document before the block, 0 at the first one.
     pub fn last_doc_in_previous_block(&self) -> DocId
-        ensures { result ≡ self.now.doc_before }
+        ensures { result ≡ self.now.last_doc_in_previous_block }
     {
-        let SkipReader {
-            last_doc_in_previous_block,
-            ..
-        } = self;
-        *last_doc_in_previous_block
+        self.last_doc_in_previous_block
     }
 
-    /// Where the block begins behind the skip list, or `usize::MAX` behind the last block.
+    /// Where the block begins after the skip list, or `usize::MAX` after the last block.
     pub fn byte_offset(&self) -> usize
-        ensures { result ≡ self.now.place }
+        ensures { result ≡ self.now.byte_offset }
     {
-        let SkipReader { byte_offset, .. } = self;
-        *byte_offset
+        self.byte_offset
     }
 
     /// What is writer of the block.
     pub fn block_info(&self) -> BlockInfo
-        ensures { result ≡ self.now.info }
+        ensures { result ≡ self.now.block_info }
     {
-        let SkipReader { block_info, .. } = self;
-        *block_info
+        self.block_info
     }
 }
 

@@ -1,6 +1,6 @@
 -- What is read of a dictionary.
 use Rattle.std.proofs.Common.{[], ◌≡◌, ℕ, zero, suc, ◌+◌, ◌-◌, ◌*◌, ◌<◌, ◌≤◌, ◌≢◌, Bool, true, false, List, length, Option, Some, None, Result, Ok, Err, eqb, nat_le, refl, sym, ap, ◌∙◌, arith}
-use Rattle.std.specs.Prelude.{IfSome, IsSomeAnd, IsOk, is_some, if◌then◌else◌, unwrap_or}
+use Rattle.std.specs.Prelude.{IsSome, IsSomeAnd, IsOk, if◌then◌else◌, unwrap_or}
 use Rattle.std.specs.List.{list_all, range_with_len, zip}
 use Rattle.std.proofs.lemmas.Bool.{le-leb, lt-leb, leb-true, ne_eqb, eq-eqb, eqb-true}
 use Rattle.std.proofs.lemmas.List.FromFn.{length-map-range_with_len}
@@ -81,21 +81,26 @@ dictionary-is bytes n ends body e r h = rw (← e, ← r, ← h) refl
 pub length-keys_of : (n : ℕ) (ends body : List ℕ) → length (keys_of n ends body) ≡ n
 length-keys_of n ends body = length-map-range_with_len (key_of ends body) 0 n
 
-pub infos-none : (keys : List (List ℕ)) (o : Option (List TermInfo)) → is_some o ≡ false → with_infos keys o ≡ Err TermStore
-infos-none keys None h = refl
-infos-none keys (Some infos) h = absurd (cc)
+pub infos-none : (keys : List (List ℕ)) (o : Option (List TermInfo)) → None ≡ o → with_infos keys o ≡ Err TermStore
+infos-none keys o e = rw (← e) refl
 
-pub infos-other : (keys : List (List ℕ)) (o : Option (List TermInfo)) (count n : ℕ) → is_some o ≡ true → IfSome o (λ infos. count ≡ length infos) → length keys ≡ n → count ≢ n → with_infos keys o ≡ Err Dictionary
-infos-other keys None count n h c k apart = absurd (cc)
-infos-other keys (Some infos) count n h c k apart =
-    let other : eqb (length infos) (length keys) ≡ false = ne_eqb (length infos) (length keys) (λ e. apart (c ∙ e ∙ k)) in
-    rw other refl
+pub infos-other : (keys : List (List ℕ)) (o : Option (List TermInfo)) (infos : List TermInfo) (n : ℕ) → Some infos ≡ o → length keys ≡ n → length infos ≢ n → with_infos keys o ≡ Err Dictionary
+infos-other keys o infos n e k apart =
+    let other : eqb (length infos) (length keys) ≡ false = ne_eqb (length infos) (length keys) (λ same. apart (same ∙ k)) in
+    rw (← e, other) refl
 
-pub infos-ok : (keys : List (List ℕ)) (o : Option (List TermInfo)) (count n : ℕ) → is_some o ≡ true → IfSome o (λ infos. count ≡ length infos) → length keys ≡ n → count ≡ n → IsOk (with_infos keys o)
-infos-ok keys None count n h c k same = absurd (cc)
-infos-ok keys (Some infos) count n h c k same =
-    let equal : eqb (length infos) (length keys) ≡ true = eq-eqb (length infos) (length keys) (sym c ∙ same ∙ sym k) in
-    rw equal refl
+pub infos-ok : (keys : List (List ℕ)) (o : Option (List TermInfo)) (infos : List TermInfo) (n : ℕ) → Some infos ≡ o → length keys ≡ n → length infos ≡ n → IsOk (with_infos keys o)
+infos-ok keys o infos n e k same =
+    let equal : eqb (length infos) (length keys) ≡ true = eq-eqb (length infos) (length keys) (same ∙ sym k) in
+    rw (← e, equal) refl
+
+-- the store of an opened dictionary
+pub store_there : (o : Option (List TermInfo)) (n : ℕ) → IsSomeAnd o (λ infos. length infos ≡ n) → IsSome o
+store_there None n h = absurd h
+store_there (Some infos) n h = refl
+
+pub store_count : (o : Option (List TermInfo)) (infos : List TermInfo) (n : ℕ) → o ≡ Some infos → IsSomeAnd o (λ infos. length infos ≡ n) → length infos ≡ n
+store_count o infos n e h = rw e at h
 
 -- What is known where bytes hold a dictionary.
 abbrev counted_by : Bool → List (List ℕ) → List TermInfo → Result (List Entry) Part

@@ -1,5 +1,5 @@
 pub mod WorkedRows
 pub mod DictionaryLemmas
 pub mod SearchLemmas
-pub mod BuilderLemmas
+pub mod WriterLemmas
 pub mod ReadDictionaryLemmas

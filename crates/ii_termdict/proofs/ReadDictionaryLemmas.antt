@@ -1,8 +1,8 @@
 -- What is written of a dictionary is read back.
-use Rattle.std.proofs.Common.{◌≡◌, ℕ, zero, suc, ◌+◌, ◌-◌, ◌*◌, ◌^◌, ◌<◌, ◌≤◌, true, List, [], ◌∷◌, ◌++◌, length, take, drop, get_or, nat_le, Some, refl, sym, ap, ◌∙◌, arith, append_assoc, length-append}
+use Rattle.std.proofs.Common.{◌≡◌, ℕ, zero, suc, ◌+◌, ◌-◌, ◌*◌, ◌^◌, ◌<◌, ◌≤◌, true, List, [], ◌∷◌, ◌++◌, length, take, drop, get_or, nat_le, Some, Ok, refl, sym, ap, ◌∙◌, arith, append_assoc, length-append}
 use Rattle.std.specs.Ordering.{nat_cmp, is_lt}
 use Rattle.std.specs.Cmp.Lexicographic.{slice_cmp}
-use Rattle.std.specs.List.{flat_map}
+use Rattle.std.specs.List.{flat_map, zip}
 use Rattle.std.proofs.lemmas.Bool.{le-leb, eq-eqb}
 use Rattle.std.proofs.lemmas.List.{append-nil, take_at, drop_at, take_all, take_more, take-append-drop, length-take-le}
 use Rattle.std.proofs.lemmas.List.FromFn.{fill_by_all}
@@ -12,14 +12,17 @@ use Rattle.ii_io.specs.Numbers.{le_bytes}
 use Rattle.ii_io.specs.NumberLemmas.{reads_what_is_written, length_le_bytes}
 use Rattle.ii_termstore.specs.declared.term_info.TermInfo.{TermInfo}
 use Rattle.ii_termstore.specs.TermStore.{term_store}
-use Rattle.ii_termdict.specs.Dictionary.{end_of, start_of, key_of, keys_of, ends_rise, keys_ascend, is_below, key_parts, store_behind, with_infos}
+use Rattle.ii_termdict.specs.Dictionary.{dictionary, end_of, start_of, key_of, keys_of, ends_rise, keys_ascend, is_below, key_parts, store_behind, with_infos}
 use Rattle.ii_termdict.specs.Written.{ends_from, written_dictionary}
 use Rattle.ii_termstore.specs.Written.{written_store}
 use Rattle.ii_termstore.specs.ReadBack.{ReadsStoreBack}
 use Rattle.ii_termdict.specs.ReadBack.{AreAscending, ReadsDictionaryBack}
-use Rattle.ii_termdict.proofs.BuilderLemmas.{length-ends_from}
 use Rattle.ii_termdict.proofs.DictionaryLemmas.{start_of-suc, dictionary-is}
 use Rattle.ii_termstore.specs.ListLemmas.{behind_front, flat_around, length-each, all_pass}
+
+pub length-ends_from : (start : ℕ) (keys : List (List ℕ)) → length (ends_from start keys) ≡ length keys
+length-ends_from start [] = refl
+length-ends_from start (k ∷ ks) = ap suc (length-ends_from (start + length k) ks)
 
 -- keys one after the other, and the first of them
 abbrev joined : List (List ℕ) → List ℕ
@@ -136,17 +139,22 @@ parts_read keys infos rest few =
     let behind = drop_at (flat_map (le_bytes 8) (ends_from 0 keys)) (body_and keys (written_store infos ++ rest)) (8 * length keys) room in
     rw (shape, first, there, behind) refl
 
--- The law of a dictionary.
-pub reads_dictionary_back : ReadsStoreBack → ReadsDictionaryBack
-reads_dictionary_back law keys infos rest same ascend small storable are_joined =
-    let few = storable.few in
+-- The law of a dictionary, over a store that is read back.
+pub reads_dictionary : (keys : List (List ℕ)) (infos : List TermInfo) (rest : List ℕ) → length keys ≡ length infos → AreAscending keys → length (joined keys) < 2 ^ 64 → length keys < 2 ^ 64
+    → term_store (written_store infos ++ rest) ≡ Some infos → dictionary (written_dictionary keys infos ++ rest) ≡ Ok (zip keys infos)
+reads_dictionary keys infos rest same ascend small few stored =
     let store = written_store infos ++ rest in
-    let parts = parts_read keys infos rest (omega arith) in
+    let parts = parts_read keys infos rest few in
     let rise = rise_read keys (written_store infos ++ rest) small in
     let up = ascend_read keys (written_store infos ++ rest) small ascend in
     let whole = dictionary-is (written_dictionary keys infos ++ rest) (length keys) (ends_and keys (written_store infos ++ rest)) (body_and keys (written_store infos ++ rest)) (sym parts) (sym rise) (sym up) in
     let behind = store_read keys (written_store infos ++ rest) small ∙ refl in
-    let holds = ap term_store behind ∙ law infos rest storable are_joined in
+    let holds = ap term_store behind ∙ stored in
     let counts = eq-eqb (length infos) (length keys) (sym same) in
     whole ∙ ap (λ (ks : List (List ℕ)). with_infos ks (term_store (store_behind (length keys) (ends_and keys store) (body_and keys store)))) (keys_read keys store small)
     ∙ ap (with_infos keys) holds ∙ rw counts refl
+
+pub reads_dictionary_back : ReadsStoreBack → ReadsDictionaryBack
+reads_dictionary_back law keys infos rest same ascend small storable are_joined =
+    let few = storable.few in
+    reads_dictionary keys infos rest same ascend small (omega arith) (law infos rest storable are_joined)

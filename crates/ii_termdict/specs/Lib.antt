@@ -1,3 +1,6 @@
 pub mod Dictionary
 pub mod ReadBack
+pub mod ReadBackLemmas
+pub mod TermDictionaryBuilder
+pub mod TermDictionaryWriter
 pub mod Written

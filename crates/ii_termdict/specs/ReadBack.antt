@@ -1,5 +1,5 @@
 -- The law of dictionaries: what is written is read back.
-use Rattle.std.specs.Prelude.{◌≡◌, ℕ, ◌^◌, ◌<◌, List, ◌++◌, length, Ok}
+use Rattle.std.specs.Prelude.{◌≡◌, ℕ, suc, ◌^◌, ◌<◌, List, [], ◌++◌, length, slice_index_or, Ok}
 use Rattle.std.specs.Ordering.{nat_cmp}
 use Rattle.std.specs.Cmp.Lexicographic.{slice_cmp}
 use Rattle.std.specs.List.{flat_map, zip}
@@ -12,6 +12,10 @@ use Rattle.ii_termstore.specs.ReadBack.{AreJoined, AreStorable}
 -- Each key is below all that follow by its bytes.
 abbrev pub AreAscending : List (List ℕ) → Type 0
 AreAscending keys = IsStrictlySortedBy (slice_cmp nat_cmp) keys
+
+-- The last key, if there is one, is this.
+abbrev pub LastKey : List (List ℕ) → List ℕ → Type 0
+LastKey keys key = (k : ℕ) → suc k ≡ length keys → slice_index_or keys k [] ≡ key
 
 -- The dictionary of ascending keys and joined terms holds these, side by side.
 abbrev pub ReadsDictionaryBack : Type 0

@@ -1,11 +1,11 @@
 ghost use Rattle.std.specs.Prelude.{◌≡◌, ℕ, ◌+◌, ◌-◌, ◌*◌, ◌<◌, ◌≤◌, true, length, drop, Some, slice_get, IfSome, IfNone, IfOk, IsOk, IsOkAnd, Ok, Err, MatchOption};
 ghost use Rattle.std.specs.List.{slice_range};
 ghost use Rattle.std.specs.Option.{option_map};
+ghost use Rattle.ii_termstore.specs.TermStore.{term_store};
 ghost use Rattle.ii_termdict.specs.Dictionary.{end_of, start_of, key_of, ends_rise, keys_ascend, key_parts, is_below, store_behind, entries_of, AreOpened, info_under, entry_keys, entry_infos, dictionary};
 
 use ii_io::{BinarySerializable, Part};
-use ii_termstore::TermInfo;
-use ii_termstore::term_info_store::{info_at, is_store, num_terms};
+use ii_termstore::{TermInfo, TermInfoStoreView};
 use std::cmp::Ordering;
 
 /// The parts of a dictionary's bytes: the number of its terms, the ends of their keys and what stands
@@ -101,8 +101,8 @@ fn piece(body: &[u8], start: usize, end: usize) -> &[u8]
     &body[start..end]
 }
 
-// Whether a key is below another by its bytes.
-fn is_key_below(key: &[u8], other: &[u8]) -> bool
+/// Whether a key is below another by its bytes.
+pub(crate) fn is_key_below(key: &[u8], other: &[u8]) -> bool
     ensures { result ≡ is_below key.now other.now }
 {
     key.cmp(other) == Ordering::Less
@@ -131,9 +131,9 @@ fn store_of<'a>(n: u64, ends: &[u8], body: &'a [u8]) -> &'a [u8]
     &body[read_start(ends, n) as usize..]
 }
 
-/// The first part that bytes fail to hold, if they are no dictionary. It takes no memory, and time of
-/// the bytes given.
-pub(crate) fn damage(bytes: &[u8]) -> Option<Part>
+/// The first part that bytes fail to hold, if they are no dictionary. It takes no memory. Ends and
+/// keys are read twice, and the store as `TermInfoStoreView::open` does.
+pub(crate) fn first_damaged_part(bytes: &[u8]) -> Option<Part>
     ensures { MatchOption result (IsOk (dictionary bytes.now)) (λ part. dictionary bytes.now ≡ Err part) }
 {
     let Some(parts) = parts_of(bytes) else {
@@ -146,13 +146,22 @@ pub(crate) fn damage(bytes: &[u8]) -> Option<Part>
         return Some(Part::Dictionary);
     }
     let store = store_of(parts.num_terms, parts.ends, parts.body);
-    if !is_store(store) {
+    let Some(infos) = TermInfoStoreView::open(store) else {
         return Some(Part::TermStore);
-    }
-    if num_terms(store) != parts.num_terms {
+    };
+    if infos.num_terms() != parts.num_terms {
         return Some(Part::Dictionary);
     }
     None
+}
+
+// The store behind the keys of a dictionary.
+fn view_of<'a>(parts: &KeyParts<'a>) -> TermInfoStoreView<'a>
+    requires { AreOpened parts.now.num_terms parts.now.ends.now parts.now.body.now }
+    ensures value { term_store (store_behind parts.now.num_terms parts.now.ends.now parts.now.body.now) ≡ Some result }
+    ensures count { length result ≡ parts.now.num_terms }
+{
+    TermInfoStoreView::over(store_of(parts.num_terms, parts.ends, parts.body))
 }
 
 /// The parts of a dictionary.
@@ -194,7 +203,7 @@ pub(crate) fn get(bytes: &[u8], key: &[u8]) -> Option<TermInfo>
 {
     let parts = opened(bytes);
     match find(parts.num_terms, parts.ends, parts.body, key) {
-        Some(ord) => Some(info_at(store_of(parts.num_terms, parts.ends, parts.body), ord)),
+        Some(ord) => Some(view_of(&parts).get(ord)),
         None => None,
     }
 }
@@ -222,5 +231,5 @@ pub(crate) fn value_at(bytes: &[u8], ord: u64) -> TermInfo
     ensures { IfOk (dictionary bytes.now) (λ entries. slice_get (entry_infos entries) ord ≡ Some result) }
 {
     let parts = opened(bytes);
-    info_at(store_of(parts.num_terms, parts.ends, parts.body), ord)
+    view_of(&parts).get(ord)
 }

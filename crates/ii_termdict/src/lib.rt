@@ -7,6 +7,7 @@ pub mod streamer;
 pub mod termdict;
 #[cfg(test)]
 mod tests;
+pub mod writer;
 pub mod written;
 
 pub use builder::TermDictionaryBuilder;
@@ -15,3 +16,4 @@ pub use ii_termstore::{
 };
 pub use streamer::TermStreamer;
 pub use termdict::TermDictionary;
+pub use writer::TermDictionaryWriter;

@@ -2,7 +2,7 @@ ghost use Rattle.std.specs.Prelude.{◌≡◌, ◌<◌, ◌+◌, [], length, Err
 ghost use Rattle.ii_io.specs.declared.faults.Part.{Part};
 ghost use Rattle.ii_termdict.specs.Dictionary.{dictionary, info_under, entry_keys};
 
-use crate::key_parts::{count_terms, damage, get, key_at};
+use crate::key_parts::{count_terms, first_damaged_part, get, key_at};
 use crate::streamer::TermStreamer;
 use bytes::Bytes;
 use ii_io::Fault;
@@ -36,14 +36,15 @@ impl TermDictionary {
     /// Opens a dictionary: the number of terms and for each the end of its key, 8 bytes each with the
     /// lowest first, then the keys, then the term store.
     ///
-    /// `Damaged(Dictionary)` where bytes lack, ends decrease or keys don't ascend strictly by their
-    /// bytes; else `Damaged(TermStore)` where the store is damaged; else `Damaged(Dictionary)` where it
-    /// has another number of terms. It takes no memory.
+    /// `Damaged(Dictionary)` where bytes are missing, ends decrease or keys don't ascend strictly by their
+    /// bytes; else `Damaged(TermStore)` where the store is first_damaged_partd; else `Damaged(Dictionary)` where it
+    /// has another number of terms. It takes no memory, and time by the number of terms that the bytes
+    /// tell and the bytes of their keys; metas of the store may name the same bits.
     pub fn open(bytes: Bytes) -> Result<TermDictionary, Fault>
         ensures opened { IfOk result (λ terms. dictionary bytes ≡ Ok terms) }
         ensures damaged { IfErr result (λ e. (part : Part) × (e ≡ Fault.Damaged part) × (dictionary bytes ≡ Err part)) }
     {
-        match damage(bytes.as_slice()) {
+        match first_damaged_part(bytes.as_slice()) {
             None => Ok(TermDictionary { bytes }),
             Some(part) => Err(Fault::Damaged(part)),
         }
@@ -81,7 +82,7 @@ impl TermDictionary {
     }
 
     /// Puts the key at a place into `bytes`, and answers whether there is one; else `bytes` is empty,
-    /// and so it is where memory lacks.
+    /// and so it is where memory is missing.
     pub fn ord_to_term(&self, ord: TermOrdinal, bytes: &mut Vec<u8>) -> Result<bool, Fault>
         ensures found { IfOk result (λ found. found ≡ nat_lt ord (length self.now)) }
         ensures key { IfOk result (λ found. bytes.new.items ≡ unwrap_or (slice_get (entry_keys self.now) ord) []) }

@@ -1,12 +1,14 @@
 ghost use Rattle.std.specs.Prelude.{◌≤◌};
-ghost use Rattle.ii_termstore.specs.TermInfos.{HasLengths};
 
 use crate::written::reads_dictionary_back;
-use crate::{TermDictionary, TermDictionaryBuilder, TermInfo};
+use crate::{TermDictionary, TermDictionaryWriter, TermInfo};
+use ascending_terms::AscendingTerms;
 use bytes::Bytes;
 use ii_io::{CountingWriter, FailingWriter, Fault, Part};
 use std::alloc::Global;
 use std::test::Fail;
+
+mod ascending_terms;
 
 // One key, `a`, in 3 documents with 3 bytes of postings. A function, so that no proof looks inside.
 fn one() -> [u8; 73] {
@@ -39,16 +41,10 @@ fn twice() -> [u8; 42] {
 
 fn build(alloc: Global, failing_call: u64) -> (FailingWriter, Result<(), Fault>) {
     let writer = CountingWriter::wrap(FailingWriter::new(alloc, failing_call));
-    let mut builder = TermDictionaryBuilder::create(alloc, writer);
-    let info = TermInfo {
-        doc_freq: 3,
-        postings_range: 0..3,
-        positions_range: 0..0,
-    };
-    let key = builder.insert_key(b"a");
-    let value = builder.insert_value(&info);
+    let mut builder = AscendingTerms::new(alloc, writer);
+    let term = builder.write(b"a", 3, 3, 0);
     let (writer, finished) = builder.finish();
-    (writer.finish(), key.and(value).and(finished))
+    (writer.finish(), term.and(finished))
 }
 
 #[test]
@@ -79,7 +75,6 @@ fn numbered(i: u32) -> [u8; 4] {
 // What is kept of term `i`: its ranges join those of the term before.
 fn kept(i: u32) -> TermInfo
     requires { i ≤ 1000000 }
-    ensures { HasLengths result }
 {
     let start = 7 * i as usize;
     TermInfo {
@@ -92,10 +87,9 @@ fn kept(i: u32) -> TermInfo
 #[test]
 fn looks_a_hundred_thousand_keys_up(rt: HostRuntime) -> Result<(), Fail> {
     let writer = CountingWriter::wrap(Vec::new(rt.alloc()));
-    let mut builder = TermDictionaryBuilder::create(rt.alloc(), writer);
+    let mut builder = AscendingTerms::new(rt.alloc(), writer);
     for i in 0..100_000u32 {
-        builder.insert_key(&numbered(2 * i + 1))?;
-        builder.insert_value(&kept(i))?;
+        builder.write(&numbered(2 * i + 1), i % 1000, 7, 21)?;
     }
     let (writer, finished) = builder.finish();
     finished?;
@@ -189,4 +183,31 @@ fn refuses_hostile_numbers(rt: HostRuntime) {
     }
     assert!(rt; opened(rt.alloc(), &changed(70, 56)) == Ok(1));
     assert!(rt; opened(rt.alloc(), &changed(40, 0x20)) == Ok(1));
+}
+
+// A writer of a dictionary whose only key, `a`, has its value, and what it answers where the writer's
+// call fails, to one call more, and then to each call.
+fn call_on(alloc: Global, failing_call: u64) -> Result<[Result<(), Fault>; 4], Fault> {
+    let mut terms = TermDictionaryWriter::new(alloc);
+    let info = TermInfo::default();
+    terms.insert_key(b"a")?;
+    terms.insert_value(&info)?;
+    let mut writer = CountingWriter::wrap(FailingWriter::new(alloc, failing_call));
+    let finished = terms.finish(&mut writer);
+    if finished.is_ok() {
+        return Ok([finished, Ok(()), Ok(()), Ok(())]);
+    }
+    let again = terms.finish(&mut writer);
+    let key = terms.insert_key(b"a");
+    let value = terms.insert_value(&info);
+    Ok([finished, again, key, value])
+}
+
+#[test]
+fn each_call_can_be_made_after_a_refusal(rt: HostRuntime) -> Result<(), Fail> {
+    let closed = Err(Fault::SerializerClosed);
+    assert!(rt; call_on(rt.alloc(), 0)? == [Ok(()), Ok(()), Ok(()), Ok(())]);
+    assert!(rt; call_on(rt.alloc(), 1)? == [Err(Fault::Write), closed, closed, closed]);
+    assert!(rt; call_on(rt.alloc(), 4)? == [Err(Fault::Write), closed, closed, closed]);
+    Ok(())
 }

@@ -1,5 +1,6 @@
 pub mod ListLemmas
 pub mod ReadBack
+pub mod ReadBackLemmas
 pub mod TermInfoLemmas
 pub mod TermInfoStoreWriter
 pub mod TermInfos

@@ -10,6 +10,11 @@ pub record AreJoined (infos : List TermInfo) : Type 0 where
   pub postings : (k : ℕ) → suc k < length infos → (info_in infos (suc k)).postings_range.start ≡ (info_in infos k).postings_range.end
   pub positions : (k : ℕ) → suc k < length infos → (info_in infos (suc k)).positions_range.start ≡ (info_in infos k).positions_range.end
 
+-- The last term's ranges, if there is one, end here.
+pub record EndAt (infos : List TermInfo) (postings_end positions_end : ℕ) : Type 0 where
+  pub postings : (k : ℕ) → suc k ≡ length infos → (info_in infos k).postings_range.end ≡ postings_end
+  pub positions : (k : ℕ) → suc k ≡ length infos → (info_in infos k).positions_range.end ≡ positions_end
+
 -- What a store is written from: numbers and lengths of their types, and full blocks whose bits have fewer than 2 ^ 64 bytes.
 pub record AreStorable (infos : List TermInfo) : Type 0 where
   pub few : length infos < 2 ^ 64

@@ -1,42 +1,42 @@
-ghost use Rattle.std.specs.Prelude.{◌≡◌, ◌≤◌, ◌<◌, ◌+◌, ◌*◌};
+ghost use Rattle.std.specs.Prelude.{◌≡◌, ◌<◌, ◌+◌, ◌*◌};
 ghost use Rattle.ii_termstore.specs.TermInfos.{HasLengths};
 
 use crate::written::reads_store_back;
-use crate::{TermInfo, TermInfoBlockMeta, TermInfoStore, TermInfoStoreWriter};
+use crate::{TermInfo, TermInfoBlockMeta, TermInfoStore};
+use joined_terms::JoinedTerms;
 use bytes::Bytes;
 use ii_io::{BinarySerializable, CountingWriter, FailingWriter, Fault};
 use std::alloc::Global;
 use std::test::Fail;
 
-fn term(doc_freq: u32, start: u32, len: u32) -> TermInfo
-    requires near { start ≤ 1000000000 }
-    requires short { len ≤ 1000000000 }
+mod joined_terms;
+
+// Term `i` of a thousand.
+fn term(i: u32) -> TermInfo
+    requires { i < 1000 }
     ensures { HasLengths result }
 {
-    let (start, len) = (start as usize, len as usize);
+    let start = 13 * i as usize + (i * i) as usize;
+    let end = start + 14 + 2 * i as usize;
     TermInfo {
-        doc_freq,
-        postings_range: start..start + len,
-        positions_range: 3 * start..3 * start + 3 * len,
+        doc_freq: i,
+        postings_range: start..end,
+        positions_range: 3 * start..3 * end,
     }
 }
 
 #[test]
 fn stores_a_thousand_terms(rt: HostRuntime) -> Result<(), Fail> {
-    let mut store = TermInfoStoreWriter::new(rt.alloc());
+    let mut store = JoinedTerms::new(rt.alloc());
     for i in 0..1000u32 {
-        store.write_term_info(&term(i, 13 * i + i * i, 14 + 2 * i))?;
+        store.write(i, 14 + 2 * i, 3 * (14 + 2 * i))?;
     }
     let mut writer = CountingWriter::wrap(Vec::new(rt.alloc()));
     store.serialize(&mut writer)?;
     let infos = TermInfoStore::open(Bytes::from_vec(writer.finish())?)?.clone()?;
     assert_eq!(rt; infos.num_terms(), 1000);
     for i in 0..1000u32 {
-        assert_eq!(rt;
-            infos.get(u64::from(i)),
-            term(i, 13 * i + i * i, 14 + 2 * i),
-            "term {i}"
-        );
+        assert_eq!(rt; infos.get(u64::from(i)), term(i), "term {i}");
     }
     let far = infos.get(256);
     assert_eq!(rt;
@@ -74,11 +74,11 @@ fn metas_are_read_back(rt: HostRuntime) -> Result<(), Fail> {
     Ok(())
 }
 
-// A writer of 300 terms, which have two blocks.
-fn two_blocks(alloc: Global) -> Result<TermInfoStoreWriter, Fault> {
-    let mut store = TermInfoStoreWriter::new(alloc);
-    for i in 0..300u32 {
-        store.write_term_info(&term(i, 2 * i, 2))?;
+// A writer of so many terms, of which 256 make a block.
+fn many(alloc: Global, terms: u32) -> Result<JoinedTerms, Fault> {
+    let mut store = JoinedTerms::new(alloc);
+    for i in 0..terms {
+        store.write(i, 2, 6)?;
     }
     Ok(store)
 }
@@ -86,15 +86,16 @@ fn two_blocks(alloc: Global) -> Result<TermInfoStoreWriter, Fault> {
 #[test]
 fn stores_end_at_the_call_that_fails(rt: HostRuntime) -> Result<(), Fail> {
     let mut whole = CountingWriter::wrap(Vec::new(rt.alloc()));
-    two_blocks(rt.alloc())?.serialize(&mut whole)?;
+    many(rt.alloc(), 300)?.serialize(&mut whole)?;
     let whole = whole.finish();
     let mut failed = 0;
-    for k in 1..2000 {
-        let mut store = two_blocks(rt.alloc())?;
+    for k in 1..20 {
+        let mut store = many(rt.alloc(), 300)?;
         let mut writer = CountingWriter::wrap(FailingWriter::new(rt.alloc(), k));
         let answer = store.serialize(&mut writer);
         let later = store.serialize(&mut writer);
-        let info = store.write_term_info(&term(1, 600, 1));
+        let info = store.write(1, 1, 1);
+        let again = store.write(1, 1, 1);
         let written = writer.finish();
         if answer.is_ok() {
             assert!(rt; written.bytes().starts_with(&whole), "call {k}");
@@ -104,16 +105,53 @@ fn stores_end_at_the_call_that_fails(rt: HostRuntime) -> Result<(), Fail> {
         assert!(rt; answer == Err(Fault::Write), "call {k}");
         assert!(rt; later == Err(Fault::SerializerClosed), "call {k}");
         assert!(rt; info == Err(Fault::SerializerClosed), "call {k}");
+        assert!(rt; again == Err(Fault::SerializerClosed), "call {k}");
         assert!(rt; whole.starts_with(written.bytes()), "call {k}");
         assert!(rt; written.bytes().len() < whole.len(), "call {k}");
     }
-    assert!(rt; 0 < failed && failed < 1999);
+    assert!(rt; 0 < failed && failed < 19);
+    Ok(())
+}
+
+#[test]
+fn blocks_end_where_they_are_full(rt: HostRuntime) -> Result<(), Fail> {
+    for (terms, blocks) in [(0, 0), (1, 1), (255, 1), (256, 1), (257, 2), (512, 2), (513, 3)] {
+        let mut store = many(rt.alloc(), terms)?;
+        let mut writer = CountingWriter::wrap(Vec::new(rt.alloc()));
+        store.serialize(&mut writer)?;
+        let bytes = writer.finish();
+        let mut head = bytes.as_slice();
+        assert_eq!(rt; u64::deserialize(&mut head), Some(39 * blocks), "{terms} terms");
+        assert_eq!(rt; u64::deserialize(&mut head), Some(u64::from(terms)), "{terms} terms");
+        let infos = TermInfoStore::open(Bytes::from_vec(bytes)?)?;
+        assert_eq!(rt; infos.num_terms(), terms as usize);
+        for i in 0..infos.num_terms() {
+            let info = infos.get(i as u64);
+            assert_eq!(rt; (info.doc_freq, info.postings_range.start), (i as u32, 2 * i), "term {i}");
+        }
+    }
+    Ok(())
+}
+
+#[test]
+fn a_store_is_written_again_and_goes_on(rt: HostRuntime) -> Result<(), Fail> {
+    let mut store = many(rt.alloc(), 256)?;
+    let mut first = CountingWriter::wrap(Vec::new(rt.alloc()));
+    let mut second = CountingWriter::wrap(Vec::new(rt.alloc()));
+    store.serialize(&mut first)?;
+    store.write(256, 2, 6)?;
+    store.serialize(&mut second)?;
+    let mut other = CountingWriter::wrap(Vec::new(rt.alloc()));
+    many(rt.alloc(), 257)?.serialize(&mut other)?;
+    assert!(rt; second.finish() == other.finish());
+    let infos = TermInfoStore::open(Bytes::from_vec(first.finish())?)?;
+    assert_eq!(rt; infos.num_terms(), 256);
     Ok(())
 }
 
 #[test]
 fn terms_and_metas_end_at_the_call_that_fails(rt: HostRuntime) {
-    let (info, meta) = (term(3, 5, 7), TermInfoBlockMeta::default());
+    let (info, meta) = (term(3), TermInfoBlockMeta::default());
     for k in 1..3 {
         let mut writer = CountingWriter::wrap(FailingWriter::new(rt.alloc(), k));
         let answer = info.serialize(&mut writer);

@@ -10,5 +10,5 @@ abbrev pub documents_from : ℕ → List (List ℕ) → Option (List ℕ)
 documents_from least words = numbers_below 2147483647 words >>= λ (docs : List ℕ). needs (ascend_from least docs) >>= λ _. Some docs
 
 -- documents in front of those that are read on
-abbrev pub behind : List ℕ → Option (List ℕ) → Option (List ℕ)
-behind docs found = option_map (λ (others : List ℕ). docs ++ others) found
+abbrev pub after : List ℕ → Option (List ℕ) → Option (List ℕ)
+after docs found = option_map (λ (others : List ℕ). docs ++ others) found

@@ -1,10 +1,6 @@
-pub mod WordLemmas
 pub mod DocumentLemmas
 pub mod OutputLemmas
 pub mod ReplyLemmas
 pub mod RunLemmas
+pub mod WordLemmas
 pub mod WorkedRows
-pub mod LayoutLemmas
-pub mod PlaceLemmas
-pub mod CheckLemmas
-pub mod LoadLemmas

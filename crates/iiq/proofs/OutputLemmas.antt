@@ -7,7 +7,7 @@ use Rattle.ii_docset.specs.Cursor.{doc_at, IsAscending}
 use Rattle.iiq.specs.Output.{item, list_text}
 use Rattle.ii_docset.proofs.CursorLemmas.{nothing_left, doc_below}
 
--- the items behind the first one
+-- the items after the first one
 abbrev pub more_items : List Entry → List ℕ
 more_items es = flat_map (λ (e : Entry). 32 ∷ item e) es
 
@@ -15,7 +15,7 @@ joined : (x : Entry) (xs : List Entry) → join_with_byte 32 (map item (x ∷ xs
 joined x [] = sym (append-nil (item x))
 joined x (y ∷ ys) = ap (λ (text : List ℕ). item x ++ 32 ∷ text) (joined y ys)
 
--- the first item, and those behind it
+-- the first item, and those after it
 pub list_text_first : (es : List Entry) → IsAscending es → doc_at es < 2147483647 → list_text es ≡ decimal (doc_at es) ++ more_items (drop 1 es)
 list_text_first [] up h = absurd (omega arith)
 list_text_first (e ∷ es) up h = joined e es

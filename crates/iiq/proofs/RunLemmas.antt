@@ -30,7 +30,7 @@ append_cases c x xs ys false ih =
     let some = some_part c xs in
     ap (onto_first x) ih ∙ onto_append x (parts c xs) (parts c ys) some.0 some.1 some.2
 
--- the parts before a separator, and those behind it
+-- the parts before a separator, and those after it
 parts-append : (c : ℕ) (xs ys : List ℕ) → parts c (xs ++ c ∷ ys) ≡ parts c xs ++ parts c ys
 parts-append c [] ys = rw (eq-eqb c c refl) refl
 parts-append c (x ∷ xs) ys = append_cases c x xs ys (eqb x c) (parts-append c xs ys)
@@ -52,7 +52,7 @@ and_false : (a : Bool) → (a && false) ≡ false
 and_false true = refl
 and_false false = refl
 
--- what stands behind whole lines is looked at by itself
+-- what stands after whole lines is looked at by itself
 no_error_ends : (texts : List (List ℕ)) (more : List ℕ) → has_no_error (with_ends texts ++ more) ≡ (has_no_error (with_ends texts) && has_no_error more)
 no_error_ends [] more = refl
 no_error_ends (t ∷ ts) more =
@@ -114,15 +114,15 @@ answered_no_memory old now new text line left more fine a e appends =
       fine_is = sym (known (codes "error 1\n") ∙ and_false fine);
     }
 
--- the writer failed within these bytes, behind which the rest of the run would have been written
+-- the writer failed within these bytes, after which the rest of the run would have been written
 pub answered_beginning : (old now new : Option (List ℕ)) (text bytes rest : List ℕ) (left : List (List ℕ)) (fine : Bool) → IsAnswering old now text left fine
     → Prints left (bytes ++ rest) → PutsBeginning now new bytes → PrintsBeginning old new text
-answered_beginning old now new text bytes rest left fine a p (out, behind, appends, e) =
+answered_beginning old now new text bytes rest left fine a p (out, after, appends, e) =
     let prints = a.prints in
-    let whole : a.written ++ (bytes ++ rest) ≡ (a.written ++ out) ++ (behind ++ rest) = rw (e, append_assoc, append_assoc) refl in
+    let whole : a.written ++ (bytes ++ rest) ≡ (a.written ++ out) ++ (after ++ rest) = rw (e, append_assoc, append_assoc) refl in
     record {
       out = a.written ++ out;
-      rest = behind ++ rest;
+      rest = after ++ rest;
       appends = Appends-trans old now new a.written out a.appends appends;
       prints = rw (← whole) (prints (bytes ++ rest) p);
     }

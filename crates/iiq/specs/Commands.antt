@@ -29,7 +29,7 @@ documents_of_words words = do
 abbrev pub ids_command : List (List ℕ) → Option Command
 ids_command words = option_map (λ docs. show_ids docs) (documents_of_words words)
 
--- what the next word writes, and the words behind it
+-- what the next word writes, and the words after it
 abbrev pub next_by : {A : Type 0} → (List ℕ → Option A) → List (List ℕ) → Option (A × List (List ℕ))
 next_by read [] = None
 next_by read (word ∷ words) = read word >>= λ value. Some (value, words)

@@ -1,5 +1,3 @@
-pub mod Placed
-pub mod Loaded
 pub mod Words
 pub mod Commands
 pub mod Opening

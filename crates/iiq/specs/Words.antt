@@ -15,14 +15,14 @@ abbrev pub parts_left : ℕ → Option (List ℕ) → List (List ℕ)
 parts_left c None = []
 parts_left c (Some text) = parts c text
 
--- the lines of a text, and what stands behind its last line's end
+-- the lines of a text, and what stands after its last line's end
 abbrev pub lines_of : List ℕ → List (List ℕ)
 lines_of text = parts 10 text
 
 abbrev pub words_of : List ℕ → List (List ℕ)
 words_of line = parts 32 line
 
--- the number that decimal digits write behind another
+-- the number that decimal digits write after another
 abbrev pub number_on : ℕ → List ℕ → ℕ
 number_on n [] = n
 number_on n (c ∷ cs) = number_on (10 * n + (c - 48)) cs

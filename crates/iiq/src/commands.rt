@@ -40,7 +40,7 @@ pub fn documents(alloc: Global, words: &mut Parts<'_>) -> Result<Option<Vec<u32>
     Ok(Some(docs))
 }
 
-/// What the words behind `open` name, if they are well formed.
+/// What the words after `open` name, if they are well formed.
 pub fn list_to_open(alloc: Global, words: &mut Parts<'_>) -> Result<Option<Opening>, AllocError>
     ensures { IfOk result (λ opening. option_map opening_command opening ≡ open_command words.old) }
 {

@@ -4,7 +4,6 @@
 mod commands;
 mod output;
 mod parts;
-mod postings;
 mod replies;
 mod run;
 mod words;

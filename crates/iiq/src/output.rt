@@ -5,10 +5,10 @@ ghost use Rattle.iiq.specs.Words.{written_hex};
 ghost use Rattle.ii_layout.specs.Written.{written_documents};
 ghost use Rattle.iiq.specs.Output.{list_text, part_name, reply_to};
 
-use crate::postings::segment_postings::SegmentPostings;
 use ii_base::{CountingWriter, IndexRecordOption, Part};
 use ii_docset::{DocSet, TERMINATED};
 use ii_layout::PostingsSerializer;
+use ii_reader::SegmentPostings;
 use std::alloc::{AllocError, Global};
 
 /// The bytes that the postings of these documents are written as.
@@ -45,7 +45,7 @@ pub fn hex_text(alloc: Global, bytes: &[u8]) -> Result<String, AllocError>
 
 /// Adds the documents that a cursor has left to a text, parted by spaces, or a dash for none.
 pub fn push_list(text: &mut String, cursor: &mut SegmentPostings) -> Result<(), AllocError>
-    ensures { OnOk result (string_bytes text.new ≡ string_bytes text.old ++ list_text cursor.old) }
+    ensures { OnOk result (string_bytes text.new ≡ string_bytes text.old ++ list_text cursor.old.rest) }
 {
     let first = cursor.doc();
     if first == TERMINATED {

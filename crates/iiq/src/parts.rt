@@ -46,7 +46,7 @@ impl<'a> Parts<'a> {
     }
 }
 
-// The text before the first separator, and the text behind it, if there is one.
+// The text before the first separator, and the text after it, if there is one.
 fn cut(text: &[u8], separator: u8) -> (&[u8], Option<&[u8]>)
     ensures { parts separator text.now ≡ result.0.now ∷ parts_left separator (option_copied result.1) }
 {

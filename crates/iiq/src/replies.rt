@@ -9,10 +9,10 @@ ghost use Rattle.iiq.specs.Output.{reply_to, command_texts, with_ends};
 use crate::commands::{Opening, documents, list_to_open};
 use crate::output::{hex_text, name_of, push_list, written};
 use crate::parts::Parts;
-use crate::postings::segment_postings::SegmentPostings;
 use bytes::Bytes;
 use ii_base::{IndexRecordOption, LayoutFault};
 use ii_layout::written::reads_documents_back;
+use ii_reader::SegmentPostings;
 use std::alloc::{AllocError, Global};
 
 /// What a line is answered with: nothing for an empty line, `error line` for one that is not well
@@ -77,7 +77,7 @@ fn ids_text(alloc: Global, docs: &[u32]) -> Result<String, AllocError>
 fn reopened(docs: &[u32], postings: Bytes) -> SegmentPostings
     requires ascending { IsTrue (are_documents docs.now) }
     requires written { postings ≡ written_documents docs.now }
-    ensures { result ≡ map document docs.now }
+    ensures { result.rest ≡ map document docs.now }
 {
     reads_documents_back();
     let basic = IndexRecordOption::Basic;

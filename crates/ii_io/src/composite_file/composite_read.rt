@@ -1,5 +1,8 @@
-ghost use Rattle.std.specs.Prelude.{◌≡◌, ◌⊎◌, ◌∷◌, [], length, drop, Some, None, IfOk, IfErr, IsErrOf, MatchResult};
-ghost use Rattle.ii_io.specs.Composite.{composite, body_of, table_of, lawful_places};
+ghost use Rattle.std.specs.Prelude.{◌≡◌, ◌==◌, ◌⊎◌, ◌∷◌, [], length, drop, Some, None, IfOk, IfErr, IsErrOf, MatchResult};
+ghost use Rattle.std.specs.Option.{option_map};
+ghost use Rattle.std.specs.List.{find};
+ghost use Rattle.ii_io.specs.declared.composite_file.place.Place.{Place};
+ghost use Rattle.ii_io.specs.Composite.{composite, body_of, table_of, HasTable, lawful_places};
 
 use super::place::Place;
 use crate::faults::{Fault, Part};
@@ -36,14 +39,26 @@ impl CompositeFile {
     /// Opens a file: the bodies, then for each its `Place`, then their number in 4 bytes.
     ///
     /// `Damaged(Composite)` where the table doesn't fit, an end lies before its start or past the
-    /// bodies, or a field has two places. It copies no body; memory is taken for the table alone.
+    /// bodies, or a field has two places. It copies no body; memory is taken for the table alone, once
+    /// it is known to fit.
     pub fn open(alloc: Global, bytes: Bytes) -> Result<CompositeFile, Fault>
         ensures opened { IfOk result (λ file. composite bytes ≡ Some file) }
         ensures damaged { IsErrOf result (Fault.Damaged Part.Composite) → composite bytes ≡ None }
+        ensures memory { IsErrOf result Fault.OutOfMemory → HasTable bytes }
         ensures only { IfErr result (λ e. (e ≡ Fault.OutOfMemory) ⊎ (e ≡ Fault.Damaged Part.Composite)) }
     {
         let places = read_table(alloc, bytes.as_slice())?;
         Ok(CompositeFile { bytes, places })
+    }
+
+    /// How many bytes the body of a field has, if the file has one.
+    pub fn body_len(&self, field: Field) -> Option<usize>
+        ensures { result ≡ option_map length (body_of field self.now) }
+    {
+        let Some(place) = place_of_field(&self.places, field) else {
+            return None;
+        };
+        Some((place.end - place.start) as usize)
     }
 
     /// The body of a field, if the file has one, as a part of the buffer. It takes no copy, and fails
@@ -52,13 +67,11 @@ impl CompositeFile {
         ensures body { IfOk result (λ body. body ≡ body_of field self.now) }
         ensures only { IfErr result (λ e. e ≡ Fault.OutOfMemory) }
     {
-        for place in &self.places {
-            if place.field == field {
-                let body = self.bytes.slice(place.start as usize..place.end as usize)?;
-                return Ok(Some(body));
-            }
-        }
-        Ok(None)
+        let Some(place) = place_of_field(&self.places, field) else {
+            return Ok(None);
+        };
+        let body = self.bytes.slice(place.start as usize..place.end as usize)?;
+        Ok(Some(body))
     }
 
     /// The same bodies, over the same buffer. It fails where the buffer can't be shared once more, or
@@ -73,10 +86,23 @@ impl CompositeFile {
     }
 }
 
+// The first place of a field.
+fn place_of_field(places: &[Place], field: Field) -> Option<Place>
+    ensures { result ≡ find (λ (p : Place). p.field == field) places.now }
+{
+    for place in places {
+        if place.field == field {
+            return Some(*place);
+        }
+    }
+    None
+}
+
 // The places of the table at the end of a file.
 fn read_table(alloc: Global, bytes: &[u8]) -> Result<Vec<Place>, Fault>
     ensures read { IfOk result (λ places. table_of bytes.now ≡ Some places.items) }
     ensures damaged { IsErrOf result (Fault.Damaged Part.Composite) → table_of bytes.now ≡ None }
+    ensures memory { IsErrOf result Fault.OutOfMemory → HasTable bytes.now }
     ensures only { IfErr result (λ e. (e ≡ Fault.OutOfMemory) ⊎ (e ≡ Fault.Damaged Part.Composite)) }
 {
     let mut footer = &bytes[bytes.len().saturating_sub(4)..];

@@ -1,10 +1,10 @@
-ghost use Rattle.std.specs.Prelude.{◌≡◌, ◌<◌, ◌⊎◌, ◌↔◌, ◌+◌, ◌*◌, ◌^◌, List, [], ◌∷◌, ◌++◌, true, false, length, Some, IsTrue, IfOk, OnOk, OnErr, IfErr, IsErrOf, slice_get};
+ghost use Rattle.std.specs.Prelude.{◌≡◌, ◌<◌, ◌⊎◌, ◌↔◌, ◌+◌, ◌-◌, ◌*◌, ◌^◌, List, [], ◌∷◌, ◌++◌, true, false, length, Some, IsTrue, IfOk, OnOk, OnErr, IfErr, IsErrOf, slice_get};
 ghost use Rattle.std.specs.Borrow.{sem};
-ghost use Rattle.ii_io.specs.CountingWriter.{CountingWriterState, Wrote, Writes, WritesUnlessClosed, IsFull};
+ghost use Rattle.ii_io.specs.CountingWriter.{CountingWriterState, Writes, WritesUnlessClosed, IsFull};
 ghost use Rattle.std.specs.List.{flat_map};
-ghost use Rattle.ii_io.specs.Composite.{Body, place_bytes, table_bytes, written_composite};
-ghost use Rattle.ii_io.specs.CompositeWrite.{has_start, places_of, places_until, next_start, HasBodies};
-ghost use Rattle.ii_io.specs.Lending.{LendsForField};
+ghost use Rattle.ii_io.specs.Composite.{Body, fit_fields, place_bytes, table_bytes};
+ghost use Rattle.ii_io.specs.CompositeWrite.{has_start, places_of, places_until, next_start, HasBodies, WroteComposite};
+ghost use Rattle.ii_io.specs.Lending.{LendsForField, LendsWriter};
 
 use super::place::{BodyStart, Place};
 use crate::counting_writer::CountingWriter;
@@ -27,8 +27,7 @@ pub struct CompositeWrite<W: Write> {
 }
 
 impl<W: Write> Model for CompositeWrite<W> {
-    ghost use Rattle.std.specs.Prelude.{◌<◌, ◌^◌, length};
-    ghost use Rattle.ii_io.specs.CompositeWrite.{CompositeWriteState};
+    ghost use Rattle.ii_io.specs.CompositeWrite.{CompositeWriteState, AreStarts};
 
     ghost Value = { CompositeWriteState };
 
@@ -39,7 +38,7 @@ impl<W: Write> Model for CompositeWrite<W> {
       closed = a.is_closed;
     } };
 
-    ghost invariant = { λ a. length a.starts.items < 2 ^ 32 };
+    ghost invariant = { λ a. AreStarts a.starts.items };
 }
 
 impl<W: Write> CompositeWrite<W> {
@@ -59,10 +58,11 @@ impl<W: Write> CompositeWrite<W> {
     /// The writer for the body of a field, which no earlier body has. The body ends where the next
     /// begins, or where this writer is closed.
     ///
-    /// `OutOfMemory` where the table can't grow, of which `u32::MAX` bodies are the most;
-    /// `SerializerClosed` after an earlier refusal.
+    /// There are at most `u32::MAX` bodies, whose number has 32 bits. `OutOfMemory` where the table
+    /// can't grow; `SerializerClosed` after an earlier refusal.
     pub fn for_field(&mut self, field: Field) -> Result<&mut CountingWriter<W>, Fault>
-        requires { has_start field self.old.starts ≡ false }
+        requires unwritten { self.old.closed ≡ false → has_start field self.old.starts ≡ false }
+        requires few { self.old.closed ≡ false → length self.old.starts < 2 ^ 32 - 1 }
         ensures* lends { sem 𝓛 (LendsForField W.row W.Write self.entry field result) }
         ensures value { IfOk result (λ writer. writer.now ≡ self.old.writer) }
         ensures closed { IsErrOf result Fault.SerializerClosed ↔ IsTrue self.old.closed }
@@ -72,8 +72,19 @@ impl<W: Write> CompositeWrite<W> {
         Ok(&mut self.writer)
     }
 
+    /// The writer for more of the body that was begun last.
+    pub fn writer(&mut self) -> &mut CountingWriter<W>
+        requires { self.old.closed ≡ false → 0 < length self.old.starts }
+        ensures* lends { sem 𝓛 (LendsWriter W.row W.Write self.entry result) }
+        ensures value { result.now ≡ self.old.writer }
+    {
+        &mut self.writer
+    }
+
     // Notes that the body of a field begins.
     fn begin_body(&mut self, field: Field) -> Result<(), Fault>
+        requires unwritten { self.old.closed ≡ false → has_start field self.old.starts ≡ false }
+        requires few { self.old.closed ≡ false → length self.old.starts < 2 ^ 32 - 1 }
         ensures ok { OnOk result (self.new
             ≡ record self.old { starts = self.old.starts ++ next_start self.old field ∷ [] }) }
         ensures err { OnErr result (self.new ≡ record self.old { closed = true }) }
@@ -84,13 +95,9 @@ impl<W: Write> CompositeWrite<W> {
             return Err(Fault::SerializerClosed);
         }
         let start = self.writer.written_bytes().saturating_sub(self.base);
-        if self.starts.len() >= MAX_BODIES
-            || self.starts.push(BodyStart { field, start }).is_err()
-        {
-            self.is_closed = true;
-            return Err(Fault::OutOfMemory);
-        }
-        Ok(())
+        let pushed = self.starts.push(BodyStart { field, start });
+        self.is_closed = pushed.is_err();
+        Ok(pushed?)
     }
 
     /// The writer as it stands, with no table written.
@@ -106,15 +113,16 @@ impl<W: Write> CompositeWrite<W> {
         unclosed
     }
 
-    /// Writes the places of the bodies and their number, flushes, and hands the writer back.
+    /// Writes the places of the bodies and their number, flushes, and hands the writer back. The
+    /// bodies are then read back from what was written.
     ///
-    /// `Write` where the writer fails, and a beginning of the table is then written; `Limit(Offset)`
+    /// `Write` where the writer fails, and a prefix of the table is then written; `Limit(Offset)`
     /// where a count of the writer would pass `u64::MAX`; `SerializerClosed` after an earlier refusal,
     /// and nothing is written.
     pub fn close(self) -> (CountingWriter<W>, Result<(), Fault>)
         ensures written { WritesUnlessClosed self.closed self.writer result.0 (table_bytes (places_of self)) result.1 }
         ensures bodies { (initial : CountingWriterState) (bodies : List Body) → HasBodies initial self bodies
-            → OnOk result.1 (Wrote initial result.0 (written_composite bodies)) }
+            → fit_fields bodies ≡ true → OnOk result.1 (WroteComposite initial result.0 bodies) }
         ensures limit { IsErrOf result.1 (Fault.Limit LimitName.Offset)
             ↔ ((self.closed ≡ false) × IsFull self.writer (length (table_bytes (places_of self)))) }
     {
@@ -132,9 +140,6 @@ impl<W: Write> CompositeWrite<W> {
         (writer, written)
     }
 }
-
-/// The most bodies of a composite file, whose number has 32 bits.
-const MAX_BODIES: usize = u32::MAX as usize;
 
 // Writes the places of bodies that end at `end`, and their number, and flushes.
 fn write_table<W: Write>(

@@ -42,7 +42,7 @@ impl BinarySerializable for Place {
 
     fn serialize<W: Write>(&self, writer: &mut CountingWriter<W>) -> Result<(), Fault> {
         let mut bytes = [0; 20];
-        put_place(&mut bytes, self);
+        put_place(&mut bytes, self.field.field_id(), self.start, self.end);
         writer.write_all(&bytes)
     }
 
@@ -68,27 +68,26 @@ impl BinarySerializable for Place {
 }
 
 impl FixedSize for Place {
+    ghost use Rattle.ii_io.specs.CompositeLemmas.{length_place_bytes};
+
     const SIZE_IN_BYTES: usize = 20;
 
-    ghost size = { 20 };
+    ghost SIZE_IN_BYTES = { 20 };
 
-    #[tactic(auto, using(crate::specs::CompositeLemmas::length_place_bytes))]
-    fn fixed_size() -> usize {
-        Self::SIZE_IN_BYTES
-    }
+    ghost has_size = { length_place_bytes };
 }
 
 // The bytes of a place, in a buffer of their size.
 #[tactic(auto, unfolding(crate::specs::Composite::place_bytes))]
-fn put_place(buf: &mut [u8], place: &Place)
+fn put_place(buf: &mut [u8], field: u32, start: u64, end: u64)
     requires { length buf.old ≡ 20 }
-    ensures { buf.new ≡ place_bytes place.now }
+    ensures { buf.new ≡ place_bytes (record { field = field; start = start; end = end }) }
 {
-    let (field, rest) = buf.split_at_mut(4);
-    let (start, end) = rest.split_at_mut(8);
-    put_u32(field, place.field.field_id());
-    put_u64(start, place.start);
-    put_u64(end, place.end);
+    let (field_bytes, rest) = buf.split_at_mut(4);
+    let (start_bytes, end_bytes) = rest.split_at_mut(8);
+    put_u32(field_bytes, field);
+    put_u64(start_bytes, start);
+    put_u64(end_bytes, end);
 }
 
 // The bytes of a number, in a buffer of their size.

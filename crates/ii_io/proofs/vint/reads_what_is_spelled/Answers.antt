@@ -1,5 +1,5 @@
 use Rattle.std.proofs.Common.{◌^◌}
-use Rattle.ii_io.proofs.VintLemmas.{reads_what_is_spelled as law}
+use Rattle.ii_io.specs.VintLemmas.{reads_what_is_spelled as law}
 use Rattle.ii_io.proofs.vint.reads_what_is_spelled.Goals as goal
 
 pub returns-clause-u32 : goal.returns-clause-u32

@@ -1,4 +1,4 @@
-use Rattle.ii_io.proofs.VintLemmas.{spells_in_fewest as law}
+use Rattle.ii_io.specs.VintLemmas.{spells_in_fewest as law}
 use Rattle.ii_io.proofs.vint.spells_in_fewest.Goals as goal
 
 pub returns-clause-u32 : goal.returns-clause-u32

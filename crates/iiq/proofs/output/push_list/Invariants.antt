@@ -7,10 +7,10 @@ use Rattle.iiq.proofs.output.push_list.Given as goal
 
 abbrev pub invariant-loop-doc : goal.invariant-loop-doc
 invariant-loop-doc l = record {
-  here : l.doc ≡ doc_at l.cursor;
-  ascending : IsAscending l.cursor;
-  written : string_bytes l.text ++ more_items l.cursor ≡ string_bytes l.fn.text ++ list_text l.fn.cursor;
+  here : l.doc ≡ doc_at l.cursor.rest;
+  ascending : IsAscending l.cursor.rest;
+  written : string_bytes l.text ++ more_items l.cursor.rest ≡ string_bytes l.fn.text ++ list_text l.fn.cursor.rest;
 }
 
 abbrev pub decreases-loop-doc : goal.decreases-loop-doc
-decreases-loop-doc l = length l.cursor
+decreases-loop-doc l = length l.cursor.rest

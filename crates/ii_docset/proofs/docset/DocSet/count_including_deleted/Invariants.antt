@@ -1,11 +1,12 @@
 use Rattle.std.proofs.Common.{◌≡◌, ◌+◌, ◌≤◌, length}
-use Rattle.ii_docset.specs.Cursor.{doc_at, IsAscending}
+use Rattle.ii_docset.specs.Cursor.{doc_at, IsSound}
 use Rattle.ii_docset.proofs.docset.DocSet.count_including_deleted.Given as goal
 
 abbrev pub invariant-loop-doc : goal.invariant-loop-doc
 invariant-loop-doc g l = record {
   here : l.doc ≡ doc_at (g.Self.DocSet.rest l.self);
-  ascending : IsAscending (g.Self.DocSet.rest l.self);
+  sound : IsSound (g.Self.DocSet.rest l.self);
+  work : g.Self.DocSet.went l.fn.self l.self;
   kind : g.Self.DocSet.always_one l.self ≡ g.Self.DocSet.always_one l.fn.self;
   counted : l.count + length (g.Self.DocSet.rest l.self) ≡ length (g.Self.DocSet.rest l.fn.self);
   few : length (g.Self.DocSet.rest l.fn.self) + doc_at (g.Self.DocSet.rest l.fn.self) ≤ 2147483647;

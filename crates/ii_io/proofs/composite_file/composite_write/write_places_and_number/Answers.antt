@@ -1,6 +1,5 @@
-use Rattle.std.proofs.Common.{length, arith}
+use Rattle.std.proofs.Common.{length}
 use Rattle.ii_io.specs.CompositeWrite.{places_until}
-use Rattle.ii_io.specs.CountingWriterLemmas.{writes_refused_by}
 use Rattle.ii_io.proofs.CompositeWriteLemmas.{length-places_until, number_refused, flush_after}
 use Rattle.ii_io.proofs.composite_file.composite_write.write_places_and_number.Goals as goal
 

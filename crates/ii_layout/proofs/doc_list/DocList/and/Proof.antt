@@ -43,19 +43,19 @@ module _ {M : Type 1} {𝓤 : Ura M} (𝓛 : Logic 𝓤) (mem : Memory → SProp
     abbrev before : Val
     before = vptr a.0.ref_ptr.0 a.0.ref_ptr.1
 
-    abbrev behind : Val
-    behind = vptr a.1.0.ref_ptr.0 a.1.0.ref_ptr.1
+    abbrev after : Val
+    after = vptr a.1.0.ref_ptr.0 a.1.0.ref_ptr.1
 
     abbrev bound : (walk_of 𝓛 f.ended stayed (f.clauses 𝓛 mem run)).Ghost
-    bound = ((κs, qs, tt, a, (before ∷ [], (behind ∷ [], tt))), tt)
+    bound = ((κs, qs, tt, a, (before ∷ [], (after ∷ [], tt))), tt)
 
     abbrev passed : Fml
-    passed = owns (types_at f.signature.params κs) a (before ∷ [], (behind ∷ [], tt))
+    passed = owns (types_at f.signature.params κs) a (before ∷ [], (after ∷ [], tt))
 
-    walk : ent 𝓤 (on_entry 𝓛 f.signature κs qs a (before ∷ [], (behind ∷ [], tt)))
-        (WpFn 𝓤 H C Λ code.function (before ∷ behind ∷ []) ((walk_of 𝓛 f.ended stayed (f.clauses 𝓛 mem run)).post bound))
+    walk : ent 𝓤 (on_entry 𝓛 f.signature κs qs a (before ∷ [], (after ∷ [], tt)))
+        (WpFn 𝓤 H C Λ code.function (before ∷ after ∷ []) ((walk_of 𝓛 f.ended stayed (f.clauses 𝓛 mem run)).post bound))
     walk =
-        qed 𝓛 (raw (alive 𝓛 f.signature κs qs) ∷ ‵ passed ∷ []) ∵ enter ! C Λ code.function (before ∷ behind ∷ []) _ $
+        qed 𝓛 (raw (alive 𝓛 f.signature κs qs) ∷ ‵ passed ∷ []) ∵ enter ! C Λ code.function (before ∷ after ∷ []) _ $
         alloc_all ! (λ l. pass_all ! refl ((tt, tt), ((tt, tt), tt)) $ sets ! (agg ! (no_more !)) refl (tt, tt) $
         returns ! (look_at ! 0 refl) $ free_all ! refl $
         suffices ! _ (ends_at 𝓛 f.ended stayed (f.clauses 𝓛 mem run) bound (vstruct vnil) (record { items = a.0.now.items ++ a.1.0.now }) (tt, (tt, tt)) (tt, (tt, tt))) $

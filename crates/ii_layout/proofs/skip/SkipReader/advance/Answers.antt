@@ -1,14 +1,18 @@
-use Rattle.std.proofs.Common.{arith}
-use Rattle.ii_layout.proofs.SkipReadLemmas.{advanced_rest, advanced_full, advances}
+use Rattle.std.proofs.Common.{ap, arith}
+use Rattle.ii_layout.specs.SkipReader.{SkipReaderState}
+use Rattle.ii_layout.proofs.SkipReaderLemmas.{advanced_rest, advanced_full, advances}
 use Rattle.ii_layout.proofs.skip.SkipReader.advance.Goals as goal
 
 pub returns-then-self-blocks-2 : goal.returns-then-self-blocks-2
 returns-then-self-blocks-2 c =
     let stands = rw (← c.self.view_is) at c.requires.same in
-    rw (← c.self.view_is) (advanced_rest _ _ _ _ _ _ _ _ (advances _ _ _ _ _ _ _ _ _ c.args.data.now stands (omega arith) c.packed_size.ensures.size) (omega arith))
+    let read = ap (λ (r : SkipReaderState). r.entries_read) stands in
+    rw (← c.self.view_is) (advanced_rest _ _ _ _ _ _ _ (advances _ _ c.args.data.now stands (omega arith) c.packed_size.ensures.size) (omega arith) (omega arith))
 
 pub returns : goal.returns
 returns c =
     let stands = rw (← c.self.view_is) at c.requires.same in
-    rw (← c.self.view_is) (advanced_full _ _ _ _ _ _ _ _ _ _ _ (advances _ _ _ _ _ _ _ _ _ c.args.data.now stands (omega arith) c.packed_size.ensures.size) (omega arith)
-    c.read_entry_at-last_doc.ensures.last_doc c.read_entry_at-last_doc.ensures.info c.next-self-inside.ensures)
+    let read = ap (λ (r : SkipReaderState). r.entries_read) stands in
+    let next = c.next-self-inside.ensures in
+    rw (← c.self.view_is) (advanced_full _ _ _ _ _ _ _ _ c.args.data.now (advances _ _ c.args.data.now stands (omega arith) c.packed_size.ensures.size) (omega arith)
+    c.read_entry_at-last_doc.ensures.last_doc c.read_entry_at-last_doc.ensures.info (omega arith))

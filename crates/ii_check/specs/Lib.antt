@@ -1,0 +1,2 @@
+pub mod CheckedPostings
+pub mod Check

@@ -1,0 +1,7 @@
+//! The whole check of a term's postings where they are opened, and what lends their blocks.
+#![tactic(auto)]
+
+mod check;
+pub mod checked_postings;
+
+pub use checked_postings::CheckedPostings;

@@ -1,0 +1,51 @@
+-- Where a reader of a term's skip list stands, and what it tells of the block there.
+use Rattle.std.specs.Prelude.{ℕ, ◌+◌, ◌-◌, ◌*◌, ◌/◌, ◌%◌, ◌^◌, List, min, nat_lt, nat_le, ◌==◌, if◌then◌else◌}
+use Rattle.ii_base.specs.declared.schema.index_record_option.IndexRecordOption.{IndexRecordOption}
+use Rattle.ii_docset.specs.declared.docset.TheConstants.{TERMINATED}
+use Rattle.ii_layout.specs.declared.skip.BlockInfo.{BlockInfo}
+use Rattle.ii_layout.specs.declared.skip.BlockInfo.TheVariants.{BitPacked, VInt}
+use Rattle.ii_layout.specs.SkipList.{SkipEntry, SkipList, block_place}
+use Rattle.ii_layout.specs.Documents.{entry_of, last_doc_before}
+
+-- the count that a byte of a bound codes: the largest byte is any count
+abbrev pub max_tf_of_code : ℕ → ℕ
+max_tf_of_code code = if code == 255 then 2 ^ 32 - 1 else code
+
+-- what an entry tells of its block
+abbrev pub block_info_of : SkipEntry → BlockInfo
+block_info_of e = BitPacked e.doc_num_bits e.strict_delta e.tf_num_bits e.tf_sum e.block_wand_fieldnorm_id (max_tf_of_code e.block_wand_term_freq)
+
+-- how many bytes a full block takes
+abbrev pub packed_size_of : BlockInfo → ℕ
+packed_size_of (BitPacked doc_num_bits strict_delta tf_num_bits tf_sum norm term_freq) = 16 * (doc_num_bits + tf_num_bits)
+packed_size_of (VInt n) = 0
+
+-- the width of a block's counts
+abbrev pub tf_num_bits_of : BlockInfo → ℕ
+tf_num_bits_of (BitPacked doc_num_bits strict_delta tf_num_bits tf_sum norm term_freq) = tf_num_bits
+tf_num_bits_of (VInt n) = 0
+
+pub record SkipReaderState : Type 0 where
+  pub skip_info : IndexRecordOption
+  pub doc_freq : ℕ
+  pub block : ℕ
+  pub last_doc_in_block : ℕ
+  pub last_doc_in_previous_block : ℕ
+  pub byte_offset : ℕ
+  pub block_info : BlockInfo
+  pub entries_read : ℕ
+
+-- A reader at block i of a term with these entries, of which it has read each one up to there, once. The full blocks are followed by one of vints, and that by nothing.
+abbrev pub reader_at : IndexRecordOption → ℕ → List SkipEntry → ℕ → SkipReaderState
+reader_at skip_info doc_freq entries i =
+    let blocks = doc_freq / 128 in
+    record {
+      skip_info = skip_info;
+      doc_freq = doc_freq;
+      block = i;
+      last_doc_in_block = if nat_lt i blocks then (entry_of entries i).last_doc else TERMINATED;
+      last_doc_in_previous_block = if nat_le i blocks then last_doc_before entries i else TERMINATED;
+      byte_offset = if nat_le i blocks then block_place entries i else 2 ^ 64 - 1;
+      block_info = if nat_lt i blocks then block_info_of (entry_of entries i) else VInt (if i == blocks then doc_freq % 128 else 0);
+      entries_read = min (i + 1) blocks;
+    }

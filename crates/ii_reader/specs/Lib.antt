@@ -1,0 +1,3 @@
+pub mod BlockSegmentPostings
+pub mod SegmentPostings
+pub mod SegmentPostingsLemmas

@@ -1,0 +1,8 @@
+//! Cursors over the postings of a term.
+#![tactic(auto)]
+
+pub mod block_segment_postings;
+pub mod segment_postings;
+
+pub use block_segment_postings::BlockSegmentPostings;
+pub use segment_postings::SegmentPostings;

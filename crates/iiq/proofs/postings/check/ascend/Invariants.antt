@@ -1,6 +1,0 @@
-use Rattle.std.proofs.Common.{◌≡◌, drop}
-use Rattle.ii_docset.specs.Entries.{ascend_from}
-use Rattle.iiq.proofs.postings.check.ascend.Given as goal
-
-abbrev pub invariant-loop-doc : goal.invariant-loop-doc
-invariant-loop-doc l = ascend_from l.least l.docs ≡ ascend_from l.next (drop l.doc-index l.docs)
