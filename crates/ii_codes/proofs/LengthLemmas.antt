@@ -1,5 +1,5 @@
 -- How many values are read.
-use Rattle.std.proofs.Common.{◌≡◌, ℕ, zero, suc, ◌+◌, ◌*◌, Bool, List, [], ◌∷◌, length, Option, Some, nat_le, refl, sym, ap, ◌∙◌}
+use Rattle.std.proofs.Common.{◌≡◌, ℕ, zero, suc, ◌+◌, ◌*◌, Bool, List, [], ◌∷◌, length, Some, nat_le, refl, sym, ap, ◌∙◌}
 use Rattle.ii_io.specs.Steps.{needs}
 use Rattle.ii_io.specs.StepLemmas.{step-some, some-same}
 use Rattle.ii_io.specs.Vints.{u32_at, u32s_at}

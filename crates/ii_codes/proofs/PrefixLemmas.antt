@@ -1,8 +1,10 @@
 -- Laws of values that are summed up without a test of each.
-use Rattle.std.proofs.Common.{◌≡◌, ℕ, ◌+◌, ◌-◌, ◌*◌, ◌%◌, ◌^◌, ◌<◌, ◌≤◌, Bool, true, false, ◌&&◌, List, [], ◌∷◌, ◌++◌, length, take, drop, map, get_or, set, nat_lt, refl, sym, ◌∙◌, arith, append_assoc, ⊎_elim}
+use Rattle.std.proofs.Common.{◌≡◌, ℕ, suc, ap, ◌+◌, ◌-◌, ◌*◌, ◌%◌, ◌^◌, ◌<◌, ◌≤◌, Bool, true, false, ◌&&◌, List, [], ◌∷◌, ◌++◌, length, take, drop, map, get_or, set, nat_lt, refl, sym, ◌∙◌, arith, append_assoc, ⊎_elim}
 use Rattle.std.proofs.lemmas.Bool.{cases_lt, lt-ltb, le-ltb, ltb-true, and_parts}
 use Rattle.std.proofs.lemmas.List.{drop_more, drop-set-lt, append-nil, take_more_set, take_all, drop_all}
+use Rattle.std.proofs.lemmas.List.Sums.{sum_by-cons}
 use Rattle.std.specs.Bool.{OnTrue}
+use Rattle.std.specs.List.{sum}
 use Rattle.ii_codes.specs.Blocks.{values_from, unsorted_values}
 use Rattle.ii_codes.specs.Sums.{fit_u32}
 
@@ -123,3 +125,49 @@ adding-values fits k es out h done =
     (λ all.
     let values = rw (drop_all k out done, take_all k out done, append-nil out) at h.values in
     values ∙ fit_wrapped (unsorted_values true es) (sym (adding-fits fits k es out h done) ∙ all))
+
+-- the last of the values of e and more entries
+abbrev pub last_from : ℕ → ℕ → ℕ → List ℕ → ℕ
+last_from gap least e [] = least + e
+last_from gap least e (f ∷ fs) = last_from gap (least + e + gap) f fs
+
+last_from-ge : (gap least e : ℕ) (es : List ℕ) → least + e ≤ last_from gap least e es
+last_from-ge gap least e [] = omega arith
+last_from-ge gap least e (f ∷ fs) = let ih = last_from-ge gap (least + e + gap) f fs in omega arith
+
+last_from-value : (gap least e : ℕ) (es : List ℕ) → get_or (values_from gap least (e ∷ es)) (length es) 0 ≡ last_from gap least e es
+last_from-value gap least e [] = refl
+last_from-value gap least e (f ∷ fs) = last_from-value gap (least + e + gap) f fs
+
+last_from-sum : (gap least e : ℕ) (es : List ℕ) → last_from gap least e es ≡ least + sum (e ∷ es) + length es * gap
+last_from-sum gap least e [] = rw (sum_by-cons (λ (x : ℕ). x) e []) (omega arith)
+last_from-sum gap least e (f ∷ fs) =
+    let ih = last_from-sum gap (least + e + gap) f fs in
+    let place : suc (length fs) * gap ≡ length fs * gap + gap = omega arith in
+    rw (ih, sum_by-cons (λ (x : ℕ). x) e (f ∷ fs), place) (omega arith)
+
+last_from-fits : (gap least e : ℕ) (es : List ℕ) → fit_u32 (values_from gap least (e ∷ es)) ≡ nat_lt (last_from gap least e es) (2 ^ 32)
+last_from-fits gap least e [] = true_and (nat_lt (least + e) (2 ^ 32))
+last_from-fits gap least e (f ∷ fs) =
+    let ih = last_from-fits gap (least + e + gap) f fs in
+    let up = last_from-ge gap (least + e + gap) f fs in
+    ⊎_elim
+    (λ below. rw (lt-ltb (least + e) 4294967296 (omega arith)) ih)
+    (λ above. rw (ih, le-ltb (last_from gap (least + e + gap) f fs) 4294967296 above) (none (nat_lt (least + e) (2 ^ 32))))
+    (cases_lt (last_from gap (least + e + gap) f fs) 4294967296)
+
+-- the last of 128 values, by the sum of their entries
+pub last_fits : (gap least : ℕ) (es : List ℕ) → length es ≡ 128 → fit_u32 (values_from gap least es) ≡ nat_lt (least + sum es + 127 * gap) (2 ^ 32)
+last_fits gap least [] many = absurd (omega arith)
+last_fits gap least (e ∷ es) many =
+    let others : length es ≡ 127 = omega arith in
+    let last = rw others at (last_from-sum gap least e es) in
+    last_from-fits gap least e es ∙ ap (λ (x : ℕ). nat_lt x (2 ^ 32)) last
+
+pub last_value : (gap least : ℕ) (es : List ℕ) → length es ≡ 128 → get_or (values_from gap least es) 127 0 ≡ least + sum es + 127 * gap
+last_value gap least [] many = absurd (omega arith)
+last_value gap least (e ∷ es) many =
+    let others : length es ≡ 127 = omega arith in
+    let last = rw others at (last_from-sum gap least e es) in
+    let value = rw others at (last_from-value gap least e es) in
+    value ∙ last

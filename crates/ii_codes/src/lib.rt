@@ -13,6 +13,7 @@ pub mod vint;
 pub use bitpacker::{BitPacker, compute_num_bits, extract_bits};
 pub use decoder::{BlockDecoder, VIntDecoder};
 pub use encoder::{BlockEncoder, VIntEncoder};
+pub use packed::last_of_sorted_block;
 
 /// How many values a block has.
 pub const COMPRESSION_BLOCK_SIZE: usize = 128;

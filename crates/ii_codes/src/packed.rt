@@ -1,5 +1,6 @@
 ghost use Rattle.std.specs.Prelude.{◌≡◌, ℕ, ◌+◌, ◌*◌, ◌-◌, ◌^◌, ◌<◌, ◌≤◌, ◌++◌, true, length, take, drop, replicate, slice_index, IfSome};
 ghost use Rattle.std.specs.Bool.{OnTrue};
+ghost use Rattle.std.specs.List.{sum};
 ghost use Rattle.std.specs.List.Sorted.{IsStrictlyIncreasing};
 ghost use Rattle.std.specs.Option.{option_map};
 ghost use Rattle.std.specs.Int.{bytes_low_first};
@@ -349,6 +350,106 @@ fn sorted_values(bytes: &[u8], width: u8, gap: u64, least: u64, output: &mut [u3
         return sorted_from(bytes, width, gap, least, output);
     }
     sorted_from(&padded_block(&bytes[..size]), width, gap, least, output)
+}
+
+/// The sum of the entries of a width that is known where this is compiled.
+#[inline(never)]
+fn sum_width<const W: usize>(bytes: &[u8]) -> u64
+    requires narrow { W ≤ 32 }
+    requires enough { 16 * W + 8 ≤ length bytes.now }
+    ensures value { result ≡ sum (unpacked W bytes.now) }
+    ensures fits { result ≤ 128 * 2 ^ 32 }
+{
+    let mut sum = 0u64;
+    for group in 0..16usize {
+        for i in 0..8usize {
+            sum += u64::from(entry_of(bytes, W, group, i));
+        }
+    }
+    sum
+}
+
+/// The sum of the entries, where eight bytes more than the block's are at hand.
+fn sum_from(bytes: &[u8], width: u8) -> u64
+    requires narrow { width ≤ 32 }
+    requires enough { 16 * width + 8 ≤ length bytes.now }
+    ensures value { result ≡ sum (unpacked width bytes.now) }
+    ensures fits { result ≤ 128 * 2 ^ 32 }
+{
+    match width {
+        0 => sum_width::<0>(bytes),
+        1 => sum_width::<1>(bytes),
+        2 => sum_width::<2>(bytes),
+        3 => sum_width::<3>(bytes),
+        4 => sum_width::<4>(bytes),
+        5 => sum_width::<5>(bytes),
+        6 => sum_width::<6>(bytes),
+        7 => sum_width::<7>(bytes),
+        8 => sum_width::<8>(bytes),
+        9 => sum_width::<9>(bytes),
+        10 => sum_width::<10>(bytes),
+        11 => sum_width::<11>(bytes),
+        12 => sum_width::<12>(bytes),
+        13 => sum_width::<13>(bytes),
+        14 => sum_width::<14>(bytes),
+        15 => sum_width::<15>(bytes),
+        16 => sum_width::<16>(bytes),
+        17 => sum_width::<17>(bytes),
+        18 => sum_width::<18>(bytes),
+        19 => sum_width::<19>(bytes),
+        20 => sum_width::<20>(bytes),
+        21 => sum_width::<21>(bytes),
+        22 => sum_width::<22>(bytes),
+        23 => sum_width::<23>(bytes),
+        24 => sum_width::<24>(bytes),
+        25 => sum_width::<25>(bytes),
+        26 => sum_width::<26>(bytes),
+        27 => sum_width::<27>(bytes),
+        28 => sum_width::<28>(bytes),
+        29 => sum_width::<29>(bytes),
+        30 => sum_width::<30>(bytes),
+        31 => sum_width::<31>(bytes),
+        _ => sum_width::<32>(bytes),
+    }
+}
+
+/// The sum of the 128 entries of `width` bits that `bytes` begin with.
+fn sum_of(bytes: &[u8], width: u8) -> u64
+    requires narrow { width ≤ 32 }
+    requires enough { 16 * width ≤ length bytes.now }
+    ensures value { result ≡ sum (unpacked width bytes.now) }
+    ensures fits { result ≤ 128 * 2 ^ 32 }
+{
+    let size = compressed_block_size(width);
+    if bytes.len() - size >= 8 {
+        return sum_from(bytes, width);
+    }
+    sum_from(&padded_block(&bytes[..size]), width)
+}
+
+/// The last value of the block of 128 values of `num_bits` bits that the bytes begin with, sorted
+/// after `offset` as `BlockDecoder::try_uncompress_block_sorted` says: the sum of its entries tells
+/// it. `None` where that call refuses.
+pub fn last_of_sorted_block(
+    compressed_data: &[u8],
+    offset: u32,
+    num_bits: u8,
+    strict_delta: bool,
+) -> Option<u32>
+    ensures { result ≡ option_map (λ block. slice_index block.0 127) (sorted_block_at strict_delta offset num_bits compressed_data.now) }
+{
+    if num_bits > 32 {
+        return None;
+    }
+    if compressed_data.len() < compressed_block_size(num_bits) {
+        return None;
+    }
+    let gap = gap_of(strict_delta);
+    let last = least_first(strict_delta, offset) + sum_of(compressed_data, num_bits) + 127 * gap;
+    if last > u64::from(u32::MAX) {
+        return None;
+    }
+    Some(last as u32)
 }
 
 /// Adds one to each entry. False where one is `u32::MAX`.

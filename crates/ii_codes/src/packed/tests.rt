@@ -148,3 +148,23 @@ fn encodes_and_decodes_unsorted_blocks(rt: HostRuntime) {
     assert_eq!(rt; refused, Err(LayoutFault::Damaged(Part::Frequencies)));
     assert_eq!(rt; decoder.output_len(), 0);
 }
+
+#[test]
+fn tells_the_last_value_by_the_sum(rt: HostRuntime) {
+    let mut bytes = [0u8; 16];
+    assert_eq!(rt; last_of_sorted_block(&[], 0, 0, true), Some(127));
+    assert_eq!(rt; last_of_sorted_block(&[], 5, 0, true), Some(133));
+    assert_eq!(rt; last_of_sorted_block(&[], 5, 0, false), Some(5));
+    bytes[0] = 1;
+    assert_eq!(rt; last_of_sorted_block(&bytes, 0, 1, true), Some(128));
+    assert_eq!(rt;
+        last_of_sorted_block(&bytes, u32::MAX - 1, 1, false),
+        Some(u32::MAX)
+    );
+    assert_eq!(rt; last_of_sorted_block(&bytes, u32::MAX, 1, false), None);
+    assert_eq!(rt; last_of_sorted_block(&bytes[..15], 0, 1, true), None);
+    assert_eq!(rt; last_of_sorted_block(&[0; 600], 0, 33, true), None);
+    let mut plain = [0xAAu8; 40];
+    plain[0] = 0xA8;
+    assert_eq!(rt; last_of_sorted_block(&plain, 0, 2, false), Some(254));
+}
