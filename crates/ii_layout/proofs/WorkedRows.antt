@@ -1,14 +1,16 @@
 -- Worked rows, each computed.
-use Rattle.std.specs.Prelude.{◌≡◌, ◌*◌, [], ◌∷◌, ◌++◌, replicate, refl, Ok, Err, map}
+use Rattle.std.specs.Prelude.{◌≡◌, ◌*◌, [], ◌∷◌, ◌++◌, replicate, refl, true, Ok, Err, map}
 use Rattle.std.specs.List.{range_with_len}
-use Rattle.ii_base.specs.declared.schema.index_record_option.IndexRecordOption.TheVariants.{Basic}
+use Rattle.ii_base.specs.declared.schema.index_record_option.IndexRecordOption.TheVariants.{Basic, WithFreqs, WithFreqsAndPositions}
 use Rattle.ii_io.specs.declared.faults.Part.TheVariants.{Skip, Documents}
 use Rattle.ii_io.specs.Numbers.{le_bytes}
 use Rattle.ii_io.specs.Vints.{vint_u32, vint_u64, u32_at, u64_at}
 use Rattle.ii_codes.specs.Packed.{bits_in, entries_in, packed, unpacked, num_bits}
 use Rattle.ii_codes.specs.Blocks.{sorted_block_at}
 use Rattle.ii_docset.specs.Entries.{document}
-use Rattle.ii_layout.specs.SkipList.{entry_at}
+use Rattle.ii_layout.specs.declared.skip.BlockInfo.TheVariants.{BitPacked, VInt}
+use Rattle.ii_layout.specs.SkipList.{entry_at, entries_at}
+use Rattle.ii_layout.specs.SkipReader.{reader_at}
 use Rattle.ii_layout.specs.Postings.{document_list}
 use Rattle.ii_layout.specs.Written.{written_documents}
 
@@ -64,3 +66,28 @@ row_plain = refl
 pub row_many : document_list Basic 4294967295 (0x85 ∷ 0x7F ∷ 0 ∷ 0 ∷ 0 ∷ 0x40 ∷ []) ≡ Err Skip
 unfolding u64_at
 row_many = refl
+
+-- entries of eight and of twelve bytes
+pub row_freqs : entry_at WithFreqs (1 ∷ 0 ∷ 0 ∷ 0 ∷ 0x42 ∷ 3 ∷ 0x0D ∷ 3 ∷ []) ≡ record { last_doc = 1; strict_delta = true; doc_num_bits = 2; tf_num_bits = 3; tf_sum = 0; block_wand_fieldnorm_id = 13; block_wand_term_freq = 3 }
+unfolding entry_at
+row_freqs = refl
+
+pub row_long : entry_at WithFreqsAndPositions (0x7F ∷ 0 ∷ 0 ∷ 0 ∷ 0x40 ∷ 2 ∷ 0x80 ∷ 1 ∷ 0 ∷ 0 ∷ 7 ∷ 8 ∷ [])
+    ≡ record { last_doc = 127; strict_delta = true; doc_num_bits = 0; tf_num_bits = 2; tf_sum = 384; block_wand_fieldnorm_id = 7; block_wand_term_freq = 8 }
+unfolding entry_at
+row_long = refl
+
+pub row_walk : reader_at WithFreqs 259 (entries_at WithFreqs 2 (1 ∷ 0 ∷ 0 ∷ 0 ∷ 0x42 ∷ 3 ∷ 0x0D ∷ 3 ∷ 5 ∷ 0 ∷ 0 ∷ 0 ∷ 0x45 ∷ 2 ∷ 8 ∷ 2 ∷ [])) 1
+    ≡ record { skip_info = WithFreqs; doc_freq = 259; block = 1; last_doc_in_block = 5; last_doc_in_previous_block = 1; byte_offset = 80; block_info = BitPacked 5 true 2 0 8 2; entries_read = 2 }
+unfolding entry_at
+row_walk = refl
+
+pub row_walk_end : reader_at WithFreqs 259 (entries_at WithFreqs 2 (1 ∷ 0 ∷ 0 ∷ 0 ∷ 0x42 ∷ 3 ∷ 0x0D ∷ 3 ∷ 5 ∷ 0 ∷ 0 ∷ 0 ∷ 0x45 ∷ 2 ∷ 8 ∷ 2 ∷ [])) 2
+    ≡ record { skip_info = WithFreqs; doc_freq = 259; block = 2; last_doc_in_block = 2147483647; last_doc_in_previous_block = 5; byte_offset = 192; block_info = VInt 3; entries_read = 2 }
+unfolding entry_at
+row_walk_end = refl
+
+-- a width of counts above 32
+pub row_wide : document_list WithFreqs 128 (0x88 ∷ 0x7F ∷ 0 ∷ 0 ∷ 0 ∷ 0x40 ∷ 0x21 ∷ 0 ∷ 0 ∷ []) ≡ Err Skip
+unfolding entry_at u64_at
+row_wide = refl

@@ -2,7 +2,7 @@ ghost use Rattle.std.specs.Prelude.{◌≤◌};
 
 use crate::skip::{BlockInfo, decode_bitwidth, decode_block_wand_max_tf, encode_bitwidth};
 use crate::written::reads_documents_back;
-use crate::{PostingsSerializer, SkipReader, SkipSerializer};
+use crate::{PostingsSerializer, SkipPlaces, SkipReader, SkipSerializer, split_into_skips_and_postings};
 use ii_base::{CountingWriter, Fault, IndexRecordOption};
 use ii_docset::TERMINATED;
 use ii_fieldnorm::FieldNormReader;
@@ -80,11 +80,18 @@ fn a_refused_serializer_is_closed(rt: HostRuntime) {
     let answer = serializer.write_doc(1, 1);
     assert_eq!(rt; answer, Ok(()));
     assert_eq!(rt; serializer.close_term(1, &mut output), Err(Fault::Write));
+    // each further call can be made, and is refused
+    let answer = serializer.close_term(1, &mut output);
+    assert_eq!(rt; answer, Err(Fault::SerializerClosed));
+    let answer = serializer.write_doc(0, 1);
+    assert_eq!(rt; answer, Err(Fault::SerializerClosed));
+    let answer = serializer.write_doc(0, 1);
+    assert_eq!(rt; answer, Err(Fault::SerializerClosed));
     serializer.new_term(1, false);
     assert_eq!(rt; serializer.write_doc(1, 1), Err(Fault::SerializerClosed));
-    serializer.new_term(0, false);
-    let answer = serializer.close_term(0, &mut output);
+    let answer = serializer.close_term(7, &mut output);
     assert_eq!(rt; answer, Err(Fault::SerializerClosed));
+    assert_eq!(rt; output.failed_calls(), 1);
 }
 
 #[test]
@@ -127,4 +134,45 @@ fn skip_entries_are_read(rt: HostRuntime) {
     skip.reset(&[], 7);
     assert_eq!(rt; skip.block_info(), BlockInfo::VInt { num_docs: 7 });
     assert_eq!(rt; decode_block_wand_max_tf(254), 254);
+}
+
+#[test]
+fn entries_with_counts_are_read(rt: HostRuntime) {
+    let bytes = [
+        1, 0, 0, 0, 0x42, 3, 0x0D, 3, 5, 0, 0, 0, 0x45, 2, 8, 2,
+    ];
+    let mut skip = SkipReader::new(&bytes, 259, IndexRecordOption::WithFreqs);
+    assert_eq!(rt; skip.last_doc_in_block(), 1);
+    assert_eq!(rt; skip.byte_offset(), 0);
+    skip.advance(&bytes);
+    assert_eq!(rt; skip.last_doc_in_block(), 5);
+    assert_eq!(rt; skip.byte_offset(), 80);
+    skip.advance(&bytes);
+    assert_eq!(rt; skip.block_info(), BlockInfo::VInt { num_docs: 3 });
+    assert_eq!(rt; skip.byte_offset(), 192);
+    skip.advance(&bytes);
+    assert_eq!(rt; skip.block_info(), BlockInfo::VInt { num_docs: 0 });
+    skip.advance(&bytes);
+    assert_eq!(rt; skip.block_info(), BlockInfo::VInt { num_docs: 0 });
+}
+
+#[test]
+fn a_skip_list_is_split(rt: HostRuntime) {
+    let long = [0x8C, 0x7F, 0, 0, 0, 0x40, 2, 0x80, 1, 0, 0, 0, 0, 0xAA];
+    let option = IndexRecordOption::WithFreqsAndPositions;
+    let places = Some(SkipPlaces {
+        skip_info: option,
+        entries: 1,
+        body: 13,
+    });
+    assert_eq!(rt; split_into_skips_and_postings(128, &long, option), places);
+    // a width of counts above 32, entries that are missing, and a size that passes the bytes
+    let wide = [0x88, 0x7F, 0, 0, 0, 0x40, 0x21, 0, 0];
+    let split = split_into_skips_and_postings(128, &wide, IndexRecordOption::WithFreqs);
+    assert_eq!(rt; split, None);
+    let few = [0x88, 0x7F, 0, 0, 0, 0x40, 0, 0, 0];
+    assert_eq!(rt; split_into_skips_and_postings(128, &few, option), None);
+    let cut = [0x85, 0x7F, 0, 0, 0];
+    let split = split_into_skips_and_postings(128, &cut, IndexRecordOption::Basic);
+    assert_eq!(rt; split, None);
 }

@@ -3,6 +3,8 @@
 
 pub mod block_segment_postings;
 pub mod segment_postings;
+#[cfg(test)]
+mod tests;
 
 pub use block_segment_postings::BlockSegmentPostings;
 pub use segment_postings::SegmentPostings;
