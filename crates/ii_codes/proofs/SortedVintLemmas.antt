@@ -3,7 +3,7 @@ use Rattle.std.proofs.Common.{◌≡◌, ℕ, zero, suc, ◌+◌, ◌-◌, ◌%�
 use Rattle.std.specs.Option.{option_map}
 use Rattle.std.specs.List.{flat_map, AllByRecursion}
 use Rattle.std.proofs.lemmas.Bool.{lt-ltb, le-ltb}
-use Rattle.std.proofs.lemmas.List.{take_more_set, take_all, drop-drop, length-set, length-drop, get_or-drop}
+use Rattle.std.proofs.lemmas.List.{take_more_set, take_all, drop-drop, length-set, length-drop}
 use Rattle.std.proofs.lemmas.List.{append-nil}
 use Rattle.ii_io.specs.Steps.{◌>>=◌}
 use Rattle.ii_io.specs.Vints.{u32_at, u32s_at, vint_u32}
@@ -188,14 +188,6 @@ u32_at-one [] n high byte e = absurd (omega arith)
 u32_at-one (b ∷ rest) n high byte e =
     let low : b % 128 ≡ n = omega arith in
     rw (le-ltb b 128 high, low, lt-ltb n 4294967296 (omega arith)) refl
-
-pub row-one : (bytes output : List ℕ) (i used d : ℕ) → IsReadingRow bytes output i used → i < length output → 128 ≤ get_or bytes used 0 → get_or bytes used 0 < 256 → used < length bytes → d ≡ get_or bytes used 0 - 128
-    → IsReadingRow bytes (set output i d) (i + 1) (used + 1)
-row-one bytes output i used d r more high byte within e =
-    let here : used + 0 ≡ used = omega arith in
-    let first = rw here at (get_or-drop used bytes 0 0) in
-    let one = u32_at-one (drop used bytes) d (rw first high) (rw first byte) (rw first e) in
-    row-more bytes output i used d 1 r more one (omega (arith, length-drop used bytes))
 
 -- values by their places
 pub falls_by : (before : ℕ) (vs : List ℕ) → (0 < length vs → before ≤ get_or vs 0 0) → ((k : ℕ) → suc k < length vs → get_or vs k 0 ≤ get_or vs (suc k) 0) → DoNotFall before vs

@@ -1,7 +1,7 @@
 ghost use Rattle.std.specs.Prelude.{◌≡◌, ℕ, ◌+◌, ◌*◌, ◌<◌, ◌≤◌, length, drop, take, Some, IsSome, IfSome};
 ghost use Rattle.std.specs.Bool.{OnTrue};
 ghost use Rattle.std.specs.Option.{option_map};
-ghost use Rattle.ii_io.specs.Vints.{u32s_at};
+ghost use Rattle.ii_io.specs.Vints.{u32_at, u32s_at};
 ghost use Rattle.ii_codes.specs.Sums.{DoNotFall, fit_u32, running_sums};
 ghost use Rattle.ii_codes.specs.SortedVints.{sorted_vints_at, sorted_vints, ReadsSortedVintsBack};
 ghost use Rattle.ii_codes.specs.UnsortedVints.{unsorted_vints, u32s_until_end, ReadsUnsortedVintsBack};
@@ -128,13 +128,7 @@ pub(crate) fn try_uncompress_unsorted(compressed_data: &[u8], output: &mut [u32]
 {
     let mut used = 0;
     for entry in output.iter_mut() {
-        // most numbers have one byte
-        if used < compressed_data.len() && compressed_data[used] >= 128 {
-            *entry = u32::from(compressed_data[used] - 128);
-            used += 1;
-            continue;
-        }
-        let Some((value, size)) = vint::read_u32(&compressed_data[used..]) else {
+        let Some((value, size)) = read_u32(&compressed_data[used..]) else {
             return None;
         };
         *entry = value;
@@ -169,13 +163,25 @@ pub(crate) fn try_uncompress_unsorted_until_end(
         if used == compressed_data.len() {
             return Some(k);
         }
-        let Some((value, size)) = vint::read_u32(&compressed_data[used..]) else {
+        let Some((value, size)) = read_u32(&compressed_data[used..]) else {
             return None;
         };
         output[k] = value;
         used += size;
     }
     Some(output.len())
+}
+
+/// Reads a number as `ii_io::vint::read_u32` does, of which most have one byte.
+#[inline(always)]
+fn read_u32(bytes: &[u8]) -> Option<(u32, usize)>
+    ensures value { option_map (λ read. (read.0, drop read.1 bytes.now)) result ≡ u32_at bytes.now }
+    ensures within { IfSome result (λ read. read.1 ≤ length bytes.now) }
+{
+    if !bytes.is_empty() && bytes[0] >= 128 {
+        return Some((u32::from(bytes[0] - 128), 1));
+    }
+    vint::read_u32(bytes)
 }
 
 /// The law of rows of vints: what is written is read back, whatever follows.

@@ -1,6 +1,6 @@
 use Rattle.std.proofs.Common.{◌<◌, ◌≤◌, length, arith}
 use Rattle.std.proofs.lemmas.List.{take_rest}
-use Rattle.ii_codes.proofs.SortedVintLemmas.{row-first, row-none, row-one, row-more, row-all}
+use Rattle.ii_codes.proofs.SortedVintLemmas.{row-first, row-none, row-more, row-all}
 use Rattle.ii_codes.proofs.vint.try_uncompress_unsorted.Goals as goal
 
 pub loop-entry-init : goal.loop-entry-init
@@ -23,9 +23,3 @@ pub returns-clause-value : goal.returns-clause-value
 returns-clause-value c =
     let done : length c.loop-entry.output ≤ c.loop-entry.entry-index = omega arith in
     rw (← c.loop-entry.auto.output) (row-all c.args.compressed_data.now c.loop-entry.output c.loop-entry.entry-index c.loop-entry.used c.loop-entry.invariant done)
-
-pub loop-entry-preserved-then-compressed_data-used-ge128 :
-    goal.loop-entry-preserved-then-compressed_data-used-ge128
-loop-entry-preserved-then-compressed_data-used-ge128 c =
-    row-one c.args.compressed_data.now c.loop-entry.output c.loop-entry.entry-index c.loop-entry.used c.from.result c.loop-entry.invariant (omega arith) (omega arith)
-    (omega (arith, c.type_inv.compressed_data c.loop-entry.used)) (omega arith) (omega arith)
