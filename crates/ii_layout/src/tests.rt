@@ -2,7 +2,9 @@ ghost use Rattle.std.specs.Prelude.{◌≤◌};
 
 use crate::skip::{BlockInfo, decode_bitwidth, decode_block_wand_max_tf, encode_bitwidth};
 use crate::written::reads_documents_back;
-use crate::{PostingsSerializer, SkipPlaces, SkipReader, SkipSerializer, split_into_skips_and_postings};
+use crate::{
+    PostingsSerializer, SkipPlaces, SkipReader, SkipSerializer, split_into_skips_and_postings,
+};
 use ii_base::{CountingWriter, Fault, IndexRecordOption};
 use ii_docset::TERMINATED;
 use ii_fieldnorm::FieldNormReader;
@@ -138,9 +140,7 @@ fn skip_entries_are_read(rt: HostRuntime) {
 
 #[test]
 fn entries_with_counts_are_read(rt: HostRuntime) {
-    let bytes = [
-        1, 0, 0, 0, 0x42, 3, 0x0D, 3, 5, 0, 0, 0, 0x45, 2, 8, 2,
-    ];
+    let bytes = [1, 0, 0, 0, 0x42, 3, 0x0D, 3, 5, 0, 0, 0, 0x45, 2, 8, 2];
     let mut skip = SkipReader::new(&bytes, 259, IndexRecordOption::WithFreqs);
     assert_eq!(rt; skip.last_doc_in_block(), 1);
     assert_eq!(rt; skip.byte_offset(), 0);

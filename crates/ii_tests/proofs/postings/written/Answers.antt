@@ -3,7 +3,7 @@ use Rattle.ii_tests.proofs.EvenDocuments.{evens_documents, evens_are_documents, 
 use Rattle.ii_tests.proofs.postings.written.Goals as goal
 
 pub write_doc-requires : goal.write_doc-requires
-write_doc-requires c = rw c.loop-i.invariant (evens_documents c.loop-i.i (omega arith))
+write_doc-requires c = rw c.loop-i.invariant (λ _. evens_documents c.loop-i.i (omega arith))
 
 pub loop-i-preserved : goal.loop-i-preserved
 loop-i-preserved c = next_run _ _ _ c.loop-i.invariant c.in_ok-write_doc.ensures.ok
@@ -11,4 +11,4 @@ loop-i-preserved c = next_run _ _ _ c.loop-i.invariant c.in_ok-write_doc.ensures
 pub close_term-requires : goal.close_term-requires
 close_term-requires c =
     let same : c.args.count ≡ c.loop-i.i = omega arith in
-    rw c.loop-i.invariant (record { counted = same ∙ length-evens c.loop-i.i; ascending = evens_are_documents c.loop-i.i (omega arith) })
+    rw c.loop-i.invariant (record { counted = λ _. same ∙ length-evens c.loop-i.i; ascending = evens_are_documents c.loop-i.i (omega arith) })
