@@ -6,7 +6,7 @@ use Rattle.ii_io.specs.declared.faults.Fault as fault
 use Rattle.ii_io.specs.declared.faults.LayoutFault.{LayoutFault}
 use Rattle.ii_io.specs.declared.faults.LayoutFault.TheVariants as layout
 
--- the number by which a fault is writer
+-- the number of a fault
 abbrev pub number_of : Fault → ℕ
 number_of OutOfMemory = 1
 number_of Write = 2

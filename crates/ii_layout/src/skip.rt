@@ -351,7 +351,7 @@ impl SkipReader {
         self.byte_offset
     }
 
-    /// What is writer of the block.
+    /// What the skip list tells of the block.
     pub fn block_info(&self) -> BlockInfo
         ensures { result ≡ self.now.block_info }
     {

@@ -27,7 +27,7 @@ pub fn read_back(alloc: Global) -> Result<String, Fault> {
     Ok(text)
 }
 
-// Adds what is writer of a block.
+// Adds what the skip list tells of a block.
 fn push_block(text: &mut String, reader: &SkipReader) -> Result<(), Fault> {
     let place = reader.byte_offset();
     match reader.block_info() {
