@@ -32,9 +32,6 @@ pub record IsCheckedTo (skip : SkipList) (i least : ℕ) : Type 0 where
   pub least_after_is : least ≡ least_after 0 (concat blocks)
   pub least_is : least ≡ least_of skip.entries i
 
-pub checked_first : (skip : SkipList) → IsCheckedTo skip 0 0
-checked_first skip = record { blocks = []; read = refl; up = refl; least_after_is = refl; least_is = refl }
-
 -- What a block that fits is.
 record FitsBlock (strict : Bool) (before width last_doc least : ℕ) (bytes : List ℕ) : Type 0 where
   docs : List ℕ

@@ -102,30 +102,6 @@ range_sound first end within low = documents_sound (range_with_len first (end - 
 
 pub ruleset cursor_steps = (IsAscending_drop_1, from_doc_step, from_doc_here, length_below, nothing_left, length_step, doc_below)
 
--- documents read one by one
-next_cases : (least d : ℕ) (later : List ℕ) (low high : Bool) → nat_le least d ≡ low → nat_lt d 2147483647 ≡ high → (low && high) ≡ true → ascend_from least (d ∷ later) ≡ ascend_from (d + 1) later
-next_cases least d later true true p q h = rw (p, q) refl
-next_cases least d later true false p q h = absurd (cc)
-next_cases least d later false high p q h = absurd (cc)
-
-pub ascend_next : (docs : List ℕ) (i least d : ℕ) → i < length docs → get_or docs i 0 ≡ d → least ≤ d → d < 2147483647 → ascend_from least (drop i docs) ≡ ascend_from (d + 1) (drop (i + 1) docs)
-ascend_next docs i least d h e low high =
-    let next = next_cases least d (drop (suc i) docs) true true (le-leb least d low) (lt-ltb d 2147483647 high) refl in
-    rw (drop-cons docs i 0 h, e, add-one i) next
-
-pub ascend_low : (docs : List ℕ) (i least : ℕ) → i < length docs → get_or docs i 0 < least → false ≡ ascend_from least (drop i docs)
-ascend_low docs i least h low = rw (drop-cons docs i 0 h, lt-leb least (get_or docs i 0) low) refl
-
-high_case : (least d : ℕ) (later : List ℕ) (low : Bool) → nat_le least d ≡ low → 2147483647 ≤ d → false ≡ ascend_from least (d ∷ later)
-high_case least d later true p h = rw (p, le-ltb d 2147483647 h) refl
-high_case least d later false p h = rw p refl
-
-pub ascend_high : (docs : List ℕ) (i least : ℕ) → i < length docs → 2147483647 ≤ get_or docs i 0 → false ≡ ascend_from least (drop i docs)
-ascend_high docs i least h high = rw (drop-cons docs i 0 h) (high_case least (get_or docs i 0) (drop (suc i) docs) (nat_le least (get_or docs i 0)) refl high)
-
-pub ascend_all : (docs : List ℕ) (i least : ℕ) → length docs ≤ i → ascend_from least (drop i docs) ≡ true
-ascend_all docs i least h = rw (drop_all i docs h) refl
-
 -- documents from the front are documents
 ascend_take : (n least : ℕ) (docs : List ℕ) → ascend_from least docs ≡ true → ascend_from least (take n docs) ≡ true
 ascend_take zero least docs h = refl

@@ -4,12 +4,6 @@ use Rattle.ii_termstore.specs.declared.term_info.TermInfo.{TermInfo}
 use Rattle.ii_termstore.specs.Written.{info_in}
 use Rattle.ii_termstore.specs.ReadBack.{AreJoined, EndAt}
 
-pub none_joined : AreJoined []
-none_joined = record { postings = λ k h. absurd (omega arith); positions = λ k h. absurd (omega arith) }
-
-pub none_end_at : (postings positions : ℕ) → EndAt [] postings positions
-none_end_at postings positions = record { postings = λ k h. absurd (omega arith); positions = λ k h. absurd (omega arith) }
-
 -- a pair of neighbours in a list with one term more
 neighbours : (P : TermInfo → TermInfo → Type 0) (infos : List TermInfo) (i : TermInfo) → ((k : ℕ) → suc k < length infos → P (info_in infos k) (info_in infos (suc k)))
     → ((k : ℕ) → suc k ≡ length infos → P (info_in infos k) i) → (k : ℕ) → suc k < length (infos ++ i ∷ []) → P (info_in (infos ++ i ∷ []) k) (info_in (infos ++ i ∷ []) (suc k))
