@@ -153,9 +153,3 @@ all_unpacked w bytes out e many = sym (take_all 128 out (omega arith)) ∙ e
 pub all_packed : (w n : ℕ) (entries out : List ℕ) → take n out ≡ entries_in w 8 n entries → n ≡ 16 * w → take (16 * w) out ≡ packed w entries
 unfolding packed
 all_packed w n entries out e many = rw (← many) e
-
--- entry k of n of v bits lies in the row
-pub entry_within : (k v n most w : ℕ) → k < n → n * v ≤ w * most → w ≡ v → k * w + v ≤ n * v
-entry_within k v n most w h whole same =
-    let below : suc k * v ≤ n * v = mul-le-mul_right v h in
-    rw same (omega (arith, below, suc-mul k v))

@@ -18,13 +18,6 @@ pub record IsSumming (gap least next k : ℕ) (es out : List ℕ) : Type 0 where
   pub values : take k out ++ wrapped_from gap next (drop k es) ≡ wrapped_from gap least es
   pub fit : fit_u32 (values_from gap least es) ≡ (nat_lt next (2 ^ 32 + gap) && fit_u32 (values_from gap next (drop k es)))
 
-pub summing-first : (gap least : ℕ) (es out : List ℕ) → gap ≤ 1 → least < 2 ^ 32 + gap → IsSumming gap least least 0 es out
-summing-first gap least es out g low = record {
-  bound = omega arith;
-  values = refl;
-  fit = rw (lt-ltb least (4294967296 + gap) low) refl;
-}
-
 none : (b : Bool) → (b && false) ≡ false
 none true = refl
 none false = refl
@@ -89,32 +82,6 @@ wrapped_above es = map (λ v. v % 2 ^ 32) (unsorted_values true es)
 pub record IsAddingOne (fits : Bool) (k : ℕ) (es out : List ℕ) : Type 0 where
   pub values : take k out ++ wrapped_above (drop k out) ≡ wrapped_above es
   pub fit : fit_u32 (unsorted_values true es) ≡ (fits && fit_u32 (unsorted_values true (drop k out)))
-
-pub adding-first : (es : List ℕ) → IsAddingOne true 0 es es
-adding-first es = record { values = refl; fit = refl }
-
-and_assoc : (a b c : Bool) → (a && (b && c)) ≡ ((a && b) && c)
-and_assoc true b c = refl
-and_assoc false b c = refl
-
-below_most : (e : ℕ) → nat_lt (e + 1) (2 ^ 32) ≡ nat_lt e (2 ^ 32 - 1)
-below_most e =
-    ⊎_elim
-    (λ below. rw (lt-ltb e 4294967295 below, lt-ltb (e + 1) 4294967296 (omega arith)) refl)
-    (λ above. rw (le-ltb e 4294967295 above, le-ltb (e + 1) 4294967296 (omega arith)) refl)
-    (cases_lt e 4294967295)
-
-pub adding-more : (fits b : Bool) (k e x : ℕ) (es out : List ℕ) → IsAddingOne fits k es out → k < length out → e ≡ get_or out k 0 → x ≡ (e + 1) % 2 ^ 32 → b ≡ nat_lt e (2 ^ 32 - 1)
-    → IsAddingOne (fits && b) (k + 1) es (set out k x)
-adding-more fits b k e x es out h within entry wrapped below =
-    let more = drop_more out k 0 within in
-    let rest = drop-set-lt (k + 1) out k x (omega arith) in
-    let values = rw (more, ← entry) at h.values in
-    let fit = rw (more, ← entry) at h.fit in
-    record {
-      values = rw (rest, take_more_set out k x within, wrapped) (append_assoc (take k out) ((e + 1) % 2 ^ 32 ∷ []) (wrapped_above (drop (k + 1) out)) ∙ values);
-      fit = rw (rest, below, ← below_most e) (fit ∙ and_assoc fits (nat_lt (e + 1) (2 ^ 32)) (fit_u32 (unsorted_values true (drop (k + 1) out))));
-    }
 
 pub adding-fits : (fits : Bool) (k : ℕ) (es out : List ℕ) → IsAddingOne fits k es out → length out ≤ k → fits ≡ fit_u32 (unsorted_values true es)
 adding-fits fits k es out h done = let fit = rw (drop_all k out done) at h.fit in sym (fit ∙ true_and fits)

@@ -133,25 +133,9 @@ pub record IsReadingOn (bytes output : List ℕ) (k used : ℕ) : Type 0 where
   pub inside : used ≤ length bytes
   pub on : u32s_until_end (length output) bytes ≡ ends_with (take k output) (u32s_until_end (length output - k) (drop used bytes))
 
-on_first : (o : Option (List ℕ)) → o ≡ ends_with [] o
-on_first None = refl
-on_first (Some f) = refl
-
-pub on-first : (bytes output : List ℕ) → IsReadingOn bytes output 0 0
-on-first bytes output =
-    let all : length output - 0 ≡ length output = omega arith in
-    record { inside = omega arith; on = rw all (on_first (u32s_until_end (length output) bytes)) }
-
 pub on-end : (bytes output : List ℕ) (k used : ℕ) → IsReadingOn bytes output k used → length (drop used bytes) ≡ 0 → Some (take k output) ≡ u32s_until_end (length output) bytes
 on-end bytes output k used r end =
     sym (r.on ∙ ap (ends_with (take k output)) (until_end-none (length output - k) (drop used bytes) end) ∙ ap (λ (xs : List ℕ). Some xs) (append-nil (take k output)))
-
-pub on-none : (bytes output : List ℕ) (k used : ℕ) → IsReadingOn bytes output k used → k < length output → 0 < length (drop used bytes) → None ≡ u32_at (drop used bytes)
-    → None ≡ u32s_until_end (length output) bytes
-on-none bytes output k used r more some e =
-    let on = rw (left_is (length output) k more) at r.on in
-    let next = rw (← e) at (until_end-some (length output - (k + 1)) (drop used bytes) some) in
-    sym (on ∙ ap (ends_with (take k output)) next)
 
 pub on-more : (bytes output : List ℕ) (k used d size : ℕ) → IsReadingOn bytes output k used → k < length output → 0 < length (drop used bytes)
     → Some (d, drop size (drop used bytes)) ≡ u32_at (drop used bytes) → size ≤ length (drop used bytes) → IsReadingOn bytes (set output k d) (k + 1) (used + size)
@@ -164,22 +148,6 @@ on-more bytes output k used d size r more some e within =
       inside = let room = rw length-drop at within in omega arith;
       on = rw (length-set output k d, take_more_set output k d more, ← drop-drop size used bytes) whole;
     }
-
-pub on-all : (bytes output : List ℕ) (k used n : ℕ) → IsReadingOn bytes output k used → length output ≤ k → n ≡ length output → Some (take n output) ≡ u32s_until_end (length output) bytes
-on-all bytes output k used n r done all =
-    let left : length output - k ≡ 0 = omega arith in
-    let on = rw (left, take_all k output done) at r.on in
-    rw (all, take_all (length output) output (omega arith)) (sym (on ∙ ap (λ (xs : List ℕ). Some xs) (append-nil output)))
-
--- sums of what is read, as the code names its parts
-pub sorted-none : (offset n : ℕ) (bytes : List ℕ) → None ≡ u32s_at n bytes → None ≡ sorted_vints_at offset n bytes
-sorted-none offset n bytes e = rw (← e) refl
-
-pub sorted-fits : (offset n : ℕ) (bytes ds vs rest : List ℕ) → Some (ds, rest) ≡ u32s_at n bytes → true ≡ fit_u32 (running_sums offset ds) → vs ≡ running_sums offset ds → Some (vs, rest) ≡ sorted_vints_at offset n bytes
-sorted-fits offset n bytes ds vs rest e fits same = rw (← e, ← fits, same) refl
-
-pub sorted-past : (offset n : ℕ) (bytes ds rest : List ℕ) → Some (ds, rest) ≡ u32s_at n bytes → false ≡ fit_u32 (running_sums offset ds) → None ≡ sorted_vints_at offset n bytes
-sorted-past offset n bytes ds rest e past = rw (← e, ← past) refl
 
 -- a number of one byte
 pub u32_at-one : (bytes : List ℕ) (n : ℕ) → 128 ≤ get_or bytes 0 0 → get_or bytes 0 0 < 256 → n ≡ get_or bytes 0 0 - 128 → Some (n, drop 1 bytes) ≡ u32_at bytes

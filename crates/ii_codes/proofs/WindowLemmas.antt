@@ -104,9 +104,6 @@ read_window row rest place w x shape e narrow =
     let moved = rw there at (bits_in-drop row (place / 8) (place % 8) w) in
     rw (one, power) (cut ∙ ap (λ (xs : List ℕ). bits_in 8 xs (place % 8) w) shape ∙ moved)
 
-pub read_padded : (row rest : List ℕ) (place w m x : ℕ) → rest ≡ drop (place / 8) row → x ≡ bits_in 8 (rest ++ replicate m 0) 0 64 → w ≤ 56 → x / 2 ^ (place % 8) % (1 * 2 ^ w % 2 ^ 64) ≡ bits_in 8 row place w
-read_padded row rest place w m x shape e narrow = read_window row rest place w x shape (e ∙ bits_in-padded rest m 0 64) narrow
-
 -- entry i of group g of entries of w bits
 pub group_entry : (row : List ℕ) (g i w b x : ℕ) → b ≡ i * w → x ≡ bits_in 8 (drop (g * w + b / 8) row) 0 64 → w ≤ 32 → x / 2 ^ (b % 8) % (1 * 2 ^ w % 2 ^ 64) ≡ bits_in 8 row ((8 * g + i) * w) w
 group_entry row g i w b x here e narrow =

@@ -8,10 +8,6 @@ pub length-low_bits : (w n : ℕ) → length (low_bits w n) ≡ w
 length-low_bits zero n = refl
 length-low_bits (suc w) n = ap suc (length-low_bits w (n / 2))
 
-pub length-whole_bytes : (row : List ℕ) → length (whole_bytes row) ≡ length row / 8
-unfolding whole_bytes entries_in
-length-whole_bytes row = length-map-range_with_len (λ k. bits_in 1 row (k * 8) 8) 0 (length row / 8)
-
 pub length-bits_left : (row : List ℕ) → length (bits_left row) ≡ length row % 8
 length-bits_left row = omega (arith, length-drop (length row / 8 * 8) row)
 

@@ -35,15 +35,6 @@ pub reply_text : (line text : List ℕ) → false ≡ (eqb (length line) 0) → 
     → Some text ≡ option_map (λ command. with_ends (command_texts command)) (command_of line) → text ≡ reply_to line
 reply_text line text some h r = text_cases line text (command_of line) some h refl r
 
-none_cases : (line : List ℕ) (found : Option Command) → false ≡ (eqb (length line) 0) → IsUtf8 line → command_of line ≡ found
-    → None ≡ option_map (λ command. with_ends (command_texts command)) found → codes "error line\n" ≡ reply_to line
-none_cases line None some h e r = sym (reply_is line None some h e)
-none_cases line (Some command) some h e r = absurd (cc)
-
-pub reply_error : (line : List ℕ) → false ≡ (eqb (length line) 0) → IsUtf8 line
-    → None ≡ option_map (λ command. with_ends (command_texts command)) (command_of line) → codes "error line\n" ≡ reply_to line
-reply_error line some h r = none_cases line (command_of line) some h refl r
-
 -- documents lie below 2 ^ 31, so there are fewer
 pub few_documents : (docs : List ℕ) → are_documents docs ≡ true → length docs < 4294967296
 few_documents docs h =
