@@ -19,7 +19,7 @@ use Rattle.ii_layout.specs.SkipList.{SkipEntry, SkipList, IsSplit, skip_list_at,
 use Rattle.ii_layout.specs.SkipReader.{SkipReaderState, reader_at, block_info_of}
 use Rattle.ii_layout.specs.Documents.{entry_of, last_doc_before, rest_docs, documents_at}
 use Rattle.ii_layout.specs.Postings.{Postings, postings}
-use Rattle.ii_layout.specs.Written.{docs_of_block}
+use Rattle.ii_layout.specs.Written.{block_of}
 use Rattle.ii_layout.proofs.SkipReaderLemmas.{at_full_block, at_vints, at_end}
 use Rattle.ii_layout.proofs.DocumentLemmas.{documents_ascend, length-documents_at, block_of_documents, rest_of_documents}
 use Rattle.ii_check.specs.Check.{HoldsVInts}
@@ -112,7 +112,7 @@ pub record ToldOf (reader : SkipReaderState) (body : List ℕ) (before offset : 
 
 -- a full block is there
 pub full_there : (p : CheckedPostingsState) (reader : SkipReaderState) (before offset w f c norm tf : ℕ) (here : List ℕ) (s : Bool) → AreGiven p.doc_freq p.postings → IsAtBlock p reader → ToldOf reader p.postings.skip.body before offset here
-    → reader.block_info ≡ BitPacked w s f c norm tf → (after : List ℕ) × (sorted_block_at s before w here ≡ Some (docs_of_block p.postings.docs reader.block, after))
+    → reader.block_info ≡ BitPacked w s f c norm tf → (after : List ℕ) × (sorted_block_at s before w here ≡ Some (block_of p.postings.docs reader.block, after))
 full_there p reader before offset w f c norm tf here s g at told info =
     let i = reader.block in
     let skip = p.postings.skip in
@@ -127,7 +127,7 @@ full_there p reader before offset w f c norm tf here s g at told info =
     let bytes : here ≡ drop (block_place skip.entries i) skip.body = told.here_is ∙ ap (λ (k : ℕ). drop k skip.body) (told.offset_is ∙ tells.offset) in
     (block.after, (λ j. sorted_block_at (strict j) ((told.before_is ∙ tells.before) j) (width j) (bytes j)) ∙ block.read)
 
-nothing_left : (docs : List ℕ) (i : ℕ) → length docs ≤ 128 * i → docs_of_block docs i ≡ []
+nothing_left : (docs : List ℕ) (i : ℕ) → length docs ≤ 128 * i → block_of docs i ≡ []
 nothing_left docs i h = ap (λ (ds : List ℕ). take 128 ds) (drop_all (128 * i) docs h)
 
 no_vints : (before : ℕ) (here : List ℕ) → sorted_vints_at before 0 here ≡ Some ([], here)
@@ -141,7 +141,7 @@ vints_split i blocks low high false test = let below = ltb-false blocks i test i
 record VIntsThere (docs : List ℕ) (block before n : ℕ) (here : List ℕ) : Type 0 where
   few : n < 128
   after : List ℕ
-  read : sorted_vints_at before n here ≡ Some (docs_of_block docs block, after)
+  read : sorted_vints_at before n here ≡ Some (block_of docs block, after)
 
 last_there : (p : CheckedPostingsState) (reader : SkipReaderState) (before offset n : ℕ) (here : List ℕ) → AreGiven p.doc_freq p.postings → IsAtBlock p reader → ToldOf reader p.postings.skip.body before offset here
     → reader.block_info ≡ VInt n → reader.block ≡ p.doc_freq / 128 → VIntsThere p.postings.docs reader.block before n here
@@ -174,7 +174,7 @@ there_cases p reader before offset n here g h at told info true end = past_there
 there_cases p reader before offset n here g h at told info false end = last_there p reader before offset n here g at told info end
 
 pub vints_there : (p : CheckedPostingsState) (reader : SkipReaderState) (before offset n : ℕ) (here : List ℕ) → AreGiven p.doc_freq p.postings → IsAtBlock p reader → ToldOf reader p.postings.skip.body before offset here
-    → reader.block_info ≡ VInt n → (n < 128) × ((after : List ℕ) × (sorted_vints_at before n here ≡ Some (docs_of_block p.postings.docs reader.block, after)))
+    → reader.block_info ≡ VInt n → (n < 128) × ((after : List ℕ) × (sorted_vints_at before n here ≡ Some (block_of p.postings.docs reader.block, after)))
 vints_there p reader before offset n here g at told info =
     let i = reader.block in
     let low = vints_cases reader p.postings.skip.skip_info p.doc_freq i n (nat_lt i (p.doc_freq / 128)) p.postings.skip.entries at.reader refl info in
@@ -187,8 +187,8 @@ is_there None x e = absurd (cc)
 is_there (Some y) x e = refl
 
 -- what a decoder holds once it read a full block
-pub full_held : (docs here rest after : List ℕ) (block before w : ℕ) (s : Bool) (decoder : BlockDecoderState) → sorted_block_at s before w here ≡ Some (docs_of_block docs block, after)
-    → Some (decoder.output, rest) ≡ sorted_block_at s before w here → decoder.output_len ≡ 128 → HoldsBlock docs block decoder × (length (docs_of_block docs block) ≡ 128)
+pub full_held : (docs here rest after : List ℕ) (block before w : ℕ) (s : Bool) (decoder : BlockDecoderState) → sorted_block_at s before w here ≡ Some (block_of docs block, after)
+    → Some (decoder.output, rest) ≡ sorted_block_at s before w here → decoder.output_len ≡ 128 → HoldsBlock docs block decoder × (length (block_of docs block) ≡ 128)
 full_held docs here rest after block before w s decoder there read size =
     let whole = length-sorted_block_at s before w here decoder.output rest (sym read) in
     let same = ap (λ (p : List ℕ × List ℕ). p.0) (some-same (read ∙ there)) in (
@@ -201,15 +201,15 @@ full_held docs here rest after block before w s decoder there read size =
     )
 
 -- and once it read vints
-pub vints_held : (docs here rest after : List ℕ) (block before n : ℕ) (decoder : BlockDecoderState) → sorted_vints_at before n here ≡ Some (docs_of_block docs block, after)
-    → Some (take n decoder.output, rest) ≡ sorted_vints_at before n here → drop n decoder.output ≡ replicate (128 - n) 2147483647 → decoder.output_len ≡ n → HoldsBlock docs block decoder × (length (docs_of_block docs block) ≡ n)
+pub vints_held : (docs here rest after : List ℕ) (block before n : ℕ) (decoder : BlockDecoderState) → sorted_vints_at before n here ≡ Some (block_of docs block, after)
+    → Some (take n decoder.output, rest) ≡ sorted_vints_at before n here → drop n decoder.output ≡ replicate (128 - n) 2147483647 → decoder.output_len ≡ n → HoldsBlock docs block decoder × (length (block_of docs block) ≡ n)
 vints_held docs here rest after block before n decoder there read filled size = (
   record {
-    many = size ∙ sym (length-sorted_vints_at before n here (docs_of_block docs block) after there);
+    many = size ∙ sym (length-sorted_vints_at before n here (block_of docs block) after there);
     held = ap (λ (k : ℕ). take k decoder.output) size ∙ ap (λ (p : List ℕ × List ℕ). p.0) (some-same (read ∙ there));
     filled = ap (λ (k : ℕ). drop k decoder.output) size ∙ filled ∙ ap (λ (k : ℕ). replicate (128 - k) 2147483647) (sym size);
   },
-  length-sorted_vints_at before n here (docs_of_block docs block) after there,
+  length-sorted_vints_at before n here (block_of docs block) after there,
 )
 
 -- the decoder that is left of the check of a short list
@@ -220,26 +220,26 @@ short_held p decoder g few h =
     let none : 0 ≡ length skip.entries = omega arith in
     let rest = rest_of_documents skip (p.doc_freq % 128) 0 p.postings.docs p.postings.after g.documents (omega arith) none in
     let number : p.doc_freq % 128 ≡ p.doc_freq = omega arith in
-    let here : sorted_vints_at 0 p.doc_freq skip.body ≡ Some (docs_of_block p.postings.docs 0, p.postings.after) =
+    let here : sorted_vints_at 0 p.doc_freq skip.body ≡ Some (block_of p.postings.docs 0, p.postings.after) =
     ap (λ (k : ℕ). sorted_vints_at 0 k skip.body) (sym number) ∙ ap (λ (k : ℕ). sorted_vints_at (last_doc_before skip.entries k) (p.doc_freq % 128) (drop (block_place skip.entries k) skip.body)) none ∙ rest
     in
-    record { many = h.many ∙ sym (length-sorted_vints_at 0 p.doc_freq skip.body (docs_of_block p.postings.docs 0) p.postings.after here); held = ap (λ (q : List ℕ × List ℕ). q.0) (some-same (sym h.read ∙ here)); filled = h.filled }
+    record { many = h.many ∙ sym (length-sorted_vints_at 0 p.doc_freq skip.body (block_of p.postings.docs 0) p.postings.after here); held = ap (λ (q : List ℕ × List ℕ). q.0) (some-same (sym h.read ∙ here)); filled = h.filled }
 
 pub decodes_short : (n : ℕ) → decodes_of n ≡ min 1 n
 decodes_short zero = refl
 decodes_short (suc n) = let one : 1 ≡ min 1 (suc n) = omega arith in one
 
 -- a block of so many documents of a list that has some
-pub decodes_first : (docs : List ℕ) (doc_freq : ℕ) → length docs ≡ doc_freq → decodes_of (length (docs_of_block docs 0)) ≡ min 1 doc_freq
+pub decodes_first : (docs : List ℕ) (doc_freq : ℕ) → length docs ≡ doc_freq → decodes_of (length (block_of docs 0)) ≡ min 1 doc_freq
 decodes_first docs doc_freq many =
-    let size : length (docs_of_block docs 0) ≡ min 128 doc_freq = omega (arith, length-take 128 docs) in
-    decodes_short (length (docs_of_block docs 0)) ∙ (let same : min 1 (length (docs_of_block docs 0)) ≡ min 1 doc_freq = omega arith in same)
+    let size : length (block_of docs 0) ≡ min 128 doc_freq = omega (arith, length-take 128 docs) in
+    decodes_short (length (block_of docs 0)) ∙ (let same : min 1 (length (block_of docs 0)) ≡ min 1 doc_freq = omega arith in same)
 
-pub decodes_new : (p : CheckedPostingsState) (decoder new : BlockDecoderState) (block : ℕ) → HasDocuments p → decoder ≡ new_decoder → block ≡ 0 → new.decodes ≡ decoder.decodes + decodes_of (length (docs_of_block p.postings.docs block)) → new.decodes ≡ min 1 p.doc_freq
+pub decodes_new : (p : CheckedPostingsState) (decoder new : BlockDecoderState) (block : ℕ) → HasDocuments p → decoder ≡ new_decoder → block ≡ 0 → new.decodes ≡ decoder.decodes + decodes_of (length (block_of p.postings.docs block)) → new.decodes ≡ min 1 p.doc_freq
 decodes_new p decoder new block h none first e =
     let start : decoder.decodes ≡ 0 = ap (λ (d : BlockDecoderState). d.decodes) none in
     let more = decodes_first p.postings.docs p.doc_freq h.many in
-    let here = ap (λ (b : ℕ). decodes_of (length (docs_of_block p.postings.docs b))) first in
+    let here = ap (λ (b : ℕ). decodes_of (length (block_of p.postings.docs b))) first in
     omega arith
 
 -- no bytes give no documents

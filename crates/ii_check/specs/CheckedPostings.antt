@@ -10,7 +10,7 @@ use Rattle.ii_layout.specs.SkipList.{IsSplit, entry_size, entries_at}
 use Rattle.ii_layout.specs.SkipReader.{SkipReaderState, reader_at}
 use Rattle.ii_layout.specs.Documents.{documents_at}
 use Rattle.ii_layout.specs.Postings.{Postings, postings}
-use Rattle.ii_layout.specs.Written.{docs_of_block}
+use Rattle.ii_layout.specs.Written.{block_of}
 
 -- how many documents a term is in, and what its bytes give
 pub record CheckedPostingsState : Type 0 where
@@ -50,8 +50,8 @@ pub record IsAtBlock (p : CheckedPostingsState) (skip : SkipReaderState) : Type 
 
 -- A decoder holds the documents of a block; after them it is filled with the end.
 pub record HoldsBlock (docs : List ℕ) (block : ℕ) (decoder : BlockDecoderState) : Type 0 where
-  pub many : decoder.output_len ≡ length (docs_of_block docs block)
-  pub held : take decoder.output_len decoder.output ≡ docs_of_block docs block
+  pub many : decoder.output_len ≡ length (block_of docs block)
+  pub held : take decoder.output_len decoder.output ≡ block_of docs block
   pub filled : drop decoder.output_len decoder.output ≡ replicate (128 - decoder.output_len) TERMINATED
 
 -- Bytes begin with the entries of the postings.

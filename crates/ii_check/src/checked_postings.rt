@@ -2,7 +2,7 @@ ghost use Rattle.std.specs.Prelude.{◌≡◌, ◌+◌, ◌/◌, ◌<◌, [], le
 ghost use Rattle.ii_io.specs.Parts.{part_of};
 ghost use Rattle.ii_codes.specs.BlockDecoder.{decodes_of};
 ghost use Rattle.ii_layout.specs.Postings.{postings};
-ghost use Rattle.ii_layout.specs.Written.{docs_of_block};
+ghost use Rattle.ii_layout.specs.Written.{block_of};
 ghost use Rattle.ii_check.specs.Check.{HoldsVInts};
 ghost use Rattle.ii_check.specs.CheckedPostings.{AreGiven, HasDocuments, HoldsBlock, IsAtBlock, IsSkipData, new_decoder};
 
@@ -138,7 +138,7 @@ impl CheckedPostings {
         requires { IsAtBlock self.now skip.now }
         ensures held { HoldsBlock self.now.postings.docs skip.now.block decoder.new }
         ensures decodes { decoder.new.decodes
-            ≡ decoder.old.decodes + decodes_of (length (docs_of_block self.now.postings.docs skip.now.block)) }
+            ≡ decoder.old.decodes + decodes_of (length (block_of self.now.postings.docs skip.now.block)) }
     {
         let bytes = bytes_from(self.body(), skip.byte_offset());
         let before = skip.last_doc_in_previous_block();

@@ -11,6 +11,10 @@ pub record Entry : Type 0 where
 abbrev pub document : ℕ → Entry
 document d = record { doc = d; term_freq = 1; positions = [] }
 
+-- a document with its count
+abbrev pub counted : ℕ → ℕ → Entry
+counted d n = record { doc = d; term_freq = n; positions = [] }
+
 -- the numbers ascend strictly, from a least one on, and stay below the end
 abbrev pub ascend_from : ℕ → List ℕ → Bool
 ascend_from least [] = true

@@ -6,7 +6,7 @@ use Rattle.ii_docset.specs.Entries.{ascend_from, are_documents}
 use Rattle.ii_docset.proofs.CursorLemmas.{and_parts}
 use Rattle.ii_codes.proofs.SortedVintLemmas.{falls_by}
 use Rattle.ii_codes.specs.Sums.{DoNotFall}
-use Rattle.ii_layout.specs.Written.{docs_of_block, last_before}
+use Rattle.ii_layout.specs.Written.{block_of, last_before}
 use Rattle.ii_layout.specs.PostingsSerializer.{IsFullBlock}
 
 ascend_parts : (least d : ℕ) (ds : List ℕ) → ascend_from least (d ∷ ds) ≡ true → (least ≤ d) × (d < 2147483647) × (ascend_from (d + 1) ds ≡ true)
@@ -41,30 +41,30 @@ last_below : (docs : List ℕ) (i : ℕ) → are_documents docs ≡ true → 128
 last_below docs zero h within some = absurd (omega arith)
 last_below docs (suc i) h within some = document_more docs (128 * i + 127) (128 * suc i) (omega arith) h within
 
-pub get_or-docs_of_block : (docs : List ℕ) (i k : ℕ) → k < 128 → get_or (docs_of_block docs i) k 0 ≡ get_or docs (128 * i + k) 0
-get_or-docs_of_block docs i k h = get_or-take 128 (drop (128 * i) docs) k 0 h ∙ get_or-drop (128 * i) docs k 0
+pub get_or-block_of : (docs : List ℕ) (i k : ℕ) → k < 128 → get_or (block_of docs i) k 0 ≡ get_or docs (128 * i + k) 0
+get_or-block_of docs i k h = get_or-take 128 (drop (128 * i) docs) k 0 h ∙ get_or-drop (128 * i) docs k 0
 
-pub length-docs_of_block : (docs : List ℕ) (i : ℕ) → 128 * i + 128 ≤ length docs → length (docs_of_block docs i) ≡ 128
-length-docs_of_block docs i whole = length-take-le 128 (drop (128 * i) docs) (omega (arith, length-drop (128 * i) docs))
+pub length-block_of : (docs : List ℕ) (i : ℕ) → 128 * i + 128 ≤ length docs → length (block_of docs i) ≡ 128
+length-block_of docs i whole = length-take-le 128 (drop (128 * i) docs) (omega (arith, length-drop (128 * i) docs))
 
 -- a block of documents may be packed
-pub full_block : (docs : List ℕ) (i : ℕ) → are_documents docs ≡ true → 128 * i + 128 ≤ length docs → IsFullBlock (last_before docs i) (docs_of_block docs i)
+pub full_block : (docs : List ℕ) (i : ℕ) → are_documents docs ≡ true → 128 * i + 128 ≤ length docs → IsFullBlock (last_before docs i) (block_of docs i)
 full_block docs i h whole =
-    let many = length-docs_of_block docs i whole in
+    let many = length-block_of docs i whole in
     record {
       many = many;
       ascending = λ k within.
-          let here = get_or-docs_of_block docs i k (omega arith) in
-          let next = get_or-docs_of_block docs i (k + 1) (omega arith) in
+          let here = get_or-block_of docs i k (omega arith) in
+          let next = get_or-block_of docs i (k + 1) (omega arith) in
           let more = document_more docs (128 * i + k) (128 * i + (k + 1)) (omega arith) h (omega arith) in
           omega arith;
       after = λ some.
-          let here = get_or-docs_of_block docs i 0 (omega arith) in
+          let here = get_or-block_of docs i 0 (omega arith) in
           let first : 128 * i + 0 ≡ 128 * i = omega arith in
           let below = last_below docs i h (omega arith) some in
           rw (here, first) below;
       low = λ k within.
-          let here = get_or-docs_of_block docs i k within in
+          let here = get_or-block_of docs i k within in
           let below = document_low docs (128 * i + k) h (omega arith) in
           omega arith;
     }
@@ -89,8 +89,8 @@ rest_falls docs i h =
     omega arith)
 
 -- documents after leave blocks as they are
-pub docs_of_block-append : (docs more : List ℕ) (i : ℕ) → 128 * i + 128 ≤ length docs → docs_of_block (docs ++ more) i ≡ docs_of_block docs i
-docs_of_block-append docs more i whole =
+pub block_of-append : (docs more : List ℕ) (i : ℕ) → 128 * i + 128 ≤ length docs → block_of (docs ++ more) i ≡ block_of docs i
+block_of-append docs more i whole =
     ap (λ (xs : List ℕ). take 128 xs) (drop-append-le (128 * i) docs more (omega arith))
     ∙ take-append-le 128 (drop (128 * i) docs) more (omega (arith, length-drop (128 * i) docs))
 

@@ -13,7 +13,7 @@ use Rattle.ii_codes.proofs.LengthLemmas.{length-sorted_block_at, length-sorted_v
 use Rattle.ii_layout.specs.Each.{each}
 use Rattle.ii_layout.specs.SkipList.{SkipEntry, SkipList, block_place}
 use Rattle.ii_layout.specs.Documents.{entry_of, last_doc_before, block_docs, rest_docs, documents_at}
-use Rattle.ii_layout.specs.Written.{docs_of_block}
+use Rattle.ii_layout.specs.Written.{block_of}
 
 -- What a row gives, each index of it gives.
 pub record Gives (f : ℕ → Option (List ℕ)) (n : ℕ) (xs : List (List ℕ)) : Type 0 where
@@ -87,7 +87,7 @@ length-concat (b ∷ bs) h =
     let total = length-append b (concat bs) in
     omega arith
 
-concat_block : (b : ℕ) (blocks : List (List ℕ)) (rest : List ℕ) → AreWhole blocks → b < length blocks → docs_of_block (concat blocks ++ rest) b ≡ get_or blocks b []
+concat_block : (b : ℕ) (blocks : List (List ℕ)) (rest : List ℕ) → AreWhole blocks → b < length blocks → block_of (concat blocks ++ rest) b ≡ get_or blocks b []
 concat_block b [] rest h below = absurd (omega arith)
 concat_block zero (x ∷ xs) rest h below =
     let seam = take-append_seam x (concat xs ++ rest) in
@@ -98,7 +98,7 @@ concat_block (suc b) (x ∷ xs) rest h below =
     let seam = rw size at (drop-append_seam x (concat xs ++ rest)) in
     rw (place, ← drop-drop (128 * b) 128 ((x ++ concat xs) ++ rest), append_assoc, seam) (concat_block b xs rest (whole_rest x xs h) (omega arith))
 
-last_block : (i : ℕ) (blocks : List (List ℕ)) (rest : List ℕ) → AreWhole blocks → i ≡ length blocks → length rest ≤ 128 → docs_of_block (concat blocks ++ rest) i ≡ rest
+last_block : (i : ℕ) (blocks : List (List ℕ)) (rest : List ℕ) → AreWhole blocks → i ≡ length blocks → length rest ≤ 128 → block_of (concat blocks ++ rest) i ≡ rest
 last_block i blocks rest whole end few =
     let size = length-concat blocks whole in
     let here : 128 * i ≡ length (concat blocks) = omega arith in
@@ -182,18 +182,18 @@ length-documents_at skip n docs after e =
     let rest = length-sorted_vints_at _ n _ s.rest after s.rest_read in
     ap length s.docs_are ∙ omega (arith, length-append (concat s.blocks) s.rest)
 
-pub block_of_documents : (skip : SkipList) (n i : ℕ) (docs after : List ℕ) → documents_at skip n ≡ Some (docs, after) → i < length skip.entries → StandsBlock skip i (docs_of_block docs i)
+pub block_of_documents : (skip : SkipList) (n i : ℕ) (docs after : List ℕ) → documents_at skip n ≡ Some (docs, after) → i < length skip.entries → StandsBlock skip i (block_of docs i)
 block_of_documents skip n i docs after e h =
     let s = stands skip n docs after e in
     let all = each_gives (block_docs skip) (length skip.entries) s.blocks s.read in
     let many = all.many in
-    let here : docs_of_block docs i ≡ get_or s.blocks i [] = ap (λ (ds : List ℕ). docs_of_block ds i) s.docs_are ∙ concat_block i s.blocks s.rest (are_whole skip (length skip.entries) s.blocks s.read) (omega arith) in
+    let here : block_of docs i ≡ get_or s.blocks i [] = ap (λ (ds : List ℕ). block_of ds i) s.docs_are ∙ concat_block i s.blocks s.rest (are_whole skip (length skip.entries) s.blocks s.read) (omega arith) in
     rw here (stands_block skip i (get_or s.blocks i []) (all.at i h))
 
-pub rest_of_documents : (skip : SkipList) (n i : ℕ) (docs after : List ℕ) → documents_at skip n ≡ Some (docs, after) → n < 128 → i ≡ length skip.entries → rest_docs skip n ≡ Some (docs_of_block docs i, after)
+pub rest_of_documents : (skip : SkipList) (n i : ℕ) (docs after : List ℕ) → documents_at skip n ≡ Some (docs, after) → n < 128 → i ≡ length skip.entries → rest_docs skip n ≡ Some (block_of docs i, after)
 rest_of_documents skip n i docs after e few end =
     let s = stands skip n docs after e in
     let many = (each_gives (block_docs skip) (length skip.entries) s.blocks s.read).many in
     let size = length-sorted_vints_at _ n _ s.rest after s.rest_read in
-    let here : docs_of_block docs i ≡ s.rest = ap (λ (ds : List ℕ). docs_of_block ds i) s.docs_are ∙ last_block i s.blocks s.rest (are_whole skip (length skip.entries) s.blocks s.read) (end ∙ sym many) (omega arith) in
+    let here : block_of docs i ≡ s.rest = ap (λ (ds : List ℕ). block_of ds i) s.docs_are ∙ last_block i s.blocks s.rest (are_whole skip (length skip.entries) s.blocks s.read) (end ∙ sym many) (omega arith) in
     rw here s.rest_read

@@ -17,9 +17,9 @@ use Rattle.ii_codes.specs.Sums.{DoNotFall}
 use Rattle.ii_codes.specs.SortedVints.{sorted_vints}
 use Rattle.ii_codes.proofs.BlockLaws.{entries_from-le, length-entries_from}
 use Rattle.ii_codes.proofs.WidthLemmas.{least_width-least}
-use Rattle.ii_layout.specs.Written.{docs_of_block, last_before, code_of_width, entry_of_block, entry_bytes, block_bytes, skip_bytes, written_documents}
+use Rattle.ii_layout.specs.Written.{block_of, last_before, code_of_width, entry_of_block, entry_bytes, block_bytes, skip_bytes, written_documents}
 use Rattle.ii_layout.specs.PostingsSerializer.{ArePacked, IsFullBlock, sized}
-use Rattle.ii_layout.proofs.BlockDocs.{full_block, rest_falls, docs_of_block-append, last_before-append}
+use Rattle.ii_layout.proofs.BlockDocs.{full_block, rest_falls, block_of-append, last_before-append}
 
 -- documents need fewer than 32 bits
 pub narrow : (last : ℕ) (block : List ℕ) → IsFullBlock last block → sorted_width last block < 32
@@ -51,21 +51,21 @@ flat_map-range f n =
 pub entry_bytes-append : (docs more : List ℕ) (i : ℕ) → 128 * i + 128 ≤ length docs → entry_bytes (docs ++ more) i ≡ entry_bytes docs i
 entry_bytes-append docs more i whole =
     let last = last_before-append docs more i (omega arith) in
-    let block = docs_of_block-append docs more i whole in
+    let block = block_of-append docs more i whole in
     λ j. entry_of_block (last j) (block j)
 
 pub block_bytes-append : (docs more : List ℕ) (i : ℕ) → 128 * i + 128 ≤ length docs → block_bytes (docs ++ more) i ≡ block_bytes docs i
 block_bytes-append docs more i whole =
     let last = last_before-append docs more i (omega arith) in
-    let block = docs_of_block-append docs more i whole in
+    let block = block_of-append docs more i whole in
     λ j. sorted_bytes (last j) (block j)
 
 -- so many blocks, and documents after them
 all_blocks : (docs : List ℕ) → length docs % 128 ≡ 0 → length docs ≡ 128 * (length docs / 128)
 all_blocks docs h = omega arith
 
-pub docs_of_block-last : (docs block : List ℕ) (n : ℕ) → length docs ≡ 128 * n → length block ≡ 128 → docs_of_block (docs ++ block) n ≡ block
-docs_of_block-last docs block n all many =
+pub block_of-last : (docs block : List ℕ) (n : ℕ) → length docs ≡ 128 * n → length block ≡ 128 → block_of (docs ++ block) n ≡ block
+block_of-last docs block n all many =
     ap (λ (xs : List ℕ). take 128 xs) (drop_at docs block (128 * n) all) ∙ take_all 128 block (omega arith)
 
 -- a block that comes after others may be packed
@@ -75,7 +75,7 @@ next_block docs block skip postings last p many h =
     let size = length-append docs block in
     let full = full_block (docs ++ block) (length docs / 128) h (omega arith) in
     let same_last = last_before-append docs block (length docs / 128) (omega arith) in
-    let same_block = docs_of_block-last docs block (length docs / 128) all many in
+    let same_block = block_of-last docs block (length docs / 128) all many in
     let now = rw (same_last, same_block) at full in
     rw p.last_is now
 
@@ -88,7 +88,7 @@ packed_more docs block skip postings docs' skip' postings' last last' p many doc
     let size = length-append docs block in
     let next : length (docs ++ block) / 128 ≡ suc (length docs / 128) = omega arith in
     let same_last = last_before-append docs block (length docs / 128) (omega arith) in
-    let same_block = docs_of_block-last docs block (length docs / 128) all many in
+    let same_block = block_of-last docs block (length docs / 128) all many in
     let entry : entry_bytes (docs ++ block) (length docs / 128) ≡ entry_of_block last block =
     (λ j. entry_of_block (same_last j) (same_block j)) ∙ ap (λ (l : ℕ). entry_of_block l block) (sym p.last_is)
     in
@@ -125,9 +125,9 @@ rest_after docs rest skip postings last p h =
 -- a skip list has five bytes for each block
 length-entry_bytes : (docs : List ℕ) (i : ℕ) → length (entry_bytes docs i) ≡ 5
 length-entry_bytes docs i =
-    let four = length_le_bytes 4 (get_or (docs_of_block docs i) 127 0) in
-    let code = code_of_width (sorted_width (last_before docs i) (docs_of_block docs i)) in
-    omega (arith, length-append (le_bytes 4 (get_or (docs_of_block docs i) 127 0)) (code ∷ []))
+    let four = length_le_bytes 4 (get_or (block_of docs i) 127 0) in
+    let code = code_of_width (sorted_width (last_before docs i) (block_of docs i)) in
+    omega (arith, length-append (le_bytes 4 (get_or (block_of docs i) 127 0)) (code ∷ []))
 
 pub length-entries : (docs : List ℕ) (a n : ℕ) → length (flat_map (entry_bytes docs) (range_with_len a n)) ≡ 5 * n
 length-entries docs a zero = refl

@@ -21,9 +21,9 @@ use Rattle.ii_codes.proofs.SortedVintLemmas.{reads_back}
 use Rattle.ii_layout.specs.Each.{each}
 use Rattle.ii_layout.specs.SkipList.{SkipEntry, SkipList, no_entry, entry_at, entry_size, entries_at, skip_info_of, skip_list, block_size, block_place}
 use Rattle.ii_layout.specs.Documents.{entry_of, last_doc_before, block_docs, rest_docs, documents_at}
-use Rattle.ii_layout.specs.Written.{docs_of_block, last_before, code_of_width, entry_bytes, block_bytes, skip_bytes, ReadsDocumentsBack}
+use Rattle.ii_layout.specs.Written.{block_of, last_before, code_of_width, entry_bytes, block_bytes, skip_bytes, ReadsDocumentsBack}
 use Rattle.ii_layout.specs.PostingsSerializer.{IsFullBlock}
-use Rattle.ii_layout.proofs.BlockDocs.{full_block, rest_falls, document_low, get_or-docs_of_block}
+use Rattle.ii_layout.proofs.BlockDocs.{full_block, rest_falls, document_low, get_or-block_of}
 use Rattle.ii_layout.proofs.PackingLemmas.{narrow, flat_map-range, length-entries}
 
 -- rows of a list, from a place on
@@ -57,9 +57,9 @@ left_of i n h = (n - (i + 1), omega arith)
 abbrev pub entry_for : List ℕ → ℕ → SkipEntry
 entry_for docs i =
     record {
-      last_doc = get_or (docs_of_block docs i) 127 0;
+      last_doc = get_or (block_of docs i) 127 0;
       strict_delta = true;
-      doc_num_bits = sorted_width (last_before docs i) (docs_of_block docs i);
+      doc_num_bits = sorted_width (last_before docs i) (block_of docs i);
       tf_num_bits = 0;
       tf_sum = 0;
       block_wand_fieldnorm_id = 0;
@@ -93,12 +93,12 @@ entry_found docs after n i h whole within =
     let left = left_of i n within in
     let full = full_block docs i h (omega arith) in
     let low = full.low 127 (omega arith) in
-    let thin = narrow (last_before docs i) (docs_of_block docs i) full in
+    let thin = narrow (last_before docs i) (block_of docs i) full in
     let place : 5 * i ≡ length (flat_map (entry_bytes docs) (range_with_len 0 i)) = sym (length-entries docs 0 i) in
     let row = row_at (entry_bytes docs) i left.0 (5 * i) after place in
     let all = ap (λ (k : ℕ). entry_at Basic (drop (5 * i) (flat_map (entry_bytes docs) (range_with_len 0 k) ++ after))) left.1 in
     all ∙ ap (entry_at Basic) row
-    ∙ entry_read (get_or (docs_of_block docs i) 127 0) (sorted_width (last_before docs i) (docs_of_block docs i)) (flat_map (entry_bytes docs) (range_with_len (i + 1) left.0) ++ after) (omega arith) thin
+    ∙ entry_read (get_or (block_of docs i) 127 0) (sorted_width (last_before docs i) (block_of docs i)) (flat_map (entry_bytes docs) (range_with_len (i + 1) left.0) ++ after) (omega arith) thin
 
 entries_found : (docs after : List ℕ) (n : ℕ) → are_documents docs ≡ true → 128 * n ≤ length docs
     → entries_at Basic n (flat_map (entry_bytes docs) (range_with_len 0 n) ++ after) ≡ entries_for docs n
@@ -148,7 +148,7 @@ place_is docs (suc i) =
     let next : suc i ≡ i + 1 = omega arith in
     let here : 0 + i ≡ i = omega arith in
     let sum = sum_by-map-range_with_len_more block_size (entry_for docs) 0 i i here in
-    let size = length-packed (sorted_width (last_before docs i) (docs_of_block docs i)) (sorted_entries true (last_before docs i) (docs_of_block docs i)) in
+    let size = length-packed (sorted_width (last_before docs i) (block_of docs i)) (sorted_entries true (last_before docs i) (block_of docs i)) in
     let all = ap length (flat_map-range (block_bytes docs) i) in
     let ih = place_is docs i in
     let sums = ap (λ (k : ℕ). sum_by block_size (map (entry_for docs) (range_with_len 0 k))) next in
@@ -163,7 +163,7 @@ entry_of-is docs n i h = get_or-map-range_with_len (entry_for docs) 0 n i i no_e
 last_doc_before-is : (docs : List ℕ) (n i : ℕ) → i ≤ n → last_doc_before (entries_for docs n) i ≡ last_before docs i
 last_doc_before-is docs n zero h = refl
 last_doc_before-is docs n (suc j) h =
-    ap (λ (e : SkipEntry). e.last_doc) (entry_of-is docs n j (omega arith)) ∙ get_or-docs_of_block docs j 127 (omega arith)
+    ap (λ (e : SkipEntry). e.last_doc) (entry_of-is docs n j (omega arith)) ∙ get_or-block_of docs j 127 (omega arith)
 
 -- a block of documents is a block of 32 bits
 is_block : (last : ℕ) (block : List ℕ) → IsFullBlock last block → IsBlock block
@@ -173,7 +173,7 @@ ascends_after : (last : ℕ) (block : List ℕ) → IsFullBlock last block → A
 ascends_after last block b = record { ascending = b.ascending; after = b.after }
 
 block_read : (docs after : List ℕ) (n i : ℕ) → are_documents docs ≡ true → 128 * n ≤ length docs → i < n
-    → block_docs (list_for docs n (flat_map (block_bytes docs) (range_with_len 0 n) ++ after)) i ≡ Some (docs_of_block docs i)
+    → block_docs (list_for docs n (flat_map (block_bytes docs) (range_with_len 0 n) ++ after)) i ≡ Some (block_of docs i)
 block_read docs after n i h whole within =
     let body = flat_map (block_bytes docs) (range_with_len 0 n) ++ after in
     let left = left_of i n within in
@@ -182,10 +182,10 @@ block_read docs after n i h whole within =
     let before = last_doc_before-is docs n i (omega arith) in
     let row = row_at (block_bytes docs) i left.0 (block_place (entries_for docs n) i) after (block_place-is docs n i (omega arith)) in
     let all = ap (λ (k : ℕ). drop (block_place (entries_for docs n) i) (flat_map (block_bytes docs) (range_with_len 0 k) ++ after)) left.1 in
-    let read = reads_sorted_blocks (last_before docs i) (docs_of_block docs i) (flat_map (block_bytes docs) (range_with_len (i + 1) left.0) ++ after)
-    (is_block (last_before docs i) (docs_of_block docs i) full) (ascends_after (last_before docs i) (docs_of_block docs i) full)
+    let read = reads_sorted_blocks (last_before docs i) (block_of docs i) (flat_map (block_bytes docs) (range_with_len (i + 1) left.0) ++ after)
+    (is_block (last_before docs i) (block_of docs i) full) (ascends_after (last_before docs i) (block_of docs i) full)
     in
-    let same = eq-eqb (get_or (docs_of_block docs i) 127 0) (get_or (docs_of_block docs i) 127 0) refl in
+    let same = eq-eqb (get_or (block_of docs i) 127 0) (get_or (block_of docs i) 127 0) refl in
     rw (entry, before, all ∙ row, read, same) refl
 
 each-some : (f : ℕ → Option (List ℕ)) (g : ℕ → List ℕ) (n : ℕ) → ((k : ℕ) → k < n → f k ≡ Some (g k)) → each f n ≡ Some (map g (range_with_len 0 n))
@@ -199,14 +199,14 @@ each-some f g (suc n) some =
     rw (earlier, last) (ap (λ (xs : List (List ℕ)). Some xs) (sym all))
 
 -- the documents of all full blocks, and those after them
-blocks_are : (docs : List ℕ) (i : ℕ) → concat (map (docs_of_block docs) (range_with_len 0 i)) ≡ take (128 * i) docs
+blocks_are : (docs : List ℕ) (i : ℕ) → concat (map (block_of docs) (range_with_len 0 i)) ≡ take (128 * i) docs
 blocks_are docs zero = refl
 blocks_are docs (suc i) =
     let next : suc i ≡ i + 1 = omega arith in
-    let row = ap (λ (k : ℕ). map (docs_of_block docs) (range_with_len 0 k)) next ∙ map-range_with_len_more (docs_of_block docs) 0 i i (omega arith) in
+    let row = ap (λ (k : ℕ). map (block_of docs) (range_with_len 0 k)) next ∙ map-range_with_len_more (block_of docs) 0 i i (omega arith) in
     let place : 128 * i + 128 ≡ 128 * suc i = omega arith in
-    ap concat row ∙ concat-append (map (docs_of_block docs) (range_with_len 0 i)) (docs_of_block docs i ∷ [])
-    ∙ (λ j. blocks_are docs i j ++ append-nil (docs_of_block docs i) j)
+    ap concat row ∙ concat-append (map (block_of docs) (range_with_len 0 i)) (block_of docs i ∷ [])
+    ∙ (λ j. blocks_are docs i j ++ append-nil (block_of docs i) j)
     ∙ sym (take-add (128 * i) 128 docs) ∙ ap (λ (k : ℕ). take k docs) place
 
 fit_by : (vs : List ℕ) → ((k : ℕ) → k < length vs → get_or vs k 0 < 2 ^ 32) → AllByRecursion (λ v. v < 2 ^ 32) vs
@@ -237,10 +237,10 @@ documents_read docs rest n left h all =
     let skip : SkipList = list_for docs n (flat_map (block_bytes docs) (range_with_len 0 n) ++ (sorted_vints (last_before docs n) (drop (128 * n) docs) ++ rest)) in
     let many = length-map-range_with_len (entry_for docs) 0 n in
     let blocks = ap (each (block_docs skip)) many
-    ∙ each-some (block_docs skip) (docs_of_block docs) n (λ k within. block_read docs (sorted_vints (last_before docs n) (drop (128 * n) docs) ++ rest) n k h (omega arith) within)
+    ∙ each-some (block_docs skip) (block_of docs) n (λ k within. block_read docs (sorted_vints (last_before docs n) (drop (128 * n) docs) ++ rest) n k h (omega arith) within)
     in
     let after = rest_read docs rest n left h all in
-    let together : concat (map (docs_of_block docs) (range_with_len 0 n)) ++ drop (128 * n) docs ≡ docs =
+    let together : concat (map (block_of docs) (range_with_len 0 n)) ++ drop (128 * n) docs ≡ docs =
     ap (λ (xs : List ℕ). xs ++ drop (128 * n) docs) (blocks_are docs n) ∙ take-append-drop (128 * n) docs
     in
     rw (blocks, after, together, h) refl

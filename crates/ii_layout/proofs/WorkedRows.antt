@@ -2,16 +2,16 @@
 use Rattle.std.specs.Prelude.{◌≡◌, ◌*◌, [], ◌∷◌, ◌++◌, replicate, refl, true, Ok, Err, map}
 use Rattle.std.specs.List.{range_with_len}
 use Rattle.ii_base.specs.declared.schema.index_record_option.IndexRecordOption.TheVariants.{Basic, WithFreqs, WithFreqsAndPositions}
-use Rattle.ii_io.specs.declared.faults.Part.TheVariants.{Skip, Documents}
+use Rattle.ii_io.specs.declared.faults.Part.TheVariants.{Skip, Documents, Frequencies}
 use Rattle.ii_io.specs.Numbers.{le_bytes}
 use Rattle.ii_io.specs.Vints.{vint_u32, vint_u64, u32_at, u64_at}
 use Rattle.ii_codes.specs.Packed.{bits_in, entries_in, packed, unpacked, num_bits}
-use Rattle.ii_codes.specs.Blocks.{sorted_block_at}
-use Rattle.ii_docset.specs.Entries.{document}
+use Rattle.ii_codes.specs.Blocks.{sorted_block_at, unsorted_block_at}
+use Rattle.ii_docset.specs.Entries.{document, counted}
 use Rattle.ii_layout.specs.declared.skip.BlockInfo.TheVariants.{BitPacked, VInt}
 use Rattle.ii_layout.specs.SkipList.{entry_at, entries_at}
 use Rattle.ii_layout.specs.SkipReader.{reader_at}
-use Rattle.ii_layout.specs.Postings.{document_list}
+use Rattle.ii_layout.specs.Postings.{posting_list}
 use Rattle.ii_layout.specs.Written.{written_documents}
 
 pub row_three : written_documents (0 ∷ 2 ∷ 10 ∷ []) ≡ 0x80 ∷ 0x82 ∷ 0x88 ∷ []
@@ -44,26 +44,26 @@ unfolding vint_u32 vint_u64 le_bytes packed num_bits entries_in bits_in
 row_two = refl
 
 -- a cut and an equal document
-pub row_cut : document_list Basic 3 (0x80 ∷ 0x82 ∷ []) ≡ Err Documents
+pub row_cut : posting_list Basic Basic 3 (0x80 ∷ 0x82 ∷ []) ≡ Err Documents
 unfolding u32_at
 row_cut = refl
 
-pub row_equal : document_list Basic 3 (0x80 ∷ 0x80 ∷ 0x88 ∷ []) ≡ Err Documents
+pub row_equal : posting_list Basic Basic 3 (0x80 ∷ 0x80 ∷ 0x88 ∷ []) ≡ Err Documents
 unfolding u32_at
 row_equal = refl
 
 -- an entry that names another last document
-pub row_last : document_list Basic 128 (0x85 ∷ 0x80 ∷ 0 ∷ 0 ∷ 0 ∷ 0x40 ∷ []) ≡ Err Documents
+pub row_last : posting_list Basic Basic 128 (0x85 ∷ 0x80 ∷ 0 ∷ 0 ∷ 0 ∷ 0x40 ∷ []) ≡ Err Documents
 unfolding u64_at sorted_block_at unpacked entries_in bits_in entry_at
 row_last = refl
 
 -- plain deltas
-pub row_plain : document_list Basic 128 (0x85 ∷ 0x7F ∷ 0 ∷ 0 ∷ 0 ∷ 1 ∷ 0xFE ∷ replicate 15 0xFF) ≡ Ok (map document (range_with_len 0 128))
+pub row_plain : posting_list Basic Basic 128 (0x85 ∷ 0x7F ∷ 0 ∷ 0 ∷ 0 ∷ 1 ∷ 0xFE ∷ replicate 15 0xFF) ≡ Ok (map document (range_with_len 0 128))
 unfolding u64_at u32_at sorted_block_at unpacked entries_in bits_in entry_at
 row_plain = refl
 
 -- more blocks than the skip list has entries for
-pub row_many : document_list Basic 4294967295 (0x85 ∷ 0x7F ∷ 0 ∷ 0 ∷ 0 ∷ 0x40 ∷ []) ≡ Err Skip
+pub row_many : posting_list Basic Basic 4294967295 (0x85 ∷ 0x7F ∷ 0 ∷ 0 ∷ 0 ∷ 0x40 ∷ []) ≡ Err Skip
 unfolding u64_at
 row_many = refl
 
@@ -88,6 +88,49 @@ unfolding entry_at
 row_walk_end = refl
 
 -- a width of counts above 32
-pub row_wide : document_list WithFreqs 128 (0x88 ∷ 0x7F ∷ 0 ∷ 0 ∷ 0 ∷ 0x40 ∷ 0x21 ∷ 0 ∷ 0 ∷ []) ≡ Err Skip
+pub row_wide : posting_list WithFreqs Basic 128 (0x88 ∷ 0x7F ∷ 0 ∷ 0 ∷ 0 ∷ 0x40 ∷ 0x21 ∷ 0 ∷ 0 ∷ []) ≡ Err Skip
 unfolding entry_at u64_at
 row_wide = refl
+
+-- counts after a short list, cut, not asked for, and none
+pub row_counted : posting_list WithFreqs WithFreqs 3 (0x80 ∷ 0x82 ∷ 0x88 ∷ 0x81 ∷ 0x82 ∷ 0x83 ∷ []) ≡ Ok (counted 0 1 ∷ counted 2 2 ∷ counted 10 3 ∷ [])
+unfolding u32_at
+row_counted = refl
+
+pub row_count_cut : posting_list WithFreqs WithFreqs 3 (0x80 ∷ 0x82 ∷ 0x88 ∷ 0xFF ∷ []) ≡ Err Frequencies
+unfolding u32_at
+row_count_cut = refl
+
+pub row_unread : posting_list WithFreqs Basic 3 (0x80 ∷ 0x82 ∷ 0x88 ∷ 0xFF ∷ []) ≡ Ok (map document (0 ∷ 2 ∷ 10 ∷ []))
+unfolding u32_at
+row_unread = refl
+
+pub row_uncounted : posting_list WithFreqs WithFreqs 3 (0x80 ∷ 0x82 ∷ 0x88 ∷ []) ≡ Ok (map document (0 ∷ 2 ∷ 10 ∷ []))
+unfolding u32_at
+row_uncounted = refl
+
+pub row_zero : posting_list WithFreqs WithFreqs 1 (0x80 ∷ 0x80 ∷ []) ≡ Ok (counted 0 0 ∷ [])
+unfolding u32_at
+row_zero = refl
+
+-- 128 documents in a row with the count 3, and one more with the count 4, or with none
+pub row_block : posting_list WithFreqs WithFreqs 129 (0x88 ∷ 0x7F ∷ 0 ∷ 0 ∷ 0 ∷ 0x40 ∷ 2 ∷ 0 ∷ 0 ∷ [] ++ replicate 32 0xAA ++ 0x81 ∷ 0x84 ∷ []) ≡ Ok (map (λ d. counted d 3) (range_with_len 0 128) ++ counted 128 4 ∷ [])
+unfolding entry_at u64_at u32_at sorted_block_at unsorted_block_at unpacked entries_in bits_in
+row_block = refl
+
+pub row_rest_uncounted : posting_list WithFreqs WithFreqs 129 (0x88 ∷ 0x7F ∷ 0 ∷ 0 ∷ 0 ∷ 0x40 ∷ 2 ∷ 0 ∷ 0 ∷ [] ++ replicate 32 0xAA ++ 0x81 ∷ []) ≡ Err Frequencies
+unfolding entry_at u64_at u32_at sorted_block_at unsorted_block_at unpacked entries_in bits_in
+row_rest_uncounted = refl
+
+-- the sum of a block's counts, and another one
+pub row_sum : posting_list WithFreqsAndPositions WithFreqs 128 (0x8C ∷ 0x7F ∷ 0 ∷ 0 ∷ 0 ∷ 0x40 ∷ 2 ∷ 0x80 ∷ 1 ∷ 0 ∷ 0 ∷ 0 ∷ 0 ∷ replicate 32 0xAA) ≡ Ok (map (λ d. counted d 3) (range_with_len 0 128))
+unfolding entry_at u64_at u32_at sorted_block_at unsorted_block_at unpacked entries_in bits_in
+row_sum = refl
+
+pub row_other_sum : posting_list WithFreqsAndPositions WithFreqs 128 (0x8C ∷ 0x7F ∷ 0 ∷ 0 ∷ 0 ∷ 0x40 ∷ 2 ∷ 0x7F ∷ 1 ∷ 0 ∷ 0 ∷ 0 ∷ 0 ∷ replicate 32 0xAA) ≡ Err Frequencies
+unfolding entry_at u64_at u32_at sorted_block_at unsorted_block_at unpacked entries_in bits_in
+row_other_sum = refl
+
+pub row_sum_unread : posting_list WithFreqsAndPositions Basic 128 (0x8C ∷ 0x7F ∷ 0 ∷ 0 ∷ 0 ∷ 0x40 ∷ 2 ∷ 0x7F ∷ 1 ∷ 0 ∷ 0 ∷ 0 ∷ 0 ∷ replicate 32 0xAA) ≡ Ok (map document (range_with_len 0 128))
+unfolding entry_at u64_at u32_at sorted_block_at unsorted_block_at unpacked entries_in bits_in
+row_sum_unread = refl

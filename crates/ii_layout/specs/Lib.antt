@@ -1,6 +1,7 @@
 pub mod Each
 pub mod SkipList
 pub mod Documents
+pub mod Frequencies
 pub mod Postings
 pub mod Written
 pub mod PostingsSerializer

@@ -1,28 +1,38 @@
 -- The postings of a term: what its bytes give, or the first part of them that fails.
-use Rattle.std.specs.Prelude.{ℕ, ◌/◌, ◌%◌, List, map, Result, Ok, ok_or}
+use Rattle.std.specs.Prelude.{ℕ, ◌/◌, ◌%◌, ◌&&◌, List, map, Option, None, Some, Result, Ok, ok_or}
+use Rattle.std.specs.List.{zip}
 use Rattle.ii_io.specs.declared.faults.Part.{Part}
-use Rattle.ii_io.specs.declared.faults.Part.TheVariants.{Skip, Documents}
+use Rattle.ii_io.specs.declared.faults.Part.TheVariants.{Skip, Documents, Frequencies}
 use Rattle.ii_io.specs.Parts.{◌>>=◌}
 use Rattle.ii_base.specs.declared.schema.index_record_option.IndexRecordOption.{IndexRecordOption}
-use Rattle.ii_docset.specs.Entries.{Entry, document}
+use Rattle.ii_base.specs.Options.{has_freq}
+use Rattle.ii_docset.specs.Entries.{Entry, document, counted}
 use Rattle.ii_layout.specs.SkipList.{SkipList, skip_list}
 use Rattle.ii_layout.specs.Documents.{documents_at}
+use Rattle.ii_layout.specs.Frequencies.{has_freqs, freqs_if}
 
--- The skip list of a term, its documents, and the bytes after them.
+-- The skip list of a term, its documents, the bytes after them, and its counts where they are read.
 pub record Postings : Type 0 where
   pub skip : SkipList
   pub docs : List ℕ
   pub after : List ℕ
+  pub freqs : Option (List ℕ)
 
--- what the bytes of a term in so many documents give, by the option that its field records
-abbrev pub postings : IndexRecordOption → ℕ → List ℕ → Result Postings Part
-postings recorded doc_freq bytes = do
+-- what the bytes of a term in so many documents give, by the option that its field records and the one that is requested
+abbrev pub postings : IndexRecordOption → IndexRecordOption → ℕ → List ℕ → Result Postings Part
+postings recorded requested doc_freq bytes = do
   skip ← ok_or (skip_list recorded (doc_freq / 128) bytes) Skip
   found ← ok_or (documents_at skip (doc_freq % 128)) Documents
-  Ok (record { skip = skip; docs = found.0; after = found.1 })
+  freqs ← ok_or (freqs_if (has_freq requested && has_freqs skip found.1) skip (doc_freq % 128) found.1) Frequencies
+  Ok (record { skip = skip; docs = found.0; after = found.1; freqs = freqs })
 
--- the list of a term whose field records documents alone
-abbrev pub document_list : IndexRecordOption → ℕ → List ℕ → Result (List Entry) Part
-document_list recorded doc_freq bytes = do
-  p ← postings recorded doc_freq bytes
-  Ok (map document p.docs)
+-- documents with their counts, each of which is 1 where counts aren't read
+abbrev pub entries_of : List ℕ → Option (List ℕ) → List Entry
+entries_of docs None = map document docs
+entries_of docs (Some freqs) = map (λ e. counted e.0 e.1) (zip docs freqs)
+
+-- the list of a term without its positions
+abbrev pub posting_list : IndexRecordOption → IndexRecordOption → ℕ → List ℕ → Result (List Entry) Part
+posting_list recorded requested doc_freq bytes = do
+  p ← postings recorded requested doc_freq bytes
+  Ok (entries_of p.docs p.freqs)

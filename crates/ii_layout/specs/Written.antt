@@ -7,12 +7,13 @@ use Rattle.ii_io.specs.Vints.{vint_u64}
 use Rattle.ii_codes.specs.Blocks.{sorted_width, sorted_bytes}
 use Rattle.ii_codes.specs.SortedVints.{sorted_vints}
 use Rattle.ii_docset.specs.Entries.{document, are_documents}
-use Rattle.ii_layout.specs.Postings.{document_list}
+use Rattle.ii_layout.specs.Postings.{posting_list}
 
--- the documents of block i, and the last one before it
-abbrev pub docs_of_block : List ℕ → ℕ → List ℕ
-docs_of_block docs i = take 128 (drop (128 * i) docs)
+-- the documents of block i, or their counts
+abbrev pub block_of : List ℕ → ℕ → List ℕ
+block_of docs i = take 128 (drop (128 * i) docs)
 
+-- the last document before block i, which is 0 where there is none
 abbrev pub last_before : List ℕ → ℕ → ℕ
 last_before docs zero = 0
 last_before docs (suc i) = slice_index docs (128 * i + 127)
@@ -27,10 +28,10 @@ entry_of_block last block = le_bytes 4 (slice_index block 127) ++ code_of_width 
 
 -- the skip entry of block i
 abbrev pub entry_bytes : List ℕ → ℕ → List ℕ
-entry_bytes docs i = entry_of_block (last_before docs i) (docs_of_block docs i)
+entry_bytes docs i = entry_of_block (last_before docs i) (block_of docs i)
 
 abbrev pub block_bytes : List ℕ → ℕ → List ℕ
-block_bytes docs i = sorted_bytes (last_before docs i) (docs_of_block docs i)
+block_bytes docs i = sorted_bytes (last_before docs i) (block_of docs i)
 
 -- the skip list of so many blocks: the number of its bytes, and its entries
 abbrev pub skip_bytes : List ℕ → ℕ → List ℕ
@@ -45,4 +46,4 @@ written_documents docs =
 
 -- What is written gives its list, whatever follows.
 abbrev pub ReadsDocumentsBack : Type 0
-ReadsDocumentsBack = (docs rest : List ℕ) → IsTrue (are_documents docs) → length docs < 2 ^ 32 → document_list Basic (length docs) (written_documents docs ++ rest) ≡ Ok (map document docs)
+ReadsDocumentsBack = (docs rest : List ℕ) → IsTrue (are_documents docs) → length docs < 2 ^ 32 → posting_list Basic Basic (length docs) (written_documents docs ++ rest) ≡ Ok (map document docs)

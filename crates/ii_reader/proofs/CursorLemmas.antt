@@ -5,7 +5,7 @@ use Rattle.std.proofs.lemmas.List.{get_or-take, get_or-drop, get_or_past, get_or
 use Rattle.ii_docset.specs.Entries.{Entry, document, are_documents}
 use Rattle.ii_docset.specs.Cursor.{doc_at, IsSound}
 use Rattle.ii_docset.proofs.CursorLemmas.{doc_at_inside, doc_at_end, documents_sound, IsSound_drop, advanced}
-use Rattle.ii_layout.specs.Written.{docs_of_block}
+use Rattle.ii_layout.specs.Written.{block_of}
 use Rattle.ii_reader.specs.BlockSegmentPostings.{doc_in_block}
 
 place_cases : (docs : List ℕ) (n : ℕ) (t : Bool) → nat_lt n (length docs) ≡ t → get_or docs n 2147483647 ≡ doc_at (drop n (map document docs))

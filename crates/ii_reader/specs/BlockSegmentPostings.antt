@@ -5,7 +5,7 @@ use Rattle.ii_docset.specs.declared.docset.TheConstants.{TERMINATED}
 use Rattle.ii_docset.specs.Entries.{are_documents}
 use Rattle.ii_codes.specs.BlockDecoder.{BlockDecoderState}
 use Rattle.ii_layout.specs.SkipReader.{SkipReaderState}
-use Rattle.ii_layout.specs.Written.{docs_of_block}
+use Rattle.ii_layout.specs.Written.{block_of}
 use Rattle.ii_check.specs.CheckedPostings.{CheckedPostingsState, HasDocuments, HoldsBlock, IsAtBlock}
 
 -- the documents of the list, the number of the block, how many decodes of documents there were, and how many skip entries were read
@@ -17,7 +17,7 @@ pub record BlockSegmentPostingsState : Type 0 where
 
 -- the document at a place of a block, or the end after its documents
 abbrev pub doc_in_block : List ℕ → ℕ → ℕ → ℕ
-doc_in_block docs block idx = slice_index_or (docs_of_block docs block) idx TERMINATED
+doc_in_block docs block idx = slice_index_or (block_of docs block) idx TERMINATED
 
 -- Every block up to here was decoded at most once, and every skip entry read at most once. The empty block after the last is the end.
 pub record IsLazy (c : BlockSegmentPostingsState) : Type 0 where

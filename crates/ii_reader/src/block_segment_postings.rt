@@ -3,7 +3,7 @@ ghost use Rattle.ii_base.specs.Options.{downgrade, has_freq};
 ghost use Rattle.ii_io.specs.Parts.{part_of};
 ghost use Rattle.ii_docset.specs.Entries.{are_documents, document};
 ghost use Rattle.ii_layout.specs.Postings.{document_list};
-ghost use Rattle.ii_layout.specs.Written.{docs_of_block};
+ghost use Rattle.ii_layout.specs.Written.{block_of};
 ghost use Rattle.ii_reader.specs.BlockSegmentPostings.{GoesTo, IsLazy, doc_in_block};
 
 use bytes::Bytes;
@@ -93,7 +93,7 @@ impl BlockSegmentPostings {
 
     /// The documents of the block.
     pub fn docs(&self) -> &[DocId]
-        ensures docs { result.now ≡ docs_of_block self.now.docs self.now.block }
+        ensures docs { result.now ≡ block_of self.now.docs self.now.block }
         ensures lazy { IsLazy self.now }
     {
         self.doc_decoder.output_array()
@@ -109,7 +109,7 @@ impl BlockSegmentPostings {
 
     /// How many documents the block has.
     pub fn block_len(&self) -> usize
-        ensures { result ≡ length (docs_of_block self.now.docs self.now.block) }
+        ensures { result ≡ length (block_of self.now.docs self.now.block) }
     {
         self.docs().len()
     }

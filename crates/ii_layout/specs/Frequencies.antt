@@ -1,0 +1,44 @@
+-- The counts of a term, after the documents of each full block and after the last documents.
+use Rattle.std.specs.Prelude.{ℕ, ◌*◌, Bool, true, false, ◌&&◌, ◌||◌, List, ◌++◌, drop, length, nat_lt, ◌==◌, Option, None, Some}
+use Rattle.std.specs.List.{concat, sum}
+use Rattle.ii_io.specs.Steps.{◌>>=◌, needs}
+use Rattle.ii_io.specs.Vints.{u32s_at}
+use Rattle.ii_base.specs.declared.schema.index_record_option.IndexRecordOption.{IndexRecordOption}
+use Rattle.ii_base.specs.declared.schema.index_record_option.IndexRecordOption.TheVariants.{Basic, WithFreqs, WithFreqsAndPositions}
+use Rattle.ii_base.specs.Options.{has_freq}
+use Rattle.ii_codes.specs.Blocks.{unsorted_block_at}
+use Rattle.ii_layout.specs.Each.{each}
+use Rattle.ii_layout.specs.SkipList.{SkipList, block_place}
+use Rattle.ii_layout.specs.Documents.{entry_of}
+
+-- where entries have the sum of a block's counts, it is this one
+abbrev pub has_sum : IndexRecordOption → ℕ → List ℕ → Bool
+has_sum Basic tf_sum freqs = true
+has_sum WithFreqs tf_sum freqs = true
+has_sum WithFreqsAndPositions tf_sum freqs = sum freqs == tf_sum
+
+-- the counts of block i, after its documents
+abbrev pub block_freqs : SkipList → ℕ → Option (List ℕ)
+block_freqs skip i = do
+  let e = entry_of skip.entries i
+  found ← unsorted_block_at e.strict_delta e.tf_num_bits (drop (16 * e.doc_num_bits) (drop (block_place skip.entries i) skip.body))
+  _ ← needs (has_sum skip.skip_info e.tf_sum found.0)
+  Some found.0
+
+-- all counts, n of them after the last documents
+abbrev pub freqs_at : SkipList → ℕ → List ℕ → Option (List ℕ)
+freqs_at skip n after = do
+  blocks ← each (block_freqs skip) (length skip.entries)
+  rest ← u32s_at n after
+  Some (concat blocks ++ rest.0)
+
+-- The term has counts: its entries have room for them, or it has none and some byte remains after the documents.
+abbrev pub has_freqs : SkipList → List ℕ → Bool
+has_freqs skip after = has_freq skip.skip_info && (nat_lt 0 (length skip.entries) || nat_lt 0 (length after))
+
+-- the counts where they are read
+abbrev pub freqs_if : Bool → SkipList → ℕ → List ℕ → Option (Option (List ℕ))
+freqs_if false skip n after = Some None
+freqs_if true skip n after = do
+  freqs ← freqs_at skip n after
+  Some (Some freqs)
