@@ -87,7 +87,7 @@ length-concat (b ∷ bs) h =
     let total = length-append b (concat bs) in
     omega arith
 
-concat_block : (b : ℕ) (blocks : List (List ℕ)) (rest : List ℕ) → AreWhole blocks → b < length blocks → block_of (concat blocks ++ rest) b ≡ get_or blocks b []
+pub concat_block : (b : ℕ) (blocks : List (List ℕ)) (rest : List ℕ) → AreWhole blocks → b < length blocks → block_of (concat blocks ++ rest) b ≡ get_or blocks b []
 concat_block b [] rest h below = absurd (omega arith)
 concat_block zero (x ∷ xs) rest h below =
     let seam = take-append_seam x (concat xs ++ rest) in
@@ -98,7 +98,7 @@ concat_block (suc b) (x ∷ xs) rest h below =
     let seam = rw size at (drop-append_seam x (concat xs ++ rest)) in
     rw (place, ← drop-drop (128 * b) 128 ((x ++ concat xs) ++ rest), append_assoc, seam) (concat_block b xs rest (whole_rest x xs h) (omega arith))
 
-last_block : (i : ℕ) (blocks : List (List ℕ)) (rest : List ℕ) → AreWhole blocks → i ≡ length blocks → length rest ≤ 128 → block_of (concat blocks ++ rest) i ≡ rest
+pub last_block : (i : ℕ) (blocks : List (List ℕ)) (rest : List ℕ) → AreWhole blocks → i ≡ length blocks → length rest ≤ 128 → block_of (concat blocks ++ rest) i ≡ rest
 last_block i blocks rest whole end few =
     let size = length-concat blocks whole in
     let here : 128 * i ≡ length (concat blocks) = omega arith in

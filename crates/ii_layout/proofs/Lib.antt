@@ -1,5 +1,6 @@
 pub mod BlockDocs
 pub mod DocumentLemmas
+pub mod FrequencyLemmas
 pub mod PackingLemmas
 pub mod ReadBackLemmas
 pub mod RunLemmas
