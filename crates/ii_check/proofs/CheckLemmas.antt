@@ -2,6 +2,7 @@
 use Rattle.std.proofs.Common.{◌≡◌, ℕ, zero, suc, ◌+◌, ◌*◌, ◌/◌, ◌%◌, ◌<◌, ◌≤◌, Bool, true, false, ◌&&◌, List, [], ◌∷◌, ◌++◌, length, take, drop, get_or, Option, Some, None, eqb, eq-eqb, min, nat_le, nat_lt, refl, sym, ap, ◌∙◌, arith, is_some}
 use Rattle.std.proofs.lemmas.Bool.{eqb-true, ltb-true, and_parts}
 use Rattle.std.specs.List.{concat}
+use Rattle.std.specs.Option.{option_map}
 use Rattle.std.proofs.lemmas.List.{append-nil, take_all}
 use Rattle.std.proofs.lemmas.List.Folds.{concat-append}
 use Rattle.std.proofs.lemmas.List.FromFn.{length-map-range_with_len}
@@ -22,7 +23,7 @@ use Rattle.ii_layout.specs.SkipReader.{SkipReaderState, reader_at, block_info_of
 use Rattle.ii_layout.specs.Documents.{entry_of, last_doc_before, block_docs, rest_docs, documents_at}
 use Rattle.ii_layout.proofs.SkipReaderLemmas.{at_full_block, at_vints}
 use Rattle.ii_layout.proofs.DocumentLemmas.{least_at, block_ascends, block_stands, least_of, least_of_all, stands, stands_block, each_gives}
-use Rattle.ii_check.specs.Check.{skip_list_of, fits_by, block_fits, rest_fits}
+use Rattle.ii_check.specs.Check.{skip_list_of, fits_by, block_fits, after_rest}
 
 -- What the check knows of the blocks before block i.
 pub record IsCheckedTo (skip : SkipList) (i least : ℕ) : Type 0 where
@@ -100,23 +101,31 @@ fail_cases skip i least n (Some (docs, after)) h c fails found =
     let does : entry_fits skip i least ≡ true = rw (block.read, eq-eqb (get_or (get_or s.blocks i []) 127 0) (entry_of skip.entries i).last_doc block.last, up_here) refl in
     absurd (cc)
 
-pub checked_fail : (skip : SkipList) (i least n : ℕ) → i < length skip.entries → IsCheckedTo skip i least → entry_fits skip i least ≡ false → false ≡ is_some (documents_at skip n)
-checked_fail skip i least n h c fails = sym (fail_cases skip i least n (documents_at skip n) h c fails refl)
+none_of : {A : Type 0} (o : Option A) → is_some o ≡ false → o ≡ None
+none_of None e = refl
+none_of (Some x) e = absurd (cc)
 
-test_is : (up : Bool) (docs after : List ℕ) → up ≡ is_some {T = List ℕ × List ℕ} (needs up >>= λ _. Some (docs, after))
-test_is true docs after = refl
-test_is false docs after = refl
+pub checked_fail : (skip : SkipList) (i least n : ℕ) → i < length skip.entries → IsCheckedTo skip i least → entry_fits skip i least ≡ false → documents_at skip n ≡ None
+checked_fail skip i least n h c fails = none_of (documents_at skip n) (fail_cases skip i least n (documents_at skip n) h c fails refl)
+
+-- the bytes after documents, if these are there
+abbrev pub bytes_after : Option (List ℕ × List ℕ) → Option (List ℕ)
+bytes_after found = option_map (λ f. f.1) found
+
+after_is : (up : Bool) (docs after : List ℕ) → (needs up >>= λ _. Some after) ≡ bytes_after (needs up >>= λ _. Some (docs, after))
+after_is true docs after = refl
+after_is false docs after = refl
 
 all_cases : (skip : SkipList) (n least : ℕ) (blocks : List (List ℕ)) (o : Option (List ℕ × List ℕ))
     → each (block_docs skip) (length skip.entries) ≡ Some blocks → ascend_from 0 (concat blocks) ≡ true → least ≡ least_after 0 (concat blocks) → rest_docs skip n ≡ o
-    → fits_by (λ docs. ascend_from least docs) o ≡ is_some (documents_at skip n)
+    → (o >>= λ found. needs (ascend_from least found.0) >>= λ _. Some found.1) ≡ bytes_after (documents_at skip n)
 all_cases skip n least blocks None read up least_is rest = rw (read, rest) refl
 all_cases skip n least blocks (Some r) read up least_is rest =
     let whole : are_documents (concat blocks ++ r.0) ≡ ascend_from least r.0 = ascend-append 0 (concat blocks) r.0 ∙ (rw (up, ← least_is) refl) in
-    rw (read, rest, whole) (test_is (ascend_from least r.0) (concat blocks ++ r.0) r.1)
+    rw (read, rest, whole) (after_is (ascend_from least r.0) (concat blocks ++ r.0) r.1)
 
 pub checked_all : (skip : SkipList) (i least n : ℕ) → i ≡ length skip.entries → IsCheckedTo skip i least
-    → rest_fits (last_doc_before skip.entries i) n least (drop (block_place skip.entries i) skip.body) ≡ is_some (documents_at skip n)
+    → after_rest (last_doc_before skip.entries i) n least (drop (block_place skip.entries i) skip.body) ≡ bytes_after (documents_at skip n)
 checked_all skip i least n end c =
     let rest : rest_docs skip n ≡ sorted_vints_at (last_doc_before skip.entries i) n (drop (block_place skip.entries i) skip.body) = rw end refl in
     all_cases skip n least c.blocks (sorted_vints_at (last_doc_before skip.entries i) n (drop (block_place skip.entries i) skip.body)) (ap (each (block_docs skip)) (sym end) ∙ c.read) c.up c.least_after_is rest
@@ -138,11 +147,11 @@ fits_here skip reader skip_info doc_freq i least offset here e h told =
     λ j. block_fits (at.info j) (at.before j) (at.last j) least (bytes j)
 
 pub rest_here : (skip : SkipList) (reader : SkipReaderState) (skip_info : IndexRecordOption) (doc_freq i n least offset : ℕ) (here : List ℕ) → reader ≡ reader_at skip_info doc_freq skip.entries i → i ≡ doc_freq / 128 → Told skip reader offset here
-    → rest_fits reader.last_doc_in_previous_block n least here ≡ rest_fits (last_doc_before skip.entries i) n least (drop (block_place skip.entries i) skip.body)
+    → after_rest reader.last_doc_in_previous_block n least here ≡ after_rest (last_doc_before skip.entries i) n least (drop (block_place skip.entries i) skip.body)
 rest_here skip reader skip_info doc_freq i n least offset here e h told =
     let at = at_vints reader skip_info doc_freq i skip.entries e h in
     let bytes : here ≡ drop (block_place skip.entries i) skip.body = told.here_is ∙ ap (λ (k : ℕ). drop k skip.body) (told.offset_is ∙ at.offset) in
-    λ j. rest_fits (at.before j) n least (bytes j)
+    λ j. after_rest (at.before j) n least (bytes j)
 
 -- what a decoder holds decides whether a block fits
 fits_found : (strict : Bool) (before width last_doc least : ℕ) (bytes values rest docs : List ℕ) → Some (values, rest) ≡ sorted_block_at strict before width bytes → docs ≡ values → get_or values 127 0 ≡ last_doc

@@ -1,256 +1,265 @@
 -- Laws of postings that were checked.
-use Rattle.std.proofs.Common.{◌≡◌, ℕ, zero, suc, ◌+◌, ◌-◌, ◌*◌, ◌/◌, ◌%◌, ◌<◌, ◌≤◌, Bool, true, false, List, [], length, take, drop, replicate, Option, Some, None, Result, Ok, Err, min, cond, nat_lt, refl, sym, ap, ◌∙◌, arith, is_some, length-drop, length-take}
-use Rattle.std.specs.Option.{IsSome}
+use Rattle.std.proofs.Common.{◌≡◌, ℕ, ◌+◌, ◌*◌, ◌/◌, ◌%◌, ◌<◌, ◌≤◌, Bool, true, false, ◌&&◌, List, [], length, drop, Option, Some, None, Result, Ok, Err, refl, sym, ap, ◌∙◌, arith, is_some, length-drop}
 use Rattle.std.specs.Result.{result_unwrap_or}
-use Rattle.std.proofs.lemmas.Bool.{ltb-true, ltb-false}
-use Rattle.std.proofs.lemmas.List.{take_all, drop_all}
 use Rattle.ii_base.specs.declared.schema.index_record_option.IndexRecordOption.{IndexRecordOption}
 use Rattle.ii_base.specs.declared.schema.index_record_option.IndexRecordOption.TheVariants.{Basic}
+use Rattle.ii_base.specs.Options.{has_freq}
+use Rattle.ii_io.specs.Steps.{◌>>=◌}
+use Rattle.ii_io.specs.StepLemmas.{step-some, some-same}
+use Rattle.ii_io.specs.Vints.{u32s_at}
 use Rattle.ii_io.specs.declared.faults.Part.{Part}
-use Rattle.ii_io.specs.declared.faults.Part.TheVariants.{Documents}
-use Rattle.ii_io.specs.StepLemmas.{some-same}
-use Rattle.ii_codes.specs.Blocks.{sorted_block_at}
+use Rattle.ii_io.specs.declared.faults.Part.TheVariants.{Documents, Frequencies}
 use Rattle.ii_codes.specs.SortedVints.{sorted_vints_at}
-use Rattle.ii_codes.specs.BlockDecoder.{BlockDecoderState, decodes_of}
-use Rattle.ii_codes.proofs.LengthLemmas.{length-sorted_block_at, length-sorted_vints_at}
-use Rattle.ii_layout.specs.declared.skip.BlockInfo.{BlockInfo}
-use Rattle.ii_layout.specs.declared.skip.BlockInfo.TheVariants.{BitPacked, VInt}
-use Rattle.ii_layout.specs.SkipList.{SkipEntry, SkipList, IsSplit, skip_list_at, block_place}
-use Rattle.ii_layout.specs.SkipReader.{SkipReaderState, reader_at, block_info_of}
-use Rattle.ii_layout.specs.Documents.{entry_of, last_doc_before, rest_docs, documents_at}
-use Rattle.ii_layout.specs.Postings.{Postings, postings}
+use Rattle.ii_codes.specs.BlockDecoder.{BlockDecoderState}
+use Rattle.ii_layout.specs.SkipList.{SkipList, IsSplit, skip_list_at, block_place, entry_size, entries_at}
+use Rattle.ii_layout.specs.SkipReader.{SkipReaderState, reader_at}
+use Rattle.ii_layout.specs.Documents.{last_doc_before, documents_at}
 use Rattle.ii_layout.specs.Written.{block_of}
-use Rattle.ii_layout.proofs.SkipReaderLemmas.{at_full_block, at_vints, at_end}
-use Rattle.ii_layout.proofs.DocumentLemmas.{documents_ascend, length-documents_at, block_of_documents, rest_of_documents}
-use Rattle.ii_check.specs.Check.{HoldsVInts}
-use Rattle.ii_check.specs.CheckedPostings.{CheckedPostingsState, IsChecked, AreGiven, HasDocuments, HoldsBlock, IsAtBlock, given, new_decoder, no_postings}
+use Rattle.ii_layout.specs.Frequencies.{freqs_at, has_freqs, freqs_if}
+use Rattle.ii_layout.specs.Postings.{Postings, postings}
+use Rattle.ii_layout.proofs.DocumentLemmas.{documents_ascend, length-documents_at, rest_of_documents}
+use Rattle.ii_layout.proofs.FrequencyLemmas.{freqs_fit, rest_of_freqs}
+use Rattle.ii_check.specs.declared.freq_reading_option.FreqReadingOption.{FreqReadingOption}
+use Rattle.ii_check.specs.declared.freq_reading_option.FreqReadingOption.TheVariants.{NoFreq}
+use Rattle.ii_check.specs.FreqReading.{reading_by, freq_reading_of}
+use Rattle.ii_check.specs.Check.{HoldsRow}
+use Rattle.ii_check.specs.CheckedPostings.{CheckedPostingsState, IsChecked, AreGiven, AreFreqs, HasDocuments, IsAtBlock, IsSkipData, Loads, LoadsFreqs, LoadsBlock, given, is_read, no_postings}
 use Rattle.ii_check.proofs.CheckLemmas.{many_entries}
+use Rattle.ii_check.proofs.LoadLemmas.{loads, loads_freqs, keeps_freqs}
 
-given_is : (recorded : IndexRecordOption) (doc_freq : ℕ) (bytes : List ℕ) (p : Postings) → postings recorded doc_freq bytes ≡ Ok p → given recorded doc_freq bytes ≡ p
+-- What was asked for, and where its skip list lies.
+pub record Asked : Type 0 where
+  pub recorded : IndexRecordOption
+  pub requested : IndexRecordOption
+  pub doc_freq : ℕ
+  pub bytes : List ℕ
+  pub skip_info : IndexRecordOption
+  pub entries : ℕ
+  pub body : ℕ
+
+abbrev pub asked : IndexRecordOption → IndexRecordOption → ℕ → List ℕ → IndexRecordOption → ℕ → ℕ → Asked
+asked recorded requested doc_freq bytes skip_info entries body = record { recorded = recorded; requested = requested; doc_freq = doc_freq; bytes = bytes; skip_info = skip_info; entries = entries; body = body }
+
+abbrev pub skip_of : Asked → SkipList
+skip_of a = skip_list_at a.skip_info (a.doc_freq / 128) a.bytes a.entries a.body
+
+-- whether counts are read, where these bytes are after the documents
+abbrev pub reads : Asked → List ℕ → Bool
+reads a after = has_freq a.requested && has_freqs (skip_of a) after
+
+abbrev pub given_by : Asked → Postings
+given_by a = given a.recorded a.requested a.doc_freq a.bytes
+
+abbrev pub Checks : Asked → FreqReadingOption → Type 0
+Checks a reading = IsChecked a.recorded a.requested a.doc_freq a.bytes a.skip_info a.entries a.body reading
+
+-- All parts were found.
+pub record Found (a : Asked) (docs after : List ℕ) (freqs : Option (List ℕ)) : Type 0 where
+  pub split : IsSplit a.recorded (a.doc_freq / 128) a.bytes a.skip_info a.entries a.body
+  pub documents : documents_at (skip_of a) (a.doc_freq % 128) ≡ Some (docs, after)
+  pub freqs_are : freqs_if (reads a after) (skip_of a) (a.doc_freq % 128) after ≡ Some freqs
+
+abbrev pub found_postings : Asked → List ℕ → List ℕ → Option (List ℕ) → Postings
+found_postings a docs after freqs = record { skip = skip_of a; docs = docs; after = after; freqs = freqs }
+
+postings_are : (a : Asked) (docs after : List ℕ) (freqs : Option (List ℕ)) → Found a docs after freqs → postings a.recorded a.requested a.doc_freq a.bytes ≡ Ok (found_postings a docs after freqs)
+postings_are a docs after freqs f = rw (f.split.skip, f.documents, f.freqs_are) refl
+
+given_is : (a : Asked) (p : Postings) → postings a.recorded a.requested a.doc_freq a.bytes ≡ Ok p → given_by a ≡ p
 unfolding given
-given_is recorded doc_freq bytes p e = ap (λ (r : Result Postings Part). result_unwrap_or r no_postings) e
+given_is a p e = ap (λ (r : Result Postings Part). result_unwrap_or r no_postings) e
 
--- the skip list and the documents are found
-abbrev pub found_postings : SkipList → List ℕ × List ℕ → Postings
-found_postings skip found = record { skip = skip; docs = found.0; after = found.1 }
+pub given_found : (a : Asked) (docs after : List ℕ) (freqs : Option (List ℕ)) → Found a docs after freqs → given_by a ≡ found_postings a docs after freqs
+given_found a docs after freqs f = given_is a (found_postings a docs after freqs) (postings_are a docs after freqs f)
 
-postings_are : (recorded : IndexRecordOption) (doc_freq entries body : ℕ) (bytes : List ℕ) (skip_info : IndexRecordOption) (found : List ℕ × List ℕ) → IsSplit recorded (doc_freq / 128) bytes skip_info entries body
-    → documents_at (skip_list_at skip_info (doc_freq / 128) bytes entries body) (doc_freq % 128) ≡ Some found
-    → postings recorded doc_freq bytes ≡ Ok (found_postings (skip_list_at skip_info (doc_freq / 128) bytes entries body) found)
-postings_are recorded doc_freq entries body bytes skip_info found split documents = rw (split.skip, documents) refl
+pub is_checked : (a : Asked) (docs after : List ℕ) (freqs : Option (List ℕ)) (reading : FreqReadingOption) → Found a docs after freqs → reading ≡ freq_reading_of a.requested (found_postings a docs after freqs) → Checks a reading
+is_checked a docs after freqs reading f reading_is =
+    let all = postings_are a docs after freqs f in
+    let same = given_found a docs after freqs f in
+    record { split = f.split; there = all ∙ ap Ok (sym same); reading_is = reading_is ∙ ap (freq_reading_of a.requested) (sym same) }
 
-checked_cases : (recorded : IndexRecordOption) (doc_freq entries body : ℕ) (bytes : List ℕ) (skip_info : IndexRecordOption) (o : Option (List ℕ × List ℕ)) → IsSplit recorded (doc_freq / 128) bytes skip_info entries body
-    → documents_at (skip_list_at skip_info (doc_freq / 128) bytes entries body) (doc_freq % 128) ≡ o → is_some o ≡ true → IsChecked recorded doc_freq bytes skip_info entries body
-checked_cases recorded doc_freq entries body bytes skip_info None split documents some = absurd (cc)
-checked_cases recorded doc_freq entries body bytes skip_info (Some found) split documents some =
-    let all = postings_are recorded doc_freq entries body bytes skip_info found split documents in
-    record { split = split; there = all ∙ ap Ok (sym (given_is recorded doc_freq bytes _ all)) }
+-- damage of the parts
+pub no_documents : (a : Asked) → IsSplit a.recorded (a.doc_freq / 128) a.bytes a.skip_info a.entries a.body → documents_at (skip_of a) (a.doc_freq % 128) ≡ None → postings a.recorded a.requested a.doc_freq a.bytes ≡ Err Documents
+no_documents a split none = rw (split.skip, none) refl
 
-pub is_checked : (recorded : IndexRecordOption) (doc_freq entries body : ℕ) (bytes : List ℕ) (skip_info : IndexRecordOption) (r : Bool) → IsSplit recorded (doc_freq / 128) bytes skip_info entries body
-    → r ≡ is_some (documents_at (skip_list_at skip_info (doc_freq / 128) bytes entries body) (doc_freq % 128)) → r ≡ true → IsChecked recorded doc_freq bytes skip_info entries body
-is_checked recorded doc_freq entries body bytes skip_info r split has found =
-    checked_cases recorded doc_freq entries body bytes skip_info (documents_at (skip_list_at skip_info (doc_freq / 128) bytes entries body) (doc_freq % 128)) split refl (sym has ∙ found)
+no_freqs_cases : (a : Asked) (docs after : List ℕ) → IsSplit a.recorded (a.doc_freq / 128) a.bytes a.skip_info a.entries a.body → documents_at (skip_of a) (a.doc_freq % 128) ≡ Some (docs, after)
+    → freqs_if (reads a after) (skip_of a) (a.doc_freq % 128) after ≡ None → postings a.recorded a.requested a.doc_freq a.bytes ≡ Err Frequencies
+no_freqs_cases a docs after split documents none = rw (split.skip, documents, none) refl
 
-abbrev given_ok : Postings → Result Postings Part
-given_ok p = Ok p
+missing_cases : (t : Bool) (skip : SkipList) (n : ℕ) (after : List ℕ) (o : Option (List ℕ)) → t ≡ true → freqs_at skip n after ≡ o → is_some o ≡ false → freqs_if t skip n after ≡ None
+missing_cases true skip n after None read e none = rw e refl
+missing_cases true skip n after (Some fs) read e none = absurd (cc)
+missing_cases false skip n after o read e none = absurd (cc)
 
-ok_same : (p q : Postings) → given_ok p ≡ given_ok q → p ≡ q
-ok_same p q e = cc
+pub no_freqs : (a : Asked) (docs after : List ℕ) → IsSplit a.recorded (a.doc_freq / 128) a.bytes a.skip_info a.entries a.body → documents_at (skip_of a) (a.doc_freq % 128) ≡ Some (docs, after) → reads a after ≡ true
+    → is_some (freqs_at (skip_of a) (a.doc_freq % 128) after) ≡ false → postings a.recorded a.requested a.doc_freq a.bytes ≡ Err Frequencies
+no_freqs a docs after split documents read none = no_freqs_cases a docs after split documents (missing_cases (reads a after) (skip_of a) (a.doc_freq % 128) after (freqs_at (skip_of a) (a.doc_freq % 128) after) read refl none)
 
-given_cases : (recorded : IndexRecordOption) (doc_freq entries body : ℕ) (bytes : List ℕ) (skip_info : IndexRecordOption) (p : Postings) (o : Option (List ℕ × List ℕ)) → IsSplit recorded (doc_freq / 128) bytes skip_info entries body
-    → postings recorded doc_freq bytes ≡ Ok p → documents_at (skip_list_at skip_info (doc_freq / 128) bytes entries body) (doc_freq % 128) ≡ o → AreGiven doc_freq p
-given_cases recorded doc_freq entries body bytes skip_info p None split there documents =
-    let none : postings recorded doc_freq bytes ≡ Err Documents = rw (split.skip, documents) refl in
+-- counts are read where they were requested and are there
+pub read_flag : (recorded requested there : Bool) → is_read (reading_by recorded requested (recorded && there)) ≡ (requested && (recorded && there))
+read_flag false true there = refl
+read_flag false false there = refl
+read_flag true false there = refl
+read_flag true true true = refl
+read_flag true true false = refl
+
+-- counts that aren't read, and counts that are
+pub not_read : (t : Bool) (skip : SkipList) (n : ℕ) (after : List ℕ) → t ≡ false → freqs_if t skip n after ≡ Some None
+not_read false skip n after e = refl
+not_read true skip n after e = absurd (cc)
+
+read_cases : (t : Bool) (skip : SkipList) (n : ℕ) (after : List ℕ) (o : Option (List ℕ)) → t ≡ true → freqs_at skip n after ≡ o → is_some o ≡ true → freqs_if t skip n after ≡ Some o
+read_cases true skip n after (Some fs) read e some = rw e refl
+read_cases true skip n after None read e some = absurd (cc)
+read_cases false skip n after o read e some = absurd (cc)
+
+pub are_read : (t : Bool) (skip : SkipList) (n : ℕ) (after : List ℕ) → t ≡ true → is_some (freqs_at skip n after) ≡ true → freqs_if t skip n after ≡ Some (freqs_at skip n after)
+are_read t skip n after read some = read_cases t skip n after (freqs_at skip n after) read refl some
+
+if_some : (t : Bool) (skip : SkipList) (n : ℕ) (after fs : List ℕ) → freqs_if t skip n after ≡ Some (Some fs) → freqs_at skip n after ≡ Some fs
+if_some false skip n after fs e = absurd (let none = some-same e in cc)
+if_some true skip n after fs e =
+    let found = step-some (freqs_at skip n after) _ (Some fs) e in
+    found.1 ∙ some-same found.2
+
+if_flag : (t : Bool) (skip : SkipList) (n : ℕ) (after : List ℕ) (o : Option (List ℕ)) → freqs_if t skip n after ≡ Some o → is_some o ≡ t
+if_flag false skip n after o e = ap is_some (sym (some-same e))
+if_flag true skip n after o e =
+    let found = step-some (freqs_at skip n after) _ o e in
+    ap is_some (sym (some-same found.2))
+
+-- What was checked was found.
+abbrev pub Finds : Asked → Type 0
+Finds a = (docs : List ℕ) × (after : List ℕ) × (freqs : Option (List ℕ)) × Found a docs after freqs
+
+freqs_cases : (a : Asked) (reading : FreqReadingOption) (docs after : List ℕ) (o : Option (Option (List ℕ))) → Checks a reading → documents_at (skip_of a) (a.doc_freq % 128) ≡ Some (docs, after)
+    → freqs_if (reads a after) (skip_of a) (a.doc_freq % 128) after ≡ o → Finds a
+freqs_cases a reading docs after None c documents e =
+    let none = no_freqs_cases a docs after c.split documents e in
+    let there = c.there in
     absurd (cc)
-given_cases recorded doc_freq entries body bytes skip_info p (Some found) split there documents =
-    let all = postings_are recorded doc_freq entries body bytes skip_info found split documents in
-    let same : found_postings (skip_list_at skip_info (doc_freq / 128) bytes entries body) found ≡ p = ok_same _ p (sym all ∙ there) in
-    rw (← same) (record { entries = many_entries skip_info (doc_freq / 128) (drop entries bytes) (drop body bytes); documents = documents })
+freqs_cases a reading docs after (Some freqs) c documents e = (docs, after, freqs, record { split = c.split; documents = documents; freqs_are = e })
 
-pub are_given : (recorded : IndexRecordOption) (doc_freq entries body : ℕ) (bytes : List ℕ) (skip_info : IndexRecordOption) → IsChecked recorded doc_freq bytes skip_info entries body → AreGiven doc_freq (given recorded doc_freq bytes)
-are_given recorded doc_freq entries body bytes skip_info c =
-    given_cases recorded doc_freq entries body bytes skip_info (given recorded doc_freq bytes) (documents_at (skip_list_at skip_info (doc_freq / 128) bytes entries body) (doc_freq % 128)) c.split c.there refl
-
-body_cases : (recorded : IndexRecordOption) (doc_freq entries body : ℕ) (bytes : List ℕ) (skip_info : IndexRecordOption) (p : Postings) (o : Option (List ℕ × List ℕ)) → IsSplit recorded (doc_freq / 128) bytes skip_info entries body
-    → postings recorded doc_freq bytes ≡ Ok p → documents_at (skip_list_at skip_info (doc_freq / 128) bytes entries body) (doc_freq % 128) ≡ o → p.skip.body ≡ drop body bytes
-body_cases recorded doc_freq entries body bytes skip_info p None split there documents =
-    let none : postings recorded doc_freq bytes ≡ Err Documents = rw (split.skip, documents) refl in
+found_cases : (a : Asked) (reading : FreqReadingOption) (o : Option (List ℕ × List ℕ)) → Checks a reading → documents_at (skip_of a) (a.doc_freq % 128) ≡ o → Finds a
+found_cases a reading None c e =
+    let none = no_documents a c.split e in
+    let there = c.there in
     absurd (cc)
-body_cases recorded doc_freq entries body bytes skip_info p (Some found) split there documents =
-    ap (λ (q : Postings). q.skip.body) (ok_same p _ (sym there ∙ postings_are recorded doc_freq entries body bytes skip_info found split documents))
+found_cases a reading (Some (docs, after)) c e = freqs_cases a reading docs after (freqs_if (reads a after) (skip_of a) (a.doc_freq % 128) after) c e refl
 
-pub given_body : (recorded : IndexRecordOption) (doc_freq entries body : ℕ) (bytes : List ℕ) (skip_info : IndexRecordOption) → IsChecked recorded doc_freq bytes skip_info entries body → (given recorded doc_freq bytes).skip.body ≡ drop body bytes
-given_body recorded doc_freq entries body bytes skip_info c =
-    body_cases recorded doc_freq entries body bytes skip_info (given recorded doc_freq bytes) (documents_at (skip_list_at skip_info (doc_freq / 128) bytes entries body) (doc_freq % 128)) c.split c.there refl
+pub finds : (a : Asked) (reading : FreqReadingOption) → Checks a reading → Finds a
+finds a reading c = found_cases a reading (documents_at (skip_of a) (a.doc_freq % 128)) c refl
 
-pub has_documents : (doc_freq : ℕ) (p : Postings) → AreGiven doc_freq p → HasDocuments (record { doc_freq = doc_freq; postings = p })
-has_documents doc_freq p g =
-    let size = length-documents_at p.skip (doc_freq % 128) p.docs p.after g.documents in
-    let entries = g.entries in
-    record { ascending = documents_ascend p.skip (doc_freq % 128) p.docs p.after g.documents; many = omega arith }
-
--- at a full block the reader tells of one, and only there
-full_cases : (reader : SkipReaderState) (skip_info : IndexRecordOption) (doc_freq i w f c norm tf : ℕ) (s t : Bool) (entries : List SkipEntry) → reader ≡ reader_at skip_info doc_freq entries i → nat_lt i (doc_freq / 128) ≡ t
-    → reader.block_info ≡ BitPacked w s f c norm tf → i < doc_freq / 128
-full_cases reader skip_info doc_freq i w f c norm tf s true entries e test info = ltb-true i (doc_freq / 128) test
-full_cases reader skip_info doc_freq i w f c norm tf s false entries e test info =
-    let other = rw test at (ap (λ (r : SkipReaderState). r.block_info) e) in
-    absurd (cc)
-
-vints_cases : (reader : SkipReaderState) (skip_info : IndexRecordOption) (doc_freq i n : ℕ) (t : Bool) (entries : List SkipEntry) → reader ≡ reader_at skip_info doc_freq entries i → nat_lt i (doc_freq / 128) ≡ t
-    → reader.block_info ≡ VInt n → doc_freq / 128 ≤ i
-vints_cases reader skip_info doc_freq i n false entries e test info = ltb-false i (doc_freq / 128) test
-vints_cases reader skip_info doc_freq i n true entries e test info =
-    let other = rw test at (ap (λ (r : SkipReaderState). r.block_info) e) in
-    absurd (cc)
-
--- What a call was told of the block: the last document before it and the bytes there.
-pub record ToldOf (reader : SkipReaderState) (body : List ℕ) (before offset : ℕ) (here : List ℕ) : Type 0 where
-  pub before_is : before ≡ reader.last_doc_in_previous_block
-  pub offset_is : offset ≡ reader.byte_offset
-  pub here_is : here ≡ drop offset body
-
--- a full block is there
-pub full_there : (p : CheckedPostingsState) (reader : SkipReaderState) (before offset w f c norm tf : ℕ) (here : List ℕ) (s : Bool) → AreGiven p.doc_freq p.postings → IsAtBlock p reader → ToldOf reader p.postings.skip.body before offset here
-    → reader.block_info ≡ BitPacked w s f c norm tf → (after : List ℕ) × (sorted_block_at s before w here ≡ Some (block_of p.postings.docs reader.block, after))
-full_there p reader before offset w f c norm tf here s g at told info =
-    let i = reader.block in
-    let skip = p.postings.skip in
-    let below = full_cases reader skip.skip_info p.doc_freq i w f c norm tf s (nat_lt i (p.doc_freq / 128)) skip.entries at.reader refl info in
-    let tells = at_full_block reader skip.skip_info p.doc_freq i skip.entries at.reader below in
-    let entries = g.entries in
-    let block = block_of_documents skip (p.doc_freq % 128) i p.postings.docs p.postings.after g.documents (omega arith) in
-    let e = entry_of skip.entries i in
-    let same : BitPacked w s f c norm tf ≡ block_info_of e = sym info ∙ tells.info in
-    let width : w ≡ e.doc_num_bits = cc in
-    let strict : s ≡ e.strict_delta = cc in
-    let bytes : here ≡ drop (block_place skip.entries i) skip.body = told.here_is ∙ ap (λ (k : ℕ). drop k skip.body) (told.offset_is ∙ tells.offset) in
-    (block.after, (λ j. sorted_block_at (strict j) ((told.before_is ∙ tells.before) j) (width j) (bytes j)) ∙ block.read)
-
-nothing_left : (docs : List ℕ) (i : ℕ) → length docs ≤ 128 * i → block_of docs i ≡ []
-nothing_left docs i h = ap (λ (ds : List ℕ). take 128 ds) (drop_all (128 * i) docs h)
-
-no_vints : (before : ℕ) (here : List ℕ) → sorted_vints_at before 0 here ≡ Some ([], here)
-no_vints before here = refl
-
-vints_split : (i blocks : ℕ) → blocks ≤ i → i ≤ blocks + 1 → (t : Bool) → nat_lt blocks i ≡ t → cond t (i ≡ blocks + 1) (i ≡ blocks)
-vints_split i blocks low high true test = let above = ltb-true blocks i test in omega arith
-vints_split i blocks low high false test = let below = ltb-false blocks i test in omega arith
-
--- What stands at the block of vints, or at the empty one after it.
-record VIntsThere (docs : List ℕ) (block before n : ℕ) (here : List ℕ) : Type 0 where
-  few : n < 128
-  after : List ℕ
-  read : sorted_vints_at before n here ≡ Some (block_of docs block, after)
-
-last_there : (p : CheckedPostingsState) (reader : SkipReaderState) (before offset n : ℕ) (here : List ℕ) → AreGiven p.doc_freq p.postings → IsAtBlock p reader → ToldOf reader p.postings.skip.body before offset here
-    → reader.block_info ≡ VInt n → reader.block ≡ p.doc_freq / 128 → VIntsThere p.postings.docs reader.block before n here
-last_there p reader before offset n here g at told info end =
-    let i = reader.block in
-    let skip = p.postings.skip in
-    let tells = at_vints reader skip.skip_info p.doc_freq i skip.entries at.reader end in
-    let number : n ≡ p.doc_freq % 128 = let same : VInt n ≡ VInt (p.doc_freq % 128) = sym info ∙ tells.info in cc in
-    let entries = g.entries in
-    let count : i ≡ length skip.entries = omega arith in
-    let rest = rest_of_documents skip (p.doc_freq % 128) i p.postings.docs p.postings.after g.documents (omega arith) count in
-    let bytes : here ≡ drop (block_place skip.entries i) skip.body = told.here_is ∙ ap (λ (k : ℕ). drop k skip.body) (told.offset_is ∙ tells.offset) in
+given_by_found : (a : Asked) (reading : FreqReadingOption) (docs after : List ℕ) (freqs : Option (List ℕ)) → Found a docs after freqs → reading ≡ freq_reading_of a.requested (found_postings a docs after freqs)
+    → AreGiven (record { doc_freq = a.doc_freq; postings = found_postings a docs after freqs; freq_reading = reading })
+given_by_found a reading docs after freqs f reading_is =
+    let n = a.doc_freq % 128 in
     record {
-      few = omega arith;
-      after = p.postings.after;
-      read = (λ j. sorted_vints_at ((told.before_is ∙ tells.before) j) (number j) (bytes j)) ∙ ap (λ (k : ℕ). sorted_vints_at (last_doc_before skip.entries k) (p.doc_freq % 128) (drop (block_place skip.entries k) skip.body)) count ∙ rest;
+      entries = many_entries a.skip_info (a.doc_freq / 128) (drop a.entries a.bytes) (drop a.body a.bytes);
+      documents = f.documents;
+      freqs = λ fs e. if_some (reads a after) (skip_of a) n after fs (f.freqs_are ∙ ap (λ (o : Option (List ℕ)). Some o) e);
+      read = if_flag (reads a after) (skip_of a) n after freqs f.freqs_are ∙ sym (ap is_read reading_is ∙ read_flag (has_freq a.skip_info) (has_freq a.requested) _);
     }
 
-past_there : (p : CheckedPostingsState) (reader : SkipReaderState) (before n : ℕ) (here : List ℕ) → HasDocuments p → IsAtBlock p reader → reader.block_info ≡ VInt n → reader.block ≡ p.doc_freq / 128 + 1 → VIntsThere p.postings.docs reader.block before n here
-past_there p reader before n here h at info end =
-    let tells = at_end reader p.postings.skip.skip_info p.doc_freq reader.block p.postings.skip.entries at.reader (omega arith) in
-    let none : n ≡ 0 = let same : VInt n ≡ VInt 0 = sym info ∙ tells.info in cc in
-    let many = h.many in
-    let left = nothing_left p.postings.docs reader.block (omega arith) in
-    record { few = omega arith; after = here; read = ap (λ (k : ℕ). sorted_vints_at before k here) none ∙ no_vints before here ∙ ap (λ (ds : List ℕ). Some (ds, here)) (sym left) }
+pub are_given : (a : Asked) (reading : FreqReadingOption) → Checks a reading → AreGiven (record { doc_freq = a.doc_freq; postings = given_by a; freq_reading = reading })
+are_given a reading c =
+    let (docs, after, freqs, f) = finds a reading c in
+    let same = given_found a docs after freqs f in
+    rw same (given_by_found a reading docs after freqs f (c.reading_is ∙ ap (freq_reading_of a.requested) same))
 
-there_cases : (p : CheckedPostingsState) (reader : SkipReaderState) (before offset n : ℕ) (here : List ℕ) → AreGiven p.doc_freq p.postings → HasDocuments p → IsAtBlock p reader → ToldOf reader p.postings.skip.body before offset here
-    → reader.block_info ≡ VInt n → (t : Bool) → cond t (reader.block ≡ p.doc_freq / 128 + 1) (reader.block ≡ p.doc_freq / 128) → VIntsThere p.postings.docs reader.block before n here
-there_cases p reader before offset n here g h at told info true end = past_there p reader before n here h at info end
-there_cases p reader before offset n here g h at told info false end = last_there p reader before offset n here g at told info end
+pub given_body : (a : Asked) (reading : FreqReadingOption) → Checks a reading → (given_by a).skip.body ≡ drop a.body a.bytes
+given_body a reading c =
+    let (docs, after, freqs, f) = finds a reading c in
+    ap (λ (p : Postings). p.skip.body) (given_found a docs after freqs f)
 
-pub vints_there : (p : CheckedPostingsState) (reader : SkipReaderState) (before offset n : ℕ) (here : List ℕ) → AreGiven p.doc_freq p.postings → IsAtBlock p reader → ToldOf reader p.postings.skip.body before offset here
-    → reader.block_info ≡ VInt n → (n < 128) × ((after : List ℕ) × (sorted_vints_at before n here ≡ Some (block_of p.postings.docs reader.block, after)))
-vints_there p reader before offset n here g at told info =
-    let i = reader.block in
-    let low = vints_cases reader p.postings.skip.skip_info p.doc_freq i n (nat_lt i (p.doc_freq / 128)) p.postings.skip.entries at.reader refl info in
-    let t = nat_lt (p.doc_freq / 128) i in
-    let there = there_cases p reader before offset n here g (has_documents p.doc_freq p.postings g) at told info t (vints_split i (p.doc_freq / 128) low at.within t refl) in
-    (there.few, (there.after, there.read))
+pub given_skip : (a : Asked) (reading : FreqReadingOption) → Checks a reading → (given_by a).skip ≡ skip_of a
+given_skip a reading c =
+    let (docs, after, freqs, f) = finds a reading c in
+    ap (λ (p : Postings). p.skip) (given_found a docs after freqs f)
 
-pub is_there : {A : Type 0} (o : Option A) (x : A) → o ≡ Some x → IsSome o
-is_there None x e = absurd (cc)
-is_there (Some y) x e = refl
+-- the bytes from the entries on
+pub is_skip_data : (a : Asked) (reading : FreqReadingOption) (bytes : List ℕ) → Checks a reading → bytes ≡ drop a.entries a.bytes → IsSkipData (record { doc_freq = a.doc_freq; postings = given_by a; freq_reading = reading }) bytes
+is_skip_data a reading bytes c e =
+    let skip = given_skip a reading c in
+    let room = c.split.room in
+    let size = length-drop a.entries a.bytes in
+    let enough : entry_size a.skip_info * (a.doc_freq / 128) ≤ length bytes = rw e (omega arith) in
+    record {
+      enough = rw skip enough;
+      entries = ap (λ (s : SkipList). s.entries) skip ∙ (λ j. entries_at (ap (λ (s : SkipList). s.skip_info) (sym skip) j) (a.doc_freq / 128) (sym e j));
+    }
 
--- what a decoder holds once it read a full block
-pub full_held : (docs here rest after : List ℕ) (block before w : ℕ) (s : Bool) (decoder : BlockDecoderState) → sorted_block_at s before w here ≡ Some (block_of docs block, after)
-    → Some (decoder.output, rest) ≡ sorted_block_at s before w here → decoder.output_len ≡ 128 → HoldsBlock docs block decoder × (length (block_of docs block) ≡ 128)
-full_held docs here rest after block before w s decoder there read size =
-    let whole = length-sorted_block_at s before w here decoder.output rest (sym read) in
-    let same = ap (λ (p : List ℕ × List ℕ). p.0) (some-same (read ∙ there)) in (
-      record {
-        many = size ∙ sym (ap length (sym same) ∙ whole);
-        held = take_all decoder.output_len decoder.output (omega arith) ∙ same;
-        filled = drop_all decoder.output_len decoder.output (omega arith) ∙ (let none : 0 ≡ 128 - decoder.output_len = omega arith in ap (λ (n : ℕ). replicate n 2147483647) none);
-      },
-      ap length (sym same) ∙ whole,
-    )
+-- a reader that begins there
+pub begins : (a : Asked) (reading : FreqReadingOption) (skip_data : List ℕ) (reader : SkipReaderState) → Checks a reading → IsSkipData (record { doc_freq = a.doc_freq; postings = given_by a; freq_reading = reading }) skip_data
+    → reader ≡ reader_at a.skip_info a.doc_freq (entries_at a.skip_info (a.doc_freq / 128) skip_data) 0 → IsAtBlock (record { doc_freq = a.doc_freq; postings = given_by a; freq_reading = reading }) reader
+begins a reading skip_data reader c d e =
+    let skip = given_skip a reading c in
+    let info : a.skip_info ≡ (given_by a).skip.skip_info = sym (ap (λ (s : SkipList). s.skip_info) skip) in
+    let entries = ap (λ (i : IndexRecordOption). entries_at i (a.doc_freq / 128) skip_data) info ∙ sym d.entries in
+    let first : reader.block ≡ 0 = ap (λ (r : SkipReaderState). r.block) e in
+    record { reader = e ∙ (λ j. reader_at (info j) a.doc_freq (entries j) (sym first j)); within = omega arith }
 
--- and once it read vints
-pub vints_held : (docs here rest after : List ℕ) (block before n : ℕ) (decoder : BlockDecoderState) → sorted_vints_at before n here ≡ Some (block_of docs block, after)
-    → Some (take n decoder.output, rest) ≡ sorted_vints_at before n here → drop n decoder.output ≡ replicate (128 - n) 2147483647 → decoder.output_len ≡ n → HoldsBlock docs block decoder × (length (block_of docs block) ≡ n)
-vints_held docs here rest after block before n decoder there read filled size = (
-  record {
-    many = size ∙ sym (length-sorted_vints_at before n here (block_of docs block) after there);
-    held = ap (λ (k : ℕ). take k decoder.output) size ∙ ap (λ (p : List ℕ × List ℕ). p.0) (some-same (read ∙ there));
-    filled = ap (λ (k : ℕ). drop k decoder.output) size ∙ filled ∙ ap (λ (k : ℕ). replicate (128 - k) 2147483647) (sym size);
-  },
-  length-sorted_vints_at before n here (block_of docs block) after there,
-)
-
--- the decoder that is left of the check of a short list
-pub short_held : (p : CheckedPostingsState) (decoder : BlockDecoderState) → AreGiven p.doc_freq p.postings → p.doc_freq < 128 → HoldsVInts 0 p.doc_freq p.postings.skip.body new_decoder decoder → HoldsBlock p.postings.docs 0 decoder
-short_held p decoder g few h =
+pub has_documents : (p : CheckedPostingsState) → AreGiven p → HasDocuments p
+has_documents p g =
     let skip = p.postings.skip in
+    let n = p.doc_freq % 128 in
+    let size = length-documents_at skip n p.postings.docs p.postings.after g.documents in
     let entries = g.entries in
-    let none : 0 ≡ length skip.entries = omega arith in
-    let rest = rest_of_documents skip (p.doc_freq % 128) 0 p.postings.docs p.postings.after g.documents (omega arith) none in
-    let number : p.doc_freq % 128 ≡ p.doc_freq = omega arith in
+    record {
+      ascending = documents_ascend skip n p.postings.docs p.postings.after g.documents;
+      many = omega arith;
+      freqs = λ fs e.
+          let fit = freqs_fit skip n p.postings.after fs (g.freqs fs e) in
+          let many = fit.many in
+          record { many = omega arith; low = fit.low };
+      read = g.read;
+    }
+
+-- the decoders that are left of the check of a short list
+short_docs : (p : CheckedPostingsState) (docs docs' : BlockDecoderState) → AreGiven p → p.doc_freq < 128 → HoldsRow (sorted_vints_at 0 p.doc_freq p.postings.skip.body) 2147483647 docs docs' → Loads p.postings.docs 0 2147483647 docs docs'
+short_docs p docs docs' g few row =
+    let skip = p.postings.skip in
+    let n = p.doc_freq % 128 in
+    let entries = g.entries in
+    let end : 0 ≡ length skip.entries = omega arith in
+    let number : p.doc_freq ≡ n = omega arith in
+    let rest = rest_of_documents skip n 0 p.postings.docs p.postings.after g.documents (omega arith) end in
     let here : sorted_vints_at 0 p.doc_freq skip.body ≡ Some (block_of p.postings.docs 0, p.postings.after) =
-    ap (λ (k : ℕ). sorted_vints_at 0 k skip.body) (sym number) ∙ ap (λ (k : ℕ). sorted_vints_at (last_doc_before skip.entries k) (p.doc_freq % 128) (drop (block_place skip.entries k) skip.body)) none ∙ rest
+    ap (λ (k : ℕ). sorted_vints_at 0 k skip.body) number ∙ ap (λ (k : ℕ). sorted_vints_at (last_doc_before skip.entries k) n (drop (block_place skip.entries k) skip.body)) end ∙ rest
     in
-    record { many = h.many ∙ sym (length-sorted_vints_at 0 p.doc_freq skip.body (block_of p.postings.docs 0) p.postings.after here); held = ap (λ (q : List ℕ × List ℕ). q.0) (some-same (sym h.read ∙ here)); filled = h.filled }
+    loads (sorted_vints_at 0 p.doc_freq skip.body) p.postings.docs p.postings.after 0 2147483647 docs docs' row here
 
-pub decodes_short : (n : ℕ) → decodes_of n ≡ min 1 n
-decodes_short zero = refl
-decodes_short (suc n) = let one : 1 ≡ min 1 (suc n) = omega arith in one
+short_freqs : (p : CheckedPostingsState) (freqs freqs' : BlockDecoderState) (t : Bool) → AreGiven p → p.doc_freq < 128 → is_read p.freq_reading ≡ t
+    → (t ≡ true → HoldsRow (u32s_at p.doc_freq p.postings.after) 1 freqs freqs') → (t ≡ false → freqs' ≡ freqs) → LoadsFreqs p.postings.freqs 0 freqs freqs'
+short_freqs p freqs freqs' true g few read counts none =
+    let skip = p.postings.skip in
+    let n = p.doc_freq % 128 in
+    let entries = g.entries in
+    let end : 0 ≡ length skip.entries = omega arith in
+    let number : p.doc_freq ≡ n = omega arith in
+    loads_freqs p.postings.freqs 0 freqs freqs' (g.read ∙ read)
+    (λ fs e.
+    let rest = rest_of_freqs skip n 0 p.postings.after fs (g.freqs fs e) (omega arith) end in
+    loads (u32s_at p.doc_freq p.postings.after) fs rest.0 0 1 freqs freqs' (counts refl) (ap (λ (k : ℕ). u32s_at k p.postings.after) number ∙ rest.1))
+short_freqs p freqs freqs' false g few read counts none = keeps_freqs p.postings.freqs 0 freqs freqs' (g.read ∙ read) (none refl)
 
--- a block of so many documents of a list that has some
-pub decodes_first : (docs : List ℕ) (doc_freq : ℕ) → length docs ≡ doc_freq → decodes_of (length (block_of docs 0)) ≡ min 1 doc_freq
-decodes_first docs doc_freq many =
-    let size : length (block_of docs 0) ≡ min 128 doc_freq = omega (arith, length-take 128 docs) in
-    decodes_short (length (block_of docs 0)) ∙ (let same : min 1 (length (block_of docs 0)) ≡ min 1 doc_freq = omega arith in same)
-
-pub decodes_new : (p : CheckedPostingsState) (decoder new : BlockDecoderState) (block : ℕ) → HasDocuments p → decoder ≡ new_decoder → block ≡ 0 → new.decodes ≡ decoder.decodes + decodes_of (length (block_of p.postings.docs block)) → new.decodes ≡ min 1 p.doc_freq
-decodes_new p decoder new block h none first e =
-    let start : decoder.decodes ≡ 0 = ap (λ (d : BlockDecoderState). d.decodes) none in
-    let more = decodes_first p.postings.docs p.doc_freq h.many in
-    let here = ap (λ (b : ℕ). decodes_of (length (block_of p.postings.docs b))) first in
-    omega arith
+pub short_loads : (p : CheckedPostingsState) (docs docs' freqs freqs' : BlockDecoderState) (t : Bool) → AreGiven p → p.doc_freq < 128 → HoldsRow (sorted_vints_at 0 p.doc_freq p.postings.skip.body) 2147483647 docs docs' → is_read p.freq_reading ≡ t
+    → (t ≡ true → HoldsRow (u32s_at p.doc_freq p.postings.after) 1 freqs freqs') → (t ≡ false → freqs' ≡ freqs) → LoadsBlock p.postings 0 docs docs' freqs freqs'
+short_loads p docs docs' freqs freqs' t g few row read counts none =
+    record { docs_are = short_docs p docs docs' g few row; freqs_are = short_freqs p freqs freqs' t g few read counts none }
 
 -- no bytes give no documents
-empty_split : (bytes : List ℕ) → IsSplit Basic (0 / 128) bytes Basic 0 0
-empty_split bytes = record { skip = refl; room = omega arith; within = omega arith }
+abbrev pub asked_nothing : List ℕ → Asked
+asked_nothing bytes = record { recorded = Basic; requested = Basic; doc_freq = 0; bytes = bytes; skip_info = Basic; entries = 0; body = 0 }
 
-pub empty_checked : (bytes : List ℕ) → IsChecked Basic 0 bytes Basic 0 0
-empty_checked bytes = is_checked Basic 0 0 0 bytes Basic true (empty_split bytes) refl refl
+empty_found : (bytes : List ℕ) → Found (asked_nothing bytes) [] bytes None
+empty_found bytes = record { split = record { skip = refl; room = omega arith; within = omega arith }; documents = refl; freqs_are = refl }
 
-pub empty_documents : (bytes : List ℕ) → (given Basic 0 bytes).docs ≡ []
-empty_documents bytes = ap (λ (p : Postings). p.docs) (given_is Basic 0 bytes _ (postings_are Basic 0 0 0 bytes Basic ([], bytes) (empty_split bytes) refl))
+pub empty_checked : (bytes : List ℕ) → Checks (asked_nothing bytes) NoFreq
+empty_checked bytes = is_checked (asked_nothing bytes) [] bytes None NoFreq (empty_found bytes) refl
 
-pub empty_has : (bytes : List ℕ) → HasDocuments (record { doc_freq = 0; postings = given Basic 0 bytes })
-empty_has bytes = has_documents 0 (given Basic 0 bytes) (are_given Basic 0 0 0 bytes Basic (empty_checked bytes))
+pub empty_given : (bytes : List ℕ) → given_by (asked_nothing bytes) ≡ found_postings (asked_nothing bytes) [] bytes None
+empty_given bytes = given_found (asked_nothing bytes) [] bytes None (empty_found bytes)
+
+pub empty_has : (bytes : List ℕ) → HasDocuments (record { doc_freq = 0; postings = given_by (asked_nothing bytes); freq_reading = NoFreq })
+empty_has bytes = has_documents _ (are_given (asked_nothing bytes) NoFreq (empty_checked bytes))

@@ -1,2 +1,5 @@
 pub mod CheckLemmas
+pub mod FrequencyLemmas
+pub mod LoadLemmas
 pub mod CheckedPostingsLemmas
+pub mod PartLemmas

@@ -1,13 +1,15 @@
--- What the check asks of the bytes of one block.
-use Rattle.std.specs.Prelude.{◌≡◌, ℕ, ◌+◌, ◌-◌, Bool, false, ◌&&◌, ◌==◌, List, take, drop, replicate, slice_index, Option, Some, None}
+-- What the check asks of the bytes of one block, and what a decoder holds of a row.
+use Rattle.std.specs.Prelude.{◌≡◌, ℕ, ◌+◌, ◌-◌, ◌*◌, Bool, false, ◌&&◌, ◌==◌, List, length, take, drop, replicate, slice_index, Option, Some, None}
+use Rattle.ii_io.specs.Steps.{◌>>=◌, needs}
+use Rattle.ii_io.specs.Vints.{u32s_at}
 use Rattle.ii_base.specs.declared.schema.index_record_option.IndexRecordOption.{IndexRecordOption}
-use Rattle.ii_docset.specs.declared.docset.TheConstants.{TERMINATED}
 use Rattle.ii_docset.specs.Entries.{ascend_from}
-use Rattle.ii_codes.specs.Blocks.{sorted_block_at}
+use Rattle.ii_codes.specs.Blocks.{sorted_block_at, unsorted_block_at}
 use Rattle.ii_codes.specs.BlockDecoder.{BlockDecoderState, decodes_of}
 use Rattle.ii_codes.specs.SortedVints.{sorted_vints_at}
 use Rattle.ii_layout.specs.declared.skip.BlockInfo.{BlockInfo}
 use Rattle.ii_layout.specs.declared.skip.BlockInfo.TheVariants.{BitPacked, VInt}
+use Rattle.ii_layout.specs.Frequencies.{has_sum}
 use Rattle.ii_layout.specs.SkipList.{SkipList, entries_at}
 
 -- the skip list whose entries are at the front of these bytes, and its body
@@ -25,14 +27,40 @@ block_fits (BitPacked doc_num_bits strict_delta tf_num_bits tf_sum norm term_fre
     fits_by (λ docs. slice_index docs 127 == last_doc && ascend_from least docs) (sorted_block_at strict_delta before doc_num_bits bytes)
 block_fits (VInt n) before last_doc least bytes = false
 
--- bytes begin with so many documents as vints, which ascend from a least one on
-abbrev pub rest_fits : ℕ → ℕ → ℕ → List ℕ → Bool
-rest_fits before n least bytes = fits_by (λ docs. ascend_from least docs) (sorted_vints_at before n bytes)
+-- the bytes after so many documents, kept as vints, which ascend from a least one on
+abbrev pub after_rest : ℕ → ℕ → ℕ → List ℕ → Option (List ℕ)
+after_rest before n least bytes = do
+  found ← sorted_vints_at before n bytes
+  _ ← needs (ascend_from least found.0)
+  Some found.1
 
--- A decoder read so many documents as vints, and holds them.
-pub record HoldsVInts (before n : ℕ) (bytes : List ℕ) (old new : BlockDecoderState) : Type 0 where
+-- the documents of a block by what the skip list tells of it, and the bytes after them
+abbrev pub docs_in : BlockInfo → ℕ → List ℕ → Option (List ℕ × List ℕ)
+docs_in (BitPacked doc_num_bits strict_delta tf_num_bits tf_sum norm term_freq) before bytes = sorted_block_at strict_delta before doc_num_bits bytes
+docs_in (VInt n) before bytes = sorted_vints_at before n bytes
+
+-- the counts of a block, from the bytes after its documents on
+abbrev pub freqs_in : BlockInfo → List ℕ → Option (List ℕ × List ℕ)
+freqs_in (BitPacked doc_num_bits strict_delta tf_num_bits tf_sum norm term_freq) bytes = unsorted_block_at strict_delta tf_num_bits bytes
+freqs_in (VInt n) bytes = u32s_at n bytes
+
+-- the counts of a full block, whose sum is the one told
+abbrev pub block_freqs_in : IndexRecordOption → BlockInfo → List ℕ → Option (List ℕ)
+block_freqs_in skip_info (BitPacked doc_num_bits strict_delta tf_num_bits tf_sum norm term_freq) bytes = do
+  found ← unsorted_block_at strict_delta tf_num_bits (drop (16 * doc_num_bits) bytes)
+  _ ← needs (has_sum skip_info tf_sum found.0)
+  Some found.0
+block_freqs_in skip_info (VInt n) bytes = None
+
+-- how many documents a block that isn't full has
+abbrev pub num_vints : BlockInfo → ℕ
+num_vints (BitPacked doc_num_bits strict_delta tf_num_bits tf_sum norm term_freq) = 0
+num_vints (VInt n) = n
+
+-- A decoder read a row of values and holds them; after them it is filled with a padding.
+pub record HoldsRow (row : Option (List ℕ × List ℕ)) (padding : ℕ) (old new : BlockDecoderState) : Type 0 where
   pub after : List ℕ
-  pub many : new.output_len ≡ n
-  pub read : sorted_vints_at before n bytes ≡ Some (take new.output_len new.output, after)
-  pub filled : drop new.output_len new.output ≡ replicate (128 - new.output_len) TERMINATED
-  pub decodes : new.decodes ≡ old.decodes + decodes_of n
+  pub read : row ≡ Some (take new.output_len new.output, after)
+  pub many : new.output_len ≡ length (take new.output_len new.output)
+  pub filled : drop new.output_len new.output ≡ replicate (128 - new.output_len) padding
+  pub decodes : new.decodes ≡ old.decodes + decodes_of new.output_len

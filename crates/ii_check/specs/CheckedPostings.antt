@@ -1,58 +1,99 @@
 -- Postings that were checked, and what lends their blocks.
-use Rattle.std.specs.Prelude.{◌≡◌, ℕ, ◌+◌, ◌-◌, ◌*◌, ◌/◌, ◌%◌, ◌≤◌, Bool, true, List, [], take, drop, length, replicate, Ok, Some}
+use Rattle.std.specs.Prelude.{◌≡◌, ℕ, ◌+◌, ◌-◌, ◌*◌, ◌/◌, ◌%◌, ◌≤◌, Bool, true, false, List, [], take, drop, length, replicate, Option, Some, None, is_some, Ok}
 use Rattle.std.specs.Result.{result_unwrap_or}
 use Rattle.ii_base.specs.declared.schema.index_record_option.IndexRecordOption.{IndexRecordOption}
 use Rattle.ii_base.specs.declared.schema.index_record_option.IndexRecordOption.TheVariants.{Basic}
 use Rattle.ii_docset.specs.declared.docset.TheConstants.{TERMINATED}
 use Rattle.ii_docset.specs.Entries.{are_documents}
-use Rattle.ii_codes.specs.BlockDecoder.{BlockDecoderState}
+use Rattle.ii_codes.specs.BlockDecoder.{BlockDecoderState, decodes_of}
+use Rattle.ii_codes.specs.Sums.{fit_u32}
 use Rattle.ii_layout.specs.SkipList.{IsSplit, entry_size, entries_at}
 use Rattle.ii_layout.specs.SkipReader.{SkipReaderState, reader_at}
 use Rattle.ii_layout.specs.Documents.{documents_at}
+use Rattle.ii_layout.specs.Frequencies.{freqs_at}
 use Rattle.ii_layout.specs.Postings.{Postings, postings}
 use Rattle.ii_layout.specs.Written.{block_of}
+use Rattle.ii_check.specs.declared.freq_reading_option.FreqReadingOption.{FreqReadingOption}
+use Rattle.ii_check.specs.declared.freq_reading_option.FreqReadingOption.TheVariants.{NoFreq, SkipFreq, ReadFreq}
+use Rattle.ii_check.specs.FreqReading.{freq_reading_of}
 
--- how many documents a term is in, and what its bytes give
+-- how many documents a term is in, what its bytes give, and whether its counts are read
 pub record CheckedPostingsState : Type 0 where
   pub doc_freq : ℕ
   pub postings : Postings
+  pub freq_reading : FreqReadingOption
 
 abbrev pub no_postings : Postings
-no_postings = record { skip = record { skip_info = Basic; entries = []; body = [] }; docs = []; after = [] }
+no_postings = record { skip = record { skip_info = Basic; entries = []; body = [] }; docs = []; after = []; freqs = None }
 
 -- what bytes give that give postings
-unfoldable pub given : IndexRecordOption → ℕ → List ℕ → Postings
-given recorded doc_freq bytes = result_unwrap_or (postings recorded doc_freq bytes) no_postings
+unfoldable pub given : IndexRecordOption → IndexRecordOption → ℕ → List ℕ → Postings
+given recorded requested doc_freq bytes = result_unwrap_or (postings recorded requested doc_freq bytes) no_postings
 
--- Bytes were checked: their skip list lies at these places, and they give postings.
-pub record IsChecked (recorded : IndexRecordOption) (doc_freq : ℕ) (bytes : List ℕ) (skip_info : IndexRecordOption) (entries body : ℕ) : Type 0 where
+-- Bytes were checked: their skip list lies at these places, they give postings, and their counts are read or not.
+pub record IsChecked (recorded requested : IndexRecordOption) (doc_freq : ℕ) (bytes : List ℕ) (skip_info : IndexRecordOption) (entries body : ℕ) (reading : FreqReadingOption) : Type 0 where
   pub split : IsSplit recorded (doc_freq / 128) bytes skip_info entries body
-  pub there : postings recorded doc_freq bytes ≡ Ok (given recorded doc_freq bytes)
+  pub there : postings recorded requested doc_freq bytes ≡ Ok (given recorded requested doc_freq bytes)
+  pub reading_is : reading ≡ freq_reading_of requested (given recorded requested doc_freq bytes)
 
--- Postings that bytes give: their skip list has an entry for each full block, and leads to their documents.
-pub record AreGiven (doc_freq : ℕ) (p : Postings) : Type 0 where
-  pub entries : length p.skip.entries ≡ doc_freq / 128
-  pub documents : documents_at p.skip (doc_freq % 128) ≡ Some (p.docs, p.after)
+abbrev pub is_read : FreqReadingOption → Bool
+is_read NoFreq = false
+is_read SkipFreq = false
+is_read ReadFreq = true
 
--- The documents ascend, and are as many as the term is in.
+-- Postings that bytes give: their skip list has an entry for each full block, and leads to their documents and counts.
+pub record AreGiven (p : CheckedPostingsState) : Type 0 where
+  pub entries : length p.postings.skip.entries ≡ p.doc_freq / 128
+  pub documents : documents_at p.postings.skip (p.doc_freq % 128) ≡ Some (p.postings.docs, p.postings.after)
+  pub freqs : (fs : List ℕ) → p.postings.freqs ≡ Some fs → freqs_at p.postings.skip (p.doc_freq % 128) p.postings.after ≡ Some fs
+  pub read : is_some p.postings.freqs ≡ is_read p.freq_reading
+
+-- Counts are as many as the term's documents, and have 32 bits.
+pub record AreFreqs (doc_freq : ℕ) (freqs : List ℕ) : Type 0 where
+  pub many : length freqs ≡ doc_freq
+  pub low : fit_u32 freqs ≡ true
+
+-- The documents ascend, and are as many as the term is in; so are the counts, where they are read.
 pub record HasDocuments (p : CheckedPostingsState) : Type 0 where
   pub ascending : are_documents p.postings.docs ≡ true
   pub many : length p.postings.docs ≡ p.doc_freq
+  pub freqs : (fs : List ℕ) → p.postings.freqs ≡ Some fs → AreFreqs p.doc_freq fs
+  pub read : is_some p.postings.freqs ≡ is_read p.freq_reading
 
 -- a decoder that decoded nothing yet
-abbrev pub new_decoder : BlockDecoderState
-new_decoder = record { output = replicate 128 TERMINATED; output_len = 0; decodes = 0 }
+abbrev pub new_decoder : ℕ → BlockDecoderState
+new_decoder padding = record { output = replicate 128 padding; output_len = 0; decodes = 0 }
 
 -- A skip reader stands at a block of the postings, or at the empty one after the last.
 pub record IsAtBlock (p : CheckedPostingsState) (skip : SkipReaderState) : Type 0 where
   pub reader : skip ≡ reader_at p.postings.skip.skip_info p.doc_freq p.postings.skip.entries skip.block
   pub within : skip.block ≤ p.doc_freq / 128 + 1
 
--- A decoder holds the documents of a block; after them it is filled with the end.
-pub record HoldsBlock (docs : List ℕ) (block : ℕ) (decoder : BlockDecoderState) : Type 0 where
-  pub many : decoder.output_len ≡ length (block_of docs block)
-  pub held : take decoder.output_len decoder.output ≡ block_of docs block
-  pub filled : drop decoder.output_len decoder.output ≡ replicate (128 - decoder.output_len) TERMINATED
+-- A decoder holds the values of a block; after them it is filled with a padding.
+pub record HoldsBlock (values : List ℕ) (block padding : ℕ) (decoder : BlockDecoderState) : Type 0 where
+  pub many : decoder.output_len ≡ length (block_of values block)
+  pub held : take decoder.output_len decoder.output ≡ block_of values block
+  pub filled : drop decoder.output_len decoder.output ≡ replicate (128 - decoder.output_len) padding
+
+-- A decoder holds the counts of a block where they are read, and else nothing.
+abbrev pub HoldsFreqs : Option (List ℕ) → ℕ → BlockDecoderState → Type 0
+HoldsFreqs None block decoder = decoder ≡ new_decoder 1
+HoldsFreqs (Some freqs) block decoder = HoldsBlock freqs block 1 decoder
+
+-- A decoder decoded the values of a block.
+pub record Loads (values : List ℕ) (block padding : ℕ) (old new : BlockDecoderState) : Type 0 where
+  pub holds : HoldsBlock values block padding new
+  pub decodes : new.decodes ≡ old.decodes + decodes_of (length (block_of values block))
+
+-- A decoder decoded the counts of a block where they are read, and else is as it was.
+abbrev pub LoadsFreqs : Option (List ℕ) → ℕ → BlockDecoderState → BlockDecoderState → Type 0
+LoadsFreqs None block old new = new ≡ old
+LoadsFreqs (Some freqs) block old new = Loads freqs block 1 old new
+
+-- Two decoders decoded the documents of a block and, where they are read, its counts.
+pub record LoadsBlock (p : Postings) (block : ℕ) (docs docs' freqs freqs' : BlockDecoderState) : Type 0 where
+  pub docs_are : Loads p.docs block TERMINATED docs docs'
+  pub freqs_are : LoadsFreqs p.freqs block freqs freqs'
 
 -- Bytes begin with the entries of the postings.
 pub record IsSkipData (p : CheckedPostingsState) (bytes : List ℕ) : Type 0 where

@@ -1,2 +1,3 @@
+pub mod FreqReading
 pub mod CheckedPostings
 pub mod Check

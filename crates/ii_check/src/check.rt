@@ -1,45 +1,103 @@
-ghost use Rattle.std.specs.Prelude.{◌≡◌, ◌*◌, ◌/◌, ◌%◌, ◌<◌, ◌≤◌, length, is_some, IsTrue};
+ghost use Rattle.std.specs.Prelude.{◌≡◌, ◌*◌, ◌/◌, ◌%◌, ◌&&◌, ◌||◌, ◌<◌, ◌≤◌, ℕ, drop, length, nat_lt, is_some, IsTrue, IfOk, IfErr, IfSome, Err};
+ghost use Rattle.std.specs.List.{sum};
+ghost use Rattle.std.specs.Option.{option_map};
+ghost use Rattle.ii_io.specs.Parts.{part_of};
+ghost use Rattle.ii_io.specs.Vints.{u32s_at};
+ghost use Rattle.ii_base.specs.Options.{has_freq};
+ghost use Rattle.ii_docset.specs.declared.docset.TheConstants.{TERMINATED};
 ghost use Rattle.ii_docset.specs.Entries.{ascend_from};
+ghost use Rattle.ii_codes.specs.SortedVints.{sorted_vints_at};
 ghost use Rattle.ii_layout.specs.Documents.{documents_at};
+ghost use Rattle.ii_layout.specs.Frequencies.{freqs_at};
+ghost use Rattle.ii_layout.specs.Postings.{postings};
 ghost use Rattle.ii_layout.specs.SkipList.{entry_size};
-ghost use Rattle.ii_check.specs.Check.{HoldsVInts, block_fits, rest_fits, skip_list_of};
+ghost use Rattle.ii_check.specs.Check.{HoldsRow, after_rest, block_fits, block_freqs_in, skip_list_of};
+ghost use Rattle.ii_check.specs.CheckedPostings.{IsChecked, LoadsBlock, given};
+ghost use Rattle.ii_check.specs.FreqReading.{reading_by};
 
-use ii_base::IndexRecordOption;
-use ii_codes::{BlockDecoder, COMPRESSION_BLOCK_SIZE};
+use super::freq_reading_option::FreqReadingOption;
+use super::load::NO_FREQ;
+use ii_base::{IndexRecordOption, LayoutFault, Part};
+use ii_codes::{BlockDecoder, COMPRESSION_BLOCK_SIZE, compressed_block_size};
 use ii_docset::{DocId, TERMINATED};
-use ii_layout::{BlockInfo, SkipReader, bytes_from};
+use ii_layout::{BlockInfo, SkipPlaces, SkipReader, bytes_from, split_into_skips_and_postings};
 
-/// Whether the postings of a term hold documents: each block at its place, ending in its entry's last
-/// document, then the rest, all of them ascending strictly below `TERMINATED`. The last documents
-/// are then left in the decoder.
-pub(crate) fn has_documents(
+/// Where the postings of a term lie in its bytes, and whether its counts are read; or the first part
+/// that is damaged. All documents are looked at before any counts. Those of a short list are then
+/// left in the decoders.
+pub(crate) fn check_postings(
+    doc_freq: u32,
+    bytes: &[u8],
+    record_option: IndexRecordOption,
+    requested_option: IndexRecordOption,
+    doc_decoder: &mut BlockDecoder,
+    freq_decoder: &mut BlockDecoder,
+) -> Result<(SkipPlaces, FreqReadingOption), LayoutFault>
+    ensures ok { IfOk result (λ found. IsChecked record_option requested_option doc_freq bytes.now found.0.skip_info found.0.entries found.0.body found.1) }
+    ensures short { doc_freq < 128 → IfOk result (λ found. LoadsBlock (given record_option requested_option doc_freq bytes.now) 0 doc_decoder.old doc_decoder.new freq_decoder.old freq_decoder.new) }
+    ensures err { IfErr result (λ fault. postings record_option requested_option doc_freq bytes.now ≡ Err (part_of fault)) }
+{
+    let Some(places) = split_into_skips_and_postings(doc_freq, bytes, record_option) else {
+        return Err(LayoutFault::Damaged(Part::Skip));
+    };
+    let skip_data = bytes_from(bytes, places.entries);
+    let body = bytes_from(bytes, places.body);
+    let Some(after) = after_documents(doc_decoder, doc_freq, places.skip_info, skip_data, body)
+    else {
+        return Err(LayoutFault::Damaged(Part::Documents));
+    };
+    let reading = freq_reading_option(places.skip_info, requested_option, doc_freq, after);
+    if !reading.is_read() {
+        return Ok((places, reading));
+    }
+    if !has_freqs(
+        freq_decoder,
+        doc_freq,
+        places.skip_info,
+        skip_data,
+        body,
+        after,
+    ) {
+        return Err(LayoutFault::Damaged(Part::Frequencies));
+    }
+    Ok((places, reading))
+}
+
+/// The bytes after the documents of a term, or `None` where there are none: each block has to stand
+/// at its place, ending in its entry's last document, then the rest, all of them ascending strictly
+/// below `TERMINATED`. The last documents are then left in the decoder.
+fn after_documents<'a>(
     decoder: &mut BlockDecoder,
     doc_freq: u32,
     skip_info: IndexRecordOption,
     skip_data: &[u8],
-    body: &[u8],
-) -> bool
+    body: &'a [u8],
+) -> Option<&'a [u8]>
     requires { entry_size skip_info * (doc_freq / 128) ≤ length skip_data.now }
-    ensures has { result
-        ≡ is_some (documents_at (skip_list_of skip_info (doc_freq / 128) skip_data.now body.now) (doc_freq % 128)) }
-    ensures short { doc_freq < 128 → IsTrue result → HoldsVInts 0 doc_freq body.now decoder.old decoder.new }
+    ensures after { option_map (λ rest. rest.now) result
+        ≡ option_map (λ found. found.1) (documents_at (skip_list_of skip_info (doc_freq / 128) skip_data.now body.now) (doc_freq % 128)) }
+    ensures short { doc_freq < 128 → IfSome result (λ rest. HoldsRow (sorted_vints_at 0 doc_freq body.now) TERMINATED decoder.old decoder.new) }
 {
     let mut skip = SkipReader::new(skip_data, doc_freq, skip_info);
     let mut least = 0;
     for _block in 0..doc_freq / COMPRESSION_BLOCK_SIZE as u32 {
         if !is_block(decoder, &skip, least, bytes_from(body, skip.byte_offset())) {
-            return false;
+            return None;
         }
         least = skip.last_doc_in_block() + 1;
         skip.advance(skip_data);
     }
-    is_rest(
+    let bytes = bytes_from(body, skip.byte_offset());
+    let Some(used) = end_of_rest(
         decoder,
         skip.last_doc_in_previous_block(),
         doc_freq % COMPRESSION_BLOCK_SIZE as u32,
         least,
-        bytes_from(body, skip.byte_offset()),
-    )
+        bytes,
+    ) else {
+        return None;
+    };
+    Some(bytes_from(bytes, used))
 }
 
 // Whether bytes begin with the full block at which a skip reader stands: one that ends in its
@@ -71,24 +129,28 @@ fn is_block(decoder: &mut BlockDecoder, skip: &SkipReader, least: DocId, bytes: 
     ascend(decoder.output_array(), least)
 }
 
-// Whether bytes begin with the last documents, which ascend from `least` on. The decoder then holds
-// them.
-fn is_rest(
+// How many bytes the last documents take that bytes begin with, and which ascend from `least` on; or
+// `None` where there are none. The decoder then holds them.
+fn end_of_rest(
     decoder: &mut BlockDecoder,
     before: DocId,
     num_docs: u32,
     least: DocId,
     bytes: &[u8],
-) -> bool
+) -> Option<usize>
     requires { num_docs < 128 }
-    ensures fits { result ≡ rest_fits before num_docs least bytes.now }
-    ensures held { IsTrue result → HoldsVInts before num_docs bytes.now decoder.old decoder.new }
+    ensures after { option_map (λ used. drop used bytes.now) result ≡ after_rest before num_docs least bytes.now }
+    ensures holds { IfSome result (λ used. HoldsRow (sorted_vints_at before num_docs bytes.now) TERMINATED decoder.old decoder.new) }
 {
-    let Ok(_) = decoder.try_uncompress_vint_sorted(bytes, before, num_docs as usize, TERMINATED)
+    let Ok(used) = decoder.try_uncompress_vint_sorted(bytes, before, num_docs as usize, TERMINATED)
     else {
-        return false;
+        return None;
     };
-    ascend(decoder.output_array(), least)
+    if ascend(decoder.output_array(), least) {
+        Some(used)
+    } else {
+        None
+    }
 }
 
 // Whether the documents ascend strictly, from a least one on and below the end.
@@ -103,4 +165,109 @@ fn ascend(docs: &[DocId], least: DocId) -> bool
         next = *doc + 1;
     }
     true
+}
+
+// What is done with the counts of a term: it has some where its entries have room for them or, in a
+// short list, where a byte remains after the documents.
+fn freq_reading_option(
+    skip_info: IndexRecordOption,
+    requested_option: IndexRecordOption,
+    doc_freq: u32,
+    after: &[u8],
+) -> FreqReadingOption
+    ensures { result ≡ reading_by (has_freq skip_info) (has_freq requested_option)
+        (has_freq skip_info && (nat_lt 0 (doc_freq / 128) || nat_lt 0 (length after.now))) }
+{
+    if !skip_info.has_freq() {
+        return FreqReadingOption::NoFreq;
+    }
+    if !requested_option.has_freq() {
+        return FreqReadingOption::SkipFreq;
+    }
+    if doc_freq / COMPRESSION_BLOCK_SIZE as u32 > 0 || !after.is_empty() {
+        FreqReadingOption::ReadFreq
+    } else {
+        FreqReadingOption::NoFreq
+    }
+}
+
+// Whether the counts of a term are there: those of each full block after its documents, with the sum
+// that its entry tells, and the others after the last documents. The last counts are then left in
+// the decoder.
+fn has_freqs(
+    decoder: &mut BlockDecoder,
+    doc_freq: u32,
+    skip_info: IndexRecordOption,
+    skip_data: &[u8],
+    body: &[u8],
+    after: &[u8],
+) -> bool
+    requires { entry_size skip_info * (doc_freq / 128) ≤ length skip_data.now }
+    ensures has { result
+        ≡ is_some (freqs_at (skip_list_of skip_info (doc_freq / 128) skip_data.now body.now) (doc_freq % 128) after.now) }
+    ensures short { doc_freq < 128 → IsTrue result → HoldsRow (u32s_at doc_freq after.now) 1 decoder.old decoder.new }
+{
+    let mut skip = SkipReader::new(skip_data, doc_freq, skip_info);
+    for _block in 0..doc_freq / COMPRESSION_BLOCK_SIZE as u32 {
+        let bytes = bytes_from(body, skip.byte_offset());
+        if !are_block_freqs(decoder, skip_info, skip.block_info(), bytes) {
+            return false;
+        }
+        skip.advance(skip_data);
+    }
+    are_rest_freqs(decoder, doc_freq % COMPRESSION_BLOCK_SIZE as u32, after)
+}
+
+// Whether the counts of a full block are there, after the documents that bytes begin with.
+fn are_block_freqs(
+    decoder: &mut BlockDecoder,
+    skip_info: IndexRecordOption,
+    block_info: BlockInfo,
+    bytes: &[u8],
+) -> bool
+    ensures { result ≡ is_some (block_freqs_in skip_info block_info bytes.now) }
+{
+    let BlockInfo::BitPacked {
+        doc_num_bits,
+        strict_delta_encoded,
+        tf_num_bits,
+        tf_sum,
+        ..
+    } = block_info
+    else {
+        return false;
+    };
+    let bytes = bytes_from(bytes, compressed_block_size(doc_num_bits));
+    let Ok(_) = decoder.try_uncompress_block_unsorted(bytes, tf_num_bits, strict_delta_encoded)
+    else {
+        return false;
+    };
+    if !skip_info.has_positions() {
+        return true;
+    }
+    sum_of(decoder.output_array()) == u64::from(tf_sum)
+}
+
+// Whether bytes begin with so many counts. The decoder then holds them.
+fn are_rest_freqs(decoder: &mut BlockDecoder, num_docs: u32, bytes: &[u8]) -> bool
+    requires { num_docs < 128 }
+    ensures has { result ≡ is_some (u32s_at num_docs bytes.now) }
+    ensures holds { IsTrue result → HoldsRow (u32s_at num_docs bytes.now) 1 decoder.old decoder.new }
+{
+    let Ok(_) = decoder.try_uncompress_vint_unsorted(bytes, num_docs as usize, NO_FREQ) else {
+        return false;
+    };
+    true
+}
+
+// The sum of at most 128 counts.
+fn sum_of(freqs: &[u32]) -> u64
+    requires { length freqs.now ≤ 128 }
+    ensures { result ≡ sum freqs.now }
+{
+    let mut sum = 0;
+    for freq in freqs {
+        sum += u64::from(*freq);
+    }
+    sum
 }

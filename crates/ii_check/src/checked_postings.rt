@@ -1,27 +1,31 @@
-ghost use Rattle.std.specs.Prelude.{◌≡◌, ◌+◌, ◌/◌, ◌<◌, [], length, min, Ok, Err, IfOk, IfErr};
+ghost use Rattle.std.specs.Prelude.{◌≡◌, ◌+◌, ◌/◌, ◌<◌, [], min, None, Ok, Err, IfOk, IfErr};
 ghost use Rattle.ii_io.specs.Parts.{part_of};
-ghost use Rattle.ii_codes.specs.BlockDecoder.{decodes_of};
+ghost use Rattle.ii_docset.specs.declared.docset.TheConstants.{TERMINATED};
 ghost use Rattle.ii_layout.specs.Postings.{postings};
-ghost use Rattle.ii_layout.specs.Written.{block_of};
-ghost use Rattle.ii_check.specs.Check.{HoldsVInts};
-ghost use Rattle.ii_check.specs.CheckedPostings.{AreGiven, HasDocuments, HoldsBlock, IsAtBlock, IsSkipData, new_decoder};
+ghost use Rattle.ii_check.specs.CheckedPostings.{AreGiven, HasDocuments, IsAtBlock, IsSkipData, LoadsBlock, new_decoder};
+ghost use Rattle.ii_check.specs.FreqReading.{freq_reading_of};
 
-use super::check::has_documents;
+use super::check::check_postings;
+use super::freq_reading_option::FreqReadingOption;
+use super::load::{NO_FREQ, decode_docs, decode_freqs};
 use bytes::Bytes;
-use ii_base::{IndexRecordOption, LayoutFault, Part};
-use ii_codes::{BlockDecoder, COMPRESSION_BLOCK_SIZE, VIntDecoder};
+use ii_base::{IndexRecordOption, LayoutFault};
+use ii_codes::{BlockDecoder, COMPRESSION_BLOCK_SIZE};
 use ii_docset::TERMINATED;
-use ii_layout::{BlockInfo, SkipPlaces, SkipReader, bytes_from, split_into_skips_and_postings};
+use ii_layout::{SkipPlaces, SkipReader, bytes_from};
 use std::marker::Model;
 
 /// The bytes of a term that were found to hold its postings, so that each block can be read at its
-/// place without a refusal. Clauses see how many documents the term is in, and what the bytes give.
+/// place without a refusal. Clauses see how many documents the term is in, what the bytes give, and
+/// whether counts are read.
 #[derive(Drop)]
 pub struct CheckedPostings {
     bytes: Bytes,
     record_option: IndexRecordOption,
+    requested_option: IndexRecordOption,
     doc_freq: u32,
     places: SkipPlaces,
+    freq_reading_option: FreqReadingOption,
 }
 
 impl Model for CheckedPostings {
@@ -29,83 +33,94 @@ impl Model for CheckedPostings {
 
     ghost Value = { CheckedPostingsState };
 
-    ghost view = { λ p. record { doc_freq = p.doc_freq; postings = given p.record_option p.doc_freq p.bytes } };
+    ghost view = { λ p. record {
+      doc_freq = p.doc_freq;
+      postings = given p.record_option p.requested_option p.doc_freq p.bytes;
+      freq_reading = p.freq_reading_option;
+    } };
 
-    ghost invariant = { λ p. IsChecked p.record_option p.doc_freq p.bytes p.places.skip_info p.places.entries p.places.body };
+    ghost invariant = { λ p. IsChecked p.record_option p.requested_option p.doc_freq p.bytes p.places.skip_info p.places.entries p.places.body p.freq_reading_option };
 }
 
 impl CheckedPostings {
-    /// The postings of a term in `doc_freq` documents that `bytes` begin with, as its field
-    /// records them, and a new decoder that holds the documents of their first block; or the first
-    /// part that is damaged. The whole list is looked at, and memory is never taken. Bytes after the
-    /// list aren't looked at.
+    /// The postings of a term in `doc_freq` documents that `bytes` begin with, by the option that
+    /// its field records and the one that is requested, and two new decoders that hold the documents
+    /// and the counts of their first block; or the first part that is damaged. The whole list is
+    /// looked at, counts where they are read, and memory is never taken. Bytes after what is read
+    /// aren't looked at.
     pub fn open(
         doc_freq: u32,
         bytes: Bytes,
         record_option: IndexRecordOption,
-    ) -> Result<(CheckedPostings, BlockDecoder), LayoutFault>
-        ensures ok { IfOk result (λ opened. postings record_option doc_freq bytes ≡ Ok opened.0.postings) }
+        requested_option: IndexRecordOption,
+    ) -> Result<(CheckedPostings, BlockDecoder, BlockDecoder), LayoutFault>
+        ensures ok { IfOk result (λ opened. postings record_option requested_option doc_freq bytes ≡ Ok opened.0.postings) }
         ensures doc_freq { IfOk result (λ opened. opened.0.doc_freq ≡ doc_freq) }
+        ensures reading { IfOk result (λ opened. opened.0.freq_reading ≡ freq_reading_of requested_option opened.0.postings) }
         ensures documents { IfOk result (λ opened. HasDocuments opened.0) }
-        ensures held { IfOk result (λ opened. HoldsBlock opened.0.postings.docs 0 opened.1) }
-        ensures decodes { IfOk result (λ opened. opened.1.decodes ≡ min 1 doc_freq) }
-        ensures err { IfErr result (λ fault. postings record_option doc_freq bytes ≡ Err (part_of fault)) }
+        ensures first { IfOk result (λ opened. LoadsBlock opened.0.postings 0 (new_decoder TERMINATED) opened.1 (new_decoder 1) opened.2) }
+        ensures err { IfErr result (λ fault. postings record_option requested_option doc_freq bytes ≡ Err (part_of fault)) }
     {
-        let Some(places) = split_into_skips_and_postings(doc_freq, bytes.as_slice(), record_option)
-        else {
-            return Err(LayoutFault::Damaged(Part::Skip));
-        };
-        let mut decoder = BlockDecoder::with_val(TERMINATED);
-        if !has_documents(
-            &mut decoder,
+        let mut doc_decoder = BlockDecoder::with_val(TERMINATED);
+        let mut freq_decoder = BlockDecoder::with_val(NO_FREQ);
+        let (places, freq_reading_option) = match check_postings(
             doc_freq,
-            places.skip_info,
-            bytes_from(bytes.as_slice(), places.entries),
-            bytes_from(bytes.as_slice(), places.body),
+            bytes.as_slice(),
+            record_option,
+            requested_option,
+            &mut doc_decoder,
+            &mut freq_decoder,
         ) {
-            return Err(LayoutFault::Damaged(Part::Documents));
-        }
+            Ok(found) => found,
+            Err(fault) => return Err(fault),
+        };
         let checked = CheckedPostings {
             bytes,
             record_option,
+            requested_option,
             doc_freq,
             places,
+            freq_reading_option,
         };
-        let decoder = checked.first_block(decoder);
-        Ok((checked, decoder))
+        let (doc_decoder, freq_decoder) = checked.first_block(doc_decoder, freq_decoder);
+        Ok((checked, doc_decoder, freq_decoder))
     }
 
     /// The postings of a term in no documents.
     pub fn empty() -> CheckedPostings
         ensures doc_freq { result.doc_freq ≡ 0 }
         ensures documents { result.postings.docs ≡ [] }
+        ensures freqs { result.postings.freqs ≡ None }
+        ensures reading { result.freq_reading ≡ FreqReadingOption.NoFreq }
         ensures has { HasDocuments result }
     {
         CheckedPostings {
             bytes: Bytes::from_static(&[]),
             record_option: IndexRecordOption::Basic,
+            requested_option: IndexRecordOption::Basic,
             doc_freq: 0,
             places: SkipPlaces {
                 skip_info: IndexRecordOption::Basic,
                 entries: 0,
                 body: 0,
             },
+            freq_reading_option: FreqReadingOption::NoFreq,
         }
     }
 
-    // The decoder that is left of the check of a short list, since it holds all its documents; else a
-    // new one that holds the documents of the first block.
-    fn first_block(&self, checked: BlockDecoder) -> BlockDecoder
-        requires { self.now.doc_freq < 128 → HoldsVInts 0 self.now.doc_freq self.now.postings.skip.body new_decoder checked }
-        ensures held { HoldsBlock self.now.postings.docs 0 result }
-        ensures decodes { result.decodes ≡ min 1 self.now.doc_freq }
+    // The decoders that are left of the check of a short list, since they hold all of it; else new
+    // ones that hold the first block.
+    fn first_block(&self, docs: BlockDecoder, freqs: BlockDecoder) -> (BlockDecoder, BlockDecoder)
+        requires { self.now.doc_freq < 128 → LoadsBlock self.now.postings 0 (new_decoder TERMINATED) docs (new_decoder 1) freqs }
+        ensures { LoadsBlock self.now.postings 0 (new_decoder TERMINATED) result.0 (new_decoder 1) result.1 }
     {
         if self.doc_freq < COMPRESSION_BLOCK_SIZE as u32 {
-            return checked;
+            return (docs, freqs);
         }
-        let mut decoder = BlockDecoder::with_val(TERMINATED);
-        self.load_docs(&self.skip_reader(), &mut decoder);
-        decoder
+        let mut doc_decoder = BlockDecoder::with_val(TERMINATED);
+        let mut freq_decoder = BlockDecoder::with_val(NO_FREQ);
+        self.load_block(&self.skip_reader(), &mut doc_decoder, &mut freq_decoder);
+        (doc_decoder, freq_decoder)
     }
 
     /// How many documents the term is in.
@@ -113,6 +128,13 @@ impl CheckedPostings {
         ensures { result ≡ self.now.doc_freq }
     {
         self.doc_freq
+    }
+
+    /// Whether counts are read.
+    pub fn freq_reading_option(&self) -> FreqReadingOption
+        ensures { result ≡ self.now.freq_reading }
+    {
+        self.freq_reading_option
     }
 
     /// A skip reader at the first block.
@@ -132,28 +154,24 @@ impl CheckedPostings {
         skip.advance(self.skip_data());
     }
 
-    /// Decodes the documents of the block at which the skip reader stands; the entries after them
-    /// are `TERMINATED`.
-    pub fn load_docs(&self, skip: &SkipReader, decoder: &mut BlockDecoder)
+    /// Decodes the block at which the skip reader stands: its documents, after which the entries are
+    /// `TERMINATED`, and its counts where they are read, after which they are 1.
+    pub fn load_block(
+        &self,
+        skip: &SkipReader,
+        doc_decoder: &mut BlockDecoder,
+        freq_decoder: &mut BlockDecoder,
+    )
         requires { IsAtBlock self.now skip.now }
-        ensures held { HoldsBlock self.now.postings.docs skip.now.block decoder.new }
-        ensures decodes { decoder.new.decodes
-            ≡ decoder.old.decodes + decodes_of (length (block_of self.now.postings.docs skip.now.block)) }
+        ensures { LoadsBlock self.now.postings skip.now.block doc_decoder.old doc_decoder.new freq_decoder.old freq_decoder.new }
     {
+        let info = skip.block_info();
         let bytes = bytes_from(self.body(), skip.byte_offset());
-        let before = skip.last_doc_in_previous_block();
-        match skip.block_info() {
-            BlockInfo::BitPacked {
-                doc_num_bits,
-                strict_delta_encoded,
-                ..
-            } => {
-                decoder.uncompress_block_sorted(bytes, before, doc_num_bits, strict_delta_encoded);
-            }
-            BlockInfo::VInt { num_docs } => {
-                decoder.uncompress_vint_sorted(bytes, before, num_docs as usize, TERMINATED);
-            }
+        let used = decode_docs(doc_decoder, info, skip.last_doc_in_previous_block(), bytes);
+        if !self.freq_reading_option.is_read() {
+            return;
         }
+        decode_freqs(freq_decoder, info, bytes_from(bytes, used));
     }
 
     // The bytes from the skip entries on.
@@ -166,7 +184,7 @@ impl CheckedPostings {
     // The bytes from the blocks on.
     fn body(&self) -> &[u8]
         ensures body { result.now ≡ self.now.postings.skip.body }
-        ensures given { AreGiven self.now.doc_freq self.now.postings }
+        ensures given { AreGiven self.now }
     {
         bytes_from(self.bytes.as_slice(), self.places.body)
     }

@@ -3,5 +3,8 @@
 
 mod check;
 pub mod checked_postings;
+pub mod freq_reading_option;
+mod load;
 
 pub use checked_postings::CheckedPostings;
+pub use freq_reading_option::FreqReadingOption;

@@ -27,7 +27,7 @@ length-unsorted_values true [] = refl
 length-unsorted_values true (e ∷ es) = ap suc (length-unsorted_values true es)
 length-unsorted_values false es = refl
 
-block_fits : (minus_one : Bool) (w : ℕ) (bytes vs rest : List ℕ) → unsorted_block_at minus_one w bytes ≡ Some (vs, rest) → Fit 128 vs
+pub block_fits : (minus_one : Bool) (w : ℕ) (bytes vs rest : List ℕ) → unsorted_block_at minus_one w bytes ≡ Some (vs, rest) → Fit 128 vs
 unfolding unsorted_block_at unpacked
 block_fits minus_one w bytes vs rest e =
     let first = step-some (needs (nat_le w 32)) _ (vs, rest) e in
@@ -46,7 +46,7 @@ number_fits bytes rest v e =
     let low = needs-some (nat_lt found.0.0 (2 ^ 32)) _ (v, rest) found.2 in
     ap (λ (n : ℕ). nat_lt n (2 ^ 32)) (sym (ap (λ (p : ℕ × List ℕ). p.0) (some-same low.1))) ∙ low.0
 
-row_fits : (n : ℕ) (bytes vs rest : List ℕ) → u32s_at n bytes ≡ Some (vs, rest) → Fit n vs
+pub row_fits : (n : ℕ) (bytes vs rest : List ℕ) → u32s_at n bytes ≡ Some (vs, rest) → Fit n vs
 row_fits zero bytes vs rest e =
     let none = ap (λ (p : List ℕ × List ℕ). p.0) (some-same e) in
     record { many = ap length (sym none); low = ap fit_u32 (sym none) }

@@ -3,7 +3,7 @@ use Rattle.ii_layout.specs.SkipList.{entries_at}
 use Rattle.ii_layout.specs.SkipReader.{reader_at}
 use Rattle.ii_check.specs.Check.{skip_list_of}
 use Rattle.ii_check.proofs.CheckLemmas.{IsCheckedTo}
-use Rattle.ii_check.proofs.check.has_documents.Given as goal
+use Rattle.ii_check.proofs.check.after_documents.Given as goal
 
 abbrev pub invariant-loop-block : goal.invariant-loop-block
 invariant-loop-block l = record {

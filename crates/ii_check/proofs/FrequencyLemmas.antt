@@ -1,0 +1,96 @@
+-- Laws of the whole check of a term's counts.
+use Rattle.std.proofs.Common.{◌≡◌, ℕ, zero, suc, ◌+◌, ◌*◌, ◌/◌, ◌<◌, ◌≤◌, Bool, true, false, ◌&&◌, List, [], ◌∷◌, ◌++◌, length, drop, Option, Some, None, nat_lt, refl, sym, ap, ◌∙◌, arith, is_some, eqb}
+use Rattle.std.specs.List.{concat, sum}
+use Rattle.std.proofs.lemmas.Bool.{ltb-true, ltb-false}
+use Rattle.ii_base.specs.declared.schema.index_record_option.IndexRecordOption.{IndexRecordOption}
+use Rattle.ii_base.specs.declared.schema.index_record_option.IndexRecordOption.TheVariants.{Basic, WithFreqs, WithFreqsAndPositions}
+use Rattle.ii_base.specs.Options.{has_positions}
+use Rattle.ii_io.specs.Steps.{◌>>=◌, needs}
+use Rattle.ii_io.specs.Vints.{u32s_at}
+use Rattle.ii_codes.specs.Blocks.{unsorted_block_at}
+use Rattle.ii_layout.specs.Each.{each}
+use Rattle.ii_layout.specs.declared.skip.BlockInfo.{BlockInfo}
+use Rattle.ii_layout.specs.declared.skip.BlockInfo.TheVariants.{BitPacked, VInt}
+use Rattle.ii_layout.specs.SkipList.{SkipList, block_place}
+use Rattle.ii_layout.specs.SkipReader.{SkipReaderState, reader_at, block_info_of}
+use Rattle.ii_layout.specs.Documents.{entry_of}
+use Rattle.ii_layout.specs.Frequencies.{has_sum, block_freqs, freqs_at}
+use Rattle.ii_layout.proofs.SkipReaderLemmas.{at_full_block}
+use Rattle.ii_check.specs.Check.{block_freqs_in}
+use Rattle.ii_check.proofs.CheckLemmas.{Told}
+
+none_cases : (f : ℕ → Option (List ℕ)) (n : ℕ) (o : Option (List (List ℕ))) → f n ≡ None → each f n ≡ o → each f (suc n) ≡ None
+none_cases f n None none e = rw e refl
+none_cases f n (Some xs) none e = rw (e, none) refl
+
+-- where one is missing, all are
+each_none : (f : ℕ → Option (List ℕ)) (i n : ℕ) (t : Bool) → f i ≡ None → i < n → nat_lt (i + 1) n ≡ t → each f n ≡ None
+each_none f i zero t none h test = absurd (omega arith)
+each_none f i (suc n) true none h test =
+    let below = ltb-true (i + 1) (suc n) test in
+    let earlier = each_none f i n (nat_lt (i + 1) n) none (omega arith) refl in
+    rw earlier refl
+each_none f i (suc n) false none h test =
+    let above = ltb-false (i + 1) (suc n) test in
+    let last : i ≡ n = omega arith in
+    none_cases f n (each f n) (ap f (sym last) ∙ none) refl
+
+-- What is known of the counts of the blocks before block i.
+abbrev pub AreCheckedTo : SkipList → ℕ → Type 0
+AreCheckedTo skip i = (blocks : List (List ℕ)) × (each (block_freqs skip) i ≡ Some blocks)
+
+-- a reader at a full block tells of its counts
+pub freqs_here : (skip : SkipList) (reader : SkipReaderState) (doc_freq i offset : ℕ) (here : List ℕ) → reader ≡ reader_at skip.skip_info doc_freq skip.entries i → i < doc_freq / 128 → Told skip reader offset here
+    → block_freqs_in skip.skip_info reader.block_info here ≡ block_freqs skip i
+freqs_here skip reader doc_freq i offset here e h told =
+    let at = at_full_block reader skip.skip_info doc_freq i skip.entries e h in
+    let bytes : here ≡ drop (block_place skip.entries i) skip.body = told.here_is ∙ ap (λ (k : ℕ). drop k skip.body) (told.offset_is ∙ at.offset) in
+    λ j. block_freqs_in skip.skip_info (at.info j) (bytes j)
+
+next_cases : (skip : SkipList) (i : ℕ) (o : Option (List ℕ)) → AreCheckedTo skip i → block_freqs skip i ≡ o → is_some o ≡ true → AreCheckedTo skip (i + 1)
+next_cases skip i None c e some = absurd (cc)
+next_cases skip i (Some freqs) c e some =
+    let one : suc i ≡ i + 1 = omega arith in
+    (c.0 ++ freqs ∷ [], ap (each (block_freqs skip)) (sym one) ∙ (rw (c.1, e) refl))
+
+-- one more block, or one that is missing
+pub freqs_next : (skip : SkipList) (i : ℕ) → AreCheckedTo skip i → is_some (block_freqs skip i) ≡ true → AreCheckedTo skip (i + 1)
+freqs_next skip i c some = next_cases skip i (block_freqs skip i) c refl some
+
+fail_cases : (skip : SkipList) (i n : ℕ) (after : List ℕ) (o : Option (List ℕ)) → i < length skip.entries → block_freqs skip i ≡ o → is_some o ≡ false → false ≡ is_some (freqs_at skip n after)
+fail_cases skip i n after None h e none =
+    let all = each_none (block_freqs skip) i (length skip.entries) (nat_lt (i + 1) (length skip.entries)) e h refl in
+    rw all refl
+fail_cases skip i n after (Some freqs) h e none = absurd (cc)
+
+pub freqs_fail : (skip : SkipList) (i n : ℕ) (after : List ℕ) → i < length skip.entries → is_some (block_freqs skip i) ≡ false → false ≡ is_some (freqs_at skip n after)
+freqs_fail skip i n after h none = fail_cases skip i n after (block_freqs skip i) h refl none
+
+rest_cases : (blocks : List (List ℕ)) (o : Option (List ℕ × List ℕ)) → is_some o ≡ is_some (o >>= λ rest. Some (concat blocks ++ rest.0))
+rest_cases blocks None = refl
+rest_cases blocks (Some rest) = refl
+
+pub freqs_all : (skip : SkipList) (i n : ℕ) (after : List ℕ) → i ≡ length skip.entries → AreCheckedTo skip i → is_some (u32s_at n after) ≡ is_some (freqs_at skip n after)
+freqs_all skip i n after end c =
+    let read : each (block_freqs skip) (length skip.entries) ≡ Some c.0 = ap (each (block_freqs skip)) (sym end) ∙ c.1 in
+    rw read (rest_cases c.0 (u32s_at n after))
+
+-- what is asked of the sum of a block's counts
+pub no_sum : (skip_info : IndexRecordOption) (tf_sum : ℕ) (freqs : List ℕ) → has_positions skip_info ≡ false → has_sum skip_info tf_sum freqs ≡ true
+no_sum Basic tf_sum freqs e = refl
+no_sum WithFreqs tf_sum freqs e = refl
+no_sum WithFreqsAndPositions tf_sum freqs e = absurd (cc)
+
+pub some_sum : (skip_info : IndexRecordOption) (tf_sum : ℕ) (freqs : List ℕ) → has_positions skip_info ≡ true → has_sum skip_info tf_sum freqs ≡ eqb (sum freqs) tf_sum
+some_sum Basic tf_sum freqs e = absurd (cc)
+some_sum WithFreqs tf_sum freqs e = absurd (cc)
+some_sum WithFreqsAndPositions tf_sum freqs e = refl
+
+sum_cases : (t : Bool) (freqs : List ℕ) → t ≡ is_some (needs t >>= λ _. Some freqs)
+sum_cases true freqs = refl
+sum_cases false freqs = refl
+
+-- a block whose counts were read is there where its sum is right
+pub block_there : (skip_info : IndexRecordOption) (w f tf_sum norm tf : ℕ) (s t : Bool) (bytes freqs rest : List ℕ) → Some (freqs, rest) ≡ unsorted_block_at s f (drop (16 * w) bytes) → has_sum skip_info tf_sum freqs ≡ t
+    → t ≡ is_some (block_freqs_in skip_info (BitPacked w s f tf_sum norm tf) bytes)
+block_there skip_info w f tf_sum norm tf s t bytes freqs rest read sum = rw (← read, sum) (sum_cases t freqs)
