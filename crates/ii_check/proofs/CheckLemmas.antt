@@ -1,5 +1,5 @@
 -- Laws of the whole check of a term's documents.
-use Rattle.std.proofs.Common.{◌≡◌, ℕ, zero, suc, ◌+◌, ◌*◌, ◌/◌, ◌%◌, ◌<◌, ◌≤◌, Bool, true, false, ◌&&◌, List, [], ◌∷◌, ◌++◌, length, take, drop, get_or, Option, Some, None, eqb, eq-eqb, min, nat_le, nat_lt, refl, sym, ap, ◌∙◌, arith, is_some}
+use Rattle.std.proofs.Common.{◌≡◌, ℕ, zero, suc, ◌+◌, ◌*◌, ◌/◌, ◌<◌, Bool, true, false, ◌&&◌, List, [], ◌∷◌, ◌++◌, length, take, drop, get_or, Option, Some, None, eqb, eq-eqb, min, nat_le, nat_lt, refl, sym, ap, ◌∙◌, arith, is_some}
 use Rattle.std.proofs.lemmas.Bool.{eqb-true, ltb-true, and_parts}
 use Rattle.std.specs.List.{concat}
 use Rattle.std.specs.Option.{option_map}
@@ -8,7 +8,6 @@ use Rattle.std.proofs.lemmas.List.Folds.{concat-append}
 use Rattle.std.proofs.lemmas.List.FromFn.{length-map-range_with_len}
 use Rattle.ii_base.specs.declared.schema.index_record_option.IndexRecordOption.{IndexRecordOption}
 use Rattle.ii_io.specs.Steps.{◌>>=◌, needs}
-use Rattle.ii_io.specs.StepLemmas.{some-same}
 use Rattle.ii_docset.specs.Entries.{ascend_from, are_documents}
 use Rattle.ii_docset.proofs.AscentLemmas.{least_after, ascend-append, least_after-append, least_after-last}
 use Rattle.ii_codes.specs.Blocks.{sorted_block_at}
@@ -18,7 +17,7 @@ use Rattle.ii_codes.proofs.LengthLemmas.{length-sorted_block_at}
 use Rattle.ii_layout.specs.Each.{each}
 use Rattle.ii_layout.specs.declared.skip.BlockInfo.{BlockInfo}
 use Rattle.ii_layout.specs.declared.skip.BlockInfo.TheVariants.{BitPacked}
-use Rattle.ii_layout.specs.SkipList.{SkipEntry, SkipList, entries_at, entry_at, entry_size, block_place}
+use Rattle.ii_layout.specs.SkipList.{SkipList, entries_at, entry_at, entry_size, block_place}
 use Rattle.ii_layout.specs.SkipReader.{SkipReaderState, reader_at, block_info_of}
 use Rattle.ii_layout.specs.Documents.{entry_of, last_doc_before, block_docs, rest_docs, documents_at}
 use Rattle.ii_layout.proofs.SkipReaderLemmas.{at_full_block, at_vints}

@@ -1,10 +1,9 @@
 -- Laws of postings that were checked.
-use Rattle.std.proofs.Common.{◌≡◌, ℕ, ◌+◌, ◌*◌, ◌/◌, ◌%◌, ◌<◌, ◌≤◌, Bool, true, false, ◌&&◌, List, [], length, drop, Option, Some, None, Result, Ok, Err, refl, sym, ap, ◌∙◌, arith, is_some, length-drop}
+use Rattle.std.proofs.Common.{◌≡◌, ℕ, ◌*◌, ◌/◌, ◌%◌, ◌<◌, ◌≤◌, Bool, true, false, ◌&&◌, List, [], length, drop, Option, Some, None, Result, Ok, Err, refl, sym, ap, ◌∙◌, arith, is_some, length-drop}
 use Rattle.std.specs.Result.{result_unwrap_or}
 use Rattle.ii_base.specs.declared.schema.index_record_option.IndexRecordOption.{IndexRecordOption}
 use Rattle.ii_base.specs.declared.schema.index_record_option.IndexRecordOption.TheVariants.{Basic}
 use Rattle.ii_base.specs.Options.{has_freq}
-use Rattle.ii_io.specs.Steps.{◌>>=◌}
 use Rattle.ii_io.specs.StepLemmas.{step-some, some-same}
 use Rattle.ii_io.specs.Vints.{u32s_at}
 use Rattle.ii_io.specs.declared.faults.Part.{Part}
@@ -23,7 +22,7 @@ use Rattle.ii_check.specs.declared.freq_reading_option.FreqReadingOption.{FreqRe
 use Rattle.ii_check.specs.declared.freq_reading_option.FreqReadingOption.TheVariants.{NoFreq}
 use Rattle.ii_check.specs.FreqReading.{reading_by, freq_reading_of}
 use Rattle.ii_check.specs.Check.{HoldsRow}
-use Rattle.ii_check.specs.CheckedPostings.{CheckedPostingsState, IsChecked, AreGiven, AreFreqs, HasDocuments, IsAtBlock, IsSkipData, Loads, LoadsFreqs, LoadsBlock, given, is_read, no_postings}
+use Rattle.ii_check.specs.CheckedPostings.{CheckedPostingsState, IsChecked, AreGiven, HasDocuments, IsAtBlock, IsSkipData, Loads, LoadsFreqs, LoadsBlock, given, is_read, no_postings}
 use Rattle.ii_check.proofs.CheckLemmas.{many_entries}
 use Rattle.ii_check.proofs.LoadLemmas.{loads, loads_freqs, keeps_freqs}
 

@@ -1,5 +1,5 @@
 -- Laws of the whole check of a term's counts.
-use Rattle.std.proofs.Common.{◌≡◌, ℕ, zero, suc, ◌+◌, ◌*◌, ◌/◌, ◌<◌, ◌≤◌, Bool, true, false, ◌&&◌, List, [], ◌∷◌, ◌++◌, length, drop, Option, Some, None, nat_lt, refl, sym, ap, ◌∙◌, arith, is_some, eqb}
+use Rattle.std.proofs.Common.{◌≡◌, ℕ, zero, suc, ◌+◌, ◌*◌, ◌/◌, ◌<◌, Bool, true, false, List, [], ◌∷◌, ◌++◌, length, drop, Option, Some, None, nat_lt, refl, sym, ap, ◌∙◌, arith, is_some, eqb}
 use Rattle.std.specs.List.{concat, sum}
 use Rattle.std.proofs.lemmas.Bool.{ltb-true, ltb-false}
 use Rattle.ii_base.specs.declared.schema.index_record_option.IndexRecordOption.{IndexRecordOption}
@@ -9,11 +9,9 @@ use Rattle.ii_io.specs.Steps.{◌>>=◌, needs}
 use Rattle.ii_io.specs.Vints.{u32s_at}
 use Rattle.ii_codes.specs.Blocks.{unsorted_block_at}
 use Rattle.ii_layout.specs.Each.{each}
-use Rattle.ii_layout.specs.declared.skip.BlockInfo.{BlockInfo}
-use Rattle.ii_layout.specs.declared.skip.BlockInfo.TheVariants.{BitPacked, VInt}
+use Rattle.ii_layout.specs.declared.skip.BlockInfo.TheVariants.{BitPacked}
 use Rattle.ii_layout.specs.SkipList.{SkipList, block_place}
-use Rattle.ii_layout.specs.SkipReader.{SkipReaderState, reader_at, block_info_of}
-use Rattle.ii_layout.specs.Documents.{entry_of}
+use Rattle.ii_layout.specs.SkipReader.{SkipReaderState, reader_at}
 use Rattle.ii_layout.specs.Frequencies.{has_sum, block_freqs, freqs_at}
 use Rattle.ii_layout.proofs.SkipReaderLemmas.{at_full_block}
 use Rattle.ii_check.specs.Check.{block_freqs_in}

@@ -1,5 +1,5 @@
 -- The blocks of postings that were checked, as decoders load them.
-use Rattle.std.proofs.Common.{◌≡◌, ℕ, zero, suc, ◌+◌, ◌-◌, ◌*◌, ◌/◌, ◌%◌, ◌<◌, ◌≤◌, Bool, true, false, List, [], length, take, drop, replicate, Option, Some, None, nat_le, nat_lt, refl, sym, ap, ◌∙◌, arith, is_some}
+use Rattle.std.proofs.Common.{◌≡◌, ℕ, ◌+◌, ◌-◌, ◌*◌, ◌/◌, ◌%◌, ◌<◌, ◌≤◌, Bool, true, false, List, [], length, take, drop, replicate, Option, Some, None, nat_le, nat_lt, refl, sym, ap, ◌∙◌, arith, is_some}
 use Rattle.std.specs.Option.{IsSome, option_map}
 use Rattle.std.proofs.lemmas.Bool.{ltb-true, ltb-false}
 use Rattle.std.proofs.lemmas.List.{take_all, drop_all}
@@ -19,7 +19,7 @@ use Rattle.ii_layout.proofs.SkipReaderLemmas.{at_full_block, at_vints, at_end}
 use Rattle.ii_layout.proofs.DocumentLemmas.{length-documents_at, block_of_documents, rest_of_documents}
 use Rattle.ii_layout.proofs.FrequencyLemmas.{freqs_fit, block_of_freqs, rest_of_freqs}
 use Rattle.ii_check.specs.Check.{HoldsRow, docs_in, freqs_in, num_vints}
-use Rattle.ii_check.specs.CheckedPostings.{CheckedPostingsState, AreGiven, IsAtBlock, HoldsBlock, Loads, LoadsFreqs}
+use Rattle.ii_check.specs.CheckedPostings.{CheckedPostingsState, AreGiven, IsAtBlock, Loads, LoadsFreqs}
 
 -- a sorted block takes as many bytes as its width says
 sorted_after : (strict : Bool) (offset w : ℕ) (bytes vs rest : List ℕ) → sorted_block_at strict offset w bytes ≡ Some (vs, rest) → rest ≡ drop (16 * w) bytes

@@ -1,5 +1,5 @@
 -- The parts of a term's postings, as the check finds them.
-use Rattle.std.proofs.Common.{◌≡◌, ℕ, ◌/◌, ◌%◌, ◌<◌, Bool, true, false, ◌&&◌, ◌||◌, List, length, drop, Option, Some, None, nat_lt, refl, sym, ap, ◌∙◌, is_some}
+use Rattle.std.proofs.Common.{◌≡◌, ℕ, ◌/◌, ◌%◌, ◌<◌, true, false, ◌&&◌, ◌||◌, List, length, drop, Option, Some, None, nat_lt, refl, sym, ap, ◌∙◌, is_some}
 use Rattle.ii_base.specs.Options.{has_freq}
 use Rattle.ii_io.specs.Vints.{u32s_at}
 use Rattle.ii_io.specs.StepLemmas.{some-same}

@@ -1,5 +1,5 @@
 -- Whether the counts of a term are read.
-use Rattle.std.specs.Prelude.{ℕ, Bool, true, false, ◌&&◌, if◌then◌else◌, List, Result, Ok}
+use Rattle.std.specs.Prelude.{ℕ, Bool, if◌then◌else◌, List, Result, Ok}
 use Rattle.ii_io.specs.declared.faults.Part.{Part}
 use Rattle.ii_io.specs.Parts.{◌>>=◌}
 use Rattle.ii_base.specs.declared.schema.index_record_option.IndexRecordOption.{IndexRecordOption}

@@ -8,3 +8,4 @@ mod load;
 
 pub use checked_postings::CheckedPostings;
 pub use freq_reading_option::FreqReadingOption;
+pub use load::NO_FREQ;

@@ -8,7 +8,7 @@ use ii_docset::{DocId, TERMINATED};
 use ii_layout::BlockInfo;
 
 /// What stands in a decoder after the counts of a block, or in place of counts that aren't read.
-pub(crate) const NO_FREQ: u32 = 1;
+pub const NO_FREQ: u32 = 1;
 
 /// Decodes the documents of a block, and answers how many bytes they take. The entries after them
 /// are `TERMINATED`.

@@ -1,48 +1,132 @@
--- Laws of a cursor over documents.
-use Rattle.std.proofs.Common.{◌≡◌, ℕ, ◌+◌, ◌*◌, ◌/◌, ◌<◌, ◌≤◌, Bool, true, false, List, [], length, take, drop, map, get_or, min, nat_lt, refl, sym, ap, ◌∙◌, arith}
-use Rattle.std.proofs.lemmas.Bool.{ltb-true, ltb-false}
-use Rattle.std.proofs.lemmas.List.{get_or-take, get_or-drop, get_or_past, get_or_default, drop_all, length-map}
-use Rattle.ii_docset.specs.Entries.{Entry, document, are_documents}
-use Rattle.ii_docset.specs.Cursor.{doc_at, IsSound}
-use Rattle.ii_docset.proofs.CursorLemmas.{doc_at_inside, doc_at_end, documents_sound, IsSound_drop, advanced}
+-- Laws of a cursor over documents and their counts.
+use Rattle.std.proofs.Common.{◌≡◌, ℕ, zero, suc, ◌+◌, ◌*◌, ◌/◌, ◌^◌, ◌<◌, ◌≤◌, Bool, true, false, ◌&&◌, List, [], ◌∷◌, length, drop, map, get_or, min, nat_le, nat_lt, Option, Some, None, is_some, refl, sym, ap, ◌∙◌, arith, length-take, length-drop}
+use Rattle.std.specs.List.{All, zip}
+use Rattle.std.proofs.lemmas.Bool.{ltb-true, ltb-false, leb-true, and_parts}
+use Rattle.std.proofs.lemmas.List.{get_or-take, get_or-drop, get_or_past, drop_all, length-map}
+use Rattle.std.proofs.lemmas.List.Elements.{All-map}
+use Rattle.ii_docset.specs.Entries.{Entry, document, counted, ascend_from, are_documents}
+use Rattle.ii_docset.specs.Cursor.{doc_at, FitsU32, IsAscending, IsSound}
+use Rattle.ii_docset.proofs.CursorLemmas.{documents_sound, IsSound_drop, advanced}
+use Rattle.ii_codes.specs.Sums.{fit_u32}
+use Rattle.ii_layout.specs.Postings.{entries_of}
 use Rattle.ii_layout.specs.Written.{block_of}
-use Rattle.ii_reader.specs.BlockSegmentPostings.{doc_in_block}
+use Rattle.ii_reader.specs.BlockSegmentPostings.{AreEntries, doc_in_block, freq_in_block}
+use Rattle.ii_reader.specs.SegmentPostings.{term_freq_at}
 
-place_cases : (docs : List ℕ) (n : ℕ) (t : Bool) → nat_lt n (length docs) ≡ t → get_or docs n 2147483647 ≡ doc_at (drop n (map document docs))
-place_cases docs n true test =
-    let inside = ltb-true n (length docs) test in
-    get_or_default docs n 2147483647 0 inside ∙ doc_at_inside docs n inside
-place_cases docs n false test =
-    let past = ltb-false n (length docs) test in
-    get_or_past docs n 2147483647 past ∙ doc_at_end docs n past
+-- the documents of entries, and how many these are
+docs_of : (docs freqs : List ℕ) → length freqs ≡ length docs → map (λ (e : Entry). e.doc) (entries_of docs (Some freqs)) ≡ docs
+docs_of [] freqs many = refl
+docs_of (d ∷ ds) [] many = absurd (omega arith)
+docs_of (d ∷ ds) (f ∷ fs) many = ap (λ (later : List ℕ). d ∷ later) (docs_of ds fs (omega arith))
 
--- the document at a place of a block is the current one from there on
-pub doc_at_place : (docs : List ℕ) (block cur : ℕ) → cur < 128 → doc_in_block docs block cur ≡ doc_at (drop (128 * block + cur) (map document docs))
-doc_at_place docs block cur within =
-    get_or-take 128 (drop (128 * block) docs) cur 2147483647 within ∙ get_or-drop (128 * block) docs cur 2147483647 ∙ place_cases docs (128 * block + cur) (nat_lt (128 * block + cur) (length docs)) refl
+documents_of : (docs : List ℕ) → map (λ (e : Entry). e.doc) (map document docs) ≡ docs
+documents_of [] = refl
+documents_of (d ∷ ds) = ap (λ (later : List ℕ). d ∷ later) (documents_of ds)
 
-pub rest_sound : (docs : List ℕ) (n : ℕ) → are_documents docs ≡ true → IsSound (drop n (map document docs))
-rest_sound docs n h = IsSound_drop n (map document docs) (documents_sound docs h)
+pub docs_are : (n : ℕ) (docs : List ℕ) (freqs : Option (List ℕ)) → AreEntries n docs freqs → map (λ (e : Entry). e.doc) (entries_of docs freqs) ≡ docs
+docs_are n docs None a = documents_of docs
+docs_are n docs (Some freqs) a =
+    let count = (a.freqs_are freqs refl).many in
+    let many = a.many in
+    docs_of docs freqs (omega arith)
+
+pub length-entries : (n : ℕ) (docs : List ℕ) (freqs : Option (List ℕ)) → AreEntries n docs freqs → length (entries_of docs freqs) ≡ length docs
+length-entries n docs freqs a = sym (length-map (entries_of docs freqs) (λ (e : Entry). e.doc)) ∙ ap length (docs_are n docs freqs a)
+
+-- the current document of what is left from a place on
+doc_at_drop : (es : List Entry) (i : ℕ) → get_or (map (λ (e : Entry). e.doc) es) i 2147483647 ≡ doc_at (drop i es)
+doc_at_drop [] zero = refl
+doc_at_drop [] (suc i) = refl
+doc_at_drop (e ∷ es) zero = refl
+doc_at_drop (e ∷ es) (suc i) = doc_at_drop es i
+
+pub doc_at_place : (n : ℕ) (docs : List ℕ) (freqs : Option (List ℕ)) (block cur : ℕ) → AreEntries n docs freqs → cur < 128 → doc_in_block docs block cur ≡ doc_at (drop (128 * block + cur) (entries_of docs freqs))
+doc_at_place n docs freqs block cur a within =
+    get_or-take 128 (drop (128 * block) docs) cur 2147483647 within ∙ get_or-drop (128 * block) docs cur 2147483647
+    ∙ ap (λ (ds : List ℕ). get_or ds (128 * block + cur) 2147483647) (sym (docs_are n docs freqs a)) ∙ doc_at_drop (entries_of docs freqs) (128 * block + cur)
+
+-- its count
+one_at : (docs : List ℕ) (i : ℕ) → 1 ≡ term_freq_at (drop i (map document docs))
+one_at [] zero = refl
+one_at [] (suc i) = refl
+one_at (d ∷ ds) zero = refl
+one_at (d ∷ ds) (suc i) = one_at ds i
+
+freq_at : (docs freqs : List ℕ) (i : ℕ) → length freqs ≡ length docs → i < length docs → get_or freqs i 0 ≡ term_freq_at (drop i (entries_of docs (Some freqs)))
+freq_at [] freqs i many within = absurd (omega arith)
+freq_at (d ∷ ds) [] i many within = absurd (omega arith)
+freq_at (d ∷ ds) (f ∷ fs) zero many within = refl
+freq_at (d ∷ ds) (f ∷ fs) (suc i) many within = freq_at ds fs i (omega arith) (omega arith)
+
+inside_cases : (docs : List ℕ) (block cur : ℕ) (t : Bool) → nat_lt cur (length (block_of docs block)) ≡ t → doc_in_block docs block cur < 2147483647 → cur < length (block_of docs block)
+inside_cases docs block cur true test below = ltb-true cur (length (block_of docs block)) test
+inside_cases docs block cur false test below =
+    let past = get_or_past (block_of docs block) cur 2147483647 (ltb-false cur (length (block_of docs block)) test) in
+    absurd (omega arith)
+
+-- a current document lies in its block
+pub inside : (n : ℕ) (docs : List ℕ) (freqs : Option (List ℕ)) (block cur : ℕ) → AreEntries n docs freqs → cur < 128 → doc_at (drop (128 * block + cur) (entries_of docs freqs)) < 2147483647 → cur < length (block_of docs block)
+inside n docs freqs block cur a within below =
+    let same = doc_at_place n docs freqs block cur a within in
+    inside_cases docs block cur (nat_lt cur (length (block_of docs block))) refl (omega arith)
+
+pub freq_at_place : (n : ℕ) (docs : List ℕ) (freqs : Option (List ℕ)) (block cur : ℕ) → AreEntries n docs freqs → cur < 128 → (is_some freqs ≡ true → doc_at (drop (128 * block + cur) (entries_of docs freqs)) < 2147483647)
+    → freq_in_block freqs block cur ≡ term_freq_at (drop (128 * block + cur) (entries_of docs freqs))
+freq_at_place n docs None block cur a within current = one_at docs (128 * block + cur)
+freq_at_place n docs (Some freqs) block cur a within current =
+    let count = (a.freqs_are freqs refl).many in
+    let many = a.many in
+    let low = inside n docs (Some freqs) block cur a within (current refl) in
+    let size = length-take 128 (drop (128 * block) docs) in
+    let left = length-drop (128 * block) docs in
+    get_or-take 128 (drop (128 * block) freqs) cur 0 within ∙ get_or-drop (128 * block) freqs cur 0 ∙ freq_at docs freqs (128 * block + cur) (omega arith) (omega arith)
+
+-- what is left is sound
+ascending_from : (least : ℕ) (es : List Entry) → ascend_from least (map (λ (e : Entry). e.doc) es) ≡ true → IsAscending es × (least ≤ 2147483647 → least ≤ doc_at es)
+ascending_from least [] h = (tt, λ up. up)
+ascending_from least (e ∷ es) h =
+    let parts = and_parts (nat_le least e.doc && nat_lt e.doc 2147483647) (ascend_from (e.doc + 1) (map (λ (e : Entry). e.doc) es)) h in
+    let both = and_parts (nat_le least e.doc) (nat_lt e.doc 2147483647) parts.0 in
+    let low = leb-true least e.doc both.0 in
+    let high = ltb-true e.doc 2147483647 both.1 in
+    let later = ascending_from (e.doc + 1) es parts.1 in
+    let next = later.1 (omega arith) in
+    ((omega arith, later.0), λ up. low)
+
+second_low : (docs freqs : List ℕ) (k : ℕ) (d : ℕ × ℕ) → fit_u32 freqs ≡ true → k < length (zip docs freqs) → (get_or (zip docs freqs) k d).1 < 2 ^ 32
+second_low [] freqs k d low within = absurd (omega arith)
+second_low (x ∷ xs) [] k d low within = absurd (omega arith)
+second_low (x ∷ xs) (f ∷ fs) zero d low within = ltb-true f (2 ^ 32) (and_parts (nat_lt f (2 ^ 32)) (fit_u32 fs) low).0
+second_low (x ∷ xs) (f ∷ fs) (suc k) d low within = second_low xs fs k d (and_parts (nat_lt f (2 ^ 32)) (fit_u32 fs) low).1 (omega arith)
+
+counts_fit : (docs freqs : List ℕ) → fit_u32 freqs ≡ true → All FitsU32 (entries_of docs (Some freqs))
+counts_fit docs freqs low = All-map FitsU32 (λ (e : ℕ × ℕ). counted e.0 e.1) (zip docs freqs) (λ k d within. (second_low docs freqs k d low within, λ j p none. absurd (omega arith)))
+
+entries_sound : (n : ℕ) (docs : List ℕ) (freqs : Option (List ℕ)) → AreEntries n docs freqs → IsSound (entries_of docs freqs)
+entries_sound n docs None a = documents_sound docs a.ascending
+entries_sound n docs (Some freqs) a =
+    let up = ap are_documents (docs_are n docs (Some freqs) a) ∙ a.ascending in
+    record { ascending = (ascending_from 0 (entries_of docs (Some freqs)) up).0; fits = counts_fit docs freqs (a.freqs_are freqs refl).low }
+
+pub rest_sound : (n : ℕ) (docs : List ℕ) (freqs : Option (List ℕ)) (i : ℕ) → AreEntries n docs freqs → IsSound (drop i (entries_of docs freqs))
+rest_sound n docs freqs i a = IsSound_drop i (entries_of docs freqs) (entries_sound n docs freqs a)
 
 -- one place on in the block, and on to the next block
-pub next_place : (docs : List ℕ) (block cur : ℕ) → drop (128 * block + (cur + 1)) (map document docs) ≡ drop 1 (drop (128 * block + cur) (map document docs))
-next_place docs block cur =
+pub next_place : (es : List Entry) (block cur : ℕ) → drop (128 * block + (cur + 1)) es ≡ drop 1 (drop (128 * block + cur) es)
+next_place es block cur =
     let place : 128 * block + (cur + 1) ≡ 128 * block + cur + 1 = omega arith in
-    ap (λ (n : ℕ). drop n (map document docs)) place ∙ advanced (map document docs) (128 * block + cur)
+    ap (λ (n : ℕ). drop n es) place ∙ advanced es (128 * block + cur)
 
-block_cases : (docs : List ℕ) (block next : ℕ) (t : Bool) → next ≡ min (block + 1) (length docs / 128 + 1) → block ≤ length docs / 128 + 1 → nat_lt block (length docs / 128 + 1) ≡ t
-    → drop (128 * next + 0) (map document docs) ≡ drop 1 (drop (128 * block + 127) (map document docs))
-block_cases docs block next true e within test =
-    let below = ltb-true block (length docs / 128 + 1) test in
+block_cases : (es : List Entry) (n block next : ℕ) (t : Bool) → length es ≡ n → next ≡ min (block + 1) (n / 128 + 1) → block ≤ n / 128 + 1 → nat_lt block (n / 128 + 1) ≡ t → drop (128 * next + 0) es ≡ drop 1 (drop (128 * block + 127) es)
+block_cases es n block next true many e within test =
+    let below = ltb-true block (n / 128 + 1) test in
     let place : 128 * next + 0 ≡ 128 * block + 127 + 1 = omega arith in
-    ap (λ (n : ℕ). drop n (map document docs)) place ∙ advanced (map document docs) (128 * block + 127)
-block_cases docs block next false e within test =
-    let past = ltb-false block (length docs / 128 + 1) test in
-    let many = length-map docs document in
-    let none = drop_all (128 * next + 0) (map document docs) (omega arith) in
-    let left = drop_all (128 * block + 127) (map document docs) (omega arith) in
+    ap (λ (k : ℕ). drop k es) place ∙ advanced es (128 * block + 127)
+block_cases es n block next false many e within test =
+    let past = ltb-false block (n / 128 + 1) test in
+    let none = drop_all (128 * next + 0) es (omega arith) in
+    let left = drop_all (128 * block + 127) es (omega arith) in
     none ∙ ap (λ (es : List Entry). drop 1 es) (sym left)
 
-pub next_block : (docs : List ℕ) (block next : ℕ) → next ≡ min (block + 1) (length docs / 128 + 1) → block ≤ length docs / 128 + 1
-    → drop (128 * next + 0) (map document docs) ≡ drop 1 (drop (128 * block + 127) (map document docs))
-next_block docs block next e within = block_cases docs block next (nat_lt block (length docs / 128 + 1)) e within refl
+pub next_block : (es : List Entry) (n block next : ℕ) → length es ≡ n → next ≡ min (block + 1) (n / 128 + 1) → block ≤ n / 128 + 1 → drop (128 * next + 0) es ≡ drop 1 (drop (128 * block + 127) es)
+next_block es n block next many e within = block_cases es n block next (nat_lt block (n / 128 + 1)) many e within refl

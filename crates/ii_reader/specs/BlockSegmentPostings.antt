@@ -1,39 +1,70 @@
 -- A cursor over the blocks of a term's list.
-use Rattle.std.specs.Prelude.{◌≡◌, ℕ, ◌+◌, ◌-◌, ◌/◌, ◌≤◌, true, List, length, min}
+use Rattle.std.specs.Prelude.{◌≡◌, ℕ, ◌+◌, ◌-◌, ◌/◌, ◌≤◌, true, List, [], length, min, Option, None, Some, slice_index}
 use Rattle.std.specs.List.{slice_index_or}
 use Rattle.ii_docset.specs.declared.docset.TheConstants.{TERMINATED}
 use Rattle.ii_docset.specs.Entries.{are_documents}
 use Rattle.ii_codes.specs.BlockDecoder.{BlockDecoderState}
 use Rattle.ii_layout.specs.SkipReader.{SkipReaderState}
 use Rattle.ii_layout.specs.Written.{block_of}
-use Rattle.ii_check.specs.CheckedPostings.{CheckedPostingsState, HasDocuments, HoldsBlock, IsAtBlock}
+use Rattle.ii_check.specs.declared.freq_reading_option.FreqReadingOption.{FreqReadingOption}
+use Rattle.ii_check.specs.CheckedPostings.{AreFreqs, CheckedPostingsState, HasDocuments, HoldsBlock, HoldsFreqs, IsAtBlock}
 
--- the documents of the list, the number of the block, how many decodes of documents there were, and how many skip entries were read
+-- the documents of the list and, where they are read, their counts; whether these are read; the number of the block; how many decodes of documents and of counts there were, and how many skip entries were read
 pub record BlockSegmentPostingsState : Type 0 where
   pub docs : List ℕ
+  pub freqs : Option (List ℕ)
+  pub freq_reading : FreqReadingOption
   pub block : ℕ
   pub doc_decodes : ℕ
+  pub freq_decodes : ℕ
   pub entries_read : ℕ
 
 -- the document at a place of a block, or the end after its documents
 abbrev pub doc_in_block : List ℕ → ℕ → ℕ → ℕ
 doc_in_block docs block idx = slice_index_or (block_of docs block) idx TERMINATED
 
--- Every block up to here was decoded at most once, and every skip entry read at most once. The empty block after the last is the end.
+-- the counts of a block, none where they aren't read
+abbrev pub freqs_of_block : Option (List ℕ) → ℕ → List ℕ
+freqs_of_block None block = []
+freqs_of_block (Some freqs) block = block_of freqs block
+
+-- the count at a place of a block, 1 where counts aren't read
+abbrev pub freq_in_block : Option (List ℕ) → ℕ → ℕ → ℕ
+freq_in_block None block idx = 1
+freq_in_block (Some freqs) block idx = slice_index (block_of freqs block) idx
+
+-- how many decodes of counts there were for the first block of a list of so many documents
+abbrev pub first_decodes : Option (List ℕ) → ℕ → ℕ
+first_decodes None n = 0
+first_decodes (Some freqs) n = min 1 n
+
+-- Documents and counts are those of a list: they are so many, the documents ascend, and counts have 32 bits.
+pub record AreEntries (n : ℕ) (docs : List ℕ) (freqs : Option (List ℕ)) : Type 0 where
+  pub many : length docs ≡ n
+  pub ascending : are_documents docs ≡ true
+  pub freqs_are : (fs : List ℕ) → freqs ≡ Some fs → AreFreqs n fs
+
+-- Every block up to here was decoded at most once, its documents and its counts, and every skip entry read at most once. The empty block after the last is the end.
 pub record IsLazy (c : BlockSegmentPostingsState) : Type 0 where
   pub within : c.block ≤ length c.docs / 128 + 1
   pub doc_decodes : c.doc_decodes ≤ c.block + 1
+  pub freq_decodes : c.freq_decodes ≤ c.block + 1
   pub entries_read : c.entries_read ≤ min (c.block + 1) (length c.docs / 128)
 
 -- A cursor goes on to a block: the list stays, and a decode is only where the block is another one.
 pub record GoesTo (old new : BlockSegmentPostingsState) (to : ℕ) : Type 0 where
   pub docs : new.docs ≡ old.docs
+  pub freqs : new.freqs ≡ old.freqs
+  pub freq_reading : new.freq_reading ≡ old.freq_reading
   pub block : new.block ≡ to
   pub doc_decodes : new.doc_decodes ≤ old.doc_decodes + min 1 (to - old.block)
+  pub freq_decodes : new.freq_decodes ≤ old.freq_decodes + min 1 (to - old.block)
 
--- What a cursor holds: a list that was checked, a skip reader at its block, and a decoder with the documents of that block.
-pub record IsLoaded (checked : CheckedPostingsState) (skip : SkipReaderState) (decoder : BlockDecoderState) : Type 0 where
+-- What a cursor holds: a list that was checked, a skip reader at its block, and decoders with the documents and the counts of that block.
+pub record IsLoaded (checked : CheckedPostingsState) (skip : SkipReaderState) (docs freqs : BlockDecoderState) : Type 0 where
   pub has : HasDocuments checked
   pub at : IsAtBlock checked skip
-  pub held : HoldsBlock checked.postings.docs skip.block decoder
-  pub decodes : decoder.decodes ≤ skip.block + 1
+  pub docs_held : HoldsBlock checked.postings.docs skip.block TERMINATED docs
+  pub freqs_held : HoldsFreqs checked.postings.freqs skip.block freqs
+  pub doc_decodes : docs.decodes ≤ skip.block + 1
+  pub freq_decodes : freqs.decodes ≤ skip.block + 1

@@ -1,27 +1,27 @@
-ghost use Rattle.std.specs.Prelude.{◌≡◌, ◌+◌, ◌/◌, ◌<◌, false, [], length, min, map, Ok, Err, IsTrue, IfOk, IfErr};
-ghost use Rattle.ii_base.specs.Options.{downgrade, has_freq};
+ghost use Rattle.std.specs.Prelude.{◌≡◌, ◌+◌, ◌/◌, ◌<◌, [], length, min, None, Ok, Err, IfOk, IfErr, IsSome};
 ghost use Rattle.ii_io.specs.Parts.{part_of};
-ghost use Rattle.ii_docset.specs.Entries.{are_documents, document};
-ghost use Rattle.ii_layout.specs.Postings.{document_list};
+ghost use Rattle.ii_layout.specs.Postings.{posting_list, entries_of};
 ghost use Rattle.ii_layout.specs.Written.{block_of};
-ghost use Rattle.ii_reader.specs.BlockSegmentPostings.{GoesTo, IsLazy, doc_in_block};
+ghost use Rattle.ii_check.specs.FreqReading.{freq_reading};
+ghost use Rattle.ii_reader.specs.BlockSegmentPostings.{AreEntries, GoesTo, IsLazy, doc_in_block, first_decodes, freq_in_block, freqs_of_block};
 
 use bytes::Bytes;
 use ii_base::{IndexRecordOption, LayoutFault};
-use ii_check::CheckedPostings;
+use ii_check::{CheckedPostings, FreqReadingOption, NO_FREQ};
 use ii_codes::BlockDecoder;
 use ii_docset::{DocId, TERMINATED};
 use ii_layout::SkipReader;
 use std::marker::Model;
 
 /// A cursor over the blocks of a term's postings, of which it holds one, decoded: block b has the
-/// documents from the 128 * b-th on, at most 128. After the last block, which has fewer than 128,
-/// comes an empty one.
+/// documents from the 128 * b-th on, at most 128, and their counts where these are read. After the
+/// last block, which has fewer than 128, comes an empty one.
 #[derive(Drop)]
 pub struct BlockSegmentPostings {
     checked: CheckedPostings,
     skip: SkipReader,
     doc_decoder: BlockDecoder,
+    freq_decoder: BlockDecoder,
 }
 
 impl Model for BlockSegmentPostings {
@@ -31,35 +31,40 @@ impl Model for BlockSegmentPostings {
 
     ghost view = { λ c. record {
       docs = c.checked.postings.docs;
+      freqs = c.checked.postings.freqs;
+      freq_reading = c.checked.freq_reading;
       block = c.skip.block;
       doc_decodes = c.doc_decoder.decodes;
+      freq_decodes = c.freq_decoder.decodes;
       entries_read = c.skip.entries_read;
     } };
 
-    ghost invariant = { λ c. IsLoaded c.checked c.skip c.doc_decoder };
+    ghost invariant = { λ c. IsLoaded c.checked c.skip c.doc_decoder c.freq_decoder };
 }
 
 impl BlockSegmentPostings {
-    /// A cursor at the first block of the list of `doc_freq` documents that `data` begins with, or
-    /// the first part of it that is damaged. The whole list is looked at, and memory is never taken.
-    /// Bytes after the list aren't looked at. Counts aren't read yet: one of the two options has
-    /// none.
+    /// A cursor at the first block of the list of `doc_freq` documents that `bytes` begin with, by
+    /// the option that its field records and the one that is requested, or the first part of it that
+    /// is damaged. All documents are looked at and then, where they are read, all counts. Bytes
+    /// after what is read aren't looked at, and memory is never taken.
     pub fn open(
         doc_freq: u32,
-        data: Bytes,
+        bytes: Bytes,
         record_option: IndexRecordOption,
-        _requested_option: IndexRecordOption,
+        requested_option: IndexRecordOption,
     ) -> Result<BlockSegmentPostings, LayoutFault>
-        requires { has_freq (downgrade record_option _requested_option) ≡ false }
-        ensures ok { IfOk result (λ cursor. document_list record_option doc_freq «data» ≡ Ok (map document cursor.docs)) }
-        ensures many { IfOk result (λ cursor. length cursor.docs ≡ doc_freq) }
-        ensures ascending { IfOk result (λ cursor. IsTrue (are_documents cursor.docs)) }
+        ensures ok { IfOk result (λ cursor. posting_list record_option requested_option doc_freq bytes ≡ Ok (entries_of cursor.docs cursor.freqs)) }
+        ensures reading { IfOk result (λ cursor. freq_reading record_option requested_option doc_freq bytes ≡ Ok cursor.freq_reading) }
+        ensures entries { IfOk result (λ cursor. AreEntries doc_freq cursor.docs cursor.freqs) }
         ensures first { IfOk result (λ cursor. cursor.block ≡ 0) }
+        // what was decoded and read for it
         ensures doc_decodes { IfOk result (λ cursor. cursor.doc_decodes ≡ min 1 doc_freq) }
+        ensures freq_decodes { IfOk result (λ cursor. cursor.freq_decodes ≡ first_decodes cursor.freqs doc_freq) }
         ensures entries_read { IfOk result (λ cursor. cursor.entries_read ≡ min 1 (doc_freq / 128)) }
-        ensures err { IfErr result (λ fault. document_list record_option doc_freq «data» ≡ Err (part_of fault)) }
+        ensures err { IfErr result (λ fault. posting_list record_option requested_option doc_freq bytes ≡ Err (part_of fault)) }
     {
-        let (checked, doc_decoder) = match CheckedPostings::open(doc_freq, data, record_option) {
+        let opened = CheckedPostings::open(doc_freq, bytes, record_option, requested_option);
+        let (checked, doc_decoder, freq_decoder) = match opened {
             Ok(opened) => opened,
             Err(fault) => return Err(fault),
         };
@@ -68,12 +73,13 @@ impl BlockSegmentPostings {
             checked,
             skip,
             doc_decoder,
+            freq_decoder,
         })
     }
 
-    /// A cursor over no documents.
+    /// A cursor over no documents, whose counts aren't read.
     pub fn empty() -> BlockSegmentPostings
-        ensures { result ≡ record { docs = []; block = 0; doc_decodes = 0; entries_read = 0 } }
+        ensures { result ≡ record { docs = []; freqs = None; freq_reading = FreqReadingOption.NoFreq; block = 0; doc_decodes = 0; freq_decodes = 0; entries_read = 0 } }
     {
         let checked = CheckedPostings::empty();
         let skip = checked.skip_reader();
@@ -81,6 +87,7 @@ impl BlockSegmentPostings {
             checked,
             skip,
             doc_decoder: BlockDecoder::with_val(TERMINATED),
+            freq_decoder: BlockDecoder::with_val(NO_FREQ),
         }
     }
 
@@ -89,6 +96,13 @@ impl BlockSegmentPostings {
         ensures { result ≡ length self.now.docs }
     {
         self.checked.doc_freq()
+    }
+
+    /// Whether counts are read.
+    pub fn freq_reading_option(&self) -> FreqReadingOption
+        ensures { result ≡ self.now.freq_reading }
+    {
+        self.checked.freq_reading_option()
     }
 
     /// The documents of the block.
@@ -107,6 +121,25 @@ impl BlockSegmentPostings {
         self.doc_decoder.output(idx)
     }
 
+    /// The counts of the block's documents, none where counts aren't read.
+    pub fn freqs(&self) -> &[u32]
+        ensures { result.now ≡ freqs_of_block self.now.freqs self.now.block }
+    {
+        self.freq_decoder.output_array()
+    }
+
+    /// The count of the document at `idx`, which lies in the block, or 1 for any `idx` where counts
+    /// aren't read.
+    pub fn freq(&self, idx: usize) -> u32
+        requires { IsSome self.now.freqs → idx < length (block_of self.now.docs self.now.block) }
+        ensures { result ≡ freq_in_block self.now.freqs self.now.block idx }
+    {
+        if !self.checked.freq_reading_option().is_read() {
+            return NO_FREQ;
+        }
+        self.freq_decoder.output(idx)
+    }
+
     /// How many documents the block has.
     pub fn block_len(&self) -> usize
         ensures { result ≡ length (block_of self.now.docs self.now.block) }
@@ -121,6 +154,7 @@ impl BlockSegmentPostings {
         ensures lazy { IsLazy self.new }
     {
         self.checked.advance(&mut self.skip);
-        self.checked.load_docs(&self.skip, &mut self.doc_decoder);
+        self.checked
+            .load_block(&self.skip, &mut self.doc_decoder, &mut self.freq_decoder);
     }
 }

@@ -1,6 +1,6 @@
-use Rattle.std.proofs.Common.{◌≡◌, ℕ, List, Some, ◌/◌, ◌%◌, ◌+◌, length, true, false, sym, ap, ◌∙◌, arith}
+use Rattle.std.proofs.Common.{◌≡◌, ℕ, List, Some, ◌/◌, ◌%◌, true, false, sym, ap, ◌∙◌, arith}
 use Rattle.ii_check.specs.Check.{skip_list_of, after_rest}
-use Rattle.ii_check.proofs.CheckLemmas.{IsCheckedTo, Told, many_entries, looked_at, told_last, entry_below, checked_fail, checked_next, checked_all, went_on, rest_here, bytes_after}
+use Rattle.ii_check.proofs.CheckLemmas.{Told, many_entries, looked_at, told_last, entry_below, checked_fail, checked_next, checked_all, went_on, rest_here, bytes_after}
 use Rattle.ii_check.proofs.check.after_documents.Goals as goal
 
 pub returns-then-not-is_block-clause-after : goal.returns-then-not-is_block-clause-after

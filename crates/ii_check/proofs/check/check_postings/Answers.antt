@@ -1,4 +1,4 @@
-use Rattle.std.proofs.Common.{◌≡◌, ℕ, ◌/◌, ◌%◌, List, Some, drop, sym, ap, ◌∙◌, is_some, true, false, refl}
+use Rattle.std.proofs.Common.{◌%◌, sym, ap, ◌∙◌, is_some, refl}
 use Rattle.ii_layout.specs.SkipList.{SkipList}
 use Rattle.ii_layout.specs.Frequencies.{freqs_at}
 use Rattle.ii_check.proofs.CheckedPostingsLemmas.{asked, no_freqs}

@@ -1,6 +1,4 @@
 use Rattle.std.proofs.Common.{sym, ◌∙◌}
-use Rattle.std.proofs.lemmas.List.{take_all}
-use Rattle.ii_check.specs.Check.{block_fits}
 use Rattle.ii_check.proofs.CheckLemmas.{fits_by_values}
 use Rattle.ii_check.proofs.check.is_block.Goals as goal
 

@@ -1,6 +1,6 @@
-use Rattle.std.proofs.Common.{◌≡◌, ℕ, List, drop, refl, sym, ap, ◌∙◌}
+use Rattle.std.proofs.Common.{drop, refl, sym, ap, ◌∙◌}
 use Rattle.ii_check.specs.Check.{freqs_in}
-use Rattle.ii_check.proofs.LoadLemmas.{IsTold, is_told, some_there, loads, loads_freqs, keeps_freqs, told_freqs, after_is}
+use Rattle.ii_check.proofs.LoadLemmas.{is_told, some_there, loads, loads_freqs, keeps_freqs, told_freqs, after_is}
 use Rattle.ii_check.proofs.checked_postings.CheckedPostings.load_block.Goals as goal
 
 pub decode_docs-used-requires-clause-few : goal.decode_docs-used-requires-clause-few
@@ -51,7 +51,7 @@ returns c =
     record {
       docs_are = loads _ c.args.self.now.postings.docs told.after c.args.skip.now.block 2147483647 c.args.doc_decoder.now c.decode_docs-used.new.decoder c.decode_docs-used.ensures.holds told.docs;
       freqs_are = loads_freqs c.args.self.now.postings.freqs c.args.skip.now.block c.args.freq_decoder.now c.decode_freqs.new.decoder read
-      (λ fs e.
-      let counts = told.freqs fs e in
-      loads _ fs counts.0 c.args.skip.now.block 1 c.args.freq_decoder.now c.decode_freqs.new.decoder c.decode_freqs.ensures (ap (freqs_in c.block_info-info.result) after ∙ counts.1));
+          (λ fs e.
+          let counts = told.freqs fs e in
+          loads _ fs counts.0 c.args.skip.now.block 1 c.args.freq_decoder.now c.decode_freqs.new.decoder c.decode_freqs.ensures (ap (freqs_in c.block_info-info.result) after ∙ counts.1));
     }

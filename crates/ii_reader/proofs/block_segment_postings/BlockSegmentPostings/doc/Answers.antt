@@ -4,4 +4,4 @@ use Rattle.ii_reader.proofs.block_segment_postings.BlockSegmentPostings.doc.Goal
 pub returns : goal.returns
 returns c =
     let s = c.self.inside in
-    rw (← c.self.view_is) (doc_held s.checked.postings.docs s.skip.block c.args.idx c.output.result s.doc_decoder c.self.invariant.held c.requires c.output.ensures)
+    rw (← c.self.view_is) (doc_held s.checked.postings.docs s.skip.block c.args.idx c.output.result s.doc_decoder c.self.invariant.docs_held c.requires c.output.ensures)
