@@ -10,18 +10,18 @@ use ii_layout::BlockInfo;
 /// What stands in a decoder after the counts of a block, or in place of counts that aren't read.
 pub const NO_FREQ: u32 = 1;
 
-/// Decodes the documents of a block, and answers how many bytes they take. The entries after them
-/// are `TERMINATED`.
+/// Decodes the documents of a block after a last document, and answers how many bytes they take. The
+/// entries after them are `TERMINATED`.
 pub(crate) fn decode_docs(
     decoder: &mut BlockDecoder,
     block_info: BlockInfo,
-    last_doc_in_previous_block: DocId,
+    before: DocId,
     bytes: &[u8],
 ) -> usize
     requires few { num_vints block_info ≤ 128 }
-    requires valid { IsSome (docs_in block_info last_doc_in_previous_block bytes.now) }
-    ensures holds { HoldsRow (docs_in block_info last_doc_in_previous_block bytes.now) TERMINATED decoder.old decoder.new }
-    ensures after { option_map (λ found. found.1) (docs_in block_info last_doc_in_previous_block bytes.now)
+    requires valid { IsSome (docs_in block_info before bytes.now) }
+    ensures holds { HoldsRow (docs_in block_info before bytes.now) TERMINATED decoder.old decoder.new }
+    ensures after { option_map (λ found. found.1) (docs_in block_info before bytes.now)
         ≡ Some (drop result bytes.now) }
 {
     match block_info {
@@ -29,18 +29,10 @@ pub(crate) fn decode_docs(
             doc_num_bits,
             strict_delta_encoded,
             ..
-        } => decoder.uncompress_block_sorted(
-            bytes,
-            last_doc_in_previous_block,
-            doc_num_bits,
-            strict_delta_encoded,
-        ),
-        BlockInfo::VInt { num_docs } => decoder.uncompress_vint_sorted(
-            bytes,
-            last_doc_in_previous_block,
-            num_docs as usize,
-            TERMINATED,
-        ),
+        } => decoder.uncompress_block_sorted(bytes, before, doc_num_bits, strict_delta_encoded),
+        BlockInfo::VInt { num_docs } => {
+            decoder.uncompress_vint_sorted(bytes, before, num_docs as usize, TERMINATED)
+        }
     }
 }
 

@@ -1,7 +1,9 @@
 use crate::{BlockSegmentPostings, SegmentPostings};
 use bytes::Bytes;
 use ii_base::{HasLen, IndexRecordOption, LayoutFault, Part};
+use ii_check::FreqReadingOption;
 use ii_docset::{DocSet, TERMINATED};
+use std::alloc::Global;
 use std::test::Fail;
 
 const BASIC: IndexRecordOption = IndexRecordOption::Basic;
@@ -73,6 +75,7 @@ fn empty_cursors_have_nothing(rt: HostRuntime) {
     assert_eq!(rt; cursor.doc(), TERMINATED);
     assert_eq!(rt; cursor.advance(), TERMINATED);
     assert!(rt; cursor.is_empty());
+    assert_eq!(rt; cursor.term_freq(), 1);
     let mut blocks = BlockSegmentPostings::empty();
     assert_eq!(rt; blocks.docs().len(), 0);
     blocks.advance();
@@ -132,6 +135,147 @@ fn damage_is_named(rt: HostRuntime) {
     assert_eq!(rt; wide, Some(Part::Skip));
     let few = damaged(128, &[0x88, 0x7F, 0, 0, 0, 0x40, 0, 0, 0], with_positions);
     assert_eq!(rt; few, Some(Part::Skip));
+}
+
+// The documents and counts of a list as an item each, and what is done with counts.
+fn items(
+    rt: &HostRuntime,
+    doc_freq: u32,
+    bytes: &'static [u8],
+    requested_option: IndexRecordOption,
+) -> Option<(Vec<(u32, u32)>, FreqReadingOption)> {
+    let bytes = Bytes::from_static(bytes);
+    let with_freqs = IndexRecordOption::WithFreqs;
+    let Ok(blocks) = BlockSegmentPostings::open(doc_freq, bytes, with_freqs, requested_option)
+    else {
+        return None;
+    };
+    let mut found = Vec::new(rt.alloc());
+    for idx in 0..blocks.block_len() {
+        if found.push((blocks.doc(idx), blocks.freq(idx))).is_err() {
+            return None;
+        }
+    }
+    Some((found, blocks.freq_reading_option()))
+}
+
+#[test]
+fn counts_are_read(rt: HostRuntime) {
+    let with_freqs = IndexRecordOption::WithFreqs;
+    let bytes = &[0x80, 0x82, 0x88, 0x81, 0x82, 0x83];
+    let Some((read, option)) = items(&rt, 3, bytes, with_freqs) else {
+        assert!(rt; false, "a list with counts");
+        return;
+    };
+    assert_eq!(rt; read.as_slice(), [(0, 1), (2, 2), (10, 3)].as_slice());
+    assert_eq!(rt; option, FreqReadingOption::ReadFreq);
+    let Some((read, option)) = items(&rt, 3, bytes, BASIC) else {
+        assert!(rt; false, "the same list, its counts not asked for");
+        return;
+    };
+    assert_eq!(rt; read.as_slice(), [(0, 1), (2, 1), (10, 1)].as_slice());
+    assert_eq!(rt; option, FreqReadingOption::SkipFreq);
+    // a term that has no counts in a field that records them
+    let bytes = &[0x80, 0x82, 0x88];
+    let Some((read, option)) = items(&rt, 3, bytes, with_freqs) else {
+        assert!(rt; false, "a list without counts");
+        return;
+    };
+    assert_eq!(rt; read.as_slice(), [(0, 1), (2, 1), (10, 1)].as_slice());
+    assert_eq!(rt; option, FreqReadingOption::NoFreq);
+    let Some((_, option)) = items(&rt, 3, bytes, BASIC) else {
+        assert!(rt; false, "the same list");
+        return;
+    };
+    assert_eq!(rt; option, FreqReadingOption::SkipFreq);
+    let Some((read, _)) = items(&rt, 1, &[0x80, 0x80], with_freqs) else {
+        assert!(rt; false, "a count of 0");
+        return;
+    };
+    assert_eq!(rt; read.as_slice(), [(0, 0)].as_slice());
+}
+
+// 128 documents from 0 on with the count 3 each, then document 128 with the count 4.
+static COUNTED: [u8; 43] = [
+    0x88, 0x7F, 0, 0, 0, 0x40, 2, 0, 0, 0xAA, 0xAA, 0xAA, 0xAA, 0xAA, 0xAA, 0xAA, 0xAA, 0xAA, 0xAA,
+    0xAA, 0xAA, 0xAA, 0xAA, 0xAA, 0xAA, 0xAA, 0xAA, 0xAA, 0xAA, 0xAA, 0xAA, 0xAA, 0xAA, 0xAA, 0xAA,
+    0xAA, 0xAA, 0xAA, 0xAA, 0xAA, 0xAA, 0x81, 0x84,
+];
+
+#[test]
+fn counts_of_blocks_are_read(rt: HostRuntime) {
+    let with_freqs = IndexRecordOption::WithFreqs;
+    let bytes = Bytes::from_static(&COUNTED);
+    let opened = SegmentPostings::open(129, bytes, None, with_freqs, with_freqs);
+    let Ok(mut cursor) = opened else {
+        assert!(rt; false, "a block with counts");
+        return;
+    };
+    for doc in 0..128 {
+        assert_eq!(rt; cursor.doc(), doc);
+        if cursor.doc() < TERMINATED {
+            assert_eq!(rt; cursor.term_freq(), 3);
+        }
+        let _ = cursor.advance();
+    }
+    assert_eq!(rt; cursor.doc(), 128);
+    if cursor.doc() < TERMINATED {
+        assert_eq!(rt; cursor.term_freq(), 4);
+    }
+    assert_eq!(rt; cursor.advance(), TERMINATED);
+    // without the last count, and with its documents alone
+    let cut = Bytes::from_static(&COUNTED[..42]);
+    let opened = BlockSegmentPostings::open(129, cut, with_freqs, with_freqs);
+    assert!(rt; matches!(opened, Err(LayoutFault::Damaged(Part::Frequencies))));
+    let cut = Bytes::from_static(&COUNTED[..42]);
+    let opened = BlockSegmentPostings::open(129, cut, with_freqs, BASIC);
+    let Ok(mut blocks) = opened else {
+        assert!(rt; false, "documents alone");
+        return;
+    };
+    assert_eq!(rt; blocks.freqs().len(), 0);
+    blocks.advance();
+    assert_eq!(rt; blocks.docs(), [128].as_slice());
+    assert_eq!(rt; blocks.freq(0), 1);
+}
+
+// 256 documents from 0 on with the count 1 each, in a field with positions; the first sum, and the
+// last document.
+fn sums(
+    alloc: Global,
+    first_sum: u8,
+    last_doc: u8,
+    requested_option: IndexRecordOption,
+) -> Option<Part> {
+    let mut bytes = [
+        0x98, 0x7F, 0, 0, 0, 0x40, 0, 0x80, 0, 0, 0, 0, 0, 0xFF, 0, 0, 0, 0x40, 0, 0x80, 0, 0, 0,
+        0, 0,
+    ];
+    bytes[7] = first_sum;
+    bytes[13] = last_doc;
+    let Ok(bytes) = Bytes::copy_from_slice(alloc, &bytes) else {
+        return Some(Part::Range);
+    };
+    let with_positions = IndexRecordOption::WithFreqsAndPositions;
+    match BlockSegmentPostings::open(256, bytes, with_positions, requested_option) {
+        Ok(_) => None,
+        Err(LayoutFault::Damaged(part)) => Some(part),
+    }
+}
+
+#[test]
+fn documents_are_looked_at_before_counts(rt: HostRuntime) {
+    let with_freqs = IndexRecordOption::WithFreqs;
+    assert_eq!(rt; sums(rt.alloc(), 0x80, 0xFF, with_freqs), None);
+    assert_eq!(rt;
+        sums(rt.alloc(), 0x7F, 0xFF, with_freqs),
+        Some(Part::Frequencies)
+    );
+    assert_eq!(rt; sums(rt.alloc(), 0x7F, 0xFF, BASIC), None);
+    assert_eq!(rt;
+        sums(rt.alloc(), 0x7F, 0xFE, with_freqs),
+        Some(Part::Documents)
+    );
 }
 
 #[test]
