@@ -7,3 +7,4 @@ pub mod SkipReaderLemmas
 pub mod SkipWriting
 pub mod SplitLemmas
 pub mod WorkedRows
+pub mod WrittenLaws
