@@ -247,13 +247,8 @@ pub second_refused : (a b c : CountingWriterState) (xs ys zs : List ℕ) (one re
 second_refused a b c xs ys zs one result went first refused second =
     writes_refused_by a c (xs ++ ys) zs result refused (writes_then a b c xs ys result (writes_went a b xs one went first) second)
 
-two_went : (a b c : CountingWriterState) (xs ys : List ℕ) (one two : Result (Unit {0}) Fault) → false ≡ is_err one → Writes a b xs one → false ≡ is_err two → Writes b c ys two → Wrote a c (xs ++ ys)
+pub two_went : (a b c : CountingWriterState) (xs ys : List ℕ) (one two : Result (Unit {0}) Fault) → false ≡ is_err one → Writes a b xs one → false ≡ is_err two → Writes b c ys two → Wrote a c (xs ++ ys)
 two_went a b c xs ys one two went first went_too second = Wrote-trans a b c xs ys (writes_went a b xs one went first) (writes_went b c ys two went_too second)
-
-pub third_written : (a b c d : CountingWriterState) (xs ys zs : List ℕ) (one two result : Result (Unit {0}) Fault) → false ≡ is_err one → Writes a b xs one → false ≡ is_err two → Writes b c ys two → Writes c d zs result
-    → Writes a d (xs ++ ys ++ zs) result
-third_written a b c d xs ys zs one two result went first went_too second third =
-    writes_then a c d (xs ++ ys) zs result (two_went a b c xs ys one two went first went_too second) third
 
 pub fits_cases : (a c : CountingWriterState) (xs ys : List ℕ) (result : Result (Unit {0}) Fault) → Wrote a c xs → OnOk result (¬ IsFull c (length ys)) → OnOk result (¬ IsFull a (length (xs ++ ys)))
 fits_cases a c xs ys (Err e) front fits = tt
@@ -262,10 +257,6 @@ fits_cases a c xs ys (Ok v) front fits = λ full. fits (full_after a c xs (lengt
 pub fits_by : (c : CountingWriterState) (n : ℕ) (result : Result (Unit {0}) Fault) → (IsErrOf result (Limit Offset) ↔ IsFull c n) → OnOk result (¬ IsFull c n)
 fits_by c n (Err e) limit = tt
 fits_by c n (Ok v) limit = λ full. let given = limit.1 full in absurd (cc)
-
-pub all_fits : (a b c : CountingWriterState) (xs ys zs : List ℕ) (one two result : Result (Unit {0}) Fault) → false ≡ is_err one → Writes a b xs one → false ≡ is_err two → Writes b c ys two
-    → OnOk result (¬ IsFull c (length zs)) → OnOk result (¬ IsFull a (length (xs ++ ys ++ zs)))
-all_fits a b c xs ys zs one two result went first went_too second fits = fits_cases a c (xs ++ ys) zs result (two_went a b c xs ys one two went first went_too second) fits
 
 -- a skip list after its number
 pub sized_is : (skip front : List ℕ) → 0 < length skip → front ≡ vint_u64 (length skip) → sized skip ≡ front ++ skip
