@@ -19,7 +19,7 @@ pub record PostingsSerializerState : Type 0 where
   pub freqs : List ℕ
   pub closed : Bool
 
--- The sum of the counts of a block passes 32 bits where it is kept: the documents end with that block.
+-- The last document fills a block whose counts sum up above 32 bits, where their sum is kept.
 pub record IsSumTooLarge (skip_info : IndexRecordOption) (freqs : List ℕ) : Type 0 where
   pub kept : IsTrue (has_positions skip_info)
   pub whole : length freqs % 128 ≡ 0
@@ -111,7 +111,7 @@ abbrev pub sized : List ℕ → List ℕ
 sized [] = []
 sized (b ∷ bs) = vint_u64 (length (b ∷ bs)) ++ b ∷ bs
 
--- How it ends to add documents: refused for want of memory, or where the sum of a block's counts is too large, none is left.
+-- How a call ends that adds documents: where memory is refused or the sum of a block's counts is too large, none is left.
 pub record AddsDocs (skip_info : IndexRecordOption) (old new added : CountedDocs) (result : Result (Unit {0}) Fault) : Type 0 where
   pub ok : OnOk result (new ≡ joined old added)
   pub err : OnErr result (new ≡ no_docs)

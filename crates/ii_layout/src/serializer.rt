@@ -1,4 +1,4 @@
-ghost use Rattle.std.specs.Prelude.{◌≡◌, ◌^◌, ◌<◌, ◌↔◌, ◌⊎◌, ◌&&◌, if◌then◌else◌, [], ◌∷◌, ◌++◌, length, nat_lt, false, true, IsTrue, OnOk, OnErr, IfErr, IsErrOf};
+ghost use Rattle.std.specs.Prelude.{◌≡◌, ◌-◌, ◌^◌, ◌<◌, ◌↔◌, ◌⊎◌, ◌&&◌, if◌then◌else◌, [], ◌∷◌, ◌++◌, length, nat_lt, false, true, IsTrue, OnOk, OnErr, IfErr, IsErrOf};
 ghost use Rattle.std.specs.List.{sum};
 ghost use Rattle.ii_base.specs.declared.schema.index_record_option.IndexRecordOption.TheVariants.{Basic};
 ghost use Rattle.ii_base.specs.Options.{has_freq, has_positions};
@@ -281,7 +281,7 @@ fn write_rest<W: Write>(
 
 // Whether the sum of a block's counts passes 32 bits where it is kept.
 fn is_sum_too_large(skip_info: IndexRecordOption, block: &Block) -> bool
-    ensures { result ≡ (has_positions skip_info && nat_lt 4294967295 (sum block.now.freqs)) }
+    ensures { result ≡ (has_positions skip_info && nat_lt (2 ^ 32 - 1) (sum block.now.freqs)) }
 {
     if !skip_info.has_positions() {
         return false;
