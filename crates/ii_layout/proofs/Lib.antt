@@ -8,3 +8,4 @@ pub mod SkipReaderLemmas
 pub mod SkipWriting
 pub mod SplitLemmas
 pub mod WorkedRows
+pub mod WrittenLaws

@@ -2,7 +2,9 @@
 use Rattle.std.proofs.Common.{◌≡◌, ℕ, zero, suc, ◌+◌, ◌*◌, ◌/◌, ◌%◌, ◌<◌, ◌≤◌, true, List, [], ◌∷◌, ◌++◌, length, take, drop, get_or, refl, sym, ap, ◌∙◌, arith, length-append, true, false, Result, Ok, Err, is_err, OnOk}
 use Rattle.std.specs.Prelude.{IsErrOf, ◌↔◌}
 use Rattle.std.proofs.lemmas.List.{flat_map_more, take_all, drop_at, get_or-append-add}
-use Rattle.std.specs.List.{flat_map, range_with_len}
+use Rattle.std.specs.List.{flat_map, range_with_len, sum}
+use Rattle.ii_base.specs.declared.schema.index_record_option.IndexRecordOption.{IndexRecordOption}
+use Rattle.ii_base.specs.declared.schema.index_record_option.IndexRecordOption.TheVariants.{Basic, WithFreqs, WithFreqsAndPositions}
 use Rattle.ii_io.specs.Numbers.{le_bytes}
 use Rattle.ii_io.specs.NumberLemmas.{length_le_bytes}
 use Rattle.ii_io.specs.declared.faults.Fault.{Fault}
@@ -14,11 +16,14 @@ use Rattle.ii_io.specs.Vints.{vint_u64}
 use Rattle.ii_docset.specs.Entries.{are_documents}
 use Rattle.ii_codes.specs.Blocks.{least_first, sorted_entries, sorted_width, sorted_bytes}
 use Rattle.ii_codes.specs.Sums.{DoNotFall}
+use Rattle.ii_base.specs.Options.{has_freq}
 use Rattle.ii_codes.specs.SortedVints.{sorted_vints}
+use Rattle.ii_codes.specs.UnsortedVints.{unsorted_vints}
 use Rattle.ii_codes.proofs.BlockLaws.{entries_from-le, length-entries_from}
 use Rattle.ii_codes.proofs.WidthLemmas.{least_width-least}
-use Rattle.ii_layout.specs.Written.{block_of, last_before, code_of_width, entry_of_block, entry_bytes, block_bytes, skip_bytes, written_documents}
-use Rattle.ii_layout.specs.PostingsSerializer.{ArePacked, IsFullBlock, sized}
+use Rattle.ii_layout.specs.SkipList.{entry_size}
+use Rattle.ii_layout.specs.Written.{block_of, last_before, code_of_width, entry_of_block, freq_part, packed_freqs, rest_bytes, entry_bytes, block_bytes, skip_bytes}
+use Rattle.ii_layout.specs.PostingsSerializer.{CountedDocs, joined, written_of, KeptBlocks, kept_of, kept_more, AreWhole, ArePacked, IsOpenBlock, IsFullBlock, sized}
 use Rattle.ii_layout.proofs.BlockDocs.{full_block, rest_falls, block_of-append, last_before-append}
 
 -- documents need fewer than 32 bits
@@ -48,17 +53,36 @@ flat_map-range f n =
     let last : 0 + n ≡ n = omega arith in
     ap (flat_map f) (range-push 0 n ∙ ap (λ (k : ℕ). range_with_len 0 n ++ k ∷ []) last) ∙ sym (flat_map_more f [] (range_with_len 0 n) n)
 
-pub entry_bytes-append : (docs more : List ℕ) (i : ℕ) → 128 * i + 128 ≤ length docs → entry_bytes (docs ++ more) i ≡ entry_bytes docs i
-entry_bytes-append docs more i whole =
-    let last = last_before-append docs more i (omega arith) in
-    let block = block_of-append docs more i whole in
-    λ j. entry_of_block (last j) (block j)
+pub entry_bytes-append : (skip_info : IndexRecordOption) (term more : CountedDocs) (i : ℕ) → 128 * i + 128 ≤ length term.docs → length term.freqs ≡ length term.docs
+    → entry_bytes skip_info (term.docs ++ more.docs) (term.freqs ++ more.freqs) i ≡ entry_bytes skip_info term.docs term.freqs i
+entry_bytes-append skip_info term more i whole even =
+    let last = last_before-append term.docs more.docs i (omega arith) in
+    let docs = block_of-append term.docs more.docs i whole in
+    let freqs = block_of-append term.freqs more.freqs i (omega arith) in
+    λ j. entry_of_block (last j) (docs j) ++ freq_part skip_info (freqs j)
 
-pub block_bytes-append : (docs more : List ℕ) (i : ℕ) → 128 * i + 128 ≤ length docs → block_bytes (docs ++ more) i ≡ block_bytes docs i
-block_bytes-append docs more i whole =
-    let last = last_before-append docs more i (omega arith) in
-    let block = block_of-append docs more i whole in
-    λ j. sorted_bytes (last j) (block j)
+pub block_bytes-append : (skip_info : IndexRecordOption) (term more : CountedDocs) (i : ℕ) → 128 * i + 128 ≤ length term.docs → length term.freqs ≡ length term.docs
+    → block_bytes skip_info (term.docs ++ more.docs) (term.freqs ++ more.freqs) i ≡ block_bytes skip_info term.docs term.freqs i
+block_bytes-append skip_info term more i whole even =
+    let last = last_before-append term.docs more.docs i (omega arith) in
+    let docs = block_of-append term.docs more.docs i whole in
+    let freqs = block_of-append term.freqs more.freqs i (omega arith) in
+    λ j. sorted_bytes (last j) (docs j) ++ packed_freqs skip_info (freqs j)
+
+-- what is kept of blocks stays where more documents come after them
+pub entries-append : (skip_info : IndexRecordOption) (term more : CountedDocs) → AreWhole term
+    → flat_map (entry_bytes skip_info (term.docs ++ more.docs) (term.freqs ++ more.freqs)) (range_with_len 0 (length term.docs / 128)) ≡ (kept_of skip_info term).skip
+entries-append skip_info term more whole =
+    let all = whole.whole in
+    flat_map-same (entry_bytes skip_info term.docs term.freqs) (entry_bytes skip_info (term.docs ++ more.docs) (term.freqs ++ more.freqs)) 0 (length term.docs / 128)
+    (λ k h. entry_bytes-append skip_info term more k (omega arith) whole.even)
+
+pub blocks-append : (skip_info : IndexRecordOption) (term more : CountedDocs) → AreWhole term
+    → flat_map (block_bytes skip_info (term.docs ++ more.docs) (term.freqs ++ more.freqs)) (range_with_len 0 (length term.docs / 128)) ≡ (kept_of skip_info term).postings
+blocks-append skip_info term more whole =
+    let all = whole.whole in
+    flat_map-same (block_bytes skip_info term.docs term.freqs) (block_bytes skip_info (term.docs ++ more.docs) (term.freqs ++ more.freqs)) 0 (length term.docs / 128)
+    (λ k h. block_bytes-append skip_info term more k (omega arith) whole.even)
 
 -- so many blocks, and documents after them
 all_blocks : (docs : List ℕ) → length docs % 128 ≡ 0 → length docs ≡ 128 * (length docs / 128)
@@ -69,102 +93,151 @@ block_of-last docs block n all many =
     ap (λ (xs : List ℕ). take 128 xs) (drop_at docs block (128 * n) all) ∙ take_all 128 block (omega arith)
 
 -- a block that comes after others may be packed
-pub next_block : (docs block skip postings : List ℕ) (last : ℕ) → ArePacked docs last skip postings → length block ≡ 128 → are_documents (docs ++ block) ≡ true → IsFullBlock last block
-next_block docs block skip postings last p many h =
-    let all = all_blocks docs p.whole in
-    let size = length-append docs block in
-    let full = full_block (docs ++ block) (length docs / 128) h (omega arith) in
-    let same_last = last_before-append docs block (length docs / 128) (omega arith) in
-    let same_block = block_of-last docs block (length docs / 128) all many in
+pub next_block : (skip_info : IndexRecordOption) (term : CountedDocs) (block : List ℕ) (kept : KeptBlocks) → ArePacked skip_info term kept → length block ≡ 128
+    → are_documents (term.docs ++ block) ≡ true → IsFullBlock kept.last_doc block
+next_block skip_info term block kept p many h =
+    let docs = term.docs in
+    let all = all_blocks term.docs p.whole.whole in
+    let size = length-append term.docs block in
+    let full = full_block (term.docs ++ block) (length term.docs / 128) h (omega arith) in
+    let same_last = last_before-append term.docs block (length term.docs / 128) (omega arith) in
+    let same_block = block_of-last term.docs block (length term.docs / 128) all many in
     let now = rw (same_last, same_block) at full in
-    rw p.last_is now
+    rw p.kept_is now
 
-pub packed_more : (docs block skip postings docs' skip' postings' : List ℕ) (last last' : ℕ) → ArePacked docs last skip postings → length block ≡ 128
-    → docs' ≡ docs ++ block → last' ≡ get_or block 127 0 → skip' ≡ skip ++ entry_of_block last block → postings' ≡ postings ++ sorted_bytes last block
-    → ArePacked docs' last' skip' postings'
-packed_more docs block skip postings docs' skip' postings' last last' p many docs_is last_is skip_is postings_is =
-    let n = length docs / 128 in
-    let all = all_blocks docs p.whole in
-    let size = length-append docs block in
-    let next : length (docs ++ block) / 128 ≡ suc (length docs / 128) = omega arith in
-    let same_last = last_before-append docs block (length docs / 128) (omega arith) in
-    let same_block = block_of-last docs block (length docs / 128) all many in
-    let entry : entry_bytes (docs ++ block) (length docs / 128) ≡ entry_of_block last block =
-    (λ j. entry_of_block (same_last j) (same_block j)) ∙ ap (λ (l : ℕ). entry_of_block l block) (sym p.last_is)
-    in
-    let bytes : block_bytes (docs ++ block) (length docs / 128) ≡ sorted_bytes last block =
-    (λ j. sorted_bytes (same_last j) (same_block j)) ∙ ap (λ (l : ℕ). sorted_bytes l block) (sym p.last_is)
-    in
-    let entries = flat_map-same (entry_bytes docs) (entry_bytes (docs ++ block)) 0 (length docs / 128) (λ k h. entry_bytes-append docs block k (omega arith)) in
-    let blocks = flat_map-same (block_bytes docs) (block_bytes (docs ++ block)) 0 (length docs / 128) (λ k h. block_bytes-append docs block k (omega arith)) in
-    let place : 128 * (length docs / 128) + 127 ≡ length docs + 127 = omega arith in
-    let end : last_before (docs ++ block) (suc (length docs / 128)) ≡ get_or block 127 0 = ap (λ (i : ℕ). get_or (docs ++ block) i 0) place ∙ get_or-append-add docs block 127 0 in
-    let all_entries : flat_map (entry_bytes (docs ++ block)) (range_with_len 0 (suc (length docs / 128))) ≡ skip ++ entry_of_block last block =
-    flat_map-range (entry_bytes (docs ++ block)) (length docs / 128) ∙ (λ j. (entries ∙ sym p.skip_is) j ++ entry j)
-    in
-    let all_bytes : flat_map (block_bytes (docs ++ block)) (range_with_len 0 (suc (length docs / 128))) ≡ postings ++ sorted_bytes last block =
-    flat_map-range (block_bytes (docs ++ block)) (length docs / 128) ∙ (λ j. (blocks ∙ sym p.postings_is) j ++ bytes j)
-    in
-    let packed : ArePacked (docs ++ block) last' skip' postings' =
+-- what is kept of a block more
+abbrev kept_at : IndexRecordOption → CountedDocs → ℕ → KeptBlocks
+kept_at skip_info term m =
     record {
-      whole = omega arith;
-      last_is = last_is ∙ sym end ∙ ap (last_before (docs ++ block)) (sym next);
-      skip_is = skip_is ∙ sym all_entries ∙ ap (λ (m : ℕ). flat_map (entry_bytes (docs ++ block)) (range_with_len 0 m)) (sym next);
-      postings_is = postings_is ∙ sym all_bytes ∙ ap (λ (m : ℕ). flat_map (block_bytes (docs ++ block)) (range_with_len 0 m)) (sym next);
+      last_doc = last_before term.docs m;
+      skip = flat_map (entry_bytes skip_info term.docs term.freqs) (range_with_len 0 m);
+      postings = flat_map (block_bytes skip_info term.docs term.freqs) (range_with_len 0 m);
     }
-    in rw docs_is packed
+
+kept_is_more : (skip_info : IndexRecordOption) (term block : CountedDocs) → AreWhole term → length block.docs ≡ 128 → length block.freqs ≡ 128
+    → kept_of skip_info (joined term block) ≡ kept_more skip_info (kept_of skip_info term) block
+kept_is_more skip_info term block whole many counted =
+    let all = all_blocks term.docs whole.whole in
+    let even = whole.even in
+    let size = length-append term.docs block.docs in
+    let next : length (term.docs ++ block.docs) / 128 ≡ suc (length term.docs / 128) = omega arith in
+    let same_last = last_before-append term.docs block.docs (length term.docs / 128) (omega arith) in
+    let same_docs = block_of-last term.docs block.docs (length term.docs / 128) all many in
+    let same_freqs = block_of-last term.freqs block.freqs (length term.docs / 128) (omega arith) counted in
+    let place : 128 * (length term.docs / 128) + 127 ≡ length term.docs + 127 = omega arith in
+    let end : last_before (term.docs ++ block.docs) (suc (length term.docs / 128)) ≡ get_or block.docs 127 0 =
+    ap (λ (i : ℕ). get_or (term.docs ++ block.docs) i 0) place ∙ get_or-append-add term.docs block.docs 127 0
+    in
+    let entries = flat_map-range (entry_bytes skip_info (term.docs ++ block.docs) (term.freqs ++ block.freqs)) (length term.docs / 128)
+    ∙ (λ j. entries-append skip_info term block whole j ++ (entry_of_block (same_last j) (same_docs j) ++ freq_part skip_info (same_freqs j)))
+    in
+    let blocks = flat_map-range (block_bytes skip_info (term.docs ++ block.docs) (term.freqs ++ block.freqs)) (length term.docs / 128)
+    ∙ (λ j. blocks-append skip_info term block whole j ++ (sorted_bytes (same_last j) (same_docs j) ++ packed_freqs skip_info (same_freqs j)))
+    in
+    ap (λ (m : ℕ). kept_at skip_info (joined term block) m) next
+    ∙ (λ j. record { last_doc = end j; skip = entries j; postings = blocks j })
+
+pub packed_more : (skip_info : IndexRecordOption) (term block : CountedDocs) (kept : KeptBlocks) → ArePacked skip_info term kept → length block.docs ≡ 128 → length block.freqs ≡ 128
+    → ArePacked skip_info (joined term block) (kept_more skip_info kept block)
+packed_more skip_info term block kept p many counted =
+    let whole = p.whole.whole in
+    let even = p.whole.even in
+    record {
+      whole = record { whole = omega (arith, length-append term.docs block.docs); even = omega (arith, length-append term.docs block.docs, length-append term.freqs block.freqs) };
+      kept_is = ap (λ (k : KeptBlocks). kept_more skip_info k block) p.kept_is ∙ sym (kept_is_more skip_info term block p.whole many counted);
+    }
+
+pub packed_by : (skip_info : IndexRecordOption) (term block new : CountedDocs) (kept kept' : KeptBlocks) → ArePacked skip_info term kept → length block.docs ≡ 128 → length block.freqs ≡ 128
+    → new ≡ joined term block → kept' ≡ kept_more skip_info kept block → ArePacked skip_info new kept'
+packed_by skip_info term block new kept kept' p many counted new_is kept_is = rw (new_is, kept_is) (packed_more skip_info term block kept p many counted)
 
 -- what stands after the blocks doesn't fall
-pub rest_after : (docs rest skip postings : List ℕ) (last : ℕ) → ArePacked docs last skip postings → are_documents (docs ++ rest) ≡ true → DoNotFall last rest
-rest_after docs rest skip postings last p h =
-    let all = all_blocks docs p.whole in
-    let same_last = last_before-append docs rest (length docs / 128) (omega arith) in
-    let after = rw (drop_at docs rest (128 * (length docs / 128)) all, same_last) at (rest_falls (docs ++ rest) (length docs / 128) h) in
-    rw p.last_is after
+pub rest_after : (skip_info : IndexRecordOption) (term : CountedDocs) (rest : List ℕ) (kept : KeptBlocks) → ArePacked skip_info term kept
+    → are_documents (term.docs ++ rest) ≡ true → DoNotFall kept.last_doc rest
+rest_after skip_info term rest kept p h =
+    let all = all_blocks term.docs p.whole.whole in
+    let same_last = last_before-append term.docs rest (length term.docs / 128) (omega arith) in
+    let after = rw (drop_at term.docs rest (128 * (length term.docs / 128)) all, same_last) at (rest_falls (term.docs ++ rest) (length term.docs / 128) h) in
+    rw p.kept_is after
 
--- a skip list has five bytes for each block
-length-entry_bytes : (docs : List ℕ) (i : ℕ) → length (entry_bytes docs i) ≡ 5
-length-entry_bytes docs i =
+-- a skip list has as many bytes for each block
+length-freq_part : (skip_info : IndexRecordOption) (freqs : List ℕ) → 5 + length (freq_part skip_info freqs) ≡ entry_size skip_info
+length-freq_part Basic freqs = refl
+length-freq_part WithFreqs freqs = refl
+length-freq_part WithFreqsAndPositions freqs =
+    let four = length_le_bytes 4 (sum freqs) in
+    omega (arith, length-append (le_bytes 4 (sum freqs)) (0 ∷ 0 ∷ []))
+
+length-entry_bytes : (skip_info : IndexRecordOption) (docs freqs : List ℕ) (i : ℕ) → length (entry_bytes skip_info docs freqs i) ≡ entry_size skip_info
+length-entry_bytes skip_info docs freqs i =
     let four = length_le_bytes 4 (get_or (block_of docs i) 127 0) in
     let code = code_of_width (sorted_width (last_before docs i) (block_of docs i)) in
-    omega (arith, length-append (le_bytes 4 (get_or (block_of docs i) 127 0)) (code ∷ []))
+    let others = length-freq_part skip_info (block_of freqs i) in
+    let front = length-append (le_bytes 4 (get_or (block_of docs i) 127 0)) (code ∷ []) in
+    omega (arith, length-append (entry_of_block (last_before docs i) (block_of docs i)) (freq_part skip_info (block_of freqs i)))
 
-pub length-entries : (docs : List ℕ) (a n : ℕ) → length (flat_map (entry_bytes docs) (range_with_len a n)) ≡ 5 * n
-length-entries docs a zero = refl
-length-entries docs a (suc n) =
-    let ih = length-entries docs (a + 1) n in
-    let one = length-entry_bytes docs a in
-    omega (arith, length-append (entry_bytes docs a) (flat_map (entry_bytes docs) (range_with_len (a + 1) n)))
+length-rows : (f : ℕ → List ℕ) (size a n : ℕ) → ((k : ℕ) → length (f k) ≡ size) → length (flat_map f (range_with_len a n)) ≡ size * n
+length-rows f size a zero h = omega arith
+length-rows f size a (suc n) h =
+    let ih = length-rows f size (a + 1) n h in
+    let one = h a in
+    let more : size * suc n ≡ size + size * n = omega arith in
+    omega (arith, length-append (f a) (flat_map f (range_with_len (a + 1) n)))
 
-sized_some : (bytes : List ℕ) (m : ℕ) → length bytes ≡ 5 * suc m → vint_u64 (5 * suc m) ++ bytes ≡ sized bytes
-sized_some [] m e = absurd (omega arith)
-sized_some (b ∷ bs) m e = ap (λ (k : ℕ). vint_u64 k ++ b ∷ bs) (sym e)
+pub length-entries : (skip_info : IndexRecordOption) (docs freqs : List ℕ) (n : ℕ)
+    → length (flat_map (entry_bytes skip_info docs freqs) (range_with_len 0 n)) ≡ entry_size skip_info * n
+length-entries skip_info docs freqs n = length-rows (entry_bytes skip_info docs freqs) (entry_size skip_info) 0 n (length-entry_bytes skip_info docs freqs)
 
-pub skip_bytes-sized : (docs : List ℕ) (n : ℕ) → skip_bytes docs n ≡ sized (flat_map (entry_bytes docs) (range_with_len 0 n))
-skip_bytes-sized docs zero = refl
-skip_bytes-sized docs (suc m) = sized_some (flat_map (entry_bytes docs) (range_with_len 0 (suc m))) m (length-entries docs 0 (suc m))
+entry_size-some : (skip_info : IndexRecordOption) (m : ℕ) → 0 < entry_size skip_info * suc m
+entry_size-some Basic m = omega arith
+entry_size-some WithFreqs m = omega arith
+entry_size-some WithFreqsAndPositions m = omega arith
+
+sized_some : (bytes : List ℕ) (size : ℕ) → length bytes ≡ size → 0 < size → vint_u64 size ++ bytes ≡ sized bytes
+sized_some [] size e some = absurd (omega arith)
+sized_some (b ∷ bs) size e some = ap (λ (k : ℕ). vint_u64 k ++ b ∷ bs) (sym e)
+
+pub skip_bytes-sized : (skip_info : IndexRecordOption) (docs freqs : List ℕ) (n : ℕ)
+    → skip_bytes skip_info docs freqs n ≡ sized (flat_map (entry_bytes skip_info docs freqs) (range_with_len 0 n))
+skip_bytes-sized skip_info docs freqs zero = refl
+skip_bytes-sized skip_info docs freqs (suc m) =
+    sized_some (flat_map (entry_bytes skip_info docs freqs) (range_with_len 0 (suc m))) (entry_size skip_info * suc m) (length-entries skip_info docs freqs (suc m)) (entry_size-some skip_info m)
 
 -- what is written of blocks and fewer documents after them
-pub written_is : (docs rest skip postings : List ℕ) (last : ℕ) → ArePacked docs last skip postings → length rest < 128
-    → written_documents (docs ++ rest) ≡ sized skip ++ postings ++ sorted_vints last rest
-written_is docs rest skip postings last p few =
-    let n = length docs / 128 in
-    let all = all_blocks docs p.whole in
-    let size = length-append docs rest in
-    let blocks : length (docs ++ rest) / 128 ≡ length docs / 128 = omega arith in
-    let entries = flat_map-same (entry_bytes docs) (entry_bytes (docs ++ rest)) 0 (length docs / 128) (λ k h. entry_bytes-append docs rest k (omega arith)) in
-    let bytes = flat_map-same (block_bytes docs) (block_bytes (docs ++ rest)) 0 (length docs / 128) (λ k h. block_bytes-append docs rest k (omega arith)) in
-    let list = skip_bytes-sized (docs ++ rest) (length docs / 128) ∙ ap sized (entries ∙ sym p.skip_is) in
-    let end = last_before-append docs rest (length docs / 128) (omega arith) ∙ sym p.last_is in
-    let after = drop_at docs rest (128 * (length docs / 128)) all in
-    ap (λ (m : ℕ). skip_bytes (docs ++ rest) m ++ flat_map (block_bytes (docs ++ rest)) (range_with_len 0 m) ++ sorted_vints (last_before (docs ++ rest) m) (drop (128 * m) (docs ++ rest))) blocks
-    ∙ (λ j. list j ++ (bytes ∙ sym p.postings_is) j ++ sorted_vints (end j) (after j))
+abbrev in_parts : IndexRecordOption → CountedDocs → ℕ → List ℕ
+in_parts skip_info term m =
+    skip_bytes skip_info term.docs term.freqs m ++ flat_map (block_bytes skip_info term.docs term.freqs) (range_with_len 0 m)
+    ++ rest_bytes skip_info (last_before term.docs m) (drop (128 * m) term.docs) (drop (128 * m) term.freqs)
 
--- the parts that are written, by the values that calls lent
-pub written_lent : (docs rest skip postings ids entries middle tail : List ℕ) (last : ℕ) → ArePacked docs last skip postings → length rest < 128 → entries ≡ skip → middle ≡ postings → ids ≡ rest → tail ≡ sorted_vints last ids
-    → written_documents (docs ++ rest) ≡ sized entries ++ middle ++ tail
-written_lent docs rest skip postings ids entries middle tail last p few entries_are middle_is ids_are tail_is =
-    written_is docs rest skip postings last p few ∙ sym (λ j. sized (entries_are j) ++ middle_is j ++ (tail_is ∙ ap (sorted_vints last) ids_are) j)
+pub written_is : (skip_info : IndexRecordOption) (term rest : CountedDocs) (kept : KeptBlocks) → ArePacked skip_info term kept → IsOpenBlock skip_info rest
+    → written_of skip_info (joined term rest) ≡ sized kept.skip ++ kept.postings ++ rest_bytes skip_info kept.last_doc rest.docs rest.freqs
+written_is skip_info term rest kept p r =
+    let few = r.few in
+    let even = p.whole.even in
+    let all = all_blocks term.docs p.whole.whole in
+    let size = length-append term.docs rest.docs in
+    let blocks : length (term.docs ++ rest.docs) / 128 ≡ length term.docs / 128 = omega arith in
+    let list = skip_bytes-sized skip_info (term.docs ++ rest.docs) (term.freqs ++ rest.freqs) (length term.docs / 128)
+    ∙ ap sized (entries-append skip_info term rest p.whole ∙ ap (λ (k : KeptBlocks). k.skip) (sym p.kept_is))
+    in
+    let bytes = blocks-append skip_info term rest p.whole ∙ ap (λ (k : KeptBlocks). k.postings) (sym p.kept_is) in
+    let end = last_before-append term.docs rest.docs (length term.docs / 128) (omega arith) ∙ ap (λ (k : KeptBlocks). k.last_doc) (sym p.kept_is) in
+    let docs_after = drop_at term.docs rest.docs (128 * (length term.docs / 128)) all in
+    let freqs_after = drop_at term.freqs rest.freqs (128 * (length term.docs / 128)) (omega arith) in
+    ap (in_parts skip_info (joined term rest)) blocks
+    ∙ (λ j. list j ++ bytes j ++ rest_bytes skip_info (end j) (docs_after j) (freqs_after j))
+
+-- the parts that are written, by the bytes that calls lent
+pub written_lent : (skip_info : IndexRecordOption) (term rest : CountedDocs) (kept : KeptBlocks) (entries middle : List ℕ) → ArePacked skip_info term kept → IsOpenBlock skip_info rest
+    → entries ≡ kept.skip → middle ≡ kept.postings → written_of skip_info (joined term rest) ≡ sized entries ++ middle ++ rest_bytes skip_info kept.last_doc rest.docs rest.freqs
+written_lent skip_info term rest kept entries middle p r entries_are middle_is =
+    written_is skip_info term rest kept p r ∙ sym (λ j. sized (entries_are j) ++ middle_is j ++ rest_bytes skip_info kept.last_doc rest.docs rest.freqs)
+
+-- documents that are written, and their counts
+pub rest_written : (skip_info : IndexRecordOption) (last : ℕ) (rest lent : CountedDocs) (docs freqs : List ℕ) → true ≡ has_freq skip_info → lent.docs ≡ rest.docs → lent.freqs ≡ rest.freqs
+    → docs ≡ sorted_vints last lent.docs → freqs ≡ unsorted_vints lent.freqs → rest_bytes skip_info last rest.docs rest.freqs ≡ docs ++ freqs
+rest_written skip_info last rest lent docs freqs has docs_lent freqs_lent docs_are freqs_are =
+    rw (← has, docs_are, freqs_are, docs_lent, freqs_lent) refl
 
 -- three parts that are written one after the other
 pub first_refused : (a b : CountingWriterState) (xs ys zs : List ℕ) (result : Result (Unit {0}) Fault) → true ≡ is_err result → Writes a b xs result → Writes a b (xs ++ ys ++ zs) result
@@ -174,23 +247,16 @@ pub second_refused : (a b c : CountingWriterState) (xs ys zs : List ℕ) (one re
 second_refused a b c xs ys zs one result went first refused second =
     writes_refused_by a c (xs ++ ys) zs result refused (writes_then a b c xs ys result (writes_went a b xs one went first) second)
 
-two_went : (a b c : CountingWriterState) (xs ys : List ℕ) (one two : Result (Unit {0}) Fault) → false ≡ is_err one → Writes a b xs one → false ≡ is_err two → Writes b c ys two → Wrote a c (xs ++ ys)
+pub two_went : (a b c : CountingWriterState) (xs ys : List ℕ) (one two : Result (Unit {0}) Fault) → false ≡ is_err one → Writes a b xs one → false ≡ is_err two → Writes b c ys two → Wrote a c (xs ++ ys)
 two_went a b c xs ys one two went first went_too second = Wrote-trans a b c xs ys (writes_went a b xs one went first) (writes_went b c ys two went_too second)
 
-pub third_written : (a b c d : CountingWriterState) (xs ys zs : List ℕ) (one two result : Result (Unit {0}) Fault) → false ≡ is_err one → Writes a b xs one → false ≡ is_err two → Writes b c ys two → Writes c d zs result
-    → Writes a d (xs ++ ys ++ zs) result
-third_written a b c d xs ys zs one two result went first went_too second third =
-    writes_then a c d (xs ++ ys) zs result (two_went a b c xs ys one two went first went_too second) third
+pub fits_cases : (a c : CountingWriterState) (xs ys : List ℕ) (result : Result (Unit {0}) Fault) → Wrote a c xs → OnOk result (¬ IsFull c (length ys)) → OnOk result (¬ IsFull a (length (xs ++ ys)))
+fits_cases a c xs ys (Err e) front fits = tt
+fits_cases a c xs ys (Ok v) front fits = λ full. fits (full_after a c xs (length ys) (length (xs ++ ys)) front (omega (arith, length-append xs ys)) full)
 
-fits_cases : (a c : CountingWriterState) (xs ys : List ℕ) (result : Result (Unit {0}) Fault) → Wrote a c xs → (IsErrOf result (Limit Offset) ↔ IsFull c (length ys)) → OnOk result (¬ IsFull a (length (xs ++ ys)))
-fits_cases a c xs ys (Err e) front limit = tt
-fits_cases a c xs ys (Ok v) front limit = λ full.
-    let given = limit.1 (full_after a c xs (length ys) (length (xs ++ ys)) front (omega (arith, length-append xs ys)) full) in
-    absurd (cc)
-
-pub all_fits : (a b c : CountingWriterState) (xs ys zs : List ℕ) (one two result : Result (Unit {0}) Fault) → false ≡ is_err one → Writes a b xs one → false ≡ is_err two → Writes b c ys two
-    → (IsErrOf result (Limit Offset) ↔ IsFull c (length zs)) → OnOk result (¬ IsFull a (length (xs ++ ys ++ zs)))
-all_fits a b c xs ys zs one two result went first went_too second limit = fits_cases a c (xs ++ ys) zs result (two_went a b c xs ys one two went first went_too second) limit
+pub fits_by : (c : CountingWriterState) (n : ℕ) (result : Result (Unit {0}) Fault) → (IsErrOf result (Limit Offset) ↔ IsFull c n) → OnOk result (¬ IsFull c n)
+fits_by c n (Err e) limit = tt
+fits_by c n (Ok v) limit = λ full. let given = limit.1 full in absurd (cc)
 
 -- a skip list after its number
 pub sized_is : (skip front : List ℕ) → 0 < length skip → front ≡ vint_u64 (length skip) → sized skip ≡ front ++ skip

@@ -1,10 +1,9 @@
 -- Documents in a row.
-use Rattle.std.proofs.Common.{◌≡◌, ℕ, zero, suc, ◌+◌, ◌<◌, true, List, [], ◌∷◌, ◌++◌, length, false, refl, sym, ap, ◌∙◌, arith}
+use Rattle.std.proofs.Common.{◌≡◌, ℕ, zero, suc, ◌+◌, ◌<◌, true, [], ◌∷◌, ◌++◌, length, refl, sym, ap, ◌∙◌, arith}
 use Rattle.std.proofs.lemmas.Bool.{le-leb, lt-ltb}
 use Rattle.std.proofs.lemmas.List.FromFn.{length-range_with_len}
 use Rattle.std.specs.List.{range_with_len}
 use Rattle.ii_docset.specs.Entries.{ascend_from, are_documents}
-use Rattle.ii_layout.specs.PostingsSerializer.{PostingsSerializerState}
 use Rattle.ii_layout.proofs.PackingLemmas.{range-push}
 
 row_ascends : (a n : ℕ) → a + n < 2147483647 → ascend_from a (range_with_len a n) ≡ true
@@ -25,8 +24,3 @@ row_is_documents n h = row_ascends 0 n (omega arith)
 
 pub row_length : (n : ℕ) → n ≡ length (range_with_len 0 n)
 row_length n = sym (length-range_with_len 0 n)
-
--- a serializer that was given one document more
-pub next_run : (old new : PostingsSerializerState) (n : ℕ) → old ≡ record { docs = range_with_len 0 n; closed = false } → new ≡ record { docs = old.docs ++ n ∷ []; closed = false }
-    → new ≡ record { docs = range_with_len 0 (n + 1); closed = false }
-next_run old new n before after = after ∙ ap (λ (s : PostingsSerializerState). record { docs = s.docs ++ n ∷ []; closed = false }) before ∙ ap (λ (docs : List ℕ). record { docs = docs; closed = false }) (row_more n)

@@ -10,7 +10,7 @@ use Rattle.ii_io.specs.Steps.{◌>>=◌, needs}
 use Rattle.ii_io.specs.Vints.{u64_at}
 use Rattle.ii_layout.specs.declared.skip.BlockInfo.{BlockInfo}
 use Rattle.ii_layout.specs.SkipReader.{block_info_of, tf_num_bits_of}
-use Rattle.ii_layout.specs.SkipList.{SkipEntry, SkipList, IsSplit, entry_at, entries_at, skip_list, skip_list_at, skip_info_of, entry_size, no_entry}
+use Rattle.ii_layout.specs.SkipList.{SkipEntry, SkipList, entry_at, entries_at, skip_list, skip_list_at, skip_info_of, entry_size, no_entry}
 
 -- A number of bytes was read that are there, and the shape of the entries follows from it.
 pub record ReadsLen (recorded : IndexRecordOption) (blocks : ℕ) (bytes rest : List ℕ) (len : ℕ) (skip_info : IndexRecordOption) : Type 0 where

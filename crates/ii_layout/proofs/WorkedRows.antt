@@ -12,7 +12,7 @@ use Rattle.ii_layout.specs.declared.skip.BlockInfo.TheVariants.{BitPacked, VInt}
 use Rattle.ii_layout.specs.SkipList.{entry_at, entries_at}
 use Rattle.ii_layout.specs.SkipReader.{reader_at}
 use Rattle.ii_layout.specs.Postings.{posting_list}
-use Rattle.ii_layout.specs.Written.{written_documents}
+use Rattle.ii_layout.specs.Written.{written_documents, written_postings}
 
 pub row_three : written_documents (0 ∷ 2 ∷ 10 ∷ []) ≡ 0x80 ∷ 0x82 ∷ 0x88 ∷ []
 unfolding vint_u32
@@ -42,6 +42,20 @@ row_from_one = refl
 pub row_two : written_documents (range_with_len 0 256) ≡ 0x8A ∷ 0x7F ∷ 0 ∷ 0 ∷ 0 ∷ 0x40 ∷ 0xFF ∷ 0 ∷ 0 ∷ 0 ∷ 0x40 ∷ []
 unfolding vint_u32 vint_u64 le_bytes packed num_bits entries_in bits_in
 row_two = refl
+
+-- counts after a short list
+pub row_with_counts : written_postings WithFreqs (0 ∷ 2 ∷ 10 ∷ []) (1 ∷ 2 ∷ 3 ∷ []) ≡ 0x80 ∷ 0x82 ∷ 0x88 ∷ 0x81 ∷ 0x82 ∷ 0x83 ∷ []
+unfolding vint_u32
+row_with_counts = refl
+
+-- 128 documents in a row with the count 3, by entries of eight and of twelve bytes
+pub row_full_counts : written_postings WithFreqs (range_with_len 0 128) (replicate 128 3) ≡ 0x88 ∷ 0x7F ∷ 0 ∷ 0 ∷ 0 ∷ 0x40 ∷ 2 ∷ 0 ∷ 0 ∷ replicate 32 0xAA
+unfolding vint_u32 vint_u64 le_bytes packed num_bits entries_in bits_in
+row_full_counts = refl
+
+pub row_full_sum : written_postings WithFreqsAndPositions (range_with_len 0 128) (replicate 128 3) ≡ 0x8C ∷ 0x7F ∷ 0 ∷ 0 ∷ 0 ∷ 0x40 ∷ 2 ∷ 0x80 ∷ 1 ∷ 0 ∷ 0 ∷ 0 ∷ 0 ∷ replicate 32 0xAA
+unfolding vint_u32 vint_u64 le_bytes packed num_bits entries_in bits_in
+row_full_sum = refl
 
 -- a cut and an equal document
 pub row_cut : posting_list Basic Basic 3 (0x80 ∷ 0x82 ∷ []) ≡ Err Documents

@@ -1,30 +1,119 @@
--- A serializer of postings: the documents of the open term, and what is kept of them.
-use Rattle.std.specs.Prelude.{◌≡◌, ℕ, ◌/◌, ◌%◌, ◌^◌, ◌<◌, Bool, List, [], ◌∷◌, ◌++◌, length, slice_index}
-use Rattle.std.specs.List.{flat_map, range_with_len}
+-- A serializer of postings: the documents and counts of the open term, and what is kept of them.
+use Rattle.std.specs.Prelude.{◌≡◌, ℕ, ◌-◌, ◌/◌, ◌%◌, ◌^◌, ◌<◌, ◌≤◌, ◌↔◌, ◌⊎◌, Bool, List, [], ◌∷◌, ◌++◌, length, drop, slice_index, Result, IsTrue, OnOk, OnErr, IfErr, IsErrOf}
+use Rattle.std.specs.List.{flat_map, range_with_len, sum}
 use Rattle.std.specs.List.Sorted.{IsStrictlyIncreasing}
+use Rattle.ii_base.specs.declared.schema.index_record_option.IndexRecordOption.{IndexRecordOption}
+use Rattle.ii_base.specs.Options.{has_freq, has_positions}
 use Rattle.ii_io.specs.Vints.{vint_u64}
-use Rattle.ii_layout.specs.Written.{last_before, entry_bytes, block_bytes}
+use Rattle.ii_io.specs.declared.faults.Fault.{Fault}
+use Rattle.ii_io.specs.declared.faults.Fault.TheVariants.{OutOfMemory, Limit}
+use Rattle.ii_io.specs.declared.faults.LimitName.TheVariants.{BlockFrequencySum}
+use Rattle.ii_layout.specs.Written.{last_before, entry_of_block, freq_part, packed_freqs, entry_bytes, block_bytes, written_postings}
+use Rattle.ii_codes.specs.Blocks.{sorted_bytes}
 
--- The documents written so far, and whether an earlier call was refused.
+-- What the field records, as which option the entries of the open term stand, its documents and their counts so far, and whether an earlier call was refused.
 pub record PostingsSerializerState : Type 0 where
+  pub mode : IndexRecordOption
+  pub skip_info : IndexRecordOption
   pub docs : List ℕ
+  pub freqs : List ℕ
   pub closed : Bool
 
--- The documents are whole blocks: the last one, their skip entries and their bytes are kept.
-pub record ArePacked (docs : List ℕ) (last : ℕ) (skip postings : List ℕ) : Type 0 where
-  pub whole : length docs % 128 ≡ 0
-  pub last_is : last ≡ last_before docs (length docs / 128)
-  pub skip_is : skip ≡ flat_map (entry_bytes docs) (range_with_len 0 (length docs / 128))
-  pub postings_is : postings ≡ flat_map (block_bytes docs) (range_with_len 0 (length docs / 128))
+-- The last document fills a block whose counts sum up above 32 bits, where their sum is kept.
+pub record IsSumTooLarge (skip_info : IndexRecordOption) (freqs : List ℕ) : Type 0 where
+  pub kept : IsTrue (has_positions skip_info)
+  pub whole : length freqs % 128 ≡ 0
+  pub large : 2 ^ 32 ≤ sum (drop (length freqs - 128) freqs)
 
--- A block that may be packed after a last document, which is 0 where there is none.
+-- Documents and their counts.
+pub record CountedDocs : Type 0 where
+  pub docs : List ℕ
+  pub freqs : List ℕ
+
+abbrev pub no_docs : CountedDocs
+no_docs = record { docs = []; freqs = [] }
+
+abbrev pub one_doc : ℕ → ℕ → CountedDocs
+one_doc doc term_freq = record { docs = doc ∷ []; freqs = term_freq ∷ [] }
+
+abbrev pub joined : CountedDocs → CountedDocs → CountedDocs
+joined a b = record { docs = a.docs ++ b.docs; freqs = a.freqs ++ b.freqs }
+
+-- what is written of them
+abbrev pub written_of : IndexRecordOption → CountedDocs → List ℕ
+written_of skip_info term = written_postings skip_info term.docs term.freqs
+
+-- As which option the entries of the packed blocks stand, the documents of the blocks, and whether memory was refused.
+pub record PackedBlocksState : Type 0 where
+  pub skip_info : IndexRecordOption
+  pub term : CountedDocs
+  pub closed : Bool
+
+-- What is kept of full blocks: the last document, which is 0 where there is none, the skip entries and the bytes.
+pub record KeptBlocks : Type 0 where
+  pub last_doc : ℕ
+  pub skip : List ℕ
+  pub postings : List ℕ
+
+abbrev pub kept_of : IndexRecordOption → CountedDocs → KeptBlocks
+kept_of skip_info term =
+    let blocks = length term.docs / 128 in
+    record {
+      last_doc = last_before term.docs blocks;
+      skip = flat_map (entry_bytes skip_info term.docs term.freqs) (range_with_len 0 blocks);
+      postings = flat_map (block_bytes skip_info term.docs term.freqs) (range_with_len 0 blocks);
+    }
+
+-- and with a block more
+abbrev pub kept_more : IndexRecordOption → KeptBlocks → CountedDocs → KeptBlocks
+kept_more skip_info kept block =
+    record {
+      last_doc = slice_index block.docs 127;
+      skip = kept.skip ++ (entry_of_block kept.last_doc block.docs ++ freq_part skip_info block.freqs);
+      postings = kept.postings ++ (sorted_bytes kept.last_doc block.docs ++ packed_freqs skip_info block.freqs);
+    }
+
+-- The documents are whole blocks, each with a count.
+pub record AreWhole (term : CountedDocs) : Type 0 where
+  pub whole : length term.docs % 128 ≡ 0
+  pub even : length term.freqs ≡ length term.docs
+
+-- The documents are whole blocks, of which this is kept.
+pub record ArePacked (skip_info : IndexRecordOption) (term : CountedDocs) (kept : KeptBlocks) : Type 0 where
+  pub whole : AreWhole term
+  pub kept_is : kept ≡ kept_of skip_info term
+
+-- Where the option has counts, none of them is 0.
+abbrev pub ArePositive : IndexRecordOption → List ℕ → Type 0
+ArePositive skip_info freqs = IsTrue (has_freq skip_info) → (k : ℕ) → k < length freqs → 0 < slice_index freqs k
+
+-- A block that is not full yet.
+pub record IsOpenBlock (skip_info : IndexRecordOption) (block : CountedDocs) : Type 0 where
+  pub few : length block.docs < 128
+  pub even : length block.freqs ≡ length block.docs
+  pub positive : ArePositive skip_info block.freqs
+
+-- The documents of a block that may be packed after a last document, which is 0 where there is none.
 pub record IsFullBlock (last : ℕ) (block : List ℕ) : Type 0 where
   pub many : length block ≡ 128
   pub ascending : IsStrictlyIncreasing block
   pub after : 0 < last → last < slice_index block 0
   pub low : (k : ℕ) → k < 128 → slice_index block k < 2 ^ 31
 
+-- The counts of a block that may be packed.
+pub record AreBlockFreqs (skip_info : IndexRecordOption) (freqs : List ℕ) : Type 0 where
+  pub many : length freqs ≡ 128
+  pub positive : ArePositive skip_info freqs
+  pub small : IsTrue (has_positions skip_info) → sum freqs < 2 ^ 32
+
 -- the number of bytes, and the bytes; nothing where there are none
 abbrev pub sized : List ℕ → List ℕ
 sized [] = []
 sized (b ∷ bs) = vint_u64 (length (b ∷ bs)) ++ b ∷ bs
+
+-- How a call ends that adds documents: where memory is refused or the sum of a block's counts is too large, none is left.
+pub record AddsDocs (skip_info : IndexRecordOption) (old new added : CountedDocs) (result : Result (Unit {0}) Fault) : Type 0 where
+  pub ok : OnOk result (new ≡ joined old added)
+  pub err : OnErr result (new ≡ no_docs)
+  pub limit : IsErrOf result (Limit BlockFrequencySum) ↔ IsSumTooLarge skip_info (old.freqs ++ added.freqs)
+  pub only : IfErr result (λ e. (e ≡ OutOfMemory) ⊎ (e ≡ Limit BlockFrequencySum))

@@ -4,12 +4,16 @@ use Rattle.ii_base.specs.declared.schema.index_record_option.IndexRecordOption.{
 use Rattle.ii_docset.specs.declared.docset.TheConstants.{TERMINATED}
 use Rattle.ii_layout.specs.declared.skip.BlockInfo.{BlockInfo}
 use Rattle.ii_layout.specs.declared.skip.BlockInfo.TheVariants.{BitPacked, VInt}
-use Rattle.ii_layout.specs.SkipList.{SkipEntry, SkipList, block_place}
+use Rattle.ii_layout.specs.SkipList.{SkipEntry, block_place}
 use Rattle.ii_layout.specs.Documents.{entry_of, last_doc_before}
 
 -- the count that a byte of a bound codes: the largest byte is any count
 abbrev pub max_tf_of_code : ℕ → ℕ
 max_tf_of_code code = if code == 255 then 2 ^ 32 - 1 else code
+
+-- the byte that codes a count
+abbrev pub code_of_max_tf : ℕ → ℕ
+code_of_max_tf max_tf = min max_tf 255
 
 -- what an entry tells of its block
 abbrev pub block_info_of : SkipEntry → BlockInfo

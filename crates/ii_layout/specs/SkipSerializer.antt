@@ -1,6 +1,15 @@
 -- What a serializer of skip entries has: their bytes, and whether an earlier call was refused.
-use Rattle.std.specs.Prelude.{ℕ, Bool, List}
+use Rattle.std.specs.Prelude.{◌≡◌, ℕ, ◌++◌, ◌↔◌, ◌⊎◌, Bool, false, true, List, Result, IsTrue, OnOk, OnErr, IfErr, IsErrOf}
+use Rattle.ii_io.specs.declared.faults.Fault.{Fault}
+use Rattle.ii_io.specs.declared.faults.Fault.TheVariants.{OutOfMemory, SerializerClosed}
 
 pub record SkipSerializerState : Type 0 where
   pub bytes : List ℕ
   pub closed : Bool
+
+-- How a call ends that adds these bytes: where memory is refused none is added, and every later call is refused.
+pub record Adds (old new : SkipSerializerState) (bytes : List ℕ) (result : Result (Unit {0}) Fault) : Type 0 where
+  pub ok : OnOk result (new ≡ record { bytes = old.bytes ++ bytes; closed = false })
+  pub err : OnErr result (new ≡ record old { closed = true })
+  pub closed : IsErrOf result SerializerClosed ↔ IsTrue old.closed
+  pub only : IfErr result (λ e. (e ≡ OutOfMemory) ⊎ (e ≡ SerializerClosed))

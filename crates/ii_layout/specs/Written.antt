@@ -1,13 +1,17 @@
--- The bytes that are written for the documents of a term.
-use Rattle.std.specs.Prelude.{◌≡◌, ℕ, zero, suc, ◌+◌, ◌*◌, ◌/◌, ◌^◌, ◌<◌, List, [], ◌∷◌, ◌++◌, take, drop, length, slice_index, IsTrue, Ok, map}
-use Rattle.std.specs.List.{flat_map, range_with_len}
-use Rattle.ii_base.specs.declared.schema.index_record_option.IndexRecordOption.TheVariants.{Basic}
+-- The bytes that are written for a term: its documents, and its counts where the option of its entries has them.
+use Rattle.std.specs.Prelude.{◌≡◌, ℕ, zero, suc, ◌+◌, ◌*◌, ◌/◌, ◌^◌, ◌<◌, ◌≤◌, true, ◌&&◌, if◌then◌else◌, List, [], ◌∷◌, ◌++◌, take, drop, length, slice_index, IsTrue, Option, Some, None, Ok, map}
+use Rattle.std.specs.List.{flat_map, range_with_len, sum}
+use Rattle.ii_base.specs.declared.schema.index_record_option.IndexRecordOption.{IndexRecordOption}
+use Rattle.ii_base.specs.declared.schema.index_record_option.IndexRecordOption.TheVariants.{Basic, WithFreqs, WithFreqsAndPositions}
+use Rattle.ii_base.specs.Options.{has_freq, has_positions}
 use Rattle.ii_io.specs.Numbers.{le_bytes}
 use Rattle.ii_io.specs.Vints.{vint_u64}
-use Rattle.ii_codes.specs.Blocks.{sorted_width, sorted_bytes}
+use Rattle.ii_codes.specs.Blocks.{sorted_width, sorted_bytes, unsorted_width, unsorted_bytes}
 use Rattle.ii_codes.specs.SortedVints.{sorted_vints}
+use Rattle.ii_codes.specs.UnsortedVints.{unsorted_vints}
 use Rattle.ii_docset.specs.Entries.{document, are_documents}
-use Rattle.ii_layout.specs.Postings.{posting_list}
+use Rattle.ii_layout.specs.SkipList.{entry_size}
+use Rattle.ii_layout.specs.Postings.{entries_of, posting_list}
 
 -- the documents of block i, or their counts
 abbrev pub block_of : List ℕ → ℕ → List ℕ
@@ -22,28 +26,77 @@ last_before docs (suc i) = slice_index docs (128 * i + 127)
 abbrev pub code_of_width : ℕ → ℕ
 code_of_width width = 64 + width
 
--- the skip entry of a block after a last document
+-- what a skip entry has of the documents of a block after a last document
 abbrev pub entry_of_block : ℕ → List ℕ → List ℕ
 entry_of_block last block = le_bytes 4 (slice_index block 127) ++ code_of_width (sorted_width last block) ∷ []
 
--- the skip entry of block i
-abbrev pub entry_bytes : List ℕ → ℕ → List ℕ
-entry_bytes docs i = entry_of_block (last_before docs i) (block_of docs i)
+-- what it has beside them by the option: the width of the counts, their sum, and a bound's two bytes
+abbrev pub freq_part : IndexRecordOption → List ℕ → List ℕ
+freq_part Basic freqs = []
+freq_part WithFreqs freqs = unsorted_width true freqs ∷ 0 ∷ 0 ∷ []
+freq_part WithFreqsAndPositions freqs = unsorted_width true freqs ∷ (le_bytes 4 (sum freqs) ++ 0 ∷ 0 ∷ [])
 
-abbrev pub block_bytes : List ℕ → ℕ → List ℕ
-block_bytes docs i = sorted_bytes (last_before docs i) (block_of docs i)
+-- the counts of a full block, where the option has them
+abbrev pub packed_freqs : IndexRecordOption → List ℕ → List ℕ
+packed_freqs skip_info freqs = if has_freq skip_info then unsorted_bytes true freqs else []
+
+-- the counts of the documents after the full blocks
+abbrev pub rest_freqs : IndexRecordOption → List ℕ → List ℕ
+rest_freqs skip_info freqs = if has_freq skip_info then unsorted_vints freqs else []
+
+-- the documents after the full blocks, and their counts
+abbrev pub rest_bytes : IndexRecordOption → ℕ → List ℕ → List ℕ → List ℕ
+rest_bytes skip_info last docs freqs = sorted_vints last docs ++ rest_freqs skip_info freqs
+
+-- the skip entry of block i
+abbrev pub entry_bytes : IndexRecordOption → List ℕ → List ℕ → ℕ → List ℕ
+entry_bytes skip_info docs freqs i = entry_of_block (last_before docs i) (block_of docs i) ++ freq_part skip_info (block_of freqs i)
+
+-- the bytes of block i: its documents, and then its counts
+abbrev pub block_bytes : IndexRecordOption → List ℕ → List ℕ → ℕ → List ℕ
+block_bytes skip_info docs freqs i = sorted_bytes (last_before docs i) (block_of docs i) ++ packed_freqs skip_info (block_of freqs i)
 
 -- the skip list of so many blocks: the number of its bytes, and its entries
-abbrev pub skip_bytes : List ℕ → ℕ → List ℕ
-skip_bytes docs zero = []
-skip_bytes docs (suc more) = vint_u64 (5 * suc more) ++ flat_map (entry_bytes docs) (range_with_len 0 (suc more))
+abbrev pub skip_bytes : IndexRecordOption → List ℕ → List ℕ → ℕ → List ℕ
+skip_bytes skip_info docs freqs zero = []
+skip_bytes skip_info docs freqs (suc more) = vint_u64 (entry_size skip_info * suc more) ++ flat_map (entry_bytes skip_info docs freqs) (range_with_len 0 (suc more))
 
--- the one written form of documents: the skip list, the full blocks in their least widths, and the documents after them in the shortest vints
-abbrev pub written_documents : List ℕ → List ℕ
-written_documents docs =
+-- the one written form of a term: the skip list, the full blocks in their least widths, the documents after them in the shortest vints, and the counts of those
+abbrev pub written_postings : IndexRecordOption → List ℕ → List ℕ → List ℕ
+written_postings skip_info docs freqs =
     let blocks = length docs / 128 in
-    skip_bytes docs blocks ++ flat_map (block_bytes docs) (range_with_len 0 blocks) ++ sorted_vints (last_before docs blocks) (drop (128 * blocks) docs)
+    skip_bytes skip_info docs freqs blocks
+    ++ flat_map (block_bytes skip_info docs freqs) (range_with_len 0 blocks)
+    ++ rest_bytes skip_info (last_before docs blocks) (drop (128 * blocks) docs) (drop (128 * blocks) freqs)
 
--- What is written gives its list, whatever follows.
+-- a term without counts
+abbrev pub written_documents : List ℕ → List ℕ
+written_documents docs = written_postings Basic docs []
+
+-- Counts that may be written: as many as documents, each from 1 on and of 32 bits, and of each full block with a sum of 32 bits where that is kept.
+pub record AreFreqs (recorded : IndexRecordOption) (docs freqs : List ℕ) : Type 0 where
+  pub many : length freqs ≡ length docs
+  pub some : (k : ℕ) → k < length freqs → 0 < slice_index freqs k
+  pub fit : (k : ℕ) → k < length freqs → slice_index freqs k < 2 ^ 32
+  pub sums : IsTrue (has_positions recorded) → (i : ℕ) → 128 * i + 128 ≤ length freqs → sum (block_of freqs i) < 2 ^ 32
+
+-- the counts where they are recorded and requested
+abbrev pub freqs_read : IndexRecordOption → IndexRecordOption → List ℕ → Option (List ℕ)
+freqs_read recorded requested freqs = if has_freq requested && has_freq recorded then Some freqs else None
+
+-- What is written gives its list for each option that is requested, whatever follows.
+abbrev pub ReadsPostingsBack : Type 0
+ReadsPostingsBack =
+    (recorded requested : IndexRecordOption) (docs freqs rest : List ℕ) → IsTrue (are_documents docs) → length docs < 2 ^ 32
+    → (IsTrue (has_freq recorded) → AreFreqs recorded docs freqs)
+    → posting_list recorded requested (length docs) (written_postings recorded docs freqs ++ rest) ≡ Ok (entries_of docs (freqs_read recorded requested freqs))
+
+-- So does a term that is written without counts, whatever its field records, where nothing follows.
+abbrev pub ReadsUncountedBack : Type 0
+ReadsUncountedBack =
+    (recorded requested : IndexRecordOption) (docs freqs : List ℕ) → IsTrue (are_documents docs) → length docs < 2 ^ 32
+    → posting_list recorded requested (length docs) (written_postings Basic docs freqs) ≡ Ok (map document docs)
+
+-- And documents alone, whatever follows.
 abbrev pub ReadsDocumentsBack : Type 0
 ReadsDocumentsBack = (docs rest : List ℕ) → IsTrue (are_documents docs) → length docs < 2 ^ 32 → posting_list Basic Basic (length docs) (written_documents docs ++ rest) ≡ Ok (map document docs)

@@ -1,22 +1,26 @@
-ghost use Rattle.std.specs.Prelude.{◌≡◌, ◌+◌, ◌<◌, ◌≤◌, ◌==◌, [], ◌∷◌, ◌++◌, length, slice_index};
+ghost use Rattle.std.specs.Prelude.{◌≡◌, ◌<◌, ◌≤◌, ◌==◌, length, slice_index};
+ghost use Rattle.std.specs.List.{sum};
+ghost use Rattle.ii_layout.specs.PostingsSerializer.{no_docs, one_doc, joined};
 
 use ii_codes::COMPRESSION_BLOCK_SIZE;
 use ii_docset::DocId;
 use std::marker::Model;
 
-/// At most 128 documents.
+/// At most 128 documents with their counts.
 #[derive(Drop)]
 pub(crate) struct Block {
     doc_ids: [DocId; COMPRESSION_BLOCK_SIZE],
+    term_freqs: [u32; COMPRESSION_BLOCK_SIZE],
     len: usize,
 }
 
 impl Model for Block {
-    ghost use Rattle.std.specs.Prelude.{List, ℕ, take, ◌≤◌};
+    ghost use Rattle.std.specs.Prelude.{take, ◌≤◌};
+    ghost use Rattle.ii_layout.specs.PostingsSerializer.{CountedDocs};
 
-    ghost Value = { List ℕ };
+    ghost Value = { CountedDocs };
 
-    ghost view = { λ b. take b.len b.doc_ids };
+    ghost view = { λ b. record { docs = take b.len b.doc_ids; freqs = take b.len b.term_freqs } };
 
     ghost invariant = { λ b. b.len ≤ 128 };
 }
@@ -24,49 +28,69 @@ impl Model for Block {
 impl Block {
     /// A block of no documents.
     pub(crate) fn new() -> Block
-        ensures { result ≡ [] }
+        ensures { result ≡ no_docs }
     {
         Block {
             doc_ids: [0; COMPRESSION_BLOCK_SIZE],
+            term_freqs: [0; COMPRESSION_BLOCK_SIZE],
             len: 0,
         }
     }
 
     /// The documents.
     pub(crate) fn doc_ids(&self) -> &[DocId]
-        ensures { result.now ≡ self.now }
+        ensures { result.now ≡ self.now.docs }
     {
         &self.doc_ids[..self.len]
     }
 
+    /// The counts of the documents.
+    pub(crate) fn term_freqs(&self) -> &[u32]
+        ensures { result.now ≡ self.now.freqs }
+    {
+        &self.term_freqs[..self.len]
+    }
+
+    /// The sum of the counts.
+    pub(crate) fn term_freq_sum(&self) -> u64
+        ensures { result ≡ sum self.now.freqs }
+    {
+        let mut total = 0;
+        for i in 0..self.len {
+            total += u64::from(self.term_freqs[i]);
+        }
+        total
+    }
+
     /// The last of 128 documents.
     pub(crate) fn last_doc(&self) -> DocId
-        requires { length self.now ≡ 128 }
-        ensures { result ≡ slice_index self.now 127 }
+        requires { length self.now.docs ≡ 128 }
+        ensures { result ≡ slice_index self.now.docs 127 }
     {
         self.doc_ids[COMPRESSION_BLOCK_SIZE - 1]
     }
 
     /// Whether there are 128 documents.
     pub(crate) fn is_full(&self) -> bool
-        ensures full { result ≡ (length self.now == 128) }
-        ensures few { length self.now ≤ 128 }
+        ensures full { result ≡ (length self.now.docs == 128) }
+        ensures few { length self.now.docs ≤ 128 }
     {
         self.len == COMPRESSION_BLOCK_SIZE
     }
 
-    /// Adds a document to fewer than 128.
-    pub(crate) fn append_doc(&mut self, doc_id: DocId)
-        requires { length self.old < 128 }
-        ensures { self.new ≡ self.old ++ doc_id ∷ [] }
+    /// Adds a document with its count to fewer than 128.
+    pub(crate) fn append_doc(&mut self, doc_id: DocId, term_freq: u32)
+        requires { length self.old.docs < 128 }
+        ensures { self.new ≡ joined self.old (one_doc doc_id term_freq) }
     {
         self.doc_ids[self.len] = doc_id;
+        self.term_freqs[self.len] = term_freq;
         self.len += 1;
     }
 
     /// Drops all documents.
     pub(crate) fn clear(&mut self)
-        ensures { self.new ≡ [] }
+        ensures { self.new ≡ no_docs }
     {
         self.len = 0;
     }

@@ -1,13 +1,15 @@
-ghost use Rattle.std.specs.Prelude.{◌≡◌, List, ℕ, [], ◌++◌};
+ghost use Rattle.std.specs.Prelude.{◌≡◌};
 ghost use Rattle.std.specs.Borrow.{ftrue};
+ghost use Rattle.ii_layout.specs.PostingsSerializer.{CountedDocs, no_docs, joined};
 
 use super::block::Block;
 use std::marker::Model;
 
-/// A list of documents, for contracts alone: it takes no bytes, and no code can read it.
+/// A list of documents with their counts, for contracts alone: it takes no bytes, and no code can
+/// read it.
 #[derive(Drop)]
 pub(crate) struct DocList {
-    pub ghost items: { List ℕ },
+    pub ghost term: { CountedDocs },
 }
 
 impl Model for DocList {
@@ -17,14 +19,14 @@ impl Model for DocList {
 impl DocList {
     /// The empty list.
     pub(crate) fn new() -> DocList
-        ensures { result.items ≡ [] }
+        ensures { result.term ≡ no_docs }
     {
         DocList {}
     }
 
     /// The list with the documents of a block after it.
     pub(crate) fn and(&self, _block: &Block) -> DocList
-        ensures { result.items ≡ self.now.items ++ _block.now }
+        ensures { result.term ≡ joined self.now.term _block.now }
     {
         DocList {}
     }

@@ -1,15 +1,18 @@
-ghost use Rattle.std.specs.Prelude.{◌≡◌, ◌<◌, ◌↔◌, ◌⊎◌, [], ◌∷◌, ◌++◌, length, false, true, IsTrue, OnOk, OnErr, IfErr, IsErrOf};
+ghost use Rattle.std.specs.Prelude.{◌≡◌, ◌-◌, ◌^◌, ◌<◌, ◌↔◌, ◌⊎◌, ◌&&◌, if◌then◌else◌, [], ◌∷◌, ◌++◌, length, nat_lt, false, true, IsTrue, OnOk, OnErr, IfErr, IsErrOf};
+ghost use Rattle.std.specs.List.{sum};
 ghost use Rattle.ii_base.specs.declared.schema.index_record_option.IndexRecordOption.TheVariants.{Basic};
+ghost use Rattle.ii_base.specs.Options.{has_freq, has_positions};
 ghost use Rattle.ii_io.specs.CountingWriter.{Writes, WritesUnlessClosed, IsFull};
-ghost use Rattle.ii_codes.specs.Blocks.{sorted_bytes};
+ghost use Rattle.ii_codes.specs.Blocks.{sorted_bytes, unsorted_width};
+ghost use Rattle.ii_codes.specs.Sums.{DoNotFall};
 ghost use Rattle.ii_docset.specs.Entries.{are_documents};
-ghost use Rattle.ii_layout.specs.PostingsSerializer.{IsFullBlock, sized};
-ghost use Rattle.ii_layout.specs.Written.{entry_of_block, written_documents};
+ghost use Rattle.ii_layout.specs.PostingsSerializer.{AreWhole, AreBlockFreqs, IsFullBlock, IsOpenBlock, IsSumTooLarge, AddsDocs, no_docs, one_doc, joined, sized, written_of};
+ghost use Rattle.ii_layout.specs.Written.{entry_of_block, freq_part, packed_freqs, rest_bytes, written_postings};
 
 use super::block::Block;
 use super::doc_list::DocList;
 use super::skip::SkipSerializer;
-use ii_base::{CountingWriter, Fault, IndexRecordOption};
+use ii_base::{CountingWriter, Fault, IndexRecordOption, LimitName};
 use ii_codes::{BlockEncoder, VIntEncoder};
 use ii_docset::DocId;
 use ii_fieldnorm::FieldNormReader;
@@ -22,6 +25,7 @@ use std::marker::Model;
 #[derive(Drop)]
 struct PackedBlocks {
     block_encoder: BlockEncoder,
+    skip_info: IndexRecordOption,
     skip_write: SkipSerializer,
     postings_write: Vec<u8>,
     last_doc_id_encoded: DocId,
@@ -29,21 +33,22 @@ struct PackedBlocks {
 }
 
 impl Model for PackedBlocks {
-    ghost use Rattle.ii_layout.specs.PostingsSerializer.{ArePacked, PostingsSerializerState};
+    ghost use Rattle.ii_layout.specs.PostingsSerializer.{ArePacked, PackedBlocksState};
 
-    ghost Value = { PostingsSerializerState };
+    ghost Value = { PackedBlocksState };
 
-    ghost view = { λ b. record { docs = b.docs.items; closed = b.skip_write.closed } };
+    ghost view = { λ b. record { skip_info = b.skip_info; term = b.docs.term; closed = b.skip_write.closed } };
 
-    ghost invariant = { λ b. ArePacked b.docs.items b.last_doc_id_encoded b.skip_write.bytes b.postings_write.items };
+    ghost invariant = { λ b. ArePacked b.skip_info b.docs.term (record { last_doc = b.last_doc_id_encoded; skip = b.skip_write.bytes; postings = b.postings_write.items }) };
 }
 
 impl PackedBlocks {
-    fn new(alloc: Global) -> PackedBlocks
-        ensures { result ≡ record { docs = []; closed = false } }
+    fn new(alloc: Global, skip_info: IndexRecordOption) -> PackedBlocks
+        ensures { result ≡ record { skip_info = skip_info; term = no_docs; closed = false } }
     {
         PackedBlocks {
             block_encoder: BlockEncoder::new(),
+            skip_info,
             skip_write: SkipSerializer::new(alloc),
             postings_write: Vec::new(alloc),
             last_doc_id_encoded: 0,
@@ -51,25 +56,38 @@ impl PackedBlocks {
         }
     }
 
-    fn clear(&mut self)
-        ensures { self.new ≡ record self.old { docs = [] } }
+    // Drops all blocks, before a term whose entries stand as an option.
+    fn begin(&mut self, skip_info: IndexRecordOption)
+        ensures { self.new ≡ record { skip_info = skip_info; term = no_docs; closed = self.old.closed } }
     {
+        self.skip_info = skip_info;
         self.skip_write.clear();
         self.postings_write.clear();
         self.last_doc_id_encoded = 0;
         self.docs = DocList::new();
     }
 
+    // As which option the entries stand.
+    fn skip_info(&self) -> IndexRecordOption
+        ensures skip_info { result ≡ self.now.skip_info }
+        ensures whole { AreWhole self.now.term }
+    {
+        self.skip_info
+    }
+
     // Packs a full block after the others. Where memory is refused no block is left.
     fn push(&mut self, block: &Block) -> Result<(), Fault>
-        requires full { length block.now ≡ 128 }
-        requires ascending { IsTrue (are_documents (self.old.docs ++ block.now)) }
+        requires full { length block.now.docs ≡ 128 }
+        requires freqs { AreBlockFreqs self.old.skip_info block.now.freqs }
+        requires ascending { IsTrue (are_documents (self.old.term.docs ++ block.now.docs)) }
         requires open { self.old.closed ≡ false }
-        ensures ok { OnOk result (self.new ≡ record { docs = self.old.docs ++ block.now; closed = false }) }
-        ensures err { OnErr result (self.new.docs ≡ []) }
+        ensures same { self.new.skip_info ≡ self.old.skip_info }
+        ensures ok { OnOk result (self.new ≡ record self.old { term = joined self.old.term block.now }) }
+        ensures err { OnErr result (self.new.term ≡ no_docs) }
         ensures only { IfErr result (λ e. e ≡ Fault.OutOfMemory) }
     {
         let packed = write_block(
+            self.skip_info,
             block,
             self.last_doc_id_encoded,
             &mut self.block_encoder,
@@ -98,11 +116,11 @@ impl PackedBlocks {
         rest: &Block,
         output_write: &mut CountingWriter<W>,
     ) -> Result<(), Fault>
-        requires few { length rest.now < 128 }
-        requires ascending { IsTrue (are_documents (self.old.docs ++ rest.now)) }
+        requires rest { IsOpenBlock self.old.skip_info rest.now }
+        requires ascending { IsTrue (are_documents (self.old.term.docs ++ rest.now.docs)) }
         ensures same { self.new ≡ self.old }
-        ensures written { Writes output_write.old output_write.new (written_documents (self.old.docs ++ rest.now)) result }
-        ensures fits { OnOk result (¬ IsFull output_write.old (length (written_documents (self.old.docs ++ rest.now)))) }
+        ensures written { Writes output_write.old output_write.new (written_of self.old.skip_info (joined self.old.term rest.now)) result }
+        ensures fits { OnOk result (¬ IsFull output_write.old (length (written_of self.old.skip_info (joined self.old.term rest.now)))) }
     {
         let skip_list = write_skip_list(self.skip_write.data(), output_write);
         if skip_list.is_err() {
@@ -112,31 +130,109 @@ impl PackedBlocks {
         if blocks.is_err() {
             return blocks;
         }
-        let bytes = self
-            .block_encoder
-            .compress_vint_sorted(rest.doc_ids(), self.last_doc_id_encoded);
-        output_write.write_all(bytes)
+        write_rest(
+            self.skip_info,
+            rest,
+            self.last_doc_id_encoded,
+            &mut self.block_encoder,
+            output_write,
+        )
     }
 }
 
 // Packs a full block, and adds its skip entry.
 fn write_block(
+    skip_info: IndexRecordOption,
     block: &Block,
     last_doc: DocId,
     block_encoder: &mut BlockEncoder,
     skip_write: &mut SkipSerializer,
     postings_write: &mut Vec<u8>,
 ) -> Result<(), Fault>
-    requires block { IsFullBlock last_doc block.now }
+    requires docs { IsFullBlock last_doc block.now.docs }
+    requires freqs { AreBlockFreqs skip_info block.now.freqs }
     requires open { skip_write.old.closed ≡ false }
-    ensures skip { OnOk result (skip_write.new ≡ record { bytes = skip_write.old.bytes ++ entry_of_block last_doc block.now; closed = false }) }
-    ensures postings { OnOk result (postings_write.new.items ≡ postings_write.old.items ++ sorted_bytes last_doc block.now) }
+    ensures skip { OnOk result (skip_write.new ≡ record {
+      bytes = skip_write.old.bytes ++ (entry_of_block last_doc block.now.docs ++ freq_part skip_info block.now.freqs);
+      closed = false;
+    }) }
+    ensures postings { OnOk result (postings_write.new.items
+        ≡ postings_write.old.items ++ (sorted_bytes last_doc block.now.docs ++ packed_freqs skip_info block.now.freqs)) }
+    ensures only { IfErr result (λ e. e ≡ Fault.OutOfMemory) }
+{
+    write_block_docs(block, last_doc, block_encoder, skip_write, postings_write)?;
+    write_block_freqs(skip_info, block, block_encoder, skip_write, postings_write)
+}
+
+// Packs the documents of a full block, and adds what its skip entry has of them.
+fn write_block_docs(
+    block: &Block,
+    last_doc: DocId,
+    block_encoder: &mut BlockEncoder,
+    skip_write: &mut SkipSerializer,
+    postings_write: &mut Vec<u8>,
+) -> Result<(), Fault>
+    requires docs { IsFullBlock last_doc block.now.docs }
+    requires open { skip_write.old.closed ≡ false }
+    ensures skip { OnOk result (skip_write.new ≡ record { bytes = skip_write.old.bytes ++ entry_of_block last_doc block.now.docs; closed = false }) }
+    ensures postings { OnOk result (postings_write.new.items ≡ postings_write.old.items ++ sorted_bytes last_doc block.now.docs) }
     ensures only { IfErr result (λ e. e ≡ Fault.OutOfMemory) }
 {
     let (num_bits, bytes) = block_encoder.compress_block_sorted(block.doc_ids(), last_doc);
     skip_write.write_doc(block.last_doc(), num_bits)?;
     postings_write.extend_from_slice(bytes)?;
     Ok(())
+}
+
+// Packs the counts of a full block, and adds what its skip entry has of them, where there are any.
+fn write_block_freqs(
+    skip_info: IndexRecordOption,
+    block: &Block,
+    block_encoder: &mut BlockEncoder,
+    skip_write: &mut SkipSerializer,
+    postings_write: &mut Vec<u8>,
+) -> Result<(), Fault>
+    requires freqs { AreBlockFreqs skip_info block.now.freqs }
+    requires open { skip_write.old.closed ≡ false }
+    ensures skip { OnOk result (skip_write.new ≡ record { bytes = skip_write.old.bytes ++ freq_part skip_info block.now.freqs; closed = false }) }
+    ensures postings { OnOk result (postings_write.new.items ≡ postings_write.old.items ++ packed_freqs skip_info block.now.freqs) }
+    ensures only { IfErr result (λ e. e ≡ Fault.OutOfMemory) }
+{
+    if !skip_info.has_freq() {
+        return Ok(());
+    }
+    let (num_bits, bytes) = block_encoder.compress_block_unsorted(block.term_freqs(), true);
+    write_freq_part(skip_info, num_bits, block, skip_write)?;
+    postings_write.extend_from_slice(bytes)?;
+    Ok(())
+}
+
+// Adds what a skip entry has beside the documents: the width of the counts, their sum, and a bound
+// that tells nothing.
+fn write_freq_part(
+    skip_info: IndexRecordOption,
+    tf_num_bits: u8,
+    block: &Block,
+    skip_write: &mut SkipSerializer,
+) -> Result<(), Fault>
+    requires width { tf_num_bits ≡ unsorted_width true block.now.freqs }
+    requires small { IsTrue (has_positions skip_info) → sum block.now.freqs < 2 ^ 32 }
+    requires open { skip_write.old.closed ≡ false }
+    ensures skip { OnOk result (skip_write.new ≡ record { bytes = skip_write.old.bytes ++ freq_part skip_info block.now.freqs; closed = false }) }
+    ensures only { IfErr result (λ e. e ≡ Fault.OutOfMemory) }
+{
+    match skip_info {
+        IndexRecordOption::Basic => Ok(()),
+        IndexRecordOption::WithFreqs => {
+            skip_write.write_term_freq(tf_num_bits)?;
+            skip_write.write_blockwand_max(0, 0)
+        }
+        IndexRecordOption::WithFreqsAndPositions => {
+            skip_write.write_term_freq(tf_num_bits)?;
+            skip_write.write_total_term_freq(block.term_freq_sum() as u32)?;
+            skip_write.write_blockwand_max(0, 0)
+        }
+    }
 }
 
 // Writes the number of bytes of a skip list and these bytes, or nothing where there is no entry.
@@ -158,21 +254,67 @@ fn write_skip_list<W: Write>(
     output_write.write_all(skip_data)
 }
 
-// Adds a document to the open block, and packs that once it is full. Where memory is refused no
-// document is left.
-fn append_doc(blocks: &mut PackedBlocks, block: &mut Block, doc_id: DocId) -> Result<(), Fault>
-    requires few { length block.old < 128 }
-    requires ascending { IsTrue (are_documents (blocks.old.docs ++ block.old ++ doc_id ∷ [])) }
-    requires open { blocks.old.closed ≡ false }
-    ensures few { length block.new < 128 }
-    ensures ok { OnOk result (blocks.new.docs ++ block.new ≡ blocks.old.docs ++ block.old ++ doc_id ∷ []) }
-    ensures stays { OnOk result (blocks.new.closed ≡ false) }
-    ensures err { OnErr result (blocks.new.docs ++ block.new ≡ []) }
-    ensures only { IfErr result (λ e. e ≡ Fault.OutOfMemory) }
+// Writes the documents after the full blocks, and their counts where there are any.
+fn write_rest<W: Write>(
+    skip_info: IndexRecordOption,
+    rest: &Block,
+    last_doc: DocId,
+    block_encoder: &mut BlockEncoder,
+    output_write: &mut CountingWriter<W>,
+) -> Result<(), Fault>
+    requires rest { IsOpenBlock skip_info rest.now }
+    requires sorted { DoNotFall last_doc rest.now.docs }
+    ensures written { Writes output_write.old output_write.new (rest_bytes skip_info last_doc rest.now.docs rest.now.freqs) result }
+    ensures fits { OnOk result (¬ IsFull output_write.old (length (rest_bytes skip_info last_doc rest.now.docs rest.now.freqs))) }
 {
-    block.append_doc(doc_id);
+    let bytes = block_encoder.compress_vint_sorted(rest.doc_ids(), last_doc);
+    let docs = output_write.write_all(bytes);
+    if docs.is_err() {
+        return docs;
+    }
+    if !skip_info.has_freq() {
+        return docs;
+    }
+    let bytes = block_encoder.compress_vint_unsorted(rest.term_freqs());
+    output_write.write_all(bytes)
+}
+
+// Whether the sum of a block's counts passes 32 bits where it is kept.
+fn is_sum_too_large(skip_info: IndexRecordOption, block: &Block) -> bool
+    ensures { result ≡ (has_positions skip_info && nat_lt (2 ^ 32 - 1) (sum block.now.freqs)) }
+{
+    if !skip_info.has_positions() {
+        return false;
+    }
+    block.term_freq_sum() > u64::from(u32::MAX)
+}
+
+// Adds a document to the open block, and packs that once it is full. Where that is refused no
+// document is left.
+fn append_doc(
+    blocks: &mut PackedBlocks,
+    block: &mut Block,
+    doc_id: DocId,
+    term_freq: u32,
+) -> Result<(), Fault>
+    requires block { IsOpenBlock blocks.old.skip_info block.old }
+    requires ascending { IsTrue (are_documents (blocks.old.term.docs ++ block.old.docs ++ doc_id ∷ [])) }
+    requires positive { IsTrue (has_freq blocks.old.skip_info) → 0 < term_freq }
+    requires open { blocks.old.closed ≡ false }
+    ensures block { IsOpenBlock blocks.old.skip_info block.new }
+    ensures same { blocks.new.skip_info ≡ blocks.old.skip_info }
+    ensures stays { OnOk result (blocks.new.closed ≡ false) }
+    ensures added { AddsDocs blocks.old.skip_info (joined blocks.old.term block.old) (joined blocks.new.term block.new) (one_doc doc_id term_freq) result }
+{
+    let skip_info = blocks.skip_info();
+    block.append_doc(doc_id, term_freq);
     if !block.is_full() {
         return Ok(());
+    }
+    if is_sum_too_large(skip_info, block) {
+        blocks.begin(skip_info);
+        block.clear();
+        return Err(Fault::Limit(LimitName::BlockFrequencySum));
     }
     let packed = blocks.push(block);
     block.clear();
@@ -192,14 +334,20 @@ pub struct PostingsSerializer {
 }
 
 impl Model for PostingsSerializer {
-    ghost use Rattle.std.specs.Prelude.{◌≡◌, [], ◌++◌, ◌<◌, false, length, IsTrue};
-    ghost use Rattle.ii_layout.specs.PostingsSerializer.{PostingsSerializerState};
+    ghost use Rattle.std.specs.Prelude.{◌≡◌, ◌++◌, false, IsTrue};
+    ghost use Rattle.ii_layout.specs.PostingsSerializer.{IsOpenBlock, PostingsSerializerState, joined, no_docs};
 
     ghost Value = { PostingsSerializerState };
 
-    ghost view = { λ s. record { docs = s.blocks.docs ++ s.block; closed = s.is_closed } };
+    ghost view = { λ s. record {
+      mode = s.mode;
+      skip_info = s.blocks.skip_info;
+      docs = s.blocks.term.docs ++ s.block.docs;
+      freqs = s.blocks.term.freqs ++ s.block.freqs;
+      closed = s.is_closed;
+    } };
 
-    ghost invariant = { λ s. (length s.block < 128) × (IsTrue s.is_closed → s.blocks.docs ++ s.block ≡ []) × (s.is_closed ≡ false → s.blocks.closed ≡ false) };
+    ghost invariant = { λ s. IsOpenBlock s.blocks.skip_info s.block × (IsTrue s.is_closed → joined s.blocks.term s.block ≡ no_docs) × (s.is_closed ≡ false → s.blocks.closed ≡ false) };
 }
 
 impl PostingsSerializer {
@@ -210,48 +358,58 @@ impl PostingsSerializer {
         mode: IndexRecordOption,
         fieldnorm_reader: Option<FieldNormReader>,
     ) -> PostingsSerializer
-        requires { mode ≡ Basic }
-        ensures { result ≡ record { docs = []; closed = false } }
+        ensures { result ≡ record { mode = mode; skip_info = mode; docs = []; freqs = []; closed = false } }
     {
         PostingsSerializer {
             mode,
             fieldnorm_reader,
-            blocks: PackedBlocks::new(alloc),
+            blocks: PackedBlocks::new(alloc, mode),
             block: Block::new(),
             is_closed: false,
         }
     }
 
-    /// Begins a term anew. Its documents are added by `write_doc`, and go out at `close_term`.
-    pub fn new_term(&mut self, _term_doc_freq: u32, _record_term_freq: bool)
-        ensures { self.new ≡ record { docs = []; closed = self.old.closed } }
+    /// Begins a term anew, as the field records it or, where `record_term_freq` is not set, without
+    /// counts. Its documents are added by `write_doc`, and go out at `close_term`.
+    pub fn new_term(&mut self, _term_doc_freq: u32, record_term_freq: bool)
+        ensures { self.new ≡ record self.old { skip_info = if record_term_freq then self.old.mode else Basic; docs = []; freqs = [] } }
     {
-        self.clear();
+        let skip_info = if record_term_freq {
+            self.mode
+        } else {
+            IndexRecordOption::Basic
+        };
+        self.begin(skip_info);
     }
 
-    // Drops the documents of the open term.
-    fn clear(&mut self)
-        ensures { self.new ≡ record { docs = []; closed = self.old.closed } }
+    // Drops the documents of the open term, before one whose entries stand as an option.
+    fn begin(&mut self, skip_info: IndexRecordOption)
+        ensures { self.new ≡ record self.old { skip_info = skip_info; docs = []; freqs = [] } }
     {
-        self.blocks.clear();
+        self.blocks.begin(skip_info);
         self.block.clear();
     }
 
-    /// Adds a document, above the ones before it and below `TERMINATED`.
+    /// Adds a document, above the ones before it and below `TERMINATED`, and how often the term
+    /// occurs there, which is at least once where the term has counts.
     ///
-    /// `OutOfMemory` where a growth was refused: the documents are then dropped. `SerializerClosed`
-    /// after an earlier refusal, whatever the document is.
-    pub fn write_doc(&mut self, doc_id: DocId, _term_freq: u32) -> Result<(), Fault>
-        requires { self.old.closed ≡ false → IsTrue (are_documents (self.old.docs ++ doc_id ∷ [])) }
-        ensures ok { OnOk result (self.new ≡ record { docs = self.old.docs ++ doc_id ∷ []; closed = false }) }
-        ensures err { OnErr result (self.new ≡ record { docs = []; closed = true }) }
+    /// `Limit(BlockFrequencySum)` where the document fills a block whose counts sum up above
+    /// `u32::MAX`, in a term with positions. `OutOfMemory` where a growth was refused. The documents
+    /// are then dropped. `SerializerClosed` after an earlier refusal, whatever the document is.
+    pub fn write_doc(&mut self, doc_id: DocId, term_freq: u32) -> Result<(), Fault>
+        requires ascending { self.old.closed ≡ false → IsTrue (are_documents (self.old.docs ++ doc_id ∷ [])) }
+        requires counted { self.old.closed ≡ false → IsTrue (has_freq self.old.skip_info) → 0 < term_freq }
+        ensures ok { OnOk result (self.new ≡ record self.old { docs = self.old.docs ++ doc_id ∷ []; freqs = self.old.freqs ++ term_freq ∷ []; closed = false }) }
+        ensures err { OnErr result (self.new ≡ record self.old { docs = []; freqs = []; closed = true }) }
+        ensures limit { IsErrOf result (Fault.Limit LimitName.BlockFrequencySum)
+            ↔ (self.old.closed ≡ false) × IsSumTooLarge self.old.skip_info (self.old.freqs ++ term_freq ∷ []) }
         ensures closed { IsErrOf result Fault.SerializerClosed ↔ IsTrue self.old.closed }
-        ensures only { IfErr result (λ e. (e ≡ Fault.OutOfMemory) ⊎ (e ≡ Fault.SerializerClosed)) }
+        ensures only { IfErr result (λ e. (e ≡ Fault.OutOfMemory) ⊎ (e ≡ Fault.SerializerClosed) ⊎ (e ≡ Fault.Limit LimitName.BlockFrequencySum)) }
     {
         if self.is_closed {
             return Err(Fault::SerializerClosed);
         }
-        let appended = append_doc(&mut self.blocks, &mut self.block, doc_id);
+        let appended = append_doc(&mut self.blocks, &mut self.block, doc_id, term_freq);
         self.is_closed = appended.is_err();
         appended
     }
@@ -268,16 +426,18 @@ impl PostingsSerializer {
     ) -> Result<(), Fault>
         requires counted { self.old.closed ≡ false → doc_freq ≡ length self.old.docs }
         requires ascending { IsTrue (are_documents self.old.docs) }
-        ensures written { WritesUnlessClosed self.old.closed output_write.old output_write.new (written_documents self.old.docs) result }
-        ensures fits { OnOk result (¬ IsFull output_write.old (length (written_documents self.old.docs))) }
-        ensures ok { OnOk result (self.new ≡ record { docs = []; closed = false }) }
-        ensures err { OnErr result (self.new ≡ record { docs = []; closed = true }) }
+        ensures written { WritesUnlessClosed self.old.closed output_write.old output_write.new
+            (written_postings self.old.skip_info self.old.docs self.old.freqs) result }
+        ensures fits { OnOk result (¬ IsFull output_write.old (length (written_postings self.old.skip_info self.old.docs self.old.freqs))) }
+        ensures ok { OnOk result (self.new ≡ record self.old { docs = []; freqs = []; closed = false }) }
+        ensures err { OnErr result (self.new ≡ record self.old { docs = []; freqs = []; closed = true }) }
     {
         if self.is_closed {
             return Err(Fault::SerializerClosed);
         }
         let written = self.blocks.write_with(&self.block, output_write);
-        self.clear();
+        let skip_info = self.blocks.skip_info();
+        self.begin(skip_info);
         self.is_closed = written.is_err();
         written
     }

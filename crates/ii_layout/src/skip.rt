@@ -1,7 +1,8 @@
-ghost use Rattle.std.specs.Prelude.{◌≡◌, ◌+◌, ◌*◌, ◌/◌, ◌<◌, ◌≤◌, ◌↔◌, ◌⊎◌, min, [], ◌∷◌, ◌++◌, false, true, length, drop, if◌then◌else◌, IsTrue, OnOk, OnErr, IfErr, IsErrOf};
+ghost use Rattle.std.specs.Prelude.{◌≡◌, ◌+◌, ◌*◌, ◌/◌, ◌<◌, ◌≤◌, min, [], ◌∷◌, ◌++◌, false, true, length, drop, if◌then◌else◌};
 ghost use Rattle.ii_io.specs.Numbers.{le_bytes};
 ghost use Rattle.ii_layout.specs.SkipList.{width_of_code, strict_of_code, entry_size, entry_at, entries_at};
-ghost use Rattle.ii_layout.specs.SkipReader.{max_tf_of_code, block_info_of, packed_size_of, reader_at};
+ghost use Rattle.ii_layout.specs.SkipReader.{max_tf_of_code, code_of_max_tf, block_info_of, packed_size_of, reader_at};
+ghost use Rattle.ii_layout.specs.SkipSerializer.{Adds};
 ghost use Rattle.ii_layout.specs.Written.{code_of_width};
 
 use byteorder::{ByteOrder, LittleEndian};
@@ -60,22 +61,48 @@ impl SkipSerializer {
     /// width of its strict deltas, which is below 32.
     ///
     /// `OutOfMemory` where a growth was refused: nothing is added then. `SerializerClosed` after an
-    /// earlier refusal.
+    /// earlier refusal. So it is with the other parts of an entry.
     pub fn write_doc(&mut self, last_doc: DocId, doc_num_bits: u8) -> Result<(), Fault>
         requires { doc_num_bits < 32 }
-        ensures ok { OnOk result (self.new
-            ≡ record { bytes = self.old.bytes ++ (le_bytes 4 last_doc ++ code_of_width doc_num_bits ∷ []); closed = false }) }
-        ensures err { OnErr result (self.new ≡ record self.old { closed = true }) }
-        ensures closed { IsErrOf result Fault.SerializerClosed ↔ IsTrue self.old.closed }
-        ensures only { IfErr result (λ e. (e ≡ Fault.OutOfMemory) ⊎ (e ≡ Fault.SerializerClosed)) }
+        ensures { Adds self.old self.new (le_bytes 4 last_doc ++ code_of_width doc_num_bits ∷ []) result }
+    {
+        let mut bytes = [0; 5];
+        LittleEndian::write_u32(&mut bytes, last_doc);
+        bytes[4] = encode_bitwidth(doc_num_bits, true);
+        self.add(&bytes)
+    }
+
+    /// Adds the width of the counts of a block, in one byte.
+    pub fn write_term_freq(&mut self, tf_num_bits: u8) -> Result<(), Fault>
+        ensures { Adds self.old self.new (tf_num_bits ∷ []) result }
+    {
+        self.add(&[tf_num_bits])
+    }
+
+    /// Adds the sum of the counts of a block, in four bytes, the lowest first.
+    pub fn write_total_term_freq(&mut self, tf_sum: u32) -> Result<(), Fault>
+        ensures { Adds self.old self.new (le_bytes 4 tf_sum) result }
+    {
+        let mut bytes = [0; 4];
+        LittleEndian::write_u32(&mut bytes, tf_sum);
+        self.add(&bytes)
+    }
+
+    /// Adds the bound of a block: the norm in one byte, and the code of the count.
+    pub fn write_blockwand_max(&mut self, fieldnorm_id: u8, term_freq: u32) -> Result<(), Fault>
+        ensures { Adds self.old self.new (fieldnorm_id ∷ code_of_max_tf term_freq ∷ []) result }
+    {
+        self.add(&[fieldnorm_id, encode_block_wand_max_tf(term_freq)])
+    }
+
+    // Adds bytes, all of them or none.
+    fn add(&mut self, bytes: &[u8]) -> Result<(), Fault>
+        ensures { Adds self.old self.new bytes.now result }
     {
         if self.is_closed {
             return Err(Fault::SerializerClosed);
         }
-        let mut entry = [0; 5];
-        LittleEndian::write_u32(&mut entry, last_doc);
-        entry[4] = encode_bitwidth(doc_num_bits, true);
-        let added = self.buffer.extend_from_slice(&entry);
+        let added = self.buffer.extend_from_slice(bytes);
         self.is_closed = added.is_err();
         added?;
         Ok(())
@@ -94,6 +121,13 @@ impl SkipSerializer {
     {
         self.buffer.clear();
     }
+}
+
+/// The byte that codes a count: the count, or 255 where that is less.
+pub fn encode_block_wand_max_tf(max_tf: u32) -> u8
+    ensures { result ≡ code_of_max_tf max_tf }
+{
+    max_tf.min(255) as u8
 }
 
 /// The count that a byte codes: the byte, or `u32::MAX` for the largest one.
@@ -201,16 +235,16 @@ fn read_entry(bytes: &[u8], skip_info: IndexRecordOption) -> (DocId, BlockInfo)
 
 // The entry of block `block`, as `read_entry` answers it.
 pub(crate) fn read_entry_at(
-    data: &[u8],
+    skip_data: &[u8],
     skip_info: IndexRecordOption,
     block: u32,
 ) -> (DocId, BlockInfo)
-    requires { entry_size skip_info * (block + 1) ≤ length data.now }
-    ensures last_doc { result.0 ≡ (entry_at skip_info (drop (entry_size skip_info * block) data.now)).last_doc }
-    ensures info { result.1 ≡ block_info_of (entry_at skip_info (drop (entry_size skip_info * block) data.now)) }
+    requires { entry_size skip_info * (block + 1) ≤ length skip_data.now }
+    ensures last_doc { result.0 ≡ (entry_at skip_info (drop (entry_size skip_info * block) skip_data.now)).last_doc }
+    ensures info { result.1 ≡ block_info_of (entry_at skip_info (drop (entry_size skip_info * block) skip_data.now)) }
 {
     let start = entry_size(skip_info) * block as usize;
-    read_entry(&data[start..], skip_info)
+    read_entry(&skip_data[start..], skip_info)
 }
 
 // How many bytes a full block takes.
@@ -265,9 +299,9 @@ impl Model for SkipReader {
 impl SkipReader {
     /// A reader at the first block of a term in `doc_freq` documents, whose entries have the shape
     /// `skip_info`. The bytes begin with an entry for each full block.
-    pub fn new(data: &[u8], doc_freq: u32, skip_info: IndexRecordOption) -> SkipReader
-        requires { entry_size skip_info * (doc_freq / 128) ≤ length data.now }
-        ensures { result ≡ reader_at skip_info doc_freq (entries_at skip_info (doc_freq / 128) data.now) 0 }
+    pub fn new(skip_data: &[u8], doc_freq: u32, skip_info: IndexRecordOption) -> SkipReader
+        requires { entry_size skip_info * (doc_freq / 128) ≤ length skip_data.now }
+        ensures { result ≡ reader_at skip_info doc_freq (entries_at skip_info (doc_freq / 128) skip_data.now) 0 }
     {
         let mut reader = SkipReader {
             skip_info,
@@ -280,7 +314,7 @@ impl SkipReader {
             entries_read: Tally::new(),
         };
         if doc_freq >= 128 {
-            let (last_doc, info) = read_entry(data, skip_info);
+            let (last_doc, info) = read_entry(skip_data, skip_info);
             reader.last_doc_in_block = last_doc;
             reader.block_info = info;
             reader.entries_read = reader.entries_read.next();
@@ -289,21 +323,21 @@ impl SkipReader {
     }
 
     /// Begins anew at the first block of another term, with entries of the same shape.
-    pub fn reset(&mut self, data: &[u8], doc_freq: u32)
-        requires { entry_size self.old.skip_info * (doc_freq / 128) ≤ length data.now }
-        ensures { self.new ≡ reader_at self.old.skip_info doc_freq (entries_at self.old.skip_info (doc_freq / 128) data.now) 0 }
+    pub fn reset(&mut self, skip_data: &[u8], doc_freq: u32)
+        requires { entry_size self.old.skip_info * (doc_freq / 128) ≤ length skip_data.now }
+        ensures { self.new ≡ reader_at self.old.skip_info doc_freq (entries_at self.old.skip_info (doc_freq / 128) skip_data.now) 0 }
     {
-        *self = SkipReader::new(data, doc_freq, self.skip_info);
+        *self = SkipReader::new(skip_data, doc_freq, self.skip_info);
     }
 
     /// Goes on to the next block; after the last one it stays. Where the next block is full its
     /// entry is read.
-    pub fn advance(&mut self, data: &[u8])
-        requires whole { entry_size self.old.skip_info * (self.old.doc_freq / 128) ≤ length data.now }
+    pub fn advance(&mut self, skip_data: &[u8])
+        requires whole { entry_size self.old.skip_info * (self.old.doc_freq / 128) ≤ length skip_data.now }
         requires same { self.old ≡ reader_at self.old.skip_info self.old.doc_freq
-            (entries_at self.old.skip_info (self.old.doc_freq / 128) data.now) self.old.block }
+            (entries_at self.old.skip_info (self.old.doc_freq / 128) skip_data.now) self.old.block }
         ensures { self.new ≡ reader_at self.old.skip_info self.old.doc_freq
-            (entries_at self.old.skip_info (self.old.doc_freq / 128) data.now)
+            (entries_at self.old.skip_info (self.old.doc_freq / 128) skip_data.now)
             (min (self.old.block + 1) (self.old.doc_freq / 128 + 1)) }
     {
         let blocks = self.doc_freq / 128;
@@ -324,7 +358,7 @@ impl SkipReader {
             };
             return;
         }
-        let (last_doc, info) = read_entry_at(data, self.skip_info, self.block);
+        let (last_doc, info) = read_entry_at(skip_data, self.skip_info, self.block);
         self.last_doc_in_block = last_doc;
         self.block_info = info;
         self.entries_read = self.entries_read.next();

@@ -1,11 +1,14 @@
-ghost use Rattle.std.specs.Prelude.{◌≤◌};
+ghost use Rattle.std.specs.Prelude.{◌≡◌, ◌<◌, ◌≤◌, [], false, OnOk};
+ghost use Rattle.std.specs.List.{range_with_len};
 
-use crate::skip::{BlockInfo, decode_bitwidth, decode_block_wand_max_tf, encode_bitwidth};
-use crate::written::reads_documents_back;
+use crate::skip::{
+    BlockInfo, decode_bitwidth, decode_block_wand_max_tf, encode_bitwidth, encode_block_wand_max_tf,
+};
+use crate::written::{reads_documents_back, reads_postings_back, reads_uncounted_back};
 use crate::{
     PostingsSerializer, SkipPlaces, SkipReader, SkipSerializer, split_into_skips_and_postings,
 };
-use ii_base::{CountingWriter, Fault, IndexRecordOption};
+use ii_base::{CountingWriter, Fault, IndexRecordOption, LimitName};
 use ii_docset::TERMINATED;
 use ii_fieldnorm::FieldNormReader;
 use ii_io::FailingWriter;
@@ -13,30 +16,60 @@ use std::alloc::Global;
 use std::io::Write;
 use std::test::Fail;
 
-// Writes the documents below `count`.
+// Adds the documents below `count`, each with the same count.
+fn add_below(serializer: &mut PostingsSerializer, count: u32, term_freq: u32) -> Result<(), Fault>
+    requires few { count ≤ 256 }
+    requires some { 0 < term_freq }
+    requires new { serializer.old.docs ≡ [] }
+    ensures { OnOk result (serializer.new.docs ≡ range_with_len 0 count) }
+{
+    for doc in 0..count {
+        serializer.write_doc(doc, term_freq)?;
+    }
+    Ok(())
+}
+
+// Writes the documents below `count`, each with the count 3.
 fn write_below<W: Write>(
     alloc: Global,
+    mode: IndexRecordOption,
     count: u32,
     output: &mut CountingWriter<W>,
 ) -> Result<(), Fault>
     requires { count ≤ 256 }
 {
-    let mut serializer = PostingsSerializer::new(alloc, IndexRecordOption::Basic, None);
-    for doc in 0..count {
-        serializer.write_doc(doc, 1)?;
-    }
+    let mut serializer = PostingsSerializer::new(alloc, mode, None);
+    add_below(&mut serializer, count, 3)?;
     serializer.close_term(count, output)
 }
 
 #[test]
 fn blocks_are_written(rt: HostRuntime) -> Result<(), Fail> {
     let mut output = CountingWriter::wrap(Vec::new(rt.alloc()));
-    write_below(rt.alloc(), 128, &mut output)?;
+    write_below(rt.alloc(), IndexRecordOption::Basic, 128, &mut output)?;
     assert_eq!(rt;
         output.finish().as_slice(),
         [0x85, 0x7F, 0, 0, 0, 0x40].as_slice()
     );
     reads_documents_back();
+    reads_postings_back();
+    reads_uncounted_back();
+    Ok(())
+}
+
+#[test]
+fn counts_of_a_block_are_written(rt: HostRuntime) -> Result<(), Fail> {
+    let mut right = [0xAA; 41];
+    right[..9].copy_from_slice(&[0x88, 0x7F, 0, 0, 0, 0x40, 2, 0, 0]);
+    let mut output = CountingWriter::wrap(Vec::new(rt.alloc()));
+    write_below(rt.alloc(), IndexRecordOption::WithFreqs, 128, &mut output)?;
+    assert_eq!(rt; output.finish().as_slice(), right.as_slice());
+    let mut right = [0xAA; 45];
+    right[..13].copy_from_slice(&[0x8C, 0x7F, 0, 0, 0, 0x40, 2, 0x80, 1, 0, 0, 0, 0]);
+    let mut output = CountingWriter::wrap(Vec::new(rt.alloc()));
+    let mode = IndexRecordOption::WithFreqsAndPositions;
+    write_below(rt.alloc(), mode, 128, &mut output)?;
+    assert_eq!(rt; output.finish().as_slice(), right.as_slice());
     Ok(())
 }
 
@@ -45,7 +78,7 @@ fn a_failing_writer_is_told(rt: HostRuntime) {
     let right = [0x85, 0x7F, 0, 0, 0, 0x40, 0x81, 0x81];
     for k in 1..6 {
         let mut output = CountingWriter::wrap(FailingWriter::new(rt.alloc(), k));
-        let answer = write_below(rt.alloc(), 130, &mut output);
+        let answer = write_below(rt.alloc(), IndexRecordOption::Basic, 130, &mut output);
         assert_eq!(rt; answer.is_err(), k < 4, "call {k}");
         assert!(rt; answer.is_ok() || answer == Err(Fault::Write), "call {k}");
         let writer = output.finish();
@@ -59,18 +92,60 @@ fn a_failing_writer_is_told(rt: HostRuntime) {
 }
 
 #[test]
+fn a_failing_writer_is_told_with_counts(rt: HostRuntime) {
+    let mut right = [0xAA; 45];
+    right[..9].copy_from_slice(&[0x88, 0x7F, 0, 0, 0, 0x40, 2, 0, 0]);
+    right[41..].copy_from_slice(&[0x81, 0x81, 0x83, 0x83]);
+    let places = [0, 0, 1, 9, 41, 43, 45, 45];
+    for k in 1..8 {
+        let mut output = CountingWriter::wrap(FailingWriter::new(rt.alloc(), k));
+        let answer = write_below(rt.alloc(), IndexRecordOption::WithFreqs, 130, &mut output);
+        assert_eq!(rt; answer.is_err(), k < 6, "call {k}");
+        assert!(rt; answer.is_ok() || answer == Err(Fault::Write), "call {k}");
+        let writer = output.finish();
+        assert_eq!(rt; writer.bytes(), &right[..places[k as usize]], "call {k}");
+    }
+}
+
+#[test]
 fn terms_are_written_one_after_the_other(rt: HostRuntime) -> Result<(), Fail> {
     let norms = Some(FieldNormReader::constant(11, 10));
-    let mut serializer = PostingsSerializer::new(rt.alloc(), IndexRecordOption::Basic, norms);
+    let mut serializer = PostingsSerializer::new(rt.alloc(), IndexRecordOption::WithFreqs, norms);
     serializer.write_doc(7, 1)?;
     serializer.new_term(3, false);
-    serializer.write_doc(0, 1)?;
-    serializer.write_doc(2, 1)?;
-    serializer.write_doc(10, 1)?;
+    serializer.write_doc(0, 0)?;
+    serializer.write_doc(2, 2)?;
+    serializer.write_doc(10, 3)?;
     let mut output = CountingWriter::wrap(Vec::new(rt.alloc()));
     serializer.close_term(3, &mut output)?;
     serializer.close_term(0, &mut output)?;
-    assert_eq!(rt; output.finish().as_slice(), [0x80, 0x82, 0x88].as_slice());
+    serializer.new_term(3, true);
+    serializer.write_doc(0, 1)?;
+    serializer.write_doc(2, 2)?;
+    serializer.write_doc(10, 3)?;
+    serializer.close_term(3, &mut output)?;
+    assert_eq!(rt;
+        output.finish().as_slice(),
+        [0x80, 0x82, 0x88, 0x80, 0x82, 0x88, 0x81, 0x82, 0x83].as_slice()
+    );
+    Ok(())
+}
+
+#[test]
+fn a_sum_of_counts_above_32_bits_is_refused(rt: HostRuntime) -> Result<(), Fail> {
+    let mode = IndexRecordOption::WithFreqsAndPositions;
+    let mut serializer = PostingsSerializer::new(rt.alloc(), mode, None);
+    add_below(&mut serializer, 127, 33_554_432)?;
+    let answer = serializer.write_doc(127, 33_554_432);
+    assert_eq!(rt; answer, Err(Fault::Limit(LimitName::BlockFrequencySum)));
+    let answer = serializer.write_doc(128, 1);
+    assert_eq!(rt; answer, Err(Fault::SerializerClosed));
+    let mut serializer = PostingsSerializer::new(rt.alloc(), mode, None);
+    let answer = add_below(&mut serializer, 128, 33_554_431);
+    assert_eq!(rt; answer, Ok(()));
+    let mut serializer = PostingsSerializer::new(rt.alloc(), IndexRecordOption::WithFreqs, None);
+    let answer = add_below(&mut serializer, 128, 33_554_432);
+    assert_eq!(rt; answer, Ok(()));
     Ok(())
 }
 
@@ -107,6 +182,21 @@ fn skip_entries_are_written(rt: HostRuntime) -> Result<(), Fail> {
     );
     skip.clear();
     assert_eq!(rt; skip.data().len(), 0);
+    skip.write_doc(1, 2)?;
+    skip.write_term_freq(3)?;
+    skip.write_blockwand_max(13, 3)?;
+    skip.write_doc(5, 5)?;
+    skip.write_term_freq(2)?;
+    skip.write_blockwand_max(8, 2)?;
+    assert_eq!(rt;
+        skip.data(),
+        [1, 0, 0, 0, 0x42, 3, 0x0D, 3, 5, 0, 0, 0, 0x45, 2, 8, 2].as_slice()
+    );
+    skip.clear();
+    skip.write_total_term_freq(384)?;
+    skip.write_blockwand_max(1, 256)?;
+    assert_eq!(rt; skip.data(), [0x80, 1, 0, 0, 1, 255].as_slice());
+    assert_eq!(rt; encode_block_wand_max_tf(254), 254);
     assert_eq!(rt; encode_bitwidth(5, false), 5);
     assert_eq!(rt; decode_bitwidth(0x45), (5, true));
     assert_eq!(rt; decode_bitwidth(0x9F), (31, false));

@@ -1,4 +1,16 @@
-ghost use Rattle.ii_layout.specs.Written.{ReadsDocumentsBack};
+ghost use Rattle.ii_layout.specs.Written.{ReadsPostingsBack, ReadsUncountedBack, ReadsDocumentsBack};
+
+/// The law of written postings: what is written gives its list for each option that is requested,
+/// whatever follows.
+pub fn reads_postings_back()
+    ensures { ReadsPostingsBack }
+{}
+
+/// The law of terms that are written without counts: they give their documents, whatever the field
+/// records, where nothing follows.
+pub fn reads_uncounted_back()
+    ensures { ReadsUncountedBack }
+{}
 
 /// The law of written documents: what is written gives its list, whatever follows.
 pub fn reads_documents_back()

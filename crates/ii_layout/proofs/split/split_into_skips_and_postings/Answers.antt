@@ -1,4 +1,4 @@
-use Rattle.std.proofs.Common.{◌≡◌, ◌≤◌, ◌/◌, ◌*◌, length, drop, refl, sym, ◌∙◌, arith}
+use Rattle.std.proofs.Common.{◌≤◌, ◌/◌, ◌*◌, drop, refl, sym, ◌∙◌, arith}
 use Rattle.std.proofs.lemmas.List.{length-drop, take_rest}
 use Rattle.ii_layout.specs.SkipList.{entry_size}
 use Rattle.ii_layout.proofs.SplitLemmas.{ReadsLen, skip_wide, skip_found}

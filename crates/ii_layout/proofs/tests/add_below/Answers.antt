@@ -1,0 +1,16 @@
+use Rattle.std.proofs.Common.{List, ℕ, [], ◌∷◌, ◌++◌, ap, ◌∙◌, arith}
+use Rattle.ii_layout.specs.PostingsSerializer.{PostingsSerializerState}
+use Rattle.ii_layout.proofs.RunLemmas.{row_documents, row_more}
+use Rattle.ii_layout.proofs.tests.add_below.Goals as goal
+
+pub write_doc-requires : goal.write_doc-requires
+write_doc-requires c =
+    record {
+      ascending = rw c.loop-doc.invariant (λ _. row_documents c.loop-doc.doc (omega arith));
+      counted = λ _ _. c.requires.some;
+    }
+
+pub loop-doc-preserved : goal.loop-doc-preserved
+loop-doc-preserved c =
+    ap (λ (s : PostingsSerializerState). s.docs) c.in_ok-write_doc.ensures.ok
+    ∙ ap (λ (docs : List ℕ). docs ++ c.loop-doc.doc ∷ []) c.loop-doc.invariant ∙ row_more c.loop-doc.doc
