@@ -188,6 +188,11 @@ is_skip_data a reading bytes c e =
       entries = ap (λ (s : SkipList). s.entries) skip ∙ (λ j. entries_at (ap (λ (s : SkipList). s.skip_info) (sym skip) j) (a.doc_freq / 128) (sym e j));
     }
 
+pub has_room : (a : Asked) (reading : FreqReadingOption) (skip_data : List ℕ) → Checks a reading → IsSkipData (record { doc_freq = a.doc_freq; postings = given_by a; freq_reading = reading }) skip_data → entry_size a.skip_info * (a.doc_freq / 128) ≤ length skip_data
+has_room a reading skip_data c d =
+    let info : a.skip_info ≡ (given_by a).skip.skip_info = sym (ap (λ (s : SkipList). s.skip_info) (given_skip a reading c)) in
+    rw info d.enough
+
 -- a reader that begins there
 pub begins : (a : Asked) (reading : FreqReadingOption) (skip_data : List ℕ) (reader : SkipReaderState) → Checks a reading → IsSkipData (record { doc_freq = a.doc_freq; postings = given_by a; freq_reading = reading }) skip_data
     → reader ≡ reader_at a.skip_info a.doc_freq (entries_at a.skip_info (a.doc_freq / 128) skip_data) 0 → IsAtBlock (record { doc_freq = a.doc_freq; postings = given_by a; freq_reading = reading }) reader

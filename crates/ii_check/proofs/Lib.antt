@@ -3,3 +3,4 @@ pub mod FrequencyLemmas
 pub mod LoadLemmas
 pub mod CheckedPostingsLemmas
 pub mod PartLemmas
+pub mod SeekLemmas

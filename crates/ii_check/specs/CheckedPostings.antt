@@ -1,5 +1,5 @@
 -- Postings that were checked, and what lends their blocks.
-use Rattle.std.specs.Prelude.{◌≡◌, ℕ, ◌+◌, ◌-◌, ◌*◌, ◌/◌, ◌%◌, ◌≤◌, Bool, true, false, List, [], take, drop, length, replicate, Option, Some, None, is_some, Ok}
+use Rattle.std.specs.Prelude.{◌≡◌, ℕ, ◌+◌, ◌-◌, ◌*◌, ◌/◌, ◌%◌, ◌<◌, ◌≤◌, max, slice_index, Bool, true, false, List, [], take, drop, length, replicate, Option, Some, None, is_some, Ok}
 use Rattle.std.specs.Result.{result_unwrap_or}
 use Rattle.ii_base.specs.declared.schema.index_record_option.IndexRecordOption.{IndexRecordOption}
 use Rattle.ii_base.specs.declared.schema.index_record_option.IndexRecordOption.TheVariants.{Basic}
@@ -99,3 +99,10 @@ pub record LoadsBlock (p : Postings) (block : ℕ) (docs docs' freqs freqs' : Bl
 pub record IsSkipData (p : CheckedPostingsState) (bytes : List ℕ) : Type 0 where
   pub enough : entry_size p.postings.skip.skip_info * (p.doc_freq / 128) ≤ length bytes
   pub entries : p.postings.skip.entries ≡ entries_at p.postings.skip.skip_info (p.doc_freq / 128) bytes
+
+-- A seek went from block i of a list to block k: forward, past blocks that end below the target, to the first one that doesn't or to the documents after the full blocks. From there on it stays.
+pub record SeeksBlock (target : ℕ) (docs : List ℕ) (i k : ℕ) : Type 0 where
+  pub forward : i ≤ k
+  pub within : k ≤ max i (length docs / 128)
+  pub passed : (j : ℕ) → i ≤ j → j < k → slice_index docs (128 * j + 127) < target
+  pub found : k < length docs / 128 → target ≤ slice_index docs (128 * k + 127)

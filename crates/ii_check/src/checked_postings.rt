@@ -1,8 +1,8 @@
-ghost use Rattle.std.specs.Prelude.{◌≡◌, ◌+◌, ◌/◌, ◌<◌, [], min, None, Ok, Err, IfOk, IfErr};
+ghost use Rattle.std.specs.Prelude.{◌≡◌, ◌+◌, ◌/◌, ◌<◌, ◌≤◌, [], min, nat_lt, None, Ok, Err, IfOk, IfErr};
 ghost use Rattle.ii_io.specs.Parts.{part_of};
 ghost use Rattle.ii_docset.specs.declared.docset.TheConstants.{TERMINATED};
 ghost use Rattle.ii_layout.specs.Postings.{postings};
-ghost use Rattle.ii_check.specs.CheckedPostings.{AreGiven, HasDocuments, IsAtBlock, IsSkipData, LoadsBlock, new_decoder};
+ghost use Rattle.ii_check.specs.CheckedPostings.{AreGiven, HasDocuments, IsAtBlock, IsSkipData, LoadsBlock, SeeksBlock, new_decoder};
 ghost use Rattle.ii_check.specs.FreqReading.{freq_reading_of};
 
 use super::check::check_postings;
@@ -11,7 +11,7 @@ use super::load::{NO_FREQ, decode_docs, decode_freqs};
 use bytes::Bytes;
 use ii_base::{IndexRecordOption, LayoutFault};
 use ii_codes::{BlockDecoder, COMPRESSION_BLOCK_SIZE};
-use ii_docset::TERMINATED;
+use ii_docset::{DocId, TERMINATED};
 use ii_layout::{SkipPlaces, SkipReader, bytes_from};
 use std::marker::Model;
 
@@ -154,6 +154,18 @@ impl CheckedPostings {
         skip.advance(self.skip_data());
     }
 
+    /// Goes on to the first block, from the current one on, whose last document isn't below `target`,
+    /// or else to the last block; from there on it stays. Answers whether it moved.
+    pub fn seek(&self, skip: &mut SkipReader, target: DocId) -> bool
+        requires at { IsAtBlock self.now skip.old }
+        requires up_to { target ≤ TERMINATED }
+        ensures at { IsAtBlock self.now skip.new }
+        ensures seeks { SeeksBlock target self.now.postings.docs skip.old.block skip.new.block }
+        ensures moved { result ≡ nat_lt skip.old.block skip.new.block }
+    {
+        skip.seek(self.skip_data(), target)
+    }
+
     /// Decodes the block at which the skip reader stands: its documents, after which the entries are
     /// `TERMINATED`, and its counts where they are read, after which they are 1.
     pub fn load_block(
@@ -176,7 +188,8 @@ impl CheckedPostings {
 
     // The bytes from the skip entries on.
     fn skip_data(&self) -> &[u8]
-        ensures { IsSkipData self.now result.now }
+        ensures entries { IsSkipData self.now result.now }
+        ensures given { AreGiven self.now }
     {
         bytes_from(self.bytes.as_slice(), self.places.entries)
     }

@@ -1,6 +1,6 @@
 -- Entries as a reader finds them.
-use Rattle.std.proofs.Common.{◌≡◌, ℕ, suc, ◌+◌, ◌*◌, ◌/◌, ◌%◌, ◌<◌, ◌≤◌, min, List, [], ◌∷◌, length, take, drop, Some, refl, sym, ap, ◌∙◌, arith}
-use Rattle.std.proofs.lemmas.Bool.{le-leb, lt-leb, lt-ltb, le-ltb, eq-eqb, ne_eqb}
+use Rattle.std.proofs.Common.{◌≡◌, ℕ, suc, ◌+◌, ◌*◌, ◌/◌, ◌%◌, ◌<◌, ◌≤◌, Bool, true, false, min, max, nat_lt, List, [], ◌∷◌, length, take, drop, Some, refl, sym, ap, ◌∙◌, arith}
+use Rattle.std.proofs.lemmas.Bool.{le-leb, lt-leb, lt-ltb, le-ltb, ltb-true, ltb-false, eq-eqb, ne_eqb}
 use Rattle.std.proofs.lemmas.List.{take_more}
 use Rattle.std.proofs.lemmas.List.Sums.{sum_by-append}
 use Rattle.std.proofs.lemmas.List.FromFn.{length-map-range_with_len, get_or-map-range_with_len}
@@ -10,7 +10,7 @@ use Rattle.ii_layout.specs.declared.skip.BlockInfo.{BlockInfo}
 use Rattle.ii_layout.specs.declared.skip.BlockInfo.TheVariants.{VInt}
 use Rattle.ii_layout.specs.SkipList.{SkipEntry, no_entry, entry_at, entry_size, entries_at, block_size, block_place}
 use Rattle.ii_layout.specs.Documents.{entry_of, last_doc_before}
-use Rattle.ii_layout.specs.SkipReader.{SkipReaderState, block_info_of, packed_size_of, reader_at}
+use Rattle.ii_layout.specs.SkipReader.{SkipReaderState, Seeks, block_info_of, packed_size_of, reader_at}
 use Rattle.byteorder.specs.Endian.{little_number}
 use Rattle.ii_io.specs.Numbers.{little_endian, number_at}
 use Rattle.ii_io.specs.NumberLemmas.{number_at-some}
@@ -132,3 +132,84 @@ at_end reader skip_info doc_freq i entries e h =
       info = rw (past, other) at (ap (λ (r : SkipReaderState). r.block_info) e);
       offset = rw high at (ap (λ (r : SkipReaderState). r.byte_offset) e);
     }
+
+-- A reader that seeks, from block i on.
+pub record IsSeeking (target : ℕ) (old now : SkipReaderState) (entries : List SkipEntry) (moved : Bool) : Type 0 where
+  pub at : now ≡ reader_at old.skip_info old.doc_freq entries now.block
+  pub forward : old.block ≤ now.block
+  pub within : now.block ≤ max old.block (old.doc_freq / 128)
+  pub passed : (j : ℕ) → old.block ≤ j → j < now.block → (entry_of entries j).last_doc < target
+  pub moved_is : moved ≡ nat_lt old.block now.block
+
+pub begins_seeking : (target : ℕ) (old : SkipReaderState) (entries : List SkipEntry) → old ≡ reader_at old.skip_info old.doc_freq entries old.block → IsSeeking target old old entries false
+begins_seeking target old entries same =
+    record { at = same; forward = omega arith; within = omega arith; passed = λ j low high. absurd (omega arith); moved_is = sym (le-ltb old.block old.block (omega arith)) }
+
+full_cases : (now : SkipReaderState) (skip_info : IndexRecordOption) (doc_freq target : ℕ) (entries : List SkipEntry) (t : Bool) → now ≡ reader_at skip_info doc_freq entries now.block → nat_lt now.block (doc_freq / 128) ≡ t → now.last_doc_in_block < target → target ≤ 2147483647
+    → now.block < doc_freq / 128
+full_cases now skip_info doc_freq target entries true at test below up = ltb-true now.block (doc_freq / 128) test
+full_cases now skip_info doc_freq target entries false at test below up =
+    let last = rw test at (ap (λ (r : SkipReaderState). r.last_doc_in_block) at) in
+    absurd (omega arith)
+
+-- where the last document is below a target, the block is full
+pub is_full : (now : SkipReaderState) (skip_info : IndexRecordOption) (doc_freq target : ℕ) (entries : List SkipEntry) → now ≡ reader_at skip_info doc_freq entries now.block → now.last_doc_in_block < target → target ≤ 2147483647 → now.block < doc_freq / 128
+is_full now skip_info doc_freq target entries at below up = full_cases now skip_info doc_freq target entries (nat_lt now.block (doc_freq / 128)) at refl below up
+
+passed_cases : (entries : List SkipEntry) (target i k j : ℕ) (t : Bool) → nat_lt j k ≡ t → ((j : ℕ) → i ≤ j → j < k → (entry_of entries j).last_doc < target) → (entry_of entries k).last_doc < target → i ≤ j → j < k + 1 → (entry_of entries j).last_doc < target
+passed_cases entries target i k j true test passed here low high = passed j low (ltb-true j k test)
+passed_cases entries target i k j false test passed here low high =
+    let above = ltb-false j k test in
+    let same : j ≡ k = omega arith in
+    rw same here
+
+-- one block on
+pub seeks_on : (target : ℕ) (old now next : SkipReaderState) (entries : List SkipEntry) (moved : Bool) → IsSeeking target old now entries moved → now.last_doc_in_block < target → target ≤ 2147483647
+    → next ≡ reader_at old.skip_info old.doc_freq entries (min (now.block + 1) (old.doc_freq / 128 + 1)) → IsSeeking target old next entries true
+seeks_on target old now next entries moved s below up step =
+    let full = is_full now old.skip_info old.doc_freq target entries s.at below up in
+    let here = at_full_block now old.skip_info old.doc_freq now.block entries s.at full in
+    let last : (entry_of entries now.block).last_doc < target = rw (← here.last) below in
+    let block : min (now.block + 1) (old.doc_freq / 128 + 1) ≡ now.block + 1 = omega arith in
+    let next_block : next.block ≡ now.block + 1 = ap (λ (r : SkipReaderState). r.block) step ∙ block in
+    let forward = s.forward in
+    let within = s.within in
+    record {
+      at = step ∙ ap (reader_at old.skip_info old.doc_freq entries) (block ∙ sym next_block);
+      forward = omega arith;
+      within = omega arith;
+      passed = λ j low high. passed_cases entries target old.block now.block j (nat_lt j now.block) refl s.passed last low (omega arith);
+      moved_is = sym (lt-ltb old.block next.block (omega arith));
+    }
+
+found_here : (now : SkipReaderState) (skip_info : IndexRecordOption) (doc_freq target : ℕ) (entries : List SkipEntry) → now ≡ reader_at skip_info doc_freq entries now.block → target ≤ now.last_doc_in_block → now.block < doc_freq / 128 → target ≤ (entry_of entries now.block).last_doc
+found_here now skip_info doc_freq target entries at enough full =
+    let here = at_full_block now skip_info doc_freq now.block entries at full in
+    rw (← here.last) enough
+
+pub sought : (target : ℕ) (old now : SkipReaderState) (entries : List SkipEntry) (moved : Bool) → IsSeeking target old now entries moved → target ≤ now.last_doc_in_block → Seeks target (old.doc_freq / 128) entries old.block now.block
+sought target old now entries moved s enough =
+    record { forward = s.forward; within = s.within; passed = s.passed; found = λ full. found_here now old.skip_info old.doc_freq target entries s.at enough full }
+
+-- a reader that seeks is over the list that it began with
+pub still_over : (target : ℕ) (old now : SkipReaderState) (bytes : List ℕ) (moved : Bool) → IsSeeking target old now (entries_at old.skip_info (old.doc_freq / 128) bytes) moved
+    → now ≡ reader_at now.skip_info now.doc_freq (entries_at now.skip_info (now.doc_freq / 128) bytes) now.block
+still_over target old now bytes moved s =
+    let info : old.skip_info ≡ now.skip_info = sym (ap (λ (r : SkipReaderState). r.skip_info) s.at) in
+    let freq : old.doc_freq ≡ now.doc_freq = sym (ap (λ (r : SkipReaderState). r.doc_freq) s.at) in
+    s.at ∙ (λ j. reader_at (info j) (freq j) (entries_at (info j) (freq j / 128) bytes) now.block)
+
+pub still_whole : (target : ℕ) (old now : SkipReaderState) (bytes : List ℕ) (moved : Bool) → IsSeeking target old now (entries_at old.skip_info (old.doc_freq / 128) bytes) moved → entry_size old.skip_info * (old.doc_freq / 128) ≤ length bytes
+    → entry_size now.skip_info * (now.doc_freq / 128) ≤ length bytes
+still_whole target old now bytes moved s whole =
+    let info : now.skip_info ≡ old.skip_info = ap (λ (r : SkipReaderState). r.skip_info) s.at in
+    let freq : now.doc_freq ≡ old.doc_freq = ap (λ (r : SkipReaderState). r.doc_freq) s.at in
+    rw (info, freq) whole
+
+pub went_on_from : (target : ℕ) (old now next : SkipReaderState) (bytes : List ℕ) (moved : Bool) → IsSeeking target old now (entries_at old.skip_info (old.doc_freq / 128) bytes) moved
+    → next ≡ reader_at now.skip_info now.doc_freq (entries_at now.skip_info (now.doc_freq / 128) bytes) (min (now.block + 1) (now.doc_freq / 128 + 1))
+    → next ≡ reader_at old.skip_info old.doc_freq (entries_at old.skip_info (old.doc_freq / 128) bytes) (min (now.block + 1) (old.doc_freq / 128 + 1))
+went_on_from target old now next bytes moved s step =
+    let info : now.skip_info ≡ old.skip_info = ap (λ (r : SkipReaderState). r.skip_info) s.at in
+    let freq : now.doc_freq ≡ old.doc_freq = ap (λ (r : SkipReaderState). r.doc_freq) s.at in
+    step ∙ (λ j. reader_at (info j) (freq j) (entries_at (info j) (freq j / 128) bytes) (min (now.block + 1) (freq j / 128 + 1)))

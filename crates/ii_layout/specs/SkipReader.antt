@@ -1,5 +1,5 @@
 -- Where a reader of a term's skip list stands, and what it tells of the block there.
-use Rattle.std.specs.Prelude.{ℕ, ◌+◌, ◌-◌, ◌*◌, ◌/◌, ◌%◌, ◌^◌, List, min, nat_lt, nat_le, ◌==◌, if◌then◌else◌}
+use Rattle.std.specs.Prelude.{ℕ, ◌+◌, ◌-◌, ◌*◌, ◌/◌, ◌%◌, ◌^◌, ◌<◌, ◌≤◌, List, min, max, nat_lt, nat_le, ◌==◌, if◌then◌else◌}
 use Rattle.ii_base.specs.declared.schema.index_record_option.IndexRecordOption.{IndexRecordOption}
 use Rattle.ii_docset.specs.declared.docset.TheConstants.{TERMINATED}
 use Rattle.ii_layout.specs.declared.skip.BlockInfo.{BlockInfo}
@@ -53,3 +53,10 @@ reader_at skip_info doc_freq entries i =
       block_info = if nat_lt i blocks then block_info_of (entry_of entries i) else VInt (if i == blocks then doc_freq % 128 else 0);
       entries_read = min (i + 1) blocks;
     }
+
+-- A seek from block i to block k, of so many full ones: forward, past blocks that end below the target, to the first one that doesn't or to the documents after the full blocks. From there on it stays.
+pub record Seeks (target blocks : ℕ) (entries : List SkipEntry) (i k : ℕ) : Type 0 where
+  pub forward : i ≤ k
+  pub within : k ≤ max i blocks
+  pub passed : (j : ℕ) → i ≤ j → j < k → (entry_of entries j).last_doc < target
+  pub found : k < blocks → target ≤ (entry_of entries k).last_doc

@@ -1,7 +1,8 @@
-ghost use Rattle.std.specs.Prelude.{◌≡◌, ◌+◌, ◌*◌, ◌/◌, ◌<◌, ◌≤◌, min, [], ◌∷◌, ◌++◌, false, true, length, drop, if◌then◌else◌};
+ghost use Rattle.std.specs.Prelude.{◌≡◌, ◌+◌, ◌*◌, ◌/◌, ◌<◌, ◌≤◌, min, [], ◌∷◌, ◌++◌, false, true, length, drop, nat_lt, if◌then◌else◌};
 ghost use Rattle.ii_io.specs.Numbers.{le_bytes};
 ghost use Rattle.ii_layout.specs.SkipList.{width_of_code, strict_of_code, entry_size, entry_at, entries_at};
-ghost use Rattle.ii_layout.specs.SkipReader.{max_tf_of_code, code_of_max_tf, block_info_of, packed_size_of, reader_at};
+ghost use Rattle.ii_docset.specs.declared.docset.TheConstants.{TERMINATED};
+ghost use Rattle.ii_layout.specs.SkipReader.{Seeks, max_tf_of_code, code_of_max_tf, block_info_of, packed_size_of, reader_at};
 ghost use Rattle.ii_layout.specs.SkipSerializer.{Adds};
 ghost use Rattle.ii_layout.specs.Written.{code_of_width};
 
@@ -362,6 +363,28 @@ impl SkipReader {
         self.last_doc_in_block = last_doc;
         self.block_info = info;
         self.entries_read = self.entries_read.next();
+    }
+
+    /// Goes on to the first block, from the current one on, whose last document isn't below `target`,
+    /// or else to the documents after the full blocks; from there on it stays. The entry of each
+    /// full block that it comes to is read, once. Answers whether it moved.
+    pub fn seek(&mut self, skip_data: &[u8], target: DocId) -> bool
+        requires whole { entry_size self.old.skip_info * (self.old.doc_freq / 128) ≤ length skip_data.now }
+        requires same { self.old ≡ reader_at self.old.skip_info self.old.doc_freq
+            (entries_at self.old.skip_info (self.old.doc_freq / 128) skip_data.now) self.old.block }
+        requires up_to { target ≤ TERMINATED }
+        ensures at { self.new ≡ reader_at self.old.skip_info self.old.doc_freq
+            (entries_at self.old.skip_info (self.old.doc_freq / 128) skip_data.now) self.new.block }
+        ensures seeks { Seeks target (self.old.doc_freq / 128) (entries_at self.old.skip_info (self.old.doc_freq / 128) skip_data.now)
+            self.old.block self.new.block }
+        ensures moved { result ≡ nat_lt self.old.block self.new.block }
+    {
+        let mut moved = false;
+        while self.last_doc_in_block() < target {
+            self.advance(skip_data);
+            moved = true;
+        }
+        moved
     }
 
     /// The last document of the block, or `TERMINATED` where it isn't full.

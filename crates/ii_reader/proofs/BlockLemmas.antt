@@ -72,7 +72,7 @@ pub freqs_loaded : (o : Option (List ℕ)) (before block : ℕ) (old new : Block
 freqs_loaded None before block old new held loads = loads ∙ held
 freqs_loaded (Some freqs) before block old new held loads = loads.holds
 
-decodes_most : (n : ℕ) → decodes_of n ≤ 1
+pub decodes_most : (n : ℕ) → decodes_of n ≤ 1
 decodes_most zero = omega arith
 decodes_most (suc n) = omega arith
 

@@ -34,7 +34,7 @@ pub length-entries : (n : ℕ) (docs : List ℕ) (freqs : Option (List ℕ)) →
 length-entries n docs freqs a = sym (length-map (entries_of docs freqs) (λ (e : Entry). e.doc)) ∙ ap length (docs_are n docs freqs a)
 
 -- the current document of what is left from a place on
-doc_at_drop : (es : List Entry) (i : ℕ) → get_or (map (λ (e : Entry). e.doc) es) i 2147483647 ≡ doc_at (drop i es)
+pub doc_at_drop : (es : List Entry) (i : ℕ) → get_or (map (λ (e : Entry). e.doc) es) i 2147483647 ≡ doc_at (drop i es)
 doc_at_drop [] zero = refl
 doc_at_drop [] (suc i) = refl
 doc_at_drop (e ∷ es) zero = refl

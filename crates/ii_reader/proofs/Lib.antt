@@ -1,2 +1,3 @@
 pub mod BlockLemmas
 pub mod CursorLemmas
+pub mod SeekLemmas

@@ -1,5 +1,5 @@
 -- A cursor over the blocks of a term's list.
-use Rattle.std.specs.Prelude.{◌≡◌, ℕ, ◌+◌, ◌-◌, ◌/◌, ◌≤◌, true, List, [], length, min, Option, None, Some, slice_index}
+use Rattle.std.specs.Prelude.{◌≡◌, ℕ, ◌+◌, ◌-◌, ◌*◌, ◌/◌, ◌<◌, ◌≤◌, max, true, List, [], length, min, Option, None, Some, slice_index}
 use Rattle.std.specs.List.{slice_index_or}
 use Rattle.ii_docset.specs.declared.docset.TheConstants.{TERMINATED}
 use Rattle.ii_docset.specs.Entries.{are_documents}
@@ -68,3 +68,18 @@ pub record IsLoaded (checked : CheckedPostingsState) (skip : SkipReaderState) (d
   pub freqs_held : HoldsFreqs checked.postings.freqs skip.block freqs
   pub doc_decodes : docs.decodes ≤ skip.block + 1
   pub freq_decodes : freqs.decodes ≤ skip.block + 1
+
+-- So many documents from the front on lie below the target, and the next one, if there is one, doesn't.
+pub record IsBelow (target : ℕ) (docs : List ℕ) (below : ℕ) : Type 0 where
+  pub within : below ≤ length docs
+  pub before : (n : ℕ) → n < below → slice_index docs n < target
+  pub there : below < length docs → target ≤ slice_index docs below
+
+-- A seek went from block i to block k of a list, and answered how many documents of that one lie below the target: all documents from block i on and before that place lie below it, and none after it does. Block k is the first one that ends in another document, or the last one; from there on it stays.
+pub record IsSought (target : ℕ) (docs : List ℕ) (i k below : ℕ) : Type 0 where
+  pub forward : i ≤ k
+  pub within : k ≤ max i (length docs / 128)
+  pub here : below ≤ length (block_of docs k)
+  pub inside : k < length docs / 128 → below < 128
+  pub before : (n : ℕ) → 128 * i ≤ n → n < 128 * k + below → slice_index docs n < target
+  pub after : (n : ℕ) → 128 * k + below ≤ n → n < length docs → target ≤ slice_index docs n

@@ -1,9 +1,11 @@
-ghost use Rattle.std.specs.Prelude.{◌≡◌, ◌+◌, ◌/◌, ◌<◌, [], length, min, None, Ok, Err, IfOk, IfErr, IsSome};
+ghost use Rattle.std.specs.Prelude.{◌≡◌, ◌+◌, ◌/◌, ◌<◌, ◌≤◌, [], length, min, None, Ok, Err, IfOk, IfErr, IsSome};
+ghost use Rattle.ii_docset.specs.declared.docset.TheConstants.{TERMINATED};
 ghost use Rattle.ii_io.specs.Parts.{part_of};
 ghost use Rattle.ii_layout.specs.Postings.{posting_list, entries_of};
 ghost use Rattle.ii_layout.specs.Written.{block_of};
+ghost use Rattle.ii_check.specs.CheckedPostings.{SeeksBlock};
 ghost use Rattle.ii_check.specs.FreqReading.{freq_reading};
-ghost use Rattle.ii_reader.specs.BlockSegmentPostings.{AreEntries, GoesTo, IsLazy, doc_in_block, first_decodes, freq_in_block, freqs_of_block};
+ghost use Rattle.ii_reader.specs.BlockSegmentPostings.{AreEntries, GoesTo, IsBelow, IsLazy, IsSought, doc_in_block, first_decodes, freq_in_block, freqs_of_block};
 
 use bytes::Bytes;
 use ii_base::{IndexRecordOption, LayoutFault};
@@ -147,6 +149,34 @@ impl BlockSegmentPostings {
         self.docs().len()
     }
 
+    /// Goes on to the first block, from the current one on, whose last document isn't below `target`,
+    /// or else to the last block; from there on it stays. Blocks in between aren't decoded, and the
+    /// one that it comes to is, once. Answers how many documents of the block lie below the target,
+    /// which is at most `TERMINATED`.
+    pub fn seek(&mut self, target: DocId) -> usize
+        requires { target ≤ TERMINATED }
+        ensures sought { IsSought target self.old.docs self.old.block self.new.block result }
+        ensures goes { GoesTo self.old self.new self.new.block }
+        ensures lazy { IsLazy self.new }
+    {
+        self.seek_block(target);
+        count_below(self.docs(), target)
+    }
+
+    // Goes on to the block that `seek` speaks of, and decodes it where it is another one.
+    fn seek_block(&mut self, target: DocId)
+        requires { target ≤ TERMINATED }
+        ensures seeks { SeeksBlock target self.old.docs self.old.block self.new.block }
+        ensures goes { GoesTo self.old self.new self.new.block }
+        ensures entries { AreEntries (length self.new.docs) self.new.docs self.new.freqs }
+    {
+        if !self.checked.seek(&mut self.skip, target) {
+            return;
+        }
+        self.checked
+            .load_block(&self.skip, &mut self.doc_decoder, &mut self.freq_decoder);
+    }
+
     /// Goes on to the next block; at the empty block after the last one it stays. One block is
     /// decoded at most.
     pub fn advance(&mut self)
@@ -157,4 +187,18 @@ impl BlockSegmentPostings {
         self.checked
             .load_block(&self.skip, &mut self.doc_decoder, &mut self.freq_decoder);
     }
+}
+
+// How many documents from the front on lie below `target`.
+fn count_below(docs: &[DocId], target: DocId) -> usize
+    ensures { IsBelow target docs.now result }
+{
+    let mut below = 0;
+    for doc in docs {
+        if *doc >= target {
+            return below;
+        }
+        below += 1;
+    }
+    below
 }

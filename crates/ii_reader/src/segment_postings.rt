@@ -2,7 +2,7 @@ ghost use Rattle.std.specs.Prelude.{◌≡◌, ◌+◌, ◌<◌, ◌≤◌, fals
 ghost use Rattle.ii_base.specs.Options.{downgrade, has_positions};
 ghost use Rattle.ii_io.specs.Parts.{part_of};
 ghost use Rattle.ii_docset.specs.declared.docset.TheConstants.{TERMINATED};
-ghost use Rattle.ii_docset.specs.Cursor.{doc_at, IsSound};
+ghost use Rattle.ii_docset.specs.Cursor.{doc_at, from_doc, IsSound, IsTarget};
 ghost use Rattle.ii_layout.specs.Postings.{posting_list};
 ghost use Rattle.ii_check.specs.CheckedPostings.{is_read};
 ghost use Rattle.ii_check.specs.FreqReading.{freq_reading};
@@ -148,6 +148,29 @@ impl DocSet for SegmentPostings {
 
     fn doc(&self) -> DocId {
         self.block_cursor.doc(self.cur)
+    }
+
+    /// Drops the documents below `target`, and answers the first that is left, or `TERMINATED`. One
+    /// block is decoded at most, and none that the cursor passes.
+    fn seek(&mut self, target: DocId) -> DocId
+        requires { IsTarget target self.old.rest }
+        ensures doc { result ≡ doc_at self.new.rest }
+        ensures rest { self.new.rest ≡ from_doc target self.old.rest }
+        ensures sound { IsSound self.new.rest }
+        ensures kind { not (is_read self.new.freq_reading) ≡ not (is_read self.old.freq_reading) }
+        ensures work { WentLazily self.old self.new }
+        // what a caller learns beyond the trait
+        ensures one { self.new.doc_decodes ≤ self.old.doc_decodes + 1 }
+        ensures one_of_counts { self.new.freq_decodes ≤ self.old.freq_decodes + 1 }
+        ensures doc_freq { self.new.doc_freq ≡ self.old.doc_freq }
+        ensures reading { self.new.freq_reading ≡ self.old.freq_reading }
+    {
+        let doc = self.doc();
+        if doc >= target {
+            return doc;
+        }
+        self.cur = self.block_cursor.seek(target);
+        self.doc()
     }
 
     fn size_hint(&self) -> u32

@@ -1,0 +1,257 @@
+-- Laws of seeks.
+use Rattle.std.proofs.Common.{◌≡◌, ℕ, zero, suc, ◌+◌, ◌-◌, ◌*◌, ◌/◌, ◌<◌, ◌≤◌, Bool, true, false, List, [], length, take, drop, map, get_or, min, max, nat_lt, Option, Some, None, refl, sym, ap, ◌∙◌, arith, length-take, length-drop}
+use Rattle.std.proofs.lemmas.Bool.{ltb-true, ltb-false}
+use Rattle.std.proofs.lemmas.List.{get_or-take, get_or-drop, get_or_past, get_or_default, drop_all, length-map}
+use Rattle.ii_docset.specs.Entries.{Entry, are_documents}
+use Rattle.ii_docset.specs.Cursor.{doc_at, from_doc, IsAscending, IsSound}
+use Rattle.ii_docset.proofs.CursorLemmas.{advanced, from_doc_step, from_doc_here}
+use Rattle.ii_codes.specs.BlockDecoder.{BlockDecoderState, decodes_of}
+use Rattle.ii_layout.specs.SkipReader.{SkipReaderState}
+use Rattle.ii_layout.specs.Written.{block_of}
+use Rattle.ii_layout.specs.Postings.{entries_of}
+use Rattle.ii_layout.proofs.BlockDocs.{document_more, get_or-block_of}
+use Rattle.ii_check.specs.CheckedPostings.{AreFreqs, CheckedPostingsState, HasDocuments, HoldsFreqs, IsAtBlock, LoadsBlock, LoadsFreqs, SeeksBlock}
+use Rattle.ii_reader.specs.BlockSegmentPostings.{AreEntries, GoesTo, IsBelow, IsLoaded, IsSought}
+use Rattle.ii_reader.proofs.BlockLemmas.{decodes_most, freqs_loaded, state_of}
+use Rattle.ii_reader.proofs.CursorLemmas.{docs_are, doc_at_drop, length-entries, rest_sound}
+
+-- documents in order
+rises_by : (docs : List ℕ) (i n : ℕ) → are_documents docs ≡ true → i + n < length docs → get_or docs i 0 ≤ get_or docs (i + n) 0
+rises_by docs i zero h within =
+    let same : i ≡ i + 0 = omega arith in
+    let here = ap (λ (k : ℕ). get_or docs k 0) same in
+    omega arith
+rises_by docs i (suc n) h within =
+    let before = rises_by docs i n h (omega arith) in
+    let more = document_more docs (i + n) (i + suc n) (omega arith) h within in
+    omega arith
+
+rises : (docs : List ℕ) (i j : ℕ) → are_documents docs ≡ true → i ≤ j → j < length docs → get_or docs i 0 ≤ get_or docs j 0
+rises docs i j h order within =
+    let place : i + (j - i) ≡ j = omega arith in
+    let up = rises_by docs i (j - i) h (omega arith) in
+    let there = ap (λ (k : ℕ). get_or docs k 0) place in
+    omega arith
+
+-- What a seek found out of a block and of the documents in it.
+pub record Found (target : ℕ) (docs : List ℕ) (i k below : ℕ) : Type 0 where
+  pub up : are_documents docs ≡ true
+  pub seeks : SeeksBlock target docs i k
+  pub counts : IsBelow target (block_of docs k) below
+
+in_block : (target : ℕ) (docs : List ℕ) (i k below n : ℕ) → Found target docs i k below → 128 * k ≤ n → n < 128 * k + below → get_or docs n 0 < target
+in_block target docs i k below n f low high =
+    let size = length-take 128 (drop (128 * k) docs) in
+    let within = f.counts.within in
+    let place : 128 * k + (n - 128 * k) ≡ n = omega arith in
+    let here = get_or-block_of docs k (n - 128 * k) (omega arith) ∙ ap (λ (m : ℕ). get_or docs m 0) place in
+    let less = f.counts.before (n - 128 * k) (omega arith) in
+    omega arith
+
+passed : (target : ℕ) (docs : List ℕ) (i k below n : ℕ) → Found target docs i k below → 128 * i ≤ n → n < 128 * k → get_or docs n 0 < target
+passed target docs i k below n f low high =
+    let within = f.seeks.within in
+    let last = f.seeks.passed (n / 128) (omega arith) (omega arith) in
+    let up = rises docs n (128 * (n / 128) + 127) f.up (omega arith) (omega arith) in
+    omega arith
+
+before_cases : (target : ℕ) (docs : List ℕ) (i k below n : ℕ) (t : Bool) → Found target docs i k below → nat_lt n (128 * k) ≡ t → 128 * i ≤ n → n < 128 * k + below → get_or docs n 0 < target
+before_cases target docs i k below n true f test low high = passed target docs i k below n f low (ltb-true n (128 * k) test)
+before_cases target docs i k below n false f test low high = in_block target docs i k below n f (ltb-false n (128 * k) test) high
+
+-- the place of the answer lies in its block where that is full
+pub inside_full : (target : ℕ) (docs : List ℕ) (i k below : ℕ) → Found target docs i k below → k < length docs / 128 → below < 128
+inside_full target docs i k below f full = inside_cases (nat_lt below 128) refl
+  where
+    inside_cases : (t : Bool) → nat_lt below 128 ≡ t → below < 128
+    inside_cases true test = ltb-true below 128 test
+    inside_cases false test =
+        let all = ltb-false below 128 test in
+        let less = in_block target docs i k below (128 * k + 127) f (omega arith) (omega arith) in
+        let enough = f.seeks.found full in
+        absurd (omega arith)
+
+after_inside : (target : ℕ) (docs : List ℕ) (i k below n : ℕ) → Found target docs i k below → below < length (block_of docs k) → 128 * k + below ≤ n → n < length docs → target ≤ get_or docs n 0
+after_inside target docs i k below n f inside low high =
+    let size = length-take 128 (drop (128 * k) docs) in
+    let here = get_or-block_of docs k below (omega arith) in
+    let enough = f.counts.there inside in
+    let up = rises docs (128 * k + below) n f.up low high in
+    omega arith
+
+after_cases : (target : ℕ) (docs : List ℕ) (i k below n : ℕ) (t : Bool) → Found target docs i k below → nat_lt below (length (block_of docs k)) ≡ t → 128 * k + below ≤ n → n < length docs → target ≤ get_or docs n 0
+after_cases target docs i k below n true f test low high = after_inside target docs i k below n f (ltb-true below (length (block_of docs k)) test) low high
+after_cases target docs i k below n false f test low high =
+    let all = ltb-false below (length (block_of docs k)) test in
+    let size = length-take 128 (drop (128 * k) docs) in
+    let left = length-drop (128 * k) docs in
+    let full : k < length docs / 128 = omega arith in
+    let less = inside_full target docs i k below f full in
+    absurd (omega arith)
+
+pub is_sought : (target : ℕ) (docs : List ℕ) (i k below : ℕ) → Found target docs i k below → IsSought target docs i k below
+is_sought target docs i k below f =
+    record {
+      forward = f.seeks.forward;
+      within = f.seeks.within;
+      here = f.counts.within;
+      inside = inside_full target docs i k below f;
+      before = λ n low high. before_cases target docs i k below n (nat_lt n (128 * k)) f refl low high;
+      after = λ n low high. after_cases target docs i k below n (nat_lt below (length (block_of docs k))) f refl low high;
+    }
+
+-- a cursor that went to another block
+pub record Jumps (p : CheckedPostingsState) (skip skip' : SkipReaderState) (docs docs' freqs freqs' : BlockDecoderState) : Type 0 where
+  pub was : IsLoaded p skip docs freqs
+  pub at : IsAtBlock p skip'
+  pub further : skip.block < skip'.block
+  pub loads : LoadsBlock p.postings skip'.block docs docs' freqs freqs'
+
+freq_jump : (o : Option (List ℕ)) (block : ℕ) (old new : BlockDecoderState) → LoadsFreqs o block old new → new.decodes ≤ old.decodes + 1
+freq_jump None block old new loads =
+    let same = ap (λ (d : BlockDecoderState). d.decodes) loads in
+    omega arith
+freq_jump (Some freqs) block old new loads =
+    let count = loads.decodes in
+    let most = decodes_most (length (block_of freqs block)) in
+    omega arith
+
+doc_jump : (p : CheckedPostingsState) (skip skip' : SkipReaderState) (docs docs' freqs freqs' : BlockDecoderState) → Jumps p skip skip' docs docs' freqs freqs' → docs'.decodes ≤ docs.decodes + 1
+doc_jump p skip skip' docs docs' freqs freqs' m =
+    let count = m.loads.docs_are.decodes in
+    let most = decodes_most (length (block_of p.postings.docs skip'.block)) in
+    omega arith
+
+pub jumped_loaded : (p : CheckedPostingsState) (skip skip' : SkipReaderState) (docs docs' freqs freqs' : BlockDecoderState) → Jumps p skip skip' docs docs' freqs freqs' → IsLoaded p skip' docs' freqs'
+jumped_loaded p skip skip' docs docs' freqs freqs' m =
+    let further = m.further in
+    let had = m.was.doc_decodes in
+    let freq_had = m.was.freq_decodes in
+    let count = doc_jump p skip skip' docs docs' freqs freqs' m in
+    let counts = freq_jump p.postings.freqs skip'.block freqs freqs' m.loads.freqs_are in
+    record {
+      has = m.was.has;
+      at = m.at;
+      docs_held = m.loads.docs_are.holds;
+      freqs_held = freqs_loaded p.postings.freqs skip.block skip'.block freqs freqs' m.was.freqs_held m.loads.freqs_are;
+      doc_decodes = omega arith;
+      freq_decodes = omega arith;
+    }
+
+pub jumped_goes : (p : CheckedPostingsState) (skip skip' : SkipReaderState) (docs docs' freqs freqs' : BlockDecoderState) → Jumps p skip skip' docs docs' freqs freqs' → GoesTo (state_of p skip docs freqs) (state_of p skip' docs' freqs') skip'.block
+jumped_goes p skip skip' docs docs' freqs freqs' m =
+    let further = m.further in
+    let count = doc_jump p skip skip' docs docs' freqs freqs' m in
+    let counts = freq_jump p.postings.freqs skip'.block freqs freqs' m.loads.freqs_are in
+    record { docs = refl; freqs = refl; freq_reading = refl; block = refl; doc_decodes = omega arith; freq_decodes = omega arith }
+
+-- a cursor that stayed
+pub stayed_loaded : (p : CheckedPostingsState) (skip skip' : SkipReaderState) (docs freqs : BlockDecoderState) → IsLoaded p skip docs freqs → IsAtBlock p skip' → skip.block ≤ skip'.block → nat_lt skip.block skip'.block ≡ false → IsLoaded p skip' docs freqs
+stayed_loaded p skip skip' docs freqs l at forward test =
+    let back = ltb-false skip.block skip'.block test in
+    let same : skip'.block ≡ skip.block = omega arith in
+    record { has = l.has; at = at; docs_held = rw same l.docs_held; freqs_held = rw same l.freqs_held; doc_decodes = rw same l.doc_decodes; freq_decodes = rw same l.freq_decodes }
+
+pub stayed_goes : (p : CheckedPostingsState) (skip skip' : SkipReaderState) (docs freqs : BlockDecoderState) → GoesTo (state_of p skip docs freqs) (state_of p skip' docs freqs) skip'.block
+stayed_goes p skip skip' docs freqs = record { docs = refl; freqs = refl; freq_reading = refl; block = refl; doc_decodes = omega arith; freq_decodes = omega arith }
+
+pub entries_are : (p : CheckedPostingsState) → HasDocuments p → AreEntries (length p.postings.docs) p.postings.docs p.postings.freqs
+entries_are p h =
+    let many = h.many in
+    record { many = refl; ascending = h.ascending; freqs_are = λ fs e. rw many (h.freqs fs e) }
+
+-- the rest from the target on begins at the place of the answer
+dropped : (target : ℕ) (es : List Entry) (m n : ℕ) → target ≤ 2147483647 → ((k : ℕ) → m ≤ k → k < m + n → doc_at (drop k es) < target) → from_doc target (drop m es) ≡ from_doc target (drop (m + n) es)
+dropped target es m zero up less = let same : m ≡ m + 0 = omega arith in ap (λ (k : ℕ). from_doc target (drop k es)) same
+dropped target es m (suc n) up less =
+    let earlier = dropped target es m n up (λ k low high. less k low (omega arith)) in
+    let next : m + suc n ≡ m + n + 1 = omega arith in
+    let step = from_doc_step target (drop (m + n) es) (less (m + n) (omega arith) (omega arith)) up in
+    earlier ∙ sym step ∙ ap (from_doc target) (sym (advanced es (m + n)) ∙ ap (λ (k : ℕ). drop k es) (sym next))
+
+-- a count with one more document below the target
+pub below_more : (docs : List ℕ) (target below doc : ℕ) → ((n : ℕ) → n < below → get_or docs n 0 < target) → doc ≡ get_or docs below 0 → doc < target → (n : ℕ) → n < below + 1 → get_or docs n 0 < target
+below_more docs target below doc before doc_is less n high = cases (nat_lt n below) refl
+  where
+    cases : (t : Bool) → nat_lt n below ≡ t → get_or docs n 0 < target
+    cases true test = before n (ltb-true n below test)
+    cases false test =
+        let past = ltb-false n below test in
+        let same : n ≡ below = omega arith in
+        rw (same, ← doc_is) less
+
+-- where a seek leaves a cursor over entries
+doc_low : (target : ℕ) (docs : List ℕ) (es : List Entry) (i k below m n : ℕ) → IsSought target docs i k below → map (λ (e : Entry). e.doc) es ≡ docs → 128 * i ≤ m → m ≤ n → n < 128 * k + below → n < length docs → doc_at (drop n es) < target
+doc_low target docs es i k below m n s docs_are low order high within =
+    let here = sym (doc_at_drop es n) ∙ ap (λ (ds : List ℕ). get_or ds n 2147483647) docs_are ∙ sym (get_or_default docs n 0 2147483647 within) in
+    let less = s.before n (omega arith) high in
+    omega arith
+
+end_cases : (target : ℕ) (docs : List ℕ) (es : List Entry) (i k below : ℕ) (t : Bool) → IsSought target docs i k below → map (λ (e : Entry). e.doc) es ≡ docs → target ≤ 2147483647 → nat_lt (128 * k + below) (length docs) ≡ t → target ≤ doc_at (drop (128 * k + below) es)
+end_cases target docs es i k below true s docs_are up test =
+    let within = ltb-true (128 * k + below) (length docs) test in
+    let here = sym (doc_at_drop es (128 * k + below)) ∙ ap (λ (ds : List ℕ). get_or ds (128 * k + below) 2147483647) docs_are ∙ sym (get_or_default docs (128 * k + below) 0 2147483647 within) in
+    let enough = s.after (128 * k + below) (omega arith) within in
+    omega arith
+end_cases target docs es i k below false s docs_are up test =
+    let past = ltb-false (128 * k + below) (length docs) test in
+    let here = sym (doc_at_drop es (128 * k + below)) ∙ ap (λ (ds : List ℕ). get_or ds (128 * k + below) 2147483647) docs_are ∙ get_or_past docs (128 * k + below) 2147483647 past in
+    omega arith
+
+-- Where a cursor over entries stood, and where a seek left it.
+pub record Moved (target : ℕ) (docs : List ℕ) (freqs : Option (List ℕ)) (i cur k below : ℕ) : Type 0 where
+  pub entries : AreEntries (length docs) docs freqs
+  pub up : target ≤ 2147483647
+  pub within : cur < 128
+  pub current : doc_at (drop (128 * i + cur) (entries_of docs freqs)) < target
+  pub sought : IsSought target docs i k below
+
+current_inside : (target : ℕ) (docs : List ℕ) (freqs : Option (List ℕ)) (i cur k below : ℕ) (t : Bool) → Moved target docs freqs i cur k below → nat_lt (128 * i + cur) (length docs) ≡ t → 128 * i + cur < length docs
+current_inside target docs freqs i cur k below true m test = ltb-true (128 * i + cur) (length docs) test
+current_inside target docs freqs i cur k below false m test =
+    let past = ltb-false (128 * i + cur) (length docs) test in
+    let es = entries_of docs freqs in
+    let here = sym (doc_at_drop es (128 * i + cur)) ∙ ap (λ (ds : List ℕ). get_or ds (128 * i + cur) 2147483647) (docs_are (length docs) docs freqs m.entries) ∙ get_or_past docs (128 * i + cur) 2147483647 past in
+    let up = m.up in
+    let less = m.current in
+    absurd (omega arith)
+
+order_cases : (target : ℕ) (docs : List ℕ) (freqs : Option (List ℕ)) (i cur k below : ℕ) (t : Bool) → Moved target docs freqs i cur k below → nat_lt (128 * i + cur) (128 * k + below) ≡ t → 128 * i + cur < 128 * k + below
+order_cases target docs freqs i cur k below true m test = ltb-true (128 * i + cur) (128 * k + below) test
+order_cases target docs freqs i cur k below false m test =
+    let past = ltb-false (128 * i + cur) (128 * k + below) test in
+    let inside = current_inside target docs freqs i cur k below (nat_lt (128 * i + cur) (length docs)) m refl in
+    let es = entries_of docs freqs in
+    let here = sym (doc_at_drop es (128 * i + cur)) ∙ ap (λ (ds : List ℕ). get_or ds (128 * i + cur) 2147483647) (docs_are (length docs) docs freqs m.entries) ∙ sym (get_or_default docs (128 * i + cur) 0 2147483647 inside) in
+    let enough = m.sought.after (128 * i + cur) past inside in
+    let less = m.current in
+    absurd (omega arith)
+
+-- what is left is what the target leaves
+pub rest_sought : (target : ℕ) (docs : List ℕ) (freqs : Option (List ℕ)) (i cur k below : ℕ) → Moved target docs freqs i cur k below
+    → drop (128 * k + below) (entries_of docs freqs) ≡ from_doc target (drop (128 * i + cur) (entries_of docs freqs))
+rest_sought target docs freqs i cur k below m =
+    let es = entries_of docs freqs in
+    let are = docs_are (length docs) docs freqs m.entries in
+    let order = order_cases target docs freqs i cur k below (nat_lt (128 * i + cur) (128 * k + below)) m refl in
+    let far = 128 * k + below - (128 * i + cur) in
+    let place : 128 * i + cur + far ≡ 128 * k + below = omega arith in
+    let here = m.sought.here in
+    let size = length-take 128 (drop (128 * k) docs) in
+    let left = length-drop (128 * k) docs in
+    let reach = m.sought.within in
+    let inside = current_inside target docs freqs i cur k below (nat_lt (128 * i + cur) (length docs)) m refl in
+    let gone = dropped target es (128 * i + cur) far m.up (λ n low high. doc_low target docs es i k below (128 * i + cur) n m.sought are (omega arith) low (omega arith) (omega arith)) in
+    let sound = rest_sound (length docs) docs freqs (128 * k + below) m.entries in
+    let stays = from_doc_here target (drop (128 * k + below) es) sound.ascending (end_cases target docs es i k below (nat_lt (128 * k + below) (length docs)) m.sought are m.up refl) in
+    sym (gone ∙ ap (λ (n : ℕ). from_doc target (drop n es)) place ∙ stays)
+
+-- the place of an answer lies in its block
+pub below_block : (target : ℕ) (docs : List ℕ) (i k below : ℕ) (t : Bool) → IsSought target docs i k below → nat_lt k (length docs / 128) ≡ t → below < 128
+below_block target docs i k below true s test = s.inside (ltb-true k (length docs / 128) test)
+below_block target docs i k below false s test =
+    let past = ltb-false k (length docs / 128) test in
+    let here = s.here in
+    let size = length-take 128 (drop (128 * k) docs) in
+    let left = length-drop (128 * k) docs in
+    omega arith
