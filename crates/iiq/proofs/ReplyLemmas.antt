@@ -7,7 +7,7 @@ use Rattle.std.proofs.lemmas.List.{append-nil, length-map}
 use Rattle.ii_docset.proofs.CursorLemmas.{ascending, length_below}
 use Rattle.ii_docset.specs.Entries.{document, are_documents}
 use Rattle.ii_base.specs.declared.schema.index_record_option.IndexRecordOption.TheVariants.{Basic}
-use Rattle.ii_layout.specs.Postings.{document_list}
+use Rattle.ii_layout.specs.Postings.{posting_list}
 use Rattle.ii_layout.specs.Written.{written_documents, ReadsDocumentsBack}
 use Rattle.iiq.specs.Commands.{Command, command_of}
 use Rattle.iiq.specs.Output.{with_ends, command_texts, maybe_texts, reply_to}
@@ -43,7 +43,7 @@ few_documents docs h =
     omega arith
 
 -- what is written opens as its list
-pub opens_written : (docs bytes : List ℕ) → ReadsDocumentsBack → are_documents docs ≡ true → bytes ≡ written_documents docs → document_list Basic (length docs) bytes ≡ Ok (map document docs)
+pub opens_written : (docs bytes : List ℕ) → ReadsDocumentsBack → are_documents docs ≡ true → bytes ≡ written_documents docs → posting_list Basic Basic (length docs) bytes ≡ Ok (map document docs)
 opens_written docs bytes law h e =
     let few = few_documents docs h in
     let whole = rw append-nil at (law docs [] h (omega arith)) in

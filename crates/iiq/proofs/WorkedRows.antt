@@ -52,6 +52,38 @@ pub row_nothing : reply_to (codes "open b b 0 -") ≡ codes "-\n"
 unfolding is_utf8 chars digits lib.Utf8.encode decode_pairs u32_at
 row_nothing = refl
 
+pub row_counts : reply_to (codes "open f f 3 808288818283") ≡ codes "0:1 2:2 10:3\n"
+unfolding is_utf8 chars digits lib.Utf8.encode decode_pairs u32_at
+row_counts = refl
+
+pub row_counts_unasked : reply_to (codes "open f b 3 808288FF") ≡ codes "0 2 10\n"
+unfolding is_utf8 chars digits lib.Utf8.encode decode_pairs u32_at
+row_counts_unasked = refl
+
+pub row_no_counts : reply_to (codes "open f f 3 808288") ≡ codes "0:1 2:1 10:1\n"
+unfolding is_utf8 chars digits lib.Utf8.encode decode_pairs u32_at
+row_no_counts = refl
+
+pub row_counts_damaged : reply_to (codes "open f f 3 808288FF") ≡ codes "damaged frequencies\n"
+unfolding is_utf8 chars digits lib.Utf8.encode decode_pairs u32_at
+row_counts_damaged = refl
+
+pub row_count_of_zero : reply_to (codes "open f f 1 8080") ≡ codes "0:0\n"
+unfolding is_utf8 chars digits lib.Utf8.encode decode_pairs u32_at
+row_count_of_zero = refl
+
+pub row_counts_unrecorded : reply_to (codes "open b f 3 808288") ≡ codes "0 2 10\n"
+unfolding is_utf8 chars digits lib.Utf8.encode decode_pairs u32_at
+row_counts_unrecorded = refl
+
+pub row_counts_of_positions : reply_to (codes "open p f 3 808288818283") ≡ codes "0:1 2:2 10:3\n"
+unfolding is_utf8 chars digits lib.Utf8.encode decode_pairs u32_at
+row_counts_of_positions = refl
+
+pub row_positions : reply_to (codes "open p p 3 808288818283 80") ≡ codes "error line\n"
+unfolding is_utf8 chars digits lib.Utf8.encode decode_pairs
+row_positions = refl
+
 pub row_spaces : reply_to (codes "ids 1  2") ≡ codes "error line\n"
 unfolding is_utf8 chars digits lib.Utf8.encode
 row_spaces = refl

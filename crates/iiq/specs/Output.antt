@@ -3,22 +3,30 @@ use Rattle.std.specs.Prelude.{◌≡◌, ℕ, Bool, not, ◌⊎◌, nat_eq, List
 use Rattle.std.specs.List.{join_with_byte, list_all, starts_with}
 use Rattle.std.specs.Str.{is_utf8}
 use Rattle.std.specs.Io.KnownBytes.{Appends}
+use Rattle.ii_base.specs.declared.schema.index_record_option.IndexRecordOption.{IndexRecordOption}
 use Rattle.ii_base.specs.declared.schema.index_record_option.IndexRecordOption.TheVariants.{Basic}
+use Rattle.ii_base.specs.Options.{downgrade, has_freq}
 use Rattle.ii_io.specs.declared.faults.Part.{Part}
 use Rattle.ii_io.specs.declared.faults.Part.TheVariants.{Skip, Documents, Frequencies, Positions}
 use Rattle.ii_docset.specs.Entries.{Entry, document}
-use Rattle.ii_layout.specs.Postings.{document_list}
+use Rattle.ii_layout.specs.Postings.{posting_list}
 use Rattle.ii_layout.specs.Written.{written_documents}
 use Rattle.iiq.specs.Words.{lines_of, nothing, written_hex}
 use Rattle.iiq.specs.Commands.{Command, show_ids, open_list, command_of}
 
-abbrev pub item : Entry → List ℕ
-item e = decimal e.doc
+-- a document, and after a colon its count, where an option asks for counts
+abbrev pub item : IndexRecordOption → Entry → List ℕ
+item option e = if has_freq option then decimal e.doc ++ 58 ∷ decimal e.term_freq else decimal e.doc
+
+-- the item of the current document
+abbrev pub item_at : IndexRecordOption → List Entry → List ℕ
+item_at option [] = []
+item_at option (e ∷ es) = item option e
 
 -- the items of a list, parted by a space, or a dash for none
-abbrev pub list_text : List Entry → List ℕ
-list_text [] = nothing
-list_text (e ∷ es) = join_with_byte 32 (map item (e ∷ es))
+abbrev pub list_text : IndexRecordOption → List Entry → List ℕ
+list_text option [] = nothing
+list_text option (e ∷ es) = join_with_byte 32 (map (item option) (e ∷ es))
 
 abbrev pub part_name : Part → List ℕ
 part_name Skip = codes "skip"
@@ -27,14 +35,14 @@ part_name Frequencies = codes "frequencies"
 part_name Positions = codes "positions"
 part_name _ = []
 
-abbrev pub opened_text : Result (List Entry) Part → List ℕ
-opened_text (Ok entries) = list_text entries
-opened_text (Err part) = codes "damaged " ++ part_name part
+abbrev pub opened_text : IndexRecordOption → Result (List Entry) Part → List ℕ
+opened_text option (Ok entries) = list_text option entries
+opened_text option (Err part) = codes "damaged " ++ part_name part
 
 -- the texts that are written for a command
 abbrev pub command_texts : Command → List (List ℕ)
-command_texts (show_ids docs) = written_hex (written_documents docs) ∷ list_text (map document docs) ∷ []
-command_texts (open_list recorded requested doc_freq bytes positions) = opened_text (document_list Basic doc_freq bytes) ∷ []
+command_texts (show_ids docs) = written_hex (written_documents docs) ∷ list_text Basic (map document docs) ∷ []
+command_texts (open_list recorded requested doc_freq bytes positions) = opened_text (downgrade recorded requested) (posting_list recorded requested doc_freq bytes) ∷ []
 
 abbrev pub maybe_texts : Option Command → List (List ℕ)
 maybe_texts None = codes "error line" ∷ []

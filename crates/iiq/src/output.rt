@@ -1,9 +1,11 @@
-ghost use Rattle.std.specs.Prelude.{◌≡◌, ◌++◌, string_bytes, IfOk, OnOk, IsTrue};
+ghost use Rattle.std.specs.Prelude.{◌≡◌, ◌++◌, ◌<◌, string_bytes, IfOk, OnOk, IsTrue};
+ghost use Rattle.ii_docset.specs.declared.docset.TheConstants.{TERMINATED};
+ghost use Rattle.ii_docset.specs.Cursor.{doc_at};
 ghost use Rattle.ii_docset.specs.Entries.{are_documents, document};
 ghost use Rattle.iiq.specs.Commands.{documents_of_words};
 ghost use Rattle.iiq.specs.Words.{written_hex};
 ghost use Rattle.ii_layout.specs.Written.{written_documents};
-ghost use Rattle.iiq.specs.Output.{list_text, part_name, reply_to};
+ghost use Rattle.iiq.specs.Output.{item_at, list_text, part_name, reply_to};
 
 use ii_base::{CountingWriter, IndexRecordOption, Part};
 use ii_docset::{DocSet, TERMINATED};
@@ -43,21 +45,44 @@ pub fn hex_text(alloc: Global, bytes: &[u8]) -> Result<String, AllocError>
     hex::encode(alloc, bytes)
 }
 
-/// Adds the documents that a cursor has left to a text, parted by spaces, or a dash for none.
-pub fn push_list(text: &mut String, cursor: &mut SegmentPostings) -> Result<(), AllocError>
-    ensures { OnOk result (string_bytes text.new ≡ string_bytes text.old ++ list_text cursor.old.rest) }
+/// Adds the documents that a cursor has left to a text, with their counts where the option asks for
+/// these, parted by spaces, or a dash for none.
+pub fn push_list(
+    text: &mut String,
+    cursor: &mut SegmentPostings,
+    option: IndexRecordOption,
+) -> Result<(), AllocError>
+    ensures { OnOk result (string_bytes text.new ≡ string_bytes text.old ++ list_text option cursor.old.rest) }
 {
     let first = cursor.doc();
     if first == TERMINATED {
         return text.push('-');
     }
-    write!(text, "{first}")?;
+    push_item(text, cursor, option)?;
     let mut doc = cursor.advance();
     while doc != TERMINATED {
-        write!(text, " {doc}")?;
+        text.push(' ')?;
+        push_item(text, cursor, option)?;
         doc = cursor.advance();
     }
     Ok(())
+}
+
+// Adds the current document of a cursor to a text, with its count where the option asks for counts.
+fn push_item(
+    text: &mut String,
+    cursor: &SegmentPostings,
+    option: IndexRecordOption,
+) -> Result<(), AllocError>
+    requires { doc_at cursor.now.rest < TERMINATED }
+    ensures { OnOk result (string_bytes text.new ≡ string_bytes text.old ++ item_at option cursor.now.rest) }
+{
+    let doc = cursor.doc();
+    if !option.has_freq() {
+        return write!(text, "{doc}");
+    }
+    let count = cursor.term_freq();
+    write!(text, "{doc}:{count}")
 }
 
 /// The name of a part of a term's bytes.

@@ -1,5 +1,5 @@
-ghost use Rattle.std.specs.Prelude.{◌≡◌, IsTrue, IfOk, string_bytes, option_map, map};
-ghost use Rattle.ii_base.specs.declared.schema.index_record_option.IndexRecordOption.TheVariants.{Basic};
+ghost use Rattle.std.specs.Prelude.{◌≡◌, false, IsTrue, IfOk, string_bytes, option_map, map};
+ghost use Rattle.ii_base.specs.Options.{downgrade, has_positions};
 ghost use Rattle.ii_docset.specs.Entries.{are_documents, document};
 ghost use Rattle.ii_layout.specs.Written.{written_documents};
 ghost use Rattle.iiq.specs.Commands.{show_ids, built, ids_command, open_command, command_of};
@@ -68,7 +68,7 @@ fn ids_text(alloc: Global, docs: &[u32]) -> Result<String, AllocError>
     let mut text = hex_text(alloc, &bytes)?;
     text.push('\n')?;
     let mut cursor = reopened(docs, Bytes::from_vec(bytes)?);
-    push_list(&mut text, &mut cursor)?;
+    push_list(&mut text, &mut cursor, IndexRecordOption::Basic)?;
     text.push('\n')?;
     Ok(text)
 }
@@ -94,7 +94,8 @@ fn open_reply(alloc: Global, words: &mut Parts<'_>) -> Result<Option<String>, Al
     let Some(opening) = list_to_open(alloc, words)? else {
         return Ok(None);
     };
-    if opening.record_option != IndexRecordOption::Basic {
+    let option = opening.record_option.downgrade(opening.requested_option);
+    if option.has_positions() {
         return Ok(None);
     }
     Ok(Some(open_text(alloc, opening)?))
@@ -102,10 +103,11 @@ fn open_reply(alloc: Global, words: &mut Parts<'_>) -> Result<Option<String>, Al
 
 // The list that bytes give, or the part of them that is damaged.
 fn open_text(alloc: Global, opening: Opening) -> Result<String, AllocError>
-    requires { opening.record_option ≡ Basic }
+    requires { has_positions (downgrade opening.record_option opening.requested_option) ≡ false }
     ensures { IfOk result (λ text. string_bytes text ≡ with_ends (command_texts (opening_command opening))) }
 {
     let mut text = String::new(alloc);
+    let option = opening.record_option.downgrade(opening.requested_option);
     let opened = SegmentPostings::open(
         opening.doc_freq,
         opening.postings,
@@ -114,7 +116,7 @@ fn open_text(alloc: Global, opening: Opening) -> Result<String, AllocError>
         opening.requested_option,
     );
     match opened {
-        Ok(mut cursor) => push_list(&mut text, &mut cursor)?,
+        Ok(mut cursor) => push_list(&mut text, &mut cursor, option)?,
         Err(LayoutFault::Damaged(part)) => {
             text.push_str("damaged ")?;
             text.push_str(name_of(part))?;

@@ -5,24 +5,33 @@ use Rattle.iiq.proofs.output.push_list.Goals as goal
 
 pub returns-then-first-eq-TERMINATED : goal.returns-then-first-eq-TERMINATED
 returns-then-first-eq-TERMINATED c =
-    let none = list_text_none c.args.cursor.now.rest c.doc-first.ensures.sound.ascending (sym c.doc-first.ensures.doc ∙ c.if-first-eq-TERMINATED.true) in
+    let none = list_text_none c.args.option c.args.cursor.now.rest c.doc-first.ensures.sound.ascending (sym c.doc-first.ensures.doc ∙ c.if-first-eq-TERMINATED.true) in
     rw none (search rules)
+
+pub push_item-requires : goal.push_item-requires
+push_item-requires c = below_end c.args.cursor.now.rest c.doc-first.result c.doc-first.ensures.sound.ascending c.doc-first.ensures.doc c.if-first-eq-TERMINATED.false
 
 pub loop-doc-init : goal.loop-doc-init
 loop-doc-init c =
     let below = below_end c.args.cursor.now.rest c.doc-first.result c.doc-first.ensures.sound.ascending c.doc-first.ensures.doc c.if-first-eq-TERMINATED.false in
-    let first = list_text_first c.args.cursor.now.rest c.doc-first.ensures.sound.ascending below in
-    record { here = c.advance-doc.ensures.doc; ascending = c.advance-doc.ensures.sound.ascending; written = rw (first, c.advance-doc.ensures.rest, ← c.doc-first.ensures.doc, c.in_ok-write.ensures.bytes, append_assoc) refl }
+    let first = list_text_first c.args.option c.args.cursor.now.rest below in
+    record { here = c.advance-doc.ensures.doc; ascending = c.advance-doc.ensures.sound.ascending; written = rw (first, c.advance-doc.ensures.rest, c.in_ok-push_item.ensures, append_assoc) refl }
+
+pub push_item-requires-in-loop-doc : goal.push_item-requires-in-loop-doc
+push_item-requires-in-loop-doc c =
+    let known = c.loop-doc.invariant in
+    below_end c.loop-doc.cursor.rest c.loop-doc.doc known.ascending known.here c.loop-doc-test.true
 
 pub loop-doc-preserved : goal.loop-doc-preserved
+unfolding lib.Utf8.encode
 loop-doc-preserved c =
     let known = c.loop-doc.invariant in
     let below = below_end c.loop-doc.cursor.rest c.loop-doc.doc known.ascending known.here c.loop-doc-test.true in
-    let next = more_items_next c.loop-doc.cursor.rest known.ascending below in
-    record { here = c.advance-doc-in-loop-doc.ensures.doc; ascending = c.advance-doc-in-loop-doc.ensures.sound.ascending; written = rw (← known.written, next, c.advance-doc-in-loop-doc.ensures.rest, ← known.here, c.in_ok-write-2.ensures.bytes, append_assoc) refl }
+    let next = more_items_next c.args.option c.loop-doc.cursor.rest below in
+    record { here = c.advance-doc-in-loop-doc.ensures.doc; ascending = c.advance-doc-in-loop-doc.ensures.sound.ascending; written = rw (← known.written, next, c.advance-doc-in-loop-doc.ensures.rest, c.in_ok-push_item-2.ensures, c.in_ok-push.ensures.bytes, append_assoc, append_assoc) refl }
 
 pub returns : goal.returns
 returns c =
     let known = c.loop-doc.invariant in
-    let none = more_items_none c.loop-doc.cursor.rest known.ascending (sym known.here ∙ c.loop-doc-test.false) in
+    let none = more_items_none c.args.option c.loop-doc.cursor.rest known.ascending (sym known.here ∙ c.loop-doc-test.false) in
     rw (← known.written, none, append-nil) refl

@@ -9,7 +9,7 @@ abbrev pub invariant-loop-doc : goal.invariant-loop-doc
 invariant-loop-doc l = record {
   here : l.doc ≡ doc_at l.cursor.rest;
   ascending : IsAscending l.cursor.rest;
-  written : string_bytes l.text ++ more_items l.cursor.rest ≡ string_bytes l.fn.text ++ list_text l.fn.cursor.rest;
+  written : string_bytes l.text ++ more_items l.option l.cursor.rest ≡ string_bytes l.fn.text ++ list_text l.option l.fn.cursor.rest;
 }
 
 abbrev pub decreases-loop-doc : goal.decreases-loop-doc
