@@ -2,14 +2,14 @@ ghost use Rattle.std.specs.Prelude.{◌≡◌, ℕ, ◌+◌, ◌-◌, ◌*◌, �
 ghost use Rattle.std.specs.List.{slice_range};
 ghost use Rattle.std.specs.Option.{option_map};
 ghost use Rattle.ii_termstore.specs.TermStore.{term_store};
-ghost use Rattle.ii_termdict.specs.Dictionary.{end_of, start_of, key_of, ends_rise, keys_ascend, key_parts, is_below, store_behind, entries_of, AreOpened, info_under, entry_keys, entry_infos, dictionary};
+ghost use Rattle.ii_termdict.specs.Dictionary.{end_of, start_of, key_of, ends_rise, keys_ascend, key_parts, is_below, store_after, entries_of, AreOpened, info_under, entry_keys, entry_infos, dictionary};
 
 use ii_io::{BinarySerializable, Part};
 use ii_termstore::{TermInfo, TermInfoStoreView};
 use std::cmp::Ordering;
 
 /// The parts of a dictionary's bytes: the number of its terms, the ends of their keys and what stands
-/// after them, and the keys with the store behind them.
+/// after them, and the keys with the store after them.
 #[derive(Clone, Copy)]
 pub(crate) struct KeyParts<'a> {
     pub num_terms: u64,
@@ -126,7 +126,7 @@ fn do_keys_ascend(n: u64, ends: &[u8], body: &[u8]) -> bool
 fn store_of<'a>(n: u64, ends: &[u8], body: &'a [u8]) -> &'a [u8]
     requires there { 8 * n ≤ length ends.now }
     requires rise { ends_rise n ends.now body.now ≡ true }
-    ensures { result.now ≡ store_behind n ends.now body.now }
+    ensures { result.now ≡ store_after n ends.now body.now }
 {
     &body[read_start(ends, n) as usize..]
 }
@@ -158,7 +158,7 @@ pub(crate) fn first_damaged_part(bytes: &[u8]) -> Option<Part>
 // The store after the keys of a dictionary.
 fn view_of<'a>(parts: &KeyParts<'a>) -> TermInfoStoreView<'a>
     requires { AreOpened parts.now.num_terms parts.now.ends.now parts.now.body.now }
-    ensures value { term_store (store_behind parts.now.num_terms parts.now.ends.now parts.now.body.now) ≡ Some result }
+    ensures value { term_store (store_after parts.now.num_terms parts.now.ends.now parts.now.body.now) ≡ Some result }
     ensures count { length result ≡ parts.now.num_terms }
 {
     TermInfoStoreView::over(store_of(parts.num_terms, parts.ends, parts.body))
@@ -167,7 +167,7 @@ fn view_of<'a>(parts: &KeyParts<'a>) -> TermInfoStoreView<'a>
 /// The parts of a dictionary.
 pub(crate) fn opened(bytes: &[u8]) -> KeyParts<'_>
     requires { IsOk (dictionary bytes.now) }
-    ensures lawful { AreOpened result.num_terms result.ends.now result.body.now }
+    ensures valid { AreOpened result.num_terms result.ends.now result.body.now }
     ensures entries { dictionary bytes.now ≡ Ok (entries_of result.num_terms result.ends.now result.body.now) }
 {
     match parts_of(bytes) {

@@ -37,7 +37,7 @@ impl TermDictionary {
     /// lowest first, then the keys, then the term store.
     ///
     /// `Damaged(Dictionary)` where bytes are missing, ends decrease or keys don't ascend strictly by their
-    /// bytes; else `Damaged(TermStore)` where the store is first_damaged_partd; else `Damaged(Dictionary)` where it
+    /// bytes; else `Damaged(TermStore)` where the store is damaged; else `Damaged(Dictionary)` where it
     /// has another number of terms. It takes no memory, and time by the number of terms that the bytes
     /// tell and the bytes of their keys; metas of the store may name the same bits.
     pub fn open(bytes: Bytes) -> Result<TermDictionary, Fault>
