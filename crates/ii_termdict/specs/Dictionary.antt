@@ -19,9 +19,13 @@ Entry = List ℕ × TermInfo
 abbrev pub is_below : List ℕ → List ℕ → Bool
 is_below k l = is_lt (slice_cmp nat_cmp k l)
 
--- where key i ends and begins, by the numbers of eight bytes
+-- how many bytes the end of a key takes
+abbrev pub end_size : ℕ
+end_size = 8
+
+-- where key i ends and begins, by numbers of that size
 unfoldable pub end_of : List ℕ → ℕ → ℕ
-end_of ends i = unwrap_or (option_map (λ found. found.0) (number_at 8 (drop (8 * i) ends))) 0
+end_of ends i = unwrap_or (option_map (λ found. found.0) (number_at end_size (drop (end_size * i) ends))) 0
 
 abbrev pub start_of : List ℕ → ℕ → ℕ
 start_of ends i = if i == 0 then 0 else end_of ends (i - 1)
@@ -44,8 +48,8 @@ keys_of n ends body = map (key_of ends body) (range_with_len 0 n)
 unfoldable pub key_parts : List ℕ → Option (ℕ × List ℕ × List ℕ)
 key_parts bytes = do
   n ← number_at 8 bytes
-  _ ← needs (nat_le (8 * n.0) (length n.1))
-  Some (n.0, n.1, drop (8 * n.0) n.1)
+  _ ← needs (nat_le (end_size * n.0) (length n.1))
+  Some (n.0, n.1, drop (end_size * n.0) n.1)
 
 -- the keys, and the bytes of the store after them
 unfoldable pub keys_at : List ℕ → Option (List (List ℕ) × List ℕ)
@@ -84,7 +88,7 @@ entries_of n ends body = zip (keys_of n ends body) (unwrap_or (term_store (store
 
 -- What the parts of an opened dictionary meet.
 pub record AreOpened (n : ℕ) (ends body : List ℕ) : Type 0 where
-  pub there : 8 * n ≤ length ends
+  pub there : end_size * n ≤ length ends
   pub rise : ends_rise n ends body ≡ true
   pub ascend : keys_ascend n ends body ≡ true
   pub store : IsSomeAnd (term_store (store_after n ends body)) (λ infos. length infos ≡ n)

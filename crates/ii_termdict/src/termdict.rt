@@ -29,8 +29,11 @@ impl Model for TermDictionary {
     ghost invariant = { λ d. IsOk (dictionary d.bytes) };
 }
 
-// The bytes of no terms.
-static NO_TERMS: [u8; 24] = [0; 24];
+// How many bytes a dictionary of no terms takes: the numbers of its keys, of its metas' bytes and of its
+// terms.
+const EMPTY_SIZE: usize = 24;
+
+static NO_TERMS: [u8; EMPTY_SIZE] = [0; EMPTY_SIZE];
 
 impl TermDictionary {
     /// Opens a dictionary: the number of terms and for each the end of its key, 8 bytes each with the

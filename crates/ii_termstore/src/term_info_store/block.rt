@@ -1,6 +1,6 @@
 ghost use Rattle.std.specs.Prelude.{◌≡◌, ◌+◌, ◌-◌, ◌*◌, ◌^◌, ◌<◌, ◌≤◌, ◌&&◌, true, nat_le, nat_lt, length, drop, Some, None, if◌then◌else◌};
 ghost use Rattle.ii_codes.specs.Packed.{bits_in};
-ghost use Rattle.ii_termstore.specs.TermInfos.{is_sound};
+ghost use Rattle.ii_termstore.specs.TermInfos.{is_short, is_sound};
 ghost use Rattle.ii_termstore.specs.TermStore.{postings_number, positions_number, doc_freq_at, block_info, term_bits, widths_fit, bits_lie, is_block};
 
 use super::BLOCK_LEN;
@@ -131,17 +131,17 @@ pub(super) fn sound_info(
 fn sound_first(info: &TermInfo) -> Option<TermInfo>
     ensures { result ≡ (if is_sound info.now then Some info.now else None) }
 {
-    let (postings, positions) = (&info.postings_range, &info.positions_range);
-    if is_short(postings.start, postings.end) && is_short(positions.start, positions.end) {
+    if is_short(&info.postings_range) && is_short(&info.positions_range) {
         return Some(info.copied());
     }
     None
 }
 
 // Whether a range ends at or after its start and has fewer than 2^32 bytes.
-fn is_short(start: usize, end: usize) -> bool
-    ensures { result ≡ (nat_le start end && nat_lt (end - start) (2 ^ 32)) }
+fn is_short(range: &Range<usize>) -> bool
+    ensures { result ≡ is_short range.now }
 {
+    let (start, end) = (range.start, range.end);
     start <= end && end - start <= u32::MAX as usize
 }
 
