@@ -1,4 +1,4 @@
-ghost use Rattle.std.specs.Prelude.{◌≡◌, ℕ, ◌+◌, ◌-◌, ◌*◌, ◌<◌, ◌≤◌, true, length, drop, Some, slice_get, IfSome, IfNone, IfOk, IsOk, IsOkAnd, Ok, Err, MatchOption};
+ghost use Rattle.std.specs.Prelude.{◌≡◌, ℕ, ◌+◌, ◌-◌, ◌*◌, ◌<◌, ◌≤◌, true, length, Some, slice_get, IfSome, IfNone, IfOk, IsOk, IsOkAnd, Ok, Err, MatchOption};
 ghost use Rattle.std.specs.List.{slice_range};
 ghost use Rattle.std.specs.Option.{option_map};
 ghost use Rattle.ii_termstore.specs.TermStore.{term_store};

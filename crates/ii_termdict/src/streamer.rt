@@ -14,7 +14,7 @@ pub struct TermStreamer<'a> {
 }
 
 impl<'a> Model for TermStreamer<'a> {
-    ghost use Rattle.std.specs.Prelude.{◌≤◌, List, ℕ, [], IsOk, length};
+    ghost use Rattle.std.specs.Prelude.{◌≤◌, [], IsOk, length};
     ghost use Rattle.std.specs.Result.{result_unwrap_or};
     ghost use Rattle.ii_termdict.specs.Dictionary.{dictionary};
     ghost use Rattle.ii_termdict.specs.TermStreamer.{TermStreamerState};

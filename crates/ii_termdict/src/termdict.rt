@@ -1,4 +1,4 @@
-ghost use Rattle.std.specs.Prelude.{◌≡◌, ◌<◌, ◌+◌, [], length, Err, Ok, Some, IfOk, IfErr, OnErr, nat_lt, slice_get, unwrap_or};
+ghost use Rattle.std.specs.Prelude.{◌≡◌, ◌<◌, [], length, Err, Ok, Some, IfOk, IfErr, OnErr, nat_lt, slice_get, unwrap_or};
 ghost use Rattle.ii_io.specs.declared.faults.Part.{Part};
 ghost use Rattle.ii_termdict.specs.Dictionary.{dictionary, info_under, entry_keys};
 

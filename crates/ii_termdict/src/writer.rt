@@ -31,7 +31,7 @@ pub struct TermDictionaryWriter {
 }
 
 impl Model for TermDictionaryWriter {
-    ghost use Rattle.std.specs.Prelude.{◌≡◌, ◌≤◌, ◌+◌, false, length};
+    ghost use Rattle.std.specs.Prelude.{◌≡◌, ◌+◌, false, length};
     ghost use Rattle.ii_termdict.specs.ReadBack.{AreAscending};
     ghost use Rattle.ii_termdict.specs.TermDictionaryWriter.{TermDictionaryWriterState, HasKeys, keys_between};
 

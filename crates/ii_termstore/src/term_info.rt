@@ -1,5 +1,4 @@
-ghost use Rattle.std.specs.Prelude.{◌≡◌, ◌-◌, ◌^◌, ◌<◌, ◌≤◌, ◌↔◌, ◌⊎◌, ℕ, List, ◌++◌, length, Option, Some, OnOk, IfErr, IfNone, IsErrOf, if◌then◌else◌};
-ghost use Rattle.ii_io.specs.CountingWriter.{Wrote, IsFull};
+ghost use Rattle.std.specs.Prelude.{◌≡◌, ◌-◌, ◌^◌, ◌<◌, ◌≤◌, length, Option, Some};
 ghost use Rattle.ii_io.specs.Numbers.{le_bytes};
 
 use byteorder::{ByteOrder, LittleEndian};

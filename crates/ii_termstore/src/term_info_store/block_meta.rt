@@ -1,6 +1,5 @@
-ghost use Rattle.std.specs.Prelude.{◌≡◌, ◌<◌, ◌^◌, ◌++◌, ◌↔◌, ◌⊎◌, ◌∷◌, [], ℕ, List, length, Option, Some, OnOk, IfErr, IfNone, IsErrOf};
+ghost use Rattle.std.specs.Prelude.{◌≡◌, ◌<◌, ◌^◌, ◌∷◌, [], length, Option, Some, IfNone};
 ghost use Rattle.std.specs.Option.{option_map};
-ghost use Rattle.ii_io.specs.CountingWriter.{Wrote, IsFull};
 ghost use Rattle.ii_io.specs.Numbers.{number_at};
 
 use crate::term_info::{TermInfo, put_info, put_u64};

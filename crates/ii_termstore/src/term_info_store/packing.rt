@@ -1,4 +1,4 @@
-ghost use Rattle.std.specs.Prelude.{◌≡◌, ℕ, ◌+◌, ◌-◌, ◌*◌, ◌^◌, ◌<◌, ◌≤◌, List, ◌++◌, length, map, max, drop, take};
+ghost use Rattle.std.specs.Prelude.{◌≡◌, ℕ, ◌+◌, ◌-◌, ◌*◌, ◌^◌, ◌<◌, ◌≤◌, List, ◌++◌, length, map, max, take};
 ghost use Rattle.ii_codes.specs.Bits.{low_bits, bits_bytes};
 ghost use Rattle.ii_codes.specs.Packed.{num_bits};
 ghost use Rattle.ii_termstore.specs.declared.term_info.TermInfo.{TermInfo};

@@ -1,4 +1,4 @@
-ghost use Rattle.std.specs.Prelude.{◌≡◌, ◌+◌, ◌-◌, ◌*◌, ◌/◌, ◌<◌, ◌≤◌, true, length, drop, map, Some, IfSome, slice_get, IsSome};
+ghost use Rattle.std.specs.Prelude.{◌≡◌, ◌+◌, ◌-◌, ◌*◌, ◌/◌, ◌<◌, ◌≤◌, true, length, map, Some, IfSome, slice_get, IsSome};
 ghost use Rattle.std.specs.List.{range_with_len};
 ghost use Rattle.std.specs.Option.{option_map};
 ghost use Rattle.ii_termstore.specs.TermStore.{block_count, block_terms, meta_size, has_block, are_blocks, block_meta_at, term_info_at, store_parts, term_store};
