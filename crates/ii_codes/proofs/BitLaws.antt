@@ -16,21 +16,21 @@ front_entries p q (suc n) h =
     let one : suc n ≡ n + 1 = omega arith in
     rw (one, entries_in-more 1 8 n (p ++ q), entries_in-more 1 8 n p, front_entries p q n (omega arith), bits_in-append 1 p q (n * 8) 8 (omega arith) (omega arith)) refl
 
-bit_behind : (p q : List ℕ) (j : ℕ) → bit_in 1 (p ++ q) (length p + j) ≡ bit_in 1 q j
-bit_behind p q j =
+bit_after : (p q : List ℕ) (j : ℕ) → bit_in 1 (p ++ q) (length p + j) ≡ bit_in 1 q j
+bit_after p q j =
     let here : (length p + j) / 1 ≡ length p + j = omega arith in
     let none : (length p + j) % 1 ≡ 0 = omega arith in
     let there : j / 1 ≡ j = omega arith in
     let nothing : j % 1 ≡ 0 = omega arith in
     rw (here, none, there, nothing, get_or-append-add p q j 0) refl
 
--- bits behind a front
-pub bits_behind : (p q : List ℕ) (place j n : ℕ) → place ≡ length p + j → bits_in 1 (p ++ q) place n ≡ bits_in 1 q j n
-bits_behind p q place j n e =
+-- bits after a front
+pub bits_after : (p q : List ℕ) (place j n : ℕ) → place ≡ length p + j → bits_in 1 (p ++ q) place n ≡ bits_in 1 q j n
+bits_after p q place j n e =
     bits_in_same 1 1 (p ++ q) q place j n
-    (λ i small. let there : place + i ≡ length p + (j + i) = omega arith in rw there (bit_behind p q (j + i)))
+    (λ i small. let there : place + i ≡ length p + (j + i) = omega arith in rw there (bit_after p q (j + i)))
 
--- a row behind whole bytes
+-- a row after whole bytes
 aligned : (p q : List ℕ) (n m : ℕ) → length p ≡ n * 8 → entries_in 1 8 (n + m) (p ++ q) ≡ entries_in 1 8 n p ++ entries_in 1 8 m q
 aligned p q n zero h =
     let same : n + 0 ≡ n = omega arith in
@@ -38,7 +38,7 @@ aligned p q n zero h =
 aligned p q n (suc m) h =
     let one : n + suc m ≡ n + m + 1 = omega arith in
     let other : suc m ≡ m + 1 = omega arith in
-    rw (one, other, entries_in-more 1 8 (n + m) (p ++ q), entries_in-more 1 8 m q, aligned p q n m h, bits_behind p q ((n + m) * 8) (m * 8) 8 (omega arith))
+    rw (one, other, entries_in-more 1 8 (n + m) (p ++ q), entries_in-more 1 8 m q, aligned p q n m h, bits_after p q ((n + m) * 8) (m * 8) 8 (omega arith))
     (append_assoc (entries_in 1 8 n p) (entries_in 1 8 m q) (bits_in 1 q (m * 8) 8 ∷ []))
 
 -- a row in whole bytes and what is left
@@ -105,12 +105,12 @@ bits_in-low_bits w n rest fits =
     rw (here, none, bit) (omega arith)))
 
 pub reads_from_its_place : ReadsFromItsPlace
-reads_from_its_place before behind rest w n fits =
-    let row = append_assoc before (low_bits w n) behind in
-    let within : length before + w ≤ length (before ++ low_bits w n ++ behind) =
-    omega (arith, length-append (before ++ low_bits w n) behind, length-append before (low_bits w n), length-low_bits w n)
+reads_from_its_place before after rest w n fits =
+    let row = append_assoc before (low_bits w n) after in
+    let within : length before + w ≤ length (before ++ low_bits w n ++ after) =
+    omega (arith, length-append (before ++ low_bits w n) after, length-append before (low_bits w n), length-low_bits w n)
     in
-    bits_in-bits_bytes (before ++ low_bits w n ++ behind) rest (length before) w within
+    bits_in-bits_bytes (before ++ low_bits w n ++ after) rest (length before) w within
     ∙ ap (λ (xs : List ℕ). bits_in 1 xs (length before) w) row
-    ∙ bits_behind before (low_bits w n ++ behind) (length before) 0 w (omega arith)
-    ∙ bits_in-low_bits w n behind fits
+    ∙ bits_after before (low_bits w n ++ after) (length before) 0 w (omega arith)
+    ∙ bits_in-low_bits w n after fits

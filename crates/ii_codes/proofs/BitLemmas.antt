@@ -69,7 +69,7 @@ pub bit_more : (len low w val start i byte bit : ℕ) → i < 8 → byte ≡ bit
 bit_more len low w val start i byte bit h e b =
     read_more 8 1 (low_bits len low ++ low_bits w val) start i byte bit h e (b ∙ sym (bit_in-one (low_bits len low ++ low_bits w val) (start + i) (AreBits-two len low w val)))
 
--- behind a row all bits are 0
+-- after a row all bits are 0
 pub bits_in-end : (row : List ℕ) (place n m : ℕ) → AreBits row → length row ≤ place + n → bits_in 1 row place (n + m) ≡ bits_in 1 row place n
 bits_in-end row place n zero h end = let same : n + 0 ≡ n = omega arith in rw same refl
 bits_in-end row place n (suc m) h end =
@@ -106,10 +106,10 @@ bits_in-low_bits w n rest h fits =
     let here : 0 + i ≡ i = omega arith in
     rw here (sym (bit_in-one (low_bits w n ++ rest) i (AreBits-append (low_bits w n) rest (AreBits-low_bits w n) h) ∙ get_or_append_left (low_bits w n) rest 0 i (omega (arith, length-low_bits w n)) ∙ get_or-low_bits w n i below))))
 
--- What a packer holds behind a row of bits, as it names its parts.
-pub left_behind : (len low w val end whole byte : ℕ) → end ≡ len + w → whole ≡ end / 8 → byte ≡ bits_in 1 (low_bits len low ++ low_bits w val) (whole * 8) 8
+-- What a packer holds after a row of bits, as it names its parts.
+pub left_after : (len low w val end whole byte : ℕ) → end ≡ len + w → whole ≡ end / 8 → byte ≡ bits_in 1 (low_bits len low ++ low_bits w val) (whole * 8) 8
     → (byte < 2 ^ (end % 8)) × (low_bits (end % 8) byte ≡ bits_left (low_bits len low ++ low_bits w val))
-left_behind len low w val end whole byte e q b =
+left_after len low w val end whole byte e q b =
     let row = low_bits len low ++ low_bits w val in
     let are = AreBits-two len low w val in
     let size : length (low_bits len low ++ low_bits w val) ≡ end = omega (arith, length-append (low_bits len low) (low_bits w val), length-low_bits len low, length-low_bits w val) in

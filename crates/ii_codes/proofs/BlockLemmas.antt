@@ -68,12 +68,12 @@ unfolding sorted_block_at
 sorted-unfit strict offset w gap least bytes es narrow enough e g l unfit =
     block_at-unfit (sorted_values strict offset) w bytes narrow enough (sym (rw (e, g, l) at unfit))
 
-pub sorted-found : (strict : Bool) (offset w gap least size : ℕ) (bytes es vs : List ℕ) → w ≤ 32 → 16 * w ≤ length bytes → size ≡ 16 * w → es ≡ unpacked w bytes → gap ≡ gap_of strict → least ≡ least_first strict offset
-    → true ≡ fit_u32 (values_from gap least es) → vs ≡ values_from gap least es → Some (vs, drop size bytes) ≡ sorted_block_at strict offset w bytes
+pub sorted-found : (strict : Bool) (offset w gap least size : ℕ) (bytes vs : List ℕ) → w ≤ 32 → 16 * w ≤ length bytes → size ≡ 16 * w → gap ≡ gap_of strict → least ≡ least_first strict offset
+    → true ≡ fit_u32 (values_from gap least (unpacked w bytes)) → vs ≡ values_from gap least (unpacked w bytes) → Some (vs, drop size bytes) ≡ sorted_block_at strict offset w bytes
 unfolding sorted_block_at
-sorted-found strict offset w gap least size bytes es vs narrow enough s e g l fit v =
-    let all = rw (e, g, l) at v in
-    rw (s, all) (block_at-found (sorted_values strict offset) w bytes narrow enough (sym (rw (e, g, l) at fit)))
+sorted-found strict offset w gap least size bytes vs narrow enough s g l fit v =
+    let all = rw (g, l) at v in
+    rw (s, all) (block_at-found (sorted_values strict offset) w bytes narrow enough (sym (rw (g, l) at fit)))
 
 pub unsorted-wide : (minus_one : Bool) (w : ℕ) (bytes : List ℕ) → 32 < w → None ≡ unsorted_block_at minus_one w bytes
 unfolding unsorted_block_at

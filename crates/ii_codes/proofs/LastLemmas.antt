@@ -31,7 +31,7 @@ last-found strict offset w gap least s x bytes h e small =
     let many = length-unpacked w bytes in
     let value : x ≡ least + sum (unpacked w bytes) + 127 * gap = e ∙ ap (λ (t : ℕ). least + t + 127 * gap) h.total in
     let fits = last_fits gap least (unpacked w bytes) many ∙ ap (λ (t : ℕ). nat_lt t (2 ^ 32)) (sym value) ∙ lt-ltb x 4294967296 small in
-    let block = sorted-found strict offset w gap least (16 * w) bytes (unpacked w bytes) (values_from gap least (unpacked w bytes)) h.narrow h.enough refl refl h.step h.first (sym fits) refl in
+    let block = sorted-found strict offset w gap least (16 * w) bytes (values_from gap least (unpacked w bytes)) h.narrow h.enough refl h.step h.first (sym fits) refl in
     rw (← block) (ap (λ (t : ℕ). Some t) (value ∙ sym (last_value gap least (unpacked w bytes) many)))
 
 pub last-past : (strict : Bool) (offset w gap least s x : ℕ) (bytes : List ℕ) → IsSummed strict offset w gap least s bytes → x ≡ least + s + 127 * gap → 2 ^ 32 ≤ x → None ≡ last_of strict offset w bytes

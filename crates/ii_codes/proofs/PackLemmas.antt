@@ -28,18 +28,15 @@ pub record IsPacking (w k end word bits : ℕ) (entries out : List ℕ) : Type 0
   pub whole : end % 4 ≡ 0
 
 -- one entry more in the word
-pub word_more : (w k end word bits e x : ℕ) (entries out : List ℕ) → IsPacking w k end word bits entries out → w ≤ 32 → e ≡ get_or entries k 0 → x ≡ e % (1 * 2 ^ w % 2 ^ 64) * 2 ^ bits % 2 ^ 64
+pub word_more : (w k end word bits e x : ℕ) (entries : List ℕ) → end * 8 + bits ≡ k * w → bits < 32 → word ≡ bits_in w entries (end * 8) bits → w ≤ 32 → e ≡ get_or entries k 0 → x ≡ e % (1 * 2 ^ w % 2 ^ 64) * 2 ^ bits % 2 ^ 64
     → (word + x ≡ bits_in w entries (end * 8) (bits + w)) × (word + x < 2 ^ 64)
-word_more w k end word bits e x entries out h narrow entry shifted =
-    let few = h.few in
-    let here = h.place in
+word_more w k end word bits e x entries here few stands narrow entry shifted =
     let one : 1 * 2 ^ w % 2 ^ 64 ≡ 1 * 2 ^ w = shl_whole 1 1 w 64 (omega arith) (omega arith) in
     let power : 1 * 2 ^ w ≡ 2 ^ w = omega arith in
     let low : get_or entries k 0 % 2 ^ w < 2 ^ w = mod-lt (get_or entries k 0) (pow_pos w) in
     let moved = shl_whole (get_or entries k 0 % 2 ^ w) w bits 64 low (omega arith) in
     let added = rw (one, power, entry, moved, entry_bits w entries k, ← here) at shifted in
     let split = bits_in-split w entries (end * 8) bits w in
-    let stands = h.left in
     let sum : word + x ≡ bits_in w entries (end * 8) (bits + w) = rw (split, added, stands) (omega arith) in
     let fits = bits_in-lt w entries (end * 8) (bits + w) in
     let wide = pow_mono {i = bits + w} {j = 64} (omega arith) in
@@ -54,9 +51,6 @@ word_byte w row end n j x e within =
 four_append : (xs : List ℕ) (a b c d : ℕ) → (((xs ++ a ∷ []) ++ b ∷ []) ++ c ∷ []) ++ d ∷ [] ≡ xs ++ a ∷ b ∷ c ∷ d ∷ []
 four_append [] a b c d = refl
 four_append (x ∷ xs) a b c d = ap (λ (ys : List ℕ). x ∷ ys) (four_append xs a b c d)
-
-ap4 : (xs : List ℕ) {a b c d a' b' c' d' : ℕ} → a ≡ a' → b ≡ b' → c ≡ c' → d ≡ d' → xs ++ a ∷ b ∷ c ∷ d ∷ [] ≡ xs ++ a' ∷ b' ∷ c' ∷ d' ∷ []
-ap4 xs e f g h = rw (e, f, g, h) refl
 
 -- the four bytes of a word
 four_entries : (w end : ℕ) (row : List ℕ) → entries_in w 8 (end + 4) row ≡ entries_in w 8 end row ++ bits_in w row (end * 8) 8 ∷ bits_in w row ((end + 1) * 8) 8 ∷ bits_in w row ((end + 2) * 8) 8 ∷ bits_in w row ((end + 3) * 8) 8 ∷ []
@@ -77,22 +71,19 @@ four_bytes w row end n x e within =
     let b1 : bits_in w row ((end + 1) * 8) 8 ≡ x % 2 ^ 32 / 256 % 256 = word_byte w row end n 1 x e (omega arith) ∙ omega arith in
     let b2 : bits_in w row ((end + 2) * 8) 8 ≡ x % 2 ^ 32 / 65536 % 256 = word_byte w row end n 2 x e (omega arith) ∙ omega arith in
     let b3 : bits_in w row ((end + 3) * 8) 8 ≡ x % 2 ^ 32 / 16777216 % 256 = word_byte w row end n 3 x e (omega arith) ∙ omega arith in
-    four_entries w end row ∙ ap4 (entries_in w 8 end row) b0 b1 b2 b3
+    rw (four_entries w end row, b0, b1, b2, b3) refl
 
 -- a word of 32 bits is written
-pub word_written : (w k end word bits : ℕ) (entries old new : List ℕ) → IsPacking w k end word bits entries old → w ≤ 32 → (x : ℕ) → x ≡ bits_in w entries (end * 8) (bits + w) → 32 ≤ bits + w
-    → take (end + 4) new ≡ take end old ++ bytes_low_first 0 4 (x % 2 ^ 32) → IsPacking w (k + 1) (end + 4) (x / 2 ^ 32) (bits + w - 32) entries new
-word_written w k end word bits entries old new h narrow x e full bytes =
-    let few = h.few in
-    let here = h.place in
-    let quarter = h.whole in
+pub word_written : (w k end bits x : ℕ) (entries old new : List ℕ) → end * 8 + bits ≡ k * w → bits < 32 → end % 4 ≡ 0 → take end old ≡ entries_in w 8 end entries → w ≤ 32 → x ≡ bits_in w entries (end * 8) (bits + w)
+    → 32 ≤ bits + w → take (end + 4) new ≡ take end old ++ bytes_low_first 0 4 (x % 2 ^ 32) → IsPacking w (k + 1) (end + 4) (x / 2 ^ 32) (bits + w - 32) entries new
+word_written w k end bits x entries old new here few quarter written narrow e full bytes =
     let next : (end + 4) * 8 ≡ end * 8 + 32 = omega arith in
     let row : (k + 1) * w ≡ k * w + w = omega arith in
     record {
       place = rw row (omega arith);
       few = omega arith;
       left = rw next (window_rest w entries (end * 8) (bits + w) 32 x e full);
-      written = bytes ∙ ap (λ (xs : List ℕ). xs ++ bytes_low_first 0 4 (x % 2 ^ 32)) h.written ∙ sym (four_bytes w entries end (bits + w) x e full);
+      written = bytes ∙ ap (λ (xs : List ℕ). xs ++ bytes_low_first 0 4 (x % 2 ^ 32)) written ∙ sym (four_bytes w entries end (bits + w) x e full);
       whole = omega arith;
     }
 

@@ -1,7 +1,8 @@
 -- Laws of values that are summed up without a test of each.
-use Rattle.std.proofs.Common.{◌≡◌, ℕ, suc, ap, ◌+◌, ◌-◌, ◌*◌, ◌%◌, ◌^◌, ◌<◌, ◌≤◌, Bool, true, false, ◌&&◌, List, [], ◌∷◌, ◌++◌, length, take, drop, map, get_or, set, nat_lt, refl, sym, ◌∙◌, arith, append_assoc, ⊎_elim}
+use Rattle.std.proofs.Common.{◌≡◌, ℕ, suc, ap, ◌+◌, ◌*◌, ◌%◌, ◌^◌, ◌<◌, ◌≤◌, Bool, true, false, ◌&&◌, List, [], ◌∷◌, ◌++◌, length, take, drop, map, get_or, set, nat_lt, refl, sym, ◌∙◌, arith, append_assoc, ⊎_elim}
+use Rattle.std.proofs.Math.Bool.{and-false, and-true}
 use Rattle.std.proofs.lemmas.Bool.{cases_lt, lt-ltb, le-ltb, ltb-true, and_parts}
-use Rattle.std.proofs.lemmas.List.{drop_more, drop-set-lt, append-nil, take_more_set, take_all, drop_all}
+use Rattle.std.proofs.lemmas.List.{drop_more, append-nil, take_more_set, take_all, drop_all}
 use Rattle.std.proofs.lemmas.List.Sums.{sum_by-cons}
 use Rattle.std.specs.Bool.{OnTrue}
 use Rattle.std.specs.List.{sum}
@@ -18,38 +19,30 @@ pub record IsSumming (gap least next k : ℕ) (es out : List ℕ) : Type 0 where
   pub values : take k out ++ wrapped_from gap next (drop k es) ≡ wrapped_from gap least es
   pub fit : fit_u32 (values_from gap least es) ≡ (nat_lt next (2 ^ 32 + gap) && fit_u32 (values_from gap next (drop k es)))
 
-none : (b : Bool) → (b && false) ≡ false
-none true = refl
-none false = refl
-
 fit_more : (gap next v : ℕ) (t : Bool) → next ≤ v → (nat_lt next (2 ^ 32 + gap) && (nat_lt v (2 ^ 32) && t)) ≡ (nat_lt (v + gap) (2 ^ 32 + gap) && t)
 fit_more gap next v t up =
     ⊎_elim
     (λ below. rw (lt-ltb v 4294967296 below, lt-ltb (v + gap) (4294967296 + gap) (omega arith), lt-ltb next (4294967296 + gap) (omega arith)) refl)
-    (λ above. rw (le-ltb v 4294967296 above, le-ltb (v + gap) (4294967296 + gap) (omega arith)) (none (nat_lt next (2 ^ 32 + gap))))
+    (λ above. rw (le-ltb v 4294967296 above, le-ltb (v + gap) (4294967296 + gap) (omega arith)) (and-false (nat_lt next (2 ^ 32 + gap))))
     (cases_lt v 4294967296)
 
-pub summing-more : (gap least next k e x n : ℕ) (es out : List ℕ) → IsSumming gap least next k es out → k < length es → k < length out → e ≡ get_or es k 0 → e < 2 ^ 32 → gap ≤ 1
-    → x ≡ (next + e) % 2 ^ 32 → n ≡ next + (e + gap) → IsSumming gap least n (k + 1) es (set out k x)
-summing-more gap least next k e x n es out h more within entry small g wrapped step =
+pub summing-more : (gap least next k e : ℕ) (es out : List ℕ) → IsSumming gap least next k es out → k < length es → k < length out → e ≡ get_or es k 0 → e < 2 ^ 32 → gap ≤ 1
+    → IsSumming gap least (next + (e + gap)) (k + 1) es (set out k ((next + e) % 2 ^ 32))
+summing-more gap least next k e es out h more within entry small g =
     let bound = h.bound in
     let here = drop_more es k 0 more in
-    let place : n ≡ next + e + gap = omega arith in
+    let place : next + (e + gap) ≡ next + e + gap = omega arith in
     let values = rw (here, ← entry) at h.values in
     let fit = rw (here, ← entry) at h.fit in
     record {
       bound = omega arith;
-      values = rw (take_more_set out k x within, place, wrapped) (append_assoc (take k out) ((next + e) % 2 ^ 32 ∷ []) (wrapped_from gap (next + e + gap) (drop (k + 1) es)) ∙ values);
+      values = rw (take_more_set out k ((next + e) % 2 ^ 32) within, place) (append_assoc (take k out) ((next + e) % 2 ^ 32 ∷ []) (wrapped_from gap (next + e + gap) (drop (k + 1) es)) ∙ values);
       fit = rw place (fit ∙ fit_more gap next (next + e) (fit_u32 (values_from gap (next + e + gap) (drop (k + 1) es))) (omega arith));
     }
 
 on_true : (b : Bool) {P : Type 0} → (b ≡ true → P) → OnTrue b P
 on_true true p = p refl
 on_true false p = tt
-
-true_and : (b : Bool) → (b && true) ≡ b
-true_and true = refl
-true_and false = refl
 
 -- values that fit stand as they are
 fit_wrapped : (vs : List ℕ) → fit_u32 vs ≡ true → map (λ v. v % 2 ^ 32) vs ≡ vs
@@ -63,7 +56,7 @@ fit_wrapped (v ∷ vs) h =
 pub summing-fits : (gap least next k : ℕ) (es out : List ℕ) → IsSumming gap least next k es out → length es ≤ k → nat_lt next (2 ^ 32 + gap) ≡ fit_u32 (values_from gap least es)
 summing-fits gap least next k es out h done =
     let fit = rw (drop_all k es done) at h.fit in
-    sym (fit ∙ true_and (nat_lt next (2 ^ 32 + gap)))
+    sym (fit ∙ and-true (nat_lt next (2 ^ 32 + gap)))
 
 summing-all : (gap least next k : ℕ) (es out : List ℕ) → IsSumming gap least next k es out → length es ≤ k → length out ≤ k → fit_u32 (values_from gap least es) ≡ true → out ≡ values_from gap least es
 summing-all gap least next k es out h done full fits =
@@ -84,7 +77,7 @@ pub record IsAddingOne (fits : Bool) (k : ℕ) (es out : List ℕ) : Type 0 wher
   pub fit : fit_u32 (unsorted_values true es) ≡ (fits && fit_u32 (unsorted_values true (drop k out)))
 
 pub adding-fits : (fits : Bool) (k : ℕ) (es out : List ℕ) → IsAddingOne fits k es out → length out ≤ k → fits ≡ fit_u32 (unsorted_values true es)
-adding-fits fits k es out h done = let fit = rw (drop_all k out done) at h.fit in sym (fit ∙ true_and fits)
+adding-fits fits k es out h done = let fit = rw (drop_all k out done) at h.fit in sym (fit ∙ and-true fits)
 
 pub adding-values : (fits : Bool) (k : ℕ) (es out : List ℕ) → IsAddingOne fits k es out → length out ≤ k → OnTrue fits (out ≡ unsorted_values true es)
 adding-values fits k es out h done =
@@ -114,13 +107,13 @@ last_from-sum gap least e (f ∷ fs) =
     rw (ih, sum_by-cons (λ (x : ℕ). x) e (f ∷ fs), place) (omega arith)
 
 last_from-fits : (gap least e : ℕ) (es : List ℕ) → fit_u32 (values_from gap least (e ∷ es)) ≡ nat_lt (last_from gap least e es) (2 ^ 32)
-last_from-fits gap least e [] = true_and (nat_lt (least + e) (2 ^ 32))
+last_from-fits gap least e [] = and-true (nat_lt (least + e) (2 ^ 32))
 last_from-fits gap least e (f ∷ fs) =
     let ih = last_from-fits gap (least + e + gap) f fs in
     let up = last_from-ge gap (least + e + gap) f fs in
     ⊎_elim
     (λ below. rw (lt-ltb (least + e) 4294967296 (omega arith)) ih)
-    (λ above. rw (ih, le-ltb (last_from gap (least + e + gap) f fs) 4294967296 above) (none (nat_lt (least + e) (2 ^ 32))))
+    (λ above. rw (ih, le-ltb (last_from gap (least + e + gap) f fs) 4294967296 above) (and-false (nat_lt (least + e) (2 ^ 32))))
     (cases_lt (last_from gap (least + e + gap) f fs) 4294967296)
 
 -- the last of 128 values, by the sum of their entries

@@ -1,5 +1,5 @@
 -- Laws of rows of vints.
-use Rattle.std.proofs.Common.{◌≡◌, ℕ, zero, suc, ◌+◌, ◌-◌, ◌%◌, ◌^◌, ◌<◌, ◌≤◌, true, false, List, [], ◌∷◌, ◌++◌, length, take, drop, set, Option, Some, None, refl, sym, ap, ◌∙◌, arith, append_assoc, get_or}
+use Rattle.std.proofs.Common.{◌≡◌, ℕ, zero, suc, ◌+◌, ◌-◌, ◌%◌, ◌^◌, ◌<◌, ◌≤◌, true, List, [], ◌∷◌, ◌++◌, length, take, drop, set, Option, Some, None, refl, sym, ap, ◌∙◌, arith, append_assoc, get_or}
 use Rattle.std.specs.Option.{option_map}
 use Rattle.std.specs.List.{flat_map, AllByRecursion}
 use Rattle.std.proofs.lemmas.Bool.{lt-ltb, le-ltb}
@@ -9,7 +9,7 @@ use Rattle.ii_io.specs.Steps.{◌>>=◌}
 use Rattle.ii_io.specs.Vints.{u32_at, u32s_at, vint_u32}
 use Rattle.ii_io.specs.VintLemmas.{u32_at-vint_u32}
 use Rattle.ii_codes.specs.Sums.{running_sums, differences, DoNotFall, fit_u32}
-use Rattle.ii_codes.specs.SortedVints.{sorted_vints_at, ReadsSortedVintsBack}
+use Rattle.ii_codes.specs.SortedVints.{ReadsSortedVintsBack}
 use Rattle.ii_codes.specs.UnsortedVints.{u32s_until_end, ReadsUnsortedVintsBack}
 
 -- the sums of differences are the values

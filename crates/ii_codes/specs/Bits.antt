@@ -7,7 +7,7 @@ abbrev pub low_bits : ℕ → ℕ → List ℕ
 low_bits zero n = []
 low_bits (suc w) n = n % 2 ∷ low_bits w (n / 2)
 
--- the bytes that bits fill wholly, and the bits that are left behind those
+-- the bytes that bits fill wholly, and the bits that are left after those
 unfoldable pub whole_bytes : List ℕ → List ℕ
 whole_bytes bits = entries_in 1 8 (length bits / 8) bits
 
@@ -26,8 +26,8 @@ WritesOneRow =
     × (bits_left (bits_left before ++ more) ≡ bits_left (before ++ more))
     × (whole_bytes before ++ bits_bytes (bits_left before) ≡ bits_bytes before)
 
--- A number is read back from its place, whatever stands before and behind.
+-- A number is read back from its place, whatever stands before and after.
 abbrev pub ReadsFromItsPlace : Type 0
 ReadsFromItsPlace =
-    (before behind rest : List ℕ) (w n : ℕ) → n < 2 ^ w
-    → bits_in 8 (bits_bytes (before ++ low_bits w n ++ behind) ++ rest) (length before) w ≡ n
+    (before after rest : List ℕ) (w n : ℕ) → n < 2 ^ w
+    → bits_in 8 (bits_bytes (before ++ low_bits w n ++ after) ++ rest) (length before) w ≡ n

@@ -2,7 +2,7 @@
 use Rattle.std.proofs.Common.{◌≡◌, ℕ, zero, suc, ◌+◌, ◌*◌, ◌/◌, ◌%◌, List, length, refl, ap, arith, length-drop}
 use Rattle.std.proofs.lemmas.List.FromFn.{length-map-range_with_len}
 use Rattle.ii_codes.specs.Packed.{bits_in, entries_in}
-use Rattle.ii_codes.specs.Bits.{low_bits, whole_bytes, bits_left, bits_bytes}
+use Rattle.ii_codes.specs.Bits.{low_bits, bits_left, bits_bytes}
 
 pub length-low_bits : (w n : ℕ) → length (low_bits w n) ≡ w
 length-low_bits zero n = refl

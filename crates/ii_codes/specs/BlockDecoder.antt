@@ -1,5 +1,8 @@
 -- The state of a decoder.
-use Rattle.std.specs.Prelude.{ℕ, zero, suc, List}
+use Rattle.std.specs.Prelude.{◌≡◌, ℕ, zero, suc, List, replicate, Result, OnErr, IfErr}
+use Rattle.ii_io.specs.declared.faults.LayoutFault.{LayoutFault}
+use Rattle.ii_io.specs.declared.faults.LayoutFault.TheVariants.{Damaged}
+use Rattle.ii_io.specs.declared.faults.Part.{Part}
 
 -- The 128 entries, how many of them were decoded last, and how many decodes there were of at least one value.
 pub record BlockDecoderState : Type 0 where
@@ -11,3 +14,8 @@ pub record BlockDecoderState : Type 0 where
 abbrev pub decodes_of : ℕ → ℕ
 decodes_of zero = 0
 decodes_of (suc n) = 1
+
+-- How a decode ends from bytes that hold no such row: that part is damaged, nothing is held, and it isn't counted.
+pub record ClearsOnDamage {A : Type 0} (part : Part) (old new : BlockDecoderState) (result : Result A LayoutFault) : Type 0 where
+  pub fault : IfErr result (λ e. e ≡ Damaged part)
+  pub cleared : OnErr result (new ≡ record { output = replicate 128 0; output_len = 0; decodes = old.decodes })

@@ -1,7 +1,7 @@
 ghost use Rattle.std.specs.Prelude.{◌≡◌, ℕ, ◌+◌, ◌-◌, ◌*◌, ◌<◌, ◌≤◌, length, take, drop, replicate, slice_index, Some, None, IsSome, IfSome, IfOk, IfErr, OnOk, OnErr};
 ghost use Rattle.std.specs.Option.{option_map};
 ghost use Rattle.ii_codes.specs.Blocks.{sorted_block_at, unsorted_block_at};
-ghost use Rattle.ii_codes.specs.BlockDecoder.{BlockDecoderState, decodes_of};
+ghost use Rattle.ii_codes.specs.BlockDecoder.{BlockDecoderState, decodes_of, ClearsOnDamage};
 ghost use Rattle.ii_codes.specs.SortedVints.{sorted_vints_at};
 ghost use Rattle.ii_codes.specs.UnsortedVints.{u32s_until_end};
 ghost use Rattle.ii_io.specs.Vints.{u32s_at};
@@ -84,8 +84,7 @@ impl BlockDecoder {
         ensures len { OnOk result (self.new.output_len ≡ num_els) }
         ensures decodes { OnOk result (self.new.decodes ≡ self.old.decodes + decodes_of num_els) }
         ensures refused { OnErr result (sorted_vints_at offset num_els compressed_data.now ≡ None) }
-        ensures fault { IfErr result (λ e. e ≡ LayoutFault.Damaged Part.Documents) }
-        ensures cleared { OnErr result (self.new ≡ record { output = replicate 128 0; output_len = 0; decodes = self.old.decodes }) }
+        ensures cleared { ClearsOnDamage Part.Documents self.old self.new result }
     {
         let read = read_sorted_row(compressed_data, offset, num_els, padding, &mut self.output);
         self.finish(read, num_els, Part::Documents)
@@ -107,8 +106,7 @@ impl BlockDecoder {
         ensures len { OnOk result (self.new.output_len ≡ num_els) }
         ensures decodes { OnOk result (self.new.decodes ≡ self.old.decodes + decodes_of num_els) }
         ensures refused { OnErr result (u32s_at num_els compressed_data.now ≡ None) }
-        ensures fault { IfErr result (λ e. e ≡ LayoutFault.Damaged Part.Frequencies) }
-        ensures cleared { OnErr result (self.new ≡ record { output = replicate 128 0; output_len = 0; decodes = self.old.decodes }) }
+        ensures cleared { ClearsOnDamage Part.Frequencies self.old self.new result }
     {
         let read = read_unsorted_row(compressed_data, num_els, padding, &mut self.output);
         self.finish(read, num_els, Part::Frequencies)
@@ -124,8 +122,7 @@ impl BlockDecoder {
         ensures read { OnOk result (Some (take self.new.output_len self.new.output) ≡ u32s_until_end 128 compressed_data.now) }
         ensures decodes { OnOk result (self.new.decodes ≡ self.old.decodes + decodes_of self.new.output_len) }
         ensures refused { OnErr result (u32s_until_end 128 compressed_data.now ≡ None) }
-        ensures fault { IfErr result (λ e. e ≡ LayoutFault.Damaged Part.Positions) }
-        ensures cleared { OnErr result (self.new ≡ record { output = replicate 128 0; output_len = 0; decodes = self.old.decodes }) }
+        ensures cleared { ClearsOnDamage Part.Positions self.old self.new result }
     {
         let read = vint::try_uncompress_unsorted_until_end(compressed_data, &mut self.output);
         let num_els = read.unwrap_or(0);
@@ -174,8 +171,7 @@ impl BlockDecoder {
         ensures len { OnOk result (self.new.output_len ≡ 128) }
         ensures decodes { OnOk result (self.new.decodes ≡ self.old.decodes + 1) }
         ensures refused { OnErr result (sorted_block_at strict_delta offset num_bits compressed_data.now ≡ None) }
-        ensures fault { IfErr result (λ e. e ≡ LayoutFault.Damaged Part.Documents) }
-        ensures cleared { OnErr result (self.new ≡ record { output = replicate 128 0; output_len = 0; decodes = self.old.decodes }) }
+        ensures cleared { ClearsOnDamage Part.Documents self.old self.new result }
     {
         let read = packed::unpack_sorted(
             compressed_data,
@@ -225,8 +221,7 @@ impl BlockDecoder {
         ensures len { OnOk result (self.new.output_len ≡ 128) }
         ensures decodes { OnOk result (self.new.decodes ≡ self.old.decodes + 1) }
         ensures refused { OnErr result (unsorted_block_at minus_one_encoded num_bits compressed_data.now ≡ None) }
-        ensures fault { IfErr result (λ e. e ≡ LayoutFault.Damaged Part.Frequencies) }
-        ensures cleared { OnErr result (self.new ≡ record { output = replicate 128 0; output_len = 0; decodes = self.old.decodes }) }
+        ensures cleared { ClearsOnDamage Part.Frequencies self.old self.new result }
     {
         let read = packed::unpack_unsorted(
             compressed_data,
@@ -251,8 +246,7 @@ impl BlockDecoder {
         ensures output { OnOk result (self.new.output ≡ self.old.output) }
         ensures len { OnOk result (self.new.output_len ≡ num_els) }
         ensures decodes { OnOk result (self.new.decodes ≡ self.old.decodes + decodes_of num_els) }
-        ensures fault { IfErr result (λ e. e ≡ LayoutFault.Damaged part) }
-        ensures cleared { OnErr result (self.new ≡ record { output = replicate 128 0; output_len = 0; decodes = self.old.decodes }) }
+        ensures cleared { ClearsOnDamage part self.old self.new result }
     {
         let Some(used) = read else {
             self.output = [0; COMPRESSION_BLOCK_SIZE];

@@ -74,10 +74,10 @@ pub written_first : (c : CompositeWriteState) → HasWritten c c []
 written_first c = record { adds = nothing_added c; closed = refl; same = λ closed. refl }
 
 -- a buffer that could not be filled stays, and so do those after it
-pub filled_front : {A E : Type 0} (r : Result A E) (docs : ℕ) (init now : Buffers) (i : ℕ) (old new : Option (List ℕ)) → now ≡ filled_buffers docs (take i init) ++ drop i init → old ≡ get_or now i old → new ≡ old → OnErr r (IsFilledFront docs init (set now i new))
-filled_front (Ok x) docs init now i old new e here same = tt
-filled_front (Err f) docs init now i old new e here same =
-    (i, ap (set now i) (same ∙ here) ∙ set-get_or now i old ∙ e)
+pub filled_front : {A E : Type 0} (r : Result A E) (docs : ℕ) (init now : Buffers) (i : ℕ) (old : Option (List ℕ)) → now ≡ filled_buffers docs (take i init) ++ drop i init → old ≡ get_or now i old
+    → OnErr r (IsFilledFront docs init (set now i old))
+filled_front (Ok x) docs init now i old e here = tt
+filled_front (Err f) docs init now i old e here = (i, ap (set now i) here ∙ set-get_or now i old ∙ e)
 
 pub fill_step : (docs : ℕ) (init now : Buffers) (i : ℕ) (old new : Option (List ℕ)) → i < length init → now ≡ filled_buffers docs (take i init) ++ drop i init → old ≡ get_or now i old → new ≡ option_map (filled docs) old → set now i new ≡ filled_buffers docs (take (i + 1) init) ++ drop (i + 1) init
 fill_step docs init now i old new within e here filling = ap (set now i) filling ∙ map_over_more (option_map (filled docs)) init now i old within e here

@@ -29,7 +29,7 @@ impl Model for FieldNormReaders {
 impl FieldNormReaders {
     /// Opens the norms file: a composite file whose bodies have a byte for each document.
     ///
-    /// `Damaged(Composite)` where the table is not lawful. Memory is taken for the table alone.
+    /// `Damaged(Composite)` where the table is not valid. Memory is taken for the table alone.
     pub fn open(alloc: Global, bytes: Bytes) -> Result<FieldNormReaders, Fault>
         ensures opened { IfOk result (λ readers. composite bytes ≡ Some readers) }
         ensures damaged { IsErrOf result (Fault.Damaged Part.Composite) → composite bytes ≡ None }

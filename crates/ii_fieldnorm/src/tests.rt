@@ -122,6 +122,55 @@ fn norms_are_filled_up_and_cut(rt: HostRuntime) -> Result<(), Fail> {
     Ok(())
 }
 
+// The file of a thousand fields, each with one document: field `f` at byte `f`, whose norm is its
+// number's rest by 40. The last of them stands under the number `last`.
+fn thousand_fields(alloc: Global, last: u32) -> Result<Vec<u8>, AllocError> {
+    let mut bytes = Vec::new(alloc);
+    for f in 0..1000u32 {
+        bytes.push((f % 40) as u8)?;
+    }
+    for f in 0..1000u32 {
+        let field = if f == 999 { last } else { f };
+        bytes.extend_from_slice(&field.to_le_bytes())?;
+        bytes.extend_from_slice(&u64::from(f).to_le_bytes())?;
+        bytes.extend_from_slice(&(u64::from(f) + 1).to_le_bytes())?;
+    }
+    bytes.extend_from_slice(&1000u32.to_le_bytes())?;
+    Ok(bytes)
+}
+
+#[test]
+fn each_of_a_thousand_fields_is_read(rt: HostRuntime) -> Result<(), Fail> {
+    let bytes = Bytes::from_vec(thousand_fields(rt.alloc(), 999)?)?;
+    let readers = FieldNormReaders::open(rt.alloc(), bytes)?;
+    for f in 0..1000u32 {
+        let reader = readers.get_field(Field::from_field_id(f))?.ok_or("norms")?;
+        assert_eq!(rt; reader.num_docs(), 1, "field {f}");
+        for doc in 0..reader.num_docs() {
+            assert_eq!(rt; reader.fieldnorm(doc), f % 40, "field {f}");
+        }
+    }
+    assert!(rt; readers.get_field(Field::from_field_id(1000))?.is_none());
+    Ok(())
+}
+
+#[test]
+fn a_field_among_a_thousand_is_not_repeated(rt: HostRuntime) -> Result<(), Fail> {
+    for last in [0, 7, 998] {
+        let bytes = Bytes::from_vec(thousand_fields(rt.alloc(), last)?)?;
+        let answer = FieldNormReaders::open(rt.alloc(), bytes);
+        assert!(rt;
+            matches!(answer.err(), Some(Fault::Damaged(Part::Composite))),
+            "field {last} twice"
+        );
+    }
+    let bytes = Bytes::from_vec(thousand_fields(rt.alloc(), u32::MAX)?)?;
+    let readers = FieldNormReaders::open(rt.alloc(), bytes)?;
+    assert!(rt; readers.get_field(Field::from_field_id(u32::MAX))?.is_some());
+    assert!(rt; readers.get_field(Field::from_field_id(999))?.is_none());
+    Ok(())
+}
+
 // The bytes of field 0 in the file that is written.
 fn body(alloc: Global, norms: &FieldNormsWriter) -> Result<Bytes, Fault>
     requires { length (norm_bodies norms.now) < 2 ^ 32 }

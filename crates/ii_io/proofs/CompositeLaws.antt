@@ -44,9 +44,9 @@ bodies_stand front [] rest whole start h e = refl
 bodies_stand front (b ∷ bs) rest whole start h e =
     let later = bodies_bytes bs ++ rest in
     let same : whole ≡ front ++ (b.bytes ++ later) = e ∙ ap (λ (xs : List ℕ). front ++ xs) (append_assoc b.bytes (bodies_bytes bs) rest) in
-    let behind : drop start whole ≡ b.bytes ++ later = rw same (drop_at front (b.bytes ++ later) start (sym h)) in
+    let after : drop start whole ≡ b.bytes ++ later = rw same (drop_at front (b.bytes ++ later) start (sym h)) in
     let count : start + length b.bytes - start ≡ length b.bytes = omega arith in
-    let body : slice_range whole start (start + length b.bytes) ≡ b.bytes = rw (behind, count) (take_at b.bytes later (length b.bytes) refl) in
+    let body : slice_range whole start (start + length b.bytes) ≡ b.bytes = rw (after, count) (take_at b.bytes later (length b.bytes) refl) in
     let moved : whole ≡ (front ++ b.bytes) ++ later = same ∙ sym (append_assoc front b.bytes later) in
     let others = bodies_stand (front ++ b.bytes) bs rest whole (start + length b.bytes) (omega (arith, length-append front b.bytes)) moved in
     rw (body, others) refl
@@ -72,8 +72,8 @@ reads_written_composites bodies h =
     let number : number_at 4 last ≡ Some (length places, []) = ap (number_at 4) (sym (append-nil last)) ∙ reads_what_is_written 4 (length places) [] (omega arith) in
     let enough = le-leb (table_size (length places)) (length file) (omega arith) in
     let size : length file - table_size (length places) ≡ length content = omega arith in
-    let behind : drop (length content) file ≡ table ++ last = drop_at content (table ++ last) (length content) refl in
+    let after : drop (length content) file ≡ table ++ last = drop_at content (table ++ last) (length content) refl in
     let read : places_at (length places) (table ++ last) ≡ Some places = ap (λ (k : ℕ). places_at k (table ++ last)) count ∙ places_read 0 bodies last h.fields (omega arith) in
     let lie = places_lie 0 (length content) bodies (omega arith) in
     let stand = bodies_stand [] bodies (table ++ last) file 0 refl refl in
-    rw (footer, number, enough, size, behind, read, lie, h.distinct, stand) refl
+    rw (footer, number, enough, size, after, read, lie, h.distinct, stand) refl

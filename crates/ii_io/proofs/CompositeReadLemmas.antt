@@ -11,7 +11,7 @@ use Rattle.ii_io.specs.declared.composite_file.place.Place.{Place}
 use Rattle.ii_io.specs.Steps.{◌>>=◌, needs}
 use Rattle.ii_io.specs.Numbers.{number_at}
 use Rattle.ii_io.specs.StepLemmas.{needs-some, step-some, some-same}
-use Rattle.ii_io.specs.Composite.{place_at, places_at, has_place, are_distinct, lies_within, lawful_places, table_of, table_size, body_at, body_of}
+use Rattle.ii_io.specs.Composite.{place_at, places_at, has_place, are_distinct, lies_within, valid_places, table_of, table_size, body_at, body_of}
 
 -- what the rest of a table gives, where these places were read before it
 abbrev pub left : ℕ → List Place → ℕ → List ℕ → Option (List Place)
@@ -111,8 +111,8 @@ all_wider size wider (p ∷ ps) h e =
     let parts = and_parts (lies_within size p) (list_all (lies_within size) ps) e in
     rw (lies_wider size wider p h parts.0, all_wider size wider ps h parts.1) refl
 
-lawful_lie : (size count : ℕ) (table : List ℕ) (places : List Place) → lawful_places size count table ≡ Some places → list_all (lies_within size) places ≡ true
-lawful_lie size count table places e =
+valid_lie : (size count : ℕ) (table : List ℕ) (places : List Place) → valid_places size count table ≡ Some places → list_all (lies_within size) places ≡ true
+valid_lie size count table places e =
     let found = step-some (places_at count table) (λ ps. needs (list_all (lies_within size) ps && are_distinct ps) >>= λ _. Some ps) places e in
     let tested = needs-some (list_all (lies_within size) found.0 && are_distinct found.0) (λ _. Some found.0) places found.2 in
     let both = and_parts (list_all (lies_within size) found.0) (are_distinct found.0) tested.0 in
@@ -121,10 +121,10 @@ lawful_lie size count table places e =
 -- the places of a table lie in the file
 pub table_lies : (bytes : List ℕ) (places : List Place) → table_of bytes ≡ Some places → list_all (lies_within (length bytes)) places ≡ true
 table_lies bytes places e =
-    let found = step-some (number_at 4 (drop (length bytes - 4) bytes)) (λ count. needs (nat_le (table_size count.0) (length bytes)) >>= λ _. lawful_places (length bytes - table_size count.0) count.0 (drop (length bytes - table_size count.0) bytes)) places e in
+    let found = step-some (number_at 4 (drop (length bytes - 4) bytes)) (λ count. needs (nat_le (table_size count.0) (length bytes)) >>= λ _. valid_places (length bytes - table_size count.0) count.0 (drop (length bytes - table_size count.0) bytes)) places e in
     let count = found.0.0 in
-    let tested = needs-some (nat_le (table_size count) (length bytes)) (λ _. lawful_places (length bytes - table_size count) count (drop (length bytes - table_size count) bytes)) places found.2 in
-    all_wider (length bytes - table_size count) (length bytes) places (omega arith) (lawful_lie (length bytes - table_size count) count (drop (length bytes - table_size count) bytes) places tested.1)
+    let tested = needs-some (nat_le (table_size count) (length bytes)) (λ _. valid_places (length bytes - table_size count) count (drop (length bytes - table_size count) bytes)) places found.2 in
+    all_wider (length bytes - table_size count) (length bytes) places (omega arith) (valid_lie (length bytes - table_size count) count (drop (length bytes - table_size count) bytes) places tested.1)
 
 pub not_added : (added was had : Bool) → added ≡ not was → added ≡ false → was ≡ had → had ≡ true
 not_added added true had e f g = sym g

@@ -116,28 +116,29 @@ kept_after : (before after : List ℕ) (end byte : ℕ) → drop end after ≡ d
 kept_after before after end byte same =
     drop-set-lt (end + 1) after end byte (omega arith) ∙ sym (drop-drop 1 end after) ∙ ap (drop 1) same ∙ drop-drop 1 end before
 
-more_cases : (m more : ℕ) (before after new : List ℕ) (start end high value : ℕ) → start + more - end ≡ m → IsWriting more before after start end high value → 128 ≤ high
-    → take (end + 1) new ≡ take end after ++ high % 128 ∷ [] → drop (end + 1) new ≡ drop (end + 1) before → IsWriting more before new start (end + 1) (high / 128) value
-more_cases zero more before after new start end high value is w large e kept =
-    absurd (let low = rw is at w.fits in omega arith)
-more_cases (suc m) more before after new start end high value is w large e kept =
-    let forward = w.forward in
-    let left : start + more - (end + 1) ≡ m = omega arith in
-    let below = rw (is, pow-suc) at w.fits in
-    let groups = ap (λ (k : ℕ). fewest_groups k high) is ∙ fewest_groups-more (suc m) m high refl large in
-    let parts = append_assoc (take end after) (high % 128 ∷ []) (fewest_groups m (high / 128)) in
-    record {
-      forward = omega arith;
-      few = omega arith;
-      fits = rw left (omega arith);
-      kept = kept;
-      written = rw (left, e) (parts ∙ sym (ap (λ (gs : List ℕ). take end after ++ gs) groups) ∙ w.written);
-    }
+-- a number of 128 and more takes a group that isn't the last
+not_last : (m high : ℕ) → high < 128 ^ suc m → 128 ≤ high → (k : ℕ) × (m ≡ suc k)
+not_last zero high fits large = absurd (omega arith)
+not_last (suc k) high fits large = (k, refl)
 
 pub writing-more : (more : ℕ) (before after new : List ℕ) (start end high value : ℕ) → IsWriting more before after start end high value → 128 ≤ high → end < length after
     → new ≡ set after end (high % 128) → IsWriting more before new start (end + 1) (high / 128) value
 writing-more more before after new start end high value w large within e =
-    more_cases (start + more - end) more before after new start end high value refl w large (rw e (take_more_set after end (high % 128) within)) (rw e (kept_after before after end (high % 128) w.kept))
+    let next = not_last (start + more - end) high w.fits large in
+    let forward = w.forward in
+    let some = next.1 in
+    let left : start + more - (end + 1) ≡ next.0 = omega arith in
+    let below = rw (next.1, pow-suc) at w.fits in
+    let groups = ap (λ (k : ℕ). fewest_groups k high) next.1 ∙ fewest_groups-more (suc next.0) next.0 high refl large in
+    let parts = append_assoc (take end after) (high % 128 ∷ []) (fewest_groups next.0 (high / 128)) in
+    let put : take (end + 1) new ≡ take end after ++ high % 128 ∷ [] = rw e (take_more_set after end (high % 128) within) in
+    record {
+      forward = omega arith;
+      few = omega arith;
+      fits = rw left (omega arith);
+      kept = rw e (kept_after before after end (high % 128) w.kept);
+      written = rw (left, put) (parts ∙ sym (ap (λ (gs : List ℕ). take end after ++ gs) groups) ∙ w.written);
+    }
 
 pub writing-last : (more : ℕ) (before after new : List ℕ) (start end high value : ℕ) → IsWriting more before after start end high value → high < 128 → end < length after
     → new ≡ set after end (high + 128) → take (end + 1) new ≡ take start before ++ fewest_groups more value

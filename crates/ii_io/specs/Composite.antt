@@ -14,7 +14,7 @@ pub record Body : Type 0 where
 unfoldable pub place_bytes : Place → List ℕ
 place_bytes p = le_bytes 4 p.field ++ le_bytes 8 p.start ++ le_bytes 8 p.end
 
--- the place that stands at the front, and the bytes behind it
+-- the place that stands at the front, and the bytes after it
 unfoldable pub place_at : List ℕ → Option (Place × List ℕ)
 place_at bytes = do
   field ← number_at 4 bytes
@@ -42,23 +42,23 @@ are_distinct (p ∷ ps) = not (has_place p.field ps) && are_distinct ps
 abbrev pub lies_within : ℕ → Place → Bool
 lies_within size p = nat_le p.start p.end && nat_le p.end size
 
--- the bytes of a table of so many places, with their number behind it
+-- the bytes of a table of so many places, with their number after it
 abbrev pub table_size : ℕ → ℕ
 table_size count = 20 * count + 4
 
--- the places of the table behind so many bytes of bodies, if all lie there and no field has two
-abbrev pub lawful_places : ℕ → ℕ → List ℕ → Option (List Place)
-lawful_places size count table = do
+-- the places of the table after so many bytes of bodies, if all lie there and no field has two
+abbrev pub valid_places : ℕ → ℕ → List ℕ → Option (List Place)
+valid_places size count table = do
   places ← places_at count table
   _ ← needs (list_all (lies_within size) places && are_distinct places)
   Some places
 
--- the table at the end of a file; nothing where it does not fit or is not lawful
+-- the table at the end of a file; nothing where it does not fit or is not valid
 abbrev pub table_of : List ℕ → Option (List Place)
 table_of bytes = do
   count ← number_at 4 (drop (length bytes - 4) bytes)
   _ ← needs (nat_le (table_size count.0) (length bytes))
-  lawful_places (length bytes - table_size count.0) count.0 (drop (length bytes - table_size count.0) bytes)
+  valid_places (length bytes - table_size count.0) count.0 (drop (length bytes - table_size count.0) bytes)
 
 -- The table of as many places as the last four bytes say lies in the file.
 abbrev pub HasTable : List ℕ → Type 0

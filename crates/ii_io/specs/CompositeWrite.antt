@@ -43,7 +43,7 @@ places_until (s ∷ t ∷ ss) end = record { field = s.field; start = s.start; e
 abbrev pub places_of : CompositeWriteState → List Place
 places_of c = places_until c.starts (written_bodies c)
 
--- A body was written behind the old ones.
+-- A body was written after the old ones.
 pub record AddsBody (old new : CompositeWriteState) (field : ℕ) (bytes : List ℕ) : Type 0 where
   pub writer : Wrote old.writer new.writer bytes
   pub base : new.base ≡ old.base

@@ -1,5 +1,6 @@
 -- Laws of what is written in steps.
 use Rattle.std.proofs.Common.{◌≡◌, ◌<◌, ◌≤◌, ℕ, ◌+◌, true, false, List, [], ◌∷◌, ◌++◌, length, Result, Ok, Err, is_err, refl, sym, ◌∙◌, arith, length-append, ⊎_elim, inl, inr}
+use Rattle.std.specs.Prelude.{OnOk}
 use Rattle.std.proofs.KnownBytes.{Appends-nil, Appends-trans}
 use Rattle.std.proofs.lemmas.List.{take-append-le, append-nil}
 use Rattle.std.proofs.Math.Seq.{take-append-add}
@@ -12,7 +13,7 @@ use Rattle.ii_io.specs.CountingWriter.{CountingWriterState, Wrote, WrotePrefix, 
 pub full_more : (writer : CountingWriterState) (n size : ℕ) → n ≤ size → IsFull writer n → IsFull writer size
 full_more writer n size within full = ⊎_elim (λ past. inl (omega arith)) (λ most. inr most) full
 
--- a count that is full later is full for all that is written from the beginning, and the other way round
+-- a count that is full later is full for all that is written from the start on, and the other way round
 pub full_before : (a b : CountingWriterState) (bytes : List ℕ) (more size : ℕ) → Wrote a b bytes → length bytes + more ≤ size → IsFull b more → IsFull a size
 full_before a b bytes more size wrote within full =
     let written_bytes = wrote.written_bytes in
@@ -64,7 +65,7 @@ prefix_after a b c xs ys front h = record {
 pub prefix_of_all : (a : CountingWriterState) (xs : List ℕ) → WrotePrefix a a xs
 prefix_of_all a xs = record { count = 0; within = omega arith; appends = Appends-nil a.contents; written_bytes = omega arith; failed_calls = omega arith }
 
--- a call that writes behind what was written
+-- a call that writes after what was written
 pub writes_then : (a b c : CountingWriterState) (xs ys : List ℕ) (result : Result (Unit {0}) Fault) → Wrote a b xs → Writes b c ys result → Writes a c (xs ++ ys) result
 writes_then a b c xs ys (Ok u) h k = record { ok = Wrote-trans a b c xs ys h k.ok; write = rw (← h.failed_calls) k.write; by_one = λ e. absurd (cc); limit = λ e. absurd (cc); prefix = tt; only = tt }
 writes_then a b c xs ys (Err e) h k = record {
@@ -89,6 +90,15 @@ writes_refused_by a b xs ys (Err f) e h = writes_refused a b xs ys f h
 pub writes_went : (a b : CountingWriterState) (xs : List ℕ) (result : Result (Unit {0}) Fault) → false ≡ is_err result → Writes a b xs result → Wrote a b xs
 writes_went a b xs (Ok u) e h = h.ok
 writes_went a b xs (Err f) e h = absurd (cc)
+
+-- a call after one that was not refused
+pub writes_both : (a b c : CountingWriterState) (xs ys : List ℕ) (first result : Result (Unit {0}) Fault) → false ≡ is_err first → Writes a b xs first → Writes b c ys result → Writes a c (xs ++ ys) result
+writes_both a b c xs ys first result went h k = writes_then a b c xs ys result (writes_went a b xs first went h) k
+
+-- what a call ensures that was not refused
+pub on_ok_went : {P : Type 0} (result : Result (Unit {0}) Fault) → false ≡ is_err result → OnOk result P → P
+on_ok_went (Ok u) e h = h
+on_ok_went (Err f) e h = absurd (cc)
 
 -- a call that wrote all
 pub writes_all : (a b : CountingWriterState) (xs : List ℕ) → Wrote a b xs → Writes a b xs (Ok tt)

@@ -18,5 +18,5 @@ number_of (Limit name) = 7
 number_of (fault.TheVariants.Damaged part) = 8
 
 -- the fault of a damaged part
-abbrev pub damage : LayoutFault → Fault
-damage (layout.Damaged part) = fault.TheVariants.Damaged part
+abbrev pub as_fault : LayoutFault → Fault
+as_fault (layout.Damaged part) = fault.TheVariants.Damaged part

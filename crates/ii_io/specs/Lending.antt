@@ -15,6 +15,6 @@ module _ (W : RattleType) (g : write.Ghosts W.Denot) where
       LendsSoOk (composite_write.the_row W g) (counting_writer.the_row W g) s r
       (λ n w. n ≡ record s.now { writer = w; starts = s.now.starts ++ next_start s.now field ∷ [] }) (λ n. n ≡ record s.now { closed = true })
 
-  -- The writer is lent for more of the body that was begun last.
+  -- The writer is lent for more of the body that was opened last.
   abbrev pub LendsWriter : MutBor CompositeWriteState → MutBor CountingWriterState → Fml
   LendsWriter s r = Lends (composite_write.the_row W g) (counting_writer.the_row W g) s r (λ w. record s.now { writer = w })

@@ -16,7 +16,7 @@ unfoldable pub le_bytes : ℕ → ℕ → List ℕ
 le_bytes zero n = []
 le_bytes (suc k) n = n % 256 ∷ le_bytes k (n / 256)
 
--- the number in the first k bytes, and the bytes behind; nothing where there are fewer
+-- the number in the first k bytes, and the bytes after; nothing where there are fewer
 unfoldable pub number_at : ℕ → List ℕ → Option (ℕ × List ℕ)
 number_at k bytes = do
   _ ← needs (nat_le k (length bytes))

@@ -88,13 +88,13 @@ vint_at-some most limit v all rest e =
     let tested = needs-some (nat_lt found.0.0 limit) (λ _. Some found.0) (v, rest) found.2 in
     let both = some-same tested.1 in
     let value = ap (λ (p : ℕ × List ℕ). p.0) both in
-    let behind = ap (λ (p : ℕ × List ℕ). p.1) both in
+    let after = ap (λ (p : ℕ × List ℕ). p.1) both in
     let spelled = groups_at-some most all found.0 found.1 in
     let ends = spelled.1 in
     let below = ltb-true found.0.0 limit tested.0 in (
       spelled.0,
       record { some = ends.some; few = spelled.2; low = ends.low; last = ends.last; value = sym value ∙ spelled.3; fits = rw value at below },
-      spelled.4 ∙ ap (λ (xs : List ℕ). spelled.0 ++ xs) behind,
+      spelled.4 ∙ ap (λ (xs : List ℕ). spelled.0 ++ xs) after,
     )
 
 pub reads_what_is_spelled : (most limit : ℕ) → ReadsWhatIsSpelled most limit

@@ -7,7 +7,7 @@ abbrev pub groups_sum : List ℕ → ℕ
 groups_sum [] = 0
 groups_sum (b ∷ bs) = b % 128 + 128 * groups_sum bs
 
--- The bytes spell a number below the limit, in at most so many bytes; needless zero groups are lawful.
+-- The bytes spell a number below the limit, in at most so many bytes; needless zero groups are valid.
 pub record Spells (most limit : ℕ) (bytes : List ℕ) (v : ℕ) : Type 0 where
   pub some : 0 < length bytes
   pub few : length bytes ≤ most
@@ -16,14 +16,14 @@ pub record Spells (most limit : ℕ) (bytes : List ℕ) (v : ℕ) : Type 0 where
   pub value : v ≡ groups_sum bytes
   pub fits : v < limit
 
--- the sum of the groups up to the first byte from 128 on, if it is among so many, and the bytes behind it
+-- the sum of the groups up to the first byte from 128 on, if it is among so many, and the bytes after it
 abbrev pub groups_at : ℕ → List ℕ → Option (ℕ × List ℕ)
 groups_at zero bytes = None
 groups_at (suc most) [] = None
 groups_at (suc most) (b ∷ bs) =
     if nat_lt b 128 then (groups_at most bs >>= λ later. Some (b % 128 + 128 * later.0, later.1)) else Some (b % 128, bs)
 
--- the number below the limit that is spelled at the front, and the bytes behind it
+-- the number below the limit that is spelled at the front, and the bytes after it
 abbrev pub vint_at : ℕ → ℕ → List ℕ → Option (ℕ × List ℕ)
 vint_at most limit bytes = do
   found ← groups_at most bytes
@@ -36,7 +36,7 @@ u32_at bytes = vint_at 5 (2 ^ 32) bytes
 unfoldable pub u64_at : List ℕ → Option (ℕ × List ℕ)
 u64_at bytes = vint_at 10 (2 ^ 64) bytes
 
--- n numbers of 32 bits in a row, and the bytes behind them
+-- n numbers of 32 bits in a row, and the bytes after them
 abbrev pub u32s_at : ℕ → List ℕ → Option (List ℕ × List ℕ)
 u32s_at zero bytes = Some ([], bytes)
 u32s_at (suc n) bytes = do

@@ -1,5 +1,5 @@
 ghost use Rattle.std.specs.Prelude.{◌≡◌};
-ghost use Rattle.ii_io.specs.Faults.{number_of, damage};
+ghost use Rattle.ii_io.specs.Faults.{number_of, as_fault};
 
 use std::alloc::{AllocError, AllocFailed};
 use thiserror::Error;
@@ -144,7 +144,7 @@ impl Fault {
 }
 
 impl From<LayoutFault> for Fault {
-    ghost from_gives = { λ e f. f ≡ damage e };
+    ghost from_gives = { λ e f. f ≡ as_fault e };
 
     fn from(e: LayoutFault) -> Fault {
         let LayoutFault::Damaged(part) = e;

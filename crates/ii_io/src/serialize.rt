@@ -14,7 +14,7 @@ pub trait BinarySerializable: Sized {
     // The bytes of a value.
     ghost bytes_of: { Self → List ℕ };
 
-    // The value that stands at the front of bytes, if one does, and the bytes behind it.
+    // The value that stands at the front of bytes, if one does, and the bytes after it.
     ghost value_at: { List ℕ → Option (Self × List ℕ) };
 
     // What a value has to meet to be written.
@@ -23,7 +23,7 @@ pub trait BinarySerializable: Sized {
     // What each value of the type meets, as `serialize` shows.
     ghost in_range: { Self → Type 0 } = { λ _. Unit {0} };
 
-    /// Writes the value's bytes, or answers `Write` where the writer fails, and a beginning of them
+    /// Writes the value's bytes, or answers `Write` where the writer fails, and a prefix of them
     /// is then written; `Limit(Offset)` where a count of the writer would pass `u64::MAX`.
     fn serialize<W: Write>(&self, writer: &mut CountingWriter<W>) -> Result<(), Fault>
         requires { can_serialize self.now }

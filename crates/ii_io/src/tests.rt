@@ -15,7 +15,7 @@ use std::alloc::Global;
 use std::io::{self, Read, Write};
 use std::test::Fail;
 
-// Bodies of the fields 7 and 1 behind a byte that was written before.
+// Bodies of the fields 7 and 1 after a byte that was written before.
 const WRITTEN: [u8; 48] = [
     9, 5, 6, 8, 7, 0, 0, 0, 0, 0, 0, 0, 0, 0, 0, 0, 2, 0, 0, 0, 0, 0, 0, 0, 1, 0, 0, 0, 2, 0, 0, 0,
     0, 0, 0, 0, 3, 0, 0, 0, 0, 0, 0, 0, 2, 0, 0, 0,

@@ -9,9 +9,9 @@ use Rattle.ii_io.specs.declared.faults.Part.TheVariants.{Dictionary, TermStore}
 use Rattle.ii_io.specs.Steps.{◌>>=◌, needs}
 use Rattle.ii_termstore.specs.declared.term_info.TermInfo.{TermInfo}
 use Rattle.ii_termstore.specs.TermStore.{term_store}
-use Rattle.ii_termdict.specs.Dictionary.{end_of, start_of, key_of, keys_of, ends_rise, keys_ascend, key_parts, keys_at, with_infos, with_keys, dictionary, store_behind, entries_of, AreOpened, Entry}
+use Rattle.ii_termdict.specs.Dictionary.{end_of, start_of, key_of, keys_of, ends_rise, keys_ascend, key_parts, keys_at, with_infos, with_keys, dictionary, store_after, entries_of, AreOpened, Entry}
 use Rattle.ii_termstore.specs.ListLemmas.{all_more, all_at, not_all}
-use Rattle.ii_termstore.specs.ListLemmas.{and_parts}
+use Rattle.std.proofs.lemmas.Bool.{and_parts}
 
 -- an end below the one before it
 pub falls : (n : ℕ) (ends body : List ℕ) (i : ℕ) → i < n → end_of ends i < start_of ends i → false ≡ ends_rise n ends body
@@ -74,7 +74,7 @@ unfolding dictionary keys_at
 dictionary-unordered bytes n ends body e r h = rw (← e, ← r, ← h) refl
 
 pub dictionary-is : (bytes : List ℕ) (n : ℕ) (ends body : List ℕ) → Some (n, ends, body) ≡ key_parts bytes → true ≡ ends_rise n ends body → true ≡ keys_ascend n ends body
-    → dictionary bytes ≡ with_infos (keys_of n ends body) (term_store (store_behind n ends body))
+    → dictionary bytes ≡ with_infos (keys_of n ends body) (term_store (store_after n ends body))
 unfolding dictionary keys_at
 dictionary-is bytes n ends body e r h = rw (← e, ← r, ← h) refl
 
@@ -117,10 +117,10 @@ infos-opened keys None n k h = absurd (cc)
 infos-opened keys (Some infos) n k h = counted keys infos n k (eqb (length infos) (length keys)) refl h
 
 opened_cases : (n : ℕ) (ends body : List ℕ) (r a : Bool) → ends_rise n ends body ≡ r → keys_ascend n ends body ≡ a → 8 * n ≤ length ends
-    → IsOk (with_keys (needs r >>= λ _. needs a >>= λ _. Some (keys_of n ends body, store_behind n ends body)))
-    → AreOpened n ends body × (with_keys (needs r >>= λ _. needs a >>= λ _. Some (keys_of n ends body, store_behind n ends body)) ≡ Ok (zip (keys_of n ends body) (unwrap_or (term_store (store_behind n ends body)) [])))
+    → IsOk (with_keys (needs r >>= λ _. needs a >>= λ _. Some (keys_of n ends body, store_after n ends body)))
+    → AreOpened n ends body × (with_keys (needs r >>= λ _. needs a >>= λ _. Some (keys_of n ends body, store_after n ends body)) ≡ Ok (zip (keys_of n ends body) (unwrap_or (term_store (store_after n ends body)) [])))
 opened_cases n ends body true true x y there h =
-    let known = infos-opened (keys_of n ends body) (term_store (store_behind n ends body)) n (length-keys_of n ends body) h in
+    let known = infos-opened (keys_of n ends body) (term_store (store_after n ends body)) n (length-keys_of n ends body) h in
     (record { there = there; rise = x; ascend = y; store = known.0 }, known.1)
 opened_cases n ends body true false x y there h = absurd (cc)
 opened_cases n ends body false a x y there h = absurd (cc)

@@ -1,5 +1,5 @@
 -- What is written of a dictionary is read back.
-use Rattle.std.proofs.Common.{◌≡◌, ℕ, zero, suc, ◌+◌, ◌-◌, ◌*◌, ◌^◌, ◌<◌, ◌≤◌, true, List, [], ◌∷◌, ◌++◌, length, take, drop, get_or, nat_le, Some, Ok, refl, sym, ap, ◌∙◌, arith, append_assoc, length-append}
+use Rattle.std.proofs.Common.{◌≡◌, ℕ, zero, suc, ◌+◌, ◌-◌, ◌*◌, ◌^◌, ◌<◌, ◌≤◌, true, List, [], ◌∷◌, ◌++◌, length, take, drop, get_or, nat_le, Some, Ok, refl, sym, ap, ◌∙◌, arith, length-append}
 use Rattle.std.specs.Ordering.{nat_cmp, is_lt}
 use Rattle.std.specs.Cmp.Lexicographic.{slice_cmp}
 use Rattle.std.specs.List.{flat_map, zip}
@@ -12,13 +12,13 @@ use Rattle.ii_io.specs.Numbers.{le_bytes}
 use Rattle.ii_io.specs.NumberLemmas.{reads_what_is_written, length_le_bytes}
 use Rattle.ii_termstore.specs.declared.term_info.TermInfo.{TermInfo}
 use Rattle.ii_termstore.specs.TermStore.{term_store}
-use Rattle.ii_termdict.specs.Dictionary.{dictionary, end_of, start_of, key_of, keys_of, ends_rise, keys_ascend, is_below, key_parts, store_behind, with_infos}
+use Rattle.ii_termdict.specs.Dictionary.{dictionary, end_of, start_of, key_of, keys_of, ends_rise, keys_ascend, is_below, key_parts, store_after, with_infos}
 use Rattle.ii_termdict.specs.Written.{ends_from, written_dictionary}
 use Rattle.ii_termstore.specs.Written.{written_store}
 use Rattle.ii_termstore.specs.ReadBack.{ReadsStoreBack}
 use Rattle.ii_termdict.specs.ReadBack.{AreAscending, ReadsDictionaryBack}
 use Rattle.ii_termdict.proofs.DictionaryLemmas.{start_of-suc, dictionary-is}
-use Rattle.ii_termstore.specs.ListLemmas.{behind_front, flat_around, length-each, all_pass}
+use Rattle.ii_termstore.specs.ListLemmas.{append_assoc-five, after_front, flat_around, length-each, all_pass}
 
 pub length-ends_from : (start : ℕ) (keys : List (List ℕ)) → length (ends_from start keys) ≡ length keys
 length-ends_from start [] = refl
@@ -55,7 +55,7 @@ end_at start (k ∷ ks) (suc i) h =
     let ih = end_at (start + length k) ks i (omega arith) in
     ih ∙ omega (arith, length-append k (joined (take (suc i) ks)))
 
--- What a dictionary's bytes hold behind the number of terms, and behind the ends.
+-- What a dictionary's bytes hold after the number of terms, and after the ends.
 abbrev body_and : List (List ℕ) → List ℕ → List ℕ
 body_and keys rest = joined keys ++ rest
 
@@ -72,12 +72,12 @@ end_read keys rest i small h =
     let front = length-each (le_bytes 8) 8 (take i (ends_from 0 keys)) (length_le_bytes 8) in
     let few = length-take-le i (ends_from 0 keys) (omega arith) in
     let place : 8 * i ≡ length (flat_map (le_bytes 8) (take i (ends_from 0 keys))) = omega arith in
-    let behind = ap (λ (xs : List ℕ). drop (8 * i) (xs ++ body_and keys rest)) around
-    ∙ behind_front (flat_map (le_bytes 8) (take i (ends_from 0 keys))) (le_bytes 8 (get_or (ends_from 0 keys) i 0)) (flat_map (le_bytes 8) (drop (i + 1) (ends_from 0 keys))) (body_and keys rest) (8 * i) place in
+    let after = ap (λ (xs : List ℕ). drop (8 * i) (xs ++ body_and keys rest)) around
+    ∙ after_front (flat_map (le_bytes 8) (take i (ends_from 0 keys))) (le_bytes 8 (get_or (ends_from 0 keys) i 0)) (flat_map (le_bytes 8) (drop (i + 1) (ends_from 0 keys))) (body_and keys rest) (8 * i) place in
     let value : get_or (ends_from 0 keys) i 0 ≡ size_of keys (suc i) = (let none : 0 + size_of keys (suc i) ≡ size_of keys (suc i) = omega arith in end_at 0 keys i h ∙ none) in
     let low = size_low keys (suc i) in
     let read = reads_what_is_written 8 (get_or (ends_from 0 keys) i 0) (flat_map (le_bytes 8) (drop (i + 1) (ends_from 0 keys)) ++ body_and keys rest) (omega arith) in
-    rw (behind, read) value
+    rw (after, read) value
 
 start_read : (keys : List (List ℕ)) (rest : List ℕ) (i : ℕ) → length (joined keys) < 2 ^ 64 → i ≤ length keys → start_of (ends_and keys rest) i ≡ size_of keys i
 start_read keys rest zero small h = refl
@@ -88,9 +88,9 @@ key_read keys rest i small h =
     let next = size_next keys i h in
     let size : length (get_or keys i []) ≡ size_of keys (suc i) - size_of keys i = omega arith in
     let around = flat_around (λ (k : List ℕ). k) keys i [] h in
-    let behind = ap (λ (xs : List ℕ). drop (size_of keys i) (xs ++ rest)) around
-    ∙ behind_front (joined (take i keys)) (get_or keys i []) (joined (drop (i + 1) keys)) rest (size_of keys i) refl in
-    rw (start_read keys rest i small (omega arith), end_read keys rest i small h, behind)
+    let after = ap (λ (xs : List ℕ). drop (size_of keys i) (xs ++ rest)) around
+    ∙ after_front (joined (take i keys)) (get_or keys i []) (joined (drop (i + 1) keys)) rest (size_of keys i) refl in
+    rw (start_read keys rest i small (omega arith), end_read keys rest i small h, after)
     (take_at (get_or keys i []) (joined (drop (i + 1) keys) ++ rest) (size_of keys (suc i) - size_of keys i) size)
 
 rise_read : (keys : List (List ℕ)) (rest : List ℕ) → length (joined keys) < 2 ^ 64 → ends_rise (length keys) (ends_and keys rest) (body_and keys rest) ≡ true
@@ -116,13 +116,9 @@ keys_read : (keys : List (List ℕ)) (rest : List ℕ) → length (joined keys) 
 keys_read keys rest small =
     sym (fill_by_all (key_of (ends_and keys rest) (body_and keys rest)) keys (length keys) [] refl (λ i within. sym (key_read keys rest i small within)))
 
-store_read : (keys : List (List ℕ)) (rest : List ℕ) → length (joined keys) < 2 ^ 64 → store_behind (length keys) (ends_and keys rest) (body_and keys rest) ≡ rest
+store_read : (keys : List (List ℕ)) (rest : List ℕ) → length (joined keys) < 2 ^ 64 → store_after (length keys) (ends_and keys rest) (body_and keys rest) ≡ rest
 store_read keys rest small =
     ap (λ (n : ℕ). drop n (body_and keys rest)) (start_read keys rest (length keys) small (omega arith)) ∙ drop_at (joined keys) rest (size_of keys (length keys)) (sym (size_all keys))
-
--- the parts of a dictionary are found
-dictionary_shape : (n e k s r : List ℕ) → (((n ++ e) ++ k) ++ s) ++ r ≡ n ++ (e ++ (k ++ (s ++ r)))
-dictionary_shape n e k s r = simp append_assoc
 
 parts_read : (keys : List (List ℕ)) (infos : List TermInfo) (rest : List ℕ) → length keys < 2 ^ 64
     → key_parts (written_dictionary keys infos ++ rest) ≡ Some (length keys, ends_and keys (written_store infos ++ rest), body_and keys (written_store infos ++ rest))
@@ -132,12 +128,12 @@ parts_read keys infos rest few =
     let size = length-each (le_bytes 8) 8 (ends_from 0 keys) (length_le_bytes 8) in
     let many = length-ends_from 0 keys in
     let room : length (flat_map (le_bytes 8) (ends_from 0 keys)) ≡ 8 * length keys = omega arith in
-    let shape = dictionary_shape (le_bytes 8 (length keys)) (flat_map (le_bytes 8) (ends_from 0 keys)) (joined keys) (written_store infos) rest in
+    let shape = append_assoc-five (le_bytes 8 (length keys)) (flat_map (le_bytes 8) (ends_from 0 keys)) (joined keys) (written_store infos) rest in
     let first = reads_what_is_written 8 (length keys) (ends_and keys (written_store infos ++ rest)) (omega arith) in
     let there = le-leb (8 * length keys) (length (ends_and keys (written_store infos ++ rest)))
     (omega (arith, length-append (flat_map (le_bytes 8) (ends_from 0 keys)) (body_and keys (written_store infos ++ rest)))) in
-    let behind = drop_at (flat_map (le_bytes 8) (ends_from 0 keys)) (body_and keys (written_store infos ++ rest)) (8 * length keys) room in
-    rw (shape, first, there, behind) refl
+    let after = drop_at (flat_map (le_bytes 8) (ends_from 0 keys)) (body_and keys (written_store infos ++ rest)) (8 * length keys) room in
+    rw (shape, first, there, after) refl
 
 -- The law of a dictionary, over a store that is read back.
 pub reads_dictionary : (keys : List (List ℕ)) (infos : List TermInfo) (rest : List ℕ) → length keys ≡ length infos → AreAscending keys → length (joined keys) < 2 ^ 64 → length keys < 2 ^ 64
@@ -148,10 +144,10 @@ reads_dictionary keys infos rest same ascend small few stored =
     let rise = rise_read keys (written_store infos ++ rest) small in
     let up = ascend_read keys (written_store infos ++ rest) small ascend in
     let whole = dictionary-is (written_dictionary keys infos ++ rest) (length keys) (ends_and keys (written_store infos ++ rest)) (body_and keys (written_store infos ++ rest)) (sym parts) (sym rise) (sym up) in
-    let behind = store_read keys (written_store infos ++ rest) small ∙ refl in
-    let holds = ap term_store behind ∙ stored in
+    let after = store_read keys (written_store infos ++ rest) small ∙ refl in
+    let holds = ap term_store after ∙ stored in
     let counts = eq-eqb (length infos) (length keys) (sym same) in
-    whole ∙ ap (λ (ks : List (List ℕ)). with_infos ks (term_store (store_behind (length keys) (ends_and keys store) (body_and keys store)))) (keys_read keys store small)
+    whole ∙ ap (λ (ks : List (List ℕ)). with_infos ks (term_store (store_after (length keys) (ends_and keys store) (body_and keys store)))) (keys_read keys store small)
     ∙ ap (with_infos keys) holds ∙ rw counts refl
 
 pub reads_dictionary_back : ReadsStoreBack → ReadsDictionaryBack

@@ -14,7 +14,7 @@ use Rattle.std.proofs.lemmas.List.FromFn.{get_or-map-range_with_len}
 use Rattle.std.proofs.lemmas.Option.{slice_get-get_or}
 use Rattle.ii_termstore.specs.declared.term_info.TermInfo.{TermInfo}
 use Rattle.ii_termstore.specs.TermStore.{term_store}
-use Rattle.ii_termdict.specs.Dictionary.{key_of, keys_of, keys_ascend, is_below, store_behind, entries_of, entry_keys, entry_infos, info_under, AreOpened}
+use Rattle.ii_termdict.specs.Dictionary.{key_of, keys_of, keys_ascend, is_below, store_after, entries_of, entry_keys, entry_infos, info_under, AreOpened}
 use Rattle.ii_termstore.specs.ListLemmas.{all_at}
 use Rattle.ii_termdict.proofs.DictionaryLemmas.{length-keys_of}
 
@@ -71,12 +71,12 @@ pub found_equal : (x y : List ℕ) → slice_cmp nat_cmp x y ≡ Equal → y ≡
 found_equal x y e = sym ((bytes_decides x y).0 (sym (is_eq-slice_cmp x y) ∙ equal_of (slice_cmp nat_cmp x y) e))
 
 -- where a search ends, no key is the one sought
-pub none_equal : (n low high : ℕ) (ends body key : List ℕ) → ((j : ℕ) → j < low → slice_cmp nat_cmp key (key_of ends body j) ≡ Greater)
-    → ((j : ℕ) → high ≤ j → j < n → slice_cmp nat_cmp key (key_of ends body j) ≡ Less) → high ≤ low → (i : ℕ) → i < n → key_of ends body i ≡ key → ⊥
-none_equal n low high ends body key below above over i within same =
+pub none_equal : (n place : ℕ) (ends body key : List ℕ) → ((j : ℕ) → j < place → slice_cmp nat_cmp key (key_of ends body j) ≡ Greater)
+    → ((j : ℕ) → place ≤ j → j < n → slice_cmp nat_cmp key (key_of ends body j) ≡ Less) → (i : ℕ) → i < n → key_of ends body i ≡ key → ⊥
+none_equal n place ends body key below above i within same =
     let itself = tied_itself nat_list_cmp_total key in
     let here : slice_cmp nat_cmp key (key_of ends body i) ≡ Equal = rw same itself in
-    ⊎_elim (λ less. let g = below i less in cc) (λ more. let l = above i (omega arith) within in cc) (cases_lt i low)
+    ⊎_elim (λ less. let g = below i less in cc) (λ more. let l = above i more within in cc) (cases_lt i place)
 
 -- a look-up in keys and infos side by side
 lookup_hit : (ks : List (List ℕ)) (vs : List TermInfo) (i : ℕ) (key : List ℕ) (x : TermInfo) → length ks ≡ length vs → i < length ks → get_or ks i [] ≡ key
@@ -118,25 +118,25 @@ opened_get None n ord x h e = absurd h
 opened_get (Some infos) n ord x h e = e
 
 pub info_hit : (n : ℕ) (ends body key : List ℕ) (ord : ℕ) (x : TermInfo) → AreOpened n ends body → ord < n → key_of ends body ord ≡ key
-    → IfSome (term_store (store_behind n ends body)) (λ infos. slice_get infos ord ≡ Some x) → Some x ≡ info_under key (entries_of n ends body)
+    → IfSome (term_store (store_after n ends body)) (λ infos. slice_get infos ord ≡ Some x) → Some x ≡ info_under key (entries_of n ends body)
 unfolding entries_of
 info_hit n ends body key ord x h within same e =
-    let many = opened_infos (term_store (store_behind n ends body)) n h.store in
+    let many = opened_infos (term_store (store_after n ends body)) n h.store in
     let size = length-keys_of n ends body in
-    sym (lookup_hit (keys_of n ends body) (unwrap_or (term_store (store_behind n ends body)) []) ord key x (size ∙ sym many) (omega arith) (keys_at_place n ends body ord within ∙ same)
+    sym (lookup_hit (keys_of n ends body) (unwrap_or (term_store (store_after n ends body)) []) ord key x (size ∙ sym many) (omega arith) (keys_at_place n ends body ord within ∙ same)
     (λ j below equal.
     let order = keys_in_order n ends body j ord h.ascend below within in
     let other = sym (keys_at_place n ends body j (omega arith)) ∙ equal ∙ sym same in
     let itself = tied_itself nat_list_cmp_total (key_of ends body ord) in
     let less = rw other at order in
     cc)
-    (opened_get (term_store (store_behind n ends body)) n ord x h.store e))
+    (opened_get (term_store (store_after n ends body)) n ord x h.store e))
 
 pub info_miss : (n : ℕ) (ends body key : List ℕ) → ((i : ℕ) → i < n → key_of ends body i ≡ key → ⊥) → None ≡ info_under key (entries_of n ends body)
 unfolding entries_of
 info_miss n ends body key h =
     let size = length-keys_of n ends body in
-    sym (lookup_miss (keys_of n ends body) (unwrap_or (term_store (store_behind n ends body)) []) key
+    sym (lookup_miss (keys_of n ends body) (unwrap_or (term_store (store_after n ends body)) []) key
     (λ j below equal. let within : j < n = omega arith in h j within (sym (keys_at_place n ends body j within) ∙ equal)))
 
 zip_keys : (ks : List (List ℕ)) (vs : List TermInfo) → length ks ≡ length vs → entry_keys (zip ks vs) ≡ ks
@@ -158,23 +158,23 @@ zip_size (k ∷ ks) (v ∷ vs) h = ap suc (zip_size ks vs (omega arith))
 pub length-entries_of : (n : ℕ) (ends body : List ℕ) → AreOpened n ends body → length (entries_of n ends body) ≡ n
 unfolding entries_of
 length-entries_of n ends body h =
-    let many = opened_infos (term_store (store_behind n ends body)) n h.store in
+    let many = opened_infos (term_store (store_after n ends body)) n h.store in
     let size = length-keys_of n ends body in
-    zip_size (keys_of n ends body) (unwrap_or (term_store (store_behind n ends body)) []) (size ∙ sym many) ∙ size
+    zip_size (keys_of n ends body) (unwrap_or (term_store (store_after n ends body)) []) (size ∙ sym many) ∙ size
 
 pub key_found : (n : ℕ) (ends body : List ℕ) (ord : ℕ) → AreOpened n ends body → ord < n → slice_get (entry_keys (entries_of n ends body)) ord ≡ Some (key_of ends body ord)
 unfolding entries_of
 key_found n ends body ord h within =
-    let many = opened_infos (term_store (store_behind n ends body)) n h.store in
+    let many = opened_infos (term_store (store_after n ends body)) n h.store in
     let size = length-keys_of n ends body in
-    let keys = zip_keys (keys_of n ends body) (unwrap_or (term_store (store_behind n ends body)) []) (size ∙ sym many) in
+    let keys = zip_keys (keys_of n ends body) (unwrap_or (term_store (store_after n ends body)) []) (size ∙ sym many) in
     ap (λ (ks : List (List ℕ)). slice_get ks ord) keys ∙ slice_get-get_or (keys_of n ends body) ord [] (omega arith) ∙ ap (λ (k : List ℕ). Some k) (keys_at_place n ends body ord within)
 
-pub value_found : (n : ℕ) (ends body : List ℕ) (ord : ℕ) (x : TermInfo) → AreOpened n ends body → IfSome (term_store (store_behind n ends body)) (λ infos. slice_get infos ord ≡ Some x)
+pub value_found : (n : ℕ) (ends body : List ℕ) (ord : ℕ) (x : TermInfo) → AreOpened n ends body → IfSome (term_store (store_after n ends body)) (λ infos. slice_get infos ord ≡ Some x)
     → slice_get (entry_infos (entries_of n ends body)) ord ≡ Some x
 unfolding entries_of
 value_found n ends body ord x h e =
-    let many = opened_infos (term_store (store_behind n ends body)) n h.store in
+    let many = opened_infos (term_store (store_after n ends body)) n h.store in
     let size = length-keys_of n ends body in
-    let infos = zip_infos (keys_of n ends body) (unwrap_or (term_store (store_behind n ends body)) []) (size ∙ sym many) in
-    ap (λ (vs : List TermInfo). slice_get vs ord) infos ∙ opened_get (term_store (store_behind n ends body)) n ord x h.store e
+    let infos = zip_infos (keys_of n ends body) (unwrap_or (term_store (store_after n ends body)) []) (size ∙ sym many) in
+    ap (λ (vs : List TermInfo). slice_get vs ord) infos ∙ opened_get (term_store (store_after n ends body)) n ord x h.store e

@@ -2,8 +2,8 @@
 use Rattle.std.specs.Prelude.{◌≡◌, [], ◌∷◌, ◌++◌, replicate, Ok, Err, List, ℕ, refl}
 use Rattle.ii_io.specs.declared.faults.Part.TheVariants.{Dictionary, TermStore}
 use Rattle.ii_io.specs.Numbers.{number_at}
-use Rattle.ii_termstore.specs.TermInfos.{info_of, info_at}
-use Rattle.ii_termstore.specs.TermStore.{meta_at, later_info, is_block, meta_of, stored_info, store_parts, term_store}
+use Rattle.ii_termstore.specs.TermInfos.{term_info_from, info_at}
+use Rattle.ii_termstore.specs.TermStore.{meta_at, later_info, is_block, block_meta_at, term_info_at, store_parts, term_store}
 use Rattle.ii_termdict.specs.Dictionary.{end_of, key_parts, keys_at, dictionary}
 
 -- one key, 61, in 3 documents with 3 bytes of postings
@@ -24,6 +24,6 @@ pub no_store : dictionary (replicate 23 0) ≡ Err TermStore
 unfolding dictionary keys_at key_parts end_of number_at term_store store_parts
 no_store = refl
 
-pub one_key : dictionary one ≡ Ok ((0x61 ∷ [], info_of 3 0 3 0 0) ∷ [])
-unfolding dictionary keys_at key_parts end_of number_at term_store store_parts meta_of meta_at info_at is_block later_info stored_info
+pub one_key : dictionary one ≡ Ok ((0x61 ∷ [], term_info_from 3 0 3 0 0) ∷ [])
+unfolding dictionary keys_at key_parts end_of number_at term_store store_parts block_meta_at meta_at info_at is_block later_info term_info_at
 one_key = refl

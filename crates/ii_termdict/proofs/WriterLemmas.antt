@@ -1,5 +1,5 @@
 -- How a dictionary is written.
-use Rattle.std.proofs.Common.{◌≡◌, ℕ, suc, ◌+◌, ◌<◌, List, [], ◌∷◌, ◌++◌, length, take, drop, get_or, Bool, Result, Ok, Err, true, false, ⊎_elim, inl, inr, refl, sym, ap, ◌∙◌, arith, append_assoc, length-append}
+use Rattle.std.proofs.Common.{◌≡◌, ℕ, ◌+◌, ◌<◌, List, [], ◌∷◌, ◌++◌, length, take, drop, get_or, Bool, Result, Ok, Err, true, false, ⊎_elim, inl, inr, refl, sym, ap, ◌∙◌, arith, append_assoc, length-append}
 use Rattle.std.specs.Prelude.{is_err, OnOk, OnErr, IfErr, IsErrOf, ◌⊎◌, Some, ◌-◌, ◌^◌}
 use Rattle.std.specs.List.{flat_map, slice_range, zip}
 use Rattle.std.proofs.Math.Seq.{take-append_seam}
@@ -18,7 +18,7 @@ use Rattle.ii_termstore.specs.Written.{written_store}
 use Rattle.ii_termdict.specs.Written.{ends_from, written_dictionary}
 use Rattle.ii_termdict.specs.TermDictionaryWriter.{TermDictionaryWriterState, HasKeys, keys_between}
 use Rattle.ii_termdict.proofs.ReadDictionaryLemmas.{reads_dictionary, length-ends_from}
-use Rattle.ii_io.specs.CountingWriterLemmas.{Wrote-trans, writes_then, writes_refused_by, writes_went}
+use Rattle.ii_io.specs.CountingWriterLemmas.{writes_then, writes_refused_by}
 
 -- a number that was refused among others
 pub numbers_refused : (numbers : List ℕ) (i : ℕ) (initial writer new : CountingWriterState) (result : Result (Unit {0}) Fault) → i < length numbers → Wrote initial writer (flat_map (le_bytes 8) (take i numbers)) → true ≡ is_err result
@@ -27,25 +27,6 @@ numbers_refused numbers i initial writer new result within h refused put =
     rw (flat_around (le_bytes 8) numbers i 0 within)
     (writes_refused_by initial new (flat_map (le_bytes 8) (take i numbers) ++ le_bytes 8 (get_or numbers i 0)) (flat_map (le_bytes 8) (drop (i + 1) numbers)) result refused
     (writes_then initial writer new (flat_map (le_bytes 8) (take i numbers)) (le_bytes 8 (get_or numbers i 0)) result h put))
-
--- parts one after the other, of which a later one was refused
-pub second_refused : (a b k more : List ℕ) (initial writer new : CountingWriterState) (first result : Result (Unit {0}) Fault) → false ≡ is_err first → Writes initial writer a first → true ≡ is_err result → Writes writer new b result
-    → Writes initial new (a ++ b ++ k ++ more) result
-second_refused a b k more initial writer new first result went h refused put =
-    writes_refused_by initial new (a ++ b ++ k) more result refused
-    (writes_refused_by initial new (a ++ b) k result refused (writes_then initial writer new a b result (writes_went initial writer a first went h) put))
-
-pub third_refused : (a b k more : List ℕ) (initial one two new : CountingWriterState) (first second result : Result (Unit {0}) Fault) → false ≡ is_err first → Writes initial one a first → false ≡ is_err second → Writes one two b second
-    → true ≡ is_err result → Writes two new k result → Writes initial new (a ++ b ++ k ++ more) result
-third_refused a b k more initial one two new first second result went h went_too put refused third =
-    writes_refused_by initial new (a ++ b ++ k) more result refused
-    (writes_then initial two new (a ++ b) k result (Wrote-trans initial one two a b (writes_went initial one a first went h) (writes_went one two b second went_too put)) third)
-
-pub four_written : (a b k more : List ℕ) (initial one two three new : CountingWriterState) (first second third result : Result (Unit {0}) Fault) → false ≡ is_err first → Writes initial one a first → false ≡ is_err second → Writes one two b second
-    → false ≡ is_err third → Writes two three k third → Writes three new more result → Writes initial new (a ++ b ++ k ++ more) result
-four_written a b k more initial one two three new first second third result went h went_too put went_all keys last =
-    writes_then initial three new (a ++ b ++ k) more result
-    (Wrote-trans initial two three (a ++ b) k (Wrote-trans initial one two a b (writes_went initial one a first went h) (writes_went one two b second went_too put)) (writes_went two three k third went_all keys)) last
 
 keys_push : (keys : List (List ℕ)) (key : List ℕ) → flat_map (λ (k : List ℕ). k) (keys ++ key ∷ []) ≡ flat_map (λ (k : List ℕ). k) keys ++ key
 keys_push [] key = append-nil key
@@ -126,10 +107,6 @@ pub key_added : (keys more : List (List ℕ)) (key : List ℕ) (infos : List Ter
     → OnOk result (state more infos now ≡ state (keys ++ key ∷ []) infos before)
 key_added keys more key infos now before (Ok u) e now_is before_is = rw (e, now_is, before_is) refl
 key_added keys more key infos now before (Err f) e now_is before_is = tt
-
-pub on_ok_went : {P : Type 0} (result : Result (Unit {0}) Fault) → false ≡ is_err result → OnOk result P → P
-on_ok_went (Ok u) e h = h
-on_ok_went (Err f) e h = absurd (cc)
 
 -- a number of terms that passes 64 bits is told by no one
 pub never_limit : (bytes ends : List ℕ) (keys : List (List ℕ)) (n : ℕ) → HasKeys bytes ends keys → length keys ≡ n + 1 → n + 1 ≡ 2 ^ 64 → ⊥

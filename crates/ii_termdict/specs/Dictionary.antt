@@ -19,9 +19,13 @@ Entry = List ℕ × TermInfo
 abbrev pub is_below : List ℕ → List ℕ → Bool
 is_below k l = is_lt (slice_cmp nat_cmp k l)
 
--- where key i ends and begins, by the numbers of eight bytes
+-- how many bytes the end of a key takes
+abbrev pub end_size : ℕ
+end_size = 8
+
+-- where key i ends and begins, by numbers of that size
 unfoldable pub end_of : List ℕ → ℕ → ℕ
-end_of ends i = unwrap_or (option_map (λ found. found.0) (number_at 8 (drop (8 * i) ends))) 0
+end_of ends i = unwrap_or (option_map (λ found. found.0) (number_at end_size (drop (end_size * i) ends))) 0
 
 abbrev pub start_of : List ℕ → ℕ → ℕ
 start_of ends i = if i == 0 then 0 else end_of ends (i - 1)
@@ -40,14 +44,14 @@ keys_ascend n ends body = list_all (λ i. is_below (key_of ends body i) (key_of 
 abbrev pub keys_of : ℕ → List ℕ → List ℕ → List (List ℕ)
 keys_of n ends body = map (key_of ends body) (range_with_len 0 n)
 
--- the number of keys, their ends and what stands behind, and the body of keys and store
+-- the number of keys, their ends and what stands after, and the body of keys and store
 unfoldable pub key_parts : List ℕ → Option (ℕ × List ℕ × List ℕ)
 key_parts bytes = do
   n ← number_at 8 bytes
-  _ ← needs (nat_le (8 * n.0) (length n.1))
-  Some (n.0, n.1, drop (8 * n.0) n.1)
+  _ ← needs (nat_le (end_size * n.0) (length n.1))
+  Some (n.0, n.1, drop (end_size * n.0) n.1)
 
--- the keys, and the bytes of the store behind them
+-- the keys, and the bytes of the store after them
 unfoldable pub keys_at : List ℕ → Option (List (List ℕ) × List ℕ)
 keys_at bytes = do
   parts ← key_parts bytes
@@ -75,19 +79,19 @@ info_under key entries = lookup (bytes_eq key) entries
 abbrev pub entry_keys : List Entry → List (List ℕ)
 entry_keys entries = map (λ (e : Entry). e.0) entries
 
--- the bytes of the store behind the keys, and the entries of lawful parts
-abbrev pub store_behind : ℕ → List ℕ → List ℕ → List ℕ
-store_behind n ends body = drop (start_of ends n) body
+-- the bytes of the store after the keys, and the entries of valid parts
+abbrev pub store_after : ℕ → List ℕ → List ℕ → List ℕ
+store_after n ends body = drop (start_of ends n) body
 
 unfoldable pub entries_of : ℕ → List ℕ → List ℕ → List Entry
-entries_of n ends body = zip (keys_of n ends body) (unwrap_or (term_store (store_behind n ends body)) [])
+entries_of n ends body = zip (keys_of n ends body) (unwrap_or (term_store (store_after n ends body)) [])
 
 -- What the parts of an opened dictionary meet.
 pub record AreOpened (n : ℕ) (ends body : List ℕ) : Type 0 where
-  pub there : 8 * n ≤ length ends
+  pub there : end_size * n ≤ length ends
   pub rise : ends_rise n ends body ≡ true
   pub ascend : keys_ascend n ends body ≡ true
-  pub store : IsSomeAnd (term_store (store_behind n ends body)) (λ infos. length infos ≡ n)
+  pub store : IsSomeAnd (term_store (store_after n ends body)) (λ infos. length infos ≡ n)
 
 abbrev pub entry_infos : List Entry → List TermInfo
 entry_infos entries = map (λ (e : Entry). e.1) entries

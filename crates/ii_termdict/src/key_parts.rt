@@ -1,15 +1,18 @@
-ghost use Rattle.std.specs.Prelude.{◌≡◌, ℕ, ◌+◌, ◌-◌, ◌*◌, ◌<◌, ◌≤◌, true, length, drop, Some, slice_get, IfSome, IfNone, IfOk, IsOk, IsOkAnd, Ok, Err, MatchOption};
+ghost use Rattle.std.specs.Prelude.{◌≡◌, ℕ, ◌+◌, ◌-◌, ◌*◌, ◌<◌, ◌≤◌, true, length, Some, slice_get, IfSome, IfNone, IfOk, IsOk, IsOkAnd, Ok, Err, MatchOption};
 ghost use Rattle.std.specs.List.{slice_range};
 ghost use Rattle.std.specs.Option.{option_map};
 ghost use Rattle.ii_termstore.specs.TermStore.{term_store};
-ghost use Rattle.ii_termdict.specs.Dictionary.{end_of, start_of, key_of, ends_rise, keys_ascend, key_parts, is_below, store_behind, entries_of, AreOpened, info_under, entry_keys, entry_infos, dictionary};
+ghost use Rattle.ii_termdict.specs.Dictionary.{end_size, end_of, start_of, key_of, ends_rise, keys_ascend, key_parts, is_below, store_after, entries_of, AreOpened, info_under, entry_keys, entry_infos, dictionary};
 
-use ii_io::{BinarySerializable, Part};
+use ii_io::{BinarySerializable, FixedSize, Part};
 use ii_termstore::{TermInfo, TermInfoStoreView};
 use std::cmp::Ordering;
 
+// How many bytes the end of a key takes, which is a number of 64 bits.
+const END_SIZE: u64 = u64::SIZE_IN_BYTES as u64;
+
 /// The parts of a dictionary's bytes: the number of its terms, the ends of their keys and what stands
-/// after them, and the keys with the store behind them.
+/// after them, and the keys with the store after them.
 #[derive(Clone, Copy)]
 pub(crate) struct KeyParts<'a> {
     pub num_terms: u64,
@@ -21,19 +24,19 @@ pub(crate) struct KeyParts<'a> {
 #[tactic(auto, unfolding(crate::specs::Dictionary::key_parts))]
 fn parts_of(bytes: &[u8]) -> Option<KeyParts<'_>>
     ensures value { option_map (λ p. (p.num_terms, p.ends.now, p.body.now)) result ≡ key_parts bytes.now }
-    ensures there { IfSome result (λ p. 8 * p.num_terms ≤ length p.ends.now) }
+    ensures there { IfSome result (λ p. end_size * p.num_terms ≤ length p.ends.now) }
 {
     let mut rest = bytes;
     let Some(num_terms) = u64::deserialize(&mut rest) else {
         return None;
     };
-    if num_terms > count_bytes(rest) / 8 {
+    if num_terms > count_bytes(rest) / END_SIZE {
         return None;
     }
     Some(KeyParts {
         num_terms,
         ends: rest,
-        body: &rest[8 * num_terms as usize..],
+        body: &rest[(END_SIZE * num_terms) as usize..],
     })
 }
 
@@ -47,10 +50,10 @@ fn count_bytes(bytes: &[u8]) -> u64
 // Where key `i` ends.
 #[tactic(auto, unfolding(crate::specs::Dictionary::end_of))]
 fn read_end(ends: &[u8], i: u64) -> u64
-    requires { 8 * i ≤ length ends.now }
+    requires { end_size * i ≤ length ends.now }
     ensures { result ≡ end_of ends.now i }
 {
-    let mut rest = &ends[8 * i as usize..];
+    let mut rest = &ends[(END_SIZE * i) as usize..];
     match u64::deserialize(&mut rest) {
         Some(end) => end,
         None => 0,
@@ -59,7 +62,7 @@ fn read_end(ends: &[u8], i: u64) -> u64
 
 // Where key `i` begins.
 fn read_start(ends: &[u8], i: u64) -> u64
-    requires { 8 * i ≤ length ends.now }
+    requires { end_size * i ≤ length ends.now }
     ensures { result ≡ start_of ends.now i }
 {
     if i == 0 { 0 } else { read_end(ends, i - 1) }
@@ -67,7 +70,7 @@ fn read_start(ends: &[u8], i: u64) -> u64
 
 // Whether no end is below the one before it, and the last one lies within the body.
 fn do_ends_rise(n: u64, ends: &[u8], body: &[u8]) -> bool
-    requires { 8 * n ≤ length ends.now }
+    requires { end_size * n ≤ length ends.now }
     ensures { result ≡ ends_rise n ends.now body.now }
 {
     for i in 0..n {
@@ -80,7 +83,7 @@ fn do_ends_rise(n: u64, ends: &[u8], body: &[u8]) -> bool
 
 // Key `i`.
 pub(crate) fn read_key<'a>(n: u64, ends: &[u8], body: &'a [u8], i: u64) -> &'a [u8]
-    requires there { 8 * n ≤ length ends.now }
+    requires there { end_size * n ≤ length ends.now }
     requires rise { ends_rise n ends.now body.now ≡ true }
     requires within { i < n }
     ensures { result.now ≡ key_of ends.now body.now i }
@@ -110,7 +113,7 @@ pub(crate) fn is_key_below(key: &[u8], other: &[u8]) -> bool
 
 // Whether each key is below the next.
 fn do_keys_ascend(n: u64, ends: &[u8], body: &[u8]) -> bool
-    requires there { 8 * n ≤ length ends.now }
+    requires there { end_size * n ≤ length ends.now }
     requires rise { ends_rise n ends.now body.now ≡ true }
     ensures { result ≡ keys_ascend n ends.now body.now }
 {
@@ -124,9 +127,9 @@ fn do_keys_ascend(n: u64, ends: &[u8], body: &[u8]) -> bool
 
 // The store after the keys.
 fn store_of<'a>(n: u64, ends: &[u8], body: &'a [u8]) -> &'a [u8]
-    requires there { 8 * n ≤ length ends.now }
+    requires there { end_size * n ≤ length ends.now }
     requires rise { ends_rise n ends.now body.now ≡ true }
-    ensures { result.now ≡ store_behind n ends.now body.now }
+    ensures { result.now ≡ store_after n ends.now body.now }
 {
     &body[read_start(ends, n) as usize..]
 }
@@ -158,7 +161,7 @@ pub(crate) fn first_damaged_part(bytes: &[u8]) -> Option<Part>
 // The store after the keys of a dictionary.
 fn view_of<'a>(parts: &KeyParts<'a>) -> TermInfoStoreView<'a>
     requires { AreOpened parts.now.num_terms parts.now.ends.now parts.now.body.now }
-    ensures value { term_store (store_behind parts.now.num_terms parts.now.ends.now parts.now.body.now) ≡ Some result }
+    ensures value { term_store (store_after parts.now.num_terms parts.now.ends.now parts.now.body.now) ≡ Some result }
     ensures count { length result ≡ parts.now.num_terms }
 {
     TermInfoStoreView::over(store_of(parts.num_terms, parts.ends, parts.body))
@@ -167,7 +170,7 @@ fn view_of<'a>(parts: &KeyParts<'a>) -> TermInfoStoreView<'a>
 /// The parts of a dictionary.
 pub(crate) fn opened(bytes: &[u8]) -> KeyParts<'_>
     requires { IsOk (dictionary bytes.now) }
-    ensures lawful { AreOpened result.num_terms result.ends.now result.body.now }
+    ensures valid { AreOpened result.num_terms result.ends.now result.body.now }
     ensures entries { dictionary bytes.now ≡ Ok (entries_of result.num_terms result.ends.now result.body.now) }
 {
     match parts_of(bytes) {

@@ -1,4 +1,4 @@
-ghost use Rattle.std.specs.Prelude.{◌≡◌, ◌<◌, ◌+◌, ◌-◌, length, Ok, IsOk, Some, IfOk, nat_lt, slice_get, if◌then◌else◌};
+ghost use Rattle.std.specs.Prelude.{◌≡◌, ◌<◌, ◌+◌, ◌-◌, false, length, Ok, IsOk, Some, IfOk, nat_lt, slice_get, if◌then◌else◌};
 ghost use Rattle.std.specs.Option.{option_map};
 ghost use Rattle.ii_termdict.specs.Dictionary.{dictionary, entry_keys, entry_infos};
 
@@ -14,7 +14,7 @@ pub struct TermStreamer<'a> {
 }
 
 impl<'a> Model for TermStreamer<'a> {
-    ghost use Rattle.std.specs.Prelude.{◌≤◌, List, ℕ, [], IsOk, length};
+    ghost use Rattle.std.specs.Prelude.{◌≤◌, [], IsOk, length};
     ghost use Rattle.std.specs.Result.{result_unwrap_or};
     ghost use Rattle.ii_termdict.specs.Dictionary.{dictionary};
     ghost use Rattle.ii_termdict.specs.TermStreamer.{TermStreamerState};
@@ -40,6 +40,7 @@ impl<'a> TermStreamer<'a> {
     pub fn advance(&mut self) -> bool
         ensures found { result ≡ nat_lt self.old.passed (length self.old.entries) }
         ensures passed { self.new ≡ record self.old { passed = if result then self.old.passed + 1 else self.old.passed } }
+        ensures end { result ≡ false → self.new ≡ self.old }
     {
         if self.passed >= count_terms(self.bytes) {
             return false;
@@ -48,8 +49,8 @@ impl<'a> TermStreamer<'a> {
         true
     }
 
-    /// The key of the term that was passed last. It asks for an `advance` that answered true; one that
-    /// answered false since then changed nothing.
+    /// The key of the term that was passed last. It asks for an `advance` that answered true; after the
+    /// end it is the last key, since an `advance` that answers false changes nothing.
     pub fn key(&self) -> &'a [u8]
         requires { 0 < self.now.passed }
         ensures { slice_get (entry_keys self.now.entries) (self.now.passed - 1) ≡ Some result.now }

@@ -1,4 +1,4 @@
-ghost use Rattle.std.specs.Prelude.{◌≡◌, ◌<◌, ◌+◌, [], length, Err, Ok, Some, IfOk, IfErr, OnErr, nat_lt, slice_get, unwrap_or};
+ghost use Rattle.std.specs.Prelude.{◌≡◌, ◌<◌, [], length, Err, Ok, Some, IfOk, IfErr, OnErr, nat_lt, slice_get, unwrap_or};
 ghost use Rattle.ii_io.specs.declared.faults.Part.{Part};
 ghost use Rattle.ii_termdict.specs.Dictionary.{dictionary, info_under, entry_keys};
 
@@ -29,15 +29,18 @@ impl Model for TermDictionary {
     ghost invariant = { λ d. IsOk (dictionary d.bytes) };
 }
 
-// The bytes of no terms.
-static NO_TERMS: [u8; 24] = [0; 24];
+// How many bytes a dictionary of no terms takes: the numbers of its keys, of its metas' bytes and of its
+// terms.
+const EMPTY_SIZE: usize = 24;
+
+static NO_TERMS: [u8; EMPTY_SIZE] = [0; EMPTY_SIZE];
 
 impl TermDictionary {
     /// Opens a dictionary: the number of terms and for each the end of its key, 8 bytes each with the
     /// lowest first, then the keys, then the term store.
     ///
     /// `Damaged(Dictionary)` where bytes are missing, ends decrease or keys don't ascend strictly by their
-    /// bytes; else `Damaged(TermStore)` where the store is first_damaged_partd; else `Damaged(Dictionary)` where it
+    /// bytes; else `Damaged(TermStore)` where the store is damaged; else `Damaged(Dictionary)` where it
     /// has another number of terms. It takes no memory, and time by the number of terms that the bytes
     /// tell and the bytes of their keys; metas of the store may name the same bits.
     pub fn open(bytes: Bytes) -> Result<TermDictionary, Fault>

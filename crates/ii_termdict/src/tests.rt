@@ -129,6 +129,21 @@ fn looks_keys_up(rt: HostRuntime) -> Result<(), Fail> {
     Ok(())
 }
 
+#[test]
+fn answers_the_last_term_after_the_end(rt: HostRuntime) -> Result<(), Fail> {
+    let terms = TermDictionary::open(Bytes::copy_from_slice(rt.alloc(), &one())?)?;
+    let mut stream = terms.stream();
+    assert!(rt; stream.advance());
+    assert!(rt; !stream.advance());
+    assert!(rt; !stream.advance());
+    assert!(rt; stream.key() == b"a".as_slice());
+    assert_eq!(rt;
+        (stream.value().doc_freq, stream.value().postings_range),
+        (3, 0..3)
+    );
+    Ok(())
+}
+
 // The first n bytes.
 fn front(bytes: &[u8], n: usize) -> &[u8] {
     if n <= bytes.len() { &bytes[..n] } else { bytes }

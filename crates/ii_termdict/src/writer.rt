@@ -31,7 +31,7 @@ pub struct TermDictionaryWriter {
 }
 
 impl Model for TermDictionaryWriter {
-    ghost use Rattle.std.specs.Prelude.{◌≡◌, ◌≤◌, ◌+◌, false, length};
+    ghost use Rattle.std.specs.Prelude.{◌≡◌, ◌+◌, false, length};
     ghost use Rattle.ii_termdict.specs.ReadBack.{AreAscending};
     ghost use Rattle.ii_termdict.specs.TermDictionaryWriter.{TermDictionaryWriterState, HasKeys, keys_between};
 
@@ -152,25 +152,37 @@ fn put_dictionary<W: Write>(
     ensures infos { term_infos.new.infos ≡ term_infos.old.infos }
     ensures stays_open { OnOk result (term_infos.new.closed ≡ false) }
 {
-    let count = put_number(ends.len() as u64, writer);
-    if count.is_err() {
-        return count;
-    }
-    let places = put_numbers(ends, writer);
-    if places.is_err() {
-        return places;
-    }
-    let keys = put_bytes(key_bytes, writer);
+    let keys = put_keys(ends, key_bytes, writer);
     if keys.is_err() {
         return keys;
     }
     term_infos.serialize(writer)
 }
 
-fn put_bytes<W: Write>(bytes: &[u8], writer: &mut CountingWriter<W>) -> Result<(), Fault>
-    ensures { Writes writer.old writer.new bytes.now result }
+// Writes all that stands before the store.
+fn put_keys<W: Write>(
+    ends: &[u64],
+    key_bytes: &[u8],
+    writer: &mut CountingWriter<W>,
+) -> Result<(), Fault>
+    ensures { Writes writer.old writer.new (le_bytes 8 (length ends.now) ++ flat_map (le_bytes 8) ends.now ++ key_bytes.now) result }
 {
-    writer.write_all(bytes)
+    let places = put_ends(ends, writer);
+    if places.is_err() {
+        return places;
+    }
+    writer.write_all(key_bytes)
+}
+
+// Writes the number of terms and the ends of the keys.
+fn put_ends<W: Write>(ends: &[u64], writer: &mut CountingWriter<W>) -> Result<(), Fault>
+    ensures { Writes writer.old writer.new (le_bytes 8 (length ends.now) ++ flat_map (le_bytes 8) ends.now) result }
+{
+    let count = put_number(ends.len() as u64, writer);
+    if count.is_err() {
+        return count;
+    }
+    put_numbers(ends, writer)
 }
 
 fn put_number<W: Write>(n: u64, writer: &mut CountingWriter<W>) -> Result<(), Fault>

@@ -1,10 +1,10 @@
 -- What is gathered of terms, block by block.
-use Rattle.std.proofs.Common.{◌≡◌, ℕ, zero, suc, ◌+◌, ◌-◌, ◌*◌, ◌/◌, ◌^◌, ◌<◌, ◌≤◌, List, [], ◌∷◌, ◌++◌, length, take, drop, get_or, Result, Ok, Err, false, ⊎_elim, refl, sym, ap, ◌∙◌, arith, length-append, length-drop, append_assoc}
-use Rattle.std.specs.Prelude.{OnOk, is_err}
-use Rattle.std.specs.List.{flat_map, range_with_len}
+use Rattle.std.proofs.Common.{◌≡◌, ℕ, zero, suc, ◌+◌, ◌*◌, ◌/◌, ◌^◌, ◌<◌, ◌≤◌, List, [], ◌∷◌, ◌++◌, length, take, drop, Result, Ok, Err, ⊎_elim, refl, sym, ap, ◌∙◌, arith, length-append, length-drop}
+use Rattle.std.specs.Prelude.{OnOk}
+use Rattle.std.specs.List.{range_with_len}
 use Rattle.std.proofs.lemmas.Bool.{cases_lt}
 use Rattle.ii_io.specs.declared.faults.Fault.{Fault}
-use Rattle.std.proofs.lemmas.List.{append-nil, take-append-le, drop-append-le, take_all, drop_all, get_or-drop}
+use Rattle.std.proofs.lemmas.List.{append-nil, take-append-le, drop-append-le, take_all, drop_all}
 use Rattle.std.proofs.lemmas.List.Concat.{length-flat_map}
 use Rattle.ii_io.specs.Numbers.{le_bytes}
 use Rattle.ii_codes.specs.Bits.{bits_bytes}
@@ -172,10 +172,6 @@ pushed_each P (x ∷ xs) i h last (suc k) within = pushed_each P xs i (λ j belo
 
 pub sound_more : (infos : List TermInfo) (i : TermInfo) → AreSound infos → HasLengths i → IsInRange i → AreJoined (infos ++ i ∷ []) → AreSound (infos ++ i ∷ [])
 sound_more infos i h lengths range joined = record { lengths = pushed_each HasLengths infos i h.lengths lengths; ranges = pushed_each IsInRange infos i h.ranges range; joined = joined }
-
-pub on_ok_went : {P : Type 0} (result : Result (Unit {0}) Fault) → false ≡ is_err result → OnOk result P → P
-on_ok_went (Ok u) e h = h
-on_ok_went (Err f) e h = absurd (cc)
 
 pub open_meta_by : (offset : ℕ) (is : List TermInfo) (m : Meta) → m ≡ meta_for offset (first_of is) (drop 1 is) → 0 < length is → meta_bytes m ≡ open_meta offset is
 open_meta_by offset is m e some = ap meta_bytes e ∙ sym (open_meta_is offset is some)

@@ -1,38 +1,37 @@
 -- The bits of a block, packed into a buffer.
-use Rattle.std.proofs.Common.{◌≡◌, ℕ, zero, suc, ◌+◌, ◌-◌, ◌*◌, ◌/◌, ◌%◌, ◌<◌, ◌≤◌, List, [], ◌∷◌, ◌++◌, length, take, map, get_or, max, refl, sym, ap, ◌∙◌, arith, length-append, append_assoc}
+use Rattle.std.proofs.Common.{◌≡◌, ℕ, suc, ◌+◌, ◌-◌, ◌*◌, ◌/◌, ◌<◌, ◌≤◌, List, [], ◌∷◌, ◌++◌, length, take, map, get_or, max, refl, sym, ap, ◌∙◌, arith, length-append, append_assoc}
 use Rattle.std.specs.List.{flat_map}
 use Rattle.std.proofs.Math.Nat.{zero-mul, suc-mul}
 use Rattle.std.proofs.Math.Seq.{take-append-add}
-use Rattle.std.proofs.lemmas.List.{append-nil, take-append-le, map_more, take_more, flat_map_more, length-take-le, take_all}
+use Rattle.std.proofs.lemmas.List.{take-append-le, map_more, take_more, flat_map_more, length-take-le, take_all}
 use Rattle.ii_codes.specs.Packed.{entries_in}
 use Rattle.ii_codes.specs.Bits.{low_bits, whole_bytes, bits_left, bits_bytes, WritesOneRow}
 use Rattle.ii_codes.specs.BitsLemmas.{length-low_bits, length-bits_left}
 use Rattle.ii_termstore.specs.declared.term_info.TermInfo.{TermInfo}
 use Rattle.ii_termstore.specs.declared.term_info_store.block_meta.TermInfoBlockMeta.{TermInfoBlockMeta as Meta}
-use Rattle.ii_termstore.specs.TermInfos.{info_of}
+use Rattle.ii_termstore.specs.TermInfos.{term_info_from}
 use Rattle.ii_termstore.specs.TermStore.{term_bits}
-use Rattle.ii_termstore.specs.Written.{IsPacking, largest, last_of, term_row, block_row, info_in, postings_behind, positions_behind, postings_end, positions_end}
+use Rattle.ii_termstore.specs.Written.{IsPacking, largest, last_of, term_row, block_row, info_in, postings_after, positions_after, postings_end, positions_end}
 
--- what is put behind the first bytes of a buffer
-put_behind : (buffer part tail bytes : List ℕ) (count n : ℕ) → count ≤ length buffer → n ≤ length part → take n part ≡ bytes → take (count + n) (take count buffer ++ (part ++ tail)) ≡ take count buffer ++ bytes
-put_behind buffer part tail bytes count n within fits e =
+-- what is put after the first bytes of a buffer
+pub put_after : (buffer part tail bytes : List ℕ) (count n : ℕ) → count ≤ length buffer → n ≤ length part → take n part ≡ bytes → take (count + n) (take count buffer ++ (part ++ tail)) ≡ take count buffer ++ bytes
+put_after buffer part tail bytes count n within fits e =
     let size = length-take-le count buffer within in
     ap (λ (k : ℕ). take (k + n) (take count buffer ++ (part ++ tail))) (sym size) ∙ take-append-add (take count buffer) (part ++ tail) n
     ∙ ap (λ (bs : List ℕ). take count buffer ++ bs) (take-append-le n part tail fits ∙ e)
 
 -- one number more of a row
-pub packs_more : (law : WritesOneRow) (buffer part tail : List ℕ) (count n : ℕ) (pending left row more : List ℕ) → count ≤ length buffer → n ≤ length part → IsPacking buffer count pending row
-    → take n part ≡ whole_bytes (pending ++ more) → n ≡ (length pending + length more) / 8 → left ≡ bits_left (pending ++ more) → IsPacking (take count buffer ++ (part ++ tail)) (count + n) left (row ++ more)
-packs_more law buffer part tail count n pending left row more within fits h whole e rest =
+pub packs_more : (law : WritesOneRow) (buffer new : List ℕ) (count n : ℕ) (pending row more : List ℕ) → IsPacking buffer count pending row
+    → take (count + n) new ≡ take count buffer ++ whole_bytes (pending ++ more) → n ≡ (length pending + length more) / 8 → IsPacking new (count + n) (bits_left (pending ++ more)) (row ++ more)
+packs_more law buffer new count n pending row more h whole e =
     let joined = law row more in
     let same = h.left in
     let size = ap length same ∙ length-bits_left row in
     let before = h.size in
     record {
-      bytes = put_behind buffer part tail (whole_bytes (pending ++ more)) count n within fits whole ∙ ap (λ (bs : List ℕ). bs ++ whole_bytes (pending ++ more)) h.bytes
-          ∙ ap (λ (bs : List ℕ). whole_bytes row ++ whole_bytes (bs ++ more)) same ∙ joined.0;
+      bytes = whole ∙ ap (λ (bs : List ℕ). bs ++ whole_bytes (pending ++ more)) h.bytes ∙ ap (λ (bs : List ℕ). whole_bytes row ++ whole_bytes (bs ++ more)) same ∙ joined.0;
       size = omega (arith, length-append row more);
-      left = rest ∙ ap (λ (bs : List ℕ). bits_left (bs ++ more)) same ∙ joined.1;
+      left = ap (λ (bs : List ℕ). bits_left (bs ++ more)) same ∙ joined.1;
     }
 
 -- the end of a row
@@ -40,7 +39,7 @@ pub packs_all : (law : WritesOneRow) (buffer part tail : List ℕ) (count n : �
     → take (count + n) (take count buffer ++ (part ++ tail)) ≡ bits_bytes row
 packs_all law buffer part tail count n pending row within fits h last =
     let joined = law row [] in
-    put_behind buffer part tail (bits_bytes pending) count n within fits last ∙ ap (λ (bs : List ℕ). bs ++ bits_bytes pending) h.bytes ∙ ap (λ (bs : List ℕ). whole_bytes row ++ bits_bytes bs) h.left ∙ joined.2
+    put_after buffer part tail (bits_bytes pending) count n within fits last ∙ ap (λ (bs : List ℕ). bs ++ bits_bytes pending) h.bytes ∙ ap (λ (bs : List ℕ). whole_bytes row ++ bits_bytes bs) h.left ∙ joined.2
 
 pub packing_begins : (buffer pending : List ℕ) → pending ≡ [] → IsPacking buffer 0 pending []
 unfolding whole_bytes entries_in
@@ -67,13 +66,13 @@ last_of-get_or first (i ∷ j ∷ is) d h =
 
 pub length-term_row : (m : Meta) (i : TermInfo) → length (term_row m i) ≡ term_bits m
 length-term_row m i =
-    let a = length-low_bits m.postings_offset_nbits (postings_behind m.ref_term_info i) in
-    let b = length-low_bits m.positions_offset_nbits (positions_behind m.ref_term_info i) in
+    let a = length-low_bits m.postings_offset_nbits (postings_after m.ref_term_info i) in
+    let b = length-low_bits m.positions_offset_nbits (positions_after m.ref_term_info i) in
     let c = length-low_bits m.doc_freq_nbits i.doc_freq in
     omega (
       arith,
-      length-append (low_bits m.postings_offset_nbits (postings_behind m.ref_term_info i) ++ low_bits m.positions_offset_nbits (positions_behind m.ref_term_info i)) (low_bits m.doc_freq_nbits i.doc_freq),
-      length-append (low_bits m.postings_offset_nbits (postings_behind m.ref_term_info i)) (low_bits m.positions_offset_nbits (positions_behind m.ref_term_info i)),
+      length-append (low_bits m.postings_offset_nbits (postings_after m.ref_term_info i) ++ low_bits m.positions_offset_nbits (positions_after m.ref_term_info i)) (low_bits m.doc_freq_nbits i.doc_freq),
+      length-append (low_bits m.postings_offset_nbits (postings_after m.ref_term_info i)) (low_bits m.positions_offset_nbits (positions_after m.ref_term_info i)),
     )
 
 pub length-rows : (m : Meta) (is : List TermInfo) → length (flat_map (term_row m) is) ≡ length is * term_bits m
@@ -98,7 +97,7 @@ length-block_row m others =
 -- one term more of a block
 pub rows_more : (m : Meta) (others : List TermInfo) (k : ℕ) → k < length others → flat_map (term_row m) (take (k + 1) others) ≡ flat_map (term_row m) (take k others) ++ term_row m (info_in others k)
 rows_more m others k h =
-    ap (flat_map (term_row m)) (take_more others k (info_of 0 0 0 0 0) h)
+    ap (flat_map (term_row m)) (take_more others k (term_info_from 0 0 0 0 0) h)
     ∙ sym (flat_map_more (term_row m) [] (take k others) (info_in others k))
 
 pub rows_all : (m : Meta) (others : List TermInfo) (k : ℕ) → length others ≤ k → flat_map (term_row m) (take k others) ≡ flat_map (term_row m) others

@@ -1,5 +1,5 @@
 -- A piece among pieces that stand one after the other.
-use Rattle.ii_termstore.specs.ListLemmas.{behind_front}
+use Rattle.ii_termstore.specs.ListLemmas.{after_front}
 use Rattle.std.proofs.Common.{◌≡◌, ℕ, zero, suc, ◌+◌, ◌-◌, ◌*◌, ◌<◌, ◌≤◌, List, ◌++◌, length, drop, refl, sym, ap, ◌∙◌, arith, length-append}
 use Rattle.std.specs.List.{flat_map, range_with_len}
 use Rattle.std.proofs.Math.Nat.{zero-mul, suc-mul}
@@ -12,7 +12,7 @@ piece_at f n b place rest h e =
     let split = flat_split f n b (n - suc b) (omega arith) in
     let whole = ap length split.1 in (
       split.0 ++ rest,
-      ap (λ (xs : List ℕ). drop place (xs ++ rest)) split.1 ∙ behind_front (flat_map f (range_with_len 0 b)) (f b) split.0 rest place e,
+      ap (λ (xs : List ℕ). drop place (xs ++ rest)) split.1 ∙ after_front (flat_map f (range_with_len 0 b)) (f b) split.0 rest place e,
       omega (
         arith,
         length-append (flat_map f (range_with_len 0 n)) rest,

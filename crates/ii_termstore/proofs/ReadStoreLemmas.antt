@@ -1,5 +1,5 @@
 -- What is written of a store is read back.
-use Rattle.std.proofs.Common.{◌≡◌, ℕ, zero, suc, ◌+◌, ◌-◌, ◌*◌, ◌/◌, ◌%◌, ◌^◌, ◌<◌, ◌≤◌, Bool, true, false, ◌||◌, List, [], ◌∷◌, ◌++◌, length, drop, map, get_or, max, nat_le, eqb, Some, refl, sym, ap, ◌∙◌, arith, append_assoc, length-append, length-drop}
+use Rattle.std.proofs.Common.{◌≡◌, ℕ, zero, suc, ◌+◌, ◌-◌, ◌*◌, ◌/◌, ◌%◌, ◌^◌, ◌<◌, ◌≤◌, Bool, true, false, ◌||◌, List, [], ◌∷◌, ◌++◌, length, drop, map, get_or, max, nat_le, eqb, Some, refl, sym, ap, ◌∙◌, arith, length-append, length-drop}
 use Rattle.std.specs.List.{range_with_len}
 use Rattle.std.proofs.lemmas.Bool.{le-leb, lt-ltb, eq-eqb, ne_eqb}
 use Rattle.std.proofs.lemmas.List.{drop_at, length-take, get_or-take, get_or-drop}
@@ -11,16 +11,16 @@ use Rattle.ii_codes.specs.Packed.{num_bits, HoldsFromLeastWidth}
 use Rattle.ii_codes.specs.Bits.{bits_bytes, ReadsFromItsPlace}
 use Rattle.ii_termstore.specs.declared.term_info.TermInfo.{TermInfo}
 use Rattle.ii_termstore.specs.declared.term_info_store.block_meta.TermInfoBlockMeta.{TermInfoBlockMeta as Meta}
-use Rattle.ii_termstore.specs.TermInfos.{info_of, is_sound, postings_len, positions_len, HasLengths, IsInRange}
-use Rattle.ii_termstore.specs.TermStore.{meta_bytes, term_bits, block_bits, block_info, block_count, block_terms, is_block, meta_of, has_block, stored_info, store_parts, are_blocks, term_store}
+use Rattle.ii_termstore.specs.TermInfos.{term_info_from, is_sound, postings_len, positions_len, HasLengths, IsInRange}
+use Rattle.ii_termstore.specs.TermStore.{meta_bytes, term_bits, block_bits, block_info, block_count, block_terms, is_block, block_meta_at, has_block, term_info_at, store_parts, are_blocks, term_store}
 use Rattle.ii_termstore.specs.TermStoreLemmas.{length_meta_bytes, reads_meta_back}
-use Rattle.ii_termstore.specs.Written.{first_of, last_of, largest, postings_behind, positions_behind, postings_end, positions_end, meta_for, block_row, block_of, block_bytes, offset_of, meta_at_block, metas_bytes, blocks_bytes, written_store, info_in, FitsBlock}
+use Rattle.ii_termstore.specs.Written.{first_of, last_of, largest, postings_after, positions_after, postings_end, positions_end, meta_for, block_row, block_of, block_bytes, offset_of, meta_at_block, metas_bytes, blocks_bytes, written_store, info_in, FitsBlock}
 use Rattle.ii_termstore.specs.ReadBack.{AreJoined, AreStorable, ReadsStoreBack}
 use Rattle.ii_codes.specs.BitsLemmas.{length-bits_bytes}
 use Rattle.ii_termstore.proofs.PackLemmas.{length-block_row}
 use Rattle.ii_termstore.proofs.WriterLemmas.{first_is, terms_fit, ends_fit}
 use Rattle.ii_termstore.proofs.PieceLemmas.{piece_at, length-pieces, pieces_le}
-use Rattle.ii_termstore.specs.ListLemmas.{all_pass}
+use Rattle.ii_termstore.specs.ListLemmas.{append_assoc-five, all_pass}
 use Rattle.ii_termstore.proofs.RowLemmas.{Follow, later_is}
 
 -- A number has as many bits as it takes.
@@ -109,7 +109,7 @@ spans infos h j i (suc m) within =
     let below_too = ih.1 in
     rw next (omega arith, omega arith)
 
--- What is known of a term behind another of its block.
+-- What is known of a term after another of its block.
 record IsNear (first i : TermInfo) : Type 0 where
   pub lengths : HasLengths i
   pub count : i.doc_freq < 2 ^ 32
@@ -139,8 +139,8 @@ other_is : (infos : List TermInfo) (b j : ℕ) → 256 * b < length infos → j 
 other_is infos b j h within =
     let size = length-others infos b h in
     let place : 256 * b + (1 + j) ≡ 256 * b + suc j = omega arith in
-    get_or-drop 1 (block_of infos b) j (info_of 0 0 0 0 0) ∙ get_or-take 256 (drop (256 * b) infos) (1 + j) (info_of 0 0 0 0 0) (omega arith)
-    ∙ get_or-drop (256 * b) infos (1 + j) (info_of 0 0 0 0 0) ∙ ap (info_in infos) place
+    get_or-drop 1 (block_of infos b) j (term_info_from 0 0 0 0 0) ∙ get_or-take 256 (drop (256 * b) infos) (1 + j) (term_info_from 0 0 0 0 0) (omega arith)
+    ∙ get_or-drop (256 * b) infos (1 + j) (term_info_from 0 0 0 0 0) ∙ ap (info_in infos) place
 
 other_near : (infos : List TermInfo) → AreStorable infos → AreJoined infos → (b : ℕ) → 256 * b < length infos → (k : ℕ) → k < length (others_of infos b)
     → IsNear (info_in infos (256 * b)) (info_in (others_of infos b) k)
@@ -180,22 +180,22 @@ record IsMetaOf (infos : List TermInfo) (b : ℕ) (m : Meta) : Type 0 where
 -- What stands of the largest numbers of a block.
 record AreLow (first : TermInfo) (others : List TermInfo) : Type 0 where
   pub doc_freq : largest (map (λ (i : TermInfo). i.doc_freq) others) < 2 ^ 32
-  pub postings : max (largest (map (postings_behind first) others)) (postings_end first others) < 2 ^ 56
-  pub positions : max (largest (map (positions_behind first) others)) (positions_end first others) < 2 ^ 56
+  pub postings : max (largest (map (postings_after first) others)) (postings_end first others) < 2 ^ 56
+  pub positions : max (largest (map (positions_after first) others)) (positions_end first others) < 2 ^ 56
 
 are_low : (first : TermInfo) (others : List TermInfo) → IsNear first first → ((k : ℕ) → k < length others → IsNear first (info_in others k)) → AreLow first others
 are_low first others itself each =
     let last = last_in (IsNear first) first others itself each in
     let last_low = last.postings in
     let last_low_too = last.positions in
-    let starts = largest_below (postings_behind first) others (info_of 0 0 0 0 0) (2 ^ 56) (omega arith)
+    let starts = largest_below (postings_after first) others (term_info_from 0 0 0 0 0) (2 ^ 56) (omega arith)
     (λ k within.
     let known = each k within in
     let lengths = known.lengths in
     let forward = lengths.postings in
     let low = known.postings in
     omega arith) in
-    let starts_too = largest_below (positions_behind first) others (info_of 0 0 0 0 0) (2 ^ 56) (omega arith)
+    let starts_too = largest_below (positions_after first) others (term_info_from 0 0 0 0 0) (2 ^ 56) (omega arith)
     (λ k within.
     let known = each k within in
     let lengths = known.lengths in
@@ -203,7 +203,7 @@ are_low first others itself each =
     let low = known.positions in
     omega arith) in
     record {
-      doc_freq = largest_below (λ (i : TermInfo). i.doc_freq) others (info_of 0 0 0 0 0) (2 ^ 32) (omega arith) (λ k within. let known = each k within in known.count);
+      doc_freq = largest_below (λ (i : TermInfo). i.doc_freq) others (term_info_from 0 0 0 0 0) (2 ^ 32) (omega arith) (λ k within. let known = each k within in known.count);
       postings = omega arith;
       positions = omega arith;
     }
@@ -216,8 +216,8 @@ meta_is widths infos b low =
     let q = low.positions in
     let first = first_of (block_of infos b) in
     let counts = largest (map (λ (i : TermInfo). i.doc_freq) (others_of infos b)) in
-    let starts = max (largest (map (postings_behind (first_of (block_of infos b))) (others_of infos b))) (postings_end (first_of (block_of infos b)) (others_of infos b)) in
-    let starts_too = max (largest (map (positions_behind (first_of (block_of infos b))) (others_of infos b))) (positions_end (first_of (block_of infos b)) (others_of infos b)) in
+    let starts = max (largest (map (postings_after (first_of (block_of infos b))) (others_of infos b))) (postings_end (first_of (block_of infos b)) (others_of infos b)) in
+    let starts_too = max (largest (map (positions_after (first_of (block_of infos b))) (others_of infos b))) (positions_end (first_of (block_of infos b)) (others_of infos b)) in
     record {
       offset = refl;
       first = first_is infos b;
@@ -256,8 +256,8 @@ offset_small infos h b start =
 
 -- the meta of block b is read back
 meta_read : (widths : HoldsFromLeastWidth) (infos : List TermInfo) (bits : List ℕ) → AreStorable infos → AreJoined infos → (b : ℕ) → b < block_count (length infos)
-    → meta_of (metas_and infos bits) b ≡ Some (meta_at_block infos b)
-unfolding meta_of
+    → block_meta_at (metas_and infos bits) b ≡ Some (meta_at_block infos b)
+unfolding block_meta_at
 meta_read widths infos bits h joined b within =
     let start : 256 * b < length infos = omega arith in
     let known = meta_known widths infos h joined b start in
@@ -319,10 +319,6 @@ block_read law infos rest h joined b m start known =
       all,
     ) refl
 
--- the parts of a store are found
-store_shape : (a n m b r : List ℕ) → (((a ++ n) ++ m) ++ b) ++ r ≡ a ++ (n ++ (m ++ (b ++ r)))
-store_shape a n m b r = simp append_assoc
-
 parts_read : (infos : List TermInfo) (rest : List ℕ) → AreStorable infos
     → store_parts (written_store infos ++ rest) ≡ Some (length infos, metas_and infos (bits_and infos rest), bits_and infos rest)
 unfolding store_parts written_store
@@ -334,18 +330,18 @@ parts_read infos rest h =
     let size : length (metas_bytes infos (block_count (length infos))) ≡ 39 * block_count (length infos) =
     (let swapped : block_count (length infos) * 39 ≡ 39 * block_count (length infos) = omega arith in
     length-pieces (λ b. meta_bytes (meta_at_block infos b)) 39 (block_count (length infos)) (λ k. length_meta_bytes (meta_at_block infos k)) ∙ swapped) in
-    let shape = store_shape (le_bytes 8 (39 * block_count (length infos))) (le_bytes 8 (length infos)) (metas_bytes infos (block_count (length infos))) (blocks_bytes infos (block_count (length infos))) rest in
+    let shape = append_assoc-five (le_bytes 8 (39 * block_count (length infos))) (le_bytes 8 (length infos)) (metas_bytes infos (block_count (length infos))) (blocks_bytes infos (block_count (length infos))) rest in
     let first = reads_what_is_written 8 (39 * block_count (length infos)) (le_bytes 8 (length infos) ++ metas_and infos (bits_and infos rest)) (omega arith) in
     let second = reads_what_is_written 8 (length infos) (metas_and infos (bits_and infos rest)) (omega arith) in
     let same = eq-eqb (39 * block_count (length infos)) (39 * block_count (length infos)) refl in
     let there = le-leb (39 * block_count (length infos)) (length (metas_and infos (bits_and infos rest)))
     (omega (arith, length-append (metas_bytes infos (block_count (length infos))) (bits_and infos rest))) in
-    let behind = drop_at (metas_bytes infos (block_count (length infos))) (bits_and infos rest) (39 * block_count (length infos)) size in
-    rw (shape, first, second, same, there, behind) refl
+    let after = drop_at (metas_bytes infos (block_count (length infos))) (bits_and infos rest) (39 * block_count (length infos)) size in
+    rw (shape, first, second, same, there, after) refl
 
 -- The law of a store.
 pub reads_store_back : ReadsFromItsPlace → HoldsFromLeastWidth → ReadsStoreBack
-unfolding term_store stored_info
+unfolding term_store term_info_at
 reads_store_back law widths infos rest h joined =
     let metas = metas_and infos (bits_and infos rest) in
     let bits = bits_and infos rest in
@@ -354,8 +350,8 @@ reads_store_back law widths infos rest h joined =
     (λ b within.
     let start : 256 * b < length infos = omega arith in
     rw (meta_read widths infos (bits_and infos rest) h joined b within) (block_read law infos rest h joined b (meta_at_block infos b) start (meta_known widths infos h joined b start))) in
-    let each : infos ≡ map (stored_info (metas_and infos (bits_and infos rest)) (bits_and infos rest)) (range_with_len 0 (length infos)) =
-    fill_by_all (stored_info (metas_and infos (bits_and infos rest)) (bits_and infos rest)) infos (length infos) (info_of 0 0 0 0 0) refl
+    let each : infos ≡ map (term_info_at (metas_and infos (bits_and infos rest)) (bits_and infos rest)) (range_with_len 0 (length infos)) =
+    fill_by_all (term_info_at (metas_and infos (bits_and infos rest)) (bits_and infos rest)) infos (length infos) (term_info_from 0 0 0 0 0) refl
     (λ i within.
     let start : 256 * (i / 256) < length infos = omega arith in
     let place : 256 * (i / 256) + i % 256 ≡ i = omega arith in

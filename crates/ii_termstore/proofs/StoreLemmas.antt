@@ -1,6 +1,6 @@
 -- What is read of a store.
-use Rattle.ii_termstore.specs.ListLemmas.{and_parts}
-use Rattle.std.proofs.Common.{◌≡◌, ℕ, ◌/◌, ◌%◌, ◌<◌, Bool, true, false, ◌&&◌, List, [], length, map, Option, Some, None, refl, sym, ap, ◌∙◌, arith}
+use Rattle.std.proofs.lemmas.Bool.{and_parts}
+use Rattle.std.proofs.Common.{◌≡◌, ℕ, ◌/◌, ◌%◌, ◌<◌, Bool, true, false, ◌&&◌, List, length, map, Option, Some, None, refl, sym, ap, ◌∙◌, arith}
 use Rattle.std.specs.Prelude.{IsSome, slice_get}
 use Rattle.std.specs.List.{list_all, range_with_len}
 use Rattle.std.proofs.lemmas.List.FromFn.{length-map-range_with_len, get_or-map-range_with_len}
@@ -9,7 +9,7 @@ use Rattle.ii_io.specs.Steps.{◌>>=◌, needs}
 use Rattle.ii_termstore.specs.declared.term_info.TermInfo.{TermInfo}
 use Rattle.ii_termstore.specs.declared.term_info_store.block_meta.TermInfoBlockMeta.{TermInfoBlockMeta as Meta}
 use Rattle.ii_termstore.specs.TermInfos.{is_sound}
-use Rattle.ii_termstore.specs.TermStore.{block_info, block_count, block_terms, widths_fit, bits_lie, is_block, meta_of, has_block, are_blocks, stored_info, store_parts, term_store}
+use Rattle.ii_termstore.specs.TermStore.{block_info, block_count, block_terms, widths_fit, bits_lie, is_block, block_meta_at, has_block, are_blocks, term_info_at, store_parts, term_store}
 use Rattle.ii_termstore.specs.ListLemmas.{all_at, not_all}
 
 -- What a valid block meets.
@@ -21,20 +21,20 @@ block_parts m terms bits h =
     let two = and_parts (widths_fit m) (bits_lie m terms (length bits)) all.0 in
     (two.0, two.1, all.1)
 
-pub valid_block : (metas bits : List ℕ) (terms b : ℕ) (m : Meta) → are_blocks terms metas bits ≡ true → b < block_count terms → Some m ≡ meta_of metas b → is_block m (block_terms terms b) bits ≡ true
+pub valid_block : (metas bits : List ℕ) (terms b : ℕ) (m : Meta) → are_blocks terms metas bits ≡ true → b < block_count terms → Some m ≡ block_meta_at metas b → is_block m (block_terms terms b) bits ≡ true
 valid_block metas bits terms b m all within found =
     let one = all_at (has_block metas bits terms) (block_count terms) b within all in
     rw (← found) at one
 
-pub valid_meta : (metas bits : List ℕ) (terms b : ℕ) → are_blocks terms metas bits ≡ true → b < block_count terms → None ≡ meta_of metas b → ⊥
+pub valid_meta : (metas bits : List ℕ) (terms b : ℕ) → are_blocks terms metas bits ≡ true → b < block_count terms → None ≡ block_meta_at metas b → ⊥
 valid_meta metas bits terms b all within none =
     let one = all_at (has_block metas bits terms) (block_count terms) b within all in
     let no_meta = rw (← none) at one in
     cc
 
-pub stored_info-is : (metas bits : List ℕ) (i : ℕ) (m : Meta) → Some m ≡ meta_of metas (i / 256) → stored_info metas bits i ≡ block_info m bits (i % 256)
-unfolding stored_info
-stored_info-is metas bits i m found = rw (← found) refl
+pub term_info_at-is : (metas bits : List ℕ) (i : ℕ) (m : Meta) → Some m ≡ block_meta_at metas (i / 256) → term_info_at metas bits i ≡ block_info m bits (i % 256)
+unfolding term_info_at
+term_info_at-is metas bits i m found = rw (← found) refl
 
 -- the block of a term
 pub block_within : (i terms : ℕ) → i < terms → i / 256 < block_count terms
@@ -49,7 +49,7 @@ not_valid metas bits terms b within h = sym (not_all (has_block metas bits terms
 
 -- What a store holds, by its parts.
 abbrev held : Bool → ℕ → List ℕ → List ℕ → Option (List TermInfo)
-held valid n metas bits = needs valid >>= λ _. Some (map (stored_info metas bits) (range_with_len 0 n))
+held valid n metas bits = needs valid >>= λ _. Some (map (term_info_at metas bits) (range_with_len 0 n))
 
 store_is : (bytes : List ℕ) (n : ℕ) (metas bits : List ℕ) → Some (n, metas, bits) ≡ store_parts bytes → term_store bytes ≡ held (are_blocks n metas bits) n metas bits
 unfolding term_store
@@ -63,7 +63,7 @@ pub store_refused : (bytes : List ℕ) (n : ℕ) (metas bits : List ℕ) → Som
 store_refused bytes n metas bits e fails = sym (store_is bytes n metas bits e ∙ ap (λ (b : Bool). held b n metas bits) (sym fails))
 
 pub store_opened : (bytes : List ℕ) (n : ℕ) (metas bits : List ℕ) → Some (n, metas, bits) ≡ store_parts bytes → true ≡ are_blocks n metas bits
-    → Some (map (stored_info metas bits) (range_with_len 0 n)) ≡ term_store bytes
+    → Some (map (term_info_at metas bits) (range_with_len 0 n)) ≡ term_store bytes
 store_opened bytes n metas bits e valid = sym (store_is bytes n metas bits e ∙ ap (λ (b : Bool). held b n metas bits) (sym valid))
 
 held_valid : (b : Bool) (n : ℕ) (metas bits : List ℕ) → IsSome (held b n metas bits) → b ≡ true
@@ -76,11 +76,11 @@ store_valid bytes n metas bits e h = held_valid (are_blocks n metas bits) n meta
 pub store_missing : (bytes : List ℕ) → None ≡ store_parts bytes → IsSome (term_store bytes) → ⊥
 store_missing bytes none h = let is_none = no_store bytes none in let there = rw (← is_none) at h in absurd (cc)
 
-pub length-stored : (n : ℕ) (metas bits : List ℕ) → n ≡ length (map (stored_info metas bits) (range_with_len 0 n))
-length-stored n metas bits = sym (length-map-range_with_len (stored_info metas bits) 0 n)
+pub length-stored : (n : ℕ) (metas bits : List ℕ) → n ≡ length (map (term_info_at metas bits) (range_with_len 0 n))
+length-stored n metas bits = sym (length-map-range_with_len (term_info_at metas bits) 0 n)
 
-pub stored_at : (n i : ℕ) (metas bits : List ℕ) (info : TermInfo) → i < n → info ≡ stored_info metas bits i → slice_get (map (stored_info metas bits) (range_with_len 0 n)) i ≡ Some info
+pub stored_at : (n i : ℕ) (metas bits : List ℕ) (info : TermInfo) → i < n → info ≡ term_info_at metas bits i → slice_get (map (term_info_at metas bits) (range_with_len 0 n)) i ≡ Some info
 stored_at n i metas bits info h e =
-    let there : i < length (map (stored_info metas bits) (range_with_len 0 n)) = rw (length-map-range_with_len (stored_info metas bits) 0 n) h in
-    slice_get-get_or (map (stored_info metas bits) (range_with_len 0 n)) i info there
-    ∙ ap (λ (x : TermInfo). Some x) (get_or-map-range_with_len (stored_info metas bits) 0 n i i info h (omega arith) ∙ sym e)
+    let there : i < length (map (term_info_at metas bits) (range_with_len 0 n)) = rw (length-map-range_with_len (term_info_at metas bits) 0 n) h in
+    slice_get-get_or (map (term_info_at metas bits) (range_with_len 0 n)) i info there
+    ∙ ap (λ (x : TermInfo). Some x) (get_or-map-range_with_len (term_info_at metas bits) 0 n i i info h (omega arith) ∙ sym e)

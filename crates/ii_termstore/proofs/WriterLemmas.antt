@@ -4,8 +4,8 @@ use Rattle.std.specs.List.{flat_map, range_with_len}
 use Rattle.std.proofs.lemmas.List.{append-nil, get_or-take, get_or-drop, flat_map_more}
 use Rattle.ii_termstore.specs.declared.term_info.TermInfo.{TermInfo}
 use Rattle.ii_termstore.specs.declared.term_info_store.block_meta.TermInfoBlockMeta.{TermInfoBlockMeta as Meta}
-use Rattle.ii_termstore.specs.TermInfos.{info_of}
-use Rattle.ii_termstore.specs.Written.{info_in, first_of, largest, postings_behind, positions_behind, block_of, FitsWidths, EndsFit, FitsBlock}
+use Rattle.ii_termstore.specs.TermInfos.{term_info_from}
+use Rattle.ii_termstore.specs.Written.{info_in, first_of, largest, postings_after, positions_after, block_of, FitsWidths, EndsFit, FitsBlock}
 use Rattle.ii_termstore.specs.ListLemmas.{range_more}
 
 -- pieces one after the other
@@ -31,8 +31,8 @@ first_of-get_or (i ∷ is) = refl
 pub first_is : (infos : List TermInfo) (b : ℕ) → first_of (block_of infos b) ≡ info_in infos (256 * b)
 first_is infos b =
     let place : 256 * b + 0 ≡ 256 * b = omega arith in
-    let front = get_or-take 256 (drop (256 * b) infos) 0 (info_of 0 0 0 0 0) (omega arith) in
-    first_of-get_or (block_of infos b) ∙ front ∙ get_or-drop (256 * b) infos 0 (info_of 0 0 0 0 0) ∙ ap (info_in infos) place
+    let front = get_or-take 256 (drop (256 * b) infos) 0 (term_info_from 0 0 0 0 0) (omega arith) in
+    first_of-get_or (block_of infos b) ∙ front ∙ get_or-drop (256 * b) infos 0 (term_info_from 0 0 0 0 0) ∙ ap (info_in infos) place
 
 -- each number is at most the largest
 le_largest : {X : Type 0} (f : X → ℕ) (xs : List X) (k : ℕ) (d : X) → k < length xs → f (get_or xs k d) ≤ largest (map f xs)
@@ -45,9 +45,9 @@ terms_fit m others h k within =
     let a = h.doc_freq in
     let b = h.postings in
     let c = h.positions in
-    let p = le_largest (λ (i : TermInfo). i.doc_freq) others k (info_of 0 0 0 0 0) within in
-    let q = le_largest (postings_behind m.ref_term_info) others k (info_of 0 0 0 0 0) within in
-    let r = le_largest (positions_behind m.ref_term_info) others k (info_of 0 0 0 0 0) within in
+    let p = le_largest (λ (i : TermInfo). i.doc_freq) others k (term_info_from 0 0 0 0 0) within in
+    let q = le_largest (postings_after m.ref_term_info) others k (term_info_from 0 0 0 0 0) within in
+    let r = le_largest (positions_after m.ref_term_info) others k (term_info_from 0 0 0 0 0) within in
     record { doc_freq = omega arith; postings = omega arith; positions = omega arith }
 
 pub ends_fit : (m : Meta) (others : List TermInfo) → FitsBlock m others → EndsFit m others

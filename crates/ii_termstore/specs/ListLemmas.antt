@@ -1,6 +1,6 @@
 -- Tests of each number from 0 on, and pieces that stand one after the other.
 use Rattle.std.specs.List.{flat_map, list_all, range_with_len}
-use Rattle.std.proofs.Common.{◌≡◌, ℕ, zero, suc, ◌+◌, ◌*◌, ◌<◌, Bool, true, false, ◌&&◌, List, [], ◌∷◌, ◌++◌, length, take, drop, get_or, zero-add, refl, sym, ap, ◌∙◌, arith, append_assoc, length-append}
+use Rattle.std.proofs.Common.{◌≡◌, ℕ, zero, suc, ◌+◌, ◌*◌, ◌<◌, Bool, true, false, List, [], ◌∷◌, ◌++◌, length, take, drop, get_or, zero-add, refl, sym, ap, ◌∙◌, arith, append_assoc, length-append}
 use Rattle.std.proofs.Math.Nat.{zero-mul, suc-mul}
 use Rattle.std.proofs.lemmas.Bool.{false≢true}
 use Rattle.std.proofs.lemmas.Grind.{flat_map-append}
@@ -32,14 +32,14 @@ not_all p n k h fails =
     let at_k : get_or (range_with_len 0 n) k 0 ≡ k = get_or-range_with_len 0 n k 0 h ∙ zero-add k in
     list_all_at p (range_with_len 0 n) k 0 (rw (length-range_with_len 0 n) h) (ap p at_k ∙ fails)
 
-pub and_parts : (a b : Bool) → (a && b) ≡ true → (a ≡ true) × (b ≡ true)
-and_parts true b h = (refl, h)
-and_parts false b h = absurd (cc)
-
--- what stands behind a front
-pub behind_front : (front piece more rest : List ℕ) (place : ℕ) → place ≡ length front → drop place (((front ++ piece) ++ more) ++ rest) ≡ piece ++ (more ++ rest)
-behind_front front piece more rest place e =
+-- what stands after a front
+pub after_front : (front piece more rest : List ℕ) (place : ℕ) → place ≡ length front → drop place (((front ++ piece) ++ more) ++ rest) ≡ piece ++ (more ++ rest)
+after_front front piece more rest place e =
     ap (drop place) (append_assoc (front ++ piece) more rest ∙ append_assoc front piece (more ++ rest)) ∙ drop_at front (piece ++ (more ++ rest)) place (sym e)
+
+-- five pieces, as they are written and as they are read
+pub append_assoc-five : (a b c d e : List ℕ) → (((a ++ b) ++ c) ++ d) ++ e ≡ a ++ (b ++ (c ++ (d ++ e)))
+append_assoc-five a b c d e = simp append_assoc
 
 -- the piece of element i of a list
 pub flat_around : {X : Type 0} (f : X → List ℕ) (xs : List X) (i : ℕ) (d : X) → i < length xs → flat_map f xs ≡ (flat_map f (take i xs) ++ f (get_or xs i d)) ++ flat_map f (drop (i + 1) xs)

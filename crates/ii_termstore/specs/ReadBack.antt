@@ -1,6 +1,7 @@
 -- The law of stores: what is written is read back.
 use Rattle.std.specs.Prelude.{◌≡◌, ℕ, suc, ◌/◌, ◌^◌, ◌<◌, List, ◌++◌, length, Some}
 use Rattle.ii_termstore.specs.declared.term_info.TermInfo.{TermInfo}
+use Rattle.ii_termstore.specs.declared.term_info_store.TheConstants.{BLOCK_LEN}
 use Rattle.ii_termstore.specs.TermInfos.{IsInRange}
 use Rattle.ii_termstore.specs.TermStore.{term_store}
 use Rattle.ii_termstore.specs.Written.{info_in, HaveLengths, blocks_bytes, written_store}
@@ -18,7 +19,7 @@ pub record EndAt (infos : List TermInfo) (postings_end positions_end : ℕ) : Ty
 -- What a store is written from: numbers and lengths of their types, and full blocks whose bits have fewer than 2 ^ 64 bytes.
 pub record AreStorable (infos : List TermInfo) : Type 0 where
   pub few : length infos < 2 ^ 64
-  pub bits : length (blocks_bytes infos (length infos / 256)) < 2 ^ 64
+  pub bits : length (blocks_bytes infos (length infos / BLOCK_LEN)) < 2 ^ 64
   pub lengths : HaveLengths infos
   pub ranges : (k : ℕ) → k < length infos → IsInRange (info_in infos k)
 

@@ -4,9 +4,9 @@ use Rattle.std.proofs.lemmas.Bool.{lt-ltb}
 use Rattle.ii_io.specs.Numbers.{le_bytes}
 use Rattle.ii_io.specs.NumberLemmas.{reads_what_is_written, length_le_bytes}
 use Rattle.ii_termstore.specs.declared.term_info.TermInfo.{TermInfo}
-use Rattle.ii_termstore.specs.TermInfos.{postings_len, positions_len, info_bytes, info_at, HasLengths, IsInRange}
+use Rattle.ii_termstore.specs.TermInfos.{info_size, postings_len, positions_len, info_bytes, info_at, HasLengths, IsInRange}
 
-pub length_info_bytes : (i : TermInfo) → length (info_bytes i) ≡ 28
+pub length_info_bytes : (i : TermInfo) → length (info_bytes i) ≡ info_size
 unfolding info_bytes
 length_info_bytes i = simp (length-append, length_le_bytes)
 

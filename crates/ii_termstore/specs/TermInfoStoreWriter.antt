@@ -1,7 +1,8 @@
 -- A writer of a store: the terms that it was given, and whether a call was refused.
-use Rattle.std.specs.Prelude.{Bool, ℕ, ◌≡◌, ◌*◌, ◌/◌, ◌^◌, ◌<◌, List, [], ◌∷◌, length, drop}
+use Rattle.std.specs.Prelude.{Bool, ℕ, ◌≡◌, ◌*◌, ◌/◌, ◌<◌, List, [], ◌∷◌, length, drop}
 use Rattle.ii_codes.specs.Bits.{bits_bytes}
 use Rattle.ii_termstore.specs.declared.term_info.TermInfo.{TermInfo}
+use Rattle.ii_termstore.specs.declared.term_info_store.TheConstants.{BLOCK_LEN}
 use Rattle.ii_termstore.specs.TermInfos.{IsInRange}
 use Rattle.ii_termstore.specs.TermStore.{meta_bytes}
 use Rattle.ii_termstore.specs.Written.{HaveLengths, info_in, meta_for, block_row, metas_bytes, blocks_bytes}
@@ -14,9 +15,9 @@ pub record TermInfoStoreWriterState : Type 0 where
 -- The full blocks of the terms stand in bytes, their metas and their bits, and the terms after them are kept.
 pub record AreGathered (infos : List TermInfo) (num_terms : ℕ) (block_metas block_bits : List ℕ) (open_block : List TermInfo) : Type 0 where
   pub count : num_terms ≡ length infos
-  pub metas : block_metas ≡ metas_bytes infos (length infos / 256)
-  pub bits : block_bits ≡ blocks_bytes infos (length infos / 256)
-  pub rest : open_block ≡ drop (256 * (length infos / 256)) infos
+  pub metas : block_metas ≡ metas_bytes infos (length infos / BLOCK_LEN)
+  pub bits : block_bits ≡ blocks_bytes infos (length infos / BLOCK_LEN)
+  pub rest : open_block ≡ drop (BLOCK_LEN * (length infos / BLOCK_LEN)) infos
 
 -- The terms can be written and read back.
 pub record AreSound (infos : List TermInfo) : Type 0 where

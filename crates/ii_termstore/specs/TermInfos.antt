@@ -1,12 +1,13 @@
 -- What is kept of a term: in how many documents it is, and where its postings and positions stand.
 use Rattle.std.specs.Prelude.{ℕ, ◌+◌, ◌-◌, ◌^◌, ◌<◌, ◌≤◌, Bool, ◌&&◌, List, ◌++◌, Option, Some, nat_lt, nat_le}
+use Rattle.std.specs.declared.ops.Range.{Range}
 use Rattle.ii_io.specs.Steps.{◌>>=◌, needs}
 use Rattle.ii_io.specs.Numbers.{le_bytes, number_at}
 use Rattle.ii_termstore.specs.declared.term_info.TermInfo.{TermInfo}
 
 -- a term in so many documents, its postings and its positions each from a start to before an end
-abbrev pub info_of : ℕ → ℕ → ℕ → ℕ → ℕ → TermInfo
-info_of doc_freq a b p q = record { doc_freq = doc_freq; postings_range = record { start = a; end = b }; positions_range = record { start = p; end = q } }
+abbrev pub term_info_from : ℕ → ℕ → ℕ → ℕ → ℕ → TermInfo
+term_info_from doc_freq a b p q = record { doc_freq = doc_freq; postings_range = record { start = a; end = b }; positions_range = record { start = p; end = q } }
 
 abbrev pub postings_len : TermInfo → ℕ
 postings_len i = i.postings_range.end - i.postings_range.start
@@ -14,13 +15,17 @@ postings_len i = i.postings_range.end - i.postings_range.start
 abbrev pub positions_len : TermInfo → ℕ
 positions_len i = i.positions_range.end - i.positions_range.start
 
--- the 28 bytes: the number of documents, and each range by its start and its length
+-- how many bytes a term takes
+abbrev pub info_size : ℕ
+info_size = 28
+
+-- those bytes: the number of documents, and each range by its start and its length
 unfoldable pub info_bytes : TermInfo → List ℕ
 info_bytes i =
     le_bytes 4 i.doc_freq ++ le_bytes 8 i.postings_range.start ++ le_bytes 4 (postings_len i)
     ++ le_bytes 8 i.positions_range.start ++ le_bytes 4 (positions_len i)
 
--- the term in the 28 bytes in front, and the bytes behind; nothing where an end passes 64 bits
+-- the term in the bytes in front, and the bytes after it; nothing where an end passes 64 bits
 unfoldable pub info_at : List ℕ → Option (TermInfo × List ℕ)
 info_at bytes = do
   doc_freq ← number_at 4 bytes
@@ -30,7 +35,7 @@ info_at bytes = do
   positions_len ← number_at 4 positions.1
   _ ← needs (nat_lt (postings.0 + postings_len.0) (2 ^ 64))
   _ ← needs (nat_lt (positions.0 + positions_len.0) (2 ^ 64))
-  Some (info_of doc_freq.0 postings.0 (postings.0 + postings_len.0) positions.0 (positions.0 + positions_len.0), positions_len.1)
+  Some (term_info_from doc_freq.0 postings.0 (postings.0 + postings_len.0) positions.0 (positions.0 + positions_len.0), positions_len.1)
 
 -- Each range begins at or before its end, and has at most 2 ^ 32 - 1 bytes.
 pub record HasLengths (i : TermInfo) : Type 0 where
@@ -45,8 +50,9 @@ pub record IsInRange (i : TermInfo) : Type 0 where
   pub postings : i.postings_range.end < 2 ^ 64
   pub positions : i.positions_range.end < 2 ^ 64
 
--- a range that ends before it begins, has 2 ^ 32 bytes or more or passes 64 bits is refused
+-- a range ends at or after its start and within 64 bits, and has fewer than 2 ^ 32 bytes
+abbrev pub is_short : Range ℕ → Bool
+is_short r = nat_le r.start r.end && nat_lt (r.end - r.start) (2 ^ 32) && nat_lt r.end (2 ^ 64)
+
 abbrev pub is_sound : TermInfo → Bool
-is_sound i =
-    nat_le i.postings_range.start i.postings_range.end && nat_lt (postings_len i) (2 ^ 32) && nat_lt i.postings_range.end (2 ^ 64)
-    && (nat_le i.positions_range.start i.positions_range.end && nat_lt (positions_len i) (2 ^ 32) && nat_lt i.positions_range.end (2 ^ 64))
+is_sound i = is_short i.postings_range && is_short i.positions_range

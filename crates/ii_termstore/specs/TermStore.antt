@@ -1,4 +1,4 @@
--- A list of term infos in blocks of 256: the first of a block whole, the others in as few bits as the block needs.
+-- A list of term infos in blocks of BLOCK_LEN: the first of a block whole, the others in as few bits as the block needs.
 use Rattle.std.specs.Prelude.{ℕ, ◌+◌, ◌-◌, ◌*◌, ◌/◌, ◌%◌, Bool, false, ◌&&◌, ◌||◌, List, ◌∷◌, [], ◌++◌, map, drop, length, min, nat_le, ◌==◌, if◌then◌else◌, Option, Some, unwrap_or}
 use Rattle.std.specs.List.{list_all, range_with_len}
 use Rattle.std.specs.Option.{option_map}
@@ -6,14 +6,20 @@ use Rattle.ii_io.specs.Steps.{◌>>=◌, needs}
 use Rattle.ii_io.specs.Numbers.{number_at, le_bytes}
 use Rattle.ii_codes.specs.Packed.{bits_in}
 use Rattle.ii_termstore.specs.declared.term_info.TermInfo.{TermInfo}
+use Rattle.ii_termstore.specs.declared.term_info_store.TheConstants.{BLOCK_LEN}
 use Rattle.ii_termstore.specs.declared.term_info_store.block_meta.TermInfoBlockMeta.{TermInfoBlockMeta as Meta}
-use Rattle.ii_termstore.specs.TermInfos.{info_of, info_bytes, info_at, is_sound}
+use Rattle.ii_termstore.specs.declared.term_info_store.block_meta.TheConstants.{MAX_DOC_FREQ_NBITS, MAX_OFFSET_NBITS}
+use Rattle.ii_termstore.specs.TermInfos.{term_info_from, info_bytes, info_at, is_sound}
 
--- the 39 bytes of a block beside its bits: where those begin, its first term, and how many bits its numbers take
+-- how many bytes stand of a block beside its bits
+abbrev pub meta_size : ℕ
+meta_size = 39
+
+-- those bytes: where the bits begin, the first term, and how many bits the numbers of the others take
 unfoldable pub meta_bytes : Meta → List ℕ
 meta_bytes m = le_bytes 8 m.offset ++ info_bytes m.ref_term_info ++ m.doc_freq_nbits ∷ m.postings_offset_nbits ∷ m.positions_offset_nbits ∷ []
 
--- the 39 bytes in front, and those behind
+-- the meta in the bytes in front, and the bytes after it
 unfoldable pub meta_at : List ℕ → Option (Meta × List ℕ)
 meta_at bytes = do
   offset ← number_at 8 bytes
@@ -23,27 +29,33 @@ meta_at bytes = do
   positions ← number_at 1 postings.1
   Some (record { offset = offset.0; ref_term_info = first.0; doc_freq_nbits = doc_freq.0; postings_offset_nbits = postings.0; positions_offset_nbits = positions.0 }, positions.1)
 
--- the bits of a term behind the first of its block, and of a block of so many terms
+-- the bits of a term after the first of its block, and of a block of so many terms
 abbrev pub term_bits : Meta → ℕ
 term_bits m = m.postings_offset_nbits + m.positions_offset_nbits + m.doc_freq_nbits
 
 abbrev pub block_bits : Meta → ℕ → ℕ
 block_bits m terms = (terms - 1) * term_bits m + m.postings_offset_nbits + m.positions_offset_nbits
 
--- The numbers of term k of a block, k being at least 1, in the block's bits. At the place behind the last term stand the ends.
+-- Where the postings and the positions of term k of a block begin, k being at least 1, counted from the first term's. After the last term stands where they end.
+abbrev pub postings_number : Meta → List ℕ → ℕ → ℕ
+postings_number m bits k = bits_in 8 (drop m.offset bits) ((k - 1) * term_bits m) m.postings_offset_nbits
+
+abbrev pub positions_number : Meta → List ℕ → ℕ → ℕ
+positions_number m bits k = bits_in 8 (drop m.offset bits) ((k - 1) * term_bits m + m.postings_offset_nbits) m.positions_offset_nbits
+
+-- the same counted from 0, and in how many documents the term is
 abbrev pub postings_at : Meta → List ℕ → ℕ → ℕ
-postings_at m bits k = m.ref_term_info.postings_range.start + bits_in 8 (drop m.offset bits) ((k - 1) * term_bits m) m.postings_offset_nbits
+postings_at m bits k = m.ref_term_info.postings_range.start + postings_number m bits k
 
 abbrev pub positions_at : Meta → List ℕ → ℕ → ℕ
-positions_at m bits k =
-    m.ref_term_info.positions_range.start + bits_in 8 (drop m.offset bits) ((k - 1) * term_bits m + m.postings_offset_nbits) m.positions_offset_nbits
+positions_at m bits k = m.ref_term_info.positions_range.start + positions_number m bits k
 
 abbrev pub doc_freq_at : Meta → List ℕ → ℕ → ℕ
 doc_freq_at m bits k = bits_in 8 (drop m.offset bits) ((k - 1) * term_bits m + m.postings_offset_nbits + m.positions_offset_nbits) m.doc_freq_nbits
 
--- a term behind the first, which ends where the next one begins
+-- a term after the first, which ends where the next one begins
 unfoldable pub later_info : Meta → List ℕ → ℕ → TermInfo
-later_info m bits k = info_of (doc_freq_at m bits k) (postings_at m bits k) (postings_at m bits (k + 1)) (positions_at m bits k) (positions_at m bits (k + 1))
+later_info m bits k = term_info_from (doc_freq_at m bits k) (postings_at m bits k) (postings_at m bits (k + 1)) (positions_at m bits k) (positions_at m bits (k + 1))
 
 -- term k of a block; the first one has its own lengths
 abbrev pub block_info : Meta → List ℕ → ℕ → TermInfo
@@ -51,40 +63,40 @@ block_info m bits k = if k == 0 then m.ref_term_info else later_info m bits k
 
 -- how many blocks so many terms have, and how many terms a block has
 abbrev pub block_count : ℕ → ℕ
-block_count terms = (terms + 255) / 256
+block_count terms = (terms + (BLOCK_LEN - 1)) / BLOCK_LEN
 
 abbrev pub block_terms : ℕ → ℕ → ℕ
-block_terms terms b = min 256 (terms - 256 * b)
+block_terms terms b = min BLOCK_LEN (terms - BLOCK_LEN * b)
 
 -- no width is too large for its number
 abbrev pub widths_fit : Meta → Bool
-widths_fit m = nat_le m.doc_freq_nbits 32 && nat_le m.postings_offset_nbits 56 && nat_le m.positions_offset_nbits 56
+widths_fit m = nat_le m.doc_freq_nbits MAX_DOC_FREQ_NBITS && nat_le m.postings_offset_nbits MAX_OFFSET_NBITS && nat_le m.positions_offset_nbits MAX_OFFSET_NBITS
 
 -- the bits of a block of so many terms lie within so many bytes; one term needs none
 abbrev pub bits_lie : Meta → ℕ → ℕ → Bool
 bits_lie m terms size = nat_le terms 1 || (block_bits m terms == 0) || nat_le (8 * m.offset + block_bits m terms) (8 * size)
 
--- a block of so many terms is lawful
+-- a block of so many terms is valid
 unfoldable pub is_block : Meta → ℕ → List ℕ → Bool
 is_block m terms bits = widths_fit m && bits_lie m terms (length bits) && list_all (λ k. is_sound (block_info m bits k)) (range_with_len 0 terms)
 
 -- what stands at the place of block b
-unfoldable pub meta_of : List ℕ → ℕ → Option Meta
-meta_of metas b = option_map (λ found. found.0) (meta_at (drop (39 * b) metas))
+unfoldable pub block_meta_at : List ℕ → ℕ → Option Meta
+block_meta_at metas b = option_map (λ found. found.0) (meta_at (drop (meta_size * b) metas))
 
 abbrev pub has_block : List ℕ → List ℕ → ℕ → ℕ → Bool
-has_block metas bits terms b = unwrap_or (option_map (λ m. is_block m (block_terms terms b) bits) (meta_of metas b)) false
+has_block metas bits terms b = unwrap_or (option_map (λ m. is_block m (block_terms terms b) bits) (block_meta_at metas b)) false
 
--- term i of all, in the block of its 256
-unfoldable pub stored_info : List ℕ → List ℕ → ℕ → TermInfo
-stored_info metas bits i = unwrap_or (option_map (λ m. block_info m bits (i % 256)) (meta_of metas (i / 256))) (info_of 0 0 0 0 0)
+-- term i of all, in its block
+unfoldable pub term_info_at : List ℕ → List ℕ → ℕ → TermInfo
+term_info_at metas bits i = unwrap_or (option_map (λ m. block_info m bits (i % BLOCK_LEN)) (block_meta_at metas (i / BLOCK_LEN))) (term_info_from 0 0 0 0 0)
 
--- the number of terms, the metas and what stands behind, and the bits
+-- the number of terms, the metas and what stands after, and the bits
 unfoldable pub store_parts : List ℕ → Option (ℕ × List ℕ × List ℕ)
 store_parts bytes = do
   metas_len ← number_at 8 bytes
   terms ← number_at 8 metas_len.1
-  _ ← needs (metas_len.0 == 39 * block_count terms.0)
+  _ ← needs (metas_len.0 == meta_size * block_count terms.0)
   _ ← needs (nat_le metas_len.0 (length terms.1))
   Some (terms.0, terms.1, drop metas_len.0 terms.1)
 
@@ -96,4 +108,4 @@ unfoldable pub term_store : List ℕ → Option (List TermInfo)
 term_store bytes = do
   parts ← store_parts bytes
   _ ← needs (are_blocks parts.0 parts.1 parts.2)
-  Some (map (stored_info parts.1 parts.2) (range_with_len 0 parts.0))
+  Some (map (term_info_at parts.1 parts.2) (range_with_len 0 parts.0))

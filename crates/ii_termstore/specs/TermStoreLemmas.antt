@@ -6,7 +6,7 @@ use Rattle.ii_io.specs.NumberLemmas.{reads_what_is_written, length_le_bytes}
 use Rattle.ii_termstore.specs.declared.term_info_store.block_meta.TermInfoBlockMeta.{TermInfoBlockMeta as Meta}
 use Rattle.ii_termstore.specs.TermInfos.{info_bytes, HasLengths, IsInRange}
 use Rattle.ii_termstore.specs.TermInfoLemmas.{reads_info_back, length_info_bytes}
-use Rattle.ii_termstore.specs.TermStore.{meta_bytes, meta_at}
+use Rattle.ii_termstore.specs.TermStore.{meta_size, meta_bytes, meta_at}
 
 -- a byte in front
 pub number_at-byte : (b : ℕ) (rest : List ℕ) → number_at 1 (b ∷ rest) ≡ Some (b, rest)
@@ -16,7 +16,7 @@ number_at-byte b rest =
     let value : b + 256 * 0 ≡ b = omega arith in
     rw (le-leb 1 (length (b ∷ rest)) enough, value) refl
 
-pub length_meta_bytes : (m : Meta) → length (meta_bytes m) ≡ 39
+pub length_meta_bytes : (m : Meta) → length (meta_bytes m) ≡ meta_size
 unfolding meta_bytes
 length_meta_bytes m = simp (length-append, length_le_bytes, length_info_bytes)
 

@@ -5,9 +5,10 @@ use Rattle.ii_io.specs.Numbers.{le_bytes}
 use Rattle.ii_codes.specs.Packed.{num_bits}
 use Rattle.ii_codes.specs.Bits.{low_bits, whole_bytes, bits_left, bits_bytes}
 use Rattle.ii_termstore.specs.declared.term_info.TermInfo.{TermInfo}
+use Rattle.ii_termstore.specs.declared.term_info_store.TheConstants.{BLOCK_LEN}
 use Rattle.ii_termstore.specs.declared.term_info_store.block_meta.TermInfoBlockMeta.{TermInfoBlockMeta as Meta}
-use Rattle.ii_termstore.specs.TermInfos.{info_of, HasLengths}
-use Rattle.ii_termstore.specs.TermStore.{meta_bytes, block_count}
+use Rattle.ii_termstore.specs.TermInfos.{term_info_from, HasLengths}
+use Rattle.ii_termstore.specs.TermStore.{meta_size, meta_bytes, block_count}
 
 -- At the front of a buffer stand so many bytes of a row of bits, and the packer holds the bits that are left.
 pub record IsPacking (buffer : List ℕ) (count : ℕ) (pending row : List ℕ) : Type 0 where
@@ -16,7 +17,7 @@ pub record IsPacking (buffer : List ℕ) (count : ℕ) (pending row : List ℕ) 
   pub left : pending ≡ bits_left row
 
 abbrev pub first_of : List TermInfo → TermInfo
-first_of [] = info_of 0 0 0 0 0
+first_of [] = term_info_from 0 0 0 0 0
 first_of (i ∷ is) = i
 
 abbrev pub last_of : TermInfo → List TermInfo → TermInfo
@@ -28,11 +29,11 @@ largest [] = 0
 largest (n ∷ ns) = max n (largest ns)
 
 -- The numbers of a term, counted from the first of its block.
-abbrev pub postings_behind : TermInfo → TermInfo → ℕ
-postings_behind first i = i.postings_range.start - first.postings_range.start
+abbrev pub postings_after : TermInfo → TermInfo → ℕ
+postings_after first i = i.postings_range.start - first.postings_range.start
 
-abbrev pub positions_behind : TermInfo → TermInfo → ℕ
-positions_behind first i = i.positions_range.start - first.positions_range.start
+abbrev pub positions_after : TermInfo → TermInfo → ℕ
+positions_after first i = i.positions_range.start - first.positions_range.start
 
 -- where the last term of a block ends, counted likewise
 abbrev pub postings_end : TermInfo → List TermInfo → ℕ
@@ -47,14 +48,14 @@ meta_for offset first others = record {
   offset = offset;
   ref_term_info = first;
   doc_freq_nbits = num_bits (largest (map (λ (i : TermInfo). i.doc_freq) others));
-  postings_offset_nbits = num_bits (max (largest (map (postings_behind first) others)) (postings_end first others));
-  positions_offset_nbits = num_bits (max (largest (map (positions_behind first) others)) (positions_end first others));
+  postings_offset_nbits = num_bits (max (largest (map (postings_after first) others)) (postings_end first others));
+  positions_offset_nbits = num_bits (max (largest (map (positions_after first) others)) (positions_end first others));
 }
 
--- the bits of a term behind the first, and of a block
+-- the bits of a term after the first, and of a block
 abbrev pub term_row : Meta → TermInfo → List ℕ
 term_row m i =
-    low_bits m.postings_offset_nbits (postings_behind m.ref_term_info i) ++ low_bits m.positions_offset_nbits (positions_behind m.ref_term_info i)
+    low_bits m.postings_offset_nbits (postings_after m.ref_term_info i) ++ low_bits m.positions_offset_nbits (positions_after m.ref_term_info i)
     ++ low_bits m.doc_freq_nbits i.doc_freq
 
 abbrev pub block_row : Meta → List TermInfo → List ℕ
@@ -64,7 +65,7 @@ block_row m others =
 
 -- the terms of block b
 abbrev pub block_of : List TermInfo → ℕ → List TermInfo
-block_of infos b = take 256 (drop (256 * b) infos)
+block_of infos b = take BLOCK_LEN (drop (BLOCK_LEN * b) infos)
 
 -- the bits of block b, and where they begin
 unfoldable pub block_bytes : List TermInfo → ℕ → List ℕ
@@ -85,7 +86,7 @@ blocks_bytes infos n = flat_map (block_bytes infos) (range_with_len 0 n)
 -- the store of these terms
 unfoldable pub written_store : List TermInfo → List ℕ
 written_store infos =
-    le_bytes 8 (39 * block_count (length infos)) ++ le_bytes 8 (length infos) ++ metas_bytes infos (block_count (length infos))
+    le_bytes 8 (meta_size * block_count (length infos)) ++ le_bytes 8 (length infos) ++ metas_bytes infos (block_count (length infos))
     ++ blocks_bytes infos (block_count (length infos))
 
 -- The widths hold the numbers of their types, and the numbers of a term.
@@ -96,8 +97,8 @@ pub record AreNarrow (m : Meta) : Type 0 where
 
 pub record FitsWidths (m : Meta) (i : TermInfo) : Type 0 where
   pub doc_freq : i.doc_freq < 2 ^ m.doc_freq_nbits
-  pub postings : postings_behind m.ref_term_info i < 2 ^ m.postings_offset_nbits
-  pub positions : positions_behind m.ref_term_info i < 2 ^ m.positions_offset_nbits
+  pub postings : postings_after m.ref_term_info i < 2 ^ m.postings_offset_nbits
+  pub positions : positions_after m.ref_term_info i < 2 ^ m.positions_offset_nbits
 
 -- The widths hold the ends of a block.
 pub record EndsFit (m : Meta) (others : List TermInfo) : Type 0 where
@@ -105,7 +106,7 @@ pub record EndsFit (m : Meta) (others : List TermInfo) : Type 0 where
   pub positions : positions_end m.ref_term_info others < 2 ^ m.positions_offset_nbits
 
 abbrev pub info_in : List TermInfo → ℕ → TermInfo
-info_in infos k = slice_index_or infos k (info_of 0 0 0 0 0)
+info_in infos k = slice_index_or infos k (term_info_from 0 0 0 0 0)
 
 -- Each term has lengths that fit.
 abbrev pub HaveLengths : List TermInfo → Type 0
@@ -114,5 +115,5 @@ HaveLengths infos = (k : ℕ) → k < length infos → HasLengths (info_in infos
 -- The widths hold the numbers of a block.
 pub record FitsBlock (m : Meta) (others : List TermInfo) : Type 0 where
   pub doc_freq : largest (map (λ (i : TermInfo). i.doc_freq) others) < 2 ^ m.doc_freq_nbits
-  pub postings : max (largest (map (postings_behind m.ref_term_info) others)) (postings_end m.ref_term_info others) < 2 ^ m.postings_offset_nbits
-  pub positions : max (largest (map (positions_behind m.ref_term_info) others)) (positions_end m.ref_term_info others) < 2 ^ m.positions_offset_nbits
+  pub postings : max (largest (map (postings_after m.ref_term_info) others)) (postings_end m.ref_term_info others) < 2 ^ m.postings_offset_nbits
+  pub positions : max (largest (map (positions_after m.ref_term_info) others)) (positions_end m.ref_term_info others) < 2 ^ m.positions_offset_nbits

@@ -1,5 +1,4 @@
-ghost use Rattle.std.specs.Prelude.{◌≡◌, ◌-◌, ◌^◌, ◌<◌, ◌≤◌, ◌↔◌, ◌⊎◌, ℕ, List, ◌++◌, length, Option, Some, OnOk, IfErr, IfNone, IsErrOf, if◌then◌else◌};
-ghost use Rattle.ii_io.specs.CountingWriter.{Wrote, IsFull};
+ghost use Rattle.std.specs.Prelude.{◌≡◌, ◌-◌, ◌^◌, ◌<◌, ◌≤◌, length, Option, Some};
 ghost use Rattle.ii_io.specs.Numbers.{le_bytes};
 
 use byteorder::{ByteOrder, LittleEndian};
@@ -52,9 +51,9 @@ impl TermInfo {
 
 impl Default for TermInfo {
     ghost use Rattle.std.specs.Prelude.{◌≡◌};
-    ghost use Rattle.ii_termstore.specs.TermInfos.{info_of};
+    ghost use Rattle.ii_termstore.specs.TermInfos.{term_info_from};
 
-    ghost is_default = { λ i. i ≡ info_of 0 0 0 0 0 };
+    ghost is_default = { λ i. i ≡ term_info_from 0 0 0 0 0 };
 
     fn default() -> TermInfo {
         TermInfo {
@@ -95,7 +94,7 @@ impl BinarySerializable for TermInfo {
     ghost reads_back = { λ i rest range lengths. reads_info_back i rest range lengths };
 
     fn serialize<W: Write>(&self, writer: &mut CountingWriter<W>) -> Result<(), Fault> {
-        let mut bytes = [0; 28];
+        let mut bytes = [0; Self::SIZE_IN_BYTES];
         put_info(&mut bytes, self);
         writer.write_all(&bytes)
     }
@@ -134,21 +133,22 @@ impl BinarySerializable for TermInfo {
 }
 
 impl FixedSize for TermInfo {
+    ghost use Rattle.ii_termstore.specs.TermInfos.{info_size};
     ghost use Rattle.ii_termstore.specs.TermInfoLemmas.{length_info_bytes};
 
     const SIZE_IN_BYTES: usize = 28;
 
-    ghost SIZE_IN_BYTES = { 28 };
+    ghost SIZE_IN_BYTES = { info_size };
 
     ghost has_size = { λ i. length_info_bytes i };
 }
 
-ghost use Rattle.ii_termstore.specs.TermInfos.{info_bytes, HasLengths, IsInRange};
+ghost use Rattle.ii_termstore.specs.TermInfos.{info_size, info_bytes, HasLengths, IsInRange};
 
 // The bytes of a term, in a buffer of their size.
 #[tactic(auto, unfolding(crate::specs::TermInfos::info_bytes))]
 pub(crate) fn put_info(buf: &mut [u8], info: &TermInfo)
-    requires room { length buf.old ≡ 28 }
+    requires room { length buf.old ≡ info_size }
     requires lengths { HasLengths info.now }
     ensures bytes { buf.new ≡ info_bytes info.now }
     ensures range { IsInRange info.now }

@@ -1,5 +1,5 @@
 ghost use Rattle.std.specs.Prelude.{◌≡◌, ◌≤◌, ◌+◌, [], false, length};
-ghost use Rattle.ii_termstore.specs.TermInfos.{info_of};
+ghost use Rattle.ii_termstore.specs.TermInfos.{term_info_from};
 
 use bytes::Bytes;
 use ii_io::{CountingWriter, Fault};
@@ -44,7 +44,7 @@ fn insert_three<W: Write>(builder: &mut TermDictionaryBuilder<W>) -> Result<(), 
 fn term(doc_freq: u32, start: u32, len: u32) -> TermInfo
     requires near { start ≤ 1000 }
     requires short { len ≤ 1000 }
-    ensures { result ≡ info_of doc_freq start (start + len) 0 0 }
+    ensures { result ≡ term_info_from doc_freq start (start + len) 0 0 }
 {
     let (start, len) = (start as usize, len as usize);
     TermInfo {

@@ -1,9 +1,12 @@
-ghost use Rattle.std.specs.Prelude.{ℕ, ◌≤◌};
+ghost use Rattle.std.specs.Prelude.{ℕ, ◌≡◌, ◌≤◌, drop, take, Some, IsSome};
 ghost use Rattle.ii_codes.specs.Sums.{DoNotFall};
+ghost use Rattle.ii_codes.specs.UnsortedVints.{u32s_until_end};
+ghost use Rattle.ii_io.specs.Vints.{u32s_at};
 
 use super::compress_sorted;
-use crate::{BlockDecoder, BlockEncoder, VIntEncoder};
+use crate::{BlockDecoder, BlockEncoder, VIntDecoder, VIntEncoder};
 use ii_io::{LayoutFault, Part};
+use std::test::Fail;
 
 // 4, 7, 11, 14, ..: each three and a half above the one before it, in whole numbers.
 fn values() -> [u32; 123]
@@ -87,4 +90,46 @@ fn decodes_unsorted_vints_until_the_end(rt: HostRuntime) {
     assert_eq!(rt; decoder.output_array(), [1; 128].as_slice());
     assert_eq!(rt; decoder.try_uncompress_vint_unsorted_until_end(&[]), Ok(()));
     assert_eq!(rt; decoder.output_len(), 0);
+}
+
+// Reads some vints by a decoder of any type, and answers how many bytes they take.
+fn read_by<D: VIntDecoder>(decoder: &mut D, bytes: &[u8], num_els: usize, padding: u32) -> usize
+    requires few { num_els ≤ 128 }
+    requires valid { IsSome (u32s_at num_els bytes.now) }
+    ensures { Some (take num_els (D.state decoder.new).output, drop result bytes.now) ≡ u32s_at num_els bytes.now }
+{
+    decoder.uncompress_vint_unsorted(bytes, num_els, padding)
+}
+
+// Reads all vints by a decoder of any type.
+fn read_all_by<D: VIntDecoder>(decoder: &mut D, bytes: &[u8])
+    requires { IsSome (u32s_until_end 128 bytes.now) }
+    ensures { Some (take (D.state decoder.new).output_len (D.state decoder.new).output) ≡ u32s_until_end 128 bytes.now }
+{
+    decoder.uncompress_vint_unsorted_until_end(bytes);
+}
+
+// 1, 300 and 16384: 300 is 2 * 128 + 44, and 16384 is 128 * 128.
+fn three_vints() -> [u8; 6] {
+    [0x81, 0x2C, 0x82, 0x00, 0x00, 0x81]
+}
+
+#[test]
+fn decodes_unsorted_vints_by_the_bound(rt: HostRuntime) -> Result<(), Fail> {
+    let bytes = three_vints();
+    let mut decoder = BlockDecoder::default();
+    let Ok(first) = decoder.try_uncompress_vint_unsorted(&bytes, 2, 9) else {
+        return Err("two vints".into());
+    };
+    let used = read_by(&mut decoder, &bytes, 2, 7);
+    assert_eq!(rt; (first, used), (3, 3));
+    assert_eq!(rt; decoder.output_array(), [1, 300].as_slice());
+    assert_eq!(rt; (decoder.output(2), decoder.output(127)), (7, 7));
+    let Ok(()) = decoder.try_uncompress_vint_unsorted_until_end(&bytes) else {
+        return Err("all vints".into());
+    };
+    let mut other = BlockDecoder::default();
+    read_all_by(&mut other, &bytes);
+    assert_eq!(rt; other.output_array(), [1, 300, 16384].as_slice());
+    Ok(())
 }

@@ -2,7 +2,7 @@ ghost use Rattle.std.specs.Prelude.{◌≡◌, ◌==◌, ◌⊎◌, ◌∷◌, [
 ghost use Rattle.std.specs.Option.{option_map};
 ghost use Rattle.std.specs.List.{find};
 ghost use Rattle.ii_io.specs.declared.composite_file.place.Place.{Place};
-ghost use Rattle.ii_io.specs.Composite.{composite, body_of, table_of, HasTable, lawful_places};
+ghost use Rattle.ii_io.specs.Composite.{composite, body_of, table_of, HasTable, valid_places};
 
 use super::place::Place;
 use crate::faults::{Fault, Part};
@@ -119,8 +119,8 @@ fn read_table(alloc: Global, bytes: &[u8]) -> Result<Vec<Place>, Fault>
 
 // So many places from the front of a table, all within the bodies and of distinct fields.
 fn read_places(alloc: Global, size: u64, count: u32, table: &[u8]) -> Result<Vec<Place>, Fault>
-    ensures read { IfOk result (λ places. lawful_places size count table.now ≡ Some places.items) }
-    ensures damaged { IsErrOf result (Fault.Damaged Part.Composite) → lawful_places size count table.now ≡ None }
+    ensures read { IfOk result (λ places. valid_places size count table.now ≡ Some places.items) }
+    ensures damaged { IsErrOf result (Fault.Damaged Part.Composite) → valid_places size count table.now ≡ None }
     ensures only { IfErr result (λ e. (e ≡ Fault.OutOfMemory) ⊎ (e ≡ Fault.Damaged Part.Composite)) }
 {
     let mut places = Vec::new(alloc);

@@ -15,7 +15,7 @@ use std::alloc::Global;
 use std::io::Write;
 use std::marker::Model;
 
-/// Writes a composite file: the bodies of fields, one after the other, and a table behind them.
+/// Writes a composite file: the bodies of fields, one after the other, and a table after them.
 ///
 /// It is closed by the first call that is refused, and answers `SerializerClosed` from then on.
 #[derive(Drop)]
@@ -72,7 +72,7 @@ impl<W: Write> CompositeWrite<W> {
         Ok(&mut self.writer)
     }
 
-    /// The writer for more of the body that was begun last.
+    /// The writer for more of the body that was opened last.
     pub fn writer(&mut self) -> &mut CountingWriter<W>
         requires { self.old.closed ≡ false → 0 < length self.old.starts }
         ensures* lends { sem 𝓛 (LendsWriter W.row W.Write self.entry result) }

@@ -1,4 +1,4 @@
-ghost use Rattle.std.specs.Prelude.{◌≡◌, ◌+◌, false, length};
+ghost use Rattle.std.specs.Prelude.{◌≡◌, false, length};
 ghost use Rattle.ii_termdict.specs.TermDictionaryBuilder.{TermDictionaryBuilderState};
 
 use crate::key_parts::is_key_below;

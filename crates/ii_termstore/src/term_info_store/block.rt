@@ -1,16 +1,17 @@
 ghost use Rattle.std.specs.Prelude.{◌≡◌, ◌+◌, ◌-◌, ◌*◌, ◌^◌, ◌<◌, ◌≤◌, ◌&&◌, true, nat_le, nat_lt, length, drop, Some, None, if◌then◌else◌};
 ghost use Rattle.ii_codes.specs.Packed.{bits_in};
-ghost use Rattle.ii_termstore.specs.TermInfos.{is_sound, info_of};
-ghost use Rattle.ii_termstore.specs.TermStore.{block_info, later_info, term_bits, block_bits, widths_fit, bits_lie, is_block};
+ghost use Rattle.ii_termstore.specs.TermInfos.{is_short, is_sound};
+ghost use Rattle.ii_termstore.specs.TermStore.{postings_number, positions_number, doc_freq_at, block_info, term_bits, widths_fit, bits_lie, is_block};
 
-use super::block_meta::TermInfoBlockMeta;
+use super::BLOCK_LEN;
+use super::block_meta::{MAX_DOC_FREQ_NBITS, MAX_OFFSET_NBITS, TermInfoBlockMeta};
 use crate::term_info::TermInfo;
 use ii_codes::extract_bits;
 use std::ops::Range;
 
 // The number of `width` bits at a place after an offset in bytes. No bit is read at width 0.
-fn number_behind(bits: &[u8], offset: u64, place: usize, width: u8) -> u64
-    requires narrow { width ≤ 56 }
+fn number_after(bits: &[u8], offset: u64, place: usize, width: u8) -> u64
+    requires narrow { width ≤ MAX_OFFSET_NBITS }
     requires near { place < 65536 }
     requires lies { 0 < width → 8 * offset + place + width ≤ 8 * length bits.now }
     ensures value { result ≡ bits_in 8 (drop offset bits.now) place width }
@@ -24,7 +25,7 @@ fn number_behind(bits: &[u8], offset: u64, place: usize, width: u8) -> u64
 
 // A range from two places after a first one. `None` where it ends before it begins, has 2^32 bytes
 // or more, or passes `u64::MAX`.
-fn range_behind(first: usize, start: u64, end: u64) -> Option<Range<usize>>
+fn range_after(first: usize, start: u64, end: u64) -> Option<Range<usize>>
     ensures { result ≡ (if nat_le start end && nat_lt (end - start) (2 ^ 32) && nat_lt (first + end) (2 ^ 64)
         then Some (record { start = first + start; end = first + end }) else None) }
 {
@@ -37,6 +38,57 @@ fn range_behind(first: usize, start: u64, end: u64) -> Option<Range<usize>>
     Some(first + start as usize..end)
 }
 
+// How many bits the two places of a term after the first take.
+fn places_bits(meta: &TermInfoBlockMeta) -> usize
+    ensures { result ≡ meta.now.postings_offset_nbits + meta.now.positions_offset_nbits }
+{
+    usize::from(meta.postings_offset_nbits) + usize::from(meta.positions_offset_nbits)
+}
+
+// How many bits a term after the first takes.
+fn term_bits(meta: &TermInfoBlockMeta) -> usize
+    ensures { result ≡ term_bits meta.now }
+{
+    places_bits(meta) + usize::from(meta.doc_freq_nbits)
+}
+
+// Where the postings of term `k` begin, counted from the first term's. After the last term stands
+// where its postings end.
+fn postings_number(meta: &TermInfoBlockMeta, bits: &[u8], terms: usize, k: usize) -> u64
+    requires widths { widths_fit meta.now ≡ true }
+    requires lie { bits_lie meta.now terms (length bits.now) ≡ true }
+    requires later { (0 < k) × (1 < terms) }
+    requires within { (k ≤ terms) × (terms ≤ BLOCK_LEN) }
+    ensures { result ≡ postings_number meta.now bits.now k }
+{
+    let place = (k - 1) * term_bits(meta);
+    number_after(bits, meta.offset, place, meta.postings_offset_nbits)
+}
+
+// Where its positions begin, likewise.
+fn positions_number(meta: &TermInfoBlockMeta, bits: &[u8], terms: usize, k: usize) -> u64
+    requires widths { widths_fit meta.now ≡ true }
+    requires lie { bits_lie meta.now terms (length bits.now) ≡ true }
+    requires later { (0 < k) × (1 < terms) }
+    requires within { (k ≤ terms) × (terms ≤ BLOCK_LEN) }
+    ensures { result ≡ positions_number meta.now bits.now k }
+{
+    let place = (k - 1) * term_bits(meta) + usize::from(meta.postings_offset_nbits);
+    number_after(bits, meta.offset, place, meta.positions_offset_nbits)
+}
+
+// In how many documents term `k` is.
+fn doc_freq_number(meta: &TermInfoBlockMeta, bits: &[u8], terms: usize, k: usize) -> u32
+    requires widths { widths_fit meta.now ≡ true }
+    requires lie { bits_lie meta.now terms (length bits.now) ≡ true }
+    requires later { 0 < k }
+    requires within { (k < terms) × (terms ≤ BLOCK_LEN) }
+    ensures { result ≡ doc_freq_at meta.now bits.now k }
+{
+    let place = (k - 1) * term_bits(meta) + places_bits(meta);
+    number_after(bits, meta.offset, place, meta.doc_freq_nbits) as u32
+}
+
 // Term `k` of a block of so many terms, or `None` where it isn't sound.
 pub(super) fn sound_info(
     meta: &TermInfoBlockMeta,
@@ -47,43 +99,29 @@ pub(super) fn sound_info(
     requires widths { widths_fit meta.now ≡ true }
     requires lie { bits_lie meta.now terms (length bits.now) ≡ true }
     requires within { k < terms }
-    requires few { terms ≤ 256 }
+    requires few { terms ≤ BLOCK_LEN }
     ensures { result ≡ (if is_sound (block_info meta.now bits.now k) then Some (block_info meta.now bits.now k) else None) }
 {
+    let first = &meta.ref_term_info;
     if k == 0 {
-        return sound_first(&meta.ref_term_info);
+        return sound_first(first);
     }
-    let (postings_bits, positions_bits) = (meta.postings_offset_nbits, meta.positions_offset_nbits);
-    let behind = usize::from(postings_bits) + usize::from(positions_bits);
-    let term_bits = behind + usize::from(meta.doc_freq_nbits);
-    let start = (k - 1) * term_bits;
-    let doc_freq = number_behind(bits, meta.offset, start + behind, meta.doc_freq_nbits);
-    let Some(postings_range) = range_behind(
-        meta.ref_term_info.postings_range.start,
-        number_behind(bits, meta.offset, start, postings_bits),
-        number_behind(bits, meta.offset, start + term_bits, postings_bits),
+    let Some(postings_range) = range_after(
+        first.postings_range.start,
+        postings_number(meta, bits, terms, k),
+        postings_number(meta, bits, terms, k + 1),
     ) else {
         return None;
     };
-    let Some(positions_range) = range_behind(
-        meta.ref_term_info.positions_range.start,
-        number_behind(
-            bits,
-            meta.offset,
-            start + usize::from(postings_bits),
-            positions_bits,
-        ),
-        number_behind(
-            bits,
-            meta.offset,
-            start + term_bits + usize::from(postings_bits),
-            positions_bits,
-        ),
+    let Some(positions_range) = range_after(
+        first.positions_range.start,
+        positions_number(meta, bits, terms, k),
+        positions_number(meta, bits, terms, k + 1),
     ) else {
         return None;
     };
     Some(TermInfo {
-        doc_freq: doc_freq as u32,
+        doc_freq: doc_freq_number(meta, bits, terms, k),
         postings_range,
         positions_range,
     })
@@ -93,17 +131,17 @@ pub(super) fn sound_info(
 fn sound_first(info: &TermInfo) -> Option<TermInfo>
     ensures { result ≡ (if is_sound info.now then Some info.now else None) }
 {
-    let (postings, positions) = (&info.postings_range, &info.positions_range);
-    if is_short(postings.start, postings.end) && is_short(positions.start, positions.end) {
+    if is_short(&info.postings_range) && is_short(&info.positions_range) {
         return Some(info.copied());
     }
     None
 }
 
 // Whether a range ends at or after its start and has fewer than 2^32 bytes.
-fn is_short(start: usize, end: usize) -> bool
-    ensures { result ≡ (nat_le start end && nat_lt (end - start) (2 ^ 32)) }
+fn is_short(range: &Range<usize>) -> bool
+    ensures { result ≡ is_short range.now }
 {
+    let (start, end) = (range.start, range.end);
     start <= end && end - start <= u32::MAX as usize
 }
 
@@ -111,23 +149,21 @@ fn is_short(start: usize, end: usize) -> bool
 fn do_widths_fit(meta: &TermInfoBlockMeta) -> bool
     ensures { result ≡ widths_fit meta.now }
 {
-    meta.doc_freq_nbits <= 32
-        && meta.postings_offset_nbits <= 56
-        && meta.positions_offset_nbits <= 56
+    meta.doc_freq_nbits <= MAX_DOC_FREQ_NBITS
+        && meta.postings_offset_nbits <= MAX_OFFSET_NBITS
+        && meta.positions_offset_nbits <= MAX_OFFSET_NBITS
 }
 
 // Whether the bits of a block of so many terms lie within so many bytes.
 fn do_bits_lie(meta: &TermInfoBlockMeta, terms: usize, size: usize) -> bool
     requires widths { widths_fit meta.now ≡ true }
-    requires few { terms ≤ 256 }
+    requires few { terms ≤ BLOCK_LEN }
     ensures { result ≡ bits_lie meta.now terms size }
 {
     if terms <= 1 {
         return true;
     }
-    let ends = usize::from(meta.postings_offset_nbits) + usize::from(meta.positions_offset_nbits);
-    let term_bits = ends + usize::from(meta.doc_freq_nbits);
-    let bits = (terms - 1) * term_bits + ends;
+    let bits = (terms - 1) * term_bits(meta) + places_bits(meta);
     if bits == 0 {
         return true;
     }
@@ -139,7 +175,7 @@ fn do_bits_lie(meta: &TermInfoBlockMeta, terms: usize, size: usize) -> bool
 
 /// Whether a block of so many terms is valid.
 pub(super) fn is_block(meta: &TermInfoBlockMeta, terms: usize, bits: &[u8]) -> bool
-    requires few { terms ≤ 256 }
+    requires few { terms ≤ BLOCK_LEN }
     ensures { result ≡ is_block meta.now terms bits.now }
 {
     if !do_widths_fit(meta) {

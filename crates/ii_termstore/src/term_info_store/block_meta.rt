@@ -1,11 +1,16 @@
-ghost use Rattle.std.specs.Prelude.{◌≡◌, ◌<◌, ◌^◌, ◌++◌, ◌↔◌, ◌⊎◌, ◌∷◌, [], ℕ, List, length, Option, Some, OnOk, IfErr, IfNone, IsErrOf};
+ghost use Rattle.std.specs.Prelude.{◌≡◌, ◌<◌, ◌^◌, ◌∷◌, [], length, Option, Some, IfNone};
 ghost use Rattle.std.specs.Option.{option_map};
-ghost use Rattle.ii_io.specs.CountingWriter.{Wrote, IsFull};
 ghost use Rattle.ii_io.specs.Numbers.{number_at};
 
 use crate::term_info::{TermInfo, put_info, put_u64};
 use ii_io::{BinarySerializable, CountingWriter, Fault, FixedSize};
 use std::io::Write;
+
+/// The most bits that a number of documents takes.
+pub const MAX_DOC_FREQ_NBITS: u8 = 32;
+
+/// The most bits that a place of postings or of positions takes, counted from the first term's.
+pub const MAX_OFFSET_NBITS: u8 = 56;
 
 /// What stands of a block of terms beside its bits.
 #[derive(Debug, PartialEq, Eq, Drop)]
@@ -14,7 +19,7 @@ pub struct TermInfoBlockMeta {
     pub offset: u64,
     /// The block's first term.
     pub ref_term_info: TermInfo,
-    /// How many bits a number of documents takes, at most 32.
+    /// How many bits a number of documents takes, at most `MAX_DOC_FREQ_NBITS` where it is read.
     pub doc_freq_nbits: u8,
     /// How many bits the start of a term's postings takes, counted from the first term's.
     pub postings_offset_nbits: u8,
@@ -24,9 +29,9 @@ pub struct TermInfoBlockMeta {
 
 impl Default for TermInfoBlockMeta {
     ghost use Rattle.std.specs.Prelude.{◌≡◌};
-    ghost use Rattle.ii_termstore.specs.TermInfos.{info_of};
+    ghost use Rattle.ii_termstore.specs.TermInfos.{term_info_from};
 
-    ghost is_default = { λ m. m ≡ record { offset = 0; ref_term_info = info_of 0 0 0 0 0; doc_freq_nbits = 0; postings_offset_nbits = 0; positions_offset_nbits = 0 } };
+    ghost is_default = { λ m. m ≡ record { offset = 0; ref_term_info = term_info_from 0 0 0 0 0; doc_freq_nbits = 0; postings_offset_nbits = 0; positions_offset_nbits = 0 } };
 
     fn default() -> TermInfoBlockMeta {
         TermInfoBlockMeta {
@@ -93,28 +98,29 @@ impl BinarySerializable for TermInfoBlockMeta {
 }
 
 impl FixedSize for TermInfoBlockMeta {
+    ghost use Rattle.ii_termstore.specs.TermStore.{meta_size};
     ghost use Rattle.ii_termstore.specs.TermStoreLemmas.{length_meta_bytes};
 
     const SIZE_IN_BYTES: usize = 39;
 
-    ghost SIZE_IN_BYTES = { 39 };
+    ghost SIZE_IN_BYTES = { meta_size };
 
     ghost has_size = { λ i. length_meta_bytes i };
 }
 
 ghost use Rattle.ii_termstore.specs.TermInfos.{HasLengths, IsInRange};
-ghost use Rattle.ii_termstore.specs.TermStore.{meta_bytes};
+ghost use Rattle.ii_termstore.specs.TermStore.{meta_size, meta_bytes};
 
 // The bytes of a meta, in a buffer of their size.
 #[tactic(auto, unfolding(crate::specs::TermStore::meta_bytes))]
 pub(super) fn put_meta(buf: &mut [u8], meta: &TermInfoBlockMeta)
-    requires room { length buf.old ≡ 39 }
+    requires room { length buf.old ≡ meta_size }
     requires lengths { HasLengths meta.now.ref_term_info }
     ensures bytes { buf.new ≡ meta_bytes meta.now }
     ensures range { (meta.now.offset < 256 ^ 8) × IsInRange meta.now.ref_term_info }
 {
     let (offset, rest) = buf.split_at_mut(8);
-    let (info, widths) = rest.split_at_mut(28);
+    let (info, widths) = rest.split_at_mut(TermInfo::SIZE_IN_BYTES);
     put_u64(offset, meta.offset);
     put_info(info, &meta.ref_term_info);
     put_widths(widths, meta);

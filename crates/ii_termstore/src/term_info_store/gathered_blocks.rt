@@ -3,15 +3,15 @@ ghost use Rattle.ii_io.specs.CountingWriter.{Writes};
 ghost use Rattle.ii_io.specs.Numbers.{le_bytes};
 ghost use Rattle.ii_termstore.specs.declared.term_info.TermInfo.{TermInfo as Info};
 ghost use Rattle.ii_termstore.specs.TermInfos.{HasLengths, IsInRange};
-ghost use Rattle.ii_termstore.specs.TermStore.{block_count, meta_bytes};
+ghost use Rattle.ii_termstore.specs.TermStore.{block_count, meta_size, meta_bytes};
 ghost use Rattle.ii_termstore.specs.Written.{AreNarrow, FitsBlock, HaveLengths, first_of, meta_for, block_row};
 ghost use Rattle.ii_termstore.specs.TermInfoStoreWriter.{AreGathered, open_meta, open_bits};
 ghost use Rattle.ii_codes.specs.Bits.{bits_bytes};
 
 use super::BLOCK_LEN;
 use super::block_meta::{TermInfoBlockMeta, put_meta};
-use super::packing::{MAX_BLOCK_BYTES, meta_of, pack_block};
-use super::store_view::count_blocks;
+use super::packing::{MAX_BLOCK_BYTES, meta_for, pack_block};
+use super::store_view::{META_SIZE, count_blocks};
 use crate::term_info::{TermInfo, put_u64};
 use ii_io::{BinarySerializable, CountingWriter, Fault, FixedSize, LimitName};
 use std::alloc::Global;
@@ -44,7 +44,7 @@ impl GatheredBlocks {
 pub(super) fn add_term(blocks: &mut GatheredBlocks, info: &TermInfo) -> Result<(), Fault>
     requires lengths { HasLengths info.now }
     requires all_lengths { HaveLengths blocks.old.open_block.items }
-    requires few { length blocks.old.open_block.items < 256 }
+    requires few { length blocks.old.open_block.items < BLOCK_LEN }
     ensures gathered { (infos : List Info)
         → AreGathered infos blocks.old.num_terms blocks.old.block_metas.items blocks.old.block_bits.items blocks.old.open_block.items
         → OnOk result (AreGathered (infos ++ info.now ∷ []) blocks.new.num_terms blocks.new.block_metas.items blocks.new.block_bits.items blocks.new.open_block.items) }
@@ -66,7 +66,7 @@ pub(super) fn add_term(blocks: &mut GatheredBlocks, info: &TermInfo) -> Result<(
 // Turns the open block into bytes.
 fn flush_block(blocks: &mut GatheredBlocks) -> Result<(), Fault>
     requires some { 0 < length blocks.old.open_block.items }
-    requires few { length blocks.old.open_block.items ≤ 256 }
+    requires few { length blocks.old.open_block.items ≤ BLOCK_LEN }
     requires lengths { HaveLengths blocks.old.open_block.items }
     ensures metas { OnOk result (blocks.new.block_metas.items
         ≡ blocks.old.block_metas.items ++ open_meta (length blocks.old.block_bits.items) blocks.old.open_block.items) }
@@ -89,7 +89,7 @@ fn block_meta(infos: &[TermInfo], offset: u64) -> TermInfoBlockMeta
     ensures fits { FitsBlock result (drop 1 infos.now) }
 {
     match infos {
-        [first, others @ ..] => meta_of(offset, first, others),
+        [first, others @ ..] => meta_for(offset, first, others),
         [] => unreachable!(),
     }
 }
@@ -109,7 +109,7 @@ fn add_meta(meta: &TermInfoBlockMeta, metas: &mut Vec<u8>) -> Result<(), Fault>
 fn add_bits(meta: &TermInfoBlockMeta, others: &[TermInfo], bits: &mut Vec<u8>) -> Result<(), Fault>
     requires narrow { AreNarrow meta.now }
     requires fits { FitsBlock meta.now others.now }
-    requires few { length others.now < 256 }
+    requires few { length others.now < BLOCK_LEN }
     ensures ok { OnOk result (bits.new.items ≡ bits.old.items ++ bits_bytes (block_row meta.now others.now)) }
     ensures only { IfErr result (λ e. e ≡ Fault.OutOfMemory) }
 {
@@ -121,11 +121,11 @@ fn add_bits(meta: &TermInfoBlockMeta, others: &[TermInfo], bits: &mut Vec<u8>) -
 
 /// Writes the length of the metas, and the number of terms.
 pub(super) fn put_head<W: Write>(n: u64, writer: &mut CountingWriter<W>) -> Result<(), Fault>
-    ensures { Writes writer.old writer.new (le_bytes 8 (39 * block_count n) ++ le_bytes 8 n) result }
+    ensures { Writes writer.old writer.new (le_bytes 8 (meta_size * block_count n) ++ le_bytes 8 n) result }
 {
     let mut bytes = [0; 16];
     let (metas, terms) = bytes.split_at_mut(8);
-    put_u64(metas, 39 * count_blocks(n));
+    put_u64(metas, META_SIZE * count_blocks(n));
     put_u64(terms, n);
     writer.write_all(&bytes)
 }
@@ -165,7 +165,7 @@ pub(super) fn put_bits<W: Write>(
     blocks: &GatheredBlocks,
     writer: &mut CountingWriter<W>,
 ) -> Result<(), Fault>
-    requires { length blocks.now.open_block.items ≤ 256 }
+    requires { length blocks.now.open_block.items ≤ BLOCK_LEN }
     ensures { Writes writer.old writer.new (blocks.now.block_bits.items ++ open_bits blocks.now.open_block.items) result }
 {
     let put = writer.write_all(&blocks.block_bits);
@@ -176,11 +176,11 @@ pub(super) fn put_bits<W: Write>(
 }
 
 fn put_open_bits<W: Write>(infos: &[TermInfo], writer: &mut CountingWriter<W>) -> Result<(), Fault>
-    requires { length infos.now ≤ 256 }
+    requires { length infos.now ≤ BLOCK_LEN }
     ensures { Writes writer.old writer.new (open_bits infos.now) result }
 {
     match infos {
-        [first, others @ ..] => put_block(&meta_of(0, first, others), others, writer),
+        [first, others @ ..] => put_block(&meta_for(0, first, others), others, writer),
         [] => Ok(()),
     }
 }
@@ -193,7 +193,7 @@ fn put_block<W: Write>(
 ) -> Result<(), Fault>
     requires narrow { AreNarrow meta.now }
     requires fits { FitsBlock meta.now others.now }
-    requires few { length others.now < 256 }
+    requires few { length others.now < BLOCK_LEN }
     ensures { Writes writer.old writer.new (bits_bytes (block_row meta.now others.now)) result }
 {
     let mut buffer = [0; MAX_BLOCK_BYTES];

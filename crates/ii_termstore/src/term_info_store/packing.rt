@@ -1,8 +1,8 @@
-ghost use Rattle.std.specs.Prelude.{◌≡◌, ℕ, ◌+◌, ◌-◌, ◌*◌, ◌^◌, ◌<◌, ◌≤◌, List, ◌++◌, length, map, max, drop, take};
+ghost use Rattle.std.specs.Prelude.{◌≡◌, ℕ, ◌+◌, ◌-◌, ◌*◌, ◌^◌, ◌<◌, ◌≤◌, List, ◌++◌, length, map, max, take};
 ghost use Rattle.ii_codes.specs.Bits.{low_bits, bits_bytes};
 ghost use Rattle.ii_codes.specs.Packed.{num_bits};
 ghost use Rattle.ii_termstore.specs.declared.term_info.TermInfo.{TermInfo};
-ghost use Rattle.ii_termstore.specs.Written.{IsPacking, largest, postings_behind, positions_behind, postings_end, positions_end, last_of, meta_for, term_row, block_row, AreNarrow, FitsWidths, EndsFit, FitsBlock, info_in};
+ghost use Rattle.ii_termstore.specs.Written.{IsPacking, largest, postings_after, positions_after, postings_end, positions_end, last_of, meta_for, term_row, block_row, AreNarrow, FitsWidths, EndsFit, FitsBlock, info_in};
 
 use super::BLOCK_LEN;
 use super::block_meta::TermInfoBlockMeta;
@@ -10,16 +10,20 @@ use crate::term_info::TermInfo;
 use ii_codes::bitpacker::writes_one_row;
 use ii_codes::{BitPacker, compute_num_bits};
 
-// The most bytes that the bits of a block take: a term has three numbers of at most 64 bits.
-pub(super) const MAX_BLOCK_BYTES: usize = 24 * BLOCK_LEN;
+// The most bytes that a number takes, of at most 64 bits, a term of three numbers, and the bits of a block.
+const MAX_NUMBER_BYTES: usize = 8;
+
+const MAX_TERM_BYTES: usize = 3 * MAX_NUMBER_BYTES;
+
+pub(super) const MAX_BLOCK_BYTES: usize = MAX_TERM_BYTES * BLOCK_LEN;
 
 // Packs one number more of a row into a buffer that has so many bytes, and answers how many it has then.
 fn pack(packer: &mut BitPacker, val: u64, width: u8, buffer: &mut [u8], count: usize) -> usize
     requires narrow { width ≤ 64 }
     requires fits { val < 2 ^ width }
-    requires room { count + 8 ≤ length buffer.old }
+    requires room { count + MAX_NUMBER_BYTES ≤ length buffer.old }
     ensures row { (row : List ℕ) → IsPacking buffer.old count packer.old row → IsPacking buffer.new result packer.new (row ++ low_bits width val) }
-    ensures few { result ≤ count + 8 }
+    ensures few { result ≤ count + MAX_NUMBER_BYTES }
     ensures size { length buffer.new ≡ length buffer.old }
 {
     writes_one_row();
@@ -39,7 +43,7 @@ fn largest_doc_freq(others: &[TermInfo]) -> u64
 
 // The largest start of postings of some terms, counted from the first of their block.
 fn largest_postings(first: &TermInfo, others: &[TermInfo]) -> u64
-    ensures { result ≡ largest (map (postings_behind first.now) others.now) }
+    ensures { result ≡ largest (map (postings_after first.now) others.now) }
 {
     let mut most = 0u64;
     for info in others {
@@ -50,7 +54,7 @@ fn largest_postings(first: &TermInfo, others: &[TermInfo]) -> u64
 
 // The largest start of positions, likewise.
 fn largest_positions(first: &TermInfo, others: &[TermInfo]) -> u64
-    ensures { result ≡ largest (map (positions_behind first.now) others.now) }
+    ensures { result ≡ largest (map (positions_after first.now) others.now) }
 {
     let mut most = 0u64;
     for info in others {
@@ -61,7 +65,7 @@ fn largest_positions(first: &TermInfo, others: &[TermInfo]) -> u64
 
 // Where the postings of a term begin, counted from the first of its block.
 fn postings_of(first: &TermInfo, info: &TermInfo) -> u64
-    ensures { result ≡ postings_behind first.now info.now }
+    ensures { result ≡ postings_after first.now info.now }
 {
     info.postings_range
         .start
@@ -70,7 +74,7 @@ fn postings_of(first: &TermInfo, info: &TermInfo) -> u64
 
 // Where its positions begin, likewise.
 fn positions_of(first: &TermInfo, info: &TermInfo) -> u64
-    ensures { result ≡ positions_behind first.now info.now }
+    ensures { result ≡ positions_after first.now info.now }
 {
     info.positions_range
         .start
@@ -109,7 +113,7 @@ fn end_of_positions(first: &TermInfo, others: &[TermInfo]) -> u64
 
 /// What stands beside the bits of a block, which begin at `offset`.
 #[tactic(auto, unfolding(crate::specs::Written::meta_for))]
-pub(super) fn meta_of(offset: u64, first: &TermInfo, others: &[TermInfo]) -> TermInfoBlockMeta
+pub(super) fn meta_for(offset: u64, first: &TermInfo, others: &[TermInfo]) -> TermInfoBlockMeta
     ensures value { result ≡ meta_for offset first.now others.now }
     ensures narrow { AreNarrow result }
     ensures fits { FitsBlock result others.now }
@@ -135,9 +139,9 @@ fn pack_term(
 ) -> usize
     requires narrow { AreNarrow meta.now }
     requires fits { FitsWidths meta.now info.now }
-    requires room { count + 24 ≤ length buffer.old }
+    requires room { count + MAX_TERM_BYTES ≤ length buffer.old }
     ensures row { (row : List ℕ) → IsPacking buffer.old count packer.old row → IsPacking buffer.new result packer.new (row ++ term_row meta.now info.now) }
-    ensures few { result ≤ count + 24 }
+    ensures few { result ≤ count + MAX_TERM_BYTES }
     ensures size { length buffer.new ≡ length buffer.old }
 {
     let first = &meta.ref_term_info;
@@ -164,10 +168,10 @@ pub(super) fn pack_block(meta: &TermInfoBlockMeta, others: &[TermInfo], buffer: 
     requires narrow { AreNarrow meta.now }
     requires fits { (k : ℕ) → k < length others.now → FitsWidths meta.now (info_in others.now k) }
     requires ends { EndsFit meta.now others.now }
-    requires few { length others.now < 256 }
-    requires room { 6144 ≤ length buffer.old }
+    requires few { length others.now < BLOCK_LEN }
+    requires room { MAX_BLOCK_BYTES ≤ length buffer.old }
     ensures bytes { take result buffer.new ≡ bits_bytes (block_row meta.now others.now) }
-    ensures within { result ≤ 6144 }
+    ensures within { result ≤ MAX_BLOCK_BYTES }
     ensures size { length buffer.new ≡ length buffer.old }
 {
     writes_one_row();

@@ -1,7 +1,7 @@
-ghost use Rattle.std.specs.Prelude.{◌≡◌, ◌+◌, ◌-◌, ◌*◌, ◌/◌, ◌<◌, ◌≤◌, true, length, drop, map, Some, IfSome, slice_get, IsSome};
+ghost use Rattle.std.specs.Prelude.{◌≡◌, ◌+◌, ◌-◌, ◌*◌, ◌/◌, ◌<◌, ◌≤◌, true, length, map, Some, IfSome, slice_get, IsSome};
 ghost use Rattle.std.specs.List.{range_with_len};
 ghost use Rattle.std.specs.Option.{option_map};
-ghost use Rattle.ii_termstore.specs.TermStore.{block_count, block_terms, has_block, are_blocks, meta_of, stored_info, store_parts, term_store};
+ghost use Rattle.ii_termstore.specs.TermStore.{block_count, block_terms, meta_size, has_block, are_blocks, block_meta_at, term_info_at, store_parts, term_store};
 
 use super::BLOCK_LEN;
 use super::block::{is_block, sound_info};
@@ -14,7 +14,7 @@ use std::marker::Model;
 // The sizes of a block and of its meta, as numbers of 64 bits.
 const BLOCK_TERMS: u64 = BLOCK_LEN as u64;
 
-const META_SIZE: u64 = TermInfoBlockMeta::SIZE_IN_BYTES as u64;
+pub(super) const META_SIZE: u64 = TermInfoBlockMeta::SIZE_IN_BYTES as u64;
 
 /// A list of term infos, over lent bytes that were checked whole. Clauses see the list.
 #[derive(Drop)]
@@ -26,14 +26,14 @@ impl<'a> Model for TermInfoStoreView<'a> {
     ghost use Rattle.std.specs.Prelude.{◌≡◌, ◌≤◌, ◌*◌, List, true, length, map};
     ghost use Rattle.std.specs.List.{range_with_len};
     ghost use Rattle.ii_termstore.specs.declared.term_info.TermInfo.{TermInfo};
-    ghost use Rattle.ii_termstore.specs.TermStore.{block_count, are_blocks, stored_info};
+    ghost use Rattle.ii_termstore.specs.TermStore.{block_count, meta_size, are_blocks, term_info_at};
 
     ghost Value = { List TermInfo };
 
-    ghost view = { λ s. map (stored_info s.parts.metas.now s.parts.bits.now) (range_with_len 0 s.parts.num_terms) };
+    ghost view = { λ s. map (term_info_at s.parts.metas.now s.parts.bits.now) (range_with_len 0 s.parts.num_terms) };
 
     ghost invariant = { λ s. (are_blocks s.parts.num_terms s.parts.metas.now s.parts.bits.now ≡ true)
-        × (39 * block_count s.parts.num_terms ≤ length s.parts.metas.now) };
+        × (meta_size * block_count s.parts.num_terms ≤ length s.parts.metas.now) };
 }
 
 impl<'a> TermInfoStoreView<'a> {
@@ -94,7 +94,7 @@ struct Parts<'a> {
 #[tactic(auto, unfolding(crate::specs::TermStore::store_parts))]
 fn parts_of(bytes: &[u8]) -> Option<Parts<'_>>
     ensures value { option_map (λ p. (p.num_terms, p.metas.now, p.bits.now)) result ≡ store_parts bytes.now }
-    ensures metas { IfSome result (λ p. 39 * block_count p.num_terms ≤ length p.metas.now) }
+    ensures metas { IfSome result (λ p. meta_size * block_count p.num_terms ≤ length p.metas.now) }
 {
     let mut rest = bytes;
     let Some(metas_len) = u64::deserialize(&mut rest) else {
@@ -124,10 +124,10 @@ pub(super) fn count_blocks(terms: u64) -> u64
 }
 
 // The meta of block `b`.
-#[tactic(auto, unfolding(crate::specs::TermStore::meta_of))]
+#[tactic(auto, unfolding(crate::specs::TermStore::block_meta_at))]
 fn read_meta(metas: &[u8], b: u64) -> Option<TermInfoBlockMeta>
-    requires { 39 * b ≤ length metas.now }
-    ensures { result ≡ meta_of metas.now b }
+    requires { meta_size * b ≤ length metas.now }
+    ensures { result ≡ block_meta_at metas.now b }
 {
     let mut rest = &metas[TermInfoBlockMeta::SIZE_IN_BYTES * b as usize..];
     TermInfoBlockMeta::deserialize(&mut rest)
@@ -137,7 +137,7 @@ fn read_meta(metas: &[u8], b: u64) -> Option<TermInfoBlockMeta>
 fn count_terms(terms: u64, b: u64) -> usize
     requires { b < block_count terms }
     ensures value { result ≡ block_terms terms b }
-    ensures few { result ≤ 256 }
+    ensures few { result ≤ BLOCK_LEN }
 {
     (terms - BLOCK_TERMS * b).min(BLOCK_TERMS) as usize
 }
@@ -145,7 +145,7 @@ fn count_terms(terms: u64, b: u64) -> usize
 // Whether block `b` is valid.
 fn is_block_valid(metas: &[u8], bits: &[u8], terms: u64, b: u64) -> bool
     requires within { b < block_count terms }
-    requires there { 39 * b ≤ length metas.now }
+    requires there { meta_size * b ≤ length metas.now }
     ensures { result ≡ has_block metas.now bits.now terms b }
 {
     match read_meta(metas, b) {
@@ -156,7 +156,7 @@ fn is_block_valid(metas: &[u8], bits: &[u8], terms: u64, b: u64) -> bool
 
 // Whether all blocks are valid.
 fn are_blocks_valid(terms: u64, metas: &[u8], bits: &[u8]) -> bool
-    requires { 39 * block_count terms ≤ length metas.now }
+    requires { meta_size * block_count terms ≤ length metas.now }
     ensures { result ≡ are_blocks terms metas.now bits.now }
 {
     for b in 0..count_blocks(terms) {
@@ -170,9 +170,9 @@ fn are_blocks_valid(terms: u64, metas: &[u8], bits: &[u8]) -> bool
 // The term at a place of valid blocks.
 fn term_info_at(parts: &Parts<'_>, term_ord: u64) -> TermInfo
     requires valid { are_blocks parts.now.num_terms parts.now.metas.now parts.now.bits.now ≡ true }
-    requires there { 39 * block_count parts.now.num_terms ≤ length parts.now.metas.now }
+    requires there { meta_size * block_count parts.now.num_terms ≤ length parts.now.metas.now }
     requires within { term_ord < parts.now.num_terms }
-    ensures { result ≡ stored_info parts.now.metas.now parts.now.bits.now term_ord }
+    ensures { result ≡ term_info_at parts.now.metas.now parts.now.bits.now term_ord }
 {
     let b = term_ord / BLOCK_TERMS;
     let Some(meta) = read_meta(parts.metas, b) else {

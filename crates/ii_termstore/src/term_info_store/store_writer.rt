@@ -1,12 +1,13 @@
-ghost use Rattle.std.specs.Prelude.{◌≡◌, ◌+◌, ◌*◌, ◌^◌, ◌<◌, ◌≤◌, ◌↔◌, ◌⊎◌, List, [], ◌∷◌, ◌++◌, true, false, length, Some, OnOk, OnErr, IfErr, IsErrOf, IsTrue};
+ghost use Rattle.std.specs.Prelude.{◌≡◌, ◌+◌, ◌*◌, ◌^◌, ◌<◌, ◌≤◌, ◌↔◌, ◌⊎◌, [], ◌∷◌, ◌++◌, true, false, length, Some, OnOk, OnErr, IfErr, IsErrOf, IsTrue};
 ghost use Rattle.ii_io.specs.CountingWriter.{Writes, WritesUnlessClosed, Closes};
 ghost use Rattle.ii_io.specs.Numbers.{le_bytes};
 ghost use Rattle.ii_termstore.specs.TermInfos.{HasLengths};
-ghost use Rattle.ii_termstore.specs.TermStore.{block_count, term_store};
+ghost use Rattle.ii_termstore.specs.TermStore.{block_count, meta_size, term_store};
 ghost use Rattle.ii_termstore.specs.ReadBack.{AreJoined};
 ghost use Rattle.ii_termstore.specs.Written.{HaveLengths, written_store};
 ghost use Rattle.ii_termstore.specs.TermInfoStoreWriter.{open_meta, open_bits};
 
+use super::BLOCK_LEN;
 use super::gathered_blocks::{GatheredBlocks, add_term, put_bits, put_head, put_metas};
 use super::given_terms::GivenTerms;
 use crate::term_info::TermInfo;
@@ -100,10 +101,10 @@ impl TermInfoStoreWriter {
 
 // Writes the store of gathered blocks.
 fn put_store<W: Write>(blocks: &GatheredBlocks, writer: &mut CountingWriter<W>) -> Result<(), Fault>
-    requires few { length blocks.now.open_block.items ≤ 256 }
+    requires few { length blocks.now.open_block.items ≤ BLOCK_LEN }
     requires lengths { HaveLengths blocks.now.open_block.items }
     ensures written { Writes writer.old writer.new
-        ((le_bytes 8 (39 * block_count blocks.now.num_terms) ++ le_bytes 8 blocks.now.num_terms)
+        ((le_bytes 8 (meta_size * block_count blocks.now.num_terms) ++ le_bytes 8 blocks.now.num_terms)
         ++ (blocks.now.block_metas.items ++ open_meta (length blocks.now.block_bits.items) blocks.now.open_block.items)
         ++ (blocks.now.block_bits.items ++ open_bits blocks.now.open_block.items)) result }
     ensures small { (blocks.now.num_terms < 2 ^ 64) × (length blocks.now.block_bits.items < 2 ^ 64) }

@@ -1,5 +1,3 @@
-ghost use Rattle.std.specs.Prelude.{◌≡◌, ◌+◌};
-
 use crate::{TermInfo, TermInfoStoreWriter};
 use ii_io::{CountingWriter, Fault};
 use std::alloc::Global;

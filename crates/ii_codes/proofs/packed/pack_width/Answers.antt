@@ -19,20 +19,21 @@ loop-i-init g c = record {
 
 pub overflow_add-word : goal.overflow_add-word
 overflow_add-word g c =
-    let more = word_more g.row.W (32 * c.loop-group.group + c.loop-i.i) c.loop-i.end c.loop-i.word c.loop-i.bits c.from.result _ c.args.entries.now c.loop-i.output c.loop-i.invariant c.requires.narrow c.from.ensures refl in
+    let more = word_more g.row.W (32 * c.loop-group.group + c.loop-i.i) c.loop-i.end c.loop-i.word c.loop-i.bits c.from.result _ c.args.entries.now c.loop-i.invariant.place c.loop-i.invariant.few c.loop-i.invariant.left c.requires.narrow c.from.ensures refl in
     omega (arith, more.1)
 
 pub loop-i-preserved-then-bits-lt32 : goal.loop-i-preserved-then-bits-lt32
 loop-i-preserved-then-bits-lt32 g c =
-    let more = word_more g.row.W (32 * c.loop-group.group + c.loop-i.i) c.loop-i.end c.loop-i.word c.loop-i.bits c.from.result _ c.args.entries.now c.loop-i.output c.loop-i.invariant c.requires.narrow c.from.ensures refl in
+    let more = word_more g.row.W (32 * c.loop-group.group + c.loop-i.i) c.loop-i.end c.loop-i.word c.loop-i.bits c.from.result _ c.args.entries.now c.loop-i.invariant.place c.loop-i.invariant.few c.loop-i.invariant.left c.requires.narrow c.from.ensures refl in
     let next : 32 * c.loop-group.group + (c.loop-i.i + 1) ≡ 32 * c.loop-group.group + c.loop-i.i + 1 = omega arith in
     rw next (word_waits g.row.W (32 * c.loop-group.group + c.loop-i.i) c.loop-i.end c.loop-i.word c.loop-i.bits c.args.entries.now c.loop-i.output c.loop-i.invariant _ more.0 (omega arith))
 
 pub loop-i-preserved : goal.loop-i-preserved
 loop-i-preserved g c =
-    let more = word_more g.row.W (32 * c.loop-group.group + c.loop-i.i) c.loop-i.end c.loop-i.word c.loop-i.bits c.from.result _ c.args.entries.now c.loop-i.output c.loop-i.invariant c.requires.narrow c.from.ensures refl in
+    let more = word_more g.row.W (32 * c.loop-group.group + c.loop-i.i) c.loop-i.end c.loop-i.word c.loop-i.bits c.from.result _ c.args.entries.now c.loop-i.invariant.place c.loop-i.invariant.few c.loop-i.invariant.left c.requires.narrow c.from.ensures refl in
     let next : 32 * c.loop-group.group + (c.loop-i.i + 1) ≡ 32 * c.loop-group.group + c.loop-i.i + 1 = omega arith in
-    rw next (word_written g.row.W (32 * c.loop-group.group + c.loop-i.i) c.loop-i.end c.loop-i.word c.loop-i.bits c.args.entries.now c.loop-i.output c.put_word.new.output c.loop-i.invariant c.requires.narrow _ more.0 (omega arith) c.put_word.ensures)
+    rw next (word_written g.row.W (32 * c.loop-group.group + c.loop-i.i) c.loop-i.end c.loop-i.bits _ c.args.entries.now c.loop-i.output c.put_word.new.output c.loop-i.invariant.place c.loop-i.invariant.few c.loop-i.invariant.whole
+    c.loop-i.invariant.written c.requires.narrow more.0 (omega arith) c.put_word.ensures)
 
 pub returns : goal.returns
 returns g c =

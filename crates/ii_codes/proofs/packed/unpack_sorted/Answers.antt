@@ -11,8 +11,8 @@ returns-then-bytes-size-clause-value c = sorted-short c.args.strict c.args.offse
 
 pub returns-then-sorted_values-clause-value : goal.returns-then-sorted_values-clause-value
 returns-then-sorted_values-clause-value c =
-    sorted-found c.args.strict c.args.offset c.args.width c.gap_of.result c.least_first-least.result c.compressed_block_size-size.result c.args.bytes.now (unpacked c.args.width c.args.bytes.now) c.sorted_values.new.output
-    (omega arith) (omega arith) c.compressed_block_size-size.ensures refl c.gap_of.ensures c.least_first-least.ensures c.if-sorted_values.ensures.fits c.if-sorted_values.ensures.values
+    sorted-found c.args.strict c.args.offset c.args.width c.gap_of.result c.least_first-least.result c.compressed_block_size-size.result c.args.bytes.now c.sorted_values.new.output
+    (omega arith) (omega arith) c.compressed_block_size-size.ensures c.gap_of.ensures c.least_first-least.ensures c.if-sorted_values.ensures.fits c.if-sorted_values.ensures.values
 
 pub returns-else-sorted_values-clause-value : goal.returns-else-sorted_values-clause-value
 returns-else-sorted_values-clause-value c =

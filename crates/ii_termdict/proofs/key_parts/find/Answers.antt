@@ -27,4 +27,4 @@ loop-low-preserved c =
 
 pub returns-clause-none : goal.returns-clause-none
 returns-clause-none c =
-    none_equal c.args.n c.loop-low.low c.loop-low.high c.args.ends.now c.args.body.now c.args.key.now c.loop-low.invariant.below c.loop-low.invariant.above (omega arith)
+    none_equal c.args.n c.loop-low.low c.args.ends.now c.args.body.now c.args.key.now c.loop-low.invariant.below (λ j above within. c.loop-low.invariant.above j (omega arith) within)

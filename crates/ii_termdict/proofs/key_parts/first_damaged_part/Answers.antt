@@ -1,5 +1,5 @@
 use Rattle.std.proofs.Common.{◌∙◌, sym}
-use Rattle.ii_termdict.specs.Dictionary.{keys_of, store_behind}
+use Rattle.ii_termdict.specs.Dictionary.{keys_of, store_after}
 use Rattle.ii_termstore.specs.TermStore.{term_store}
 use Rattle.ii_termdict.proofs.DictionaryLemmas.{dictionary-no_parts, dictionary-falls, dictionary-unordered, dictionary-is, length-keys_of, infos-none, infos-other, infos-ok}
 use Rattle.ii_termdict.proofs.key_parts.first_damaged_part.Goals as goal
@@ -18,16 +18,16 @@ returns-then-not-do_keys_ascend c =
 pub returns-in_default-open : goal.returns-in_default-open
 returns-in_default-open c =
     dictionary-is c.args.bytes.now c.in-Some.parts.num_terms c.in-Some.parts.ends.now c.in-Some.parts.body.now c.in-Some.ensures.value c.if-not-do_ends_rise.ensures c.if-not-do_keys_ascend.ensures
-    ∙ infos-none (keys_of c.in-Some.parts.num_terms c.in-Some.parts.ends.now c.in-Some.parts.body.now) (term_store (store_behind c.in-Some.parts.num_terms c.in-Some.parts.ends.now c.in-Some.parts.body.now)) (rw (← c.store_of-store.ensures) c.in_default-open.ensures)
+    ∙ infos-none (keys_of c.in-Some.parts.num_terms c.in-Some.parts.ends.now c.in-Some.parts.body.now) (term_store (store_after c.in-Some.parts.num_terms c.in-Some.parts.ends.now c.in-Some.parts.body.now)) (rw (← c.store_of-store.ensures) c.in_default-open.ensures)
 
 pub returns-then-num_terms-parts : goal.returns-then-num_terms-parts
 returns-then-num_terms-parts c =
     dictionary-is c.args.bytes.now c.in-Some.parts.num_terms c.in-Some.parts.ends.now c.in-Some.parts.body.now c.in-Some.ensures.value c.if-not-do_ends_rise.ensures c.if-not-do_keys_ascend.ensures
-    ∙ infos-other (keys_of c.in-Some.parts.num_terms c.in-Some.parts.ends.now c.in-Some.parts.body.now) (term_store (store_behind c.in-Some.parts.num_terms c.in-Some.parts.ends.now c.in-Some.parts.body.now)) c.in-Some-open.infos c.in-Some.parts.num_terms (rw (← c.store_of-store.ensures) c.in-Some-open.ensures)
+    ∙ infos-other (keys_of c.in-Some.parts.num_terms c.in-Some.parts.ends.now c.in-Some.parts.body.now) (term_store (store_after c.in-Some.parts.num_terms c.in-Some.parts.ends.now c.in-Some.parts.body.now)) c.in-Some-open.infos c.in-Some.parts.num_terms (rw (← c.store_of-store.ensures) c.in-Some-open.ensures)
     (length-keys_of c.in-Some.parts.num_terms c.in-Some.parts.ends.now c.in-Some.parts.body.now) (rw c.num_terms.ensures at c.if-num_terms-parts.true)
 
 pub returns : goal.returns
 returns c =
     rw (dictionary-is c.args.bytes.now c.in-Some.parts.num_terms c.in-Some.parts.ends.now c.in-Some.parts.body.now c.in-Some.ensures.value c.if-not-do_ends_rise.ensures c.if-not-do_keys_ascend.ensures)
-    (infos-ok (keys_of c.in-Some.parts.num_terms c.in-Some.parts.ends.now c.in-Some.parts.body.now) (term_store (store_behind c.in-Some.parts.num_terms c.in-Some.parts.ends.now c.in-Some.parts.body.now)) c.in-Some-open.infos c.in-Some.parts.num_terms (rw (← c.store_of-store.ensures) c.in-Some-open.ensures)
+    (infos-ok (keys_of c.in-Some.parts.num_terms c.in-Some.parts.ends.now c.in-Some.parts.body.now) (term_store (store_after c.in-Some.parts.num_terms c.in-Some.parts.ends.now c.in-Some.parts.body.now)) c.in-Some-open.infos c.in-Some.parts.num_terms (rw (← c.store_of-store.ensures) c.in-Some-open.ensures)
     (length-keys_of c.in-Some.parts.num_terms c.in-Some.parts.ends.now c.in-Some.parts.body.now) (sym c.num_terms.ensures ∙ c.if-num_terms-parts.false))

@@ -2,7 +2,7 @@ use Rattle.std.proofs.Common.{◌+◌, ◌/◌, ◌++◌, ◌∙◌, arith, refl
 use Rattle.ii_codes.specs.Bits.{low_bits}
 use Rattle.ii_codes.proofs.PackedLemmas.{entries_in-zero, entries_written}
 use Rattle.ii_codes.specs.BitsLemmas.{length-low_bits}
-use Rattle.ii_codes.proofs.BitLemmas.{left_behind, written_whole}
+use Rattle.ii_codes.proofs.BitLemmas.{left_after, written_whole}
 use Rattle.ii_codes.proofs.bitpacker.BitPacker.push.Goals as goal
 
 pub loop-j-init : goal.loop-j-init
@@ -17,7 +17,7 @@ loop-j-preserved c = record {
 
 pub invariant_of-self : goal.invariant_of-self
 invariant_of-self c =
-    let left = left_behind c.self.inside.mini_buffer_written c.self.inside.mini_buffer c.args.num_bits c.args.val (c.self.inside.mini_buffer_written + c.args.num_bits) ((c.self.inside.mini_buffer_written + c.args.num_bits) / 8)
+    let left = left_after c.self.inside.mini_buffer_written c.self.inside.mini_buffer c.args.num_bits c.args.val (c.self.inside.mini_buffer_written + c.args.num_bits) ((c.self.inside.mini_buffer_written + c.args.num_bits) / 8)
     c.byte_of_bits-self-inside.result refl refl c.byte_of_bits-self-inside.ensures in
     (omega arith, left.0)
 
@@ -27,7 +27,7 @@ returns-clause-bytes c =
 
 pub returns-clause-left : goal.returns-clause-left
 returns-clause-left c =
-    let left = left_behind c.self.inside.mini_buffer_written c.self.inside.mini_buffer c.args.num_bits c.args.val (c.self.inside.mini_buffer_written + c.args.num_bits) ((c.self.inside.mini_buffer_written + c.args.num_bits) / 8)
+    let left = left_after c.self.inside.mini_buffer_written c.self.inside.mini_buffer c.args.num_bits c.args.val (c.self.inside.mini_buffer_written + c.args.num_bits) ((c.self.inside.mini_buffer_written + c.args.num_bits) / 8)
     c.byte_of_bits-self-inside.result refl refl c.byte_of_bits-self-inside.ensures in
     rw (← c.self.view_is) left.1
 

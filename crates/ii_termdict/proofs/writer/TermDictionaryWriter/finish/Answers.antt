@@ -1,4 +1,3 @@
-use Rattle.std.proofs.Common.{◌≡◌, false}
 use Rattle.ii_termdict.specs.TermDictionaryWriter.{keys_between}
 use Rattle.ii_termdict.proofs.WriterLemmas.{dictionary_written, dictionary_holds}
 use Rattle.ii_termdict.proofs.writer.TermDictionaryWriter.finish.Goals as goal

@@ -1,4 +1,4 @@
-use Rattle.std.proofs.Common.{◌≡◌, ◌+◌, ◌++◌, ◌∷◌, [], arith, rules, ap, ◌∙◌, length, length-append}
+use Rattle.std.proofs.Common.{◌≡◌, ◌+◌, ◌∷◌, [], arith, rules, ap, ◌∙◌, length, length-append}
 use Rattle.ii_termstore.proofs.GatherLemmas.{gathered_more, gathered_flushed}
 use Rattle.ii_termstore.proofs.term_info_store.gathered_blocks.add_term.Goals as goal
 

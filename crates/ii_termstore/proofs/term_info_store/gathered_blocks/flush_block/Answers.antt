@@ -1,4 +1,4 @@
-use Rattle.std.proofs.Common.{◌≡◌, ◌∙◌, ◌<◌, length, ap, List, ℕ, ◌++◌}
+use Rattle.std.proofs.Common.{◌∙◌, ap, List, ℕ, ◌++◌}
 use Rattle.std.proofs.lemmas.List.{take_rest}
 use Rattle.ii_termstore.proofs.GatherLemmas.{meta_has_lengths, open_bits_by}
 use Rattle.ii_termstore.proofs.term_info_store.gathered_blocks.flush_block.Goals as goal

@@ -1,4 +1,4 @@
-use Rattle.ii_termstore.proofs.WriterLemmas.{terms_fit, ends_fit}
+use Rattle.ii_termstore.proofs.WriterLemmas.{terms_fit}
 use Rattle.ii_termstore.proofs.term_info_store.gathered_blocks.put_block.Goals as goal
 
 pub pack_block-count-requires-clause-fits : goal.pack_block-count-requires-clause-fits

@@ -1,4 +1,4 @@
-use Rattle.std.proofs.Common.{◌≡◌, ◌<◌, length, arith, rules}
+use Rattle.std.proofs.Common.{◌<◌, length, rules}
 use Rattle.ii_termstore.proofs.GatherLemmas.{meta_has_lengths, open_meta_by}
 use Rattle.ii_termstore.proofs.term_info_store.gathered_blocks.put_open_meta.Goals as goal
 

@@ -1,4 +1,4 @@
-use Rattle.std.proofs.Common.{◌≡◌, ◌≤◌, length, arith, refl}
+use Rattle.std.proofs.Common.{arith, refl}
 use Rattle.ii_termstore.proofs.PackLemmas.{packing_begins, packs_all, rows_more, rows_all}
 use Rattle.ii_termstore.specs.Written.{block_row}
 use Rattle.ii_termstore.proofs.term_info_store.packing.pack_block.Goals as goal

@@ -3,7 +3,7 @@ use Rattle.std.proofs.lemmas.Bool.{false≢true}
 use Rattle.ii_termstore.specs.TermStore.{block_info, block_terms}
 use Rattle.ii_termstore.proofs.BlockLemmas.{sound-some, sound-none}
 use Rattle.ii_termstore.specs.ListLemmas.{all_at}
-use Rattle.ii_termstore.proofs.StoreLemmas.{valid_block, valid_meta, block_parts, stored_info-is, block_within, term_within}
+use Rattle.ii_termstore.proofs.StoreLemmas.{valid_block, valid_meta, block_parts, term_info_at-is, block_within, term_within}
 use Rattle.ii_termstore.proofs.term_info_store.store_view.term_info_at.Goals as goal
 
 pub returns-in_default : goal.returns-in_default
@@ -25,7 +25,7 @@ sound_info-requires-clause-lie c =
 pub returns-in-Some-sound_info : goal.returns-in-Some-sound_info
 returns-in-Some-sound_info c =
     let sound = sound-some (block_info c.in-Some.meta c.args.parts.now.bits.now (c.args.term_ord % 256)) c.in-Some-sound_info.info (sym c.in-Some-sound_info.ensures) in
-    sound.1 ∙ sym (stored_info-is c.args.parts.now.metas.now c.args.parts.now.bits.now c.args.term_ord c.in-Some.meta c.in-Some.ensures)
+    sound.1 ∙ sym (term_info_at-is c.args.parts.now.metas.now c.args.parts.now.bits.now c.args.term_ord c.in-Some.meta c.in-Some.ensures)
 
 pub returns-in-None : goal.returns-in-None
 returns-in-None c =

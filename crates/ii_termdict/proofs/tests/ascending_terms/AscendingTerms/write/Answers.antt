@@ -1,5 +1,5 @@
 use Rattle.std.proofs.Common.{◌≡◌, [], ◌∷◌, ◌++◌, sym, ◌∙◌, arith, length-append}
-use Rattle.ii_termstore.specs.TermInfos.{info_of}
+use Rattle.ii_termstore.specs.TermInfos.{term_info_from}
 use Rattle.ii_termstore.specs.ReadBackLemmas.{joined_more, end_at_last}
 use Rattle.ii_termdict.specs.ReadBackLemmas.{ascending_more, last_key}
 use Rattle.ii_termdict.proofs.SearchLemmas.{less_of}
@@ -31,5 +31,5 @@ invariant_of-self-2 g c =
       λ k end. last_key c.self.inside.builder.keys c.args.key.now k end ∙ sym items,
       joined_more _ _ c.self.invariant.2 c.self.invariant.3,
       end_at_last _ _,
-      λ e. let same = c.self.invariant.4 e in omega (arith, length-append c.self.inside.builder.keys (c.args.key.now ∷ []), length-append c.self.inside.builder.infos (info_of c.args.doc_freq c.self.inside.postings_end c.saturating_add.result c.self.inside.positions_end c.saturating_add-2.result ∷ [])),
+      λ e. let same = c.self.invariant.4 e in omega (arith, length-append c.self.inside.builder.keys (c.args.key.now ∷ []), length-append c.self.inside.builder.infos (term_info_from c.args.doc_freq c.self.inside.postings_end c.saturating_add.result c.self.inside.positions_end c.saturating_add-2.result ∷ [])),
     )

@@ -1,5 +1,5 @@
-use Rattle.std.proofs.Common.{◌≡◌}
-use Rattle.ii_termstore.proofs.GatherLemmas.{sound_more, on_ok_went}
+use Rattle.ii_io.specs.CountingWriterLemmas.{on_ok_went}
+use Rattle.ii_termstore.proofs.GatherLemmas.{sound_more}
 use Rattle.ii_termstore.proofs.term_info_store.store_writer.TermInfoStoreWriter.write_term_info.Goals as goal
 
 pub invariant_of-self-2 : goal.invariant_of-self-2
