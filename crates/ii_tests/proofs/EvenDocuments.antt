@@ -2,7 +2,6 @@
 use Rattle.std.proofs.Common.{◌≡◌, ℕ, zero, suc, ◌+◌, ◌*◌, ◌<◌, ◌≤◌, true, List, [], ◌∷◌, ◌++◌, length, false, refl, sym, ap, ◌∙◌, arith}
 use Rattle.std.proofs.lemmas.Bool.{le-leb, lt-ltb}
 use Rattle.ii_docset.specs.Entries.{ascend_from, are_documents}
-use Rattle.ii_layout.specs.PostingsSerializer.{PostingsSerializerState}
 
 -- so many even documents from a place on
 abbrev pub evens : ℕ → ℕ → List ℕ
@@ -38,8 +37,3 @@ length-evens_from first (suc n) = ap suc (length-evens_from (first + 2) n)
 
 pub length-evens : (n : ℕ) → n ≡ length (evens 0 n)
 length-evens n = length-evens_from 0 n
-
--- a serializer that was given one document more
-pub next_run : (old new : PostingsSerializerState) (n : ℕ) → old ≡ record { docs = evens 0 n; closed = false } → new ≡ record { docs = old.docs ++ (2 * n) ∷ []; closed = false }
-    → new ≡ record { docs = evens 0 (n + 1); closed = false }
-next_run old new n before after = after ∙ ap (λ (s : PostingsSerializerState). record { docs = s.docs ++ (2 * n) ∷ []; closed = false }) before ∙ ap (λ (docs : List ℕ). record { docs = docs; closed = false }) (next_even n)

@@ -6,9 +6,11 @@ use Rattle.std.proofs.lemmas.Str.{IsUtf8-from_is_utf8, is_utf8-from_IsUtf8}
 use Rattle.std.proofs.lemmas.List.{append-nil, length-map}
 use Rattle.ii_docset.proofs.CursorLemmas.{ascending, length_below}
 use Rattle.ii_docset.specs.Entries.{document, are_documents}
+use Rattle.ii_base.specs.declared.schema.index_record_option.IndexRecordOption.{IndexRecordOption}
 use Rattle.ii_base.specs.declared.schema.index_record_option.IndexRecordOption.TheVariants.{Basic}
+use Rattle.ii_io.specs.CountingWriter.{CountingWriterState, Wrote}
 use Rattle.ii_layout.specs.Postings.{posting_list}
-use Rattle.ii_layout.specs.Written.{written_documents, ReadsDocumentsBack}
+use Rattle.ii_layout.specs.Written.{written_documents, written_postings, ReadsDocumentsBack}
 use Rattle.iiq.specs.Commands.{Command, command_of}
 use Rattle.iiq.specs.Output.{with_ends, command_texts, maybe_texts, reply_to}
 
@@ -42,6 +44,10 @@ few_documents docs h =
     let many = length-map docs document in
     omega arith
 
+-- what is written of documents alone
+pub written_alone : (shape : IndexRecordOption) (docs freqs want : List ℕ) → shape ≡ Basic → docs ≡ want → written_postings shape docs freqs ≡ written_documents want
+written_alone shape docs freqs want shape_is docs_are = λ j. written_postings (shape_is j) (docs_are j) freqs
+
 -- what is written opens as its list
 pub opens_written : (docs bytes : List ℕ) → ReadsDocumentsBack → are_documents docs ≡ true → bytes ≡ written_documents docs → posting_list Basic Basic (length docs) bytes ≡ Ok (map document docs)
 opens_written docs bytes law h e =
@@ -54,3 +60,7 @@ ok_is r x y p q = cc
 
 pub ok_no_err : {A E : Type 0} (r : Result A E) (x : A) (y : E) → r ≡ Ok x → r ≡ Err y → ⊥
 ok_no_err r x y p q = cc
+
+-- a writer over no bytes holds what was written
+pub holds_all : (old new : CountingWriterState) (items bytes : List ℕ) → old.contents ≡ Some [] → Some items ≡ new.contents → Wrote old new bytes → items ≡ bytes
+holds_all old new items bytes start end wrote = rw (start, ← end) at wrote.appends

@@ -1,5 +1,10 @@
 use Rattle.std.proofs.Common.{◌≡◌, take, false}
+use Rattle.ii_base.specs.declared.schema.index_record_option.IndexRecordOption.TheVariants.{Basic}
 use Rattle.iiq.proofs.output.written.Given as goal
 
 abbrev pub invariant-loop-doc : goal.invariant-loop-doc
-invariant-loop-doc l = l.serializer ≡ record { docs = take l.doc-index l.docs; closed = false }
+invariant-loop-doc l = record {
+  docs_are : l.serializer.docs ≡ take l.doc-index l.docs;
+  shape : l.serializer.skip_info ≡ Basic;
+  going : l.serializer.closed ≡ false;
+}
