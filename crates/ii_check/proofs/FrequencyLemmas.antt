@@ -73,12 +73,6 @@ freqs_all skip i n after end c =
     let read : each (block_freqs skip) (length skip.entries) ≡ Some c.0 = ap (each (block_freqs skip)) (sym end) ∙ c.1 in
     rw read (rest_cases c.0 (u32s_at n after))
 
--- what is asked of the sum of a block's counts
-pub no_sum : (skip_info : IndexRecordOption) (tf_sum : ℕ) (freqs : List ℕ) → has_positions skip_info ≡ false → has_sum skip_info tf_sum freqs ≡ true
-no_sum Basic tf_sum freqs e = refl
-no_sum WithFreqs tf_sum freqs e = refl
-no_sum WithFreqsAndPositions tf_sum freqs e = absurd (cc)
-
 pub some_sum : (skip_info : IndexRecordOption) (tf_sum : ℕ) (freqs : List ℕ) → has_positions skip_info ≡ true → has_sum skip_info tf_sum freqs ≡ eqb (sum freqs) tf_sum
 some_sum Basic tf_sum freqs e = absurd (cc)
 some_sum WithFreqs tf_sum freqs e = absurd (cc)

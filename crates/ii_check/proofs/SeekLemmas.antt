@@ -49,13 +49,3 @@ seeks_block p old new bytes target g at d s =
     let info : old.skip_info ≡ p.postings.skip.skip_info = ap (λ (r : SkipReaderState). r.skip_info) at.reader in
     let freq : old.doc_freq ≡ p.doc_freq = ap (λ (r : SkipReaderState). r.doc_freq) at.reader in
     seeks_given p target old.block new.block g (rw (info, freq, ← d.entries) at s)
-
--- a reader that sought stands at a block
-pub at_after : (p : CheckedPostingsState) (old new : SkipReaderState) (bytes : List ℕ) (target : ℕ) → AreGiven p → IsAtBlock p old → IsSkipData p bytes → Seeks target (old.doc_freq / 128) (entries_at old.skip_info (old.doc_freq / 128) bytes) old.block new.block
-    → new ≡ reader_at old.skip_info old.doc_freq (entries_at old.skip_info (old.doc_freq / 128) bytes) new.block → IsAtBlock p new
-at_after p old new bytes target g at d s e =
-    let info : old.skip_info ≡ p.postings.skip.skip_info = ap (λ (r : SkipReaderState). r.skip_info) at.reader in
-    let freq : old.doc_freq ≡ p.doc_freq = ap (λ (r : SkipReaderState). r.doc_freq) at.reader in
-    let was = at.within in
-    let within = s.within in
-    record { reader = rw (info, freq, ← d.entries) at e; within = omega arith }

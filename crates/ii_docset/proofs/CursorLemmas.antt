@@ -60,9 +60,6 @@ ended [] (suc i) h = refl
 ended (d ∷ ds) zero h = absurd (omega arith)
 ended (d ∷ ds) (suc i) h = ended ds i (omega arith)
 
-pub doc_at_end : (docs : List ℕ) (i : ℕ) → length docs ≤ i → 2147483647 ≡ doc_at (drop i (map document docs))
-doc_at_end docs i h = rw (ended docs i h) refl
-
 -- documents in order are an ascending list, and no others are
 pub and_parts : (a b c : Bool) → (a && b && c) ≡ true → (a ≡ true) × (b ≡ true) × (c ≡ true)
 and_parts true true c h = (refl, refl, h)

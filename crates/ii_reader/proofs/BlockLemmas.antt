@@ -47,11 +47,6 @@ length-block_of xs ys block e =
     let others = length-drop (128 * block) ys in
     omega arith
 
--- the count of a document, 1 where counts aren't read
-pub freq_unread : (o : Option (List ℕ)) (block idx : ℕ) → is_some o ≡ false → 1 ≡ freq_in_block o block idx
-freq_unread None block idx none = refl
-freq_unread (Some freqs) block idx none = absurd (cc)
-
 pub freq_held : (o : Option (List ℕ)) (docs : List ℕ) (n block idx freq : ℕ) (decoder : BlockDecoderState) → HoldsFreqs o block decoder → is_some o ≡ true → length docs ≡ n → ((fs : List ℕ) → o ≡ Some fs → AreFreqs n fs)
     → (IsSome o → idx < length (block_of docs block)) → freq ≡ get_or decoder.output idx 0 → freq ≡ freq_in_block o block idx
 freq_held None docs n block idx freq decoder h some many all within e = absurd (cc)

@@ -100,61 +100,6 @@ is_sought target docs i k below f =
       after = λ n low high. after_cases target docs i k below n (nat_lt below (length (block_of docs k))) f refl low high;
     }
 
--- a cursor that went to another block
-pub record Jumps (p : CheckedPostingsState) (skip skip' : SkipReaderState) (docs docs' freqs freqs' : BlockDecoderState) : Type 0 where
-  pub was : IsLoaded p skip docs freqs
-  pub at : IsAtBlock p skip'
-  pub further : skip.block < skip'.block
-  pub loads : LoadsBlock p.postings skip'.block docs docs' freqs freqs'
-
-freq_jump : (o : Option (List ℕ)) (block : ℕ) (old new : BlockDecoderState) → LoadsFreqs o block old new → new.decodes ≤ old.decodes + 1
-freq_jump None block old new loads =
-    let same = ap (λ (d : BlockDecoderState). d.decodes) loads in
-    omega arith
-freq_jump (Some freqs) block old new loads =
-    let count = loads.decodes in
-    let most = decodes_most (length (block_of freqs block)) in
-    omega arith
-
-doc_jump : (p : CheckedPostingsState) (skip skip' : SkipReaderState) (docs docs' freqs freqs' : BlockDecoderState) → Jumps p skip skip' docs docs' freqs freqs' → docs'.decodes ≤ docs.decodes + 1
-doc_jump p skip skip' docs docs' freqs freqs' m =
-    let count = m.loads.docs_are.decodes in
-    let most = decodes_most (length (block_of p.postings.docs skip'.block)) in
-    omega arith
-
-pub jumped_loaded : (p : CheckedPostingsState) (skip skip' : SkipReaderState) (docs docs' freqs freqs' : BlockDecoderState) → Jumps p skip skip' docs docs' freqs freqs' → IsLoaded p skip' docs' freqs'
-jumped_loaded p skip skip' docs docs' freqs freqs' m =
-    let further = m.further in
-    let had = m.was.doc_decodes in
-    let freq_had = m.was.freq_decodes in
-    let count = doc_jump p skip skip' docs docs' freqs freqs' m in
-    let counts = freq_jump p.postings.freqs skip'.block freqs freqs' m.loads.freqs_are in
-    record {
-      has = m.was.has;
-      at = m.at;
-      docs_held = m.loads.docs_are.holds;
-      freqs_held = freqs_loaded p.postings.freqs skip.block skip'.block freqs freqs' m.was.freqs_held m.loads.freqs_are;
-      doc_decodes = omega arith;
-      freq_decodes = omega arith;
-    }
-
-pub jumped_goes : (p : CheckedPostingsState) (skip skip' : SkipReaderState) (docs docs' freqs freqs' : BlockDecoderState) → Jumps p skip skip' docs docs' freqs freqs' → GoesTo (state_of p skip docs freqs) (state_of p skip' docs' freqs') skip'.block
-jumped_goes p skip skip' docs docs' freqs freqs' m =
-    let further = m.further in
-    let count = doc_jump p skip skip' docs docs' freqs freqs' m in
-    let counts = freq_jump p.postings.freqs skip'.block freqs freqs' m.loads.freqs_are in
-    record { docs = refl; freqs = refl; freq_reading = refl; block = refl; doc_decodes = omega arith; freq_decodes = omega arith }
-
--- a cursor that stayed
-pub stayed_loaded : (p : CheckedPostingsState) (skip skip' : SkipReaderState) (docs freqs : BlockDecoderState) → IsLoaded p skip docs freqs → IsAtBlock p skip' → skip.block ≤ skip'.block → nat_lt skip.block skip'.block ≡ false → IsLoaded p skip' docs freqs
-stayed_loaded p skip skip' docs freqs l at forward test =
-    let back = ltb-false skip.block skip'.block test in
-    let same : skip'.block ≡ skip.block = omega arith in
-    record { has = l.has; at = at; docs_held = rw same l.docs_held; freqs_held = rw same l.freqs_held; doc_decodes = rw same l.doc_decodes; freq_decodes = rw same l.freq_decodes }
-
-pub stayed_goes : (p : CheckedPostingsState) (skip skip' : SkipReaderState) (docs freqs : BlockDecoderState) → GoesTo (state_of p skip docs freqs) (state_of p skip' docs freqs) skip'.block
-stayed_goes p skip skip' docs freqs = record { docs = refl; freqs = refl; freq_reading = refl; block = refl; doc_decodes = omega arith; freq_decodes = omega arith }
-
 pub entries_are : (p : CheckedPostingsState) → HasDocuments p → AreEntries (length p.postings.docs) p.postings.docs p.postings.freqs
 entries_are p h =
     let many = h.many in
@@ -168,17 +113,6 @@ dropped target es m (suc n) up less =
     let next : m + suc n ≡ m + n + 1 = omega arith in
     let step = from_doc_step target (drop (m + n) es) (less (m + n) (omega arith) (omega arith)) up in
     earlier ∙ sym step ∙ ap (from_doc target) (sym (advanced es (m + n)) ∙ ap (λ (k : ℕ). drop k es) (sym next))
-
--- a count with one more document below the target
-pub below_more : (docs : List ℕ) (target below doc : ℕ) → ((n : ℕ) → n < below → get_or docs n 0 < target) → doc ≡ get_or docs below 0 → doc < target → (n : ℕ) → n < below + 1 → get_or docs n 0 < target
-below_more docs target below doc before doc_is less n high = cases (nat_lt n below) refl
-  where
-    cases : (t : Bool) → nat_lt n below ≡ t → get_or docs n 0 < target
-    cases true test = before n (ltb-true n below test)
-    cases false test =
-        let past = ltb-false n below test in
-        let same : n ≡ below = omega arith in
-        rw (same, ← doc_is) less
 
 -- where a seek leaves a cursor over entries
 doc_low : (target : ℕ) (docs : List ℕ) (es : List Entry) (i k below m n : ℕ) → IsSought target docs i k below → map (λ (e : Entry). e.doc) es ≡ docs → 128 * i ≤ m → m ≤ n → n < 128 * k + below → n < length docs → doc_at (drop n es) < target

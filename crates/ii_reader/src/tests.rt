@@ -4,7 +4,6 @@ use ii_base::{HasLen, IndexRecordOption, LayoutFault, Part};
 use ii_check::FreqReadingOption;
 use ii_docset::{DocSet, TERMINATED};
 use std::alloc::Global;
-use std::test::Fail;
 
 const BASIC: IndexRecordOption = IndexRecordOption::Basic;
 
@@ -279,13 +278,36 @@ fn documents_are_looked_at_before_counts(rt: HostRuntime) {
 }
 
 #[test]
-fn seeks_by_the_default_body(rt: HostRuntime) -> Result<(), Fail> {
+fn seeks_pass_over_blocks(rt: HostRuntime) {
     let opened = SegmentPostings::open(130, Bytes::from_static(&LONG), None, BASIC, BASIC);
     let Ok(mut cursor) = opened else {
-        return Ok(());
+        assert!(rt; false, "a list of 130");
+        return;
     };
     assert_eq!(rt; cursor.doc(), 0);
+    assert_eq!(rt; cursor.seek(0), 0);
+    assert_eq!(rt; cursor.seek(100), 100);
     assert_eq!(rt; cursor.seek(128), 129);
     assert_eq!(rt; cursor.advance(), 130);
-    Ok(())
+    assert_eq!(rt; cursor.seek(TERMINATED), TERMINATED);
+    assert_eq!(rt; cursor.seek(0), TERMINATED);
+}
+
+#[test]
+fn blocks_are_sought(rt: HostRuntime) {
+    let opened = BlockSegmentPostings::open(130, Bytes::from_static(&LONG), BASIC, BASIC);
+    let Ok(mut cursor) = opened else {
+        assert!(rt; false, "a list of 130");
+        return;
+    };
+    assert_eq!(rt; cursor.block_len(), 128);
+    assert_eq!(rt; cursor.seek(5), 5);
+    assert_eq!(rt; cursor.seek(129), 0);
+    assert_eq!(rt; cursor.docs(), [129, 130].as_slice());
+    assert_eq!(rt; cursor.seek(131), 2);
+    cursor.advance();
+    assert_eq!(rt; cursor.block_len(), 0);
+    assert_eq!(rt; cursor.seek(0), 0);
+    let mut none = BlockSegmentPostings::empty();
+    assert_eq!(rt; none.seek(TERMINATED), 0);
 }

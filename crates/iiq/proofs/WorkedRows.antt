@@ -76,10 +76,6 @@ pub row_counts_unrecorded : reply_to (codes "open b f 3 808288") ≡ codes "0 2 
 unfolding is_utf8 chars digits lib.Utf8.encode decode_pairs u32_at
 row_counts_unrecorded = refl
 
-pub row_counts_of_positions : reply_to (codes "open p f 3 808288818283") ≡ codes "0:1 2:2 10:3\n"
-unfolding is_utf8 chars digits lib.Utf8.encode decode_pairs u32_at
-row_counts_of_positions = refl
-
 pub row_positions : reply_to (codes "open p p 3 808288818283 80") ≡ codes "error line\n"
 unfolding is_utf8 chars digits lib.Utf8.encode decode_pairs
 row_positions = refl

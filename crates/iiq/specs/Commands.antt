@@ -3,7 +3,7 @@ use Rattle.std.specs.Prelude.{ℕ, ◌^◌, Bool, true, not, List, [], ◌∷◌
 use Rattle.std.specs.Str.{bytes_eq}
 use Rattle.ii_base.specs.declared.schema.index_record_option.IndexRecordOption.{IndexRecordOption}
 use Rattle.ii_base.specs.declared.schema.index_record_option.IndexRecordOption.TheVariants.{Basic, WithFreqs, WithFreqsAndPositions}
-use Rattle.ii_base.specs.Options.{downgrade, has_positions}
+use Rattle.ii_base.specs.Options.{has_positions}
 use Rattle.ii_io.specs.Steps.{◌>>=◌, needs}
 use Rattle.ii_docset.specs.declared.docset.TheConstants.{TERMINATED}
 use Rattle.ii_docset.specs.Entries.{are_documents}
@@ -58,10 +58,10 @@ words_command (word ∷ words) =
     else if bytes_eq word (codes "open") then open_command words
     else None
 
--- Lists with positions are answered by a later version.
+-- Lists of fields that record positions are answered by a later version.
 abbrev pub is_built : Command → Bool
 is_built (show_ids docs) = true
-is_built (open_list recorded requested doc_freq bytes positions) = not (has_positions (downgrade recorded requested))
+is_built (open_list recorded requested doc_freq bytes positions) = not (has_positions recorded)
 
 -- a command that is answered yet
 abbrev pub built : Option Command → Option Command

@@ -1,5 +1,5 @@
 ghost use Rattle.std.specs.Prelude.{◌≡◌, false, IsTrue, IfOk, string_bytes, option_map, map};
-ghost use Rattle.ii_base.specs.Options.{downgrade, has_positions};
+ghost use Rattle.ii_base.specs.Options.{has_positions};
 ghost use Rattle.ii_docset.specs.Entries.{are_documents, document};
 ghost use Rattle.ii_layout.specs.Written.{written_documents};
 ghost use Rattle.iiq.specs.Commands.{show_ids, built, ids_command, open_command, command_of};
@@ -94,8 +94,7 @@ fn open_reply(alloc: Global, words: &mut Parts<'_>) -> Result<Option<String>, Al
     let Some(opening) = list_to_open(alloc, words)? else {
         return Ok(None);
     };
-    let option = opening.record_option.downgrade(opening.requested_option);
-    if option.has_positions() {
+    if opening.record_option.has_positions() {
         return Ok(None);
     }
     Ok(Some(open_text(alloc, opening)?))
@@ -103,7 +102,7 @@ fn open_reply(alloc: Global, words: &mut Parts<'_>) -> Result<Option<String>, Al
 
 // The list that bytes give, or the part of them that is damaged.
 fn open_text(alloc: Global, opening: Opening) -> Result<String, AllocError>
-    requires { has_positions (downgrade opening.record_option opening.requested_option) ≡ false }
+    requires { has_positions opening.record_option ≡ false }
     ensures { IfOk result (λ text. string_bytes text ≡ with_ends (command_texts (opening_command opening))) }
 {
     let mut text = String::new(alloc);
