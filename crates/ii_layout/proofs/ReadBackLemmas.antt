@@ -363,7 +363,7 @@ module _ (skip_info : IndexRecordOption) (docs freqs : List ℕ) where
           let later = flat_map (block_bytes skip_info docs freqs) (range_with_len (i + 1) left.0) ++ after in
           let entry = entry_of-is n i within in
           let place = block_at_place after n i left.0 left.1 in
-          let behind = drop_at (sorted_bytes (last_before docs i) (block_of docs i)) (packed_freqs skip_info (block_of freqs i) ++ (flat_map (block_bytes skip_info docs freqs) (range_with_len (i + 1) left.0) ++ after))
+          let after_docs = drop_at (sorted_bytes (last_before docs i) (block_of docs i)) (packed_freqs skip_info (block_of freqs i) ++ (flat_map (block_bytes skip_info docs freqs) (range_with_len (i + 1) left.0) ++ after))
           (16 * sorted_width (last_before docs i) (block_of docs i)) (length-packed (sorted_width (last_before docs i) (block_of docs i)) (sorted_entries true (last_before docs i) (block_of docs i)))
           in
           let some : (k : ℕ) → k < 128 → 0 < get_or (block_of freqs i) k 0 =
@@ -373,7 +373,7 @@ module _ (skip_info : IndexRecordOption) (docs freqs : List ℕ) where
           (freqs_block skip_info docs freqs i (counts has) (omega arith)) some
           in
           let here : packed_freqs skip_info (block_of freqs i) ≡ unsorted_bytes true (block_of freqs i) = rw has refl in
-          rw (entry, place, behind, width_is skip_info (block_of freqs i) has, here, read, sum_is skip_info (block_of freqs i)) refl
+          rw (entry, place, after_docs, width_is skip_info (block_of freqs i) has, here, read, sum_is skip_info (block_of freqs i)) refl
 
       freqs_fit : (n : ℕ) → AllByRecursion (λ v. v < 2 ^ 32) (drop (128 * n) freqs)
       freqs_fit n =

@@ -145,7 +145,7 @@ pub fn decode_block_wand_max_tf(max_tf_code: u8) -> u32
 /// What a skip list tells of a block.
 #[derive(Clone, Copy, Debug, PartialEq, Eq)]
 pub enum BlockInfo {
-    /// A full block. A number that its entry lacks is 0.
+    /// A full block. A number that is missing in its entry is 0.
     BitPacked {
         /// The width of the documents' deltas, below 32.
         doc_num_bits: u8,

@@ -91,7 +91,7 @@ fn counts_that_are_not_asked_for_are_not_read(rt: HostRuntime) {
         return;
     };
     assert_eq!(rt; cursor.count_including_deleted(), 3);
-    // the counts of a block take their place, and need not be there behind the last one
+    // the counts of a block take their place, and need not be there after the last one
     let bytes = Bytes::from_static(&[0x88, 0x7F, 0, 0, 0, 0x40, 2, 0, 0]);
     let opened = SegmentPostings::open(128, bytes, None, with_freqs, BASIC);
     let Ok(mut cursor) = opened else {

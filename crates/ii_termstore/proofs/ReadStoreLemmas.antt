@@ -292,7 +292,7 @@ or_true : (a : Bool) → (a || true) ≡ true
 or_true true = refl
 or_true false = refl
 
--- block b is lawful
+-- block b is valid
 block_read : (law : ReadsFromItsPlace) (infos : List TermInfo) (rest : List ℕ) → AreStorable infos → AreJoined infos → (b : ℕ) (m : Meta) → 256 * b < length infos → IsMetaOf infos b m
     → is_block m (block_terms (length infos) b) (bits_and infos rest) ≡ true
 unfolding is_block
@@ -345,7 +345,7 @@ unfolding term_store term_info_at
 reads_store_back law widths infos rest h joined =
     let metas = metas_and infos (bits_and infos rest) in
     let bits = bits_and infos rest in
-    let lawful : are_blocks (length infos) (metas_and infos (bits_and infos rest)) (bits_and infos rest) ≡ true =
+    let stand : are_blocks (length infos) (metas_and infos (bits_and infos rest)) (bits_and infos rest) ≡ true =
     all_pass (has_block (metas_and infos (bits_and infos rest)) (bits_and infos rest) (length infos)) (block_count (length infos))
     (λ b within.
     let start : 256 * b < length infos = omega arith in
@@ -357,4 +357,4 @@ reads_store_back law widths infos rest h joined =
     let place : 256 * (i / 256) + i % 256 ≡ i = omega arith in
     rw (meta_read widths infos (bits_and infos rest) h joined (i / 256) (omega arith))
     (sym (term_read law infos rest h joined (i / 256) (meta_at_block infos (i / 256)) start (meta_known widths infos h joined (i / 256) start) (i % 256) (omega arith) ∙ ap (info_in infos) place))) in
-    rw (parts_read infos rest h, lawful) (ap (λ (is : List TermInfo). Some is) (sym each))
+    rw (parts_read infos rest h, stand) (ap (λ (is : List TermInfo). Some is) (sym each))
