@@ -8,4 +8,5 @@ pub mod SkipReaderLemmas
 pub mod SkipWriting
 pub mod SplitLemmas
 pub mod WorkedRows
+pub mod PositionRows
 pub mod WrittenLaws

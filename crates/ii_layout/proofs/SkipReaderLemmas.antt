@@ -1,6 +1,6 @@
 -- Entries as a reader finds them.
-use Rattle.std.proofs.Common.{◌≡◌, ℕ, suc, ◌+◌, ◌*◌, ◌/◌, ◌%◌, ◌<◌, ◌≤◌, Bool, true, false, min, max, nat_lt, List, [], ◌∷◌, length, take, drop, Some, refl, sym, ap, ◌∙◌, arith}
-use Rattle.std.proofs.lemmas.Bool.{le-leb, lt-leb, lt-ltb, le-ltb, ltb-true, ltb-false, eq-eqb, ne_eqb}
+use Rattle.std.proofs.Common.{◌≡◌, ℕ, suc, ◌+◌, ◌*◌, ◌/◌, ◌%◌, ◌<◌, ◌≤◌, Bool, min, max, nat_lt, List, [], ◌∷◌, length, take, drop, Some, refl, sym, ap, ◌∙◌, arith}
+use Rattle.std.proofs.lemmas.Bool.{le-leb, lt-leb, lt-ltb, le-ltb, eq-eqb, ne_eqb}
 use Rattle.std.proofs.lemmas.List.{take_more}
 use Rattle.std.proofs.lemmas.List.Sums.{sum_by-append}
 use Rattle.std.proofs.lemmas.List.FromFn.{length-map-range_with_len, get_or-map-range_with_len}
@@ -10,7 +10,7 @@ use Rattle.ii_layout.specs.declared.skip.BlockInfo.{BlockInfo}
 use Rattle.ii_layout.specs.declared.skip.BlockInfo.TheVariants.{VInt}
 use Rattle.ii_layout.specs.SkipList.{SkipEntry, no_entry, entry_at, entry_size, entries_at, block_size, block_place}
 use Rattle.ii_layout.specs.Documents.{entry_of, last_doc_before}
-use Rattle.ii_layout.specs.SkipReader.{SkipReaderState, Seeks, block_info_of, packed_size_of, reader_at}
+use Rattle.ii_layout.specs.SkipReader.{SkipReaderState, block_info_of, packed_size_of, reader_at}
 use Rattle.byteorder.specs.Endian.{little_number}
 use Rattle.ii_io.specs.Numbers.{little_endian, number_at}
 use Rattle.ii_io.specs.NumberLemmas.{number_at-some}

@@ -4,6 +4,8 @@ pub mod Documents
 pub mod Frequencies
 pub mod Postings
 pub mod Written
+pub mod Positions
+pub mod TermList
 pub mod PostingsSerializer
 pub mod SkipReader
 pub mod SkipSerializer

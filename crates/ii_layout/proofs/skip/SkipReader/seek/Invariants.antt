@@ -1,4 +1,4 @@
-use Rattle.std.proofs.Common.{◌≡◌, ◌/◌, ◌-◌}
+use Rattle.std.proofs.Common.{◌/◌, ◌-◌}
 use Rattle.ii_layout.specs.SkipList.{entries_at}
 use Rattle.ii_layout.proofs.SkipReaderLemmas.{IsSeeking}
 use Rattle.ii_layout.proofs.skip.SkipReader.seek.Given as goal
