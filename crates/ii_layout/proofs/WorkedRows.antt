@@ -92,14 +92,20 @@ unfolding entry_at
 row_long = refl
 
 pub row_walk : reader_at WithFreqs 259 (entries_at WithFreqs 2 (1 ∷ 0 ∷ 0 ∷ 0 ∷ 0x42 ∷ 3 ∷ 0x0D ∷ 3 ∷ 5 ∷ 0 ∷ 0 ∷ 0 ∷ 0x45 ∷ 2 ∷ 8 ∷ 2 ∷ [])) 1
-    ≡ record { skip_info = WithFreqs; doc_freq = 259; block = 1; last_doc_in_block = 5; last_doc_in_previous_block = 1; byte_offset = 80; block_info = BitPacked 5 true 2 0 8 2; entries_read = 2 }
+    ≡ record { skip_info = WithFreqs; doc_freq = 259; block = 1; last_doc_in_block = 5; last_doc_in_previous_block = 1; byte_offset = 80; position_offset = 0; block_info = BitPacked 5 true 2 0 8 2; entries_read = 2 }
 unfolding entry_at
 row_walk = refl
 
 pub row_walk_end : reader_at WithFreqs 259 (entries_at WithFreqs 2 (1 ∷ 0 ∷ 0 ∷ 0 ∷ 0x42 ∷ 3 ∷ 0x0D ∷ 3 ∷ 5 ∷ 0 ∷ 0 ∷ 0 ∷ 0x45 ∷ 2 ∷ 8 ∷ 2 ∷ [])) 2
-    ≡ record { skip_info = WithFreqs; doc_freq = 259; block = 2; last_doc_in_block = 2147483647; last_doc_in_previous_block = 5; byte_offset = 192; block_info = VInt 3; entries_read = 2 }
+    ≡ record { skip_info = WithFreqs; doc_freq = 259; block = 2; last_doc_in_block = 2147483647; last_doc_in_previous_block = 5; byte_offset = 192; position_offset = 0; block_info = VInt 3; entries_read = 2 }
 unfolding entry_at
 row_walk_end = refl
+
+-- after a block with 384 positions
+pub row_walk_positions : reader_at WithFreqsAndPositions 130 (entries_at WithFreqsAndPositions 1 (0x7F ∷ 0 ∷ 0 ∷ 0 ∷ 0x40 ∷ 2 ∷ 0x80 ∷ 1 ∷ 0 ∷ 0 ∷ 0 ∷ 0 ∷ [])) 1
+    ≡ record { skip_info = WithFreqsAndPositions; doc_freq = 130; block = 1; last_doc_in_block = 2147483647; last_doc_in_previous_block = 127; byte_offset = 32; position_offset = 384; block_info = VInt 2; entries_read = 1 }
+unfolding entry_at
+row_walk_positions = refl
 
 -- a width of counts above 32
 pub row_wide : posting_list WithFreqs Basic 128 (0x88 ∷ 0x7F ∷ 0 ∷ 0 ∷ 0 ∷ 0x40 ∷ 0x21 ∷ 0 ∷ 0 ∷ []) ≡ Err Skip

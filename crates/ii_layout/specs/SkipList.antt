@@ -104,6 +104,10 @@ block_size e = 16 * (e.doc_num_bits + e.tf_num_bits)
 abbrev pub block_place : List SkipEntry → ℕ → ℕ
 block_place entries i = sum_by block_size (take i entries)
 
+-- the counts of all blocks before block i, summed up where entries have their sums
+abbrev pub tf_sum_before : List SkipEntry → ℕ → ℕ
+tf_sum_before entries i = sum_by (λ (e : SkipEntry). e.tf_sum) (take i entries)
+
 -- the skip list whose entries and body begin at these places
 abbrev pub skip_list_at : IndexRecordOption → ℕ → List ℕ → ℕ → ℕ → SkipList
 skip_list_at skip_info blocks bytes entries body = record { skip_info = skip_info; entries = entries_at skip_info blocks (drop entries bytes); body = drop body bytes }

@@ -4,7 +4,7 @@ use Rattle.ii_base.specs.declared.schema.index_record_option.IndexRecordOption.{
 use Rattle.ii_docset.specs.declared.docset.TheConstants.{TERMINATED}
 use Rattle.ii_layout.specs.declared.skip.BlockInfo.{BlockInfo}
 use Rattle.ii_layout.specs.declared.skip.BlockInfo.TheVariants.{BitPacked, VInt}
-use Rattle.ii_layout.specs.SkipList.{SkipEntry, block_place}
+use Rattle.ii_layout.specs.SkipList.{SkipEntry, block_place, tf_sum_before}
 use Rattle.ii_layout.specs.Documents.{entry_of, last_doc_before}
 
 -- the count that a byte of a bound codes: the largest byte is any count
@@ -29,6 +29,11 @@ abbrev pub tf_num_bits_of : BlockInfo → ℕ
 tf_num_bits_of (BitPacked doc_num_bits strict_delta tf_num_bits tf_sum norm term_freq) = tf_num_bits
 tf_num_bits_of (VInt n) = 0
 
+-- the sum of a block's counts
+abbrev pub tf_sum_of : BlockInfo → ℕ
+tf_sum_of (BitPacked doc_num_bits strict_delta tf_num_bits tf_sum norm term_freq) = tf_sum
+tf_sum_of (VInt n) = 0
+
 pub record SkipReaderState : Type 0 where
   pub skip_info : IndexRecordOption
   pub doc_freq : ℕ
@@ -36,6 +41,7 @@ pub record SkipReaderState : Type 0 where
   pub last_doc_in_block : ℕ
   pub last_doc_in_previous_block : ℕ
   pub byte_offset : ℕ
+  pub position_offset : ℕ
   pub block_info : BlockInfo
   pub entries_read : ℕ
 
@@ -50,6 +56,7 @@ reader_at skip_info doc_freq entries i =
       last_doc_in_block = if nat_lt i blocks then (entry_of entries i).last_doc else TERMINATED;
       last_doc_in_previous_block = if nat_le i blocks then last_doc_before entries i else TERMINATED;
       byte_offset = if nat_le i blocks then block_place entries i else 2 ^ 64 - 1;
+      position_offset = tf_sum_before entries i;
       block_info = if nat_lt i blocks then block_info_of (entry_of entries i) else VInt (if i == blocks then doc_freq % 128 else 0);
       entries_read = min (i + 1) blocks;
     }

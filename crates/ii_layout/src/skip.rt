@@ -1,8 +1,8 @@
-ghost use Rattle.std.specs.Prelude.{◌≡◌, ◌+◌, ◌*◌, ◌/◌, ◌<◌, ◌≤◌, min, [], ◌∷◌, ◌++◌, false, true, length, drop, nat_lt, if◌then◌else◌};
+ghost use Rattle.std.specs.Prelude.{◌≡◌, ◌+◌, ◌*◌, ◌/◌, ◌^◌, ◌<◌, ◌≤◌, min, [], ◌∷◌, ◌++◌, false, true, length, drop, nat_lt, if◌then◌else◌};
 ghost use Rattle.ii_io.specs.Numbers.{le_bytes};
 ghost use Rattle.ii_layout.specs.SkipList.{width_of_code, strict_of_code, entry_size, entry_at, entries_at};
 ghost use Rattle.ii_docset.specs.declared.docset.TheConstants.{TERMINATED};
-ghost use Rattle.ii_layout.specs.SkipReader.{Seeks, max_tf_of_code, code_of_max_tf, block_info_of, packed_size_of, reader_at};
+ghost use Rattle.ii_layout.specs.SkipReader.{Seeks, max_tf_of_code, code_of_max_tf, block_info_of, packed_size_of, tf_sum_of, reader_at};
 ghost use Rattle.ii_layout.specs.SkipSerializer.{Adds};
 ghost use Rattle.ii_layout.specs.Written.{code_of_width};
 
@@ -263,6 +263,17 @@ fn packed_size(info: BlockInfo) -> usize
     }
 }
 
+// The sum of a block's counts.
+fn tf_sum(info: BlockInfo) -> u64
+    ensures sum { result ≡ tf_sum_of info }
+    ensures small { result < 2 ^ 32 }
+{
+    match info {
+        BlockInfo::BitPacked { tf_sum, .. } => u64::from(tf_sum),
+        BlockInfo::VInt { .. } => 0,
+    }
+}
+
 /// A reader of a term's skip list. It keeps places alone: each call that reads an entry is lent the
 /// bytes of the skip list.
 #[derive(Drop)]
@@ -273,12 +284,13 @@ pub struct SkipReader {
     last_doc_in_block: DocId,
     last_doc_in_previous_block: DocId,
     byte_offset: usize,
+    position_offset: u64,
     block_info: BlockInfo,
     entries_read: Tally,
 }
 
 impl Model for SkipReader {
-    ghost use Rattle.std.specs.Prelude.{◌+◌, ◌*◌, ◌/◌, ◌≤◌};
+    ghost use Rattle.std.specs.Prelude.{◌+◌, ◌-◌, ◌*◌, ◌/◌, ◌^◌, ◌≤◌};
     ghost use Rattle.ii_layout.specs.SkipReader.{SkipReaderState};
 
     ghost Value = { SkipReaderState };
@@ -290,11 +302,13 @@ impl Model for SkipReader {
       last_doc_in_block = r.last_doc_in_block;
       last_doc_in_previous_block = r.last_doc_in_previous_block;
       byte_offset = r.byte_offset;
+      position_offset = r.position_offset;
       block_info = r.block_info;
       entries_read = r.entries_read.value;
     } };
 
-    ghost invariant = { λ r. (r.block ≤ r.doc_freq / 128 + 1) × (r.block ≤ r.doc_freq / 128 → r.byte_offset ≤ 8160 * r.block) };
+    ghost invariant = { λ r. (r.block ≤ r.doc_freq / 128 + 1) × (r.block ≤ r.doc_freq / 128 → r.byte_offset ≤ 8160 * r.block)
+        × (r.position_offset ≤ (2 ^ 32 - 1) * r.block) };
 }
 
 impl SkipReader {
@@ -311,6 +325,7 @@ impl SkipReader {
             last_doc_in_block: TERMINATED,
             last_doc_in_previous_block: 0,
             byte_offset: 0,
+            position_offset: 0,
             block_info: BlockInfo::VInt { num_docs: doc_freq },
             entries_read: Tally::new(),
         };
@@ -352,6 +367,7 @@ impl SkipReader {
         }
         self.block += 1;
         self.byte_offset += packed_size(self.block_info);
+        self.position_offset += tf_sum(self.block_info);
         if self.block == blocks {
             self.last_doc_in_block = TERMINATED;
             self.block_info = BlockInfo::VInt {
@@ -408,6 +424,14 @@ impl SkipReader {
         self.byte_offset
     }
 
+    /// How many positions come before the block: the sum of the counts of all blocks before it, where
+    /// entries have these sums, and else 0.
+    pub fn position_offset(&self) -> u64
+        ensures { result ≡ self.now.position_offset }
+    {
+        self.position_offset
+    }
+
     /// What the skip list tells of the block.
     pub fn block_info(&self) -> BlockInfo
         ensures { result ≡ self.now.block_info }
@@ -431,6 +455,7 @@ impl Clone for SkipReader {
             last_doc_in_block: self.last_doc_in_block,
             last_doc_in_previous_block: self.last_doc_in_previous_block,
             byte_offset: self.byte_offset,
+            position_offset: self.position_offset,
             block_info: self.block_info,
             entries_read: self.entries_read.same(),
         })
