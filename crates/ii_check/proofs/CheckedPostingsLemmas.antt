@@ -1,16 +1,19 @@
 -- Laws of postings that were checked.
-use Rattle.std.proofs.Common.{◌≡◌, ℕ, ◌*◌, ◌/◌, ◌%◌, ◌<◌, ◌≤◌, Bool, true, false, ◌&&◌, List, [], length, drop, Option, Some, None, Result, Ok, Err, refl, sym, ap, ◌∙◌, arith, is_some, length-drop}
+use Rattle.std.proofs.Common.{◌≡◌, ℕ, zero, suc, ◌*◌, ◌/◌, ◌%◌, ◌<◌, ◌≤◌, Bool, true, false, ◌&&◌, List, [], length, drop, Option, Some, None, Result, Ok, Err, refl, sym, ap, ◌∙◌, arith, is_some, length-drop, nat_lt, nat_le, if◌then◌else◌}
+use Rattle.std.specs.List.{list_all}
+use Rattle.std.proofs.lemmas.Bool.{and_parts}
 use Rattle.std.specs.Result.{result_unwrap_or}
 use Rattle.ii_base.specs.declared.schema.index_record_option.IndexRecordOption.{IndexRecordOption}
 use Rattle.ii_base.specs.declared.schema.index_record_option.IndexRecordOption.TheVariants.{Basic}
 use Rattle.ii_base.specs.Options.{has_freq}
-use Rattle.ii_io.specs.StepLemmas.{step-some, some-same}
-use Rattle.ii_io.specs.Vints.{u32s_at}
+use Rattle.ii_io.specs.StepLemmas.{step-some, needs-some, some-same}
+use Rattle.ii_io.specs.Steps.{needs}
+use Rattle.ii_io.specs.Vints.{u32s_at, u64_at}
 use Rattle.ii_io.specs.declared.faults.Part.{Part}
 use Rattle.ii_io.specs.declared.faults.Part.TheVariants.{Documents, Frequencies}
 use Rattle.ii_codes.specs.SortedVints.{sorted_vints_at}
 use Rattle.ii_codes.specs.BlockDecoder.{BlockDecoderState}
-use Rattle.ii_layout.specs.SkipList.{SkipList, IsSplit, skip_list_at, block_place, entry_size, entries_at}
+use Rattle.ii_layout.specs.SkipList.{SkipEntry, SkipList, IsSplit, skip_list, skip_list_at, skip_info_of, block_place, entry_size, entries_at}
 use Rattle.ii_layout.specs.SkipReader.{SkipReaderState, reader_at}
 use Rattle.ii_layout.specs.Documents.{last_doc_before, documents_at}
 use Rattle.ii_layout.specs.Written.{block_of}
@@ -48,6 +51,10 @@ reads a after = has_freq a.requested && has_freqs (skip_of a) after
 
 abbrev pub given_by : Asked → Postings
 given_by a = given a.recorded a.requested a.doc_freq a.bytes
+
+-- the state of what was checked
+abbrev pub state_by : Asked → FreqReadingOption → CheckedPostingsState
+state_by a reading = record { recorded = a.recorded; requested = a.requested; doc_freq = a.doc_freq; postings = given_by a; freq_reading = reading }
 
 abbrev pub Checks : Asked → FreqReadingOption → Type 0
 Checks a reading = IsChecked a.recorded a.requested a.doc_freq a.bytes a.skip_info a.entries a.body reading
@@ -149,8 +156,30 @@ found_cases a reading (Some (docs, after)) c e = freqs_cases a reading docs afte
 pub finds : (a : Asked) (reading : FreqReadingOption) → Checks a reading → Finds a
 finds a reading c = found_cases a reading (documents_at (skip_of a) (a.doc_freq % 128)) c refl
 
+-- entries that have room for counts stand as the field records
+info_cases : (t : Bool) (recorded : IndexRecordOption) → has_freq (if t then Basic else recorded) ≡ true → (if t then Basic else recorded) ≡ recorded
+info_cases true recorded has = absurd (cc)
+info_cases false recorded has = refl
+
+shape_is : (recorded : IndexRecordOption) (blocks : ℕ) (bytes : List ℕ) (skip : SkipList) → skip_list recorded blocks bytes ≡ Some skip → has_freq skip.skip_info ≡ true → skip.skip_info ≡ recorded
+shape_is recorded zero bytes skip e has = ap (λ (s : SkipList). s.skip_info) (sym (some-same e))
+shape_is recorded (suc more) bytes skip e has =
+    let len = step-some (u64_at bytes) _ skip e in
+    let whole = needs-some (nat_le len.0.0 (length len.0.1)) _ skip len.2 in
+    let enough = needs-some (nat_le (entry_size (skip_info_of recorded (suc more) len.0.0) * suc more) len.0.0) _ skip whole.1 in
+    let narrow = needs-some (list_all (λ (e : SkipEntry). nat_le e.tf_num_bits 32) (entries_at (skip_info_of recorded (suc more) len.0.0) (suc more) len.0.1)) _ skip enough.1 in
+    let info = ap (λ (s : SkipList). s.skip_info) (sym (some-same narrow.1)) in
+    info ∙ info_cases (nat_lt len.0.0 (8 * suc more)) recorded (ap has_freq (sym info) ∙ has)
+
+shape_read : (a : Asked) (docs after : List ℕ) (freqs : Option (List ℕ)) → Found a docs after freqs → is_some freqs ≡ true → a.skip_info ≡ a.recorded
+shape_read a docs after freqs f some =
+    let flag = sym (if_flag (reads a after) (skip_of a) (a.doc_freq % 128) after freqs f.freqs_are) ∙ some in
+    let both = and_parts (has_freq a.requested) (has_freqs (skip_of a) after) flag in
+    let has = and_parts (has_freq a.skip_info) _ both.1 in
+    shape_is a.recorded (a.doc_freq / 128) a.bytes (skip_of a) f.split.skip has.0
+
 given_by_found : (a : Asked) (reading : FreqReadingOption) (docs after : List ℕ) (freqs : Option (List ℕ)) → Found a docs after freqs → reading ≡ freq_reading_of a.requested (found_postings a docs after freqs)
-    → AreGiven (record { doc_freq = a.doc_freq; postings = found_postings a docs after freqs; freq_reading = reading })
+    → AreGiven (record { recorded = a.recorded; requested = a.requested; doc_freq = a.doc_freq; postings = found_postings a docs after freqs; freq_reading = reading })
 given_by_found a reading docs after freqs f reading_is =
     let n = a.doc_freq % 128 in
     record {
@@ -158,9 +187,10 @@ given_by_found a reading docs after freqs f reading_is =
       documents = f.documents;
       freqs = λ fs e. if_some (reads a after) (skip_of a) n after fs (f.freqs_are ∙ ap (λ (o : Option (List ℕ)). Some o) e);
       read = if_flag (reads a after) (skip_of a) n after freqs f.freqs_are ∙ sym (ap is_read reading_is ∙ read_flag (has_freq a.skip_info) (has_freq a.requested) _);
+      shape = shape_read a docs after freqs f;
     }
 
-pub are_given : (a : Asked) (reading : FreqReadingOption) → Checks a reading → AreGiven (record { doc_freq = a.doc_freq; postings = given_by a; freq_reading = reading })
+pub are_given : (a : Asked) (reading : FreqReadingOption) → Checks a reading → AreGiven (state_by a reading)
 are_given a reading c =
     let (docs, after, freqs, f) = finds a reading c in
     let same = given_found a docs after freqs f in
@@ -177,7 +207,7 @@ given_skip a reading c =
     ap (λ (p : Postings). p.skip) (given_found a docs after freqs f)
 
 -- the bytes from the entries on
-pub is_skip_data : (a : Asked) (reading : FreqReadingOption) (bytes : List ℕ) → Checks a reading → bytes ≡ drop a.entries a.bytes → IsSkipData (record { doc_freq = a.doc_freq; postings = given_by a; freq_reading = reading }) bytes
+pub is_skip_data : (a : Asked) (reading : FreqReadingOption) (bytes : List ℕ) → Checks a reading → bytes ≡ drop a.entries a.bytes → IsSkipData (state_by a reading) bytes
 is_skip_data a reading bytes c e =
     let skip = given_skip a reading c in
     let room = c.split.room in
@@ -188,14 +218,14 @@ is_skip_data a reading bytes c e =
       entries = ap (λ (s : SkipList). s.entries) skip ∙ (λ j. entries_at (ap (λ (s : SkipList). s.skip_info) (sym skip) j) (a.doc_freq / 128) (sym e j));
     }
 
-pub has_room : (a : Asked) (reading : FreqReadingOption) (skip_data : List ℕ) → Checks a reading → IsSkipData (record { doc_freq = a.doc_freq; postings = given_by a; freq_reading = reading }) skip_data → entry_size a.skip_info * (a.doc_freq / 128) ≤ length skip_data
+pub has_room : (a : Asked) (reading : FreqReadingOption) (skip_data : List ℕ) → Checks a reading → IsSkipData (state_by a reading) skip_data → entry_size a.skip_info * (a.doc_freq / 128) ≤ length skip_data
 has_room a reading skip_data c d =
     let info : a.skip_info ≡ (given_by a).skip.skip_info = sym (ap (λ (s : SkipList). s.skip_info) (given_skip a reading c)) in
     rw info d.enough
 
 -- a reader that begins there
-pub begins : (a : Asked) (reading : FreqReadingOption) (skip_data : List ℕ) (reader : SkipReaderState) → Checks a reading → IsSkipData (record { doc_freq = a.doc_freq; postings = given_by a; freq_reading = reading }) skip_data
-    → reader ≡ reader_at a.skip_info a.doc_freq (entries_at a.skip_info (a.doc_freq / 128) skip_data) 0 → IsAtBlock (record { doc_freq = a.doc_freq; postings = given_by a; freq_reading = reading }) reader
+pub begins : (a : Asked) (reading : FreqReadingOption) (skip_data : List ℕ) (reader : SkipReaderState) → Checks a reading → IsSkipData (state_by a reading) skip_data
+    → reader ≡ reader_at a.skip_info a.doc_freq (entries_at a.skip_info (a.doc_freq / 128) skip_data) 0 → IsAtBlock (state_by a reading) reader
 begins a reading skip_data reader c d e =
     let skip = given_skip a reading c in
     let info : a.skip_info ≡ (given_by a).skip.skip_info = sym (ap (λ (s : SkipList). s.skip_info) skip) in
@@ -265,5 +295,5 @@ empty_checked bytes = is_checked (asked_nothing bytes) [] bytes None NoFreq (emp
 pub empty_given : (bytes : List ℕ) → given_by (asked_nothing bytes) ≡ found_postings (asked_nothing bytes) [] bytes None
 empty_given bytes = given_found (asked_nothing bytes) [] bytes None (empty_found bytes)
 
-pub empty_has : (bytes : List ℕ) → HasDocuments (record { doc_freq = 0; postings = given_by (asked_nothing bytes); freq_reading = NoFreq })
+pub empty_has : (bytes : List ℕ) → HasDocuments (state_by (asked_nothing bytes) NoFreq)
 empty_has bytes = has_documents _ (are_given (asked_nothing bytes) NoFreq (empty_checked bytes))

@@ -76,4 +76,4 @@ loaded_short a skip body after reading found docs docs' freqs freqs' l f h =
     let same = given_found a l.docs after found f in
     let after_is : after ≡ (given_by a).after = sym (ap (λ (p : Postings). p.after) same) in
     let body_is : body ≡ (given_by a).skip.body = h.body_is ∙ sym (given_body a reading c) in
-    short_loads (record { doc_freq = a.doc_freq; postings = given_by a; freq_reading = reading }) docs docs' freqs freqs' (is_read reading) (are_given a reading c) h.few (rw body_is at h.row) refl (λ yes. rw after_is at h.read yes) h.unread
+    short_loads (state_by a reading) docs docs' freqs freqs' (is_read reading) (are_given a reading c) h.few (rw body_is at h.row) refl (λ yes. rw after_is at h.read yes) h.unread

@@ -17,8 +17,10 @@ use Rattle.ii_check.specs.declared.freq_reading_option.FreqReadingOption.{FreqRe
 use Rattle.ii_check.specs.declared.freq_reading_option.FreqReadingOption.TheVariants.{NoFreq, SkipFreq, ReadFreq}
 use Rattle.ii_check.specs.FreqReading.{freq_reading_of}
 
--- how many documents a term is in, what its bytes give, and whether its counts are read
+-- the option that the field of a term records, and the one that is requested; how many documents the term is in, what its bytes give, and whether its counts are read
 pub record CheckedPostingsState : Type 0 where
+  pub recorded : IndexRecordOption
+  pub requested : IndexRecordOption
   pub doc_freq : ℕ
   pub postings : Postings
   pub freq_reading : FreqReadingOption
@@ -47,6 +49,7 @@ pub record AreGiven (p : CheckedPostingsState) : Type 0 where
   pub documents : documents_at p.postings.skip (p.doc_freq % 128) ≡ Some (p.postings.docs, p.postings.after)
   pub freqs : (fs : List ℕ) → p.postings.freqs ≡ Some fs → freqs_at p.postings.skip (p.doc_freq % 128) p.postings.after ≡ Some fs
   pub read : is_some p.postings.freqs ≡ is_read p.freq_reading
+  pub shape : is_some p.postings.freqs ≡ true → p.postings.skip.skip_info ≡ p.recorded
 
 -- Counts are as many as the term's documents, and have 32 bits.
 pub record AreFreqs (doc_freq : ℕ) (freqs : List ℕ) : Type 0 where

@@ -1,3 +1,4 @@
 pub mod FreqReading
 pub mod CheckedPostings
 pub mod Check
+pub mod Positions

@@ -260,14 +260,15 @@ fn are_rest_freqs(decoder: &mut BlockDecoder, num_docs: u32, bytes: &[u8]) -> bo
     true
 }
 
-// The sum of at most 128 counts.
-fn sum_of(freqs: &[u32]) -> u64
-    requires { length freqs.now ≤ 128 }
-    ensures { result ≡ sum freqs.now }
+/// The sum of at most 128 values.
+pub(crate) fn sum_of(values: &[u32]) -> u64
+    requires { length values.now ≤ 128 }
+    ensures sum { result ≡ sum values.now }
+    ensures small { result < 2 ^ 39 }
 {
     let mut sum = 0;
-    for freq in freqs {
-        sum += u64::from(*freq);
+    for value in values {
+        sum += u64::from(*value);
     }
     sum
 }

@@ -1,7 +1,13 @@
-ghost use Rattle.std.specs.Prelude.{◌≡◌, ◌+◌, ◌/◌, ◌<◌, ◌≤◌, [], min, nat_lt, None, Ok, Err, IfOk, IfErr};
+ghost use Rattle.std.specs.Prelude.{◌≡◌, ◌+◌, ◌/◌, ◌<◌, ◌≤◌, ◌&&◌, ◌==◌, ⊤, [], length, min, nat_lt, is_some, None, Some, Ok, Err, IfOk, IfErr, OnErr, IfSome, IsSome, MatchOption};
+ghost use Rattle.std.specs.List.{sum, list_all};
 ghost use Rattle.ii_io.specs.Parts.{part_of};
 ghost use Rattle.ii_docset.specs.declared.docset.TheConstants.{TERMINATED};
+ghost use Rattle.ii_base.specs.Options.{downgrade, has_positions};
+ghost use Rattle.ii_codes.specs.Sums.{fit_u32};
+ghost use Rattle.ii_layout.specs.Positions.{positions_of};
 ghost use Rattle.ii_layout.specs.Postings.{postings};
+ghost use Rattle.ii_layout.specs.TermList.{deltas_if};
+ghost use Rattle.ii_check.specs.Positions.{ComeBefore, deltas_read};
 ghost use Rattle.ii_check.specs.CheckedPostings.{AreGiven, HasDocuments, IsAtBlock, IsSkipData, LoadsBlock, SeeksBlock, new_decoder};
 ghost use Rattle.ii_check.specs.FreqReading.{freq_reading_of};
 
@@ -9,10 +15,11 @@ use super::check::check_postings;
 use super::freq_reading_option::FreqReadingOption;
 use super::load::{NO_FREQ, decode_docs, decode_freqs};
 use bytes::Bytes;
-use ii_base::{IndexRecordOption, LayoutFault};
+use super::positions::end_of_positions;
+use ii_base::{IndexRecordOption, LayoutFault, Part};
 use ii_codes::{BlockDecoder, COMPRESSION_BLOCK_SIZE};
 use ii_docset::{DocId, TERMINATED};
-use ii_layout::{SkipPlaces, SkipReader, bytes_from};
+use ii_layout::{PositionReader, SkipPlaces, SkipReader, bytes_from};
 use std::marker::Model;
 
 /// The bytes of a term that were found to hold its postings, so that each block can be read at its
@@ -34,6 +41,8 @@ impl Model for CheckedPostings {
     ghost Value = { CheckedPostingsState };
 
     ghost view = { λ p. record {
+      recorded = p.record_option;
+      requested = p.requested_option;
       doc_freq = p.doc_freq;
       postings = given p.record_option p.requested_option p.doc_freq p.bytes;
       freq_reading = p.freq_reading_option;
@@ -164,6 +173,77 @@ impl CheckedPostings {
         ensures moved { result ≡ nat_lt skip.old.block skip.new.block }
     {
         skip.seek(self.skip_data(), target)
+    }
+
+    /// How many positions come before the block at which the skip reader stands, up to the last one,
+    /// where the field records positions and counts are read.
+    pub fn position_offset(&self, skip: &SkipReader) -> u64
+        requires { IsAtBlock self.now skip.now }
+        ensures { ComeBefore self.now.recorded self.now.postings.freqs skip.now.block result }
+    {
+        skip.position_offset()
+    }
+
+    /// A reader of the positions that `bytes` hold, where both options have them, counts are read and
+    /// bytes are given; or `Positions` where they hold none: not as many as the counts say, or one
+    /// that passes `u32::MAX`. All of them are looked at, and memory is never taken. Elsewhere the
+    /// bytes aren't looked at.
+    pub fn open_positions(
+        &self,
+        bytes: Option<Bytes>,
+    ) -> Result<Option<PositionReader>, LayoutFault>
+        ensures ok { IfOk result (λ opened. deltas_if (has_positions (downgrade self.now.recorded self.now.requested)) self.now.postings.freqs bytes
+            ≡ Some (deltas_read opened)) }
+        ensures decodes { IfOk result (λ opened. MatchOption opened ⊤ (λ reader. reader.decodes ≤ 1)) }
+        ensures refused { OnErr result (deltas_if (has_positions (downgrade self.now.recorded self.now.requested)) self.now.postings.freqs bytes ≡ None) }
+        ensures err { IfErr result (λ fault. fault ≡ LayoutFault.Damaged Part.Positions) }
+    {
+        let Some(bytes) = bytes else {
+            return Ok(None);
+        };
+        if !self.reads_positions() {
+            return Ok(None);
+        }
+        let mut reader = match PositionReader::open(bytes) {
+            Ok(reader) => reader,
+            Err(fault) => return Err(fault),
+        };
+        if !self.are_positions(&mut reader) {
+            return Err(LayoutFault::Damaged(Part::Positions));
+        }
+        Ok(Some(reader.anew()))
+    }
+
+    // Whether positions are read where they are given.
+    fn reads_positions(&self) -> bool
+        ensures { result ≡ (has_positions (downgrade self.now.recorded self.now.requested) && is_some self.now.postings.freqs) }
+    {
+        self.record_option
+            .downgrade(self.requested_option)
+            .has_positions()
+            && self.freq_reading_option.is_read()
+    }
+
+    // Whether a reader has the positions of the term, as many as its counts say.
+    fn are_positions(&self, reader: &mut PositionReader) -> bool
+        requires { IsSome self.now.postings.freqs }
+        ensures are { IfSome self.now.postings.freqs (λ freqs. result
+            ≡ (length reader.old.deltas == sum freqs && list_all fit_u32 (positions_of freqs reader.old.deltas))) }
+        ensures deltas { reader.new.deltas ≡ reader.old.deltas }
+    {
+        let mut skip = self.skip_reader();
+        let mut doc_decoder = BlockDecoder::with_val(TERMINATED);
+        let mut freq_decoder = BlockDecoder::with_val(NO_FREQ);
+        let mut end = 0;
+        for _block in 0..=self.doc_freq / COMPRESSION_BLOCK_SIZE as u32 {
+            self.load_block(&skip, &mut doc_decoder, &mut freq_decoder);
+            let Some(next) = end_of_positions(reader, end, freq_decoder.output_array()) else {
+                return false;
+            };
+            end = next;
+            self.advance(&mut skip);
+        }
+        u128::from(end) == reader.len()
     }
 
     /// Decodes the block at which the skip reader stands: its documents, after which the entries are

@@ -5,6 +5,7 @@ mod check;
 pub mod checked_postings;
 pub mod freq_reading_option;
 mod load;
+mod positions;
 
 pub use checked_postings::CheckedPostings;
 pub use freq_reading_option::FreqReadingOption;

@@ -1,6 +1,12 @@
 -- Laws of the counts of a term, block by block.
-use Rattle.std.proofs.Common.{◌≡◌, ℕ, zero, suc, ◌+◌, ◌*◌, ◌^◌, ◌<◌, Bool, true, false, List, [], ◌∷◌, ◌++◌, length, drop, get_or, Some, nat_le, nat_lt, refl, sym, ap, ◌∙◌, arith, length-append}
-use Rattle.std.specs.List.{concat}
+use Rattle.std.proofs.Common.{◌≡◌, ℕ, zero, suc, ◌+◌, ◌*◌, ◌^◌, ◌<◌, ◌≤◌, Bool, true, false, List, [], ◌∷◌, ◌++◌, length, take, drop, get_or, Some, nat_le, nat_lt, refl, sym, ap, ◌∙◌, arith, length-append}
+use Rattle.std.specs.List.{concat, sum}
+use Rattle.std.proofs.Math.Seq.{take-add}
+use Rattle.std.proofs.lemmas.Bool.{eqb-true}
+use Rattle.std.proofs.lemmas.List.Sums.{sum_by_more, sum_by-append}
+use Rattle.ii_base.specs.declared.schema.index_record_option.IndexRecordOption.{IndexRecordOption}
+use Rattle.ii_base.specs.declared.schema.index_record_option.IndexRecordOption.TheVariants.{Basic, WithFreqs, WithFreqsAndPositions}
+use Rattle.ii_base.specs.Options.{has_positions}
 use Rattle.std.proofs.lemmas.List.Folds.{list_all-append}
 use Rattle.ii_io.specs.Steps.{needs}
 use Rattle.ii_io.specs.StepLemmas.{needs-some, step-some, some-same}
@@ -10,7 +16,7 @@ use Rattle.ii_codes.specs.Sums.{fit_u32}
 use Rattle.ii_codes.specs.Blocks.{unsorted_block_at, unsorted_values}
 use Rattle.ii_codes.proofs.PackedLemmas.{length-entries_in}
 use Rattle.ii_layout.specs.Each.{each}
-use Rattle.ii_layout.specs.SkipList.{SkipList, block_place}
+use Rattle.ii_layout.specs.SkipList.{SkipEntry, SkipList, no_entry, block_place, tf_sum_before}
 use Rattle.ii_layout.specs.Documents.{entry_of}
 use Rattle.ii_layout.specs.Frequencies.{has_sum, block_freqs, freqs_at}
 use Rattle.ii_layout.specs.Written.{block_of}
@@ -62,12 +68,13 @@ row_fits (suc n) bytes vs rest e =
 pub record StandFreqs (skip : SkipList) (i : ℕ) (freqs : List ℕ) : Type 0 where
   pub after : List ℕ
   pub read : unsorted_block_at (entry_of skip.entries i).strict_delta (entry_of skip.entries i).tf_num_bits (drop (16 * (entry_of skip.entries i).doc_num_bits) (drop (block_place skip.entries i) skip.body)) ≡ Some (freqs, after)
+  pub sum_is : has_sum skip.skip_info (entry_of skip.entries i).tf_sum freqs ≡ true
 
 stand_freqs : (skip : SkipList) (i : ℕ) (freqs : List ℕ) → block_freqs skip i ≡ Some freqs → StandFreqs skip i freqs
 stand_freqs skip i freqs e =
     let found = step-some (unsorted_block_at (entry_of skip.entries i).strict_delta (entry_of skip.entries i).tf_num_bits (drop (16 * (entry_of skip.entries i).doc_num_bits) (drop (block_place skip.entries i) skip.body))) _ freqs e in
     let sum = needs-some (has_sum skip.skip_info (entry_of skip.entries i).tf_sum found.0.0) _ freqs found.2 in
-    record { after = found.0.1; read = found.1 ∙ ap (λ (vs : List ℕ). Some (vs, found.0.1)) (some-same sum.1) }
+    record { after = found.0.1; read = found.1 ∙ ap (λ (vs : List ℕ). Some (vs, found.0.1)) (some-same sum.1); sum_is = ap (has_sum skip.skip_info (entry_of skip.entries i).tf_sum) (sym (some-same sum.1)) ∙ sum.0 }
 
 -- all rows have so many values of 32 bits
 abbrev AllFit : List (List ℕ) → Type 0
@@ -135,3 +142,20 @@ rest_of_freqs skip n i after freqs e few end =
     let size = (row_fits n after s.rest s.left s.rest_read).many in
     let here : block_of freqs i ≡ s.rest = ap (λ (fs : List ℕ). block_of fs i) s.freqs_are ∙ last_block i s.blocks s.rest (whole skip n after freqs s) (end ∙ sym many) (omega arith) in
     (s.left, rw here s.rest_read)
+
+-- the counts of all blocks before a block, by the sums of the entries
+told_sum : (skip_info : IndexRecordOption) (tf_sum : ℕ) (freqs : List ℕ) → has_positions skip_info ≡ true → has_sum skip_info tf_sum freqs ≡ true → sum freqs ≡ tf_sum
+told_sum Basic tf_sum freqs has e = absurd (cc)
+told_sum WithFreqs tf_sum freqs has e = absurd (cc)
+told_sum WithFreqsAndPositions tf_sum freqs has e = eqb-true (sum freqs) tf_sum e
+
+pub freqs_before : (skip : SkipList) (n i : ℕ) (after freqs : List ℕ) → freqs_at skip n after ≡ Some freqs → has_positions skip.skip_info ≡ true → i ≤ length skip.entries → tf_sum_before skip.entries i ≡ sum (take (128 * i) freqs)
+freqs_before skip n zero after freqs e has within = refl
+freqs_before skip n (suc i) after freqs e has within =
+    let earlier = freqs_before skip n i after freqs e has (omega arith) in
+    let here = told_sum skip.skip_info (entry_of skip.entries i).tf_sum (block_of freqs i) has (block_of_freqs skip n i after freqs e (omega arith)).sum_is in
+    let next : suc i ≡ i + 1 = omega arith in
+    let more = ap (tf_sum_before skip.entries) next ∙ sum_by_more (λ (e : SkipEntry). e.tf_sum) skip.entries i no_entry (omega arith) in
+    let place : 128 * suc i ≡ 128 * i + 128 = omega arith in
+    let parted = ap (λ (k : ℕ). sum (take k freqs)) place ∙ ap sum (take-add (128 * i) 128 freqs) ∙ sum_by-append (λ (x : ℕ). x) (take (128 * i) freqs) (block_of freqs i) in
+    more ∙ omega arith ∙ sym parted

@@ -1,8 +1,8 @@
 -- Entries as a reader finds them.
 use Rattle.std.proofs.Common.{◌≡◌, ℕ, suc, ◌+◌, ◌*◌, ◌/◌, ◌%◌, ◌<◌, ◌≤◌, Bool, min, max, nat_lt, List, [], ◌∷◌, length, take, drop, Some, refl, sym, ap, ◌∙◌, arith}
 use Rattle.std.proofs.lemmas.Bool.{le-leb, lt-leb, lt-ltb, le-ltb, eq-eqb, ne_eqb}
-use Rattle.std.proofs.lemmas.List.{take_more, take_all}
-use Rattle.std.proofs.lemmas.List.Sums.{sum_by-append}
+use Rattle.std.proofs.lemmas.List.{take_all}
+use Rattle.std.proofs.lemmas.List.Sums.{sum_by_more}
 use Rattle.std.proofs.lemmas.List.FromFn.{length-map-range_with_len, get_or-map-range_with_len}
 use Rattle.std.specs.List.{sum_by}
 use Rattle.ii_base.specs.declared.schema.index_record_option.IndexRecordOption.{IndexRecordOption}
@@ -29,10 +29,7 @@ sum_next : (size : SkipEntry → ℕ) (shape : IndexRecordOption) (blocks i : �
     → sum_by size (take (i + 1) (entries_at shape blocks bytes)) ≡ sum_by size (take i (entries_at shape blocks bytes)) + size (entry_of (entries_at shape blocks bytes) i)
 sum_next size shape blocks i bytes h =
     let many = length-map-range_with_len (λ k. entry_at shape (drop (entry_size shape * k) bytes)) 0 blocks in
-    let parted = take_more (entries_at shape blocks bytes) i no_entry (omega arith) in
-    let none : 0 + size (entry_of (entries_at shape blocks bytes) i) ≡ size (entry_of (entries_at shape blocks bytes) i) = omega arith in
-    ap (sum_by size) parted ∙ sum_by-append size (take i (entries_at shape blocks bytes)) (entry_of (entries_at shape blocks bytes) i ∷ [])
-    ∙ ap (λ (n : ℕ). sum_by size (take i (entries_at shape blocks bytes)) + n) none
+    sum_by_more size (entries_at shape blocks bytes) i no_entry (omega arith)
 
 before_next : (entries : List SkipEntry) (i : ℕ) → last_doc_before entries (i + 1) ≡ (entry_of entries i).last_doc
 before_next entries i = let next : i + 1 ≡ suc i = omega arith in rw next refl
