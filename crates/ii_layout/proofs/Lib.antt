@@ -8,5 +8,6 @@ pub mod SkipReaderLemmas
 pub mod SkipWriting
 pub mod SplitLemmas
 pub mod WorkedRows
+pub mod PositionLemmas
 pub mod PositionRows
 pub mod WrittenLaws

@@ -5,6 +5,7 @@ pub mod Frequencies
 pub mod Postings
 pub mod Written
 pub mod Positions
+pub mod PositionReader
 pub mod TermList
 pub mod PostingsSerializer
 pub mod SkipReader

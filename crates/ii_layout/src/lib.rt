@@ -3,6 +3,7 @@
 
 mod block;
 mod doc_list;
+pub mod positions;
 pub mod serializer;
 pub mod skip;
 pub mod split;
@@ -10,6 +11,7 @@ pub mod split;
 mod tests;
 pub mod written;
 
+pub use positions::PositionReader;
 pub use serializer::PostingsSerializer;
 pub use skip::{BlockInfo, SkipReader, SkipSerializer};
 pub use split::{SkipPlaces, bytes_from, split_into_skips_and_postings};

@@ -1,0 +1,64 @@
+-- A reader of the positions of a term: the deltas that its bytes hold, and the block of them that it keeps.
+use Rattle.std.specs.Prelude.{◌≡◌, ℕ, ◌+◌, ◌-◌, ◌*◌, ◌<◌, ◌≤◌, if◌then◌else◌, List, [], length, take, drop, slice_index, slice_set, nat_lt, ◌==◌, ◌%◌, ◌/◌, Option, unwrap_or, Some}
+use Rattle.std.specs.List.{slice_range}
+use Rattle.ii_io.specs.Steps.{◌>>=◌, needs}
+use Rattle.ii_codes.specs.UnsortedVints.{u32s_until_end}
+use Rattle.ii_layout.specs.Positions.{PositionList, position_list, place_by_widths, block_deltas, rest_deltas, position_deltas}
+use Rattle.ii_layout.specs.Written.{block_of}
+
+-- The deltas that the bytes hold, and how many blocks were decoded.
+pub record PositionReaderState : Type 0 where
+  pub deltas : List ℕ
+  pub decodes : ℕ
+
+-- The same with the block that is kept.
+pub record PositionBlocksState : Type 0 where
+  pub deltas : List ℕ
+  pub block : ℕ
+  pub decodes : ℕ
+
+-- the deltas that bytes hold, or none where they hold no such list
+unfoldable pub deltas_of : List ℕ → List ℕ
+deltas_of bytes = unwrap_or (position_deltas bytes) []
+
+-- the widths that lie from one place to another, and the bytes after them
+abbrev pub list_at : List ℕ → ℕ → ℕ → PositionList
+list_at bytes widths body = record { widths = slice_range bytes widths body; body = drop body bytes }
+
+-- Bytes hold deltas, and their widths and blocks lie at these places.
+pub record ArePositions (bytes : List ℕ) (widths body : ℕ) : Type 0 where
+  pub order : widths ≤ body
+  pub within : body ≤ length bytes
+  pub list : position_list bytes ≡ Some (list_at bytes widths body)
+  pub deltas : position_deltas bytes ≡ Some (deltas_of bytes)
+
+-- Each anchor up to a block is the place of the block that so many strides lead to.
+abbrev pub AreAnchors : List ℕ → ℕ → ℕ → List ℕ → Type 0
+AreAnchors widths stride last anchors = (k : ℕ) → k * stride ≤ last → slice_index anchors k ≡ place_by_widths widths (k * stride)
+
+-- anchors with that of a block, if it has one
+abbrev pub anchored : List ℕ → ℕ → ℕ → ℕ → List ℕ
+anchored anchors stride block place = if block % stride == 0 then slice_set anchors (block / stride) place else anchors
+
+-- the deltas that bytes hold to their end, fewer than a block has
+abbrev pub rest_at : List ℕ → Option (List ℕ)
+rest_at bytes = do
+  rest ← u32s_until_end 128 bytes
+  _ ← needs (nat_lt (length rest) 128)
+  Some rest
+
+-- the deltas of a block, or those after the full blocks
+abbrev pub deltas_at_block : PositionList → ℕ → Option (List ℕ)
+deltas_at_block list block = if nat_lt block (length list.widths) then block_deltas list block else rest_deltas list
+
+-- What a reader keeps of its bytes: where some blocks begin, one block of deltas, and how many deltas are after the full blocks.
+pub record KeepsBlock (bytes : List ℕ) (widths body stride : ℕ) (anchors : List ℕ) (block place : ℕ) (held : List ℕ) (rest : ℕ) : Type 0 where
+  pub there : ArePositions bytes widths body
+  pub many : length anchors ≡ 64
+  pub stride_is : body - widths < 64 * stride
+  pub anchors_are : AreAnchors (list_at bytes widths body).widths stride (body - widths) anchors
+  pub inside : block ≤ body - widths
+  pub place_is : place ≡ place_by_widths (list_at bytes widths body).widths block
+  pub held_is : held ≡ block_of (deltas_of bytes) block
+  pub len : length (deltas_of bytes) ≡ 128 * (body - widths) + rest
+  pub few : rest < 128

@@ -1,0 +1,4 @@
+mod blocks;
+pub mod reader;
+
+pub use reader::PositionReader;

@@ -1,0 +1,283 @@
+ghost use Rattle.std.specs.Prelude.{◌≡◌, ◌+◌, ◌-◌, ◌*◌, ◌/◌, ◌^◌, ◌<◌, ◌≤◌, length, take, drop, Some, None, IsSome, IfOk, IfErr, OnOk, OnErr, MatchOption, MatchBool, IsTrue, is_some, IfSome, slice_index, ◌⊎◌};
+ghost use Rattle.ii_layout.specs.Each.{each};
+ghost use Rattle.ii_layout.specs.Positions.{position_list, place_by_widths, block_deltas, rest_deltas, position_deltas};
+ghost use Rattle.ii_layout.specs.PositionReader.{AreAnchors, anchored, list_at, rest_at, deltas_at_block};
+ghost use Rattle.ii_layout.specs.Written.{block_of};
+
+use super::super::split::bytes_from;
+use bytes::Bytes;
+use ii_codes::{BlockDecoder, COMPRESSION_BLOCK_SIZE, VIntDecoder, compressed_block_size};
+use ii_io::{Fault, LayoutFault, Part, vint};
+use std::marker::Model;
+
+/// The greatest width of a block.
+const MAX_NUM_BITS: u8 = 32;
+
+/// Of how many blocks the place is kept.
+const NUM_ANCHORS: usize = 64;
+
+/// The blocks of the deltas of a term's positions, of which one is decoded. The deltas after the full
+/// blocks are one block too. Clauses see all deltas, which block it is, and how many were decoded.
+#[derive(Drop)]
+pub(crate) struct PositionBlocks {
+    bytes: Bytes,
+    widths: usize,
+    body: usize,
+    rest_len: usize,
+    stride: usize,
+    anchors: [usize; NUM_ANCHORS],
+    block: usize,
+    place: usize,
+    block_decoder: BlockDecoder,
+}
+
+impl Model for PositionBlocks {
+    ghost use Rattle.std.specs.Prelude.{take};
+    ghost use Rattle.ii_layout.specs.PositionReader.{PositionBlocksState, KeepsBlock, deltas_of};
+
+    ghost Value = { PositionBlocksState };
+
+    ghost view = { λ b. record { deltas = deltas_of b.bytes; block = b.block; decodes = b.block_decoder.decodes } };
+
+    ghost invariant = { λ b. KeepsBlock b.bytes b.widths b.body b.stride b.anchors b.block b.place (take b.block_decoder.output_len b.block_decoder.output) b.rest_len };
+}
+
+impl PositionBlocks {
+    /// The blocks that `bytes` holds. The deltas after the full blocks are decoded.
+    pub(crate) fn open(bytes: Bytes) -> Result<PositionBlocks, LayoutFault>
+        ensures ok { IfOk result (λ blocks. position_deltas bytes ≡ Some blocks.deltas) }
+        ensures decodes { IfOk result (λ blocks. blocks.decodes ≤ 1) }
+        ensures refused { OnErr result (position_deltas bytes ≡ None) }
+        ensures err { IfErr result (λ fault. fault ≡ LayoutFault.Damaged Part.Positions) }
+    {
+        let mut anchors = [0; NUM_ANCHORS];
+        let mut block_decoder = BlockDecoder::with_val(0);
+        let all = bytes.as_slice();
+        let Some((widths, body)) = split(all) else {
+            return Err(LayoutFault::Damaged(Part::Positions));
+        };
+        let num_blocks = body - widths;
+        let stride = num_blocks / NUM_ANCHORS + 1;
+        let Some(place) = find_blocks(&all[widths..body], &all[body..], stride, &mut anchors) else {
+            return Err(LayoutFault::Damaged(Part::Positions));
+        };
+        if !read_rest(bytes_from(&all[body..], place), &mut block_decoder) {
+            return Err(LayoutFault::Damaged(Part::Positions));
+        }
+        let rest_len = block_decoder.output_len();
+        Ok(PositionBlocks {
+            bytes,
+            widths,
+            body,
+            rest_len,
+            stride,
+            anchors,
+            block: num_blocks,
+            place,
+            block_decoder,
+        })
+    }
+
+    /// How many deltas there are.
+    pub(crate) fn len(&self) -> u128
+        ensures { result ≡ length self.now.deltas }
+    {
+        let num_blocks = self.body - self.widths;
+        num_blocks as u128 * COMPRESSION_BLOCK_SIZE as u128 + self.rest_len as u128
+    }
+
+    /// Decodes a block that has deltas, if it isn't the one that is decoded.
+    pub(crate) fn load(&mut self, block: usize)
+        requires inside { 128 * block < length self.old.deltas }
+        ensures deltas { self.new.deltas ≡ self.old.deltas }
+        ensures block { self.new.block ≡ block }
+        ensures kept { self.old.block ≡ block → self.new.decodes ≡ self.old.decodes }
+        ensures decodes { self.new.decodes ≤ self.old.decodes + 1 }
+        ensures rises { self.old.decodes ≤ self.new.decodes }
+    {
+        if block == self.block {
+            return;
+        }
+        let bytes = self.bytes.as_slice();
+        let widths = &bytes[self.widths..self.body];
+        let body = &bytes[self.body..];
+        let (near, from) = nearest(&self.anchors, self.stride, self.block, self.place, block);
+        let place = walk(widths, near, from, block);
+        decode(widths, body, block, place, &mut self.block_decoder);
+        self.block = block;
+        self.place = place;
+    }
+
+    /// The deltas of the block that is decoded.
+    pub(crate) fn held(&self) -> &[u32]
+        ensures held { result.now ≡ block_of self.now.deltas self.now.block }
+    {
+        self.block_decoder.output_array()
+    }
+
+    /// The same blocks, of which the last was decoded.
+    pub(crate) fn anew(self) -> PositionBlocks
+        ensures deltas { result.deltas ≡ self.deltas }
+        ensures decodes { result.decodes ≤ 1 }
+    {
+        let PositionBlocks { bytes, .. } = self;
+        reopened(bytes)
+    }
+
+    /// The same blocks over the same bytes, which are shared.
+    pub(crate) fn clone(&self) -> Result<PositionBlocks, Fault>
+        ensures same { IfOk result (λ blocks. blocks ≡ self.now) }
+        ensures only { IfErr result (λ e. e ≡ Fault.OutOfMemory) }
+    {
+        let bytes = self.bytes.clone()?;
+        let block_decoder = self.block_decoder.clone()?;
+        Ok(PositionBlocks {
+            bytes,
+            widths: self.widths,
+            body: self.body,
+            rest_len: self.rest_len,
+            stride: self.stride,
+            anchors: self.anchors,
+            block: self.block,
+            place: self.place,
+            block_decoder,
+        })
+    }
+}
+
+// Blocks over bytes that hold deltas.
+fn reopened(bytes: Bytes) -> PositionBlocks
+    requires { IsSome (position_deltas bytes) }
+    ensures deltas { position_deltas bytes ≡ Some result.deltas }
+    ensures decodes { result.decodes ≤ 1 }
+{
+    match PositionBlocks::open(bytes) {
+        Ok(blocks) => blocks,
+        Err(_) => unreachable!(),
+    }
+}
+
+// Where the widths begin and where they end: as many as the number at the front says, if so many
+// bytes follow it.
+fn split(bytes: &[u8]) -> Option<(usize, usize)>
+    ensures list { MatchOption result (position_list bytes.now ≡ None) (λ p. position_list bytes.now ≡ Some (list_at bytes.now p.0 p.1)) }
+    ensures order { IfSome result (λ p. p.0 ≤ p.1) }
+    ensures within { IfSome result (λ p. p.1 ≤ length bytes.now) }
+{
+    let Some((num_blocks, widths)) = vint::read_u64(bytes) else {
+        return None;
+    };
+    if num_blocks > (bytes.len() - widths) as u64 {
+        return None;
+    }
+    Some((widths, widths + num_blocks as usize))
+}
+
+// Where the full blocks end, if each width is at most 32 and the bytes have all blocks. Keeps the
+// place of each block that so many strides lead to.
+fn find_blocks(widths: &[u8], body: &[u8], stride: usize, anchors: &mut [usize]) -> Option<usize>
+    requires stride { length widths.now < 64 * stride }
+    requires many { length anchors.old ≡ 64 }
+    ensures found { is_some result ≡ is_some (each (block_deltas (record { widths = widths.now; body = body.now })) (length widths.now)) }
+    ensures end { IfSome result (λ place. place ≡ place_by_widths widths.now (length widths.now)) }
+    ensures within { IfSome result (λ place. place ≤ length body.now) }
+    ensures anchors { IfSome result (λ place. AreAnchors widths.now stride (length widths.now) anchors.new) }
+{
+    let mut place = 0;
+    for block in 0..widths.len() {
+        anchor(anchors, stride, block, place);
+        let width = widths[block];
+        if width > MAX_NUM_BITS {
+            return None;
+        }
+        let size = compressed_block_size(width);
+        if size > body.len() - place {
+            return None;
+        }
+        place += size;
+    }
+    anchor(anchors, stride, widths.len(), place);
+    Some(place)
+}
+
+// Keeps the place of a block, if a number of strides leads to it.
+fn anchor(anchors: &mut [usize], stride: usize, block: usize, place: usize)
+    requires stride { block < 64 * stride }
+    requires many { length anchors.old ≡ 64 }
+    ensures { anchors.new ≡ anchored anchors.old stride block place }
+{
+    if block % stride != 0 {
+        return;
+    }
+    anchors[block / stride] = place;
+}
+
+// Decodes the deltas after the full blocks, to the end of the bytes. Answers whether they are fewer
+// than a block has.
+fn read_rest(bytes: &[u8], block_decoder: &mut BlockDecoder) -> bool
+    ensures rest { MatchBool result (Some (take block_decoder.new.output_len block_decoder.new.output) ≡ rest_at bytes.now) (rest_at bytes.now ≡ None) }
+    ensures few { IsTrue result → block_decoder.new.output_len < 128 }
+    ensures decodes { block_decoder.new.decodes ≤ block_decoder.old.decodes + 1 }
+{
+    match block_decoder.try_uncompress_vint_unsorted_until_end(bytes) {
+        Ok(()) => block_decoder.output_len() < COMPRESSION_BLOCK_SIZE,
+        Err(_) => false,
+    }
+}
+
+// The block before another one, or that one, whose place is known, and that place: the anchor, or
+// the block that is held where that is nearer.
+fn nearest(
+    anchors: &[usize],
+    stride: usize,
+    held: usize,
+    held_place: usize,
+    block: usize,
+) -> (usize, usize)
+    requires stride { block < 64 * stride }
+    requires many { length anchors.now ≡ 64 }
+    ensures before { result.0 ≤ block }
+    ensures known { ((result.0 ≡ held) × (result.1 ≡ held_place))
+        ⊎ ((result.0 ≡ block / stride * stride) × (result.1 ≡ slice_index anchors.now (block / stride))) }
+{
+    let anchor = block / stride * stride;
+    if held > block {
+        return (anchor, anchors[block / stride]);
+    }
+    if held <= anchor {
+        return (anchor, anchors[block / stride]);
+    }
+    (held, held_place)
+}
+
+// The place of a block, from that of one before it on.
+fn walk(widths: &[u8], near: usize, from: usize, block: usize) -> usize
+    requires within { block ≤ length widths.now }
+    requires order { near ≤ block }
+    requires room { place_by_widths widths.now (length widths.now) < 2 ^ 64 }
+    requires from { from ≡ place_by_widths widths.now near }
+    ensures { result ≡ place_by_widths widths.now block }
+{
+    let mut place = from;
+    for i in near..block {
+        place += compressed_block_size(widths[i]);
+    }
+    place
+}
+
+// Decodes the block that lies at a place, or the deltas after the full blocks.
+fn decode(widths: &[u8], body: &[u8], block: usize, place: usize, block_decoder: &mut BlockDecoder)
+    requires valid { IsSome (deltas_at_block (record { widths = widths.now; body = body.now }) block) }
+    requires within { block ≤ length widths.now }
+    requires place { place ≡ place_by_widths widths.now block }
+    ensures held { Some (take block_decoder.new.output_len block_decoder.new.output) ≡ deltas_at_block (record { widths = widths.now; body = body.now }) block }
+    ensures decodes { block_decoder.new.decodes ≤ block_decoder.old.decodes + 1 }
+    ensures rises { block_decoder.old.decodes ≤ block_decoder.new.decodes }
+{
+    let bytes = bytes_from(body, place);
+    if block == widths.len() {
+        block_decoder.uncompress_vint_unsorted_until_end(bytes);
+        return;
+    }
+    block_decoder.uncompress_block_unsorted(bytes, widths[block], false);
+}

@@ -1,0 +1,107 @@
+ghost use Rattle.std.specs.Prelude.{◌≡◌, ◌+◌, ◌-◌, ◌/◌, ◌≤◌, ◌++◌, length, take, drop, min, Some, None, IfOk, IfErr, OnErr};
+ghost use Rattle.ii_layout.specs.Positions.{position_deltas};
+
+use super::blocks::PositionBlocks;
+use bytes::Bytes;
+use ii_codes::COMPRESSION_BLOCK_SIZE;
+use ii_io::{Fault, LayoutFault, Part};
+use std::marker::Model;
+
+/// Reads any part of the deltas of a term's positions, which are those of all its documents one
+/// after the other. Clauses see these deltas, and how many blocks were decoded.
+///
+/// It keeps the bytes, where 64 blocks begin, and the block that was decoded last: a part that lies
+/// in that block is read without decoding.
+#[derive(Drop)]
+pub struct PositionReader {
+    blocks: PositionBlocks,
+}
+
+impl Model for PositionReader {
+    ghost use Rattle.ii_layout.specs.PositionReader.{PositionReaderState};
+
+    ghost Value = { PositionReaderState };
+
+    ghost view = { λ r. record { deltas = r.blocks.deltas; decodes = r.blocks.decodes } };
+}
+
+impl PositionReader {
+    /// A reader of the deltas that `bytes` holds: the number of full blocks as a vint of up to 10
+    /// bytes, the width of each in one byte, from 0 to 32, the blocks, each of 16 bytes for each bit
+    /// of its width, and fewer than 128 further deltas, each a vint of up to 5 bytes, to the end of
+    /// the bytes. `Damaged(Positions)` where they hold no such list. Each width is looked at; of the
+    /// blocks only the last deltas are decoded. It takes no memory.
+    pub fn open(bytes: Bytes) -> Result<PositionReader, LayoutFault>
+        ensures ok { IfOk result (λ reader. position_deltas bytes ≡ Some reader.deltas) }
+        ensures decodes { IfOk result (λ reader. reader.decodes ≤ 1) }
+        ensures refused { OnErr result (position_deltas bytes ≡ None) }
+        ensures err { IfErr result (λ fault. fault ≡ LayoutFault.Damaged Part.Positions) }
+    {
+        match PositionBlocks::open(bytes) {
+            Ok(blocks) => Ok(PositionReader { blocks }),
+            Err(fault) => Err(fault),
+        }
+    }
+
+    /// How many deltas there are.
+    pub fn len(&self) -> u128
+        ensures { result ≡ length self.now.deltas }
+    {
+        self.blocks.len()
+    }
+
+    /// Reads as many deltas as `output` has room for, from `offset` on; all of them are there. Only
+    /// blocks in which they lie are decoded, and not the one that is kept.
+    pub fn read(&mut self, offset: u64, output: &mut [u32])
+        requires inside { offset + length output.old ≤ length self.old.deltas }
+        ensures read { output.new ≡ take (length output.old) (drop offset self.old.deltas) }
+        ensures deltas { self.new.deltas ≡ self.old.deltas }
+        ensures decodes { self.new.decodes ≤ self.old.decodes + length output.old / 128 + 2 }
+        ensures kept { self.old.decodes ≤ self.new.decodes }
+    {
+        let mut block = (offset / COMPRESSION_BLOCK_SIZE as u64) as usize;
+        let mut start = (offset % COMPRESSION_BLOCK_SIZE as u64) as usize;
+        let mut done = 0;
+        while done < output.len() {
+            self.blocks.load(block);
+            done += copy_into(self.blocks.held(), start, output, done);
+            block += 1;
+            start = 0;
+        }
+    }
+
+    /// A reader of the same deltas, which has decoded at most one block.
+    pub fn anew(self) -> PositionReader
+        ensures deltas { result.deltas ≡ self.deltas }
+        ensures decodes { result.decodes ≤ 1 }
+    {
+        let PositionReader { blocks } = self;
+        PositionReader {
+            blocks: blocks.anew(),
+        }
+    }
+
+    /// A reader over the same bytes, which keeps the same block and has decoded as many.
+    pub fn clone(&self) -> Result<PositionReader, Fault>
+        ensures same { IfOk result (λ reader. reader ≡ self.now) }
+        ensures only { IfErr result (λ e. e ≡ Fault.OutOfMemory) }
+    {
+        let blocks = self.blocks.clone()?;
+        Ok(PositionReader { blocks })
+    }
+}
+
+// Copies values from a place on into the output, behind what is done there, and answers how many:
+// as many as there are and have room.
+fn copy_into(values: &[u32], start: usize, output: &mut [u32], done: usize) -> usize
+    requires start { start ≤ length values.now }
+    requires done { done ≤ length output.old }
+    ensures count { result ≡ min (length values.now - start) (length output.old - done) }
+    ensures copied { take (done + result) output.new ≡ take done output.old ++ take result (drop start values.now) }
+{
+    let (_, rest) = output.split_at_mut(done);
+    let count = rest.len().min(values.len() - start);
+    let (front, _) = rest.split_at_mut(count);
+    front.copy_from_slice(&values[start..start + count]);
+    count
+}
