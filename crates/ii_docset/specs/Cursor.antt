@@ -1,7 +1,9 @@
 -- A cursor is the rest of a list of entries.
-use Rattle.std.specs.Prelude.{ℕ, ◌^◌, ◌<◌, ◌≤◌, Bool, true, false, List, [], ◌∷◌, filter, nat_le, ⊤}
+use Rattle.std.specs.Prelude.{◌≡◌, ◌≢◌, ℕ, ◌^◌, ◌<◌, ◌≤◌, Bool, true, false, List, [], ◌∷◌, filter, nat_le, ⊤}
 use Rattle.std.specs.List.{All}
 use Rattle.ii_docset.specs.declared.docset.TheConstants.{TERMINATED}
+use Rattle.ii_docset.specs.declared.docset.SeekDangerResult.{SeekDangerResult}
+use Rattle.ii_docset.specs.declared.docset.SeekDangerResult.TheVariants.{Found, SeekLowerBound}
 use Rattle.ii_docset.specs.Entries.{Entry}
 
 -- the first document of the rest, or the end
@@ -46,3 +48,8 @@ term_freq_at false (e ∷ es) = e.term_freq
 abbrev pub positions_at : List Entry → List ℕ
 positions_at [] = []
 positions_at (e ∷ es) = e.positions
+
+-- What is answered of a target, over the rest from it on: whether it is the first document there, else which one is. The end is answered by itself.
+abbrev pub IsDangerAnswer : SeekDangerResult → ℕ → List Entry → Type 0
+IsDangerAnswer Found target es = (target < TERMINATED) × (doc_at es ≡ target)
+IsDangerAnswer (SeekLowerBound bound) target es = (target < TERMINATED → (doc_at es ≢ target) × (bound ≡ doc_at es)) × (target ≡ TERMINATED → bound ≡ TERMINATED)

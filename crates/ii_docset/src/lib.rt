@@ -6,5 +6,5 @@ pub mod postings;
 #[cfg(test)]
 mod tests;
 
-pub use docset::{DocId, DocSet, TERMINATED};
+pub use docset::{COLLECT_BLOCK_BUFFER_LEN, DocId, DocSet, SeekDangerResult, TERMINATED};
 pub use postings::Postings;
