@@ -1,12 +1,11 @@
 -- Laws of cursors.
-use Rattle.std.proofs.Common.{◌≡◌, ℕ, zero, suc, ◌+◌, ◌<◌, ◌≤◌, Bool, true, false, ◌&&◌, List, [], ◌∷◌, ◌++◌, length, take, drop, map, nat_le, nat_lt, get_or, lit<, ◌-◌, refl, sym, ap, arith, add-one}
-use Rattle.std.proofs.lemmas.Bool.{lt-ltb, le-ltb, ltb-true, le-leb, lt-leb, leb-true}
-use Rattle.std.proofs.lemmas.List.{drop-drop, drop_all, take_more}
+use Rattle.std.proofs.Common.{◌≡◌, ℕ, zero, suc, ◌+◌, ◌<◌, ◌≤◌, Bool, true, false, ◌&&◌, List, [], ◌∷◌, ◌++◌, ◌^◌, length, take, drop, map, nat_le, nat_lt, get_or, lit<, ◌-◌, refl, sym, ap, arith, add-zero}
+use Rattle.std.proofs.lemmas.Bool.{lt-ltb, ltb-true, le-leb, lt-leb, leb-true}
+use Rattle.std.proofs.lemmas.List.{drop-drop, take_more}
 use Rattle.std.proofs.lemmas.List.Elements.{All-drop, All-map}
 use Rattle.std.specs.List.{All, range_with_len}
-use Rattle.std.proofs.Math.Seq.{drop-cons}
 use Rattle.ii_docset.specs.Entries.{Entry, document, ascend_from, are_documents}
-use Rattle.ii_docset.specs.Cursor.{doc_at, IsAscending, FitsU32, IsSound, from_doc}
+use Rattle.ii_docset.specs.Cursor.{doc_at, IsAscending, FitsU32, IsSound, from_doc, positions_at}
 
 pub IsAscending_drop_1 : (es : List Entry) → IsAscending es → IsAscending (drop 1 es)
 IsAscending_drop_1 [] h = tt
@@ -109,3 +108,12 @@ ascend_take (suc n) least (d ∷ ds) h =
 
 pub documents_take : (i : ℕ) (docs : List ℕ) → i < length docs → are_documents docs ≡ true → are_documents (take i docs ++ get_or docs i 0 ∷ []) ≡ true
 documents_take i docs within h = rw (← take_more docs i 0 within) (ascend_take (i + 1) 0 docs h)
+
+-- the positions of a sound cursor's document have 32 bits, also with nothing added
+pub positions_fit : (es : List Entry) → IsSound es → All (λ (p : ℕ). p + 0 < 2 ^ 32) (positions_at es)
+positions_fit [] h k d within = absurd (omega arith)
+positions_fit (e ∷ es) h k d within = rw (add-zero (get_or e.positions k d)) ((h.fits 0 e (omega arith)).1 k d within)
+
+pub map-add_zero : (ps : List ℕ) → map (λ (p : ℕ). p + 0) ps ≡ ps
+map-add_zero [] = refl
+map-add_zero (p ∷ ps) = rw (add-zero p, map-add_zero ps) refl

@@ -1,2 +1,3 @@
 pub mod AscentLemmas
+pub mod BufferLemmas
 pub mod CursorLemmas

@@ -1,7 +1,9 @@
 -- A cursor is the rest of a list of entries.
-use Rattle.std.specs.Prelude.{ℕ, ◌^◌, ◌<◌, ◌≤◌, List, [], ◌∷◌, filter, nat_le, ⊤}
+use Rattle.std.specs.Prelude.{◌≡◌, ◌≢◌, ℕ, ◌^◌, ◌<◌, ◌≤◌, Bool, true, false, List, [], ◌∷◌, filter, nat_le, ⊤}
 use Rattle.std.specs.List.{All}
 use Rattle.ii_docset.specs.declared.docset.TheConstants.{TERMINATED}
+use Rattle.ii_docset.specs.declared.docset.SeekDangerResult.{SeekDangerResult}
+use Rattle.ii_docset.specs.declared.docset.SeekDangerResult.TheVariants.{Found, SeekLowerBound}
 use Rattle.ii_docset.specs.Entries.{Entry}
 
 -- the first document of the rest, or the end
@@ -31,3 +33,23 @@ from_doc target es = filter (λ (e : Entry). nat_le target e.doc) es
 pub record IsTarget (target : ℕ) (es : List Entry) : Type 0 where
   pub up_to : target ≤ TERMINATED
   pub forward : doc_at es < TERMINATED → doc_at es ≤ target
+
+-- There is a current document.
+abbrev pub IsCurrent : List Entry → Type 0
+IsCurrent es = doc_at es < TERMINATED
+
+-- the count of the current document; 1 where each count is 1, and after the last document, where no other count is asked for
+abbrev pub term_freq_at : Bool → List Entry → ℕ
+term_freq_at true es = 1
+term_freq_at false [] = 1
+term_freq_at false (e ∷ es) = e.term_freq
+
+-- the positions of the current document
+abbrev pub positions_at : List Entry → List ℕ
+positions_at [] = []
+positions_at (e ∷ es) = e.positions
+
+-- What is answered of a target, over the rest from it on: whether it is the first document there, else which one is. The end is answered by itself.
+abbrev pub IsDangerAnswer : SeekDangerResult → ℕ → List Entry → Type 0
+IsDangerAnswer Found target es = (target < TERMINATED) × (doc_at es ≡ target)
+IsDangerAnswer (SeekLowerBound bound) target es = (target < TERMINATED → (doc_at es ≢ target) × (bound ≡ doc_at es)) × (target ≡ TERMINATED → bound ≡ TERMINATED)

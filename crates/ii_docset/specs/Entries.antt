@@ -1,5 +1,5 @@
 -- What a term's list has of a document: the document, how often the term occurs there, and where.
-use Rattle.std.specs.Prelude.{ℕ, ◌+◌, Bool, true, ◌&&◌, List, [], ◌∷◌, nat_lt, nat_le}
+use Rattle.std.specs.Prelude.{ℕ, ◌+◌, Bool, true, ◌&&◌, List, [], ◌∷◌, map, nat_lt, nat_le}
 use Rattle.ii_docset.specs.declared.docset.TheConstants.{TERMINATED}
 
 pub record Entry : Type 0 where
@@ -23,3 +23,7 @@ ascend_from least (d ∷ ds) = nat_le least d && nat_lt d TERMINATED && ascend_f
 -- documents in strictly ascending order, all of them below TERMINATED
 abbrev pub are_documents : List ℕ → Bool
 are_documents docs = ascend_from 0 docs
+
+-- the documents of entries
+abbrev pub docs_of : List Entry → List ℕ
+docs_of es = map (λ (e : Entry). e.doc) es

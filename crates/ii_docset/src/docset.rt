@@ -1,12 +1,24 @@
-ghost use Rattle.std.specs.Prelude.{◌≡◌, Bool, false, ⊤, List, [], drop, length};
-ghost use Rattle.ii_docset.specs.Entries.{Entry};
-ghost use Rattle.ii_docset.specs.Cursor.{doc_at, from_doc, IsSound, IsTarget};
+ghost use Rattle.std.specs.Prelude.{◌≡◌, ◌≤◌, ◌<◌, ◌++◌, Bool, false, ⊤, List, [], drop, length, take, min};
+ghost use Rattle.ii_docset.specs.Entries.{Entry, docs_of};
+ghost use Rattle.ii_docset.specs.Cursor.{doc_at, from_doc, IsDangerAnswer, IsSound, IsTarget};
 
 /// The number of a document in its index.
 pub type DocId = u32;
 
 /// What a cursor answers after its last document. Documents lie below it.
 pub const TERMINATED: DocId = 2_147_483_647;
+
+/// How many documents `DocSet::fill_buffer` writes at most.
+pub const COLLECT_BLOCK_BUFFER_LEN: usize = 64;
+
+/// What `DocSet::seek_danger` answers.
+#[derive(Clone, Copy, Debug, PartialEq, Eq)]
+pub enum SeekDangerResult {
+    /// The target is the current document.
+    Found,
+    /// The target is no document of the list. The first document above it, or `TERMINATED`.
+    SeekLowerBound(DocId),
+}
 
 /// A cursor over the documents of a list, in strictly ascending order.
 ///
@@ -53,6 +65,54 @@ pub trait DocSet: Drop {
             doc = self.advance();
         }
         doc
+    }
+
+    /// Drops the documents below `target`, and answers whether the target is the first that is left;
+    /// if not, which one is, or `TERMINATED`. The target may lie below the current document. It is at
+    /// most `TERMINATED`, which is answered by itself, and drops nothing.
+    fn seek_danger(&mut self, target: DocId) -> SeekDangerResult
+        requires { target ≤ TERMINATED }
+        ensures answer { IsDangerAnswer result target (rest self.new) }
+        ensures rest { target < TERMINATED → rest self.new ≡ from_doc target (rest self.old) }
+        ensures at_end { target ≡ TERMINATED → rest self.new ≡ rest self.old }
+        ensures sound { target < TERMINATED → IsSound (rest self.new) }
+        ensures kind { always_one self.new ≡ always_one self.old }
+        ensures work { went self.old self.new }
+    {
+        if target >= TERMINATED {
+            return SeekDangerResult::SeekLowerBound(target);
+        }
+        let mut doc = self.doc();
+        if doc < target {
+            doc = self.seek(target);
+        }
+        if doc == target {
+            SeekDangerResult::Found
+        } else {
+            SeekDangerResult::SeekLowerBound(doc)
+        }
+    }
+
+    /// Writes the documents that are left, up to 64 of them, to the front of `buffer`, drops them, and
+    /// answers how many they are. What stands in `buffer` after them stays.
+    fn fill_buffer(&mut self, buffer: &mut [DocId; COLLECT_BLOCK_BUFFER_LEN]) -> usize
+        ensures count { result ≡ min COLLECT_BLOCK_BUFFER_LEN (length (rest self.old)) }
+        ensures filled { buffer.new ≡ docs_of (take COLLECT_BLOCK_BUFFER_LEN (rest self.old)) ++ drop (length (rest self.old)) buffer.old }
+        ensures rest { rest self.new ≡ drop COLLECT_BLOCK_BUFFER_LEN (rest self.old) }
+        ensures sound { IsSound (rest self.new) }
+        ensures kind { always_one self.new ≡ always_one self.old }
+        ensures work { went self.old self.new }
+    {
+        if self.doc() == TERMINATED {
+            return 0;
+        }
+        for (i, place) in buffer.iter_mut().enumerate() {
+            *place = self.doc();
+            if self.advance() == TERMINATED {
+                return i + 1;
+            }
+        }
+        COLLECT_BLOCK_BUFFER_LEN
     }
 
     /// A hint of what going over all documents costs.

@@ -1,0 +1,73 @@
+ghost use Rattle.std.specs.Prelude.{◌≡◌, ◌+◌, ◌<◌, ◌^◌, ◌⊎◌, ◌++◌, [], map, IfErr, IsTrue, OnOk, OnErr};
+ghost use Rattle.std.specs.List.{All};
+ghost use Rattle.ii_docset.specs.Cursor.{IsCurrent, positions_at, term_freq_at};
+
+use crate::docset::DocSet;
+use ii_base::Fault;
+
+/// A cursor that tells counts and positions too.
+///
+/// Offsets are added to positions, and the sums have to lie below 2^32.
+#[tactic(auto, using(crate::proofs::CursorLemmas::positions_fit))]
+pub trait Postings: DocSet {
+    /// How often the term occurs in the current document, or 1 where counts aren't read. Where they
+    /// are, there has to be a current document.
+    fn term_freq(&self) -> u32
+        requires { IsTrue (Self.always_one self.now) ⊎ IsCurrent (Self.rest self.now) }
+        ensures { result ≡ term_freq_at (Self.always_one self.now) (Self.rest self.now) };
+
+    /// Writes the positions of the current document, each plus `offset`, after what stands in `output`.
+    ///
+    /// `OutOfMemory` where `output` or a buffer of the cursor can't grow: `output` then holds what it
+    /// held, and the cursor stands where it stood.
+    fn append_positions_with_offset(
+        &mut self,
+        offset: u32,
+        output: &mut Vec<u32>,
+    ) -> Result<(), Fault>
+        requires current { IsCurrent (Self.rest self.old) }
+        requires fits { All (λ p. p + offset < 2 ^ 32) (positions_at (Self.rest self.old)) }
+        ensures ok { OnOk result (output.new.items ≡ output.old.items ++ map (λ p. p + offset) (positions_at (Self.rest self.old))) }
+        ensures err { OnErr result (output.new.items ≡ output.old.items) }
+        ensures only { IfErr result (λ e. e ≡ Fault.OutOfMemory) }
+        ensures rest { Self.rest self.new ≡ Self.rest self.old }
+        ensures kind { Self.always_one self.new ≡ Self.always_one self.old }
+        ensures work { Self.went self.old self.new };
+
+    /// Puts the positions of the current document, each plus `offset`, in place of what stands in
+    /// `output`.
+    ///
+    /// `OutOfMemory` where `output` or a buffer of the cursor can't grow: `output` is then empty, and
+    /// the cursor stands where it stood.
+    fn positions_with_offset(&mut self, offset: u32, output: &mut Vec<u32>) -> Result<(), Fault>
+        requires current { IsCurrent (Self.rest self.old) }
+        requires fits { All (λ p. p + offset < 2 ^ 32) (positions_at (Self.rest self.old)) }
+        ensures ok { OnOk result (output.new.items ≡ map (λ p. p + offset) (positions_at (Self.rest self.old))) }
+        ensures err { OnErr result (output.new.items ≡ []) }
+        ensures only { IfErr result (λ e. e ≡ Fault.OutOfMemory) }
+        ensures rest { Self.rest self.new ≡ Self.rest self.old }
+        ensures kind { Self.always_one self.new ≡ Self.always_one self.old }
+        ensures work { Self.went self.old self.new }
+    {
+        output.clear();
+        self.append_positions_with_offset(offset, output)
+    }
+
+    /// Puts the positions of the current document in place of what stands in `output`.
+    ///
+    /// `OutOfMemory` where `output` or a buffer of the cursor can't grow: `output` is then empty, and
+    /// the cursor stands where it stood.
+    fn positions(&mut self, output: &mut Vec<u32>) -> Result<(), Fault>
+        requires { IsCurrent (Self.rest self.old) }
+        ensures ok { OnOk result (output.new.items ≡ positions_at (Self.rest self.old)) }
+        ensures err { OnErr result (output.new.items ≡ []) }
+        ensures only { IfErr result (λ e. e ≡ Fault.OutOfMemory) }
+        ensures rest { Self.rest self.new ≡ Self.rest self.old }
+        ensures kind { Self.always_one self.new ≡ Self.always_one self.old }
+        ensures work { Self.went self.old self.new }
+    {
+        // The current document tells that its positions have 32 bits.
+        let _doc = self.doc();
+        self.positions_with_offset(0, output)
+    }
+}
