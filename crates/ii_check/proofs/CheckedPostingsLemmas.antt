@@ -5,7 +5,7 @@ use Rattle.std.proofs.lemmas.Bool.{and_parts}
 use Rattle.std.specs.Result.{result_unwrap_or}
 use Rattle.ii_base.specs.declared.schema.index_record_option.IndexRecordOption.{IndexRecordOption}
 use Rattle.ii_base.specs.declared.schema.index_record_option.IndexRecordOption.TheVariants.{Basic}
-use Rattle.ii_base.specs.Options.{has_freq}
+use Rattle.ii_base.specs.Options.{has_freq, has_positions}
 use Rattle.ii_io.specs.StepLemmas.{step-some, needs-some, some-same}
 use Rattle.ii_io.specs.Steps.{needs}
 use Rattle.ii_io.specs.Vints.{u32s_at, u64_at}
@@ -20,7 +20,7 @@ use Rattle.ii_layout.specs.Written.{block_of}
 use Rattle.ii_layout.specs.Frequencies.{freqs_at, has_freqs, freqs_if}
 use Rattle.ii_layout.specs.Postings.{Postings, postings}
 use Rattle.ii_layout.proofs.DocumentLemmas.{documents_ascend, length-documents_at, rest_of_documents}
-use Rattle.ii_layout.proofs.FrequencyLemmas.{freqs_fit, rest_of_freqs}
+use Rattle.ii_layout.proofs.FrequencyLemmas.{freqs_fit, freqs_before, rest_of_freqs}
 use Rattle.ii_check.specs.declared.freq_reading_option.FreqReadingOption.{FreqReadingOption}
 use Rattle.ii_check.specs.declared.freq_reading_option.FreqReadingOption.TheVariants.{NoFreq}
 use Rattle.ii_check.specs.FreqReading.{reading_by, freq_reading_of}
@@ -247,6 +247,7 @@ has_documents p g =
           let many = fit.many in
           record { many = omega arith; low = fit.low };
       read = g.read;
+      sums = λ fs e has i within. freqs_before skip n i p.postings.after fs (g.freqs fs e) (ap has_positions (g.shape (ap is_some e)) ∙ has) (omega arith);
     }
 
 -- the decoders that are left of the check of a short list

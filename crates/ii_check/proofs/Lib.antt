@@ -4,3 +4,4 @@ pub mod LoadLemmas
 pub mod CheckedPostingsLemmas
 pub mod PartLemmas
 pub mod SeekLemmas
+pub mod PositionLemmas

@@ -14,7 +14,7 @@ use Rattle.ii_check.specs.FreqReading.{reading_by}
 use Rattle.ii_check.specs.Check.{HoldsRow, skip_list_of}
 use Rattle.ii_check.specs.CheckedPostings.{LoadsBlock, is_read}
 use Rattle.ii_check.proofs.CheckLemmas.{many_entries, bytes_after}
-use Rattle.ii_check.proofs.CheckedPostingsLemmas.{Asked, skip_of, reads, given_by, Checks, Found, given_found, given_body, is_checked, are_given, read_flag, not_read, are_read, short_loads}
+use Rattle.ii_check.proofs.CheckedPostingsLemmas.{Asked, skip_of, reads, given_by, state_by, Checks, Found, given_found, given_body, is_checked, are_given, read_flag, not_read, are_read, short_loads}
 
 -- Documents were found, and it was decided whether counts are read.
 pub record Looked (a : Asked) (skip : SkipList) (after : List ℕ) (reading : FreqReadingOption) : Type 0 where

@@ -30,7 +30,7 @@ sums_cases before d ds false test later =
 sums_from : (before : ℕ) (ds : List ℕ) → before < 2 ^ 32 → fit_u32 (running_sums before ds) ≡ nat_lt (before + sum ds) (2 ^ 32)
 sums_from before [] low = let none : before + 0 ≡ before = omega arith in sym (lt-ltb (before + 0) (2 ^ 32) (omega arith))
 sums_from before (d ∷ ds) low =
-    ap (λ (t : Bool). t && fit_u32 (running_sums (before + d) ds)) (refl {x = nat_lt (before + d) (2 ^ 32)}) ∙ sums_cases before d ds (nat_lt (before + d) (2 ^ 32)) refl (λ below. sums_from (before + d) ds below)
+    sums_cases before d ds (nat_lt (before + d) (2 ^ 32)) refl (λ below. sums_from (before + d) ds below)
     ∙ ap (λ (n : ℕ). nat_lt (before + n) (2 ^ 32)) (sym (sum_cons d ds))
 
 pub sums_fit : (ds : List ℕ) → fit_u32 (running_sums 0 ds) ≡ nat_lt (sum ds) (2 ^ 32)

@@ -1,13 +1,15 @@
 -- Postings that were checked, and what lends their blocks.
 use Rattle.std.specs.Prelude.{◌≡◌, ℕ, ◌+◌, ◌-◌, ◌*◌, ◌/◌, ◌%◌, ◌<◌, ◌≤◌, max, slice_index, Bool, true, false, List, [], take, drop, length, replicate, Option, Some, None, is_some, Ok}
+use Rattle.std.specs.List.{sum}
 use Rattle.std.specs.Result.{result_unwrap_or}
 use Rattle.ii_base.specs.declared.schema.index_record_option.IndexRecordOption.{IndexRecordOption}
 use Rattle.ii_base.specs.declared.schema.index_record_option.IndexRecordOption.TheVariants.{Basic}
+use Rattle.ii_base.specs.Options.{has_positions}
 use Rattle.ii_docset.specs.declared.docset.TheConstants.{TERMINATED}
 use Rattle.ii_docset.specs.Entries.{are_documents}
 use Rattle.ii_codes.specs.BlockDecoder.{BlockDecoderState, decodes_of}
 use Rattle.ii_codes.specs.Sums.{fit_u32}
-use Rattle.ii_layout.specs.SkipList.{IsSplit, entry_size, entries_at}
+use Rattle.ii_layout.specs.SkipList.{IsSplit, entry_size, entries_at, tf_sum_before}
 use Rattle.ii_layout.specs.SkipReader.{SkipReaderState, reader_at}
 use Rattle.ii_layout.specs.Documents.{documents_at}
 use Rattle.ii_layout.specs.Frequencies.{freqs_at}
@@ -56,12 +58,13 @@ pub record AreFreqs (doc_freq : ℕ) (freqs : List ℕ) : Type 0 where
   pub many : length freqs ≡ doc_freq
   pub low : fit_u32 freqs ≡ true
 
--- The documents ascend, and are as many as the term is in; so are the counts, where they are read.
+-- The documents ascend, and are as many as the term is in; so are the counts, where they are read, and where the field records positions the entries have their sums.
 pub record HasDocuments (p : CheckedPostingsState) : Type 0 where
   pub ascending : are_documents p.postings.docs ≡ true
   pub many : length p.postings.docs ≡ p.doc_freq
   pub freqs : (fs : List ℕ) → p.postings.freqs ≡ Some fs → AreFreqs p.doc_freq fs
   pub read : is_some p.postings.freqs ≡ is_read p.freq_reading
+  pub sums : (fs : List ℕ) → p.postings.freqs ≡ Some fs → has_positions p.recorded ≡ true → (i : ℕ) → i ≤ p.doc_freq / 128 → tf_sum_before p.postings.skip.entries i ≡ sum (take (128 * i) fs)
 
 -- a decoder that decoded nothing yet
 abbrev pub new_decoder : ℕ → BlockDecoderState

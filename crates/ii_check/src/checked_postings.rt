@@ -7,7 +7,7 @@ ghost use Rattle.ii_codes.specs.Sums.{fit_u32};
 ghost use Rattle.ii_layout.specs.Positions.{positions_of};
 ghost use Rattle.ii_layout.specs.Postings.{postings};
 ghost use Rattle.ii_layout.specs.TermList.{deltas_if};
-ghost use Rattle.ii_check.specs.Positions.{ComeBefore, deltas_read};
+ghost use Rattle.ii_check.specs.Positions.{deltas_read};
 ghost use Rattle.ii_check.specs.CheckedPostings.{AreGiven, HasDocuments, IsAtBlock, IsSkipData, LoadsBlock, SeeksBlock, new_decoder};
 ghost use Rattle.ii_check.specs.FreqReading.{freq_reading_of};
 
@@ -64,6 +64,7 @@ impl CheckedPostings {
         requested_option: IndexRecordOption,
     ) -> Result<(CheckedPostings, BlockDecoder, BlockDecoder), LayoutFault>
         ensures ok { IfOk result (λ opened. postings record_option requested_option doc_freq bytes ≡ Ok opened.0.postings) }
+        ensures options { IfOk result (λ opened. (opened.0.recorded ≡ record_option) × (opened.0.requested ≡ requested_option)) }
         ensures doc_freq { IfOk result (λ opened. opened.0.doc_freq ≡ doc_freq) }
         ensures reading { IfOk result (λ opened. opened.0.freq_reading ≡ freq_reading_of requested_option opened.0.postings) }
         ensures documents { IfOk result (λ opened. HasDocuments opened.0) }
@@ -97,6 +98,7 @@ impl CheckedPostings {
 
     /// The postings of a term in no documents.
     pub fn empty() -> CheckedPostings
+        ensures options { (result.recorded ≡ IndexRecordOption.Basic) × (result.requested ≡ IndexRecordOption.Basic) }
         ensures doc_freq { result.doc_freq ≡ 0 }
         ensures documents { result.postings.docs ≡ [] }
         ensures freqs { result.postings.freqs ≡ None }
@@ -173,15 +175,6 @@ impl CheckedPostings {
         ensures moved { result ≡ nat_lt skip.old.block skip.new.block }
     {
         skip.seek(self.skip_data(), target)
-    }
-
-    /// How many positions come before the block at which the skip reader stands, up to the last one,
-    /// where the field records positions and counts are read.
-    pub fn position_offset(&self, skip: &SkipReader) -> u64
-        requires { IsAtBlock self.now skip.now }
-        ensures { ComeBefore self.now.recorded self.now.postings.freqs skip.now.block result }
-    {
-        skip.position_offset()
     }
 
     /// A reader of the positions that `bytes` hold, where both options have them, counts are read and

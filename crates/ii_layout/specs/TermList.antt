@@ -29,9 +29,19 @@ located [] es = es
 located (ps ∷ pss) [] = []
 located (ps ∷ pss) (e ∷ es) = record { doc = e.doc; term_freq = e.term_freq; positions = ps } ∷ located pss es
 
+-- documents with their counts and positions, each count 1 and no positions where they aren't read
+abbrev pub list_of : List ℕ → Option (List ℕ) → Option (List ℕ) → List Entry
+list_of docs freqs deltas = located (positions_if freqs deltas) (entries_of docs freqs)
+
+-- the documents of a term and, where they are read, their counts
+abbrev pub docs_and_freqs : IndexRecordOption → IndexRecordOption → ℕ → List ℕ → Result (List ℕ × Option (List ℕ)) Part
+docs_and_freqs recorded requested doc_freq bytes = do
+  p ← postings recorded requested doc_freq bytes
+  Ok (p.docs, p.freqs)
+
 -- what the bytes of a term give, by the option that its field records and the one that is requested
 abbrev pub term_list : IndexRecordOption → IndexRecordOption → ℕ → List ℕ → Option (List ℕ) → Result (List Entry) Part
 term_list recorded requested doc_freq bytes positions = do
-  p ← postings recorded requested doc_freq bytes
-  deltas ← ok_or (deltas_if (has_positions (downgrade recorded requested)) p.freqs positions) Positions
-  Ok (located (positions_if p.freqs deltas) (entries_of p.docs p.freqs))
+  read ← docs_and_freqs recorded requested doc_freq bytes
+  deltas ← ok_or (deltas_if (has_positions (downgrade recorded requested)) read.1 positions) Positions
+  Ok (list_of read.0 read.1 deltas)

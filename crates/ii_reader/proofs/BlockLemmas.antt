@@ -142,7 +142,7 @@ pub record Moves (p : CheckedPostingsState) (skip skip' : SkipReaderState) (docs
 
 abbrev pub state_of : CheckedPostingsState → SkipReaderState → BlockDecoderState → BlockDecoderState → BlockSegmentPostingsState
 state_of p skip docs freqs =
-    record { docs = p.postings.docs; freqs = p.postings.freqs; freq_reading = p.freq_reading; block = skip.block; doc_decodes = docs.decodes; freq_decodes = freqs.decodes; entries_read = skip.entries_read }
+    record { recorded = p.recorded; requested = p.requested; docs = p.postings.docs; freqs = p.postings.freqs; freq_reading = p.freq_reading; block = skip.block; doc_decodes = docs.decodes; freq_decodes = freqs.decodes; entries_read = skip.entries_read }
 
 doc_count : (p : CheckedPostingsState) (skip skip' : SkipReaderState) (docs docs' freqs freqs' : BlockDecoderState) → Moves p skip skip' docs docs' freqs freqs' → docs'.decodes ≤ docs.decodes + min 1 (skip'.block - skip.block)
 doc_count p skip skip' docs docs' freqs freqs' m = decodes_next p.postings.docs p.doc_freq skip.block skip'.block docs.decodes docs'.decodes m.was.has.many m.next m.was.at.within m.loads.docs_are.decodes
@@ -174,7 +174,7 @@ moved_goes p skip skip' docs docs' freqs freqs' m =
     let many = m.was.has.many in
     let count = doc_count p skip skip' docs docs' freqs freqs' m in
     let counts = freq_count p skip skip' docs docs' freqs freqs' m in
-    record { docs = refl; freqs = refl; freq_reading = refl; block = omega arith; doc_decodes = omega arith; freq_decodes = omega arith }
+    record { recorded = refl; requested = refl; docs = refl; freqs = refl; freq_reading = refl; block = omega arith; doc_decodes = omega arith; freq_decodes = omega arith }
 
 pub loaded_lazy : (p : CheckedPostingsState) (skip : SkipReaderState) (docs freqs : BlockDecoderState) → IsLoaded p skip docs freqs → IsLazy (state_of p skip docs freqs)
 loaded_lazy p skip docs freqs l =

@@ -1,17 +1,18 @@
 -- Laws of a cursor over documents and their counts.
-use Rattle.std.proofs.Common.{◌≡◌, ℕ, zero, suc, ◌+◌, ◌*◌, ◌/◌, ◌^◌, ◌<◌, ◌≤◌, Bool, true, false, ◌&&◌, List, [], ◌∷◌, length, drop, map, get_or, min, nat_le, nat_lt, Option, Some, None, is_some, refl, sym, ap, ◌∙◌, arith, length-take, length-drop}
-use Rattle.std.specs.List.{All, zip}
+use Rattle.std.proofs.Common.{◌≡◌, ℕ, zero, suc, ◌+◌, ◌*◌, ◌/◌, ◌^◌, ◌<◌, ◌≤◌, Bool, true, false, ◌&&◌, List, [], ◌∷◌, length, drop, map, get_or, min, nat_le, nat_lt, Option, Some, None, is_some, not, refl, sym, ap, ◌∙◌, arith, length-take, length-drop}
+use Rattle.std.specs.List.{All, zip, list_all}
 use Rattle.std.proofs.lemmas.Bool.{ltb-true, ltb-false, leb-true, and_parts}
 use Rattle.std.proofs.lemmas.List.{get_or-take, get_or-drop, get_or_past, drop_all, length-map}
-use Rattle.std.proofs.lemmas.List.Elements.{All-map}
+use Rattle.std.proofs.lemmas.List.Elements.{All-map, All-head, All-tail, All-cons}
 use Rattle.ii_docset.specs.Entries.{Entry, document, counted, ascend_from, are_documents}
-use Rattle.ii_docset.specs.Cursor.{doc_at, FitsU32, IsAscending, IsSound}
+use Rattle.ii_docset.specs.Cursor.{doc_at, FitsU32, IsAscending, IsSound, term_freq_at}
 use Rattle.ii_docset.proofs.CursorLemmas.{documents_sound, IsSound_drop, advanced}
 use Rattle.ii_codes.specs.Sums.{fit_u32}
 use Rattle.ii_layout.specs.Postings.{entries_of}
 use Rattle.ii_layout.specs.Written.{block_of}
 use Rattle.ii_reader.specs.BlockSegmentPostings.{AreEntries, doc_in_block, freq_in_block}
-use Rattle.ii_reader.specs.SegmentPostings.{term_freq_at}
+use Rattle.ii_layout.specs.TermList.{located, positions_if, list_of}
+use Rattle.ii_reader.specs.SegmentPostings.{AreDeltas}
 
 -- the documents of entries, and how many these are
 docs_of : (docs freqs : List ℕ) → length freqs ≡ length docs → map (λ (e : Entry). e.doc) (entries_of docs (Some freqs)) ≡ docs
@@ -30,8 +31,17 @@ docs_are n docs (Some freqs) a =
     let many = a.many in
     docs_of docs freqs (omega arith)
 
-pub length-entries : (n : ℕ) (docs : List ℕ) (freqs : Option (List ℕ)) → AreEntries n docs freqs → length (entries_of docs freqs) ≡ length docs
-length-entries n docs freqs a = sym (length-map (entries_of docs freqs) (λ (e : Entry). e.doc)) ∙ ap length (docs_are n docs freqs a)
+-- and so it is with their positions
+located_docs : (pss : List (List ℕ)) (es : List Entry) → map (λ (e : Entry). e.doc) (located pss es) ≡ map (λ (e : Entry). e.doc) es
+located_docs [] es = refl
+located_docs (ps ∷ pss) [] = refl
+located_docs (ps ∷ pss) (e ∷ es) = ap (λ (later : List ℕ). e.doc ∷ later) (located_docs pss es)
+
+pub list_docs : (n : ℕ) (docs : List ℕ) (freqs deltas : Option (List ℕ)) → AreEntries n docs freqs → map (λ (e : Entry). e.doc) (list_of docs freqs deltas) ≡ docs
+list_docs n docs freqs deltas a = located_docs (positions_if freqs deltas) (entries_of docs freqs) ∙ docs_are n docs freqs a
+
+pub length-list : (docs : List ℕ) (es : List Entry) → map (λ (e : Entry). e.doc) es ≡ docs → length es ≡ length docs
+length-list docs es are = sym (length-map es (λ (e : Entry). e.doc)) ∙ ap length are
 
 -- the current document of what is left from a place on
 pub doc_at_drop : (es : List Entry) (i : ℕ) → get_or (map (λ (e : Entry). e.doc) es) i 2147483647 ≡ doc_at (drop i es)
@@ -40,23 +50,19 @@ doc_at_drop [] (suc i) = refl
 doc_at_drop (e ∷ es) zero = refl
 doc_at_drop (e ∷ es) (suc i) = doc_at_drop es i
 
-pub doc_at_place : (n : ℕ) (docs : List ℕ) (freqs : Option (List ℕ)) (block cur : ℕ) → AreEntries n docs freqs → cur < 128 → doc_in_block docs block cur ≡ doc_at (drop (128 * block + cur) (entries_of docs freqs))
-doc_at_place n docs freqs block cur a within =
+pub doc_at_place : (docs : List ℕ) (es : List Entry) (block cur : ℕ) → map (λ (e : Entry). e.doc) es ≡ docs → cur < 128 → doc_in_block docs block cur ≡ doc_at (drop (128 * block + cur) es)
+doc_at_place docs es block cur are within =
     get_or-take 128 (drop (128 * block) docs) cur 2147483647 within ∙ get_or-drop (128 * block) docs cur 2147483647
-    ∙ ap (λ (ds : List ℕ). get_or ds (128 * block + cur) 2147483647) (sym (docs_are n docs freqs a)) ∙ doc_at_drop (entries_of docs freqs) (128 * block + cur)
+    ∙ ap (λ (ds : List ℕ). get_or ds (128 * block + cur) 2147483647) (sym are) ∙ doc_at_drop es (128 * block + cur)
 
 -- its count
-one_at : (docs : List ℕ) (i : ℕ) → 1 ≡ term_freq_at (drop i (map document docs))
-one_at [] zero = refl
-one_at [] (suc i) = refl
-one_at (d ∷ ds) zero = refl
-one_at (d ∷ ds) (suc i) = one_at ds i
-
-freq_at : (docs freqs : List ℕ) (i : ℕ) → length freqs ≡ length docs → i < length docs → get_or freqs i 0 ≡ term_freq_at (drop i (entries_of docs (Some freqs)))
-freq_at [] freqs i many within = absurd (omega arith)
-freq_at (d ∷ ds) [] i many within = absurd (omega arith)
-freq_at (d ∷ ds) (f ∷ fs) zero many within = refl
-freq_at (d ∷ ds) (f ∷ fs) (suc i) many within = freq_at ds fs i (omega arith) (omega arith)
+freq_at : (docs freqs : List ℕ) (pss : List (List ℕ)) (i : ℕ) → length freqs ≡ length docs → i < length docs → get_or freqs i 0 ≡ term_freq_at false (drop i (located pss (entries_of docs (Some freqs))))
+freq_at [] freqs pss i many within = absurd (omega arith)
+freq_at (d ∷ ds) [] pss i many within = absurd (omega arith)
+freq_at (d ∷ ds) (f ∷ fs) [] zero many within = refl
+freq_at (d ∷ ds) (f ∷ fs) (ps ∷ pss) zero many within = refl
+freq_at (d ∷ ds) (f ∷ fs) [] (suc i) many within = freq_at ds fs [] i (omega arith) (omega arith)
+freq_at (d ∷ ds) (f ∷ fs) (ps ∷ pss) (suc i) many within = freq_at ds fs pss i (omega arith) (omega arith)
 
 inside_cases : (docs : List ℕ) (block cur : ℕ) (t : Bool) → nat_lt cur (length (block_of docs block)) ≡ t → doc_in_block docs block cur < 2147483647 → cur < length (block_of docs block)
 inside_cases docs block cur true test below = ltb-true cur (length (block_of docs block)) test
@@ -65,21 +71,21 @@ inside_cases docs block cur false test below =
     absurd (omega arith)
 
 -- a current document lies in its block
-pub inside : (n : ℕ) (docs : List ℕ) (freqs : Option (List ℕ)) (block cur : ℕ) → AreEntries n docs freqs → cur < 128 → doc_at (drop (128 * block + cur) (entries_of docs freqs)) < 2147483647 → cur < length (block_of docs block)
-inside n docs freqs block cur a within below =
-    let same = doc_at_place n docs freqs block cur a within in
+pub inside : (docs : List ℕ) (es : List Entry) (block cur : ℕ) → map (λ (e : Entry). e.doc) es ≡ docs → cur < 128 → doc_at (drop (128 * block + cur) es) < 2147483647 → cur < length (block_of docs block)
+inside docs es block cur are within below =
+    let same = doc_at_place docs es block cur are within in
     inside_cases docs block cur (nat_lt cur (length (block_of docs block))) refl (omega arith)
 
-pub freq_at_place : (n : ℕ) (docs : List ℕ) (freqs : Option (List ℕ)) (block cur : ℕ) → AreEntries n docs freqs → cur < 128 → (is_some freqs ≡ true → doc_at (drop (128 * block + cur) (entries_of docs freqs)) < 2147483647)
-    → freq_in_block freqs block cur ≡ term_freq_at (drop (128 * block + cur) (entries_of docs freqs))
-freq_at_place n docs None block cur a within current = one_at docs (128 * block + cur)
-freq_at_place n docs (Some freqs) block cur a within current =
+pub freq_at_place : (n : ℕ) (docs : List ℕ) (freqs deltas : Option (List ℕ)) (block cur : ℕ) → AreEntries n docs freqs → cur < 128 → (is_some freqs ≡ true → doc_at (drop (128 * block + cur) (list_of docs freqs deltas)) < 2147483647)
+    → freq_in_block freqs block cur ≡ term_freq_at (not (is_some freqs)) (drop (128 * block + cur) (list_of docs freqs deltas))
+freq_at_place n docs None deltas block cur a within current = refl
+freq_at_place n docs (Some freqs) deltas block cur a within current =
     let count = (a.freqs_are freqs refl).many in
     let many = a.many in
-    let low = inside n docs (Some freqs) block cur a within (current refl) in
+    let low = inside docs (list_of docs (Some freqs) deltas) block cur (list_docs n docs (Some freqs) deltas a) within (current refl) in
     let size = length-take 128 (drop (128 * block) docs) in
     let left = length-drop (128 * block) docs in
-    get_or-take 128 (drop (128 * block) freqs) cur 0 within ∙ get_or-drop (128 * block) freqs cur 0 ∙ freq_at docs freqs (128 * block + cur) (omega arith) (omega arith)
+    get_or-take 128 (drop (128 * block) freqs) cur 0 within ∙ get_or-drop (128 * block) freqs cur 0 ∙ freq_at docs freqs (positions_if (Some freqs) deltas) (128 * block + cur) (omega arith) (omega arith)
 
 -- what is left is sound
 ascending_from : (least : ℕ) (es : List Entry) → ascend_from least (map (λ (e : Entry). e.doc) es) ≡ true → IsAscending es × (least ≤ 2147483647 → least ≤ doc_at es)
@@ -108,8 +114,34 @@ entries_sound n docs (Some freqs) a =
     let up = ap are_documents (docs_are n docs (Some freqs) a) ∙ a.ascending in
     record { ascending = (ascending_from 0 (entries_of docs (Some freqs)) up).0; fits = counts_fit docs freqs (a.freqs_are freqs refl).low }
 
-pub rest_sound : (n : ℕ) (docs : List ℕ) (freqs : Option (List ℕ)) (i : ℕ) → AreEntries n docs freqs → IsSound (drop i (entries_of docs freqs))
-rest_sound n docs freqs i a = IsSound_drop i (entries_of docs freqs) (entries_sound n docs freqs a)
+-- and so is the list with positions of 32 bits
+low_all : (ps : List ℕ) → fit_u32 ps ≡ true → All (λ (p : ℕ). p < 2 ^ 32) ps
+low_all ps low k d within = ltb-true (get_or ps k d) (2 ^ 32) (at_all ps k d low within)
+  where
+    at_all : (ps : List ℕ) (k d : ℕ) → fit_u32 ps ≡ true → k < length ps → nat_lt (get_or ps k d) (2 ^ 32) ≡ true
+    at_all [] k d low within = absurd (omega arith)
+    at_all (p ∷ ps) zero d low within = (and_parts (nat_lt p (2 ^ 32)) (fit_u32 ps) low).0
+    at_all (p ∷ ps) (suc k) d low within = at_all ps k d (and_parts (nat_lt p (2 ^ 32)) (fit_u32 ps) low).1 (omega arith)
+
+located_fits : (pss : List (List ℕ)) (es : List Entry) → list_all fit_u32 pss ≡ true → All FitsU32 es → All FitsU32 (located pss es)
+located_fits [] es low fits = fits
+located_fits (ps ∷ pss) [] low fits = fits
+located_fits (ps ∷ pss) (e ∷ es) low fits =
+    let parts = and_parts (fit_u32 ps) (list_all fit_u32 pss) low in
+    let first = All-head FitsU32 e es fits in
+    let later = located_fits pss es parts.1 (All-tail FitsU32 e es fits) in
+    All-cons FitsU32 _ (located pss es) (first.0, low_all ps parts.0) later
+
+positions_fit : (freqs deltas : Option (List ℕ)) → AreDeltas freqs deltas → list_all fit_u32 (positions_if freqs deltas) ≡ true
+positions_fit None deltas a = refl
+positions_fit (Some fs) None a = refl
+positions_fit (Some fs) (Some ds) a = a.fit
+
+pub rest_sound : (n : ℕ) (docs : List ℕ) (freqs deltas : Option (List ℕ)) (i : ℕ) → AreEntries n docs freqs → AreDeltas freqs deltas → IsSound (drop i (list_of docs freqs deltas))
+rest_sound n docs freqs deltas i a d =
+    let up = ap are_documents (list_docs n docs freqs deltas a) ∙ a.ascending in
+    let fits = located_fits (positions_if freqs deltas) (entries_of docs freqs) (positions_fit freqs deltas d) (entries_sound n docs freqs a).fits in
+    IsSound_drop i (list_of docs freqs deltas) (record { ascending = (ascending_from 0 (list_of docs freqs deltas) up).0; fits = fits })
 
 -- one place on in the block, and on to the next block
 pub next_place : (es : List Entry) (block cur : ℕ) → drop (128 * block + (cur + 1)) es ≡ drop 1 (drop (128 * block + cur) es)

@@ -8,12 +8,11 @@ use Rattle.ii_docset.proofs.CursorLemmas.{advanced, from_doc_step, from_doc_here
 use Rattle.ii_codes.specs.BlockDecoder.{BlockDecoderState, decodes_of}
 use Rattle.ii_layout.specs.SkipReader.{SkipReaderState}
 use Rattle.ii_layout.specs.Written.{block_of}
-use Rattle.ii_layout.specs.Postings.{entries_of}
 use Rattle.ii_layout.proofs.BlockDocs.{document_more, get_or-block_of}
 use Rattle.ii_check.specs.CheckedPostings.{AreFreqs, CheckedPostingsState, HasDocuments, HoldsFreqs, IsAtBlock, LoadsBlock, LoadsFreqs, SeeksBlock}
 use Rattle.ii_reader.specs.BlockSegmentPostings.{AreEntries, GoesTo, IsBelow, IsLoaded, IsSought}
 use Rattle.ii_reader.proofs.BlockLemmas.{decodes_most, freqs_loaded, state_of}
-use Rattle.ii_reader.proofs.CursorLemmas.{docs_are, doc_at_drop, length-entries, rest_sound}
+use Rattle.ii_reader.proofs.CursorLemmas.{doc_at_drop}
 
 -- documents in order
 rises_by : (docs : List ℕ) (i n : ℕ) → are_documents docs ≡ true → i + n < length docs → get_or docs i 0 ≤ get_or docs (i + n) 0
@@ -133,51 +132,46 @@ end_cases target docs es i k below false s docs_are up test =
     omega arith
 
 -- Where a cursor over entries stood, and where a seek left it.
-pub record Moved (target : ℕ) (docs : List ℕ) (freqs : Option (List ℕ)) (i cur k below : ℕ) : Type 0 where
-  pub entries : AreEntries (length docs) docs freqs
+pub record Moved (target : ℕ) (docs : List ℕ) (es : List Entry) (i cur k below : ℕ) : Type 0 where
+  pub are : map (λ (e : Entry). e.doc) es ≡ docs
+  pub ascending : IsAscending (drop (128 * k + below) es)
   pub up : target ≤ 2147483647
   pub within : cur < 128
-  pub current : doc_at (drop (128 * i + cur) (entries_of docs freqs)) < target
+  pub current : doc_at (drop (128 * i + cur) es) < target
   pub sought : IsSought target docs i k below
 
-current_inside : (target : ℕ) (docs : List ℕ) (freqs : Option (List ℕ)) (i cur k below : ℕ) (t : Bool) → Moved target docs freqs i cur k below → nat_lt (128 * i + cur) (length docs) ≡ t → 128 * i + cur < length docs
-current_inside target docs freqs i cur k below true m test = ltb-true (128 * i + cur) (length docs) test
-current_inside target docs freqs i cur k below false m test =
+current_inside : (target : ℕ) (docs : List ℕ) (es : List Entry) (i cur k below : ℕ) (t : Bool) → Moved target docs es i cur k below → nat_lt (128 * i + cur) (length docs) ≡ t → 128 * i + cur < length docs
+current_inside target docs es i cur k below true m test = ltb-true (128 * i + cur) (length docs) test
+current_inside target docs es i cur k below false m test =
     let past = ltb-false (128 * i + cur) (length docs) test in
-    let es = entries_of docs freqs in
-    let here = sym (doc_at_drop es (128 * i + cur)) ∙ ap (λ (ds : List ℕ). get_or ds (128 * i + cur) 2147483647) (docs_are (length docs) docs freqs m.entries) ∙ get_or_past docs (128 * i + cur) 2147483647 past in
+    let here = sym (doc_at_drop es (128 * i + cur)) ∙ ap (λ (ds : List ℕ). get_or ds (128 * i + cur) 2147483647) m.are ∙ get_or_past docs (128 * i + cur) 2147483647 past in
     let up = m.up in
     let less = m.current in
     absurd (omega arith)
 
-order_cases : (target : ℕ) (docs : List ℕ) (freqs : Option (List ℕ)) (i cur k below : ℕ) (t : Bool) → Moved target docs freqs i cur k below → nat_lt (128 * i + cur) (128 * k + below) ≡ t → 128 * i + cur < 128 * k + below
-order_cases target docs freqs i cur k below true m test = ltb-true (128 * i + cur) (128 * k + below) test
-order_cases target docs freqs i cur k below false m test =
+order_cases : (target : ℕ) (docs : List ℕ) (es : List Entry) (i cur k below : ℕ) (t : Bool) → Moved target docs es i cur k below → nat_lt (128 * i + cur) (128 * k + below) ≡ t → 128 * i + cur < 128 * k + below
+order_cases target docs es i cur k below true m test = ltb-true (128 * i + cur) (128 * k + below) test
+order_cases target docs es i cur k below false m test =
     let past = ltb-false (128 * i + cur) (128 * k + below) test in
-    let inside = current_inside target docs freqs i cur k below (nat_lt (128 * i + cur) (length docs)) m refl in
-    let es = entries_of docs freqs in
-    let here = sym (doc_at_drop es (128 * i + cur)) ∙ ap (λ (ds : List ℕ). get_or ds (128 * i + cur) 2147483647) (docs_are (length docs) docs freqs m.entries) ∙ sym (get_or_default docs (128 * i + cur) 0 2147483647 inside) in
+    let inside = current_inside target docs es i cur k below (nat_lt (128 * i + cur) (length docs)) m refl in
+    let here = sym (doc_at_drop es (128 * i + cur)) ∙ ap (λ (ds : List ℕ). get_or ds (128 * i + cur) 2147483647) m.are ∙ sym (get_or_default docs (128 * i + cur) 0 2147483647 inside) in
     let enough = m.sought.after (128 * i + cur) past inside in
     let less = m.current in
     absurd (omega arith)
 
 -- what is left is what the target leaves
-pub rest_sought : (target : ℕ) (docs : List ℕ) (freqs : Option (List ℕ)) (i cur k below : ℕ) → Moved target docs freqs i cur k below
-    → drop (128 * k + below) (entries_of docs freqs) ≡ from_doc target (drop (128 * i + cur) (entries_of docs freqs))
-rest_sought target docs freqs i cur k below m =
-    let es = entries_of docs freqs in
-    let are = docs_are (length docs) docs freqs m.entries in
-    let order = order_cases target docs freqs i cur k below (nat_lt (128 * i + cur) (128 * k + below)) m refl in
+pub rest_sought : (target : ℕ) (docs : List ℕ) (es : List Entry) (i cur k below : ℕ) → Moved target docs es i cur k below → drop (128 * k + below) es ≡ from_doc target (drop (128 * i + cur) es)
+rest_sought target docs es i cur k below m =
+    let order = order_cases target docs es i cur k below (nat_lt (128 * i + cur) (128 * k + below)) m refl in
     let far = 128 * k + below - (128 * i + cur) in
     let place : 128 * i + cur + far ≡ 128 * k + below = omega arith in
     let here = m.sought.here in
     let size = length-take 128 (drop (128 * k) docs) in
     let left = length-drop (128 * k) docs in
     let reach = m.sought.within in
-    let inside = current_inside target docs freqs i cur k below (nat_lt (128 * i + cur) (length docs)) m refl in
-    let gone = dropped target es (128 * i + cur) far m.up (λ n low high. doc_low target docs es i k below (128 * i + cur) n m.sought are (omega arith) low (omega arith) (omega arith)) in
-    let sound = rest_sound (length docs) docs freqs (128 * k + below) m.entries in
-    let stays = from_doc_here target (drop (128 * k + below) es) sound.ascending (end_cases target docs es i k below (nat_lt (128 * k + below) (length docs)) m.sought are m.up refl) in
+    let inside = current_inside target docs es i cur k below (nat_lt (128 * i + cur) (length docs)) m refl in
+    let gone = dropped target es (128 * i + cur) far m.up (λ n low high. doc_low target docs es i k below (128 * i + cur) n m.sought m.are (omega arith) low (omega arith) (omega arith)) in
+    let stays = from_doc_here target (drop (128 * k + below) es) m.ascending (end_cases target docs es i k below (nat_lt (128 * k + below) (length docs)) m.sought m.are m.up refl) in
     sym (gone ∙ ap (λ (n : ℕ). from_doc target (drop n es)) place ∙ stays)
 
 -- the place of an answer lies in its block

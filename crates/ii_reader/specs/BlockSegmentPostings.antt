@@ -1,6 +1,7 @@
 -- A cursor over the blocks of a term's list.
-use Rattle.std.specs.Prelude.{◌≡◌, ℕ, ◌+◌, ◌-◌, ◌*◌, ◌/◌, ◌<◌, ◌≤◌, max, true, List, [], length, min, Option, None, Some, slice_index}
-use Rattle.std.specs.List.{slice_index_or}
+use Rattle.std.specs.Prelude.{◌≡◌, ℕ, ◌+◌, ◌-◌, ◌*◌, ◌/◌, ◌<◌, ◌≤◌, max, true, List, [], length, take, min, ⊤, Option, None, Some, slice_index}
+use Rattle.std.specs.List.{slice_index_or, sum}
+use Rattle.ii_base.specs.declared.schema.index_record_option.IndexRecordOption.{IndexRecordOption}
 use Rattle.ii_docset.specs.declared.docset.TheConstants.{TERMINATED}
 use Rattle.ii_docset.specs.Entries.{are_documents}
 use Rattle.ii_codes.specs.BlockDecoder.{BlockDecoderState}
@@ -9,8 +10,10 @@ use Rattle.ii_layout.specs.Written.{block_of}
 use Rattle.ii_check.specs.declared.freq_reading_option.FreqReadingOption.{FreqReadingOption}
 use Rattle.ii_check.specs.CheckedPostings.{AreFreqs, CheckedPostingsState, HasDocuments, HoldsBlock, HoldsFreqs, IsAtBlock}
 
--- the documents of the list and, where they are read, their counts; whether these are read; the number of the block; how many decodes of documents and of counts there were, and how many skip entries were read
+-- the option that the field records, and the one that is requested; the documents of the list and, where they are read, their counts; whether these are read; the number of the block; how many decodes of documents and of counts there were, and how many skip entries were read
 pub record BlockSegmentPostingsState : Type 0 where
+  pub recorded : IndexRecordOption
+  pub requested : IndexRecordOption
   pub docs : List ℕ
   pub freqs : Option (List ℕ)
   pub freq_reading : FreqReadingOption
@@ -44,6 +47,11 @@ pub record AreEntries (n : ℕ) (docs : List ℕ) (freqs : Option (List ℕ)) : 
   pub ascending : are_documents docs ≡ true
   pub freqs_are : (fs : List ℕ) → freqs ≡ Some fs → AreFreqs n fs
 
+-- So many positions come before a document of a list, by its place: the sum of all counts before it.
+abbrev pub ComeBefore : Option (List ℕ) → ℕ → ℕ → Type 0
+ComeBefore None place offset = ⊤
+ComeBefore (Some freqs) place offset = offset ≡ sum (take place freqs)
+
 -- Every block up to here was decoded at most once, its documents and its counts, and every skip entry read at most once. The empty block after the last is the end.
 pub record IsLazy (c : BlockSegmentPostingsState) : Type 0 where
   pub within : c.block ≤ length c.docs / 128 + 1
@@ -53,6 +61,8 @@ pub record IsLazy (c : BlockSegmentPostingsState) : Type 0 where
 
 -- A cursor goes on to a block: the list stays, and a decode is only where the block is another one.
 pub record GoesTo (old new : BlockSegmentPostingsState) (to : ℕ) : Type 0 where
+  pub recorded : new.recorded ≡ old.recorded
+  pub requested : new.requested ≡ old.requested
   pub docs : new.docs ≡ old.docs
   pub freqs : new.freqs ≡ old.freqs
   pub freq_reading : new.freq_reading ≡ old.freq_reading

@@ -1,9 +1,15 @@
--- A cursor over the documents of a term.
-use Rattle.std.specs.Prelude.{ℕ, ◌+◌, ◌≤◌, List, [], ◌∷◌}
+-- A cursor over the documents of a term, with their counts and positions.
+use Rattle.std.specs.Prelude.{◌≡◌, ℕ, ◌+◌, ◌/◌, ◌≤◌, true, List, Option, None, Some, length, ⊤, ⊥}
+use Rattle.std.specs.List.{sum, list_all}
+use Rattle.ii_base.specs.Options.{downgrade, has_positions}
+use Rattle.ii_codes.specs.Sums.{fit_u32}
 use Rattle.ii_docset.specs.Entries.{Entry}
+use Rattle.ii_layout.specs.Positions.{positions_of}
+use Rattle.ii_layout.specs.PositionReader.{PositionReaderState}
 use Rattle.ii_check.specs.declared.freq_reading_option.FreqReadingOption.{FreqReadingOption}
+use Rattle.ii_reader.specs.BlockSegmentPostings.{BlockSegmentPostingsState}
 
--- what is left of its list, how many documents the list has, whether counts are read, the number of the block, and how many decodes of documents and of counts there were
+-- what is left of its list, how many documents the list has, whether counts are read, the number of the block, and how many decodes of documents, of counts and of positions there were
 pub record SegmentPostingsState : Type 0 where
   pub rest : List Entry
   pub doc_freq : ℕ
@@ -11,14 +17,46 @@ pub record SegmentPostingsState : Type 0 where
   pub block : ℕ
   pub doc_decodes : ℕ
   pub freq_decodes : ℕ
+  pub position_decodes : ℕ
 
--- the count of the current document; 1 after the last one, where no count is asked for unless each is 1
-abbrev pub term_freq_at : List Entry → ℕ
-term_freq_at [] = 1
-term_freq_at (e ∷ es) = e.term_freq
+-- how many decodes of positions there were
+abbrev pub decodes_read : Option PositionReaderState → ℕ
+decodes_read None = 0
+decodes_read (Some reader) = reader.decodes
 
--- The cursor went forward, and decoded documents and counts no more often than its block number rose.
+-- Deltas are the positions of documents with these counts: as many as these say, and each position has 32 bits.
+pub record HasDeltas (freqs deltas : List ℕ) : Type 0 where
+  pub many : length deltas ≡ sum freqs
+  pub fit : list_all fit_u32 (positions_of freqs deltas) ≡ true
+
+-- So it is where there are deltas.
+abbrev pub AreDeltas : Option (List ℕ) → Option (List ℕ) → Type 0
+AreDeltas freqs None = ⊤
+AreDeltas None (Some deltas) = ⊥
+AreDeltas (Some freqs) (Some deltas) = HasDeltas freqs deltas
+
+-- Deltas belong to a cursor whose field records positions, which are requested.
+abbrev pub FitCursor : BlockSegmentPostingsState → Option (List ℕ) → Type 0
+FitCursor cursor None = ⊤
+FitCursor cursor (Some deltas) = (has_positions (downgrade cursor.recorded cursor.requested) ≡ true) × AreDeltas cursor.freqs (Some deltas)
+
+-- The cursor went forward over its list, and decoded documents and counts no more often than its block number rose.
 pub record WentLazily (old new : SegmentPostingsState) : Type 0 where
+  pub doc_freq : new.doc_freq ≡ old.doc_freq
+  pub freq_reading : new.freq_reading ≡ old.freq_reading
   pub forward : old.block ≤ new.block
   pub doc_decodes : new.doc_decodes + old.block ≤ old.doc_decodes + new.block
   pub freq_decodes : new.freq_decodes + old.block ≤ old.freq_decodes + new.block
+
+-- At most one block was decoded, its documents and its counts, and no positions were.
+pub record DecodesOnce (old new : SegmentPostingsState) : Type 0 where
+  pub doc_decodes : new.doc_decodes ≤ old.doc_decodes + 1
+  pub freq_decodes : new.freq_decodes ≤ old.freq_decodes + 1
+  pub position_decodes : new.position_decodes ≡ old.position_decodes
+
+-- No block was decoded but of positions: those in which so many lie.
+pub record DecodesPositions (count : ℕ) (old new : SegmentPostingsState) : Type 0 where
+  pub block : new.block ≡ old.block
+  pub doc_decodes : new.doc_decodes ≡ old.doc_decodes
+  pub freq_decodes : new.freq_decodes ≡ old.freq_decodes
+  pub position_decodes : new.position_decodes ≤ old.position_decodes + count / 128 + 2

@@ -1,18 +1,21 @@
-ghost use Rattle.std.specs.Prelude.{◌≡◌, ◌+◌, ◌/◌, ◌<◌, ◌≤◌, [], length, min, None, Ok, Err, IfOk, IfErr, IsSome};
+ghost use Rattle.std.specs.Prelude.{◌≡◌, ◌+◌, ◌*◌, ◌/◌, ◌<◌, ◌≤◌, ⊤, [], length, min, true, is_some, None, Some, Ok, Err, IfOk, IfErr, OnErr, IsSome, MatchOption};
 ghost use Rattle.ii_docset.specs.declared.docset.TheConstants.{TERMINATED};
 ghost use Rattle.ii_io.specs.Parts.{part_of};
-ghost use Rattle.ii_layout.specs.Postings.{posting_list, entries_of};
+ghost use Rattle.ii_base.specs.Options.{downgrade, has_positions};
+ghost use Rattle.ii_layout.specs.TermList.{deltas_if, docs_and_freqs};
 ghost use Rattle.ii_layout.specs.Written.{block_of};
 ghost use Rattle.ii_check.specs.CheckedPostings.{SeeksBlock};
+ghost use Rattle.ii_check.specs.CheckedPostings.{is_read};
 ghost use Rattle.ii_check.specs.FreqReading.{freq_reading};
-ghost use Rattle.ii_reader.specs.BlockSegmentPostings.{AreEntries, GoesTo, IsBelow, IsLazy, IsSought, doc_in_block, first_decodes, freq_in_block, freqs_of_block};
+ghost use Rattle.ii_check.specs.Positions.{deltas_read};
+ghost use Rattle.ii_reader.specs.BlockSegmentPostings.{AreEntries, ComeBefore, GoesTo, IsBelow, IsLazy, IsSought, doc_in_block, first_decodes, freq_in_block, freqs_of_block};
 
 use bytes::Bytes;
-use ii_base::{IndexRecordOption, LayoutFault};
+use ii_base::{IndexRecordOption, LayoutFault, Part};
 use ii_check::{CheckedPostings, FreqReadingOption, NO_FREQ};
 use ii_codes::BlockDecoder;
 use ii_docset::{DocId, TERMINATED};
-use ii_layout::SkipReader;
+use ii_layout::{PositionReader, SkipReader};
 use std::marker::Model;
 
 /// A cursor over the blocks of a term's postings, of which it holds one, decoded: block b has the
@@ -32,6 +35,8 @@ impl Model for BlockSegmentPostings {
     ghost Value = { BlockSegmentPostingsState };
 
     ghost view = { λ c. record {
+      recorded = c.checked.recorded;
+      requested = c.checked.requested;
       docs = c.checked.postings.docs;
       freqs = c.checked.postings.freqs;
       freq_reading = c.checked.freq_reading;
@@ -55,7 +60,8 @@ impl BlockSegmentPostings {
         record_option: IndexRecordOption,
         requested_option: IndexRecordOption,
     ) -> Result<BlockSegmentPostings, LayoutFault>
-        ensures ok { IfOk result (λ cursor. posting_list record_option requested_option doc_freq bytes ≡ Ok (entries_of cursor.docs cursor.freqs)) }
+        ensures ok { IfOk result (λ cursor. docs_and_freqs record_option requested_option doc_freq bytes ≡ Ok (cursor.docs, cursor.freqs)) }
+        ensures options { IfOk result (λ cursor. (cursor.recorded ≡ record_option) × (cursor.requested ≡ requested_option)) }
         ensures reading { IfOk result (λ cursor. freq_reading record_option requested_option doc_freq bytes ≡ Ok cursor.freq_reading) }
         ensures entries { IfOk result (λ cursor. AreEntries doc_freq cursor.docs cursor.freqs) }
         ensures first { IfOk result (λ cursor. cursor.block ≡ 0) }
@@ -63,7 +69,7 @@ impl BlockSegmentPostings {
         ensures doc_decodes { IfOk result (λ cursor. cursor.doc_decodes ≡ min 1 doc_freq) }
         ensures freq_decodes { IfOk result (λ cursor. cursor.freq_decodes ≡ first_decodes cursor.freqs doc_freq) }
         ensures entries_read { IfOk result (λ cursor. cursor.entries_read ≡ min 1 (doc_freq / 128)) }
-        ensures err { IfErr result (λ fault. posting_list record_option requested_option doc_freq bytes ≡ Err (part_of fault)) }
+        ensures err { IfErr result (λ fault. docs_and_freqs record_option requested_option doc_freq bytes ≡ Err (part_of fault)) }
     {
         let opened = CheckedPostings::open(doc_freq, bytes, record_option, requested_option);
         let (checked, doc_decoder, freq_decoder) = match opened {
@@ -81,7 +87,7 @@ impl BlockSegmentPostings {
 
     /// A cursor over no documents, whose counts aren't read.
     pub fn empty() -> BlockSegmentPostings
-        ensures { result ≡ record { docs = []; freqs = None; freq_reading = FreqReadingOption.NoFreq; block = 0; doc_decodes = 0; freq_decodes = 0; entries_read = 0 } }
+        ensures { result ≡ record { recorded = IndexRecordOption.Basic; requested = IndexRecordOption.Basic; docs = []; freqs = None; freq_reading = FreqReadingOption.NoFreq; block = 0; doc_decodes = 0; freq_decodes = 0; entries_read = 0 } }
     {
         let checked = CheckedPostings::empty();
         let skip = checked.skip_reader();
@@ -102,13 +108,15 @@ impl BlockSegmentPostings {
 
     /// Whether counts are read.
     pub fn freq_reading_option(&self) -> FreqReadingOption
-        ensures { result ≡ self.now.freq_reading }
+        ensures option { result ≡ self.now.freq_reading }
+        ensures read { is_some self.now.freqs ≡ is_read result }
     {
         self.checked.freq_reading_option()
     }
 
     /// The documents of the block.
     pub fn docs(&self) -> &[DocId]
+        ensures entries { AreEntries (length self.now.docs) self.now.docs self.now.freqs }
         ensures docs { result.now ≡ block_of self.now.docs self.now.block }
         ensures lazy { IsLazy self.now }
     {
@@ -147,6 +155,35 @@ impl BlockSegmentPostings {
         ensures { result ≡ length (block_of self.now.docs self.now.block) }
     {
         self.docs().len()
+    }
+
+    // How many positions come before those of the document at `idx`, which lies in the block. Counts
+    // are read, and the field records positions.
+    pub(crate) fn position_offset(&self, idx: usize) -> u64
+        requires recorded { has_positions self.now.recorded ≡ true }
+        requires read { IsSome self.now.freqs }
+        requires inside { idx < length (block_of self.now.docs self.now.block) }
+        ensures { ComeBefore self.now.freqs (128 * self.now.block + idx) result }
+    {
+        let mut offset = self.skip.position_offset();
+        for freq in &self.freq_decoder.output_array()[..idx] {
+            offset += u64::from(*freq);
+        }
+        offset
+    }
+
+    // A reader of the positions that bytes hold, where these are read; or `Positions`.
+    pub(crate) fn open_positions(
+        &self,
+        bytes: Option<Bytes>,
+    ) -> Result<Option<PositionReader>, LayoutFault>
+        ensures ok { IfOk result (λ opened. deltas_if (has_positions (downgrade self.now.recorded self.now.requested)) self.now.freqs bytes
+            ≡ Some (deltas_read opened)) }
+        ensures decodes { IfOk result (λ opened. MatchOption opened ⊤ (λ reader. reader.decodes ≤ 1)) }
+        ensures refused { OnErr result (deltas_if (has_positions (downgrade self.now.recorded self.now.requested)) self.now.freqs bytes ≡ None) }
+        ensures err { IfErr result (λ fault. fault ≡ LayoutFault.Damaged Part.Positions) }
+    {
+        self.checked.open_positions(bytes)
     }
 
     /// Goes on to the first block, from the current one on, whose last document isn't below `target`,

@@ -1,19 +1,21 @@
-ghost use Rattle.std.specs.Prelude.{◌≡◌, ◌+◌, ◌<◌, ◌≤◌, false, not, [], drop, Ok, Err, IfOk, IfErr, IsTrue};
-ghost use Rattle.ii_base.specs.Options.{downgrade, has_positions};
+ghost use Rattle.std.specs.Prelude.{◌≡◌, ◌+◌, ◌*◌, ◌/◌, ◌^◌, ◌<◌, ◌≤◌, ◌⊎◌, ◌++◌, not, [], drop, take, length, map, Ok, Err, IfOk, IfErr, OnOk, OnErr, IsTrue};
+ghost use Rattle.std.specs.List.{All};
 ghost use Rattle.ii_io.specs.Parts.{part_of};
-ghost use Rattle.ii_docset.specs.declared.docset.TheConstants.{TERMINATED};
-ghost use Rattle.ii_docset.specs.Cursor.{doc_at, from_doc, IsSound, IsTarget};
-ghost use Rattle.ii_layout.specs.Postings.{posting_list};
+ghost use Rattle.ii_codes.specs.Sums.{fit_u32, running_sums};
+ghost use Rattle.ii_docset.specs.Cursor.{doc_at, from_doc, positions_at, term_freq_at, IsCurrent, IsSound, IsTarget};
+ghost use Rattle.ii_layout.specs.TermList.{list_of, term_list};
 ghost use Rattle.ii_check.specs.CheckedPostings.{is_read};
 ghost use Rattle.ii_check.specs.FreqReading.{freq_reading};
-ghost use Rattle.ii_reader.specs.SegmentPostings.{WentLazily, term_freq_at};
+ghost use Rattle.ii_check.specs.Positions.{deltas_read};
+ghost use Rattle.ii_reader.specs.SegmentPostings.{DecodesOnce, DecodesPositions, FitCursor, WentLazily, decodes_read};
 
 use super::block_segment_postings::BlockSegmentPostings;
 use bytes::Bytes;
-use ii_base::{HasLen, IndexRecordOption, LayoutFault};
+use ii_base::{Fault, HasLen, IndexRecordOption, LayoutFault};
 use ii_check::FreqReadingOption;
 use ii_codes::COMPRESSION_BLOCK_SIZE;
-use ii_docset::{DocId, DocSet};
+use ii_docset::{DocId, DocSet, Postings};
+use ii_layout::PositionReader;
 use std::marker::Model;
 
 /// A cursor over the postings of a term, which holds one decoded block.
@@ -21,53 +23,57 @@ use std::marker::Model;
 pub struct SegmentPostings {
     block_cursor: BlockSegmentPostings,
     cur: usize,
+    position_reader: Option<PositionReader>,
 }
 
 impl Model for SegmentPostings {
     ghost use Rattle.std.specs.Prelude.{◌≡◌, ◌+◌, ◌*◌, ◌/◌, ◌<◌, ◌≤◌, drop, length, is_some};
-    ghost use Rattle.ii_layout.specs.Postings.{entries_of};
+    ghost use Rattle.ii_layout.specs.TermList.{list_of};
     ghost use Rattle.ii_check.specs.CheckedPostings.{is_read};
+    ghost use Rattle.ii_check.specs.Positions.{deltas_read};
     ghost use Rattle.ii_reader.specs.BlockSegmentPostings.{AreEntries};
-    ghost use Rattle.ii_reader.specs.SegmentPostings.{SegmentPostingsState};
+    ghost use Rattle.ii_reader.specs.SegmentPostings.{FitCursor, SegmentPostingsState, decodes_read};
 
     ghost Value = { SegmentPostingsState };
 
     ghost view = { λ s. record {
-      rest = drop (128 * s.block_cursor.block + s.cur) (entries_of s.block_cursor.docs s.block_cursor.freqs);
+      rest = drop (128 * s.block_cursor.block + s.cur) (list_of s.block_cursor.docs s.block_cursor.freqs (deltas_read s.position_reader));
       doc_freq = length s.block_cursor.docs;
       freq_reading = s.block_cursor.freq_reading;
       block = s.block_cursor.block;
       doc_decodes = s.block_cursor.doc_decodes;
       freq_decodes = s.block_cursor.freq_decodes;
+      position_decodes = decodes_read s.position_reader;
     } };
 
     ghost invariant = { λ s. (s.cur < 128)
         × AreEntries (length s.block_cursor.docs) s.block_cursor.docs s.block_cursor.freqs
         × (is_some s.block_cursor.freqs ≡ is_read s.block_cursor.freq_reading)
-        × (s.block_cursor.block ≤ length s.block_cursor.docs / 128 + 1) };
+        × (s.block_cursor.block ≤ length s.block_cursor.docs / 128 + 1)
+        × FitCursor s.block_cursor (deltas_read s.position_reader) };
 }
 
 impl SegmentPostings {
     /// A cursor over the list of `doc_freq` documents that `postings` begins with, by the option that
     /// its field records and the one that is requested, or the first part of it that is damaged. All
-    /// documents are looked at and then, where they are read, all counts. Bytes after what is read
-    /// aren't looked at, nor are positions, which aren't read yet: one of the two options has none.
-    /// Memory is never taken.
+    /// documents are looked at, then all counts where they are read, and then all positions where
+    /// both options have them, counts are read and bytes of positions are given. Bytes after what is
+    /// read aren't looked at, nor are positions elsewhere. Memory is never taken.
     pub fn open(
         doc_freq: u32,
         postings: Bytes,
-        _positions: Option<Bytes>,
+        positions: Option<Bytes>,
         record_option: IndexRecordOption,
         requested_option: IndexRecordOption,
     ) -> Result<SegmentPostings, LayoutFault>
-        requires { has_positions (downgrade record_option requested_option) ≡ false }
-        ensures ok { IfOk result (λ cursor. posting_list record_option requested_option doc_freq postings ≡ Ok cursor.rest) }
+        ensures ok { IfOk result (λ cursor. term_list record_option requested_option doc_freq postings positions ≡ Ok cursor.rest) }
         ensures doc_freq { IfOk result (λ cursor. cursor.doc_freq ≡ doc_freq) }
         ensures reading { IfOk result (λ cursor. freq_reading record_option requested_option doc_freq postings ≡ Ok cursor.freq_reading) }
         ensures first { IfOk result (λ cursor. cursor.block ≡ 0) }
         ensures doc_decodes { IfOk result (λ cursor. cursor.doc_decodes ≤ 1) }
         ensures freq_decodes { IfOk result (λ cursor. cursor.freq_decodes ≤ 1) }
-        ensures err { IfErr result (λ fault. posting_list record_option requested_option doc_freq postings ≡ Err (part_of fault)) }
+        ensures position_decodes { IfOk result (λ cursor. cursor.position_decodes ≤ 1) }
+        ensures err { IfErr result (λ fault. term_list record_option requested_option doc_freq postings positions ≡ Err (part_of fault)) }
     {
         let opened = BlockSegmentPostings::open(
             doc_freq,
@@ -75,22 +81,50 @@ impl SegmentPostings {
             record_option,
             requested_option,
         );
-        match opened {
-            Ok(block_cursor) => Ok(SegmentPostings {
+        let block_cursor = match opened {
+            Ok(block_cursor) => block_cursor,
+            Err(fault) => return Err(fault),
+        };
+        match block_cursor.open_positions(positions) {
+            Ok(position_reader) => Ok(SegmentPostings::from_block_postings(
                 block_cursor,
-                cur: 0,
-            }),
+                position_reader,
+            )),
             Err(fault) => Err(fault),
         }
     }
 
     /// A cursor over no documents.
     pub fn empty() -> SegmentPostings
-        ensures { result ≡ record { rest = []; doc_freq = 0; freq_reading = FreqReadingOption.NoFreq; block = 0; doc_decodes = 0; freq_decodes = 0 } }
+        ensures { result ≡ record { rest = []; doc_freq = 0; freq_reading = FreqReadingOption.NoFreq; block = 0; doc_decodes = 0; freq_decodes = 0; position_decodes = 0 } }
     {
+        SegmentPostings::from_block_postings(BlockSegmentPostings::empty(), None)
+    }
+
+    /// A cursor over the documents of a block cursor from its block on, with the positions of a
+    /// reader. Where one is given, both options of the block cursor have positions, its counts are
+    /// read, the reader has as many deltas as they say, and each position has 32 bits.
+    pub fn from_block_postings(
+        segment_block_postings: BlockSegmentPostings,
+        position_reader: Option<PositionReader>,
+    ) -> SegmentPostings
+        requires { FitCursor segment_block_postings (deltas_read position_reader) }
+        ensures rest { result.rest
+            ≡ drop (128 * segment_block_postings.block) (list_of segment_block_postings.docs segment_block_postings.freqs (deltas_read position_reader)) }
+        ensures doc_freq { result.doc_freq ≡ length segment_block_postings.docs }
+        ensures reading { result.freq_reading ≡ segment_block_postings.freq_reading }
+        ensures block { result.block ≡ segment_block_postings.block }
+        ensures doc_decodes { result.doc_decodes ≡ segment_block_postings.doc_decodes }
+        ensures freq_decodes { result.freq_decodes ≡ segment_block_postings.freq_decodes }
+        ensures position_decodes { result.position_decodes ≡ decodes_read position_reader }
+    {
+        // what the cursor tells of its list and of its block
+        let _docs = segment_block_postings.docs();
+        let _reading = segment_block_postings.freq_reading_option();
         SegmentPostings {
-            block_cursor: BlockSegmentPostings::empty(),
+            block_cursor: segment_block_postings,
             cur: 0,
+            position_reader,
         }
     }
 
@@ -99,15 +133,6 @@ impl SegmentPostings {
         ensures { result ≡ self.now.doc_freq }
     {
         self.block_cursor.doc_freq()
-    }
-
-    /// How often the term occurs in the current document, or 1 where counts aren't read. Where they
-    /// are, there has to be a current document.
-    pub fn term_freq(&self) -> u32
-        requires { IsTrue (is_read self.now.freq_reading) → doc_at self.now.rest < TERMINATED }
-        ensures { result ≡ term_freq_at self.now.rest }
-    {
-        self.block_cursor.freq(self.cur)
     }
 }
 
@@ -133,9 +158,9 @@ impl DocSet for SegmentPostings {
         ensures sound { IsSound self.new.rest }
         ensures kind { not (is_read self.new.freq_reading) ≡ not (is_read self.old.freq_reading) }
         ensures work { WentLazily self.old self.new }
-        ensures one { self.new.block ≤ self.old.block + 1 }
-        ensures doc_freq { self.new.doc_freq ≡ self.old.doc_freq }
-        ensures reading { self.new.freq_reading ≡ self.old.freq_reading }
+        // what a caller learns beyond the trait
+        ensures once { DecodesOnce self.old self.new }
+        ensures next { self.new.block ≤ self.old.block + 1 }
     {
         if self.cur < COMPRESSION_BLOCK_SIZE - 1 {
             self.cur += 1;
@@ -160,10 +185,7 @@ impl DocSet for SegmentPostings {
         ensures kind { not (is_read self.new.freq_reading) ≡ not (is_read self.old.freq_reading) }
         ensures work { WentLazily self.old self.new }
         // what a caller learns beyond the trait
-        ensures one { self.new.doc_decodes ≤ self.old.doc_decodes + 1 }
-        ensures one_of_counts { self.new.freq_decodes ≤ self.old.freq_decodes + 1 }
-        ensures doc_freq { self.new.doc_freq ≡ self.old.doc_freq }
-        ensures reading { self.new.freq_reading ≡ self.old.freq_reading }
+        ensures once { DecodesOnce self.old self.new }
     {
         let doc = self.doc();
         if doc >= target {
@@ -177,6 +199,77 @@ impl DocSet for SegmentPostings {
         ensures { result ≡ self.now.doc_freq }
     {
         self.doc_freq()
+    }
+}
+
+impl Postings for SegmentPostings {
+    fn term_freq(&self) -> u32 {
+        self.block_cursor.freq(self.cur)
+    }
+
+    /// Writes the positions of the current document, each plus `offset`, after what stands in `output`.
+    /// Of the positions those blocks are decoded in which they lie, and no document or count.
+    fn append_positions_with_offset(
+        &mut self,
+        offset: u32,
+        output: &mut Vec<u32>,
+    ) -> Result<(), Fault>
+        requires current { IsCurrent self.old.rest }
+        requires fits { All (λ p. p + offset < 2 ^ 32) (positions_at self.old.rest) }
+        ensures ok { OnOk result (output.new.items ≡ output.old.items ++ map (λ p. p + offset) (positions_at self.old.rest)) }
+        ensures err { OnErr result (output.new.items ≡ output.old.items) }
+        ensures only { IfErr result (λ e. e ≡ Fault.OutOfMemory) }
+        ensures rest { self.new.rest ≡ self.old.rest }
+        ensures kind { not (is_read self.new.freq_reading) ≡ not (is_read self.old.freq_reading) }
+        ensures work { WentLazily self.old self.new }
+        // what a caller learns beyond the trait
+        ensures decodes { DecodesPositions (term_freq_at (not (is_read self.old.freq_reading)) self.old.rest) self.old self.new }
+    {
+        let Some(reader) = &mut self.position_reader else {
+            return Ok(());
+        };
+        let start = self.block_cursor.position_offset(self.cur);
+        let count = self.block_cursor.freq(self.cur);
+        append_positions(reader, start, count, offset, output)
+    }
+}
+
+// Adds the positions whose deltas, so many, begin at a place, each plus an offset.
+fn append_positions(
+    reader: &mut PositionReader,
+    start: u64,
+    count: u32,
+    offset: u32,
+    output: &mut Vec<u32>,
+) -> Result<(), Fault>
+    requires inside { start + count ≤ length reader.old.deltas }
+    requires fits { IsTrue (fit_u32 (running_sums offset (take count (drop start reader.old.deltas)))) }
+    ensures ok { OnOk result (output.new.items ≡ output.old.items ++ running_sums offset (take count (drop start reader.old.deltas))) }
+    ensures err { OnErr result (output.new.items ≡ output.old.items) }
+    ensures only { IfErr result (λ e. e ≡ Fault.OutOfMemory) }
+    ensures deltas { reader.new.deltas ≡ reader.old.deltas }
+    ensures decodes { reader.new.decodes ≤ reader.old.decodes + count / 128 + 2 }
+{
+    output.reserve(count as usize)?;
+    let len = output.len();
+    output.resize(len + count as usize, 0)?;
+    let (_, added) = output.as_mut_slice().split_at_mut(len);
+    reader.read(start, added);
+    sum_up(added, offset);
+    Ok(())
+}
+
+// Puts in place of each value its sum with those before it and an offset.
+fn sum_up(values: &mut [u32], offset: u32)
+    requires { IsTrue (fit_u32 (running_sums offset values.old)) }
+    ensures { values.new ≡ running_sums offset values.old }
+{
+    let mut sum = offset;
+    let mut i = 0;
+    while i < values.len() {
+        sum += values[i];
+        values[i] = sum;
+        i += 1;
     }
 }
 

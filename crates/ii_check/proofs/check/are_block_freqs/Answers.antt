@@ -15,6 +15,6 @@ returns c =
     let size = (block_fits _ _ _ _ _ (sym read)).many in
     let len = c.in-Ok.ensures.len in
     let values = c.output_array.ensures.values ∙ take_all c.try_uncompress_block_unsorted.new.self.output_len output (omega arith) in
-    let total = c.sum_of.ensures ∙ ap sum values in
+    let total = c.sum_of.ensures.sum ∙ ap sum values in
     let test = some_sum c.args.skip_info b.tf_sum output (sym c.has_positions.ensures ∙ c.if-not-has_positions.false) ∙ sym (λ j. eqb (total j) (c.from.ensures j)) in
     rw b.is (block_there c.args.skip_info b.doc_num_bits b.tf_num_bits b.tf_sum b.block_wand_fieldnorm_id b.block_wand_term_freq b.strict_delta_encoded (eqb c.sum_of.result c.from.result) c.args.bytes.now output _ read test)
