@@ -1,9 +1,9 @@
 -- Laws of the deltas of a term's positions, block by block.
-use Rattle.std.proofs.Common.{◌≡◌, ◌≢◌, ℕ, zero, suc, ◌+◌, ◌-◌, ◌*◌, ◌/◌, ◌%◌, ◌<◌, ◌≤◌, ◌⊎◌, inl, inr, Bool, true, false, cond, List, [], ◌∷◌, ◌++◌, length, take, drop, get_or, set, is_some, Option, Some, None, eqb, nat_lt, refl, sym, ap, ◌∙◌, arith, length-append}
-use Rattle.std.proofs.Math.Nat.{mul-mod_left, mul-div_left, div-mul-le_self}
-use Rattle.std.proofs.Math.Seq.{drop-append_seam}
-use Rattle.std.proofs.lemmas.Bool.{lt-ltb, le-ltb, ltb-true, ltb-false, eqb-true, ne_eqb}
-use Rattle.std.proofs.lemmas.List.{take_all, length-drop, get_or-set_same, get_or-set_other}
+use Rattle.std.proofs.Common.{◌≡◌, ◌≢◌, ℕ, zero, suc, ◌+◌, ◌-◌, ◌*◌, ◌/◌, ◌%◌, ◌<◌, ◌≤◌, min, Bool, true, false, cond, List, [], ◌∷◌, ◌++◌, length, take, drop, get_or, set, is_some, unwrap_or, Option, Some, None, MatchBool, eqb, nat_lt, refl, sym, ap, ◌∙◌, arith, length-append}
+use Rattle.std.proofs.Math.Nat.{mul-mod_left, mul-div_left, div-mul-le_self, div-lt_iff_lt-mul, mod-eq-sub-div-mul}
+use Rattle.std.proofs.Math.Seq.{take-add}
+use Rattle.std.proofs.lemmas.Bool.{lt-ltb, le-ltb, ltb-true, ltb-false, eqb-true, eqb-false}
+use Rattle.std.proofs.lemmas.List.{take_all, drop-drop, drop-take, take-take, length-drop, length-take, length-take-le, length-set, get_or-set_same, get_or-set_other}
 use Rattle.std.proofs.lemmas.List.Sums.{sum_by_more, sum_by-take-drop, sum_by-take-le}
 use Rattle.std.specs.List.{concat, sum, sum_by}
 use Rattle.ii_io.specs.Steps.{◌>>=◌, needs}
@@ -14,7 +14,7 @@ use Rattle.ii_codes.specs.UnsortedVints.{u32s_until_end}
 use Rattle.ii_codes.proofs.BlockLemmas.{unsorted-wide, unsorted-short, unsorted-plain}
 use Rattle.ii_layout.specs.Each.{each}
 use Rattle.ii_layout.specs.Positions.{PositionList, position_list, place_by_widths, block_deltas, rest_deltas, position_deltas}
-use Rattle.ii_layout.specs.PositionReader.{AreAnchors, anchored, rest_at, deltas_at_block}
+use Rattle.ii_layout.specs.PositionReader.{deltas_of, list_at, AreAnchors, anchored, rest_at, deltas_at_block, ArePositions, KeepsBlock}
 use Rattle.ii_layout.specs.Written.{block_of}
 use Rattle.ii_layout.proofs.DocumentLemmas.{each_gives, AreWhole, length-concat, concat_block, last_block}
 use Rattle.ii_layout.proofs.FrequencyLemmas.{block_fits}
@@ -63,15 +63,433 @@ pub record FindsBlocks (widths body : List ℕ) (stride : ℕ) (anchors : List �
   pub anchors_are : (k : ℕ) → k * stride < block → get_or anchors k 0 ≡ place_by_widths widths (k * stride)
 
 -- an anchor more
+anchor_here : (widths anchors : List ℕ) (stride place block k : ℕ) → length anchors ≡ 64 → block < 64 * stride → place ≡ place_by_widths widths block → k * stride ≡ block
+    → get_or (set anchors (block / stride) place) k 0 ≡ place_by_widths widths (k * stride)
+anchor_here widths anchors stride place block k many low place_is here =
+    let some : 0 < stride = omega arith in
+    let index : k ≡ block / stride = sym (mul-div_left k some) ∙ ap (λ (n : ℕ). n / stride) here in
+    let few : block / stride < 64 = (div-lt_iff_lt-mul some).1 (omega arith) in
+    ap (λ (j : ℕ). get_or (set anchors (block / stride) place) j 0) index ∙ get_or-set_same anchors (block / stride) place 0 (omega arith) ∙ place_is ∙ ap (place_by_widths widths) (sym here)
+
 anchored_cases : (widths anchors : List ℕ) (stride place block k : ℕ) (t u : Bool) → length anchors ≡ 64 → block < 64 * stride → place ≡ place_by_widths widths block
     → ((k : ℕ) → k * stride < block → get_or anchors k 0 ≡ place_by_widths widths (k * stride)) → k * stride ≤ block → eqb (block % stride) 0 ≡ t → eqb (k * stride) block ≡ u
     → get_or (cond t (set anchors (block / stride) place) anchors) k 0 ≡ place_by_widths widths (k * stride)
 anchored_cases widths anchors stride place block k true true many low place_is are h test same =
-    let here = eqb-true (k * stride) block same in
+    anchor_here widths anchors stride place block k many low place_is (eqb-true (k * stride) block same)
+anchored_cases widths anchors stride place block k true false many low place_is are h test other =
+    let apart = eqb-false (k * stride) block other in
     let some : 0 < stride = omega arith in
-    let index : k ≡ block / stride = sym (mul-div_left k some) ∙ ap (λ (n : ℕ). n / stride) here in
-    let few : block / stride < 64 = omega (arith, div-mul-le_self block stride) in
-    ap (λ (j : ℕ). get_or (set anchors (block / stride) place) j 0) index ∙ get_or-set_same anchors (block / stride) place 0 (omega arith) ∙ place_is ∙ ap (place_by_widths widths) (sym here)
-anchored_cases widths anchors stride place block k true false many low place_is are h test other = ?
-anchored_cases widths anchors stride place block k false true many low place_is are h test same = ?
-anchored_cases widths anchors stride place block k false false many low place_is are h test other = ?
+    let exact = eqb-true (block % stride) 0 test in
+    let whole : block / stride * stride ≡ block = omega (arith, mod-eq-sub-div-mul block stride, div-mul-le_self block stride) in
+    let differs : k ≢ block / stride = λ same. apart (ap (λ (n : ℕ). n * stride) same ∙ whole) in
+    get_or-set_other anchors (block / stride) k place 0 differs ∙ are k (omega arith)
+anchored_cases widths anchors stride place block k false true many low place_is are h test same =
+    let here = eqb-true (k * stride) block same in
+    absurd (eqb-false (block % stride) 0 test (ap (λ (n : ℕ). n % stride) (sym here) ∙ mul-mod_left k stride))
+anchored_cases widths anchors stride place block k false false many low place_is are h test other =
+    let apart = eqb-false (k * stride) block other in
+    are k (omega arith)
+
+pub anchors_more : (widths anchors : List ℕ) (stride place block : ℕ) → length anchors ≡ 64 → block < 64 * stride → place ≡ place_by_widths widths block
+    → ((k : ℕ) → k * stride < block → get_or anchors k 0 ≡ place_by_widths widths (k * stride)) → AreAnchors widths stride block (anchored anchors stride block place)
+anchors_more widths anchors stride place block many low place_is are k h =
+    anchored_cases widths anchors stride place block k (eqb (block % stride) 0) (eqb (k * stride) block) many low place_is are h refl refl
+
+length-anchored : (anchors : List ℕ) (stride place block : ℕ) (t : Bool) → length (cond t (set anchors (block / stride) place) anchors) ≡ length anchors
+length-anchored anchors stride place block true = length-set anchors (block / stride) place
+length-anchored anchors stride place block false = refl
+
+-- a block that is there
+block_there : (widths body : List ℕ) (place block : ℕ) → place ≡ place_by_widths widths block → get_or widths block 0 ≤ 32 → place + 16 * get_or widths block 0 ≤ length body
+    → block_deltas (record { widths = widths; body = body }) block ≡ Some (unpacked (get_or widths block 0) (drop place body))
+block_there widths body place block place_is narrow enough =
+    let w = get_or widths block 0 in
+    let read = unsorted-plain false (get_or widths block 0) (16 * get_or widths block 0) (drop place body) (unpacked (get_or widths block 0) (drop place body)) narrow (omega (arith, length-drop place body)) refl refl refl in
+    rw (← place_is, ← read) refl
+
+pub finds_more : (widths body : List ℕ) (stride place block size : ℕ) (anchors new : List ℕ) → FindsBlocks widths body stride anchors place block → block < length widths → length widths < 64 * stride
+    → new ≡ anchored anchors stride block place → get_or widths block 0 ≤ 32 → size ≡ 16 * get_or widths block 0 → size ≤ length body - place
+    → FindsBlocks widths body stride new (place + size) (block + 1)
+finds_more widths body stride place block size anchors new f h low new_is narrow size_is fits =
+    let within = f.within in
+    let place_is = f.place_is in
+    let all = length-anchored anchors stride place block (eqb (block % stride) 0) in
+    let many = f.many in
+    let one = block_there widths body place block f.place_is narrow (omega arith) in
+    record {
+      many = ap length new_is ∙ all ∙ many;
+      place_is = omega (arith, place_more widths block h);
+      within = omega arith;
+      found = each_more (block_deltas (record { widths = widths; body = body })) block _ one f.found;
+      anchors_are = λ k below. ap (λ (xs : List ℕ). get_or xs k 0) new_is ∙ anchors_more widths anchors stride place block many (omega arith) f.place_is f.anchors_are k (omega arith);
+    }
+
+none_is : (o : Option (List (List ℕ))) → o ≡ None → false ≡ is_some o
+none_is None e = refl
+none_is (Some x) e = absurd (cc)
+
+pub wide_none : (widths body : List ℕ) (block : ℕ) → block < length widths → 32 < get_or widths block 0 → false ≡ is_some (each (block_deltas (record { widths = widths; body = body })) (length widths))
+wide_none widths body block h wide =
+    let list : PositionList = record { widths = widths; body = body } in
+    let none : block_deltas list block ≡ None = rw (← unsorted-wide false (get_or widths block 0) (drop (place_by_widths widths block) body) wide) refl in
+    none_is (each (block_deltas list) (length widths)) (each_none (block_deltas list) block (length widths) (nat_lt (block + 1) (length widths)) none h refl)
+
+pub short_none : (widths body : List ℕ) (place block size : ℕ) → block < length widths → place ≡ place_by_widths widths block → get_or widths block 0 ≤ 32 → size ≡ 16 * get_or widths block 0 → length body - place < size
+    → false ≡ is_some (each (block_deltas (record { widths = widths; body = body })) (length widths))
+short_none widths body place block size h place_is narrow size_is short =
+    let list : PositionList = record { widths = widths; body = body } in
+    let left = length-drop place body in
+    let none : block_deltas list block ≡ None = rw (← place_is, ← unsorted-short false (get_or widths block 0) (drop place body) narrow (omega arith)) refl in
+    none_is (each (block_deltas list) (length widths)) (each_none (block_deltas list) block (length widths) (nat_lt (block + 1) (length widths)) none h refl)
+
+pub anchors_all : (widths body : List ℕ) (stride place block : ℕ) (anchors new : List ℕ) → FindsBlocks widths body stride anchors place block → block ≡ length widths → length widths < 64 * stride
+    → new ≡ anchored anchors stride (length widths) place → AreAnchors widths stride (length widths) new
+anchors_all widths body stride place block anchors new f end low new_is =
+    let place_is = f.place_is ∙ ap (place_by_widths widths) end in
+    rw new_is (anchors_more widths anchors stride place (length widths) f.many low place_is (λ k h. f.anchors_are k (omega arith)))
+
+-- the deltas of blocks and those after them
+abbrev pub all_deltas : PositionList → Option (List ℕ)
+all_deltas list = do
+  blocks ← each (block_deltas list) (length list.widths)
+  rest ← rest_deltas list
+  Some (concat blocks ++ rest)
+
+pub deltas_by_list : (bytes : List ℕ) (list : PositionList) → position_list bytes ≡ Some list → position_deltas bytes ≡ all_deltas list
+deltas_by_list bytes list e = rw e refl
+
+some_of : (o : Option (List (List ℕ))) → true ≡ is_some o → (blocks : List (List ℕ)) × (o ≡ Some blocks)
+some_of None e = absurd (cc)
+some_of (Some blocks) e = (blocks, refl)
+
+none_of : (o : Option (List (List ℕ))) → false ≡ is_some o → o ≡ None
+none_of None e = refl
+none_of (Some blocks) e = absurd (cc)
+
+after_cases : (f : List (List ℕ) → Option (List ℕ)) (o : Option (List (List ℕ))) → ((blocks : List (List ℕ)) → f blocks ≡ None) → (o >>= f) ≡ None
+after_cases f None none = refl
+after_cases f (Some blocks) none = none blocks
+
+-- What is known of deltas that stand.
+pub record StandDeltas (list : PositionList) (deltas : List ℕ) : Type 0 where
+  pub blocks : List (List ℕ)
+  pub rest : List ℕ
+  pub read : each (block_deltas list) (length list.widths) ≡ Some blocks
+  pub rest_read : rest_deltas list ≡ Some rest
+  pub deltas_are : deltas ≡ concat blocks ++ rest
+  pub few : length rest < 128
+
+stand : (list : PositionList) (deltas : List ℕ) → all_deltas list ≡ Some deltas → StandDeltas list deltas
+stand list deltas e =
+    let blocks = step-some (each (block_deltas list) (length list.widths)) _ deltas e in
+    let rest = step-some (rest_deltas list) _ deltas blocks.2 in
+    let numbers = step-some (u32s_until_end 128 (drop (place_by_widths list.widths (length list.widths)) list.body)) _ rest.0 rest.1 in
+    let few = needs-some (nat_lt (length numbers.0) 128) _ rest.0 numbers.2 in
+    let same = some-same few.1 in
+    record {
+      blocks = blocks.0;
+      rest = rest.0;
+      read = blocks.1;
+      rest_read = rest.1;
+      deltas_are = sym (some-same rest.2);
+      few = let low = ltb-true (length numbers.0) 128 few.0 in rw (ap length same) at low;
+    }
+
+block_read : (list : PositionList) (i : ℕ) (deltas : List ℕ) → block_deltas list i ≡ Some deltas → length deltas ≡ 128
+block_read list i deltas e =
+    let found = step-some (unsorted_block_at false (get_or list.widths i 0) (drop (place_by_widths list.widths i) list.body)) _ deltas e in
+    let fits = block_fits false (get_or list.widths i 0) (drop (place_by_widths list.widths i) list.body) found.0.0 found.0.1 found.1 in
+    ap length (sym (some-same found.2)) ∙ fits.many
+
+are_whole : (list : PositionList) (n : ℕ) (blocks : List (List ℕ)) → each (block_deltas list) n ≡ Some blocks → AreWhole blocks
+are_whole list n blocks e i h =
+    let all = each_gives (block_deltas list) n blocks e in
+    let many = all.many in
+    block_read list i (get_or blocks i []) (all.at i (omega arith))
+
+-- Deltas that stand lie in their blocks, the last of which is not full.
+pub record LieInBlocks (list : PositionList) (deltas : List ℕ) (rest : ℕ) : Type 0 where
+  pub blocks : (i : ℕ) → i < length list.widths → block_deltas list i ≡ Some (block_of deltas i)
+  pub rest_is : rest_deltas list ≡ Some (block_of deltas (length list.widths))
+  pub rest_len : length (block_of deltas (length list.widths)) ≡ rest
+  pub many : length deltas ≡ 128 * length list.widths + rest
+  pub few : rest < 128
+
+pub lie : (list : PositionList) (deltas : List ℕ) → all_deltas list ≡ Some deltas → (rest : ℕ) × LieInBlocks list deltas rest
+lie list deltas e =
+    let s = stand list deltas e in
+    let all = each_gives (block_deltas list) (length list.widths) s.blocks s.read in
+    let many = all.many in
+    let whole = are_whole list (length list.widths) s.blocks s.read in
+    let few = s.few in
+    let size = length-concat s.blocks whole in
+    let last : block_of deltas (length list.widths) ≡ s.rest = ap (λ (ds : List ℕ). block_of ds (length list.widths)) s.deltas_are ∙ last_block (length list.widths) s.blocks s.rest whole (sym many) (omega arith) in (
+      length s.rest,
+      record {
+        blocks = λ i h.
+            let here : block_of deltas i ≡ get_or s.blocks i [] = ap (λ (ds : List ℕ). block_of ds i) s.deltas_are ∙ concat_block i s.blocks s.rest whole (omega arith) in
+            all.at i h ∙ ap Some (sym here);
+        rest_is = s.rest_read ∙ ap Some (sym last);
+        rest_len = ap length last;
+        many = ap length s.deltas_are ∙ omega (arith, length-append (concat s.blocks) s.rest);
+        few = few;
+      },
+    )
+
+-- deltas after the blocks, as they were decoded
+pub rest_cases : (bytes row : List ℕ) (n : ℕ) (t : Bool) → Some row ≡ u32s_until_end 128 bytes → length row ≡ n → nat_lt n 128 ≡ t → MatchBool t (Some row ≡ rest_at bytes) (rest_at bytes ≡ None)
+rest_cases bytes row n true read size few = rw (← read, size, few) refl
+rest_cases bytes row n false read size many = rw (← read, size, many) refl
+
+some_by : {A : Type 0} (o : Option A) → is_some o ≡ true → (x : A) × (o ≡ Some x)
+some_by None e = absurd (cc)
+some_by (Some x) e = (x, refl)
+
+is_some_by : {A : Type 0} (o : Option A) (x : A) → o ≡ Some x → is_some o ≡ true
+is_some_by o x e = ap is_some e
+
+-- What is asked of a decode: which block, where it lies, and that it is there.
+pub record AsksBlock (ws bs : List ℕ) (place block : ℕ) (bytes : List ℕ) : Type 0 where
+  pub there : is_some (deltas_at_block (record { widths = ws; body = bs }) block) ≡ true
+  pub place_is : place ≡ place_by_widths ws block
+  pub bytes_are : bytes ≡ drop place bs
+
+at_rest : (ws bs : List ℕ) (place block : ℕ) (bytes : List ℕ) → AsksBlock ws bs place block bytes → block ≡ length ws → deltas_at_block (record { widths = ws; body = bs }) block ≡ rest_at bytes
+at_rest ws bs place block bytes a end =
+    let past = le-ltb block (length ws) (omega arith) in
+    let here : drop (place_by_widths ws (length ws)) bs ≡ bytes = ap (λ (k : ℕ). drop k bs) (sym (ap (place_by_widths ws) end) ∙ sym a.place_is) ∙ sym a.bytes_are in
+    rw (past, here) refl
+
+at_block : (ws bs : List ℕ) (place block : ℕ) (bytes : List ℕ) → AsksBlock ws bs place block bytes → block < length ws
+    → deltas_at_block (record { widths = ws; body = bs }) block ≡ (unsorted_block_at false (get_or ws block 0) bytes >>= λ found. Some found.0)
+at_block ws bs place block bytes a h =
+    let below = lt-ltb block (length ws) h in
+    let here : drop (place_by_widths ws block) bs ≡ bytes = ap (λ (k : ℕ). drop k bs) (sym a.place_is) ∙ sym a.bytes_are in
+    rw (below, here) refl
+
+pub rest_asked : (ws bs : List ℕ) (place block : ℕ) (bytes : List ℕ) → AsksBlock ws bs place block bytes → block ≡ length ws → is_some (u32s_until_end 128 bytes) ≡ true
+rest_asked ws bs place block bytes a end =
+    let found = some_by (rest_at bytes) (rw (at_rest ws bs place block bytes a end) at a.there) in
+    let row = step-some (u32s_until_end 128 bytes) _ found.0 found.1 in
+    is_some_by (u32s_until_end 128 bytes) row.0 row.1
+
+rest_same : (row found : List ℕ) (t : Bool) → nat_lt (length row) 128 ≡ t → (needs t >>= λ _. Some row) ≡ Some found → Some row ≡ Some found
+rest_same row found true few e = e
+rest_same row found false few e = absurd (cc)
+
+rest_some : (o : Option (List ℕ)) (row found : List ℕ) → Some row ≡ o → (o >>= λ rest. needs (nat_lt (length rest) 128) >>= λ _. Some rest) ≡ Some found → Some row ≡ Some found
+rest_some None row found read e = absurd (cc)
+rest_some (Some other) row found read e = read ∙ rest_same other found (nat_lt (length other) 128) refl e
+
+pub rest_answered : (ws bs : List ℕ) (place block : ℕ) (bytes row : List ℕ) → AsksBlock ws bs place block bytes → block ≡ length ws → Some row ≡ u32s_until_end 128 bytes
+    → Some row ≡ deltas_at_block (record { widths = ws; body = bs }) block
+rest_answered ws bs place block bytes row a end read =
+    let found = some_by (rest_at bytes) (rw (at_rest ws bs place block bytes a end) at a.there) in
+    rest_some (u32s_until_end 128 bytes) row found.0 read found.1 ∙ sym found.1 ∙ sym (at_rest ws bs place block bytes a end)
+
+pub block_asked : (ws bs : List ℕ) (place block : ℕ) (bytes : List ℕ) → AsksBlock ws bs place block bytes → block < length ws → is_some (unsorted_block_at false (get_or ws block 0) bytes) ≡ true
+block_asked ws bs place block bytes a h =
+    let found = some_by _ (rw (at_block ws bs place block bytes a h) at a.there) in
+    let row = step-some (unsorted_block_at false (get_or ws block 0) bytes) _ found.0 found.1 in
+    is_some_by (unsorted_block_at false (get_or ws block 0) bytes) row.0 row.1
+
+pub block_answered : (ws bs : List ℕ) (place block len : ℕ) (bytes row rest : List ℕ) → AsksBlock ws bs place block bytes → block < length ws → Some (row, rest) ≡ unsorted_block_at false (get_or ws block 0) bytes → len ≡ 128
+    → Some (take len row) ≡ deltas_at_block (record { widths = ws; body = bs }) block
+block_answered ws bs place block len bytes row rest a h read len_is =
+    let fits = block_fits false (get_or ws block 0) bytes row rest (sym read) in
+    let many = fits.many in
+    ap Some (take_all len row (omega arith)) ∙ rw (at_block ws bs place block bytes a h, ← read) refl
+
+-- Widths and blocks that are cut from bytes which hold their list.
+pub record AreCut (bytes : List ℕ) (widths body : ℕ) (ws bs : List ℕ) : Type 0 where
+  pub order : widths ≤ body
+  pub within : body ≤ length bytes
+  pub list : position_list bytes ≡ Some (list_at bytes widths body)
+  pub ws_are : ws ≡ take (body - widths) (drop widths bytes)
+  pub bs_are : bs ≡ drop body bytes
+
+length-cut : (bytes : List ℕ) (widths body : ℕ) → widths ≤ body → body ≤ length bytes → length (take (body - widths) (drop widths bytes)) ≡ body - widths
+length-cut bytes widths body order within = length-take-le (body - widths) (drop widths bytes) (omega (arith, length-drop widths bytes))
+
+-- What opening has found of the blocks.
+pub record FindsAll (ws bs : List ℕ) (stride : ℕ) (anchors : List ℕ) (place : ℕ) : Type 0 where
+  pub found : true ≡ is_some (each (block_deltas (record { widths = ws; body = bs })) (length ws))
+  pub place_is : place ≡ place_by_widths ws (length ws)
+  pub within : place ≤ length bs
+  pub many : length anchors ≡ 64
+  pub anchors_are : AreAnchors ws stride (length ws) anchors
+
+all_read : (list : PositionList) (blocks : List (List ℕ)) (rest : List ℕ) → each (block_deltas list) (length list.widths) ≡ Some blocks → rest_deltas list ≡ Some rest → all_deltas list ≡ Some (concat blocks ++ rest)
+all_read list blocks rest e f = rw (e, f) refl
+
+-- bytes whose blocks and further deltas are there
+cut_deltas : (bytes : List ℕ) (widths body stride place : ℕ) (anchors ws bs held : List ℕ) → AreCut bytes widths body ws bs → FindsAll ws bs stride anchors place → Some held ≡ rest_at (drop place bs)
+    → position_deltas bytes ≡ Some (deltas_of bytes)
+unfolding deltas_of
+cut_deltas bytes widths body stride place anchors ws bs held c f read =
+    let list : PositionList = record { widths = ws; body = bs } in
+    let listed = c.list ∙ (λ j. Some (record { widths = sym c.ws_are j; body = sym c.bs_are j })) in
+    let blocks = some_of (each (block_deltas list) (length ws)) f.found in
+    let rest : rest_deltas (record { widths = ws; body = bs }) ≡ Some held = rw (← f.place_is) (sym read) in
+    let all = deltas_by_list bytes list listed ∙ all_read list blocks.0 held blocks.1 rest in
+    all ∙ ap Some (sym (ap (λ (o : Option (List ℕ)). unwrap_or o []) all))
+
+-- the deltas that bytes hold are those of their list
+cut_all : (bytes : List ℕ) (widths body : ℕ) → position_list bytes ≡ Some (list_at bytes widths body) → position_deltas bytes ≡ Some (deltas_of bytes) → all_deltas (list_at bytes widths body) ≡ Some (deltas_of bytes)
+cut_all bytes widths body listed found = sym (deltas_by_list bytes (list_at bytes widths body) listed) ∙ found
+
+-- bytes in which a part is missing hold no deltas
+pub unlisted_none : (bytes : List ℕ) → position_list bytes ≡ None → position_deltas bytes ≡ None
+unlisted_none bytes e = rw e refl
+
+pub blocks_none : (bytes ws bs : List ℕ) (widths body : ℕ) → AreCut bytes widths body ws bs → false ≡ is_some (each (block_deltas (record { widths = ws; body = bs })) (length ws)) → position_deltas bytes ≡ None
+blocks_none bytes ws bs widths body c none =
+    let list : PositionList = record { widths = ws; body = bs } in
+    let listed = c.list ∙ (λ j. Some (record { widths = sym c.ws_are j; body = sym c.bs_are j })) in
+    let missing = none_of (each (block_deltas list) (length ws)) none in
+    let all : all_deltas list ≡ None = rw missing refl in
+    deltas_by_list bytes list listed ∙ all
+
+pub rest_none : (bytes ws bs after : List ℕ) (widths body place : ℕ) → AreCut bytes widths body ws bs → place ≡ place_by_widths ws (length ws) → after ≡ drop place bs → rest_at after ≡ None → position_deltas bytes ≡ None
+rest_none bytes ws bs after widths body place c place_is after_is none =
+    let list : PositionList = record { widths = ws; body = bs } in
+    let listed = c.list ∙ (λ j. Some (record { widths = sym c.ws_are j; body = sym c.bs_are j })) in
+    let missing : rest_deltas (record { widths = ws; body = bs }) ≡ None = rw (← place_is, ← after_is) none in
+    deltas_by_list bytes list listed ∙ after_cases _ (each (block_deltas list) (length ws)) (λ blocks. rw missing refl)
+
+-- What a reader keeps after opening.
+pub keeps_rest : (bytes ws bs after anchors held : List ℕ) (widths body stride place rest : ℕ) → AreCut bytes widths body ws bs → FindsAll ws bs stride anchors place → stride ≡ (body - widths) / 64 + 1
+    → after ≡ drop place bs → Some held ≡ rest_at after → rest ≡ length held → KeepsBlock bytes widths body stride anchors (body - widths) place held rest
+keeps_rest bytes ws bs after anchors held widths body stride place rest c f stride_is after_is read rest_is =
+    let list : PositionList = list_at bytes widths body in
+    let order = c.order in
+    let within = c.within in
+    let size = length-cut bytes widths body order within in
+    let many : length ws ≡ body - widths = ap length c.ws_are ∙ size in
+    let found = cut_deltas bytes widths body stride place anchors ws bs held c f (read ∙ ap rest_at after_is) in
+    let lies = lie list (deltas_of bytes) (cut_all bytes widths body c.list found) in
+    let few = lies.1.few in
+    let all = lies.1.many in
+    let here : rest_deltas (record { widths = ws; body = bs }) ≡ Some held = rw (← f.place_is, ← after_is) (sym read) in
+    let last : rest_deltas (list_at bytes widths body) ≡ Some held = (λ j. rest_deltas (record { widths = sym c.ws_are j; body = sym c.bs_are j })) ∙ here in
+    let same : held ≡ block_of (deltas_of bytes) (length list.widths) = some-same (sym last ∙ lies.1.rest_is) in
+    let held_len = ap length same in
+    let rest_len = lies.1.rest_len in
+    let place_within = f.within in
+    let bs_len = ap length c.bs_are in
+    let end : place ≡ place_by_widths (list_at bytes widths body).widths (body - widths) = f.place_is ∙ (λ j. place_by_widths (c.ws_are j) (many j)) in
+    record {
+      there = record { order = order; within = within; list = c.list; deltas = found };
+      many = f.many;
+      stride_is = omega arith;
+      anchors_are = λ k h. f.anchors_are k (omega arith) ∙ ap (λ (w : List ℕ). place_by_widths w (k * stride)) c.ws_are;
+      inside = omega arith;
+      place_is = end;
+      held_is = same ∙ ap (block_of (deltas_of bytes)) size;
+      len = omega arith;
+      few = omega arith;
+      room = omega (arith, length-drop body bytes);
+    }
+
+-- a block of deltas that lie in blocks
+lies_at : (list : PositionList) (deltas : List ℕ) (rest block : ℕ) (t : Bool) → LieInBlocks list deltas rest → nat_lt block (length list.widths) ≡ t → block ≤ length list.widths → deltas_at_block list block ≡ Some (block_of deltas block)
+lies_at list deltas rest block true l test h = rw test (l.blocks block (ltb-true block (length list.widths) test))
+lies_at list deltas rest block false l test h =
+    let past = ltb-false block (length list.widths) test in
+    let end : length list.widths ≡ block = omega arith in
+    rw test (l.rest_is ∙ ap (λ (i : ℕ). Some (block_of deltas i)) end)
+
+kept_at : (bytes ws bs anchors held : List ℕ) (widths body stride block place rest other : ℕ) → KeepsBlock bytes widths body stride anchors block place held rest
+    → ws ≡ take (body - widths) (drop widths bytes) → bs ≡ drop body bytes → other ≤ body - widths → deltas_at_block (record { widths = ws; body = bs }) other ≡ Some (block_of (deltas_of bytes) other)
+kept_at bytes ws bs anchors held widths body stride block place rest other k ws_are bs_are h =
+    let lies = lie (list_at bytes widths body) (deltas_of bytes) (cut_all bytes widths body k.there.list k.there.deltas) in
+    let size = length-cut bytes widths body k.there.order k.there.within in
+    (λ j. deltas_at_block (record { widths = ws_are j; body = bs_are j }) other) ∙ lies_at (list_at bytes widths body) (deltas_of bytes) lies.0 other (nat_lt other (length (list_at bytes widths body).widths)) lies.1 refl (omega arith)
+
+-- a block in which deltas lie is there
+pub asked_within : (bytes anchors held : List ℕ) (widths body stride block place rest other : ℕ) → KeepsBlock bytes widths body stride anchors block place held rest → 128 * other < length (deltas_of bytes) → other ≤ body - widths
+asked_within bytes anchors held widths body stride block place rest other k h =
+    let len = k.len in
+    let few = k.few in
+    omega arith
+
+pub asked_there : (bytes ws bs anchors held : List ℕ) (widths body stride block place rest other : ℕ) → KeepsBlock bytes widths body stride anchors block place held rest
+    → ws ≡ take (body - widths) (drop widths bytes) → bs ≡ drop body bytes → other ≤ body - widths → is_some (deltas_at_block (record { widths = ws; body = bs }) other) ≡ true
+asked_there bytes ws bs anchors held widths body stride block place rest other k ws_are bs_are h =
+    is_some_by (deltas_at_block (record { widths = ws; body = bs }) other) _ (kept_at bytes ws bs anchors held widths body stride block place rest other k ws_are bs_are h)
+
+-- What is kept once another block was decoded.
+pub keeps_other : (bytes ws bs anchors held new : List ℕ) (widths body stride block place rest other there : ℕ) → KeepsBlock bytes widths body stride anchors block place held rest
+    → ws ≡ take (body - widths) (drop widths bytes) → bs ≡ drop body bytes → other ≤ body - widths → there ≡ place_by_widths ws other → Some new ≡ deltas_at_block (record { widths = ws; body = bs }) other
+    → KeepsBlock bytes widths body stride anchors other there new rest
+keeps_other bytes ws bs anchors held new widths body stride block place rest other there k ws_are bs_are h there_is read =
+    let same = some-same (read ∙ kept_at bytes ws bs anchors held widths body stride block place rest other k ws_are bs_are h) in
+    record {
+      there = k.there;
+      many = k.many;
+      stride_is = k.stride_is;
+      anchors_are = k.anchors_are;
+      inside = h;
+      place_is = there_is ∙ ap (λ (w : List ℕ). place_by_widths w other) ws_are;
+      held_is = same;
+      len = k.len;
+      few = k.few;
+      room = k.room;
+    }
+
+-- How far a part is read: so many deltas from an offset on stand in the output, the next one stands in a block, and no block was decoded twice.
+pub record ReadsPart (deltas : List ℕ) (before offset count : ℕ) (output : List ℕ) (decodes block start done : ℕ) : Type 0 where
+  pub inside : offset + count ≤ length deltas
+  pub some : done ≤ count
+  pub read : take done output ≡ take done (drop offset deltas)
+  pub place : done < count → 128 * block + start ≡ offset + done
+  pub reached : 128 * block < offset + done + 128
+  pub low : start < 128
+  pub spent : decodes + offset / 128 ≤ before + block
+  pub kept : before ≤ decodes
+
+-- a part of the block in which the next delta stands
+part_of_block : (deltas : List ℕ) (offset block start done n : ℕ) → 128 * block + start ≡ offset + done → n + start ≤ 128 → take n (drop start (block_of deltas block)) ≡ take n (drop done (drop offset deltas))
+part_of_block deltas offset block start done n place few =
+    let whole : 128 ≡ start + (128 - start) = omega arith in
+    let here : 128 * block + start ≡ offset + done = place in
+    ap (λ (m : ℕ). take n (drop start (take m (drop (128 * block) deltas)))) whole
+    ∙ ap (take n) (drop-take start (128 - start) (drop (128 * block) deltas))
+    ∙ take-take n (128 - start) (drop start (drop (128 * block) deltas)) (omega arith)
+    ∙ ap (take n) (drop-drop start (128 * block) deltas ∙ ap (λ (m : ℕ). drop m deltas) here ∙ sym (drop-drop done offset deltas))
+
+length-block : (deltas : List ℕ) (block : ℕ) → length (block_of deltas block) ≡ min 128 (length deltas - 128 * block)
+length-block deltas block = length-take 128 (drop (128 * block) deltas) ∙ ap (min 128) (length-drop (128 * block) deltas)
+
+-- the next delta is in its block
+pub starts_within : (deltas held output : List ℕ) (before offset count decodes block start done : ℕ) → ReadsPart deltas before offset count output decodes block start done → done < count → held ≡ block_of deltas block → start < length held
+starts_within deltas held output before offset count decodes block start done r h held_is =
+    let size = ap length held_is ∙ length-block deltas block in
+    let inside = r.inside in
+    let place = r.place h in
+    let low = r.low in
+    omega arith
+
+pub reads_more : (deltas held output new : List ℕ) (before offset count decodes more block start done n : ℕ) → ReadsPart deltas before offset count output decodes block start done → done < count
+    → held ≡ block_of deltas block → n ≡ min (length held - start) (count - done) → take (done + n) new ≡ take done output ++ take n (drop start held) → more ≤ decodes + 1 → decodes ≤ more
+    → ReadsPart deltas before offset count new more (block + 1) 0 (done + n)
+reads_more deltas held output new before offset count decodes more block start done n r h held_is n_is new_is one rises =
+    let size = ap length held_is ∙ length-block deltas block in
+    let within = starts_within deltas held output before offset count decodes block start done r h held_is in
+    let inside = r.inside in
+    let place = r.place h in
+    let low = r.low in
+    let reached = r.reached in
+    let spent = r.spent in
+    let kept = r.kept in
+    let part = ap (λ (xs : List ℕ). take n (drop start xs)) held_is ∙ part_of_block deltas offset block start done n place (omega arith) in
+    record {
+      inside = inside;
+      some = omega arith;
+      read = new_is ∙ (λ j. r.read j ++ part j) ∙ sym (take-add done n (drop offset deltas));
+      place = λ left. omega arith;
+      reached = omega arith;
+      low = omega arith;
+      spent = omega arith;
+      kept = omega arith;
+    }

@@ -62,3 +62,4 @@ pub record KeepsBlock (bytes : List ℕ) (widths body stride : ℕ) (anchors : L
   pub held_is : held ≡ block_of (deltas_of bytes) block
   pub len : length (deltas_of bytes) ≡ 128 * (body - widths) + rest
   pub few : rest < 128
+  pub room : place_by_widths (list_at bytes widths body).widths (body - widths) ≤ length bytes

@@ -58,13 +58,14 @@ impl PositionBlocks {
         };
         let num_blocks = body - widths;
         let stride = num_blocks / NUM_ANCHORS + 1;
-        let Some(place) = find_blocks(&all[widths..body], &all[body..], stride, &mut anchors) else {
+        let blocks = bytes_from(all, body);
+        let Some(place) = find_blocks(&all[widths..body], blocks, stride, &mut anchors) else {
             return Err(LayoutFault::Damaged(Part::Positions));
         };
-        if !read_rest(bytes_from(&all[body..], place), &mut block_decoder) {
+        if !read_rest(bytes_from(blocks, place), &mut block_decoder) {
             return Err(LayoutFault::Damaged(Part::Positions));
         }
-        let rest_len = block_decoder.output_len();
+        let rest_len = block_decoder.output_array().len();
         Ok(PositionBlocks {
             bytes,
             widths,
@@ -100,7 +101,7 @@ impl PositionBlocks {
         }
         let bytes = self.bytes.as_slice();
         let widths = &bytes[self.widths..self.body];
-        let body = &bytes[self.body..];
+        let body = bytes_from(bytes, self.body);
         let (near, from) = nearest(&self.anchors, self.stride, self.block, self.place, block);
         let place = walk(widths, near, from, block);
         decode(widths, body, block, place, &mut self.block_decoder);
@@ -216,11 +217,11 @@ fn anchor(anchors: &mut [usize], stride: usize, block: usize, place: usize)
 // than a block has.
 fn read_rest(bytes: &[u8], block_decoder: &mut BlockDecoder) -> bool
     ensures rest { MatchBool result (Some (take block_decoder.new.output_len block_decoder.new.output) ≡ rest_at bytes.now) (rest_at bytes.now ≡ None) }
-    ensures few { IsTrue result → block_decoder.new.output_len < 128 }
+    ensures few { IsTrue result → length (take block_decoder.new.output_len block_decoder.new.output) < 128 }
     ensures decodes { block_decoder.new.decodes ≤ block_decoder.old.decodes + 1 }
 {
     match block_decoder.try_uncompress_vint_unsorted_until_end(bytes) {
-        Ok(()) => block_decoder.output_len() < COMPRESSION_BLOCK_SIZE,
+        Ok(()) => block_decoder.output_array().len() < COMPRESSION_BLOCK_SIZE,
         Err(_) => false,
     }
 }
