@@ -7,7 +7,6 @@ use Rattle.ii_base.specs.declared.schema.index_record_option.IndexRecordOption.{
 use Rattle.ii_base.specs.declared.schema.index_record_option.IndexRecordOption.TheVariants.{Basic}
 use Rattle.ii_base.specs.Options.{has_freq, has_positions}
 use Rattle.ii_io.specs.StepLemmas.{step-some, needs-some, some-same}
-use Rattle.ii_io.specs.Steps.{needs}
 use Rattle.ii_io.specs.Vints.{u32s_at, u64_at}
 use Rattle.ii_io.specs.declared.faults.Part.{Part}
 use Rattle.ii_io.specs.declared.faults.Part.TheVariants.{Documents, Frequencies}

@@ -1,11 +1,11 @@
 -- Seeks over the blocks of checked postings.
-use Rattle.std.proofs.Common.{◌≡◌, ℕ, ◌+◌, ◌*◌, ◌/◌, ◌%◌, ◌<◌, ◌≤◌, List, length, get_or, max, refl, sym, ap, ◌∙◌, arith}
+use Rattle.std.proofs.Common.{◌≡◌, ℕ, ◌+◌, ◌*◌, ◌/◌, ◌%◌, ◌<◌, ◌≤◌, List, length, get_or, sym, ap, ◌∙◌, arith}
 use Rattle.ii_layout.specs.SkipList.{SkipEntry, entry_size, entries_at}
 use Rattle.ii_layout.specs.SkipReader.{SkipReaderState, Seeks, reader_at}
 use Rattle.ii_layout.specs.Documents.{entry_of}
 use Rattle.ii_layout.proofs.BlockDocs.{get_or-block_of}
 use Rattle.ii_layout.proofs.DocumentLemmas.{block_of_documents}
-use Rattle.ii_check.specs.CheckedPostings.{CheckedPostingsState, AreGiven, HasDocuments, IsAtBlock, IsSkipData, SeeksBlock}
+use Rattle.ii_check.specs.CheckedPostings.{CheckedPostingsState, AreGiven, IsAtBlock, IsSkipData, SeeksBlock}
 use Rattle.ii_check.proofs.CheckedPostingsLemmas.{has_documents}
 
 -- what a reader of the postings is lent

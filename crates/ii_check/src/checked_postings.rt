@@ -14,8 +14,8 @@ ghost use Rattle.ii_check.specs.FreqReading.{freq_reading_of};
 use super::check::check_postings;
 use super::freq_reading_option::FreqReadingOption;
 use super::load::{NO_FREQ, decode_docs, decode_freqs};
-use bytes::Bytes;
 use super::positions::end_of_positions;
+use bytes::Bytes;
 use ii_base::{IndexRecordOption, LayoutFault, Part};
 use ii_codes::{BlockDecoder, COMPRESSION_BLOCK_SIZE};
 use ii_docset::{DocId, TERMINATED};
@@ -228,7 +228,9 @@ impl CheckedPostings {
         let mut doc_decoder = BlockDecoder::with_val(TERMINATED);
         let mut freq_decoder = BlockDecoder::with_val(NO_FREQ);
         let mut end = 0;
-        for _block in 0..=self.doc_freq / COMPRESSION_BLOCK_SIZE as u32 {
+        // the last block has fewer documents
+        let blocks = self.doc_freq / COMPRESSION_BLOCK_SIZE as u32 + 1;
+        for _block in 0..blocks {
             self.load_block(&skip, &mut doc_decoder, &mut freq_decoder);
             let Some(next) = end_of_positions(reader, end, freq_decoder.output_array()) else {
                 return false;

@@ -22,7 +22,10 @@ pub(crate) fn end_of_positions(
     let len = reader.len();
     let mut end = start;
     for freq in freqs {
-        if u128::from(*freq) > len - u128::from(end) || !position_fits(reader, end, *freq) {
+        if u128::from(*freq) > len - u128::from(end) {
+            return None;
+        }
+        if !position_fits(reader, end, *freq) {
             return None;
         }
         end += u64::from(*freq);
@@ -33,6 +36,7 @@ pub(crate) fn end_of_positions(
 // Whether the last position of a document has 32 bits, whose deltas, so many, begin at a place.
 fn position_fits(reader: &mut PositionReader, start: u64, freq: u32) -> bool
     requires inside { start + freq ≤ length reader.old.deltas }
+    requires low { start + freq < 2 ^ 64 }
     ensures fits { result ≡ fit_u32 (running_sums 0 (take freq (drop start reader.old.deltas))) }
     ensures deltas { reader.new.deltas ≡ reader.old.deltas }
 {

@@ -1,0 +1,15 @@
+use Rattle.std.proofs.Common.{◌-◌, ◌≡◌, ◌^◌, ◌<◌, ◌≤◌, length, take, drop}
+use Rattle.std.specs.List.{sum}
+use Rattle.ii_check.proofs.positions.position_fits.Given as goal
+
+abbrev pub invariant-loop-done : goal.invariant-loop-done
+invariant-loop-done l = record {
+  within : l.done ≤ l.freq;
+  same : l.reader.deltas ≡ l.fn.reader.deltas;
+  total : l.position ≡ sum (take l.done (drop l.start l.fn.reader.deltas));
+  low : l.position < 2 ^ 32;
+  size : length l.buffer ≡ 128;
+}
+
+abbrev pub decreases-loop-done : goal.decreases-loop-done
+decreases-loop-done l = l.freq - l.done
