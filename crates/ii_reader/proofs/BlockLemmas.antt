@@ -39,7 +39,7 @@ pub freqs_held : (o : Option (List ℕ)) (block : ℕ) (decoder : BlockDecoderSt
 freqs_held None block decoder h = ap (λ (d : BlockDecoderState). take d.output_len d.output) h
 freqs_held (Some freqs) block decoder h = h.held
 
-length-block_of : (xs ys : List ℕ) (block : ℕ) → length xs ≡ length ys → length (block_of xs block) ≡ length (block_of ys block)
+pub length-block_of : (xs ys : List ℕ) (block : ℕ) → length xs ≡ length ys → length (block_of xs block) ≡ length (block_of ys block)
 length-block_of xs ys block e =
     let left = length-take 128 (drop (128 * block) xs) in
     let right = length-take 128 (drop (128 * block) ys) in

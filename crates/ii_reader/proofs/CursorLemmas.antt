@@ -1,5 +1,5 @@
 -- Laws of a cursor over documents and their counts.
-use Rattle.std.proofs.Common.{◌≡◌, ℕ, zero, suc, ◌+◌, ◌*◌, ◌/◌, ◌^◌, ◌<◌, ◌≤◌, Bool, true, false, ◌&&◌, List, [], ◌∷◌, length, drop, map, get_or, min, nat_le, nat_lt, Option, Some, None, is_some, not, refl, sym, ap, ◌∙◌, arith, length-take, length-drop}
+use Rattle.std.proofs.Common.{◌≡◌, ℕ, zero, suc, ◌+◌, ◌*◌, ◌/◌, ◌^◌, ◌<◌, ◌≤◌, ◌⊎◌, inl, inr, Bool, true, false, ◌&&◌, List, [], ◌∷◌, length, drop, map, get_or, min, nat_le, nat_lt, Option, Some, None, is_some, not, refl, sym, ap, ◌∙◌, arith, length-take, length-drop}
 use Rattle.std.specs.List.{All, zip, list_all}
 use Rattle.std.proofs.lemmas.Bool.{ltb-true, ltb-false, leb-true, and_parts}
 use Rattle.std.proofs.lemmas.List.{get_or-take, get_or-drop, get_or_past, drop_all, length-map}
@@ -75,6 +75,13 @@ pub inside : (docs : List ℕ) (es : List Entry) (block cur : ℕ) → map (λ (
 inside docs es block cur are within below =
     let same = doc_at_place docs es block cur are within in
     inside_cases docs block cur (nat_lt cur (length (block_of docs block))) refl (omega arith)
+
+-- where counts are read there is a current document
+pub current_where : {P : Type 0} (t : Bool) → (not t ≡ true) ⊎ P → t ≡ true → P
+current_where true (inl none) e = absurd (cc)
+current_where true (inr p) e = p
+current_where false (inl none) e = absurd (cc)
+current_where false (inr p) e = p
 
 pub freq_at_place : (n : ℕ) (docs : List ℕ) (freqs deltas : Option (List ℕ)) (block cur : ℕ) → AreEntries n docs freqs → cur < 128 → (is_some freqs ≡ true → doc_at (drop (128 * block + cur) (list_of docs freqs deltas)) < 2147483647)
     → freq_in_block freqs block cur ≡ term_freq_at (not (is_some freqs)) (drop (128 * block + cur) (list_of docs freqs deltas))

@@ -1,17 +1,14 @@
 -- Laws of seeks.
-use Rattle.std.proofs.Common.{◌≡◌, ℕ, zero, suc, ◌+◌, ◌-◌, ◌*◌, ◌/◌, ◌<◌, ◌≤◌, Bool, true, false, List, [], length, take, drop, map, get_or, min, max, nat_lt, Option, Some, None, refl, sym, ap, ◌∙◌, arith, length-take, length-drop}
+use Rattle.std.proofs.Common.{◌≡◌, ℕ, zero, suc, ◌+◌, ◌-◌, ◌*◌, ◌/◌, ◌<◌, ◌≤◌, Bool, true, false, List, length, drop, map, get_or, nat_lt, refl, sym, ap, ◌∙◌, arith, length-take, length-drop}
 use Rattle.std.proofs.lemmas.Bool.{ltb-true, ltb-false}
-use Rattle.std.proofs.lemmas.List.{get_or-take, get_or-drop, get_or_past, get_or_default, drop_all, length-map}
+use Rattle.std.proofs.lemmas.List.{get_or_past, get_or_default}
 use Rattle.ii_docset.specs.Entries.{Entry, are_documents}
-use Rattle.ii_docset.specs.Cursor.{doc_at, from_doc, IsAscending, IsSound}
+use Rattle.ii_docset.specs.Cursor.{doc_at, from_doc, IsAscending}
 use Rattle.ii_docset.proofs.CursorLemmas.{advanced, from_doc_step, from_doc_here}
-use Rattle.ii_codes.specs.BlockDecoder.{BlockDecoderState, decodes_of}
-use Rattle.ii_layout.specs.SkipReader.{SkipReaderState}
 use Rattle.ii_layout.specs.Written.{block_of}
 use Rattle.ii_layout.proofs.BlockDocs.{document_more, get_or-block_of}
-use Rattle.ii_check.specs.CheckedPostings.{AreFreqs, CheckedPostingsState, HasDocuments, HoldsFreqs, IsAtBlock, LoadsBlock, LoadsFreqs, SeeksBlock}
-use Rattle.ii_reader.specs.BlockSegmentPostings.{AreEntries, GoesTo, IsBelow, IsLoaded, IsSought}
-use Rattle.ii_reader.proofs.BlockLemmas.{decodes_most, freqs_loaded, state_of}
+use Rattle.ii_check.specs.CheckedPostings.{CheckedPostingsState, HasDocuments, SeeksBlock}
+use Rattle.ii_reader.specs.BlockSegmentPostings.{AreEntries, IsBelow, IsSought}
 use Rattle.ii_reader.proofs.CursorLemmas.{doc_at_drop}
 
 -- documents in order

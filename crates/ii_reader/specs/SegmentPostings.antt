@@ -1,5 +1,5 @@
 -- A cursor over the documents of a term, with their counts and positions.
-use Rattle.std.specs.Prelude.{◌≡◌, ℕ, ◌+◌, ◌/◌, ◌≤◌, true, List, Option, None, Some, length, ⊤, ⊥}
+use Rattle.std.specs.Prelude.{◌≡◌, ℕ, ◌+◌, ◌/◌, ◌≤◌, true, List, Option, None, Some, length, ⊤}
 use Rattle.std.specs.List.{sum, list_all}
 use Rattle.ii_base.specs.Options.{downgrade, has_positions}
 use Rattle.ii_codes.specs.Sums.{fit_u32}

@@ -264,12 +264,11 @@ fn sum_up(values: &mut [u32], offset: u32)
     requires { IsTrue (fit_u32 (running_sums offset values.old)) }
     ensures { values.new ≡ running_sums offset values.old }
 {
-    let mut sum = offset;
-    let mut i = 0;
-    while i < values.len() {
-        sum += values[i];
+    let mut before = offset;
+    for i in 0..values.len() {
+        let sum = before + values[i];
         values[i] = sum;
-        i += 1;
+        before = sum;
     }
 }
 

@@ -1,5 +1,4 @@
-use Rattle.std.proofs.Common.{◌≡◌, List, ℕ, ap, ◌∙◌}
-use Rattle.ii_docset.specs.Entries.{are_documents}
+use Rattle.std.proofs.Common.{List, ℕ, ap, ◌∙◌}
 use Rattle.ii_layout.specs.Written.{block_of}
 use Rattle.ii_reader.proofs.SeekLemmas.{is_sought}
 use Rattle.ii_reader.proofs.block_segment_postings.BlockSegmentPostings.seek.Goals as goal
