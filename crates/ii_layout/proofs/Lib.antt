@@ -10,5 +10,6 @@ pub mod SplitLemmas
 pub mod WorkedRows
 pub mod PositionLaws
 pub mod PositionLemmas
+pub mod PositionPacking
 pub mod PositionRows
 pub mod WrittenLaws

@@ -1,13 +1,13 @@
 -- What is written of the deltas of a term's positions gives these deltas.
-use Rattle.std.proofs.Common.{◌≡◌, ℕ, zero, suc, ◌+◌, ◌-◌, ◌*◌, ◌/◌, ◌%◌, ◌^◌, ◌<◌, ◌≤◌, false, List, [], ◌∷◌, ◌++◌, map, length, take, drop, get_or, Option, Some, refl, sym, ap, ◌∙◌, arith, append_assoc, length-append}
+use Rattle.std.proofs.Common.{◌≡◌, ℕ, zero, suc, ◌+◌, ◌*◌, ◌/◌, ◌^◌, ◌<◌, ◌≤◌, false, List, [], ◌∷◌, ◌++◌, map, length, drop, get_or, Some, refl, sym, ap, ◌∙◌, arith, append_assoc, length-append}
 use Rattle.std.proofs.lemmas.Bool.{le-leb, lt-ltb}
-use Rattle.std.proofs.lemmas.List.{drop_at, take_at, take-append-drop, length-drop, get_or-drop, append-nil}
+use Rattle.std.proofs.lemmas.List.{drop_at, take_at, take-append-drop, length-drop, get_or-drop}
 use Rattle.std.proofs.lemmas.List.FromFn.{get_or-map-range_with_len, length-map-range_with_len, take-map-range_with_len, sum_by-map-range_with_len_more}
 use Rattle.std.specs.List.{flat_map, range_with_len, concat, sum_by, AllByRecursion}
-use Rattle.ii_io.specs.Steps.{◌>>=◌, needs}
-use Rattle.ii_io.specs.Vints.{u32_at, u64_at, vint_u32, vint_u64}
+use Rattle.ii_io.specs.Steps.{◌>>=◌}
+use Rattle.ii_io.specs.Vints.{u32_at, vint_u32, vint_u64}
 use Rattle.ii_io.specs.VintLemmas.{u32_at-vint_u32, u64_at-vint_u64}
-use Rattle.ii_codes.specs.Blocks.{unsorted_block_at, unsorted_width, unsorted_bytes, IsBlock}
+use Rattle.ii_codes.specs.Blocks.{unsorted_width, unsorted_bytes, IsBlock}
 use Rattle.ii_codes.specs.UnsortedVints.{u32s_until_end, unsorted_vints}
 use Rattle.ii_codes.proofs.BlockLaws.{reads_unsorted_blocks}
 use Rattle.ii_codes.proofs.PackedLaws.{length-packed}
@@ -88,6 +88,10 @@ module _ (deltas : List ℕ) where
         let read = reads_unsorted_blocks.0 (block_of deltas i) (flat_map bytes_of (range_with_len (i + 1) left.0) ++ after) (block_fits i (omega arith)) in
         rw (width, place, read) refl
 
+    pub blocks_read : (after : List ℕ) (n : ℕ) → 128 * n ≤ length deltas → each (block_deltas (list_for n after)) (length (widths n)) ≡ Some (map (block_of deltas) (range_with_len 0 n))
+    blocks_read after n whole =
+        ap (each (block_deltas (list_for n after))) (length-map-range_with_len bits 0 n) ∙ each-some (block_deltas (list_for n after)) (block_of deltas) n (λ k within. block_read after n k whole within)
+
     rest_read : (n : ℕ) → n ≡ length deltas / 128 → rest_deltas (list_for n (unsorted_vints (drop (128 * n) deltas))) ≡ Some (drop (128 * n) deltas)
     rest_read n n_is =
         let many = length-map-range_with_len bits 0 n in
@@ -112,9 +116,8 @@ module _ (deltas : List ℕ) where
     all_read n n_is low =
         let after = unsorted_vints (drop (128 * n) deltas) in
         let list : PositionList = list_for n after in
-        let many = length-map-range_with_len bits 0 n in
         let parts : written_positions deltas ≡ vint_u64 n ++ widths n ++ blocks n ++ unsorted_vints (drop (128 * n) deltas) = ap (λ (m : ℕ). vint_u64 m ++ widths m ++ blocks m ++ unsorted_vints (drop (128 * m) deltas)) (sym n_is) in
-        let found = ap (each (block_deltas list)) many ∙ each-some (block_deltas list) (block_of deltas) n (λ k within. block_read (unsorted_vints (drop (128 * n) deltas)) n k (omega arith) within) in
+        let found = blocks_read (unsorted_vints (drop (128 * n) deltas)) n (omega arith) in
         let rest = rest_read n n_is in
         let together : concat (map (block_of deltas) (range_with_len 0 n)) ++ drop (128 * n) deltas ≡ deltas =
         ap (λ (xs : List ℕ). xs ++ drop (128 * n) deltas) (blocks_are deltas n) ∙ take-append-drop (128 * n) deltas

@@ -132,7 +132,7 @@ narrow_width WithFreqs docs freqs i counts whole = narrow_freqs (block_of freqs 
 narrow_width WithFreqsAndPositions docs freqs i counts whole = narrow_freqs (block_of freqs i) (freqs_block WithFreqsAndPositions docs freqs i (counts refl) whole)
 
 -- a row of values that are the same
-map-same : {X : Type 0} (f g : ℕ → X) (a n : ℕ) → ((k : ℕ) → k < a + n → g k ≡ f k) → map g (range_with_len a n) ≡ map f (range_with_len a n)
+pub map-same : {X : Type 0} (f g : ℕ → X) (a n : ℕ) → ((k : ℕ) → k < a + n → g k ≡ f k) → map g (range_with_len a n) ≡ map f (range_with_len a n)
 map-same f g a zero same = refl
 map-same f g a (suc n) same =
     let first = same a (omega arith) in
