@@ -8,6 +8,8 @@ pub mod SkipReaderLemmas
 pub mod SkipWriting
 pub mod SplitLemmas
 pub mod WorkedRows
+pub mod PositionLaws
 pub mod PositionLemmas
+pub mod PositionPacking
 pub mod PositionRows
 pub mod WrittenLaws

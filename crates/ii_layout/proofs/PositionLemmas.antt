@@ -1,11 +1,11 @@
 -- Laws of the deltas of a term's positions, block by block.
-use Rattle.std.proofs.Common.{◌≡◌, ◌≢◌, ℕ, zero, suc, ◌+◌, ◌-◌, ◌*◌, ◌/◌, ◌%◌, ◌<◌, ◌≤◌, min, Bool, true, false, cond, List, [], ◌∷◌, ◌++◌, length, take, drop, get_or, set, is_some, unwrap_or, Option, Some, None, MatchBool, eqb, nat_lt, refl, sym, ap, ◌∙◌, arith, length-append}
+use Rattle.std.proofs.Common.{◌≡◌, ◌≢◌, ℕ, zero, suc, ◌+◌, ◌-◌, ◌*◌, ◌/◌, ◌%◌, ◌<◌, ◌≤◌, min, Bool, true, false, cond, List, [], ◌++◌, length, take, drop, get_or, set, is_some, unwrap_or, Option, Some, None, MatchBool, eqb, nat_lt, refl, sym, ap, ◌∙◌, arith, length-append}
 use Rattle.std.proofs.Math.Nat.{mul-mod_left, mul-div_left, div-mul-le_self, div-lt_iff_lt-mul, mod-eq-sub-div-mul}
 use Rattle.std.proofs.Math.Seq.{take-add}
 use Rattle.std.proofs.lemmas.Bool.{lt-ltb, le-ltb, ltb-true, ltb-false, eqb-true, eqb-false}
 use Rattle.std.proofs.lemmas.List.{take_all, drop-drop, drop-take, take-take, length-drop, length-take, length-take-le, length-set, get_or-set_same, get_or-set_other}
-use Rattle.std.proofs.lemmas.List.Sums.{sum_by_more, sum_by-take-drop, sum_by-take-le}
-use Rattle.std.specs.List.{concat, sum, sum_by}
+use Rattle.std.proofs.lemmas.List.Sums.{sum_by_more, sum_by-take-le}
+use Rattle.std.specs.List.{concat, sum_by}
 use Rattle.ii_io.specs.Steps.{◌>>=◌, needs}
 use Rattle.ii_io.specs.StepLemmas.{needs-some, step-some, some-same}
 use Rattle.ii_codes.specs.Packed.{unpacked}
@@ -14,7 +14,7 @@ use Rattle.ii_codes.specs.UnsortedVints.{u32s_until_end}
 use Rattle.ii_codes.proofs.BlockLemmas.{unsorted-wide, unsorted-short, unsorted-plain}
 use Rattle.ii_layout.specs.Each.{each}
 use Rattle.ii_layout.specs.Positions.{PositionList, position_list, place_by_widths, block_deltas, rest_deltas, position_deltas}
-use Rattle.ii_layout.specs.PositionReader.{deltas_of, list_at, AreAnchors, anchored, rest_at, deltas_at_block, ArePositions, KeepsBlock}
+use Rattle.ii_layout.specs.PositionReader.{deltas_of, list_at, AreAnchors, anchored, rest_at, deltas_at_block, KeepsBlock}
 use Rattle.ii_layout.specs.Written.{block_of}
 use Rattle.ii_layout.proofs.DocumentLemmas.{each_gives, AreWhole, length-concat, concat_block, last_block}
 use Rattle.ii_layout.proofs.FrequencyLemmas.{block_fits}

@@ -32,7 +32,7 @@ use Rattle.ii_layout.proofs.BlockDocs.{full_block, rest_falls, document_low, get
 use Rattle.ii_layout.proofs.PackingLemmas.{narrow, flat_map-range, length-entries}
 
 -- rows of a list, from a place on
-flat_map-split : (f : ℕ → List ℕ) (a i m : ℕ) → flat_map f (range_with_len a (i + m)) ≡ flat_map f (range_with_len a i) ++ flat_map f (range_with_len (a + i) m)
+pub flat_map-split : (f : ℕ → List ℕ) (a i m : ℕ) → flat_map f (range_with_len a (i + m)) ≡ flat_map f (range_with_len a i) ++ flat_map f (range_with_len (a + i) m)
 flat_map-split f a zero m =
     let none : 0 + m ≡ m = omega arith in
     let here : a ≡ a + 0 = omega arith in
@@ -45,7 +45,7 @@ flat_map-split f a (suc i) m =
     ∙ sym (append_assoc (f a) (flat_map f (range_with_len (a + 1) i)) (flat_map f (range_with_len (a + suc i) m)))
 
 -- a row stands after all before it
-row_at : (f : ℕ → List ℕ) (i m place : ℕ) (after : List ℕ) → place ≡ length (flat_map f (range_with_len 0 i))
+pub row_at : (f : ℕ → List ℕ) (i m place : ℕ) (after : List ℕ) → place ≡ length (flat_map f (range_with_len 0 i))
     → drop place (flat_map f (range_with_len 0 (i + suc m)) ++ after) ≡ f i ++ (flat_map f (range_with_len (i + 1) m) ++ after)
 row_at f i m place after e =
     let here : 0 + i ≡ i = omega arith in
@@ -55,7 +55,7 @@ row_at f i m place after e =
     ∙ drop_at (flat_map f (range_with_len 0 i)) (flat_map f (range_with_len i (suc m)) ++ after) place (sym e)
     ∙ append_assoc (f i) (flat_map f (range_with_len (i + 1) m)) after
 
-left_of : (i n : ℕ) → i < n → (m : ℕ) × (n ≡ i + suc m)
+pub left_of : (i n : ℕ) → i < n → (m : ℕ) × (n ≡ i + suc m)
 left_of i n h = (n - (i + 1), omega arith)
 
 -- the width and the sum of the counts in an entry, which are 0 where it has none
@@ -132,7 +132,7 @@ narrow_width WithFreqs docs freqs i counts whole = narrow_freqs (block_of freqs 
 narrow_width WithFreqsAndPositions docs freqs i counts whole = narrow_freqs (block_of freqs i) (freqs_block WithFreqsAndPositions docs freqs i (counts refl) whole)
 
 -- a row of values that are the same
-map-same : {X : Type 0} (f g : ℕ → X) (a n : ℕ) → ((k : ℕ) → k < a + n → g k ≡ f k) → map g (range_with_len a n) ≡ map f (range_with_len a n)
+pub map-same : {X : Type 0} (f g : ℕ → X) (a n : ℕ) → ((k : ℕ) → k < a + n → g k ≡ f k) → map g (range_with_len a n) ≡ map f (range_with_len a n)
 map-same f g a zero same = refl
 map-same f g a (suc n) same =
     let first = same a (omega arith) in
@@ -197,7 +197,7 @@ is_block last block b = record { many = b.many; fit = λ k h. let low = b.low k 
 ascends_after : (last : ℕ) (block : List ℕ) → IsFullBlock last block → AscendsAfter last block
 ascends_after last block b = record { ascending = b.ascending; after = b.after }
 
-each-some : (f : ℕ → Option (List ℕ)) (g : ℕ → List ℕ) (n : ℕ) → ((k : ℕ) → k < n → f k ≡ Some (g k)) → each f n ≡ Some (map g (range_with_len 0 n))
+pub each-some : (f : ℕ → Option (List ℕ)) (g : ℕ → List ℕ) (n : ℕ) → ((k : ℕ) → k < n → f k ≡ Some (g k)) → each f n ≡ Some (map g (range_with_len 0 n))
 each-some f g zero some = refl
 each-some f g (suc n) some =
     let earlier = each-some f g n (λ k h. some k (omega arith)) in
@@ -208,7 +208,7 @@ each-some f g (suc n) some =
     rw (earlier, last) (ap (λ (xs : List (List ℕ)). Some xs) (sym all))
 
 -- the documents of all full blocks, and those after them
-blocks_are : (docs : List ℕ) (i : ℕ) → concat (map (block_of docs) (range_with_len 0 i)) ≡ take (128 * i) docs
+pub blocks_are : (docs : List ℕ) (i : ℕ) → concat (map (block_of docs) (range_with_len 0 i)) ≡ take (128 * i) docs
 blocks_are docs zero = refl
 blocks_are docs (suc i) =
     let next : suc i ≡ i + 1 = omega arith in
@@ -218,7 +218,7 @@ blocks_are docs (suc i) =
     ∙ (λ j. blocks_are docs i j ++ append-nil (block_of docs i) j)
     ∙ sym (take-add (128 * i) 128 docs) ∙ ap (λ (k : ℕ). take k docs) place
 
-fit_by : (vs : List ℕ) → ((k : ℕ) → k < length vs → get_or vs k 0 < 2 ^ 32) → AllByRecursion (λ v. v < 2 ^ 32) vs
+pub fit_by : (vs : List ℕ) → ((k : ℕ) → k < length vs → get_or vs k 0 < 2 ^ 32) → AllByRecursion (λ v. v < 2 ^ 32) vs
 fit_by [] h = tt
 fit_by (v ∷ vs) h = (h 0 (omega arith), fit_by vs (λ k within. h (suc k) (omega arith)))
 

@@ -37,7 +37,7 @@ groups_some : (few : Bool) (b c : ℕ) (bs : List ℕ) → 0 < length (if few th
 groups_some true b c bs = omega arith
 groups_some false b c bs = omega arith
 
-vint_some : (n : ℕ) → 0 < length (vint_u32 n)
+pub vint_some : (n : ℕ) → 0 < length (vint_u32 n)
 unfolding vint_u32
 vint_some n = groups_some (nat_lt n 128) (n + 128) (n % 128) (fewest_groups 3 (n / 128))
 

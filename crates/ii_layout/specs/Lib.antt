@@ -6,6 +6,7 @@ pub mod Postings
 pub mod Written
 pub mod Positions
 pub mod PositionReader
+pub mod PositionSerializer
 pub mod TermList
 pub mod PostingsSerializer
 pub mod SkipReader

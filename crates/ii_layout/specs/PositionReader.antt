@@ -1,5 +1,5 @@
 -- A reader of the positions of a term: the deltas that its bytes hold, and the block of them that it keeps.
-use Rattle.std.specs.Prelude.{◌≡◌, ℕ, ◌+◌, ◌-◌, ◌*◌, ◌<◌, ◌≤◌, if◌then◌else◌, List, [], length, take, drop, slice_index, slice_set, nat_lt, ◌==◌, ◌%◌, ◌/◌, Option, unwrap_or, Some}
+use Rattle.std.specs.Prelude.{◌≡◌, ℕ, ◌+◌, ◌-◌, ◌*◌, ◌<◌, ◌≤◌, if◌then◌else◌, List, [], length, drop, slice_index, slice_set, nat_lt, ◌==◌, ◌%◌, ◌/◌, Option, unwrap_or, Some}
 use Rattle.std.specs.List.{slice_range}
 use Rattle.ii_io.specs.Steps.{◌>>=◌, needs}
 use Rattle.ii_codes.specs.UnsortedVints.{u32s_until_end}

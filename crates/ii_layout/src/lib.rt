@@ -11,7 +11,7 @@ pub mod split;
 mod tests;
 pub mod written;
 
-pub use positions::PositionReader;
+pub use positions::{PositionReader, PositionSerializer, PositionWriter};
 pub use serializer::PostingsSerializer;
 pub use skip::{BlockInfo, SkipReader, SkipSerializer};
 pub use split::{SkipPlaces, bytes_from, split_into_skips_and_postings};

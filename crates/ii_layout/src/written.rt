@@ -1,3 +1,4 @@
+ghost use Rattle.ii_layout.specs.Positions.{ReadsPositionsBack};
 ghost use Rattle.ii_layout.specs.Written.{ReadsPostingsBack, ReadsUncountedBack, ReadsDocumentsBack};
 
 /// The law of written postings: what is written gives its list for each option that is requested,
@@ -15,4 +16,9 @@ pub fn reads_uncounted_back()
 /// The law of written documents: what is written gives its list, whatever follows.
 pub fn reads_documents_back()
     ensures { ReadsDocumentsBack }
+{}
+
+/// The law of written positions: what is written gives its deltas.
+pub fn reads_positions_back()
+    ensures { ReadsPositionsBack }
 {}

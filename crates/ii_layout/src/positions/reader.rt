@@ -1,7 +1,8 @@
-ghost use Rattle.std.specs.Prelude.{◌≡◌, ◌+◌, ◌-◌, ◌/◌, ◌≤◌, ◌++◌, length, take, drop, min, Some, None, IfOk, IfErr, OnErr};
+ghost use Rattle.std.specs.Prelude.{◌≡◌, ◌+◌, ◌/◌, ◌≤◌, length, take, drop, Some, None, IfOk, IfErr, OnErr};
 ghost use Rattle.ii_layout.specs.Positions.{position_deltas};
 
 use super::blocks::PositionBlocks;
+use super::copy_into;
 use bytes::Bytes;
 use ii_codes::COMPRESSION_BLOCK_SIZE;
 use ii_io::{Fault, LayoutFault, Part};
@@ -89,19 +90,4 @@ impl PositionReader {
         let blocks = self.blocks.clone()?;
         Ok(PositionReader { blocks })
     }
-}
-
-// Copies values from a place on into the output, behind what is done there, and answers how many:
-// as many as there are and have room.
-fn copy_into(values: &[u32], start: usize, output: &mut [u32], done: usize) -> usize
-    requires start { start ≤ length values.now }
-    requires done { done ≤ length output.old }
-    ensures count { result ≡ min (length values.now - start) (length output.old - done) }
-    ensures copied { take (done + result) output.new ≡ take done output.old ++ take result (drop start values.now) }
-{
-    let (_, rest) = output.split_at_mut(done);
-    let count = rest.len().min(values.len() - start);
-    let (front, _) = rest.split_at_mut(count);
-    front.copy_from_slice(&values[start..start + count]);
-    count
 }

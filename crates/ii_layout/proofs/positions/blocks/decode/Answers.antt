@@ -1,5 +1,5 @@
 use Rattle.std.proofs.Common.{arith}
-use Rattle.ii_layout.proofs.PositionLemmas.{rest_asked, rest_answered, block_asked, block_answered}
+use Rattle.ii_layout.proofs.PositionLemmas.{rest_asked, block_answered}
 use Rattle.ii_layout.proofs.positions.blocks.decode.Goals as goal
 
 pub uncompress_vint_unsorted_until_end-requires : goal.uncompress_vint_unsorted_until_end-requires

@@ -1,4 +1,4 @@
-use Rattle.std.proofs.Common.{length, nat_lt, refl, sym, ap, ◌∙◌}
+use Rattle.std.proofs.Common.{length, nat_lt, refl, sym, ap}
 use Rattle.ii_layout.proofs.PositionLemmas.{rest_cases}
 use Rattle.ii_layout.proofs.positions.blocks.read_rest.Goals as goal
 

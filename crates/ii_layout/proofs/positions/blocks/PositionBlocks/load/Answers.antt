@@ -1,4 +1,4 @@
-use Rattle.std.proofs.Common.{◌≡◌, ℕ, ◌-◌, List, take, drop, sym, ap, ◌∙◌}
+use Rattle.std.proofs.Common.{◌≡◌, ℕ, ◌-◌, List, take, drop, ap, ◌∙◌}
 use Rattle.ii_layout.proofs.PositionLemmas.{asked_within, asked_there, keeps_other}
 use Rattle.ii_layout.proofs.positions.blocks.PositionBlocks.load.Goals as goal
 

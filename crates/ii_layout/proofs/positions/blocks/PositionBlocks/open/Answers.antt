@@ -1,4 +1,4 @@
-use Rattle.std.proofs.Common.{◌≡◌, ℕ, ◌-◌, List, take, drop, length, refl, ap, arith}
+use Rattle.std.proofs.Common.{◌-◌, take, drop, length, refl, ap, arith}
 use Rattle.ii_layout.proofs.PositionLemmas.{keeps_rest}
 use Rattle.ii_layout.proofs.positions.blocks.PositionBlocks.open.Goals as goal
 

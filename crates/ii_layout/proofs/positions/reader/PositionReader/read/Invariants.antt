@@ -1,4 +1,4 @@
-use Rattle.std.proofs.Common.{◌≡◌, ℕ, ◌+◌, ◌-◌, ◌*◌, ◌/◌, ◌<◌, ◌≤◌, take, drop, length}
+use Rattle.std.proofs.Common.{◌≡◌, ◌-◌, length}
 use Rattle.ii_layout.proofs.PositionLemmas.{ReadsPart}
 use Rattle.ii_layout.proofs.positions.reader.PositionReader.read.Given as goal
 

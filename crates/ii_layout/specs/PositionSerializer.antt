@@ -1,0 +1,38 @@
+-- A serializer of positions: the deltas of the open term, and what is kept of them.
+use Rattle.std.specs.Prelude.{◌≡◌, ℕ, ◌/◌, ◌%◌, ◌^◌, ◌<◌, false, Bool, List, [], length, map, unwrap_or}
+use Rattle.std.specs.List.{concat, flat_map, range_with_len, AllByRecursion}
+use Rattle.std.specs.Option.{option_map}
+use Rattle.ii_io.specs.CountingWriter.{CountingWriterState}
+use Rattle.ii_codes.specs.Blocks.{unsorted_width, unsorted_bytes}
+use Rattle.ii_layout.specs.Each.{each}
+use Rattle.ii_layout.specs.Positions.{block_deltas}
+use Rattle.ii_layout.specs.Written.{block_of}
+
+-- The deltas of the open term so far, and whether an earlier call was refused.
+pub record PositionWriterState : Type 0 where
+  pub deltas : List ℕ
+  pub closed : Bool
+
+-- The same with the writer to which positions go.
+pub record PositionSerializerState : Type 0 where
+  pub writer : CountingWriterState
+  pub deltas : List ℕ
+  pub closed : Bool
+
+-- the widths and the bytes of the full blocks of deltas
+abbrev pub widths_of : List ℕ → List ℕ
+widths_of deltas = map (λ i. unsorted_width false (block_of deltas i)) (range_with_len 0 (length deltas / 128))
+
+abbrev pub blocks_of : List ℕ → List ℕ
+blocks_of deltas = flat_map (λ i. unsorted_bytes false (block_of deltas i)) (range_with_len 0 (length deltas / 128))
+
+-- the deltas that blocks of these widths hold
+unfoldable pub deltas_in : List ℕ → List ℕ → List ℕ
+deltas_in widths body = unwrap_or (option_map concat (each (block_deltas (record { widths = widths; body = body })) (length widths))) []
+
+-- Deltas of 32 bits in full blocks, of which these widths and bytes are kept.
+pub record PacksDeltas (deltas widths body : List ℕ) : Type 0 where
+  pub whole : length deltas % 128 ≡ 0
+  pub fit : AllByRecursion (λ v. v < 2 ^ 32) deltas
+  pub widths_are : widths ≡ widths_of deltas
+  pub body_is : body ≡ blocks_of deltas

@@ -1,0 +1,402 @@
+ghost use Rattle.std.specs.Prelude.{◌≡◌, ◌-◌, ◌<◌, ◌≤◌, ◌↔◌, ◌⊎◌, ◌==◌, [], ◌∷◌, ◌++◌, length, take, min, false, true, IsTrue, Some, OnOk, OnErr, IfErr, IsErrOf};
+ghost use Rattle.ii_io.specs.CountingWriter.{Writes, WritesUnlessClosed};
+ghost use Rattle.ii_io.specs.Vints.{vint_u64};
+ghost use Rattle.ii_codes.specs.Blocks.{unsorted_width, unsorted_bytes};
+ghost use Rattle.ii_layout.specs.Positions.{position_deltas, written_positions};
+
+use super::copy_into;
+use ii_codes::{BlockEncoder, COMPRESSION_BLOCK_SIZE, VIntEncoder};
+use ii_io::vint::{self, MAX_LONG_VINT_SIZE};
+use ii_io::{CountingWriter, Fault};
+use std::alloc::Global;
+use std::io::Write;
+use std::marker::Model;
+
+/// At most 128 deltas.
+#[derive(Drop)]
+struct DeltaBlock {
+    deltas: [u32; COMPRESSION_BLOCK_SIZE],
+    len: usize,
+}
+
+impl Model for DeltaBlock {
+    ghost use Rattle.std.specs.Prelude.{ℕ, List, take, ◌≤◌};
+
+    ghost Value = { List ℕ };
+
+    ghost view = { λ b. take b.len b.deltas };
+
+    ghost invariant = { λ b. b.len ≤ 128 };
+}
+
+impl DeltaBlock {
+    fn new() -> DeltaBlock
+        ensures { result ≡ [] }
+    {
+        DeltaBlock {
+            deltas: [0; COMPRESSION_BLOCK_SIZE],
+            len: 0,
+        }
+    }
+
+    fn deltas(&self) -> &[u32]
+        ensures { result.now ≡ self.now }
+    {
+        &self.deltas[..self.len]
+    }
+
+    fn is_full(&self) -> bool
+        ensures full { result ≡ (length self.now == 128) }
+        ensures few { length self.now ≤ 128 }
+    {
+        self.len == COMPRESSION_BLOCK_SIZE
+    }
+
+    // Adds as many of the first deltas as there is room for, and answers how many.
+    fn fill(&mut self, deltas: &[u32]) -> usize
+        ensures count { result ≡ min (length deltas.now) (128 - length self.old) }
+        ensures filled { self.new ≡ self.old ++ take result deltas.now }
+    {
+        let count = copy_into(deltas, 0, &mut self.deltas, self.len);
+        self.len += count;
+        count
+    }
+
+    fn clear(&mut self)
+        ensures { self.new ≡ [] }
+    {
+        self.len = 0;
+    }
+}
+
+/// The full blocks of the open term, packed.
+#[derive(Drop)]
+struct PackedDeltas {
+    block_encoder: BlockEncoder,
+    bit_widths: Vec<u8>,
+    positions_buffer: Vec<u8>,
+}
+
+impl Model for PackedDeltas {
+    ghost use Rattle.std.specs.Prelude.{ℕ, List};
+    ghost use Rattle.ii_layout.specs.PositionSerializer.{PacksDeltas, deltas_in};
+
+    ghost Value = { List ℕ };
+
+    ghost view = { λ p. deltas_in p.bit_widths.items p.positions_buffer.items };
+
+    ghost invariant = { λ p. PacksDeltas (deltas_in p.bit_widths.items p.positions_buffer.items) p.bit_widths.items p.positions_buffer.items };
+}
+
+impl PackedDeltas {
+    fn new(alloc: Global) -> PackedDeltas
+        ensures { result ≡ [] }
+    {
+        PackedDeltas {
+            block_encoder: BlockEncoder::new(),
+            bit_widths: Vec::new(alloc),
+            positions_buffer: Vec::new(alloc),
+        }
+    }
+
+    // Packs a full block after the others. Where memory is refused no block is left.
+    fn push(&mut self, block: &[u32]) -> Result<(), Fault>
+        requires { length block.now ≡ 128 }
+        ensures ok { OnOk result (self.new ≡ self.old ++ block.now) }
+        ensures err { OnErr result (self.new ≡ []) }
+        ensures only { IfErr result (λ e. e ≡ Fault.OutOfMemory) }
+    {
+        let packed = pack(
+            block,
+            &mut self.block_encoder,
+            &mut self.bit_widths,
+            &mut self.positions_buffer,
+        );
+        match packed {
+            Ok(()) => Ok(()),
+            Err(fault) => {
+                self.bit_widths.clear();
+                self.positions_buffer.clear();
+                Err(fault)
+            }
+        }
+    }
+
+    // Writes how many blocks there are, their widths, the blocks, and fewer deltas than a block has.
+    fn write_with<W: Write>(
+        &mut self,
+        rest: &[u32],
+        positions_write: &mut CountingWriter<W>,
+    ) -> Result<(), Fault>
+        requires { length rest.now < 128 }
+        ensures same { self.new ≡ self.old }
+        ensures written { Writes positions_write.old positions_write.new (written_positions (self.old ++ rest.now)) result }
+        ensures holds { position_deltas (written_positions (self.old ++ rest.now)) ≡ Some (self.old ++ rest.now) }
+    {
+        let num_blocks = self.bit_widths.len() as u64;
+        let blocks = put_blocks(
+            num_blocks,
+            &self.bit_widths,
+            &self.positions_buffer,
+            positions_write,
+        );
+        if blocks.is_err() {
+            return blocks;
+        }
+        let bytes = self.block_encoder.compress_vint_unsorted(rest);
+        positions_write.write_all(bytes)
+    }
+
+    fn clear(&mut self)
+        ensures { self.new ≡ [] }
+    {
+        self.bit_widths.clear();
+        self.positions_buffer.clear();
+    }
+}
+
+// Adds the width and the bytes of a full block.
+fn pack(
+    block: &[u32],
+    block_encoder: &mut BlockEncoder,
+    bit_widths: &mut Vec<u8>,
+    positions_buffer: &mut Vec<u8>,
+) -> Result<(), Fault>
+    requires { length block.now ≡ 128 }
+    ensures widths { OnOk result (bit_widths.new.items ≡ bit_widths.old.items ++ unsorted_width false block.now ∷ []) }
+    ensures bytes { OnOk result (positions_buffer.new.items ≡ positions_buffer.old.items ++ unsorted_bytes false block.now) }
+    ensures only { IfErr result (λ e. e ≡ Fault.OutOfMemory) }
+{
+    let (num_bits, bytes) = block_encoder.compress_block_unsorted(block, false);
+    bit_widths.push(num_bits)?;
+    positions_buffer.extend_from_slice(bytes)?;
+    Ok(())
+}
+
+// Writes a number, so many widths, and the blocks.
+fn put_blocks<W: Write>(
+    num_blocks: u64,
+    bit_widths: &[u8],
+    blocks: &[u8],
+    positions_write: &mut CountingWriter<W>,
+) -> Result<(), Fault>
+    ensures { Writes positions_write.old positions_write.new (vint_u64 num_blocks ++ bit_widths.now ++ blocks.now) result }
+{
+    let widths = put_widths(num_blocks, bit_widths, positions_write);
+    if widths.is_err() {
+        return widths;
+    }
+    positions_write.write_all(blocks)
+}
+
+// Writes a number and so many widths.
+fn put_widths<W: Write>(
+    num_blocks: u64,
+    bit_widths: &[u8],
+    positions_write: &mut CountingWriter<W>,
+) -> Result<(), Fault>
+    ensures { Writes positions_write.old positions_write.new (vint_u64 num_blocks ++ bit_widths.now) result }
+{
+    let mut number = [0; MAX_LONG_VINT_SIZE];
+    let end = vint::write_u64(num_blocks, &mut number, 0);
+    let count = positions_write.write_all(&number[..end]);
+    if count.is_err() {
+        return count;
+    }
+    positions_write.write_all(bit_widths)
+}
+
+// Adds deltas, and packs each block that they fill. Where that is refused no delta is left.
+fn add_deltas(
+    packed: &mut PackedDeltas,
+    block: &mut DeltaBlock,
+    deltas: &[u32],
+) -> Result<(), Fault>
+    requires { length block.old < 128 }
+    ensures few { length block.new < 128 }
+    ensures ok { OnOk result (packed.new ++ block.new ≡ packed.old ++ block.old ++ deltas.now) }
+    ensures err { OnErr result (packed.new ++ block.new ≡ []) }
+    ensures only { IfErr result (λ e. e ≡ Fault.OutOfMemory) }
+{
+    let mut done = 0;
+    while done < deltas.len() {
+        done += block.fill(&deltas[done..]);
+        pack_if_full(packed, block)?;
+    }
+    Ok(())
+}
+
+// Packs a block once it is full. Where that is refused no delta is left.
+fn pack_if_full(packed: &mut PackedDeltas, block: &mut DeltaBlock) -> Result<(), Fault>
+    ensures few { length block.new < 128 }
+    ensures ok { OnOk result (packed.new ++ block.new ≡ packed.old ++ block.old) }
+    ensures err { OnErr result (packed.new ++ block.new ≡ []) }
+    ensures only { IfErr result (λ e. e ≡ Fault.OutOfMemory) }
+{
+    if !block.is_full() {
+        return Ok(());
+    }
+    let pushed = packed.push(block.deltas());
+    block.clear();
+    pushed
+}
+
+/// Writes the positions of one term after the other, to a writer that is lent. Clauses see the
+/// deltas of the open term, and whether an earlier call was refused.
+///
+/// After a refused call it is closed: each further call answers `SerializerClosed`.
+#[derive(Drop)]
+pub struct PositionWriter {
+    packed: PackedDeltas,
+    block: DeltaBlock,
+    is_closed: bool,
+}
+
+impl Model for PositionWriter {
+    ghost use Rattle.std.specs.Prelude.{◌≡◌, ◌<◌, ◌++◌, [], length, IsTrue};
+    ghost use Rattle.ii_layout.specs.PositionSerializer.{PositionWriterState};
+
+    ghost Value = { PositionWriterState };
+
+    ghost view = { λ w. record { deltas = w.packed ++ w.block; closed = w.is_closed } };
+
+    ghost invariant = { λ w. (length w.block < 128) × (IsTrue w.is_closed → w.packed ++ w.block ≡ []) };
+}
+
+impl PositionWriter {
+    /// A writer of positions, whose open term has no deltas.
+    pub fn new(alloc: Global) -> PositionWriter
+        ensures { result ≡ record { deltas = []; closed = false } }
+    {
+        PositionWriter {
+            packed: PackedDeltas::new(alloc),
+            block: DeltaBlock::new(),
+            is_closed: false,
+        }
+    }
+
+    /// Adds deltas to the open term: how far each position of a document lies above the one before
+    /// it, the first one above 0.
+    ///
+    /// `OutOfMemory` where a growth was refused: the deltas are then dropped. `SerializerClosed`
+    /// after an earlier refusal.
+    pub fn write_positions_delta(&mut self, positions_delta: &[u32]) -> Result<(), Fault>
+        ensures ok { OnOk result (self.new ≡ record { deltas = self.old.deltas ++ positions_delta.now; closed = false }) }
+        ensures err { OnErr result (self.new ≡ record { deltas = []; closed = true }) }
+        ensures closed { IsErrOf result Fault.SerializerClosed ↔ IsTrue self.old.closed }
+        ensures only { IfErr result (λ e. (e ≡ Fault.OutOfMemory) ⊎ (e ≡ Fault.SerializerClosed)) }
+    {
+        if self.is_closed {
+            return Err(Fault::SerializerClosed);
+        }
+        let added = add_deltas(&mut self.packed, &mut self.block, positions_delta);
+        self.is_closed = added.is_err();
+        added
+    }
+
+    /// Writes the deltas of the term and ends it: the number of full blocks as a vint, their widths
+    /// in a byte each, the blocks packed in these, and the other deltas as vints. A `PositionReader`
+    /// reads them back.
+    ///
+    /// `Write` where the writer fails, `Limit(Offset)` where a count of the writer would pass
+    /// `u64::MAX`: a prefix is then written. `SerializerClosed` after an earlier refusal, and nothing
+    /// is written. It takes no memory.
+    pub fn close_term<W: Write>(
+        &mut self,
+        positions_write: &mut CountingWriter<W>,
+    ) -> Result<(), Fault>
+        ensures written { WritesUnlessClosed self.old.closed positions_write.old positions_write.new (written_positions self.old.deltas) result }
+        ensures holds { OnOk result (position_deltas (written_positions self.old.deltas) ≡ Some self.old.deltas) }
+        ensures ok { OnOk result (self.new ≡ record { deltas = []; closed = false }) }
+        ensures err { OnErr result (self.new ≡ record { deltas = []; closed = true }) }
+    {
+        if self.is_closed {
+            return Err(Fault::SerializerClosed);
+        }
+        let written = self.packed.write_with(self.block.deltas(), positions_write);
+        self.packed.clear();
+        self.block.clear();
+        self.is_closed = written.is_err();
+        written
+    }
+}
+
+/// Writes the positions of one term after the other, to a writer of its own. See `PositionWriter`,
+/// which does the same to a writer that is lent. Clauses see the writer too.
+#[derive(Drop)]
+pub struct PositionSerializer<W: Write> {
+    positions_write: CountingWriter<W>,
+    positions: PositionWriter,
+}
+
+impl<W: Write> Model for PositionSerializer<W> {
+    ghost use Rattle.ii_layout.specs.PositionSerializer.{PositionSerializerState};
+
+    ghost Value = { PositionSerializerState };
+
+    ghost view = { λ s. record { writer = s.positions_write; deltas = s.positions.deltas; closed = s.positions.closed } };
+}
+
+impl<W: Write> PositionSerializer<W> {
+    /// A serializer of positions, whose open term has no deltas.
+    pub fn new(alloc: Global, positions_write: CountingWriter<W>) -> PositionSerializer<W>
+        ensures { result ≡ record { writer = positions_write; deltas = []; closed = false } }
+    {
+        PositionSerializer {
+            positions_write,
+            positions: PositionWriter::new(alloc),
+        }
+    }
+
+    /// How many bytes were written through the writer.
+    pub fn written_bytes(&self) -> u64
+        ensures { result ≡ self.now.writer.written_bytes }
+    {
+        self.positions_write.written_bytes()
+    }
+
+    /// Adds deltas to the open term.
+    ///
+    /// `OutOfMemory` where a growth was refused: the deltas are then dropped. `SerializerClosed`
+    /// after an earlier refusal.
+    pub fn write_positions_delta(&mut self, positions_delta: &[u32]) -> Result<(), Fault>
+        ensures ok { OnOk result (self.new ≡ record self.old { deltas = self.old.deltas ++ positions_delta.now; closed = false }) }
+        ensures err { OnErr result (self.new ≡ record self.old { deltas = []; closed = true }) }
+        ensures closed { IsErrOf result Fault.SerializerClosed ↔ IsTrue self.old.closed }
+        ensures only { IfErr result (λ e. (e ≡ Fault.OutOfMemory) ⊎ (e ≡ Fault.SerializerClosed)) }
+    {
+        self.positions.write_positions_delta(positions_delta)
+    }
+
+    /// Writes the deltas of the term and ends it, as `PositionWriter::close_term` does.
+    ///
+    /// `Write` where the writer fails, `Limit(Offset)` where a count of the writer would pass
+    /// `u64::MAX`: a prefix is then written. `SerializerClosed` after an earlier refusal, and nothing
+    /// is written. It takes no memory.
+    pub fn close_term(&mut self) -> Result<(), Fault>
+        ensures written { WritesUnlessClosed self.old.closed self.old.writer self.new.writer (written_positions self.old.deltas) result }
+        ensures holds { OnOk result (position_deltas (written_positions self.old.deltas) ≡ Some self.old.deltas) }
+        ensures ok { OnOk result ((self.new.deltas ≡ []) × (self.new.closed ≡ false)) }
+        ensures err { OnErr result ((self.new.deltas ≡ []) × (self.new.closed ≡ true)) }
+    {
+        self.positions.close_term(&mut self.positions_write)
+    }
+
+    /// Flushes, and hands the writer back. The deltas of a term that wasn't ended are dropped.
+    ///
+    /// `Write` where the writer fails, `Limit(Offset)` where its count of failed calls would pass
+    /// `u64::MAX`. `SerializerClosed` after an earlier refusal, and the writer isn't touched.
+    pub fn close(self) -> (CountingWriter<W>, Result<(), Fault>)
+        ensures { WritesUnlessClosed self.closed self.writer result.0 [] result.1 }
+    {
+        let PositionSerializer {
+            mut positions_write,
+            positions,
+        } = self;
+        if positions.is_closed {
+            return (positions_write, Err(Fault::SerializerClosed));
+        }
+        let flushed = positions_write.flush();
+        (positions_write, flushed)
+    }
+}

@@ -1,0 +1,248 @@
+ghost use Rattle.std.specs.Prelude.{◌≡◌, IfOk};
+
+use super::{PositionReader, PositionSerializer, PositionWriter};
+use crate::written::reads_positions_back;
+use bytes::Bytes;
+use ii_io::{CountingWriter, FailingWriter, Fault, LayoutFault, Part};
+use std::alloc::{AllocError, Global};
+use std::test::Fail;
+
+// Bytes of their own.
+fn owned(alloc: Global, data: &[u8]) -> Result<Bytes, AllocError>
+    ensures { IfOk result (λ b. b ≡ data.now) }
+{
+    let mut bytes = Vec::new(alloc);
+    bytes.extend_from_slice(data)?;
+    Ok(Bytes::from_vec(bytes)?)
+}
+
+// Reads deltas that are there, or puts nothing in.
+fn read_if_there(reader: &mut PositionReader, offset: u64, output: &mut [u32]) -> bool {
+    if u128::from(offset) + output.len() as u128 > reader.len() {
+        return false;
+    }
+    reader.read(offset, output);
+    true
+}
+
+// Three positions 0, 1, 2 in each of 128 documents.
+const PACKED: [u8; 7] = [0x83, 1, 1, 1, 0xB6, 0x6D, 0xDB];
+
+fn three_positions(alloc: Global) -> Result<Bytes, AllocError> {
+    let mut bytes = Vec::new(alloc);
+    bytes.extend_from_slice(&PACKED[..4])?;
+    for _ in 0..16 {
+        bytes.extend_from_slice(&PACKED[4..])?;
+    }
+    Ok(Bytes::from_vec(bytes)?)
+}
+
+// 120 documents with the deltas 1, 2, 3, 2.
+fn four_deltas(alloc: Global) -> Result<Bytes, AllocError> {
+    let mut bytes = Vec::new(alloc);
+    bytes.extend_from_slice(&[0x83, 2, 2, 2])?;
+    for _ in 0..96 {
+        bytes.push(0xB9)?;
+    }
+    for _ in 0..24 {
+        bytes.extend_from_slice(&[0x81, 0x82, 0x83, 0x82])?;
+    }
+    Ok(Bytes::from_vec(bytes)?)
+}
+
+#[test]
+fn deltas_are_written(rt: HostRuntime) -> Result<(), Fail> {
+    let output = CountingWriter::wrap(Vec::new(rt.alloc()));
+    let mut serializer = PositionSerializer::new(rt.alloc(), output);
+    for _ in 0..120 {
+        serializer.write_positions_delta(&[1, 2, 3, 2])?;
+    }
+    assert_eq!(rt; serializer.written_bytes(), 0);
+    serializer.close_term()?;
+    assert_eq!(rt; serializer.written_bytes(), 196);
+    for _ in 0..128 {
+        serializer.write_positions_delta(&[0])?;
+        serializer.write_positions_delta(&[1, 1])?;
+    }
+    serializer.close_term()?;
+    assert_eq!(rt; serializer.written_bytes(), 248);
+    serializer.close_term()?;
+    serializer.write_positions_delta(&[7])?;
+    let (output, closed) = serializer.close();
+    closed?;
+    let mut right = Vec::new(rt.alloc());
+    right.extend_from_slice(four_deltas(rt.alloc())?.as_slice())?;
+    right.extend_from_slice(three_positions(rt.alloc())?.as_slice())?;
+    right.push(0x80)?;
+    assert_eq!(rt; output.finish().as_slice(), right.as_slice());
+    reads_positions_back();
+    Ok(())
+}
+
+#[test]
+fn deltas_are_read(rt: HostRuntime) -> Result<(), Fail> {
+    let Ok(mut reader) = PositionReader::open(four_deltas(rt.alloc())?) else {
+        panic!(rt; "refused");
+    };
+    assert_eq!(rt; reader.len(), 480);
+    let mut four = [0; 4];
+    assert!(rt; read_if_there(&mut reader, 470, &mut four));
+    assert_eq!(rt; four, [3, 2, 1, 2]);
+    let mut three = [0; 3];
+    assert!(rt; read_if_there(&mut reader, 3, &mut three));
+    assert_eq!(rt; three, [2, 1, 2]);
+    assert!(rt; !read_if_there(&mut reader, 477, &mut four));
+    assert!(rt; read_if_there(&mut reader, 480, &mut []));
+    let mut copy = reader.clone()?;
+    assert!(rt; read_if_there(&mut copy, 382, &mut four));
+    assert_eq!(rt; four, [3, 2, 1, 2]);
+    let mut anew = copy.anew();
+    assert_eq!(rt; anew.len(), 480);
+    assert!(rt; read_if_there(&mut anew, 126, &mut four));
+    assert_eq!(rt; four, [3, 2, 1, 2]);
+    let Ok(mut reader) = PositionReader::open(three_positions(rt.alloc())?) else {
+        panic!(rt; "refused");
+    };
+    assert_eq!(rt; reader.len(), 384);
+    let mut all = [7; 384];
+    assert!(rt; read_if_there(&mut reader, 0, &mut all));
+    for (i, delta) in all.iter().enumerate() {
+        assert_eq!(rt; *delta, u32::from(i % 3 != 0), "delta {i}");
+    }
+    Ok(())
+}
+
+// Delta `i` of a row whose blocks have widths from 0 to 32.
+fn delta(i: u32) -> u32 {
+    let width = i / 128 % 33;
+    if width == 0 {
+        return 0;
+    }
+    i.wrapping_mul(0x9E37_79B1) >> (32 - width)
+}
+
+// 300 blocks and 77 deltas more.
+const NUM_DELTAS: u32 = 38_477;
+
+fn many_deltas(alloc: Global) -> Result<Bytes, Fault> {
+    let mut positions = PositionWriter::new(alloc);
+    let mut row = Vec::new(alloc);
+    for i in 0..NUM_DELTAS {
+        row.push(delta(i))?;
+        if i % 97 == 0 {
+            positions.write_positions_delta(&row)?;
+            row.clear();
+        }
+    }
+    positions.write_positions_delta(&row)?;
+    let mut output = CountingWriter::wrap(Vec::new(alloc));
+    positions.close_term(&mut output)?;
+    Ok(Bytes::from_vec(output.finish())?)
+}
+
+#[test]
+fn any_part_is_read_in_any_order(rt: HostRuntime) -> Result<(), Fail> {
+    let Ok(mut reader) = PositionReader::open(many_deltas(rt.alloc())?) else {
+        panic!(rt; "refused");
+    };
+    assert_eq!(rt; reader.len(), u128::from(NUM_DELTAS));
+    let mut output = [0; 400];
+    for k in 0..500u32 {
+        let offset = k.wrapping_mul(0x85EB_CA6B) % NUM_DELTAS;
+        let len = (k * 7 % 400).min(NUM_DELTAS - offset);
+        let part = &mut output[..len as usize];
+        assert!(rt; read_if_there(&mut reader, u64::from(offset), part));
+        for (i, found) in part.iter().enumerate() {
+            assert_eq!(rt; *found, delta(offset + i as u32), "read {k}, {i}");
+        }
+    }
+    let mut one = [0];
+    for i in 0..NUM_DELTAS {
+        assert!(rt; read_if_there(&mut reader, u64::from(i), &mut one));
+        assert_eq!(rt; one[0], delta(i), "delta {i}");
+    }
+    Ok(())
+}
+
+#[test]
+fn a_refused_writer_is_closed(rt: HostRuntime) {
+    let output = CountingWriter::wrap(FailingWriter::new(rt.alloc(), 1));
+    let mut serializer = PositionSerializer::new(rt.alloc(), output);
+    assert_eq!(rt; serializer.write_positions_delta(&[1, 2]), Ok(()));
+    assert_eq!(rt; serializer.close_term(), Err(Fault::Write));
+    assert_eq!(rt; serializer.close_term(), Err(Fault::SerializerClosed));
+    let answer = serializer.write_positions_delta(&[1, 2]);
+    assert_eq!(rt; answer, Err(Fault::SerializerClosed));
+    assert_eq!(rt; serializer.written_bytes(), 0);
+    let (output, closed) = serializer.close();
+    assert_eq!(rt; closed, Err(Fault::SerializerClosed));
+    assert_eq!(rt; output.failed_calls(), 1);
+}
+
+// Writes a block and two deltas more.
+fn write_some(serializer: &mut PositionSerializer<FailingWriter>) -> Result<(), Fault> {
+    serializer.write_positions_delta(&[1; 128])?;
+    serializer.write_positions_delta(&[2, 3])?;
+    serializer.close_term()
+}
+
+#[test]
+fn a_failing_writer_is_told(rt: HostRuntime) {
+    let mut right = [0xFF; 20];
+    right[..2].copy_from_slice(&[0x81, 1]);
+    right[18..].copy_from_slice(&[0x82, 0x83]);
+    let places = [20, 0, 1, 2, 18, 20, 20];
+    for k in 0..7 {
+        let output = CountingWriter::wrap(FailingWriter::new(rt.alloc(), k));
+        let mut serializer = PositionSerializer::new(rt.alloc(), output);
+        let answer = write_some(&mut serializer);
+        assert_eq!(rt; answer.is_err(), 0 < k && k < 5, "call {k}");
+        assert!(rt; answer.is_ok() || answer == Err(Fault::Write), "call {k}");
+        let (output, closed) = serializer.close();
+        // the fifth call is the flush
+        let told = match k {
+            0 | 6 => Ok(()),
+            5 => Err(Fault::Write),
+            _ => Err(Fault::SerializerClosed),
+        };
+        assert_eq!(rt; closed, told, "call {k}");
+        let writer = output.finish();
+        assert!(rt; right.starts_with(writer.bytes()), "call {k}");
+        assert_eq!(rt; writer.bytes().len(), places[k as usize], "call {k}");
+    }
+}
+
+// Whether bytes are refused, and for their positions.
+fn is_damaged(alloc: Global, data: &[u8]) -> Result<bool, AllocError> {
+    let opened = PositionReader::open(owned(alloc, data)?);
+    Ok(matches!(opened, Err(LayoutFault::Damaged(Part::Positions))))
+}
+
+#[test]
+fn damage_is_told(rt: HostRuntime) -> Result<(), Fail> {
+    assert!(rt; is_damaged(rt.alloc(), &[])?);
+    assert!(rt; !is_damaged(rt.alloc(), &[0x80])?);
+    // a width above 32, and a block that is cut
+    let mut wide = [0; 530];
+    wide[..2].copy_from_slice(&[0x81, 33]);
+    assert!(rt; is_damaged(rt.alloc(), &wide)?);
+    wide[1] = 32;
+    assert!(rt; !is_damaged(rt.alloc(), &wide[..514])?);
+    assert!(rt; is_damaged(rt.alloc(), &wide[..513])?);
+    wide[1] = 1;
+    assert!(rt; !is_damaged(rt.alloc(), &wide[..18])?);
+    assert!(rt; is_damaged(rt.alloc(), &wide[..17])?);
+    // 128 vints, and one without an end
+    assert!(rt; is_damaged(rt.alloc(), &[0x80; 129])?);
+    assert!(rt; !is_damaged(rt.alloc(), &[0x80; 128])?);
+    assert!(rt; is_damaged(rt.alloc(), &[0x80, 0])?);
+    // more blocks than widths, up to the largest number
+    assert!(rt; is_damaged(rt.alloc(), &[0x82, 0])?);
+    let most = [
+        0x7F, 0x7F, 0x7F, 0x7F, 0x7F, 0x7F, 0x7F, 0x7F, 0x7F, 0x81, 0,
+    ];
+    assert!(rt; is_damaged(rt.alloc(), &most)?);
+    // a block of width 0 has no bytes
+    assert!(rt; !is_damaged(rt.alloc(), &[0x82, 0, 0])?);
+    Ok(())
+}
