@@ -1,10 +1,13 @@
 //! Cursors over the documents of a list, and over what a term has there.
 #![tactic(auto)]
 
+mod boxed;
 pub mod docset;
+pub mod lent;
 pub mod postings;
 #[cfg(test)]
 mod tests;
 
 pub use docset::{COLLECT_BLOCK_BUFFER_LEN, DocId, DocSet, SeekDangerResult, TERMINATED};
+pub use lent::Lent;
 pub use postings::Postings;
