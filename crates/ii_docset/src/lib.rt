@@ -2,12 +2,16 @@
 #![tactic(auto)]
 
 mod boxed;
+pub mod calls;
 pub mod docset;
 pub mod lent;
 pub mod postings;
 #[cfg(test)]
 mod tests;
+pub mod walking;
 
+pub use calls::{CursorAnswer, CursorCall, Walk};
 pub use docset::{COLLECT_BLOCK_BUFFER_LEN, DocId, DocSet, SeekDangerResult, TERMINATED};
 pub use lent::Lent;
 pub use postings::Postings;
+pub use walking::walk;
