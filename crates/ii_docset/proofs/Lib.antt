@@ -2,3 +2,4 @@ pub mod AscentLemmas
 pub mod BoxLemmas
 pub mod BufferLemmas
 pub mod CursorLemmas
+pub mod IntersectionLemmas

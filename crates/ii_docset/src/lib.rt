@@ -4,6 +4,7 @@
 mod boxed;
 pub mod calls;
 pub mod docset;
+pub mod intersection;
 pub mod lent;
 pub mod postings;
 #[cfg(test)]
@@ -12,6 +13,7 @@ pub mod walking;
 
 pub use calls::{CursorAnswer, CursorCall, Walk};
 pub use docset::{COLLECT_BLOCK_BUFFER_LEN, DocId, DocSet, SeekDangerResult, TERMINATED};
+pub use intersection::intersect;
 pub use lent::Lent;
 pub use postings::Postings;
 pub use walking::walk;
