@@ -1,3 +1,5 @@
 pub mod AscentLemmas
+pub mod BoxLemmas
 pub mod BufferLemmas
 pub mod CursorLemmas
+pub mod IntersectionLemmas

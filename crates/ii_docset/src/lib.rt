@@ -1,10 +1,19 @@
 //! Cursors over the documents of a list, and over what a term has there.
 #![tactic(auto)]
 
+mod boxed;
+pub mod calls;
 pub mod docset;
+pub mod intersection;
+pub mod lent;
 pub mod postings;
 #[cfg(test)]
 mod tests;
+pub mod walking;
 
+pub use calls::{CursorAnswer, CursorCall, Walk};
 pub use docset::{COLLECT_BLOCK_BUFFER_LEN, DocId, DocSet, SeekDangerResult, TERMINATED};
+pub use intersection::intersect;
+pub use lent::Lent;
 pub use postings::Postings;
+pub use walking::walk;

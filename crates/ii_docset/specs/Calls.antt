@@ -1,0 +1,63 @@
+-- Calls of a cursor: which may be made, what they answer, and where they leave it.
+use Rattle.std.specs.Prelude.{ℕ, ◌+◌, ◌^◌, ◌<◌, ◌⊎◌, Bool, IsTrue, List, [], ◌∷◌, drop, map, ⊤}
+use Rattle.std.specs.List.{All}
+use Rattle.ii_docset.specs.declared.calls.CursorAnswer.{CursorAnswer}
+use Rattle.ii_docset.specs.declared.calls.CursorAnswer.TheVariants as answer
+use Rattle.ii_docset.specs.declared.calls.CursorCall.{CursorCall}
+use Rattle.ii_docset.specs.declared.calls.CursorCall.TheVariants as call
+use Rattle.ii_docset.specs.declared.calls.Walk.{Walk}
+use Rattle.ii_docset.specs.Cursor.{IsCurrent, IsTarget, doc_at, from_doc, positions_at, term_freq_at}
+use Rattle.ii_docset.specs.Entries.{Entry}
+
+-- what an answer tells
+pub data Answer : Type 0 where
+  DocIs : ℕ → Answer
+  FreqIs : ℕ → Answer
+  PositionsAre : List ℕ → Answer
+
+abbrev pub answer_of : CursorAnswer → Answer
+answer_of (answer.Doc doc) = DocIs doc
+answer_of (answer.Freq freq) = FreqIs freq
+answer_of (answer.Positions positions) = PositionsAre positions.items
+
+abbrev pub answers_in : Walk → List Answer
+answers_in walk = map answer_of walk.answers.items
+
+-- A call may be made where a cursor stands.
+abbrev pub IsAllowed : CursorCall → Bool → List Entry → Type 0
+IsAllowed call.Doc one es = ⊤
+IsAllowed call.Advance one es = ⊤
+IsAllowed (call.Seek target) one es = IsTarget target es
+IsAllowed call.TermFreq one es = IsTrue one ⊎ IsCurrent es
+IsAllowed (call.Positions offset) one es = IsCurrent es × All (λ (p : ℕ). p + offset < 2 ^ 32) (positions_at es)
+
+-- what a call answers
+abbrev pub answer_to : CursorCall → Bool → List Entry → Answer
+answer_to call.Doc one es = DocIs (doc_at es)
+answer_to call.Advance one es = DocIs (doc_at (drop 1 es))
+answer_to (call.Seek target) one es = DocIs (doc_at (from_doc target es))
+answer_to call.TermFreq one es = FreqIs (term_freq_at one es)
+answer_to (call.Positions offset) one es = PositionsAre (map (λ (p : ℕ). p + offset) (positions_at es))
+
+-- the rest after a call
+abbrev pub rest_after_call : CursorCall → List Entry → List Entry
+rest_after_call call.Doc es = es
+rest_after_call call.Advance es = drop 1 es
+rest_after_call (call.Seek target) es = from_doc target es
+rest_after_call call.TermFreq es = es
+rest_after_call (call.Positions offset) es = es
+
+-- Each call may be made where those before it leave the cursor.
+abbrev pub IsLawful : List CursorCall → Bool → List Entry → Type 0
+IsLawful [] one es = ⊤
+IsLawful (call ∷ calls) one es = IsAllowed call one es × IsLawful calls one (rest_after_call call es)
+
+-- what calls answer, one after the other
+abbrev pub answers_to : List CursorCall → Bool → List Entry → List Answer
+answers_to [] one es = []
+answers_to (call ∷ calls) one es = answer_to call one es ∷ answers_to calls one (rest_after_call call es)
+
+-- the rest after calls
+abbrev pub rest_after : List CursorCall → List Entry → List Entry
+rest_after [] es = es
+rest_after (call ∷ calls) es = rest_after calls (rest_after_call call es)

@@ -1,0 +1,178 @@
+use crate::docset::{COLLECT_BLOCK_BUFFER_LEN, DocId, DocSet, SeekDangerResult};
+use crate::postings::Postings;
+use ii_base::Fault;
+
+/// A boxed cursor is the cursor in the box.
+impl<T: DocSet> DocSet for Box<T> {
+    ghost rest = { λ s. T.rest s.value };
+
+    ghost always_one = { λ s. T.always_one s.value };
+
+    ghost went = { λ a b. T.went a.value b.value };
+
+    ghost went_nowhere = { λ s. T.went_nowhere s.value };
+
+    ghost went_on = { λ a b c first second. T.went_on a.value b.value c.value first second };
+
+    fn advance(&mut self) -> DocId {
+        (**self).advance()
+    }
+
+    fn doc(&self) -> DocId {
+        (**self).doc()
+    }
+
+    fn size_hint(&self) -> u32 {
+        (**self).size_hint()
+    }
+
+    fn seek(&mut self, target: DocId) -> DocId {
+        (**self).seek(target)
+    }
+
+    fn seek_danger(&mut self, target: DocId) -> SeekDangerResult {
+        (**self).seek_danger(target)
+    }
+
+    fn fill_buffer(&mut self, buffer: &mut [DocId; COLLECT_BLOCK_BUFFER_LEN]) -> usize {
+        (**self).fill_buffer(buffer)
+    }
+
+    fn cost(&self) -> u64 {
+        (**self).cost()
+    }
+
+    fn count_including_deleted(&mut self) -> u32 {
+        (**self).count_including_deleted()
+    }
+}
+
+impl<T: Postings> Postings for Box<T> {
+    fn term_freq(&self) -> u32 {
+        (**self).term_freq()
+    }
+
+    fn append_positions_with_offset(
+        &mut self,
+        offset: u32,
+        output: &mut Vec<u32>,
+    ) -> Result<(), Fault> {
+        (**self).append_positions_with_offset(offset, output)
+    }
+
+    fn positions_with_offset(&mut self, offset: u32, output: &mut Vec<u32>) -> Result<(), Fault> {
+        (**self).positions_with_offset(offset, output)
+    }
+
+    fn positions(&mut self, output: &mut Vec<u32>) -> Result<(), Fault> {
+        (**self).positions(output)
+    }
+}
+
+/// A boxed cursor is the cursor in the box. Nothing is said of what is decoded through it.
+impl DocSet for Box<dyn DocSet> {
+    ghost rest = { λ s. (DocSet-box s).rest s.value };
+
+    ghost always_one = { λ s. (DocSet-box s).always_one s.value };
+
+    ghost went_nowhere = { λ s. tt };
+
+    ghost went_on = { λ a b c first second. tt };
+
+    fn advance(&mut self) -> DocId {
+        (**self).advance()
+    }
+
+    fn doc(&self) -> DocId {
+        (**self).doc()
+    }
+
+    fn size_hint(&self) -> u32 {
+        (**self).size_hint()
+    }
+
+    fn seek(&mut self, target: DocId) -> DocId {
+        (**self).seek(target)
+    }
+
+    fn seek_danger(&mut self, target: DocId) -> SeekDangerResult {
+        (**self).seek_danger(target)
+    }
+
+    fn fill_buffer(&mut self, buffer: &mut [DocId; COLLECT_BLOCK_BUFFER_LEN]) -> usize {
+        (**self).fill_buffer(buffer)
+    }
+
+    fn cost(&self) -> u64 {
+        (**self).cost()
+    }
+
+    fn count_including_deleted(&mut self) -> u32 {
+        (**self).count_including_deleted()
+    }
+}
+
+/// A boxed cursor is the cursor in the box. Nothing is said of what is decoded through it.
+impl DocSet for Box<dyn Postings> {
+    ghost rest = { λ s. (Postings-box s).DocSet.rest s.value };
+
+    ghost always_one = { λ s. (Postings-box s).DocSet.always_one s.value };
+
+    ghost went_nowhere = { λ s. tt };
+
+    ghost went_on = { λ a b c first second. tt };
+
+    fn advance(&mut self) -> DocId {
+        (**self).advance()
+    }
+
+    fn doc(&self) -> DocId {
+        (**self).doc()
+    }
+
+    fn size_hint(&self) -> u32 {
+        (**self).size_hint()
+    }
+
+    fn seek(&mut self, target: DocId) -> DocId {
+        (**self).seek(target)
+    }
+
+    fn seek_danger(&mut self, target: DocId) -> SeekDangerResult {
+        (**self).seek_danger(target)
+    }
+
+    fn fill_buffer(&mut self, buffer: &mut [DocId; COLLECT_BLOCK_BUFFER_LEN]) -> usize {
+        (**self).fill_buffer(buffer)
+    }
+
+    fn cost(&self) -> u64 {
+        (**self).cost()
+    }
+
+    fn count_including_deleted(&mut self) -> u32 {
+        (**self).count_including_deleted()
+    }
+}
+
+impl Postings for Box<dyn Postings> {
+    fn term_freq(&self) -> u32 {
+        (**self).term_freq()
+    }
+
+    fn append_positions_with_offset(
+        &mut self,
+        offset: u32,
+        output: &mut Vec<u32>,
+    ) -> Result<(), Fault> {
+        (**self).append_positions_with_offset(offset, output)
+    }
+
+    fn positions_with_offset(&mut self, offset: u32, output: &mut Vec<u32>) -> Result<(), Fault> {
+        (**self).positions_with_offset(offset, output)
+    }
+
+    fn positions(&mut self, output: &mut Vec<u32>) -> Result<(), Fault> {
+        (**self).positions(output)
+    }
+}

@@ -1,0 +1,38 @@
+ghost use Rattle.std.specs.Prelude.{◌≡◌, [], IfErr, IfOk, OnOk};
+ghost use Rattle.ii_docset.specs.Intersection.{common_docs};
+
+use crate::docset::{DocId, DocSet, SeekDangerResult, TERMINATED};
+use ii_base::Fault;
+use std::alloc::Global;
+
+/// The documents that both cursors have left, in ascending order. The first cursor is then at its
+/// end; the other one has dropped some of its documents.
+///
+/// `OutOfMemory` where the list of documents can't grow: the cursors then stand somewhere on their
+/// way.
+pub fn intersect<A: DocSet, B: DocSet>(
+    alloc: Global,
+    first: &mut A,
+    other: &mut B,
+) -> Result<Vec<DocId>, Fault>
+    ensures ok { IfOk result (λ docs. docs.items ≡ common_docs (A.rest first.old) (B.rest other.old)) }
+    ensures only { IfErr result (λ e. e ≡ Fault.OutOfMemory) }
+    ensures rest { OnOk result (A.rest first.new ≡ []) }
+    ensures first_kind { A.always_one first.new ≡ A.always_one first.old }
+    ensures other_kind { B.always_one other.new ≡ B.always_one other.old }
+    ensures first_work { A.went first.old first.new }
+    ensures other_work { B.went other.old other.new }
+{
+    let mut docs = Vec::new(alloc);
+    let mut doc = first.doc();
+    while doc < TERMINATED {
+        match other.seek_danger(doc) {
+            SeekDangerResult::Found => {
+                docs.push(doc)?;
+                doc = first.advance();
+            }
+            SeekDangerResult::SeekLowerBound(bound) => doc = first.seek(bound),
+        }
+    }
+    Ok(docs)
+}

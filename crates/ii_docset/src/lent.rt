@@ -1,0 +1,76 @@
+use crate::docset::{COLLECT_BLOCK_BUFFER_LEN, DocId, DocSet, SeekDangerResult};
+use crate::postings::Postings;
+use ii_base::Fault;
+
+/// A cursor that is lent: it is the cursor that it borrows, which goes on where this one stands.
+#[derive(Drop)]
+pub struct Lent<'a, T> {
+    /// The cursor that is lent.
+    pub inner: &'a mut T,
+}
+
+impl<T: DocSet> DocSet for Lent<'_, T> {
+    ghost rest = { λ s. T.rest s.inner.now };
+
+    ghost always_one = { λ s. T.always_one s.inner.now };
+
+    ghost went = { λ a b. T.went a.inner.now b.inner.now };
+
+    ghost went_nowhere = { λ s. T.went_nowhere s.inner.now };
+
+    ghost went_on = { λ a b c first second. T.went_on a.inner.now b.inner.now c.inner.now first second };
+
+    fn advance(&mut self) -> DocId {
+        self.inner.advance()
+    }
+
+    fn doc(&self) -> DocId {
+        self.inner.doc()
+    }
+
+    fn size_hint(&self) -> u32 {
+        self.inner.size_hint()
+    }
+
+    fn seek(&mut self, target: DocId) -> DocId {
+        self.inner.seek(target)
+    }
+
+    fn seek_danger(&mut self, target: DocId) -> SeekDangerResult {
+        self.inner.seek_danger(target)
+    }
+
+    fn fill_buffer(&mut self, buffer: &mut [DocId; COLLECT_BLOCK_BUFFER_LEN]) -> usize {
+        self.inner.fill_buffer(buffer)
+    }
+
+    fn cost(&self) -> u64 {
+        self.inner.cost()
+    }
+
+    fn count_including_deleted(&mut self) -> u32 {
+        self.inner.count_including_deleted()
+    }
+}
+
+impl<T: Postings> Postings for Lent<'_, T> {
+    fn term_freq(&self) -> u32 {
+        self.inner.term_freq()
+    }
+
+    fn append_positions_with_offset(
+        &mut self,
+        offset: u32,
+        output: &mut Vec<u32>,
+    ) -> Result<(), Fault> {
+        self.inner.append_positions_with_offset(offset, output)
+    }
+
+    fn positions_with_offset(&mut self, offset: u32, output: &mut Vec<u32>) -> Result<(), Fault> {
+        self.inner.positions_with_offset(offset, output)
+    }
+
+    fn positions(&mut self, output: &mut Vec<u32>) -> Result<(), Fault> {
+        self.inner.positions(output)
+    }
+}

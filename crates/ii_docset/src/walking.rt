@@ -1,0 +1,67 @@
+ghost use Rattle.std.specs.Prelude.{◌≡◌, take, length, IfOk, IfErr, IsTrue, OnOk};
+ghost use Rattle.ii_docset.specs.Calls.{IsAllowed, IsLawful, answer_of, answer_to, answers_in, answers_to, rest_after_call, rest_after};
+
+use crate::calls::{CursorAnswer, CursorCall, Walk};
+use crate::postings::Postings;
+use ii_base::Fault;
+use std::alloc::Global;
+
+/// Makes calls of a cursor, one after the other, and keeps what each answers.
+///
+/// Each call has to be one that may be made where the calls before it leave the cursor. Where memory
+/// is refused the walk ends: what was answered so far is kept, and the cursor stands where the last
+/// call left it.
+pub fn walk<P: Postings>(alloc: Global, cursor: &mut P, calls: &[CursorCall]) -> Walk
+    requires { IsLawful calls.now (P.always_one cursor.old) (P.rest cursor.old) }
+    ensures answers { IsTrue result.complete → answers_in result ≡ answers_to calls.now (P.always_one cursor.old) (P.rest cursor.old) }
+    ensures beginning { answers_in result ≡ take (length (answers_in result)) (answers_to calls.now (P.always_one cursor.old) (P.rest cursor.old)) }
+    ensures rest { IsTrue result.complete → P.rest cursor.new ≡ rest_after calls.now (P.rest cursor.old) }
+    ensures kind { P.always_one cursor.new ≡ P.always_one cursor.old }
+    ensures work { P.went cursor.old cursor.new }
+{
+    let mut answers = Vec::new(alloc);
+    for call in calls {
+        let Ok(answer) = make_call(alloc, cursor, *call) else {
+            return Walk {
+                answers,
+                complete: false,
+            };
+        };
+        if answers.push(answer).is_err() {
+            return Walk {
+                answers,
+                complete: false,
+            };
+        }
+    }
+    Walk {
+        answers,
+        complete: true,
+    }
+}
+
+// One call. Where its answer found no memory the cursor stays.
+fn make_call<P: Postings>(
+    alloc: Global,
+    cursor: &mut P,
+    call: CursorCall,
+) -> Result<CursorAnswer, Fault>
+    requires { IsAllowed call (P.always_one cursor.old) (P.rest cursor.old) }
+    ensures ok { IfOk result (λ answer. answer_of answer ≡ answer_to call (P.always_one cursor.old) (P.rest cursor.old)) }
+    ensures only { IfErr result (λ e. e ≡ Fault.OutOfMemory) }
+    ensures rest { OnOk result (P.rest cursor.new ≡ rest_after_call call (P.rest cursor.old)) }
+    ensures kind { P.always_one cursor.new ≡ P.always_one cursor.old }
+    ensures work { P.went cursor.old cursor.new }
+{
+    match call {
+        CursorCall::Doc => Ok(CursorAnswer::Doc(cursor.doc())),
+        CursorCall::Advance => Ok(CursorAnswer::Doc(cursor.advance())),
+        CursorCall::Seek(target) => Ok(CursorAnswer::Doc(cursor.seek(target))),
+        CursorCall::TermFreq => Ok(CursorAnswer::Freq(cursor.term_freq())),
+        CursorCall::Positions(offset) => {
+            let mut positions = Vec::new(alloc);
+            cursor.positions_with_offset(offset, &mut positions)?;
+            Ok(CursorAnswer::Positions(positions))
+        }
+    }
+}
