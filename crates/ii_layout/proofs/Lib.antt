@@ -7,6 +7,7 @@ pub mod RunLemmas
 pub mod SkipReaderLemmas
 pub mod SkipWriting
 pub mod SplitLemmas
+pub mod TermLemmas
 pub mod WorkedRows
 pub mod PositionLaws
 pub mod PositionLemmas

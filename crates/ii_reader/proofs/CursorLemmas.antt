@@ -56,6 +56,12 @@ doc_at_place docs es block cur are within =
     ∙ ap (λ (ds : List ℕ). get_or ds (128 * block + cur) 2147483647) (sym are) ∙ doc_at_drop es (128 * block + cur)
 
 -- its count
+one_at : (docs : List ℕ) (i : ℕ) → 1 ≡ term_freq_at false (drop i (map document docs))
+one_at [] zero = refl
+one_at [] (suc i) = refl
+one_at (d ∷ ds) zero = refl
+one_at (d ∷ ds) (suc i) = one_at ds i
+
 freq_at : (docs freqs : List ℕ) (pss : List (List ℕ)) (i : ℕ) → length freqs ≡ length docs → i < length docs → get_or freqs i 0 ≡ term_freq_at false (drop i (located pss (entries_of docs (Some freqs))))
 freq_at [] freqs pss i many within = absurd (omega arith)
 freq_at (d ∷ ds) [] pss i many within = absurd (omega arith)
@@ -84,8 +90,8 @@ current_where false (inl none) e = absurd (cc)
 current_where false (inr p) e = p
 
 pub freq_at_place : (n : ℕ) (docs : List ℕ) (freqs deltas : Option (List ℕ)) (block cur : ℕ) → AreEntries n docs freqs → cur < 128 → (is_some freqs ≡ true → doc_at (drop (128 * block + cur) (list_of docs freqs deltas)) < 2147483647)
-    → freq_in_block freqs block cur ≡ term_freq_at (not (is_some freqs)) (drop (128 * block + cur) (list_of docs freqs deltas))
-freq_at_place n docs None deltas block cur a within current = refl
+    → freq_in_block freqs block cur ≡ term_freq_at false (drop (128 * block + cur) (list_of docs freqs deltas))
+freq_at_place n docs None deltas block cur a within current = one_at docs (128 * block + cur)
 freq_at_place n docs (Some freqs) deltas block cur a within current =
     let count = (a.freqs_are freqs refl).many in
     let many = a.many in
@@ -93,6 +99,11 @@ freq_at_place n docs (Some freqs) deltas block cur a within current =
     let size = length-take 128 (drop (128 * block) docs) in
     let left = length-drop (128 * block) docs in
     get_or-take 128 (drop (128 * block) freqs) cur 0 within ∙ get_or-drop (128 * block) freqs cur 0 ∙ freq_at docs freqs (positions_if (Some freqs) deltas) (128 * block + cur) (omega arith) (omega arith)
+
+-- where counts aren't read it is 1
+pub freq_by : (freqs : Option (List ℕ)) (block cur freq : ℕ) (es : List Entry) → freq ≡ freq_in_block freqs block cur → freq ≡ term_freq_at false es → freq ≡ term_freq_at (not (is_some freqs)) es
+freq_by None block cur freq es e is = e
+freq_by (Some fs) block cur freq es e is = is
 
 -- what is left is sound
 ascending_from : (least : ℕ) (es : List Entry) → ascend_from least (map (λ (e : Entry). e.doc) es) ≡ true → IsAscending es × (least ≤ 2147483647 → least ≤ doc_at es)

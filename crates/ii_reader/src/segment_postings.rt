@@ -1,4 +1,4 @@
-ghost use Rattle.std.specs.Prelude.{◌≡◌, ◌+◌, ◌*◌, ◌/◌, ◌^◌, ◌<◌, ◌≤◌, ◌⊎◌, ◌++◌, not, [], drop, take, length, map, Ok, Err, IfOk, IfErr, OnOk, OnErr, IsTrue};
+ghost use Rattle.std.specs.Prelude.{◌≡◌, ◌+◌, ◌*◌, ◌/◌, ◌^◌, ◌<◌, ◌≤◌, ◌⊎◌, ◌++◌, false, not, [], drop, take, length, map, Ok, Err, IfOk, IfErr, OnOk, OnErr, IsTrue};
 ghost use Rattle.std.specs.List.{All};
 ghost use Rattle.ii_io.specs.Parts.{part_of};
 ghost use Rattle.ii_codes.specs.Sums.{fit_u32, running_sums};
@@ -203,7 +203,12 @@ impl DocSet for SegmentPostings {
 }
 
 impl Postings for SegmentPostings {
-    fn term_freq(&self) -> u32 {
+    fn term_freq(&self) -> u32
+        requires { IsTrue (not (is_read self.now.freq_reading)) ⊎ IsCurrent self.now.rest }
+        ensures freq { result ≡ term_freq_at (not (is_read self.now.freq_reading)) self.now.rest }
+        // what a caller learns beyond the trait
+        ensures entry { result ≡ term_freq_at false self.now.rest }
+    {
         self.block_cursor.freq(self.cur)
     }
 

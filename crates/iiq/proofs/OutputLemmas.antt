@@ -1,11 +1,13 @@
 -- Laws of what is printed.
-use Rattle.std.proofs.Common.{◌≡◌, ℕ, ◌<◌, List, [], ◌∷◌, ◌++◌, drop, map, refl, sym, ap, arith}
+use Rattle.std.proofs.Common.{◌≡◌, ℕ, ◌<◌, true, false, List, [], ◌∷◌, ◌++◌, drop, map, refl, sym, ap, arith, decimal}
 use Rattle.std.specs.List.{join_with_byte, flat_map}
 use Rattle.std.proofs.lemmas.List.{append-nil}
 use Rattle.ii_base.specs.declared.schema.index_record_option.IndexRecordOption.{IndexRecordOption}
+use Rattle.ii_base.specs.declared.schema.index_record_option.IndexRecordOption.TheVariants.{Basic, WithFreqs, WithFreqsAndPositions}
+use Rattle.ii_base.specs.Options.{has_freq, has_positions}
 use Rattle.ii_docset.specs.Entries.{Entry}
-use Rattle.ii_docset.specs.Cursor.{doc_at, IsAscending}
-use Rattle.iiq.specs.Output.{item, item_at, list_text}
+use Rattle.ii_docset.specs.Cursor.{doc_at, term_freq_at, positions_at, IsAscending}
+use Rattle.iiq.specs.Output.{item, item_at, list_text, positions_text}
 use Rattle.ii_docset.proofs.CursorLemmas.{nothing_left, doc_below}
 
 -- the items after the first one
@@ -35,3 +37,24 @@ more_items_none option (e ∷ es) up h = absurd (let none = nothing_left (e ∷ 
 
 pub below_end : (es : List Entry) (doc : ℕ) → IsAscending es → doc ≡ doc_at es → (doc ≡ 2147483647 → ⊥) → doc_at es < 2147483647
 below_end es doc up e h = let most = doc_below es up in omega arith
+
+-- the numbers after the first one
+abbrev pub more_numbers : List ℕ → List ℕ
+more_numbers ns = flat_map (λ n. 44 ∷ decimal n) ns
+
+pub numbers_text : (n : ℕ) (ns : List ℕ) → positions_text (n ∷ ns) ≡ decimal n ++ more_numbers ns
+numbers_text n [] = sym (append-nil (decimal n))
+numbers_text n (m ∷ ms) = ap (λ (text : List ℕ). decimal n ++ 44 ∷ text) (numbers_text m ms)
+
+-- the item of an entry by its parts
+pub item_counted : (option : IndexRecordOption) (es : List Entry) → has_freq option ≡ true → has_positions option ≡ false → doc_at es < 2147483647 → item_at option es ≡ decimal (doc_at es) ++ 58 ∷ decimal (term_freq_at false es)
+item_counted Basic es has none h = absurd (cc)
+item_counted WithFreqs [] has none h = absurd (omega arith)
+item_counted WithFreqs (e ∷ es) has none h = refl
+item_counted WithFreqsAndPositions es has none h = absurd (cc)
+
+pub item_located : (option : IndexRecordOption) (es : List Entry) → has_positions option ≡ true → doc_at es < 2147483647 → item_at option es ≡ decimal (doc_at es) ++ 58 ∷ (decimal (term_freq_at false es) ++ 58 ∷ positions_text (positions_at es))
+item_located Basic es has h = absurd (cc)
+item_located WithFreqs es has h = absurd (cc)
+item_located WithFreqsAndPositions [] has h = absurd (omega arith)
+item_located WithFreqsAndPositions (e ∷ es) has h = refl

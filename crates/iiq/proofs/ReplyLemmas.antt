@@ -10,7 +10,8 @@ use Rattle.ii_base.specs.declared.schema.index_record_option.IndexRecordOption.{
 use Rattle.ii_base.specs.declared.schema.index_record_option.IndexRecordOption.TheVariants.{Basic, WithFreqs, WithFreqsAndPositions}
 use Rattle.ii_base.specs.Options.{downgrade, has_positions}
 use Rattle.ii_io.specs.CountingWriter.{CountingWriterState, Wrote}
-use Rattle.ii_layout.specs.Postings.{posting_list}
+use Rattle.ii_layout.specs.TermList.{term_list}
+use Rattle.ii_layout.proofs.TermLemmas.{plain_list}
 use Rattle.ii_layout.specs.Written.{written_documents, written_postings, ReadsDocumentsBack}
 use Rattle.iiq.specs.Commands.{Command, command_of}
 use Rattle.iiq.specs.Output.{with_ends, command_texts, maybe_texts, reply_to}
@@ -50,11 +51,11 @@ pub written_alone : (shape : IndexRecordOption) (docs freqs want : List ℕ) →
 written_alone shape docs freqs want shape_is docs_are = λ j. written_postings (shape_is j) (docs_are j) freqs
 
 -- what is written opens as its list
-pub opens_written : (docs bytes : List ℕ) → ReadsDocumentsBack → are_documents docs ≡ true → bytes ≡ written_documents docs → posting_list Basic Basic (length docs) bytes ≡ Ok (map document docs)
+pub opens_written : (docs bytes : List ℕ) → ReadsDocumentsBack → are_documents docs ≡ true → bytes ≡ written_documents docs → term_list Basic Basic (length docs) bytes None ≡ Ok (map document docs)
 opens_written docs bytes law h e =
     let few = few_documents docs h in
     let whole = rw append-nil at (law docs [] h (omega arith)) in
-    rw e whole
+    plain_list Basic Basic (length docs) bytes None refl ∙ rw e whole
 
 pub ok_is : {A E : Type 0} (r : Result A E) (x y : A) → r ≡ Ok x → r ≡ Ok y → x ≡ y
 ok_is r x y p q = cc

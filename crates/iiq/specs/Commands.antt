@@ -1,9 +1,8 @@
 -- What a line asks for.
-use Rattle.std.specs.Prelude.{ℕ, ◌^◌, Bool, true, not, List, [], ◌∷◌, if◌then◌else◌, Option, Some, None, option_map, codes}
+use Rattle.std.specs.Prelude.{ℕ, ◌^◌, List, [], ◌∷◌, if◌then◌else◌, Option, Some, None, option_map, codes}
 use Rattle.std.specs.Str.{bytes_eq}
 use Rattle.ii_base.specs.declared.schema.index_record_option.IndexRecordOption.{IndexRecordOption}
 use Rattle.ii_base.specs.declared.schema.index_record_option.IndexRecordOption.TheVariants.{Basic, WithFreqs, WithFreqsAndPositions}
-use Rattle.ii_base.specs.Options.{has_positions}
 use Rattle.ii_io.specs.Steps.{◌>>=◌, needs}
 use Rattle.ii_docset.specs.declared.docset.TheConstants.{TERMINATED}
 use Rattle.ii_docset.specs.Entries.{are_documents}
@@ -58,18 +57,6 @@ words_command (word ∷ words) =
     else if bytes_eq word (codes "open") then open_command words
     else None
 
--- Lists of fields that record positions are answered by a later version.
-abbrev pub is_built : Command → Bool
-is_built (show_ids docs) = true
-is_built (open_list recorded requested doc_freq bytes positions) = not (has_positions recorded)
-
--- a command that is answered yet
-abbrev pub built : Option Command → Option Command
-built found = do
-  command ← found
-  _ ← needs (is_built command)
-  Some command
-
--- what a line asks for, if it is well formed and answered yet
+-- what a line asks for, if it is well formed
 abbrev pub command_of : List ℕ → Option Command
-command_of line = built (words_command (words_of line))
+command_of line = words_command (words_of line)

@@ -4,19 +4,25 @@ use Rattle.std.specs.List.{join_with_byte, list_all, starts_with}
 use Rattle.std.specs.Str.{is_utf8}
 use Rattle.std.specs.Io.KnownBytes.{Appends}
 use Rattle.ii_base.specs.declared.schema.index_record_option.IndexRecordOption.{IndexRecordOption}
-use Rattle.ii_base.specs.declared.schema.index_record_option.IndexRecordOption.TheVariants.{Basic}
-use Rattle.ii_base.specs.Options.{downgrade, has_freq}
+use Rattle.ii_base.specs.declared.schema.index_record_option.IndexRecordOption.TheVariants.{Basic, WithFreqs, WithFreqsAndPositions}
+use Rattle.ii_base.specs.Options.{downgrade}
 use Rattle.ii_io.specs.declared.faults.Part.{Part}
 use Rattle.ii_io.specs.declared.faults.Part.TheVariants.{Skip, Documents, Frequencies, Positions}
 use Rattle.ii_docset.specs.Entries.{Entry, document}
-use Rattle.ii_layout.specs.Postings.{posting_list}
+use Rattle.ii_layout.specs.TermList.{term_list}
 use Rattle.ii_layout.specs.Written.{written_documents}
 use Rattle.iiq.specs.Words.{lines_of, nothing, written_hex}
 use Rattle.iiq.specs.Commands.{Command, show_ids, open_list, command_of}
 
--- a document, and after a colon its count, where an option asks for counts
+-- positions, parted by commas
+abbrev pub positions_text : List ℕ → List ℕ
+positions_text positions = join_with_byte 44 (map decimal positions)
+
+-- a document, its count after a colon where an option asks for counts, and its positions after another where it asks for these
 abbrev pub item : IndexRecordOption → Entry → List ℕ
-item option e = if has_freq option then decimal e.doc ++ 58 ∷ decimal e.term_freq else decimal e.doc
+item Basic e = decimal e.doc
+item WithFreqs e = decimal e.doc ++ 58 ∷ decimal e.term_freq
+item WithFreqsAndPositions e = decimal e.doc ++ 58 ∷ (decimal e.term_freq ++ 58 ∷ positions_text e.positions)
 
 -- the item of the current document
 abbrev pub item_at : IndexRecordOption → List Entry → List ℕ
@@ -42,7 +48,7 @@ opened_text option (Err part) = codes "damaged " ++ part_name part
 -- the texts that are written for a command
 abbrev pub command_texts : Command → List (List ℕ)
 command_texts (show_ids docs) = written_hex (written_documents docs) ∷ list_text Basic (map document docs) ∷ []
-command_texts (open_list recorded requested doc_freq bytes positions) = opened_text (downgrade recorded requested) (posting_list recorded requested doc_freq bytes) ∷ []
+command_texts (open_list recorded requested doc_freq bytes positions) = opened_text (downgrade recorded requested) (term_list recorded requested doc_freq bytes positions) ∷ []
 
 abbrev pub maybe_texts : Option Command → List (List ℕ)
 maybe_texts None = codes "error line" ∷ []

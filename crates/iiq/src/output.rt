@@ -5,10 +5,10 @@ ghost use Rattle.ii_docset.specs.Entries.{are_documents, document};
 ghost use Rattle.iiq.specs.Commands.{documents_of_words};
 ghost use Rattle.iiq.specs.Words.{written_hex};
 ghost use Rattle.ii_layout.specs.Written.{written_documents};
-ghost use Rattle.iiq.specs.Output.{item_at, list_text, part_name, reply_to};
+ghost use Rattle.iiq.specs.Output.{item_at, list_text, part_name, positions_text, reply_to};
 
 use ii_base::{CountingWriter, IndexRecordOption, Part};
-use ii_docset::{DocSet, TERMINATED};
+use ii_docset::{DocSet, Postings, TERMINATED};
 use ii_layout::PostingsSerializer;
 use ii_reader::SegmentPostings;
 use std::alloc::{AllocError, Global};
@@ -45,9 +45,10 @@ pub fn hex_text(alloc: Global, bytes: &[u8]) -> Result<String, AllocError>
     hex::encode(alloc, bytes)
 }
 
-/// Adds the documents that a cursor has left to a text, with their counts where the option asks for
-/// these, parted by spaces, or a dash for none.
+/// Adds the documents that a cursor has left to a text, with their counts and positions where the
+/// option asks for these, parted by spaces, or a dash for none.
 pub fn push_list(
+    alloc: Global,
     text: &mut String,
     cursor: &mut SegmentPostings,
     option: IndexRecordOption,
@@ -58,31 +59,57 @@ pub fn push_list(
     if first == TERMINATED {
         return text.push('-');
     }
-    push_item(text, cursor, option)?;
+    let mut positions = Vec::new(alloc);
+    push_item(text, cursor, option, &mut positions)?;
     let mut doc = cursor.advance();
     while doc != TERMINATED {
         text.push(' ')?;
-        push_item(text, cursor, option)?;
+        push_item(text, cursor, option, &mut positions)?;
         doc = cursor.advance();
     }
     Ok(())
 }
 
-// Adds the current document of a cursor to a text, with its count where the option asks for counts.
+// Adds the current document of a cursor to a text, with its count and its positions where the option
+// asks for these, which are then left in `positions`.
 fn push_item(
     text: &mut String,
-    cursor: &SegmentPostings,
+    cursor: &mut SegmentPostings,
     option: IndexRecordOption,
+    positions: &mut Vec<u32>,
 ) -> Result<(), AllocError>
-    requires { doc_at cursor.now.rest < TERMINATED }
-    ensures { OnOk result (string_bytes text.new ≡ string_bytes text.old ++ item_at option cursor.now.rest) }
+    requires { doc_at cursor.old.rest < TERMINATED }
+    ensures item { OnOk result (string_bytes text.new ≡ string_bytes text.old ++ item_at option cursor.old.rest) }
+    ensures rest { cursor.new.rest ≡ cursor.old.rest }
 {
     let doc = cursor.doc();
     if !option.has_freq() {
         return write!(text, "{doc}");
     }
     let count = cursor.term_freq();
-    write!(text, "{doc}:{count}")
+    write!(text, "{doc}:{count}")?;
+    if !option.has_positions() {
+        return Ok(());
+    }
+    text.push(':')?;
+    if cursor.positions(positions).is_err() {
+        return Err(AllocError);
+    }
+    push_numbers(text, positions)
+}
+
+// Adds numbers to a text, parted by commas.
+fn push_numbers(text: &mut String, numbers: &[u32]) -> Result<(), AllocError>
+    ensures { OnOk result (string_bytes text.new ≡ string_bytes text.old ++ positions_text numbers.now) }
+{
+    let Some((first, others)) = numbers.split_first() else {
+        return Ok(());
+    };
+    write!(text, "{first}")?;
+    for number in others {
+        write!(text, ",{number}")?;
+    }
+    Ok(())
 }
 
 /// The name of a part of a term's bytes.

@@ -1,8 +1,7 @@
-ghost use Rattle.std.specs.Prelude.{◌≡◌, false, IsTrue, IfOk, string_bytes, option_map, map};
-ghost use Rattle.ii_base.specs.Options.{has_positions};
+ghost use Rattle.std.specs.Prelude.{◌≡◌, IsTrue, IfOk, string_bytes, option_map, map};
 ghost use Rattle.ii_docset.specs.Entries.{are_documents, document};
 ghost use Rattle.ii_layout.specs.Written.{written_documents};
-ghost use Rattle.iiq.specs.Commands.{show_ids, built, ids_command, open_command, command_of};
+ghost use Rattle.iiq.specs.Commands.{show_ids, ids_command, open_command, command_of};
 ghost use Rattle.iiq.specs.Opening.{opening_command};
 ghost use Rattle.iiq.specs.Output.{reply_to, command_texts, with_ends};
 
@@ -51,7 +50,7 @@ fn command_reply(alloc: Global, line: &[u8]) -> Result<Option<String>, AllocErro
 
 fn ids_reply(alloc: Global, words: &mut Parts<'_>) -> Result<Option<String>, AllocError>
     ensures { IfOk result (λ reply. option_map string_bytes reply
-        ≡ option_map (λ command. with_ends (command_texts command)) (built (ids_command words.old))) }
+        ≡ option_map (λ command. with_ends (command_texts command)) (ids_command words.old)) }
 {
     let Some(docs) = documents(alloc, words)? else {
         return Ok(None);
@@ -68,7 +67,7 @@ fn ids_text(alloc: Global, docs: &[u32]) -> Result<String, AllocError>
     let mut text = hex_text(alloc, &bytes)?;
     text.push('\n')?;
     let mut cursor = reopened(docs, Bytes::from_vec(bytes)?);
-    push_list(&mut text, &mut cursor, IndexRecordOption::Basic)?;
+    push_list(alloc, &mut text, &mut cursor, IndexRecordOption::Basic)?;
     text.push('\n')?;
     Ok(text)
 }
@@ -89,20 +88,16 @@ fn reopened(docs: &[u32], postings: Bytes) -> SegmentPostings
 
 fn open_reply(alloc: Global, words: &mut Parts<'_>) -> Result<Option<String>, AllocError>
     ensures { IfOk result (λ reply. option_map string_bytes reply
-        ≡ option_map (λ command. with_ends (command_texts command)) (built (open_command words.old))) }
+        ≡ option_map (λ command. with_ends (command_texts command)) (open_command words.old)) }
 {
     let Some(opening) = list_to_open(alloc, words)? else {
         return Ok(None);
     };
-    if opening.record_option.has_positions() {
-        return Ok(None);
-    }
     Ok(Some(open_text(alloc, opening)?))
 }
 
 // The list that bytes give, or the part of them that is damaged.
 fn open_text(alloc: Global, opening: Opening) -> Result<String, AllocError>
-    requires { has_positions opening.record_option ≡ false }
     ensures { IfOk result (λ text. string_bytes text ≡ with_ends (command_texts (opening_command opening))) }
 {
     let mut text = String::new(alloc);
@@ -115,7 +110,7 @@ fn open_text(alloc: Global, opening: Opening) -> Result<String, AllocError>
         opening.requested_option,
     );
     match opened {
-        Ok(mut cursor) => push_list(&mut text, &mut cursor, option)?,
+        Ok(mut cursor) => push_list(alloc, &mut text, &mut cursor, option)?,
         Err(LayoutFault::Damaged(part)) => {
             text.push_str("damaged ")?;
             text.push_str(name_of(part))?;

@@ -3,7 +3,7 @@ use Rattle.ii_docset.specs.Cursor.{term_freq_at}
 use Rattle.ii_layout.specs.TermList.{list_of}
 use Rattle.ii_check.specs.Positions.{deltas_read}
 use Rattle.ii_reader.specs.SegmentPostings.{decodes_read}
-use Rattle.ii_reader.proofs.CursorLemmas.{inside, list_docs, freq_at_place}
+use Rattle.ii_reader.proofs.CursorLemmas.{inside, list_docs, freq_at_place, freq_by}
 use Rattle.ii_reader.proofs.PositionLemmas.{none_at, asks_inside, cursor_asks, asked_positions, sums_fit, shifted_sums}
 use Rattle.ii_reader.proofs.segment_postings.SegmentPostingsPostings.append_positions_with_offset.Goals as goal
 
@@ -64,7 +64,9 @@ returns-clause-decodes c =
     let b = s.block_cursor in
     let deltas = deltas_read s.position_reader in
     let current = rw (← c.self.view_is) at c.requires.current in
-    let count = c.freq-count.ensures ∙ freq_at_place _ b.docs b.freqs deltas b.block s.cur c.self.invariant.1 c.self.invariant.0 (λ some. current) ∙ ap (λ (t : Bool). term_freq_at (not t) (drop (128 * b.block + s.cur) (list_of b.docs b.freqs deltas))) c.self.invariant.2 in
+    let here = c.freq-count.ensures ∙ freq_at_place _ b.docs b.freqs deltas b.block s.cur c.self.invariant.1 c.self.invariant.0 (λ some. current) in
+    let count = freq_by b.freqs b.block s.cur c.freq-count.result (drop (128 * b.block + s.cur) (list_of b.docs b.freqs deltas)) c.freq-count.ensures here
+        ∙ ap (λ (t : Bool). term_freq_at (not t) (drop (128 * b.block + s.cur) (list_of b.docs b.freqs deltas))) c.self.invariant.2 in
     let before = ap decodes_read c.in-Some.is in
     let more = c.append_positions.ensures.decodes in
     rw (← c.self.view_is, ← count) (record { block = refl; doc_decodes = refl; freq_decodes = refl; position_decodes = omega arith })

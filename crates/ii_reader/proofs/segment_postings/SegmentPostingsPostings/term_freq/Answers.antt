@@ -1,8 +1,8 @@
-use Rattle.std.proofs.Common.{◌≡◌, ◌<◌, Bool, true, is_some, ◌+◌, ◌*◌, not, drop, ap, sym, ◌∙◌}
-use Rattle.ii_docset.specs.Cursor.{doc_at, term_freq_at}
+use Rattle.std.proofs.Common.{◌≡◌, ◌<◌, Bool, true, is_some, ◌+◌, ◌*◌, not, drop, sym, ◌∙◌}
+use Rattle.ii_docset.specs.Cursor.{doc_at}
 use Rattle.ii_layout.specs.TermList.{list_of}
 use Rattle.ii_check.specs.Positions.{deltas_read}
-use Rattle.ii_reader.proofs.CursorLemmas.{inside, list_docs, freq_at_place, current_where}
+use Rattle.ii_reader.proofs.CursorLemmas.{inside, list_docs, freq_at_place, freq_by, current_where}
 use Rattle.ii_reader.proofs.segment_postings.SegmentPostingsPostings.term_freq.Goals as goal
 
 pub freq-requires : goal.freq-requires
@@ -13,11 +13,19 @@ freq-requires c = λ some.
     let current = current_where _ (rw (← c.self.view_is) at c.requires) (sym c.self.invariant.2 ∙ some) in
     inside b.docs (list_of b.docs b.freqs deltas) b.block s.cur (list_docs _ b.docs b.freqs deltas c.self.invariant.1) c.self.invariant.0 current
 
-pub returns : goal.returns
-returns c =
+pub returns-clause-entry : goal.returns-clause-entry
+returns-clause-entry c =
     let s = c.self.inside in
     let b = s.block_cursor in
     let deltas = deltas_read s.position_reader in
     let current : is_some b.freqs ≡ true → doc_at (drop (128 * b.block + s.cur) (list_of b.docs b.freqs deltas)) < 2147483647 = λ some. current_where _ (rw (← c.self.view_is) at c.requires) (sym c.self.invariant.2 ∙ some) in
-    rw (← c.self.view_is)
-    (c.freq.ensures ∙ freq_at_place _ b.docs b.freqs deltas b.block s.cur c.self.invariant.1 c.self.invariant.0 current ∙ ap (λ (t : Bool). term_freq_at (not t) (drop (128 * b.block + s.cur) (list_of b.docs b.freqs deltas))) c.self.invariant.2)
+    rw (← c.self.view_is) (c.freq.ensures ∙ freq_at_place _ b.docs b.freqs deltas b.block s.cur c.self.invariant.1 c.self.invariant.0 current)
+
+pub returns-clause-freq : goal.returns-clause-freq
+returns-clause-freq c =
+    let s = c.self.inside in
+    let b = s.block_cursor in
+    let deltas = deltas_read s.position_reader in
+    let current : is_some b.freqs ≡ true → doc_at (drop (128 * b.block + s.cur) (list_of b.docs b.freqs deltas)) < 2147483647 = λ some. current_where _ (rw (← c.self.view_is) at c.requires) (sym c.self.invariant.2 ∙ some) in
+    let here = c.freq.ensures ∙ freq_at_place _ b.docs b.freqs deltas b.block s.cur c.self.invariant.1 c.self.invariant.0 current in
+    rw (← c.self.view_is, ← c.self.invariant.2) (freq_by b.freqs b.block s.cur c.freq.result (drop (128 * b.block + s.cur) (list_of b.docs b.freqs deltas)) c.freq.ensures here)
