@@ -76,9 +76,29 @@ pub row_counts_unrecorded : reply_to (codes "open b f 3 808288") ≡ codes "0 2 
 unfolding is_utf8 chars digits lib.Utf8.encode decode_pairs u32_at
 row_counts_unrecorded = refl
 
-pub row_positions : reply_to (codes "open p p 3 808288818283 80") ≡ codes "error line\n"
-unfolding is_utf8 chars digits lib.Utf8.encode decode_pairs
+pub row_positions : reply_to (codes "open p p 1 8082 808084") ≡ codes "0:2:0,4\n"
+unfolding is_utf8 chars digits lib.Utf8.encode decode_pairs u32_at u64_at
 row_positions = refl
+
+pub row_positions_not_given : reply_to (codes "open p p 1 8082") ≡ codes "0:2:\n"
+unfolding is_utf8 chars digits lib.Utf8.encode decode_pairs u32_at u64_at
+row_positions_not_given = refl
+
+pub row_positions_cut : reply_to (codes "open p p 1 8082 8080") ≡ codes "damaged positions\n"
+unfolding is_utf8 chars digits lib.Utf8.encode decode_pairs u32_at u64_at
+row_positions_cut = refl
+
+pub row_positions_empty : reply_to (codes "open p p 1 8082 -") ≡ codes "damaged positions\n"
+unfolding is_utf8 chars digits lib.Utf8.encode decode_pairs u32_at u64_at
+row_positions_empty = refl
+
+pub row_positions_unasked : reply_to (codes "open p f 1 8082 8080") ≡ codes "0:2\n"
+unfolding is_utf8 chars digits lib.Utf8.encode decode_pairs u32_at u64_at
+row_positions_unasked = refl
+
+pub row_number : reply_to (codes "open p p 1 80 80") ≡ codes "0:1:\n"
+unfolding is_utf8 chars digits lib.Utf8.encode decode_pairs u32_at u64_at
+row_number = refl
 
 pub row_spaces : reply_to (codes "ids 1  2") ≡ codes "error line\n"
 unfolding is_utf8 chars digits lib.Utf8.encode

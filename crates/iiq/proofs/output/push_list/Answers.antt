@@ -15,7 +15,7 @@ pub loop-doc-init : goal.loop-doc-init
 loop-doc-init c =
     let below = below_end c.args.cursor.now.rest c.doc-first.result c.doc-first.ensures.sound.ascending c.doc-first.ensures.doc c.if-first-eq-TERMINATED.false in
     let first = list_text_first c.args.option c.args.cursor.now.rest below in
-    record { here = c.advance-doc.ensures.doc; ascending = c.advance-doc.ensures.sound.ascending; written = rw (first, c.advance-doc.ensures.rest, c.in_ok-push_item.ensures, append_assoc) refl }
+    record { here = c.advance-doc.ensures.doc; ascending = c.advance-doc.ensures.sound.ascending; written = rw (first, c.advance-doc.ensures.rest, c.push_item.ensures.rest, c.in_ok-push_item.ensures.item, append_assoc) refl }
 
 pub push_item-requires-in-loop-doc : goal.push_item-requires-in-loop-doc
 push_item-requires-in-loop-doc c =
@@ -28,7 +28,7 @@ loop-doc-preserved c =
     let known = c.loop-doc.invariant in
     let below = below_end c.loop-doc.cursor.rest c.loop-doc.doc known.ascending known.here c.loop-doc-test.true in
     let next = more_items_next c.args.option c.loop-doc.cursor.rest below in
-    record { here = c.advance-doc-in-loop-doc.ensures.doc; ascending = c.advance-doc-in-loop-doc.ensures.sound.ascending; written = rw (← known.written, next, c.advance-doc-in-loop-doc.ensures.rest, c.in_ok-push_item-2.ensures, c.in_ok-push.ensures.bytes, append_assoc, append_assoc) refl }
+    record { here = c.advance-doc-in-loop-doc.ensures.doc; ascending = c.advance-doc-in-loop-doc.ensures.sound.ascending; written = rw (← known.written, next, c.advance-doc-in-loop-doc.ensures.rest, c.push_item-in-loop-doc.ensures.rest, c.in_ok-push_item-2.ensures.item, c.in_ok-push.ensures.bytes, append_assoc, append_assoc) refl }
 
 pub returns : goal.returns
 returns c =

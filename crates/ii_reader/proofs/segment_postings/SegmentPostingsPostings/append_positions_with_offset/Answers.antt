@@ -66,7 +66,7 @@ returns-clause-decodes c =
     let current = rw (← c.self.view_is) at c.requires.current in
     let here = c.freq-count.ensures ∙ freq_at_place _ b.docs b.freqs deltas b.block s.cur c.self.invariant.1 c.self.invariant.0 (λ some. current) in
     let count = freq_by b.freqs b.block s.cur c.freq-count.result (drop (128 * b.block + s.cur) (list_of b.docs b.freqs deltas)) c.freq-count.ensures here
-        ∙ ap (λ (t : Bool). term_freq_at (not t) (drop (128 * b.block + s.cur) (list_of b.docs b.freqs deltas))) c.self.invariant.2 in
+    ∙ ap (λ (t : Bool). term_freq_at (not t) (drop (128 * b.block + s.cur) (list_of b.docs b.freqs deltas))) c.self.invariant.2 in
     let before = ap decodes_read c.in-Some.is in
     let more = c.append_positions.ensures.decodes in
     rw (← c.self.view_is, ← count) (record { block = refl; doc_decodes = refl; freq_decodes = refl; position_decodes = omega arith })

@@ -1,4 +1,4 @@
-use Rattle.std.proofs.Common.{◌≡◌, ◌<◌, Bool, true, is_some, ◌+◌, ◌*◌, not, drop, sym, ◌∙◌}
+use Rattle.std.proofs.Common.{◌≡◌, ◌<◌, true, is_some, ◌+◌, ◌*◌, drop, sym, ◌∙◌}
 use Rattle.ii_docset.specs.Cursor.{doc_at}
 use Rattle.ii_layout.specs.TermList.{list_of}
 use Rattle.ii_check.specs.Positions.{deltas_read}
