@@ -7,8 +7,7 @@ use Rattle.std.proofs.lemmas.List.{append-nil, length-map}
 use Rattle.ii_docset.proofs.CursorLemmas.{ascending, length_below}
 use Rattle.ii_docset.specs.Entries.{document, are_documents}
 use Rattle.ii_base.specs.declared.schema.index_record_option.IndexRecordOption.{IndexRecordOption}
-use Rattle.ii_base.specs.declared.schema.index_record_option.IndexRecordOption.TheVariants.{Basic, WithFreqs, WithFreqsAndPositions}
-use Rattle.ii_base.specs.Options.{downgrade, has_positions}
+use Rattle.ii_base.specs.declared.schema.index_record_option.IndexRecordOption.TheVariants.{Basic}
 use Rattle.ii_io.specs.CountingWriter.{CountingWriterState, Wrote}
 use Rattle.ii_layout.specs.Postings.{posting_list}
 use Rattle.ii_layout.specs.Written.{written_documents, written_postings, ReadsDocumentsBack}
