@@ -1,3 +1,4 @@
+pub mod AliveBitSet
 pub mod Options
 pub mod Schema
 pub mod ValueTypes

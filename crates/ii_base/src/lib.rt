@@ -1,11 +1,13 @@
-//! The index's own words for fields, and the types of `ii_io`: faults, numbers, writers and readers,
-//! and composite files.
+//! The index's own words for fields, which documents are alive, and the types of `ii_io`: faults,
+//! numbers, writers and readers, and composite files.
 #![tactic(auto)]
 
+pub mod alive_bitset;
 pub mod schema;
 #[cfg(test)]
 mod tests;
 
+pub use alive_bitset::AliveBitSet;
 pub use ii_io::vint::VInt;
 pub use ii_io::{
     BinarySerializable, CompositeFile, CompositeWrite, CountingWriter, FailingReader,

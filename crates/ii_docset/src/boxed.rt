@@ -1,6 +1,6 @@
 use crate::docset::{COLLECT_BLOCK_BUFFER_LEN, DocId, DocSet, SeekDangerResult};
 use crate::postings::Postings;
-use ii_base::Fault;
+use ii_base::{AliveBitSet, Fault};
 
 /// A boxed cursor is the cursor in the box.
 impl<T: DocSet> DocSet for Box<T> {
@@ -40,6 +40,10 @@ impl<T: DocSet> DocSet for Box<T> {
 
     fn cost(&self) -> u64 {
         (**self).cost()
+    }
+
+    fn count(&mut self, alive_bitset: &AliveBitSet) -> u32 {
+        (**self).count(alive_bitset)
     }
 
     fn count_including_deleted(&mut self) -> u32 {
@@ -107,6 +111,10 @@ impl DocSet for Box<dyn DocSet> {
         (**self).cost()
     }
 
+    fn count(&mut self, alive_bitset: &AliveBitSet) -> u32 {
+        (**self).count(alive_bitset)
+    }
+
     fn count_including_deleted(&mut self) -> u32 {
         (**self).count_including_deleted()
     }
@@ -148,6 +156,10 @@ impl DocSet for Box<dyn Postings> {
 
     fn cost(&self) -> u64 {
         (**self).cost()
+    }
+
+    fn count(&mut self, alive_bitset: &AliveBitSet) -> u32 {
+        (**self).count(alive_bitset)
     }
 
     fn count_including_deleted(&mut self) -> u32 {

@@ -1,6 +1,9 @@
 ghost use Rattle.std.specs.Prelude.{◌≡◌, ◌≤◌, ◌<◌, ◌++◌, Bool, false, ⊤, List, [], drop, length, take, min};
 ghost use Rattle.ii_docset.specs.Entries.{Entry, docs_of};
 ghost use Rattle.ii_docset.specs.Cursor.{doc_at, from_doc, IsDangerAnswer, IsSound, IsTarget};
+ghost use Rattle.ii_docset.specs.Alive.{IsCovered, alive_in};
+
+use ii_base::AliveBitSet;
 
 /// The number of a document in its index.
 pub type DocId = u32;
@@ -118,6 +121,24 @@ pub trait DocSet: Drop {
     /// A hint of what going over all documents costs.
     fn cost(&self) -> u64 {
         u64::from(self.size_hint())
+    }
+
+    /// How many of the documents that are left are alive; all are then dropped. The set has to tell of
+    /// each of them.
+    fn count(&mut self, alive_bitset: &AliveBitSet) -> u32
+        requires { IsCovered alive_bitset.now (rest self.old) }
+        ensures count { result ≡ alive_in alive_bitset.now (rest self.old) }
+        ensures rest { rest self.new ≡ [] }
+        ensures kind { always_one self.new ≡ always_one self.old }
+        ensures work { went self.old self.new }
+    {
+        let mut count = 0;
+        let mut doc = self.doc();
+        while doc != TERMINATED {
+            count += u32::from(alive_bitset.is_alive(doc));
+            doc = self.advance();
+        }
+        count
     }
 
     /// How many documents are left; they are then dropped.

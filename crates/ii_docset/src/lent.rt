@@ -1,6 +1,6 @@
 use crate::docset::{COLLECT_BLOCK_BUFFER_LEN, DocId, DocSet, SeekDangerResult};
 use crate::postings::Postings;
-use ii_base::Fault;
+use ii_base::{AliveBitSet, Fault};
 
 /// A cursor that is lent: it is the cursor that it borrows, which goes on where this one stands.
 #[derive(Drop)]
@@ -46,6 +46,10 @@ impl<T: DocSet> DocSet for Lent<'_, T> {
 
     fn cost(&self) -> u64 {
         self.inner.cost()
+    }
+
+    fn count(&mut self, alive_bitset: &AliveBitSet) -> u32 {
+        self.inner.count(alive_bitset)
     }
 
     fn count_including_deleted(&mut self) -> u32 {

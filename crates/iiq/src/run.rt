@@ -1,4 +1,4 @@
-ghost use Rattle.std.specs.Prelude.{◌≡◌, ◌++◌, false, IfOk, OnOk, OnErr, IfSome, codes};
+ghost use Rattle.std.specs.Prelude.{◌≡◌, ◌++◌, false, IfOk, OnOk, IfErr, OnErr, IsErrOf, IfSome, codes};
 ghost use Rattle.std.specs.Io.KnownBytes.{Appends, Keeps};
 ghost use Rattle.iiq.specs.Output.{PrintsAll, PrintsBeginning, PutsBeginning, has_no_error as has_no_error_in};
 
@@ -18,7 +18,7 @@ pub enum RunFault {
 
 /// Answers each line that the reader gives, in order, and says whether no line that begins with
 /// `error` was written. Where memory for a line is refused its answer is `error 1`, and the last.
-/// The writer is flushed at the end.
+/// The writer is flushed at the end. `Input` is answered before anything is written.
 pub fn run<R: Read, W: Write>(
     alloc: Global,
     reader: &mut R,
@@ -28,6 +28,7 @@ pub fn run<R: Read, W: Write>(
         (λ input. PrintsAll (W.contents writer.old) (W.contents writer.new) input fine)) }
     ensures err { OnErr result (IfSome (R.remaining reader.old)
         (λ input. PrintsBeginning (W.contents writer.old) (W.contents writer.new) input)) }
+    ensures input { IsErrOf result RunFault.Input → Keeps (W.contents writer.old) (W.contents writer.new) }
 {
     let mut text = Vec::new(alloc);
     match read_all(reader, &mut text) {
@@ -67,6 +68,7 @@ fn read_all<R: Read>(reader: &mut R, text: &mut Vec<u8>) -> Result<(), ReadFault
 fn answer_lines<W: Write>(alloc: Global, text: &[u8], writer: &mut W) -> Result<bool, RunFault>
     ensures ok { IfOk result (λ fine. PrintsAll (W.contents writer.old) (W.contents writer.new) text.now fine) }
     ensures err { OnErr result (PrintsBeginning (W.contents writer.old) (W.contents writer.new) text.now) }
+    ensures only { IfErr result (λ e. e ≡ RunFault.Output) }
 {
     let mut lines = Parts::of(text, b'\n');
     let mut fine = true;
@@ -84,6 +86,7 @@ fn answer_lines<W: Write>(alloc: Global, text: &[u8], writer: &mut W) -> Result<
 fn end_run<W: Write>(writer: &mut W) -> Result<bool, RunFault>
     ensures ok { IfOk result (λ fine. (fine ≡ false) × Appends (W.contents writer.old) (W.contents writer.new) (codes "error 1\n")) }
     ensures err { OnErr result (PutsBeginning (W.contents writer.old) (W.contents writer.new) (codes "error 1\n")) }
+    ensures only { IfErr result (λ e. e ≡ RunFault.Output) }
 {
     put(writer, b"error 1\n")?;
     finish(writer, false)
@@ -93,6 +96,7 @@ fn end_run<W: Write>(writer: &mut W) -> Result<bool, RunFault>
 fn finish<W: Write>(writer: &mut W, fine: bool) -> Result<bool, RunFault>
     ensures same { IfOk result (λ answer. answer ≡ fine) }
     ensures keeps { Keeps (W.contents writer.old) (W.contents writer.new) }
+    ensures only { IfErr result (λ e. e ≡ RunFault.Output) }
 {
     match writer.flush() {
         Ok(()) => Ok(fine),
@@ -104,6 +108,7 @@ fn finish<W: Write>(writer: &mut W, fine: bool) -> Result<bool, RunFault>
 fn put<W: Write>(writer: &mut W, bytes: &[u8]) -> Result<(), RunFault>
     ensures ok { OnOk result (Appends (W.contents writer.old) (W.contents writer.new) bytes.now) }
     ensures err { OnErr result (PutsBeginning (W.contents writer.old) (W.contents writer.new) bytes.now) }
+    ensures only { IfErr result (λ e. e ≡ RunFault.Output) }
 {
     let mut done = 0;
     while done < bytes.len() {

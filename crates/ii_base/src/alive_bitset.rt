@@ -1,0 +1,60 @@
+ghost use Rattle.std.specs.Prelude.{◌≡◌, ◌<◌, true, false, length, replicate, slice_index_or, IfErr, IfOk};
+ghost use Rattle.std.specs.List.{All};
+ghost use Rattle.ii_base.specs.AliveBitSet.{alive_but};
+
+use ii_io::Fault;
+use std::alloc::Global;
+use std::marker::Model;
+
+/// Which documents of an index are alive. Clauses see a flag for each document.
+///
+/// It takes a byte a document.
+#[derive(Drop)]
+pub struct AliveBitSet {
+    flags: Vec<bool>,
+}
+
+impl Model for AliveBitSet {
+    ghost use Rattle.std.specs.Prelude.{Bool, List};
+
+    ghost Value = { List Bool };
+
+    ghost view = { λ s. s.flags.items };
+}
+
+impl AliveBitSet {
+    /// All documents below `num_docs` are alive. `OutOfMemory` where there is no room for them.
+    pub fn full(alloc: Global, num_docs: u32) -> Result<AliveBitSet, Fault>
+        ensures ok { IfOk result (λ alive. alive ≡ replicate num_docs true) }
+        ensures only { IfErr result (λ e. e ≡ Fault.OutOfMemory) }
+    {
+        let flags = vec![in alloc; true; num_docs as usize]?;
+        Ok(AliveBitSet { flags })
+    }
+
+    /// All documents below `num_docs` are alive but for those of `docs`, which are any of them in any
+    /// order. `OutOfMemory` where there is no room for them.
+    pub fn from_deleted_docs(
+        alloc: Global,
+        docs: &[u32],
+        num_docs: u32,
+    ) -> Result<AliveBitSet, Fault>
+        requires { All (λ doc. doc < num_docs) docs.now }
+        ensures ok { IfOk result (λ alive. alive ≡ alive_but docs.now num_docs) }
+        ensures only { IfErr result (λ e. e ≡ Fault.OutOfMemory) }
+    {
+        let mut flags = vec![in alloc; true; num_docs as usize]?;
+        for doc in docs {
+            flags[*doc as usize] = false;
+        }
+        Ok(AliveBitSet { flags })
+    }
+
+    /// Whether a document is alive. It is one of those that were counted when the set was made.
+    pub fn is_alive(&self, doc: u32) -> bool
+        requires { doc < length self.now }
+        ensures { result ≡ slice_index_or self.now doc false }
+    {
+        self.flags[doc as usize]
+    }
+}

@@ -1,0 +1,12 @@
+-- Which documents of a list are alive.
+use Rattle.std.specs.Prelude.{ℕ, ◌<◌, Bool, false, List, filter, length, slice_index_or}
+use Rattle.std.specs.List.{All}
+use Rattle.ii_docset.specs.Entries.{Entry}
+
+-- There is a flag for each document of the list.
+abbrev pub IsCovered : List Bool → List Entry → Type 0
+IsCovered alive es = All (λ (e : Entry). e.doc < length alive) es
+
+-- how many documents of the list are alive
+abbrev pub alive_in : List Bool → List Entry → ℕ
+alive_in alive es = length (filter (λ (e : Entry). slice_index_or alive e.doc false) es)
