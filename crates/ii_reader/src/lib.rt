@@ -2,6 +2,8 @@
 #![tactic(auto)]
 
 pub mod block_segment_postings;
+#[cfg(test)]
+mod position_tests;
 pub mod segment_postings;
 #[cfg(test)]
 mod tests;

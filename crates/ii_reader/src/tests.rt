@@ -2,7 +2,7 @@ use crate::{BlockSegmentPostings, SegmentPostings};
 use bytes::Bytes;
 use ii_base::{HasLen, IndexRecordOption, LayoutFault, Part};
 use ii_check::FreqReadingOption;
-use ii_docset::{DocSet, TERMINATED};
+use ii_docset::{DocSet, Postings, TERMINATED};
 use std::alloc::Global;
 
 const BASIC: IndexRecordOption = IndexRecordOption::Basic;
