@@ -4,9 +4,9 @@ use Rattle.std.proofs.Math.Nat.{mul-mod_left, mul-div_left, div-mul-le_self, div
 use Rattle.std.proofs.Math.Seq.{take-add}
 use Rattle.std.proofs.lemmas.Bool.{lt-ltb, le-ltb, ltb-true, ltb-false, eqb-true, eqb-false}
 use Rattle.std.proofs.lemmas.List.{take_all, drop-drop, drop-take, take-take, length-drop, length-take, length-take-le, length-set, get_or-set_same, get_or-set_other}
-use Rattle.std.proofs.lemmas.List.Sums.{sum_by_more, sum_by-take-le}
-use Rattle.std.specs.List.{concat, sum_by}
-use Rattle.ii_io.specs.Steps.{◌>>=◌, needs}
+use Rattle.std.proofs.lemmas.List.Sums.{sum_by_more}
+use Rattle.std.specs.List.{concat}
+use Rattle.ii_io.specs.Steps.{◌>>=◌}
 use Rattle.ii_io.specs.StepLemmas.{needs-some, step-some, some-same}
 use Rattle.ii_codes.specs.Packed.{unpacked}
 use Rattle.ii_codes.specs.Blocks.{unsorted_block_at}
@@ -22,12 +22,6 @@ use Rattle.ii_layout.proofs.FrequencyLemmas.{block_fits}
 -- where a block begins, and the one after it
 pub place_more : (ws : List ℕ) (i : ℕ) → i < length ws → place_by_widths ws (i + 1) ≡ place_by_widths ws i + 16 * get_or ws i 0
 place_more ws i h = omega (arith, sum_by_more (λ w. w) ws i 0 h)
-
-pub place_le : (ws : List ℕ) (i : ℕ) → place_by_widths ws i ≤ place_by_widths ws (length ws)
-place_le ws i =
-    let all = take_all (length ws) ws (omega arith) in
-    let whole = ap (sum_by (λ (w : ℕ). w)) all in
-    omega (arith, sum_by-take-le (λ w. w) ws i)
 
 -- a row one of whose values is missing
 none_cases : (f : ℕ → Option (List ℕ)) (n : ℕ) (o : Option (List (List ℕ))) → f n ≡ None → each f n ≡ o → each f (suc n) ≡ None
@@ -162,14 +156,6 @@ some_of : (o : Option (List (List ℕ))) → true ≡ is_some o → (blocks : Li
 some_of None e = absurd (cc)
 some_of (Some blocks) e = (blocks, refl)
 
-none_of : (o : Option (List (List ℕ))) → false ≡ is_some o → o ≡ None
-none_of None e = refl
-none_of (Some blocks) e = absurd (cc)
-
-after_cases : (f : List (List ℕ) → Option (List ℕ)) (o : Option (List (List ℕ))) → ((blocks : List (List ℕ)) → f blocks ≡ None) → (o >>= f) ≡ None
-after_cases f None none = refl
-after_cases f (Some blocks) none = none blocks
-
 -- What is known of deltas that stand.
 pub record StandDeltas (list : PositionList) (deltas : List ℕ) : Type 0 where
   pub blocks : List (List ℕ)
@@ -273,26 +259,6 @@ rest_asked ws bs place block bytes a end =
     let row = step-some (u32s_until_end 128 bytes) _ found.0 found.1 in
     is_some_by (u32s_until_end 128 bytes) row.0 row.1
 
-rest_same : (row found : List ℕ) (t : Bool) → nat_lt (length row) 128 ≡ t → (needs t >>= λ _. Some row) ≡ Some found → Some row ≡ Some found
-rest_same row found true few e = e
-rest_same row found false few e = absurd (cc)
-
-rest_some : (o : Option (List ℕ)) (row found : List ℕ) → Some row ≡ o → (o >>= λ rest. needs (nat_lt (length rest) 128) >>= λ _. Some rest) ≡ Some found → Some row ≡ Some found
-rest_some None row found read e = absurd (cc)
-rest_some (Some other) row found read e = read ∙ rest_same other found (nat_lt (length other) 128) refl e
-
-pub rest_answered : (ws bs : List ℕ) (place block : ℕ) (bytes row : List ℕ) → AsksBlock ws bs place block bytes → block ≡ length ws → Some row ≡ u32s_until_end 128 bytes
-    → Some row ≡ deltas_at_block (record { widths = ws; body = bs }) block
-rest_answered ws bs place block bytes row a end read =
-    let found = some_by (rest_at bytes) (rw (at_rest ws bs place block bytes a end) at a.there) in
-    rest_some (u32s_until_end 128 bytes) row found.0 read found.1 ∙ sym found.1 ∙ sym (at_rest ws bs place block bytes a end)
-
-pub block_asked : (ws bs : List ℕ) (place block : ℕ) (bytes : List ℕ) → AsksBlock ws bs place block bytes → block < length ws → is_some (unsorted_block_at false (get_or ws block 0) bytes) ≡ true
-block_asked ws bs place block bytes a h =
-    let found = some_by _ (rw (at_block ws bs place block bytes a h) at a.there) in
-    let row = step-some (unsorted_block_at false (get_or ws block 0) bytes) _ found.0 found.1 in
-    is_some_by (unsorted_block_at false (get_or ws block 0) bytes) row.0 row.1
-
 pub block_answered : (ws bs : List ℕ) (place block len : ℕ) (bytes row rest : List ℕ) → AsksBlock ws bs place block bytes → block < length ws → Some (row, rest) ≡ unsorted_block_at false (get_or ws block 0) bytes → len ≡ 128
     → Some (take len row) ≡ deltas_at_block (record { widths = ws; body = bs }) block
 block_answered ws bs place block len bytes row rest a h read len_is =
@@ -337,25 +303,6 @@ cut_deltas bytes widths body stride place anchors ws bs held c f read =
 -- the deltas that bytes hold are those of their list
 cut_all : (bytes : List ℕ) (widths body : ℕ) → position_list bytes ≡ Some (list_at bytes widths body) → position_deltas bytes ≡ Some (deltas_of bytes) → all_deltas (list_at bytes widths body) ≡ Some (deltas_of bytes)
 cut_all bytes widths body listed found = sym (deltas_by_list bytes (list_at bytes widths body) listed) ∙ found
-
--- bytes in which a part is missing hold no deltas
-pub unlisted_none : (bytes : List ℕ) → position_list bytes ≡ None → position_deltas bytes ≡ None
-unlisted_none bytes e = rw e refl
-
-pub blocks_none : (bytes ws bs : List ℕ) (widths body : ℕ) → AreCut bytes widths body ws bs → false ≡ is_some (each (block_deltas (record { widths = ws; body = bs })) (length ws)) → position_deltas bytes ≡ None
-blocks_none bytes ws bs widths body c none =
-    let list : PositionList = record { widths = ws; body = bs } in
-    let listed = c.list ∙ (λ j. Some (record { widths = sym c.ws_are j; body = sym c.bs_are j })) in
-    let missing = none_of (each (block_deltas list) (length ws)) none in
-    let all : all_deltas list ≡ None = rw missing refl in
-    deltas_by_list bytes list listed ∙ all
-
-pub rest_none : (bytes ws bs after : List ℕ) (widths body place : ℕ) → AreCut bytes widths body ws bs → place ≡ place_by_widths ws (length ws) → after ≡ drop place bs → rest_at after ≡ None → position_deltas bytes ≡ None
-rest_none bytes ws bs after widths body place c place_is after_is none =
-    let list : PositionList = record { widths = ws; body = bs } in
-    let listed = c.list ∙ (λ j. Some (record { widths = sym c.ws_are j; body = sym c.bs_are j })) in
-    let missing : rest_deltas (record { widths = ws; body = bs }) ≡ None = rw (← place_is, ← after_is) none in
-    deltas_by_list bytes list listed ∙ after_cases _ (each (block_deltas list) (length ws)) (λ blocks. rw missing refl)
 
 -- What a reader keeps after opening.
 pub keeps_rest : (bytes ws bs after anchors held : List ℕ) (widths body stride place rest : ℕ) → AreCut bytes widths body ws bs → FindsAll ws bs stride anchors place → stride ≡ (body - widths) / 64 + 1

@@ -4,7 +4,7 @@ ghost use Rattle.ii_layout.specs.Positions.{position_list, place_by_widths, bloc
 ghost use Rattle.ii_layout.specs.PositionReader.{AreAnchors, anchored, list_at, rest_at, deltas_at_block};
 ghost use Rattle.ii_layout.specs.Written.{block_of};
 
-use super::super::split::bytes_from;
+use crate::split::bytes_from;
 use bytes::Bytes;
 use ii_codes::{BlockDecoder, COMPRESSION_BLOCK_SIZE, VIntDecoder, compressed_block_size};
 use ii_io::{Fault, LayoutFault, Part, vint};

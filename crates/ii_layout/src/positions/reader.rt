@@ -71,7 +71,7 @@ impl PositionReader {
         }
     }
 
-    /// A reader of the same deltas, which has decoded at most one block.
+    /// A reader of the same deltas, which has decoded at most one block. It takes no memory.
     pub fn anew(self) -> PositionReader
         ensures deltas { result.deltas ≡ self.deltas }
         ensures decodes { result.decodes ≤ 1 }
@@ -82,7 +82,8 @@ impl PositionReader {
         }
     }
 
-    /// A reader over the same bytes, which keeps the same block and has decoded as many.
+    /// A reader over the same bytes, which are shared. It keeps the same block, and has decoded as
+    /// many. `OutOfMemory` where a growth was refused.
     pub fn clone(&self) -> Result<PositionReader, Fault>
         ensures same { IfOk result (λ reader. reader ≡ self.now) }
         ensures only { IfErr result (λ e. e ≡ Fault.OutOfMemory) }
