@@ -1,6 +1,6 @@
 ghost use Rattle.std.specs.Prelude.{◌≡◌};
 
-use crate::{Field, FieldEntry, IndexRecordOption, Schema, ValueType};
+use crate::{AliveBitSet, Field, FieldEntry, IndexRecordOption, Schema, ValueType};
 use std::alloc::{AllocError, Global};
 use std::test::Fail;
 
@@ -78,4 +78,16 @@ fn options_are_ordered(rt: HostRuntime) {
             assert_eq!(rt; one.downgrade(*other), *lesser);
         }
     }
+}
+
+#[test]
+fn documents_are_alive(rt: HostRuntime) -> Result<(), Fail> {
+    let all = AliveBitSet::full(rt.alloc(), 3)?;
+    let some = AliveBitSet::from_deleted_docs(rt.alloc(), &[2, 0, 2], 4)?;
+    for doc in 0..3 {
+        assert!(rt; all.is_alive(doc));
+        assert_eq!(rt; some.is_alive(doc), doc == 1);
+    }
+    assert!(rt; some.is_alive(3));
+    Ok(())
 }

@@ -115,7 +115,7 @@ pub trait DocSet: Drop {
                 return i + 1;
             }
         }
-        COLLECT_BLOCK_BUFFER_LEN
+        buffer.len()
     }
 
     /// A hint of what going over all documents costs.

@@ -1,7 +1,16 @@
-ghost use Rattle.std.specs.Prelude.{◌≡◌, length};
-ghost use Rattle.ii_docset.specs.Cursor.{doc_at, from_doc, IsTarget};
+ghost use Rattle.std.specs.Prelude.{◌≡◌, ◌≤◌, ◌∷◌, [], length, min};
+ghost use Rattle.ii_docset.specs.Calls.{IsLawful};
+ghost use Rattle.ii_docset.specs.Cursor.{doc_at, from_doc, IsDangerAnswer, IsSound, IsTarget};
 
-use crate::{DocId, DocSet, TERMINATED};
+mod list_postings;
+
+use crate::{
+    COLLECT_BLOCK_BUFFER_LEN, CursorAnswer, CursorCall, DocId, DocSet, Lent, Postings,
+    SeekDangerResult, TERMINATED, Walk, intersect, walk,
+};
+use ii_base::AliveBitSet;
+use list_postings::{ListPostings, Place};
+use std::alloc::Global;
 use std::marker::Model;
 use std::test::Fail;
 
@@ -65,6 +74,19 @@ fn sought<D: DocSet>(cursor: &mut D, target: DocId) -> DocId
     cursor.seek(target)
 }
 
+fn asked<D: DocSet>(cursor: &mut D, target: DocId) -> SeekDangerResult
+    requires { target ≤ TERMINATED }
+    ensures { IsDangerAnswer result target (D.rest cursor.new) }
+{
+    cursor.seek_danger(target)
+}
+
+fn filled<D: DocSet>(cursor: &mut D, buffer: &mut [DocId; COLLECT_BLOCK_BUFFER_LEN]) -> usize
+    ensures { result ≡ min COLLECT_BLOCK_BUFFER_LEN (length (D.rest cursor.old)) }
+{
+    cursor.fill_buffer(buffer)
+}
+
 fn counted<D: DocSet>(cursor: &mut D) -> u32
     ensures { result ≡ length (D.rest cursor.old) }
 {
@@ -81,5 +103,132 @@ fn default_bodies_are_called(rt: HostRuntime) -> Result<(), Fail> {
     assert_eq!(rt; counted(&mut cursor), 4);
     assert_eq!(rt; cursor.doc(), TERMINATED);
     assert_eq!(rt; counted(&mut cursor), 0);
+    Ok(())
+}
+
+#[test]
+fn buffers_are_filled(rt: HostRuntime) -> Result<(), Fail> {
+    let mut cursor: Box<dyn DocSet> = Box::new(rt.alloc(), Below { next: 0, end: 100 })?;
+    let mut buffer = [7; COLLECT_BLOCK_BUFFER_LEN];
+    assert_eq!(rt; filled(&mut cursor, &mut buffer), 64);
+    assert_eq!(rt; buffer[0], 0);
+    assert_eq!(rt; buffer[63], 63);
+    assert_eq!(rt; cursor.doc(), 64);
+    let mut lent = Lent { inner: &mut cursor };
+    assert_eq!(rt; filled(&mut lent, &mut buffer), 36);
+    assert_eq!(rt; buffer[35], 99);
+    assert_eq!(rt; buffer[36], 36);
+    assert_eq!(rt; filled(&mut cursor, &mut buffer), 0);
+    assert_eq!(rt; buffer[35], 99);
+    assert_eq!(rt; cursor.doc(), TERMINATED);
+    Ok(())
+}
+
+// Documents 0, 2 and 10, with one position, one and two.
+static PLACES: [Place; 3] = [
+    Place {
+        doc: 0,
+        positions: &[3],
+    },
+    Place {
+        doc: 2,
+        positions: &[1],
+    },
+    Place {
+        doc: 10,
+        positions: &[4, 9],
+    },
+];
+
+fn three() -> ListPostings
+    ensures { result ≡ record { doc = 0; term_freq = 1; positions = 3 ∷ [] } ∷ record { doc = 2; term_freq = 1; positions = 1 ∷ [] } ∷ record { doc = 10; term_freq = 2; positions = 4 ∷ 9 ∷ [] } ∷ [] }
+{
+    ListPostings::new(&PLACES)
+}
+
+#[test]
+fn documents_are_asked_for(rt: HostRuntime) {
+    let mut cursor = three();
+    assert_eq!(rt; asked(&mut cursor, 1), SeekDangerResult::SeekLowerBound(2));
+    assert_eq!(rt; asked(&mut cursor, 2), SeekDangerResult::Found);
+    assert_eq!(rt;
+        asked(&mut cursor, TERMINATED),
+        SeekDangerResult::SeekLowerBound(TERMINATED)
+    );
+    assert_eq!(rt; cursor.doc(), 2);
+}
+
+// Calls of a cursor over them.
+fn row<P: Postings>(alloc: Global, cursor: &mut P) -> Walk
+    requires { P.rest cursor.old ≡ record { doc = 0; term_freq = 1; positions = 3 ∷ [] } ∷ record { doc = 2; term_freq = 1; positions = 1 ∷ [] } ∷ record { doc = 10; term_freq = 2; positions = 4 ∷ 9 ∷ [] } ∷ [] }
+{
+    let calls = [
+        CursorCall::Seek(1),
+        CursorCall::TermFreq,
+        CursorCall::Advance,
+        CursorCall::Positions(5),
+        CursorCall::Advance,
+        CursorCall::Seek(0),
+        CursorCall::Doc,
+    ];
+    walk(alloc, cursor, &calls)
+}
+
+#[test]
+fn cursors_are_walked(rt: HostRuntime) -> Result<(), Fail> {
+    let want = [
+        CursorAnswer::Doc(2),
+        CursorAnswer::Freq(1),
+        CursorAnswer::Doc(10),
+        CursorAnswer::Positions(vec![in rt.alloc(); 9, 14]?),
+        CursorAnswer::Doc(TERMINATED),
+        CursorAnswer::Doc(TERMINATED),
+        CursorAnswer::Doc(TERMINATED),
+    ];
+    let mut cursor = three();
+    let mut boxed = Box::new(rt.alloc(), three())?;
+    let mut erased: Box<dyn Postings> = Box::new(rt.alloc(), three())?;
+    let walks = [
+        row(rt.alloc(), &mut cursor),
+        row(rt.alloc(), &mut boxed),
+        row(rt.alloc(), &mut erased),
+    ];
+    for walked in &walks {
+        assert!(rt; walked.complete);
+        assert_eq!(rt; walked.answers.as_slice(), want.as_slice());
+    }
+    Ok(())
+}
+
+#[test]
+fn positions_are_told(rt: HostRuntime) -> Result<(), Fail> {
+    let mut cursor = three();
+    let mut output = vec![in rt.alloc(); 8]?;
+    cursor.append_positions_with_offset(100, &mut output)?;
+    assert_eq!(rt; output.as_slice(), [8, 103].as_slice());
+    assert_eq!(rt; cursor.seek(10), 10);
+    cursor.positions(&mut output)?;
+    assert_eq!(rt; output.as_slice(), [4, 9].as_slice());
+    Ok(())
+}
+
+#[test]
+fn documents_are_common(rt: HostRuntime) -> Result<(), Fail> {
+    let mut below = Below { next: 1, end: 12 };
+    let common = intersect(rt.alloc(), &mut three(), &mut below)?;
+    assert_eq!(rt; common.as_slice(), [2, 10].as_slice());
+    Ok(())
+}
+
+#[test]
+fn living_documents_are_counted(rt: HostRuntime) -> Result<(), Fail> {
+    let alive = AliveBitSet::from_deleted_docs(rt.alloc(), &[10, 4, 10], 12)?;
+    assert!(rt; alive.is_alive(0));
+    assert!(rt; !alive.is_alive(10));
+    let mut cursor = three();
+    assert_eq!(rt; cursor.count(&alive), 2);
+    assert_eq!(rt; cursor.doc(), TERMINATED);
+    let all = AliveBitSet::full(rt.alloc(), 11)?;
+    assert_eq!(rt; three().count(&all), 3);
     Ok(())
 }

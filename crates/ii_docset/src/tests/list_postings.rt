@@ -1,0 +1,107 @@
+ghost use Rattle.std.specs.Prelude.{◌≡◌, ◌+◌, ◌<◌, ◌^◌, ◌++◌, length, map, IfErr, OnErr, OnOk};
+ghost use Rattle.std.specs.List.{All};
+ghost use Rattle.ii_docset.specs.Entries.{Entry};
+ghost use Rattle.ii_docset.specs.Cursor.{IsSound};
+
+use crate::{DocId, DocSet, Postings, TERMINATED};
+use ii_base::Fault;
+use std::marker::Model;
+
+// A document, and where a term occurs there.
+#[derive(Clone, Copy)]
+pub struct Place {
+    pub doc: DocId,
+    pub positions: &'static [u32],
+}
+
+// A cursor over places.
+#[derive(Drop)]
+pub struct ListPostings {
+    left: &'static [Place],
+}
+
+impl Model for ListPostings {
+    ghost use Rattle.std.specs.Prelude.{List, length, map};
+    ghost use Rattle.ii_docset.specs.declared.tests.list_postings.Place.{Place};
+    ghost use Rattle.ii_docset.specs.Cursor.{IsSound};
+    ghost use Rattle.ii_docset.specs.Entries.{Entry};
+
+    ghost Value = { List Entry };
+
+    ghost view = { λ s. let entry : Place → Entry = λ p. record { doc = p.doc; term_freq = length p.positions.now; positions = p.positions.now } in map entry s.left.now };
+
+    ghost invariant = { λ s. let entry : Place → Entry = λ p. record { doc = p.doc; term_freq = length p.positions.now; positions = p.positions.now } in IsSound (map entry s.left.now) };
+}
+
+impl DocSet for ListPostings {
+    ghost rest = { λ s. s };
+
+    ghost went_nowhere = { λ s. tt };
+
+    ghost went_on = { λ a b c before after. tt };
+
+    fn advance(&mut self) -> DocId {
+        if let Some((_, rest)) = self.left.split_first() {
+            self.left = rest;
+        }
+        self.doc()
+    }
+
+    fn doc(&self) -> DocId {
+        let Some((first, _)) = self.left.split_first() else {
+            return TERMINATED;
+        };
+        first.doc
+    }
+
+    fn size_hint(&self) -> u32 {
+        3
+    }
+}
+
+impl Postings for ListPostings {
+    fn term_freq(&self) -> u32 {
+        let Some((first, _)) = self.left.split_first() else {
+            return 1;
+        };
+        first.positions.len() as u32
+    }
+
+    fn append_positions_with_offset(
+        &mut self,
+        offset: u32,
+        output: &mut Vec<u32>,
+    ) -> Result<(), Fault> {
+        let Some((first, _)) = self.left.split_first() else {
+            return Ok(());
+        };
+        append(first.positions, offset, output)
+    }
+}
+
+// Writes positions plus an offset after what stands in the output, or nothing.
+fn append(positions: &[u32], offset: u32, output: &mut Vec<u32>) -> Result<(), Fault>
+    requires { All (λ p. p + offset < 2 ^ 32) positions.now }
+    ensures ok { OnOk result (output.new.items ≡ output.old.items ++ map (λ p. p + offset) positions.now) }
+    ensures err { OnErr result (output.new.items ≡ output.old.items) }
+    ensures only { IfErr result (λ e. e ≡ Fault.OutOfMemory) }
+{
+    let start = output.len();
+    for position in positions {
+        let Ok(()) = output.push(*position + offset) else {
+            output.truncate(start);
+            return Err(Fault::OutOfMemory);
+        };
+    }
+    Ok(())
+}
+
+impl ListPostings {
+    // A cursor before the first of these places.
+    pub fn new(left: &'static [Place]) -> ListPostings
+        requires { let entry : Place → Entry = λ p. record { doc = p.doc; term_freq = length p.positions.now; positions = p.positions.now } in IsSound (map entry left.now) }
+        ensures { let entry : Place → Entry = λ p. record { doc = p.doc; term_freq = length p.positions.now; positions = p.positions.now } in result ≡ map entry left.entry.now }
+    {
+        ListPostings { left }
+    }
+}
