@@ -13,25 +13,10 @@ use Rattle.ii_layout.specs.declared.skip.BlockInfo.TheVariants.{BitPacked}
 use Rattle.ii_layout.specs.SkipList.{SkipList, block_place}
 use Rattle.ii_layout.specs.SkipReader.{SkipReaderState, reader_at}
 use Rattle.ii_layout.specs.Frequencies.{has_sum, block_freqs, freqs_at}
+use Rattle.ii_layout.proofs.PositionLemmas.{each_none}
 use Rattle.ii_layout.proofs.SkipReaderLemmas.{at_full_block}
 use Rattle.ii_check.specs.Check.{block_freqs_in}
 use Rattle.ii_check.proofs.CheckLemmas.{Told}
-
-none_cases : (f : ℕ → Option (List ℕ)) (n : ℕ) (o : Option (List (List ℕ))) → f n ≡ None → each f n ≡ o → each f (suc n) ≡ None
-none_cases f n None none e = rw e refl
-none_cases f n (Some xs) none e = rw (e, none) refl
-
--- where one is missing, all are
-each_none : (f : ℕ → Option (List ℕ)) (i n : ℕ) (t : Bool) → f i ≡ None → i < n → nat_lt (i + 1) n ≡ t → each f n ≡ None
-each_none f i zero t none h test = absurd (omega arith)
-each_none f i (suc n) true none h test =
-    let below = ltb-true (i + 1) (suc n) test in
-    let earlier = each_none f i n (nat_lt (i + 1) n) none (omega arith) refl in
-    rw earlier refl
-each_none f i (suc n) false none h test =
-    let above = ltb-false (i + 1) (suc n) test in
-    let last : i ≡ n = omega arith in
-    none_cases f n (each f n) (ap f (sym last) ∙ none) refl
 
 -- What is known of the counts of the blocks before block i.
 abbrev pub AreCheckedTo : SkipList → ℕ → Type 0

@@ -114,9 +114,6 @@ pub fits_all : (deltas : List ℕ) (start freq : ℕ) → sum (take freq (drop s
 fits_all deltas start freq low = sym (sums_fit (take freq (drop start deltas)) ∙ lt-ltb (sum (take freq (drop start deltas))) (2 ^ 32) low)
 
 -- those of documents, one after the other
-pub as_many : (ns deltas : List ℕ) → suffice ns deltas ≡ true → sum ns ≤ length deltas
-as_many ns deltas h = leb-true (sum ns) (length deltas) (and_parts (nat_le (sum ns) (length deltas)) (list_all fit_u32 (positions_of ns deltas)) h).0
-
 one_suffices : (n : ℕ) (deltas : List ℕ) (t u : Bool) → nat_le n (length deltas) ≡ t → fit_u32 (running_sums 0 (take n deltas)) ≡ u → suffice (n ∷ []) deltas ≡ (t && u)
 one_suffices n deltas t true many fit =
     let none : 0 + n ≡ n = omega arith in

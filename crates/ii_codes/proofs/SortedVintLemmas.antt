@@ -119,7 +119,7 @@ ends_first : (d : ℕ) (o : Option (List ℕ)) → (o >>= λ (others : List ℕ)
 ends_first d None = refl
 ends_first d (Some f) = refl
 
-until_end-some : (n : ℕ) (bytes : List ℕ) → 0 < length bytes → u32s_until_end (suc n) bytes ≡ (u32_at bytes >>= λ (first : ℕ × List ℕ). u32s_until_end n first.1 >>= λ (others : List ℕ). Some (first.0 ∷ others))
+pub until_end-some : (n : ℕ) (bytes : List ℕ) → 0 < length bytes → u32s_until_end (suc n) bytes ≡ (u32_at bytes >>= λ (first : ℕ × List ℕ). u32s_until_end n first.1 >>= λ (others : List ℕ). Some (first.0 ∷ others))
 until_end-some n [] some = absurd (omega arith)
 until_end-some n (b ∷ bs) some = refl
 

@@ -15,16 +15,13 @@ use Rattle.ii_layout.specs.Each.{each}
 use Rattle.ii_layout.specs.Positions.{PositionList, position_list, place_by_widths, block_deltas, rest_deltas, position_deltas, written_positions, ReadsPositionsBack}
 use Rattle.ii_layout.specs.Written.{block_of}
 use Rattle.ii_layout.proofs.BlockDocs.{get_or-block_of, length-block_of}
+use Rattle.ii_codes.proofs.SortedVintLemmas.{until_end-some}
 use Rattle.ii_layout.proofs.PackingLemmas.{flat_map-range}
 use Rattle.ii_layout.proofs.PositionLemmas.{deltas_by_list}
 use Rattle.ii_layout.proofs.ReadBackLemmas.{row_at, left_of, each-some, blocks_are, fit_by}
 use Rattle.ii_layout.proofs.WrittenLaws.{vint_some}
 
 -- vints that are read to the end
-until_end-some : (n : ℕ) (bytes : List ℕ) → 0 < length bytes → u32s_until_end (suc n) bytes ≡ (u32_at bytes >>= λ (first : ℕ × List ℕ). u32s_until_end n first.1 >>= λ (others : List ℕ). Some (first.0 ∷ others))
-until_end-some n [] some = absurd (omega arith)
-until_end-some n (b ∷ bs) some = refl
-
 vints_read : (n : ℕ) (vs : List ℕ) → AllByRecursion (λ v. v < 2 ^ 32) vs → length vs ≤ n → u32s_until_end n (unsorted_vints vs) ≡ Some vs
 vints_read zero [] fit few = refl
 vints_read zero (v ∷ vs) fit few = absurd (omega arith)

@@ -28,7 +28,7 @@ none_cases : (f : ℕ → Option (List ℕ)) (n : ℕ) (o : Option (List (List �
 none_cases f n None none e = rw e refl
 none_cases f n (Some xs) none e = rw (e, none) refl
 
-each_none : (f : ℕ → Option (List ℕ)) (i n : ℕ) (t : Bool) → f i ≡ None → i < n → nat_lt (i + 1) n ≡ t → each f n ≡ None
+pub each_none : (f : ℕ → Option (List ℕ)) (i n : ℕ) (t : Bool) → f i ≡ None → i < n → nat_lt (i + 1) n ≡ t → each f n ≡ None
 each_none f i zero t none h test = absurd (omega arith)
 each_none f i (suc n) true none h test =
     let below = ltb-true (i + 1) (suc n) test in

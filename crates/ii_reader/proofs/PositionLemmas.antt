@@ -64,14 +64,6 @@ fits_found cursor bytes (Some ds) true both h = (both, by_freqs cursor.freqs byt
     by_freqs (Some fs) None h = absurd (let none = some-same h in cc)
     by_freqs (Some fs) (Some bs) h = some_cases fs bs (deltas_at fs bs) (Some ds) refl h
 
--- both options have positions
-pub recorded_has : (recorded requested : IndexRecordOption) → has_positions (downgrade recorded requested) ≡ true → has_positions recorded ≡ true
-recorded_has Basic requested h = h
-recorded_has WithFreqs Basic h = h
-recorded_has WithFreqs WithFreqs h = h
-recorded_has WithFreqs WithFreqsAndPositions h = h
-recorded_has WithFreqsAndPositions requested h = refl
-
 -- the positions of the current document
 position_at : (docs freqs deltas : List ℕ) (i : ℕ) → length freqs ≡ length docs → i < length docs
     → positions_at (drop i (located (positions_of freqs deltas) (entries_of docs (Some freqs)))) ≡ running_sums 0 (take (get_or freqs i 0) (drop (sum (take i freqs)) deltas))
@@ -146,11 +138,6 @@ low_sums offset (p ∷ ps) low =
 pub sums_fit : (offset : ℕ) (ps ds : List ℕ) → All (λ (p : ℕ). p + offset < 2 ^ 32) ps → ps ≡ running_sums 0 ds → fit_u32 (running_sums offset ds) ≡ true
 sums_fit offset ps ds low e = ap fit_u32 (sym (shifted_sums offset ds)) ∙ ap (λ (qs : List ℕ). fit_u32 (map (λ (p : ℕ). p + offset) qs)) (sym e) ∙ low_sums offset ps low
 
--- the next sum fits where all do
-pub next_fits : (before i : ℕ) (ds : List ℕ) → i < length ds → fit_u32 (running_sums before (drop i ds)) ≡ true → before + get_or ds i 0 < 2 ^ 32
-next_fits before i ds within low =
-    let parted = ap (λ (xs : List ℕ). fit_u32 (running_sums before xs)) (sym (drop_more ds i 0 within)) ∙ low in
-    ltb-true (before + get_or ds i 0) (2 ^ 32) (and_parts (nat_lt (before + get_or ds i 0) (2 ^ 32)) (fit_u32 (running_sums (before + get_or ds i 0) (drop (i + 1) ds))) parted).0
 
 -- What a decoder holds of the counts of a block.
 pub record HeldRow (freqs : Option (List ℕ)) (docs row : List ℕ) (block : ℕ) : Type 0 where

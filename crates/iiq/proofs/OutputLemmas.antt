@@ -45,16 +45,3 @@ more_numbers ns = flat_map (λ n. 44 ∷ decimal n) ns
 pub numbers_text : (n : ℕ) (ns : List ℕ) → positions_text (n ∷ ns) ≡ decimal n ++ more_numbers ns
 numbers_text n [] = sym (append-nil (decimal n))
 numbers_text n (m ∷ ms) = ap (λ (text : List ℕ). decimal n ++ 44 ∷ text) (numbers_text m ms)
-
--- the item of an entry by its parts
-pub item_counted : (option : IndexRecordOption) (es : List Entry) → has_freq option ≡ true → has_positions option ≡ false → doc_at es < 2147483647 → item_at option es ≡ decimal (doc_at es) ++ 58 ∷ decimal (term_freq_at false es)
-item_counted Basic es has none h = absurd (cc)
-item_counted WithFreqs [] has none h = absurd (omega arith)
-item_counted WithFreqs (e ∷ es) has none h = refl
-item_counted WithFreqsAndPositions es has none h = absurd (cc)
-
-pub item_located : (option : IndexRecordOption) (es : List Entry) → has_positions option ≡ true → doc_at es < 2147483647 → item_at option es ≡ decimal (doc_at es) ++ 58 ∷ (decimal (term_freq_at false es) ++ 58 ∷ positions_text (positions_at es))
-item_located Basic es has h = absurd (cc)
-item_located WithFreqs es has h = absurd (cc)
-item_located WithFreqsAndPositions [] has h = absurd (omega arith)
-item_located WithFreqsAndPositions (e ∷ es) has h = refl
