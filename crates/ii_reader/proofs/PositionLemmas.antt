@@ -138,7 +138,6 @@ low_sums offset (p ∷ ps) low =
 pub sums_fit : (offset : ℕ) (ps ds : List ℕ) → All (λ (p : ℕ). p + offset < 2 ^ 32) ps → ps ≡ running_sums 0 ds → fit_u32 (running_sums offset ds) ≡ true
 sums_fit offset ps ds low e = ap fit_u32 (sym (shifted_sums offset ds)) ∙ ap (λ (qs : List ℕ). fit_u32 (map (λ (p : ℕ). p + offset) qs)) (sym e) ∙ low_sums offset ps low
 
-
 -- What a decoder holds of the counts of a block.
 pub record HeldRow (freqs : Option (List ℕ)) (docs row : List ℕ) (block : ℕ) : Type 0 where
   pub counts : List ℕ
