@@ -1,4 +1,4 @@
-ghost use Rattle.std.specs.Prelude.{◌≡◌, take, length, IfOk, IfErr, IsTrue, OnOk};
+ghost use Rattle.std.specs.Prelude.{◌≡◌, ◌↔◌, take, length, IfOk, IfErr, IsTrue, OnOk};
 ghost use Rattle.ii_docset.specs.Calls.{IsAllowed, IsLawful, answer_of, answer_to, answers_in, answers_to, rest_after_call, rest_after};
 
 use crate::calls::{CursorAnswer, CursorCall, Walk};
@@ -14,6 +14,7 @@ use std::alloc::Global;
 pub fn walk<P: Postings>(alloc: Global, cursor: &mut P, calls: &[CursorCall]) -> Walk
     requires { IsLawful calls.now (P.always_one cursor.old) (P.rest cursor.old) }
     ensures answers { IsTrue result.complete → answers_in result ≡ answers_to calls.now (P.always_one cursor.old) (P.rest cursor.old) }
+    ensures complete { IsTrue result.complete ↔ (length (answers_in result) ≡ length calls.now) }
     ensures beginning { answers_in result ≡ take (length (answers_in result)) (answers_to calls.now (P.always_one cursor.old) (P.rest cursor.old)) }
     ensures rest { IsTrue result.complete → P.rest cursor.new ≡ rest_after calls.now (P.rest cursor.old) }
     ensures kind { P.always_one cursor.new ≡ P.always_one cursor.old }
