@@ -88,10 +88,10 @@ fn append(positions: &[u32], offset: u32, output: &mut Vec<u32>) -> Result<(), F
 {
     let start = output.len();
     for position in positions {
-        let Ok(()) = output.push(*position + offset) else {
+        if let Err(refused) = output.push(*position + offset) {
             output.truncate(start);
-            return Err(Fault::OutOfMemory);
-        };
+            return Err(Fault::from(refused));
+        }
     }
     Ok(())
 }
