@@ -2,6 +2,7 @@
 use Rattle.std.proofs.Common.{◌≡◌, ℕ, zero, suc, ◌*◌, ◌/◌, ◌%◌, ◌<◌, ◌≤◌, Bool, true, false, ◌&&◌, List, [], length, drop, Option, Some, None, Result, Ok, Err, refl, sym, ap, ◌∙◌, arith, is_some, length-drop, nat_lt, nat_le, if◌then◌else◌}
 use Rattle.std.specs.List.{list_all}
 use Rattle.std.proofs.lemmas.Bool.{and_parts}
+use Rattle.std.proofs.Math.Bool.{and-false}
 use Rattle.std.specs.Result.{result_unwrap_or}
 use Rattle.ii_base.specs.declared.schema.index_record_option.IndexRecordOption.{IndexRecordOption}
 use Rattle.ii_base.specs.declared.schema.index_record_option.IndexRecordOption.TheVariants.{Basic}
@@ -21,8 +22,7 @@ use Rattle.ii_layout.specs.Postings.{Postings, postings}
 use Rattle.ii_layout.proofs.DocumentLemmas.{documents_ascend, length-documents_at, rest_of_documents}
 use Rattle.ii_layout.proofs.FrequencyLemmas.{freqs_fit, freqs_before, rest_of_freqs}
 use Rattle.ii_check.specs.declared.freq_reading_option.FreqReadingOption.{FreqReadingOption}
-use Rattle.ii_check.specs.declared.freq_reading_option.FreqReadingOption.TheVariants.{NoFreq}
-use Rattle.ii_check.specs.FreqReading.{reading_by, freq_reading_of}
+use Rattle.ii_check.specs.FreqReading.{reading_by, reading_of_none, freq_reading_of}
 use Rattle.ii_check.specs.Check.{HoldsRow}
 use Rattle.ii_check.specs.CheckedPostings.{CheckedPostingsState, IsChecked, AreGiven, HasDocuments, IsAtBlock, IsSkipData, Loads, LoadsFreqs, LoadsBlock, given, is_read, no_postings}
 use Rattle.ii_check.proofs.CheckLemmas.{many_entries}
@@ -283,17 +283,23 @@ short_loads p docs docs' freqs freqs' t g few row read counts none =
     record { docs_are = short_docs p docs docs' g few row; freqs_are = short_freqs p freqs freqs' t g few read counts none }
 
 -- no bytes give no documents
-abbrev pub asked_nothing : List ℕ → Asked
-asked_nothing bytes = record { recorded = Basic; requested = Basic; doc_freq = 0; bytes = bytes; skip_info = Basic; entries = 0; body = 0 }
+abbrev pub asked_nothing : IndexRecordOption → IndexRecordOption → Asked
+asked_nothing recorded requested = record { recorded = recorded; requested = requested; doc_freq = 0; bytes = []; skip_info = recorded; entries = 0; body = 0 }
 
-empty_found : (bytes : List ℕ) → Found (asked_nothing bytes) [] bytes None
-empty_found bytes = record { split = record { skip = refl; room = omega arith; within = omega arith }; documents = refl; freqs_are = refl }
+none_read : (recorded requested : IndexRecordOption) → reads (asked_nothing recorded requested) [] ≡ false
+none_read recorded requested = rw (and-false (has_freq recorded)) (and-false (has_freq requested))
 
-pub empty_checked : (bytes : List ℕ) → Checks (asked_nothing bytes) NoFreq
-empty_checked bytes = is_checked (asked_nothing bytes) [] bytes None NoFreq (empty_found bytes) refl
+empty_found : (recorded requested : IndexRecordOption) → Found (asked_nothing recorded requested) [] [] None
+empty_found recorded requested = record { split = record { skip = refl; room = omega arith; within = omega arith }; documents = refl; freqs_are = not_read (reads (asked_nothing recorded requested) []) (skip_of (asked_nothing recorded requested)) 0 [] (none_read recorded requested) }
 
-pub empty_given : (bytes : List ℕ) → given_by (asked_nothing bytes) ≡ found_postings (asked_nothing bytes) [] bytes None
-empty_given bytes = given_found (asked_nothing bytes) [] bytes None (empty_found bytes)
+reading_none : (recorded requested : IndexRecordOption) → reading_of_none recorded requested ≡ freq_reading_of requested (found_postings (asked_nothing recorded requested) [] [] None)
+reading_none recorded requested = ap (reading_by (has_freq recorded) (has_freq requested)) (sym (and-false (has_freq recorded)))
 
-pub empty_has : (bytes : List ℕ) → HasDocuments (state_by (asked_nothing bytes) NoFreq)
-empty_has bytes = has_documents _ (are_given (asked_nothing bytes) NoFreq (empty_checked bytes))
+pub empty_checked : (recorded requested : IndexRecordOption) → Checks (asked_nothing recorded requested) (reading_of_none recorded requested)
+empty_checked recorded requested = is_checked (asked_nothing recorded requested) [] [] None (reading_of_none recorded requested) (empty_found recorded requested) (reading_none recorded requested)
+
+pub empty_given : (recorded requested : IndexRecordOption) → given_by (asked_nothing recorded requested) ≡ found_postings (asked_nothing recorded requested) [] [] None
+empty_given recorded requested = given_found (asked_nothing recorded requested) [] [] None (empty_found recorded requested)
+
+pub empty_has : (recorded requested : IndexRecordOption) → HasDocuments (state_by (asked_nothing recorded requested) (reading_of_none recorded requested))
+empty_has recorded requested = has_documents _ (are_given (asked_nothing recorded requested) (reading_of_none recorded requested) (empty_checked recorded requested))

@@ -1,5 +1,5 @@
 -- Whether the counts of a term are read.
-use Rattle.std.specs.Prelude.{ℕ, Bool, if◌then◌else◌, List, Result, Ok}
+use Rattle.std.specs.Prelude.{ℕ, Bool, false, if◌then◌else◌, List, Result, Ok}
 use Rattle.ii_io.specs.declared.faults.Part.{Part}
 use Rattle.ii_io.specs.Parts.{◌>>=◌}
 use Rattle.ii_base.specs.declared.schema.index_record_option.IndexRecordOption.{IndexRecordOption}
@@ -22,3 +22,7 @@ abbrev pub freq_reading : IndexRecordOption → IndexRecordOption → ℕ → Li
 freq_reading recorded requested doc_freq bytes = do
   p ← postings recorded requested doc_freq bytes
   Ok (freq_reading_of requested p)
+
+-- what is done with the counts of a term in no documents, which has none
+abbrev pub reading_of_none : IndexRecordOption → IndexRecordOption → FreqReadingOption
+reading_of_none recorded requested = reading_by (has_freq recorded) (has_freq requested) false

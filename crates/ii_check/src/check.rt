@@ -169,7 +169,7 @@ fn ascend(docs: &[DocId], least: DocId) -> bool
 
 // What is done with the counts of a term: it has some where its entries have room for them or, in a
 // short list, where a byte remains after the documents.
-fn freq_reading_option(
+pub(crate) fn freq_reading_option(
     skip_info: IndexRecordOption,
     requested_option: IndexRecordOption,
     doc_freq: u32,

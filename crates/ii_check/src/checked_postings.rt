@@ -9,14 +9,14 @@ ghost use Rattle.ii_layout.specs.Postings.{postings};
 ghost use Rattle.ii_layout.specs.TermList.{deltas_if};
 ghost use Rattle.ii_check.specs.Positions.{deltas_read};
 ghost use Rattle.ii_check.specs.CheckedPostings.{AreGiven, HasDocuments, IsAtBlock, IsSkipData, LoadsBlock, SeeksBlock, new_decoder};
-ghost use Rattle.ii_check.specs.FreqReading.{freq_reading_of};
+ghost use Rattle.ii_check.specs.FreqReading.{freq_reading_of, reading_of_none};
 
-use super::check::check_postings;
+use super::check::{check_postings, freq_reading_option};
 use super::freq_reading_option::FreqReadingOption;
 use super::load::{NO_FREQ, decode_docs, decode_freqs};
 use super::positions::end_of_positions;
 use bytes::Bytes;
-use ii_base::{IndexRecordOption, LayoutFault, Part};
+use ii_base::{Fault, IndexRecordOption, LayoutFault, Part};
 use ii_codes::{BlockDecoder, COMPRESSION_BLOCK_SIZE};
 use ii_docset::{DocId, TERMINATED};
 use ii_layout::{PositionReader, SkipPlaces, SkipReader, bytes_from};
@@ -96,26 +96,30 @@ impl CheckedPostings {
         Ok((checked, doc_decoder, freq_decoder))
     }
 
-    /// The postings of a term in no documents.
-    pub fn empty() -> CheckedPostings
-        ensures options { (result.recorded ≡ IndexRecordOption.Basic) × (result.requested ≡ IndexRecordOption.Basic) }
+    /// The postings of a term in no documents, by the option that its field records and the one that
+    /// is requested. It has no counts.
+    pub fn empty(
+        record_option: IndexRecordOption,
+        requested_option: IndexRecordOption,
+    ) -> CheckedPostings
+        ensures options { (result.recorded ≡ record_option) × (result.requested ≡ requested_option) }
         ensures doc_freq { result.doc_freq ≡ 0 }
         ensures documents { result.postings.docs ≡ [] }
         ensures freqs { result.postings.freqs ≡ None }
-        ensures reading { result.freq_reading ≡ FreqReadingOption.NoFreq }
+        ensures reading { result.freq_reading ≡ reading_of_none record_option requested_option }
         ensures has { HasDocuments result }
     {
         CheckedPostings {
             bytes: Bytes::from_static(&[]),
-            record_option: IndexRecordOption::Basic,
-            requested_option: IndexRecordOption::Basic,
+            record_option,
+            requested_option,
             doc_freq: 0,
             places: SkipPlaces {
-                skip_info: IndexRecordOption::Basic,
+                skip_info: record_option,
                 entries: 0,
                 body: 0,
             },
-            freq_reading_option: FreqReadingOption::NoFreq,
+            freq_reading_option: freq_reading_option(record_option, requested_option, 0, &[]),
         }
     }
 
@@ -132,6 +136,37 @@ impl CheckedPostings {
         let mut freq_decoder = BlockDecoder::with_val(NO_FREQ);
         self.load_block(&self.skip_reader(), &mut doc_decoder, &mut freq_decoder);
         (doc_decoder, freq_decoder)
+    }
+
+    /// The same postings over the same bytes, which are shared. `OutOfMemory` where a growth was
+    /// refused.
+    pub fn clone(&self) -> Result<CheckedPostings, Fault>
+        ensures same { IfOk result (λ checked. checked ≡ self.now) }
+        ensures only { IfErr result (λ e. e ≡ Fault.OutOfMemory) }
+    {
+        let bytes = self.bytes.clone()?;
+        Ok(CheckedPostings {
+            bytes,
+            record_option: self.record_option,
+            requested_option: self.requested_option,
+            doc_freq: self.doc_freq,
+            places: self.places,
+            freq_reading_option: self.freq_reading_option,
+        })
+    }
+
+    /// The option that the field of the term records.
+    pub fn record_option(&self) -> IndexRecordOption
+        ensures { result ≡ self.now.recorded }
+    {
+        self.record_option
+    }
+
+    /// The option that was requested.
+    pub fn requested_option(&self) -> IndexRecordOption
+        ensures { result ≡ self.now.requested }
+    {
+        self.requested_option
     }
 
     /// How many documents the term is in.

@@ -8,6 +8,7 @@ use Rattle.ii_codes.specs.BlockDecoder.{BlockDecoderState}
 use Rattle.ii_layout.specs.SkipReader.{SkipReaderState}
 use Rattle.ii_layout.specs.Written.{block_of}
 use Rattle.ii_check.specs.declared.freq_reading_option.FreqReadingOption.{FreqReadingOption}
+use Rattle.ii_check.specs.FreqReading.{reading_of_none}
 use Rattle.ii_check.specs.CheckedPostings.{AreFreqs, CheckedPostingsState, HasDocuments, HoldsBlock, HoldsFreqs, IsAtBlock}
 
 -- the option that the field records, and the one that is requested; the documents of the list and, where they are read, their counts; whether these are read; the number of the block; how many decodes of documents and of counts there were, and how many skip entries were read
@@ -21,6 +22,10 @@ pub record BlockSegmentPostingsState : Type 0 where
   pub doc_decodes : ℕ
   pub freq_decodes : ℕ
   pub entries_read : ℕ
+
+-- a cursor over no documents, by the option that a field records and the one that is requested
+abbrev pub cursor_of_none : IndexRecordOption → IndexRecordOption → BlockSegmentPostingsState
+cursor_of_none recorded requested = record { recorded = recorded; requested = requested; docs = []; freqs = None; freq_reading = reading_of_none recorded requested; block = 0; doc_decodes = 0; freq_decodes = 0; entries_read = 0 }
 
 -- the document at a place of a block, or the end after its documents
 abbrev pub doc_in_block : List ℕ → ℕ → ℕ → ℕ

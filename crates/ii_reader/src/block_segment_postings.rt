@@ -1,4 +1,4 @@
-ghost use Rattle.std.specs.Prelude.{◌≡◌, ◌+◌, ◌*◌, ◌/◌, ◌<◌, ◌≤◌, ⊤, [], length, min, true, is_some, None, Some, Ok, Err, IfOk, IfErr, OnErr, IsSome, MatchOption};
+ghost use Rattle.std.specs.Prelude.{◌≡◌, ◌+◌, ◌*◌, ◌/◌, ◌<◌, ◌≤◌, ⊤, [], length, min, true, is_some, None, Some, Ok, Err, IfOk, IfErr, OnOk, OnErr, IsSome, MatchOption};
 ghost use Rattle.ii_docset.specs.declared.docset.TheConstants.{TERMINATED};
 ghost use Rattle.ii_io.specs.Parts.{part_of};
 ghost use Rattle.ii_base.specs.Options.{downgrade, has_positions};
@@ -8,10 +8,10 @@ ghost use Rattle.ii_check.specs.CheckedPostings.{SeeksBlock};
 ghost use Rattle.ii_check.specs.CheckedPostings.{is_read};
 ghost use Rattle.ii_check.specs.FreqReading.{freq_reading};
 ghost use Rattle.ii_check.specs.Positions.{deltas_read};
-ghost use Rattle.ii_reader.specs.BlockSegmentPostings.{AreEntries, ComeBefore, GoesTo, IsBelow, IsLazy, IsSought, doc_in_block, first_decodes, freq_in_block, freqs_of_block};
+ghost use Rattle.ii_reader.specs.BlockSegmentPostings.{AreEntries, ComeBefore, GoesTo, IsBelow, IsLazy, IsSought, cursor_of_none, doc_in_block, first_decodes, freq_in_block, freqs_of_block};
 
 use bytes::Bytes;
-use ii_base::{IndexRecordOption, LayoutFault, Part};
+use ii_base::{Fault, IndexRecordOption, LayoutFault, Part};
 use ii_check::{CheckedPostings, FreqReadingOption, NO_FREQ};
 use ii_codes::BlockDecoder;
 use ii_docset::{DocId, TERMINATED};
@@ -85,11 +85,21 @@ impl BlockSegmentPostings {
         })
     }
 
-    /// A cursor over no documents, whose counts aren't read.
+    /// A cursor over no documents, whose counts aren't read. Its options are both `Basic`.
     pub fn empty() -> BlockSegmentPostings
-        ensures { result ≡ record { recorded = IndexRecordOption.Basic; requested = IndexRecordOption.Basic; docs = []; freqs = None; freq_reading = FreqReadingOption.NoFreq; block = 0; doc_decodes = 0; freq_decodes = 0; entries_read = 0 } }
+        ensures { result ≡ cursor_of_none IndexRecordOption.Basic IndexRecordOption.Basic }
     {
-        let checked = CheckedPostings::empty();
+        BlockSegmentPostings::empty_by(IndexRecordOption::Basic, IndexRecordOption::Basic)
+    }
+
+    // A cursor over no documents, by the option that a field records and the one that is requested.
+    fn empty_by(
+        record_option: IndexRecordOption,
+        requested_option: IndexRecordOption,
+    ) -> BlockSegmentPostings
+        ensures { result ≡ cursor_of_none record_option requested_option }
+    {
+        let checked = CheckedPostings::empty(record_option, requested_option);
         let skip = checked.skip_reader();
         BlockSegmentPostings {
             checked,
@@ -97,6 +107,56 @@ impl BlockSegmentPostings {
             doc_decoder: BlockDecoder::with_val(TERMINATED),
             freq_decoder: BlockDecoder::with_val(NO_FREQ),
         }
+    }
+
+    /// Puts another list in place of this one, as `open` does with the same two options: the list of
+    /// `doc_freq` documents that `bytes` begin with, at its first block, or the first part of it that
+    /// is damaged. The cursor is then over no documents, and can be reset again. Memory is never
+    /// taken.
+    pub fn reset(&mut self, doc_freq: u32, bytes: Bytes) -> Result<(), LayoutFault>
+        ensures ok { OnOk result (docs_and_freqs self.old.recorded self.old.requested doc_freq bytes ≡ Ok (self.new.docs, self.new.freqs)) }
+        ensures options { (self.new.recorded ≡ self.old.recorded) × (self.new.requested ≡ self.old.requested) }
+        ensures reading { OnOk result (freq_reading self.old.recorded self.old.requested doc_freq bytes ≡ Ok self.new.freq_reading) }
+        ensures entries { OnOk result (AreEntries doc_freq self.new.docs self.new.freqs) }
+        ensures first { self.new.block ≡ 0 }
+        // what was decoded and read for it
+        ensures doc_decodes { OnOk result (self.new.doc_decodes ≡ min 1 doc_freq) }
+        ensures freq_decodes { OnOk result (self.new.freq_decodes ≡ first_decodes self.new.freqs doc_freq) }
+        ensures entries_read { OnOk result (self.new.entries_read ≡ min 1 (doc_freq / 128)) }
+        // a refusal, and what it leaves
+        ensures err { IfErr result (λ fault. docs_and_freqs self.old.recorded self.old.requested doc_freq bytes ≡ Err (part_of fault)) }
+        ensures emptied { OnErr result (self.new ≡ cursor_of_none self.old.recorded self.old.requested) }
+    {
+        let record_option = self.checked.record_option();
+        let requested_option = self.checked.requested_option();
+        match BlockSegmentPostings::open(doc_freq, bytes, record_option, requested_option) {
+            Ok(opened) => {
+                *self = opened;
+                Ok(())
+            }
+            Err(fault) => {
+                *self = BlockSegmentPostings::empty_by(record_option, requested_option);
+                Err(fault)
+            }
+        }
+    }
+
+    /// A cursor over the same bytes, which are shared, at the same block. It has decoded and read as
+    /// many. `OutOfMemory` where a growth was refused.
+    pub fn clone(&self) -> Result<BlockSegmentPostings, Fault>
+        ensures same { IfOk result (λ cursor. cursor ≡ self.now) }
+        ensures only { IfErr result (λ e. e ≡ Fault.OutOfMemory) }
+    {
+        let checked = self.checked.clone()?;
+        let skip = self.skip.clone()?;
+        let doc_decoder = self.doc_decoder.clone()?;
+        let freq_decoder = self.freq_decoder.clone()?;
+        Ok(BlockSegmentPostings {
+            checked,
+            skip,
+            doc_decoder,
+            freq_decoder,
+        })
     }
 
     /// How many documents the term is in.

@@ -2,6 +2,7 @@ ghost use Rattle.std.specs.Prelude.{◌≡◌, ◌+◌, ◌*◌, ◌/◌, ◌^�
 ghost use Rattle.std.specs.List.{All};
 ghost use Rattle.ii_io.specs.Parts.{part_of};
 ghost use Rattle.ii_codes.specs.Sums.{fit_u32, running_sums};
+ghost use Rattle.ii_docset.specs.Alive.{IsCovered, alive_in};
 ghost use Rattle.ii_docset.specs.Cursor.{doc_at, from_doc, positions_at, term_freq_at, IsCurrent, IsSound, IsTarget};
 ghost use Rattle.ii_layout.specs.TermList.{list_of, term_list};
 ghost use Rattle.ii_check.specs.CheckedPostings.{is_read};
@@ -11,7 +12,7 @@ ghost use Rattle.ii_reader.specs.SegmentPostings.{DecodesOnce, DecodesPositions,
 
 use super::block_segment_postings::BlockSegmentPostings;
 use bytes::Bytes;
-use ii_base::{Fault, HasLen, IndexRecordOption, LayoutFault};
+use ii_base::{AliveBitSet, Fault, HasLen, IndexRecordOption, LayoutFault};
 use ii_check::FreqReadingOption;
 use ii_codes::COMPRESSION_BLOCK_SIZE;
 use ii_docset::{DocId, DocSet, Postings};
@@ -128,11 +129,40 @@ impl SegmentPostings {
         }
     }
 
+    /// A cursor over the same bytes, which are shared, at the same document. It has decoded as many
+    /// blocks. `OutOfMemory` where a growth was refused.
+    pub fn clone(&self) -> Result<SegmentPostings, Fault>
+        ensures same { IfOk result (λ cursor. cursor ≡ self.now) }
+        ensures only { IfErr result (λ e. e ≡ Fault.OutOfMemory) }
+    {
+        let block_cursor = self.block_cursor.clone()?;
+        let position_reader = match &self.position_reader {
+            Some(reader) => Some(reader.clone()?),
+            None => None,
+        };
+        Ok(SegmentPostings {
+            block_cursor,
+            cur: self.cur,
+            position_reader,
+        })
+    }
+
     /// How many documents the term is in.
     pub fn doc_freq(&self) -> u32
         ensures { result ≡ self.now.doc_freq }
     {
         self.block_cursor.doc_freq()
+    }
+
+    /// How many of the documents that are left are alive. The set has to tell of each of them. A copy
+    /// of the cursor goes over them: `OutOfMemory` where there is no room for it.
+    pub fn doc_freq_given_deletes(&self, alive_bitset: &AliveBitSet) -> Result<u32, Fault>
+        requires { IsCovered alive_bitset.now self.now.rest }
+        ensures ok { IfOk result (λ count. count ≡ alive_in alive_bitset.now self.now.rest) }
+        ensures only { IfErr result (λ e. e ≡ Fault.OutOfMemory) }
+    {
+        let mut cursor = self.clone()?;
+        Ok(cursor.count(alive_bitset))
     }
 }
 
