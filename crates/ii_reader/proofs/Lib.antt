@@ -1,4 +1,5 @@
 pub mod BlockLemmas
 pub mod CursorLemmas
-pub mod SeekLemmas
+pub mod LoadedLemmas
 pub mod PositionLemmas
+pub mod SeekLemmas

@@ -1,3 +1,4 @@
 pub mod BlockSegmentPostings
+pub mod LoadedPostings
 pub mod SegmentPostings
 pub mod SegmentPostingsLemmas

@@ -2,6 +2,7 @@
 #![tactic(auto)]
 
 pub mod block_segment_postings;
+pub mod loaded_postings;
 #[cfg(test)]
 mod position_tests;
 pub mod segment_postings;
@@ -9,4 +10,5 @@ pub mod segment_postings;
 mod tests;
 
 pub use block_segment_postings::BlockSegmentPostings;
+pub use loaded_postings::LoadedPostings;
 pub use segment_postings::SegmentPostings;

@@ -1,0 +1,179 @@
+ghost use Rattle.std.specs.Prelude.{◌≡◌, ◌+◌, ◌<◌, ◌^◌, ◌++◌, false, [], length, map, IfOk, IfErr, OnOk, OnErr};
+ghost use Rattle.std.specs.List.{All};
+ghost use Rattle.ii_docset.specs.Cursor.{IsCurrent, doc_at, positions_at, term_freq_at};
+ghost use Rattle.ii_reader.specs.LoadedPostings.{IsEndOf, IsLoadFault, loaded, num_positions};
+
+use ii_base::{Fault, LimitName};
+use ii_docset::{DocId, DocSet, Postings, TERMINATED};
+use std::alloc::Global;
+use std::marker::Model;
+
+/// A cursor over a list that is held in memory, for terms in few documents: the documents, and their
+/// positions one after the other.
+#[derive(Drop)]
+pub struct LoadedPostings {
+    doc_ids: Vec<DocId>,
+    position_offsets: Vec<u32>,
+    positions: Vec<u32>,
+    cursor: usize,
+}
+
+impl Model for LoadedPostings {
+    ghost use Rattle.std.specs.Prelude.{drop, length};
+    ghost use Rattle.ii_reader.specs.LoadedPostings.{LoadedPostingsState, IsHeld, entries_held};
+
+    ghost Value = { LoadedPostingsState };
+
+    ghost view = { λ l. record {
+      rest = entries_held (drop l.cursor l.doc_ids.items) (drop l.cursor l.position_offsets.items) l.positions.items;
+      num_docs = length l.doc_ids.items;
+    } };
+
+    ghost invariant = { λ l. IsHeld l.doc_ids.items l.position_offsets.items l.positions.items l.cursor };
+}
+
+impl LoadedPostings {
+    /// Loads what is left of a source, which is then at its end. The count of each document is the
+    /// number of its positions, so it is 0 where the source has none.
+    ///
+    /// `Limit(LoadedPositions)` exactly where the documents have more than `u32::MAX` positions, and
+    /// `OutOfMemory` where a growth was refused: the source then stands somewhere on its way.
+    pub fn load<P: Postings>(alloc: Global, source: &mut P) -> Result<LoadedPostings, Fault>
+        ensures ok { IfOk result (λ postings. postings.rest ≡ loaded (P.rest source.old)) }
+        ensures num_docs { IfOk result (λ postings. postings.num_docs ≡ length (P.rest source.old)) }
+        ensures few { OnOk result (num_positions (P.rest source.old) < 2 ^ 32) }
+        // what is left of the source
+        ensures rest { OnOk result (P.rest source.new ≡ []) }
+        ensures on_its_way { IsEndOf (P.rest source.old) (P.rest source.new) }
+        ensures kind { P.always_one source.new ≡ P.always_one source.old }
+        ensures work { P.went source.old source.new }
+        ensures err { IfErr result (λ fault. IsLoadFault (num_positions (P.rest source.old)) fault) }
+    {
+        let mut doc_ids = Vec::new(alloc);
+        let mut position_offsets = Vec::new(alloc);
+        let mut positions = Vec::new(alloc);
+        position_offsets.push(0)?;
+        let mut doc = source.doc();
+        while doc < TERMINATED {
+            doc_ids.push(doc)?;
+            let end = load_positions(source, &mut positions)?;
+            position_offsets.push(end)?;
+            doc = source.advance();
+        }
+        Ok(LoadedPostings {
+            doc_ids,
+            position_offsets,
+            positions,
+            cursor: 0,
+        })
+    }
+
+    // The positions of the current document.
+    fn current_positions(&self) -> &[u32]
+        requires { IsCurrent self.now.rest }
+        ensures positions { result.now ≡ positions_at self.now.rest }
+        ensures len { length result.now ≡ term_freq_at false self.now.rest }
+        ensures few { length result.now < 2 ^ 32 }
+    {
+        let start = self.position_offsets[self.cursor] as usize;
+        let end = self.position_offsets[self.cursor + 1] as usize;
+        &self.positions[start..end]
+    }
+}
+
+// Adds the positions of the current document to those that were loaded, and answers how many these
+// are then.
+fn load_positions<P: Postings>(source: &mut P, positions: &mut Vec<u32>) -> Result<u32, Fault>
+    requires { IsCurrent (P.rest source.old) }
+    ensures ok { OnOk result (positions.new.items ≡ positions.old.items ++ positions_at (P.rest source.old)) }
+    ensures end { IfOk result (λ end. end ≡ length positions.new.items) }
+    ensures few { OnOk result (length positions.new.items < 2 ^ 32) }
+    ensures rest { P.rest source.new ≡ P.rest source.old }
+    ensures kind { P.always_one source.new ≡ P.always_one source.old }
+    ensures work { P.went source.old source.new }
+    ensures err { IfErr result (λ fault. IsLoadFault (length positions.old.items + length (positions_at (P.rest source.old))) fault) }
+{
+    // The current document tells that its positions have 32 bits.
+    let _doc = source.doc();
+    source.append_positions_with_offset(0, positions)?;
+    match u32::try_from(positions.len()) {
+        Ok(end) => Ok(end),
+        Err(_) => Err(Fault::Limit(LimitName::LoadedPositions)),
+    }
+}
+
+impl DocSet for LoadedPostings {
+    ghost use Rattle.std.specs.Prelude.{◌≡◌};
+    ghost use Rattle.std.proofs.Common.{refl, ◌∙◌};
+
+    ghost rest = { λ l. l.rest };
+
+    ghost went = { λ a b. b.num_docs ≡ a.num_docs };
+
+    ghost went_nowhere = { λ l. refl };
+
+    ghost went_on = { λ a b c first second. second ∙ first };
+
+    fn advance(&mut self) -> DocId {
+        if self.cursor >= self.doc_ids.len() {
+            return TERMINATED;
+        }
+        self.cursor += 1;
+        self.doc()
+    }
+
+    fn doc(&self) -> DocId {
+        if self.cursor < self.doc_ids.len() {
+            self.doc_ids[self.cursor]
+        } else {
+            TERMINATED
+        }
+    }
+
+    fn size_hint(&self) -> u32
+        ensures { result ≡ self.now.num_docs }
+    {
+        self.doc_ids.len() as u32
+    }
+}
+
+impl Postings for LoadedPostings {
+    fn term_freq(&self) -> u32
+        requires { IsCurrent self.now.rest }
+        ensures { result ≡ term_freq_at false self.now.rest }
+    {
+        self.current_positions().len() as u32
+    }
+
+    fn append_positions_with_offset(
+        &mut self,
+        offset: u32,
+        output: &mut Vec<u32>,
+    ) -> Result<(), Fault> {
+        append_with_offset(self.current_positions(), offset, output)
+    }
+}
+
+// Adds positions, each plus an offset.
+fn append_with_offset(positions: &[u32], offset: u32, output: &mut Vec<u32>) -> Result<(), Fault>
+    requires { All (λ p. p + offset < 2 ^ 32) positions.now }
+    ensures ok { OnOk result (output.new.items ≡ output.old.items ++ map (λ p. p + offset) positions.now) }
+    ensures err { OnErr result (output.new.items ≡ output.old.items) }
+    ensures only { IfErr result (λ e. e ≡ Fault.OutOfMemory) }
+{
+    let len = output.len();
+    output.extend_from_slice(positions)?;
+    let (_, added) = output.as_mut_slice().split_at_mut(len);
+    raise(added, offset);
+    Ok(())
+}
+
+// Adds an offset to each value.
+fn raise(values: &mut [u32], offset: u32)
+    requires { All (λ v. v + offset < 2 ^ 32) values.old }
+    ensures { values.new ≡ map (λ v. v + offset) values.old }
+{
+    for i in 0..values.len() {
+        values[i] += offset;
+    }
+}
