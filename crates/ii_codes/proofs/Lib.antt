@@ -8,6 +8,7 @@ pub mod PackLemmas
 pub mod PackedLaws
 pub mod PackedLemmas
 pub mod PrefixLemmas
+pub mod SearchLemmas
 pub mod SortedVintLemmas
 pub mod WidthLemmas
 pub mod WindowLemmas

@@ -3,6 +3,7 @@ pub mod BitsLemmas
 pub mod BlockDecoder
 pub mod Blocks
 pub mod Packed
+pub mod Search
 pub mod SortedVints
 pub mod Sums
 pub mod UnsortedVints

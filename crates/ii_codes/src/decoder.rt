@@ -1,11 +1,14 @@
 ghost use Rattle.std.specs.Prelude.{◌≡◌, ℕ, ◌+◌, ◌-◌, ◌*◌, ◌<◌, ◌≤◌, length, take, drop, replicate, slice_index, Some, None, IsSome, IfSome, IfOk, IfErr, OnOk, OnErr};
+ghost use Rattle.std.specs.List.Sorted.{IsNonDecreasing};
 ghost use Rattle.std.specs.Option.{option_map};
 ghost use Rattle.ii_codes.specs.Blocks.{sorted_block_at, unsorted_block_at};
 ghost use Rattle.ii_codes.specs.BlockDecoder.{BlockDecoderState, decodes_of, ClearsOnDamage};
+ghost use Rattle.ii_codes.specs.Search.{count_below};
 ghost use Rattle.ii_codes.specs.SortedVints.{sorted_vints_at};
 ghost use Rattle.ii_codes.specs.UnsortedVints.{u32s_until_end};
 ghost use Rattle.ii_io.specs.Vints.{u32s_at};
 
+use super::block_search::branchless_binary_search;
 use super::{COMPRESSION_BLOCK_SIZE, packed, vint};
 use ii_io::{LayoutFault, Part, Tally};
 use std::alloc::AllocError;
@@ -65,6 +68,16 @@ impl BlockDecoder {
         ensures { result ≡ slice_index self.now.output idx }
     {
         self.output[idx]
+    }
+
+    /// How many of the 128 entries lie below `target`. They don't fall, and the target isn't above the
+    /// last one. Nothing is decoded.
+    pub fn seek_within_block(&self, target: u32) -> usize
+        requires sorted { IsNonDecreasing self.now.output }
+        requires last { target ≤ slice_index self.now.output 127 }
+        ensures { result ≡ count_below target self.now.output }
+    {
+        branchless_binary_search(&self.output, target)
     }
 
     /// Decodes `num_els` values as `uncompress_vint_sorted` does, from any bytes. Where they hold no

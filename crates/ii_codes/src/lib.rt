@@ -1,16 +1,18 @@
-//! The codes of blocks: rows of vints, packed blocks, the buffers that encode and decode them, and
-//! rows of bits.
+//! The codes of blocks: rows of vints, packed blocks, the buffers that encode and decode them, the
+//! search in a block, and rows of bits.
 #![tactic(auto)]
 
 ghost use Rattle.std.specs.Prelude.{◌≡◌, ◌*◌};
 
 pub mod bitpacker;
+pub mod block_search;
 pub mod decoder;
 pub mod encoder;
 pub mod packed;
 pub mod vint;
 
 pub use bitpacker::{BitPacker, compute_num_bits, extract_bits};
+pub use block_search::branchless_binary_search;
 pub use decoder::{BlockDecoder, VIntDecoder};
 pub use encoder::{BlockEncoder, VIntEncoder};
 pub use packed::last_of_sorted_block;
