@@ -22,7 +22,7 @@ rises_by docs i (suc n) h within =
     let more = document_more docs (i + n) (i + suc n) (omega arith) h within in
     omega arith
 
-rises : (docs : List ℕ) (i j : ℕ) → are_documents docs ≡ true → i ≤ j → j < length docs → get_or docs i 0 ≤ get_or docs j 0
+pub rises : (docs : List ℕ) (i j : ℕ) → are_documents docs ≡ true → i ≤ j → j < length docs → get_or docs i 0 ≤ get_or docs j 0
 rises docs i j h order within =
     let place : i + (j - i) ≡ j = omega arith in
     let up = rises_by docs i (j - i) h (omega arith) in

@@ -1,4 +1,4 @@
-ghost use Rattle.std.specs.Prelude.{◌≡◌, ◌+◌, ◌*◌, ◌/◌, ◌<◌, ◌≤◌, ⊤, [], length, min, true, is_some, None, Some, Ok, Err, IfOk, IfErr, OnOk, OnErr, IsSome, MatchOption};
+ghost use Rattle.std.specs.Prelude.{◌≡◌, ◌+◌, ◌*◌, ◌/◌, ◌<◌, ◌≤◌, ⊤, [], length, min, slice_index, true, is_some, None, Some, Ok, Err, IfOk, IfErr, OnOk, OnErr, IsSome, MatchOption};
 ghost use Rattle.ii_docset.specs.declared.docset.TheConstants.{TERMINATED};
 ghost use Rattle.ii_io.specs.Parts.{part_of};
 ghost use Rattle.ii_base.specs.Options.{downgrade, has_positions};
@@ -257,7 +257,18 @@ impl BlockSegmentPostings {
         ensures lazy { IsLazy self.new }
     {
         self.seek_block(target);
-        count_below(self.docs(), target)
+        self.seek_within_block(target)
+    }
+
+    // How many documents of the block lie below `target`. If the block is full, the target isn't
+    // above its last document.
+    fn seek_within_block(&self, target: DocId) -> usize
+        requires up_to { target ≤ TERMINATED }
+        requires last { self.now.block < length self.now.docs / 128 → target ≤ slice_index self.now.docs (128 * self.now.block + 127) }
+        ensures below { IsBelow target (block_of self.now.docs self.now.block) result }
+        ensures lazy { IsLazy self.now }
+    {
+        self.doc_decoder.seek_within_block(target)
     }
 
     // Goes on to the block that `seek` speaks of, and decodes it where it is another one.
@@ -284,18 +295,4 @@ impl BlockSegmentPostings {
         self.checked
             .load_block(&self.skip, &mut self.doc_decoder, &mut self.freq_decoder);
     }
-}
-
-// How many documents from the front on lie below `target`.
-fn count_below(docs: &[DocId], target: DocId) -> usize
-    ensures { IsBelow target docs.now result }
-{
-    let mut below = 0;
-    for doc in docs {
-        if *doc >= target {
-            return below;
-        }
-        below += 1;
-    }
-    below
 }
