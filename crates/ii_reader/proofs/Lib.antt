@@ -4,3 +4,4 @@ pub mod CursorLemmas
 pub mod LoadedLemmas
 pub mod PositionLemmas
 pub mod SeekLemmas
+pub mod WorkedRows

@@ -2,6 +2,10 @@
 #![tactic(auto)]
 
 pub mod block_segment_postings;
+#[cfg(test)]
+mod cursor_tests;
+#[cfg(test)]
+mod list_tests;
 pub mod loaded_postings;
 #[cfg(test)]
 mod position_tests;

@@ -24,7 +24,7 @@ static POSITIONS: [u8; 53] = [
     0xB6, 0x6D, 0xDB, 0x80,
 ];
 
-fn opened(
+pub(crate) fn opened(
     doc_freq: u32,
     postings: &'static [u8],
     positions: &'static [u8],
@@ -85,7 +85,7 @@ fn positions_are_appended(rt: HostRuntime) -> Result<(), Fail> {
 }
 
 // The positions of the current document of any cursor, none at its end.
-fn gathered<P: Postings>(alloc: Global, cursor: &mut P) -> Vec<u32> {
+pub(crate) fn gathered<P: Postings>(alloc: Global, cursor: &mut P) -> Vec<u32> {
     let mut output = Vec::new(alloc);
     if cursor.doc() < TERMINATED && cursor.positions(&mut output).is_err() {
         output.clear();
@@ -94,7 +94,7 @@ fn gathered<P: Postings>(alloc: Global, cursor: &mut P) -> Vec<u32> {
 }
 
 // Its count, 0 at its end.
-fn counted<P: Postings>(cursor: &P) -> u32 {
+pub(crate) fn counted<P: Postings>(cursor: &P) -> u32 {
     if cursor.doc() < TERMINATED {
         cursor.term_freq()
     } else {
@@ -103,7 +103,7 @@ fn counted<P: Postings>(cursor: &P) -> u32 {
 }
 
 // Where a seek leaves a cursor, if it may be made.
-fn sought<P: Postings>(cursor: &mut P, target: DocId) -> DocId {
+pub(crate) fn sought<P: Postings>(cursor: &mut P, target: DocId) -> DocId {
     if target <= TERMINATED && cursor.doc() <= target {
         cursor.seek(target)
     } else {
