@@ -1,6 +1,7 @@
 -- Worked rows, each computed.
-use Rattle.std.specs.Prelude.{◌≡◌, [], ◌∷◌, ◌++◌, Some, None, replicate, true, false, refl}
+use Rattle.std.specs.Prelude.{◌≡◌, ℕ, ◌*◌, [], ◌∷◌, ◌++◌, map, Some, None, replicate, true, false, refl}
 use Rattle.std.specs.List.{range_with_len}
+use Rattle.ii_codes.specs.Search.{count_below}
 use Rattle.ii_codes.specs.Packed.{bits_in, entries_in, unpacked, packed, num_bits}
 use Rattle.ii_codes.specs.Blocks.{sorted_block_at, unsorted_block_at, sorted_bytes, unsorted_bytes}
 
@@ -67,3 +68,10 @@ bits_taken-none = refl
 pub bits_taken-most : num_bits 18446744073709551615 ≡ 64
 unfolding num_bits
 bits_taken-most = refl
+
+-- even numbers, and values that come more than once
+pub evens_below : count_below 5 (map (λ (k : ℕ). 2 * k) (range_with_len 0 128)) ≡ 3
+evens_below = refl
+
+pub repeats_below : count_below 7 (3 ∷ 7 ∷ 7 ∷ 9 ∷ []) ≡ 1
+repeats_below = refl

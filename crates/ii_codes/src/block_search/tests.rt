@@ -1,12 +1,13 @@
 use super::branchless_binary_search;
 
-// How many values lie below a target, one after the other.
+// How many values from the front on lie below a target, one after the other.
 fn counted(values: &[u32], target: u32) -> usize {
-    let mut below = 0;
-    for value in values {
-        below += usize::from(*value < target);
+    for (i, value) in values.iter().enumerate() {
+        if *value >= target {
+            return i;
+        }
     }
-    below
+    values.len()
 }
 
 // The same by the search, where it may be asked.
