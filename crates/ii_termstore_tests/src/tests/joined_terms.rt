@@ -1,4 +1,4 @@
-use crate::{TermInfo, TermInfoStoreWriter};
+use ii_termstore::{TermInfo, TermInfoStoreWriter};
 use ii_io::{CountingWriter, Fault};
 use std::alloc::Global;
 use std::io::Write;

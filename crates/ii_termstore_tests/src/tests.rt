@@ -1,8 +1,8 @@
 ghost use Rattle.std.specs.Prelude.{◌<◌, ◌+◌, ◌*◌};
 ghost use Rattle.ii_termstore.specs.TermInfos.{HasLengths};
 
-use crate::written::reads_store_back;
-use crate::{TermInfo, TermInfoBlockMeta, TermInfoStore};
+use ii_termstore::written::reads_store_back;
+use ii_termstore::{TermInfo, TermInfoBlockMeta, TermInfoStore};
 use bytes::Bytes;
 use ii_io::{BinarySerializable, CountingWriter, FailingWriter, Fault};
 use joined_terms::JoinedTerms;

@@ -1,12 +1,12 @@
 ghost use Rattle.std.specs.Prelude.{◌≡◌, []};
 
-use crate::composite_file::place::Place;
-use crate::composite_file::reads_composites_back;
-use crate::counting_writer::CountingWriter;
-use crate::failing_reader::FailingReader;
-use crate::serialize::reads_numbers_back;
-use crate::vint::VInt;
-use crate::{
+use ii_io::composite_file::place::Place;
+use ii_io::composite_file::reads_composites_back;
+use ii_io::counting_writer::CountingWriter;
+use ii_io::failing_reader::FailingReader;
+use ii_io::serialize::reads_numbers_back;
+use ii_io::vint::VInt;
+use ii_io::{
     BinarySerializable, CompositeFile, CompositeWrite, FailingWriter, Fault, Field, FixedSize,
     HasLen, Part, vint,
 };

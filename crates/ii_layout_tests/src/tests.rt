@@ -1,11 +1,11 @@
 ghost use Rattle.std.specs.Prelude.{◌≡◌, ◌<◌, ◌≤◌, [], false, OnOk};
 ghost use Rattle.std.specs.List.{range_with_len};
 
-use crate::skip::{
+use ii_layout::skip::{
     BlockInfo, decode_bitwidth, decode_block_wand_max_tf, encode_bitwidth, encode_block_wand_max_tf,
 };
-use crate::written::{reads_documents_back, reads_postings_back, reads_uncounted_back};
-use crate::{
+use ii_layout::written::{reads_documents_back, reads_postings_back, reads_uncounted_back};
+use ii_layout::{
     PostingsSerializer, SkipPlaces, SkipReader, SkipSerializer, split_into_skips_and_postings,
 };
 use ii_base::{CountingWriter, Fault, IndexRecordOption, LimitName};

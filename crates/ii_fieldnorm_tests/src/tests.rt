@@ -1,8 +1,8 @@
 ghost use Rattle.std.specs.Prelude.{◌≡◌, ◌<◌, ◌^◌, [], ◌∷◌, length, Some, None, IfOk};
 ghost use Rattle.ii_fieldnorm.specs.Buffers.{empty_buffers, norm_bodies};
 
-use crate::code::ids_approximate_from_below;
-use crate::{
+use ii_fieldnorm::code::ids_approximate_from_below;
+use ii_fieldnorm::{
     FIELD_NORMS_TABLE, FieldNormReader, FieldNormReaders, FieldNormsSerializer, FieldNormsWriter,
     fieldnorm_to_id, id_to_fieldnorm,
 };
