@@ -53,11 +53,15 @@ fn composites_are_written(rt: HostRuntime) {
     }
     let (writer, answer) = composite_over(rt.alloc(), 8);
     assert!(rt; answer == Ok(()));
+    reads_composites_back();
+}
+
+#[test]
+fn a_composite_of_no_bodies_is_written(rt: HostRuntime) {
     let none = CompositeWrite::wrap(rt.alloc(), CountingWriter::wrap(Vec::new(rt.alloc())));
     let (writer, answer) = none.close();
     assert!(rt; answer == Ok(()));
     assert!(rt; writer.finish().as_slice() == [0; 4].as_slice());
-    reads_composites_back();
 }
 
 #[test]
@@ -176,20 +180,27 @@ fn damaged_composites_are_refused(rt: HostRuntime) {
     assert!(rt; refusal(rt.alloc(), &REPEATED) == damaged);
 }
 
-#[test]
-fn numbers_are_written_and_read(rt: HostRuntime) -> Result<(), Fail> {
-    let mut writer = CountingWriter::wrap(Vec::new(rt.alloc()));
+// Writes a number of 32 bits, one of 64 bits and the place, and answers the bytes and how many were
+// told.
+fn written_numbers(alloc: Global, place: &Place) -> Result<(Vec<u8>, u64), Fault> {
+    let mut writer = CountingWriter::wrap(Vec::new(alloc));
     0x0403_0201_u32.serialize(&mut writer)?;
     0x0F0E_0D0C_0B0A_0908_u64.serialize(&mut writer)?;
+    place.serialize(&mut writer)?;
+    let told = writer.written_bytes();
+    Ok((writer.finish(), told))
+}
+
+#[test]
+fn numbers_are_written_and_read(rt: HostRuntime) -> Result<(), Fail> {
     let place = Place {
         field: Field::from_field_id(3),
         start: 1,
         end: 2,
     };
-    place.serialize(&mut writer)?;
     assert!(rt; place.lies_within(2) && !place.lies_within(1));
-    assert!(rt; writer.written_bytes() == 32);
-    let bytes = writer.finish();
+    let (bytes, told) = written_numbers(rt.alloc(), &place)?;
+    assert!(rt; told == 32);
     let mut rest = bytes.as_slice();
     assert!(rt; u32::deserialize(&mut rest) == Some(0x0403_0201));
     assert!(rt; u64::deserialize(&mut rest) == Some(0x0F0E_0D0C_0B0A_0908));
@@ -264,16 +275,22 @@ fn a_write_that_takes_nothing_fails(rt: HostRuntime) {
     assert!(rt; writer.finish().bytes.as_slice() == [3].as_slice());
 }
 
+// What a write and a flush answer where this call fails, how many bytes were told, and how many
+// calls failed.
+fn write_and_flush(alloc: Global, failing_call: u64) -> ([Result<(), Fault>; 2], u64, u64) {
+    let mut writer = CountingWriter::wrap(FailingWriter::new(alloc, failing_call));
+    let answers = [writer.write_all(&[1]), writer.flush()];
+    (answers, writer.written_bytes(), writer.failed_calls())
+}
+
 #[test]
 fn interrupted_calls_are_not_tried_again(rt: HostRuntime) {
-    let mut writer = CountingWriter::wrap(FailingWriter::new(rt.alloc(), 2));
-    assert!(rt; writer.write_all(&[1]) == Ok(()));
-    assert!(rt; writer.flush() == Err(Fault::Write));
-    assert!(rt; writer.failed_calls() == 1);
-    let mut writer = CountingWriter::wrap(FailingWriter::new(rt.alloc(), 1));
-    assert!(rt; writer.write_all(&[1]) == Err(Fault::Write));
-    assert!(rt; writer.flush() == Ok(()));
-    assert!(rt; (writer.written_bytes(), writer.failed_calls()) == (0, 1));
+    let (answers, _, failed) = write_and_flush(rt.alloc(), 2);
+    assert!(rt; answers == [Ok(()), Err(Fault::Write)]);
+    assert!(rt; failed == 1);
+    let (answers, written, failed) = write_and_flush(rt.alloc(), 1);
+    assert!(rt; answers == [Err(Fault::Write), Ok(())]);
+    assert!(rt; (written, failed) == (0, 1));
     let mut reader = FailingReader::new(&[1], 1);
     let interrupted = reader.read(&mut [0; 1]).err();
     assert!(rt; interrupted.map(|e| e.kind()) == Some(io::ErrorKind::Interrupted));
@@ -297,6 +314,11 @@ fn numbers_of_64_bits_are_values(rt: HostRuntime) -> Result<(), Fail> {
         assert!(rt; VInt::deserialize(&mut rest) == Some(VInt(number)));
     }
     assert!(rt; VInt::deserialize(&mut rest) == None);
+    Ok(())
+}
+
+#[test]
+fn groups_past_64_bits_are_no_value(rt: HostRuntime) {
     let past: [u8; 11] = [0, 0, 0, 0, 0, 0, 0, 0, 0, 0, 0x80];
     let mut rest = past.as_slice();
     assert!(rt; VInt::deserialize(&mut rest) == None);
@@ -305,7 +327,6 @@ fn numbers_of_64_bits_are_values(rt: HostRuntime) -> Result<(), Fail> {
     assert!(rt; VInt::deserialize(&mut great.as_slice()) == None);
     let zero_groups = [0, 0, 0, 0, 0, 0, 0, 0, 0, 0x80];
     assert!(rt; VInt::deserialize(&mut zero_groups.as_slice()) == Some(VInt(0)));
-    Ok(())
 }
 
 #[test]
