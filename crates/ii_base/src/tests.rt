@@ -18,11 +18,11 @@ const TYPES: [(ValueType, u8); 8] = [
 #[test]
 fn types_have_codes(rt: HostRuntime) {
     for (value_type, code) in TYPES {
-        assert_eq!(rt; value_type.to_code(), code);
-        assert_eq!(rt; ValueType::from_code(code), Some(value_type));
+        assert!(rt; value_type.to_code() == code);
+        assert!(rt; ValueType::from_code(code) == Some(value_type));
     }
     for code in [0, b'f', b'h', b'S'] {
-        assert_eq!(rt; ValueType::from_code(code), None);
+        assert!(rt; ValueType::from_code(code) == None);
     }
 }
 
@@ -42,24 +42,24 @@ fn four_fields(alloc: Global) -> Result<Schema, AllocError> {
 #[test]
 fn schemas_tell_their_fields(rt: HostRuntime) -> Result<(), Fail> {
     let schema = four_fields(rt.alloc())?;
-    assert_eq!(rt; schema.num_fields(), 4);
+    assert!(rt; schema.num_fields() == 4);
     let names = ["text", "number", "json", "stored"];
     let mut seen = 0;
     for (field, entry) in schema.fields() {
-        assert_eq!(rt; field.field_id(), seen);
-        assert_eq!(rt; Some(&entry.name()), names.get(seen as usize));
-        assert_eq!(rt; entry.is_indexed(), seen < 3);
-        assert_eq!(rt; entry.has_fieldnorms(), seen < 2);
-        assert_eq!(rt; entry.expands_dots(), seen == 2);
+        assert!(rt; field.field_id() == seen);
+        assert!(rt; Some(&entry.name()) == names.get(seen as usize));
+        assert!(rt; entry.is_indexed() == (seen < 3));
+        assert!(rt; entry.has_fieldnorms() == (seen < 2));
+        assert!(rt; entry.expands_dots() == (seen == 2));
         seen = seen.saturating_add(1);
     }
-    assert_eq!(rt; seen, 4);
+    assert!(rt; seen == 4);
     assert!(rt; schema.num_fields() > 3);
     let stored = schema.get_field_entry(Field::from_field_id(3));
-    assert_eq!(rt; stored.value_type(), ValueType::Date);
-    assert_eq!(rt; stored.index_record_option(), IndexRecordOption::Basic);
+    assert!(rt; stored.value_type() == ValueType::Date);
+    assert!(rt; stored.index_record_option() == IndexRecordOption::Basic);
     let json = schema.get_field_entry(Field::from_field_id(2));
-    assert_eq!(rt; json.index_record_option(), IndexRecordOption::WithFreqs);
+    assert!(rt; json.index_record_option() == IndexRecordOption::WithFreqs);
     Ok(())
 }
 
@@ -71,11 +71,11 @@ fn options_are_ordered(rt: HostRuntime) {
         IndexRecordOption::WithFreqsAndPositions,
     ];
     for (i, one) in options.iter().enumerate() {
-        assert_eq!(rt; one.has_freq(), i > 0);
-        assert_eq!(rt; one.has_positions(), i > 1);
+        assert!(rt; one.has_freq() == (i > 0));
+        assert!(rt; one.has_positions() == (i > 1));
         for (j, other) in options.iter().enumerate() {
             let lesser = if i < j { one } else { other };
-            assert_eq!(rt; one.downgrade(*other), *lesser);
+            assert!(rt; one.downgrade(*other) == *lesser);
         }
     }
 }
@@ -86,7 +86,7 @@ fn documents_are_alive(rt: HostRuntime) -> Result<(), Fail> {
     let some = AliveBitSet::from_deleted_docs(rt.alloc(), &[2, 0, 2], 4)?;
     for doc in 0..3 {
         assert!(rt; all.is_alive(doc));
-        assert_eq!(rt; some.is_alive(doc), doc == 1);
+        assert!(rt; some.is_alive(doc) == (doc == 1));
     }
     assert!(rt; some.is_alive(3));
     Ok(())

@@ -203,11 +203,11 @@ mod tests {
         packer.write(51, compute_num_bits(51), &mut output)?;
         packer.close(&mut output)?;
         let bytes = output.finish();
-        assert_eq!(rt; bytes.as_slice(), [0x41, 0x9D, 0x01].as_slice());
+        assert!(rt; bytes.as_slice() == [0x41, 0x9D, 0x01].as_slice());
         assert!(rt; bytes.len() == 3);
-        assert_eq!(rt; extract_bits(&bytes, 0, 9), 321);
-        assert_eq!(rt; extract_bits(&bytes, 9, 2), 2);
-        assert_eq!(rt; extract_bits(&bytes, 11, 6), 51);
+        assert!(rt; extract_bits(&bytes, 0, 9) == 321);
+        assert!(rt; extract_bits(&bytes, 9, 2) == 2);
+        assert!(rt; extract_bits(&bytes, 11, 6) == 51);
         Ok(())
     }
 
@@ -221,26 +221,22 @@ mod tests {
         packer.flush(&mut output)?;
         packer.flush(&mut output)?;
         let bytes = output.finish();
-        assert_eq!(rt;
-            bytes.as_slice(),
-            [255, 255, 255, 255, 255, 255, 255, 255, 1].as_slice()
-        );
+        assert!(rt; bytes.as_slice() == [255, 255, 255, 255, 255, 255, 255, 255, 1].as_slice());
         Ok(())
     }
 
     #[test]
     fn extracts_up_to_56_bits(rt: HostRuntime) {
         let bytes = [0xFFu8; 8];
-        assert_eq!(rt; extract_bits(&bytes, 7, 56), 72_057_594_037_927_935);
-        assert_eq!(rt; extract_bits(&bytes, 8, 56), 72_057_594_037_927_935);
-        assert_eq!(rt; extract_bits(&bytes, 64, 0), 0);
-        assert_eq!(rt;
+        assert!(rt; extract_bits(&bytes, 7, 56) == 72_057_594_037_927_935);
+        assert!(rt; extract_bits(&bytes, 8, 56) == 72_057_594_037_927_935);
+        assert!(rt; extract_bits(&bytes, 64, 0) == 0);
+        assert!(rt;
             (
                 compute_num_bits(0),
                 compute_num_bits(1),
                 compute_num_bits(u64::MAX)
-            ),
-            (0, 1, 64)
+            ) == (0, 1, 64)
         );
     }
 }

@@ -4,8 +4,6 @@
 pub mod code;
 pub mod reader;
 pub mod serializer;
-#[cfg(test)]
-mod tests;
 pub mod writer;
 
 pub use code::{FIELD_NORMS_TABLE, fieldnorm_to_id, id_to_fieldnorm};

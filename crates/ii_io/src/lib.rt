@@ -10,8 +10,6 @@ pub mod field;
 pub mod has_len;
 pub mod serialize;
 pub mod tally;
-#[cfg(test)]
-mod tests;
 pub mod vint;
 
 pub use composite_file::composite_read::CompositeFile;

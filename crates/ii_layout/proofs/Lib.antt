@@ -3,7 +3,6 @@ pub mod DocumentLemmas
 pub mod FrequencyLemmas
 pub mod PackingLemmas
 pub mod ReadBackLemmas
-pub mod RunLemmas
 pub mod SkipReaderLemmas
 pub mod SkipWriting
 pub mod SplitLemmas

@@ -7,8 +7,6 @@ pub mod positions;
 pub mod serializer;
 pub mod skip;
 pub mod split;
-#[cfg(test)]
-mod tests;
 pub mod written;
 
 pub use positions::{PositionReader, PositionSerializer, PositionWriter};

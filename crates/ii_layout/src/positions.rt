@@ -1,8 +1,6 @@
 mod blocks;
 pub mod reader;
 pub mod serializer;
-#[cfg(test)]
-mod tests;
 
 ghost use Rattle.std.specs.Prelude.{◌≡◌, ◌+◌, ◌-◌, ◌≤◌, ◌++◌, length, take, drop, min};
 

@@ -5,8 +5,6 @@ pub mod builder;
 mod key_parts;
 pub mod streamer;
 pub mod termdict;
-#[cfg(test)]
-mod tests;
 pub mod writer;
 pub mod written;
 

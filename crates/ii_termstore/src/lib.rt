@@ -3,8 +3,6 @@
 
 pub mod term_info;
 pub mod term_info_store;
-#[cfg(test)]
-mod tests;
 pub mod written;
 
 pub use term_info::TermInfo;

@@ -7,11 +7,7 @@ use std::io::Write;
 
 /// A composite file of two bodies is written and opened; then three fields are asked for.
 pub fn read_back(alloc: Global) -> Result<String, Fault> {
-    let mut composite = CompositeWrite::wrap(alloc, CountingWriter::wrap(Vec::new(alloc)));
-    let written = write_two(&mut composite);
-    let (writer, closed) = composite.close();
-    written.and(closed)?;
-    let file = CompositeFile::open(alloc, Bytes::from_vec(writer.finish())?)?.clone()?;
+    let file = written(alloc)?;
     let mut text = String::new(alloc);
     for id in [7, 1, 2] {
         write!(text, " {id} is")?;
@@ -21,6 +17,15 @@ pub fn read_back(alloc: Global) -> Result<String, Fault> {
         }
     }
     Ok(text)
+}
+
+// A copy of the file of two bodies.
+fn written(alloc: Global) -> Result<CompositeFile, Fault> {
+    let mut composite = CompositeWrite::wrap(alloc, CountingWriter::wrap(Vec::new(alloc)));
+    let written = write_two(&mut composite);
+    let (writer, closed) = composite.close();
+    written.and(closed)?;
+    Ok(CompositeFile::open(alloc, Bytes::from_vec(writer.finish())?)?.clone()?)
 }
 
 // Bodies of the fields 7 and 1.

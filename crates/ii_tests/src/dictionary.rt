@@ -10,12 +10,7 @@ use std::io::Write;
 /// A dictionary of three keys is built and opened; then each is looked up by its place, and a key
 /// that isn't there.
 pub fn read_back(alloc: Global) -> Result<String, Fault> {
-    let writer = CountingWriter::wrap(Vec::new(alloc));
-    let mut builder = TermDictionaryBuilder::create(alloc, writer);
-    let inserted = insert_three(&mut builder);
-    let (writer, finished) = builder.finish();
-    inserted.and(finished)?;
-    let terms = TermDictionary::open(Bytes::from_vec(writer.finish())?)?;
+    let terms = built(alloc)?;
     let mut text = String::new(alloc);
     let mut key = Vec::new(alloc);
     for ord in 0..4 {
@@ -25,6 +20,16 @@ pub fn read_back(alloc: Global) -> Result<String, Fault> {
     }
     push_term(&mut text, terms.get(b"c"))?;
     Ok(text)
+}
+
+// The dictionary of three keys.
+fn built(alloc: Global) -> Result<TermDictionary, Fault> {
+    let writer = CountingWriter::wrap(Vec::new(alloc));
+    let mut builder = TermDictionaryBuilder::create(alloc, writer);
+    let inserted = insert_three(&mut builder);
+    let (writer, finished) = builder.finish();
+    inserted.and(finished)?;
+    TermDictionary::open(Bytes::from_vec(writer.finish())?)
 }
 
 // The keys a, ab and b.

@@ -1,11 +1,22 @@
 use crate::schema::two_fields;
 use bytes::Bytes;
 use ii_base::{CountingWriter, Fault, Field, Part};
-use ii_fieldnorm::{FieldNormReaders, FieldNormsSerializer, FieldNormsWriter};
+use ii_fieldnorm::{FieldNormReader, FieldNormReaders, FieldNormsSerializer, FieldNormsWriter};
 use std::alloc::Global;
 
 /// Norms of four documents are recorded, written and opened.
 pub fn read_back(alloc: Global) -> Result<String, Fault> {
+    let reader = opened(alloc, written(alloc)?)?;
+    let mut text = String::new(alloc);
+    for doc in 0..reader.num_docs() {
+        let norm = reader.fieldnorm(doc);
+        write!(text, " {norm}")?;
+    }
+    Ok(text)
+}
+
+// Norms of the one field that has them, as a file.
+fn written(alloc: Global) -> Result<Bytes, Fault> {
     let mut norms = FieldNormsWriter::for_schema(alloc, &two_fields(alloc)?)?;
     norms.record(0, Field::from_field_id(0), 13)?;
     norms.record(2, Field::from_field_id(0), 41)?;
@@ -13,16 +24,14 @@ pub fn read_back(alloc: Global) -> Result<String, Fault> {
     let writer = CountingWriter::wrap(Vec::new(alloc));
     let (writer, written) = norms.serialize(FieldNormsSerializer::from_write(alloc, writer));
     written?;
-    let bytes = Bytes::from_vec(writer.finish())?;
+    Ok(Bytes::from_vec(writer.finish())?)
+}
+
+// The norms of that field, by copies of all readers and of its own.
+fn opened(alloc: Global, bytes: Bytes) -> Result<FieldNormReader, Fault> {
     let readers = FieldNormReaders::open(alloc, bytes)?.clone()?;
     let Some(reader) = readers.get_field(Field::from_field_id(0))? else {
         return Err(Fault::Damaged(Part::FieldNorms));
     };
-    let reader = reader.clone()?;
-    let mut text = String::new(alloc);
-    for doc in 0..reader.num_docs() {
-        let norm = reader.fieldnorm(doc);
-        write!(text, " {norm}")?;
-    }
-    Ok(text)
+    Ok(reader.clone()?)
 }

@@ -1,4 +1,4 @@
-ghost use Rattle.std.specs.Prelude.{◌≤◌};
+ghost use Rattle.std.specs.Prelude.{◌≤◌, length};
 
 use ii_base::{CountingWriter, Fault, IndexRecordOption, Part};
 use ii_io::vint;
@@ -23,6 +23,13 @@ pub fn read_back(alloc: Global) -> Result<String, Fault> {
     if skip.len() < SKIP_LIST_SIZE {
         return Err(Fault::Damaged(Part::Skip));
     }
+    walked(alloc, skip)
+}
+
+// What the skip list tells of its three blocks.
+fn walked(alloc: Global, skip: &[u8]) -> Result<String, Fault>
+    requires { 24 ≤ length skip.now }
+{
     let mut text = String::new(alloc);
     let mut reader = SkipReader::new(skip, COUNT, IndexRecordOption::WithFreqsAndPositions);
     push_block(&mut text, &reader)?;

@@ -39,13 +39,13 @@ fn is_read_back(first: u32, step: u32, offset: u32) -> bool
 fn packs_sorted_blocks(rt: HostRuntime) {
     let mut bytes = [0u8; 512];
     let evens = stepped(0, 2);
-    assert_eq!(rt; pack_sorted(&evens, 0, &mut bytes), (1, 16));
-    assert_eq!(rt; bytes[0], 0xFE);
+    assert!(rt; pack_sorted(&evens, 0, &mut bytes) == (1, 16));
+    assert!(rt; bytes[0] == 0xFE);
     assert!(rt; bytes[1..16].iter().all(|b| *b == 0xFF));
-    assert_eq!(rt; pack_sorted(&stepped(1, 1), 0, &mut bytes), (1, 16));
-    assert_eq!(rt; bytes[0], 1);
+    assert!(rt; pack_sorted(&stepped(1, 1), 0, &mut bytes) == (1, 16));
+    assert!(rt; bytes[0] == 1);
     assert!(rt; bytes[1..16].iter().all(|b| *b == 0));
-    assert_eq!(rt; pack_sorted(&stepped(0, 1), 0, &mut bytes), (0, 0));
+    assert!(rt; pack_sorted(&stepped(0, 1), 0, &mut bytes) == (0, 0));
     assert!(rt; is_read_back(0, 7, 0));
     assert!(rt; is_read_back(1, 7, 0));
     assert!(rt; is_read_back(11, 7, 10));
@@ -56,9 +56,9 @@ fn unpacks_plain_deltas(rt: HostRuntime) {
     let mut bytes = [0xAAu8; 33];
     bytes[0] = 0xA8;
     let mut output = [0u32; 128];
-    assert_eq!(rt; unpack_sorted(&bytes, 0, 2, false, &mut output), Some(32));
-    assert_eq!(rt; output, stepped(0, 2));
-    assert_eq!(rt; unpack_sorted(&bytes[..31], 0, 2, false, &mut output), None);
+    assert!(rt; unpack_sorted(&bytes, 0, 2, false, &mut output) == Some(32));
+    assert!(rt; output == stepped(0, 2));
+    assert!(rt; unpack_sorted(&bytes[..31], 0, 2, false, &mut output) == None);
 }
 
 #[test]
@@ -74,14 +74,11 @@ fn packs_unsorted_blocks(rt: HostRuntime) {
         } else {
             pack_unsorted(&block, false, &mut bytes)
         };
-        assert_eq!(rt; (width, size), if minus_one { (2, 32) } else { (5, 80) });
-        assert_eq!(rt; bytes[80], 0xAD);
+        assert!(rt; (width, size) == (if minus_one { (2, 32) } else { (5, 80) }));
+        assert!(rt; bytes[80] == 0xAD);
         let mut output = [0u32; 128];
-        assert_eq!(rt;
-            unpack_unsorted(&bytes, width, minus_one, &mut output),
-            Some(size)
-        );
-        assert_eq!(rt; output, if minus_one { [3; 128] } else { block });
+        assert!(rt; unpack_unsorted(&bytes, width, minus_one, &mut output) == Some(size));
+        assert!(rt; output == (if minus_one { [3; 128] } else { block }));
     }
 }
 
@@ -89,44 +86,32 @@ fn packs_unsorted_blocks(rt: HostRuntime) {
 fn refuses_what_is_no_block(rt: HostRuntime) {
     let bytes = [0xFFu8; 528];
     let mut output = [0u32; 128];
-    assert_eq!(rt; unpack_unsorted(&bytes, 32, false, &mut output), Some(512));
-    assert_eq!(rt; output, [u32::MAX; 128]);
-    assert_eq!(rt; unpack_unsorted(&bytes, 32, true, &mut output), None);
-    assert_eq!(rt; unpack_unsorted(&bytes, 33, false, &mut output), None);
-    assert_eq!(rt;
-        unpack_unsorted(&bytes[..511], 32, false, &mut output),
-        None
-    );
-    assert_eq!(rt;
-        unpack_sorted(&bytes, u32::MAX, 1, false, &mut output),
-        None
-    );
-    assert_eq!(rt;
-        unpack_sorted(&bytes, u32::MAX, 0, false, &mut output),
-        Some(0)
-    );
-    assert_eq!(rt; output, [u32::MAX; 128]);
+    assert!(rt; unpack_unsorted(&bytes, 32, false, &mut output) == Some(512));
+    assert!(rt; output == [u32::MAX; 128]);
+    assert!(rt; unpack_unsorted(&bytes, 32, true, &mut output) == None);
+    assert!(rt; unpack_unsorted(&bytes, 33, false, &mut output) == None);
+    assert!(rt; unpack_unsorted(&bytes[..511], 32, false, &mut output) == None);
+    assert!(rt; unpack_sorted(&bytes, u32::MAX, 1, false, &mut output) == None);
+    assert!(rt; unpack_sorted(&bytes, u32::MAX, 0, false, &mut output) == Some(0));
+    assert!(rt; output == [u32::MAX; 128]);
 }
 
 #[test]
 fn encodes_and_decodes_sorted_blocks(rt: HostRuntime) {
     let mut encoder = BlockEncoder::new();
     let (num_bits, bytes) = encoder.compress_block_sorted(&stepped(1, 1), 0);
-    assert_eq!(rt; num_bits, 1);
-    assert_eq!(rt; bytes.len(), 16);
-    assert_eq!(rt; bytes[0], 1);
+    assert!(rt; num_bits == 1);
+    assert!(rt; bytes.len() == 16);
+    assert!(rt; bytes[0] == 1);
     assert!(rt; bytes[1..].iter().all(|b| *b == 0));
     let mut decoder = BlockDecoder::with_val(7);
-    assert_eq!(rt;
-        decoder.try_uncompress_block_sorted(bytes, 0, num_bits, true),
-        Ok(16)
-    );
-    assert_eq!(rt; decoder.output_array(), stepped(1, 1).as_slice());
+    assert!(rt; decoder.try_uncompress_block_sorted(bytes, 0, num_bits, true) == Ok(16));
+    assert!(rt; decoder.output_array() == stepped(1, 1).as_slice());
     let refused = decoder.try_uncompress_block_sorted(&bytes[1..], 0, num_bits, true);
-    assert_eq!(rt; refused, Err(LayoutFault::Damaged(Part::Documents)));
-    assert_eq!(rt; decoder.output_len(), 0);
-    assert_eq!(rt; decoder.uncompress_block_sorted(&[], 0, 0, true), 0);
-    assert_eq!(rt; decoder.output_array(), stepped(0, 1).as_slice());
+    assert!(rt; refused == Err(LayoutFault::Damaged(Part::Documents)));
+    assert!(rt; decoder.output_len() == 0);
+    assert!(rt; decoder.uncompress_block_sorted(&[], 0, 0, true) == 0);
+    assert!(rt; decoder.output_array() == stepped(0, 1).as_slice());
 }
 
 #[test]
@@ -134,37 +119,31 @@ fn encodes_and_decodes_unsorted_blocks(rt: HostRuntime) {
     let threes = [3; 128];
     let mut encoder = BlockEncoder::default();
     let (num_bits, bytes) = encoder.compress_block_unsorted(&threes, true);
-    assert_eq!(rt; num_bits, 2);
-    assert_eq!(rt; bytes, [0xAA; 32].as_slice());
+    assert!(rt; num_bits == 2);
+    assert!(rt; bytes == [0xAA; 32].as_slice());
     let mut decoder = BlockDecoder::default();
-    assert_eq!(rt;
-        decoder.try_uncompress_block_unsorted(bytes, num_bits, false),
-        Ok(32)
-    );
-    assert_eq!(rt; decoder.output_array(), [2; 128].as_slice());
-    assert_eq!(rt; decoder.uncompress_block_unsorted(&[0xAA; 32], 2, true), 32);
-    assert_eq!(rt; decoder.output_array(), threes.as_slice());
+    assert!(rt; decoder.try_uncompress_block_unsorted(bytes, num_bits, false) == Ok(32));
+    assert!(rt; decoder.output_array() == [2; 128].as_slice());
+    assert!(rt; decoder.uncompress_block_unsorted(&[0xAA; 32], 2, true) == 32);
+    assert!(rt; decoder.output_array() == threes.as_slice());
     let refused = decoder.try_uncompress_block_unsorted(&[0xFF; 528], 33, false);
-    assert_eq!(rt; refused, Err(LayoutFault::Damaged(Part::Frequencies)));
-    assert_eq!(rt; decoder.output_len(), 0);
+    assert!(rt; refused == Err(LayoutFault::Damaged(Part::Frequencies)));
+    assert!(rt; decoder.output_len() == 0);
 }
 
 #[test]
 fn tells_the_last_value_by_the_sum(rt: HostRuntime) {
     let mut bytes = [0u8; 16];
-    assert_eq!(rt; last_of_sorted_block(&[], 0, 0, true), Some(127));
-    assert_eq!(rt; last_of_sorted_block(&[], 5, 0, true), Some(133));
-    assert_eq!(rt; last_of_sorted_block(&[], 5, 0, false), Some(5));
+    assert!(rt; last_of_sorted_block(&[], 0, 0, true) == Some(127));
+    assert!(rt; last_of_sorted_block(&[], 5, 0, true) == Some(133));
+    assert!(rt; last_of_sorted_block(&[], 5, 0, false) == Some(5));
     bytes[0] = 1;
-    assert_eq!(rt; last_of_sorted_block(&bytes, 0, 1, true), Some(128));
-    assert_eq!(rt;
-        last_of_sorted_block(&bytes, u32::MAX - 1, 1, false),
-        Some(u32::MAX)
-    );
-    assert_eq!(rt; last_of_sorted_block(&bytes, u32::MAX, 1, false), None);
-    assert_eq!(rt; last_of_sorted_block(&bytes[..15], 0, 1, true), None);
-    assert_eq!(rt; last_of_sorted_block(&[0; 600], 0, 33, true), None);
+    assert!(rt; last_of_sorted_block(&bytes, 0, 1, true) == Some(128));
+    assert!(rt; last_of_sorted_block(&bytes, u32::MAX - 1, 1, false) == Some(u32::MAX));
+    assert!(rt; last_of_sorted_block(&bytes, u32::MAX, 1, false) == None);
+    assert!(rt; last_of_sorted_block(&bytes[..15], 0, 1, true) == None);
+    assert!(rt; last_of_sorted_block(&[0; 600], 0, 33, true) == None);
     let mut plain = [0xAAu8; 40];
     plain[0] = 0xA8;
-    assert_eq!(rt; last_of_sorted_block(&plain, 0, 2, false), Some(254));
+    assert!(rt; last_of_sorted_block(&plain, 0, 2, false) == Some(254));
 }

@@ -39,57 +39,41 @@ fn encodes_sorted_vints(rt: HostRuntime) {
     assert!(rt; is_read_back(1));
     assert!(rt; is_read_back(2));
     let mut buffer = [0u8; 15];
-    assert_eq!(rt;
-        compress_sorted(&[0, 2, 10], &mut buffer, 0),
-        [0x80, 0x82, 0x88].as_slice()
-    );
+    assert!(rt; compress_sorted(&[0, 2, 10], &mut buffer, 0) == [0x80, 0x82, 0x88].as_slice());
 }
 
 #[test]
 fn encodes_unsorted_vints(rt: HostRuntime) {
     let mut encoder = BlockEncoder::new();
-    assert_eq!(rt;
-        encoder.compress_vint_unsorted(&[1, 2, 3]),
-        [0x81, 0x82, 0x83].as_slice()
-    );
+    assert!(rt; encoder.compress_vint_unsorted(&[1, 2, 3]) == [0x81, 0x82, 0x83].as_slice());
     let bytes = encoder.compress_vint_unsorted(&[u32::MAX; 128]);
-    assert_eq!(rt; bytes.len(), 640);
+    assert!(rt; bytes.len() == 640);
     let mut decoder = BlockDecoder::default();
-    assert_eq!(rt;
-        decoder.try_uncompress_vint_unsorted(bytes, 128, 0),
-        Ok(640)
-    );
-    assert_eq!(rt; decoder.output_array(), [u32::MAX; 128].as_slice());
+    assert!(rt; decoder.try_uncompress_vint_unsorted(bytes, 128, 0) == Ok(640));
+    assert!(rt; decoder.output_array() == [u32::MAX; 128].as_slice());
     let refused = decoder.try_uncompress_vint_unsorted(&[0x81, 0x7F], 2, 0);
-    assert_eq!(rt; refused, Err(LayoutFault::Damaged(Part::Frequencies)));
-    assert_eq!(rt; decoder.output_len(), 0);
-    assert_eq!(rt;
-        decoder.try_uncompress_vint_unsorted(&[0x81, 0x7F], 1, 9),
-        Ok(1)
-    );
-    assert_eq!(rt; (decoder.output(0), decoder.output(127)), (1, 9));
+    assert!(rt; refused == Err(LayoutFault::Damaged(Part::Frequencies)));
+    assert!(rt; decoder.output_len() == 0);
+    assert!(rt; decoder.try_uncompress_vint_unsorted(&[0x81, 0x7F], 1, 9) == Ok(1));
+    assert!(rt; (decoder.output(0), decoder.output(127)) == (1, 9));
 }
 
 #[test]
 fn decodes_unsorted_vints_until_the_end(rt: HostRuntime) {
     let mut decoder = BlockDecoder::with_val(5);
-    assert_eq!(rt;
-        decoder.try_uncompress_vint_unsorted_until_end(&[0x83, 0x00, 0x82, 0x80]),
-        Ok(())
+    assert!(rt;
+        decoder.try_uncompress_vint_unsorted_until_end(&[0x83, 0x00, 0x82, 0x80]) == Ok(())
     );
-    assert_eq!(rt; decoder.output_array(), [3, 256, 0].as_slice());
-    assert_eq!(rt;
-        decoder.try_uncompress_vint_unsorted_until_end(&[0x83, 0x00]),
-        Err(LayoutFault::Damaged(Part::Positions))
+    assert!(rt; decoder.output_array() == [3, 256, 0].as_slice());
+    assert!(rt;
+        decoder.try_uncompress_vint_unsorted_until_end(&[0x83, 0x00])
+            == Err(LayoutFault::Damaged(Part::Positions))
     );
-    assert_eq!(rt; decoder.output_len(), 0);
-    assert_eq!(rt;
-        decoder.try_uncompress_vint_unsorted_until_end(&[0x81; 200]),
-        Ok(())
-    );
-    assert_eq!(rt; decoder.output_array(), [1; 128].as_slice());
-    assert_eq!(rt; decoder.try_uncompress_vint_unsorted_until_end(&[]), Ok(()));
-    assert_eq!(rt; decoder.output_len(), 0);
+    assert!(rt; decoder.output_len() == 0);
+    assert!(rt; decoder.try_uncompress_vint_unsorted_until_end(&[0x81; 200]) == Ok(()));
+    assert!(rt; decoder.output_array() == [1; 128].as_slice());
+    assert!(rt; decoder.try_uncompress_vint_unsorted_until_end(&[]) == Ok(()));
+    assert!(rt; decoder.output_len() == 0);
 }
 
 // Reads some vints by a decoder of any type, and answers how many bytes they take.
@@ -122,14 +106,14 @@ fn decodes_unsorted_vints_by_the_bound(rt: HostRuntime) -> Result<(), Fail> {
         return Err("two vints".into());
     };
     let used = read_by(&mut decoder, &bytes, 2, 7);
-    assert_eq!(rt; (first, used), (3, 3));
-    assert_eq!(rt; decoder.output_array(), [1, 300].as_slice());
-    assert_eq!(rt; (decoder.output(2), decoder.output(127)), (7, 7));
+    assert!(rt; (first, used) == (3, 3));
+    assert!(rt; decoder.output_array() == [1, 300].as_slice());
+    assert!(rt; (decoder.output(2), decoder.output(127)) == (7, 7));
     let Ok(()) = decoder.try_uncompress_vint_unsorted_until_end(&bytes) else {
         return Err("all vints".into());
     };
     let mut other = BlockDecoder::default();
     read_all_by(&mut other, &bytes);
-    assert_eq!(rt; other.output_array(), [1, 300, 16384].as_slice());
+    assert!(rt; other.output_array() == [1, 300, 16384].as_slice());
     Ok(())
 }

@@ -1,5 +1,5 @@
-use crate::{TermInfo, TermInfoStoreWriter};
 use ii_io::{CountingWriter, Fault};
+use ii_termstore::{TermInfo, TermInfoStoreWriter};
 use std::alloc::Global;
 use std::io::Write;
 use std::marker::Model;

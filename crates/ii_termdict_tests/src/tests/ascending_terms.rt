@@ -1,12 +1,20 @@
 ghost use Rattle.std.specs.Prelude.{◌≡◌, false, length};
+ghost use Rattle.ii_termdict.specs.Dictionary.{is_below};
 ghost use Rattle.ii_termdict.specs.TermDictionaryBuilder.{TermDictionaryBuilderState};
 
-use crate::key_parts::is_key_below;
-use crate::{TermDictionaryBuilder, TermInfo};
 use ii_io::{CountingWriter, Fault};
+use ii_termdict::{TermDictionaryBuilder, TermInfo};
 use std::alloc::Global;
+use std::cmp::Ordering;
 use std::io::Write;
 use std::marker::Model;
+
+// Whether a key is below another by its bytes.
+fn is_key_below(key: &[u8], other: &[u8]) -> bool
+    ensures { result ≡ is_below key.now other.now }
+{
+    key.cmp(other) == Ordering::Less
+}
 
 // A builder of terms that are given by their keys and lengths: a key that isn't above the last one is
 // passed over, and the ranges join.

@@ -1,10 +1,10 @@
 ghost use Rattle.std.specs.Prelude.{◌<◌, ◌+◌, ◌*◌};
 ghost use Rattle.ii_termstore.specs.TermInfos.{HasLengths};
 
-use crate::written::reads_store_back;
-use crate::{TermInfo, TermInfoBlockMeta, TermInfoStore};
 use bytes::Bytes;
 use ii_io::{BinarySerializable, CountingWriter, FailingWriter, Fault};
+use ii_termstore::written::reads_store_back;
+use ii_termstore::{TermInfo, TermInfoBlockMeta, TermInfoStore};
 use joined_terms::JoinedTerms;
 use std::alloc::Global;
 use std::test::Fail;
@@ -34,15 +34,12 @@ fn stores_a_thousand_terms(rt: HostRuntime) -> Result<(), Fail> {
     let mut writer = CountingWriter::wrap(Vec::new(rt.alloc()));
     store.serialize(&mut writer)?;
     let infos = TermInfoStore::open(Bytes::from_vec(writer.finish())?)?.clone()?;
-    assert_eq!(rt; infos.num_terms(), 1000);
+    assert!(rt; infos.num_terms() == 1000);
     for i in 0..1000u32 {
-        assert_eq!(rt; infos.get(u64::from(i)), term(i), "term {i}");
+        assert!(rt; infos.get(u64::from(i)) == term(i), "term {i}");
     }
     let far = infos.get(256);
-    assert_eq!(rt;
-        (far.postings_range, far.positions_range),
-        (68864..69390, 206592..208170)
-    );
+    assert!(rt; (far.postings_range, far.positions_range) == (68864..69390, 206592..208170));
     reads_store_back();
     Ok(())
 }
@@ -63,14 +60,11 @@ fn metas_are_read_back(rt: HostRuntime) -> Result<(), Fail> {
     let mut writer = CountingWriter::wrap(Vec::new(rt.alloc()));
     meta.serialize(&mut writer)?;
     let bytes = writer.finish();
-    assert_eq!(rt; bytes.len(), 39);
+    assert!(rt; bytes.len() == 39);
     let mut rest = bytes.as_slice();
-    assert_eq!(rt; TermInfoBlockMeta::deserialize(&mut rest), Some(meta));
+    assert!(rt; TermInfoBlockMeta::deserialize(&mut rest) == Some(meta));
     assert!(rt; rest.is_empty());
-    assert_eq!(rt;
-        TermInfoBlockMeta::default().ref_term_info,
-        TermInfo::default()
-    );
+    assert!(rt; TermInfoBlockMeta::default().ref_term_info == TermInfo::default());
     Ok(())
 }
 
@@ -129,23 +123,20 @@ fn blocks_end_where_they_are_full(rt: HostRuntime) -> Result<(), Fail> {
         store.serialize(&mut writer)?;
         let bytes = writer.finish();
         let mut head = bytes.as_slice();
-        assert_eq!(rt;
-            u64::deserialize(&mut head),
-            Some(39 * blocks),
+        assert!(rt;
+            u64::deserialize(&mut head) == Some(39 * blocks),
             "{terms} terms"
         );
-        assert_eq!(rt;
-            u64::deserialize(&mut head),
-            Some(u64::from(terms)),
+        assert!(rt;
+            u64::deserialize(&mut head) == Some(u64::from(terms)),
             "{terms} terms"
         );
         let infos = TermInfoStore::open(Bytes::from_vec(bytes)?)?;
-        assert_eq!(rt; infos.num_terms(), terms as usize);
+        assert!(rt; infos.num_terms() == terms as usize);
         for i in 0..infos.num_terms() {
             let info = infos.get(i as u64);
-            assert_eq!(rt;
-                (info.doc_freq, info.postings_range.start),
-                (i as u32, 2 * i),
+            assert!(rt;
+                (info.doc_freq, info.postings_range.start) == (i as u32, 2 * i),
                 "term {i}"
             );
         }
@@ -165,7 +156,7 @@ fn a_store_is_written_again_and_goes_on(rt: HostRuntime) -> Result<(), Fail> {
     many(rt.alloc(), 257)?.serialize(&mut other)?;
     assert!(rt; second.finish() == other.finish());
     let infos = TermInfoStore::open(Bytes::from_vec(first.finish())?)?;
-    assert_eq!(rt; infos.num_terms(), 256);
+    assert!(rt; infos.num_terms() == 256);
     Ok(())
 }
 
@@ -177,11 +168,11 @@ fn terms_and_metas_end_at_the_call_that_fails(rt: HostRuntime) {
         let answer = info.serialize(&mut writer);
         let size = if k == 1 { 0 } else { 28 };
         assert!(rt; (answer == Err(Fault::Write)) == (k == 1));
-        assert_eq!(rt; writer.finish().bytes().len(), size);
+        assert!(rt; writer.finish().bytes().len() == size);
         let mut writer = CountingWriter::wrap(FailingWriter::new(rt.alloc(), k));
         let answer = meta.serialize(&mut writer);
         let size = if k == 1 { 0 } else { 39 };
         assert!(rt; (answer == Err(Fault::Write)) == (k == 1));
-        assert_eq!(rt; writer.finish().bytes().len(), size);
+        assert!(rt; writer.finish().bytes().len() == size);
     }
 }

@@ -1,6 +1,6 @@
 use Rattle.std.proofs.Common.{arith}
-use Rattle.ii_layout.proofs.RunLemmas.{row_is_documents, row_length}
-use Rattle.ii_layout.proofs.tests.write_below.Goals as goal
+use Rattle.ii_layout_tests.proofs.RunLemmas.{row_is_documents, row_length}
+use Rattle.ii_layout_tests.proofs.tests.write_below.Goals as goal
 
 pub close_term-requires : goal.close_term-requires
 close_term-requires g c =

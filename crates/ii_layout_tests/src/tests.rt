@@ -1,17 +1,18 @@
-ghost use Rattle.std.specs.Prelude.{◌≡◌, ◌<◌, ◌≤◌, [], false, OnOk};
+ghost use Rattle.std.specs.Prelude.{◌≡◌, ◌<◌, ◌≤◌, [], IsTrue, OnOk};
+ghost use Rattle.ii_base.specs.Options.{has_freq};
 ghost use Rattle.std.specs.List.{range_with_len};
 
-use crate::skip::{
-    BlockInfo, decode_bitwidth, decode_block_wand_max_tf, encode_bitwidth, encode_block_wand_max_tf,
-};
-use crate::written::{reads_documents_back, reads_postings_back, reads_uncounted_back};
-use crate::{
-    PostingsSerializer, SkipPlaces, SkipReader, SkipSerializer, split_into_skips_and_postings,
-};
 use ii_base::{CountingWriter, Fault, IndexRecordOption, LimitName};
 use ii_docset::TERMINATED;
 use ii_fieldnorm::FieldNormReader;
 use ii_io::FailingWriter;
+use ii_layout::skip::{
+    BlockInfo, decode_bitwidth, decode_block_wand_max_tf, encode_bitwidth, encode_block_wand_max_tf,
+};
+use ii_layout::written::{reads_documents_back, reads_postings_back, reads_uncounted_back};
+use ii_layout::{
+    PostingsSerializer, SkipPlaces, SkipReader, SkipSerializer, split_into_skips_and_postings,
+};
 use std::alloc::Global;
 use std::io::Write;
 use std::test::Fail;
@@ -47,10 +48,7 @@ fn write_below<W: Write>(
 fn blocks_are_written(rt: HostRuntime) -> Result<(), Fail> {
     let mut output = CountingWriter::wrap(Vec::new(rt.alloc()));
     write_below(rt.alloc(), IndexRecordOption::Basic, 128, &mut output)?;
-    assert_eq!(rt;
-        output.finish().as_slice(),
-        [0x85, 0x7F, 0, 0, 0, 0x40].as_slice()
-    );
+    assert!(rt; output.finish().as_slice() == [0x85, 0x7F, 0, 0, 0, 0x40].as_slice());
     reads_documents_back();
     reads_postings_back();
     reads_uncounted_back();
@@ -63,13 +61,13 @@ fn counts_of_a_block_are_written(rt: HostRuntime) -> Result<(), Fail> {
     right[..9].copy_from_slice(&[0x88, 0x7F, 0, 0, 0, 0x40, 2, 0, 0]);
     let mut output = CountingWriter::wrap(Vec::new(rt.alloc()));
     write_below(rt.alloc(), IndexRecordOption::WithFreqs, 128, &mut output)?;
-    assert_eq!(rt; output.finish().as_slice(), right.as_slice());
+    assert!(rt; output.finish().as_slice() == right.as_slice());
     let mut right = [0xAA; 45];
     right[..13].copy_from_slice(&[0x8C, 0x7F, 0, 0, 0, 0x40, 2, 0x80, 1, 0, 0, 0, 0]);
     let mut output = CountingWriter::wrap(Vec::new(rt.alloc()));
     let mode = IndexRecordOption::WithFreqsAndPositions;
     write_below(rt.alloc(), mode, 128, &mut output)?;
-    assert_eq!(rt; output.finish().as_slice(), right.as_slice());
+    assert!(rt; output.finish().as_slice() == right.as_slice());
     Ok(())
 }
 
@@ -79,7 +77,7 @@ fn a_failing_writer_is_told(rt: HostRuntime) {
     for k in 1..6 {
         let mut output = CountingWriter::wrap(FailingWriter::new(rt.alloc(), k));
         let answer = write_below(rt.alloc(), IndexRecordOption::Basic, 130, &mut output);
-        assert_eq!(rt; answer.is_err(), k < 4, "call {k}");
+        assert!(rt; answer.is_err() == (k < 4), "call {k}");
         assert!(rt; answer.is_ok() || answer == Err(Fault::Write), "call {k}");
         let writer = output.finish();
         let written = if k < 4 {
@@ -87,7 +85,7 @@ fn a_failing_writer_is_told(rt: HostRuntime) {
         } else {
             8
         };
-        assert_eq!(rt; writer.bytes(), &right[..written], "call {k}");
+        assert!(rt; writer.bytes() == &right[..written], "call {k}");
     }
 }
 
@@ -100,33 +98,43 @@ fn a_failing_writer_is_told_with_counts(rt: HostRuntime) {
     for k in 1..8 {
         let mut output = CountingWriter::wrap(FailingWriter::new(rt.alloc(), k));
         let answer = write_below(rt.alloc(), IndexRecordOption::WithFreqs, 130, &mut output);
-        assert_eq!(rt; answer.is_err(), k < 6, "call {k}");
+        assert!(rt; answer.is_err() == (k < 6), "call {k}");
         assert!(rt; answer.is_ok() || answer == Err(Fault::Write), "call {k}");
         let writer = output.finish();
-        assert_eq!(rt; writer.bytes(), &right[..places[k as usize]], "call {k}");
+        assert!(rt; writer.bytes() == &right[..places[k as usize]], "call {k}");
     }
+}
+
+// Writes the documents 0, 2 and 10 as a term, with the counts `first`, 2 and 3.
+fn write_three<W: Write>(
+    serializer: &mut PostingsSerializer,
+    first: u32,
+    output: &mut CountingWriter<W>,
+) -> Result<(), Fault>
+    requires new { serializer.old.docs ≡ [] }
+    requires counted { IsTrue (has_freq serializer.old.skip_info) → 0 < first }
+    ensures { serializer.new.docs ≡ [] }
+{
+    serializer.write_doc(0, first)?;
+    serializer.write_doc(2, 2)?;
+    serializer.write_doc(10, 3)?;
+    serializer.close_term(3, output)
 }
 
 #[test]
 fn terms_are_written_one_after_the_other(rt: HostRuntime) -> Result<(), Fail> {
     let norms = Some(FieldNormReader::constant(11, 10));
     let mut serializer = PostingsSerializer::new(rt.alloc(), IndexRecordOption::WithFreqs, norms);
+    let mut output = CountingWriter::wrap(Vec::new(rt.alloc()));
     serializer.write_doc(7, 1)?;
     serializer.new_term(3, false);
-    serializer.write_doc(0, 0)?;
-    serializer.write_doc(2, 2)?;
-    serializer.write_doc(10, 3)?;
-    let mut output = CountingWriter::wrap(Vec::new(rt.alloc()));
-    serializer.close_term(3, &mut output)?;
+    write_three(&mut serializer, 0, &mut output)?;
     serializer.close_term(0, &mut output)?;
     serializer.new_term(3, true);
-    serializer.write_doc(0, 1)?;
-    serializer.write_doc(2, 2)?;
-    serializer.write_doc(10, 3)?;
-    serializer.close_term(3, &mut output)?;
-    assert_eq!(rt;
-        output.finish().as_slice(),
-        [0x80, 0x82, 0x88, 0x80, 0x82, 0x88, 0x81, 0x82, 0x83].as_slice()
+    write_three(&mut serializer, 1, &mut output)?;
+    assert!(rt;
+        output.finish().as_slice()
+            == [0x80, 0x82, 0x88, 0x80, 0x82, 0x88, 0x81, 0x82, 0x83].as_slice()
     );
     Ok(())
 }
@@ -137,16 +145,26 @@ fn a_sum_of_counts_above_32_bits_is_refused(rt: HostRuntime) -> Result<(), Fail>
     let mut serializer = PostingsSerializer::new(rt.alloc(), mode, None);
     add_below(&mut serializer, 127, 33_554_432)?;
     let answer = serializer.write_doc(127, 33_554_432);
-    assert_eq!(rt; answer, Err(Fault::Limit(LimitName::BlockFrequencySum)));
+    assert!(rt; answer == Err(Fault::Limit(LimitName::BlockFrequencySum)));
     let answer = serializer.write_doc(128, 1);
-    assert_eq!(rt; answer, Err(Fault::SerializerClosed));
-    let mut serializer = PostingsSerializer::new(rt.alloc(), mode, None);
-    let answer = add_below(&mut serializer, 128, 33_554_431);
-    assert_eq!(rt; answer, Ok(()));
-    let mut serializer = PostingsSerializer::new(rt.alloc(), IndexRecordOption::WithFreqs, None);
-    let answer = add_below(&mut serializer, 128, 33_554_432);
-    assert_eq!(rt; answer, Ok(()));
+    assert!(rt; answer == Err(Fault::SerializerClosed));
     Ok(())
+}
+
+// What a field answers to 128 documents with a count each.
+fn answer_to_block(alloc: Global, mode: IndexRecordOption, term_freq: u32) -> Result<(), Fault>
+    requires { 0 < term_freq }
+{
+    let mut serializer = PostingsSerializer::new(alloc, mode, None);
+    add_below(&mut serializer, 128, term_freq)
+}
+
+#[test]
+fn other_sums_are_taken(rt: HostRuntime) {
+    let mode = IndexRecordOption::WithFreqsAndPositions;
+    assert!(rt; answer_to_block(rt.alloc(), mode, 33_554_431) == Ok(()));
+    let mode = IndexRecordOption::WithFreqs;
+    assert!(rt; answer_to_block(rt.alloc(), mode, 33_554_432) == Ok(()));
 }
 
 #[test]
@@ -155,20 +173,30 @@ fn a_refused_serializer_is_closed(rt: HostRuntime) {
     let mut output = CountingWriter::wrap(FailingWriter::new(rt.alloc(), 1));
     serializer.new_term(1, false);
     let answer = serializer.write_doc(1, 1);
-    assert_eq!(rt; answer, Ok(()));
-    assert_eq!(rt; serializer.close_term(1, &mut output), Err(Fault::Write));
+    assert!(rt; answer == Ok(()));
+    assert!(rt; serializer.close_term(1, &mut output) == Err(Fault::Write));
     // each further call can be made, and is refused
     let answer = serializer.close_term(1, &mut output);
-    assert_eq!(rt; answer, Err(Fault::SerializerClosed));
+    assert!(rt; answer == Err(Fault::SerializerClosed));
     let answer = serializer.write_doc(0, 1);
-    assert_eq!(rt; answer, Err(Fault::SerializerClosed));
+    assert!(rt; answer == Err(Fault::SerializerClosed));
     let answer = serializer.write_doc(0, 1);
-    assert_eq!(rt; answer, Err(Fault::SerializerClosed));
+    assert!(rt; answer == Err(Fault::SerializerClosed));
     serializer.new_term(1, false);
-    assert_eq!(rt; serializer.write_doc(1, 1), Err(Fault::SerializerClosed));
+    assert!(rt; serializer.write_doc(1, 1) == Err(Fault::SerializerClosed));
     let answer = serializer.close_term(7, &mut output);
-    assert_eq!(rt; answer, Err(Fault::SerializerClosed));
-    assert_eq!(rt; output.failed_calls(), 1);
+    assert!(rt; answer == Err(Fault::SerializerClosed));
+    assert!(rt; output.failed_calls() == 1);
+}
+
+// Writes two entries with counts and bounds.
+fn write_bounded(skip: &mut SkipSerializer) -> Result<(), Fault> {
+    skip.write_doc(1, 2)?;
+    skip.write_term_freq(3)?;
+    skip.write_blockwand_max(13, 3)?;
+    skip.write_doc(5, 5)?;
+    skip.write_term_freq(2)?;
+    skip.write_blockwand_max(8, 2)
 }
 
 #[test]
@@ -176,74 +204,69 @@ fn skip_entries_are_written(rt: HostRuntime) -> Result<(), Fail> {
     let mut skip = SkipSerializer::new(rt.alloc());
     skip.write_doc(1, 2)?;
     skip.write_doc(5, 5)?;
-    assert_eq!(rt;
-        skip.data(),
-        [1, 0, 0, 0, 0x42, 5, 0, 0, 0, 0x45].as_slice()
-    );
+    assert!(rt; skip.data() == [1, 0, 0, 0, 0x42, 5, 0, 0, 0, 0x45].as_slice());
     skip.clear();
-    assert_eq!(rt; skip.data().len(), 0);
-    skip.write_doc(1, 2)?;
-    skip.write_term_freq(3)?;
-    skip.write_blockwand_max(13, 3)?;
-    skip.write_doc(5, 5)?;
-    skip.write_term_freq(2)?;
-    skip.write_blockwand_max(8, 2)?;
-    assert_eq!(rt;
-        skip.data(),
-        [1, 0, 0, 0, 0x42, 3, 0x0D, 3, 5, 0, 0, 0, 0x45, 2, 8, 2].as_slice()
+    assert!(rt; skip.data().len() == 0);
+    write_bounded(&mut skip)?;
+    assert!(rt;
+        skip.data() == [1, 0, 0, 0, 0x42, 3, 0x0D, 3, 5, 0, 0, 0, 0x45, 2, 8, 2].as_slice()
     );
     skip.clear();
     skip.write_total_term_freq(384)?;
     skip.write_blockwand_max(1, 256)?;
-    assert_eq!(rt; skip.data(), [0x80, 1, 0, 0, 1, 255].as_slice());
-    assert_eq!(rt; encode_block_wand_max_tf(254), 254);
-    assert_eq!(rt; encode_bitwidth(5, false), 5);
-    assert_eq!(rt; decode_bitwidth(0x45), (5, true));
-    assert_eq!(rt; decode_bitwidth(0x9F), (31, false));
+    assert!(rt; skip.data() == [0x80, 1, 0, 0, 1, 255].as_slice());
     Ok(())
+}
+
+#[test]
+fn widths_and_bounds_have_bytes(rt: HostRuntime) {
+    assert!(rt; encode_block_wand_max_tf(254) == 254);
+    assert!(rt; encode_bitwidth(5, false) == 5);
+    assert!(rt; decode_bitwidth(0x45) == (5, true));
+    assert!(rt; decode_bitwidth(0x9F) == (31, false));
 }
 
 #[test]
 fn skip_entries_are_read(rt: HostRuntime) {
     let bytes = [1, 0, 0, 0, 0x42, 5, 0, 0, 0, 0x45];
     let mut skip = SkipReader::new(&bytes, 259, IndexRecordOption::Basic);
-    assert_eq!(rt; skip.last_doc_in_block(), 1);
-    assert_eq!(rt; skip.last_doc_in_previous_block(), 0);
-    assert_eq!(rt; skip.byte_offset(), 0);
+    assert!(rt; skip.last_doc_in_block() == 1);
+    assert!(rt; skip.last_doc_in_previous_block() == 0);
+    assert!(rt; skip.byte_offset() == 0);
     skip.advance(&bytes);
-    assert_eq!(rt; skip.last_doc_in_block(), 5);
-    assert_eq!(rt; skip.last_doc_in_previous_block(), 1);
-    assert_eq!(rt; skip.byte_offset(), 32);
+    assert!(rt; skip.last_doc_in_block() == 5);
+    assert!(rt; skip.last_doc_in_previous_block() == 1);
+    assert!(rt; skip.byte_offset() == 32);
     skip.advance(&bytes);
-    assert_eq!(rt; skip.last_doc_in_block(), TERMINATED);
-    assert_eq!(rt; skip.byte_offset(), 112);
-    assert_eq!(rt; skip.block_info(), BlockInfo::VInt { num_docs: 3 });
+    assert!(rt; skip.last_doc_in_block() == TERMINATED);
+    assert!(rt; skip.byte_offset() == 112);
+    assert!(rt; skip.block_info() == BlockInfo::VInt { num_docs: 3 });
     skip.advance(&bytes);
-    assert_eq!(rt; skip.byte_offset(), usize::MAX);
-    assert_eq!(rt; skip.block_info(), BlockInfo::default());
+    assert!(rt; skip.byte_offset() == usize::MAX);
+    assert!(rt; skip.block_info() == BlockInfo::default());
     skip.advance(&bytes);
-    assert_eq!(rt; skip.block_info(), BlockInfo::VInt { num_docs: 0 });
+    assert!(rt; skip.block_info() == BlockInfo::VInt { num_docs: 0 });
     skip.reset(&[], 7);
-    assert_eq!(rt; skip.block_info(), BlockInfo::VInt { num_docs: 7 });
-    assert_eq!(rt; decode_block_wand_max_tf(254), 254);
+    assert!(rt; skip.block_info() == BlockInfo::VInt { num_docs: 7 });
+    assert!(rt; decode_block_wand_max_tf(254) == 254);
 }
 
 #[test]
 fn entries_with_counts_are_read(rt: HostRuntime) {
     let bytes = [1, 0, 0, 0, 0x42, 3, 0x0D, 3, 5, 0, 0, 0, 0x45, 2, 8, 2];
     let mut skip = SkipReader::new(&bytes, 259, IndexRecordOption::WithFreqs);
-    assert_eq!(rt; skip.last_doc_in_block(), 1);
-    assert_eq!(rt; skip.byte_offset(), 0);
+    assert!(rt; skip.last_doc_in_block() == 1);
+    assert!(rt; skip.byte_offset() == 0);
     skip.advance(&bytes);
-    assert_eq!(rt; skip.last_doc_in_block(), 5);
-    assert_eq!(rt; skip.byte_offset(), 80);
+    assert!(rt; skip.last_doc_in_block() == 5);
+    assert!(rt; skip.byte_offset() == 80);
     skip.advance(&bytes);
-    assert_eq!(rt; skip.block_info(), BlockInfo::VInt { num_docs: 3 });
-    assert_eq!(rt; skip.byte_offset(), 192);
+    assert!(rt; skip.block_info() == BlockInfo::VInt { num_docs: 3 });
+    assert!(rt; skip.byte_offset() == 192);
     skip.advance(&bytes);
-    assert_eq!(rt; skip.block_info(), BlockInfo::VInt { num_docs: 0 });
+    assert!(rt; skip.block_info() == BlockInfo::VInt { num_docs: 0 });
     skip.advance(&bytes);
-    assert_eq!(rt; skip.block_info(), BlockInfo::VInt { num_docs: 0 });
+    assert!(rt; skip.block_info() == BlockInfo::VInt { num_docs: 0 });
 }
 
 #[test]
@@ -255,14 +278,14 @@ fn a_skip_list_is_split(rt: HostRuntime) {
         entries: 1,
         body: 13,
     });
-    assert_eq!(rt; split_into_skips_and_postings(128, &long, option), places);
+    assert!(rt; split_into_skips_and_postings(128, &long, option) == places);
     // a width of counts above 32, entries that are missing, and a size that passes the bytes
     let wide = [0x88, 0x7F, 0, 0, 0, 0x40, 0x21, 0, 0];
     let split = split_into_skips_and_postings(128, &wide, IndexRecordOption::WithFreqs);
-    assert_eq!(rt; split, None);
+    assert!(rt; split == None);
     let few = [0x88, 0x7F, 0, 0, 0, 0x40, 0, 0, 0];
-    assert_eq!(rt; split_into_skips_and_postings(128, &few, option), None);
+    assert!(rt; split_into_skips_and_postings(128, &few, option) == None);
     let cut = [0x85, 0x7F, 0, 0, 0];
     let split = split_into_skips_and_postings(128, &cut, IndexRecordOption::Basic);
-    assert_eq!(rt; split, None);
+    assert!(rt; split == None);
 }

@@ -1,9 +1,9 @@
 ghost use Rattle.std.specs.Prelude.{◌≡◌, IfOk};
 
-use super::{PositionReader, PositionSerializer, PositionWriter};
-use crate::written::reads_positions_back;
 use bytes::Bytes;
 use ii_io::{CountingWriter, FailingWriter, Fault, LayoutFault, Part};
+use ii_layout::written::reads_positions_back;
+use ii_layout::{PositionReader, PositionSerializer, PositionWriter};
 use std::alloc::{AllocError, Global};
 use std::test::Fail;
 
@@ -50,33 +50,55 @@ fn four_deltas(alloc: Global) -> Result<Bytes, AllocError> {
     Ok(Bytes::from_vec(bytes)?)
 }
 
-#[test]
-fn deltas_are_written(rt: HostRuntime) -> Result<(), Fail> {
-    let output = CountingWriter::wrap(Vec::new(rt.alloc()));
-    let mut serializer = PositionSerializer::new(rt.alloc(), output);
+// Writes those deltas as a term, and answers how many bytes were written before its end and at it.
+fn write_four_deltas(serializer: &mut PositionSerializer<Vec<u8>>) -> Result<(u64, u64), Fault> {
     for _ in 0..120 {
         serializer.write_positions_delta(&[1, 2, 3, 2])?;
     }
-    assert_eq!(rt; serializer.written_bytes(), 0);
+    let before = serializer.written_bytes();
     serializer.close_term()?;
-    assert_eq!(rt; serializer.written_bytes(), 196);
+    Ok((before, serializer.written_bytes()))
+}
+
+// Writes those positions as a term, a document in two calls.
+fn write_three_positions(serializer: &mut PositionSerializer<Vec<u8>>) -> Result<(), Fault> {
     for _ in 0..128 {
         serializer.write_positions_delta(&[0])?;
         serializer.write_positions_delta(&[1, 1])?;
     }
-    serializer.close_term()?;
-    assert_eq!(rt; serializer.written_bytes(), 248);
+    serializer.close_term()
+}
+
+// Both terms, and one without deltas.
+fn three_terms(alloc: Global) -> Result<Vec<u8>, AllocError> {
+    let mut bytes = Vec::new(alloc);
+    bytes.extend_from_slice(four_deltas(alloc)?.as_slice())?;
+    bytes.extend_from_slice(three_positions(alloc)?.as_slice())?;
+    bytes.push(0x80)?;
+    Ok(bytes)
+}
+
+#[test]
+fn deltas_are_written(rt: HostRuntime) -> Result<(), Fail> {
+    let output = CountingWriter::wrap(Vec::new(rt.alloc()));
+    let mut serializer = PositionSerializer::new(rt.alloc(), output);
+    assert!(rt; write_four_deltas(&mut serializer)? == (0, 196));
+    write_three_positions(&mut serializer)?;
+    assert!(rt; serializer.written_bytes() == 248);
     serializer.close_term()?;
     serializer.write_positions_delta(&[7])?;
     let (output, closed) = serializer.close();
     closed?;
-    let mut right = Vec::new(rt.alloc());
-    right.extend_from_slice(four_deltas(rt.alloc())?.as_slice())?;
-    right.extend_from_slice(three_positions(rt.alloc())?.as_slice())?;
-    right.push(0x80)?;
-    assert_eq!(rt; output.finish().as_slice(), right.as_slice());
+    assert!(rt; output.finish().as_slice() == three_terms(rt.alloc())?.as_slice());
     reads_positions_back();
     Ok(())
+}
+
+// Whether these deltas, at most four, are read from an offset on.
+fn are_read(reader: &mut PositionReader, offset: u64, wanted: &[u32]) -> bool {
+    let mut output = [0; 4];
+    let part = &mut output[..wanted.len().min(4)];
+    read_if_there(reader, offset, part) && *part == *wanted
 }
 
 #[test]
@@ -84,30 +106,29 @@ fn deltas_are_read(rt: HostRuntime) -> Result<(), Fail> {
     let Ok(mut reader) = PositionReader::open(four_deltas(rt.alloc())?) else {
         panic!(rt; "refused");
     };
-    assert_eq!(rt; reader.len(), 480);
-    let mut four = [0; 4];
-    assert!(rt; read_if_there(&mut reader, 470, &mut four));
-    assert_eq!(rt; four, [3, 2, 1, 2]);
-    let mut three = [0; 3];
-    assert!(rt; read_if_there(&mut reader, 3, &mut three));
-    assert_eq!(rt; three, [2, 1, 2]);
-    assert!(rt; !read_if_there(&mut reader, 477, &mut four));
-    assert!(rt; read_if_there(&mut reader, 480, &mut []));
+    assert!(rt; reader.len() == 480);
+    assert!(rt; are_read(&mut reader, 470, &[3, 2, 1, 2]));
+    assert!(rt; are_read(&mut reader, 3, &[2, 1, 2]));
+    assert!(rt; !read_if_there(&mut reader, 477, &mut [0; 4]));
+    assert!(rt; are_read(&mut reader, 480, &[]));
     let mut copy = reader.clone()?;
-    assert!(rt; read_if_there(&mut copy, 382, &mut four));
-    assert_eq!(rt; four, [3, 2, 1, 2]);
+    assert!(rt; are_read(&mut copy, 382, &[3, 2, 1, 2]));
     let mut anew = copy.anew();
-    assert_eq!(rt; anew.len(), 480);
-    assert!(rt; read_if_there(&mut anew, 126, &mut four));
-    assert_eq!(rt; four, [3, 2, 1, 2]);
+    assert!(rt; anew.len() == 480);
+    assert!(rt; are_read(&mut anew, 126, &[3, 2, 1, 2]));
+    Ok(())
+}
+
+#[test]
+fn all_deltas_are_read(rt: HostRuntime) -> Result<(), Fail> {
     let Ok(mut reader) = PositionReader::open(three_positions(rt.alloc())?) else {
         panic!(rt; "refused");
     };
-    assert_eq!(rt; reader.len(), 384);
+    assert!(rt; reader.len() == 384);
     let mut all = [7; 384];
     assert!(rt; read_if_there(&mut reader, 0, &mut all));
     for (i, delta) in all.iter().enumerate() {
-        assert_eq!(rt; *delta, u32::from(i % 3 != 0), "delta {i}");
+        assert!(rt; *delta == u32::from(i % 3 != 0), "delta {i}");
     }
     Ok(())
 }
@@ -145,7 +166,7 @@ fn any_part_is_read_in_any_order(rt: HostRuntime) -> Result<(), Fail> {
     let Ok(mut reader) = PositionReader::open(many_deltas(rt.alloc())?) else {
         panic!(rt; "refused");
     };
-    assert_eq!(rt; reader.len(), u128::from(NUM_DELTAS));
+    assert!(rt; reader.len() == u128::from(NUM_DELTAS));
     let mut output = [0; 400];
     for k in 0..500u32 {
         let offset = k.wrapping_mul(0x85EB_CA6B) % NUM_DELTAS;
@@ -153,13 +174,13 @@ fn any_part_is_read_in_any_order(rt: HostRuntime) -> Result<(), Fail> {
         let part = &mut output[..len as usize];
         assert!(rt; read_if_there(&mut reader, u64::from(offset), part));
         for (i, found) in part.iter().enumerate() {
-            assert_eq!(rt; *found, delta(offset + i as u32), "read {k}, {i}");
+            assert!(rt; *found == delta(offset + i as u32), "read {k}, {i}");
         }
     }
     let mut one = [0];
     for i in 0..NUM_DELTAS {
         assert!(rt; read_if_there(&mut reader, u64::from(i), &mut one));
-        assert_eq!(rt; one[0], delta(i), "delta {i}");
+        assert!(rt; one[0] == delta(i), "delta {i}");
     }
     Ok(())
 }
@@ -168,15 +189,15 @@ fn any_part_is_read_in_any_order(rt: HostRuntime) -> Result<(), Fail> {
 fn a_refused_writer_is_closed(rt: HostRuntime) {
     let output = CountingWriter::wrap(FailingWriter::new(rt.alloc(), 1));
     let mut serializer = PositionSerializer::new(rt.alloc(), output);
-    assert_eq!(rt; serializer.write_positions_delta(&[1, 2]), Ok(()));
-    assert_eq!(rt; serializer.close_term(), Err(Fault::Write));
-    assert_eq!(rt; serializer.close_term(), Err(Fault::SerializerClosed));
+    assert!(rt; serializer.write_positions_delta(&[1, 2]) == Ok(()));
+    assert!(rt; serializer.close_term() == Err(Fault::Write));
+    assert!(rt; serializer.close_term() == Err(Fault::SerializerClosed));
     let answer = serializer.write_positions_delta(&[1, 2]);
-    assert_eq!(rt; answer, Err(Fault::SerializerClosed));
-    assert_eq!(rt; serializer.written_bytes(), 0);
+    assert!(rt; answer == Err(Fault::SerializerClosed));
+    assert!(rt; serializer.written_bytes() == 0);
     let (output, closed) = serializer.close();
-    assert_eq!(rt; closed, Err(Fault::SerializerClosed));
-    assert_eq!(rt; output.failed_calls(), 1);
+    assert!(rt; closed == Err(Fault::SerializerClosed));
+    assert!(rt; output.failed_calls() == 1);
 }
 
 // Writes a block and two deltas more.
@@ -196,7 +217,7 @@ fn a_failing_writer_is_told(rt: HostRuntime) {
         let output = CountingWriter::wrap(FailingWriter::new(rt.alloc(), k));
         let mut serializer = PositionSerializer::new(rt.alloc(), output);
         let answer = write_some(&mut serializer);
-        assert_eq!(rt; answer.is_err(), 0 < k && k < 5, "call {k}");
+        assert!(rt; answer.is_err() == (0 < k && k < 5), "call {k}");
         assert!(rt; answer.is_ok() || answer == Err(Fault::Write), "call {k}");
         let (output, closed) = serializer.close();
         // the fifth call is the flush
@@ -205,10 +226,10 @@ fn a_failing_writer_is_told(rt: HostRuntime) {
             5 => Err(Fault::Write),
             _ => Err(Fault::SerializerClosed),
         };
-        assert_eq!(rt; closed, told, "call {k}");
+        assert!(rt; closed == told, "call {k}");
         let writer = output.finish();
         assert!(rt; right.starts_with(writer.bytes()), "call {k}");
-        assert_eq!(rt; writer.bytes().len(), places[k as usize], "call {k}");
+        assert!(rt; writer.bytes().len() == places[k as usize], "call {k}");
     }
 }
 

@@ -3,7 +3,7 @@ use Rattle.ii_termstore.specs.TermInfos.{term_info_from}
 use Rattle.ii_termstore.specs.ReadBackLemmas.{joined_more, end_at_last}
 use Rattle.ii_termdict.specs.ReadBackLemmas.{ascending_more, last_key}
 use Rattle.ii_termdict.proofs.SearchLemmas.{less_of}
-use Rattle.ii_termdict.proofs.tests.ascending_terms.AscendingTerms.write.Goals as goal
+use Rattle.ii_termdict_tests.proofs.tests.ascending_terms.AscendingTerms.write.Goals as goal
 
 pub insert_key-requires-clause-ascending : goal.insert_key-requires-clause-ascending
 insert_key-requires-clause-ascending g c = λ is_open.

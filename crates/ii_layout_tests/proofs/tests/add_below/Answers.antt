@@ -1,7 +1,7 @@
 use Rattle.std.proofs.Common.{List, ℕ, [], ◌∷◌, ◌++◌, ap, ◌∙◌, arith}
 use Rattle.ii_layout.specs.PostingsSerializer.{PostingsSerializerState}
-use Rattle.ii_layout.proofs.RunLemmas.{row_documents, row_more}
-use Rattle.ii_layout.proofs.tests.add_below.Goals as goal
+use Rattle.ii_layout_tests.proofs.RunLemmas.{row_documents, row_more}
+use Rattle.ii_layout_tests.proofs.tests.add_below.Goals as goal
 
 pub write_doc-requires : goal.write_doc-requires
 write_doc-requires c =

@@ -1,16 +1,16 @@
 ghost use Rattle.std.specs.Prelude.{◌≡◌, []};
 
-use crate::composite_file::place::Place;
-use crate::composite_file::reads_composites_back;
-use crate::counting_writer::CountingWriter;
-use crate::failing_reader::FailingReader;
-use crate::serialize::reads_numbers_back;
-use crate::vint::VInt;
-use crate::{
+use bytes::Bytes;
+use ii_io::composite_file::place::Place;
+use ii_io::composite_file::reads_composites_back;
+use ii_io::counting_writer::CountingWriter;
+use ii_io::failing_reader::FailingReader;
+use ii_io::serialize::reads_numbers_back;
+use ii_io::vint::VInt;
+use ii_io::{
     BinarySerializable, CompositeFile, CompositeWrite, FailingWriter, Fault, Field, FixedSize,
     HasLen, Part, vint,
 };
-use bytes::Bytes;
 use std::alloc::Global;
 use std::io::{self, Read, Write};
 use std::test::Fail;
@@ -44,20 +44,24 @@ fn composite_over(alloc: Global, failing_call: u64) -> (FailingWriter, Result<()
 #[test]
 fn composites_are_written(rt: HostRuntime) {
     let (writer, answer) = composite_over(rt.alloc(), 0);
-    assert_eq!(rt; answer, Ok(()));
-    assert_eq!(rt; writer.bytes(), WRITTEN.as_slice());
+    assert!(rt; answer == Ok(()));
+    assert!(rt; writer.bytes() == WRITTEN.as_slice());
     // The three writes before the table, one for each place, one for their number, and a flush.
     for k in 1..8 {
         let (writer, answer) = composite_over(rt.alloc(), k);
-        assert_eq!(rt; answer, Err(Fault::Write), "call {k}");
+        assert!(rt; answer == Err(Fault::Write), "call {k}");
     }
     let (writer, answer) = composite_over(rt.alloc(), 8);
-    assert_eq!(rt; answer, Ok(()));
+    assert!(rt; answer == Ok(()));
+    reads_composites_back();
+}
+
+#[test]
+fn a_composite_of_no_bodies_is_written(rt: HostRuntime) {
     let none = CompositeWrite::wrap(rt.alloc(), CountingWriter::wrap(Vec::new(rt.alloc())));
     let (writer, answer) = none.close();
-    assert_eq!(rt; answer, Ok(()));
-    assert_eq!(rt; writer.finish().as_slice(), [0; 4].as_slice());
-    reads_composites_back();
+    assert!(rt; answer == Ok(()));
+    assert!(rt; writer.finish().as_slice() == [0; 4].as_slice());
 }
 
 #[test]
@@ -71,7 +75,10 @@ fn composites_are_read(rt: HostRuntime) -> Result<(), Fail> {
         (0, None),
     ] {
         let body = file.open_read(Field::from_field_id(field))?;
-        assert_eq!(rt; body.as_ref().map(|b| b.as_slice()), want, "field {field}");
+        assert!(rt;
+            body.as_ref().map(|b| b.as_slice()) == want,
+            "field {field}"
+        );
     }
     CompositeFile::open(rt.alloc(), Bytes::from_static(&[0; 4]))?;
     Ok(())
@@ -95,10 +102,10 @@ fn a_body_is_written_on(rt: HostRuntime) -> Result<(), Fail> {
     let (writer, closed) = composite.close();
     closed?;
     let file = CompositeFile::open(rt.alloc(), Bytes::from_vec(writer.finish())?)?;
-    assert_eq!(rt; file.body_len(Field::from_field_id(3)), Some(2));
-    assert_eq!(rt; file.body_len(Field::from_field_id(5)), None);
+    assert!(rt; file.body_len(Field::from_field_id(3)) == Some(2));
+    assert!(rt; file.body_len(Field::from_field_id(5)) == None);
     let body = file.open_read(Field::from_field_id(3))?.ok_or("a body")?;
-    assert_eq!(rt; body.as_slice(), [5, 6].as_slice());
+    assert!(rt; body.as_slice() == [5, 6].as_slice());
     Ok(())
 }
 
@@ -120,11 +127,11 @@ fn many_bodies(alloc: Global, count: u32, last: u32) -> Result<Bytes, Fault> {
 #[test]
 fn files_of_many_bodies_are_read(rt: HostRuntime) -> Result<(), Fail> {
     let file = CompositeFile::open(rt.alloc(), many_bodies(rt.alloc(), 1000, 4_000_000_000)?)?;
-    assert_eq!(rt; file.body_len(Field::from_field_id(998)), Some(0));
-    assert_eq!(rt; file.body_len(Field::from_field_id(999)), None);
-    assert_eq!(rt; file.body_len(Field::from_field_id(4_000_000_000)), Some(0));
+    assert!(rt; file.body_len(Field::from_field_id(998)) == Some(0));
+    assert!(rt; file.body_len(Field::from_field_id(999)) == None);
+    assert!(rt; file.body_len(Field::from_field_id(4_000_000_000)) == Some(0));
     let repeated = CompositeFile::open(rt.alloc(), many_bodies(rt.alloc(), 1000, 17)?);
-    assert_eq!(rt; repeated.err(), Some(Fault::Damaged(Part::Composite)));
+    assert!(rt; repeated.err() == Some(Fault::Damaged(Part::Composite)));
     Ok(())
 }
 
@@ -162,38 +169,45 @@ fn refusal(alloc: Global, bytes: &'static [u8]) -> Option<Fault> {
 #[test]
 fn damaged_composites_are_refused(rt: HostRuntime) {
     let damaged = Some(Fault::Damaged(Part::Composite));
-    assert_eq!(rt; refusal(rt.alloc(), &[]), damaged);
-    assert_eq!(rt; refusal(rt.alloc(), &[0; 3]), damaged);
-    assert_eq!(rt; refusal(rt.alloc(), &NO_TABLE), damaged);
-    assert_eq!(rt; refusal(rt.alloc(), &WRAPPING_COUNT), damaged);
-    assert_eq!(rt; refusal(rt.alloc(), &END_BEFORE_START), damaged);
-    assert_eq!(rt; refusal(rt.alloc(), &END_PAST_BODIES), damaged);
-    assert_eq!(rt; refusal(rt.alloc(), &GREATEST), damaged);
-    assert_eq!(rt; refusal(rt.alloc(), &ONE_BYTE_SHORT), damaged);
-    assert_eq!(rt; refusal(rt.alloc(), &REPEATED), damaged);
+    assert!(rt; refusal(rt.alloc(), &[]) == damaged);
+    assert!(rt; refusal(rt.alloc(), &[0; 3]) == damaged);
+    assert!(rt; refusal(rt.alloc(), &NO_TABLE) == damaged);
+    assert!(rt; refusal(rt.alloc(), &WRAPPING_COUNT) == damaged);
+    assert!(rt; refusal(rt.alloc(), &END_BEFORE_START) == damaged);
+    assert!(rt; refusal(rt.alloc(), &END_PAST_BODIES) == damaged);
+    assert!(rt; refusal(rt.alloc(), &GREATEST) == damaged);
+    assert!(rt; refusal(rt.alloc(), &ONE_BYTE_SHORT) == damaged);
+    assert!(rt; refusal(rt.alloc(), &REPEATED) == damaged);
+}
+
+// Writes a number of 32 bits, one of 64 bits and the place, and answers the bytes and how many were
+// told.
+fn written_numbers(alloc: Global, place: &Place) -> Result<(Vec<u8>, u64), Fault> {
+    let mut writer = CountingWriter::wrap(Vec::new(alloc));
+    0x0403_0201_u32.serialize(&mut writer)?;
+    0x0F0E_0D0C_0B0A_0908_u64.serialize(&mut writer)?;
+    place.serialize(&mut writer)?;
+    let told = writer.written_bytes();
+    Ok((writer.finish(), told))
 }
 
 #[test]
 fn numbers_are_written_and_read(rt: HostRuntime) -> Result<(), Fail> {
-    let mut writer = CountingWriter::wrap(Vec::new(rt.alloc()));
-    0x0403_0201_u32.serialize(&mut writer)?;
-    0x0F0E_0D0C_0B0A_0908_u64.serialize(&mut writer)?;
     let place = Place {
         field: Field::from_field_id(3),
         start: 1,
         end: 2,
     };
-    place.serialize(&mut writer)?;
     assert!(rt; place.lies_within(2) && !place.lies_within(1));
-    assert_eq!(rt; writer.written_bytes(), 32);
-    let bytes = writer.finish();
+    let (bytes, told) = written_numbers(rt.alloc(), &place)?;
+    assert!(rt; told == 32);
     let mut rest = bytes.as_slice();
-    assert_eq!(rt; u32::deserialize(&mut rest), Some(0x0403_0201));
-    assert_eq!(rt; u64::deserialize(&mut rest), Some(0x0F0E_0D0C_0B0A_0908));
-    assert_eq!(rt; Place::deserialize(&mut rest), Some(place));
-    assert_eq!(rt; u32::deserialize(&mut rest), None);
+    assert!(rt; u32::deserialize(&mut rest) == Some(0x0403_0201));
+    assert!(rt; u64::deserialize(&mut rest) == Some(0x0F0E_0D0C_0B0A_0908));
+    assert!(rt; Place::deserialize(&mut rest) == Some(place));
+    assert!(rt; u32::deserialize(&mut rest) == None);
     let sizes = [u32::SIZE_IN_BYTES, u64::SIZE_IN_BYTES, Place::SIZE_IN_BYTES];
-    assert_eq!(rt; sizes, [4, 8, 20]);
+    assert!(rt; sizes == [4, 8, 20]);
     reads_numbers_back();
     Ok(())
 }
@@ -204,9 +218,9 @@ fn len_of<T: HasLen>(value: &T) -> (usize, bool) {
 
 #[test]
 fn fields_and_lengths(rt: HostRuntime) {
-    assert_eq!(rt; Field::from_field_id(5).field_id(), 5);
+    assert!(rt; Field::from_field_id(5).field_id() == 5);
     let two: Bytes = Bytes::from_static(&[1, 2]);
-    assert_eq!(rt; len_of(&two), (2, false));
+    assert!(rt; len_of(&two) == (2, false));
 }
 
 #[test]
@@ -215,14 +229,14 @@ fn one_call_fails(rt: HostRuntime) -> Result<(), Fail> {
     assert!(rt; writer.write(&[1]).is_ok());
     assert!(rt; writer.flush().is_err());
     assert!(rt; writer.write(&[2]).is_ok());
-    assert_eq!(rt; writer.bytes(), [1, 2].as_slice());
+    assert!(rt; writer.bytes() == [1, 2].as_slice());
     let mut reader = FailingReader::new(&[1, 2, 3], 2);
     let mut buf = [0; 2];
     assert!(rt; reader.read(&mut buf).is_ok());
-    assert_eq!(rt; buf, [1, 2]);
+    assert!(rt; buf == [1, 2]);
     assert!(rt; reader.read(&mut buf).is_err());
     assert!(rt; reader.read(&mut buf).is_ok());
-    assert_eq!(rt; buf, [3, 2]);
+    assert!(rt; buf == [3, 2]);
     Ok(())
 }
 
@@ -254,29 +268,32 @@ fn a_write_that_takes_nothing_fails(rt: HostRuntime) {
         bytes: Vec::new(rt.alloc()),
         calls: 0,
     });
-    assert_eq!(rt; writer.write_all(&[1, 2]), Err(Fault::Write));
-    assert_eq!(rt; (writer.written_bytes(), writer.failed_calls()), (0, 1));
-    assert_eq!(rt; writer.write_all(&[3]), Ok(()));
-    assert_eq!(rt; (writer.written_bytes(), writer.failed_calls()), (1, 1));
-    assert_eq!(rt; writer.finish().bytes.as_slice(), [3].as_slice());
+    assert!(rt; writer.write_all(&[1, 2]) == Err(Fault::Write));
+    assert!(rt; (writer.written_bytes(), writer.failed_calls()) == (0, 1));
+    assert!(rt; writer.write_all(&[3]) == Ok(()));
+    assert!(rt; (writer.written_bytes(), writer.failed_calls()) == (1, 1));
+    assert!(rt; writer.finish().bytes.as_slice() == [3].as_slice());
+}
+
+// What a write and a flush answer where this call fails, how many bytes were told, and how many
+// calls failed.
+fn write_and_flush(alloc: Global, failing_call: u64) -> ([Result<(), Fault>; 2], u64, u64) {
+    let mut writer = CountingWriter::wrap(FailingWriter::new(alloc, failing_call));
+    let answers = [writer.write_all(&[1]), writer.flush()];
+    (answers, writer.written_bytes(), writer.failed_calls())
 }
 
 #[test]
 fn interrupted_calls_are_not_tried_again(rt: HostRuntime) {
-    let mut writer = CountingWriter::wrap(FailingWriter::new(rt.alloc(), 2));
-    assert_eq!(rt; writer.write_all(&[1]), Ok(()));
-    assert_eq!(rt; writer.flush(), Err(Fault::Write));
-    assert_eq!(rt; writer.failed_calls(), 1);
-    let mut writer = CountingWriter::wrap(FailingWriter::new(rt.alloc(), 1));
-    assert_eq!(rt; writer.write_all(&[1]), Err(Fault::Write));
-    assert_eq!(rt; writer.flush(), Ok(()));
-    assert_eq!(rt; (writer.written_bytes(), writer.failed_calls()), (0, 1));
+    let (answers, _, failed) = write_and_flush(rt.alloc(), 2);
+    assert!(rt; answers == [Ok(()), Err(Fault::Write)]);
+    assert!(rt; failed == 1);
+    let (answers, written, failed) = write_and_flush(rt.alloc(), 1);
+    assert!(rt; answers == [Err(Fault::Write), Ok(())]);
+    assert!(rt; (written, failed) == (0, 1));
     let mut reader = FailingReader::new(&[1], 1);
     let interrupted = reader.read(&mut [0; 1]).err();
-    assert_eq!(rt;
-        interrupted.map(|e| e.kind()),
-        Some(io::ErrorKind::Interrupted)
-    );
+    assert!(rt; interrupted.map(|e| e.kind()) == Some(io::ErrorKind::Interrupted));
 }
 
 #[test]
@@ -291,37 +308,38 @@ fn numbers_of_64_bits_are_values(rt: HostRuntime) -> Result<(), Fail> {
         VInt(number).serialize(&mut writer)?;
     }
     let bytes = writer.finish();
-    assert_eq!(rt; bytes.as_slice(), spelled.as_slice());
+    assert!(rt; bytes.as_slice() == spelled.as_slice());
     let mut rest = bytes.as_slice();
     for number in numbers {
-        assert_eq!(rt; VInt::deserialize(&mut rest), Some(VInt(number)));
+        assert!(rt; VInt::deserialize(&mut rest) == Some(VInt(number)));
     }
-    assert_eq!(rt; VInt::deserialize(&mut rest), None);
+    assert!(rt; VInt::deserialize(&mut rest) == None);
+    Ok(())
+}
+
+#[test]
+fn groups_past_64_bits_are_no_value(rt: HostRuntime) {
     let past: [u8; 11] = [0, 0, 0, 0, 0, 0, 0, 0, 0, 0, 0x80];
     let mut rest = past.as_slice();
-    assert_eq!(rt; VInt::deserialize(&mut rest), None);
-    assert_eq!(rt; rest.len(), 11);
+    assert!(rt; VInt::deserialize(&mut rest) == None);
+    assert!(rt; rest.len() == 11);
     let great = [0x7F, 0x7F, 0x7F, 0x7F, 0x7F, 0x7F, 0x7F, 0x7F, 0x7F, 0x82];
-    assert_eq!(rt; VInt::deserialize(&mut great.as_slice()), None);
+    assert!(rt; VInt::deserialize(&mut great.as_slice()) == None);
     let zero_groups = [0, 0, 0, 0, 0, 0, 0, 0, 0, 0x80];
-    assert_eq!(rt;
-        VInt::deserialize(&mut zero_groups.as_slice()),
-        Some(VInt(0))
-    );
-    Ok(())
+    assert!(rt; VInt::deserialize(&mut zero_groups.as_slice()) == Some(VInt(0)));
 }
 
 #[test]
 fn vints_of_64_bits_are_written(rt: HostRuntime) {
     let mut bytes = [0xFFu8; 12];
-    assert_eq!(rt; vint::write_u64(5, &mut bytes, 1), 2);
-    assert_eq!(rt; bytes[0], 0xFF);
-    assert_eq!(rt; bytes[1], 0x85);
-    assert_eq!(rt; vint::write_u64(u64::MAX, &mut bytes, 0), 10);
-    assert_eq!(rt;
-        bytes,
-        [
-            0x7F, 0x7F, 0x7F, 0x7F, 0x7F, 0x7F, 0x7F, 0x7F, 0x7F, 0x81, 0xFF, 0xFF
-        ]
+    assert!(rt; vint::write_u64(5, &mut bytes, 1) == 2);
+    assert!(rt; bytes[0] == 0xFF);
+    assert!(rt; bytes[1] == 0x85);
+    assert!(rt; vint::write_u64(u64::MAX, &mut bytes, 0) == 10);
+    assert!(rt;
+        bytes
+            == [
+                0x7F, 0x7F, 0x7F, 0x7F, 0x7F, 0x7F, 0x7F, 0x7F, 0x7F, 0x81, 0xFF, 0xFF
+            ]
     );
 }

@@ -1,15 +1,15 @@
 ghost use Rattle.std.specs.Prelude.{◌≡◌, ◌<◌, ◌^◌, [], ◌∷◌, length, Some, None, IfOk};
 ghost use Rattle.ii_fieldnorm.specs.Buffers.{empty_buffers, norm_bodies};
 
-use crate::code::ids_approximate_from_below;
-use crate::{
-    FIELD_NORMS_TABLE, FieldNormReader, FieldNormReaders, FieldNormsSerializer, FieldNormsWriter,
-    fieldnorm_to_id, id_to_fieldnorm,
-};
 use bytes::Bytes;
 use ii_base::{
     CompositeFile, CountingWriter, FailingWriter, Fault, Field, FieldEntry, IndexRecordOption,
     Part, Schema, ValueType,
+};
+use ii_fieldnorm::code::ids_approximate_from_below;
+use ii_fieldnorm::{
+    FIELD_NORMS_TABLE, FieldNormReader, FieldNormReaders, FieldNormsSerializer, FieldNormsWriter,
+    fieldnorm_to_id, id_to_fieldnorm,
 };
 use std::alloc::{AllocError, Global};
 use std::test::Fail;
@@ -23,20 +23,17 @@ fn numbers_have_ids(rt: HostRuntime) {
         (1_000_000, 167, 983_064),
     ];
     for (fieldnorm, id, norm) in rows {
-        assert_eq!(rt; fieldnorm_to_id(fieldnorm), id);
-        assert_eq!(rt; id_to_fieldnorm(id), norm);
+        assert!(rt; fieldnorm_to_id(fieldnorm) == id);
+        assert!(rt; id_to_fieldnorm(id) == norm);
     }
-    assert_eq!(rt; fieldnorm_to_id(u32::MAX), 255);
-    assert_eq!(rt; id_to_fieldnorm(255), 2_013_265_944);
+    assert!(rt; fieldnorm_to_id(u32::MAX) == 255);
+    assert!(rt; id_to_fieldnorm(255) == 2_013_265_944);
     for fieldnorm in 0..5 {
-        assert_eq!(rt; id_to_fieldnorm(fieldnorm_to_id(fieldnorm)), fieldnorm);
+        assert!(rt; id_to_fieldnorm(fieldnorm_to_id(fieldnorm)) == fieldnorm);
     }
     for (id, norm) in FIELD_NORMS_TABLE.iter().enumerate().skip(43) {
-        assert_eq!(rt;
-            usize::from(fieldnorm_to_id(norm.saturating_sub(1))),
-            id.saturating_sub(1)
-        );
-        assert_eq!(rt; usize::from(fieldnorm_to_id(norm.saturating_add(1))), id);
+        assert!(rt; usize::from(fieldnorm_to_id(norm.saturating_sub(1))) == id.saturating_sub(1));
+        assert!(rt; usize::from(fieldnorm_to_id(norm.saturating_add(1))) == id);
     }
     ids_approximate_from_below();
 }
@@ -44,16 +41,13 @@ fn numbers_have_ids(rt: HostRuntime) {
 #[test]
 fn constants_answer_for_any_document(rt: HostRuntime) -> Result<(), Fail> {
     let reader = FieldNormReader::constant(1_000_000, 300);
-    assert_eq!(rt; reader.num_docs(), 1_000_000);
-    assert_eq!(rt; (reader.fieldnorm(0), reader.fieldnorm_id(0)), (280, 72));
+    assert!(rt; reader.num_docs() == 1_000_000);
+    assert!(rt; (reader.fieldnorm(0), reader.fieldnorm_id(0)) == (280, 72));
     let reader = FieldNormReader::constant(1_000_000, 10);
-    assert_eq!(rt;
-        (reader.fieldnorm(u32::MAX), reader.fieldnorm_id(0)),
-        (10, 10)
-    );
-    assert_eq!(rt; reader.clone()?.num_docs(), 1_000_000);
-    assert_eq!(rt; FieldNormReader::fieldnorm_to_id(300), 72);
-    assert_eq!(rt; FieldNormReader::id_to_fieldnorm(72), 280);
+    assert!(rt; (reader.fieldnorm(u32::MAX), reader.fieldnorm_id(0)) == (10, 10));
+    assert!(rt; reader.clone()?.num_docs() == 1_000_000);
+    assert!(rt; FieldNormReader::fieldnorm_to_id(300) == 72);
+    assert!(rt; FieldNormReader::id_to_fieldnorm(72) == 280);
     Ok(())
 }
 
@@ -85,21 +79,21 @@ fn written(alloc: Global, failing_call: u64) -> Result<(FailingWriter, Result<()
 #[test]
 fn norms_are_written_and_read(rt: HostRuntime) -> Result<(), Fail> {
     let (writer, answer) = written(rt.alloc(), 0)?;
-    assert_eq!(rt; answer, Ok(()));
-    assert_eq!(rt; writer.bytes(), TWO_NORMS.as_slice());
+    assert!(rt; answer == Ok(()));
+    assert!(rt; writer.bytes() == TWO_NORMS.as_slice());
     for k in 1..8 {
         let (writer, answer) = written(rt.alloc(), k)?;
         assert!(rt; TWO_NORMS.starts_with(writer.bytes()), "call {k}");
-        assert_eq!(rt; answer.is_err(), k < 6, "call {k}");
+        assert!(rt; answer.is_err() == (k < 6), "call {k}");
         assert!(rt; answer.is_ok() || answer == Err(Fault::Write));
     }
     let readers = FieldNormReaders::open(rt.alloc(), Bytes::from_static(&TWO_NORMS))?.clone()?;
     assert!(rt; readers.get_field(Field::from_field_id(1))?.is_none());
     let reader = readers.get_field(Field::from_field_id(0))?.ok_or("norms")?;
-    assert_eq!(rt; reader.num_docs(), 2);
+    assert!(rt; reader.num_docs() == 2);
     for doc in 0..reader.num_docs() {
         let norm = if doc == 0 { 13 } else { 2 };
-        assert_eq!(rt; reader.fieldnorm(doc), norm);
+        assert!(rt; reader.fieldnorm(doc) == norm);
     }
     Ok(())
 }
@@ -109,16 +103,13 @@ fn norms_are_filled_up_and_cut(rt: HostRuntime) -> Result<(), Fail> {
     let mut norms = FieldNormsWriter::for_schema(rt.alloc(), &two_fields(rt.alloc())?)?;
     norms.record(0, Field::from_field_id(0), 13)?;
     norms.record(3, Field::from_field_id(0), 41)?;
-    assert_eq!(rt;
-        body(rt.alloc(), &norms)?.as_slice(),
-        [13, 0, 0, 40].as_slice()
-    );
+    assert!(rt; body(rt.alloc(), &norms)?.as_slice() == [13, 0, 0, 40].as_slice());
     norms.fill_up_to_max_doc(1)?;
-    assert_eq!(rt; body(rt.alloc(), &norms)?.as_slice(), [13].as_slice());
+    assert!(rt; body(rt.alloc(), &norms)?.as_slice() == [13].as_slice());
     norms.fill_up_to_max_doc(2)?;
-    assert_eq!(rt; body(rt.alloc(), &norms)?.as_slice(), [13, 0].as_slice());
+    assert!(rt; body(rt.alloc(), &norms)?.as_slice() == [13, 0].as_slice());
     let fields = FieldNormsWriter::fields_with_fieldnorm(rt.alloc(), &two_fields(rt.alloc())?)?;
-    assert_eq!(rt; fields.as_slice(), [Field::from_field_id(0)].as_slice());
+    assert!(rt; fields.as_slice() == [Field::from_field_id(0)].as_slice());
     Ok(())
 }
 
@@ -145,9 +136,9 @@ fn each_of_a_thousand_fields_is_read(rt: HostRuntime) -> Result<(), Fail> {
     let readers = FieldNormReaders::open(rt.alloc(), bytes)?;
     for f in 0..1000u32 {
         let reader = readers.get_field(Field::from_field_id(f))?.ok_or("norms")?;
-        assert_eq!(rt; reader.num_docs(), 1, "field {f}");
+        assert!(rt; reader.num_docs() == 1, "field {f}");
         for doc in 0..reader.num_docs() {
-            assert_eq!(rt; reader.fieldnorm(doc), f % 40, "field {f}");
+            assert!(rt; reader.fieldnorm(doc) == f % 40, "field {f}");
         }
     }
     assert!(rt; readers.get_field(Field::from_field_id(1000))?.is_none());
@@ -188,14 +179,14 @@ fn a_serializer_is_closed_by_a_fault(rt: HostRuntime) {
     let writer = CountingWriter::wrap(FailingWriter::new(rt.alloc(), 1));
     let mut serializer = FieldNormsSerializer::from_write(rt.alloc(), writer);
     let first = serializer.serialize_field(Field::from_field_id(0), &[1]);
-    assert_eq!(rt; first, Err(Fault::Write));
+    assert!(rt; first == Err(Fault::Write));
     let again = serializer.serialize_field(Field::from_field_id(0), &[1]);
-    assert_eq!(rt; again, Err(Fault::SerializerClosed));
+    assert!(rt; again == Err(Fault::SerializerClosed));
     let other = serializer.serialize_field(Field::from_field_id(1), &[1]);
-    assert_eq!(rt; other, Err(Fault::SerializerClosed));
+    assert!(rt; other == Err(Fault::SerializerClosed));
     let (writer, answer) = serializer.close();
-    assert_eq!(rt; answer, Err(Fault::SerializerClosed));
-    assert_eq!(rt; writer.failed_calls(), 1);
+    assert!(rt; answer == Err(Fault::SerializerClosed));
+    assert!(rt; writer.failed_calls() == 1);
     assert!(rt; writer.finish().bytes().is_empty());
 }
 
@@ -207,14 +198,17 @@ fn a_serializer_flushes(rt: HostRuntime) {
         let writer = CountingWriter::wrap(FailingWriter::new(rt.alloc(), k));
         let mut serializer = FieldNormsSerializer::from_write(rt.alloc(), writer);
         let written = serializer.serialize_field(Field::from_field_id(0), &[1]);
-        assert_eq!(rt; written.err(), (k < 3).then_some(Fault::Write), "call {k}");
+        assert!(rt;
+            written.err() == (k < 3).then_some(Fault::Write),
+            "call {k}"
+        );
         let (writer, closed) = serializer.close();
         let want = match k {
             1 | 2 => Err(Fault::SerializerClosed),
             6 => Ok(()),
             _ => Err(Fault::Write),
         };
-        assert_eq!(rt; closed, want, "call {k}");
-        assert_eq!(rt; writer.failed_calls(), if k < 6 { 1 } else { 0 });
+        assert!(rt; closed == want, "call {k}");
+        assert!(rt; writer.failed_calls() == (if k < 6 { 1 } else { 0 }));
     }
 }

@@ -1,0 +1,7 @@
+//! Tests of `ii_layout`, by its public calls.
+#![tactic(auto)]
+
+#[cfg(test)]
+mod positions_tests;
+#[cfg(test)]
+mod tests;
