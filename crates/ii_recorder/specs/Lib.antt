@@ -1,0 +1,4 @@
+pub mod Terms
+pub mod OpenTerm
+pub mod TermPlaces
+pub mod FieldTerms

@@ -1,0 +1,7 @@
+//! The terms of a field as they go out: their postings and positions one after the other, and what
+//! the dictionary keeps of each.
+#![tactic(auto)]
+
+mod field_terms;
+mod open_term;
+mod term_places;
