@@ -2,3 +2,4 @@ pub mod Terms
 pub mod OpenTerm
 pub mod TermPlaces
 pub mod FieldTerms
+pub mod IndexBodies

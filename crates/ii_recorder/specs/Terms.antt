@@ -34,12 +34,23 @@ infos_from mode postings positions (t ∷ ts) =
     let positions_end = positions + length (positions_bytes mode t.deltas) in
     term_info_from (length t.docs) postings postings_end positions positions_end ∷ infos_from mode postings_end positions_end ts
 
--- the three bodies of a field: its dictionary, the number of its tokens with all postings, and all positions
-abbrev pub terms_body : IndexRecordOption → List WrittenTerm → List ℕ
-terms_body mode ts = written_dictionary (map (λ (t : WrittenTerm). t.key) ts) (infos_from mode 0 0 ts)
-
-abbrev pub postings_body : ℕ → List WrittenTerm → List ℕ
-postings_body tokens ts = le_bytes 8 tokens ++ flat_map postings_bytes ts
+-- The bodies of a field in the three files of an index.
+pub record FieldBodies : Type 0 where
+  pub terms : List ℕ
+  pub postings : List ℕ
+  pub positions : List ℕ
 
 abbrev pub positions_body : IndexRecordOption → List WrittenTerm → List ℕ
 positions_body mode ts = flat_map (λ (t : WrittenTerm). positions_bytes mode t.deltas) ts
+
+-- the dictionary, the number of the field's tokens with all postings, and all positions
+abbrev pub field_bodies : IndexRecordOption → ℕ → List WrittenTerm → FieldBodies
+field_bodies mode tokens ts = record {
+  terms = written_dictionary (map (λ (t : WrittenTerm). t.key) ts) (infos_from mode 0 0 ts);
+  postings = le_bytes 8 tokens ++ flat_map postings_bytes ts;
+  positions = positions_body mode ts;
+}
+
+-- and before the dictionary is written
+abbrev pub open_bodies : IndexRecordOption → ℕ → List WrittenTerm → FieldBodies
+open_bodies mode tokens ts = record (field_bodies mode tokens ts) { terms = [] }

@@ -3,5 +3,6 @@
 #![tactic(auto)]
 
 mod field_terms;
+mod index_bodies;
 mod open_term;
 mod term_places;
