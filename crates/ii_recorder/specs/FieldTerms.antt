@@ -3,9 +3,8 @@ use Rattle.std.specs.Prelude.{◌≡◌, ℕ, ◌+◌, ◌^◌, ◌≤◌, ◌�
 use Rattle.std.specs.List.{flat_map}
 use Rattle.ii_base.specs.declared.schema.index_record_option.IndexRecordOption.{IndexRecordOption}
 use Rattle.ii_base.specs.Options.{has_positions}
-use Rattle.ii_io.specs.CountingWriter.{CountingWriterState, Wrote}
 use Rattle.ii_layout.specs.Written.{written_postings}
-use Rattle.ii_recorder.specs.Terms.{WrittenTerm, postings_bytes, positions_bytes, positions_body, infos_from}
+use Rattle.ii_recorder.specs.Terms.{FieldBodies, WrittenTerm, postings_bytes, positions_bytes, positions_body, infos_from}
 use Rattle.ii_recorder.specs.OpenTerm.{OpenTermState}
 use Rattle.ii_recorder.specs.TermPlaces.{TermPlacesState, with_term}
 
@@ -42,14 +41,16 @@ pub record HasTerms (mode : IndexRecordOption) (places : TermPlacesState) (ts : 
   pub postings : places.postings_end ≡ length (flat_map postings_bytes ts)
   pub positions : places.positions_end ≡ length (positions_body mode ts)
 
+-- the bytes that go out where the open term is ended
+abbrev pub bytes_of : OpenTermState → FieldBodies
+bytes_of t = record { terms = []; postings = written_postings t.skip_info t.docs t.freqs; positions = positions_bytes t.mode t.deltas }
+
 -- The postings or the positions of a term have more bytes than 32 bits count.
 abbrev pub IsTooLong : OpenTermState → Type 0
 IsTooLong t = (2 ^ 32 ≤ length (written_postings t.skip_info t.docs t.freqs)) ⊎ (2 ^ 32 ≤ length (positions_bytes t.mode t.deltas))
 
--- A term was ended: its postings and its positions went out, and its place is kept.
-pub record EndsTerm (old new : FieldTermsState) (postings_old postings_new positions_old positions_new : CountingWriterState) : Type 0 where
-  pub postings : Wrote postings_old postings_new (written_postings old.term.skip_info old.term.docs old.term.freqs)
-  pub positions : Wrote positions_old positions_new (positions_bytes old.term.mode old.term.deltas)
+-- A term was ended: its place is kept.
+pub record EndsTerm (old new : FieldTermsState) : Type 0 where
   pub places : new.places ≡ with_term old.places (length old.term.docs)
       (length (written_postings old.term.skip_info old.term.docs old.term.freqs)) (length (positions_bytes old.term.mode old.term.deltas))
   pub mode : new.term.mode ≡ old.term.mode

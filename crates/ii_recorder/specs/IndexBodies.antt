@@ -1,5 +1,6 @@
 -- The three composites of an index as they are written: terms, postings and positions.
-use Rattle.std.specs.Prelude.{◌≡◌, ℕ, ◌+◌, ◌-◌, ◌^◌, ◌<◌, false, length}
+use Rattle.std.specs.Prelude.{List, ◌≡◌, ℕ, ◌+◌, ◌-◌, ◌^◌, ◌<◌, false, length}
+use Rattle.ii_io.specs.CountingWriter.{Wrote}
 use Rattle.ii_io.specs.CompositeWrite.{CompositeWriteState, AddsBody, has_start}
 use Rattle.ii_recorder.specs.Terms.{FieldBodies}
 
@@ -32,3 +33,22 @@ pub record AddsBodies (old new : IndexBodiesState) (field : ℕ) (bodies : Field
   pub terms : AddsBody old.terms new.terms field bodies.terms
   pub postings : AddsBody old.postings new.postings field bodies.postings
   pub positions : AddsBody old.positions new.positions field bodies.positions
+
+-- Bytes were written after the last body.
+pub record AddsBytes (old new : CompositeWriteState) (bytes : List ℕ) : Type 0 where
+  pub writer : Wrote old.writer new.writer bytes
+  pub base : new.base ≡ old.base
+  pub starts : new.starts ≡ old.starts
+  pub closed : new.closed ≡ old.closed
+
+-- And after the last body of each.
+pub record AddsMore (old new : IndexBodiesState) (more : FieldBodies) : Type 0 where
+  pub terms : AddsBytes old.terms new.terms more.terms
+  pub postings : AddsBytes old.postings new.postings more.postings
+  pub positions : AddsBytes old.positions new.positions more.positions
+
+-- The body of a field was begun in each.
+pub record AreBegun (b : IndexBodiesState) : Type 0 where
+  pub terms : 0 < length b.terms.starts
+  pub postings : 0 < length b.postings.starts
+  pub positions : 0 < length b.positions.starts

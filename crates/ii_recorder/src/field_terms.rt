@@ -148,7 +148,9 @@ impl FieldTerms {
         postings_write: &mut CountingWriter<W>,
         positions_write: &mut CountingWriter<W>,
     ) -> Result<(), Fault>
-        ensures ends { IsTrue self.old.term_open → OnOk result (EndsTerm self.old self.new postings_write.old postings_write.new positions_write.old positions_write.new) }
+        ensures ends { IsTrue self.old.term_open → OnOk result (EndsTerm self.old self.new) }
+        ensures postings { IsTrue self.old.term_open → OnOk result (Wrote postings_write.old postings_write.new (written_postings self.old.term.skip_info self.old.term.docs self.old.term.freqs)) }
+        ensures positions { IsTrue self.old.term_open → OnOk result (Wrote positions_write.old positions_write.new (positions_bytes self.old.term.mode self.old.term.deltas)) }
         ensures none { self.old.closed ≡ false → self.old.term_open ≡ false
             → (result ≡ Ok tt) × (self.new ≡ self.old) × (postings_write.new ≡ postings_write.old) × (positions_write.new ≡ positions_write.old) }
         ensures err { OnErr result (IsTrue self.new.closed) }

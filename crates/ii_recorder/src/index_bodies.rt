@@ -1,10 +1,13 @@
-ghost use Rattle.std.specs.Prelude.{◌≡◌, ◌+◌, ◌-◌, ◌^◌, ◌<◌, ◌⊎◌, ◌↔◌, [], ◌∷◌, ◌++◌, true, false, length, OnOk, OnErr, IfErr, IsErrOf, IsTrue};
+ghost use Rattle.std.specs.Prelude.{◌≡◌, ◌+◌, ◌-◌, ◌^◌, ◌<◌, ◌≤◌, ◌⊎◌, ◌↔◌, [], ◌∷◌, ◌++◌, true, false, length, Ok, OnOk, OnErr, IfErr, IsErrOf, IsTrue};
 ghost use Rattle.ii_io.specs.CountingWriter.{Wrote, WritesUnlessClosed};
 ghost use Rattle.ii_io.specs.CompositeWrite.{AddsBody, has_start, places_of};
 ghost use Rattle.ii_io.specs.Composite.{table_bytes};
 ghost use Rattle.ii_io.specs.Numbers.{le_bytes};
-ghost use Rattle.ii_recorder.specs.IndexBodies.{AddsBodies, AreUnclosed, LacksField, failed_calls};
+ghost use Rattle.ii_recorder.specs.IndexBodies.{AddsBodies, AddsMore, AreBegun, AreUnclosed, LacksField, failed_calls};
+ghost use Rattle.ii_recorder.specs.FieldTerms.{EndsTerm, IsTooLong, bytes_of};
+ghost use Rattle.ii_termdict.specs.Written.{written_dictionary};
 
+use super::field_terms::FieldTerms;
 use ii_io::{BinarySerializable, CompositeWrite, CountingWriter, Fault, Field, LimitName};
 use std::alloc::Global;
 use std::io::Write;
@@ -34,10 +37,10 @@ impl<W: Write> IndexBodies<W> {
         positions: CountingWriter<W>,
     ) -> IndexBodies<W>
         ensures { result ≡ record {
-            terms = record { writer = terms; base = terms.written_bytes; starts = []; closed = false };
-            postings = record { writer = postings; base = postings.written_bytes; starts = []; closed = false };
-            positions = record { writer = positions; base = positions.written_bytes; starts = []; closed = false };
-          } }
+          terms = record { writer = terms; base = terms.written_bytes; starts = []; closed = false };
+          postings = record { writer = postings; base = postings.written_bytes; starts = []; closed = false };
+          positions = record { writer = positions; base = positions.written_bytes; starts = []; closed = false };
+        } }
     {
         IndexBodies {
             terms: CompositeWrite::wrap(alloc, terms),
@@ -59,6 +62,49 @@ impl<W: Write> IndexBodies<W> {
         begin_body(&mut self.positions, field)?;
         begin_body(&mut self.postings, field)?;
         total_num_tokens.serialize(self.postings.writer())
+    }
+
+    // Ends the open term of the field that was begun last, whose postings and positions follow what
+    // stands there.
+    pub fn end_term(&mut self, terms: &mut FieldTerms) -> Result<(), Fault>
+        requires begun { AreBegun self.old }
+        ensures ends { IsTrue terms.old.term_open → OnOk result (EndsTerm terms.old terms.new) }
+        ensures wrote { IsTrue terms.old.term_open → OnOk result (AddsMore self.old self.new (bytes_of terms.old.term)) }
+        ensures none { terms.old.closed ≡ false → terms.old.term_open ≡ false → (result ≡ Ok tt) × (terms.new ≡ terms.old) × (self.new ≡ self.old) }
+        ensures err { OnErr result (IsTrue terms.new.closed) }
+        ensures write { IsErrOf result Fault.Write ↔ (failed_calls self.old < failed_calls self.new) }
+        ensures long { IsErrOf result (Fault.Limit LimitName.TermBytes) → IsTooLong terms.old.term }
+        ensures closed { IsErrOf result Fault.SerializerClosed ↔ IsTrue terms.old.closed }
+    {
+        terms.close_term(self.postings.writer(), self.positions.writer())
+    }
+
+    // Writes the dictionary of the field that was begun last, and flushes.
+    pub fn finish_field(&mut self, terms: &mut FieldTerms) -> Result<(), Fault>
+        requires begun { AreBegun self.old }
+        requires between { terms.old.closed ≡ false → terms.old.term_open ≡ false }
+        ensures wrote { OnOk result (AddsMore self.old self.new (record { terms = written_dictionary terms.old.places.keys terms.old.places.infos; postings = []; positions = [] })) }
+        ensures write { IsErrOf result Fault.Write ↔ (failed_calls self.old < failed_calls self.new) }
+        ensures closed { IsErrOf result Fault.SerializerClosed ↔ IsTrue terms.old.closed }
+    {
+        let written = terms.finish(self.terms.writer());
+        if written.is_err() {
+            return written;
+        }
+        self.flush()
+    }
+
+    // Flushes the three writers.
+    fn flush(&mut self) -> Result<(), Fault>
+        requires begun { AreBegun self.old }
+        ensures wrote { OnOk result (AddsMore self.old self.new (record { terms = []; postings = []; positions = [] })) }
+        ensures write { IsErrOf result Fault.Write ↔ (failed_calls self.old < failed_calls self.new) }
+        ensures kept { failed_calls self.old ≤ failed_calls self.new }
+        ensures only { IfErr result (λ e. (e ≡ Fault.Write) ⊎ (e ≡ Fault.Limit LimitName.Offset)) }
+    {
+        self.terms.writer().flush()?;
+        self.postings.writer().flush()?;
+        self.positions.writer().flush()
     }
 }
 
