@@ -3,3 +3,4 @@ pub mod OpenTerm
 pub mod TermPlaces
 pub mod FieldTerms
 pub mod IndexBodies
+pub mod IndexSerializer

@@ -55,6 +55,7 @@ impl<W: Write> IndexBodies<W> {
         requires lacks { LacksField field self.old }
         ensures ok { OnOk result (AddsBodies self.old self.new field (record { terms = []; postings = le_bytes 8 total_num_tokens; positions = [] })) }
         ensures unclosed { OnOk result (AreUnclosed self.new) }
+        ensures begun { OnOk result (AreBegun self.new) }
         ensures write { IsErrOf result Fault.Write ↔ (failed_calls self.old < failed_calls self.new) }
         ensures only { IfErr result (λ e. (e ≡ Fault.OutOfMemory) ⊎ (e ≡ Fault.Write) ⊎ (e ≡ Fault.Limit LimitName.Offset)) }
     {
@@ -70,6 +71,7 @@ impl<W: Write> IndexBodies<W> {
         requires begun { AreBegun self.old }
         ensures ends { IsTrue terms.old.term_open → OnOk result (EndsTerm terms.old terms.new) }
         ensures wrote { IsTrue terms.old.term_open → OnOk result (AddsMore self.old self.new (bytes_of terms.old.term)) }
+        ensures unclosed { AreUnclosed self.old → AreUnclosed self.new }
         ensures none { terms.old.closed ≡ false → terms.old.term_open ≡ false → (result ≡ Ok tt) × (terms.new ≡ terms.old) × (self.new ≡ self.old) }
         ensures err { OnErr result (IsTrue terms.new.closed) }
         ensures write { IsErrOf result Fault.Write ↔ (failed_calls self.old < failed_calls self.new) }
@@ -85,6 +87,8 @@ impl<W: Write> IndexBodies<W> {
         requires between { terms.old.closed ≡ false → terms.old.term_open ≡ false }
         ensures wrote { OnOk result (AddsMore self.old self.new (record { terms = written_dictionary terms.old.places.keys terms.old.places.infos; postings = []; positions = [] })) }
         ensures write { IsErrOf result Fault.Write ↔ (failed_calls self.old < failed_calls self.new) }
+        ensures unclosed { AreUnclosed self.old → AreUnclosed self.new }
+        ensures terms { OnOk result (terms.new.closed ≡ false) }
         ensures closed { IsErrOf result Fault.SerializerClosed ↔ IsTrue terms.old.closed }
     {
         let written = terms.finish(self.terms.writer());
@@ -100,6 +104,7 @@ impl<W: Write> IndexBodies<W> {
         ensures wrote { OnOk result (AddsMore self.old self.new (record { terms = []; postings = []; positions = [] })) }
         ensures write { IsErrOf result Fault.Write ↔ (failed_calls self.old < failed_calls self.new) }
         ensures kept { failed_calls self.old ≤ failed_calls self.new }
+        ensures unclosed { AreUnclosed self.old → AreUnclosed self.new }
         ensures only { IfErr result (λ e. (e ≡ Fault.Write) ⊎ (e ≡ Fault.Limit LimitName.Offset)) }
     {
         self.terms.writer().flush()?;

@@ -5,4 +5,5 @@
 mod field_terms;
 mod index_bodies;
 mod open_term;
+mod serializer;
 mod term_places;
