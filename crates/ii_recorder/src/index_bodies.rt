@@ -1,7 +1,7 @@
-ghost use Rattle.std.specs.Prelude.{◌≡◌, ◌+◌, ◌-◌, ◌^◌, ◌<◌, ◌≤◌, ◌⊎◌, ◌↔◌, [], ◌∷◌, ◌++◌, true, false, length, Ok, OnOk, OnErr, IfErr, IsErrOf, IsTrue};
-ghost use Rattle.ii_io.specs.CountingWriter.{Wrote, WritesUnlessClosed};
-ghost use Rattle.ii_io.specs.CompositeWrite.{AddsBody, has_start, places_of};
-ghost use Rattle.ii_io.specs.Composite.{table_bytes};
+ghost use Rattle.std.specs.Prelude.{◌≡◌, ◌+◌, ◌-◌, ◌^◌, ◌<◌, ◌≤◌, ◌⊎◌, ◌↔◌, List, [], ◌∷◌, ◌++◌, true, false, length, Ok, OnOk, OnErr, IfErr, IsErrOf, IsTrue};
+ghost use Rattle.ii_io.specs.CountingWriter.{CountingWriterState};
+ghost use Rattle.ii_io.specs.CompositeWrite.{AddsBody, HasBodies, WroteComposite, has_start};
+ghost use Rattle.ii_io.specs.Composite.{Body, fit_fields};
 ghost use Rattle.ii_io.specs.Numbers.{le_bytes};
 ghost use Rattle.ii_recorder.specs.IndexBodies.{AddsBodies, AddsMore, AreBegun, AreUnclosed, LacksField, failed_calls};
 ghost use Rattle.ii_recorder.specs.FieldTerms.{EndsTerm, IsTooLong, bytes_of};
@@ -72,6 +72,8 @@ impl<W: Write> IndexBodies<W> {
         ensures ends { IsTrue terms.old.term_open → OnOk result (EndsTerm terms.old terms.new) }
         ensures wrote { IsTrue terms.old.term_open → OnOk result (AddsMore self.old self.new (bytes_of terms.old.term)) }
         ensures unclosed { AreUnclosed self.old → AreUnclosed self.new }
+        ensures begun { AreBegun self.new }
+        ensures failed { OnOk result (failed_calls self.new ≡ failed_calls self.old) }
         ensures none { terms.old.closed ≡ false → terms.old.term_open ≡ false → (result ≡ Ok tt) × (terms.new ≡ terms.old) × (self.new ≡ self.old) }
         ensures err { OnErr result (IsTrue terms.new.closed) }
         ensures write { IsErrOf result Fault.Write ↔ (failed_calls self.old < failed_calls self.new) }
@@ -88,6 +90,7 @@ impl<W: Write> IndexBodies<W> {
         ensures wrote { OnOk result (AddsMore self.old self.new (record { terms = written_dictionary terms.old.places.keys terms.old.places.infos; postings = []; positions = [] })) }
         ensures write { IsErrOf result Fault.Write ↔ (failed_calls self.old < failed_calls self.new) }
         ensures unclosed { AreUnclosed self.old → AreUnclosed self.new }
+        ensures begun { AreBegun self.new }
         ensures terms { OnOk result (terms.new.closed ≡ false) }
         ensures closed { IsErrOf result Fault.SerializerClosed ↔ IsTrue terms.old.closed }
     {
@@ -105,11 +108,55 @@ impl<W: Write> IndexBodies<W> {
         ensures write { IsErrOf result Fault.Write ↔ (failed_calls self.old < failed_calls self.new) }
         ensures kept { failed_calls self.old ≤ failed_calls self.new }
         ensures unclosed { AreUnclosed self.old → AreUnclosed self.new }
+        ensures begun { AreBegun self.new }
         ensures only { IfErr result (λ e. (e ≡ Fault.Write) ⊎ (e ≡ Fault.Limit LimitName.Offset)) }
     {
         self.terms.writer().flush()?;
         self.postings.writer().flush()?;
         self.positions.writer().flush()
+    }
+
+    // Writes the tables of the three composites, and hands the writers back.
+    pub fn close(
+        self,
+    ) -> (
+        CountingWriter<W>,
+        CountingWriter<W>,
+        CountingWriter<W>,
+        Result<(), Fault>,
+    )
+        requires { AreUnclosed self }
+        ensures terms { (initial : CountingWriterState) (bodies : List Body) → HasBodies initial self.terms bodies → fit_fields bodies ≡ true → OnOk result.3 (WroteComposite initial result.0 bodies) }
+        ensures postings { (initial : CountingWriterState) (bodies : List Body) → HasBodies initial self.postings bodies → fit_fields bodies ≡ true → OnOk result.3 (WroteComposite initial result.1 bodies) }
+        ensures positions { (initial : CountingWriterState) (bodies : List Body) → HasBodies initial self.positions bodies → fit_fields bodies ≡ true → OnOk result.3 (WroteComposite initial result.2 bodies) }
+        ensures write { IsErrOf result.3 Fault.Write ↔ (failed_calls self < result.0.failed_calls + result.1.failed_calls + result.2.failed_calls) }
+        ensures only { IfErr result.3 (λ e. (e ≡ Fault.Write) ⊎ (e ≡ Fault.Limit LimitName.Offset)) }
+    {
+        let IndexBodies {
+            terms,
+            postings,
+            positions,
+        } = self;
+        let (terms_write, written) = terms.close();
+        if written.is_err() {
+            return (
+                terms_write,
+                postings.into_writer(),
+                positions.into_writer(),
+                written,
+            );
+        }
+        let (postings_write, written) = postings.close();
+        if written.is_err() {
+            return (
+                terms_write,
+                postings_write,
+                positions.into_writer(),
+                written,
+            );
+        }
+        let (positions_write, written) = positions.close();
+        (terms_write, postings_write, positions_write, written)
     }
 }
 

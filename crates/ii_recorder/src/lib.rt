@@ -2,6 +2,7 @@
 //! the dictionary keeps of each.
 #![tactic(auto)]
 
+mod field_serializer;
 mod field_terms;
 mod index_bodies;
 mod open_term;

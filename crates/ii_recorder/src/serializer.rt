@@ -73,7 +73,7 @@ impl<W: Write> InvertedIndexSerializer<W> {
     }
 
     // Begins a field of the schema, which wasn't written yet.
-    fn begin(
+    pub(crate) fn begin(
         &mut self,
         field: Field,
         total_num_tokens: u64,
@@ -101,7 +101,7 @@ impl<W: Write> InvertedIndexSerializer<W> {
     }
 
     // Begins a term of the field.
-    fn new_term(
+    pub(crate) fn new_term(
         &mut self,
         key: &[u8],
         term_doc_freq: u32,
@@ -128,7 +128,7 @@ impl<W: Write> InvertedIndexSerializer<W> {
     }
 
     // Adds a document of the open term.
-    fn write_doc(
+    pub(crate) fn write_doc(
         &mut self,
         doc_id: DocId,
         term_freq: u32,
@@ -162,14 +162,17 @@ impl<W: Write> InvertedIndexSerializer<W> {
     }
 
     // Ends the open term, if there is one.
-    fn end_term(&mut self) -> Result<(), Fault>
+    pub(crate) fn end_term(&mut self) -> Result<(), Fault>
         requires begun { self.old.closed ≡ false → AreBegun self.old.bodies }
         ensures writing { (initial : IndexBodiesState) (field tokens : ℕ) (ts : List WrittenTerm) (key : List ℕ) → IsTrue self.old.field.term_open
             → IsWriting initial self.old field tokens ts (key ∷ [])
             → OnOk result (IsWriting initial self.new field tokens (ts ++ term_under key self.old.field.term ∷ []) []) }
         ensures none { self.old.closed ≡ false → self.old.field.term_open ≡ false → (result ≡ Ok tt) × (self.new ≡ self.old) }
         ensures between { OnOk result (self.new.field.term_open ≡ false) }
-        ensures begun { OnOk result (AreBegun self.new.bodies) }
+        ensures begun { self.old.closed ≡ false → AreBegun self.new.bodies }
+        ensures mode { OnOk result (self.new.field.term.mode ≡ self.old.field.term.mode) }
+        ensures failed { OnOk result (failed_calls self.new.bodies ≡ failed_calls self.old.bodies) }
+        ensures entries { self.new.entries ≡ self.old.entries }
         ensures closes { Closes result self.new.closed }
         ensures write { IsErrOf result Fault.Write ↔ (failed_calls self.old.bodies < failed_calls self.new.bodies) }
         ensures long { IsErrOf result (Fault.Limit LimitName.TermBytes) → IsTooLong self.old.field.term }
@@ -184,12 +187,13 @@ impl<W: Write> InvertedIndexSerializer<W> {
     }
 
     // Ends the field, in which no term is open: writes its dictionary, and flushes.
-    fn finish_field(&mut self) -> Result<(), Fault>
+    pub(crate) fn finish_field(&mut self) -> Result<(), Fault>
         requires begun { self.old.closed ≡ false → AreBegun self.old.bodies }
         requires between { self.old.closed ≡ false → self.old.field.term_open ≡ false }
         ensures wrote { (initial : IndexBodiesState) (field tokens : ℕ) (ts : List WrittenTerm) → IsWriting initial self.old field tokens ts []
             → OnOk result (AddsBodies initial self.new.bodies field (field_bodies self.old.field.term.mode tokens ts)) }
         ensures entries { self.new.entries ≡ self.old.entries }
+        ensures begun { self.old.closed ≡ false → AreBegun self.new.bodies }
         ensures closes { Closes result self.new.closed }
         ensures write { IsErrOf result Fault.Write ↔ (failed_calls self.old.bodies < failed_calls self.new.bodies) }
         ensures closed { IsErrOf result Fault.SerializerClosed ↔ IsTrue self.old.closed }
@@ -200,5 +204,27 @@ impl<W: Write> InvertedIndexSerializer<W> {
         let finished = self.bodies.finish_field(&mut self.field);
         self.is_closed = finished.is_err();
         finished
+    }
+
+    // Ends the open term, if there is one, and the field.
+    pub(crate) fn end_field(&mut self) -> Result<(), Fault>
+        requires begun { self.old.closed ≡ false → AreBegun self.old.bodies }
+        ensures wrote { (initial : IndexBodiesState) (field tokens : ℕ) (ts : List WrittenTerm) → self.old.field.term_open ≡ false
+            → IsWriting initial self.old field tokens ts []
+            → OnOk result (AddsBodies initial self.new.bodies field (field_bodies self.old.field.term.mode tokens ts)) }
+        ensures wrote_last { (initial : IndexBodiesState) (field tokens : ℕ) (ts : List WrittenTerm) (key : List ℕ) → self.old.field.term_open ≡ true
+            → IsWriting initial self.old field tokens ts (key ∷ [])
+            → OnOk result (AddsBodies initial self.new.bodies field (field_bodies self.old.field.term.mode tokens (ts ++ term_under key self.old.field.term ∷ []))) }
+        ensures entries { self.new.entries ≡ self.old.entries }
+        ensures begun { self.new.closed ≡ false → AreBegun self.new.bodies }
+        ensures closes { Closes result self.new.closed }
+        ensures write { IsErrOf result Fault.Write ↔ (failed_calls self.old.bodies < failed_calls self.new.bodies) }
+        ensures closed { IsErrOf result Fault.SerializerClosed ↔ IsTrue self.old.closed }
+    {
+        let ended = self.end_term();
+        if ended.is_err() {
+            return ended;
+        }
+        self.finish_field()
     }
 }
