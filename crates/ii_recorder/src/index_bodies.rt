@@ -116,6 +116,24 @@ impl<W: Write> IndexBodies<W> {
         self.positions.writer().flush()
     }
 
+    // The three writers as they stand, with no table written.
+    pub fn into_writers(self) -> (CountingWriter<W>, CountingWriter<W>, CountingWriter<W>)
+        ensures terms { result.0 ≡ self.terms.writer }
+        ensures postings { result.1 ≡ self.postings.writer }
+        ensures positions { result.2 ≡ self.positions.writer }
+    {
+        let IndexBodies {
+            terms,
+            postings,
+            positions,
+        } = self;
+        (
+            terms.into_writer(),
+            postings.into_writer(),
+            positions.into_writer(),
+        )
+    }
+
     // Writes the tables of the three composites, and hands the writers back.
     pub fn close(
         self,

@@ -1,7 +1,9 @@
 ghost use Rattle.std.specs.Prelude.{◌≡◌, ◌+◌, ◌^◌, ◌<◌, ◌≤◌, ◌⊎◌, ◌↔◌, if◌then◌else◌, ℕ, List, [], ◌∷◌, ◌++◌, true, false, length, Ok, OnOk, OnErr, IfErr, IsErrOf, IsTrue};
 ghost use Rattle.ii_base.specs.declared.schema.index_record_option.IndexRecordOption.TheVariants.{Basic};
 ghost use Rattle.ii_base.specs.Options.{has_freq, has_positions};
-ghost use Rattle.ii_io.specs.CountingWriter.{Closes};
+ghost use Rattle.ii_io.specs.CountingWriter.{Closes, CountingWriterState};
+ghost use Rattle.ii_io.specs.Composite.{Body, fit_fields};
+ghost use Rattle.ii_io.specs.CompositeWrite.{HasBodies, WroteComposite};
 ghost use Rattle.ii_docset.specs.Entries.{are_documents};
 ghost use Rattle.ii_layout.specs.PostingsSerializer.{IsSumTooLarge};
 ghost use Rattle.ii_termdict.specs.ReadBack.{AreAscending};
@@ -70,6 +72,41 @@ impl<W: Write> InvertedIndexSerializer<W> {
             alloc,
             is_closed: false,
         }
+    }
+
+    /// Writes the tables of the three files, flushes, and hands the writers of terms, postings and
+    /// positions back. The bodies of the fields are then read back from what was written.
+    ///
+    /// `Write` where a writer fails, `Limit(Offset)` where a count of a writer would pass `u64::MAX`;
+    /// `SerializerClosed` after an earlier refusal, and nothing is written.
+    pub fn close(
+        self,
+    ) -> (
+        CountingWriter<W>,
+        CountingWriter<W>,
+        CountingWriter<W>,
+        Result<(), Fault>,
+    )
+        ensures terms { (initial : CountingWriterState) (bodies : List Body) → HasBodies initial self.bodies.terms bodies → fit_fields bodies ≡ true → OnOk result.3 (WroteComposite initial result.0 bodies) }
+        ensures postings { (initial : CountingWriterState) (bodies : List Body) → HasBodies initial self.bodies.postings bodies → fit_fields bodies ≡ true → OnOk result.3 (WroteComposite initial result.1 bodies) }
+        ensures positions { (initial : CountingWriterState) (bodies : List Body) → HasBodies initial self.bodies.positions bodies → fit_fields bodies ≡ true → OnOk result.3 (WroteComposite initial result.2 bodies) }
+        ensures write { IsErrOf result.3 Fault.Write ↔ (failed_calls self.bodies < result.0.failed_calls + result.1.failed_calls + result.2.failed_calls) }
+        ensures refused { IsTrue self.closed → (result.0 ≡ self.bodies.terms.writer) × (result.1 ≡ self.bodies.postings.writer) × (result.2 ≡ self.bodies.positions.writer) }
+        ensures closed { IsErrOf result.3 Fault.SerializerClosed ↔ IsTrue self.closed }
+        ensures only { IfErr result.3 (λ e. (e ≡ Fault.Write) ⊎ (e ≡ Fault.Limit LimitName.Offset) ⊎ (e ≡ Fault.SerializerClosed)) }
+    {
+        let InvertedIndexSerializer {
+            schema: _,
+            bodies,
+            field: _,
+            alloc: _,
+            is_closed,
+        } = self;
+        if is_closed {
+            let (terms, postings, positions) = bodies.into_writers();
+            return (terms, postings, positions, Err(Fault::SerializerClosed));
+        }
+        bodies.close()
     }
 
     // Begins a field of the schema, which wasn't written yet.
