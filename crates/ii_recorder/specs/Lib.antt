@@ -1,0 +1,3 @@
+pub mod AnyRecorder
+pub mod DocFreqs
+pub mod Recorded
