@@ -4,3 +4,6 @@ pub mod TermPlaces
 pub mod FieldTerms
 pub mod IndexBodies
 pub mod IndexSerializer
+pub mod AnyRecorder
+pub mod DocFreqs
+pub mod Recorded
