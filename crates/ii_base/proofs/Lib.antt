@@ -1,1 +1,3 @@
 mod AliveLemmas
+mod AsciiLemmas
+mod WorkedRows

@@ -3,11 +3,16 @@
 #![tactic(auto)]
 
 pub mod alive_bitset;
+pub mod datetime;
+pub mod fast_value;
 pub mod schema;
 #[cfg(test)]
 mod tests;
+pub mod tokenizer;
 
 pub use alive_bitset::AliveBitSet;
+pub use datetime::DateTime;
+pub use fast_value::FastValue;
 pub use ii_io::vint::VInt;
 pub use ii_io::{
     BinarySerializable, CompositeFile, CompositeWrite, CountingWriter, FailingReader,
@@ -17,4 +22,10 @@ pub use schema::Schema;
 pub use schema::field_entry::FieldEntry;
 pub use schema::index_record_option::IndexRecordOption;
 pub use schema::schema_fields::SchemaFields;
+pub use schema::term::Term;
 pub use schema::value_type::ValueType;
+pub use tokenizer::ascii_tokenizer::AsciiTokenizer;
+pub use tokenizer::text_analyzer::TextAnalyzer;
+pub use tokenizer::token::Token;
+pub use tokenizer::token_list::TokenList;
+pub use tokenizer::token_stream::TokenStream;

@@ -9,6 +9,7 @@ use std::marker::Model;
 pub mod field_entry;
 pub mod index_record_option;
 pub mod schema_fields;
+pub mod term;
 pub mod value_type;
 
 /// The fields of an index, numbered from 0. Clauses see the list of their entries.

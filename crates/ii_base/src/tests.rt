@@ -1,6 +1,9 @@
 ghost use Rattle.std.specs.Prelude.{◌≡◌};
 
-use crate::{AliveBitSet, Field, FieldEntry, IndexRecordOption, Schema, ValueType};
+use crate::{
+    AliveBitSet, AsciiTokenizer, DateTime, FastValue, Fault, Field, FieldEntry, IndexRecordOption,
+    Schema, Term, TextAnalyzer, TokenStream, ValueType,
+};
 use std::alloc::{AllocError, Global};
 use std::test::Fail;
 
@@ -89,5 +92,95 @@ fn documents_are_alive(rt: HostRuntime) -> Result<(), Fail> {
         assert!(rt; some.is_alive(doc) == (doc == 1));
     }
     assert!(rt; some.is_alive(3));
+    Ok(())
+}
+
+// The tokens of a text, cut by any analyzer.
+fn spell<T: TextAnalyzer>(alloc: Global, analyzer: &T, text: &str) -> Result<String, Fault> {
+    let mut tokens = analyzer.token_list(alloc, text)?;
+    let mut spelled = String::new(alloc);
+    while tokens.advance() {
+        let token = tokens.token();
+        spelled.push_str(token.text.as_str())?;
+        write!(spelled, "@{}", token.position)?;
+        write!(spelled, "+{}", token.position_length)?;
+        write!(spelled, " {}..{}, ", token.offset_from, token.offset_to)?;
+    }
+    Ok(spelled)
+}
+
+#[test]
+fn texts_are_cut(rt: HostRuntime) -> Result<(), Fail> {
+    let rows = [
+        ("", ""),
+        (" .-", ""),
+        ("a b", "a@0+1 0..1, b@1+1 2..3, "),
+        (
+            "Le caf\u{e9}, 3x",
+            "Le@0+1 0..2, caf\u{e9}@1+1 3..8, 3x@2+1 10..12, ",
+        ),
+        (
+            "\u{65e5}_\u{672c}",
+            "\u{65e5}@0+1 0..3, \u{672c}@1+1 4..7, ",
+        ),
+    ];
+    for (text, spelled) in rows {
+        let found = spell(rt.alloc(), &AsciiTokenizer, text)?;
+        assert_eq!(rt; found.as_str(), spelled);
+    }
+    Ok(())
+}
+
+#[test]
+fn tokens_are_gone_over(rt: HostRuntime) -> Result<(), Fail> {
+    let mut tokens = AsciiTokenizer.token_list(rt.alloc(), "x y")?;
+    assert!(rt;
+        tokens
+            .next()
+            .is_some_and(|token| token.text.as_str() == "x")
+    );
+    assert!(rt; tokens.advance());
+    assert_eq!(rt; tokens.token().position, 1);
+    assert!(rt; !tokens.advance());
+    Ok(())
+}
+
+fn appended<T: FastValue>(alloc: Global, val: T) -> Result<Term, Fault> {
+    let mut term = Term::from_field_text(alloc, Field::from_field_id(3), "n")?;
+    term.append_type_and_fast_value(val)?;
+    Ok(term)
+}
+
+#[test]
+fn values_have_terms(rt: HostRuntime) -> Result<(), Fail> {
+    let alloc = rt.alloc();
+    let field = Field::from_field_id(3);
+    let terms = [
+        Term::from_field_u64(alloc, field, 983)?,
+        Term::from_field_i64(alloc, field, -4)?,
+        Term::from_field_bool(alloc, field, true)?,
+        Term::from_field_bytes(alloc, field, b"ab")?,
+        appended(alloc, 4u64)?,
+        appended(alloc, -4i64)?,
+        appended(alloc, true)?,
+        appended(alloc, DateTime(5))?,
+    ];
+    let rows: [&[u8]; 8] = [
+        b"\x00\x00\x00\x00\x00\x00\x03\xd7",
+        b"\x7f\xff\xff\xff\xff\xff\xff\xfc",
+        b"\x00\x00\x00\x00\x00\x00\x00\x01",
+        b"ab",
+        b"nu\x00\x00\x00\x00\x00\x00\x00\x04",
+        b"ni\x7f\xff\xff\xff\xff\xff\xff\xfc",
+        b"no\x00\x00\x00\x00\x00\x00\x00\x01",
+        b"nd\x80\x00\x00\x00\x00\x00\x00\x05",
+    ];
+    for (term, row) in terms.iter().zip(rows) {
+        assert_eq!(rt; term.field(), field);
+        assert_eq!(rt; term.serialized_value_bytes(), row);
+    }
+    let mut term = Term::from_field_text(alloc, field, "color")?;
+    term.append_type_and_str("red")?;
+    assert_eq!(rt; term.serialized_value_bytes(), b"colorsred".as_slice());
     Ok(())
 }

@@ -13,3 +13,4 @@ pub mod PositionLemmas
 pub mod PositionPacking
 pub mod PositionRows
 pub mod WrittenLaws
+mod TermLaws

@@ -4,8 +4,7 @@ use Rattle.std.proofs.lemmas.Bool.{le-leb, lt-ltb}
 use Rattle.std.proofs.lemmas.List.{drop_at, take_at, take-append-drop, length-drop, get_or-drop}
 use Rattle.std.proofs.lemmas.List.FromFn.{get_or-map-range_with_len, length-map-range_with_len, take-map-range_with_len, sum_by-map-range_with_len_more}
 use Rattle.std.specs.List.{flat_map, range_with_len, concat, sum_by, AllByRecursion}
-use Rattle.ii_io.specs.Steps.{◌>>=◌}
-use Rattle.ii_io.specs.Vints.{u32_at, vint_u32, vint_u64}
+use Rattle.ii_io.specs.Vints.{vint_u32, vint_u64}
 use Rattle.ii_io.specs.VintLemmas.{u32_at-vint_u32, u64_at-vint_u64}
 use Rattle.ii_codes.specs.Blocks.{unsorted_width, unsorted_bytes, IsBlock}
 use Rattle.ii_codes.specs.UnsortedVints.{u32s_until_end, unsorted_vints}

@@ -14,6 +14,7 @@ use Rattle.ii_docset.specs.Entries.{Entry, are_documents}
 use Rattle.ii_layout.specs.SkipList.{SkipEntry, SkipList, skip_list}
 use Rattle.ii_layout.specs.Frequencies.{has_freqs, freqs_at, freqs_if}
 use Rattle.ii_layout.specs.Postings.{entries_of, posting_list}
+use Rattle.ii_layout.specs.TermList.{docs_and_freqs}
 use Rattle.ii_layout.specs.Written.{last_before, rest_freqs, rest_bytes, skip_bytes, written_postings, AreFreqs, freqs_read, ReadsPostingsBack, ReadsUncountedBack, ReadsDocumentsBack}
 use Rattle.ii_layout.proofs.ReadBackLemmas.{blocks, entries, entry_for, list_for, shape_at, shape_at-same, TellsShape, tells_same, tells_basic, skip_list_read, documents_read, all_freqs_read}
 
@@ -67,10 +68,10 @@ asked_counts true skip left after freqs read = rw (read refl) refl
 asked_counts false skip left after freqs read = refl
 
 -- the skip list that is found, and the bytes after the documents
-abbrev after_docs : IndexRecordOption → List ℕ → List ℕ → List ℕ → List ℕ
+abbrev pub after_docs : IndexRecordOption → List ℕ → List ℕ → List ℕ → List ℕ
 after_docs skip_info docs freqs rest = rest_freqs skip_info (drop (128 * (length docs / 128)) freqs) ++ rest
 
-abbrev body_of : IndexRecordOption → List ℕ → List ℕ → List ℕ → List ℕ
+abbrev pub body_of : IndexRecordOption → List ℕ → List ℕ → List ℕ → List ℕ
 body_of skip_info docs freqs rest =
     blocks skip_info docs freqs (length docs / 128) ++ (sorted_vints (last_before docs (length docs / 128)) (drop (128 * (length docs / 128)) docs) ++ after_docs skip_info docs freqs rest)
 
@@ -87,7 +88,7 @@ in_parts skip_info docs freqs rest =
     (append_assoc (sorted_vints (last_before docs (length docs / 128)) (drop (128 * (length docs / 128)) docs)) (rest_freqs skip_info (drop (128 * (length docs / 128)) freqs)) rest)
 
 module _ (recorded skip_info : IndexRecordOption) (docs freqs rest : List ℕ) (are : are_documents docs ≡ true) (few : length docs < 2 ^ 32) where
-  abbrev found : SkipList
+  abbrev pub found : SkipList
   found = list_for skip_info docs freqs (shape_at recorded skip_info (length docs / 128)) (length docs / 128) (body_of skip_info docs freqs rest)
 
   list_read : (requested : IndexRecordOption) (read : Option (List ℕ)) → TellsShape recorded skip_info → (IsTrue (has_freq skip_info) → AreFreqs skip_info docs freqs)
@@ -100,11 +101,22 @@ module _ (recorded skip_info : IndexRecordOption) (docs freqs rest : List ℕ) (
       let documents = documents_read skip_info docs freqs are counts (shape_at recorded skip_info (length docs / 128)) (after_docs skip_info docs freqs rest) (length docs / 128) (length docs % 128) all in
       rw (ap (skip_list recorded (length docs / 128)) (in_parts skip_info docs freqs rest) ∙ listed, documents, counts_read) refl
 
--- documents with counts
-some_read : (recorded requested : IndexRecordOption) (docs freqs rest : List ℕ) → are_documents docs ≡ true → length docs < 2 ^ 32 → (IsTrue (has_freq recorded) → AreFreqs recorded docs freqs) → 0 < length docs
-    → posting_list recorded requested (length docs) (written_postings recorded docs freqs ++ rest) ≡ Ok (entries_of docs (freqs_read recorded requested freqs))
-some_read recorded requested docs freqs rest are few counts some =
-    let n = length docs / 128 in
+  -- and apart
+  pub docs_read : (requested : IndexRecordOption) (read : Option (List ℕ)) → TellsShape recorded skip_info → (IsTrue (has_freq skip_info) → AreFreqs skip_info docs freqs)
+      → freqs_if (has_freq requested && has_freqs found (after_docs skip_info docs freqs rest)) found (length docs % 128) (after_docs skip_info docs freqs rest) ≡ Some read
+      → docs_and_freqs recorded requested (length docs) (written_postings skip_info docs freqs ++ rest) ≡ Ok (docs, read)
+  docs_read requested read tells counts counts_read =
+      let whole : 128 * (length docs / 128) ≤ length docs = omega arith in
+      let all : 128 * (length docs / 128) + length docs % 128 ≡ length docs = omega arith in
+      let listed = skip_list_read skip_info docs freqs are counts recorded (body_of skip_info docs freqs rest) (length docs / 128) tells whole few in
+      let documents = documents_read skip_info docs freqs are counts (shape_at recorded skip_info (length docs / 128)) (after_docs skip_info docs freqs rest) (length docs / 128) (length docs % 128) all in
+      rw (ap (skip_list recorded (length docs / 128)) (in_parts skip_info docs freqs rest) ∙ listed, documents, counts_read) refl
+
+-- the counts of documents that have them
+pub freqs_found : (recorded requested : IndexRecordOption) (docs freqs rest : List ℕ) (are : are_documents docs ≡ true) (few : length docs < 2 ^ 32) → (IsTrue (has_freq recorded) → AreFreqs recorded docs freqs) → 0 < length docs
+    → freqs_if (has_freq requested && has_freqs (found recorded recorded docs freqs rest are few) (after_docs recorded docs freqs rest)) (found recorded recorded docs freqs rest are few) (length docs % 128) (after_docs recorded docs freqs rest)
+    ≡ Some (freqs_read recorded requested freqs)
+freqs_found recorded requested docs freqs rest are few counts some =
     let all : 128 * (length docs / 128) + length docs % 128 ≡ length docs = omega arith in
     let same = shape_at-same recorded (length docs / 128) in
     let has = has_counts recorded (shape_at recorded recorded (length docs / 128)) (body_of recorded docs freqs rest) (after_docs recorded docs freqs rest) (entries recorded docs freqs (length docs / 128))
@@ -117,8 +129,13 @@ some_read recorded requested docs freqs rest are few counts some =
     ∙ all_freqs_read recorded docs freqs are counts yes (sorted_vints (last_before docs (length docs / 128)) (drop (128 * (length docs / 128)) docs) ++ after_docs recorded docs freqs rest) rest
     (length docs / 128) (length docs % 128) all)
     in
-    list_read recorded recorded docs freqs rest are few requested (freqs_read recorded requested freqs) (tells_same recorded) counts
-    (ap (λ (b : Bool). freqs_if (has_freq requested && b) (found recorded recorded docs freqs rest are few) (length docs % 128) (after_docs recorded docs freqs rest)) has ∙ read)
+    ap (λ (b : Bool). freqs_if (has_freq requested && b) (found recorded recorded docs freqs rest are few) (length docs % 128) (after_docs recorded docs freqs rest)) has ∙ read
+
+-- documents with counts
+some_read : (recorded requested : IndexRecordOption) (docs freqs rest : List ℕ) → are_documents docs ≡ true → length docs < 2 ^ 32 → (IsTrue (has_freq recorded) → AreFreqs recorded docs freqs) → 0 < length docs
+    → posting_list recorded requested (length docs) (written_postings recorded docs freqs ++ rest) ≡ Ok (entries_of docs (freqs_read recorded requested freqs))
+some_read recorded requested docs freqs rest are few counts some =
+    list_read recorded recorded docs freqs rest are few requested (freqs_read recorded requested freqs) (tells_same recorded) counts (freqs_found recorded requested docs freqs rest are few counts some)
 
 -- and none
 none_left : (recorded : IndexRecordOption) (freqs : List ℕ) → (IsTrue (has_freq recorded) → AreFreqs recorded [] freqs) → rest_freqs recorded freqs ≡ []
@@ -143,11 +160,13 @@ no_counts : (recorded : IndexRecordOption) (docs freqs body : List ℕ) (n : ℕ
 no_counts recorded docs freqs body zero = and-false (has_freq recorded)
 no_counts recorded docs freqs body (suc more) = refl
 
+pub none_found : (recorded requested : IndexRecordOption) (docs freqs : List ℕ) (are : are_documents docs ≡ true) (few : length docs < 2 ^ 32)
+    → freqs_if (has_freq requested && has_freqs (found recorded Basic docs freqs [] are few) []) (found recorded Basic docs freqs [] are few) (length docs % 128) [] ≡ Some None
+none_found recorded requested docs freqs are few =
+    ap (λ (b : Bool). freqs_if (has_freq requested && b) (found recorded Basic docs freqs [] are few) (length docs % 128) []) (no_counts recorded docs freqs (body_of Basic docs freqs []) (length docs / 128))
+    ∙ ap (λ (b : Bool). freqs_if b (found recorded Basic docs freqs [] are few) (length docs % 128) []) (and-false (has_freq requested))
+
 pub reads_uncounted_back : ReadsUncountedBack
 reads_uncounted_back recorded requested docs freqs are few =
-    let none = no_counts recorded docs freqs (body_of Basic docs freqs []) (length docs / 128) in
-    let unread = ap (λ (b : Bool). freqs_if (has_freq requested && b) (found recorded Basic docs freqs [] are few) (length docs % 128) []) none
-    ∙ ap (λ (b : Bool). freqs_if b (found recorded Basic docs freqs [] are few) (length docs % 128) []) (and-false (has_freq requested))
-    in
     ap (posting_list recorded requested (length docs)) (sym (append-nil (written_postings Basic docs freqs)))
-    ∙ list_read recorded Basic docs freqs [] are few requested None (tells_basic recorded) (λ has. absurd (cc)) unread
+    ∙ list_read recorded Basic docs freqs [] are few requested None (tells_basic recorded) (λ has. absurd (cc)) (none_found recorded requested docs freqs are few)

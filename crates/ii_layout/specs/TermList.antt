@@ -1,14 +1,18 @@
 -- The list of a term: its documents with their counts and positions, or the first part that fails.
-use Rattle.std.specs.Prelude.{ℕ, Bool, true, false, List, [], ◌∷◌, Option, None, Some, Result, Ok, ok_or}
+use Rattle.std.specs.Prelude.{◌≡◌, ℕ, ◌/◌, ◌^◌, ◌<◌, length, if◌then◌else◌, IsTrue, Bool, true, false, List, [], ◌∷◌, Option, None, Some, Result, Ok, ok_or}
 use Rattle.std.specs.Option.{option_map}
 use Rattle.ii_io.specs.declared.faults.Part.{Part}
 use Rattle.ii_io.specs.declared.faults.Part.TheVariants.{Positions}
 use Rattle.ii_io.specs.Parts.{◌>>=◌}
 use Rattle.ii_base.specs.declared.schema.index_record_option.IndexRecordOption.{IndexRecordOption}
-use Rattle.ii_base.specs.Options.{downgrade, has_positions}
-use Rattle.ii_docset.specs.Entries.{Entry}
+use Rattle.ii_base.specs.Options.{downgrade, has_freq, has_positions}
+use Rattle.ii_base.specs.declared.schema.index_record_option.IndexRecordOption.TheVariants.{Basic}
+use Rattle.std.specs.List.{sum, list_all, AllByRecursion}
+use Rattle.ii_codes.specs.Sums.{fit_u32}
+use Rattle.ii_docset.specs.Entries.{Entry, are_documents}
 use Rattle.ii_layout.specs.Postings.{postings, entries_of}
-use Rattle.ii_layout.specs.Positions.{positions_of, deltas_at}
+use Rattle.ii_layout.specs.Positions.{positions_of, deltas_at, written_positions}
+use Rattle.ii_layout.specs.Written.{written_postings, AreFreqs, freqs_read}
 
 -- the deltas of a term where they are read: its counts are, and bytes are given
 abbrev pub deltas_if : Bool → Option (List ℕ) → Option (List ℕ) → Option (Option (List ℕ))
@@ -45,3 +49,24 @@ term_list recorded requested doc_freq bytes positions = do
   read ← docs_and_freqs recorded requested doc_freq bytes
   deltas ← ok_or (deltas_if (has_positions (downgrade recorded requested)) read.1 positions) Positions
   Ok (list_of read.0 read.1 deltas)
+
+-- Deltas that may be written of a term with these counts: as many as these say, each of 32 bits, and so is each position.
+pub record AreDeltas (freqs deltas : List ℕ) : Type 0 where
+  pub many : length deltas ≡ sum freqs
+  pub small : AllByRecursion (λ v. v < 2 ^ 32) deltas
+  pub few : length deltas / 128 < 2 ^ 64
+  pub fit : list_all fit_u32 (positions_of freqs deltas) ≡ true
+
+-- What is written of a term gives its list for each option that is requested.
+abbrev pub ReadsTermBack : Type 0
+ReadsTermBack =
+    (recorded requested : IndexRecordOption) (docs freqs deltas positions : List ℕ) → IsTrue (are_documents docs) → length docs < 2 ^ 32 → 0 < length docs
+    → (IsTrue (has_freq recorded) → AreFreqs recorded docs freqs) → (IsTrue (has_positions recorded) → (positions ≡ written_positions deltas) × AreDeltas freqs deltas)
+    → term_list recorded requested (length docs) (written_postings recorded docs freqs) (Some positions)
+    ≡ Ok (list_of docs (freqs_read recorded requested freqs) (if has_positions (downgrade recorded requested) then Some deltas else None))
+
+-- So does a term that is written without counts, whatever its field records.
+abbrev pub ReadsUncountedTermBack : Type 0
+ReadsUncountedTermBack =
+    (recorded requested : IndexRecordOption) (docs freqs : List ℕ) (positions : Option (List ℕ)) → IsTrue (are_documents docs) → length docs < 2 ^ 32
+    → term_list recorded requested (length docs) (written_postings Basic docs freqs) positions ≡ Ok (list_of docs None None)

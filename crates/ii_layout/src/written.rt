@@ -1,4 +1,5 @@
 ghost use Rattle.ii_layout.specs.Positions.{ReadsPositionsBack};
+ghost use Rattle.ii_layout.specs.TermList.{ReadsTermBack, ReadsUncountedTermBack};
 ghost use Rattle.ii_layout.specs.Written.{ReadsPostingsBack, ReadsUncountedBack, ReadsDocumentsBack};
 
 /// The law of written postings: what is written gives its list for each option that is requested,
@@ -21,4 +22,16 @@ pub fn reads_documents_back()
 /// The law of written positions: what is written gives its deltas.
 pub fn reads_positions_back()
     ensures { ReadsPositionsBack }
+{}
+
+/// The law of written terms: what is written of documents, counts and positions gives their list for
+/// each option that is requested.
+pub fn reads_term_back()
+    ensures { ReadsTermBack }
+{}
+
+/// The law of terms that are written without counts: they give their documents, whatever the field
+/// records and whatever stands in its positions.
+pub fn reads_uncounted_term_back()
+    ensures { ReadsUncountedTermBack }
 {}

@@ -1,0 +1,17 @@
+-- Values as bytes, so that their order is that of the bytes.
+use Rattle.std.specs.Prelude.{ℕ, suc, ◌+◌, ◌-◌, ◌^◌, Bool, true, false, ℤ, pos, negsuc, List}
+use Rattle.std.specs.Int.{bytes_high_first}
+
+-- a signed number of 64 bits with its top bit flipped
+abbrev pub flipped : ℤ → ℕ
+flipped (pos n) = 2 ^ 63 + n
+flipped (negsuc n) = 2 ^ 63 - suc n
+
+-- a truth value as a number
+abbrev pub number_of_bool : Bool → ℕ
+number_of_bool true = 1
+number_of_bool false = 0
+
+-- a number of 64 bits as 8 bytes, the highest first
+abbrev pub u64_bytes : ℕ → List ℕ
+u64_bytes n = bytes_high_first 8 n

@@ -1,0 +1,119 @@
+ghost use Rattle.std.specs.Prelude.{◌≡◌, ◌∷◌, ◌++◌, pos, IfErr, IfOk, OnErr, OnOk};
+ghost use Rattle.ii_base.specs.ValueTypes.{code_of};
+ghost use Rattle.ii_base.specs.Values.{flipped, number_of_bool, u64_bytes};
+
+use super::value_type::ValueType;
+use crate::fast_value::FastValue;
+use ii_io::{Fault, Field};
+use std::alloc::Global;
+use std::marker::Model;
+
+/// A term: a field, and the bytes of a value in it, by which the term is looked up.
+#[derive(Drop)]
+pub struct Term {
+    field: Field,
+    value: Vec<u8>,
+}
+
+impl Model for Term {
+    ghost use Rattle.ii_base.specs.Terms.{TermState};
+
+    ghost Value = { TermState };
+
+    ghost view = { λ t. record { field = t.field; value = t.value.items } };
+}
+
+impl Term {
+    /// The term of an unsigned number: 8 bytes, the highest first. `OutOfMemory` where there is no
+    /// room for them.
+    pub fn from_field_u64(alloc: Global, field: Field, val: u64) -> Result<Term, Fault>
+        ensures ok { IfOk result (λ term. term ≡ record { field = field; value = u64_bytes val }) }
+        ensures only { IfErr result (λ e. e ≡ Fault.OutOfMemory) }
+    {
+        Term::from_field_bytes(alloc, field, &val.to_be_bytes())
+    }
+
+    /// The term of a signed number: 8 bytes of the number plus 2^63, the highest first. `OutOfMemory`
+    /// where there is no room for them.
+    pub fn from_field_i64(alloc: Global, field: Field, val: i64) -> Result<Term, Fault>
+        ensures ok { IfOk result (λ term. term ≡ record { field = field; value = u64_bytes (flipped val) }) }
+        ensures only { IfErr result (λ e. e ≡ Fault.OutOfMemory) }
+    {
+        Term::from_field_u64(alloc, field, val.to_u64())
+    }
+
+    /// The term of a truth value: 8 bytes of 0 or 1, the highest first. `OutOfMemory` where there is
+    /// no room for them.
+    pub fn from_field_bool(alloc: Global, field: Field, val: bool) -> Result<Term, Fault>
+        ensures ok { IfOk result (λ term. term ≡ record { field = field; value = u64_bytes (number_of_bool val) }) }
+        ensures only { IfErr result (λ e. e ≡ Fault.OutOfMemory) }
+    {
+        Term::from_field_u64(alloc, field, val.to_u64())
+    }
+
+    /// The term of a text: its bytes. `OutOfMemory` where there is no room for them.
+    pub fn from_field_text(alloc: Global, field: Field, text: &str) -> Result<Term, Fault>
+        ensures ok { IfOk result (λ term. term ≡ record { field = field; value = text.now }) }
+        ensures only { IfErr result (λ e. e ≡ Fault.OutOfMemory) }
+    {
+        Term::from_field_bytes(alloc, field, text.as_bytes())
+    }
+
+    /// The term of bytes: these bytes. `OutOfMemory` where there is no room for them.
+    pub fn from_field_bytes(alloc: Global, field: Field, bytes: &[u8]) -> Result<Term, Fault>
+        ensures ok { IfOk result (λ term. term ≡ record { field = field; value = bytes.now }) }
+        ensures only { IfErr result (λ e. e ≡ Fault.OutOfMemory) }
+    {
+        let value = Vec::from_slice(alloc, bytes)?;
+        Ok(Term { field, value })
+    }
+
+    /// Adds a value in a JSON field: the letter of its type, and the 8 bytes of the number that stands
+    /// for it, the highest first. `OutOfMemory` where there is no room for them: the term then stays.
+    pub fn append_type_and_fast_value<T: FastValue>(&mut self, val: T) -> Result<(), Fault>
+        ensures ok { OnOk result (self.new ≡ record self.old { value = self.old.value ++ code_of T.type_of_values ∷ u64_bytes (T.number val) }) }
+        ensures err { OnErr result (self.new ≡ self.old) }
+        ensures only { IfErr result (λ e. e ≡ Fault.OutOfMemory) }
+    {
+        self.append_type_and_bytes(T::to_type(), &val.to_u64().to_be_bytes())
+    }
+
+    /// Adds a text in a JSON field: the letter `s` and its bytes. `OutOfMemory` where there is no room
+    /// for them: the term then stays.
+    pub fn append_type_and_str(&mut self, val: &str) -> Result<(), Fault>
+        ensures ok { OnOk result (self.new ≡ record self.old { value = self.old.value ++ 0x73 ∷ val.now }) }
+        ensures err { OnErr result (self.new ≡ self.old) }
+        ensures only { IfErr result (λ e. e ≡ Fault.OutOfMemory) }
+    {
+        self.append_type_and_bytes(ValueType::Str, val.as_bytes())
+    }
+
+    // Adds the letter of a type, and bytes.
+    fn append_type_and_bytes(&mut self, value_type: ValueType, bytes: &[u8]) -> Result<(), Fault>
+        ensures ok { OnOk result (self.new ≡ record self.old { value = self.old.value ++ code_of value_type ∷ bytes.now }) }
+        ensures err { OnErr result (self.new ≡ self.old) }
+        ensures only { IfErr result (λ e. e ≡ Fault.OutOfMemory) }
+    {
+        let len = self.value.len();
+        self.value.push(value_type.to_code())?;
+        if let Err(refused) = self.value.extend_from_slice(bytes) {
+            self.value.truncate(len);
+            return Err(Fault::from(refused));
+        }
+        Ok(())
+    }
+
+    /// The field.
+    pub fn field(&self) -> Field
+        ensures { result ≡ self.now.field }
+    {
+        self.field
+    }
+
+    /// The bytes of the value: the key under which a field's dictionary has the term.
+    pub fn serialized_value_bytes(&self) -> &[u8]
+        ensures { result.now ≡ self.now.value }
+    {
+        &self.value
+    }
+}

@@ -1,0 +1,5 @@
+pub mod ascii_tokenizer;
+pub mod text_analyzer;
+pub mod token;
+pub mod token_list;
+pub mod token_stream;

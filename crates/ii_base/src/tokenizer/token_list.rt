@@ -1,0 +1,54 @@
+ghost use Rattle.std.specs.Prelude.{◌≡◌, None};
+ghost use Rattle.ii_base.specs.Words.{words_of};
+
+use super::token::Token;
+use super::token_stream::TokenStream;
+use std::marker::Model;
+
+/// Tokens in a list, gone over one by one.
+#[derive(Drop)]
+pub struct TokenList {
+    tokens: Vec<Token>,
+    passed: usize,
+}
+
+impl Model for TokenList {
+    ghost use Rattle.std.specs.Prelude.{◌≤◌, ◌-◌, ◌==◌, drop, length, slice_get, None, if◌then◌else◌};
+    ghost use Rattle.ii_base.specs.Words.{TokenListState, words_of};
+
+    ghost Value = { TokenListState };
+
+    ghost view = { λ s. record {
+      current = if s.passed == 0 then None else slice_get (words_of s.tokens.items) (s.passed - 1);
+      to_come = drop s.passed (words_of s.tokens.items);
+    } };
+
+    ghost invariant = { λ s. s.passed ≤ length s.tokens.items };
+}
+
+impl TokenList {
+    /// A list of these tokens, all of them still to come.
+    pub fn new(tokens: Vec<Token>) -> TokenList
+        ensures { result ≡ record { current = None; to_come = words_of tokens.items } }
+    {
+        TokenList { tokens, passed: 0 }
+    }
+}
+
+impl TokenStream for TokenList {
+    ghost to_come = { λ s. s.to_come };
+
+    ghost current = { λ s. s.current };
+
+    fn advance(&mut self) -> bool {
+        if self.passed >= self.tokens.len() {
+            return false;
+        }
+        self.passed += 1;
+        true
+    }
+
+    fn token(&self) -> &Token {
+        &self.tokens[self.passed - 1]
+    }
+}

@@ -1,0 +1,39 @@
+ghost use Rattle.std.specs.Prelude.{◌≡◌, true, drop, length, nat_lt, slice_get, IsSome, Some, ⊤};
+ghost use Rattle.std.specs.Borrow.{sem, follows_so};
+ghost use mathlib.Core.Option.{none};
+ghost use Rattle.std.specs.Option.{option_map};
+ghost use Rattle.ii_base.specs.Words.{Word, word_of};
+
+use super::token::Token;
+
+/// Goes over the tokens of a text. Its meaning is the list of tokens still to come.
+pub trait TokenStream: Drop {
+    ghost use Rattle.std.specs.Prelude.{List, Option};
+
+    ghost to_come: { Self → List Word };
+
+    // The token that was reached last.
+    ghost current: { Self → Option Word };
+
+    /// Goes on to the next token, and answers whether there is one.
+    fn advance(&mut self) -> bool
+        ensures found { result ≡ nat_lt 0 (length (to_come self.old)) }
+        ensures current { result ≡ true → current self.new ≡ slice_get (to_come self.old) 0 }
+        ensures rest { to_come self.new ≡ drop 1 (to_come self.old) };
+
+    /// The current token. It asks for an `advance` that answered true.
+    fn token(&self) -> &Token
+        requires { IsSome (current self.now) }
+        ensures { current self.now ≡ Some (word_of result.now) };
+
+    /// Goes on to the next token, and answers it, if there is one.
+    fn next(&mut self) -> Option<&Token>
+        ensures* rest { sem 𝓛 (follows_so Self.row Self.row self.entry.ghost_name none (λ _ _. ⊤) (λ after. to_come after ≡ drop 1 (to_come self.old))) }
+        ensures found { option_map (λ t. word_of t.now) result ≡ slice_get (to_come self.old) 0 }
+    {
+        if self.advance() {
+            return Some(self.token());
+        }
+        None
+    }
+}

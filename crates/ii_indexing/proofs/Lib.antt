@@ -1,0 +1,3 @@
+mod FileRows
+pub mod TermLemmas
+mod WorkedRows

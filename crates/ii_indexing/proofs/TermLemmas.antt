@@ -1,0 +1,22 @@
+-- The field in front of a term's bytes.
+use Rattle.std.proofs.Common.{◌≡◌, ℕ, ◌≤◌, List, ◌++◌, length, take, refl, sym, arith, ◌∙◌, subst, length-append}
+use Rattle.std.proofs.lemmas.List.{take-append-le, take_all}
+use Rattle.ii_indexing.specs.IndexingTerm.{field_bytes}
+
+pub length_field : (field : ℕ) → length (field_bytes field) ≡ 4
+unfolding field_bytes
+length_field field = refl
+
+-- 4 bytes of a field stand in front.
+abbrev pub HasField : List ℕ → ℕ → Type 0
+HasField bytes field = (4 ≤ length bytes) × (take 4 bytes ≡ field_bytes field)
+
+pub field_in_front : (field : ℕ) (bytes rest : List ℕ) → bytes ≡ field_bytes field ++ rest → HasField bytes field
+field_in_front field bytes rest is =
+    let len = length_field field in
+    let sum = length-append (field_bytes field) rest in
+    let whole : HasField (field_bytes field ++ rest) field = (
+      omega (arith, len, sum),
+      take-append-le 4 (field_bytes field) rest (omega (arith, len)) ∙ take_all 4 (field_bytes field) (omega (arith, len)),
+    ) in
+    subst (λ (bs : List ℕ). HasField bs field) (sym is) whole

@@ -1,0 +1,19 @@
+-- A term while it is indexed: a field, and the bytes of a value in it.
+use Rattle.std.specs.Prelude.{ℕ, List, ◌++◌}
+use Rattle.std.specs.Int.{bytes_high_first, from_be_bytes, w32}
+
+pub record IndexingTermState : Type 0 where
+  pub field : ℕ
+  pub value : List ℕ
+
+-- 4 bytes of a field, the highest first
+unfoldable pub field_bytes : ℕ → List ℕ
+field_bytes field = bytes_high_first 4 field
+
+-- its bytes
+abbrev pub term_bytes : IndexingTermState → List ℕ
+term_bytes t = field_bytes t.field ++ t.value
+
+-- the field in the first 4 bytes, the highest first
+unfoldable pub field_in : List ℕ → ℕ
+field_in bytes = from_be_bytes w32 bytes

@@ -1,0 +1,84 @@
+-- The tokens of a list of index calls.
+use Rattle.std.specs.Prelude.{ℕ, ◌+◌, max, Bool, true, false, ◌&&◌, ◌==◌, List, [], ◌∷◌, ◌++◌, bytes_eq, filter, length, map, nat_le}
+use Rattle.std.specs.List.{flat_map, fold}
+use Rattle.ii_base.specs.Words.{Word}
+
+-- what a call is to index
+pub data Content : Type 0 where
+  text : List ℕ → Content
+  words : List Word → Content
+  value : List ℕ → Content
+
+pub record Call : Type 0 where
+  pub doc : ℕ
+  pub field : ℕ
+  pub content : Content
+
+-- A token stands under a key of a field, at a position of a document.
+pub record IndexToken : Type 0 where
+  pub doc : ℕ
+  pub field : ℕ
+  pub key : List ℕ
+  pub position : ℕ
+  pub of_text : Bool
+
+-- A text, or one value. A text's words stand under keys that begin with the prefix; a value's key is the prefix.
+pub record Piece : Type 0 where
+  pub doc : ℕ
+  pub field : ℕ
+  pub prefix : List ℕ
+  pub is_text : Bool
+  pub words : List Word
+
+-- a longer word is left out
+abbrev pub max_token_len : ℕ
+max_token_len = 65530
+
+abbrev pub kept_words : List Word → List Word
+kept_words ws = filter (λ (w : Word). nat_le (length w.text) max_token_len) ws
+
+-- the end of a text that begins at a place: the greatest end of a kept word and where the text began, plus 1
+abbrev pub end_after : ℕ → List Word → ℕ
+end_after begin ws = fold (λ (end : ℕ) (w : Word). max end (begin + w.position + w.position_length)) begin (kept_words ws) + 1
+
+-- texts of one document under one prefix of a field
+abbrev pub is_same_group : Piece → Piece → Bool
+is_same_group p q = q.is_text && (q.doc == p.doc) && (q.field == p.field) && bytes_eq q.prefix p.prefix
+
+-- where a text begins after these pieces: at the end of the last text of its group, or at 0
+abbrev pub begin_after : List Piece → Piece → ℕ
+begin_after earlier p = fold (λ (end : ℕ) (q : Piece). end_after end q.words) 0 (filter (is_same_group p) earlier)
+
+abbrev pub word_token : Piece → ℕ → Word → IndexToken
+word_token p begin w = record { doc = p.doc; field = p.field; key = p.prefix ++ w.text; position = begin + w.position; of_text = true }
+
+abbrev pub value_token : Piece → IndexToken
+value_token p = record { doc = p.doc; field = p.field; key = p.prefix; position = 0; of_text = false }
+
+abbrev pub piece_tokens_from : Bool → ℕ → Piece → List IndexToken
+piece_tokens_from true begin p = map (word_token p begin) (kept_words p.words)
+piece_tokens_from false begin p = value_token p ∷ []
+
+-- the tokens of a piece after earlier ones
+abbrev pub piece_tokens : List Piece → Piece → List IndexToken
+piece_tokens earlier p = piece_tokens_from p.is_text (begin_after earlier p) p
+
+abbrev pub tokens_after : List Piece → List Piece → List IndexToken
+tokens_after earlier [] = []
+tokens_after earlier (p ∷ ps) = piece_tokens earlier p ++ tokens_after (earlier ++ p ∷ []) ps
+
+-- the pieces of a call, by what an analyzer makes of a text
+abbrev pub content_pieces : (List ℕ → List Word) → Call → Content → List Piece
+content_pieces analyze c (text t) = record { doc = c.doc; field = c.field; prefix = []; is_text = true; words = analyze t } ∷ []
+content_pieces analyze c (words ws) = record { doc = c.doc; field = c.field; prefix = []; is_text = true; words = ws } ∷ []
+content_pieces analyze c (value key) = record { doc = c.doc; field = c.field; prefix = key; is_text = false; words = [] } ∷ []
+
+abbrev pub call_pieces : (List ℕ → List Word) → Call → List Piece
+call_pieces analyze c = content_pieces analyze c c.content
+
+abbrev pub pieces_of : (List ℕ → List Word) → List Call → List Piece
+pieces_of analyze calls = flat_map (call_pieces analyze) calls
+
+-- the tokens of a list of calls
+abbrev pub tokens_of : (List ℕ → List Word) → List Call → List IndexToken
+tokens_of analyze calls = tokens_after [] (pieces_of analyze calls)

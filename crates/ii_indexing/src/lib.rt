@@ -1,0 +1,13 @@
+//! From index calls to index files: terms while they are indexed, and what is known of a document's
+//! texts.
+#![tactic(auto)]
+
+pub mod indexing_position;
+pub mod indexing_term;
+pub mod path_to_unordered_id;
+#[cfg(test)]
+mod tests;
+
+pub use indexing_position::IndexingPosition;
+pub use indexing_term::{IndexingTerm, IndexingTermRef};
+pub use path_to_unordered_id::OrderedPathId;

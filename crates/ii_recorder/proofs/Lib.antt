@@ -1,0 +1,4 @@
+pub mod Documents
+pub mod TermLemmas
+pub mod IndexLemmas
+pub mod RecorderLemmas

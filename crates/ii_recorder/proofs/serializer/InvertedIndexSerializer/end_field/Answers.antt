@@ -1,0 +1,10 @@
+use Rattle.std.proofs.Common.{sym, ◌∙◌}
+use Rattle.ii_io.specs.CountingWriterLemmas.{on_ok_went}
+use Rattle.ii_recorder.proofs.serializer.InvertedIndexSerializer.end_field.Goals as goal
+
+pub returns-clause-wrote_last : goal.returns-clause-wrote_last
+returns-clause-wrote_last g c = λ initial field tokens ts key inside h.
+    let went = sym c.if-is_err.false ∙ c.is_err.ensures.value in
+    let writing = on_ok_went c.end_term-ended.result went (c.end_term-ended.ensures.writing initial field tokens ts key inside h) in
+    let mode = on_ok_went c.end_term-ended.result went c.end_term-ended.ensures.mode in
+    rw mode at (c.finish_field.ensures.wrote initial field tokens _ writing)

@@ -1,0 +1,9 @@
+pub mod Terms
+pub mod OpenTerm
+pub mod TermPlaces
+pub mod FieldTerms
+pub mod IndexBodies
+pub mod IndexSerializer
+pub mod AnyRecorder
+pub mod DocFreqs
+pub mod Recorded

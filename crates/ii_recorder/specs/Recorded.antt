@@ -1,0 +1,59 @@
+-- What a recorder keeps of a term: its documents with their counts and positions, as far as an option has these.
+use Rattle.std.specs.Prelude.{ℕ, ◌+◌, ◌-◌, ◌^◌, ◌&&◌, List, [], ◌∷◌, ◌++◌, length, nat_lt, slice_get, slice_index, ◌==◌, if◌then◌else◌, Option, None, Some, unwrap_or}
+use Rattle.std.specs.Option.{option_to_list}
+use Rattle.ii_io.specs.declared.faults.Fault.{Fault}
+use Rattle.ii_io.specs.declared.faults.Fault.TheVariants.{DecreasingPosition, Limit}
+use Rattle.ii_io.specs.declared.faults.LimitName.TheVariants as limit
+use Rattle.ii_base.specs.declared.schema.index_record_option.IndexRecordOption.{IndexRecordOption}
+use Rattle.ii_base.specs.Options.{has_freq, has_positions}
+use Rattle.ii_docset.specs.Entries.{Entry, docs_of}
+
+-- an entry without what an option doesn't keep: each count is then 1, and there are no positions
+abbrev pub cut_entry : IndexRecordOption → Entry → Entry
+cut_entry option e = record {
+  doc = e.doc;
+  term_freq = if has_freq option then e.term_freq else 1;
+  positions = if has_positions option then e.positions else [];
+}
+
+-- What a recorder has: what it keeps of a document, the documents that were closed, and the one that is open.
+pub record RecorderState : Type 0 where
+  pub option : IndexRecordOption
+  pub closed : List Entry
+  pub pending : Option Entry
+
+-- all documents of a recorder, the open one last
+abbrev pub entries_in : RecorderState → List Entry
+entries_in r = r.closed ++ option_to_list r.pending
+
+-- the greatest number of 32 bits
+abbrev pub u32_max : ℕ
+u32_max = 2 ^ 32 - 1
+
+-- the last document of entries
+abbrev pub last_doc : List Entry → Option ℕ
+last_doc es = slice_get (docs_of es) (length es - 1)
+
+-- the document that was begun last, or the greatest number of 32 bits
+abbrev pub current_doc : RecorderState → ℕ
+current_doc r = unwrap_or (last_doc (entries_in r)) u32_max
+
+-- a document in which nothing was recorded yet
+abbrev pub begun : IndexRecordOption → ℕ → Entry
+begun option doc = cut_entry option (record { doc = doc; term_freq = 0; positions = [] })
+
+-- an entry with one more position
+abbrev pub with_position : IndexRecordOption → ℕ → Entry → Entry
+with_position option position e = cut_entry option (record { doc = e.doc; term_freq = e.term_freq + 1; positions = e.positions ++ position ∷ [] })
+
+-- the last position, or 0 where there is none
+abbrev pub last_position : List ℕ → ℕ
+last_position positions = slice_index positions (length positions - 1)
+
+-- why a position can't be recorded in an open document, the first cause in this order
+abbrev pub position_fault : IndexRecordOption → ℕ → Entry → Option Fault
+position_fault option position e =
+    if has_positions option && (position == u32_max) then Some (Limit limit.Position)
+    else if has_positions option && nat_lt position (last_position e.positions) then Some DecreasingPosition
+    else if has_freq option && (e.term_freq == u32_max) then Some (Limit limit.Count)
+    else None

@@ -1,0 +1,162 @@
+ghost use Rattle.std.specs.Prelude.{◌≡◌, ◌+◌, ◌^◌, ◌<◌, ◌≤◌, ◌⊎◌, ◌↔◌, if◌then◌else◌, ℕ, List, [], ◌∷◌, ◌++◌, true, false, length, Ok, OnOk, OnErr, IfOk, IfErr, IsErrOf, IsTrue};
+ghost use Rattle.std.specs.Borrow.{sem, RestsIfErr};
+ghost use Rattle.ii_base.specs.declared.schema.index_record_option.IndexRecordOption.TheVariants.{Basic};
+ghost use Rattle.ii_base.specs.Options.{has_freq, has_positions};
+ghost use Rattle.ii_io.specs.CountingWriter.{Closes};
+ghost use Rattle.ii_docset.specs.Entries.{are_documents};
+ghost use Rattle.ii_layout.specs.PostingsSerializer.{IsSumTooLarge};
+ghost use Rattle.ii_termdict.specs.ReadBack.{AreAscending};
+ghost use Rattle.ii_recorder.specs.Terms.{WrittenTerm, field_bodies};
+ghost use Rattle.ii_recorder.specs.FieldTerms.{IsTooLong, term_under};
+ghost use Rattle.ii_recorder.specs.IndexBodies.{IndexBodiesState, AddsBodies, AreBegun, LacksField, failed_calls};
+ghost use Rattle.ii_recorder.specs.IndexSerializer.{IsWriting};
+ghost use Rattle.ii_recorder.specs.contracts.serializer.InvertedIndexSerializer.{the_row};
+
+use super::serializer::InvertedIndexSerializer;
+use ii_docset::DocId;
+use ii_fieldnorm::FieldNormReader;
+use ii_io::{Fault, Field, LimitName};
+use std::io::Write;
+
+/// Writes the terms of one field to the three files of an index, which are lent to it.
+///
+/// After a refused call the index is closed: each further call answers `SerializerClosed`.
+#[derive(Drop)]
+pub struct FieldSerializer<'a, W: Write> {
+    index: &'a mut InvertedIndexSerializer<W>,
+    ghost begun: { index.now.closed ≡ false → AreBegun index.now.bodies },
+}
+
+impl<W: Write> InvertedIndexSerializer<W> {
+    /// Begins a field of the schema, which wasn't written yet, with the number of all its tokens. The
+    /// norms of the field are kept for bounds, which aren't written yet.
+    ///
+    /// `Write` where a writer fails, `Limit(Offset)` where a count of a writer would pass `u64::MAX`,
+    /// `OutOfMemory` where a table can't grow; `SerializerClosed` after an earlier refusal.
+    pub fn new_field(
+        &mut self,
+        field: Field,
+        total_num_tokens: u64,
+        fieldnorm_reader: Option<FieldNormReader>,
+    ) -> Result<FieldSerializer<'_, W>, Fault>
+        requires known { field < length self.old.entries }
+        requires lacks { self.old.closed ≡ false → LacksField field self.old.bodies }
+        ensures* refused { sem 𝓛 (RestsIfErr (the_row W.row W.Write) self.entry (λ f. f.index.ghost_name) result
+            (λ n. IsTrue n.closed × (IsErrOf result Fault.Write ↔ (failed_calls self.old.bodies < failed_calls n.bodies)))) }
+        ensures same_reference { IfOk result (λ f. f.index.ghost_name ≡ self.entry.ghost_name) }
+        ensures begins { IfOk result (λ f. IsWriting self.old.bodies f.index.now field total_num_tokens [] []) }
+        ensures between { IfOk result (λ f. f.index.now.field.term_open ≡ false) }
+        ensures open { IfOk result (λ f. f.index.now.closed ≡ false) }
+        ensures closed { IsErrOf result Fault.SerializerClosed ↔ IsTrue self.old.closed }
+        ensures only { IfErr result (λ e. (e ≡ Fault.OutOfMemory) ⊎ (e ≡ Fault.Write) ⊎ (e ≡ Fault.Limit LimitName.Offset) ⊎ (e ≡ Fault.SerializerClosed)) }
+    {
+        self.begin(field, total_num_tokens, fieldnorm_reader)?;
+        Ok(FieldSerializer { index: self })
+    }
+}
+
+impl<'a, W: Write> FieldSerializer<'a, W> {
+    /// Begins a term, whose key is above the one before it by its bytes, as the field records it or,
+    /// where `record_term_freq` is not set, without counts. No term is open.
+    ///
+    /// `OutOfMemory` where a growth was refused; `SerializerClosed` after an earlier refusal.
+    pub fn new_term(
+        &mut self,
+        term: &[u8],
+        term_doc_freq: u32,
+        record_term_freq: bool,
+    ) -> Result<(), Fault>
+        requires between { self.old.index.now.closed ≡ false → self.old.index.now.field.term_open ≡ false }
+        requires ascending { self.old.index.now.closed ≡ false → AreAscending (self.old.index.now.field.places.keys ++ term.now ∷ []) }
+        ensures same_reference { self.new.index.ghost_name ≡ self.old.index.ghost_name }
+        ensures writing { (initial : IndexBodiesState) (field tokens : ℕ) (ts : List WrittenTerm) → IsWriting initial self.old.index.now field tokens ts []
+            → OnOk result (IsWriting initial self.new.index.now field tokens ts (term.now ∷ [])) }
+        ensures term { OnOk result (self.new.index.now.field.term
+            ≡ record self.old.index.now.field.term { skip_info = if record_term_freq then self.old.index.now.field.term.mode else Basic; docs = []; freqs = [] }) }
+        ensures inside { OnOk result (self.new.index.now.field.term_open ≡ true) }
+        ensures bodies { self.new.index.now.bodies ≡ self.old.index.now.bodies }
+        ensures closes { Closes result self.new.index.now.closed }
+        ensures closed { IsErrOf result Fault.SerializerClosed ↔ IsTrue self.old.index.now.closed }
+        ensures only { IfErr result (λ e. (e ≡ Fault.OutOfMemory) ⊎ (e ≡ Fault.SerializerClosed)) }
+    {
+        self.index.new_term(term, term_doc_freq, record_term_freq)
+    }
+
+    /// Adds a document of the open term, above the ones before it and below `TERMINATED`, with its
+    /// count, at least 1 where the term has counts, and the deltas of its positions, which are left
+    /// out where the field doesn't record positions.
+    ///
+    /// `Limit(BlockFrequencySum)` where the document fills a block whose counts sum up above
+    /// `u32::MAX`, in a term with positions; `OutOfMemory` where a growth was refused;
+    /// `SerializerClosed` after an earlier refusal.
+    pub fn write_doc(
+        &mut self,
+        doc_id: DocId,
+        term_freq: u32,
+        position_deltas: &[u32],
+    ) -> Result<(), Fault>
+        requires inside { self.old.index.now.closed ≡ false → self.old.index.now.field.term_open ≡ true }
+        requires ascending { self.old.index.now.closed ≡ false → IsTrue (are_documents (self.old.index.now.field.term.docs ++ doc_id ∷ [])) }
+        requires counted { self.old.index.now.closed ≡ false → IsTrue (has_freq self.old.index.now.field.term.skip_info) → 0 < term_freq }
+        ensures same_reference { self.new.index.ghost_name ≡ self.old.index.ghost_name }
+        ensures ok { OnOk result (self.new.index.now ≡ record self.old.index.now {
+          field = record self.old.index.now.field {
+            term = record self.old.index.now.field.term {
+              docs = self.old.index.now.field.term.docs ++ doc_id ∷ [];
+              freqs = self.old.index.now.field.term.freqs ++ term_freq ∷ [];
+              deltas = if has_positions self.old.index.now.field.term.mode then self.old.index.now.field.term.deltas ++ position_deltas.now else self.old.index.now.field.term.deltas;
+            };
+          };
+        }) }
+        ensures bodies { self.new.index.now.bodies ≡ self.old.index.now.bodies }
+        ensures closes { Closes result self.new.index.now.closed }
+        ensures limit { IsErrOf result (Fault.Limit LimitName.BlockFrequencySum)
+            ↔ (self.old.index.now.closed ≡ false) × IsSumTooLarge self.old.index.now.field.term.skip_info (self.old.index.now.field.term.freqs ++ term_freq ∷ []) }
+        ensures closed { IsErrOf result Fault.SerializerClosed ↔ IsTrue self.old.index.now.closed }
+        ensures only { IfErr result (λ e. (e ≡ Fault.OutOfMemory) ⊎ (e ≡ Fault.SerializerClosed) ⊎ (e ≡ Fault.Limit LimitName.BlockFrequencySum)) }
+    {
+        self.index.write_doc(doc_id, term_freq, position_deltas)
+    }
+
+    /// Ends the open term: writes its postings and then, where the field records them, its positions.
+    /// Without an open term it does nothing.
+    ///
+    /// `Write` where a writer fails, `Limit(Offset)` where a count of a writer would pass `u64::MAX`
+    /// or the bytes of all terms pass 2^56, `Limit(TermBytes)` where the postings or the positions of
+    /// the term have more than `u32::MAX` bytes, `OutOfMemory` where a growth was refused;
+    /// `SerializerClosed` after an earlier refusal, and nothing is written.
+    pub fn close_term(&mut self) -> Result<(), Fault>
+        ensures same_reference { self.new.index.ghost_name ≡ self.old.index.ghost_name }
+        ensures writing { (initial : IndexBodiesState) (field tokens : ℕ) (ts : List WrittenTerm) (key : List ℕ) → IsTrue self.old.index.now.field.term_open
+            → IsWriting initial self.old.index.now field tokens ts (key ∷ [])
+            → OnOk result (IsWriting initial self.new.index.now field tokens (ts ++ term_under key self.old.index.now.field.term ∷ []) []) }
+        ensures none { self.old.index.now.closed ≡ false → self.old.index.now.field.term_open ≡ false
+            → (result ≡ Ok tt) × (self.new.index.now ≡ self.old.index.now) }
+        ensures between { OnOk result (self.new.index.now.field.term_open ≡ false) }
+        ensures closes { Closes result self.new.index.now.closed }
+        ensures write { IsErrOf result Fault.Write ↔ (failed_calls self.old.index.now.bodies < failed_calls self.new.index.now.bodies) }
+        ensures long { IsErrOf result (Fault.Limit LimitName.TermBytes) → IsTooLong self.old.index.now.field.term }
+        ensures closed { IsErrOf result Fault.SerializerClosed ↔ IsTrue self.old.index.now.closed }
+    {
+        self.index.end_term()
+    }
+
+    /// Ends the open term, if there is one, and the field: writes its dictionary, and flushes.
+    ///
+    /// The faults are those of `close_term`.
+    pub fn close(self) -> Result<(), Fault>
+        ensures wrote { (initial : IndexBodiesState) (field tokens : ℕ) (ts : List WrittenTerm) → self.entry.index.now.field.term_open ≡ false
+            → IsWriting initial self.entry.index.now field tokens ts []
+            → OnOk result (AddsBodies initial self.exit.0.now.bodies field (field_bodies self.entry.index.now.field.term.mode tokens ts)) }
+        ensures wrote_last { (initial : IndexBodiesState) (field tokens : ℕ) (ts : List WrittenTerm) (key : List ℕ) → self.entry.index.now.field.term_open ≡ true
+            → IsWriting initial self.entry.index.now field tokens ts (key ∷ [])
+            → OnOk result (AddsBodies initial self.exit.0.now.bodies field (field_bodies self.entry.index.now.field.term.mode tokens (ts ++ term_under key self.entry.index.now.field.term ∷ []))) }
+        ensures entries { self.exit.0.now.entries ≡ self.entry.index.now.entries }
+        ensures closes { Closes result self.exit.0.now.closed }
+        ensures write { IsErrOf result Fault.Write ↔ (failed_calls self.entry.index.now.bodies < failed_calls self.exit.0.now.bodies) }
+        ensures closed { IsErrOf result Fault.SerializerClosed ↔ IsTrue self.entry.index.now.closed }
+    {
+        let FieldSerializer { index } = self;
+        index.end_field()
+    }
+}

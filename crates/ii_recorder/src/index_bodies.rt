@@ -1,0 +1,194 @@
+ghost use Rattle.std.specs.Prelude.{◌≡◌, ◌+◌, ◌-◌, ◌^◌, ◌<◌, ◌≤◌, ◌⊎◌, ◌↔◌, List, [], ◌∷◌, ◌++◌, true, false, length, Ok, OnOk, OnErr, IfErr, IsErrOf, IsTrue};
+ghost use Rattle.ii_io.specs.CountingWriter.{CountingWriterState};
+ghost use Rattle.ii_io.specs.CompositeWrite.{AddsBody, HasBodies, WroteComposite, has_start};
+ghost use Rattle.ii_io.specs.Composite.{Body, fit_fields};
+ghost use Rattle.ii_io.specs.Numbers.{le_bytes};
+ghost use Rattle.ii_recorder.specs.IndexBodies.{AddsBodies, AddsMore, AreBegun, AreUnclosed, LacksField, failed_calls};
+ghost use Rattle.ii_recorder.specs.FieldTerms.{EndsTerm, IsTooLong, bytes_of};
+ghost use Rattle.ii_termdict.specs.Written.{written_dictionary};
+
+use super::field_terms::FieldTerms;
+use ii_io::{BinarySerializable, CompositeWrite, CountingWriter, Fault, Field, LimitName};
+use std::alloc::Global;
+use std::io::Write;
+use std::marker::Model;
+
+/// The three composites of an index: terms, postings and positions.
+#[derive(Drop)]
+pub struct IndexBodies<W: Write> {
+    terms: CompositeWrite<W>,
+    postings: CompositeWrite<W>,
+    positions: CompositeWrite<W>,
+}
+
+impl<W: Write> Model for IndexBodies<W> {
+    ghost use Rattle.ii_recorder.specs.IndexBodies.{IndexBodiesState};
+
+    ghost Value = { IndexBodiesState };
+
+    ghost view = { λ b. record { terms = b.terms; postings = b.postings; positions = b.positions } };
+}
+
+impl<W: Write> IndexBodies<W> {
+    pub fn wrap(
+        alloc: Global,
+        terms: CountingWriter<W>,
+        postings: CountingWriter<W>,
+        positions: CountingWriter<W>,
+    ) -> IndexBodies<W>
+        ensures { result ≡ record {
+          terms = record { writer = terms; base = terms.written_bytes; starts = []; closed = false };
+          postings = record { writer = postings; base = postings.written_bytes; starts = []; closed = false };
+          positions = record { writer = positions; base = positions.written_bytes; starts = []; closed = false };
+        } }
+    {
+        IndexBodies {
+            terms: CompositeWrite::wrap(alloc, terms),
+            postings: CompositeWrite::wrap(alloc, postings),
+            positions: CompositeWrite::wrap(alloc, positions),
+        }
+    }
+
+    // Begins the body of a field in each, that of postings by the number of its tokens.
+    pub fn begin_field(&mut self, field: Field, total_num_tokens: u64) -> Result<(), Fault>
+        requires unclosed { AreUnclosed self.old }
+        requires lacks { LacksField field self.old }
+        ensures ok { OnOk result (AddsBodies self.old self.new field (record { terms = []; postings = le_bytes 8 total_num_tokens; positions = [] })) }
+        ensures unclosed { OnOk result (AreUnclosed self.new) }
+        ensures begun { OnOk result (AreBegun self.new) }
+        ensures write { IsErrOf result Fault.Write ↔ (failed_calls self.old < failed_calls self.new) }
+        ensures only { IfErr result (λ e. (e ≡ Fault.OutOfMemory) ⊎ (e ≡ Fault.Write) ⊎ (e ≡ Fault.Limit LimitName.Offset)) }
+    {
+        begin_body(&mut self.terms, field)?;
+        begin_body(&mut self.positions, field)?;
+        begin_body(&mut self.postings, field)?;
+        total_num_tokens.serialize(self.postings.writer())
+    }
+
+    // Ends the open term of the field that was begun last, whose postings and positions follow what
+    // stands there.
+    pub fn end_term(&mut self, terms: &mut FieldTerms) -> Result<(), Fault>
+        requires begun { AreBegun self.old }
+        ensures ends { IsTrue terms.old.term_open → OnOk result (EndsTerm terms.old terms.new) }
+        ensures wrote { IsTrue terms.old.term_open → OnOk result (AddsMore self.old self.new (bytes_of terms.old.term)) }
+        ensures unclosed { AreUnclosed self.old → AreUnclosed self.new }
+        ensures begun { AreBegun self.new }
+        ensures failed { OnOk result (failed_calls self.new ≡ failed_calls self.old) }
+        ensures none { terms.old.closed ≡ false → terms.old.term_open ≡ false → (result ≡ Ok tt) × (terms.new ≡ terms.old) × (self.new ≡ self.old) }
+        ensures err { OnErr result (IsTrue terms.new.closed) }
+        ensures write { IsErrOf result Fault.Write ↔ (failed_calls self.old < failed_calls self.new) }
+        ensures long { IsErrOf result (Fault.Limit LimitName.TermBytes) → IsTooLong terms.old.term }
+        ensures closed { IsErrOf result Fault.SerializerClosed ↔ IsTrue terms.old.closed }
+    {
+        terms.close_term(self.postings.writer(), self.positions.writer())
+    }
+
+    // Writes the dictionary of the field that was begun last, and flushes.
+    pub fn finish_field(&mut self, terms: &mut FieldTerms) -> Result<(), Fault>
+        requires begun { AreBegun self.old }
+        requires between { terms.old.closed ≡ false → terms.old.term_open ≡ false }
+        ensures wrote { OnOk result (AddsMore self.old self.new (record { terms = written_dictionary terms.old.places.keys terms.old.places.infos; postings = []; positions = [] })) }
+        ensures write { IsErrOf result Fault.Write ↔ (failed_calls self.old < failed_calls self.new) }
+        ensures unclosed { AreUnclosed self.old → AreUnclosed self.new }
+        ensures begun { AreBegun self.new }
+        ensures terms { OnOk result (terms.new.closed ≡ false) }
+        ensures closed { IsErrOf result Fault.SerializerClosed ↔ IsTrue terms.old.closed }
+    {
+        let written = terms.finish(self.terms.writer());
+        if written.is_err() {
+            return written;
+        }
+        self.flush()
+    }
+
+    // Flushes the three writers.
+    fn flush(&mut self) -> Result<(), Fault>
+        requires begun { AreBegun self.old }
+        ensures wrote { OnOk result (AddsMore self.old self.new (record { terms = []; postings = []; positions = [] })) }
+        ensures write { IsErrOf result Fault.Write ↔ (failed_calls self.old < failed_calls self.new) }
+        ensures kept { failed_calls self.old ≤ failed_calls self.new }
+        ensures unclosed { AreUnclosed self.old → AreUnclosed self.new }
+        ensures begun { AreBegun self.new }
+        ensures only { IfErr result (λ e. (e ≡ Fault.Write) ⊎ (e ≡ Fault.Limit LimitName.Offset)) }
+    {
+        self.terms.writer().flush()?;
+        self.postings.writer().flush()?;
+        self.positions.writer().flush()
+    }
+
+    // The three writers as they stand, with no table written.
+    pub fn into_writers(self) -> (CountingWriter<W>, CountingWriter<W>, CountingWriter<W>)
+        ensures terms { result.0 ≡ self.terms.writer }
+        ensures postings { result.1 ≡ self.postings.writer }
+        ensures positions { result.2 ≡ self.positions.writer }
+    {
+        let IndexBodies {
+            terms,
+            postings,
+            positions,
+        } = self;
+        (
+            terms.into_writer(),
+            postings.into_writer(),
+            positions.into_writer(),
+        )
+    }
+
+    // Writes the tables of the three composites, and hands the writers back.
+    pub fn close(
+        self,
+    ) -> (
+        CountingWriter<W>,
+        CountingWriter<W>,
+        CountingWriter<W>,
+        Result<(), Fault>,
+    )
+        requires { AreUnclosed self }
+        ensures terms { (initial : CountingWriterState) (bodies : List Body) → HasBodies initial self.terms bodies → fit_fields bodies ≡ true → OnOk result.3 (WroteComposite initial result.0 bodies) }
+        ensures postings { (initial : CountingWriterState) (bodies : List Body) → HasBodies initial self.postings bodies → fit_fields bodies ≡ true → OnOk result.3 (WroteComposite initial result.1 bodies) }
+        ensures positions { (initial : CountingWriterState) (bodies : List Body) → HasBodies initial self.positions bodies → fit_fields bodies ≡ true → OnOk result.3 (WroteComposite initial result.2 bodies) }
+        ensures write { IsErrOf result.3 Fault.Write ↔ (failed_calls self < result.0.failed_calls + result.1.failed_calls + result.2.failed_calls) }
+        ensures only { IfErr result.3 (λ e. (e ≡ Fault.Write) ⊎ (e ≡ Fault.Limit LimitName.Offset)) }
+    {
+        let IndexBodies {
+            terms,
+            postings,
+            positions,
+        } = self;
+        let (terms_write, written) = terms.close();
+        if written.is_err() {
+            return (
+                terms_write,
+                postings.into_writer(),
+                positions.into_writer(),
+                written,
+            );
+        }
+        let (postings_write, written) = postings.close();
+        if written.is_err() {
+            return (
+                terms_write,
+                postings_write,
+                positions.into_writer(),
+                written,
+            );
+        }
+        let (positions_write, written) = positions.close();
+        (terms_write, postings_write, positions_write, written)
+    }
+}
+
+// Begins the body of a field.
+fn begin_body<W: Write>(composite: &mut CompositeWrite<W>, field: Field) -> Result<(), Fault>
+    requires unclosed { composite.old.closed ≡ false }
+    requires unwritten { has_start field composite.old.starts ≡ false }
+    requires few { length composite.old.starts < 2 ^ 32 - 1 }
+    ensures ok { OnOk result (AddsBody composite.old composite.new field []) }
+    ensures unclosed { OnOk result (composite.new.closed ≡ false) }
+    ensures begun { OnOk result (0 < length composite.new.starts) }
+    ensures failed { composite.new.writer.failed_calls ≡ composite.old.writer.failed_calls }
+    ensures only { IfErr result (λ e. e ≡ Fault.OutOfMemory) }
+{
+    composite.for_field(field)?;
+    Ok(())
+}

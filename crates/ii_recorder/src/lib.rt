@@ -1,0 +1,23 @@
+//! What is gathered of each term while documents are indexed, and how the terms of a field go out:
+//! their postings and positions one after the other, and what the dictionary keeps of each.
+#![tactic(auto)]
+
+pub mod buffer_lender;
+pub mod field_serializer;
+mod field_terms;
+mod index_bodies;
+mod open_term;
+pub mod recorder;
+pub mod serializer;
+mod term_places;
+#[cfg(test)]
+mod tests;
+
+pub use buffer_lender::BufferLender;
+pub use field_serializer::FieldSerializer;
+pub use recorder::Recorder;
+pub use recorder::any_recorder::AnyRecorder;
+pub use recorder::doc_id_recorder::DocIdRecorder;
+pub use recorder::term_frequency_recorder::TermFrequencyRecorder;
+pub use recorder::tf_and_position_recorder::TfAndPositionRecorder;
+pub use serializer::InvertedIndexSerializer;

@@ -1,0 +1,267 @@
+ghost use Rattle.std.specs.Prelude.{◌≡◌, ◌+◌, ◌^◌, ◌<◌, ◌≤◌, ◌⊎◌, ◌↔◌, if◌then◌else◌, ℕ, List, [], ◌∷◌, ◌++◌, true, false, length, Ok, OnOk, OnErr, IfErr, IsErrOf, IsTrue};
+ghost use Rattle.ii_base.specs.declared.schema.index_record_option.IndexRecordOption.TheVariants.{Basic};
+ghost use Rattle.ii_base.specs.Options.{has_freq, has_positions};
+ghost use Rattle.ii_io.specs.CountingWriter.{Closes, CountingWriterState};
+ghost use Rattle.ii_io.specs.Composite.{Body, fit_fields};
+ghost use Rattle.ii_io.specs.CompositeWrite.{HasBodies, WroteComposite};
+ghost use Rattle.ii_docset.specs.Entries.{are_documents};
+ghost use Rattle.ii_layout.specs.PostingsSerializer.{IsSumTooLarge};
+ghost use Rattle.ii_termdict.specs.ReadBack.{AreAscending};
+ghost use Rattle.ii_recorder.specs.Terms.{WrittenTerm, field_bodies};
+ghost use Rattle.ii_recorder.specs.FieldTerms.{IsTooLong, term_under};
+ghost use Rattle.ii_recorder.specs.IndexBodies.{IndexBodiesState, AddsBodies, AreBegun, LacksField, failed_calls};
+ghost use Rattle.ii_recorder.specs.IndexSerializer.{IsWriting};
+
+use super::field_terms::FieldTerms;
+use super::index_bodies::IndexBodies;
+use ii_base::{IndexRecordOption, Schema};
+use ii_docset::DocId;
+use ii_fieldnorm::FieldNormReader;
+use ii_io::{CountingWriter, Fault, Field, LimitName};
+use std::alloc::Global;
+use std::io::Write;
+use std::marker::Model;
+
+/// Writes the terms, the postings and the positions of the fields of an index, one field after the
+/// other, each file to a writer of its own.
+///
+/// After a refused call it is closed: each further call answers `SerializerClosed`.
+#[derive(Drop)]
+pub struct InvertedIndexSerializer<W: Write> {
+    schema: Schema,
+    bodies: IndexBodies<W>,
+    field: FieldTerms,
+    alloc: Global,
+    is_closed: bool,
+}
+
+impl<W: Write> Model for InvertedIndexSerializer<W> {
+    ghost use Rattle.std.specs.Prelude.{◌≡◌, false};
+    ghost use Rattle.ii_recorder.specs.IndexBodies.{AreUnclosed};
+    ghost use Rattle.ii_recorder.specs.IndexSerializer.{IndexSerializerState};
+
+    ghost Value = { IndexSerializerState };
+
+    ghost view = { λ s. record { entries = s.schema; bodies = s.bodies; field = s.field; closed = s.is_closed } };
+
+    ghost invariant = { λ s. s.is_closed ≡ false → AreUnclosed s.bodies × (s.field.closed ≡ false) };
+}
+
+impl<W: Write> InvertedIndexSerializer<W> {
+    /// A serializer of the fields of a schema, to three writers, whose places are counted from where
+    /// they stand now.
+    pub fn open(
+        alloc: Global,
+        terms: CountingWriter<W>,
+        postings: CountingWriter<W>,
+        positions: CountingWriter<W>,
+        schema: Schema,
+    ) -> InvertedIndexSerializer<W>
+        ensures entries { result.entries ≡ schema }
+        ensures bodies { result.bodies ≡ record {
+          terms = record { writer = terms; base = terms.written_bytes; starts = []; closed = false };
+          postings = record { writer = postings; base = postings.written_bytes; starts = []; closed = false };
+          positions = record { writer = positions; base = positions.written_bytes; starts = []; closed = false };
+        } }
+        ensures unclosed { result.closed ≡ false }
+    {
+        InvertedIndexSerializer {
+            schema,
+            bodies: IndexBodies::wrap(alloc, terms, postings, positions),
+            field: FieldTerms::new(alloc, IndexRecordOption::Basic, None),
+            alloc,
+            is_closed: false,
+        }
+    }
+
+    /// Writes the tables of the three files, flushes, and hands the writers of terms, postings and
+    /// positions back. The bodies of the fields are then read back from what was written.
+    ///
+    /// `Write` where a writer fails, `Limit(Offset)` where a count of a writer would pass `u64::MAX`;
+    /// `SerializerClosed` after an earlier refusal, and nothing is written.
+    pub fn close(
+        self,
+    ) -> (
+        CountingWriter<W>,
+        CountingWriter<W>,
+        CountingWriter<W>,
+        Result<(), Fault>,
+    )
+        ensures terms { (initial : CountingWriterState) (bodies : List Body) → HasBodies initial self.bodies.terms bodies → fit_fields bodies ≡ true → OnOk result.3 (WroteComposite initial result.0 bodies) }
+        ensures postings { (initial : CountingWriterState) (bodies : List Body) → HasBodies initial self.bodies.postings bodies → fit_fields bodies ≡ true → OnOk result.3 (WroteComposite initial result.1 bodies) }
+        ensures positions { (initial : CountingWriterState) (bodies : List Body) → HasBodies initial self.bodies.positions bodies → fit_fields bodies ≡ true → OnOk result.3 (WroteComposite initial result.2 bodies) }
+        ensures write { IsErrOf result.3 Fault.Write ↔ (failed_calls self.bodies < result.0.failed_calls + result.1.failed_calls + result.2.failed_calls) }
+        ensures refused { IsTrue self.closed → (result.0 ≡ self.bodies.terms.writer) × (result.1 ≡ self.bodies.postings.writer) × (result.2 ≡ self.bodies.positions.writer) }
+        ensures closed { IsErrOf result.3 Fault.SerializerClosed ↔ IsTrue self.closed }
+        ensures only { IfErr result.3 (λ e. (e ≡ Fault.Write) ⊎ (e ≡ Fault.Limit LimitName.Offset) ⊎ (e ≡ Fault.SerializerClosed)) }
+    {
+        let InvertedIndexSerializer {
+            schema: _,
+            bodies,
+            field: _,
+            alloc: _,
+            is_closed,
+        } = self;
+        if is_closed {
+            let (terms, postings, positions) = bodies.into_writers();
+            return (terms, postings, positions, Err(Fault::SerializerClosed));
+        }
+        bodies.close()
+    }
+
+    // Begins a field of the schema, which wasn't written yet.
+    pub(crate) fn begin(
+        &mut self,
+        field: Field,
+        total_num_tokens: u64,
+        fieldnorm_reader: Option<FieldNormReader>,
+    ) -> Result<(), Fault>
+        requires known { field < length self.old.entries }
+        requires lacks { self.old.closed ≡ false → LacksField field self.old.bodies }
+        ensures begins { OnOk result (IsWriting self.old.bodies self.new field total_num_tokens [] []) }
+        ensures begun { OnOk result (AreBegun self.new.bodies) }
+        ensures between { OnOk result (self.new.field.term_open ≡ false) }
+        ensures closes { OnOk result (self.new.closed ≡ false) }
+        ensures err { OnErr result (IsTrue self.new.closed) }
+        ensures write { IsErrOf result Fault.Write ↔ (failed_calls self.old.bodies < failed_calls self.new.bodies) }
+        ensures closed { IsErrOf result Fault.SerializerClosed ↔ IsTrue self.old.closed }
+        ensures only { IfErr result (λ e. (e ≡ Fault.OutOfMemory) ⊎ (e ≡ Fault.Write) ⊎ (e ≡ Fault.Limit LimitName.Offset) ⊎ (e ≡ Fault.SerializerClosed)) }
+    {
+        if self.is_closed {
+            return Err(Fault::SerializerClosed);
+        }
+        let option = self.schema.get_field_entry(field).index_record_option();
+        let begun = self.bodies.begin_field(field, total_num_tokens);
+        self.field = FieldTerms::new(self.alloc, option, fieldnorm_reader);
+        self.is_closed = begun.is_err();
+        begun
+    }
+
+    // Begins a term of the field.
+    pub(crate) fn new_term(
+        &mut self,
+        key: &[u8],
+        term_doc_freq: u32,
+        record_term_freq: bool,
+    ) -> Result<(), Fault>
+        requires between { self.old.closed ≡ false → self.old.field.term_open ≡ false }
+        requires ascending { self.old.closed ≡ false → AreAscending (self.old.field.places.keys ++ key.now ∷ []) }
+        ensures writing { (initial : IndexBodiesState) (field tokens : ℕ) (ts : List WrittenTerm) → IsWriting initial self.old field tokens ts []
+            → OnOk result (IsWriting initial self.new field tokens ts (key.now ∷ [])) }
+        ensures term { OnOk result (self.new.field.term
+            ≡ record self.old.field.term { skip_info = if record_term_freq then self.old.field.term.mode else Basic; docs = []; freqs = [] }) }
+        ensures inside { OnOk result (self.new.field.term_open ≡ true) }
+        ensures bodies { self.new.bodies ≡ self.old.bodies }
+        ensures closes { Closes result self.new.closed }
+        ensures closed { IsErrOf result Fault.SerializerClosed ↔ IsTrue self.old.closed }
+        ensures only { IfErr result (λ e. (e ≡ Fault.OutOfMemory) ⊎ (e ≡ Fault.SerializerClosed)) }
+    {
+        if self.is_closed {
+            return Err(Fault::SerializerClosed);
+        }
+        let added = self.field.new_term(key, term_doc_freq, record_term_freq);
+        self.is_closed = added.is_err();
+        added
+    }
+
+    // Adds a document of the open term.
+    pub(crate) fn write_doc(
+        &mut self,
+        doc_id: DocId,
+        term_freq: u32,
+        position_deltas: &[u32],
+    ) -> Result<(), Fault>
+        requires inside { self.old.closed ≡ false → self.old.field.term_open ≡ true }
+        requires ascending { self.old.closed ≡ false → IsTrue (are_documents (self.old.field.term.docs ++ doc_id ∷ [])) }
+        requires counted { self.old.closed ≡ false → IsTrue (has_freq self.old.field.term.skip_info) → 0 < term_freq }
+        ensures ok { OnOk result (self.new ≡ record self.old {
+          field = record self.old.field {
+            term = record self.old.field.term {
+              docs = self.old.field.term.docs ++ doc_id ∷ [];
+              freqs = self.old.field.term.freqs ++ term_freq ∷ [];
+              deltas = if has_positions self.old.field.term.mode then self.old.field.term.deltas ++ position_deltas.now else self.old.field.term.deltas;
+            };
+          };
+        }) }
+        ensures bodies { self.new.bodies ≡ self.old.bodies }
+        ensures closes { Closes result self.new.closed }
+        ensures limit { IsErrOf result (Fault.Limit LimitName.BlockFrequencySum)
+            ↔ (self.old.closed ≡ false) × IsSumTooLarge self.old.field.term.skip_info (self.old.field.term.freqs ++ term_freq ∷ []) }
+        ensures closed { IsErrOf result Fault.SerializerClosed ↔ IsTrue self.old.closed }
+        ensures only { IfErr result (λ e. (e ≡ Fault.OutOfMemory) ⊎ (e ≡ Fault.SerializerClosed) ⊎ (e ≡ Fault.Limit LimitName.BlockFrequencySum)) }
+    {
+        if self.is_closed {
+            return Err(Fault::SerializerClosed);
+        }
+        let added = self.field.write_doc(doc_id, term_freq, position_deltas);
+        self.is_closed = added.is_err();
+        added
+    }
+
+    // Ends the open term, if there is one.
+    pub(crate) fn end_term(&mut self) -> Result<(), Fault>
+        requires begun { self.old.closed ≡ false → AreBegun self.old.bodies }
+        ensures writing { (initial : IndexBodiesState) (field tokens : ℕ) (ts : List WrittenTerm) (key : List ℕ) → IsTrue self.old.field.term_open
+            → IsWriting initial self.old field tokens ts (key ∷ [])
+            → OnOk result (IsWriting initial self.new field tokens (ts ++ term_under key self.old.field.term ∷ []) []) }
+        ensures none { self.old.closed ≡ false → self.old.field.term_open ≡ false → (result ≡ Ok tt) × (self.new ≡ self.old) }
+        ensures between { OnOk result (self.new.field.term_open ≡ false) }
+        ensures begun { self.old.closed ≡ false → AreBegun self.new.bodies }
+        ensures mode { OnOk result (self.new.field.term.mode ≡ self.old.field.term.mode) }
+        ensures failed { OnOk result (failed_calls self.new.bodies ≡ failed_calls self.old.bodies) }
+        ensures entries { self.new.entries ≡ self.old.entries }
+        ensures closes { Closes result self.new.closed }
+        ensures write { IsErrOf result Fault.Write ↔ (failed_calls self.old.bodies < failed_calls self.new.bodies) }
+        ensures long { IsErrOf result (Fault.Limit LimitName.TermBytes) → IsTooLong self.old.field.term }
+        ensures closed { IsErrOf result Fault.SerializerClosed ↔ IsTrue self.old.closed }
+    {
+        if self.is_closed {
+            return Err(Fault::SerializerClosed);
+        }
+        let ended = self.bodies.end_term(&mut self.field);
+        self.is_closed = ended.is_err();
+        ended
+    }
+
+    // Ends the field, in which no term is open: writes its dictionary, and flushes.
+    pub(crate) fn finish_field(&mut self) -> Result<(), Fault>
+        requires begun { self.old.closed ≡ false → AreBegun self.old.bodies }
+        requires between { self.old.closed ≡ false → self.old.field.term_open ≡ false }
+        ensures wrote { (initial : IndexBodiesState) (field tokens : ℕ) (ts : List WrittenTerm) → IsWriting initial self.old field tokens ts []
+            → OnOk result (AddsBodies initial self.new.bodies field (field_bodies self.old.field.term.mode tokens ts)) }
+        ensures entries { self.new.entries ≡ self.old.entries }
+        ensures begun { self.old.closed ≡ false → AreBegun self.new.bodies }
+        ensures closes { Closes result self.new.closed }
+        ensures write { IsErrOf result Fault.Write ↔ (failed_calls self.old.bodies < failed_calls self.new.bodies) }
+        ensures closed { IsErrOf result Fault.SerializerClosed ↔ IsTrue self.old.closed }
+    {
+        if self.is_closed {
+            return Err(Fault::SerializerClosed);
+        }
+        let finished = self.bodies.finish_field(&mut self.field);
+        self.is_closed = finished.is_err();
+        finished
+    }
+
+    // Ends the open term, if there is one, and the field.
+    pub(crate) fn end_field(&mut self) -> Result<(), Fault>
+        requires begun { self.old.closed ≡ false → AreBegun self.old.bodies }
+        ensures wrote { (initial : IndexBodiesState) (field tokens : ℕ) (ts : List WrittenTerm) → self.old.field.term_open ≡ false
+            → IsWriting initial self.old field tokens ts []
+            → OnOk result (AddsBodies initial self.new.bodies field (field_bodies self.old.field.term.mode tokens ts)) }
+        ensures wrote_last { (initial : IndexBodiesState) (field tokens : ℕ) (ts : List WrittenTerm) (key : List ℕ) → self.old.field.term_open ≡ true
+            → IsWriting initial self.old field tokens ts (key ∷ [])
+            → OnOk result (AddsBodies initial self.new.bodies field (field_bodies self.old.field.term.mode tokens (ts ++ term_under key self.old.field.term ∷ []))) }
+        ensures entries { self.new.entries ≡ self.old.entries }
+        ensures begun { self.new.closed ≡ false → AreBegun self.new.bodies }
+        ensures closes { Closes result self.new.closed }
+        ensures write { IsErrOf result Fault.Write ↔ (failed_calls self.old.bodies < failed_calls self.new.bodies) }
+        ensures closed { IsErrOf result Fault.SerializerClosed ↔ IsTrue self.old.closed }
+    {
+        let ended = self.end_term();
+        if ended.is_err() {
+            return ended;
+        }
+        self.finish_field()
+    }
+}
