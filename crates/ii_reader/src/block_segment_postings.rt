@@ -184,6 +184,7 @@ impl BlockSegmentPostings {
     }
 
     /// The document at `idx` in the block, below 128, or `TERMINATED` after the block's documents.
+    #[inline(always)]
     pub fn doc(&self, idx: usize) -> DocId
         requires { idx < 128 }
         ensures { result ≡ doc_in_block self.now.docs self.now.block idx }
@@ -287,6 +288,8 @@ impl BlockSegmentPostings {
 
     /// Goes on to the next block; at the empty block after the last one it stays. One block is
     /// decoded at most.
+    #[cold]
+    #[inline(never)]
     pub fn advance(&mut self)
         ensures goes { GoesTo self.old self.new (min (self.old.block + 1) (length self.old.docs / 128 + 1)) }
         ensures lazy { IsLazy self.new }

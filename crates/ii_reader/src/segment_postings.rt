@@ -182,6 +182,7 @@ impl DocSet for SegmentPostings {
 
     ghost went_on = { λ a b c first second. went_on a b c first second };
 
+    #[inline(always)]
     fn advance(&mut self) -> DocId
         ensures doc { result ≡ doc_at self.new.rest }
         ensures rest { self.new.rest ≡ drop 1 self.old.rest }
@@ -201,6 +202,7 @@ impl DocSet for SegmentPostings {
         self.doc()
     }
 
+    #[inline(always)]
     fn doc(&self) -> DocId {
         self.block_cursor.doc(self.cur)
     }
