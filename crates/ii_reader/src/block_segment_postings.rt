@@ -186,7 +186,8 @@ impl BlockSegmentPostings {
     /// The document at `idx` in the block, below 128, or `TERMINATED` after the block's documents.
     pub fn doc(&self, idx: usize) -> DocId
         requires { idx < 128 }
-        ensures { result ≡ doc_in_block self.now.docs self.now.block idx }
+        ensures doc { result ≡ doc_in_block self.now.docs self.now.block idx }
+        ensures lazy { IsLazy self.now }
     {
         self.doc_decoder.output(idx)
     }
