@@ -1,5 +1,5 @@
 -- A cursor over the documents of a term, with their counts and positions.
-use Rattle.std.specs.Prelude.{◌≡◌, ℕ, ◌+◌, ◌/◌, ◌≤◌, true, List, Option, None, Some, length, ⊤}
+use Rattle.std.specs.Prelude.{◌≡◌, ℕ, ◌+◌, ◌/◌, ◌≤◌, true, List, Option, None, Some, length, min, ⊤}
 use Rattle.std.specs.List.{sum, list_all}
 use Rattle.ii_base.specs.Options.{downgrade, has_positions}
 use Rattle.ii_codes.specs.Sums.{fit_u32}
@@ -9,7 +9,7 @@ use Rattle.ii_layout.specs.PositionReader.{PositionReaderState}
 use Rattle.ii_check.specs.declared.freq_reading_option.FreqReadingOption.{FreqReadingOption}
 use Rattle.ii_reader.specs.BlockSegmentPostings.{BlockSegmentPostingsState}
 
--- what is left of its list, how many documents the list has, whether counts are read, the number of the block, and how many decodes of documents, of counts and of positions there were
+-- what is left of its list, how many documents the list has, whether counts are read, the number of the block, how many decodes of documents and of counts there were, how many skip entries were read, and how many decodes of positions there were
 pub record SegmentPostingsState : Type 0 where
   pub rest : List Entry
   pub doc_freq : ℕ
@@ -17,6 +17,7 @@ pub record SegmentPostingsState : Type 0 where
   pub block : ℕ
   pub doc_decodes : ℕ
   pub freq_decodes : ℕ
+  pub entries_read : ℕ
   pub position_decodes : ℕ
 
 -- how many decodes of positions there were
@@ -48,6 +49,13 @@ pub record WentLazily (old new : SegmentPostingsState) : Type 0 where
   pub doc_decodes : new.doc_decodes + old.block ≤ old.doc_decodes + new.block
   pub freq_decodes : new.freq_decodes + old.block ≤ old.freq_decodes + new.block
 
+-- Every block up to here was decoded at most once, its documents and its counts, and every skip entry read at most once. The empty block after the last is the end.
+pub record StaysLazy (s : SegmentPostingsState) : Type 0 where
+  pub within : s.block ≤ s.doc_freq / 128 + 1
+  pub doc_decodes : s.doc_decodes ≤ s.block + 1
+  pub freq_decodes : s.freq_decodes ≤ s.block + 1
+  pub entries_read : s.entries_read ≤ min (s.block + 1) (s.doc_freq / 128)
+
 -- At most one block was decoded, its documents and its counts, and no positions were.
 pub record DecodesOnce (old new : SegmentPostingsState) : Type 0 where
   pub doc_decodes : new.doc_decodes ≤ old.doc_decodes + 1
@@ -59,4 +67,5 @@ pub record DecodesPositions (count : ℕ) (old new : SegmentPostingsState) : Typ
   pub block : new.block ≡ old.block
   pub doc_decodes : new.doc_decodes ≡ old.doc_decodes
   pub freq_decodes : new.freq_decodes ≡ old.freq_decodes
+  pub entries_read : new.entries_read ≡ old.entries_read
   pub position_decodes : new.position_decodes ≤ old.position_decodes + count / 128 + 2

@@ -187,7 +187,8 @@ impl BlockSegmentPostings {
     #[inline(always)]
     pub fn doc(&self, idx: usize) -> DocId
         requires { idx < 128 }
-        ensures { result ≡ doc_in_block self.now.docs self.now.block idx }
+        ensures doc { result ≡ doc_in_block self.now.docs self.now.block idx }
+        ensures lazy { IsLazy self.now }
     {
         self.doc_decoder.output(idx)
     }

@@ -8,7 +8,7 @@ ghost use Rattle.ii_layout.specs.TermList.{list_of, term_list};
 ghost use Rattle.ii_check.specs.CheckedPostings.{is_read};
 ghost use Rattle.ii_check.specs.FreqReading.{freq_reading};
 ghost use Rattle.ii_check.specs.Positions.{deltas_read};
-ghost use Rattle.ii_reader.specs.SegmentPostings.{DecodesOnce, DecodesPositions, FitCursor, WentLazily, decodes_read};
+ghost use Rattle.ii_reader.specs.SegmentPostings.{DecodesOnce, DecodesPositions, FitCursor, StaysLazy, WentLazily, decodes_read};
 
 use super::block_segment_postings::BlockSegmentPostings;
 use bytes::Bytes;
@@ -44,6 +44,7 @@ impl Model for SegmentPostings {
       block = s.block_cursor.block;
       doc_decodes = s.block_cursor.doc_decodes;
       freq_decodes = s.block_cursor.freq_decodes;
+      entries_read = s.block_cursor.entries_read;
       position_decodes = decodes_read s.position_reader;
     } };
 
@@ -73,6 +74,7 @@ impl SegmentPostings {
         ensures first { IfOk result (λ cursor. cursor.block ≡ 0) }
         ensures doc_decodes { IfOk result (λ cursor. cursor.doc_decodes ≤ 1) }
         ensures freq_decodes { IfOk result (λ cursor. cursor.freq_decodes ≤ 1) }
+        ensures entries_read { IfOk result (λ cursor. cursor.entries_read ≤ 1) }
         ensures position_decodes { IfOk result (λ cursor. cursor.position_decodes ≤ 1) }
         ensures err { IfErr result (λ fault. term_list record_option requested_option doc_freq postings positions ≡ Err (part_of fault)) }
     {
@@ -97,7 +99,7 @@ impl SegmentPostings {
 
     /// A cursor over no documents.
     pub fn empty() -> SegmentPostings
-        ensures { result ≡ record { rest = []; doc_freq = 0; freq_reading = FreqReadingOption.NoFreq; block = 0; doc_decodes = 0; freq_decodes = 0; position_decodes = 0 } }
+        ensures { result ≡ record { rest = []; doc_freq = 0; freq_reading = FreqReadingOption.NoFreq; block = 0; doc_decodes = 0; freq_decodes = 0; entries_read = 0; position_decodes = 0 } }
     {
         SegmentPostings::from_block_postings(BlockSegmentPostings::empty(), None)
     }
@@ -117,6 +119,7 @@ impl SegmentPostings {
         ensures block { result.block ≡ segment_block_postings.block }
         ensures doc_decodes { result.doc_decodes ≡ segment_block_postings.doc_decodes }
         ensures freq_decodes { result.freq_decodes ≡ segment_block_postings.freq_decodes }
+        ensures entries_read { result.entries_read ≡ segment_block_postings.entries_read }
         ensures position_decodes { result.position_decodes ≡ decodes_read position_reader }
     {
         // what the cursor tells of its list and of its block
@@ -192,6 +195,7 @@ impl DocSet for SegmentPostings {
         // what a caller learns beyond the trait
         ensures once { DecodesOnce self.old self.new }
         ensures next { self.new.block ≤ self.old.block + 1 }
+        ensures lazy { StaysLazy self.new }
     {
         if self.cur < COMPRESSION_BLOCK_SIZE - 1 {
             self.cur += 1;
@@ -203,7 +207,12 @@ impl DocSet for SegmentPostings {
     }
 
     #[inline(always)]
-    fn doc(&self) -> DocId {
+    fn doc(&self) -> DocId
+        ensures doc { result ≡ doc_at self.now.rest }
+        ensures sound { IsSound self.now.rest }
+        // what a caller learns beyond the trait
+        ensures lazy { StaysLazy self.now }
+    {
         self.block_cursor.doc(self.cur)
     }
 
@@ -218,6 +227,7 @@ impl DocSet for SegmentPostings {
         ensures work { WentLazily self.old self.new }
         // what a caller learns beyond the trait
         ensures once { DecodesOnce self.old self.new }
+        ensures lazy { StaysLazy self.new }
     {
         let doc = self.doc();
         if doc >= target {

@@ -10,7 +10,7 @@ returns-clause-doc c =
     let s = c.self.inside in
     let b = s.block_cursor in
     let deltas = deltas_read s.position_reader in
-    rw (← c.self.view_is) (c.doc.ensures ∙ doc_at_place b.docs (list_of b.docs b.freqs deltas) b.block s.cur (list_docs _ b.docs b.freqs deltas c.self.invariant.1) c.self.invariant.0)
+    rw (← c.self.view_is) (c.doc.ensures.doc ∙ doc_at_place b.docs (list_of b.docs b.freqs deltas) b.block s.cur (list_docs _ b.docs b.freqs deltas c.self.invariant.1) c.self.invariant.0)
 
 pub returns-clause-sound : goal.returns-clause-sound
 returns-clause-sound c =

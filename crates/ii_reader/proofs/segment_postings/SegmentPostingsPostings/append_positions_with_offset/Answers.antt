@@ -69,4 +69,4 @@ returns-clause-decodes c =
     ∙ ap (λ (t : Bool). term_freq_at (not t) (drop (128 * b.block + s.cur) (list_of b.docs b.freqs deltas))) c.self.invariant.2 in
     let before = ap decodes_read c.in-Some.is in
     let more = c.append_positions.ensures.decodes in
-    rw (← c.self.view_is, ← count) (record { block = refl; doc_decodes = refl; freq_decodes = refl; position_decodes = omega arith })
+    rw (← c.self.view_is, ← count) (record { block = refl; doc_decodes = refl; freq_decodes = refl; entries_read = refl; position_decodes = omega arith })
