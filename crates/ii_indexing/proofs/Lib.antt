@@ -1,3 +1,4 @@
 mod FileRows
+pub mod PostingsLaws
 pub mod TermLemmas
 mod WorkedRows

@@ -9,7 +9,7 @@ use Rattle.ii_termstore.specs.declared.term_info.TermInfo.{TermInfo}
 use Rattle.ii_termdict.specs.Dictionary.{Entry, dictionary, info_under}
 use Rattle.ii_layout.specs.TermList.{term_list}
 use Rattle.ii_indexing.specs.Tokens.{IndexToken}
-use Rattle.ii_indexing.specs.Postings.{field_count, key_postings, occurs}
+use Rattle.ii_indexing.specs.Postings.{field_count, grouped, key_postings, occurs, tokens_at}
 
 -- A range lies in bytes.
 abbrev pub LiesIn : List ℕ → Range ℕ → Type 0
@@ -21,6 +21,7 @@ bytes_in bytes range = slice_range bytes range.start range.end
 -- The bytes of a term, in the bodies of its field, give the postings of its key for each request.
 pub record HoldsTerm (option : IndexRecordOption) (field : ℕ) (key postings positions : List ℕ) (ts : List IndexToken) (info : TermInfo) : Type 0 where
   pub occurred : IsTrue (occurs field key ts)
+  pub doc_freq : info.doc_freq ≡ length (grouped (tokens_at field key ts))
   pub postings_range : LiesIn postings info.postings_range
   pub positions_range : LiesIn positions info.positions_range
   pub lists : (requested : IndexRecordOption) →
