@@ -1,5 +1,3 @@
-ghost use Rattle.std.specs.Prelude.{◌≡◌, IfOk};
-
 use bytes::Bytes;
 use ii_io::{CountingWriter, FailingWriter, Fault, LayoutFault, Part};
 use ii_layout::written::reads_positions_back;
@@ -8,12 +6,10 @@ use std::alloc::{AllocError, Global};
 use std::test::Fail;
 
 // Bytes of their own.
-fn owned(alloc: Global, data: &[u8]) -> Result<Bytes, AllocError>
-    ensures { IfOk result (λ b. b ≡ data.now) }
-{
-    let mut bytes = Vec::new(alloc);
-    bytes.extend_from_slice(data)?;
-    Ok(Bytes::from_vec(bytes)?)
+fn owned(alloc: Global, bytes: &[u8]) -> Result<Bytes, AllocError> {
+    let mut copy = Vec::new(alloc);
+    copy.extend_from_slice(bytes)?;
+    Ok(Bytes::from_vec(copy)?)
 }
 
 // Reads deltas that are there, or puts nothing in.

@@ -77,34 +77,52 @@ fn many(alloc: Global, terms: u32) -> Result<JoinedTerms, Fault> {
     Ok(store)
 }
 
+// The bytes of a store of so many terms.
+fn store_of(alloc: Global, terms: u32) -> Result<Vec<u8>, Fault> {
+    let mut writer = CountingWriter::wrap(Vec::new(alloc));
+    many(alloc, terms)?.serialize(&mut writer)?;
+    Ok(writer.finish())
+}
+
+// What a store of 300 terms answers where the writer's call fails: when it is written, written once
+// more, and given two terms more.
+fn answers_at(alloc: Global, k: u64) -> Result<([Result<(), Fault>; 4], FailingWriter), Fault> {
+    let mut store = many(alloc, 300)?;
+    let mut writer = CountingWriter::wrap(FailingWriter::new(alloc, k));
+    let answer = store.serialize(&mut writer);
+    let later = store.serialize(&mut writer);
+    let info = store.write(1, 1, 1);
+    let again = store.write(1, 1, 1);
+    Ok(([answer, later, info, again], writer.finish()))
+}
+
 #[test]
 fn stores_end_at_the_call_that_fails(rt: HostRuntime) -> Result<(), Fail> {
-    let mut whole = CountingWriter::wrap(Vec::new(rt.alloc()));
-    many(rt.alloc(), 300)?.serialize(&mut whole)?;
-    let whole = whole.finish();
+    let whole = store_of(rt.alloc(), 300)?;
+    let closed = Err(Fault::SerializerClosed);
     let mut failed = 0;
     for k in 1..20 {
-        let mut store = many(rt.alloc(), 300)?;
-        let mut writer = CountingWriter::wrap(FailingWriter::new(rt.alloc(), k));
-        let answer = store.serialize(&mut writer);
-        let later = store.serialize(&mut writer);
-        let info = store.write(1, 1, 1);
-        let again = store.write(1, 1, 1);
-        let written = writer.finish();
-        if answer.is_ok() {
+        let (answers, written) = answers_at(rt.alloc(), k)?;
+        if answers[0].is_ok() {
             assert!(rt; written.bytes().starts_with(&whole), "call {k}");
             break;
         }
         failed = k;
-        assert!(rt; answer == Err(Fault::Write), "call {k}");
-        assert!(rt; later == Err(Fault::SerializerClosed), "call {k}");
-        assert!(rt; info == Err(Fault::SerializerClosed), "call {k}");
-        assert!(rt; again == Err(Fault::SerializerClosed), "call {k}");
+        assert!(rt;
+            answers == [Err(Fault::Write), closed, closed, closed],
+            "call {k}"
+        );
         assert!(rt; whole.starts_with(written.bytes()), "call {k}");
         assert!(rt; written.bytes().len() < whole.len(), "call {k}");
     }
     assert!(rt; 0 < failed && failed < 19);
     Ok(())
+}
+
+// The two numbers at the front of a store.
+fn head(bytes: &[u8]) -> (Option<u64>, Option<u64>) {
+    let mut rest = bytes;
+    (u64::deserialize(&mut rest), u64::deserialize(&mut rest))
 }
 
 #[test]
@@ -118,19 +136,10 @@ fn blocks_end_where_they_are_full(rt: HostRuntime) -> Result<(), Fail> {
         (512, 2),
         (513, 3),
     ] {
-        let mut store = many(rt.alloc(), terms)?;
-        let mut writer = CountingWriter::wrap(Vec::new(rt.alloc()));
-        store.serialize(&mut writer)?;
-        let bytes = writer.finish();
-        let mut head = bytes.as_slice();
-        assert!(rt;
-            u64::deserialize(&mut head) == Some(39 * blocks),
-            "{terms} terms"
-        );
-        assert!(rt;
-            u64::deserialize(&mut head) == Some(u64::from(terms)),
-            "{terms} terms"
-        );
+        let bytes = store_of(rt.alloc(), terms)?;
+        let (metas, count) = head(&bytes);
+        assert!(rt; metas == Some(39 * blocks), "{terms} terms");
+        assert!(rt; count == Some(u64::from(terms)), "{terms} terms");
         let infos = TermInfoStore::open(Bytes::from_vec(bytes)?)?;
         assert!(rt; infos.num_terms() == terms as usize);
         for i in 0..infos.num_terms() {
@@ -152,9 +161,7 @@ fn a_store_is_written_again_and_goes_on(rt: HostRuntime) -> Result<(), Fail> {
     store.serialize(&mut first)?;
     store.write(256, 2, 6)?;
     store.serialize(&mut second)?;
-    let mut other = CountingWriter::wrap(Vec::new(rt.alloc()));
-    many(rt.alloc(), 257)?.serialize(&mut other)?;
-    assert!(rt; second.finish() == other.finish());
+    assert!(rt; second.finish() == store_of(rt.alloc(), 257)?);
     let infos = TermInfoStore::open(Bytes::from_vec(first.finish())?)?;
     assert!(rt; infos.num_terms() == 256);
     Ok(())
