@@ -137,3 +137,17 @@ files_of_a_number = record {
       let in_positions = found_alone field [] q (nat_eq 0 field) refl hq in
       rw (in_terms.0, in_terms.1, in_postings.1, in_positions.1) holds_field;
 }
+
+-- files without bodies hold no token
+pub files_of_nothing : HoldTokens (λ field. Basic) (written_composite []) (written_composite []) (written_composite []) []
+unfolding number_at le_bytes
+files_of_nothing = record {
+  term_bodies = [];
+  postings_bodies = [];
+  positions_bodies = [];
+  opened_terms = refl;
+  opened_postings = refl;
+  opened_positions = refl;
+  present = λ field. (refl, refl, refl);
+  fields = λ field t p q found. absurd (cc);
+}

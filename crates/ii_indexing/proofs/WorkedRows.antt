@@ -7,6 +7,8 @@ use Rattle.ii_base.specs.AsciiWords.{ascii_words}
 use Rattle.ii_base.specs.Values.{u64_bytes}
 use Rattle.ii_base.specs.Words.{Word}
 use Rattle.ii_docset.specs.Entries.{Entry, document}
+use Rattle.ii_fieldnorm.specs.Norms.{id_of_norm, norm_of_id}
+use Rattle.ii_indexing.specs.Norms.{norm_ids}
 use Rattle.ii_indexing.specs.Tokens.{Call, IndexToken, text, words, value, tokens_of}
 use Rattle.ii_indexing.specs.Postings.{doc_count, field_count, key_postings}
 use Rattle.ii_indexing.specs.Refusals.{call_fault}
@@ -89,3 +91,8 @@ longest_word = refl
 -- a number
 pub number : key_postings WithFreqsAndPositions 0 (u64_bytes 5) WithFreqsAndPositions (tokens_of ascii_words (record { doc = 0; field = 0; content = value (u64_bytes 5) } ∷ [])) ≡ document 0 ∷ []
 number = refl
+
+-- the norms of two documents, of which the first has three tokens
+pub three_norms : norm_ids 2 0 three ≡ 3 ∷ 0 ∷ []
+unfolding id_of_norm norm_of_id
+three_norms = refl
