@@ -1,10 +1,10 @@
 ghost use Rattle.std.specs.Prelude.{◌≤◌};
 
-use ii_termdict::written::reads_dictionary_back;
-use ii_termdict::{TermDictionary, TermDictionaryWriter, TermInfo};
 use ascending_terms::AscendingTerms;
 use bytes::Bytes;
 use ii_io::{CountingWriter, FailingWriter, Fault, Part};
+use ii_termdict::written::reads_dictionary_back;
+use ii_termdict::{TermDictionary, TermDictionaryWriter, TermInfo};
 use std::alloc::Global;
 use std::test::Fail;
 
