@@ -96,13 +96,13 @@ fn counted<D: DocSet>(cursor: &mut D) -> u32
 #[test]
 fn default_bodies_are_called(rt: HostRuntime) -> Result<(), Fail> {
     let mut cursor = Below { next: 0, end: 12 };
-    assert_eq!(rt; cost_of(&cursor), 12);
-    assert_eq!(rt; cursor.doc(), 0);
-    assert_eq!(rt; sought(&mut cursor, 7), 7);
-    assert_eq!(rt; cursor.advance(), 8);
-    assert_eq!(rt; counted(&mut cursor), 4);
-    assert_eq!(rt; cursor.doc(), TERMINATED);
-    assert_eq!(rt; counted(&mut cursor), 0);
+    assert!(rt; cost_of(&cursor) == 12);
+    assert!(rt; cursor.doc() == 0);
+    assert!(rt; sought(&mut cursor, 7) == 7);
+    assert!(rt; cursor.advance() == 8);
+    assert!(rt; counted(&mut cursor) == 4);
+    assert!(rt; cursor.doc() == TERMINATED);
+    assert!(rt; counted(&mut cursor) == 0);
     Ok(())
 }
 
@@ -110,17 +110,17 @@ fn default_bodies_are_called(rt: HostRuntime) -> Result<(), Fail> {
 fn buffers_are_filled(rt: HostRuntime) -> Result<(), Fail> {
     let mut cursor: Box<dyn DocSet> = Box::new(rt.alloc(), Below { next: 0, end: 100 })?;
     let mut buffer = [7; COLLECT_BLOCK_BUFFER_LEN];
-    assert_eq!(rt; filled(&mut cursor, &mut buffer), 64);
-    assert_eq!(rt; buffer[0], 0);
-    assert_eq!(rt; buffer[63], 63);
-    assert_eq!(rt; cursor.doc(), 64);
+    assert!(rt; filled(&mut cursor, &mut buffer) == 64);
+    assert!(rt; buffer[0] == 0);
+    assert!(rt; buffer[63] == 63);
+    assert!(rt; cursor.doc() == 64);
     let mut lent = Lent { inner: &mut cursor };
-    assert_eq!(rt; filled(&mut lent, &mut buffer), 36);
-    assert_eq!(rt; buffer[35], 99);
-    assert_eq!(rt; buffer[36], 36);
-    assert_eq!(rt; filled(&mut cursor, &mut buffer), 0);
-    assert_eq!(rt; buffer[35], 99);
-    assert_eq!(rt; cursor.doc(), TERMINATED);
+    assert!(rt; filled(&mut lent, &mut buffer) == 36);
+    assert!(rt; buffer[35] == 99);
+    assert!(rt; buffer[36] == 36);
+    assert!(rt; filled(&mut cursor, &mut buffer) == 0);
+    assert!(rt; buffer[35] == 99);
+    assert!(rt; cursor.doc() == TERMINATED);
     Ok(())
 }
 
@@ -149,13 +149,10 @@ fn three() -> ListPostings
 #[test]
 fn documents_are_asked_for(rt: HostRuntime) {
     let mut cursor = three();
-    assert_eq!(rt; asked(&mut cursor, 1), SeekDangerResult::SeekLowerBound(2));
-    assert_eq!(rt; asked(&mut cursor, 2), SeekDangerResult::Found);
-    assert_eq!(rt;
-        asked(&mut cursor, TERMINATED),
-        SeekDangerResult::SeekLowerBound(TERMINATED)
-    );
-    assert_eq!(rt; cursor.doc(), 2);
+    assert!(rt; asked(&mut cursor, 1) == SeekDangerResult::SeekLowerBound(2));
+    assert!(rt; asked(&mut cursor, 2) == SeekDangerResult::Found);
+    assert!(rt; asked(&mut cursor, TERMINATED) == SeekDangerResult::SeekLowerBound(TERMINATED));
+    assert!(rt; cursor.doc() == 2);
 }
 
 // Calls of a cursor over them.
@@ -195,7 +192,7 @@ fn cursors_are_walked(rt: HostRuntime) -> Result<(), Fail> {
     ];
     for walked in &walks {
         assert!(rt; walked.complete);
-        assert_eq!(rt; walked.answers.as_slice(), want.as_slice());
+        assert!(rt; walked.answers.as_slice() == want.as_slice());
     }
     Ok(())
 }
@@ -205,10 +202,10 @@ fn positions_are_told(rt: HostRuntime) -> Result<(), Fail> {
     let mut cursor = three();
     let mut output = vec![in rt.alloc(); 8]?;
     cursor.append_positions_with_offset(100, &mut output)?;
-    assert_eq!(rt; output.as_slice(), [8, 103].as_slice());
-    assert_eq!(rt; cursor.seek(10), 10);
+    assert!(rt; output.as_slice() == [8, 103].as_slice());
+    assert!(rt; cursor.seek(10) == 10);
     cursor.positions(&mut output)?;
-    assert_eq!(rt; output.as_slice(), [4, 9].as_slice());
+    assert!(rt; output.as_slice() == [4, 9].as_slice());
     Ok(())
 }
 
@@ -216,7 +213,7 @@ fn positions_are_told(rt: HostRuntime) -> Result<(), Fail> {
 fn documents_are_common(rt: HostRuntime) -> Result<(), Fail> {
     let mut below = Below { next: 1, end: 12 };
     let common = intersect(rt.alloc(), &mut three(), &mut below)?;
-    assert_eq!(rt; common.as_slice(), [2, 10].as_slice());
+    assert!(rt; common.as_slice() == [2, 10].as_slice());
     Ok(())
 }
 
@@ -226,9 +223,9 @@ fn living_documents_are_counted(rt: HostRuntime) -> Result<(), Fail> {
     assert!(rt; alive.is_alive(0));
     assert!(rt; !alive.is_alive(10));
     let mut cursor = three();
-    assert_eq!(rt; cursor.count(&alive), 2);
-    assert_eq!(rt; cursor.doc(), TERMINATED);
+    assert!(rt; cursor.count(&alive) == 2);
+    assert!(rt; cursor.doc() == TERMINATED);
     let all = AliveBitSet::full(rt.alloc(), 11)?;
-    assert_eq!(rt; three().count(&all), 3);
+    assert!(rt; three().count(&all) == 3);
     Ok(())
 }

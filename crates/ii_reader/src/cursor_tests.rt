@@ -29,25 +29,25 @@ fn cursors_are_reset(rt: HostRuntime) -> Result<(), Fail> {
     // a text with two positions, and then a number
     let text = Bytes::from_static(&[0x80, 0x82]);
     let mut blocks = BlockSegmentPostings::open(1, text, FULL, FULL)?;
-    assert_eq!(rt; first_freq(&blocks), 2);
+    assert!(rt; first_freq(&blocks) == 2);
     blocks.reset(1, Bytes::from_static(&[0x80]))?;
-    assert_eq!(rt; first_freq(&blocks), 1);
-    assert_eq!(rt; blocks.freq_reading_option(), FreqReadingOption::NoFreq);
+    assert!(rt; first_freq(&blocks) == 1);
+    assert!(rt; blocks.freq_reading_option() == FreqReadingOption::NoFreq);
     // even documents, and then odd ones
     let even = Bytes::from_static(&[0x80, 0x82, 0x82]);
     let mut blocks = BlockSegmentPostings::open(3, even, BASIC, BASIC)?;
-    assert_eq!(rt; blocks.docs(), [0, 2, 4].as_slice());
+    assert!(rt; blocks.docs() == [0, 2, 4].as_slice());
     blocks.reset(3, Bytes::from_static(&[0x81, 0x82, 0x82]))?;
-    assert_eq!(rt; blocks.docs(), [1, 3, 5].as_slice());
+    assert!(rt; blocks.docs() == [1, 3, 5].as_slice());
     // a document that comes twice
     let copy = blocks.clone()?;
     let refused = blocks.reset(2, Bytes::from_static(&[0x80, 0x80]));
     assert!(rt; matches!(refused, Err(LayoutFault::Damaged(Part::Documents))));
-    assert_eq!(rt; blocks.docs().len(), 0);
-    assert_eq!(rt; blocks.doc_freq(), 0);
-    assert_eq!(rt; copy.docs(), [1, 3, 5].as_slice());
+    assert!(rt; blocks.docs().len() == 0);
+    assert!(rt; blocks.doc_freq() == 0);
+    assert!(rt; copy.docs() == [1, 3, 5].as_slice());
     blocks.reset(1, Bytes::from_static(&[0x87]))?;
-    assert_eq!(rt; blocks.docs(), [7].as_slice());
+    assert!(rt; blocks.docs() == [7].as_slice());
     Ok(())
 }
 
@@ -93,13 +93,13 @@ fn cursors_are_walked(rt: HostRuntime) -> Result<(), Fail> {
     let walks = [row(rt.alloc(), &mut cursor), row(rt.alloc(), &mut erased)];
     for walked in &walks {
         assert!(rt; walked.complete);
-        assert_eq!(rt; walked.answers.as_slice(), want.as_slice());
+        assert!(rt; walked.answers.as_slice() == want.as_slice());
     }
     let mut boxed = Box::new(rt.alloc(), third)?;
-    assert_eq!(rt; boxed.seek(1), 2);
-    assert_eq!(rt; boxed.advance(), 10);
-    assert_eq!(rt; boxed.advance(), TERMINATED);
-    assert_eq!(rt; boxed.seek(0), TERMINATED);
+    assert!(rt; boxed.seek(1) == 2);
+    assert!(rt; boxed.advance() == 10);
+    assert!(rt; boxed.advance() == TERMINATED);
+    assert!(rt; boxed.seek(0) == TERMINATED);
     Ok(())
 }
 
@@ -109,16 +109,16 @@ fn documents_are_asked_for(rt: HostRuntime) -> Result<(), Fail> {
         assert!(rt; false, "three documents");
         return Ok(());
     };
-    assert_eq!(rt; cursor.seek_danger(1), SeekDangerResult::SeekLowerBound(2));
-    assert_eq!(rt; cursor.seek_danger(2), SeekDangerResult::Found);
+    assert!(rt; cursor.seek_danger(1) == SeekDangerResult::SeekLowerBound(2));
+    assert!(rt; cursor.seek_danger(2) == SeekDangerResult::Found);
     let end = SeekDangerResult::SeekLowerBound(TERMINATED);
-    assert_eq!(rt; cursor.seek_danger(TERMINATED), end);
-    assert_eq!(rt; cursor.doc(), 2);
+    assert!(rt; cursor.seek_danger(TERMINATED) == end);
+    assert!(rt; cursor.doc() == 2);
     let without_2 = AliveBitSet::from_deleted_docs(rt.alloc(), &[2], 12)?;
-    assert_eq!(rt; fresh.doc_freq_given_deletes(&without_2)?, 2);
+    assert!(rt; fresh.doc_freq_given_deletes(&without_2)? == 2);
     let every = [0, 1, 2, 3, 4, 5, 6, 7, 8, 9, 10, 11];
     let none = AliveBitSet::from_deleted_docs(rt.alloc(), &every, 12)?;
-    assert_eq!(rt; fresh.doc_freq_given_deletes(&none)?, 0);
-    assert_eq!(rt; fresh.doc(), 0);
+    assert!(rt; fresh.doc_freq_given_deletes(&none)? == 0);
+    assert!(rt; fresh.doc() == 0);
     Ok(())
 }

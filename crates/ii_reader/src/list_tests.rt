@@ -79,10 +79,10 @@ fn long_lists_are_read_block_by_block(rt: HostRuntime) -> Result<(), Fail> {
     };
     let mut blocks = BlockSegmentPostings::open(100_000, bytes, BASIC, BASIC)?;
     for chunk in docs.as_slice().chunks(128) {
-        assert_eq!(rt; blocks.docs(), chunk);
+        assert!(rt; blocks.docs() == chunk);
         blocks.advance();
     }
-    assert_eq!(rt; blocks.block_len(), 0);
+    assert!(rt; blocks.block_len() == 0);
     Ok(())
 }
 
@@ -106,7 +106,7 @@ fn seeks_find_blocks_around_targets(rt: HostRuntime) -> Result<(), Fail> {
         );
     }
     let _below = blocks.seek(100_000);
-    assert_eq!(rt; blocks.doc(127), TERMINATED);
+    assert!(rt; blocks.doc(127) == TERMINATED);
     Ok(())
 }
 
@@ -127,14 +127,14 @@ fn seeks_find_each_document(rt: HostRuntime) -> Result<(), Fail> {
     };
     for i in 0..300 {
         let mut once = all.clone()?;
-        assert_eq!(rt; sought(&mut once, i), i);
+        assert!(rt; sought(&mut once, i) == i);
         for j in i + 1..300 {
             let mut cursor = once.clone()?;
-            assert_eq!(rt; sought(&mut cursor, j), j);
+            assert!(rt; sought(&mut cursor, j) == j);
         }
-        assert_eq!(rt; sought(&mut once, 300), TERMINATED);
+        assert!(rt; sought(&mut once, 300) == TERMINATED);
         let above = if i < 299 { (i + 1) / 2 * 2 } else { TERMINATED };
-        assert_eq!(rt; sought(&mut even.clone()?, i), above, "{i}");
+        assert!(rt; sought(&mut even.clone()?, i) == above, "{i}");
     }
     Ok(())
 }
@@ -150,21 +150,21 @@ fn lists_are_loaded(rt: HostRuntime) -> Result<(), Fail> {
         return Ok(());
     };
     let mut loaded = LoadedPostings::load(rt.alloc(), &mut source.clone()?)?;
-    assert_eq!(rt; loaded.size_hint(), 1024);
-    assert_eq!(rt; loaded.doc(), 0);
-    assert_eq!(rt; loaded.advance(), 3);
-    assert_eq!(rt; sought(&mut loaded, 14), 15);
-    assert_eq!(rt; sought(&mut loaded, 300), 300);
-    assert_eq!(rt; sought(&mut loaded, 6000), TERMINATED);
+    assert!(rt; loaded.size_hint() == 1024);
+    assert!(rt; loaded.doc() == 0);
+    assert!(rt; loaded.advance() == 3);
+    assert!(rt; sought(&mut loaded, 14) == 15);
+    assert!(rt; sought(&mut loaded, 300) == 300);
+    assert!(rt; sought(&mut loaded, 6000) == TERMINATED);
     // what is left of a source, which is then at its end
-    assert_eq!(rt; sought(&mut source, 3065), 3066);
+    assert!(rt; sought(&mut source, 3065) == 3066);
     let mut loaded = LoadedPostings::load(rt.alloc(), &mut source)?;
-    assert_eq!(rt; source.doc(), TERMINATED);
-    assert_eq!(rt; loaded.size_hint(), 2);
-    assert_eq!(rt; loaded.doc(), 3066);
-    assert_eq!(rt; loaded.advance(), 3069);
-    assert_eq!(rt; loaded.advance(), TERMINATED);
-    assert_eq!(rt; loaded.advance(), TERMINATED);
+    assert!(rt; source.doc() == TERMINATED);
+    assert!(rt; loaded.size_hint() == 2);
+    assert!(rt; loaded.doc() == 3066);
+    assert!(rt; loaded.advance() == 3069);
+    assert!(rt; loaded.advance() == TERMINATED);
+    assert!(rt; loaded.advance() == TERMINATED);
     Ok(())
 }
 
@@ -177,19 +177,13 @@ fn positions_are_loaded(rt: HostRuntime) -> Result<(), Fail> {
         FULL,
     )?;
     let mut loaded = LoadedPostings::load(rt.alloc(), &mut source)?;
-    assert_eq!(rt; source.doc(), TERMINATED);
-    assert_eq!(rt; counted(&loaded), 3);
-    assert_eq!(rt;
-        gathered(rt.alloc(), &mut loaded).as_slice(),
-        [1, 2, 3].as_slice()
-    );
-    assert_eq!(rt; loaded.advance(), 3);
-    assert_eq!(rt; counted(&loaded), 1);
-    assert_eq!(rt;
-        gathered(rt.alloc(), &mut loaded).as_slice(),
-        [30].as_slice()
-    );
-    assert_eq!(rt; loaded.advance(), TERMINATED);
+    assert!(rt; source.doc() == TERMINATED);
+    assert!(rt; counted(&loaded) == 3);
+    assert!(rt; gathered(rt.alloc(), &mut loaded).as_slice() == [1, 2, 3].as_slice());
+    assert!(rt; loaded.advance() == 3);
+    assert!(rt; counted(&loaded) == 1);
+    assert!(rt; gathered(rt.alloc(), &mut loaded).as_slice() == [30].as_slice());
+    assert!(rt; loaded.advance() == TERMINATED);
     Ok(())
 }
 
@@ -210,14 +204,14 @@ fn walks_come_to_their_end(rt: HostRuntime) -> Result<(), Fail> {
         CursorAnswer::Doc(TERMINATED),
         CursorAnswer::Doc(TERMINATED),
     ];
-    assert_eq!(rt; sought(&mut cursor.clone()?, 131), TERMINATED);
+    assert!(rt; sought(&mut cursor.clone()?, 131) == TERMINATED);
     let walks = [
         to_the_end(rt.alloc(), &mut cursor),
         to_the_end(rt.alloc(), &mut loaded),
     ];
     for walked in &walks {
         assert!(rt; walked.complete);
-        assert_eq!(rt; walked.answers.as_slice(), want.as_slice());
+        assert!(rt; walked.answers.as_slice() == want.as_slice());
     }
     Ok(())
 }

@@ -18,16 +18,16 @@ fn short_lists_are_walked(rt: HostRuntime) {
         assert!(rt; false, "a list of three");
         return;
     };
-    assert_eq!(rt; cursor.doc_freq(), 3);
-    assert_eq!(rt; cursor.size_hint(), 3);
-    assert_eq!(rt; cursor.cost(), 3);
-    assert_eq!(rt; cursor.len(), 3);
-    assert_eq!(rt; cursor.doc(), 0);
-    assert_eq!(rt; cursor.advance(), 2);
-    assert_eq!(rt; cursor.advance(), 10);
-    assert_eq!(rt; cursor.advance(), TERMINATED);
-    assert_eq!(rt; cursor.advance(), TERMINATED);
-    assert_eq!(rt; cursor.size_hint(), 3);
+    assert!(rt; cursor.doc_freq() == 3);
+    assert!(rt; cursor.size_hint() == 3);
+    assert!(rt; cursor.cost() == 3);
+    assert!(rt; cursor.len() == 3);
+    assert!(rt; cursor.doc() == 0);
+    assert!(rt; cursor.advance() == 2);
+    assert!(rt; cursor.advance() == 10);
+    assert!(rt; cursor.advance() == TERMINATED);
+    assert!(rt; cursor.advance() == TERMINATED);
+    assert!(rt; cursor.size_hint() == 3);
 }
 
 #[test]
@@ -37,18 +37,18 @@ fn blocks_are_walked(rt: HostRuntime) {
         assert!(rt; false, "a list of 130");
         return;
     };
-    assert_eq!(rt; cursor.doc_freq(), 130);
-    assert_eq!(rt; cursor.block_len(), 128);
-    assert_eq!(rt; cursor.doc(127), 127);
+    assert!(rt; cursor.doc_freq() == 130);
+    assert!(rt; cursor.block_len() == 128);
+    assert!(rt; cursor.doc(127) == 127);
     cursor.advance();
-    assert_eq!(rt; cursor.docs(), [129, 130].as_slice());
-    assert_eq!(rt; cursor.doc(1), 130);
-    assert_eq!(rt; cursor.doc(2), TERMINATED);
+    assert!(rt; cursor.docs() == [129, 130].as_slice());
+    assert!(rt; cursor.doc(1) == 130);
+    assert!(rt; cursor.doc(2) == TERMINATED);
     cursor.advance();
-    assert_eq!(rt; cursor.block_len(), 0);
-    assert_eq!(rt; cursor.doc(0), TERMINATED);
+    assert!(rt; cursor.block_len() == 0);
+    assert!(rt; cursor.doc(0) == TERMINATED);
     cursor.advance();
-    assert_eq!(rt; cursor.docs().len(), 0);
+    assert!(rt; cursor.docs().len() == 0);
 }
 
 #[test]
@@ -59,26 +59,26 @@ fn long_lists_are_walked(rt: HostRuntime) {
         return;
     };
     for doc in 0..128 {
-        assert_eq!(rt; cursor.doc(), doc);
+        assert!(rt; cursor.doc() == doc);
         let _ = cursor.advance();
     }
-    assert_eq!(rt; cursor.doc(), 129);
-    assert_eq!(rt; cursor.advance(), 130);
-    assert_eq!(rt; cursor.advance(), TERMINATED);
+    assert!(rt; cursor.doc() == 129);
+    assert!(rt; cursor.advance() == 130);
+    assert!(rt; cursor.advance() == TERMINATED);
 }
 
 #[test]
 fn empty_cursors_have_nothing(rt: HostRuntime) {
     let mut cursor = SegmentPostings::empty();
-    assert_eq!(rt; cursor.doc_freq(), 0);
-    assert_eq!(rt; cursor.doc(), TERMINATED);
-    assert_eq!(rt; cursor.advance(), TERMINATED);
+    assert!(rt; cursor.doc_freq() == 0);
+    assert!(rt; cursor.doc() == TERMINATED);
+    assert!(rt; cursor.advance() == TERMINATED);
     assert!(rt; cursor.is_empty());
-    assert_eq!(rt; cursor.term_freq(), 1);
+    assert!(rt; cursor.term_freq() == 1);
     let mut blocks = BlockSegmentPostings::empty();
-    assert_eq!(rt; blocks.docs().len(), 0);
+    assert!(rt; blocks.docs().len() == 0);
     blocks.advance();
-    assert_eq!(rt; blocks.docs().len(), 0);
+    assert!(rt; blocks.docs().len() == 0);
 }
 
 #[test]
@@ -90,7 +90,7 @@ fn counts_that_are_not_asked_for_are_not_read(rt: HostRuntime) {
         assert!(rt; false, "a list with counts");
         return;
     };
-    assert_eq!(rt; cursor.count_including_deleted(), 3);
+    assert!(rt; cursor.count_including_deleted() == 3);
     // the counts of a block take their place, and need not be there after the last one
     let bytes = Bytes::from_static(&[0x88, 0x7F, 0, 0, 0, 0x40, 2, 0, 0]);
     let opened = SegmentPostings::open(128, bytes, None, with_freqs, BASIC);
@@ -98,7 +98,7 @@ fn counts_that_are_not_asked_for_are_not_read(rt: HostRuntime) {
         assert!(rt; false, "a block with counts");
         return;
     };
-    assert_eq!(rt; cursor.count_including_deleted(), 128);
+    assert!(rt; cursor.count_including_deleted() == 128);
 }
 
 // What a refused opening names.
@@ -119,21 +119,18 @@ fn damaged(doc_freq: u32, bytes: &'static [u8], record_option: IndexRecordOption
 fn damage_is_named(rt: HostRuntime) {
     let with_freqs = IndexRecordOption::WithFreqs;
     let with_positions = IndexRecordOption::WithFreqsAndPositions;
-    assert_eq!(rt; damaged(3, &[0x80, 0x82], BASIC), Some(Part::Documents));
-    assert_eq!(rt;
-        damaged(3, &[0x80, 0x80, 0x88], BASIC),
-        Some(Part::Documents)
-    );
+    assert!(rt; damaged(3, &[0x80, 0x82], BASIC) == Some(Part::Documents));
+    assert!(rt; damaged(3, &[0x80, 0x80, 0x88], BASIC) == Some(Part::Documents));
     let many = damaged(4_294_967_295, &[0x85, 0x7F, 0, 0, 0, 0x40], BASIC);
-    assert_eq!(rt; many, Some(Part::Skip));
+    assert!(rt; many == Some(Part::Skip));
     let short = damaged(128, &[0x84, 0x7F, 0, 0, 0, 0x40], BASIC);
-    assert_eq!(rt; short, Some(Part::Skip));
+    assert!(rt; short == Some(Part::Skip));
     let other = damaged(128, &[0x85, 0x80, 0, 0, 0, 0x40], BASIC);
-    assert_eq!(rt; other, Some(Part::Documents));
+    assert!(rt; other == Some(Part::Documents));
     let wide = damaged(128, &[0x88, 0x7F, 0, 0, 0, 0x40, 0x21, 0, 0], with_freqs);
-    assert_eq!(rt; wide, Some(Part::Skip));
+    assert!(rt; wide == Some(Part::Skip));
     let few = damaged(128, &[0x88, 0x7F, 0, 0, 0, 0x40, 0, 0, 0], with_positions);
-    assert_eq!(rt; few, Some(Part::Skip));
+    assert!(rt; few == Some(Part::Skip));
 }
 
 // The documents and counts of a list as an item each, and what is done with counts.
@@ -166,32 +163,32 @@ fn counts_are_read(rt: HostRuntime) {
         assert!(rt; false, "a list with counts");
         return;
     };
-    assert_eq!(rt; read.as_slice(), [(0, 1), (2, 2), (10, 3)].as_slice());
-    assert_eq!(rt; option, FreqReadingOption::ReadFreq);
+    assert!(rt; read.as_slice() == [(0, 1), (2, 2), (10, 3)].as_slice());
+    assert!(rt; option == FreqReadingOption::ReadFreq);
     let Some((read, option)) = items(&rt, 3, bytes, BASIC) else {
         assert!(rt; false, "the same list, its counts not asked for");
         return;
     };
-    assert_eq!(rt; read.as_slice(), [(0, 1), (2, 1), (10, 1)].as_slice());
-    assert_eq!(rt; option, FreqReadingOption::SkipFreq);
+    assert!(rt; read.as_slice() == [(0, 1), (2, 1), (10, 1)].as_slice());
+    assert!(rt; option == FreqReadingOption::SkipFreq);
     // a term that has no counts in a field that records them
     let bytes = &[0x80, 0x82, 0x88];
     let Some((read, option)) = items(&rt, 3, bytes, with_freqs) else {
         assert!(rt; false, "a list without counts");
         return;
     };
-    assert_eq!(rt; read.as_slice(), [(0, 1), (2, 1), (10, 1)].as_slice());
-    assert_eq!(rt; option, FreqReadingOption::NoFreq);
+    assert!(rt; read.as_slice() == [(0, 1), (2, 1), (10, 1)].as_slice());
+    assert!(rt; option == FreqReadingOption::NoFreq);
     let Some((_, option)) = items(&rt, 3, bytes, BASIC) else {
         assert!(rt; false, "the same list");
         return;
     };
-    assert_eq!(rt; option, FreqReadingOption::SkipFreq);
+    assert!(rt; option == FreqReadingOption::SkipFreq);
     let Some((read, _)) = items(&rt, 1, &[0x80, 0x80], with_freqs) else {
         assert!(rt; false, "a count of 0");
         return;
     };
-    assert_eq!(rt; read.as_slice(), [(0, 0)].as_slice());
+    assert!(rt; read.as_slice() == [(0, 0)].as_slice());
 }
 
 // 128 documents from 0 on with the count 3 each, then document 128 with the count 4.
@@ -211,17 +208,17 @@ fn counts_of_blocks_are_read(rt: HostRuntime) {
         return;
     };
     for doc in 0..128 {
-        assert_eq!(rt; cursor.doc(), doc);
+        assert!(rt; cursor.doc() == doc);
         if cursor.doc() < TERMINATED {
-            assert_eq!(rt; cursor.term_freq(), 3);
+            assert!(rt; cursor.term_freq() == 3);
         }
         let _ = cursor.advance();
     }
-    assert_eq!(rt; cursor.doc(), 128);
+    assert!(rt; cursor.doc() == 128);
     if cursor.doc() < TERMINATED {
-        assert_eq!(rt; cursor.term_freq(), 4);
+        assert!(rt; cursor.term_freq() == 4);
     }
-    assert_eq!(rt; cursor.advance(), TERMINATED);
+    assert!(rt; cursor.advance() == TERMINATED);
     // without the last count, and with its documents alone
     let cut = Bytes::from_static(&COUNTED[..42]);
     let opened = BlockSegmentPostings::open(129, cut, with_freqs, with_freqs);
@@ -232,10 +229,10 @@ fn counts_of_blocks_are_read(rt: HostRuntime) {
         assert!(rt; false, "documents alone");
         return;
     };
-    assert_eq!(rt; blocks.freqs().len(), 0);
+    assert!(rt; blocks.freqs().len() == 0);
     blocks.advance();
-    assert_eq!(rt; blocks.docs(), [128].as_slice());
-    assert_eq!(rt; blocks.freq(0), 1);
+    assert!(rt; blocks.docs() == [128].as_slice());
+    assert!(rt; blocks.freq(0) == 1);
 }
 
 // 256 documents from 0 on with the count 1 each, in a field with positions; the first sum, and the
@@ -265,16 +262,10 @@ fn sums(
 #[test]
 fn documents_are_looked_at_before_counts(rt: HostRuntime) {
     let with_freqs = IndexRecordOption::WithFreqs;
-    assert_eq!(rt; sums(rt.alloc(), 0x80, 0xFF, with_freqs), None);
-    assert_eq!(rt;
-        sums(rt.alloc(), 0x7F, 0xFF, with_freqs),
-        Some(Part::Frequencies)
-    );
-    assert_eq!(rt; sums(rt.alloc(), 0x7F, 0xFF, BASIC), None);
-    assert_eq!(rt;
-        sums(rt.alloc(), 0x7F, 0xFE, with_freqs),
-        Some(Part::Documents)
-    );
+    assert!(rt; sums(rt.alloc(), 0x80, 0xFF, with_freqs) == None);
+    assert!(rt; sums(rt.alloc(), 0x7F, 0xFF, with_freqs) == Some(Part::Frequencies));
+    assert!(rt; sums(rt.alloc(), 0x7F, 0xFF, BASIC) == None);
+    assert!(rt; sums(rt.alloc(), 0x7F, 0xFE, with_freqs) == Some(Part::Documents));
 }
 
 #[test]
@@ -284,13 +275,13 @@ fn seeks_pass_over_blocks(rt: HostRuntime) {
         assert!(rt; false, "a list of 130");
         return;
     };
-    assert_eq!(rt; cursor.doc(), 0);
-    assert_eq!(rt; cursor.seek(0), 0);
-    assert_eq!(rt; cursor.seek(100), 100);
-    assert_eq!(rt; cursor.seek(128), 129);
-    assert_eq!(rt; cursor.advance(), 130);
-    assert_eq!(rt; cursor.seek(TERMINATED), TERMINATED);
-    assert_eq!(rt; cursor.seek(0), TERMINATED);
+    assert!(rt; cursor.doc() == 0);
+    assert!(rt; cursor.seek(0) == 0);
+    assert!(rt; cursor.seek(100) == 100);
+    assert!(rt; cursor.seek(128) == 129);
+    assert!(rt; cursor.advance() == 130);
+    assert!(rt; cursor.seek(TERMINATED) == TERMINATED);
+    assert!(rt; cursor.seek(0) == TERMINATED);
 }
 
 #[test]
@@ -300,14 +291,14 @@ fn blocks_are_sought(rt: HostRuntime) {
         assert!(rt; false, "a list of 130");
         return;
     };
-    assert_eq!(rt; cursor.block_len(), 128);
-    assert_eq!(rt; cursor.seek(5), 5);
-    assert_eq!(rt; cursor.seek(129), 0);
-    assert_eq!(rt; cursor.docs(), [129, 130].as_slice());
-    assert_eq!(rt; cursor.seek(131), 2);
+    assert!(rt; cursor.block_len() == 128);
+    assert!(rt; cursor.seek(5) == 5);
+    assert!(rt; cursor.seek(129) == 0);
+    assert!(rt; cursor.docs() == [129, 130].as_slice());
+    assert!(rt; cursor.seek(131) == 2);
     cursor.advance();
-    assert_eq!(rt; cursor.block_len(), 0);
-    assert_eq!(rt; cursor.seek(0), 0);
+    assert!(rt; cursor.block_len() == 0);
+    assert!(rt; cursor.seek(0) == 0);
     let mut none = BlockSegmentPostings::empty();
-    assert_eq!(rt; none.seek(TERMINATED), 0);
+    assert!(rt; none.seek(TERMINATED) == 0);
 }
