@@ -82,6 +82,26 @@ impl<'a, W: Write> FieldSerializer<'a, W> {
         self.index.new_term(term, term_doc_freq, record_term_freq)
     }
 
+    /// Begins a term without counts, as `new_term` does.
+    ///
+    /// `OutOfMemory` where a growth was refused; `SerializerClosed` after an earlier refusal.
+    pub fn new_term_without_freq(&mut self, term: &[u8]) -> Result<(), Fault>
+        requires between { self.old.index.now.closed ≡ false → self.old.index.now.field.term_open ≡ false }
+        requires ascending { self.old.index.now.closed ≡ false → AreAscending (self.old.index.now.field.places.keys ++ term.now ∷ []) }
+        ensures same_reference { self.new.index.ghost_name ≡ self.old.index.ghost_name }
+        ensures writing { (initial : IndexBodiesState) (field tokens : ℕ) (ts : List WrittenTerm) → IsWriting initial self.old.index.now field tokens ts []
+            → OnOk result (IsWriting initial self.new.index.now field tokens ts (term.now ∷ [])) }
+        ensures term { OnOk result (self.new.index.now.field.term
+            ≡ record self.old.index.now.field.term { skip_info = Basic; docs = []; freqs = [] }) }
+        ensures inside { OnOk result (self.new.index.now.field.term_open ≡ true) }
+        ensures bodies { self.new.index.now.bodies ≡ self.old.index.now.bodies }
+        ensures closes { Closes result self.new.index.now.closed }
+        ensures closed { IsErrOf result Fault.SerializerClosed ↔ IsTrue self.old.index.now.closed }
+        ensures only { IfErr result (λ e. (e ≡ Fault.OutOfMemory) ⊎ (e ≡ Fault.SerializerClosed)) }
+    {
+        self.new_term(term, 0, false)
+    }
+
     /// Adds a document of the open term, above the ones before it and below `TERMINATED`, with its
     /// count, at least 1 where the term has counts, and the deltas of its positions, which are left
     /// out where the field doesn't record positions.
