@@ -1,7 +1,9 @@
 ghost use Rattle.std.specs.Prelude.{◌<◌, ◌≡◌, false, length, IfOk};
 ghost use Rattle.ii_recorder.specs.IndexBodies.{LacksField};
 
-use ii_base::{CountingWriter, FailingWriter, Fault, Field, FieldEntry, Schema, ValueType};
+use ii_base::{
+    CountingWriter, FailingWriter, Fault, Field, FieldEntry, IndexRecordOption, Schema, ValueType,
+};
 use ii_recorder::InvertedIndexSerializer;
 use std::alloc::Global;
 use std::io::Write;
@@ -29,8 +31,33 @@ fn write_five<W: Write>(index: &mut InvertedIndexSerializer<W>) -> Result<(), Fa
     requires lacks { index.old.closed ≡ false → LacksField 0 index.old.bodies }
 {
     let mut field = index.new_field(Field::from_field_id(0), 1, None)?;
-    field.new_term(&[0, 0, 0, 0, 0, 0, 0, 5], 1, false)?;
+    field.new_term_without_freq(&[0, 0, 0, 0, 0, 0, 0, 5])?;
     field.write_doc(0, 0, &[])?;
+    field.close()
+}
+
+// A field of texts with positions.
+fn texts(alloc: Global) -> Result<Schema, Fault>
+    ensures { IfOk result (λ schema. 0 < length schema) }
+{
+    let mut entries = Vec::new(alloc);
+    let name = String::from_str(alloc, "text")?;
+    let option = IndexRecordOption::WithFreqsAndPositions;
+    entries.push(FieldEntry::text(name, option, false))?;
+    Ok(Schema::new(entries))
+}
+
+// A term four times in each of 120 documents.
+fn write_often<W: Write>(index: &mut InvertedIndexSerializer<W>) -> Result<(), Fault>
+    requires known { 0 < length index.old.entries }
+    requires lacks { index.old.closed ≡ false → LacksField 0 index.old.bodies }
+{
+    let mut field = index.new_field(Field::from_field_id(0), 480, None)?;
+    field.new_term(b"a", 120, true)?;
+    for doc in 0..120u32 {
+        field.write_doc(doc, 4, &[1, 2, 3, 2])?;
+    }
+    field.close_term()?;
     field.close()
 }
 
@@ -95,5 +122,26 @@ fn a_failing_writer_is_told(rt: HostRuntime) -> Result<(), Fail> {
         assert!(rt; is_told(rt.alloc(), (0, 0, k))?, "positions {k}");
     }
     assert!(rt; !is_told(rt.alloc(), (20, 20, 20))?);
+    Ok(())
+}
+
+#[test]
+fn positions_of_a_term_are_written(rt: HostRuntime) -> Result<(), Fail> {
+    let alloc = rt.alloc();
+    let mut index = InvertedIndexSerializer::open(
+        alloc,
+        CountingWriter::wrap(Vec::new(alloc)),
+        CountingWriter::wrap(Vec::new(alloc)),
+        CountingWriter::wrap(Vec::new(alloc)),
+        texts(alloc)?,
+    );
+    let written = write_often(&mut index);
+    let (_, _, positions, closed) = index.close();
+    assert!(rt; written == Ok(()) && closed == Ok(()));
+    let positions = positions.finish();
+    // Three blocks, 96 deltas more, and the table of the file.
+    assert!(rt; positions.len() == 196 + 24);
+    assert!(rt; positions.starts_with(&[0x83, 2, 2, 2, 0xb9]));
+    assert!(rt; positions[99..104] == [0xb9, 0x81, 0x82, 0x83, 0x82]);
     Ok(())
 }
