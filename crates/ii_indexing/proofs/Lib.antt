@@ -1,4 +1,3 @@
-mod FileRows
 pub mod PostingsLaws
 pub mod TermLemmas
 mod WorkedRows

@@ -7,9 +7,10 @@ use Rattle.ii_base.specs.Words.{Word}
 use Rattle.ii_base.specs.declared.schema.index_record_option.IndexRecordOption.{IndexRecordOption}
 use Rattle.ii_base.specs.declared.schema.index_record_option.IndexRecordOption.TheVariants.{Basic, WithFreqs, WithFreqsAndPositions}
 use Rattle.ii_docset.specs.Entries.{Entry}
-use Rattle.ii_recorder.specs.Recorded.{begun, cut_entry, with_position}
-use Rattle.ii_indexing.specs.Tokens.{Call, IndexToken, Piece, call_pieces, piece_tokens, pieces_of, tokens_after, tokens_of}
-use Rattle.ii_indexing.specs.Postings.{entry_of, grouped, is_at, tokens_at, with_token}
+use Rattle.ii_index.specs.Cut.{cut_entry}
+use Rattle.ii_recorder.specs.Recorded.{begun, with_position}
+use Rattle.ii_index.specs.Tokens.{Call, IndexToken, Piece, call_pieces, piece_tokens, pieces_of, tokens_after, tokens_of}
+use Rattle.ii_index.specs.Postings.{entry_of, grouped, is_at, tokens_at, with_token}
 
 -- the tokens of pieces in two parts
 pub tokens_after-append : (earlier first second : List Piece) → tokens_after earlier (first ++ second) ≡ tokens_after earlier first ++ tokens_after (earlier ++ first) second

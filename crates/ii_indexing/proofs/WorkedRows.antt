@@ -9,8 +9,8 @@ use Rattle.ii_base.specs.Words.{Word}
 use Rattle.ii_docset.specs.Entries.{Entry, document}
 use Rattle.ii_fieldnorm.specs.Norms.{id_of_norm, norm_of_id}
 use Rattle.ii_indexing.specs.Norms.{norm_ids}
-use Rattle.ii_indexing.specs.Tokens.{Call, IndexToken, text, words, value, tokens_of}
-use Rattle.ii_indexing.specs.Postings.{doc_count, field_count, key_postings}
+use Rattle.ii_index.specs.Tokens.{Call, IndexToken, text, words, value, tokens_of}
+use Rattle.ii_index.specs.Postings.{doc_count, field_count, key_postings}
 use Rattle.ii_indexing.specs.Refusals.{call_fault}
 
 abbrev text_of : ℕ → List ℕ → Call

@@ -3,8 +3,8 @@ use Rattle.std.specs.Prelude.{◌≡◌, ℕ, Bool, if◌then◌else◌, List, m
 use Rattle.std.specs.List.{range_with_len}
 use Rattle.ii_io.specs.Composite.{Body, body_of, composite}
 use Rattle.ii_fieldnorm.specs.Norms.{id_of_norm}
-use Rattle.ii_indexing.specs.Tokens.{IndexToken}
-use Rattle.ii_indexing.specs.Postings.{doc_count}
+use Rattle.ii_index.specs.Tokens.{IndexToken}
+use Rattle.ii_index.specs.Postings.{doc_count}
 
 -- the norms of a field: for each of so many documents the byte of its number of tokens
 abbrev pub norm_ids : ℕ → ℕ → List IndexToken → List ℕ

@@ -8,8 +8,8 @@ use Rattle.ii_base.specs.declared.schema.index_record_option.IndexRecordOption.{
 use Rattle.ii_base.specs.Words.{Word}
 use Rattle.ii_docset.specs.Entries.{Entry}
 use Rattle.ii_recorder.specs.Recorded.{begun, position_fault, u32_max}
-use Rattle.ii_indexing.specs.Tokens.{Call, IndexToken, Piece, begin_after, call_pieces, end_after, is_same_group, kept_words, pieces_of, tokens_after, word_token}
-use Rattle.ii_indexing.specs.Postings.{field_count, key_postings}
+use Rattle.ii_index.specs.Tokens.{Call, IndexToken, Piece, begin_after, call_pieces, end_after, is_same_group, kept_words, pieces_of, tokens_after, word_token}
+use Rattle.ii_index.specs.Postings.{field_count, key_postings}
 
 abbrev pub u64_max : ℕ
 u64_max = 2 ^ 64 - 1

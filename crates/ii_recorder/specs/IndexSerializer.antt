@@ -1,9 +1,7 @@
 -- What writes the fields of an index, one after the other.
-use Rattle.std.specs.Prelude.{◌≡◌, ℕ, Bool, List, slice_get, unwrap_or}
-use Rattle.std.specs.Option.{option_map}
+use Rattle.std.specs.Prelude.{◌≡◌, ℕ, Bool, List}
 use Rattle.ii_base.specs.Schema.{Entry}
-use Rattle.ii_base.specs.declared.schema.index_record_option.IndexRecordOption.{IndexRecordOption}
-use Rattle.ii_base.specs.declared.schema.index_record_option.IndexRecordOption.TheVariants.{Basic}
+use Rattle.ii_index.specs.Fields.{option_of}
 use Rattle.ii_recorder.specs.Terms.{WrittenTerm, open_bodies}
 use Rattle.ii_recorder.specs.FieldTerms.{FieldTermsState, HasTerms}
 use Rattle.ii_recorder.specs.IndexBodies.{IndexBodiesState, AddsBodies}
@@ -14,10 +12,6 @@ pub record IndexSerializerState : Type 0 where
   pub bodies : IndexBodiesState
   pub field : FieldTermsState
   pub closed : Bool
-
--- what a field of the schema records
-abbrev pub option_of : List Entry → ℕ → IndexRecordOption
-option_of entries field = unwrap_or (option_map (λ (e : Entry). e.option) (slice_get entries field)) Basic
 
 -- A field with so many tokens was begun after what stood in the files at first: these terms of it were written, and then come the keys of terms that are not.
 pub record IsWriting (initial : IndexBodiesState) (now : IndexSerializerState) (field tokens : ℕ) (ts : List WrittenTerm) (pending : List (List ℕ)) : Type 0 where

@@ -7,14 +7,7 @@ use Rattle.ii_io.specs.declared.faults.LimitName.TheVariants as limit
 use Rattle.ii_base.specs.declared.schema.index_record_option.IndexRecordOption.{IndexRecordOption}
 use Rattle.ii_base.specs.Options.{has_freq, has_positions}
 use Rattle.ii_docset.specs.Entries.{Entry, docs_of}
-
--- an entry without what an option doesn't keep: each count is then 1, and there are no positions
-abbrev pub cut_entry : IndexRecordOption → Entry → Entry
-cut_entry option e = record {
-  doc = e.doc;
-  term_freq = if has_freq option then e.term_freq else 1;
-  positions = if has_positions option then e.positions else [];
-}
+use Rattle.ii_index.specs.Cut.{cut_entry}
 
 -- What a recorder has: what it keeps of a document, the documents that were closed, and the one that is open.
 pub record RecorderState : Type 0 where

@@ -8,8 +8,8 @@ use Rattle.ii_base.specs.declared.schema.index_record_option.IndexRecordOption.{
 use Rattle.ii_termstore.specs.declared.term_info.TermInfo.{TermInfo}
 use Rattle.ii_termdict.specs.Dictionary.{Entry, dictionary, info_under}
 use Rattle.ii_layout.specs.TermList.{term_list}
-use Rattle.ii_indexing.specs.Tokens.{IndexToken}
-use Rattle.ii_indexing.specs.Postings.{field_count, grouped, key_postings, occurs, tokens_at}
+use Rattle.ii_index.specs.Tokens.{IndexToken}
+use Rattle.ii_index.specs.Postings.{field_count, grouped, key_postings, occurs, tokens_at}
 
 -- A range lies in bytes.
 abbrev pub LiesIn : List ℕ → Range ℕ → Type 0

@@ -5,8 +5,8 @@ use Rattle.ii_base.specs.declared.schema.index_record_option.IndexRecordOption.{
 use Rattle.ii_base.specs.declared.schema.index_record_option.IndexRecordOption.TheVariants.{Basic}
 use Rattle.ii_base.specs.Options.{downgrade}
 use Rattle.ii_docset.specs.Entries.{Entry}
-use Rattle.ii_recorder.specs.Recorded.{cut_entry}
-use Rattle.ii_indexing.specs.Tokens.{IndexToken}
+use Rattle.ii_index.specs.Cut.{cut_entry}
+use Rattle.ii_index.specs.Tokens.{IndexToken}
 
 abbrev pub is_at : ℕ → List ℕ → IndexToken → Bool
 is_at field key t = (t.field == field) && bytes_eq t.key key

@@ -20,9 +20,9 @@ use Rattle.ii_termdict.specs.Dictionary.{dictionary, end_of, info_under, key_par
 use Rattle.ii_termdict.specs.Written.{written_dictionary}
 use Rattle.ii_layout.specs.TermList.{term_list}
 use Rattle.ii_layout.specs.Written.{written_postings}
-use Rattle.ii_indexing.specs.Files.{HasField, HoldTokens, HoldsField, HoldsTerm}
-use Rattle.ii_indexing.specs.Postings.{key_postings, occurs}
-use Rattle.ii_indexing.specs.Tokens.{IndexToken, value, tokens_of}
+use Rattle.ii_index.specs.Files.{HasField, HoldTokens, HoldsField, HoldsTerm}
+use Rattle.ii_index.specs.Postings.{key_postings, occurs}
+use Rattle.ii_index.specs.Tokens.{IndexToken, value, tokens_of}
 
 -- one call, with the number 5
 abbrev tokens : List IndexToken

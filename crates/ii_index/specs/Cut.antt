@@ -1,0 +1,13 @@
+-- What an option keeps of an entry.
+use Rattle.std.specs.Prelude.{if◌then◌else◌, []}
+use Rattle.ii_base.specs.declared.schema.index_record_option.IndexRecordOption.{IndexRecordOption}
+use Rattle.ii_base.specs.Options.{has_freq, has_positions}
+use Rattle.ii_docset.specs.Entries.{Entry}
+
+-- an entry without what an option doesn't keep: each count is then 1, and there are no positions
+abbrev pub cut_entry : IndexRecordOption → Entry → Entry
+cut_entry option e = record {
+  doc = e.doc;
+  term_freq = if has_freq option then e.term_freq else 1;
+  positions = if has_positions option then e.positions else [];
+}

@@ -1,0 +1,5 @@
+pub mod Cut
+pub mod Fields
+pub mod Files
+pub mod Postings
+pub mod Tokens
