@@ -1,1 +1,3 @@
 mod FileRows
+pub mod GroupedLaws
+pub mod HeldTerms
