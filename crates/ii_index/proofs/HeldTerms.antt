@@ -1,14 +1,14 @@
 -- What is written of a term's entries gives them.
-use Rattle.std.proofs.Common.{⊎_elim, subst, ◌≡◌, ℕ, Bool, true, false, ◌&&◌, if◌then◌else◌, List, [], ◌∷◌, length, map, Option, Some, None, Ok, refl, sym, ap, ◌∙◌}
-use Rattle.std.specs.Prelude.{◌⊎◌, IsTrue}
+use Rattle.std.proofs.Common.{⊎_elim, subst, ◌≡◌, ℕ, if◌then◌else◌, List, [], ◌∷◌, length, map, Some, None, Ok, refl, sym, ap, ◌∙◌}
+use Rattle.std.specs.Prelude.{IsTrue}
 use Rattle.ii_base.specs.declared.schema.index_record_option.IndexRecordOption.{IndexRecordOption}
 use Rattle.ii_base.specs.declared.schema.index_record_option.IndexRecordOption.TheVariants.{Basic, WithFreqs, WithFreqsAndPositions}
-use Rattle.ii_base.specs.Options.{downgrade, has_freq, has_positions}
-use Rattle.ii_docset.specs.Entries.{Entry, are_documents, docs_of, document, counted}
+use Rattle.ii_base.specs.Options.{downgrade, has_positions}
+use Rattle.ii_docset.specs.Entries.{Entry, docs_of, document, counted}
 use Rattle.ii_layout.specs.Positions.{positions_of, written_positions}
 use Rattle.ii_layout.specs.Postings.{entries_of}
-use Rattle.ii_layout.specs.TermList.{AreDeltas, ReadsTermBack, ReadsUncountedTermBack, list_of, located, term_list}
-use Rattle.ii_layout.specs.Written.{AreFreqs, freqs_read, written_postings}
+use Rattle.ii_layout.specs.TermList.{ReadsTermBack, ReadsUncountedTermBack, list_of, located, term_list}
+use Rattle.ii_layout.specs.Written.{freqs_read, written_postings}
 use Rattle.ii_index.specs.Cut.{cut_entry}
 use Rattle.ii_index.specs.HeldTerms.{AreThose, ReadsEntriesBack, freqs_of}
 

@@ -1,5 +1,5 @@
 -- What is written of a term's entries.
-use Rattle.std.specs.Prelude.{◌≡◌, ℕ, ◌^◌, ◌<◌, ◌⊎◌, List, length, map, IsTrue, if◌then◌else◌, [], Ok, Some}
+use Rattle.std.specs.Prelude.{◌≡◌, ℕ, ◌^◌, ◌<◌, ◌⊎◌, List, length, map, IsTrue, Ok, Some}
 use Rattle.ii_base.specs.declared.schema.index_record_option.IndexRecordOption.{IndexRecordOption}
 use Rattle.ii_base.specs.declared.schema.index_record_option.IndexRecordOption.TheVariants.{Basic}
 use Rattle.ii_base.specs.Options.{downgrade, has_freq, has_positions}
@@ -28,3 +28,8 @@ ReadsEntriesBack =
     (option kind requested : IndexRecordOption) (es : List Entry) (docs freqs deltas positions : List ℕ) → (kind ≡ option) ⊎ (kind ≡ Basic)
     → AreThose kind es docs freqs deltas → (IsTrue (has_positions option) → positions ≡ written_positions deltas)
     → term_list option requested (length docs) (written_postings kind docs freqs) (Some positions) ≡ Ok (map (cut_entry (downgrade kind requested)) es)
+
+-- An entry has at least one position, and as many as its count says.
+pub record IsCounted (e : Entry) : Type 0 where
+  pub many : length e.positions ≡ e.term_freq
+  pub some : 0 < e.term_freq
