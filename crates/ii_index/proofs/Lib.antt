@@ -1,3 +1,4 @@
+pub mod DeltaLaws
 mod FileRows
 pub mod GroupedLaws
 pub mod HeldTerms

@@ -1,5 +1,7 @@
 -- What is written of a term's entries.
-use Rattle.std.specs.Prelude.{◌≡◌, ℕ, ◌^◌, ◌<◌, ◌⊎◌, List, length, map, IsTrue, Ok, Some}
+use Rattle.std.specs.Prelude.{true, ◌≡◌, ℕ, ◌^◌, ◌<◌, ◌⊎◌, List, length, map, IsTrue, Ok, Some}
+use Rattle.std.specs.List.{flat_map}
+use Rattle.ii_codes.specs.Sums.{DoNotFall, differences, fit_u32}
 use Rattle.ii_base.specs.declared.schema.index_record_option.IndexRecordOption.{IndexRecordOption}
 use Rattle.ii_base.specs.declared.schema.index_record_option.IndexRecordOption.TheVariants.{Basic}
 use Rattle.ii_base.specs.Options.{downgrade, has_freq, has_positions}
@@ -33,3 +35,13 @@ ReadsEntriesBack =
 pub record IsCounted (e : Entry) : Type 0 where
   pub many : length e.positions ≡ e.term_freq
   pub some : 0 < e.term_freq
+
+-- how far each position of entries lies after the one before it in its document
+abbrev pub deltas_of : List Entry → List ℕ
+deltas_of es = flat_map (λ (e : Entry). differences 0 e.positions) es
+
+-- An entry can be written: its count has 32 bits, and so have its positions, which don't fall, as far as an option keeps them.
+pub record IsKept (kind : IndexRecordOption) (e : Entry) : Type 0 where
+  pub count : IsTrue (has_freq kind) → e.term_freq < 2 ^ 32
+  pub fits : IsTrue (has_positions kind) → fit_u32 e.positions ≡ true
+  pub rising : IsTrue (has_positions kind) → DoNotFall 0 e.positions
