@@ -2,3 +2,4 @@ pub mod DeltaLaws
 mod FileRows
 pub mod GroupedLaws
 pub mod HeldTerms
+pub mod KeptLaws
