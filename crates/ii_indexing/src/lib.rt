@@ -5,6 +5,8 @@
 pub mod indexing_position;
 pub mod indexing_term;
 pub mod path_to_unordered_id;
+pub mod indexing_context;
+pub mod sorted_terms;
 #[cfg(test)]
 mod tests;
 
