@@ -7,6 +7,7 @@ ghost use Rattle.ii_docset.specs.Entries.{are_documents};
 ghost use Rattle.ii_layout.specs.PostingsSerializer.{IsSumTooLarge};
 ghost use Rattle.ii_termdict.specs.ReadBack.{AreAscending};
 ghost use Rattle.ii_recorder.specs.Terms.{WrittenTerm, field_bodies};
+ghost use Rattle.ii_recorder.specs.HeldTerms.{HoldsTerms};
 ghost use Rattle.ii_recorder.specs.FieldTerms.{term_under};
 ghost use Rattle.ii_recorder.specs.IndexBodies.{IndexBodiesState, AddsBodies, AreBegun, LacksField, NoneFalls, failed_calls};
 ghost use Rattle.ii_recorder.specs.IndexSerializer.{IsFieldFault, IsTermFault, IsWriting};
@@ -43,9 +44,9 @@ impl<W: Write> InvertedIndexSerializer<W> {
         requires lacks { self.old.closed ≡ false → LacksField field self.old.bodies }
         ensures* refused { sem 𝓛 (RestsIfErr (the_row W.row W.Write) self.entry (λ f. f.index.ghost_name) result
             (λ n. IsTrue n.closed × (n.entries ≡ self.old.entries) × NoneFalls self.old.bodies n.bodies
-                × (IsErrOf result Fault.Write ↔ (failed_calls self.old.bodies < failed_calls n.bodies))
-                × (IsErrOf result Fault.Write → failed_calls n.bodies ≡ failed_calls self.old.bodies + 1)
-                × (IsTrue self.old.closed → n ≡ self.old))) }
+            × (IsErrOf result Fault.Write ↔ (failed_calls self.old.bodies < failed_calls n.bodies))
+            × (IsErrOf result Fault.Write → failed_calls n.bodies ≡ failed_calls self.old.bodies + 1)
+            × (IsTrue self.old.closed → n ≡ self.old))) }
         ensures same_reference { IfOk result (λ f. f.index.ghost_name ≡ self.entry.ghost_name) }
         ensures begins { IfOk result (λ f. IsWriting self.old.bodies f.index.now field total_num_tokens [] []) }
         ensures between { IfOk result (λ f. f.index.now.field.term_open ≡ false) }
@@ -183,9 +184,15 @@ impl<'a, W: Write> FieldSerializer<'a, W> {
         ensures wrote { (initial : IndexBodiesState) (field tokens : ℕ) (ts : List WrittenTerm) → self.entry.index.now.field.term_open ≡ false
             → IsWriting initial self.entry.index.now field tokens ts []
             → OnOk result (AddsBodies initial self.exit.0.now.bodies field (field_bodies self.entry.index.now.field.term.mode tokens ts)) }
+        ensures holds { (initial : IndexBodiesState) (field tokens : ℕ) (ts : List WrittenTerm) → self.entry.index.now.field.term_open ≡ false
+            → IsWriting initial self.entry.index.now field tokens ts []
+            → OnOk result (HoldsTerms self.entry.index.now.field.term.mode tokens (field_bodies self.entry.index.now.field.term.mode tokens ts) ts) }
         ensures wrote_last { (initial : IndexBodiesState) (field tokens : ℕ) (ts : List WrittenTerm) (key : List ℕ) → self.entry.index.now.field.term_open ≡ true
             → IsWriting initial self.entry.index.now field tokens ts (key ∷ [])
             → OnOk result (AddsBodies initial self.exit.0.now.bodies field (field_bodies self.entry.index.now.field.term.mode tokens (ts ++ term_under key self.entry.index.now.field.term ∷ []))) }
+        ensures holds_last { (initial : IndexBodiesState) (field tokens : ℕ) (ts : List WrittenTerm) (key : List ℕ) → self.entry.index.now.field.term_open ≡ true
+            → IsWriting initial self.entry.index.now field tokens ts (key ∷ [])
+            → OnOk result (HoldsTerms self.entry.index.now.field.term.mode tokens (field_bodies self.entry.index.now.field.term.mode tokens (ts ++ term_under key self.entry.index.now.field.term ∷ [])) (ts ++ term_under key self.entry.index.now.field.term ∷ [])) }
         ensures entries { self.exit.0.now.entries ≡ self.entry.index.now.entries }
         ensures closes { Closes result self.exit.0.now.closed }
         ensures write { IsErrOf result Fault.Write ↔ (failed_calls self.entry.index.now.bodies < failed_calls self.exit.0.now.bodies) }

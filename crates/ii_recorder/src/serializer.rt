@@ -8,6 +8,7 @@ ghost use Rattle.ii_docset.specs.Entries.{are_documents};
 ghost use Rattle.ii_layout.specs.PostingsSerializer.{IsSumTooLarge};
 ghost use Rattle.ii_termdict.specs.ReadBack.{AreAscending};
 ghost use Rattle.ii_recorder.specs.Terms.{WrittenTerm, field_bodies};
+ghost use Rattle.ii_recorder.specs.HeldTerms.{HoldsTerms};
 ghost use Rattle.ii_recorder.specs.FieldTerms.{closing_bytes, dictionary_of, term_under};
 ghost use Rattle.ii_recorder.specs.IndexBodies.{IndexBodiesState, AddsBodies, AreBegun, AreFull, LacksField, NoneFalls, failed_calls, tables_of};
 ghost use Rattle.ii_recorder.specs.IndexSerializer.{IsFieldFault, IsTermFault, IsWriting};
@@ -245,6 +246,8 @@ impl<W: Write> InvertedIndexSerializer<W> {
         requires between { self.old.closed ≡ false → self.old.field.term_open ≡ false }
         ensures wrote { (initial : IndexBodiesState) (field tokens : ℕ) (ts : List WrittenTerm) → IsWriting initial self.old field tokens ts []
             → OnOk result (AddsBodies initial self.new.bodies field (field_bodies self.old.field.term.mode tokens ts)) }
+        ensures holds { (initial : IndexBodiesState) (field tokens : ℕ) (ts : List WrittenTerm) → IsWriting initial self.old field tokens ts []
+            → OnOk result (HoldsTerms self.old.field.term.mode tokens (field_bodies self.old.field.term.mode tokens ts) ts) }
         ensures entries { self.new.entries ≡ self.old.entries }
         ensures begun { self.old.closed ≡ false → AreBegun self.new.bodies }
         ensures closes { Closes result self.new.closed }
@@ -269,9 +272,15 @@ impl<W: Write> InvertedIndexSerializer<W> {
         ensures wrote { (initial : IndexBodiesState) (field tokens : ℕ) (ts : List WrittenTerm) → self.old.field.term_open ≡ false
             → IsWriting initial self.old field tokens ts []
             → OnOk result (AddsBodies initial self.new.bodies field (field_bodies self.old.field.term.mode tokens ts)) }
+        ensures holds { (initial : IndexBodiesState) (field tokens : ℕ) (ts : List WrittenTerm) → self.old.field.term_open ≡ false
+            → IsWriting initial self.old field tokens ts []
+            → OnOk result (HoldsTerms self.old.field.term.mode tokens (field_bodies self.old.field.term.mode tokens ts) ts) }
         ensures wrote_last { (initial : IndexBodiesState) (field tokens : ℕ) (ts : List WrittenTerm) (key : List ℕ) → self.old.field.term_open ≡ true
             → IsWriting initial self.old field tokens ts (key ∷ [])
             → OnOk result (AddsBodies initial self.new.bodies field (field_bodies self.old.field.term.mode tokens (ts ++ term_under key self.old.field.term ∷ []))) }
+        ensures holds_last { (initial : IndexBodiesState) (field tokens : ℕ) (ts : List WrittenTerm) (key : List ℕ) → self.old.field.term_open ≡ true
+            → IsWriting initial self.old field tokens ts (key ∷ [])
+            → OnOk result (HoldsTerms self.old.field.term.mode tokens (field_bodies self.old.field.term.mode tokens (ts ++ term_under key self.old.field.term ∷ [])) (ts ++ term_under key self.old.field.term ∷ [])) }
         ensures entries { self.new.entries ≡ self.old.entries }
         ensures begun { self.new.closed ≡ false → AreBegun self.new.bodies }
         ensures closes { Closes result self.new.closed }
