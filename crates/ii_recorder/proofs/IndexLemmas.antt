@@ -1,17 +1,17 @@
 -- What stands in the files of an index after a term is ended.
-use Rattle.std.proofs.Common.{◌≡◌, ℕ, ◌+◌, List, [], ◌∷◌, ◌++◌, length, map, refl, sym, ◌∙◌, ap, arith, length-append, append_assoc, Result, Ok, Err}
+use Rattle.std.proofs.Common.{◌≡◌, ℕ, ◌+◌, ◌^◌, ◌<◌, List, [], ◌∷◌, ◌++◌, length, map, refl, sym, ◌∙◌, ap, arith, length-append, append_assoc, Result, Ok, Err}
 use Rattle.std.specs.Prelude.{OnOk}
 use Rattle.ii_io.specs.declared.faults.Fault.{Fault}
 use Rattle.std.proofs.lemmas.List.{append-nil}
 use Rattle.std.proofs.lemmas.Grind.{flat_map-append}
-use Rattle.std.specs.List.{flat_map}
+use Rattle.std.specs.List.{flat_map, AllByRecursion}
 use Rattle.ii_base.specs.declared.schema.index_record_option.IndexRecordOption.{IndexRecordOption}
 use Rattle.ii_io.specs.CompositeWrite.{CompositeWriteState, AddsBody}
 use Rattle.ii_io.specs.CountingWriterLemmas.{Wrote-trans}
 use Rattle.ii_io.specs.Numbers.{le_bytes}
 use Rattle.ii_termstore.specs.declared.term_info.TermInfo.{TermInfo}
 use Rattle.ii_termstore.specs.TermInfos.{term_info_from}
-use Rattle.ii_recorder.specs.Terms.{WrittenTerm, postings_bytes, positions_bytes, positions_body, infos_from, open_bodies, field_bodies}
+use Rattle.ii_recorder.specs.Terms.{IsShort, WrittenTerm, postings_bytes, positions_bytes, positions_body, infos_from, open_bodies, field_bodies}
 use Rattle.ii_termdict.specs.Written.{written_dictionary}
 use Rattle.ii_recorder.specs.TermPlaces.{TermPlacesState, with_term}
 use Rattle.ii_recorder.specs.FieldTerms.{EndsTerm, HasTerms, bytes_of, term_under}
@@ -64,14 +64,22 @@ infos_at_start mode ts t =
     let law = infos_more mode 0 0 ts t in
     rw (here, there) at law
 
+all_push : {A : Type 0} (P : A → Type 0) (xs : List A) (x : A) → AllByRecursion P xs → P x → AllByRecursion P (xs ++ x ∷ [])
+all_push P [] x h last = (last, tt)
+all_push P (y ∷ ys) x h last = (h.0, all_push P ys x h.1 last)
+
 -- one term more
-has_terms_more : (mode : IndexRecordOption) (places : TermPlacesState) (ts : List WrittenTerm) (t : WrittenTerm) → HasTerms mode places ts (t.key ∷ [])
-    → HasTerms mode (with_term places (length t.docs) (length (postings_bytes t)) (length (positions_bytes mode t.deltas))) (ts ++ t ∷ []) []
-has_terms_more mode places ts t h = record {
-  keys = h.keys ∙ more_keys ts t;
-  infos = rw (h.infos, h.postings, h.positions) (sym (infos_at_start mode ts t));
-  postings = rw h.postings (more_length postings_bytes ts t);
-  positions = rw h.positions (more_length (λ (u : WrittenTerm). positions_bytes mode u.deltas) ts t);
+has_terms_more : (mode : IndexRecordOption) (old new : TermPlacesState) (ts : List WrittenTerm) (t : WrittenTerm) → HasTerms mode old ts (t.key ∷ [])
+    → new ≡ with_term old (length t.docs) (length (postings_bytes t)) (length (positions_bytes mode t.deltas)) → IsShort mode t
+    → (new.postings_end < 2 ^ 56) × (new.positions_end < 2 ^ 56) → HasTerms mode new (ts ++ t ∷ []) []
+has_terms_more mode old new ts t h is short within = record {
+  keys = rw is (h.keys ∙ more_keys ts t);
+  infos = rw is (rw (h.infos, h.postings, h.positions) (sym (infos_at_start mode ts t)));
+  postings = rw is (rw h.postings (more_length postings_bytes ts t));
+  positions = rw is (rw h.positions (more_length (λ (u : WrittenTerm). positions_bytes mode u.deltas) ts t));
+  ascending = rw is h.ascending;
+  short = all_push (IsShort mode) ts t h.short short;
+  within = within;
 }
 
 -- and in the files
@@ -91,9 +99,10 @@ pub term_ended : (initial : IndexBodiesState) (old new : IndexSerializerState) (
 term_ended initial old new field tokens ts key h ends more same =
     let t = term_under key old.field.term in
     record {
+      counted = h.counted;
       mode = rw (ends.mode, same) h.mode;
       bodies = rw ends.mode (bodies_more initial old.bodies new.bodies field tokens old.field.term.mode ts t h.bodies more);
-      terms = rw (ends.mode, ends.places) (has_terms_more old.field.term.mode old.field.places ts t h.terms);
+      terms = rw ends.mode (has_terms_more old.field.term.mode old.field.places new.field.places ts t h.terms ends.places ends.short ends.within);
     }
 
 pub on_ok_both : {A B C : Type 0} (result : Result (Unit {0}) Fault) → (A → B → C) → OnOk result A → OnOk result B → OnOk result C

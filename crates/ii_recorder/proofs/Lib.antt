@@ -1,4 +1,5 @@
 pub mod Documents
 pub mod TermLemmas
 pub mod IndexLemmas
+pub mod HeldTermLemmas
 pub mod RecorderLemmas

@@ -1,10 +1,16 @@
 -- The terms of a field that were written, and the open one.
-use Rattle.std.specs.Prelude.{◌≡◌, ℕ, ◌+◌, ◌^◌, ◌≤◌, ◌⊎◌, Bool, true, false, List, [], ◌++◌, length, map}
-use Rattle.std.specs.List.{flat_map}
+use Rattle.std.specs.Prelude.{◌≡◌, ℕ, ◌+◌, ◌^◌, ◌<◌, ◌≤◌, ◌⊎◌, Bool, true, false, if◌then◌else◌, IsTrue, List, [], ◌++◌, length, map}
+use Rattle.std.specs.List.{flat_map, AllByRecursion}
+use Rattle.ii_io.specs.declared.faults.Fault.{Fault}
+use Rattle.ii_io.specs.declared.faults.Fault.TheVariants.{Limit, OutOfMemory, Write}
+use Rattle.ii_io.specs.declared.faults.LimitName.TheVariants as limit
+use Rattle.ii_io.specs.CountingWriter.{CountingWriterState, IsFull}
 use Rattle.ii_base.specs.declared.schema.index_record_option.IndexRecordOption.{IndexRecordOption}
 use Rattle.ii_base.specs.Options.{has_positions}
 use Rattle.ii_layout.specs.Written.{written_postings}
-use Rattle.ii_recorder.specs.Terms.{FieldBodies, WrittenTerm, postings_bytes, positions_bytes, positions_body, infos_from}
+use Rattle.ii_termdict.specs.ReadBack.{AreAscending}
+use Rattle.ii_termdict.specs.Written.{written_dictionary}
+use Rattle.ii_recorder.specs.Terms.{FieldBodies, IsShort, WrittenTerm, postings_bytes, positions_bytes, positions_body, infos_from}
 use Rattle.ii_recorder.specs.OpenTerm.{OpenTermState}
 use Rattle.ii_recorder.specs.TermPlaces.{TermPlacesState, with_term}
 
@@ -34,12 +40,15 @@ pub record IsLeft (old new : OpenTermState) : Type 0 where
 abbrev pub term_under : List ℕ → OpenTermState → WrittenTerm
 term_under key t = record { key = key; skip_info = t.skip_info; docs = t.docs; freqs = t.freqs; deltas = t.deltas }
 
--- These terms were written, and then come the keys of terms that are not.
+-- These terms were written, each of fewer than 2 ^ 32 bytes and all ends below 2 ^ 56, and then come the keys of terms that are not.
 pub record HasTerms (mode : IndexRecordOption) (places : TermPlacesState) (ts : List WrittenTerm) (pending : List (List ℕ)) : Type 0 where
   pub keys : places.keys ≡ map (λ (t : WrittenTerm). t.key) ts ++ pending
   pub infos : places.infos ≡ infos_from mode 0 0 ts
   pub postings : places.postings_end ≡ length (flat_map postings_bytes ts)
   pub positions : places.positions_end ≡ length (positions_body mode ts)
+  pub ascending : AreAscending places.keys
+  pub short : AllByRecursion (IsShort mode) ts
+  pub within : (places.postings_end < 2 ^ 56) × (places.positions_end < 2 ^ 56)
 
 -- the bytes that go out where the open term is ended
 abbrev pub bytes_of : OpenTermState → FieldBodies
@@ -49,10 +58,44 @@ bytes_of t = record { terms = []; postings = written_postings t.skip_info t.docs
 abbrev pub IsTooLong : OpenTermState → Type 0
 IsTooLong t = (2 ^ 32 ≤ length (written_postings t.skip_info t.docs t.freqs)) ⊎ (2 ^ 32 ≤ length (positions_bytes t.mode t.deltas))
 
--- A term was ended: its place is kept.
+-- The postings or the positions of all terms would end at 2 ^ 56 or after with this one.
+abbrev pub PassOffsets : TermPlacesState → OpenTermState → Type 0
+PassOffsets p t = (2 ^ 56 ≤ p.postings_end + length (written_postings t.skip_info t.docs t.freqs)) ⊎ (2 ^ 56 ≤ p.positions_end + length (positions_bytes t.mode t.deltas))
+
+-- There is no room for a term: a count of a writer would pass its type, or an end 2 ^ 56.
+abbrev pub HasNoRoom : OpenTermState → TermPlacesState → CountingWriterState → CountingWriterState → Type 0
+HasNoRoom t p postings positions =
+    IsFull postings (length (written_postings t.skip_info t.docs t.freqs)) ⊎ (IsTrue (has_positions t.mode) × IsFull positions (length (positions_bytes t.mode t.deltas))) ⊎ PassOffsets p t
+
+-- Why a term can't be ended.
+abbrev pub IsEndFault : OpenTermState → TermPlacesState → CountingWriterState → CountingWriterState → Fault → Type 0
+IsEndFault t p postings positions fault =
+    (fault ≡ OutOfMemory) ⊎ (fault ≡ Write) ⊎ ((fault ≡ Limit limit.Offset) × HasNoRoom t p postings positions) ⊎ ((fault ≡ Limit limit.TermBytes) × IsTooLong t)
+
+-- what is kept of the terms where the open one is ended, if there is one
+abbrev pub places_after : FieldTermsState → TermPlacesState
+places_after s =
+    if s.term_open then with_term s.places (length s.term.docs) (length (written_postings s.term.skip_info s.term.docs s.term.freqs)) (length (positions_bytes s.term.mode s.term.deltas))
+    else s.places
+
+-- the bytes that go out where a field is ended in which no term is open
+abbrev pub dictionary_of : FieldTermsState → FieldBodies
+dictionary_of s = record { terms = written_dictionary s.places.keys s.places.infos; postings = []; positions = [] }
+
+-- and where the open one is ended first, if there is one
+abbrev pub closing_bytes : FieldTermsState → FieldBodies
+closing_bytes s = record {
+  terms = written_dictionary (places_after s).keys (places_after s).infos;
+  postings = if s.term_open then (bytes_of s.term).postings else [];
+  positions = if s.term_open then (bytes_of s.term).positions else [];
+}
+
+-- A term was ended: its place is kept, and no limit was passed.
 pub record EndsTerm (old new : FieldTermsState) : Type 0 where
   pub places : new.places ≡ with_term old.places (length old.term.docs)
       (length (written_postings old.term.skip_info old.term.docs old.term.freqs)) (length (positions_bytes old.term.mode old.term.deltas))
+  pub short : IsShort old.term.mode (term_under [] old.term)
+  pub within : (new.places.postings_end < 2 ^ 56) × (new.places.positions_end < 2 ^ 56)
   pub mode : new.term.mode ≡ old.term.mode
   pub ended : new.term_open ≡ false
   pub unrefused : new.closed ≡ false

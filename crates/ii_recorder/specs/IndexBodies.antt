@@ -1,7 +1,8 @@
 -- The three composites of an index as they are written: terms, postings and positions.
-use Rattle.std.specs.Prelude.{List, ◌≡◌, ℕ, ◌+◌, ◌-◌, ◌^◌, ◌<◌, false, length}
-use Rattle.ii_io.specs.CountingWriter.{Wrote}
-use Rattle.ii_io.specs.CompositeWrite.{CompositeWriteState, AddsBody, has_start}
+use Rattle.std.specs.Prelude.{List, ◌≡◌, ℕ, ◌+◌, ◌-◌, ◌^◌, ◌<◌, ◌≤◌, ◌⊎◌, false, length}
+use Rattle.ii_io.specs.Composite.{table_bytes}
+use Rattle.ii_io.specs.CountingWriter.{IsFull, Wrote}
+use Rattle.ii_io.specs.CompositeWrite.{CompositeWriteState, AddsBody, has_start, places_of}
 use Rattle.ii_recorder.specs.Terms.{FieldBodies}
 
 pub record IndexBodiesState : Type 0 where
@@ -12,6 +13,20 @@ pub record IndexBodiesState : Type 0 where
 -- how many calls of the three writers failed
 abbrev pub failed_calls : IndexBodiesState → ℕ
 failed_calls b = b.terms.writer.failed_calls + b.postings.writer.failed_calls + b.positions.writer.failed_calls
+
+-- No writer's count of failed calls fell.
+pub record NoneFalls (old new : IndexBodiesState) : Type 0 where
+  pub terms : old.terms.writer.failed_calls ≤ new.terms.writer.failed_calls
+  pub postings : old.postings.writer.failed_calls ≤ new.postings.writer.failed_calls
+  pub positions : old.positions.writer.failed_calls ≤ new.positions.writer.failed_calls
+
+-- A count of a writer would pass its type by these bytes, or by a failed call.
+abbrev pub AreFull : IndexBodiesState → FieldBodies → Type 0
+AreFull b more = IsFull b.terms.writer (length more.terms) ⊎ IsFull b.postings.writer (length more.postings) ⊎ IsFull b.positions.writer (length more.positions)
+
+-- the tables that are written where the three are closed
+abbrev pub tables_of : IndexBodiesState → FieldBodies
+tables_of b = record { terms = table_bytes (places_of b.terms); postings = table_bytes (places_of b.postings); positions = table_bytes (places_of b.positions) }
 
 -- None of the three was closed by a refusal.
 pub record AreUnclosed (b : IndexBodiesState) : Type 0 where

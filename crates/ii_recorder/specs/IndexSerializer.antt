@@ -1,10 +1,13 @@
 -- What writes the fields of an index, one after the other.
-use Rattle.std.specs.Prelude.{◌≡◌, ℕ, Bool, List}
+use Rattle.std.specs.Prelude.{◌≡◌, ℕ, ◌^◌, ◌<◌, ◌⊎◌, Bool, IsTrue, List}
+use Rattle.ii_io.specs.declared.faults.Fault.{Fault}
+use Rattle.ii_io.specs.declared.faults.Fault.TheVariants.{Limit, Write}
+use Rattle.ii_io.specs.declared.faults.LimitName.TheVariants as limit
 use Rattle.ii_base.specs.Schema.{Entry}
 use Rattle.ii_index.specs.Fields.{option_of}
 use Rattle.ii_recorder.specs.Terms.{WrittenTerm, open_bodies}
-use Rattle.ii_recorder.specs.FieldTerms.{FieldTermsState, HasTerms}
-use Rattle.ii_recorder.specs.IndexBodies.{IndexBodiesState, AddsBodies}
+use Rattle.ii_recorder.specs.FieldTerms.{FieldTermsState, HasTerms, IsEndFault, closing_bytes}
+use Rattle.ii_recorder.specs.IndexBodies.{IndexBodiesState, AddsBodies, AreFull}
 
 -- The fields of the schema, the three files, the terms of the field that was begun last, and whether a call was refused.
 pub record IndexSerializerState : Type 0 where
@@ -15,6 +18,15 @@ pub record IndexSerializerState : Type 0 where
 
 -- A field with so many tokens was begun after what stood in the files at first: these terms of it were written, and then come the keys of terms that are not.
 pub record IsWriting (initial : IndexBodiesState) (now : IndexSerializerState) (field tokens : ℕ) (ts : List WrittenTerm) (pending : List (List ℕ)) : Type 0 where
+  pub counted : tokens < 2 ^ 64
   pub mode : now.field.term.mode ≡ option_of now.entries field
   pub bodies : AddsBodies initial now.bodies field (open_bodies now.field.term.mode tokens ts)
   pub terms : HasTerms now.field.term.mode now.field.places ts pending
+
+-- Why the open term of a field can't be ended.
+abbrev pub IsTermFault : IndexSerializerState → Fault → Type 0
+IsTermFault s fault = IsEndFault s.field.term s.field.places s.bodies.postings.writer s.bodies.positions.writer fault
+
+-- Why a field can't be ended.
+abbrev pub IsFieldFault : IndexSerializerState → Fault → Type 0
+IsFieldFault s fault = (IsTrue s.field.term_open × IsTermFault s fault) ⊎ (fault ≡ Write) ⊎ ((fault ≡ Limit limit.Offset) × AreFull s.bodies (closing_bytes s.field))

@@ -1,4 +1,5 @@
 pub mod Terms
+pub mod HeldTerms
 pub mod OpenTerm
 pub mod TermPlaces
 pub mod FieldTerms

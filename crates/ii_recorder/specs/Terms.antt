@@ -1,5 +1,5 @@
 -- The terms of a field: the bytes that go out for each, and what is kept of it.
-use Rattle.std.specs.Prelude.{ℕ, ◌+◌, if◌then◌else◌, List, [], ◌∷◌, ◌++◌, length, map}
+use Rattle.std.specs.Prelude.{ℕ, ◌+◌, ◌^◌, ◌<◌, if◌then◌else◌, List, [], ◌∷◌, ◌++◌, length, map}
 use Rattle.std.specs.List.{flat_map}
 use Rattle.ii_base.specs.declared.schema.index_record_option.IndexRecordOption.{IndexRecordOption}
 use Rattle.ii_base.specs.Options.{has_positions}
@@ -25,6 +25,10 @@ postings_bytes t = written_postings t.skip_info t.docs t.freqs
 -- the bytes of positions by their deltas: none in a field that doesn't record them
 abbrev pub positions_bytes : IndexRecordOption → List ℕ → List ℕ
 positions_bytes mode deltas = if has_positions mode then written_positions deltas else []
+
+-- The postings and the positions of a term have fewer than 2 ^ 32 bytes each.
+abbrev pub IsShort : IndexRecordOption → WrittenTerm → Type 0
+IsShort mode t = (length (postings_bytes t) < 2 ^ 32) × (length (positions_bytes mode t.deltas) < 2 ^ 32)
 
 -- what is kept of terms whose postings and positions stand one after the other from these places on
 abbrev pub infos_from : IndexRecordOption → ℕ → ℕ → List WrittenTerm → List TermInfo

@@ -2,14 +2,15 @@ ghost use Rattle.std.specs.Prelude.{◌≡◌, ◌+◌, ◌^◌, ◌<◌, ◌≤
 ghost use Rattle.std.specs.Borrow.{sem, RestsIfErr};
 ghost use Rattle.ii_base.specs.declared.schema.index_record_option.IndexRecordOption.TheVariants.{Basic};
 ghost use Rattle.ii_base.specs.Options.{has_freq, has_positions};
-ghost use Rattle.ii_io.specs.CountingWriter.{Closes};
+ghost use Rattle.ii_io.specs.CountingWriter.{Closes, IsFull};
 ghost use Rattle.ii_docset.specs.Entries.{are_documents};
 ghost use Rattle.ii_layout.specs.PostingsSerializer.{IsSumTooLarge};
 ghost use Rattle.ii_termdict.specs.ReadBack.{AreAscending};
 ghost use Rattle.ii_recorder.specs.Terms.{WrittenTerm, field_bodies};
-ghost use Rattle.ii_recorder.specs.FieldTerms.{IsTooLong, term_under};
-ghost use Rattle.ii_recorder.specs.IndexBodies.{IndexBodiesState, AddsBodies, AreBegun, LacksField, failed_calls};
-ghost use Rattle.ii_recorder.specs.IndexSerializer.{IsWriting};
+ghost use Rattle.ii_recorder.specs.HeldTerms.{HoldsTerms};
+ghost use Rattle.ii_recorder.specs.FieldTerms.{term_under};
+ghost use Rattle.ii_recorder.specs.IndexBodies.{IndexBodiesState, AddsBodies, AreBegun, LacksField, NoneFalls, failed_calls};
+ghost use Rattle.ii_recorder.specs.IndexSerializer.{IsFieldFault, IsTermFault, IsWriting};
 ghost use Rattle.ii_recorder.specs.contracts.serializer.InvertedIndexSerializer.{the_row};
 
 use super::serializer::InvertedIndexSerializer;
@@ -42,11 +43,16 @@ impl<W: Write> InvertedIndexSerializer<W> {
         requires known { field < length self.old.entries }
         requires lacks { self.old.closed ≡ false → LacksField field self.old.bodies }
         ensures* refused { sem 𝓛 (RestsIfErr (the_row W.row W.Write) self.entry (λ f. f.index.ghost_name) result
-            (λ n. IsTrue n.closed × (IsErrOf result Fault.Write ↔ (failed_calls self.old.bodies < failed_calls n.bodies)))) }
+            (λ n. IsTrue n.closed × (n.entries ≡ self.old.entries) × NoneFalls self.old.bodies n.bodies
+            × (IsErrOf result Fault.Write ↔ (failed_calls self.old.bodies < failed_calls n.bodies))
+            × (IsErrOf result Fault.Write → failed_calls n.bodies ≡ failed_calls self.old.bodies + 1)
+            × (IsTrue self.old.closed → n ≡ self.old))) }
         ensures same_reference { IfOk result (λ f. f.index.ghost_name ≡ self.entry.ghost_name) }
         ensures begins { IfOk result (λ f. IsWriting self.old.bodies f.index.now field total_num_tokens [] []) }
         ensures between { IfOk result (λ f. f.index.now.field.term_open ≡ false) }
+        ensures entries { IfOk result (λ f. f.index.now.entries ≡ self.old.entries) }
         ensures open { IfOk result (λ f. f.index.now.closed ≡ false) }
+        ensures full { IsErrOf result (Fault.Limit LimitName.Offset) → IsFull self.old.bodies.postings.writer 8 }
         ensures closed { IsErrOf result Fault.SerializerClosed ↔ IsTrue self.old.closed }
         ensures only { IfErr result (λ e. (e ≡ Fault.OutOfMemory) ⊎ (e ≡ Fault.Write) ⊎ (e ≡ Fault.Limit LimitName.Offset) ⊎ (e ≡ Fault.SerializerClosed)) }
     {
@@ -74,7 +80,9 @@ impl<'a, W: Write> FieldSerializer<'a, W> {
         ensures term { OnOk result (self.new.index.now.field.term
             ≡ record self.old.index.now.field.term { skip_info = if record_term_freq then self.old.index.now.field.term.mode else Basic; docs = []; freqs = [] }) }
         ensures inside { OnOk result (self.new.index.now.field.term_open ≡ true) }
+        ensures entries { self.new.index.now.entries ≡ self.old.index.now.entries }
         ensures bodies { self.new.index.now.bodies ≡ self.old.index.now.bodies }
+        ensures refused { IsTrue self.old.index.now.closed → self.new.index.now ≡ self.old.index.now }
         ensures closes { Closes result self.new.index.now.closed }
         ensures closed { IsErrOf result Fault.SerializerClosed ↔ IsTrue self.old.index.now.closed }
         ensures only { IfErr result (λ e. (e ≡ Fault.OutOfMemory) ⊎ (e ≡ Fault.SerializerClosed)) }
@@ -94,7 +102,9 @@ impl<'a, W: Write> FieldSerializer<'a, W> {
         ensures term { OnOk result (self.new.index.now.field.term
             ≡ record self.old.index.now.field.term { skip_info = Basic; docs = []; freqs = [] }) }
         ensures inside { OnOk result (self.new.index.now.field.term_open ≡ true) }
+        ensures entries { self.new.index.now.entries ≡ self.old.index.now.entries }
         ensures bodies { self.new.index.now.bodies ≡ self.old.index.now.bodies }
+        ensures refused { IsTrue self.old.index.now.closed → self.new.index.now ≡ self.old.index.now }
         ensures closes { Closes result self.new.index.now.closed }
         ensures closed { IsErrOf result Fault.SerializerClosed ↔ IsTrue self.old.index.now.closed }
         ensures only { IfErr result (λ e. (e ≡ Fault.OutOfMemory) ⊎ (e ≡ Fault.SerializerClosed)) }
@@ -128,7 +138,9 @@ impl<'a, W: Write> FieldSerializer<'a, W> {
             };
           };
         }) }
+        ensures entries { self.new.index.now.entries ≡ self.old.index.now.entries }
         ensures bodies { self.new.index.now.bodies ≡ self.old.index.now.bodies }
+        ensures refused { IsTrue self.old.index.now.closed → self.new.index.now ≡ self.old.index.now }
         ensures closes { Closes result self.new.index.now.closed }
         ensures limit { IsErrOf result (Fault.Limit LimitName.BlockFrequencySum)
             ↔ (self.old.index.now.closed ≡ false) × IsSumTooLarge self.old.index.now.field.term.skip_info (self.old.index.now.field.term.freqs ++ term_freq ∷ []) }
@@ -154,8 +166,12 @@ impl<'a, W: Write> FieldSerializer<'a, W> {
             → (result ≡ Ok tt) × (self.new.index.now ≡ self.old.index.now) }
         ensures between { OnOk result (self.new.index.now.field.term_open ≡ false) }
         ensures closes { Closes result self.new.index.now.closed }
+        ensures entries { self.new.index.now.entries ≡ self.old.index.now.entries }
         ensures write { IsErrOf result Fault.Write ↔ (failed_calls self.old.index.now.bodies < failed_calls self.new.index.now.bodies) }
-        ensures long { IsErrOf result (Fault.Limit LimitName.TermBytes) → IsTooLong self.old.index.now.field.term }
+        ensures by_one { IsErrOf result Fault.Write → failed_calls self.new.index.now.bodies ≡ failed_calls self.old.index.now.bodies + 1 }
+        ensures kept { NoneFalls self.old.index.now.bodies self.new.index.now.bodies }
+        ensures refused { IsTrue self.old.index.now.closed → self.new.index.now ≡ self.old.index.now }
+        ensures fault { IfErr result (λ e. (e ≡ Fault.SerializerClosed) ⊎ IsTermFault self.old.index.now e) }
         ensures closed { IsErrOf result Fault.SerializerClosed ↔ IsTrue self.old.index.now.closed }
     {
         self.index.end_term()
@@ -168,12 +184,22 @@ impl<'a, W: Write> FieldSerializer<'a, W> {
         ensures wrote { (initial : IndexBodiesState) (field tokens : ℕ) (ts : List WrittenTerm) → self.entry.index.now.field.term_open ≡ false
             → IsWriting initial self.entry.index.now field tokens ts []
             → OnOk result (AddsBodies initial self.exit.0.now.bodies field (field_bodies self.entry.index.now.field.term.mode tokens ts)) }
+        ensures holds { (initial : IndexBodiesState) (field tokens : ℕ) (ts : List WrittenTerm) → self.entry.index.now.field.term_open ≡ false
+            → IsWriting initial self.entry.index.now field tokens ts []
+            → OnOk result (HoldsTerms self.entry.index.now.field.term.mode tokens (field_bodies self.entry.index.now.field.term.mode tokens ts) ts) }
         ensures wrote_last { (initial : IndexBodiesState) (field tokens : ℕ) (ts : List WrittenTerm) (key : List ℕ) → self.entry.index.now.field.term_open ≡ true
             → IsWriting initial self.entry.index.now field tokens ts (key ∷ [])
             → OnOk result (AddsBodies initial self.exit.0.now.bodies field (field_bodies self.entry.index.now.field.term.mode tokens (ts ++ term_under key self.entry.index.now.field.term ∷ []))) }
+        ensures holds_last { (initial : IndexBodiesState) (field tokens : ℕ) (ts : List WrittenTerm) (key : List ℕ) → self.entry.index.now.field.term_open ≡ true
+            → IsWriting initial self.entry.index.now field tokens ts (key ∷ [])
+            → OnOk result (HoldsTerms self.entry.index.now.field.term.mode tokens (field_bodies self.entry.index.now.field.term.mode tokens (ts ++ term_under key self.entry.index.now.field.term ∷ [])) (ts ++ term_under key self.entry.index.now.field.term ∷ [])) }
         ensures entries { self.exit.0.now.entries ≡ self.entry.index.now.entries }
         ensures closes { Closes result self.exit.0.now.closed }
         ensures write { IsErrOf result Fault.Write ↔ (failed_calls self.entry.index.now.bodies < failed_calls self.exit.0.now.bodies) }
+        ensures by_one { IsErrOf result Fault.Write → failed_calls self.exit.0.now.bodies ≡ failed_calls self.entry.index.now.bodies + 1 }
+        ensures kept { NoneFalls self.entry.index.now.bodies self.exit.0.now.bodies }
+        ensures refused { IsTrue self.entry.index.now.closed → self.exit.0.now ≡ self.entry.index.now }
+        ensures fault { IfErr result (λ e. (e ≡ Fault.SerializerClosed) ⊎ IsFieldFault self.entry.index.now e) }
         ensures closed { IsErrOf result Fault.SerializerClosed ↔ IsTrue self.entry.index.now.closed }
     {
         let FieldSerializer { index } = self;

@@ -1,14 +1,16 @@
 ghost use Rattle.std.specs.Prelude.{◌≡◌, ◌+◌, ◌^◌, ◌<◌, ◌≤◌, ◌↔◌, ◌⊎◌, if◌then◌else◌, [], ◌∷◌, ◌++◌, true, false, length, Ok, OnOk, OnErr, IfErr, IsErrOf, IsTrue, List, ℕ};
+ghost use Rattle.std.specs.List.{zip};
 ghost use Rattle.ii_base.specs.declared.schema.index_record_option.IndexRecordOption.TheVariants.{Basic};
 ghost use Rattle.ii_base.specs.Options.{has_freq, has_positions};
 ghost use Rattle.ii_io.specs.CountingWriter.{Wrote, WritesUnlessClosed, Closes};
 ghost use Rattle.ii_docset.specs.Entries.{are_documents};
 ghost use Rattle.ii_layout.specs.PostingsSerializer.{IsSumTooLarge};
 ghost use Rattle.ii_layout.specs.Written.{written_postings};
+ghost use Rattle.ii_termdict.specs.Dictionary.{dictionary};
 ghost use Rattle.ii_termdict.specs.ReadBack.{AreAscending};
 ghost use Rattle.ii_termdict.specs.Written.{written_dictionary};
-ghost use Rattle.ii_recorder.specs.Terms.{positions_bytes};
-ghost use Rattle.ii_recorder.specs.FieldTerms.{EndsTerm, IsLeft, IsTooLong};
+ghost use Rattle.ii_recorder.specs.Terms.{IsShort, positions_bytes};
+ghost use Rattle.ii_recorder.specs.FieldTerms.{EndsTerm, IsEndFault, IsLeft, term_under};
 ghost use Rattle.ii_recorder.specs.TermPlaces.{with_term};
 
 use super::open_term::OpenTerm;
@@ -86,6 +88,7 @@ impl FieldTerms {
           term_open = true;
         }) }
         ensures err { OnErr result (IsTrue self.new.closed) }
+        ensures refused { IsTrue self.old.closed → self.new ≡ self.old }
         ensures closed { IsErrOf result Fault.SerializerClosed ↔ IsTrue self.old.closed }
         ensures only { IfErr result (λ e. (e ≡ Fault.OutOfMemory) ⊎ (e ≡ Fault.SerializerClosed)) }
     {
@@ -123,6 +126,7 @@ impl FieldTerms {
           };
         }) }
         ensures err { OnErr result (IsTrue self.new.closed) }
+        ensures refused { IsTrue self.old.closed → self.new ≡ self.old }
         ensures limit { IsErrOf result (Fault.Limit LimitName.BlockFrequencySum)
             ↔ (self.old.closed ≡ false) × IsSumTooLarge self.old.term.skip_info (self.old.term.freqs ++ term_freq ∷ []) }
         ensures closed { IsErrOf result Fault.SerializerClosed ↔ IsTrue self.old.closed }
@@ -156,7 +160,10 @@ impl FieldTerms {
         ensures err { OnErr result (IsTrue self.new.closed) }
         ensures write { IsErrOf result Fault.Write
             ↔ (postings_write.old.failed_calls + positions_write.old.failed_calls < postings_write.new.failed_calls + positions_write.new.failed_calls) }
-        ensures long { IsErrOf result (Fault.Limit LimitName.TermBytes) → IsTooLong self.old.term }
+        ensures by_one { IsErrOf result Fault.Write
+            → postings_write.new.failed_calls + positions_write.new.failed_calls ≡ postings_write.old.failed_calls + positions_write.old.failed_calls + 1 }
+        ensures kept { (postings_write.old.failed_calls ≤ postings_write.new.failed_calls) × (positions_write.old.failed_calls ≤ positions_write.new.failed_calls) }
+        ensures fault { IfErr result (λ e. (e ≡ Fault.SerializerClosed) ⊎ IsEndFault self.old.term self.old.places postings_write.old positions_write.old e) }
         ensures refused { IsTrue self.old.closed → (self.new ≡ self.old) × (postings_write.new ≡ postings_write.old) × (positions_write.new ≡ positions_write.old) }
         ensures closed { IsErrOf result Fault.SerializerClosed ↔ IsTrue self.old.closed }
     {
@@ -185,6 +192,8 @@ impl FieldTerms {
     pub fn finish<W: Write>(&mut self, terms_write: &mut CountingWriter<W>) -> Result<(), Fault>
         requires between { self.old.closed ≡ false → self.old.term_open ≡ false }
         ensures written { WritesUnlessClosed self.old.closed terms_write.old terms_write.new (written_dictionary self.old.places.keys self.old.places.infos) result }
+        ensures holds { OnOk result (dictionary (written_dictionary self.old.places.keys self.old.places.infos) ≡ Ok (zip self.old.places.keys self.old.places.infos)) }
+        ensures refused { IsTrue self.old.closed → self.new ≡ self.old }
         ensures closes { Closes result self.new.closed }
     {
         if self.is_closed {
@@ -210,11 +219,15 @@ fn put_term<W: Write>(
     ensures positions { OnOk result (Wrote positions_write.old positions_write.new (positions_bytes term.old.mode term.old.deltas)) }
     ensures place { OnOk result (places.new ≡ with_term places.old (length term.old.docs)
         (length (written_postings term.old.skip_info term.old.docs term.old.freqs)) (length (positions_bytes term.old.mode term.old.deltas))) }
+    ensures short { OnOk result (IsShort term.old.mode (term_under [] term.old)) }
+    ensures within { OnOk result ((places.new.postings_end < 2 ^ 56) × (places.new.positions_end < 2 ^ 56)) }
     ensures left { OnOk result (IsLeft term.old term.new) }
     ensures write { IsErrOf result Fault.Write
         ↔ (postings_write.old.failed_calls + positions_write.old.failed_calls < postings_write.new.failed_calls + positions_write.new.failed_calls) }
-    ensures long { IsErrOf result (Fault.Limit LimitName.TermBytes) → IsTooLong term.old }
-    ensures only { ¬ IsErrOf result Fault.SerializerClosed }
+    ensures by_one { IsErrOf result Fault.Write
+        → postings_write.new.failed_calls + positions_write.new.failed_calls ≡ postings_write.old.failed_calls + positions_write.old.failed_calls + 1 }
+    ensures kept { (postings_write.old.failed_calls ≤ postings_write.new.failed_calls) × (positions_write.old.failed_calls ≤ positions_write.new.failed_calls) }
+    ensures fault { IfErr result (λ e. IsEndFault term.old places.old postings_write.old positions_write.old e) }
 {
     let doc_freq = term.doc_freq();
     let postings_len = match term.write_postings(postings_write) {

@@ -1,10 +1,12 @@
 ghost use Rattle.std.specs.Prelude.{◌≡◌, ◌+◌, ◌-◌, ◌^◌, ◌<◌, ◌≤◌, ◌⊎◌, ◌↔◌, List, [], ◌∷◌, ◌++◌, true, false, length, Ok, OnOk, OnErr, IfErr, IsErrOf, IsTrue};
-ghost use Rattle.ii_io.specs.CountingWriter.{CountingWriterState};
+ghost use Rattle.std.specs.List.{zip};
+ghost use Rattle.ii_io.specs.CountingWriter.{CountingWriterState, IsFull};
 ghost use Rattle.ii_io.specs.CompositeWrite.{AddsBody, HasBodies, WroteComposite, has_start};
 ghost use Rattle.ii_io.specs.Composite.{Body, fit_fields};
 ghost use Rattle.ii_io.specs.Numbers.{le_bytes};
-ghost use Rattle.ii_recorder.specs.IndexBodies.{AddsBodies, AddsMore, AreBegun, AreUnclosed, LacksField, failed_calls};
-ghost use Rattle.ii_recorder.specs.FieldTerms.{EndsTerm, IsTooLong, bytes_of};
+ghost use Rattle.ii_recorder.specs.IndexBodies.{AddsBodies, AddsMore, AreBegun, AreFull, AreUnclosed, LacksField, NoneFalls, failed_calls, tables_of};
+ghost use Rattle.ii_recorder.specs.FieldTerms.{EndsTerm, IsEndFault, bytes_of, dictionary_of};
+ghost use Rattle.ii_termdict.specs.Dictionary.{dictionary};
 ghost use Rattle.ii_termdict.specs.Written.{written_dictionary};
 
 use super::field_terms::FieldTerms;
@@ -50,6 +52,7 @@ impl<W: Write> IndexBodies<W> {
     }
 
     // Begins the body of a field in each, that of postings by the number of its tokens.
+    #[tactic(auto, using(ii_io::specs::NumberLemmas::length_le_bytes))]
     pub fn begin_field(&mut self, field: Field, total_num_tokens: u64) -> Result<(), Fault>
         requires unclosed { AreUnclosed self.old }
         requires lacks { LacksField field self.old }
@@ -57,6 +60,9 @@ impl<W: Write> IndexBodies<W> {
         ensures unclosed { OnOk result (AreUnclosed self.new) }
         ensures begun { OnOk result (AreBegun self.new) }
         ensures write { IsErrOf result Fault.Write ↔ (failed_calls self.old < failed_calls self.new) }
+        ensures by_one { IsErrOf result Fault.Write → failed_calls self.new ≡ failed_calls self.old + 1 }
+        ensures kept { NoneFalls self.old self.new }
+        ensures full { IsErrOf result (Fault.Limit LimitName.Offset) → IsFull self.old.postings.writer 8 }
         ensures only { IfErr result (λ e. (e ≡ Fault.OutOfMemory) ⊎ (e ≡ Fault.Write) ⊎ (e ≡ Fault.Limit LimitName.Offset)) }
     {
         begin_body(&mut self.terms, field)?;
@@ -77,7 +83,10 @@ impl<W: Write> IndexBodies<W> {
         ensures none { terms.old.closed ≡ false → terms.old.term_open ≡ false → (result ≡ Ok tt) × (terms.new ≡ terms.old) × (self.new ≡ self.old) }
         ensures err { OnErr result (IsTrue terms.new.closed) }
         ensures write { IsErrOf result Fault.Write ↔ (failed_calls self.old < failed_calls self.new) }
-        ensures long { IsErrOf result (Fault.Limit LimitName.TermBytes) → IsTooLong terms.old.term }
+        ensures by_one { IsErrOf result Fault.Write → failed_calls self.new ≡ failed_calls self.old + 1 }
+        ensures kept { NoneFalls self.old self.new }
+        ensures refused { IsTrue terms.old.closed → (terms.new ≡ terms.old) × (self.new ≡ self.old) }
+        ensures fault { IfErr result (λ e. (e ≡ Fault.SerializerClosed) ⊎ IsEndFault terms.old.term terms.old.places self.old.postings.writer self.old.positions.writer e) }
         ensures closed { IsErrOf result Fault.SerializerClosed ↔ IsTrue terms.old.closed }
     {
         terms.close_term(self.postings.writer(), self.positions.writer())
@@ -87,8 +96,15 @@ impl<W: Write> IndexBodies<W> {
     pub fn finish_field(&mut self, terms: &mut FieldTerms) -> Result<(), Fault>
         requires begun { AreBegun self.old }
         requires between { terms.old.closed ≡ false → terms.old.term_open ≡ false }
-        ensures wrote { OnOk result (AddsMore self.old self.new (record { terms = written_dictionary terms.old.places.keys terms.old.places.infos; postings = []; positions = [] })) }
+        ensures wrote { OnOk result (AddsMore self.old self.new (dictionary_of terms.old)) }
+        ensures holds { OnOk result (dictionary (written_dictionary terms.old.places.keys terms.old.places.infos) ≡ Ok (zip terms.old.places.keys terms.old.places.infos)) }
         ensures write { IsErrOf result Fault.Write ↔ (failed_calls self.old < failed_calls self.new) }
+        ensures by_one { IsErrOf result Fault.Write → failed_calls self.new ≡ failed_calls self.old + 1 }
+        ensures kept { NoneFalls self.old self.new }
+        ensures full { IsErrOf result (Fault.Limit LimitName.Offset)
+            → AreFull self.old (dictionary_of terms.old) }
+        ensures only { IfErr result (λ e. (e ≡ Fault.Write) ⊎ (e ≡ Fault.Limit LimitName.Offset) ⊎ (e ≡ Fault.SerializerClosed)) }
+        ensures refused { IsTrue terms.old.closed → (terms.new ≡ terms.old) × (self.new ≡ self.old) }
         ensures unclosed { AreUnclosed self.old → AreUnclosed self.new }
         ensures begun { AreBegun self.new }
         ensures terms { OnOk result (terms.new.closed ≡ false) }
@@ -106,7 +122,9 @@ impl<W: Write> IndexBodies<W> {
         requires begun { AreBegun self.old }
         ensures wrote { OnOk result (AddsMore self.old self.new (record { terms = []; postings = []; positions = [] })) }
         ensures write { IsErrOf result Fault.Write ↔ (failed_calls self.old < failed_calls self.new) }
-        ensures kept { failed_calls self.old ≤ failed_calls self.new }
+        ensures by_one { IsErrOf result Fault.Write → failed_calls self.new ≡ failed_calls self.old + 1 }
+        ensures kept { NoneFalls self.old self.new }
+        ensures full { IsErrOf result (Fault.Limit LimitName.Offset) → AreFull self.old (record { terms = []; postings = []; positions = [] }) }
         ensures unclosed { AreUnclosed self.old → AreUnclosed self.new }
         ensures begun { AreBegun self.new }
         ensures only { IfErr result (λ e. (e ≡ Fault.Write) ⊎ (e ≡ Fault.Limit LimitName.Offset)) }
@@ -148,6 +166,9 @@ impl<W: Write> IndexBodies<W> {
         ensures postings { (initial : CountingWriterState) (bodies : List Body) → HasBodies initial self.postings bodies → fit_fields bodies ≡ true → OnOk result.3 (WroteComposite initial result.1 bodies) }
         ensures positions { (initial : CountingWriterState) (bodies : List Body) → HasBodies initial self.positions bodies → fit_fields bodies ≡ true → OnOk result.3 (WroteComposite initial result.2 bodies) }
         ensures write { IsErrOf result.3 Fault.Write ↔ (failed_calls self < result.0.failed_calls + result.1.failed_calls + result.2.failed_calls) }
+        ensures by_one { IsErrOf result.3 Fault.Write → result.0.failed_calls + result.1.failed_calls + result.2.failed_calls ≡ failed_calls self + 1 }
+        ensures kept { (self.terms.writer.failed_calls ≤ result.0.failed_calls) × (self.postings.writer.failed_calls ≤ result.1.failed_calls) × (self.positions.writer.failed_calls ≤ result.2.failed_calls) }
+        ensures full { IsErrOf result.3 (Fault.Limit LimitName.Offset) → AreFull self (tables_of self) }
         ensures only { IfErr result.3 (λ e. (e ≡ Fault.Write) ⊎ (e ≡ Fault.Limit LimitName.Offset)) }
     {
         let IndexBodies {

@@ -5,6 +5,7 @@
 pub mod buffer_lender;
 pub mod field_serializer;
 mod field_terms;
+pub mod held_terms;
 mod index_bodies;
 mod open_term;
 pub mod recorder;

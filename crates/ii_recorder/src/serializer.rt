@@ -1,16 +1,17 @@
 ghost use Rattle.std.specs.Prelude.{◌≡◌, ◌+◌, ◌^◌, ◌<◌, ◌≤◌, ◌⊎◌, ◌↔◌, if◌then◌else◌, ℕ, List, [], ◌∷◌, ◌++◌, true, false, length, Ok, OnOk, OnErr, IfErr, IsErrOf, IsTrue};
 ghost use Rattle.ii_base.specs.declared.schema.index_record_option.IndexRecordOption.TheVariants.{Basic};
 ghost use Rattle.ii_base.specs.Options.{has_freq, has_positions};
-ghost use Rattle.ii_io.specs.CountingWriter.{Closes, CountingWriterState};
+ghost use Rattle.ii_io.specs.CountingWriter.{Closes, CountingWriterState, IsFull};
 ghost use Rattle.ii_io.specs.Composite.{Body, fit_fields};
 ghost use Rattle.ii_io.specs.CompositeWrite.{HasBodies, WroteComposite};
 ghost use Rattle.ii_docset.specs.Entries.{are_documents};
 ghost use Rattle.ii_layout.specs.PostingsSerializer.{IsSumTooLarge};
 ghost use Rattle.ii_termdict.specs.ReadBack.{AreAscending};
 ghost use Rattle.ii_recorder.specs.Terms.{WrittenTerm, field_bodies};
-ghost use Rattle.ii_recorder.specs.FieldTerms.{IsTooLong, term_under};
-ghost use Rattle.ii_recorder.specs.IndexBodies.{IndexBodiesState, AddsBodies, AreBegun, LacksField, failed_calls};
-ghost use Rattle.ii_recorder.specs.IndexSerializer.{IsWriting};
+ghost use Rattle.ii_recorder.specs.HeldTerms.{HoldsTerms};
+ghost use Rattle.ii_recorder.specs.FieldTerms.{closing_bytes, dictionary_of, term_under};
+ghost use Rattle.ii_recorder.specs.IndexBodies.{IndexBodiesState, AddsBodies, AreBegun, AreFull, LacksField, NoneFalls, failed_calls, tables_of};
+ghost use Rattle.ii_recorder.specs.IndexSerializer.{IsFieldFault, IsTermFault, IsWriting};
 
 use super::field_terms::FieldTerms;
 use super::index_bodies::IndexBodies;
@@ -91,6 +92,9 @@ impl<W: Write> InvertedIndexSerializer<W> {
         ensures postings { (initial : CountingWriterState) (bodies : List Body) → HasBodies initial self.bodies.postings bodies → fit_fields bodies ≡ true → OnOk result.3 (WroteComposite initial result.1 bodies) }
         ensures positions { (initial : CountingWriterState) (bodies : List Body) → HasBodies initial self.bodies.positions bodies → fit_fields bodies ≡ true → OnOk result.3 (WroteComposite initial result.2 bodies) }
         ensures write { IsErrOf result.3 Fault.Write ↔ (failed_calls self.bodies < result.0.failed_calls + result.1.failed_calls + result.2.failed_calls) }
+        ensures by_one { IsErrOf result.3 Fault.Write → result.0.failed_calls + result.1.failed_calls + result.2.failed_calls ≡ failed_calls self.bodies + 1 }
+        ensures kept { (self.bodies.terms.writer.failed_calls ≤ result.0.failed_calls) × (self.bodies.postings.writer.failed_calls ≤ result.1.failed_calls) × (self.bodies.positions.writer.failed_calls ≤ result.2.failed_calls) }
+        ensures full { IsErrOf result.3 (Fault.Limit LimitName.Offset) → AreFull self.bodies (tables_of self.bodies) }
         ensures refused { IsTrue self.closed → (result.0 ≡ self.bodies.terms.writer) × (result.1 ≡ self.bodies.postings.writer) × (result.2 ≡ self.bodies.positions.writer) }
         ensures closed { IsErrOf result.3 Fault.SerializerClosed ↔ IsTrue self.closed }
         ensures only { IfErr result.3 (λ e. (e ≡ Fault.Write) ⊎ (e ≡ Fault.Limit LimitName.Offset) ⊎ (e ≡ Fault.SerializerClosed)) }
@@ -121,9 +125,14 @@ impl<W: Write> InvertedIndexSerializer<W> {
         ensures begins { OnOk result (IsWriting self.old.bodies self.new field total_num_tokens [] []) }
         ensures begun { OnOk result (AreBegun self.new.bodies) }
         ensures between { OnOk result (self.new.field.term_open ≡ false) }
+        ensures entries { self.new.entries ≡ self.old.entries }
         ensures closes { OnOk result (self.new.closed ≡ false) }
         ensures err { OnErr result (IsTrue self.new.closed) }
+        ensures full { IsErrOf result (Fault.Limit LimitName.Offset) → IsFull self.old.bodies.postings.writer 8 }
         ensures write { IsErrOf result Fault.Write ↔ (failed_calls self.old.bodies < failed_calls self.new.bodies) }
+        ensures by_one { IsErrOf result Fault.Write → failed_calls self.new.bodies ≡ failed_calls self.old.bodies + 1 }
+        ensures kept { NoneFalls self.old.bodies self.new.bodies }
+        ensures refused { IsTrue self.old.closed → self.new ≡ self.old }
         ensures closed { IsErrOf result Fault.SerializerClosed ↔ IsTrue self.old.closed }
         ensures only { IfErr result (λ e. (e ≡ Fault.OutOfMemory) ⊎ (e ≡ Fault.Write) ⊎ (e ≡ Fault.Limit LimitName.Offset) ⊎ (e ≡ Fault.SerializerClosed)) }
     {
@@ -151,7 +160,9 @@ impl<W: Write> InvertedIndexSerializer<W> {
         ensures term { OnOk result (self.new.field.term
             ≡ record self.old.field.term { skip_info = if record_term_freq then self.old.field.term.mode else Basic; docs = []; freqs = [] }) }
         ensures inside { OnOk result (self.new.field.term_open ≡ true) }
+        ensures entries { self.new.entries ≡ self.old.entries }
         ensures bodies { self.new.bodies ≡ self.old.bodies }
+        ensures refused { IsTrue self.old.closed → self.new ≡ self.old }
         ensures closes { Closes result self.new.closed }
         ensures closed { IsErrOf result Fault.SerializerClosed ↔ IsTrue self.old.closed }
         ensures only { IfErr result (λ e. (e ≡ Fault.OutOfMemory) ⊎ (e ≡ Fault.SerializerClosed)) }
@@ -183,7 +194,9 @@ impl<W: Write> InvertedIndexSerializer<W> {
             };
           };
         }) }
+        ensures entries { self.new.entries ≡ self.old.entries }
         ensures bodies { self.new.bodies ≡ self.old.bodies }
+        ensures refused { IsTrue self.old.closed → self.new ≡ self.old }
         ensures closes { Closes result self.new.closed }
         ensures limit { IsErrOf result (Fault.Limit LimitName.BlockFrequencySum)
             ↔ (self.old.closed ≡ false) × IsSumTooLarge self.old.field.term.skip_info (self.old.field.term.freqs ++ term_freq ∷ []) }
@@ -212,7 +225,11 @@ impl<W: Write> InvertedIndexSerializer<W> {
         ensures entries { self.new.entries ≡ self.old.entries }
         ensures closes { Closes result self.new.closed }
         ensures write { IsErrOf result Fault.Write ↔ (failed_calls self.old.bodies < failed_calls self.new.bodies) }
-        ensures long { IsErrOf result (Fault.Limit LimitName.TermBytes) → IsTooLong self.old.field.term }
+        ensures by_one { IsErrOf result Fault.Write → failed_calls self.new.bodies ≡ failed_calls self.old.bodies + 1 }
+        ensures kept { NoneFalls self.old.bodies self.new.bodies }
+        ensures refused { IsTrue self.old.closed → self.new ≡ self.old }
+        ensures fault { IfErr result (λ e. (e ≡ Fault.SerializerClosed) ⊎ IsTermFault self.old e) }
+        ensures room { OnOk result (AreFull self.new.bodies (dictionary_of self.new.field) → AreFull self.old.bodies (closing_bytes self.old.field)) }
         ensures closed { IsErrOf result Fault.SerializerClosed ↔ IsTrue self.old.closed }
     {
         if self.is_closed {
@@ -229,10 +246,16 @@ impl<W: Write> InvertedIndexSerializer<W> {
         requires between { self.old.closed ≡ false → self.old.field.term_open ≡ false }
         ensures wrote { (initial : IndexBodiesState) (field tokens : ℕ) (ts : List WrittenTerm) → IsWriting initial self.old field tokens ts []
             → OnOk result (AddsBodies initial self.new.bodies field (field_bodies self.old.field.term.mode tokens ts)) }
+        ensures holds { (initial : IndexBodiesState) (field tokens : ℕ) (ts : List WrittenTerm) → IsWriting initial self.old field tokens ts []
+            → OnOk result (HoldsTerms self.old.field.term.mode tokens (field_bodies self.old.field.term.mode tokens ts) ts) }
         ensures entries { self.new.entries ≡ self.old.entries }
         ensures begun { self.old.closed ≡ false → AreBegun self.new.bodies }
         ensures closes { Closes result self.new.closed }
         ensures write { IsErrOf result Fault.Write ↔ (failed_calls self.old.bodies < failed_calls self.new.bodies) }
+        ensures by_one { IsErrOf result Fault.Write → failed_calls self.new.bodies ≡ failed_calls self.old.bodies + 1 }
+        ensures kept { NoneFalls self.old.bodies self.new.bodies }
+        ensures refused { IsTrue self.old.closed → self.new ≡ self.old }
+        ensures fault { IfErr result (λ e. (e ≡ Fault.SerializerClosed) ⊎ (e ≡ Fault.Write) ⊎ ((e ≡ Fault.Limit LimitName.Offset) × AreFull self.old.bodies (dictionary_of self.old.field))) }
         ensures closed { IsErrOf result Fault.SerializerClosed ↔ IsTrue self.old.closed }
     {
         if self.is_closed {
@@ -249,13 +272,23 @@ impl<W: Write> InvertedIndexSerializer<W> {
         ensures wrote { (initial : IndexBodiesState) (field tokens : ℕ) (ts : List WrittenTerm) → self.old.field.term_open ≡ false
             → IsWriting initial self.old field tokens ts []
             → OnOk result (AddsBodies initial self.new.bodies field (field_bodies self.old.field.term.mode tokens ts)) }
+        ensures holds { (initial : IndexBodiesState) (field tokens : ℕ) (ts : List WrittenTerm) → self.old.field.term_open ≡ false
+            → IsWriting initial self.old field tokens ts []
+            → OnOk result (HoldsTerms self.old.field.term.mode tokens (field_bodies self.old.field.term.mode tokens ts) ts) }
         ensures wrote_last { (initial : IndexBodiesState) (field tokens : ℕ) (ts : List WrittenTerm) (key : List ℕ) → self.old.field.term_open ≡ true
             → IsWriting initial self.old field tokens ts (key ∷ [])
             → OnOk result (AddsBodies initial self.new.bodies field (field_bodies self.old.field.term.mode tokens (ts ++ term_under key self.old.field.term ∷ []))) }
+        ensures holds_last { (initial : IndexBodiesState) (field tokens : ℕ) (ts : List WrittenTerm) (key : List ℕ) → self.old.field.term_open ≡ true
+            → IsWriting initial self.old field tokens ts (key ∷ [])
+            → OnOk result (HoldsTerms self.old.field.term.mode tokens (field_bodies self.old.field.term.mode tokens (ts ++ term_under key self.old.field.term ∷ [])) (ts ++ term_under key self.old.field.term ∷ [])) }
         ensures entries { self.new.entries ≡ self.old.entries }
         ensures begun { self.new.closed ≡ false → AreBegun self.new.bodies }
         ensures closes { Closes result self.new.closed }
         ensures write { IsErrOf result Fault.Write ↔ (failed_calls self.old.bodies < failed_calls self.new.bodies) }
+        ensures by_one { IsErrOf result Fault.Write → failed_calls self.new.bodies ≡ failed_calls self.old.bodies + 1 }
+        ensures kept { NoneFalls self.old.bodies self.new.bodies }
+        ensures refused { IsTrue self.old.closed → self.new ≡ self.old }
+        ensures fault { IfErr result (λ e. (e ≡ Fault.SerializerClosed) ⊎ IsFieldFault self.old e) }
         ensures closed { IsErrOf result Fault.SerializerClosed ↔ IsTrue self.old.closed }
     {
         let ended = self.end_term();

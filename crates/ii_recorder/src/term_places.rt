@@ -1,5 +1,7 @@
-ghost use Rattle.std.specs.Prelude.{◌≡◌, ◌+◌, ◌^◌, ◌<◌, ◌≤◌, ◌↔◌, ◌⊎◌, [], ◌∷◌, ◌++◌, true, false, length, OnOk, OnErr, IfOk, IfErr, IsErrOf, IsTrue};
+ghost use Rattle.std.specs.Prelude.{◌≡◌, ◌+◌, ◌^◌, ◌<◌, ◌≤◌, ◌↔◌, ◌⊎◌, [], ◌∷◌, ◌++◌, true, false, length, Ok, OnOk, OnErr, IfOk, IfErr, IsErrOf, IsTrue};
+ghost use Rattle.std.specs.List.{zip};
 ghost use Rattle.ii_io.specs.CountingWriter.{WritesUnlessClosed, Closes};
+ghost use Rattle.ii_termdict.specs.Dictionary.{dictionary};
 ghost use Rattle.ii_termdict.specs.ReadBack.{AreAscending};
 ghost use Rattle.ii_termdict.specs.Written.{written_dictionary};
 ghost use Rattle.ii_recorder.specs.TermPlaces.{with_term};
@@ -73,6 +75,7 @@ impl TermPlaces {
         requires open { self.old.closed ≡ false }
         requires key { length self.old.keys ≡ length self.old.infos + 1 }
         ensures ok { OnOk result (self.new ≡ with_term self.old doc_freq postings_len positions_len) }
+        ensures within { OnOk result ((self.new.postings_end < 2 ^ 56) × (self.new.positions_end < 2 ^ 56)) }
         ensures offset { IsErrOf result (Fault.Limit LimitName.Offset)
             ↔ (2 ^ 56 ≤ self.old.postings_end + postings_len) ⊎ (2 ^ 56 ≤ self.old.positions_end + positions_len) }
         ensures only { IfErr result (λ e. (e ≡ Fault.OutOfMemory) ⊎ (e ≡ Fault.Limit LimitName.Offset)) }
@@ -103,6 +106,7 @@ impl TermPlaces {
     pub fn finish<W: Write>(&mut self, writer: &mut CountingWriter<W>) -> Result<(), Fault>
         requires whole { self.old.closed ≡ false → length self.old.keys ≡ length self.old.infos }
         ensures written { WritesUnlessClosed self.old.closed writer.old writer.new (written_dictionary self.old.keys self.old.infos) result }
+        ensures holds { OnOk result (dictionary (written_dictionary self.old.keys self.old.infos) ≡ Ok (zip self.old.keys self.old.infos)) }
         ensures terms { (self.new.keys ≡ self.old.keys) × (self.new.infos ≡ self.old.infos) }
         ensures closes { Closes result self.new.closed }
     {

@@ -1,0 +1,69 @@
+-- What the bodies of a field hold of the terms that were written.
+use Rattle.std.specs.Prelude.{◌≡◌, ℕ, ◌/◌, ◌^◌, ◌<◌, Bool, false, List, bytes_eq, length, map, Some, Ok, MatchOption}
+use Rattle.std.specs.List.{Contains, AllByRecursion, flat_map, list_any}
+use Rattle.ii_io.specs.Numbers.{number_at}
+use Rattle.ii_base.specs.declared.schema.index_record_option.IndexRecordOption.{IndexRecordOption}
+use Rattle.ii_termstore.specs.declared.term_info.TermInfo.{TermInfo}
+use Rattle.ii_termstore.specs.declared.term_info_store.TheConstants.{BLOCK_LEN}
+use Rattle.ii_termstore.specs.Written.{blocks_bytes}
+use Rattle.ii_termdict.specs.Dictionary.{Entry, dictionary, entry_keys, info_under}
+use Rattle.ii_termdict.specs.ReadBack.{AreAscending}
+use Rattle.ii_index.specs.Files.{LiesIn, bytes_in}
+use Rattle.ii_recorder.specs.Terms.{FieldBodies, IsShort, WrittenTerm, field_bodies, infos_from, postings_bytes, positions_body, positions_bytes}
+
+-- What is kept of a term says how many documents it has and where its bytes stand.
+pub record HoldsWritten (mode : IndexRecordOption) (postings positions : List ℕ) (t : WrittenTerm) (info : TermInfo) : Type 0 where
+  pub doc_freq : info.doc_freq ≡ length t.docs
+  pub postings_range : LiesIn postings info.postings_range
+  pub positions_range : LiesIn positions info.positions_range
+  pub postings_are : bytes_in postings info.postings_range ≡ postings_bytes t
+  pub positions_are : bytes_in positions info.positions_range ≡ positions_bytes mode t.deltas
+
+-- And of a key: it is that of a written term, of which it is kept.
+pub record HoldsKey (mode : IndexRecordOption) (postings positions : List ℕ) (ts : List WrittenTerm) (key : List ℕ) (info : TermInfo) : Type 0 where
+  pub term : WrittenTerm
+  pub written : Contains ts term
+  pub key_is : term.key ≡ key
+  pub held : HoldsWritten mode postings positions term info
+
+abbrev pub written_keys : List WrittenTerm → List (List ℕ)
+written_keys ts = map (λ (t : WrittenTerm). t.key) ts
+
+-- whether a term was written under a key
+abbrev pub has_key : List ℕ → List WrittenTerm → Bool
+has_key key ts = list_any (λ (t : WrittenTerm). bytes_eq key t.key) ts
+
+-- The bodies of a field hold the number of its tokens, exactly the keys of its terms, which ascend, and the bytes of each.
+pub record HoldsTerms (mode : IndexRecordOption) (tokens : ℕ) (bodies : FieldBodies) (ts : List WrittenTerm) : Type 0 where
+  pub entries : List Entry
+  pub postings_body : List ℕ
+  pub counted : number_at 8 bodies.postings ≡ Some (tokens, postings_body)
+  pub sorted : dictionary bodies.terms ≡ Ok entries
+  pub keys : entry_keys entries ≡ written_keys ts
+  pub ascending : AreAscending (written_keys ts)
+  pub exact : (key : List ℕ) → MatchOption (info_under key entries) (has_key key ts ≡ false) (HoldsKey mode postings_body bodies.positions ts key)
+
+-- Under the key of a written term that very term is kept.
+pub record HoldsTerm (mode : IndexRecordOption) (entries : List Entry) (postings positions : List ℕ) (t : WrittenTerm) : Type 0 where
+  pub info : TermInfo
+  pub found : info_under t.key entries ≡ Some info
+  pub held : HoldsWritten mode postings positions t info
+
+-- Terms whose bodies are read back: their keys ascend, and what is kept of them fits its types.
+pub record AreHoldable (mode : IndexRecordOption) (ts : List WrittenTerm) : Type 0 where
+  pub ascending : AreAscending (written_keys ts)
+  pub small : length (flat_map (λ (k : List ℕ). k) (written_keys ts)) < 2 ^ 64
+  pub few : length ts < 2 ^ 64
+  pub bits : length (blocks_bytes (infos_from mode 0 0 ts) (length (infos_from mode 0 0 ts) / BLOCK_LEN)) < 2 ^ 64
+  pub short : AllByRecursion (IsShort mode) ts
+  pub counts : AllByRecursion (λ (t : WrittenTerm). length t.docs < 2 ^ 32) ts
+  pub within : (length (flat_map postings_bytes ts) < 2 ^ 56) × (length (positions_body mode ts) < 2 ^ 56)
+
+-- The bodies that are written for a field hold its terms, and each under its key.
+abbrev pub HoldsWhatIsWritten : Type 0
+HoldsWhatIsWritten = (mode : IndexRecordOption) (tokens : ℕ) (ts : List WrittenTerm) → tokens < 2 ^ 64 → AreHoldable mode ts → HoldsTerms mode tokens (field_bodies mode tokens ts) ts
+
+abbrev pub HoldsEachTerm : Type 0
+HoldsEachTerm =
+    (mode : IndexRecordOption) (tokens : ℕ) (bodies : FieldBodies) (ts : List WrittenTerm) (h : HoldsTerms mode tokens bodies ts) (t : WrittenTerm) → Contains ts t
+    → HoldsTerm mode h.entries h.postings_body bodies.positions t
