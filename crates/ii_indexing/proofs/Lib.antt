@@ -1,3 +1,5 @@
 pub mod PostingsLaws
+pub mod RecorderSteps
+pub mod RecordsLaws
 pub mod TermLemmas
 mod WorkedRows

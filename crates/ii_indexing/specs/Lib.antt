@@ -1,4 +1,6 @@
+pub mod IndexingContext
 pub mod IndexingTerm
 pub mod Lending
 pub mod Norms
+pub mod Records
 pub mod Refusals

@@ -2,12 +2,14 @@
 //! texts.
 #![tactic(auto)]
 
+pub mod indexing_context;
 pub mod indexing_position;
 pub mod indexing_term;
 pub mod path_to_unordered_id;
 #[cfg(test)]
 mod tests;
 
+pub use indexing_context::IndexingContext;
 pub use indexing_position::IndexingPosition;
 pub use indexing_term::{IndexingTerm, IndexingTermRef};
 pub use path_to_unordered_id::OrderedPathId;

@@ -1,0 +1,52 @@
+-- What an indexing context has: for each term that occurred, by its bytes, its recorder.
+use Rattle.std.specs.Prelude.{◌≡◌, ℕ, ◌≤◌, Bool, false, ◌==◌, if◌then◌else◌, List, [], bytes_eq, Option, None, Some, IsTrue, MatchOption, unwrap_or, ⊤}
+use Rattle.std.specs.Map.{lookup}
+use Rattle.std.specs.Option.{option_map_or}
+use Rattle.ii_base.specs.declared.schema.index_record_option.IndexRecordOption.{IndexRecordOption}
+use Rattle.ii_docset.specs.Entries.{Entry, are_documents, docs_of}
+use Rattle.ii_recorder.specs.Recorded.{RecorderState, begun, entries_in, with_position}
+
+abbrev pub TermIndex : Type 0
+TermIndex = List (List ℕ × RecorderState)
+
+-- the recorder of a term
+abbrev pub recorder_of : TermIndex → List ℕ → Option RecorderState
+recorder_of terms bytes = lookup (bytes_eq bytes) terms
+
+-- a recorder of no documents
+abbrev pub new_recorder : IndexRecordOption → RecorderState
+new_recorder option = record { option = option; closed = []; pending = None }
+
+-- the recorder of a term, or a new one
+abbrev pub recorder_or_new : IndexRecordOption → TermIndex → List ℕ → RecorderState
+recorder_or_new option terms bytes = unwrap_or (recorder_of terms bytes) (new_recorder option)
+
+-- whether a document is open in a recorder
+abbrev pub is_open : ℕ → RecorderState → Bool
+is_open doc r = option_map_or (λ (e : Entry). e.doc == doc) r.pending false
+
+-- a recorder once a document is open in it
+abbrev pub opened_at : ℕ → RecorderState → RecorderState
+opened_at doc r = if is_open doc r then r else record { option = r.option; closed = entries_in r; pending = Some (begun r.option doc) }
+
+-- what it has of that document
+abbrev pub entry_at : ℕ → RecorderState → Entry
+entry_at doc r = unwrap_or (opened_at doc r).pending (begun r.option doc)
+
+-- and with one more position of it
+abbrev pub recorded_at : ℕ → ℕ → RecorderState → RecorderState
+recorded_at doc position r = record (opened_at doc r) { pending = Some (with_position r.option position (entry_at doc r)) }
+
+-- The documents of a recorder ascend; the last one is open, and isn't above a document.
+pub record EndsBy (doc : ℕ) (r : RecorderState) : Type 0 where
+  pub ascending : IsTrue (are_documents (docs_of (entries_in r)))
+  pub last : MatchOption r.pending ⊥ (λ (e : Entry). e.doc ≤ doc)
+
+-- So it is with each recorder.
+abbrev pub AllEndBy : ℕ → TermIndex → Type 0
+AllEndBy doc terms = (bytes : List ℕ) → MatchOption (recorder_of terms bytes) ⊤ (EndsBy doc)
+
+-- A position was recorded under a term, and nothing under the others.
+abbrev pub IsRecorded : IndexRecordOption → ℕ → ℕ → List ℕ → TermIndex → TermIndex → Type 0
+IsRecorded option doc position term old new =
+    (bytes : List ℕ) → recorder_of new bytes ≡ (if bytes_eq term bytes then Some (recorded_at doc position (recorder_or_new option old term)) else recorder_of old bytes)
