@@ -1,5 +1,6 @@
 pub mod PostingsLaws
 pub mod RecorderSteps
 pub mod RecordsLaws
+pub mod TermIndexLemmas
 pub mod TermLemmas
 mod WorkedRows

@@ -1,8 +1,7 @@
 ghost use Rattle.std.specs.Prelude.{◌≡◌, ◌≤◌, ◌<◌, [], length, IfErr, IfOk, OnOk};
 ghost use Rattle.ii_docset.specs.declared.docset.TheConstants.{TERMINATED};
 ghost use Rattle.ii_recorder.specs.AnyRecorder.{any_state};
-ghost use Rattle.ii_recorder.specs.Recorded.{position_fault};
-ghost use Rattle.ii_indexing.specs.IndexingContext.{AllEndBy, EndsBy, IsRecorded, entry_at, new_recorder, opened_at, recorded_at, recorder_or_new};
+ghost use Rattle.ii_indexing.specs.IndexingContext.{AllEndBy, EndsBy, IsRecorded, new_recorder, opened_at, record_fault, recorded_at, recorder_or_new};
 ghost use Rattle.ii_indexing.specs.Refusals.{IsRefusedBy};
 
 use ii_base::{Fault, IndexRecordOption};
@@ -57,7 +56,7 @@ impl IndexingContext {
         requires low { doc < TERMINATED }
         requires ends { AllEndBy doc self.old }
         ensures ok { OnOk result (IsRecorded option doc position term.now self.old self.new) }
-        ensures refused { IsRefusedBy (position_fault (recorder_or_new option self.old term.now).option position (entry_at doc (recorder_or_new option self.old term.now))) result }
+        ensures refused { IsRefusedBy (record_fault doc position (recorder_or_new option self.old term.now)) result }
     {
         match self.term_index.get_mut(term) {
             Some(recorder) => record_in(recorder, doc, position),
@@ -79,7 +78,7 @@ fn recorder_with(
     position: u32,
 ) -> Result<AnyRecorder, Fault>
     ensures ok { IfOk result (λ r. any_state r ≡ recorded_at doc position (new_recorder option)) }
-    ensures refused { IsRefusedBy (position_fault option position (entry_at doc (new_recorder option))) result }
+    ensures refused { IsRefusedBy (record_fault doc position (new_recorder option)) result }
 {
     let mut recorder = AnyRecorder::new(alloc, option);
     recorder.new_doc(doc)?;
@@ -93,7 +92,7 @@ fn record_in(recorder: &mut AnyRecorder, doc: DocId, position: u32) -> Result<()
     requires low { doc < TERMINATED }
     requires ends { EndsBy doc (any_state recorder.old) }
     ensures ok { OnOk result (any_state recorder.new ≡ recorded_at doc position (any_state recorder.old)) }
-    ensures refused { IsRefusedBy (position_fault (any_state recorder.old).option position (entry_at doc (any_state recorder.old))) result }
+    ensures refused { IsRefusedBy (record_fault doc position (any_state recorder.old)) result }
 {
     open_doc(recorder, doc)?;
     recorder.record_position(position)
