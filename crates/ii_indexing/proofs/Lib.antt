@@ -3,4 +3,5 @@ pub mod RecorderSteps
 pub mod RecordsLaws
 pub mod TermIndexLemmas
 pub mod TermLemmas
+pub mod TextLaws
 mod WorkedRows

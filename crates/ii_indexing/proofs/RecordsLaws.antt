@@ -1,6 +1,6 @@
 -- What an indexing context has after one more token.
-use Rattle.std.proofs.Common.{◌≡◌, ℕ, ◌<◌, ◌^◌, ◌==◌, Bool, true, false, List, [], ◌∷◌, ◌++◌, map, take, cond, nat_eq, refl, sym, ap, arith, ◌∙◌, Some, None, Option, append_assoc, append-nil, true≢false}
-use Rattle.std.specs.Prelude.{IsSome, MatchOption, bytes_eq, unwrap_or}
+use Rattle.std.proofs.Common.{◌≡◌, ℕ, ◌<◌, ◌^◌, ◌==◌, Bool, true, false, List, [], ◌∷◌, ◌++◌, map, take, cond, nat_eq, refl, sym, ap, arith, ◌∙◌, Some, None, Option, append_assoc, append-nil, subst, true≢false}
+use Rattle.std.specs.Prelude.{IsSome, MatchOption, bytes_eq, unwrap_or, ⊤}
 use Rattle.std.specs.Int.{from_be_bytes, w32}
 use Rattle.std.specs.Option.{option_to_list}
 use Rattle.std.proofs.lemmas.Bool.{eqb-true, eq-eqb}
@@ -15,9 +15,10 @@ use Rattle.ii_index.specs.Cut.{cut_entry}
 use Rattle.ii_index.specs.Tokens.{IndexToken}
 use Rattle.ii_index.specs.Postings.{grouped, is_at, tokens_at}
 use Rattle.ii_indexing.specs.IndexingTerm.{field_bytes}
-use Rattle.ii_indexing.specs.IndexingContext.{IsRecorded, TermIndex, is_open, new_recorder, recorded_at, recorder_of, recorder_or_new}
+use Rattle.ii_indexing.specs.IndexingContext.{AllEndBy, EndsBy, IsRecorded, TermIndex, is_open, new_recorder, recorded_at, recorder_of, recorder_or_new}
 use Rattle.ii_indexing.specs.Records.{HasPostings, Records}
 use Rattle.ii_indexing.proofs.PostingsLaws.{cut_entry_of, postings_more, recorded_after, tokens_at-append}
+use Rattle.ii_indexing.proofs.RecorderSteps.{first_ends, recorded_ends}
 use Rattle.ii_indexing.proofs.TermLemmas.{length_field}
 
 -- one token of a key
@@ -119,3 +120,14 @@ records_more kind old new ts t low recorded known field key high = by (is_at fie
         let found : recorder_of new (field_bytes field ++ key) ≡ recorder_of old (field_bytes field ++ key) =
             recorded (field_bytes field ++ key) ∙ ap (λ (b : Bool). cond b (Some (recorded_at t.doc t.position (recorder_or_new option old term))) (recorder_of old (field_bytes field ++ key))) (same_term t field key low high ∙ is) in
         rw (found, tokens_at_last field key ts t false is, append-nil (tokens_at field key ts)) (known field key high)
+
+-- each recorder ends by the document that was recorded last
+pub all_end : (option : IndexRecordOption) (doc position : ℕ) (term : List ℕ) (old new : TermIndex) → IsRecorded option doc position term old new → AllEndBy doc old → doc < 2147483647 → AllEndBy doc new
+all_end option doc position term old new recorded ends low bytes = subst (λ (found : Option RecorderState). MatchOption found ⊤ (EndsBy doc)) (sym (recorded bytes)) (by (bytes_eq term bytes))
+  where
+    at_term : (found : Option RecorderState) → MatchOption found ⊤ (EndsBy doc) → EndsBy doc (recorded_at doc position (unwrap_or found (new_recorder option)))
+    at_term None none = first_ends option doc position low
+    at_term (Some r) h = recorded_ends doc position r h low
+    by : (b : Bool) → MatchOption (cond b (Some (recorded_at doc position (recorder_or_new option old term))) (recorder_of old bytes)) ⊤ (EndsBy doc)
+    by true = at_term (recorder_of old term) (ends term)
+    by false = ends bytes

@@ -2,5 +2,6 @@ pub mod IndexingContext
 pub mod IndexingTerm
 pub mod Lending
 pub mod Norms
+pub mod PostingsWriter
 pub mod Records
 pub mod Refusals
