@@ -1,5 +1,9 @@
 pub mod FieldLists
 pub mod PostingsLaws
+pub mod RecorderSteps
+pub mod RecordsLaws
 pub mod SortedLemmas
+pub mod TermIndexLemmas
 pub mod TermLemmas
+pub mod TextLaws
 mod WorkedRows

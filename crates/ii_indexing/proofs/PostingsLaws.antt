@@ -71,7 +71,7 @@ cut_with_position WithFreqs p e = refl
 cut_with_position WithFreqsAndPositions p e = refl
 
 -- an entry of one token is what is recorded in a document that was begun
-cut_entry_of : (kind : IndexRecordOption) (t : IndexToken) → cut_entry kind (entry_of t) ≡ with_position kind t.position (begun kind t.doc)
+pub cut_entry_of : (kind : IndexRecordOption) (t : IndexToken) → cut_entry kind (entry_of t) ≡ with_position kind t.position (begun kind t.doc)
 cut_entry_of Basic t = refl
 cut_entry_of WithFreqs t = refl
 cut_entry_of WithFreqsAndPositions t = refl

@@ -1,7 +1,7 @@
 -- The field in front of a term's bytes.
 use Rattle.std.proofs.Common.{◌≡◌, ℕ, ◌≤◌, List, ◌++◌, length, take, refl, sym, arith, ◌∙◌, subst, length-append}
 use Rattle.std.proofs.lemmas.List.{take-append-le, take_all}
-use Rattle.ii_indexing.specs.IndexingTerm.{field_bytes}
+use Rattle.ii_indexing.specs.IndexingTerm.{IndexingTermState, field_bytes, term_bytes}
 
 pub length_field : (field : ℕ) → length (field_bytes field) ≡ 4
 unfolding field_bytes
@@ -20,3 +20,6 @@ field_in_front field bytes rest is =
       take-append-le 4 (field_bytes field) rest (omega (arith, len)) ∙ take_all 4 (field_bytes field) (omega (arith, len)),
     ) in
     subst (λ (bs : List ℕ). HasField bs field) (sym is) whole
+
+pub long_term : (t : IndexingTermState) → 4 ≤ length (term_bytes t)
+long_term t = omega (arith, length-append (field_bytes t.field) t.value, length_field t.field)

@@ -2,9 +2,10 @@
 use Rattle.std.specs.Prelude.{◌≡◌, ℕ, ◌≤◌, Bool, false, ◌==◌, if◌then◌else◌, List, [], bytes_eq, Option, None, Some, IsTrue, MatchOption, unwrap_or, ⊤}
 use Rattle.std.specs.Map.{lookup}
 use Rattle.std.specs.Option.{option_map_or}
+use Rattle.ii_io.specs.declared.faults.Fault.{Fault}
 use Rattle.ii_base.specs.declared.schema.index_record_option.IndexRecordOption.{IndexRecordOption}
 use Rattle.ii_docset.specs.Entries.{Entry, are_documents, docs_of}
-use Rattle.ii_recorder.specs.Recorded.{RecorderState, begun, entries_in, with_position}
+use Rattle.ii_recorder.specs.Recorded.{RecorderState, begun, entries_in, position_fault, with_position}
 
 abbrev pub TermIndex : Type 0
 TermIndex = List (List ℕ × RecorderState)
@@ -36,6 +37,10 @@ entry_at doc r = unwrap_or (opened_at doc r).pending (begun r.option doc)
 -- and with one more position of it
 abbrev pub recorded_at : ℕ → ℕ → RecorderState → RecorderState
 recorded_at doc position r = record (opened_at doc r) { pending = Some (with_position r.option position (entry_at doc r)) }
+
+-- why that position can't be recorded
+abbrev pub record_fault : ℕ → ℕ → RecorderState → Option Fault
+record_fault doc position r = position_fault r.option position (entry_at doc r)
 
 -- The documents of a recorder ascend; the last one is open, and isn't above a document.
 pub record EndsBy (doc : ℕ) (r : RecorderState) : Type 0 where

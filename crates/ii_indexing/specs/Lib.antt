@@ -1,6 +1,8 @@
+pub mod IndexingContext
 pub mod IndexingTerm
 pub mod Lending
 pub mod Norms
+pub mod PostingsWriter
+pub mod Records
 pub mod Refusals
 pub mod SortedTerms
-pub mod IndexingContext

@@ -1,8 +1,8 @@
 -- Which index calls are refused, memory aside.
-use Rattle.std.specs.Prelude.{ℕ, ◌+◌, ◌-◌, ◌^◌, Bool, true, false, ◌||◌, ◌==◌, if◌then◌else◌, List, [], ◌∷◌, ◌++◌, length, nat_lt, nat_le, Option, None, Some, unwrap_or}
+use Rattle.std.specs.Prelude.{◌≡◌, ◌⊎◌, ℕ, ◌+◌, ◌-◌, ◌^◌, Bool, true, false, ◌||◌, ◌==◌, if◌then◌else◌, List, [], ◌∷◌, ◌++◌, length, nat_lt, nat_le, Option, None, Some, MatchResult, Result, unwrap_or}
 use Rattle.std.specs.List.{filter, find, flat_map}
 use Rattle.ii_io.specs.declared.faults.Fault.{Fault}
-use Rattle.ii_io.specs.declared.faults.Fault.TheVariants.{Limit}
+use Rattle.ii_io.specs.declared.faults.Fault.TheVariants.{Limit, OutOfMemory}
 use Rattle.ii_io.specs.declared.faults.LimitName.TheVariants as limit
 use Rattle.ii_base.specs.declared.schema.index_record_option.IndexRecordOption.{IndexRecordOption}
 use Rattle.ii_base.specs.Words.{Word}
@@ -18,6 +18,10 @@ u64_max = 2 ^ 64 - 1
 abbrev pub first_fault : Option Fault → Option Fault → Option Fault
 first_fault None later = later
 first_fault (Some fault) later = Some fault
+
+-- A call ends well where there is no cause to refuse it; else it is refused by that cause, or for want of memory.
+abbrev pub IsRefusedBy : {T : Type 0} → Option Fault → Result T Fault → Type 0
+IsRefusedBy cause result = MatchResult result (λ _. cause ≡ None) (λ e. (e ≡ OutOfMemory) ⊎ (cause ≡ Some e))
 
 -- how many kept words the earlier texts of a group have
 abbrev pub group_count : List Piece → Piece → ℕ

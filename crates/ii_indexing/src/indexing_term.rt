@@ -158,6 +158,16 @@ impl IndexingTerm {
         Ok(&self.bytes[len..])
     }
 
+    // Adds bytes to the value.
+    pub(crate) fn add_bytes(&mut self, bytes: &[u8]) -> Result<(), Fault>
+        ensures ok { OnOk result (self.new ≡ record self.old { value = self.old.value ++ bytes.now }) }
+        ensures err { OnErr result (self.new ≡ self.old) }
+        ensures only { IfErr result (λ e. e ≡ Fault.OutOfMemory) }
+    {
+        self.bytes.extend_from_slice(bytes)?;
+        Ok(())
+    }
+
     /// Drops the bytes of the value after so many; where it has no more, nothing changes.
     pub fn truncate_value_bytes(&mut self, len: usize)
         ensures { self.new ≡ record self.old { value = take len self.old.value } }

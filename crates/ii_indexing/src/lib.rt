@@ -2,14 +2,17 @@
 //! texts.
 #![tactic(auto)]
 
+pub mod indexing_context;
 pub mod indexing_position;
 pub mod indexing_term;
 pub mod path_to_unordered_id;
-pub mod indexing_context;
+pub mod postings_writer;
 pub mod sorted_terms;
 #[cfg(test)]
 mod tests;
 
+pub use indexing_context::IndexingContext;
 pub use indexing_position::IndexingPosition;
 pub use indexing_term::{IndexingTerm, IndexingTermRef};
 pub use path_to_unordered_id::OrderedPathId;
+pub use postings_writer::{PostingsWriter, SpecializedPostingsWriter};

@@ -1,0 +1,90 @@
+-- What a postings writer does with a term, and with the words of a text.
+use Rattle.std.specs.Prelude.{◌≡◌, ◌⊎◌, ℕ, ◌+◌, max, Bool, true, if◌then◌else◌, List, ◌++◌, length, map, nat_le, nat_lt, Option, None, Some}
+use Rattle.std.specs.List.{fold}
+use Rattle.ii_io.specs.declared.faults.Fault.{Fault}
+use Rattle.ii_io.specs.declared.faults.Fault.TheVariants.{Limit, OutOfMemory}
+use Rattle.ii_io.specs.declared.faults.LimitName.TheVariants as limit
+use Rattle.ii_base.specs.declared.schema.index_record_option.IndexRecordOption.{IndexRecordOption}
+use Rattle.ii_base.specs.Words.{Word}
+use Rattle.ii_recorder.specs.Recorded.{u32_max}
+use Rattle.ii_index.specs.Tokens.{IndexToken, Piece, kept_words, word_token}
+use Rattle.ii_index.specs.Postings.{field_count, kind_of, tokens_at}
+use Rattle.ii_indexing.specs.IndexingContext.{AllEndBy, IsRecorded, TermIndex, record_fault, recorder_or_new}
+use Rattle.ii_indexing.specs.IndexingTerm.{IndexingTermState, field_bytes}
+use Rattle.ii_indexing.specs.Records.{Records}
+use Rattle.ii_indexing.specs.Refusals.{u64_max, words_fault}
+
+-- What a postings writer keeps of a term, and how many tokens it had.
+pub record PostingsWriterState : Type 0 where
+  pub option : IndexRecordOption
+  pub total_num_tokens : ℕ
+
+-- one more token
+abbrev pub token_counted : PostingsWriterState → PostingsWriterState
+token_counted w = record w { total_num_tokens = w.total_num_tokens + 1 }
+
+-- the token of a term
+abbrev pub term_token : ℕ → ℕ → Bool → IndexingTermState → IndexToken
+term_token doc position of_text term = record { doc = doc; field = term.field; key = term.value; position = position; of_text = of_text }
+
+-- why a position can't be recorded under a term: the field has too many tokens, or what its recorder says
+abbrev pub subscribe_fault : PostingsWriterState → ℕ → ℕ → List ℕ → TermIndex → Option Fault
+subscribe_fault w doc position term terms =
+    if nat_le u64_max w.total_num_tokens then Some (Limit limit.Tokens)
+    else record_fault doc position (recorder_or_new w.option terms term)
+
+-- What changes while the words of a text are indexed.
+pub record TextState : Type 0 where
+  pub terms : TermIndex
+  pub writer : PostingsWriterState
+  pub num_tokens : ℕ
+  pub end_position : ℕ
+
+-- a text of a document, whose words stand under keys that begin with the value of a term
+abbrev pub text_piece : ℕ → IndexingTermState → List Word → Piece
+text_piece doc term words = record { doc = doc; field = term.field; prefix = term.value; is_text = true; words = words }
+
+-- where a word ends
+abbrev pub word_end : ℕ → Word → ℕ
+word_end begin w = begin + w.position + w.position_length
+
+-- the bytes of a word's term
+abbrev pub word_bytes : Piece → Word → List ℕ
+word_bytes p w = field_bytes p.field ++ (p.prefix ++ w.text)
+
+-- why a word that is kept can't be indexed, the first cause in this order
+abbrev pub kept_fault : Piece → ℕ → Word → TextState → Option Fault
+kept_fault p begin w s =
+    if nat_lt u32_max (word_end begin w) then Some (Limit limit.Position)
+    else if nat_le u32_max s.num_tokens then Some (Limit limit.Tokens)
+    else subscribe_fault s.writer p.doc (begin + w.position) (word_bytes p w) s.terms
+
+-- A word that is kept was indexed.
+pub record IndexesKept (p : Piece) (begin : ℕ) (w : Word) (old new : TextState) : Type 0 where
+  pub recorded : IsRecorded old.writer.option p.doc (begin + w.position) (word_bytes p w) old.terms new.terms
+  pub ends : AllEndBy p.doc new.terms
+  pub writer : new.writer ≡ token_counted old.writer
+  pub num_tokens : new.num_tokens ≡ old.num_tokens + 1
+  pub end_position : new.end_position ≡ max old.end_position (word_end begin w)
+
+-- A context has tokens, of which a writer counts those of a text's field; of all keys of the text it keeps the same.
+pub record HasTokens (kind : ℕ → List ℕ → IndexRecordOption) (p : Piece) (terms : TermIndex) (w : PostingsWriterState) (ts : List IndexToken) : Type 0 where
+  pub records : Records kind terms ts
+  pub kinds : (key : List ℕ) → kind p.field (p.prefix ++ key) ≡ w.option
+  pub of_text : (key : List ℕ) → kind_of w.option (tokens_at p.field (p.prefix ++ key) ts) ≡ w.option
+  pub counted : w.total_num_tokens ≡ field_count p.field ts
+
+-- Words of a text were indexed, the long ones left out.
+pub record IndexesWords (p : Piece) (begin : ℕ) (ws : List Word) (old new : TextState) : Type 0 where
+  pub tokens : (kind : ℕ → List ℕ → IndexRecordOption) (ts : List IndexToken) → HasTokens kind p old.terms old.writer ts
+      → HasTokens kind p new.terms new.writer (ts ++ map (word_token p begin) (kept_words ws)) × (words_fault old.writer.option p begin old.num_tokens ts (kept_words ws) ≡ None)
+  pub ends : AllEndBy p.doc new.terms
+  pub writer : new.writer ≡ record old.writer { total_num_tokens = old.writer.total_num_tokens + length (kept_words ws) }
+  pub num_tokens : new.num_tokens ≡ old.num_tokens + length (kept_words ws)
+  pub end_position : new.end_position ≡ fold (λ (end : ℕ) (w : Word). max end (word_end begin w)) old.end_position (kept_words ws)
+
+-- Words of a text were refused, for want of memory or by the first fault.
+abbrev pub RefusesWords : Piece → ℕ → List Word → TextState → Fault → Type 0
+RefusesWords p begin ws old fault =
+    (kind : ℕ → List ℕ → IndexRecordOption) (ts : List IndexToken) → HasTokens kind p old.terms old.writer ts
+    → (fault ≡ OutOfMemory) ⊎ (words_fault old.writer.option p begin old.num_tokens ts (kept_words ws) ≡ Some fault)

@@ -1,0 +1,183 @@
+ghost use Rattle.std.specs.Prelude.{◌≡◌, ◌≤◌, ◌<◌, ◌+◌, ◌++◌, ◌∷◌, ◌^◌, [], ℕ, List, Bool, length, max, map, nat_le, nat_lt, if◌then◌else◌, Some, None, IfErr, IfOk, OnErr, OnOk};
+ghost use Rattle.ii_io.specs.declared.faults.LimitName.TheVariants as limit;
+ghost use Rattle.ii_base.specs.Words.{Word, word_of};
+ghost use Rattle.ii_docset.specs.declared.docset.TheConstants.{TERMINATED};
+ghost use Rattle.ii_recorder.specs.Recorded.{u32_max};
+ghost use Rattle.ii_index.specs.Tokens.{IndexToken};
+ghost use Rattle.ii_indexing.specs.IndexingContext.{AllEndBy, IsRecorded};
+ghost use Rattle.ii_indexing.specs.IndexingTerm.{field_bytes, term_bytes};
+ghost use Rattle.ii_indexing.specs.PostingsWriter.{HasTokens, IndexesKept, IndexesWords, PostingsWriterState, RefusesWords, TextState, kept_fault, subscribe_fault, term_token, text_piece, token_counted, word_end};
+ghost use Rattle.ii_indexing.specs.Records.{Records};
+ghost use Rattle.ii_indexing.specs.Refusals.{IsRefusedBy, gap_fault, words_fault, first_fault};
+
+use crate::indexing_context::IndexingContext;
+use crate::indexing_position::IndexingPosition;
+use crate::indexing_term::IndexingTerm;
+use ii_base::{Fault, IndexRecordOption, LimitName, Token, TokenStream};
+use ii_docset::DocId;
+use std::marker::Model;
+
+// How far the next text of a field lies behind the last one.
+const POSITION_GAP: u32 = 1;
+
+/// A longer token is left out, in bytes.
+pub const MAX_TOKEN_LEN: usize = 65530;
+
+/// Puts the terms of documents into an indexing context, and counts them.
+///
+/// Its meaning is what it keeps of a term, and how many tokens it had.
+pub trait PostingsWriter: Drop {
+    ghost state: { Self → PostingsWriterState };
+
+    /// Adds a position of a term in a document, which isn't below those that were added to the
+    /// context before.
+    ///
+    /// `Limit(Tokens)` for more than `u64::MAX` tokens, and then what the term's recorder says.
+    /// `OutOfMemory` where there is no room for it. Nothing is said of the context after a fault.
+    fn subscribe(
+        &mut self,
+        doc: DocId,
+        pos: u32,
+        term: &IndexingTerm,
+        ctx: &mut IndexingContext,
+    ) -> Result<(), Fault>
+        requires low { doc < TERMINATED }
+        requires ends { AllEndBy doc ctx.old }
+        ensures recorded { OnOk result (IsRecorded (state self.old).option doc pos (term_bytes term.now) ctx.old ctx.new) }
+        ensures ends { OnOk result (AllEndBy doc ctx.new) }
+        ensures tokens { OnOk result ((kind : ℕ → List ℕ → IndexRecordOption) (ts : List IndexToken) (of_text : Bool)
+            → kind term.now.field term.now.value ≡ (state self.old).option → Records kind ctx.old ts → Records kind ctx.new (ts ++ term_token doc pos of_text term.now ∷ [])) }
+        ensures counted { OnOk result (state self.new ≡ token_counted (state self.old)) }
+        ensures refused { IsRefusedBy (subscribe_fault (state self.old) doc pos (term_bytes term.now) ctx.old) result };
+
+    /// How many tokens it had.
+    fn total_num_tokens(&self) -> u64
+        ensures { result ≡ (state self.now).total_num_tokens };
+}
+
+/// Keeps the same of each term.
+#[derive(Drop)]
+pub struct SpecializedPostingsWriter {
+    option: IndexRecordOption,
+    total_num_tokens: u64,
+}
+
+impl Model for SpecializedPostingsWriter {
+    ghost use Rattle.ii_indexing.specs.PostingsWriter.{PostingsWriterState};
+
+    ghost Value = { PostingsWriterState };
+
+    ghost view = { λ w. record { option = w.option; total_num_tokens = w.total_num_tokens } };
+}
+
+impl SpecializedPostingsWriter {
+    /// A writer of no tokens, which keeps of each term what `option` says.
+    pub fn new(option: IndexRecordOption) -> SpecializedPostingsWriter
+        ensures { result ≡ record { option = option; total_num_tokens = 0 } }
+    {
+        SpecializedPostingsWriter {
+            option,
+            total_num_tokens: 0,
+        }
+    }
+
+    // Adds a position of a word, whose bytes stand behind the term's.
+    fn subscribe_word(
+        &mut self,
+        doc: DocId,
+        pos: u32,
+        word: &[u8],
+        term: &mut IndexingTerm,
+        ctx: &mut IndexingContext,
+    ) -> Result<(), Fault>
+        requires low { doc < TERMINATED }
+        requires ends { AllEndBy doc ctx.old }
+        ensures recorded { OnOk result (IsRecorded self.old.option doc pos (field_bytes term.old.field ++ (term.old.value ++ word.now)) ctx.old ctx.new) }
+        ensures ends { OnOk result (AllEndBy doc ctx.new) }
+        ensures counted { OnOk result (self.new ≡ token_counted self.old) }
+        ensures refused { IsRefusedBy (subscribe_fault self.old doc pos (field_bytes term.old.field ++ (term.old.value ++ word.now)) ctx.old) result }
+        ensures same_term { OnOk result (term.new ≡ term.old) }
+    {
+        let len = term.len_bytes();
+        term.add_bytes(word)?;
+        self.subscribe(doc, pos, term, ctx)?;
+        term.truncate_value_bytes(len);
+        Ok(())
+    }
+
+    // Indexes a word that isn't too long.
+    fn index_kept(
+        &mut self,
+        doc: DocId,
+        token: &Token,
+        begin: u32,
+        term: &mut IndexingTerm,
+        ctx: &mut IndexingContext,
+        at: &mut IndexingPosition,
+    ) -> Result<(), Fault>
+        requires low { doc < TERMINATED }
+        requires ends { AllEndBy doc ctx.old }
+        ensures indexed { OnOk result (IndexesKept (text_piece doc term.old []) begin (word_of token.now)
+            (record { terms = ctx.old; writer = self.old; num_tokens = at.old.num_tokens; end_position = at.old.end_position })
+            (record { terms = ctx.new; writer = self.new; num_tokens = at.new.num_tokens; end_position = at.new.end_position })) }
+        ensures same_term { OnOk result (term.new ≡ term.old) }
+        ensures refused { IsRefusedBy (kept_fault (text_piece doc term.old []) begin (word_of token.now)
+            (record { terms = ctx.old; writer = self.old; num_tokens = at.old.num_tokens; end_position = at.old.end_position })) result }
+    {
+        let (position, end) = token_place(begin, token.position, token.position_length)?;
+        let num_tokens = one_more(at.num_tokens)?;
+        self.subscribe_word(doc, position, token.text.as_bytes(), term, ctx)?;
+        at.num_tokens = num_tokens;
+        at.end_position = at.end_position.max(end);
+        Ok(())
+    }
+}
+
+impl PostingsWriter for SpecializedPostingsWriter {
+    ghost state = { λ w. w };
+
+    #[tactic(auto, using(crate::proofs::TermLemmas::long_term))]
+    fn subscribe(
+        &mut self,
+        doc: DocId,
+        pos: u32,
+        term: &IndexingTerm,
+        ctx: &mut IndexingContext,
+    ) -> Result<(), Fault> {
+        let _field = term.field().field_id();
+        if self.total_num_tokens == u64::MAX {
+            return Err(Fault::Limit(LimitName::Tokens));
+        }
+        ctx.record(self.option, term.serialized_term(), doc, pos)?;
+        self.total_num_tokens += 1;
+        Ok(())
+    }
+
+    fn total_num_tokens(&self) -> u64 {
+        self.total_num_tokens
+    }
+}
+
+// Where a token stands in the texts of a field, from and to.
+fn token_place(begin: u32, position: usize, position_length: usize) -> Result<(u32, u32), Fault>
+    ensures ok { IfOk result (λ place. (place.0 ≡ begin + position) × (place.1 ≡ begin + position + position_length)) }
+    ensures refused { result ≡ (if nat_lt u32_max (begin + position + position_length) then Err (Fault.Limit limit.Position) else Ok (begin + position, begin + position + position_length)) }
+{
+    let limit = Fault::Limit(LimitName::Position);
+    let Some(position) = u64::from(begin).checked_add(position as u64) else { return Err(limit); };
+    let Some(end) = position.checked_add(position_length as u64) else { return Err(limit); };
+    if end > u64::from(u32::MAX) {
+        return Err(limit);
+    }
+    Ok((position as u32, end as u32))
+}
+
+// One more token.
+fn one_more(num_tokens: u32) -> Result<u32, Fault>
+    ensures { result ≡ (if nat_le u32_max num_tokens then Err (Fault.Limit limit.Tokens) else Ok (num_tokens + 1)) }
+{
+    if num_tokens == u32::MAX {
+        return Err(Fault::Limit(LimitName::Tokens));
+    }
+    Ok(num_tokens + 1)
+}
