@@ -11,6 +11,7 @@ use Rattle.ii_base.specs.declared.schema.index_record_option.IndexRecordOption.{
 use Rattle.ii_recorder.specs.declared.recorder.any_recorder.AnyRecorder.{AnyRecorder}
 use Rattle.ii_recorder.specs.AnyRecorder.{any_state}
 use Rattle.ii_recorder.specs.Recorded.{RecorderState}
+use Rattle.ii_indexing.specs.IndexingTerm.{AreTermBytes}
 use Rattle.ii_indexing.specs.IndexingContext.{AllEndBy, EndsBy, IsRecorded, TermIndex, new_recorder, recorded_at, recorder_of, recorder_or_new}
 
 abbrev pub Key : Type 0
@@ -39,15 +40,15 @@ others eq test old new h = h
 apart : (bs cs ks : List ℕ) → bytes_eq bs cs ≡ false → bytes_eq bs ks ≡ true → bytes_eq cs ks ≡ false
 apart bs cs ks n y = nat_list_eq_equiv.symm cs ks ∙ sym (nat_list_eq_equiv.congr bs ks cs y) ∙ n
 
-long_entries : (es : List (Key × AnyRecorder)) (k : Key) (v : AnyRecorder) → All (λ (j : Key). 4 ≤ length j.items) (keys_of es) → 4 ≤ length k.items
-    → All (λ (j : Key). 4 ≤ length j.items) (keys_of (insert_entry (λ (x : Key) (y : Key). bytes_eq x.items y.items) es k v))
-long_entries [] k v h long = All-cons (λ (j : Key). 4 ≤ length j.items) k [] long h
-long_entries (e ∷ es) k v h long = by (bytes_eq k.items e.0.items) (long_entries es k v (All-tail (λ (j : Key). 4 ≤ length j.items) e.0 (keys_of es) h) long)
+whole_entries : (es : List (Key × AnyRecorder)) (k : Key) (v : AnyRecorder) → All (λ (j : Key). AreTermBytes j.items) (keys_of es) → AreTermBytes k.items
+    → All (λ (j : Key). AreTermBytes j.items) (keys_of (insert_entry (λ (x : Key) (y : Key). bytes_eq x.items y.items) es k v))
+whole_entries [] k v h long = All-cons (λ (j : Key). AreTermBytes j.items) k [] long h
+whole_entries (e ∷ es) k v h long = by (bytes_eq k.items e.0.items) (whole_entries es k v (All-tail (λ (j : Key). AreTermBytes j.items) e.0 (keys_of es) h) long)
   where
-    by : (b : Bool) → All (λ (j : Key). 4 ≤ length j.items) (keys_of (insert_entry (λ (x : Key) (y : Key). bytes_eq x.items y.items) es k v))
-        → All (λ (j : Key). 4 ≤ length j.items) (keys_of (cond b ((e.0, v) ∷ es) (e ∷ insert_entry (λ (x : Key) (y : Key). bytes_eq x.items y.items) es k v)))
+    by : (b : Bool) → All (λ (j : Key). AreTermBytes j.items) (keys_of (insert_entry (λ (x : Key) (y : Key). bytes_eq x.items y.items) es k v))
+        → All (λ (j : Key). AreTermBytes j.items) (keys_of (cond b ((e.0, v) ∷ es) (e ∷ insert_entry (λ (x : Key) (y : Key). bytes_eq x.items y.items) es k v)))
     by true rest = h
-    by false rest = All-cons (λ (j : Key). 4 ≤ length j.items) e.0 (keys_of (insert_entry (λ (x : Key) (y : Key). bytes_eq x.items y.items) es k v)) (All-head (λ (j : Key). 4 ≤ length j.items) e.0 (keys_of es) h) rest
+    by false rest = All-cons (λ (j : Key). AreTermBytes j.items) e.0 (keys_of (insert_entry (λ (x : Key) (y : Key). bytes_eq x.items y.items) es k v)) (All-head (λ (j : Key). AreTermBytes j.items) e.0 (keys_of es) h) rest
 
 module _ {S : Type 0} where
   pub recorder_under : (m : IndexMap Key AnyRecorder S) (terms : TermIndex) (bytes : List ℕ) (found : Option AnyRecorder) → stored m.entries ≡ terms → found ≡ get_by (is_key bytes) m → recorder_of terms bytes ≡ option_map any_state found
@@ -79,9 +80,9 @@ pub found_or_new : (option : IndexRecordOption) (terms : TermIndex) (bytes : Lis
 found_or_new option terms bytes found is = ap (λ (o : Option RecorderState). unwrap_or o (new_recorder option)) is
 
 -- keys that are long enough, with one more
-pub long_keys : {S : Type 0} (m n : IndexMap Key AnyRecorder S) (k : Key) (v : AnyRecorder) → n.entries ≡ insert_entry (λ (x : Key) (y : Key). bytes_eq x.items y.items) m.entries k v
-    → All (λ (j : Key). 4 ≤ length j.items) (keys m) → 4 ≤ length k.items → All (λ (j : Key). 4 ≤ length j.items) (keys n)
-long_keys m n k v is h long = subst (λ (es : List (Key × AnyRecorder)). All (λ (j : Key). 4 ≤ length j.items) (keys_of es)) (sym is) (long_entries m.entries k v h long)
+pub whole_keys : {S : Type 0} (m n : IndexMap Key AnyRecorder S) (k : Key) (v : AnyRecorder) → n.entries ≡ insert_entry (λ (x : Key) (y : Key). bytes_eq x.items y.items) m.entries k v
+    → All (λ (j : Key). AreTermBytes j.items) (keys m) → AreTermBytes k.items → All (λ (j : Key). AreTermBytes j.items) (keys n)
+whole_keys m n k v is h long = subst (λ (es : List (Key × AnyRecorder)). All (λ (j : Key). AreTermBytes j.items) (keys_of es)) (sym is) (whole_entries m.entries k v h long)
 
 updates_at : {S : Type 0} (k : Key) (bs : List ℕ) → k.items ≡ bs → (m n : IndexMap Key AnyRecorder S) (w : Option AnyRecorder)
     → UpdatesBy (λ (x : Key) (y : Key). bytes_eq x.items y.items) (is_key k.items) m n w → UpdatesBy (λ (x : Key) (y : Key). bytes_eq x.items y.items) (is_key bs) m n w

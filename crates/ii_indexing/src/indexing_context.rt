@@ -2,6 +2,7 @@ ghost use Rattle.std.specs.Prelude.{◌≡◌, ◌≤◌, ◌<◌, [], length, I
 ghost use Rattle.ii_docset.specs.declared.docset.TheConstants.{TERMINATED};
 ghost use Rattle.ii_recorder.specs.AnyRecorder.{any_state};
 ghost use Rattle.ii_indexing.specs.IndexingContext.{AllEndBy, EndsBy, IsRecorded, new_recorder, opened_at, record_fault, recorded_at, recorder_or_new};
+ghost use Rattle.ii_indexing.specs.IndexingTerm.{AreTermBytes};
 ghost use Rattle.ii_indexing.specs.Refusals.{IsRefusedBy};
 
 use ii_base::{Fault, IndexRecordOption};
@@ -20,7 +21,8 @@ pub struct IndexingContext {
 }
 
 impl Model for IndexingContext {
-    ghost use Rattle.std.specs.Prelude.{◌≤◌, All, length, map};
+    ghost use Rattle.std.specs.Prelude.{All, map};
+    ghost use Rattle.ii_indexing.specs.IndexingTerm.{AreTermBytes};
     ghost use Rattle.indexmap.specs.IndexMap.{keys};
     ghost use Rattle.ii_recorder.specs.AnyRecorder.{any_state};
     ghost use Rattle.ii_indexing.specs.IndexingContext.{TermIndex};
@@ -29,7 +31,7 @@ impl Model for IndexingContext {
 
     ghost view = { λ c. map (λ e. (e.0.items, any_state e.1)) c.term_index.entries };
 
-    ghost invariant = { λ c. All (λ k. 4 ≤ length k.items) (keys c.term_index) };
+    ghost invariant = { λ c. All (λ k. AreTermBytes k.items) (keys c.term_index) };
 }
 
 impl IndexingContext {
@@ -52,7 +54,7 @@ impl IndexingContext {
         doc: DocId,
         position: u32,
     ) -> Result<(), Fault>
-        requires long { 4 ≤ length term.now }
+        requires term { AreTermBytes term.now }
         requires low { doc < TERMINATED }
         requires ends { AllEndBy doc self.old }
         ensures ok { OnOk result (IsRecorded option doc position term.now self.old self.new) }

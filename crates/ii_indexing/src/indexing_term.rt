@@ -3,7 +3,7 @@ ghost use Rattle.std.specs.Int.{bytes_high_first};
 ghost use Rattle.ii_base.specs.ValueTypes.{code_of};
 ghost use Rattle.ii_base.specs.Values.{flipped, number_of_bool, u64_bytes};
 ghost use Rattle.std.specs.Borrow.{sem};
-ghost use Rattle.ii_indexing.specs.IndexingTerm.{field_bytes, field_in, term_bytes};
+ghost use Rattle.ii_indexing.specs.IndexingTerm.{AreTermBytes, field_bytes, field_in, term_bytes};
 ghost use Rattle.ii_indexing.specs.Lending.{RestsWith};
 
 use ii_base::{FastValue, Fault, Field};
@@ -21,14 +21,14 @@ pub struct IndexingTerm {
 }
 
 impl Model for IndexingTerm {
-    ghost use Rattle.std.specs.Prelude.{◌≡◌, ◌≤◌, drop, length, take};
+    ghost use Rattle.std.specs.Prelude.{◌≡◌, ◌≤◌, ◌^◌, ◌<◌, drop, length, take};
     ghost use Rattle.ii_indexing.specs.IndexingTerm.{IndexingTermState, field_bytes};
 
     ghost Value = { IndexingTermState };
 
     ghost view = { λ t. record { field = t.field; value = drop 4 t.bytes.items } };
 
-    ghost invariant = { λ t. (4 ≤ length t.bytes.items) × (take 4 t.bytes.items ≡ field_bytes t.field) };
+    ghost invariant = { λ t. (4 ≤ length t.bytes.items) × (take 4 t.bytes.items ≡ field_bytes t.field) × (t.field < 2 ^ 32) };
 }
 
 impl IndexingTerm {
@@ -185,8 +185,10 @@ impl IndexingTerm {
     }
 
     /// All bytes, those of the field and those of the value.
+    #[tactic(auto, using(crate::proofs::TermLemmas::are_term_bytes))]
     pub fn serialized_term(&self) -> &[u8]
-        ensures { result.now ≡ term_bytes self.now }
+        ensures bytes { result.now ≡ term_bytes self.now }
+        ensures term { AreTermBytes result.now }
     {
         &self.bytes
     }

@@ -2,7 +2,7 @@ use Rattle.std.proofs.Common.{rules, ◌≡◌, sym, ap, ◌∙◌, Some, None}
 use Rattle.std.proofs.lemmas.Result.{err_from_is_err_and}
 use Rattle.ii_recorder.specs.AnyRecorder.{any_state}
 use Rattle.ii_indexing.specs.IndexingContext.{recorded_at}
-use Rattle.ii_indexing.proofs.TermIndexLemmas.{ends_under, found_or_new, is_inserted, is_recorded, long_keys, on_ok, recorder_under}
+use Rattle.ii_indexing.proofs.TermIndexLemmas.{ends_under, found_or_new, is_inserted, is_recorded, whole_keys, on_ok, recorder_under}
 use Rattle.ii_indexing.proofs.indexing_context.IndexingContext.record.Goals as goal
 
 pub record_in-requires-clause-ends : goal.record_in-requires-clause-ends
@@ -18,7 +18,7 @@ returns-in_err-recorder-in-None-clause-refused c =
 
 pub invariant_of-self-in-None : goal.invariant_of-self-in-None
 invariant_of-self-in-None c =
-    long_keys c.get_mut.follows.lender-at-none c.insert.new.self c.in_ok-bytes-in-None.bytes c.in_ok-recorder-in-None.recorder c.in_ok-insert-in-None.ensures.entries (rw c.get_mut.follows.holds-at-none c.self.invariant) (rw c.in_ok-bytes-in-None.ensures.items c.requires.long)
+    whole_keys c.get_mut.follows.lender-at-none c.insert.new.self c.in_ok-bytes-in-None.bytes c.in_ok-recorder-in-None.recorder c.in_ok-insert-in-None.ensures.entries (rw c.get_mut.follows.holds-at-none c.self.invariant) (rw c.in_ok-bytes-in-None.ensures.items c.requires.term)
 
 pub returns-in-Some-clause-ok : goal.returns-in-Some-clause-ok
 returns-in-Some-clause-ok c =

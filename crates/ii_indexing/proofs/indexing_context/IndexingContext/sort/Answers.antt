@@ -1,11 +1,11 @@
-use Rattle.std.proofs.Common.{◌≤◌, length}
 use Rattle.std.proofs.lemmas.Map.Views.{All-map-IsPermutation}
 use Rattle.ii_recorder.specs.AnyRecorder.{any_state}
+use Rattle.ii_indexing.specs.IndexingTerm.{AreTermBytes}
 use Rattle.ii_indexing.proofs.SortedLemmas.{seen_ascends, seen_lookup, sorted_distinct}
 use Rattle.ii_indexing.proofs.indexing_context.IndexingContext.sort.Goals as goal
 
 pub invariant_of-self-2 : goal.invariant_of-self-2
-invariant_of-self-2 c = All-map-IsPermutation (λ e. e.0) (λ k. 4 ≤ length k.items) c.self.inside.term_index.entries c.sort_unstable_keys.new.self.entries c.sort_unstable_keys.ensures.reordered.0 c.self.invariant
+invariant_of-self-2 c = All-map-IsPermutation (λ e. e.0) (λ k. AreTermBytes k.items) c.self.inside.term_index.entries c.sort_unstable_keys.new.self.entries c.sort_unstable_keys.ensures.reordered.0 c.self.invariant
 
 pub returns-clause-ascending : goal.returns-clause-ascending
 returns-clause-ascending c =
