@@ -3,3 +3,5 @@ pub mod TermLemmas
 pub mod IndexLemmas
 pub mod HeldTermLemmas
 pub mod RecorderLemmas
+pub mod PushLemmas
+pub mod PushLocated

@@ -8,3 +8,4 @@ pub mod IndexSerializer
 pub mod AnyRecorder
 pub mod DocFreqs
 pub mod Recorded
+pub mod Pushed

@@ -1,4 +1,4 @@
-ghost use Rattle.std.specs.Prelude.{◌≡◌, ◌+◌, ◌^◌, ◌<◌, ◌≤◌, ◌⊎◌, ◌↔◌, if◌then◌else◌, ℕ, List, [], ◌∷◌, ◌++◌, true, false, length, Ok, OnOk, OnErr, IfOk, IfErr, IsErrOf, IsTrue};
+ghost use Rattle.std.specs.Prelude.{◌≡◌, ◌+◌, ◌^◌, ◌<◌, ◌≤◌, ◌⊎◌, ◌↔◌, if◌then◌else◌, ℕ, List, [], ◌∷◌, ◌++◌, true, false, length, Ok, Err, OnOk, OnErr, IfOk, IfErr, IsErrOf, IsTrue};
 ghost use Rattle.std.specs.Borrow.{sem, RestsIfErr};
 ghost use Rattle.ii_base.specs.declared.schema.index_record_option.IndexRecordOption.TheVariants.{Basic};
 ghost use Rattle.ii_base.specs.Options.{has_freq, has_positions};
@@ -148,6 +148,21 @@ impl<'a, W: Write> FieldSerializer<'a, W> {
         ensures only { IfErr result (λ e. (e ≡ Fault.OutOfMemory) ⊎ (e ≡ Fault.SerializerClosed) ⊎ (e ≡ Fault.Limit LimitName.BlockFrequencySum)) }
     {
         self.index.write_doc(doc_id, term_freq, position_deltas)
+    }
+
+    // Whether a call was refused.
+    pub(crate) fn check_open(&self) -> Result<(), Fault>
+        ensures { result ≡ (if self.now.index.now.closed then Err Fault.SerializerClosed else Ok tt) }
+    {
+        self.index.check_open()
+    }
+
+    // Takes it that a call was refused.
+    pub(crate) fn shut(&mut self)
+        ensures same_reference { self.new.index.ghost_name ≡ self.old.index.ghost_name }
+        ensures shut { self.new.index.now ≡ record self.old.index.now { closed = true } }
+    {
+        self.index.shut();
     }
 
     /// Ends the open term: writes its postings and then, where the field records them, its positions.

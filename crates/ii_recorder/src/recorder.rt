@@ -1,10 +1,14 @@
 ghost use Rattle.std.specs.Prelude.{◌≡◌, ◌<◌, ◌++◌, length, min, if◌then◌else◌, None, Some, Err, IfErr, IfSome, IsSome, MatchOption, OnErr, OnOk};
 ghost use Rattle.std.specs.Option.{option_map, option_to_list};
 ghost use Rattle.ii_base.specs.Options.{has_freq};
+ghost use Rattle.ii_recorder.specs.Pushed.{MayPush, Pushes};
 ghost use Rattle.ii_recorder.specs.Recorded.{RecorderState, begun, current_doc, entries_in, last_doc, position_fault, u32_max, with_position};
 
+use super::buffer_lender::BufferLender;
+use super::field_serializer::FieldSerializer;
 use ii_base::Fault;
 use ii_docset::DocId;
+use std::io::Write;
 
 pub mod any_recorder;
 pub mod doc_id_recorder;
@@ -52,6 +56,23 @@ pub trait Recorder: Drop {
         ensures ok { OnOk result (state self.new ≡ record (state self.old) { closed = entries_in (state self.old); pending = None }) }
         ensures err { OnErr result (state self.new ≡ state self.old) }
         ensures only { IfErr result (λ e. e ≡ Fault.OutOfMemory) };
+
+    /// Pushes all documents, the open one last, to the open term of a field, each with its count, 0
+    /// where counts aren't kept, and with the position deltas that are kept. The documents follow those
+    /// of the term, and have counts where it has.
+    ///
+    /// `Limit(BlockFrequencySum)` where a document fills a block whose counts sum up above `u32::MAX`, in
+    /// a term with positions; `OutOfMemory` where a growth was refused; `SerializerClosed` after an
+    /// earlier refusal. The serializer is then closed; the recorder stays, and the buffers can be lent
+    /// again.
+    fn serialize<W: Write>(
+        &self,
+        buffer_lender: &mut BufferLender,
+        serializer: &mut FieldSerializer<'_, W>,
+    ) -> Result<(), Fault>
+        requires { MayPush (state self.now).option serializer.old.index.now (entries_in (state self.now)) }
+        ensures same_reference { serializer.new.index.ghost_name ≡ serializer.old.index.ghost_name }
+        ensures pushes { Pushes (state self.now).option serializer.old.index.now serializer.new.index.now (entries_in (state self.now)) result };
 
     /// In how many documents the term is, the open one included, or `u32::MAX` if there are more; nothing
     /// where documents alone are kept.

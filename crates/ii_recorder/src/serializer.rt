@@ -1,4 +1,4 @@
-ghost use Rattle.std.specs.Prelude.{◌≡◌, ◌+◌, ◌^◌, ◌<◌, ◌≤◌, ◌⊎◌, ◌↔◌, if◌then◌else◌, ℕ, List, [], ◌∷◌, ◌++◌, true, false, length, Ok, OnOk, OnErr, IfErr, IsErrOf, IsTrue};
+ghost use Rattle.std.specs.Prelude.{◌≡◌, ◌+◌, ◌^◌, ◌<◌, ◌≤◌, ◌⊎◌, ◌↔◌, if◌then◌else◌, ℕ, List, [], ◌∷◌, ◌++◌, true, false, length, Ok, Err, OnOk, OnErr, IfErr, IsErrOf, IsTrue};
 ghost use Rattle.ii_base.specs.declared.schema.index_record_option.IndexRecordOption.TheVariants.{Basic};
 ghost use Rattle.ii_base.specs.Options.{has_freq, has_positions};
 ghost use Rattle.ii_io.specs.CountingWriter.{Closes, CountingWriterState, IsFull};
@@ -209,6 +209,23 @@ impl<W: Write> InvertedIndexSerializer<W> {
         let added = self.field.write_doc(doc_id, term_freq, position_deltas);
         self.is_closed = added.is_err();
         added
+    }
+
+    // Whether a call was refused.
+    pub(crate) fn check_open(&self) -> Result<(), Fault>
+        ensures { result ≡ (if self.now.closed then Err Fault.SerializerClosed else Ok tt) }
+    {
+        if self.is_closed {
+            return Err(Fault::SerializerClosed);
+        }
+        Ok(())
+    }
+
+    // Takes it that a call was refused.
+    pub(crate) fn shut(&mut self)
+        ensures { self.new ≡ record self.old { closed = true } }
+    {
+        self.is_closed = true;
     }
 
     // Ends the open term, if there is one.

@@ -5,9 +5,12 @@ use super::Recorder;
 use super::doc_id_recorder::DocIdRecorder;
 use super::term_frequency_recorder::TermFrequencyRecorder;
 use super::tf_and_position_recorder::TfAndPositionRecorder;
+use crate::buffer_lender::BufferLender;
+use crate::field_serializer::FieldSerializer;
 use ii_base::{Fault, IndexRecordOption};
 use ii_docset::DocId;
 use std::alloc::Global;
+use std::io::Write;
 
 /// A recorder of any option.
 #[derive(Drop)]
@@ -69,6 +72,18 @@ impl Recorder for AnyRecorder {
             AnyRecorder::DocId(recorder) => recorder.close_doc(),
             AnyRecorder::TermFrequency(recorder) => recorder.close_doc(),
             AnyRecorder::TfAndPosition(recorder) => recorder.close_doc(),
+        }
+    }
+
+    fn serialize<W: Write>(
+        &self,
+        buffer_lender: &mut BufferLender,
+        serializer: &mut FieldSerializer<'_, W>,
+    ) -> Result<(), Fault> {
+        match self {
+            AnyRecorder::DocId(recorder) => recorder.serialize(buffer_lender, serializer),
+            AnyRecorder::TermFrequency(recorder) => recorder.serialize(buffer_lender, serializer),
+            AnyRecorder::TfAndPosition(recorder) => recorder.serialize(buffer_lender, serializer),
         }
     }
 

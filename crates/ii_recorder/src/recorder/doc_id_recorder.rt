@@ -1,10 +1,15 @@
-ghost use Rattle.std.specs.Prelude.{◌≡◌, [], None};
+ghost use Rattle.std.specs.Prelude.{◌≡◌, [], ◌∷◌, None, map};
+ghost use Rattle.ii_docset.specs.Entries.{document};
+ghost use Rattle.ii_recorder.specs.Pushed.{MayPush, Pushes};
 ghost use Rattle.ii_base.specs.declared.schema.index_record_option.IndexRecordOption.TheVariants.{Basic};
 
 use super::Recorder;
+use crate::buffer_lender::BufferLender;
+use crate::field_serializer::FieldSerializer;
 use ii_base::Fault;
 use ii_docset::DocId;
 use std::alloc::Global;
+use std::io::Write;
 use std::marker::Model;
 
 /// Keeps documents alone.
@@ -42,6 +47,34 @@ impl DocIdRecorder {
     }
 }
 
+// Pushes a document.
+fn push_doc<W: Write>(doc: DocId, serializer: &mut FieldSerializer<'_, W>) -> Result<(), Fault>
+    requires { MayPush Basic serializer.old.index.now (document doc ∷ []) }
+    ensures same_reference { serializer.new.index.ghost_name ≡ serializer.old.index.ghost_name }
+    ensures pushes { Pushes Basic serializer.old.index.now serializer.new.index.now (document doc ∷ []) result }
+{
+    serializer.write_doc(doc, 0, &[])
+}
+
+// Pushes documents.
+fn push_docs<W: Write>(docs: &[DocId], serializer: &mut FieldSerializer<'_, W>) -> Result<(), Fault>
+    requires { MayPush Basic serializer.old.index.now (map document docs.now) }
+    ensures same_reference { serializer.new.index.ghost_name ≡ serializer.old.index.ghost_name }
+    ensures pushes { Pushes Basic serializer.old.index.now serializer.new.index.now (map document docs.now) result }
+{
+    let checked = serializer.check_open();
+    if checked.is_err() {
+        return checked;
+    }
+    for doc in docs {
+        let pushed = push_doc(*doc, serializer);
+        if pushed.is_err() {
+            return pushed;
+        }
+    }
+    Ok(())
+}
+
 impl Recorder for DocIdRecorder {
     ghost state = { λ r. r };
 
@@ -71,6 +104,21 @@ impl Recorder for DocIdRecorder {
             self.pending = None;
         }
         Ok(())
+    }
+
+    fn serialize<W: Write>(
+        &self,
+        _buffer_lender: &mut BufferLender,
+        serializer: &mut FieldSerializer<'_, W>,
+    ) -> Result<(), Fault> {
+        let pushed = push_docs(&self.closed, serializer);
+        if pushed.is_err() {
+            return pushed;
+        }
+        match self.pending {
+            Some(doc) => push_doc(doc, serializer),
+            None => Ok(()),
+        }
     }
 
     fn term_doc_freq(&self) -> Option<u32> {

@@ -1,12 +1,17 @@
-ghost use Rattle.std.specs.Prelude.{◌≡◌, ◌+◌, [], None, length, min};
+ghost use Rattle.std.specs.Prelude.{◌≡◌, ◌+◌, [], ◌∷◌, None, length, map, min};
 ghost use Rattle.std.specs.Option.{option_to_list};
+ghost use Rattle.ii_recorder.specs.DocFreqs.{entry_of};
+ghost use Rattle.ii_recorder.specs.Pushed.{MayPush, Pushes};
 ghost use Rattle.ii_recorder.specs.Recorded.{u32_max};
 ghost use Rattle.ii_base.specs.declared.schema.index_record_option.IndexRecordOption.TheVariants.{WithFreqs};
 
 use super::Recorder;
+use crate::buffer_lender::BufferLender;
+use crate::field_serializer::FieldSerializer;
 use ii_base::{Fault, LimitName};
 use ii_docset::DocId;
 use std::alloc::Global;
+use std::io::Write;
 use std::marker::Model;
 
 // A document and how often the term is in it.
@@ -59,6 +64,40 @@ impl TermFrequencyRecorder {
     }
 }
 
+// Pushes a document with its count.
+fn push_counted_doc<W: Write>(
+    entry: DocFreq,
+    serializer: &mut FieldSerializer<'_, W>,
+) -> Result<(), Fault>
+    requires { MayPush WithFreqs serializer.old.index.now (entry_of entry ∷ []) }
+    ensures same_reference { serializer.new.index.ghost_name ≡ serializer.old.index.ghost_name }
+    ensures pushes { Pushes WithFreqs serializer.old.index.now serializer.new.index.now (entry_of entry ∷ []) result }
+{
+    serializer.write_doc(entry.doc, entry.term_freq, &[])
+}
+
+// Pushes documents with their counts.
+fn push_counted_docs<W: Write>(
+    docs: &[DocFreq],
+    serializer: &mut FieldSerializer<'_, W>,
+) -> Result<(), Fault>
+    requires { MayPush WithFreqs serializer.old.index.now (map entry_of docs.now) }
+    ensures same_reference { serializer.new.index.ghost_name ≡ serializer.old.index.ghost_name }
+    ensures pushes { Pushes WithFreqs serializer.old.index.now serializer.new.index.now (map entry_of docs.now) result }
+{
+    let checked = serializer.check_open();
+    if checked.is_err() {
+        return checked;
+    }
+    for entry in docs {
+        let pushed = push_counted_doc(*entry, serializer);
+        if pushed.is_err() {
+            return pushed;
+        }
+    }
+    Ok(())
+}
+
 impl Recorder for TermFrequencyRecorder {
     ghost state = { λ r. r };
 
@@ -96,6 +135,21 @@ impl Recorder for TermFrequencyRecorder {
             self.pending = None;
         }
         Ok(())
+    }
+
+    fn serialize<W: Write>(
+        &self,
+        _buffer_lender: &mut BufferLender,
+        serializer: &mut FieldSerializer<'_, W>,
+    ) -> Result<(), Fault> {
+        let pushed = push_counted_docs(&self.closed, serializer);
+        if pushed.is_err() {
+            return pushed;
+        }
+        match self.pending {
+            Some(open) => push_counted_doc(open, serializer),
+            None => Ok(()),
+        }
     }
 
     fn term_doc_freq(&self) -> Option<u32> {

@@ -1,12 +1,18 @@
-ghost use Rattle.std.specs.Prelude.{◌≡◌, ◌≤◌, ◌-◌, [], None, drop, length};
+ghost use Rattle.std.specs.Prelude.{◌≡◌, ◌≤◌, ◌-◌, [], ◌∷◌, None, drop, length, OnOk, IfErr};
+ghost use Rattle.ii_codes.specs.Sums.{differences};
+ghost use Rattle.ii_recorder.specs.DocFreqs.{entries_of, located, position_count};
+ghost use Rattle.ii_recorder.specs.Pushed.{MayPush, Pushes};
 ghost use Rattle.ii_recorder.specs.Recorded.{last_position};
 ghost use Rattle.ii_base.specs.declared.schema.index_record_option.IndexRecordOption.TheVariants.{WithFreqsAndPositions};
 
 use super::Recorder;
 use super::term_frequency_recorder::{DocFreq, count_docs};
+use crate::buffer_lender::BufferLender;
+use crate::field_serializer::FieldSerializer;
 use ii_base::{Fault, LimitName};
 use ii_docset::DocId;
 use std::alloc::Global;
+use std::io::Write;
 use std::marker::Model;
 
 /// Keeps documents with their counts and positions.
@@ -61,6 +67,80 @@ fn last_position(positions: &[u32], count: u32) -> u32
     positions[positions.len() - 1]
 }
 
+// Sets a buffer to how far each position lies after the one before it, the first one from 0.
+fn set_deltas(deltas: &mut Vec<u32>, positions: &[u32]) -> Result<(), Fault>
+    ensures ok { OnOk result (deltas.new.items ≡ differences 0 positions.now) }
+    ensures only { IfErr result (λ e. e ≡ Fault.OutOfMemory) }
+{
+    deltas.clear();
+    let mut last = 0;
+    for position in positions {
+        deltas.push(position.saturating_sub(last))?;
+        last = *position;
+    }
+    Ok(())
+}
+
+// Pushes a document with its count and its positions.
+fn push_located_doc<W: Write>(
+    entry: DocFreq,
+    positions: &[u32],
+    deltas: &mut Vec<u32>,
+    serializer: &mut FieldSerializer<'_, W>,
+) -> Result<(), Fault>
+    requires { MayPush WithFreqsAndPositions serializer.old.index.now (located entry positions.now ∷ []) }
+    ensures same_reference { serializer.new.index.ghost_name ≡ serializer.old.index.ghost_name }
+    ensures pushes { Pushes WithFreqsAndPositions serializer.old.index.now serializer.new.index.now (located entry positions.now ∷ []) result }
+{
+    let checked = serializer.check_open();
+    if checked.is_err() {
+        return checked;
+    }
+    let set = set_deltas(deltas, positions);
+    if set.is_err() {
+        serializer.shut();
+        return set;
+    }
+    serializer.write_doc(entry.doc, entry.term_freq, deltas)
+}
+
+// Pushes documents with their counts and positions, which stand in a row.
+fn push_located_docs<W: Write>(
+    docs: &[DocFreq],
+    positions: &[u32],
+    deltas: &mut Vec<u32>,
+    serializer: &mut FieldSerializer<'_, W>,
+) -> Result<(), Fault>
+    requires within { position_count docs.now ≤ length positions.now }
+    requires may { MayPush WithFreqsAndPositions serializer.old.index.now (entries_of docs.now positions.now) }
+    ensures same_reference { serializer.new.index.ghost_name ≡ serializer.old.index.ghost_name }
+    ensures pushes { Pushes WithFreqsAndPositions serializer.old.index.now serializer.new.index.now (entries_of docs.now positions.now) result }
+{
+    let checked = serializer.check_open();
+    if checked.is_err() {
+        return checked;
+    }
+    let mut rest = positions;
+    for entry in docs {
+        let (first, others) = rest.split_at(entry.term_freq as usize);
+        let pushed = push_located_doc(*entry, first, deltas, serializer);
+        if pushed.is_err() {
+            return pushed;
+        }
+        rest = others;
+    }
+    Ok(())
+}
+
+// So many positions at the end of a row.
+fn last_positions(positions: &[u32], count: u32) -> &[u32]
+    requires { count ≤ length positions.now }
+    ensures { result.now ≡ drop (length positions.now - count) positions.now }
+{
+    let (_, last) = positions.split_at(positions.len() - count as usize);
+    last
+}
+
 impl Recorder for TfAndPositionRecorder {
     ghost state = { λ r. r };
 
@@ -106,6 +186,25 @@ impl Recorder for TfAndPositionRecorder {
             self.pending = None;
         }
         Ok(())
+    }
+
+    fn serialize<W: Write>(
+        &self,
+        buffer_lender: &mut BufferLender,
+        serializer: &mut FieldSerializer<'_, W>,
+    ) -> Result<(), Fault> {
+        let (_, deltas) = buffer_lender.lend_all();
+        let pushed = push_located_docs(&self.closed, &self.positions, deltas, serializer);
+        if pushed.is_err() {
+            return pushed;
+        }
+        match self.pending {
+            Some(open) => {
+                let positions = last_positions(&self.positions, open.term_freq);
+                push_located_doc(open, positions, deltas, serializer)
+            }
+            None => Ok(()),
+        }
     }
 
     fn term_doc_freq(&self) -> Option<u32> {

@@ -1,0 +1,194 @@
+-- Entries that are pushed one after the other.
+use Rattle.std.proofs.Common.{drop-cons, get_or, take-append-drop, take-suc, ◌≡◌, ℕ, suc, ◌+◌, ◌-◌, ◌<◌, ◌≤◌, Bool, true, false, if◌then◌else◌, List, [], ◌∷◌, ◌++◌, length, map, take, drop, Result, Ok, Err, is_err, refl, sym, ap, ◌∙◌, arith, append-nil, append_assoc, length-append, ⊎_elim, inl, inr}
+use Rattle.std.proofs.lemmas.Bool.{and_parts, cases_lt}
+use Rattle.std.specs.Prelude.{◌&&◌, nat_le, nat_lt, IsTrue}
+use Rattle.std.specs.List.{AllByRecursion}
+use Rattle.std.proofs.lemmas.Grind.{flat_map-append}
+use Rattle.std.proofs.lemmas.List.{map-append, take-append-le}
+use Rattle.std.proofs.Math.Seq.{take-append-add}
+use Rattle.ii_io.specs.declared.faults.Fault.{Fault}
+use Rattle.ii_io.specs.declared.faults.Fault.TheVariants.{SerializerClosed}
+use Rattle.ii_base.specs.declared.schema.index_record_option.IndexRecordOption.{IndexRecordOption}
+use Rattle.ii_base.specs.Options.{has_freq, has_positions}
+use Rattle.ii_codes.specs.Sums.{differences}
+use Rattle.ii_docset.specs.Entries.{Entry, ascend_from, docs_of}
+use Rattle.ii_layout.specs.PostingsSerializer.{IsSumTooLarge}
+use Rattle.ii_recorder.specs.IndexSerializer.{IndexSerializerState}
+use Rattle.ii_recorder.specs.Pushed.{FillTooLarge, MayPush, Pushes, pushed_deltas, pushed_freqs, with_entries}
+
+deltas_after : (b : Bool) (old : List ℕ) (xs ys : List Entry) → (if b then (if b then old ++ pushed_deltas xs else old) ++ pushed_deltas ys else (if b then old ++ pushed_deltas xs else old)) ≡ (if b then old ++ pushed_deltas (xs ++ ys) else old)
+deltas_after true old xs ys = append_assoc old (pushed_deltas xs) (pushed_deltas ys) ∙ ap (λ (ds : List ℕ). old ++ ds) (sym (flat_map-append (λ (e : Entry). differences 0 e.positions) xs ys))
+deltas_after false old xs ys = refl
+
+with_both : (option : IndexRecordOption) (s : IndexSerializerState) (xs ys : List Entry) → with_entries option (with_entries option s xs) ys ≡ with_entries option s (xs ++ ys)
+with_both option s xs ys =
+    let t = s.field.term in
+    let docs : (t.docs ++ docs_of xs) ++ docs_of ys ≡ t.docs ++ docs_of (xs ++ ys) = append_assoc t.docs (docs_of xs) (docs_of ys) ∙ ap (λ (ds : List ℕ). t.docs ++ ds) (sym (map-append (λ (e : Entry). e.doc) xs ys)) in
+    let freqs : (t.freqs ++ pushed_freqs option xs) ++ pushed_freqs option ys ≡ t.freqs ++ pushed_freqs option (xs ++ ys) =
+    append_assoc t.freqs (pushed_freqs option xs) (pushed_freqs option ys) ∙ ap (λ (ns : List ℕ). t.freqs ++ ns) (sym (map-append (λ (e : Entry). if has_freq option then e.term_freq else 0) xs ys))
+    in
+    rw (docs, freqs, deltas_after (has_positions t.mode) t.deltas xs ys) refl
+
+-- counts that fill a block too large after others do so after these and those
+large_later : (skip_info : IndexRecordOption) (old xs ys : List ℕ) → FillTooLarge skip_info (old ++ xs) ys → FillTooLarge skip_info old (xs ++ ys)
+large_later skip_info old xs ys h =
+    let place : length xs + h.0 + 1 ≡ length xs + (h.0 + 1) = omega arith in
+    (length xs + h.0, omega (arith, h.1, length-append xs ys), rw (place, take-append-add xs ys (h.0 + 1), ← append_assoc old xs (take (h.0 + 1) ys)) h.2)
+
+large_more : (skip_info : IndexRecordOption) (old xs ys : List ℕ) → FillTooLarge skip_info old xs → FillTooLarge skip_info old (xs ++ ys)
+large_more skip_info old xs ys h = (h.0, omega (arith, h.1, length-append xs ys), rw (take-append-le (h.0 + 1) xs ys (omega (arith, h.1))) h.2)
+
+small_both : (skip_info : IndexRecordOption) (old xs ys : List ℕ) → ¬ FillTooLarge skip_info old xs → ¬ FillTooLarge skip_info (old ++ xs) ys → ¬ FillTooLarge skip_info old (xs ++ ys)
+small_both skip_info old xs ys first others h = ⊎_elim (λ (earlier : h.0 < length xs). first (h.0, earlier, rw (take-append-le (h.0 + 1) xs ys (omega arith)) at h.2))
+    (λ (later : length xs ≤ h.0).
+    let place : h.0 + 1 ≡ length xs + (h.0 - length xs + 1) = omega arith in
+    let large = rw (place, take-append-add xs ys (h.0 - length xs + 1), ← append_assoc old xs (take (h.0 - length xs + 1) ys)) at h.2 in
+    others (h.0 - length xs, omega (arith, h.1, length-append xs ys), large)) (cases_lt h.0 (length xs))
+
+-- what is pushed after what was
+pub pushes_then : (option : IndexRecordOption) (a b c : IndexSerializerState) (xs ys : List Entry) (result : Result (Unit {0}) Fault) → Pushes option a b xs (Ok tt) → Pushes option b c ys result → Pushes option a c (xs ++ ys) result
+pushes_then option a b c xs ys (Ok u) h k =
+    let same = h.ok in
+    let later = rw same at k.small in
+    record {
+      ok = k.ok ∙ ap (λ (s : IndexSerializerState). with_entries option s ys) same ∙ with_both option a xs ys;
+      small = rw (map-append (λ (e : Entry). if has_freq option then e.term_freq else 0) xs ys) (small_both a.field.term.skip_info a.field.term.freqs (pushed_freqs option xs) (pushed_freqs option ys) h.small later);
+      bodies = k.bodies ∙ h.bodies;
+      entries = k.entries ∙ h.entries;
+      closes = k.closes;
+      refused = λ closed. let open_still = h.closed.1 closed in absurd (cc);
+      limit = λ e. absurd (cc);
+      closed = (λ e. absurd (cc), λ closed. let not_closed = h.closed.1 closed in absurd (cc));
+      only = tt;
+    }
+pushes_then option a b c xs ys (Err e) h k =
+    let same = h.ok in
+    record {
+      ok = tt;
+      small = tt;
+      bodies = k.bodies ∙ h.bodies;
+      entries = k.entries ∙ h.entries;
+      closes = k.closes;
+      refused = λ closed. let open_still = h.closed.1 closed in absurd (cc);
+      limit = λ is. rw (map-append (λ (e : Entry). if has_freq option then e.term_freq else 0) xs ys) (large_later a.field.term.skip_info a.field.term.freqs (pushed_freqs option xs) (pushed_freqs option ys) (rw same at (k.limit is)));
+      closed = (λ is. let was = k.closed.0 is in let still = h.closes.ok in absurd (cc), λ closed. let not_closed = h.closed.1 closed in absurd (cc));
+      only = k.only;
+    }
+
+pushes_refused : (option : IndexRecordOption) (a b : IndexSerializerState) (xs ys : List Entry) (e : Fault) → Pushes option a b xs (Err e) → Pushes option a b (xs ++ ys) (Err e)
+pushes_refused option a b xs ys e h = record {
+  ok = tt;
+  small = tt;
+  bodies = h.bodies;
+  entries = h.entries;
+  closes = h.closes;
+  refused = h.refused;
+  limit = λ is. rw (map-append (λ (e : Entry). if has_freq option then e.term_freq else 0) xs ys) (large_more a.field.term.skip_info a.field.term.freqs (pushed_freqs option xs) (pushed_freqs option ys) (h.limit is));
+  closed = h.closed;
+  only = h.only;
+}
+
+-- a call that was refused, whatever was to follow
+pub pushes_refused_by : (option : IndexRecordOption) (a b : IndexSerializerState) (xs ys : List Entry) (result : Result (Unit {0}) Fault) → true ≡ is_err result → Pushes option a b xs result → Pushes option a b (xs ++ ys) result
+pushes_refused_by option a b xs ys (Ok u) e h = absurd (cc)
+pushes_refused_by option a b xs ys (Err f) e h = pushes_refused option a b xs ys f h
+
+-- and one that was not refused
+pub pushes_went : (option : IndexRecordOption) (a b : IndexSerializerState) (xs : List Entry) (result : Result (Unit {0}) Fault) → false ≡ is_err result → Pushes option a b xs result → Pushes option a b xs (Ok tt)
+pushes_went option a b xs (Ok tt) e h = h
+pushes_went option a b xs (Err f) e h = absurd (cc)
+
+deltas_stay : (b : Bool) (old : List ℕ) → (if b then old ++ [] else old) ≡ old
+deltas_stay true old = append-nil old
+deltas_stay false old = refl
+
+all_front : (P : ℕ → Type 0) (xs ys : List ℕ) → AllByRecursion P (xs ++ ys) → AllByRecursion P xs
+all_front P [] ys h = tt
+all_front P (x ∷ xs) ys h = (h.0, all_front P xs ys h.1)
+
+all_back : (P : ℕ → Type 0) (xs ys : List ℕ) → AllByRecursion P (xs ++ ys) → AllByRecursion P ys
+all_back P [] ys h = h
+all_back P (x ∷ xs) ys h = all_back P xs ys h.1
+
+-- a call of a closed serializer
+pub pushes_nothing : (option : IndexRecordOption) (a : IndexSerializerState) (es : List Entry) → IsTrue a.closed → Pushes option a a es (Err SerializerClosed)
+pushes_nothing option a es closed = record {
+  ok = tt;
+  small = tt;
+  bodies = refl;
+  entries = refl;
+  closes = record { ok = tt; err = closed };
+  refused = λ h. refl;
+  limit = λ e. absurd (cc);
+  closed = (λ e. closed, λ h. refl);
+  only = inr (inl refl);
+}
+
+-- no entries
+pub pushes_none : (option : IndexRecordOption) (a : IndexSerializerState) → a.closed ≡ false → Pushes option a a [] (Ok tt)
+pushes_none option a open_still = record {
+  ok = rw (append-nil a.field.term.docs, append-nil a.field.term.freqs, deltas_stay (has_positions a.field.term.mode) a.field.term.deltas) refl;
+  small = λ h. omega (arith, h.1);
+  bodies = refl;
+  entries = refl;
+  closes = record { ok = open_still; err = tt };
+  refused = λ h. refl;
+  limit = λ e. absurd (cc);
+  closed = (λ e. absurd (cc), λ h. absurd (cc));
+  only = tt;
+}
+
+ascend_front : (least : ℕ) (xs ys : List ℕ) → ascend_from least (xs ++ ys) ≡ true → ascend_from least xs ≡ true
+ascend_front least [] ys h = refl
+ascend_front least (x ∷ xs) ys h =
+    let parts = and_parts (nat_le least x && nat_lt x 2147483647) (ascend_from (x + 1) (xs ++ ys)) h in
+    rw (parts.0, ascend_front (x + 1) xs ys parts.1) refl
+
+-- entries before others may be pushed, and then those
+pub may_push_first : (option : IndexRecordOption) (s : IndexSerializerState) (xs ys : List Entry) → MayPush option s (xs ++ ys) → MayPush option s xs
+may_push_first option s xs ys h = record {
+  inside = h.inside;
+  ascending = λ e.
+      let all = rw (map-append (λ (e : Entry). e.doc) xs ys, ← append_assoc s.field.term.docs (docs_of xs) (docs_of ys)) at (h.ascending e) in
+      ascend_front 0 (s.field.term.docs ++ docs_of xs) (docs_of ys) all;
+  counted = λ e has. all_front (λ n. 0 < n) (pushed_freqs option xs) (pushed_freqs option ys) (rw (map-append (λ (e : Entry). if has_freq option then e.term_freq else 0) xs ys) at (h.counted e has));
+}
+
+pub may_push_then : (option : IndexRecordOption) (s b : IndexSerializerState) (xs ys : List Entry) → MayPush option s (xs ++ ys) → Pushes option s b xs (Ok tt) → MayPush option b ys
+may_push_then option s b xs ys h k =
+    let same = k.ok in
+    rw same (record {
+      inside = h.inside;
+      ascending = λ e. rw (append_assoc s.field.term.docs (docs_of xs) (docs_of ys), ← map-append (λ (e : Entry). e.doc) xs ys) (h.ascending e);
+      counted = λ e has. all_back (λ n. 0 < n) (pushed_freqs option xs) (pushed_freqs option ys) (rw (map-append (λ (e : Entry). if has_freq option then e.term_freq else 0) xs ys) at (h.counted e has));
+    })
+
+one_large : (skip_info : IndexRecordOption) (old : List ℕ) (n : ℕ) → IsSumTooLarge skip_info (old ++ n ∷ []) → FillTooLarge skip_info old (n ∷ [])
+one_large skip_info old n h = (0, omega arith, h)
+
+large_one : (skip_info : IndexRecordOption) (old : List ℕ) (n : ℕ) → FillTooLarge skip_info old (n ∷ []) → IsSumTooLarge skip_info (old ++ n ∷ [])
+large_one skip_info old n h =
+    let first : h.0 ≡ 0 = omega (arith, h.1) in
+    rw first at h.2
+
+-- the next entry may be pushed
+pub may_next : (option : IndexRecordOption) (s b : IndexSerializerState) (xs : List Entry) (e : Entry) (ys es : List Entry) → es ≡ xs ++ e ∷ ys → MayPush option s es → Pushes option s b xs (Ok tt) → MayPush option b (e ∷ [])
+may_next option s b xs e ys es parts h k = may_push_first option b (e ∷ []) ys (may_push_then option s b xs (e ∷ ys) (rw parts at h) k)
+
+pub pushed_next : (option : IndexRecordOption) (s b c : IndexSerializerState) (xs : List Entry) (e : Entry) (es : List Entry) (result : Result (Unit {0}) Fault) → es ≡ xs ++ e ∷ [] → false ≡ is_err result → Pushes option s b xs (Ok tt)
+    → Pushes option b c (e ∷ []) result → Pushes option s c es (Ok tt)
+pushed_next option s b c xs e es result parts went h k = rw parts (pushes_then option s b c xs (e ∷ []) (Ok tt) h (pushes_went option b c (e ∷ []) result went k))
+
+pub refused_next : (option : IndexRecordOption) (s b c : IndexSerializerState) (xs : List Entry) (e : Entry) (ys es : List Entry) (result : Result (Unit {0}) Fault) → es ≡ xs ++ e ∷ ys → true ≡ is_err result → Pushes option s b xs (Ok tt)
+    → Pushes option b c (e ∷ []) result → Pushes option s c es result
+refused_next option s b c xs e ys es result parts refused h k = rw parts (pushes_then option s b c xs (e ∷ ys) result h (pushes_refused_by option b c (e ∷ []) ys result refused k))
+
+pub mapped_parts : {A : Type 0} (f : A → Entry) (xs : List A) (k : ℕ) (d : A) → k < length xs → map f xs ≡ map f (take k xs) ++ f (get_or xs k d) ∷ map f (drop (suc k) xs)
+mapped_parts f xs k d below =
+    let parts = sym (take-append-drop k xs) ∙ ap (λ (ys : List _). take k xs ++ ys) (drop-cons xs k d below) in
+    ap (map f) parts ∙ map-append f (take k xs) (get_or xs k d ∷ drop (suc k) xs)
+
+pub mapped_next : {A : Type 0} (f : A → Entry) (xs : List A) (k : ℕ) (d : A) → k < length xs → map f (take (k + 1) xs) ≡ map f (take k xs) ++ f (get_or xs k d) ∷ []
+mapped_next f xs k d below =
+    let place : k + 1 ≡ suc k = omega arith in
+    rw (place, take-suc xs k d below) (map-append f (take k xs) (get_or xs k d ∷ []))

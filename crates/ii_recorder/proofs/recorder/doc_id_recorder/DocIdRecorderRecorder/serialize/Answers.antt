@@ -1,0 +1,31 @@
+use Rattle.std.proofs.Common.{◌∙◌, map, sym}
+use Rattle.std.specs.Option.{option_map, option_to_list}
+use Rattle.ii_docset.specs.Entries.{document}
+use Rattle.ii_base.specs.declared.schema.index_record_option.IndexRecordOption.TheVariants.{Basic}
+use Rattle.ii_recorder.proofs.PushLemmas.{may_push_first, may_push_then, pushes_refused_by, pushes_then, pushes_went}
+use Rattle.ii_recorder.proofs.recorder.doc_id_recorder.DocIdRecorderRecorder.serialize.Goals as goal
+
+pub push_docs-pushed-requires : goal.push_docs-pushed-requires
+push_docs-pushed-requires g c =
+    rw c.deref.ensures.value (may_push_first Basic c.args.serializer.now.index.now (map document c.self.inside.closed.items) (option_to_list (option_map document c.self.inside.pending)) (rw (← c.self.view_is) at c.requires))
+
+pub returns-then-is_err-clause-pushes : goal.returns-then-is_err-clause-pushes
+returns-then-is_err-clause-pushes g c =
+    let refused = sym c.if-is_err.true ∙ c.is_err.ensures.value in
+    let pushes = rw c.deref.ensures.value at c.push_docs-pushed.ensures.pushes in
+    rw (← c.self.view_is) (pushes_refused_by Basic c.args.serializer.now.index.now c.push_docs-pushed.new.serializer.index.now (map document c.self.inside.closed.items) (option_to_list (option_map document c.self.inside.pending)) c.push_docs-pushed.result refused pushes)
+
+pub push_doc-requires : goal.push_doc-requires
+push_doc-requires g c =
+    let went = sym c.if-is_err.false ∙ c.is_err.ensures.value in
+    let pushes = rw c.deref.ensures.value at c.push_docs-pushed.ensures.pushes in
+    let may = rw (← c.self.view_is, c.in-Some.is) at c.requires in
+    may_push_then Basic c.args.serializer.now.index.now c.push_docs-pushed.new.serializer.index.now (map document c.self.inside.closed.items) _ may
+    (pushes_went Basic c.args.serializer.now.index.now c.push_docs-pushed.new.serializer.index.now (map document c.self.inside.closed.items) c.push_docs-pushed.result went pushes)
+
+pub returns-in-Some-clause-pushes : goal.returns-in-Some-clause-pushes
+returns-in-Some-clause-pushes g c =
+    let went = sym c.if-is_err.false ∙ c.is_err.ensures.value in
+    let pushes = rw c.deref.ensures.value at c.push_docs-pushed.ensures.pushes in
+    rw (← c.self.view_is, c.in-Some.is) (pushes_then Basic c.args.serializer.now.index.now c.push_docs-pushed.new.serializer.index.now c.push_doc.new.serializer.index.now (map document c.self.inside.closed.items) _ c.push_doc.result
+    (pushes_went Basic c.args.serializer.now.index.now c.push_docs-pushed.new.serializer.index.now (map document c.self.inside.closed.items) c.push_docs-pushed.result went pushes) c.push_doc.ensures.pushes)

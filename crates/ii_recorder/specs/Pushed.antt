@@ -1,0 +1,57 @@
+-- What a recorder pushes to the serializer of a field, and how that ends.
+use Rattle.std.specs.Prelude.{◌≡◌, ℕ, ◌+◌, ◌<◌, ◌↔◌, ◌⊎◌, true, false, if◌then◌else◌, IsTrue, List, ◌++◌, length, map, take, Result, OnOk, IfErr, IsErrOf}
+use Rattle.std.specs.List.{AllByRecursion, flat_map}
+use Rattle.ii_io.specs.declared.faults.Fault.{Fault}
+use Rattle.ii_io.specs.declared.faults.Fault.TheVariants.{Limit, OutOfMemory, SerializerClosed}
+use Rattle.ii_io.specs.declared.faults.LimitName.TheVariants.{BlockFrequencySum}
+use Rattle.ii_io.specs.CountingWriter.{Closes}
+use Rattle.ii_base.specs.declared.schema.index_record_option.IndexRecordOption.{IndexRecordOption}
+use Rattle.ii_base.specs.Options.{has_freq, has_positions}
+use Rattle.ii_codes.specs.Sums.{differences}
+use Rattle.ii_docset.specs.Entries.{Entry, are_documents, docs_of}
+use Rattle.ii_layout.specs.PostingsSerializer.{IsSumTooLarge}
+use Rattle.ii_recorder.specs.IndexSerializer.{IndexSerializerState}
+
+-- the counts of entries, 0 where the option keeps none
+abbrev pub pushed_freqs : IndexRecordOption → List Entry → List ℕ
+pushed_freqs option es = map (λ (e : Entry). if has_freq option then e.term_freq else 0) es
+
+-- how far each position of a document lies after the one before it, the first one from 0
+abbrev pub pushed_deltas : List Entry → List ℕ
+pushed_deltas es = flat_map (λ (e : Entry). differences 0 e.positions) es
+
+-- a serializer whose open term has these entries more
+abbrev pub with_entries : IndexRecordOption → IndexSerializerState → List Entry → IndexSerializerState
+with_entries option s es =
+    let t = s.field.term in
+    record s {
+      field = record s.field {
+        term = record t {
+          docs = t.docs ++ docs_of es;
+          freqs = t.freqs ++ pushed_freqs option es;
+          deltas = if has_positions t.mode then t.deltas ++ pushed_deltas es else t.deltas;
+        };
+      };
+    }
+
+-- With one of the counts that follow the old ones, a block is full whose sum is too large.
+abbrev pub FillTooLarge : IndexRecordOption → List ℕ → List ℕ → Type 0
+FillTooLarge skip_info old added = (n : ℕ) × (n < length added) × IsSumTooLarge skip_info (old ++ take (n + 1) added)
+
+-- Entries may be pushed: a term is open, the documents follow its own, and each has a count where the term has counts.
+pub record MayPush (option : IndexRecordOption) (s : IndexSerializerState) (es : List Entry) : Type 0 where
+  pub inside : s.closed ≡ false → s.field.term_open ≡ true
+  pub ascending : s.closed ≡ false → IsTrue (are_documents (s.field.term.docs ++ docs_of es))
+  pub counted : s.closed ≡ false → IsTrue (has_freq s.field.term.skip_info) → AllByRecursion (λ n. 0 < n) (pushed_freqs option es)
+
+-- How a call ends that pushes entries.
+pub record Pushes (option : IndexRecordOption) (old new : IndexSerializerState) (es : List Entry) (result : Result (Unit {0}) Fault) : Type 0 where
+  pub ok : OnOk result (new ≡ with_entries option old es)
+  pub small : OnOk result (¬ FillTooLarge old.field.term.skip_info old.field.term.freqs (pushed_freqs option es))
+  pub bodies : new.bodies ≡ old.bodies
+  pub entries : new.entries ≡ old.entries
+  pub closes : Closes result new.closed
+  pub refused : IsTrue old.closed → new ≡ old
+  pub limit : IsErrOf result (Limit BlockFrequencySum) → FillTooLarge old.field.term.skip_info old.field.term.freqs (pushed_freqs option es)
+  pub closed : IsErrOf result SerializerClosed ↔ IsTrue old.closed
+  pub only : IfErr result (λ e. (e ≡ OutOfMemory) ⊎ (e ≡ SerializerClosed) ⊎ (e ≡ Limit BlockFrequencySum))
