@@ -1,22 +1,27 @@
 -- Terms in the order of their bytes.
-use Rattle.std.proofs.Common.{◌≡◌, ℕ, Bool, true, false, List, [], ◌∷◌, map, refl, sym, ap, ◌∙◌, subst, Vec}
-use Rattle.std.proofs.Common.{Ordering, Less}
+use Rattle.std.proofs.Common.{◌<◌, ◌^◌, ◌++◌, drop, filter, nat_eq, arith, ◌≡◌, ℕ, Bool, true, false, List, [], ◌∷◌, map, refl, sym, ap, ◌∙◌, subst, Vec}
+use Rattle.std.proofs.Common.{Ordering, Less, Equal, Greater}
+use Rattle.std.specs.Ordering.{ordering_reverse}
 use Rattle.std.specs.Prelude.{bytes_eq}
 use Rattle.std.specs.Ordering.{eq_by_cmp}
 use Rattle.std.specs.List.{AllByRecursion, IsDistinct, dedup, dedup_from}
 use Rattle.std.specs.List.Sorted.{IsSorted, IsStrictlySortedBy}
 use Rattle.std.specs.Map.{keys_of}
-use Rattle.std.proofs.lemmas.Cmp.{nat_list_cmp_total, on_total}
+use Rattle.std.proofs.lemmas.Cmp.{nat_cmp_total, nat_list_cmp_total, on_total}
 use Rattle.std.proofs.lemmas.Cmp.{nat_list_eq_equiv}
 use Rattle.std.specs.Cmp.Lexicographic.{slice_cmp}
 use Rattle.std.specs.Ordering.{nat_cmp}
+use Rattle.ii_indexing.specs.IndexingContext.{TermIndex}
+use Rattle.ii_indexing.specs.SortedTerms.{TermState, terms_in}
+use Rattle.ii_indexing.specs.IndexingTerm.{AreTermBytes, field_bytes, field_in}
 use Rattle.std.specs.Map.{lookup}
 use Rattle.std.specs.List.Sorted.{IsPermutation}
 use Rattle.std.proofs.lemmas.List.Sorted.{IsPermutation-map}
 use Rattle.std.proofs.lemmas.Map.Keys.{IsDistinct-cons}
 use Rattle.indexmap.proofs.MapLemmas.{lookup_permutation}
 use Rattle.std.proofs.lemmas.Map.Text.{is_eq-slice_cmp}
-use Rattle.std.proofs.lemmas.List.Kept.{IsStrictlySortedBy-dedup}
+use Rattle.std.proofs.lemmas.List.Kept.{IsStrictlySortedBy-dedup, IsStrictlySortedBy-filter}
+use Rattle.std.proofs.lemmas.Bool.{eqb-true}
 use Rattle.std.proofs.lemmas.Map.Keys.{IsDistinct-head, IsDistinct-tail}
 
 module _ {K : Type 0} (E : K → K → Bool) (flips : (x y : K) → E x y ≡ E y x) where
@@ -77,3 +82,69 @@ module _ {K V W : Type 0} (f : K → List ℕ) (g : V → W) where
   -- and ascend where the keys do
   pub seen_ascends : (es : List (K × V)) → IsStrictlySortedBy (slice_cmp nat_cmp) (map f (keys_of es)) → IsStrictlySortedBy (slice_cmp nat_cmp) (map (λ (t : List ℕ × W). t.0) (map seen es))
   seen_ascends es sorted = subst (IsStrictlySortedBy (slice_cmp nat_cmp)) (sym (seen_keys es)) sorted
+
+same_reversed : (o : Ordering) → o ≡ ordering_reverse o → o ≡ Equal
+same_reversed Less e = absurd (cc)
+same_reversed Equal e = refl
+same_reversed Greater e = absurd (cc)
+
+nat_cmp-refl : (n : ℕ) → nat_cmp n n ≡ Equal
+nat_cmp-refl n = same_reversed (nat_cmp n n) (nat_cmp_total.antisymm n n)
+
+-- what stands in front of both is not compared
+slice_cmp-prefix : (front xs ys : List ℕ) → slice_cmp nat_cmp (front ++ xs) (front ++ ys) ≡ slice_cmp nat_cmp xs ys
+slice_cmp-prefix [] xs ys = refl
+slice_cmp-prefix (n ∷ front) xs ys = rw (nat_cmp-refl n) (slice_cmp-prefix front xs ys)
+
+field_of_bytes : (field : ℕ) (rest : List ℕ) → field < 2 ^ 32 → field_in (field_bytes field ++ rest) ≡ field
+unfolding field_in field_bytes
+field_of_bytes field rest small = omega (arith, small)
+
+-- bytes of a term are those of their field, and the others
+split_bytes : (bytes : List ℕ) → AreTermBytes bytes → bytes ≡ field_bytes (field_in bytes) ++ drop 4 bytes
+split_bytes bytes are = are.are ∙ ap (λ (field : ℕ). field_bytes field ++ drop 4 bytes) (sym (ap field_in are.are ∙ field_of_bytes are.field (drop 4 bytes) are.small))
+
+-- keys without the field that stands in front of each
+module _ (field : ℕ) where
+  abbrev IsIn : List ℕ → Type 0
+  IsIn bytes = bytes ≡ field_bytes field ++ drop 4 bytes
+
+  compared : (x y : List ℕ) → IsIn x → IsIn y → slice_cmp nat_cmp (drop 4 x) (drop 4 y) ≡ slice_cmp nat_cmp x y
+  compared x y is also = sym (slice_cmp-prefix (field_bytes field) (drop 4 x) (drop 4 y))
+      ∙ ap (λ (u : List ℕ). slice_cmp nat_cmp u (field_bytes field ++ drop 4 y)) (sym is) ∙ ap (slice_cmp nat_cmp x) (sym also)
+
+  below_dropped : (x : List ℕ) (ys : List (List ℕ)) → IsIn x → AllByRecursion IsIn ys → AllByRecursion (λ (y : List ℕ). slice_cmp nat_cmp x y ≡ Less) ys → AllByRecursion (λ (y : List ℕ). slice_cmp nat_cmp (drop 4 x) y ≡ Less) (map (drop 4) ys)
+  below_dropped x [] is all below = tt
+  below_dropped x (y ∷ ys) is all below = (compared x y is all.0 ∙ below.0, below_dropped x ys is all.1 below.1)
+
+  dropped_ascends : (ks : List (List ℕ)) → AllByRecursion IsIn ks → IsStrictlySortedBy (slice_cmp nat_cmp) ks → IsStrictlySortedBy (slice_cmp nat_cmp) (map (drop 4) ks)
+  unfolding IsStrictlySortedBy
+  dropped_ascends [] all sorted = tt
+  dropped_ascends (k ∷ ks) all sorted = (below_dropped k ks all.0 all.1 sorted.0, dropped_ascends ks all.1 sorted.1)
+
+abbrev lies_in : ℕ → List ℕ → Bool
+lies_in field bytes = nat_eq (field_in bytes) field
+
+keys_in : (field : ℕ) (terms : TermIndex) → map (λ (t : TermState). t.key) (terms_in field terms) ≡ map (drop 4) (filter (lies_in field) (keys_of terms))
+keys_in field [] = refl
+keys_in field (t ∷ ts) = by_case (lies_in field t.0) refl (keys_in field ts)
+  where
+    by_case : (b : Bool) → lies_in field t.0 ≡ b → map (λ (u : TermState). u.key) (terms_in field ts) ≡ map (drop 4) (filter (lies_in field) (keys_of ts))
+        → map (λ (u : TermState). u.key) (terms_in field (t ∷ ts)) ≡ map (drop 4) (filter (lies_in field) (keys_of (t ∷ ts)))
+    by_case true is rest = rw is (ap (λ (ks : List (List ℕ)). drop 4 t.0 ∷ ks) rest)
+    by_case false is rest = rw is rest
+
+all_in : (field : ℕ) (ks : List (List ℕ)) → AllByRecursion AreTermBytes ks → AllByRecursion (IsIn field) (filter (lies_in field) ks)
+all_in field [] all = tt
+all_in field (k ∷ ks) all = by_case (lies_in field k) refl (all_in field ks all.1)
+  where
+    by_case : (b : Bool) → lies_in field k ≡ b → AllByRecursion (IsIn field) (filter (lies_in field) ks) → AllByRecursion (IsIn field) (filter (lies_in field) (k ∷ ks))
+    by_case true is rest = rw is (split_bytes k all.0 ∙ ap (λ (f : ℕ). field_bytes f ++ drop 4 k) (eqb-true (field_in k) field is), rest)
+    by_case false is rest = rw is rest
+
+-- the keys of a field ascend where all terms do
+pub terms_in_ascend : (field : ℕ) (terms : TermIndex) → AllByRecursion AreTermBytes (keys_of terms) → IsStrictlySortedBy (slice_cmp nat_cmp) (keys_of terms)
+    → IsStrictlySortedBy (slice_cmp nat_cmp) (map (λ (t : TermState). t.key) (terms_in field terms))
+terms_in_ascend field terms all sorted =
+    subst (IsStrictlySortedBy (slice_cmp nat_cmp)) (sym (keys_in field terms))
+      (dropped_ascends field (filter (lies_in field) (keys_of terms)) (all_in field (keys_of terms) all) (IsStrictlySortedBy-filter (slice_cmp nat_cmp) (lies_in field) (keys_of terms) sorted))
