@@ -1,8 +1,16 @@
 -- The terms of an index, field by field.
-use Rattle.std.specs.Prelude.{ℕ, ◌==◌, ◌<◌, ◌≤◌, List, drop, filter, length, map, Vec}
+use Rattle.std.specs.Prelude.{if◌then◌else◌, IsTrue, [], ℕ, ◌==◌, ◌<◌, ◌≤◌, List, drop, filter, length, map, Vec}
 use Rattle.ii_recorder.specs.AnyRecorder.{any_state}
 use Rattle.ii_recorder.specs.declared.recorder.any_recorder.AnyRecorder.{AnyRecorder}
-use Rattle.ii_recorder.specs.Recorded.{RecorderState}
+use Rattle.std.specs.List.{AllByRecursion}
+use Rattle.ii_base.specs.declared.schema.index_record_option.IndexRecordOption.{IndexRecordOption}
+use Rattle.ii_base.specs.declared.schema.index_record_option.IndexRecordOption.TheVariants.{Basic}
+use Rattle.ii_base.specs.Options.{has_freq, has_positions}
+use Rattle.ii_docset.specs.Entries.{are_documents, docs_of}
+use Rattle.ii_recorder.specs.Pushed.{pushed_deltas, pushed_freqs}
+use Rattle.ii_recorder.specs.Recorded.{RecorderState, entries_in}
+use Rattle.ii_recorder.specs.Terms.{WrittenTerm}
+use Rattle.ii_indexing.specs.declared.sorted_terms.TermOfField.{TermOfField}
 use Rattle.ii_indexing.specs.IndexingContext.{TermIndex}
 use Rattle.ii_indexing.specs.IndexingTerm.{field_in}
 
@@ -10,6 +18,9 @@ use Rattle.ii_indexing.specs.IndexingTerm.{field_in}
 pub record TermState : Type 0 where
   pub key : List ℕ
   pub recorder : RecorderState
+
+abbrev pub state_of : TermOfField → TermState
+state_of t = record { key = t.key.now; recorder = any_state t.recorder.now }
 
 abbrev pub term_of : List ℕ × RecorderState → TermState
 term_of t = record { key = drop 4 t.0; recorder = t.1 }
@@ -26,3 +37,20 @@ seen e = (e.0.items, any_state e.1)
 pub record IsTermBelow (num_fields : ℕ) (t : List ℕ × RecorderState) : Type 0 where
   pub long : 4 ≤ length t.0
   pub known : field_in t.0 < num_fields
+
+-- a term as it is written in a field that records by a mode
+abbrev pub written_of : IndexRecordOption → TermState → WrittenTerm
+written_of mode t =
+    let es = entries_in t.recorder in
+    record {
+      key = t.key;
+      skip_info = if has_freq t.recorder.option then mode else Basic;
+      docs = docs_of es;
+      freqs = pushed_freqs t.recorder.option es;
+      deltas = if has_positions mode then pushed_deltas es else [];
+    }
+
+-- A term may be written: its documents ascend, and have counts where these are kept.
+pub record IsWritable (t : TermState) : Type 0 where
+  pub ascending : IsTrue (are_documents (docs_of (entries_in t.recorder)))
+  pub counted : IsTrue (has_freq t.recorder.option) → AllByRecursion (λ n. 0 < n) (pushed_freqs t.recorder.option (entries_in t.recorder))

@@ -7,6 +7,7 @@ pub mod indexing_position;
 pub mod indexing_term;
 pub mod path_to_unordered_id;
 pub mod postings_writer;
+mod serialize_postings;
 pub mod sorted_terms;
 #[cfg(test)]
 mod tests;

@@ -1,0 +1,22 @@
+use Rattle.std.proofs.Common.{List, ◌++◌, ◌∷◌, [], ◌∙◌, ap, subst}
+use Rattle.ii_base.specs.declared.schema.index_record_option.IndexRecordOption.{IndexRecordOption}
+use Rattle.ii_recorder.specs.AnyRecorder.{any_state}
+use Rattle.ii_recorder.specs.IndexSerializer.{IndexSerializerState, IsWriting}
+use Rattle.ii_indexing.specs.SortedTerms.{written_of}
+use Rattle.ii_recorder.specs.Recorded.{entries_in}
+use Rattle.ii_recorder.specs.Terms.{WrittenTerm}
+use Rattle.ii_indexing.proofs.SerializeLemmas.{pushed_writing, term_written}
+use Rattle.ii_indexing.proofs.TermIndexLemmas.{on_ok}
+use Rattle.ii_indexing.proofs.serialize_postings.serialize_one_term.Goals as goal
+
+pub returns-clause-writing : goal.returns-clause-writing
+returns-clause-writing g c initial field tokens ts writing =
+    let r = any_state c.args.recorder.now in
+    let pushed = c.in_ok-serialize.ensures.pushes.ok in
+    let begun = c.in_ok-new_term.ensures.writing initial field tokens ts writing in
+    let whole = pushed_writing r.option (entries_in r) initial c.new_term.new.self.index.now c.serialize.new.serializer.index.now field tokens ts (c.args.key.now ∷ []) pushed begun in
+    let same = term_written c.args.key.now c.args.serializer.now.index.now.field.term r c.new_term.new.self.index.now c.serialize.new.serializer.index.now c.has_term_freq.result c.has_term_freq.ensures c.in_ok-new_term.ensures.term pushed
+      ∙ ap (λ (mode : IndexRecordOption). written_of mode (record { key = c.args.key.now; recorder = r })) writing.mode in
+    on_ok c.close_term.result _ _
+      (λ w. subst (λ (t : WrittenTerm). IsWriting initial c.close_term.new.self.index.now field tokens (ts ++ t ∷ []) []) same w)
+      (c.close_term.ensures.writing initial field tokens ts c.args.key.now (ap (λ (n : IndexSerializerState). n.field.term_open) pushed ∙ c.in_ok-new_term.ensures.inside) whole)

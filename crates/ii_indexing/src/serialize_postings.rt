@@ -1,0 +1,70 @@
+ghost use Rattle.std.specs.Prelude.{◌≡◌, ◌≤◌, ◌<◌, ◌++◌, ◌∷◌, ℕ, List, [], false, length, map, IsTrue, IfErr, IfOk, OnErr, OnOk};
+ghost use Rattle.std.specs.List.{AllByRecursion};
+ghost use Rattle.ii_io.specs.CountingWriter.{Closes};
+ghost use Rattle.ii_termdict.specs.ReadBack.{AreAscending};
+ghost use Rattle.ii_index.specs.Fields.{option_of};
+ghost use Rattle.ii_recorder.specs.AnyRecorder.{any_state};
+ghost use Rattle.ii_recorder.specs.IndexBodies.{AddsBodies, IndexBodiesState, LacksField};
+ghost use Rattle.ii_recorder.specs.IndexSerializer.{IsWriting};
+ghost use Rattle.ii_recorder.specs.Terms.{WrittenTerm, field_bodies};
+ghost use Rattle.ii_recorder.specs.HeldTerms.{HoldsTerms};
+ghost use Rattle.ii_indexing.specs.SortedTerms.{IsWritable, TermState, state_of, written_of};
+
+use crate::sorted_terms::TermOfField;
+use ii_base::{Fault, Field};
+use ii_fieldnorm::FieldNormReader;
+use ii_recorder::{AnyRecorder, BufferLender, FieldSerializer, InvertedIndexSerializer, Recorder};
+use std::io::Write;
+
+// Writes a term of the field.
+fn serialize_one_term<W: Write>(
+    key: &[u8],
+    recorder: &AnyRecorder,
+    buffer_lender: &mut BufferLender,
+    serializer: &mut FieldSerializer<'_, W>,
+) -> Result<(), Fault>
+    requires open { serializer.old.index.now.closed ≡ false }
+    requires between { serializer.old.index.now.field.term_open ≡ false }
+    requires ascending { AreAscending (serializer.old.index.now.field.places.keys ++ key.now ∷ []) }
+    requires writable { IsWritable (record { key = key.now; recorder = any_state recorder.now }) }
+    ensures same_reference { serializer.new.index.ghost_name ≡ serializer.old.index.ghost_name }
+    ensures writing { (initial : IndexBodiesState) (field tokens : ℕ) (ts : List WrittenTerm) → IsWriting initial serializer.old.index.now field tokens ts []
+        → OnOk result (IsWriting initial serializer.new.index.now field tokens (ts ++ written_of (option_of serializer.old.index.now.entries field) (record { key = key.now; recorder = any_state recorder.now }) ∷ []) []) }
+    ensures between { OnOk result (serializer.new.index.now.field.term_open ≡ false) }
+    ensures open { OnOk result (serializer.new.index.now.closed ≡ false) }
+    ensures entries { serializer.new.index.now.entries ≡ serializer.old.index.now.entries }
+{
+    let doc_freq = recorder.term_doc_freq().unwrap_or(0);
+    serializer.new_term(key, doc_freq, recorder.has_term_freq())?;
+    recorder.serialize(buffer_lender, serializer)?;
+    serializer.close_term()
+}
+
+// Writes a field with so many tokens, whose terms ascend.
+fn serialize_field<W: Write>(
+    field: Field,
+    total_num_tokens: u64,
+    fieldnorm_reader: Option<FieldNormReader>,
+    terms: &[TermOfField<'_>],
+    buffer_lender: &mut BufferLender,
+    serializer: &mut InvertedIndexSerializer<W>,
+) -> Result<(), Fault>
+    requires open { serializer.old.closed ≡ false }
+    requires known { field < length serializer.old.entries }
+    requires lacks { LacksField field serializer.old.bodies }
+    requires ascending { AreAscending (map (λ t. t.key.now) terms.now) }
+    requires writable { AllByRecursion IsWritable (map state_of terms.now) }
+    ensures entries { serializer.new.entries ≡ serializer.old.entries }
+    ensures closes { Closes result serializer.new.closed }
+    ensures wrote { OnOk result (AddsBodies serializer.old.bodies serializer.new.bodies field
+        (field_bodies (option_of serializer.old.entries field) total_num_tokens (map (written_of (option_of serializer.old.entries field)) (map state_of terms.now)))) }
+    ensures holds { OnOk result (HoldsTerms (option_of serializer.old.entries field) total_num_tokens
+        (field_bodies (option_of serializer.old.entries field) total_num_tokens (map (written_of (option_of serializer.old.entries field)) (map state_of terms.now)))
+        (map (written_of (option_of serializer.old.entries field)) (map state_of terms.now))) }
+{
+    let mut serializer = serializer.new_field(field, total_num_tokens, fieldnorm_reader)?;
+    for place in 0..terms.len() {
+        serialize_one_term(terms[place].key, terms[place].recorder, buffer_lender, &mut serializer)?;
+    }
+    serializer.close()
+}
