@@ -31,7 +31,7 @@ fn serialize_one_term<W: Write>(
     ensures writing { (initial : IndexBodiesState) (field tokens : ℕ) (ts : List WrittenTerm) → IsWriting initial serializer.old.index.now field tokens ts []
         → OnOk result (IsWriting initial serializer.new.index.now field tokens (ts ++ written_of (option_of serializer.old.index.now.entries field) (record { key = key.now; recorder = any_state recorder.now }) ∷ []) []) }
     ensures between { OnOk result (serializer.new.index.now.field.term_open ≡ false) }
-    ensures open { OnOk result (serializer.new.index.now.closed ≡ false) }
+    ensures closes { Closes result serializer.new.index.now.closed }
     ensures entries { serializer.new.index.now.entries ≡ serializer.old.index.now.entries }
 {
     let doc_freq = recorder.term_doc_freq().unwrap_or(0);
@@ -64,7 +64,8 @@ fn serialize_field<W: Write>(
 {
     let mut serializer = serializer.new_field(field, total_num_tokens, fieldnorm_reader)?;
     for place in 0..terms.len() {
-        serialize_one_term(terms[place].key, terms[place].recorder, buffer_lender, &mut serializer)?;
+        let term = terms[place];
+        serialize_one_term(term.key, term.recorder, buffer_lender, &mut serializer)?;
     }
     serializer.close()
 }
