@@ -1,7 +1,7 @@
-ghost use Rattle.std.specs.Prelude.{◌≡◌, ◌^◌, ◌<◌, ◌≤◌, ◌-◌, [], ◌∷◌, None, drop, length, OnOk, IfErr};
+ghost use Rattle.std.specs.Prelude.{◌≡◌, ◌^◌, ◌<◌, ◌≤◌, ◌-◌, [], ◌∷◌, None, false, drop, length, OnOk, IfErr, IfSome};
 ghost use Rattle.std.specs.List.{AllByRecursion};
 ghost use Rattle.ii_codes.specs.Sums.{differences};
-ghost use Rattle.ii_recorder.specs.DocFreqs.{entries_of, located, position_count};
+ghost use Rattle.ii_recorder.specs.DocFreqs.{entries_of, located, open_entry, position_count};
 ghost use Rattle.ii_recorder.specs.Pushed.{MayPush, Pushes};
 ghost use Rattle.ii_recorder.specs.Recorded.{last_position};
 ghost use Rattle.ii_base.specs.declared.schema.index_record_option.IndexRecordOption.TheVariants.{WithFreqsAndPositions};
@@ -135,6 +135,29 @@ fn push_located_docs<W: Write>(
     Ok(())
 }
 
+// Pushes the open document, if there is one, whose positions are the last of a row.
+#[tactic(auto, using(crate::proofs::PushLemmas::pushes_none))]
+fn push_open_located_doc<W: Write>(
+    pending: Option<DocFreq>,
+    positions: &[u32],
+    deltas: &mut Vec<u32>,
+    serializer: &mut FieldSerializer<'_, W>,
+) -> Result<(), Fault>
+    requires unclosed { serializer.old.index.now.closed ≡ false }
+    requires within { IfSome pending (λ d. d.term_freq ≤ length positions.now) }
+    requires may { MayPush WithFreqsAndPositions serializer.old.index.now (open_entry pending positions.now) }
+    ensures same_reference { serializer.new.index.ghost_name ≡ serializer.old.index.ghost_name }
+    ensures pushes { Pushes WithFreqsAndPositions serializer.old.index.now serializer.new.index.now (open_entry pending positions.now) result }
+{
+    match pending {
+        Some(open) => {
+            let last = last_positions(positions, open.term_freq);
+            push_located_doc(open, last, deltas, serializer)
+        }
+        None => Ok(()),
+    }
+}
+
 // All positions.
 #[tactic(auto, using(ii_layout::proofs::ReadBackLemmas::fit_by))]
 fn row_of(positions: &[u32]) -> &[u32]
@@ -212,13 +235,7 @@ impl Recorder for TfAndPositionRecorder {
         if pushed.is_err() {
             return pushed;
         }
-        match self.pending {
-            Some(open) => {
-                let last = last_positions(positions, open.term_freq);
-                push_located_doc(open, last, deltas, serializer)
-            }
-            None => Ok(()),
-        }
+        push_open_located_doc(self.pending, positions, deltas, serializer)
     }
 
     fn term_doc_freq(&self) -> Option<u32> {
