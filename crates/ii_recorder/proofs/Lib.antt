@@ -5,3 +5,4 @@ pub mod HeldTermLemmas
 pub mod RecorderLemmas
 pub mod PushLemmas
 pub mod PushLocated
+pub mod DeltaLemmas

@@ -1,5 +1,5 @@
 -- Entries that are pushed one after the other.
-use Rattle.std.proofs.Common.{drop-cons, get_or, take-append-drop, take-suc, ◌≡◌, ℕ, suc, ◌+◌, ◌-◌, ◌<◌, ◌≤◌, Bool, true, false, if◌then◌else◌, List, [], ◌∷◌, ◌++◌, length, map, take, drop, Result, Ok, Err, is_err, refl, sym, ap, ◌∙◌, arith, append-nil, append_assoc, length-append, ⊎_elim, inl, inr}
+use Rattle.std.proofs.Common.{◌^◌, drop-cons, get_or, take-append-drop, take-suc, ◌≡◌, ℕ, suc, ◌+◌, ◌-◌, ◌<◌, ◌≤◌, Bool, true, false, if◌then◌else◌, List, [], ◌∷◌, ◌++◌, length, map, take, drop, Result, Ok, Err, is_err, refl, sym, ap, ◌∙◌, arith, append-nil, append_assoc, length-append, ⊎_elim, inl, inr}
 use Rattle.std.proofs.lemmas.Bool.{and_parts, cases_lt}
 use Rattle.std.specs.Prelude.{◌&&◌, nat_le, nat_lt, IsTrue}
 use Rattle.std.specs.List.{AllByRecursion}
@@ -45,6 +45,10 @@ small_both skip_info old xs ys first others h = ⊎_elim (λ (earlier : h.0 < le
     let large = rw (place, take-append-add xs ys (h.0 - length xs + 1), ← append_assoc old xs (take (h.0 - length xs + 1) ys)) at h.2 in
     others (h.0 - length xs, omega (arith, h.1, length-append xs ys), large)) (cases_lt h.0 (length xs))
 
+all_both : (P : ℕ → Type 0) (xs ys : List ℕ) → AllByRecursion P xs → AllByRecursion P ys → AllByRecursion P (xs ++ ys)
+all_both P [] ys h k = k
+all_both P (x ∷ xs) ys h k = (h.0, all_both P xs ys h.1 k)
+
 -- what is pushed after what was
 pub pushes_then : (option : IndexRecordOption) (a b c : IndexSerializerState) (xs ys : List Entry) (result : Result (Unit {0}) Fault) → Pushes option a b xs (Ok tt) → Pushes option b c ys result → Pushes option a c (xs ++ ys) result
 pushes_then option a b c xs ys (Ok u) h k =
@@ -53,6 +57,7 @@ pushes_then option a b c xs ys (Ok u) h k =
     record {
       ok = k.ok ∙ ap (λ (s : IndexSerializerState). with_entries option s ys) same ∙ with_both option a xs ys;
       small = rw (map-append (λ (e : Entry). if has_freq option then e.term_freq else 0) xs ys) (small_both a.field.term.skip_info a.field.term.freqs (pushed_freqs option xs) (pushed_freqs option ys) h.small later);
+      fit = rw (map-append (λ (e : Entry). if has_freq option then e.term_freq else 0) xs ys) (all_both (λ n. n < 2 ^ 32) (pushed_freqs option xs) (pushed_freqs option ys) h.fit k.fit);
       bodies = k.bodies ∙ h.bodies;
       entries = k.entries ∙ h.entries;
       closes = k.closes;
@@ -66,6 +71,7 @@ pushes_then option a b c xs ys (Err e) h k =
     record {
       ok = tt;
       small = tt;
+      fit = tt;
       bodies = k.bodies ∙ h.bodies;
       entries = k.entries ∙ h.entries;
       closes = k.closes;
@@ -79,6 +85,7 @@ pushes_refused : (option : IndexRecordOption) (a b : IndexSerializerState) (xs y
 pushes_refused option a b xs ys e h = record {
   ok = tt;
   small = tt;
+  fit = tt;
   bodies = h.bodies;
   entries = h.entries;
   closes = h.closes;
@@ -115,6 +122,7 @@ pub pushes_nothing : (option : IndexRecordOption) (a : IndexSerializerState) (es
 pushes_nothing option a es closed = record {
   ok = tt;
   small = tt;
+  fit = tt;
   bodies = refl;
   entries = refl;
   closes = record { ok = tt; err = closed };
@@ -129,6 +137,7 @@ pub pushes_none : (option : IndexRecordOption) (a : IndexSerializerState) → a.
 pushes_none option a open_still = record {
   ok = rw (append-nil a.field.term.docs, append-nil a.field.term.freqs, deltas_stay (has_positions a.field.term.mode) a.field.term.deltas) refl;
   small = λ h. omega (arith, h.1);
+  fit = tt;
   bodies = refl;
   entries = refl;
   closes = record { ok = open_still; err = tt };

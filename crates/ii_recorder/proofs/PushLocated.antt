@@ -1,11 +1,13 @@
 -- Documents whose positions stand in a row.
-use Rattle.std.proofs.Common.{◌≡◌, ℕ, suc, ◌+◌, ◌-◌, ◌<◌, List, [], ◌∷◌, ◌++◌, length, take, drop, get_or, refl, sym, ap, ◌∙◌, arith, drop-cons}
+use Rattle.std.specs.Prelude.{IfSome, unwrap_or}
+use Rattle.std.specs.Option.{option_map, option_to_list}
+use Rattle.std.proofs.Common.{◌≤◌, Option, Some, None, ◌≡◌, ℕ, suc, ◌+◌, ◌-◌, ◌<◌, List, [], ◌∷◌, ◌++◌, length, take, drop, get_or, refl, sym, ap, ◌∙◌, arith, drop-cons}
 use Rattle.std.proofs.Math.Seq.{take-suc}
 use Rattle.std.proofs.lemmas.List.{drop-drop, take-append-drop}
 use Rattle.std.proofs.lemmas.List.Sums.{sum_by-append, sum_by-cons}
 use Rattle.ii_docset.specs.Entries.{Entry}
 use Rattle.ii_recorder.specs.declared.recorder.term_frequency_recorder.DocFreq.{DocFreq}
-use Rattle.ii_recorder.specs.DocFreqs.{entries_of, located, position_count}
+use Rattle.ii_recorder.specs.DocFreqs.{entries_of, located, open_entry, position_count}
 
 -- documents after others have the rest of the row
 entries_both : (xs ys : List DocFreq) (positions : List ℕ) → entries_of (xs ++ ys) positions ≡ entries_of xs positions ++ entries_of ys (drop (position_count xs) positions)
@@ -37,3 +39,13 @@ count_next docs k d below =
 -- the positions of the open document are the rest of the row
 pub open_positions : (docs : List DocFreq) (d : DocFreq) (positions : List ℕ) → length positions ≡ position_count docs + d.term_freq → drop (length positions - d.term_freq) positions ≡ drop (position_count docs) positions
 open_positions docs d positions count = ap (λ (n : ℕ). drop n positions) (omega arith)
+
+pub open_is : (docs : List DocFreq) (pending : Option DocFreq) (positions : List ℕ) → length positions ≡ position_count docs + unwrap_or (option_map (λ (d : DocFreq). d.term_freq) pending) 0
+    → open_entry pending positions ≡ option_to_list (option_map (λ (d : DocFreq). located d (drop (position_count docs) positions)) pending)
+open_is docs None positions count = refl
+open_is docs (Some d) positions count = ap (λ (ps : List ℕ). located d ps ∷ []) (open_positions docs d positions count)
+
+pub open_within : (docs : List DocFreq) (pending : Option DocFreq) (positions : List ℕ) → length positions ≡ position_count docs + unwrap_or (option_map (λ (d : DocFreq). d.term_freq) pending) 0
+    → IfSome pending (λ (d : DocFreq). d.term_freq ≤ length positions)
+open_within docs None positions count = tt
+open_within docs (Some d) positions count = omega (arith, count)

@@ -1,6 +1,8 @@
 -- Documents with their counts, and the positions of all of them in one row.
-use Rattle.std.specs.Prelude.{ℕ, List, [], ◌∷◌, take, drop}
-use Rattle.std.specs.List.{sum_by}
+use Rattle.std.specs.Prelude.{ℕ, ◌-◌, List, [], ◌∷◌, Option, length, take, drop}
+use Rattle.std.specs.Option.{option_map, option_to_list}
+use Rattle.std.specs.List.{AllByRecursion, sum_by}
+use Rattle.ii_codes.specs.Sums.{DoNotFall}
 use Rattle.ii_recorder.specs.declared.recorder.term_frequency_recorder.DocFreq.{DocFreq}
 use Rattle.ii_docset.specs.Entries.{Entry, counted}
 
@@ -20,3 +22,11 @@ located d positions = record { doc = d.doc; term_freq = d.term_freq; positions =
 abbrev pub entries_of : List DocFreq → List ℕ → List Entry
 entries_of [] positions = []
 entries_of (d ∷ ds) positions = located d (take d.term_freq positions) ∷ entries_of ds (drop d.term_freq positions)
+
+-- the open document, whose positions are the last of a row
+abbrev pub open_entry : Option DocFreq → List ℕ → List Entry
+open_entry pending positions = option_to_list (option_map (λ (d : DocFreq). located d (drop (length positions - d.term_freq) positions)) pending)
+
+-- In no document a position is below the one before it.
+abbrev pub NoneFalls : List Entry → Type 0
+NoneFalls es = AllByRecursion (λ (e : Entry). DoNotFall 0 e.positions) es

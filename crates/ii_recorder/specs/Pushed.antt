@@ -1,5 +1,5 @@
 -- What a recorder pushes to the serializer of a field, and how that ends.
-use Rattle.std.specs.Prelude.{◌≡◌, ℕ, ◌+◌, ◌<◌, ◌↔◌, ◌⊎◌, true, false, if◌then◌else◌, IsTrue, List, ◌++◌, length, map, take, Result, OnOk, IfErr, IsErrOf}
+use Rattle.std.specs.Prelude.{◌≡◌, ℕ, ◌+◌, ◌^◌, ◌<◌, ◌↔◌, ◌⊎◌, true, false, if◌then◌else◌, IsTrue, List, ◌++◌, length, map, take, Result, OnOk, IfErr, IsErrOf}
 use Rattle.std.specs.List.{AllByRecursion, flat_map}
 use Rattle.ii_io.specs.declared.faults.Fault.{Fault}
 use Rattle.ii_io.specs.declared.faults.Fault.TheVariants.{Limit, OutOfMemory, SerializerClosed}
@@ -9,7 +9,9 @@ use Rattle.ii_base.specs.declared.schema.index_record_option.IndexRecordOption.{
 use Rattle.ii_base.specs.Options.{has_freq, has_positions}
 use Rattle.ii_codes.specs.Sums.{differences}
 use Rattle.ii_docset.specs.Entries.{Entry, are_documents, docs_of}
+use Rattle.ii_layout.specs.Positions.{positions_of}
 use Rattle.ii_layout.specs.PostingsSerializer.{IsSumTooLarge}
+use Rattle.ii_layout.specs.TermList.{AreDeltas}
 use Rattle.ii_recorder.specs.IndexSerializer.{IndexSerializerState}
 
 -- the counts of entries, 0 where the option keeps none
@@ -34,6 +36,14 @@ with_entries option s es =
       };
     }
 
+abbrev pub counts_of : List Entry → List ℕ
+counts_of es = map (λ (e : Entry). e.term_freq) es
+
+-- The deltas of entries may be written, and give their positions back.
+pub record HaveDeltas (es : List Entry) : Type 0 where
+  pub deltas : AreDeltas (counts_of es) (pushed_deltas es)
+  pub give : positions_of (counts_of es) (pushed_deltas es) ≡ map (λ (e : Entry). e.positions) es
+
 -- With one of the counts that follow the old ones, a block is full whose sum is too large.
 abbrev pub FillTooLarge : IndexRecordOption → List ℕ → List ℕ → Type 0
 FillTooLarge skip_info old added = (n : ℕ) × (n < length added) × IsSumTooLarge skip_info (old ++ take (n + 1) added)
@@ -48,6 +58,7 @@ pub record MayPush (option : IndexRecordOption) (s : IndexSerializerState) (es :
 pub record Pushes (option : IndexRecordOption) (old new : IndexSerializerState) (es : List Entry) (result : Result (Unit {0}) Fault) : Type 0 where
   pub ok : OnOk result (new ≡ with_entries option old es)
   pub small : OnOk result (¬ FillTooLarge old.field.term.skip_info old.field.term.freqs (pushed_freqs option es))
+  pub fit : OnOk result (AllByRecursion (λ n. n < 2 ^ 32) (pushed_freqs option es))
   pub bodies : new.bodies ≡ old.bodies
   pub entries : new.entries ≡ old.entries
   pub closes : Closes result new.closed

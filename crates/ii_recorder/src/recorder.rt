@@ -1,7 +1,7 @@
-ghost use Rattle.std.specs.Prelude.{◌≡◌, ◌<◌, ◌++◌, length, min, if◌then◌else◌, None, Some, Err, IfErr, IfSome, IsSome, MatchOption, OnErr, OnOk};
+ghost use Rattle.std.specs.Prelude.{◌≡◌, ◌<◌, ◌++◌, length, min, if◌then◌else◌, None, Some, Err, IfErr, IfSome, IsSome, IsTrue, MatchOption, OnErr, OnOk};
 ghost use Rattle.std.specs.Option.{option_map, option_to_list};
-ghost use Rattle.ii_base.specs.Options.{has_freq};
-ghost use Rattle.ii_recorder.specs.Pushed.{MayPush, Pushes};
+ghost use Rattle.ii_base.specs.Options.{has_freq, has_positions};
+ghost use Rattle.ii_recorder.specs.Pushed.{HaveDeltas, MayPush, Pushes};
 ghost use Rattle.ii_recorder.specs.Recorded.{RecorderState, begun, current_doc, entries_in, last_doc, position_fault, u32_max, with_position};
 
 use super::buffer_lender::BufferLender;
@@ -72,6 +72,7 @@ pub trait Recorder: Drop {
     ) -> Result<(), Fault>
         requires { MayPush (state self.now).option serializer.old.index.now (entries_in (state self.now)) }
         ensures same_reference { serializer.new.index.ghost_name ≡ serializer.old.index.ghost_name }
+        ensures located { IsTrue (has_positions (state self.now).option) → HaveDeltas (entries_in (state self.now)) }
         ensures pushes { Pushes (state self.now).option serializer.old.index.now serializer.new.index.now (entries_in (state self.now)) result };
 
     /// In how many documents the term is, the open one included, or `u32::MAX` if there are more; nothing

@@ -1,4 +1,5 @@
-ghost use Rattle.std.specs.Prelude.{◌≡◌, [], ◌∷◌, None, map};
+ghost use Rattle.std.specs.Prelude.{◌≡◌, [], ◌∷◌, None, false, map};
+ghost use Rattle.std.specs.Option.{option_map, option_to_list};
 ghost use Rattle.ii_docset.specs.Entries.{document};
 ghost use Rattle.ii_recorder.specs.Pushed.{MayPush, Pushes};
 ghost use Rattle.ii_base.specs.declared.schema.index_record_option.IndexRecordOption.TheVariants.{Basic};
@@ -75,6 +76,23 @@ fn push_docs<W: Write>(docs: &[DocId], serializer: &mut FieldSerializer<'_, W>) 
     Ok(())
 }
 
+// Pushes the open document, if there is one.
+#[tactic(auto, using(crate::proofs::PushLemmas::pushes_none))]
+fn push_open_doc<W: Write>(
+    pending: Option<DocId>,
+    serializer: &mut FieldSerializer<'_, W>,
+) -> Result<(), Fault>
+    requires unclosed { serializer.old.index.now.closed ≡ false }
+    requires may { MayPush Basic serializer.old.index.now (option_to_list (option_map document pending)) }
+    ensures same_reference { serializer.new.index.ghost_name ≡ serializer.old.index.ghost_name }
+    ensures pushes { Pushes Basic serializer.old.index.now serializer.new.index.now (option_to_list (option_map document pending)) result }
+{
+    match pending {
+        Some(doc) => push_doc(doc, serializer),
+        None => Ok(()),
+    }
+}
+
 impl Recorder for DocIdRecorder {
     ghost state = { λ r. r };
 
@@ -115,10 +133,7 @@ impl Recorder for DocIdRecorder {
         if pushed.is_err() {
             return pushed;
         }
-        match self.pending {
-            Some(doc) => push_doc(doc, serializer),
-            None => Ok(()),
-        }
+        push_open_doc(self.pending, serializer)
     }
 
     fn term_doc_freq(&self) -> Option<u32> {

@@ -1,5 +1,5 @@
-ghost use Rattle.std.specs.Prelude.{◌≡◌, ◌+◌, [], ◌∷◌, None, length, map, min};
-ghost use Rattle.std.specs.Option.{option_to_list};
+ghost use Rattle.std.specs.Prelude.{◌≡◌, ◌+◌, [], ◌∷◌, None, false, length, map, min};
+ghost use Rattle.std.specs.Option.{option_map, option_to_list};
 ghost use Rattle.ii_recorder.specs.DocFreqs.{entry_of};
 ghost use Rattle.ii_recorder.specs.Pushed.{MayPush, Pushes};
 ghost use Rattle.ii_recorder.specs.Recorded.{u32_max};
@@ -98,6 +98,23 @@ fn push_counted_docs<W: Write>(
     Ok(())
 }
 
+// Pushes the open document, if there is one.
+#[tactic(auto, using(crate::proofs::PushLemmas::pushes_none))]
+fn push_open_counted_doc<W: Write>(
+    pending: Option<DocFreq>,
+    serializer: &mut FieldSerializer<'_, W>,
+) -> Result<(), Fault>
+    requires unclosed { serializer.old.index.now.closed ≡ false }
+    requires may { MayPush WithFreqs serializer.old.index.now (option_to_list (option_map entry_of pending)) }
+    ensures same_reference { serializer.new.index.ghost_name ≡ serializer.old.index.ghost_name }
+    ensures pushes { Pushes WithFreqs serializer.old.index.now serializer.new.index.now (option_to_list (option_map entry_of pending)) result }
+{
+    match pending {
+        Some(open) => push_counted_doc(open, serializer),
+        None => Ok(()),
+    }
+}
+
 impl Recorder for TermFrequencyRecorder {
     ghost state = { λ r. r };
 
@@ -146,10 +163,7 @@ impl Recorder for TermFrequencyRecorder {
         if pushed.is_err() {
             return pushed;
         }
-        match self.pending {
-            Some(open) => push_counted_doc(open, serializer),
-            None => Ok(()),
-        }
+        push_open_counted_doc(self.pending, serializer)
     }
 
     fn term_doc_freq(&self) -> Option<u32> {

@@ -1,6 +1,7 @@
-ghost use Rattle.std.specs.Prelude.{◌≡◌, ◌≤◌, ◌-◌, [], ◌∷◌, None, drop, length, OnOk, IfErr};
+ghost use Rattle.std.specs.Prelude.{◌≡◌, ◌^◌, ◌<◌, ◌≤◌, ◌-◌, [], ◌∷◌, None, false, drop, length, OnOk, IfErr, IfSome};
+ghost use Rattle.std.specs.List.{AllByRecursion};
 ghost use Rattle.ii_codes.specs.Sums.{differences};
-ghost use Rattle.ii_recorder.specs.DocFreqs.{entries_of, located, position_count};
+ghost use Rattle.ii_recorder.specs.DocFreqs.{entries_of, located, open_entry, position_count};
 ghost use Rattle.ii_recorder.specs.Pushed.{MayPush, Pushes};
 ghost use Rattle.ii_recorder.specs.Recorded.{last_position};
 ghost use Rattle.ii_base.specs.declared.schema.index_record_option.IndexRecordOption.TheVariants.{WithFreqsAndPositions};
@@ -28,7 +29,8 @@ impl Model for TfAndPositionRecorder {
     ghost use Rattle.std.specs.Prelude.{◌≡◌, ◌+◌, drop, length, map, unwrap_or};
     ghost use Rattle.std.specs.Option.{option_map};
     ghost use Rattle.ii_base.specs.declared.schema.index_record_option.IndexRecordOption.TheVariants.{WithFreqsAndPositions};
-    ghost use Rattle.ii_recorder.specs.DocFreqs.{entries_of, located, position_count};
+    ghost use Rattle.ii_codes.specs.Sums.{DoNotFall};
+    ghost use Rattle.ii_recorder.specs.DocFreqs.{NoneFalls, entries_of, located, position_count};
     ghost use Rattle.ii_recorder.specs.Recorded.{RecorderState};
 
     ghost Value = { RecorderState };
@@ -39,7 +41,8 @@ impl Model for TfAndPositionRecorder {
       pending = option_map (λ d. located d (drop (position_count r.closed.items) r.positions.items)) r.pending;
     } };
 
-    ghost invariant = { λ r. length r.positions.items ≡ position_count r.closed.items + unwrap_or (option_map (λ d. d.term_freq) r.pending) 0 };
+    ghost invariant = { λ r. (length r.positions.items ≡ position_count r.closed.items + unwrap_or (option_map (λ d. d.term_freq) r.pending) 0)
+        × NoneFalls (entries_of r.closed.items r.positions.items) × DoNotFall 0 (drop (position_count r.closed.items) r.positions.items) };
 }
 
 impl TfAndPositionRecorder {
@@ -132,6 +135,39 @@ fn push_located_docs<W: Write>(
     Ok(())
 }
 
+// Pushes the open document, if there is one, whose positions are the last of a row.
+#[tactic(auto, using(crate::proofs::PushLemmas::pushes_none))]
+fn push_open_located_doc<W: Write>(
+    pending: Option<DocFreq>,
+    positions: &[u32],
+    deltas: &mut Vec<u32>,
+    serializer: &mut FieldSerializer<'_, W>,
+) -> Result<(), Fault>
+    requires unclosed { serializer.old.index.now.closed ≡ false }
+    requires within { IfSome pending (λ d. d.term_freq ≤ length positions.now) }
+    requires may { MayPush WithFreqsAndPositions serializer.old.index.now (open_entry pending positions.now) }
+    ensures same_reference { serializer.new.index.ghost_name ≡ serializer.old.index.ghost_name }
+    ensures pushes { Pushes WithFreqsAndPositions serializer.old.index.now serializer.new.index.now (open_entry pending positions.now) result }
+{
+    match pending {
+        Some(open) => {
+            let last = last_positions(positions, open.term_freq);
+            push_located_doc(open, last, deltas, serializer)
+        }
+        None => Ok(()),
+    }
+}
+
+// All positions.
+#[tactic(auto, using(ii_layout::proofs::ReadBackLemmas::fit_by))]
+fn row_of(positions: &[u32]) -> &[u32]
+    ensures value { result.now ≡ positions.now }
+    ensures fit { AllByRecursion (λ p. p < 2 ^ 32) positions.now }
+    ensures few { length positions.now < 2 ^ 64 }
+{
+    positions
+}
+
 // So many positions at the end of a row.
 fn last_positions(positions: &[u32], count: u32) -> &[u32]
     requires { count ≤ length positions.now }
@@ -194,17 +230,12 @@ impl Recorder for TfAndPositionRecorder {
         serializer: &mut FieldSerializer<'_, W>,
     ) -> Result<(), Fault> {
         let (_, deltas) = buffer_lender.lend_all();
-        let pushed = push_located_docs(&self.closed, &self.positions, deltas, serializer);
+        let positions = row_of(&self.positions);
+        let pushed = push_located_docs(&self.closed, positions, deltas, serializer);
         if pushed.is_err() {
             return pushed;
         }
-        match self.pending {
-            Some(open) => {
-                let positions = last_positions(&self.positions, open.term_freq);
-                push_located_doc(open, positions, deltas, serializer)
-            }
-            None => Ok(()),
-        }
+        push_open_located_doc(self.pending, positions, deltas, serializer)
     }
 
     fn term_doc_freq(&self) -> Option<u32> {

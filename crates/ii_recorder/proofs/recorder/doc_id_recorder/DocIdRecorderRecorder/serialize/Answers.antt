@@ -15,17 +15,17 @@ returns-then-is_err-clause-pushes g c =
     let pushes = rw c.deref.ensures.value at c.push_docs-pushed.ensures.pushes in
     rw (← c.self.view_is) (pushes_refused_by Basic c.args.serializer.now.index.now c.push_docs-pushed.new.serializer.index.now (map document c.self.inside.closed.items) (option_to_list (option_map document c.self.inside.pending)) c.push_docs-pushed.result refused pushes)
 
-pub push_doc-requires : goal.push_doc-requires
-push_doc-requires g c =
+pub push_open_doc-requires-clause-may : goal.push_open_doc-requires-clause-may
+push_open_doc-requires-clause-may g c =
     let went = sym c.if-is_err.false ∙ c.is_err.ensures.value in
     let pushes = rw c.deref.ensures.value at c.push_docs-pushed.ensures.pushes in
-    let may = rw (← c.self.view_is, c.in-Some.is) at c.requires in
+    let may = rw (← c.self.view_is) at c.requires in
     may_push_then Basic c.args.serializer.now.index.now c.push_docs-pushed.new.serializer.index.now (map document c.self.inside.closed.items) _ may
     (pushes_went Basic c.args.serializer.now.index.now c.push_docs-pushed.new.serializer.index.now (map document c.self.inside.closed.items) c.push_docs-pushed.result went pushes)
 
-pub returns-in-Some-clause-pushes : goal.returns-in-Some-clause-pushes
-returns-in-Some-clause-pushes g c =
+pub returns-clause-pushes : goal.returns-clause-pushes
+returns-clause-pushes g c =
     let went = sym c.if-is_err.false ∙ c.is_err.ensures.value in
     let pushes = rw c.deref.ensures.value at c.push_docs-pushed.ensures.pushes in
-    rw (← c.self.view_is, c.in-Some.is) (pushes_then Basic c.args.serializer.now.index.now c.push_docs-pushed.new.serializer.index.now c.push_doc.new.serializer.index.now (map document c.self.inside.closed.items) _ c.push_doc.result
-    (pushes_went Basic c.args.serializer.now.index.now c.push_docs-pushed.new.serializer.index.now (map document c.self.inside.closed.items) c.push_docs-pushed.result went pushes) c.push_doc.ensures.pushes)
+    rw (← c.self.view_is) (pushes_then Basic c.args.serializer.now.index.now c.push_docs-pushed.new.serializer.index.now c.push_open_doc.new.serializer.index.now (map document c.self.inside.closed.items) _ c.push_open_doc.result
+    (pushes_went Basic c.args.serializer.now.index.now c.push_docs-pushed.new.serializer.index.now (map document c.self.inside.closed.items) c.push_docs-pushed.result went pushes) c.push_open_doc.ensures.pushes)
