@@ -1,16 +1,28 @@
 -- What indexing a word and a text adds to a context.
-use Rattle.std.proofs.Common.{◌≡◌, ℕ, ◌+◌, ◌<◌, ◌^◌, Bool, true, false, List, [], ◌∷◌, ◌++◌, Ok, Err, refl, sym, subst}
-use Rattle.std.specs.Prelude.{if◌then◌else◌, nat_le, nat_lt}
+use Rattle.std.proofs.Common.{arith, append-nil, ◌==◌, ◌≤◌, ◌&&◌, ◌||◌, filter, map, length, ◌≡◌, ℕ, ◌+◌, ◌<◌, ◌^◌, Bool, true, false, List, [], ◌∷◌, ◌++◌, Some, None, Option, Ok, Err, Result, refl, sym, ap, ◌∙◌, subst, cond, max, inl, inr, append_assoc, ◌⊎◌}
+use Rattle.std.specs.Prelude.{IsTrue, MatchOption, count_by, find, unwrap_or, ⊤, if◌then◌else◌, nat_le, nat_lt}
+use Rattle.std.specs.Option.{option_or}
+use Rattle.std.proofs.lemmas.Bool.{and_parts, eq-eqb, leb-true}
+use Rattle.std.proofs.lemmas.List.Folds.{find-append}
+use Rattle.std.proofs.lemmas.List.Sums.{sum_by-append}
 use Rattle.ii_io.specs.declared.faults.Fault.{Fault}
+use Rattle.ii_io.specs.declared.faults.Fault.TheVariants.{Limit}
+use Rattle.ii_io.specs.declared.faults.LimitName.TheVariants as limit
 use Rattle.ii_base.specs.declared.schema.index_record_option.IndexRecordOption.{IndexRecordOption}
+use Rattle.ii_base.specs.declared.schema.index_record_option.IndexRecordOption.TheVariants.{Basic, WithFreqs, WithFreqsAndPositions}
+use Rattle.ii_base.specs.Options.{downgrade}
+use Rattle.ii_docset.specs.Entries.{Entry, ascend_from, docs_of}
 use Rattle.ii_base.specs.Words.{Word}
-use Rattle.ii_recorder.specs.Recorded.{u32_max}
-use Rattle.ii_index.specs.Tokens.{IndexToken, Piece}
-use Rattle.ii_indexing.specs.IndexingContext.{IsRecorded, TermIndex}
+use Rattle.ii_recorder.specs.Recorded.{RecorderState, begun, entries_in, position_fault, u32_max}
+use Rattle.ii_index.specs.Tokens.{IndexToken, Piece, word_token}
+use Rattle.ii_index.specs.Postings.{field_count, is_at, kind_of, postings_from, tokens_at}
+use Rattle.ii_indexing.specs.IndexingContext.{AllEndBy, EndsBy, IsRecorded, TermIndex, entry_at, new_recorder, record_fault, recorder_of, recorder_or_new}
 use Rattle.ii_indexing.specs.IndexingTerm.{IndexingTermState, term_bytes}
-use Rattle.ii_indexing.specs.PostingsWriter.{TextState, kept_fault, subscribe_fault, term_token, word_bytes, word_end}
-use Rattle.ii_indexing.specs.Records.{Records}
-use Rattle.ii_indexing.proofs.RecordsLaws.{records_more}
+use Rattle.ii_indexing.specs.PostingsWriter.{HasTokens, IndexesKept, PostingsWriterState, TextState, kept_fault, subscribe_fault, term_token, word_bytes, word_end}
+use Rattle.ii_indexing.specs.Records.{HasPostings, Records}
+use Rattle.ii_indexing.specs.Refusals.{open_entry, u64_max, word_fault}
+use Rattle.ii_indexing.proofs.RecordsLaws.{HasKey, records_more, tokens_at_last}
+use Rattle.ii_indexing.proofs.RecorderSteps.{IsOpenIn, open_in}
 
 pub records_subscribed : (option : IndexRecordOption) (doc position : ℕ) (term : IndexingTermState) (old new : TermIndex) → term.field < 2 ^ 32 → IsRecorded option doc position (term_bytes term) old new
     → (kind : ℕ → List ℕ → IndexRecordOption) (ts : List IndexToken) (of_text : Bool) → kind term.field term.value ≡ option → Records kind old ts → Records kind new (ts ++ term_token doc position of_text term ∷ [])
@@ -30,3 +42,101 @@ was_err false f e x is = absurd (cc)
 pub fitting_fault : (p : Piece) (begin : ℕ) (w : Word) (s : TextState) → nat_lt u32_max (word_end begin w) ≡ false → nat_le u32_max s.num_tokens ≡ false
     → kept_fault p begin w s ≡ subscribe_fault s.writer p.doc (begin + w.position) (word_bytes p w) s.terms
 fitting_fault p begin w s placed fits = rw (placed, fits) refl
+
+-- no document before the last one of ascending documents is that one or above it
+find_below : (least : ℕ) (es : List Entry) (last doc : ℕ) → IsTrue (ascend_from least (docs_of es ++ last ∷ [])) → last ≤ doc
+    → (find (λ (e : Entry). e.doc == doc) es ≡ None) × (least ≤ last)
+find_below least [] last doc h within =
+    let parts = and_parts (nat_le least last && nat_lt last 2147483647) true h in
+    let first = and_parts (nat_le least last) (nat_lt last 2147483647) parts.0 in
+    (refl, leb-true least last first.0)
+find_below least (e ∷ es) last doc h within =
+    let parts = and_parts (nat_le least e.doc && nat_lt e.doc 2147483647) (ascend_from (e.doc + 1) (docs_of es ++ last ∷ [])) h in
+    let first = and_parts (nat_le least e.doc) (nat_lt e.doc 2147483647) parts.0 in
+    let rest = find_below (e.doc + 1) es last doc parts.1 within in
+    let other : (e.doc == doc) ≡ false = grind (arith, rest.1, within) in
+    (rw other rest.0, omega (arith, leb-true least e.doc first.0, rest.1))
+
+entry_at_open : (doc : ℕ) (r : RecorderState) (e : Entry) (b : Bool) → r.pending ≡ Some e → (e.doc == doc) ≡ b → entry_at doc r ≡ cond b e (begun r.option doc)
+entry_at_open doc r e true is same = rw (is, same) refl
+entry_at_open doc r e false is other = rw (is, other) refl
+
+found_last : (doc : ℕ) (es : List Entry) (e other : Entry) (b : Bool) → find (λ (f : Entry). f.doc == doc) es ≡ None → (e.doc == doc) ≡ b → unwrap_or (find (λ (f : Entry). f.doc == doc) (es ++ e ∷ [])) other ≡ cond b e other
+found_last doc es e other true before same = rw (find-append (λ (f : Entry). f.doc == doc) es (e ∷ []), before, same) refl
+found_last doc es e other false before is = rw (find-append (λ (f : Entry). f.doc == doc) es (e ∷ []), before, is) refl
+
+-- what a recorder has of a document is what its entries have of it
+entry_found : (doc : ℕ) (r : RecorderState) → EndsBy doc r → entry_at doc r ≡ unwrap_or (find (λ (e : Entry). e.doc == doc) (entries_in r)) (begun r.option doc)
+entry_found doc r h =
+    let o = open_in doc r h in
+    let before = (find_below 0 r.closed o.entry.doc doc o.ascending o.within).0 in
+    entry_at_open doc r o.entry (o.entry.doc == doc) o.pending refl
+    ∙ sym (found_last doc r.closed o.entry (begun r.option doc) (o.entry.doc == doc) before refl)
+    ∙ ap (λ (es : List Entry). unwrap_or (find (λ (e : Entry). e.doc == doc) es) (begun r.option doc)) (sym o.entries)
+
+downgrade_same : (option : IndexRecordOption) → downgrade option option ≡ option
+downgrade_same Basic = refl
+downgrade_same WithFreqs = refl
+downgrade_same WithFreqsAndPositions = refl
+
+-- the recorder of a key, or a new one
+key_recorder : (option : IndexRecordOption) (ts : List IndexToken) (found : Option RecorderState) → HasKey option ts found → (unwrap_or found (new_recorder option)).option ≡ option
+key_recorder option ts None none = refl
+key_recorder option ts (Some r) h = h.kept
+
+key_entry : (option : IndexRecordOption) (doc : ℕ) (ts : List IndexToken) (found : Option RecorderState) → HasKey option ts found → MatchOption found ⊤ (EndsBy doc) → kind_of option ts ≡ option
+    → entry_at doc (unwrap_or found (new_recorder option)) ≡ unwrap_or (find (λ (e : Entry). e.doc == doc) (postings_from option option ts)) (begun option doc)
+key_entry option doc ts None none ends kind = rw none refl
+key_entry option doc ts (Some r) h ends kind =
+    rw (kind, downgrade_same option, ← h.entries, entry_found doc r ends, h.kept) refl
+
+three : (a b c : Bool) (first second third : Option Fault) → (if a then first else if b || c then second else third) ≡ (if a then first else if b then second else if c then second else third)
+three true b c first second third = refl
+three false true c first second third = refl
+three false false c first second third = refl
+
+-- why a word that is kept is refused, by the tokens that a context has
+pub kept_is : (kind : ℕ → List ℕ → IndexRecordOption) (p : Piece) (begin : ℕ) (w : Word) (s : TextState) (ts : List IndexToken) → p.field < 2 ^ 32
+    → AllEndBy p.doc s.terms → HasTokens kind p s.terms s.writer ts → word_fault s.writer.option p begin s.num_tokens ts w ≡ kept_fault p begin w s
+kept_is kind p begin w s ts low ends h =
+    let key = p.prefix ++ w.text in
+    let found = recorder_of s.terms (word_bytes p w) in
+    let known : HasKey s.writer.option (tokens_at p.field key ts) found = subst (λ (o : IndexRecordOption). HasKey o (tokens_at p.field key ts) found) (h.kinds w.text) (h.records p.field key low) in
+    let entry = key_entry s.writer.option p.doc (tokens_at p.field key ts) found known (ends (word_bytes p w)) (h.of_text w.text) in
+    let option = key_recorder s.writer.option (tokens_at p.field key ts) found known in
+    let fault = position_fault s.writer.option (begin + w.position) (open_entry s.writer.option (word_token p begin w) ts) in
+    let many = nat_le u64_max (field_count p.field ts) in
+    let r = recorder_or_new s.writer.option s.terms (word_bytes p w) in
+    let inner : subscribe_fault s.writer p.doc (begin + w.position) (word_bytes p w) s.terms ≡ (if many then Some (Limit limit.Tokens) else fault) =
+        ap (λ (n : ℕ). if nat_le u64_max n then Some (Limit limit.Tokens) else record_fault p.doc (begin + w.position) r) h.counted
+        ∙ ap (λ (o : IndexRecordOption). if many then Some (Limit limit.Tokens) else position_fault o (begin + w.position) (entry_at p.doc r)) option
+        ∙ ap (λ (e : Entry). if many then Some (Limit limit.Tokens) else position_fault s.writer.option (begin + w.position) e) entry in
+    three (nat_lt u32_max (word_end begin w)) (nat_le u32_max s.num_tokens) (nat_le u64_max (field_count p.field ts)) (Some (Limit limit.Position)) (Some (Limit limit.Tokens)) fault
+    ∙ ap (λ (rest : Option Fault). if nat_lt u32_max (word_end begin w) then Some (Limit limit.Position) else if nat_le u32_max s.num_tokens then Some (Limit limit.Tokens) else rest) (sym inner)
+
+kind_of_more : (option : IndexRecordOption) (ts : List IndexToken) (t : IndexToken) → t.of_text ≡ true → kind_of option ts ≡ option → kind_of option (ts ++ t ∷ []) ≡ option
+kind_of_more option [] t text known = rw text refl
+kind_of_more option (u ∷ ts) t text known = known
+
+kind_after : (option : IndexRecordOption) (field : ℕ) (key : List ℕ) (ts : List IndexToken) (t : IndexToken) (b : Bool) → is_at field key t ≡ b → t.of_text ≡ true → kind_of option (tokens_at field key ts) ≡ option
+    → kind_of option (tokens_at field key (ts ++ t ∷ [])) ≡ option
+kind_after option field key ts t true at text known = rw (tokens_at_last field key ts t true at) (kind_of_more option (tokens_at field key ts) t text known)
+kind_after option field key ts t false at text known = rw (tokens_at_last field key ts t false at, append-nil (tokens_at field key ts)) known
+
+-- one more token of a field
+pub field_count_more : (field : ℕ) (ts : List IndexToken) (t : IndexToken) → t.field ≡ field → field_count field (ts ++ t ∷ []) ≡ field_count field ts + 1
+field_count_more field ts t at = sum_by-append (λ (u : IndexToken). cond (u.field == field) 1 0) ts (t ∷ []) ∙ rw (eq-eqb t.field field at) refl
+
+-- the tokens of a context with one word more
+tokens_more : (kind : ℕ → List ℕ → IndexRecordOption) (p : Piece) (begin : ℕ) (w : Word) (old new : TextState) (ts : List IndexToken) → p.is_text ≡ true → p.field < 2 ^ 32
+    → IndexesKept p begin w old new → HasTokens kind p old.terms old.writer ts → HasTokens kind p new.terms new.writer (ts ++ word_token p begin w ∷ [])
+tokens_more kind p begin w old new ts text low h known =
+    let t = word_token p begin w in
+    let option : new.writer.option ≡ old.writer.option = ap (λ (s : PostingsWriterState). s.option) h.writer in
+    let total : new.writer.total_num_tokens ≡ old.writer.total_num_tokens + 1 = ap (λ (s : PostingsWriterState). s.total_num_tokens) h.writer in
+    record {
+      records = records_more kind old.terms new.terms ts t low (subst (λ (o : IndexRecordOption). IsRecorded o p.doc (begin + w.position) (word_bytes p w) old.terms new.terms) (sym (known.kinds w.text)) h.recorded) known.records;
+      kinds = λ key. known.kinds key ∙ sym option;
+      of_text = λ key. rw option (kind_after old.writer.option p.field (p.prefix ++ key) ts t (is_at p.field (p.prefix ++ key) t) refl refl (known.of_text key));
+      counted = total ∙ ap (λ (n : ℕ). n + 1) known.counted ∙ sym (field_count_more p.field ts t refl);
+    }
