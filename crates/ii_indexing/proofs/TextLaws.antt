@@ -19,10 +19,11 @@ use Rattle.ii_recorder.specs.Recorded.{RecorderState, begun, entries_in, positio
 use Rattle.ii_index.specs.Tokens.{IndexToken, Piece, kept_words, max_token_len, word_token}
 use Rattle.ii_index.specs.Postings.{field_count, is_at, kind_of, postings_from, tokens_at}
 use Rattle.ii_indexing.specs.IndexingContext.{AllEndBy, EndsBy, IsRecorded, TermIndex, entry_at, new_recorder, record_fault, recorder_of, recorder_or_new}
+use Rattle.ii_indexing.specs.declared.indexing_position.IndexingPosition.{IndexingPosition}
 use Rattle.ii_indexing.specs.IndexingTerm.{IndexingTermState, term_bytes}
-use Rattle.ii_indexing.specs.PostingsWriter.{RefusesWords, IndexesWords, text_piece, tokens_counted, HasTokens, IndexesKept, PostingsWriterState, TextState, kept_fault, subscribe_fault, term_token, word_bytes, word_end}
+use Rattle.ii_indexing.specs.PostingsWriter.{text_fault, RefusesWords, IndexesWords, text_piece, tokens_counted, HasTokens, IndexesKept, PostingsWriterState, TextState, kept_fault, subscribe_fault, term_token, word_bytes, word_end}
 use Rattle.ii_indexing.specs.Records.{HasPostings, Records}
-use Rattle.ii_indexing.specs.Refusals.{IsRefusedBy, open_entry, first_fault, u64_max, word_fault, words_fault}
+use Rattle.ii_indexing.specs.Refusals.{IsRefusedBy, gap_fault, open_entry, first_fault, u64_max, word_fault, words_fault}
 use Rattle.ii_indexing.proofs.RecordsLaws.{HasKey, records_more, tokens_at_last}
 use Rattle.ii_indexing.proofs.RecorderSteps.{IsOpenIn, open_in}
 
@@ -279,3 +280,17 @@ word_refused p begin all rest after w old mid fault h is refused =
 pub first_of : (rest : List Word) (w : Word) → slice_get rest 0 ≡ Some w → rest ≡ w ∷ drop 1 rest
 first_of [] w is = absurd (cc)
 first_of (x ∷ xs) w is = ap (λ (y : Word). y ∷ xs) (cc)
+
+-- the gap after words
+pub gap_after : (begin end : ℕ) (ws : List Word) (b : Bool) → end ≡ fold (λ (e : ℕ) (w : Word). max e (word_end begin w)) begin (kept_words ws) → nat_lt u32_max (end + 1) ≡ b → gap_fault begin ws ≡ (if b then Some (Limit limit.Position) else None)
+gap_after begin end ws b is over = ap (λ (e : ℕ). if nat_lt u32_max (e + 1) then Some (Limit limit.Position) else None) (sym is) ∙ ap (λ (c : Bool). if c then Some (Limit limit.Position) else None) over
+
+-- a text ends as its words do, or else as its gap
+pub words_refused : (option : IndexRecordOption) (p : Piece) (at : IndexingPosition) (ts : List IndexToken) (fault : Fault)
+    → (fault ≡ OutOfMemory) ⊎ (words_fault option p at.end_position at.num_tokens ts (kept_words p.words) ≡ Some fault) → (fault ≡ OutOfMemory) ⊎ (text_fault option p at ts ≡ Some fault)
+words_refused option p at ts fault (inl memory) = inl memory
+words_refused option p at ts fault (inr cause) = inr (ap (λ (c : Option Fault). first_fault c (gap_fault at.end_position p.words)) cause)
+
+pub text_ends : (option : IndexRecordOption) (p : Piece) (at : IndexingPosition) (ts : List IndexToken) (cause : Option Fault)
+    → words_fault option p at.end_position at.num_tokens ts (kept_words p.words) ≡ None → gap_fault at.end_position p.words ≡ cause → text_fault option p at ts ≡ cause
+text_ends option p at ts cause words gap = ap (λ (c : Option Fault). first_fault c (gap_fault at.end_position p.words)) words ∙ gap
