@@ -5,6 +5,7 @@ use Rattle.ii_io.specs.declared.faults.Fault.{Fault}
 use Rattle.ii_io.specs.declared.faults.Fault.TheVariants.{Limit, OutOfMemory}
 use Rattle.ii_io.specs.declared.faults.LimitName.TheVariants as limit
 use Rattle.ii_base.specs.declared.schema.index_record_option.IndexRecordOption.{IndexRecordOption}
+use Rattle.ii_base.specs.Schema.{Entry}
 use Rattle.ii_base.specs.Words.{Word}
 use Rattle.ii_recorder.specs.Recorded.{u32_max}
 use Rattle.ii_index.specs.Tokens.{IndexToken, Piece, kept_words, word_token}
@@ -19,6 +20,10 @@ use Rattle.ii_indexing.specs.Refusals.{first_fault, gap_fault, u64_max, words_fa
 pub record PostingsWriterState : Type 0 where
   pub option : IndexRecordOption
   pub total_num_tokens : ℕ
+
+-- a writer of no tokens for each field of a schema
+abbrev pub writers_of : List Entry → List PostingsWriterState
+writers_of entries = map (λ (e : Entry). record { option = e.option; total_num_tokens = 0 }) entries
 
 -- so many more tokens
 abbrev pub tokens_counted : ℕ → PostingsWriterState → PostingsWriterState

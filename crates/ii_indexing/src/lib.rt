@@ -6,6 +6,7 @@ pub mod indexing_context;
 pub mod indexing_position;
 pub mod indexing_term;
 pub mod path_to_unordered_id;
+pub mod per_field_postings_writer;
 pub mod postings_writer;
 #[cfg(test)]
 mod tests;
@@ -14,4 +15,5 @@ pub use indexing_context::IndexingContext;
 pub use indexing_position::IndexingPosition;
 pub use indexing_term::{IndexingTerm, IndexingTermRef};
 pub use path_to_unordered_id::OrderedPathId;
+pub use per_field_postings_writer::PerFieldPostingsWriter;
 pub use postings_writer::{PostingsWriter, SpecializedPostingsWriter};
