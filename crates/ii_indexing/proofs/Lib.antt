@@ -1,3 +1,4 @@
+pub mod FieldLists
 pub mod PostingsLaws
 pub mod RecorderSteps
 pub mod RecordsLaws

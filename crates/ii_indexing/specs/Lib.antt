@@ -1,3 +1,4 @@
+pub mod IndexCalls
 pub mod IndexingContext
 pub mod IndexingTerm
 pub mod Lending

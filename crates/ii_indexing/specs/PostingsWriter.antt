@@ -21,9 +21,12 @@ pub record PostingsWriterState : Type 0 where
   pub option : IndexRecordOption
   pub total_num_tokens : ℕ
 
--- a writer of no tokens for each field of a schema
+-- a writer of no tokens, by what a field records
+abbrev pub writer_of : Entry → PostingsWriterState
+writer_of e = record { option = e.option; total_num_tokens = 0 }
+
 abbrev pub writers_of : List Entry → List PostingsWriterState
-writers_of entries = map (λ (e : Entry). record { option = e.option; total_num_tokens = 0 }) entries
+writers_of entries = map writer_of entries
 
 -- so many more tokens
 abbrev pub tokens_counted : ℕ → PostingsWriterState → PostingsWriterState

@@ -2,6 +2,7 @@
 //! texts.
 #![tactic(auto)]
 
+pub mod index_call;
 pub mod indexing_context;
 pub mod indexing_position;
 pub mod indexing_term;
@@ -11,6 +12,7 @@ pub mod postings_writer;
 #[cfg(test)]
 mod tests;
 
+pub use index_call::IndexCall;
 pub use indexing_context::IndexingContext;
 pub use indexing_position::IndexingPosition;
 pub use indexing_term::{IndexingTerm, IndexingTermRef};
