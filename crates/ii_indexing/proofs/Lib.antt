@@ -1,3 +1,4 @@
+pub mod ByFieldLemmas
 pub mod FieldLists
 pub mod PostingsLaws
 pub mod RecorderSteps

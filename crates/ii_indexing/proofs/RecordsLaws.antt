@@ -86,7 +86,7 @@ same_term t field key low high =
         let parts = and_parts (t.field == field) (bytes_eq t.key key) holds in
         d.1 (cc (eqb-true t.field field parts.0, (bytes_eq-Decides t.key key).0 parts.1)))
 
-tokens_at_last : (field : ℕ) (key : List ℕ) (ts : List IndexToken) (t : IndexToken) (b : Bool) → is_at field key t ≡ b → tokens_at field key (ts ++ t ∷ []) ≡ tokens_at field key ts ++ cond b (t ∷ []) []
+pub tokens_at_last : (field : ℕ) (key : List ℕ) (ts : List IndexToken) (t : IndexToken) (b : Bool) → is_at field key t ≡ b → tokens_at field key (ts ++ t ∷ []) ≡ tokens_at field key ts ++ cond b (t ∷ []) []
 tokens_at_last field key ts t true is = tokens_at-append field key ts (t ∷ []) ∙ rw is refl
 tokens_at_last field key ts t false is = tokens_at-append field key ts (t ∷ []) ∙ rw is refl
 

@@ -1,6 +1,8 @@
+pub mod IndexCalls
 pub mod IndexingContext
 pub mod IndexingTerm
 pub mod Lending
+pub mod LendingWriters
 pub mod Norms
 pub mod PostingsWriter
 pub mod Records

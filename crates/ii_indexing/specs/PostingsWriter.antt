@@ -5,23 +5,32 @@ use Rattle.ii_io.specs.declared.faults.Fault.{Fault}
 use Rattle.ii_io.specs.declared.faults.Fault.TheVariants.{Limit, OutOfMemory}
 use Rattle.ii_io.specs.declared.faults.LimitName.TheVariants as limit
 use Rattle.ii_base.specs.declared.schema.index_record_option.IndexRecordOption.{IndexRecordOption}
+use Rattle.ii_base.specs.Schema.{Entry}
 use Rattle.ii_base.specs.Words.{Word}
 use Rattle.ii_recorder.specs.Recorded.{u32_max}
 use Rattle.ii_index.specs.Tokens.{IndexToken, Piece, kept_words, word_token}
 use Rattle.ii_index.specs.Postings.{field_count, kind_of, tokens_at}
 use Rattle.ii_indexing.specs.IndexingContext.{AllEndBy, IsRecorded, TermIndex, record_fault, recorder_or_new}
+use Rattle.ii_indexing.specs.declared.indexing_position.IndexingPosition.{IndexingPosition}
 use Rattle.ii_indexing.specs.IndexingTerm.{IndexingTermState, field_bytes}
 use Rattle.ii_indexing.specs.Records.{Records}
-use Rattle.ii_indexing.specs.Refusals.{u64_max, words_fault}
+use Rattle.ii_indexing.specs.Refusals.{first_fault, gap_fault, u64_max, words_fault}
 
 -- What a postings writer keeps of a term, and how many tokens it had.
 pub record PostingsWriterState : Type 0 where
   pub option : IndexRecordOption
   pub total_num_tokens : ℕ
 
--- one more token
-abbrev pub token_counted : PostingsWriterState → PostingsWriterState
-token_counted w = record w { total_num_tokens = w.total_num_tokens + 1 }
+-- a writer of no tokens, by what a field records
+abbrev pub writer_of : Entry → PostingsWriterState
+writer_of e = record { option = e.option; total_num_tokens = 0 }
+
+abbrev pub writers_of : List Entry → List PostingsWriterState
+writers_of entries = map writer_of entries
+
+-- so many more tokens
+abbrev pub tokens_counted : ℕ → PostingsWriterState → PostingsWriterState
+tokens_counted n w = record w { total_num_tokens = w.total_num_tokens + n }
 
 -- the token of a term
 abbrev pub term_token : ℕ → ℕ → Bool → IndexingTermState → IndexToken
@@ -39,6 +48,9 @@ pub record TextState : Type 0 where
   pub writer : PostingsWriterState
   pub num_tokens : ℕ
   pub end_position : ℕ
+
+abbrev pub text_state : TermIndex → PostingsWriterState → IndexingPosition → TextState
+text_state terms w at = record { terms = terms; writer = w; num_tokens = at.num_tokens; end_position = at.end_position }
 
 -- a text of a document, whose words stand under keys that begin with the value of a term
 abbrev pub text_piece : ℕ → IndexingTermState → List Word → Piece
@@ -63,7 +75,7 @@ kept_fault p begin w s =
 pub record IndexesKept (p : Piece) (begin : ℕ) (w : Word) (old new : TextState) : Type 0 where
   pub recorded : IsRecorded old.writer.option p.doc (begin + w.position) (word_bytes p w) old.terms new.terms
   pub ends : AllEndBy p.doc new.terms
-  pub writer : new.writer ≡ token_counted old.writer
+  pub writer : new.writer ≡ tokens_counted 1 old.writer
   pub num_tokens : new.num_tokens ≡ old.num_tokens + 1
   pub end_position : new.end_position ≡ max old.end_position (word_end begin w)
 
@@ -74,17 +86,21 @@ pub record HasTokens (kind : ℕ → List ℕ → IndexRecordOption) (p : Piece)
   pub of_text : (key : List ℕ) → kind_of w.option (tokens_at p.field (p.prefix ++ key) ts) ≡ w.option
   pub counted : w.total_num_tokens ≡ field_count p.field ts
 
--- Words of a text were indexed, the long ones left out.
+-- Words of a text that are kept were indexed, one after the other.
 pub record IndexesWords (p : Piece) (begin : ℕ) (ws : List Word) (old new : TextState) : Type 0 where
   pub tokens : (kind : ℕ → List ℕ → IndexRecordOption) (ts : List IndexToken) → HasTokens kind p old.terms old.writer ts
-      → HasTokens kind p new.terms new.writer (ts ++ map (word_token p begin) (kept_words ws)) × (words_fault old.writer.option p begin old.num_tokens ts (kept_words ws) ≡ None)
+      → HasTokens kind p new.terms new.writer (ts ++ map (word_token p begin) ws) × (words_fault old.writer.option p begin old.num_tokens ts ws ≡ None)
   pub ends : AllEndBy p.doc new.terms
-  pub writer : new.writer ≡ record old.writer { total_num_tokens = old.writer.total_num_tokens + length (kept_words ws) }
-  pub num_tokens : new.num_tokens ≡ old.num_tokens + length (kept_words ws)
-  pub end_position : new.end_position ≡ fold (λ (end : ℕ) (w : Word). max end (word_end begin w)) old.end_position (kept_words ws)
+  pub writer : new.writer ≡ tokens_counted (length ws) old.writer
+  pub num_tokens : new.num_tokens ≡ old.num_tokens + length ws
+  pub end_position : new.end_position ≡ fold (λ (end : ℕ) (w : Word). max end (word_end begin w)) old.end_position ws
 
--- Words of a text were refused, for want of memory or by the first fault.
+-- Such words were refused, for want of memory or by the first fault.
 abbrev pub RefusesWords : Piece → ℕ → List Word → TextState → Fault → Type 0
 RefusesWords p begin ws old fault =
     (kind : ℕ → List ℕ → IndexRecordOption) (ts : List IndexToken) → HasTokens kind p old.terms old.writer ts
-    → (fault ≡ OutOfMemory) ⊎ (words_fault old.writer.option p begin old.num_tokens ts (kept_words ws) ≡ Some fault)
+    → (fault ≡ OutOfMemory) ⊎ (words_fault old.writer.option p begin old.num_tokens ts ws ≡ Some fault)
+
+-- why a text is refused that stands behind the texts of a document, after tokens: its first word that is, or the gap
+abbrev pub text_fault : IndexRecordOption → Piece → IndexingPosition → List IndexToken → Option Fault
+text_fault option p at ts = first_fault (words_fault option p at.end_position at.num_tokens ts (kept_words p.words)) (gap_fault at.end_position p.words)

@@ -2,18 +2,22 @@
 //! texts.
 #![tactic(auto)]
 
+pub mod index_call;
 pub mod indexing_context;
 pub mod indexing_position;
 pub mod indexing_term;
 pub mod path_to_unordered_id;
+pub mod per_field_postings_writer;
 pub mod postings_writer;
 mod serialize_postings;
 pub mod sorted_terms;
 #[cfg(test)]
 mod tests;
 
+pub use index_call::IndexCall;
 pub use indexing_context::IndexingContext;
 pub use indexing_position::IndexingPosition;
 pub use indexing_term::{IndexingTerm, IndexingTermRef};
 pub use path_to_unordered_id::OrderedPathId;
+pub use per_field_postings_writer::PerFieldPostingsWriter;
 pub use postings_writer::{PostingsWriter, SpecializedPostingsWriter};

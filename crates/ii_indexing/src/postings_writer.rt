@@ -1,12 +1,12 @@
-ghost use Rattle.std.specs.Prelude.{◌≡◌, ◌≤◌, ◌<◌, ◌+◌, ◌++◌, ◌∷◌, ◌^◌, [], ℕ, List, Bool, length, max, map, nat_le, nat_lt, if◌then◌else◌, Some, None, IfErr, IfOk, OnErr, OnOk};
+ghost use Rattle.std.specs.Prelude.{◌≡◌, ◌≤◌, ◌<◌, ◌+◌, ◌++◌, ◌∷◌, ◌^◌, [], ℕ, List, Bool, length, max, map, nat_le, nat_lt, if◌then◌else◌, true, Err, Ok, Some, None, IfErr, IfOk, OnErr, OnOk};
 ghost use Rattle.ii_io.specs.declared.faults.LimitName.TheVariants as limit;
 ghost use Rattle.ii_base.specs.Words.{Word, word_of};
 ghost use Rattle.ii_docset.specs.declared.docset.TheConstants.{TERMINATED};
 ghost use Rattle.ii_recorder.specs.Recorded.{u32_max};
-ghost use Rattle.ii_index.specs.Tokens.{IndexToken};
+ghost use Rattle.ii_index.specs.Tokens.{IndexToken, end_after, kept_words, piece_tokens_from};
 ghost use Rattle.ii_indexing.specs.IndexingContext.{AllEndBy, IsRecorded};
 ghost use Rattle.ii_indexing.specs.IndexingTerm.{field_bytes, term_bytes};
-ghost use Rattle.ii_indexing.specs.PostingsWriter.{HasTokens, IndexesKept, IndexesWords, PostingsWriterState, RefusesWords, TextState, kept_fault, subscribe_fault, term_token, text_piece, token_counted, word_end};
+ghost use Rattle.ii_indexing.specs.PostingsWriter.{HasTokens, IndexesKept, IndexesWords, PostingsWriterState, RefusesWords, TextState, kept_fault, subscribe_fault, term_token, text_fault, text_piece, text_state, tokens_counted};
 ghost use Rattle.ii_indexing.specs.Records.{Records};
 ghost use Rattle.ii_indexing.specs.Refusals.{IsRefusedBy, gap_fault, words_fault, first_fault};
 
@@ -47,8 +47,41 @@ pub trait PostingsWriter: Drop {
         ensures ends { OnOk result (AllEndBy doc ctx.new) }
         ensures tokens { OnOk result ((kind : ℕ → List ℕ → IndexRecordOption) (ts : List IndexToken) (of_text : Bool)
             → kind term.now.field term.now.value ≡ (state self.old).option → Records kind ctx.old ts → Records kind ctx.new (ts ++ term_token doc pos of_text term.now ∷ [])) }
-        ensures counted { OnOk result (state self.new ≡ token_counted (state self.old)) }
+        ensures counted { OnOk result (state self.new ≡ tokens_counted 1 (state self.old)) }
         ensures refused { IsRefusedBy (subscribe_fault (state self.old) doc pos (term_bytes term.now) ctx.old) result };
+
+    /// Indexes the tokens of a text that are still to come, under the terms that the buffer's value and
+    /// their own bytes make, in a document that isn't below those before. They stand behind the texts
+    /// of `indexing_position`, which then has this one too, with a gap of 1 after it. A token of more
+    /// than `MAX_TOKEN_LEN` bytes is left out.
+    ///
+    /// Token by token, `Limit(Position)` where it starts or ends above `u32::MAX`, `Limit(Tokens)` for
+    /// more than `u32::MAX` tokens of these texts or more than `u64::MAX` of the writer, and then what
+    /// the term's recorder says; in the end `Limit(Position)` where the gap ends above `u32::MAX`; the
+    /// first of these alone. `OutOfMemory` where there is no room. Nothing is said of the context after a
+    /// fault.
+    fn index_text<S: TokenStream>(
+        &mut self,
+        doc_id: DocId,
+        token_stream: &mut S,
+        term_buffer: &mut IndexingTerm,
+        ctx: &mut IndexingContext,
+        indexing_position: &mut IndexingPosition,
+    ) -> Result<(), Fault>
+        requires low { doc_id < TERMINATED }
+        requires ends { AllEndBy doc_id ctx.old }
+        ensures tokens { OnOk result ((kind : ℕ → List ℕ → IndexRecordOption) (ts : List IndexToken)
+            → let p = text_piece doc_id term_buffer.old (S.to_come token_stream.old) in HasTokens kind p ctx.old (state self.old) ts
+            → HasTokens kind p ctx.new (state self.new) (ts ++ piece_tokens_from true indexing_position.old.end_position p)) }
+        ensures ends { OnOk result (AllEndBy doc_id ctx.new) }
+        ensures counted { OnOk result (state self.new ≡ tokens_counted (length (kept_words (S.to_come token_stream.old))) (state self.old)) }
+        ensures num_tokens { OnOk result (indexing_position.new.num_tokens ≡ indexing_position.old.num_tokens + length (kept_words (S.to_come token_stream.old))) }
+        ensures end_position { OnOk result (indexing_position.new.end_position ≡ end_after indexing_position.old.end_position (S.to_come token_stream.old)) }
+        ensures same_term { OnOk result (term_buffer.new ≡ term_buffer.old) }
+        ensures ended { OnOk result (S.to_come token_stream.new ≡ []) }
+        ensures refused { (kind : ℕ → List ℕ → IndexRecordOption) (ts : List IndexToken)
+            → let p = text_piece doc_id term_buffer.old (S.to_come token_stream.old) in HasTokens kind p ctx.old (state self.old) ts
+            → IsRefusedBy (text_fault (state self.old).option p indexing_position.old ts) result };
 
     /// How many tokens it had.
     fn total_num_tokens(&self) -> u64
@@ -94,7 +127,7 @@ impl SpecializedPostingsWriter {
         requires ends { AllEndBy doc ctx.old }
         ensures recorded { OnOk result (IsRecorded self.old.option doc pos (field_bytes term.old.field ++ (term.old.value ++ word.now)) ctx.old ctx.new) }
         ensures ends { OnOk result (AllEndBy doc ctx.new) }
-        ensures counted { OnOk result (self.new ≡ token_counted self.old) }
+        ensures counted { OnOk result (self.new ≡ tokens_counted 1 self.old) }
         ensures refused { IsRefusedBy (subscribe_fault self.old doc pos (field_bytes term.old.field ++ (term.old.value ++ word.now)) ctx.old) result }
         ensures same_term { OnOk result (term.new ≡ term.old) }
     {
@@ -117,18 +150,61 @@ impl SpecializedPostingsWriter {
     ) -> Result<(), Fault>
         requires low { doc < TERMINATED }
         requires ends { AllEndBy doc ctx.old }
-        ensures indexed { OnOk result (IndexesKept (text_piece doc term.old []) begin (word_of token.now)
-            (record { terms = ctx.old; writer = self.old; num_tokens = at.old.num_tokens; end_position = at.old.end_position })
-            (record { terms = ctx.new; writer = self.new; num_tokens = at.new.num_tokens; end_position = at.new.end_position })) }
+        ensures indexed { OnOk result (IndexesKept (text_piece doc term.old []) begin (word_of token.now) (text_state ctx.old self.old at.old) (text_state ctx.new self.new at.new)) }
         ensures same_term { OnOk result (term.new ≡ term.old) }
-        ensures refused { IsRefusedBy (kept_fault (text_piece doc term.old []) begin (word_of token.now)
-            (record { terms = ctx.old; writer = self.old; num_tokens = at.old.num_tokens; end_position = at.old.end_position })) result }
+        ensures refused { IsRefusedBy (kept_fault (text_piece doc term.old []) begin (word_of token.now) (text_state ctx.old self.old at.old)) result }
     {
         let (position, end) = token_place(begin, token.position, token.position_length)?;
         let num_tokens = one_more(at.num_tokens)?;
         self.subscribe_word(doc, position, token.text.as_bytes(), term, ctx)?;
         at.num_tokens = num_tokens;
         at.end_position = at.end_position.max(end);
+        Ok(())
+    }
+
+    // Indexes a word, unless it is too long.
+    fn index_word(
+        &mut self,
+        doc: DocId,
+        token: &Token,
+        begin: u32,
+        term: &mut IndexingTerm,
+        ctx: &mut IndexingContext,
+        at: &mut IndexingPosition,
+    ) -> Result<(), Fault>
+        requires low { doc < TERMINATED }
+        requires ends { AllEndBy doc ctx.old }
+        ensures indexed { OnOk result ((words : List Word) → IndexesWords (text_piece doc term.old words) begin (kept_words (word_of token.now ∷ [])) (text_state ctx.old self.old at.old) (text_state ctx.new self.new at.new)) }
+        ensures same_term { OnOk result (term.new ≡ term.old) }
+        ensures refused { IfErr result (λ e. (words : List Word) → RefusesWords (text_piece doc term.old words) begin (kept_words (word_of token.now ∷ [])) (text_state ctx.old self.old at.old) e) }
+    {
+        let _field = term.field().field_id();
+        if token.text.len() > MAX_TOKEN_LEN {
+            return Ok(());
+        }
+        self.index_kept(doc, token, begin, term, ctx, at)
+    }
+
+    // Indexes the words that are still to come of a text.
+    fn index_words<S: TokenStream>(
+        &mut self,
+        doc: DocId,
+        token_stream: &mut S,
+        begin: u32,
+        term: &mut IndexingTerm,
+        ctx: &mut IndexingContext,
+        at: &mut IndexingPosition,
+    ) -> Result<(), Fault>
+        requires low { doc < TERMINATED }
+        requires ends { AllEndBy doc ctx.old }
+        ensures indexed { OnOk result (IndexesWords (text_piece doc term.old (S.to_come token_stream.old)) begin (kept_words (S.to_come token_stream.old)) (text_state ctx.old self.old at.old) (text_state ctx.new self.new at.new)) }
+        ensures same_term { OnOk result (term.new ≡ term.old) }
+        ensures ended { OnOk result (S.to_come token_stream.new ≡ []) }
+        ensures refused { IfErr result (λ e. RefusesWords (text_piece doc term.old (S.to_come token_stream.old)) begin (kept_words (S.to_come token_stream.old)) (text_state ctx.old self.old at.old) e) }
+    {
+        while token_stream.advance() {
+            self.index_word(doc, token_stream.token(), begin, term, ctx, at)?;
+        }
         Ok(())
     }
 }
@@ -150,6 +226,20 @@ impl PostingsWriter for SpecializedPostingsWriter {
         }
         ctx.record(self.option, term.serialized_term(), doc, pos)?;
         self.total_num_tokens += 1;
+        Ok(())
+    }
+
+    fn index_text<S: TokenStream>(
+        &mut self,
+        doc_id: DocId,
+        token_stream: &mut S,
+        term_buffer: &mut IndexingTerm,
+        ctx: &mut IndexingContext,
+        indexing_position: &mut IndexingPosition,
+    ) -> Result<(), Fault> {
+        let begin = indexing_position.end_position;
+        self.index_words(doc_id, token_stream, begin, term_buffer, ctx, indexing_position)?;
+        indexing_position.end_position = next_text(indexing_position.end_position)?;
         Ok(())
     }
 
@@ -180,4 +270,14 @@ fn one_more(num_tokens: u32) -> Result<u32, Fault>
         return Err(Fault::Limit(LimitName::Tokens));
     }
     Ok(num_tokens + 1)
+}
+
+// Where the next text begins, after one that ends here.
+fn next_text(end: u32) -> Result<u32, Fault>
+    ensures { result ≡ (if nat_lt u32_max (end + 1) then Err (Fault.Limit limit.Position) else Ok (end + 1)) }
+{
+    if end > u32::MAX - POSITION_GAP {
+        return Err(Fault::Limit(LimitName::Position));
+    }
+    Ok(end + POSITION_GAP)
 }

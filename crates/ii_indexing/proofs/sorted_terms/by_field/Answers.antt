@@ -1,5 +1,5 @@
 use Rattle.std.proofs.Common.{◌∙◌, sym}
-use Rattle.ii_indexing.proofs.FieldLists.{added, known_at, none_at_first, seen_at}
+use Rattle.ii_indexing.proofs.ByFieldLemmas.{added, known_at, none_at_first, seen_at}
 use Rattle.ii_indexing.specs.SortedTerms.{seen}
 use Rattle.ii_indexing.proofs.sorted_terms.by_field.Goals as goal
 
