@@ -1,5 +1,6 @@
 pub mod ByFieldLemmas
 pub mod FieldLists
+pub mod PartLemmas
 pub mod PostingsLaws
 pub mod RecorderSteps
 pub mod RecordsLaws

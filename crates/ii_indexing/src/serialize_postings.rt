@@ -8,11 +8,14 @@ ghost use Rattle.ii_recorder.specs.IndexBodies.{AddsBodies, IndexBodiesState, La
 ghost use Rattle.ii_recorder.specs.IndexSerializer.{IsWriting};
 ghost use Rattle.ii_recorder.specs.Terms.{WrittenTerm, field_bodies};
 ghost use Rattle.ii_recorder.specs.HeldTerms.{HoldsTerms};
+ghost use Rattle.ii_indexing.specs.FieldParts.{AreShortNorms, FieldPart, HasFields, parts_of, tokens_in};
 ghost use Rattle.ii_indexing.specs.SortedTerms.{IsWritable, TermState, state_of, written_of};
 
-use crate::sorted_terms::TermOfField;
+use crate::per_field_postings_writer::PerFieldPostingsWriter;
+use crate::postings_writer::PostingsWriter;
+use crate::sorted_terms::{FieldTerms, TermOfField};
 use ii_base::{Fault, Field};
-use ii_fieldnorm::FieldNormReader;
+use ii_fieldnorm::{FieldNormReader, FieldNormReaders};
 use ii_recorder::{AnyRecorder, BufferLender, FieldSerializer, InvertedIndexSerializer, Recorder};
 use std::io::Write;
 
@@ -68,4 +71,41 @@ fn serialize_field<W: Write>(
         serialize_one_term(term.key, term.recorder, buffer_lender, &mut serializer)?;
     }
     serializer.close()
+}
+
+// Writes a field, if it has terms.
+fn serialize_if_any<W: Write>(
+    field: Field,
+    writers: &PerFieldPostingsWriter,
+    norms: &FieldNormReaders,
+    terms: &FieldTerms<'_>,
+    buffer_lender: &mut BufferLender,
+    serializer: &mut InvertedIndexSerializer<W>,
+) -> Result<(), Fault>
+    requires open { serializer.old.closed ≡ false }
+    requires known { field < length serializer.old.entries }
+    requires writer { field < length writers.now }
+    requires lacks { LacksField field serializer.old.bodies }
+    requires norms { AreShortNorms norms.now }
+    requires ascending { AreAscending (map (λ t. t.key) terms.now) }
+    requires writable { AllByRecursion IsWritable terms.now }
+    ensures entries { serializer.new.entries ≡ serializer.old.entries }
+    ensures closes { OnOk result (serializer.new.closed ≡ false) }
+    ensures wrote { (initial : IndexBodiesState) (fs : List FieldPart) → HasFields serializer.old.entries initial serializer.old.bodies fs
+        → OnOk result (HasFields serializer.old.entries initial serializer.new.bodies (fs ++ parts_of serializer.old.entries field (tokens_in writers.now field) terms.now)) }
+{
+    let terms = terms.as_slice();
+    if terms.is_empty() {
+        return Ok(());
+    }
+    let total_num_tokens = writers.get_for_field(field).total_num_tokens();
+    let fieldnorm_reader = norms.get_field(field)?;
+    serialize_field(
+        field,
+        total_num_tokens,
+        fieldnorm_reader,
+        terms,
+        buffer_lender,
+        serializer,
+    )
 }

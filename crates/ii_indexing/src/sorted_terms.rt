@@ -4,7 +4,7 @@ ghost use Rattle.ii_recorder.specs.AnyRecorder.{any_state};
 ghost use Rattle.ii_termdict.specs.ReadBack.{AreAscending};
 ghost use Rattle.ii_indexing.specs.IndexingContext.{recorder_of};
 ghost use Rattle.ii_indexing.specs.IndexingTerm.{field_in};
-ghost use Rattle.ii_indexing.specs.SortedTerms.{IsTermBelow, TermState, seen, terms_in};
+ghost use Rattle.ii_indexing.specs.SortedTerms.{IsTermBelow, TermState, seen, state_of, terms_in};
 
 use crate::IndexingTermRef;
 use crate::indexing_context::IndexingContext;
@@ -58,6 +58,12 @@ impl<'a> FieldTerms<'a> {
         FieldTerms {
             terms: Vec::new(alloc),
         }
+    }
+
+    pub(crate) fn as_slice(&self) -> &[TermOfField<'a>]
+        ensures { map state_of result.now ≡ self.now }
+    {
+        &self.terms
     }
 
     pub(crate) fn push(&mut self, key: &'a [u8], recorder: &'a AnyRecorder) -> Result<(), Fault>

@@ -1,0 +1,60 @@
+-- Fields that are written one after the other.
+use Rattle.std.proofs.Common.{Result, Ok, Err, OnOk, ◌≡◌, ℕ, zero, suc, ◌+◌, ◌-◌, ◌≤◌, ◌<◌, Bool, true, false, List, [], ◌∷◌, ◌++◌, length, map, take, get_or, refl, sym, ap, ◌∙◌, subst, arith, Some}
+use Rattle.std.specs.Prelude.{◌^◌, slice_get, slice_index_or}
+use Rattle.std.specs.Option.{option_map}
+use Rattle.std.specs.List.{AllByRecursion, flat_map, range_with_len}
+use Rattle.std.proofs.lemmas.List.{length-map, map-append}
+use Rattle.ii_io.specs.Composite.{Body}
+use Rattle.ii_io.specs.CompositeWrite.{CompositeWriteState, HasBodies, has_start, starts_from}
+use Rattle.ii_io.specs.CompositeWriteLemmas.{HasBodies-more}
+use Rattle.ii_io.specs.CountingWriter.{CountingWriterState}
+use Rattle.ii_base.specs.Schema.{Entry}
+use Rattle.ii_index.specs.Fields.{option_of}
+use Rattle.ii_recorder.specs.IndexBodies.{AddsBodies, IndexBodiesState, LacksField}
+use Rattle.ii_indexing.specs.FieldParts.{FieldPart, HasFields, HoldsPart, bodies_of, first_parts, parts_of, positions_body, postings_body, terms_body, tokens_in}
+use Rattle.ii_indexing.specs.PostingsWriter.{PostingsWriterState}
+use Rattle.ii_indexing.specs.SortedTerms.{TermState, state_of, written_of}
+use Rattle.ii_indexing.specs.declared.sorted_terms.TermOfField.{TermOfField}
+
+all_pushed : {X : Type 0} (P : X → Type 0) (xs : List X) (x : X) → AllByRecursion P xs → P x → AllByRecursion P (xs ++ x ∷ [])
+all_pushed P [] x all is = (is, tt)
+all_pushed P (y ∷ ys) x all is = (all.0, all_pushed P ys x all.1 is)
+
+pushed_body : (body : FieldPart → Body) (initial : CountingWriterState) (c : CompositeWriteState) (fs : List FieldPart) (p : FieldPart) → HasBodies initial c (map body fs ++ body p ∷ []) → HasBodies initial c (map body (fs ++ p ∷ []))
+pushed_body body initial c fs p has = subst (HasBodies initial c) (sym (map-append body fs (p ∷ []))) has
+
+-- one more field was written
+pub part_added : (entries : List Entry) (initial old new : IndexBodiesState) (fs : List FieldPart) (p : FieldPart) → HasFields entries initial old fs → AddsBodies old new p.field (bodies_of entries p) → HoldsPart entries p
+    → HasFields entries initial new (fs ++ p ∷ [])
+part_added entries initial old new fs p has adds holds = record {
+  terms = pushed_body (terms_body entries) initial.terms.writer new.terms fs p (HasBodies-more initial.terms.writer old.terms new.terms (map (terms_body entries) fs) p.field (bodies_of entries p).terms has.terms adds.terms);
+  postings = pushed_body (postings_body entries) initial.postings.writer new.postings fs p (HasBodies-more initial.postings.writer old.postings new.postings (map (postings_body entries) fs) p.field (bodies_of entries p).postings has.postings adds.postings);
+  positions = pushed_body (positions_body entries) initial.positions.writer new.positions fs p (HasBodies-more initial.positions.writer old.positions new.positions (map (positions_body entries) fs) p.field (bodies_of entries p).positions has.positions adds.positions);
+  held = all_pushed (HoldsPart entries) fs p has.held holds;
+}
+
+-- the part of a field that has terms
+abbrev pub part_of : List Entry → ℕ → ℕ → List TermState → FieldPart
+part_of entries field tokens terms = record { field = field; tokens = tokens; terms = map (written_of (option_of entries field)) terms }
+
+pub some_part : (entries : List Entry) (field tokens : ℕ) (terms : List TermState) → 0 < length terms → parts_of entries field tokens terms ≡ part_of entries field tokens terms ∷ []
+some_part entries field tokens [] some = absurd (omega (arith, some))
+some_part entries field tokens (t ∷ ts) some = refl
+
+pub keys_seen : (terms : List TermOfField) → map (λ (t : TermState). t.key) (map state_of terms) ≡ map (λ (t : TermOfField). t.key.now) terms
+keys_seen [] = refl
+keys_seen (t ∷ ts) = ap (λ (ks : List (List ℕ)). t.key.now ∷ ks) (keys_seen ts)
+
+pub tokens_of_writer : (writers : List PostingsWriterState) (field : ℕ) (w : PostingsWriterState) → slice_get writers field ≡ Some w → w.total_num_tokens ≡ tokens_in writers field
+tokens_of_writer writers field w is = rw is refl
+
+-- how a call ends that writes a field with terms
+pub part_wrote : {A E : Type 0} (result : Result A E) (entries : List Entry) (initial old new : IndexBodiesState) (fs : List FieldPart) (field total tokens : ℕ) (seen terms : List TermState) → HasFields entries initial old fs
+    → total ≡ tokens → seen ≡ terms → 0 < length seen → OnOk result (AddsBodies old new field (bodies_of entries (part_of entries field total seen))) → OnOk result (HoldsPart entries (part_of entries field total seen))
+    → OnOk result (HasFields entries initial new (fs ++ parts_of entries field tokens terms))
+part_wrote (Ok x) entries initial old new fs field total tokens seen terms has counted same some adds holds =
+    rw (← counted, ← same, some_part entries field total seen some) (part_added entries initial old new fs (part_of entries field total seen) has adds holds)
+part_wrote (Err e) entries initial old new fs field total tokens seen terms has counted same some adds holds = tt
+
+pub some_seen : (terms : List TermOfField) → 0 < length terms → 0 < length (map state_of terms)
+some_seen terms some = omega (arith, some, length-map terms state_of)
