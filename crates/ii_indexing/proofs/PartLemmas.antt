@@ -1,9 +1,12 @@
 -- Fields that are written one after the other.
-use Rattle.std.proofs.Common.{Result, Ok, Err, OnOk, ◌≡◌, ℕ, zero, suc, ◌+◌, ◌-◌, ◌≤◌, ◌<◌, Bool, true, false, List, [], ◌∷◌, ◌++◌, length, map, take, get_or, refl, sym, ap, ◌∙◌, subst, arith, Some}
+use Rattle.std.proofs.Common.{nat_eq, append-nil, zero-add, Result, Ok, Err, OnOk, ◌≡◌, ℕ, zero, suc, ◌+◌, ◌-◌, ◌≤◌, ◌<◌, Bool, true, false, List, [], ◌∷◌, ◌++◌, length, map, take, get_or, refl, sym, ap, ◌∙◌, subst, arith, Some}
 use Rattle.std.specs.Prelude.{◌^◌, slice_get, slice_index_or}
 use Rattle.std.specs.Option.{option_map}
 use Rattle.std.specs.List.{AllByRecursion, flat_map, range_with_len}
+use Rattle.std.proofs.lemmas.Bool.{ne_eqb}
+use Rattle.std.proofs.lemmas.Grind.{flat_map-append}
 use Rattle.std.proofs.lemmas.List.{length-map, map-append}
+use Rattle.ii_termstore.specs.ListLemmas.{range_more}
 use Rattle.ii_io.specs.Composite.{Body}
 use Rattle.ii_io.specs.CompositeWrite.{CompositeWriteState, HasBodies, has_start, starts_from}
 use Rattle.ii_io.specs.CompositeWriteLemmas.{HasBodies-more}
@@ -58,3 +61,57 @@ part_wrote (Err e) entries initial old new fs field total tokens seen terms has 
 
 pub some_seen : (terms : List TermOfField) → 0 < length terms → 0 < length (map state_of terms)
 some_seen terms some = omega (arith, some, length-map terms state_of)
+
+-- a field above all that have bodies has none
+no_start : (body : FieldPart → Body) → ((p : FieldPart) → (body p).field ≡ p.field) → (n start : ℕ) (fs : List FieldPart) → AllByRecursion (λ (p : FieldPart). p.field < n) fs → has_start n (starts_from start (map body fs)) ≡ false
+no_start body same n start [] below = refl
+no_start body same n start (p ∷ ps) below =
+    let other : nat_eq (body p).field n ≡ false = ne_eqb (body p).field n (λ is. absurd (omega (arith, is, same p, below.0))) in
+    rw other (no_start body same n (start + length (body p).bytes) ps below.1)
+
+length-starts : (start : ℕ) (bodies : List Body) → length (starts_from start bodies) ≡ length bodies
+length-starts start [] = refl
+length-starts start (b ∷ bs) = ap suc (length-starts (start + length b.bytes) bs)
+
+few_starts : (body : FieldPart → Body) (n : ℕ) (fs : List FieldPart) → length fs ≤ n → n < 2 ^ 32 - 1 → length (starts_from 0 (map body fs)) < 2 ^ 32 - 1
+few_starts body n fs few low = omega (arith, length-starts 0 (map body fs), length-map fs body, few, low)
+
+module _ (entries : List Entry) (writers : List PostingsWriterState) (terms : List (List TermState)) where
+  abbrev parts_at : ℕ → List FieldPart
+  parts_at field = parts_of entries field (tokens_in writers field) (slice_index_or terms field [])
+
+  pub one_more_part : (n : ℕ) → first_parts entries writers terms (n + 1) ≡ first_parts entries writers terms n ++ parts_at n
+  one_more_part n =
+      ap (flat_map parts_at) (range_more 0 n ∙ ap (λ (k : ℕ). range_with_len 0 n ++ k ∷ []) (zero-add n))
+      ∙ flat_map-append parts_at (range_with_len 0 n) (n ∷ [])
+      ∙ ap (λ (ps : List FieldPart). first_parts entries writers terms n ++ ps) (append-nil (parts_at n))
+
+  below_here : (field n : ℕ) (ts : List TermState) (rest : List FieldPart) → field < n → AllByRecursion (λ (p : FieldPart). p.field < n) rest → AllByRecursion (λ (p : FieldPart). p.field < n) (parts_of entries field (tokens_in writers field) ts ++ rest)
+  below_here field n [] rest low all = all
+  below_here field n (t ∷ ts) rest low all = (low, all)
+
+  below_from : (first k n : ℕ) → first + k ≤ n → AllByRecursion (λ (p : FieldPart). p.field < n) (flat_map parts_at (range_with_len first k))
+  below_from first zero n low = tt
+  below_from first (suc k) n low = below_here first n (slice_index_or terms first []) (flat_map parts_at (range_with_len (first + 1) k)) (omega (arith, low)) (below_from (first + 1) k n (omega (arith, low)))
+
+  few_here : (field k : ℕ) (ts : List TermState) (rest : List FieldPart) → length rest ≤ k → length (parts_of entries field (tokens_in writers field) ts ++ rest) ≤ suc k
+  few_here field k [] rest few = omega (arith, few)
+  few_here field k (t ∷ ts) rest few = omega (arith, few)
+
+  few_from : (first k : ℕ) → length (flat_map parts_at (range_with_len first k)) ≤ k
+  few_from first zero = omega (arith)
+  few_from first (suc k) = few_here first k (slice_index_or terms first []) (flat_map parts_at (range_with_len (first + 1) k)) (few_from (first + 1) k)
+
+  -- the body of the next field may begin
+  pub lacks_next : (n : ℕ) (initial now : IndexBodiesState) → n < 2 ^ 32 - 1 → HasFields entries initial now (first_parts entries writers terms n) → LacksField n now
+  lacks_next n initial now low has =
+      let below = below_from 0 n n (omega (arith)) in
+      let few = few_from 0 n in
+      record {
+        terms = rw has.terms.starts (no_start (terms_body entries) (λ p. refl) n 0 (first_parts entries writers terms n) below);
+        postings = rw has.postings.starts (no_start (postings_body entries) (λ p. refl) n 0 (first_parts entries writers terms n) below);
+        positions = rw has.positions.starts (no_start (positions_body entries) (λ p. refl) n 0 (first_parts entries writers terms n) below);
+        few_terms = rw has.terms.starts (few_starts (terms_body entries) n (first_parts entries writers terms n) few low);
+        few_postings = rw has.postings.starts (few_starts (postings_body entries) n (first_parts entries writers terms n) few low);
+        few_positions = rw has.positions.starts (few_starts (positions_body entries) n (first_parts entries writers terms n) few low);
+      }

@@ -1,4 +1,4 @@
-ghost use Rattle.std.specs.Prelude.{◌≡◌, ◌≤◌, ◌<◌, ◌++◌, ◌∷◌, ℕ, List, [], false, length, map, IsTrue, IfErr, IfOk, OnErr, OnOk};
+ghost use Rattle.std.specs.Prelude.{◌≡◌, ◌≤◌, ◌<◌, ◌++◌, ◌∷◌, ◌^◌, ℕ, List, [], false, length, map, IsTrue, IfErr, IfOk, OnErr, OnOk};
 ghost use Rattle.std.specs.List.{AllByRecursion};
 ghost use Rattle.ii_io.specs.CountingWriter.{Closes};
 ghost use Rattle.ii_termdict.specs.ReadBack.{AreAscending};
@@ -8,7 +8,7 @@ ghost use Rattle.ii_recorder.specs.IndexBodies.{AddsBodies, IndexBodiesState, La
 ghost use Rattle.ii_recorder.specs.IndexSerializer.{IsWriting};
 ghost use Rattle.ii_recorder.specs.Terms.{WrittenTerm, field_bodies};
 ghost use Rattle.ii_recorder.specs.HeldTerms.{HoldsTerms};
-ghost use Rattle.ii_indexing.specs.FieldParts.{AreShortNorms, FieldPart, HasFields, parts_of, tokens_in};
+ghost use Rattle.ii_indexing.specs.FieldParts.{AreShortNorms, FieldPart, HasFields, first_parts, parts_of, tokens_in};
 ghost use Rattle.ii_indexing.specs.SortedTerms.{IsWritable, TermState, state_of, written_of};
 
 use crate::per_field_postings_writer::PerFieldPostingsWriter;
@@ -17,6 +17,7 @@ use crate::sorted_terms::{FieldTerms, TermOfField};
 use ii_base::{Fault, Field};
 use ii_fieldnorm::{FieldNormReader, FieldNormReaders};
 use ii_recorder::{AnyRecorder, BufferLender, FieldSerializer, InvertedIndexSerializer, Recorder};
+use std::alloc::Global;
 use std::io::Write;
 
 // Writes a term of the field.
@@ -108,4 +109,32 @@ fn serialize_if_any<W: Write>(
         buffer_lender,
         serializer,
     )
+}
+
+// Writes the fields that have terms, in order.
+fn serialize_fields<W: Write>(
+    alloc: Global,
+    writers: &PerFieldPostingsWriter,
+    norms: &FieldNormReaders,
+    terms: &Vec<FieldTerms<'_>>,
+    serializer: &mut InvertedIndexSerializer<W>,
+) -> Result<(), Fault>
+    requires open { serializer.old.closed ≡ false }
+    requires known { length terms.now.items ≤ length serializer.old.entries }
+    requires few { length terms.now.items < 2 ^ 32 }
+    requires writers { length terms.now.items ≤ length writers.now }
+    requires fresh { HasFields serializer.old.entries serializer.old.bodies serializer.old.bodies [] }
+    requires norms { AreShortNorms norms.now }
+    requires ascending { AllByRecursion (λ ts. AreAscending (map (λ t. t.key) ts)) terms.now.items }
+    requires writable { AllByRecursion (λ ts. AllByRecursion IsWritable ts) terms.now.items }
+    ensures entries { serializer.new.entries ≡ serializer.old.entries }
+    ensures wrote { OnOk result (HasFields serializer.old.entries serializer.old.bodies serializer.new.bodies (first_parts serializer.old.entries writers.now terms.now.items (length terms.now.items))) }
+    ensures closes { OnOk result (serializer.new.closed ≡ false) }
+{
+    let mut buffer_lender = BufferLender::new(alloc);
+    for place in 0..terms.len() {
+        let field = Field::from_field_id(place as u32);
+        serialize_if_any(field, writers, norms, &terms[place], &mut buffer_lender, serializer)?;
+    }
+    Ok(())
 }
