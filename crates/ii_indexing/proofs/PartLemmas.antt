@@ -115,3 +115,14 @@ module _ (entries : List Entry) (writers : List PostingsWriterState) (terms : Li
         few_postings = rw has.postings.starts (few_starts (postings_body entries) n (first_parts entries writers terms n) few low);
         few_positions = rw has.positions.starts (few_starts (positions_body entries) n (first_parts entries writers terms n) few low);
       }
+
+-- what was written of the first fields and of the next one
+pub next_part : (first entries : List Entry) (writers : List PostingsWriterState) (terms : List (List TermState)) (n field : ℕ) (ts : List TermState) (initial new : IndexBodiesState)
+    → entries ≡ first → field ≡ n → ts ≡ slice_index_or terms n []
+    → HasFields entries initial new (first_parts first writers terms n ++ parts_of entries field (tokens_in writers field) ts) → HasFields first initial new (first_parts first writers terms (n + 1))
+next_part first entries writers terms n field ts initial new same is at has =
+    let fs = first_parts first writers terms n in
+    let by_schema = subst (λ (e : List Entry). HasFields e initial new (fs ++ parts_of e field (tokens_in writers field) ts)) same has in
+    let by_field = subst (λ (f : ℕ). HasFields first initial new (fs ++ parts_of first f (tokens_in writers f) ts)) is by_schema in
+    let by_terms = subst (λ (us : List TermState). HasFields first initial new (fs ++ parts_of first n (tokens_in writers n) us)) at by_field in
+    subst (HasFields first initial new) (sym (one_more_part first writers terms n)) by_terms
