@@ -14,14 +14,12 @@ use Rattle.ii_io.specs.CountingWriter.{CountingWriterState}
 use Rattle.ii_base.specs.Schema.{Entry}
 use Rattle.ii_index.specs.Fields.{option_of}
 use Rattle.ii_recorder.specs.IndexBodies.{AddsBodies, IndexBodiesState, LacksField}
+use Rattle.ii_indexing.proofs.SerializeLemmas.{all_pushed}
 use Rattle.ii_indexing.specs.FieldParts.{FieldPart, HasFields, HoldsPart, bodies_of, first_parts, parts_of, positions_body, postings_body, terms_body, tokens_in}
 use Rattle.ii_indexing.specs.PostingsWriter.{PostingsWriterState}
-use Rattle.ii_indexing.specs.SortedTerms.{TermState, state_of, written_of}
+use Rattle.ii_indexing.specs.SortedTerms.{IsTold, TermState, state_of, written_of}
+use Rattle.ii_recorder.specs.HeldTerms.{HoldsTerms}
 use Rattle.ii_indexing.specs.declared.sorted_terms.TermOfField.{TermOfField}
-
-all_pushed : {X : Type 0} (P : X → Type 0) (xs : List X) (x : X) → AllByRecursion P xs → P x → AllByRecursion P (xs ++ x ∷ [])
-all_pushed P [] x all is = (is, tt)
-all_pushed P (y ∷ ys) x all is = (all.0, all_pushed P ys x all.1 is)
 
 pushed_body : (body : FieldPart → Body) (initial : CountingWriterState) (c : CompositeWriteState) (fs : List FieldPart) (p : FieldPart) → HasBodies initial c (map body fs ++ body p ∷ []) → HasBodies initial c (map body (fs ++ p ∷ []))
 pushed_body body initial c fs p has = subst (HasBodies initial c) (sym (map-append body fs (p ∷ []))) has
@@ -38,7 +36,7 @@ part_added entries initial old new fs p has adds holds = record {
 
 -- the part of a field that has terms
 abbrev pub part_of : List Entry → ℕ → ℕ → List TermState → FieldPart
-part_of entries field tokens terms = record { field = field; tokens = tokens; terms = map (written_of (option_of entries field)) terms }
+part_of entries field tokens terms = record { field = field; tokens = tokens; terms = terms }
 
 pub some_part : (entries : List Entry) (field tokens : ℕ) (terms : List TermState) → 0 < length terms → parts_of entries field tokens terms ≡ part_of entries field tokens terms ∷ []
 some_part entries field tokens [] some = absurd (omega (arith, some))
@@ -53,11 +51,11 @@ tokens_of_writer writers field w is = rw is refl
 
 -- how a call ends that writes a field with terms
 pub part_wrote : {A E : Type 0} (result : Result A E) (entries : List Entry) (initial old new : IndexBodiesState) (fs : List FieldPart) (field total tokens : ℕ) (seen terms : List TermState) → HasFields entries initial old fs
-    → total ≡ tokens → seen ≡ terms → 0 < length seen → OnOk result (AddsBodies old new field (bodies_of entries (part_of entries field total seen))) → OnOk result (HoldsPart entries (part_of entries field total seen))
+    → total ≡ tokens → seen ≡ terms → 0 < length seen → OnOk result (AddsBodies old new field (bodies_of entries (part_of entries field total seen))) → OnOk result (HoldsTerms (option_of entries field) total (bodies_of entries (part_of entries field total seen)) (map (written_of (option_of entries field)) seen)) → OnOk result (AllByRecursion (IsTold (option_of entries field)) seen)
     → OnOk result (HasFields entries initial new (fs ++ parts_of entries field tokens terms))
-part_wrote (Ok x) entries initial old new fs field total tokens seen terms has counted same some adds holds =
-    rw (← counted, ← same, some_part entries field total seen some) (part_added entries initial old new fs (part_of entries field total seen) has adds holds)
-part_wrote (Err e) entries initial old new fs field total tokens seen terms has counted same some adds holds = tt
+part_wrote (Ok x) entries initial old new fs field total tokens seen terms has counted same some adds holds told =
+    rw (← counted, ← same, some_part entries field total seen some) (part_added entries initial old new fs (part_of entries field total seen) has adds (record { terms = holds; told = told }))
+part_wrote (Err e) entries initial old new fs field total tokens seen terms has counted same some adds holds told = tt
 
 pub some_seen : (terms : List TermOfField) → 0 < length terms → 0 < length (map state_of terms)
 some_seen terms some = omega (arith, some, length-map terms state_of)

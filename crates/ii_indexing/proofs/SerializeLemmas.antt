@@ -1,6 +1,6 @@
 -- Terms of a field that are written one after the other.
-use Rattle.std.proofs.Common.{zero, suc, ◌+◌, ◌<◌, arith, append-nil, take, map, length, Ordering, Less, get_or, ◌≡◌, ℕ, Bool, true, false, List, [], ◌∷◌, ◌++◌, refl, sym, ap, ◌∙◌, subst}
-use Rattle.std.specs.Prelude.{if◌then◌else◌}
+use Rattle.std.proofs.Common.{Result, Ok, Err, OnOk, zero, suc, ◌+◌, ◌<◌, arith, append-nil, take, map, length, Ordering, Less, get_or, ◌≡◌, ℕ, Bool, true, false, List, [], ◌∷◌, ◌++◌, refl, sym, ap, ◌∙◌, subst}
+use Rattle.std.specs.Prelude.{if◌then◌else◌, IsTrue, ◌^◌}
 use Rattle.std.specs.List.{AllByRecursion}
 use Rattle.std.specs.List.Sorted.{IsStrictlySortedBy}
 use Rattle.std.specs.Cmp.Lexicographic.{slice_cmp}
@@ -19,10 +19,10 @@ use Rattle.ii_recorder.specs.FieldTerms.{term_under}
 use Rattle.ii_recorder.specs.OpenTerm.{OpenTermState}
 use Rattle.ii_recorder.specs.IndexBodies.{IndexBodiesState}
 use Rattle.ii_recorder.specs.IndexSerializer.{IndexSerializerState, IsWriting}
-use Rattle.ii_recorder.specs.Pushed.{with_entries}
+use Rattle.ii_recorder.specs.Pushed.{FillTooLarge, HaveDeltas, pushed_freqs, with_entries}
 use Rattle.ii_recorder.specs.Recorded.{RecorderState, entries_in}
 use Rattle.ii_recorder.specs.Terms.{WrittenTerm}
-use Rattle.ii_indexing.specs.SortedTerms.{IsWritable, TermState, state_of, written_of}
+use Rattle.ii_indexing.specs.SortedTerms.{IsTold, IsWritable, TermState, state_of, written_of}
 
 -- documents that are pushed change nothing of what is written
 pub pushed_writing : (option : IndexRecordOption) (es : List Entry) (initial : IndexBodiesState) (s new : IndexSerializerState) (field tokens : ℕ) (ts : List WrittenTerm) (pending : List (List ℕ))
@@ -39,6 +39,10 @@ pub term_written : (key : List ℕ) (t : OpenTermState) (r : RecorderState) (s n
     → new ≡ with_entries r.option s (entries_in r) → term_under key new.field.term ≡ written_of t.mode (record { key = key; recorder = r })
 term_written key t r s new counted same begun is =
     ap (λ (n : IndexSerializerState). term_under key n.field.term) is ∙ rw (begun, same) refl
+
+pub all_pushed : {X : Type 0} (P : X → Type 0) (xs : List X) (x : X) → AllByRecursion P xs → P x → AllByRecursion P (xs ++ x ∷ [])
+all_pushed P [] x all is = (is, tt)
+all_pushed P (y ∷ ys) x all is = (all.0, all_pushed P ys x all.1 is)
 
 all_taken : {X : Type 0} (P : X → Type 0) (n : ℕ) (xs : List X) → AllByRecursion P xs → AllByRecursion P (take n xs)
 all_taken P zero xs all = tt
@@ -91,3 +95,26 @@ next_written first entries field terms k t inside is same =
     let here : written_of (option_of entries field) (state_of t) ≡ written_of (option_of first field) (state_of (get_or terms k t)) =
           ap (λ (es : List SchemaEntry). written_of (option_of es field) (state_of t)) same ∙ ap (λ (u : TermOfField). written_of (option_of first field) (state_of u)) is in
     ap (λ (u : WrittenTerm). all_written (option_of first field) (take k terms) ++ u ∷ []) here ∙ sym (one_more_written (option_of first field) terms k t inside)
+
+pub one_more_told : (mode : IndexRecordOption) (terms : List TermOfField) (k : ℕ) (t : TermOfField) → k < length terms → t ≡ get_or terms k t → IsTold mode (state_of t) → AllByRecursion (IsTold mode) (map state_of (take k terms))
+    → AllByRecursion (IsTold mode) (map state_of (take (k + 1) terms))
+one_more_told mode terms k t inside is told all =
+    let more : map state_of (take (k + 1) terms) ≡ map state_of (take k terms) ++ state_of t ∷ [] =
+          ap (map state_of) (take_more terms k t inside) ∙ map-append state_of (take k terms) (get_or terms k t ∷ []) ∙ ap (λ (u : TermOfField). map state_of (take k terms) ++ state_of u ∷ []) (sym is) in
+    subst (AllByRecursion (IsTold mode)) (sym more) (all_pushed (IsTold mode) (map state_of (take k terms)) (state_of t) all told)
+
+-- what was told of the entries of a term that was begun
+pub was_told : (t : OpenTermState) (key : List ℕ) (r : RecorderState) (begun : OpenTermState) (counted : Bool) → counted ≡ has_freq r.option → begun ≡ begun_term counted t
+    → ¬ FillTooLarge begun.skip_info begun.freqs (pushed_freqs r.option (entries_in r)) → AllByRecursion (λ n. n < 2 ^ 32) (pushed_freqs r.option (entries_in r)) → (IsTrue (has_positions r.option) → HaveDeltas (entries_in r))
+    → IsTold t.mode (record { key = key; recorder = r })
+was_told t key r begun counted same is small fit located =
+    let here = subst (λ (u : OpenTermState). ¬ FillTooLarge u.skip_info u.freqs (pushed_freqs r.option (entries_in r))) is small in
+    record {
+      small = subst (λ (c : Bool). ¬ FillTooLarge (if c then t.mode else Basic) [] (pushed_freqs r.option (entries_in r))) same here;
+      fit = fit;
+      located = located;
+    }
+
+pub always_on_ok : {X E : Type 0} (r : Result X E) (P : Type 0) → P → OnOk r P
+always_on_ok (Ok x) P p = p
+always_on_ok (Err e) P p = tt

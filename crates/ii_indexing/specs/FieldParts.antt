@@ -10,16 +10,19 @@ use Rattle.ii_recorder.specs.HeldTerms.{HoldsTerms}
 use Rattle.ii_recorder.specs.IndexBodies.{IndexBodiesState}
 use Rattle.ii_recorder.specs.Terms.{FieldBodies, WrittenTerm, field_bodies}
 use Rattle.ii_indexing.specs.PostingsWriter.{PostingsWriterState}
-use Rattle.ii_indexing.specs.SortedTerms.{TermState, written_of}
+use Rattle.ii_indexing.specs.SortedTerms.{IsTold, TermState, written_of}
 
 -- A field that is written: how many tokens it has, and its terms.
 pub record FieldPart : Type 0 where
   pub field : ℕ
   pub tokens : ℕ
-  pub terms : List WrittenTerm
+  pub terms : List TermState
+
+abbrev pub written_terms : List Entry → FieldPart → List WrittenTerm
+written_terms entries p = map (written_of (option_of entries p.field)) p.terms
 
 abbrev pub bodies_of : List Entry → FieldPart → FieldBodies
-bodies_of entries p = field_bodies (option_of entries p.field) p.tokens p.terms
+bodies_of entries p = field_bodies (option_of entries p.field) p.tokens (written_terms entries p)
 
 -- its bodies in the three files
 abbrev pub terms_body : List Entry → FieldPart → Body
@@ -31,8 +34,10 @@ postings_body entries p = record { field = p.field; bytes = (bodies_of entries p
 abbrev pub positions_body : List Entry → FieldPart → Body
 positions_body entries p = record { field = p.field; bytes = (bodies_of entries p).positions }
 
-abbrev pub HoldsPart : List Entry → FieldPart → Type 0
-HoldsPart entries p = HoldsTerms (option_of entries p.field) p.tokens (bodies_of entries p) p.terms
+-- They hold its terms, of which is known what was told.
+pub record HoldsPart (entries : List Entry) (p : FieldPart) : Type 0 where
+  pub terms : HoldsTerms (option_of entries p.field) p.tokens (bodies_of entries p) (written_terms entries p)
+  pub told : AllByRecursion (IsTold (option_of entries p.field)) p.terms
 
 -- Since three files were begun, these fields and nothing else were written to them.
 pub record HasFields (entries : List Entry) (initial now : IndexBodiesState) (fs : List FieldPart) : Type 0 where
@@ -44,7 +49,7 @@ pub record HasFields (entries : List Entry) (initial now : IndexBodiesState) (fs
 -- a field is written where it has terms
 abbrev pub parts_of : List Entry → ℕ → ℕ → List TermState → List FieldPart
 parts_of entries field tokens [] = []
-parts_of entries field tokens (t ∷ ts) = record { field = field; tokens = tokens; terms = map (written_of (option_of entries field)) (t ∷ ts) } ∷ []
+parts_of entries field tokens (t ∷ ts) = record { field = field; tokens = tokens; terms = t ∷ ts } ∷ []
 
 -- how many tokens the writer of a field had
 abbrev pub tokens_in : List PostingsWriterState → ℕ → ℕ

@@ -1,5 +1,5 @@
 -- The terms of an index, field by field.
-use Rattle.std.specs.Prelude.{if◌then◌else◌, IsTrue, [], ℕ, ◌==◌, ◌<◌, ◌≤◌, List, drop, filter, length, map, Vec}
+use Rattle.std.specs.Prelude.{◌^◌, if◌then◌else◌, IsTrue, [], ℕ, ◌==◌, ◌<◌, ◌≤◌, List, drop, filter, length, map, Vec}
 use Rattle.ii_recorder.specs.AnyRecorder.{any_state}
 use Rattle.ii_recorder.specs.declared.recorder.any_recorder.AnyRecorder.{AnyRecorder}
 use Rattle.std.specs.List.{AllByRecursion}
@@ -7,7 +7,7 @@ use Rattle.ii_base.specs.declared.schema.index_record_option.IndexRecordOption.{
 use Rattle.ii_base.specs.declared.schema.index_record_option.IndexRecordOption.TheVariants.{Basic}
 use Rattle.ii_base.specs.Options.{has_freq, has_positions}
 use Rattle.ii_docset.specs.Entries.{are_documents, docs_of}
-use Rattle.ii_recorder.specs.Pushed.{pushed_deltas, pushed_freqs}
+use Rattle.ii_recorder.specs.Pushed.{FillTooLarge, HaveDeltas, pushed_deltas, pushed_freqs}
 use Rattle.ii_recorder.specs.Recorded.{RecorderState, entries_in}
 use Rattle.ii_recorder.specs.Terms.{WrittenTerm}
 use Rattle.ii_indexing.specs.declared.sorted_terms.TermOfField.{TermOfField}
@@ -54,3 +54,9 @@ written_of mode t =
 pub record IsWritable (t : TermState) : Type 0 where
   pub ascending : IsTrue (are_documents (docs_of (entries_in t.recorder)))
   pub counted : IsTrue (has_freq t.recorder.option) → AllByRecursion (λ n. 0 < n) (pushed_freqs t.recorder.option (entries_in t.recorder))
+
+-- What was told of a term that was written: its counts have 32 bits, no block of them is too large, and its deltas give its positions back.
+pub record IsTold (mode : IndexRecordOption) (t : TermState) : Type 0 where
+  pub small : ¬ FillTooLarge (written_of mode t).skip_info [] (pushed_freqs t.recorder.option (entries_in t.recorder))
+  pub fit : AllByRecursion (λ n. n < 2 ^ 32) (pushed_freqs t.recorder.option (entries_in t.recorder))
+  pub located : IsTrue (has_positions t.recorder.option) → HaveDeltas (entries_in t.recorder)

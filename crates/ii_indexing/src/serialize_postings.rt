@@ -9,7 +9,7 @@ ghost use Rattle.ii_recorder.specs.IndexSerializer.{IsWriting};
 ghost use Rattle.ii_recorder.specs.Terms.{WrittenTerm, field_bodies};
 ghost use Rattle.ii_recorder.specs.HeldTerms.{HoldsTerms};
 ghost use Rattle.ii_indexing.specs.FieldParts.{AreShortNorms, FieldPart, HasFields, first_parts, parts_of, tokens_in};
-ghost use Rattle.ii_indexing.specs.SortedTerms.{IsWritable, TermState, state_of, written_of};
+ghost use Rattle.ii_indexing.specs.SortedTerms.{IsTold, IsWritable, TermState, state_of, written_of};
 
 use crate::per_field_postings_writer::PerFieldPostingsWriter;
 use crate::postings_writer::PostingsWriter;
@@ -34,6 +34,7 @@ fn serialize_one_term<W: Write>(
     ensures same_reference { serializer.new.index.ghost_name ≡ serializer.old.index.ghost_name }
     ensures writing { (initial : IndexBodiesState) (field tokens : ℕ) (ts : List WrittenTerm) → IsWriting initial serializer.old.index.now field tokens ts []
         → OnOk result (IsWriting initial serializer.new.index.now field tokens (ts ++ written_of (option_of serializer.old.index.now.entries field) (record { key = key.now; recorder = any_state recorder.now }) ∷ []) []) }
+    ensures told { OnOk result (IsTold serializer.old.index.now.field.term.mode (record { key = key.now; recorder = any_state recorder.now })) }
     ensures between { OnOk result (serializer.new.index.now.field.term_open ≡ false) }
     ensures closes { Closes result serializer.new.index.now.closed }
     ensures entries { serializer.new.index.now.entries ≡ serializer.old.index.now.entries }
@@ -65,6 +66,7 @@ fn serialize_field<W: Write>(
     ensures holds { OnOk result (HoldsTerms (option_of serializer.old.entries field) total_num_tokens
         (field_bodies (option_of serializer.old.entries field) total_num_tokens (map (written_of (option_of serializer.old.entries field)) (map state_of terms.now)))
         (map (written_of (option_of serializer.old.entries field)) (map state_of terms.now))) }
+    ensures told { OnOk result (AllByRecursion (IsTold (option_of serializer.old.entries field)) (map state_of terms.now)) }
 {
     let mut serializer = serializer.new_field(field, total_num_tokens, fieldnorm_reader)?;
     for place in 0..terms.len() {

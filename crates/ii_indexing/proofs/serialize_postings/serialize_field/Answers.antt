@@ -3,8 +3,8 @@ use Rattle.ii_index.specs.Fields.{option_of}
 use Rattle.ii_termdict.specs.ReadBack.{AreAscending}
 use Rattle.ii_recorder.specs.IndexSerializer.{IsWriting}
 use Rattle.ii_recorder.specs.Terms.{WrittenTerm}
-use Rattle.ii_indexing.proofs.SerializeLemmas.{all_written, next_above, next_written, writable_at}
-use Rattle.ii_indexing.specs.SortedTerms.{IsWritable, state_of, written_of}
+use Rattle.ii_indexing.proofs.SerializeLemmas.{all_written, next_above, next_written, one_more_told, writable_at}
+use Rattle.ii_indexing.specs.SortedTerms.{IsTold, IsWritable, state_of, written_of}
 use Rattle.ii_indexing.proofs.serialize_postings.serialize_field.Goals as goal
 
 pub serialize_one_term-requires-clause-ascending :
@@ -30,4 +30,5 @@ loop-place-preserved g c =
      c.in_ok-serialize_one_term.ensures.closes.ok,
      c.in_ok-serialize_one_term.ensures.between,
      c.serialize_one_term.ensures.entries ∙ w.3,
-     c.serialize_one_term.ensures.same_reference ∙ w.4)
+     c.serialize_one_term.ensures.same_reference ∙ w.4,
+     one_more_told mode terms k c.index-terms-place.result (search rules) c.index-terms-place.is (subst (λ m. IsTold m (state_of c.index-terms-place.result)) (w.0.mode ∙ ap (λ es. option_of es c.args.field) w.3) c.in_ok-serialize_one_term.ensures.told) w.5)

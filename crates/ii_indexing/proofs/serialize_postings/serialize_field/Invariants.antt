@@ -1,7 +1,8 @@
 use Rattle.std.proofs.Common.{◌≡◌, [], false, map, take}
+use Rattle.std.specs.List.{AllByRecursion}
 use Rattle.ii_index.specs.Fields.{option_of}
 use Rattle.ii_recorder.specs.IndexSerializer.{IsWriting}
-use Rattle.ii_indexing.specs.SortedTerms.{state_of, written_of}
+use Rattle.ii_indexing.specs.SortedTerms.{IsTold, state_of, written_of}
 use Rattle.ii_indexing.proofs.serialize_postings.serialize_field.Given as goal
 
 abbrev pub invariant-loop-place : goal.invariant-loop-place
@@ -11,3 +12,4 @@ invariant-loop-place g l =
     × (l.serializer.index.now.field.term_open ≡ false)
     × (l.serializer.index.now.entries ≡ l.fn.serializer.entries)
     × (l.serializer.index.ghost_name ≡ l.initial.serializer.index.ghost_name)
+    × AllByRecursion (IsTold (option_of l.fn.serializer.entries l.fn.field)) (map state_of (take l.place l.fn.terms))

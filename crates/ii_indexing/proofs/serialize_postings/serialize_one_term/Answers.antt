@@ -5,7 +5,7 @@ use Rattle.ii_recorder.specs.IndexSerializer.{IndexSerializerState, IsWriting}
 use Rattle.ii_indexing.specs.SortedTerms.{written_of}
 use Rattle.ii_recorder.specs.Recorded.{entries_in}
 use Rattle.ii_recorder.specs.Terms.{WrittenTerm}
-use Rattle.ii_indexing.proofs.SerializeLemmas.{pushed_writing, term_written}
+use Rattle.ii_indexing.proofs.SerializeLemmas.{always_on_ok, pushed_writing, term_written, was_told}
 use Rattle.ii_indexing.proofs.TermIndexLemmas.{on_ok}
 use Rattle.ii_indexing.proofs.serialize_postings.serialize_one_term.Goals as goal
 
@@ -20,3 +20,10 @@ returns-clause-writing g c initial field tokens ts writing =
     on_ok c.close_term.result _ _
       (λ w. subst (λ (t : WrittenTerm). IsWriting initial c.close_term.new.self.index.now field tokens (ts ++ t ∷ []) []) same w)
       (c.close_term.ensures.writing initial field tokens ts c.args.key.now (ap (λ (n : IndexSerializerState). n.field.term_open) pushed ∙ c.in_ok-new_term.ensures.inside) whole)
+
+pub returns-clause-told : goal.returns-clause-told
+returns-clause-told g c =
+    let pushed = c.in_ok-serialize.ensures.pushes in
+    always_on_ok c.close_term.result _
+      (was_told c.args.serializer.now.index.now.field.term c.args.key.now (any_state c.args.recorder.now) c.new_term.new.self.index.now.field.term c.has_term_freq.result c.has_term_freq.ensures c.in_ok-new_term.ensures.term
+        pushed.small pushed.fit c.in_ok-serialize.ensures.located)
