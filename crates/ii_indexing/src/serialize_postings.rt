@@ -1,4 +1,4 @@
-ghost use Rattle.std.specs.Prelude.{◌≡◌, ◌≤◌, ◌<◌, ◌++◌, ◌∷◌, ◌^◌, ℕ, List, [], false, length, map, IsTrue, IfErr, IfOk, OnErr, OnOk};
+ghost use Rattle.std.specs.Prelude.{◌≡◌, ◌≤◌, ◌<◌, ◌++◌, ◌∷◌, ◌^◌, ℕ, List, [], false, length, map, IsTrue, IfErr, IfOk, IsErrOf, OnErr, OnOk, ◌↔◌};
 ghost use Rattle.std.specs.List.{AllByRecursion};
 ghost use Rattle.ii_io.specs.CountingWriter.{Closes};
 ghost use Rattle.ii_termdict.specs.ReadBack.{AreAscending};
@@ -37,6 +37,7 @@ fn serialize_one_term<W: Write>(
     ensures told { OnOk result (IsTold serializer.old.index.now.field.term.mode (record { key = key.now; recorder = any_state recorder.now })) }
     ensures between { OnOk result (serializer.new.index.now.field.term_open ≡ false) }
     ensures closes { Closes result serializer.new.index.now.closed }
+    ensures none { ¬ IsErrOf result Fault.SerializerClosed }
     ensures entries { serializer.new.index.now.entries ≡ serializer.old.index.now.entries }
 {
     let doc_freq = recorder.term_doc_freq().unwrap_or(0);
@@ -54,13 +55,13 @@ fn serialize_field<W: Write>(
     buffer_lender: &mut BufferLender,
     serializer: &mut InvertedIndexSerializer<W>,
 ) -> Result<(), Fault>
-    requires open { serializer.old.closed ≡ false }
     requires known { field < length serializer.old.entries }
-    requires lacks { LacksField field serializer.old.bodies }
+    requires lacks { serializer.old.closed ≡ false → LacksField field serializer.old.bodies }
     requires ascending { AreAscending (map (λ t. t.key.now) terms.now) }
     requires writable { AllByRecursion IsWritable (map state_of terms.now) }
     ensures entries { serializer.new.entries ≡ serializer.old.entries }
     ensures closes { Closes result serializer.new.closed }
+    ensures closed { IsErrOf result Fault.SerializerClosed ↔ IsTrue serializer.old.closed }
     ensures wrote { OnOk result (AddsBodies serializer.old.bodies serializer.new.bodies field
         (field_bodies (option_of serializer.old.entries field) total_num_tokens (map (written_of (option_of serializer.old.entries field)) (map state_of terms.now)))) }
     ensures holds { OnOk result (HoldsTerms (option_of serializer.old.entries field) total_num_tokens
@@ -85,15 +86,14 @@ fn serialize_if_any<W: Write>(
     buffer_lender: &mut BufferLender,
     serializer: &mut InvertedIndexSerializer<W>,
 ) -> Result<(), Fault>
-    requires open { serializer.old.closed ≡ false }
     requires known { field < length serializer.old.entries }
     requires writer { field < length writers.now }
-    requires lacks { LacksField field serializer.old.bodies }
+    requires lacks { serializer.old.closed ≡ false → LacksField field serializer.old.bodies }
     requires norms { AreShortNorms norms.now }
     requires ascending { AreAscending (map (λ t. t.key) terms.now) }
     requires writable { AllByRecursion IsWritable terms.now }
     ensures entries { serializer.new.entries ≡ serializer.old.entries }
-    ensures closes { OnOk result (serializer.new.closed ≡ false) }
+    ensures closes { OnOk result (serializer.new.closed ≡ serializer.old.closed) }
     ensures wrote { (initial : IndexBodiesState) (fs : List FieldPart) → HasFields serializer.old.entries initial serializer.old.bodies fs
         → OnOk result (HasFields serializer.old.entries initial serializer.new.bodies (fs ++ parts_of serializer.old.entries field (tokens_in writers.now field) terms.now)) }
 {
@@ -121,7 +121,6 @@ fn serialize_fields<W: Write>(
     terms: &Vec<FieldTerms<'_>>,
     serializer: &mut InvertedIndexSerializer<W>,
 ) -> Result<(), Fault>
-    requires open { serializer.old.closed ≡ false }
     requires known { length terms.now.items ≤ length serializer.old.entries }
     requires few { length terms.now.items < 2 ^ 32 }
     requires writers { length terms.now.items ≤ length writers.now }
@@ -131,7 +130,7 @@ fn serialize_fields<W: Write>(
     requires writable { AllByRecursion (λ ts. AllByRecursion IsWritable ts) terms.now.items }
     ensures entries { serializer.new.entries ≡ serializer.old.entries }
     ensures wrote { OnOk result (HasFields serializer.old.entries serializer.old.bodies serializer.new.bodies (first_parts serializer.old.entries writers.now terms.now.items (length terms.now.items))) }
-    ensures closes { OnOk result (serializer.new.closed ≡ false) }
+    ensures closes { OnOk result (serializer.new.closed ≡ serializer.old.closed) }
 {
     let mut buffer_lender = BufferLender::new(alloc);
     for place in 0..terms.len() {

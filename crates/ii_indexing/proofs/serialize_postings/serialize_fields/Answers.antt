@@ -6,7 +6,7 @@ use Rattle.ii_indexing.specs.FieldParts.{HasFields, first_parts}
 use Rattle.ii_indexing.proofs.serialize_postings.serialize_fields.Goals as goal
 
 pub serialize_if_any-requires-clause-lacks : goal.serialize_if_any-requires-clause-lacks
-serialize_if_any-requires-clause-lacks g c =
+serialize_if_any-requires-clause-lacks g c _ =
     let few = c.requires.few in
     let low = c.loop-place-test.true in
     subst (λ (field : ℕ). LacksField field c.loop-place.serializer.bodies) (sym c.from_field_id-field.ensures)
@@ -22,5 +22,5 @@ loop-place-preserved g c =
     let wrote = c.in_ok-serialize_if_any.ensures.wrote c.args.serializer.now.bodies fs (subst (λ es. HasFields es c.args.serializer.now.bodies c.loop-place.serializer.bodies fs) (sym w.2) w.0) in
     (next_part c.args.serializer.now.entries c.loop-place.serializer.entries c.args.writers.now c.args.terms.now.items c.loop-place.place c.from_field_id-field.result c.index.result.now c.args.serializer.now.bodies c.serialize_if_any.new.serializer.bodies
        w.2 c.from_field_id-field.ensures at wrote,
-     c.in_ok-serialize_if_any.ensures.closes,
+     c.in_ok-serialize_if_any.ensures.closes ∙ w.1,
      c.serialize_if_any.ensures.entries ∙ w.2)

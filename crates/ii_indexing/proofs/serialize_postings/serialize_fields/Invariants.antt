@@ -1,9 +1,9 @@
-use Rattle.std.proofs.Common.{◌≡◌, false}
+use Rattle.std.proofs.Common.{◌≡◌}
 use Rattle.ii_indexing.specs.FieldParts.{HasFields, first_parts}
 use Rattle.ii_indexing.proofs.serialize_postings.serialize_fields.Given as goal
 
 abbrev pub invariant-loop-place : goal.invariant-loop-place
 invariant-loop-place g l =
     HasFields l.fn.serializer.entries l.fn.serializer.bodies l.serializer.bodies (first_parts l.fn.serializer.entries l.fn.writers l.fn.terms.items l.place)
-    × (l.serializer.closed ≡ false)
+    × (l.serializer.closed ≡ l.fn.serializer.closed)
     × (l.serializer.entries ≡ l.fn.serializer.entries)
