@@ -1,15 +1,19 @@
 -- Terms in the order of their bytes.
-use Rattle.std.proofs.Common.{◌<◌, ◌^◌, ◌++◌, drop, filter, nat_eq, arith, ◌≡◌, ℕ, Bool, true, false, List, [], ◌∷◌, map, refl, sym, ap, ◌∙◌, subst, Vec}
+use Rattle.std.proofs.Common.{Option, Some, Result, Ok, Err, IfOk, None, zero, suc, ◌+◌, ◌<◌, ◌^◌, ◌++◌, drop, filter, nat_eq, arith, ◌≡◌, ℕ, Bool, true, false, List, [], ◌∷◌, map, refl, sym, ap, ◌∙◌, subst, Vec}
 use Rattle.std.proofs.Common.{Ordering, Less, Equal, Greater}
 use Rattle.std.specs.Ordering.{ordering_reverse}
 use Rattle.std.specs.Prelude.{bytes_eq}
 use Rattle.std.specs.Ordering.{eq_by_cmp}
-use Rattle.std.specs.List.{AllByRecursion, IsDistinct, dedup, dedup_from}
+use Rattle.std.proofs.lemmas.List.Elements.{All-tail}
+use Rattle.std.specs.Prelude.{All, MatchOption, ⊤}
+use Rattle.std.specs.Ordering.{is_eq}
+use Rattle.ii_recorder.specs.Recorded.{RecorderState}
+use Rattle.std.specs.List.{range_with_len, AllByRecursion, IsDistinct, dedup, dedup_from}
 use Rattle.std.specs.List.Sorted.{IsSorted, IsStrictlySortedBy}
 use Rattle.std.specs.Map.{keys_of}
 use Rattle.std.proofs.lemmas.Cmp.{nat_cmp_total, nat_list_cmp_total, on_total}
 use Rattle.std.proofs.lemmas.Cmp.{nat_list_eq_equiv}
-use Rattle.std.specs.Cmp.Lexicographic.{slice_cmp}
+use Rattle.std.specs.Cmp.Lexicographic.{bytes_decides, slice_cmp}
 use Rattle.std.specs.Ordering.{nat_cmp}
 use Rattle.ii_indexing.specs.IndexingContext.{TermIndex}
 use Rattle.ii_indexing.specs.SortedTerms.{TermState, terms_in}
@@ -148,3 +152,54 @@ pub terms_in_ascend : (field : ℕ) (terms : TermIndex) → AllByRecursion AreTe
 terms_in_ascend field terms all sorted =
     subst (IsStrictlySortedBy (slice_cmp nat_cmp)) (sym (keys_in field terms))
       (dropped_ascends field (filter (lies_in field) (keys_of terms)) (all_in field (keys_of terms) all) (IsStrictlySortedBy-filter (slice_cmp nat_cmp) (lies_in field) (keys_of terms) sorted))
+
+each_key : {V : Type 0} (f : V → RecorderState) {A : Type 0} (es : List (Vec ℕ A × V)) → All (λ (k : Vec ℕ A). AreTermBytes k.items) (keys_of es) → AllByRecursion AreTermBytes (keys_of (map (λ (e : Vec ℕ A × V). (e.0.items, f e.1)) es))
+each_key f [] all = tt
+each_key f (e ∷ es) all = (all 0 e.0 (omega (arith)), each_key f es (All-tail (λ (k : Vec ℕ _). AreTermBytes k.items) e.0 (keys_of es) all))
+
+lists_ascend : (first n : ℕ) (terms : TermIndex) → AllByRecursion AreTermBytes (keys_of terms) → IsStrictlySortedBy (slice_cmp nat_cmp) (keys_of terms)
+    → AllByRecursion (λ (ts : List TermState). IsStrictlySortedBy (slice_cmp nat_cmp) (map (λ (t : TermState). t.key) ts)) (map (λ (field : ℕ). terms_in field terms) (range_with_len first n))
+lists_ascend first zero terms all sorted = tt
+lists_ascend first (suc n) terms all sorted = (terms_in_ascend first terms all sorted, lists_ascend (first + 1) n terms all sorted)
+
+-- the lists of terms of a context whose terms ascend
+pub fields_ascend : {A V : Type 0} (f : V → RecorderState) (es : List (Vec ℕ A × V)) (n : ℕ) (terms : TermIndex) (fields : List (List TermState)) → All (λ (k : Vec ℕ A). AreTermBytes k.items) (keys_of es)
+    → terms ≡ map (λ (e : Vec ℕ A × V). (e.0.items, f e.1)) es → fields ≡ map (λ (field : ℕ). terms_in field terms) (range_with_len 0 n) → IsStrictlySortedBy (slice_cmp nat_cmp) (map (λ (t : List ℕ × RecorderState). t.0) terms)
+    → AllByRecursion (λ (ts : List TermState). IsStrictlySortedBy (slice_cmp nat_cmp) (map (λ (t : TermState). t.key) ts)) fields
+fields_ascend f es n terms fields all same are sorted =
+    subst (AllByRecursion (λ (ts : List TermState). IsStrictlySortedBy (slice_cmp nat_cmp) (map (λ (t : TermState). t.key) ts))) (sym are)
+      (lists_ascend 0 n terms (subst (λ (ts : TermIndex). AllByRecursion AreTermBytes (keys_of ts)) (sym same) (each_key f es all)) sorted)
+
+pub if_ok : {X E : Type 0} (r : Result X E) (P Q : X → Type 0) → ((x : X) → P x → Q x) → IfOk r P → IfOk r Q
+if_ok (Ok x) P Q f h = f x h
+if_ok (Err e) P Q f h = tt
+
+bytes_same : (bytes : List ℕ) → bytes_eq bytes bytes ≡ true
+bytes_same bytes = nat_list_eq_equiv.refl bytes
+
+-- a key below all others is none of them
+none_above : (k : List ℕ) (ts : TermIndex) → AllByRecursion (λ (y : List ℕ). slice_cmp nat_cmp k y ≡ Less) (keys_of ts) → lookup (bytes_eq k) ts ≡ None
+none_above k [] below = refl
+none_above k (t ∷ ts) below =
+    let apart : bytes_eq k t.0 ≡ false = sym (is_eq-slice_cmp k t.0) ∙ ap is_eq below.0 in
+    rw apart (none_above k ts below.1)
+
+found_first : (t : List ℕ × RecorderState) (ts : TermIndex) → lookup (bytes_eq t.0) (t ∷ ts) ≡ Some t.1
+found_first t ts = rw (bytes_same t.0) refl
+
+found_later : (bytes : List ℕ) (t : List ℕ × RecorderState) (ts : TermIndex) → bytes_eq bytes t.0 ≡ false → lookup (bytes_eq bytes) (t ∷ ts) ≡ lookup (bytes_eq bytes) ts
+found_later bytes t ts other = rw other refl
+
+-- what holds of each recorder by its term holds of all terms, where these ascend
+pub each_by_lookup : (P : List ℕ → RecorderState → Type 0) (terms : TermIndex) → IsStrictlySortedBy (slice_cmp nat_cmp) (keys_of terms) → ((bytes : List ℕ) → MatchOption (lookup (bytes_eq bytes) terms) ⊤ (P bytes))
+    → AllByRecursion (λ (t : List ℕ × RecorderState). P t.0 t.1) terms
+unfolding IsStrictlySortedBy
+each_by_lookup P [] sorted known = tt
+each_by_lookup P (t ∷ ts) sorted known =
+    (subst (λ (o : Option RecorderState). MatchOption o ⊤ (P t.0)) (found_first t ts) (known t.0), each_by_lookup P ts sorted.1 (λ bytes. later bytes (bytes_eq bytes t.0) refl))
+  where
+    later : (bytes : List ℕ) (b : Bool) → bytes_eq bytes t.0 ≡ b → MatchOption (lookup (bytes_eq bytes) ts) ⊤ (P bytes)
+    later bytes true same =
+        let here : bytes ≡ t.0 = (bytes_decides bytes t.0).0 same in
+        rw (here, none_above t.0 ts sorted.0) tt
+    later bytes false other = subst (λ (o : Option RecorderState). MatchOption o ⊤ (P bytes)) (found_later bytes t ts other) (known bytes)

@@ -1,5 +1,5 @@
 -- The terms of an index, field by field.
-use Rattle.std.specs.Prelude.{◌^◌, if◌then◌else◌, IsTrue, [], ℕ, ◌==◌, ◌<◌, ◌≤◌, List, drop, filter, length, map, Vec}
+use Rattle.std.specs.Prelude.{MatchOption, ⊤, ◌^◌, if◌then◌else◌, IsTrue, [], ℕ, ◌==◌, ◌<◌, ◌≤◌, List, drop, filter, length, map, Vec}
 use Rattle.ii_recorder.specs.AnyRecorder.{any_state}
 use Rattle.ii_recorder.specs.declared.recorder.any_recorder.AnyRecorder.{AnyRecorder}
 use Rattle.std.specs.List.{AllByRecursion}
@@ -11,7 +11,7 @@ use Rattle.ii_recorder.specs.Pushed.{FillTooLarge, HaveDeltas, pushed_deltas, pu
 use Rattle.ii_recorder.specs.Recorded.{RecorderState, entries_in}
 use Rattle.ii_recorder.specs.Terms.{WrittenTerm}
 use Rattle.ii_indexing.specs.declared.sorted_terms.TermOfField.{TermOfField}
-use Rattle.ii_indexing.specs.IndexingContext.{TermIndex}
+use Rattle.ii_indexing.specs.IndexingContext.{TermIndex, recorder_of}
 use Rattle.ii_indexing.specs.IndexingTerm.{field_in}
 
 -- A term of a field: its key, and what is kept of it.
@@ -60,3 +60,11 @@ pub record IsTold (mode : IndexRecordOption) (t : TermState) : Type 0 where
   pub small : ¬ FillTooLarge (written_of mode t).skip_info [] (pushed_freqs t.recorder.option (entries_in t.recorder))
   pub fit : AllByRecursion (λ n. n < 2 ^ 32) (pushed_freqs t.recorder.option (entries_in t.recorder))
   pub located : IsTrue (has_positions t.recorder.option) → HaveDeltas (entries_in t.recorder)
+
+-- A term of a context may be written, in one of so many fields.
+pub record MayBeWritten (num_fields : ℕ) (bytes : List ℕ) (r : RecorderState) : Type 0 where
+  pub known : field_in bytes < num_fields
+  pub writable : IsWritable (record { key = drop 4 bytes; recorder = r })
+
+abbrev pub AllMayBeWritten : ℕ → TermIndex → Type 0
+AllMayBeWritten num_fields terms = (bytes : List ℕ) → MatchOption (recorder_of terms bytes) ⊤ (MayBeWritten num_fields bytes)
