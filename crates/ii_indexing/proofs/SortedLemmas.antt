@@ -1,5 +1,5 @@
 -- Terms in the order of their bytes.
-use Rattle.std.proofs.Common.{Option, Some, Result, Ok, Err, IfOk, None, zero, suc, ◌+◌, ◌<◌, ◌^◌, ◌++◌, drop, filter, nat_eq, arith, ◌≡◌, ℕ, Bool, true, false, List, [], ◌∷◌, map, refl, sym, ap, ◌∙◌, subst, Vec}
+use Rattle.std.proofs.Common.{length, length-append, ◌≤◌, Option, Some, Result, Ok, Err, IfOk, None, zero, suc, ◌+◌, ◌<◌, ◌^◌, ◌++◌, drop, filter, nat_eq, arith, ◌≡◌, ℕ, Bool, true, false, List, [], ◌∷◌, map, refl, sym, ap, ◌∙◌, subst, Vec}
 use Rattle.std.proofs.Common.{Ordering, Less, Equal, Greater}
 use Rattle.std.specs.Ordering.{ordering_reverse}
 use Rattle.std.specs.Prelude.{bytes_eq}
@@ -15,8 +15,9 @@ use Rattle.std.proofs.lemmas.Cmp.{nat_cmp_total, nat_list_cmp_total, on_total}
 use Rattle.std.proofs.lemmas.Cmp.{nat_list_eq_equiv}
 use Rattle.std.specs.Cmp.Lexicographic.{bytes_decides, slice_cmp}
 use Rattle.std.specs.Ordering.{nat_cmp}
-use Rattle.ii_indexing.specs.IndexingContext.{TermIndex}
-use Rattle.ii_indexing.specs.SortedTerms.{TermState, terms_in}
+use Rattle.ii_indexing.specs.IndexingContext.{TermIndex, recorder_of}
+use Rattle.ii_indexing.specs.SortedTerms.{AllMayBeWritten, IsTermBelow, IsWritable, MayBeWritten, TermState, terms_in}
+use Rattle.ii_indexing.proofs.TermLemmas.{length_field}
 use Rattle.ii_indexing.specs.IndexingTerm.{AreTermBytes, field_bytes, field_in}
 use Rattle.std.specs.Map.{lookup}
 use Rattle.std.specs.List.Sorted.{IsPermutation}
@@ -203,3 +204,43 @@ each_by_lookup P (t ∷ ts) sorted known =
         let here : bytes ≡ t.0 = (bytes_decides bytes t.0).0 same in
         rw (here, none_above t.0 ts sorted.0) tt
     later bytes false other = subst (λ (o : Option RecorderState). MatchOption o ⊤ (P bytes)) (found_later bytes t ts other) (known bytes)
+
+long_bytes : (bytes : List ℕ) → AreTermBytes bytes → 4 ≤ length bytes
+long_bytes bytes are = omega (arith, ap length are.are, length-append (field_bytes are.field) (drop 4 bytes), length_field are.field)
+
+all_below : (n : ℕ) (terms : TermIndex) → AllByRecursion AreTermBytes (keys_of terms) → AllByRecursion (λ (t : List ℕ × RecorderState). field_in t.0 < n) terms → AllByRecursion (IsTermBelow n) terms
+all_below n [] are known = tt
+all_below n (t ∷ ts) are known = (record { long = long_bytes t.0 are.0; known = known.0 }, all_below n ts are.1 known.1)
+
+-- the terms of a context lie in these fields
+pub lie_below : {A V : Type 0} (f : V → RecorderState) (es : List (Vec ℕ A × V)) (n : ℕ) (terms : TermIndex) → All (λ (k : Vec ℕ A). AreTermBytes k.items) (keys_of es)
+    → terms ≡ map (λ (e : Vec ℕ A × V). (e.0.items, f e.1)) es → AllByRecursion (λ (t : List ℕ × RecorderState). field_in t.0 < n) terms → AllByRecursion (IsTermBelow n) (map (λ (e : Vec ℕ A × V). (e.0.items, f e.1)) es)
+lie_below f es n terms all same known = subst (AllByRecursion (IsTermBelow n)) same (all_below n terms (subst (λ (ts : TermIndex). AllByRecursion AreTermBytes (keys_of ts)) (sym same) (each_key f es all)) known)
+
+all_mapped : {X : Type 0} (P Q : X → Type 0) → ((x : X) → P x → Q x) → (xs : List X) → AllByRecursion P xs → AllByRecursion Q xs
+all_mapped P Q f [] all = tt
+all_mapped P Q f (x ∷ xs) all = (f x all.0, all_mapped P Q f xs all.1)
+
+-- the fields of terms that may be written
+pub fields_known : (n : ℕ) (terms : TermIndex) → AllByRecursion (λ (t : List ℕ × RecorderState). MayBeWritten n t.0 t.1) terms → AllByRecursion (λ (t : List ℕ × RecorderState). field_in t.0 < n) terms
+fields_known n terms all = all_mapped (λ (t : List ℕ × RecorderState). MayBeWritten n t.0 t.1) (λ t. field_in t.0 < n) (λ t may. may.known) terms all
+
+kept_writable : (n field : ℕ) (terms : TermIndex) → AllByRecursion (λ (t : List ℕ × RecorderState). MayBeWritten n t.0 t.1) terms → AllByRecursion IsWritable (terms_in field terms)
+kept_writable n field [] all = tt
+kept_writable n field (t ∷ ts) all = by_case (lies_in field t.0) refl (kept_writable n field ts all.1)
+  where
+    by_case : (b : Bool) → lies_in field t.0 ≡ b → AllByRecursion IsWritable (terms_in field ts) → AllByRecursion IsWritable (terms_in field (t ∷ ts))
+    by_case true is rest = rw is (all.0.writable, rest)
+    by_case false is rest = rw is rest
+
+-- and the terms of each field
+pub all_writable : (n first count : ℕ) (terms : TermIndex) → AllByRecursion (λ (t : List ℕ × RecorderState). MayBeWritten n t.0 t.1) terms
+    → AllByRecursion (λ (ts : List TermState). AllByRecursion IsWritable ts) (map (λ (field : ℕ). terms_in field terms) (range_with_len first count))
+all_writable n first zero terms all = tt
+all_writable n first (suc count) terms all = (kept_writable n first terms all, all_writable n (first + 1) count terms all)
+
+-- terms that may be written may be so in their order
+pub each_may_be : (n : ℕ) (terms sorted : TermIndex) → ((bytes : List ℕ) → recorder_of sorted bytes ≡ recorder_of terms bytes) → IsStrictlySortedBy (slice_cmp nat_cmp) (map (λ (t : List ℕ × RecorderState). t.0) sorted) → AllMayBeWritten n terms
+    → AllByRecursion (λ (t : List ℕ × RecorderState). MayBeWritten n t.0 t.1) sorted
+each_may_be n terms sorted same ascending may =
+    each_by_lookup (MayBeWritten n) sorted ascending (λ bytes. subst (λ (o : Option RecorderState). MatchOption o ⊤ (MayBeWritten n bytes)) (sym (same bytes)) (may bytes))

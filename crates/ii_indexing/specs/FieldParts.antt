@@ -9,8 +9,12 @@ use Rattle.ii_index.specs.Fields.{option_of}
 use Rattle.ii_recorder.specs.HeldTerms.{HoldsTerms}
 use Rattle.ii_recorder.specs.IndexBodies.{IndexBodiesState}
 use Rattle.ii_recorder.specs.Terms.{FieldBodies, WrittenTerm, field_bodies}
+use Rattle.ii_termdict.specs.ReadBack.{AreAscending}
+use Rattle.ii_recorder.specs.IndexSerializer.{IndexSerializerState}
+use Rattle.ii_recorder.specs.Recorded.{RecorderState}
+use Rattle.ii_indexing.specs.IndexingContext.{TermIndex, recorder_of}
 use Rattle.ii_indexing.specs.PostingsWriter.{PostingsWriterState}
-use Rattle.ii_indexing.specs.SortedTerms.{IsTold, TermState, written_of}
+use Rattle.ii_indexing.specs.SortedTerms.{IsTold, TermState, terms_in, written_of}
 
 -- A field that is written: how many tokens it has, and its terms.
 pub record FieldPart : Type 0 where
@@ -62,3 +66,10 @@ first_parts entries writers terms n = flat_map (λ (field : ℕ). parts_of entri
 -- Norms for which each count of documents has 32 bits.
 abbrev pub AreShortNorms : List Body → Type 0
 AreShortNorms norms = (field : ℕ) → MatchOption (body_of field norms) ⊤ (λ ids. length ids < 2 ^ 32)
+
+-- The terms of a context were written, those of each field in the order of their keys.
+pub record WroteTerms (old new : IndexSerializerState) (writers : List PostingsWriterState) (terms : TermIndex) : Type 0 where
+  pub sorted : TermIndex
+  pub same : (bytes : List ℕ) → recorder_of sorted bytes ≡ recorder_of terms bytes
+  pub ascending : AreAscending (map (λ (t : List ℕ × RecorderState). t.0) sorted)
+  pub fields : HasFields old.entries old.bodies new.bodies (first_parts old.entries writers (map (λ (field : ℕ). terms_in field sorted) (range_with_len 0 (length old.entries))) (length old.entries))

@@ -8,13 +8,14 @@ ghost use Rattle.ii_recorder.specs.IndexBodies.{AddsBodies, IndexBodiesState, La
 ghost use Rattle.ii_recorder.specs.IndexSerializer.{IsWriting};
 ghost use Rattle.ii_recorder.specs.Terms.{WrittenTerm, field_bodies};
 ghost use Rattle.ii_recorder.specs.HeldTerms.{HoldsTerms};
-ghost use Rattle.ii_indexing.specs.FieldParts.{AreShortNorms, FieldPart, HasFields, first_parts, parts_of, tokens_in};
-ghost use Rattle.ii_indexing.specs.SortedTerms.{IsTold, IsWritable, TermState, state_of, written_of};
+ghost use Rattle.ii_indexing.specs.FieldParts.{AreShortNorms, FieldPart, HasFields, WroteTerms, first_parts, parts_of, tokens_in};
+ghost use Rattle.ii_indexing.specs.SortedTerms.{AllMayBeWritten, IsTold, IsWritable, TermState, state_of, written_of};
 
+use crate::indexing_context::IndexingContext;
 use crate::per_field_postings_writer::PerFieldPostingsWriter;
 use crate::postings_writer::PostingsWriter;
 use crate::sorted_terms::{FieldTerms, TermOfField};
-use ii_base::{Fault, Field};
+use ii_base::{Fault, Field, Schema};
 use ii_fieldnorm::{FieldNormReader, FieldNormReaders};
 use ii_recorder::{AnyRecorder, BufferLender, FieldSerializer, InvertedIndexSerializer, Recorder};
 use std::alloc::Global;
@@ -138,4 +139,44 @@ fn serialize_fields<W: Write>(
         serialize_if_any(field, writers, norms, &terms[place], &mut buffer_lender, serializer)?;
     }
     Ok(())
+}
+
+/// Writes the terms of a context, the fields that have some in ascending order, with the numbers of
+/// tokens that their writers had. The schema, fewer than 2^32 fields, is that of the serializer and of
+/// the writers; no field was written yet; each term lies in a field of it, and its documents may be
+/// written.
+///
+/// `Write` where a writer fails, `Limit(Offset)` where a count of a writer would pass `u64::MAX` or the
+/// bytes of all terms of a field pass 2^56, `Limit(TermBytes)` where the postings or the positions of a
+/// term have more than `u32::MAX` bytes, `Limit(BlockFrequencySum)` where the counts of a block of a term
+/// with positions sum up above `u32::MAX`, `OutOfMemory` where a growth was refused;
+/// `SerializerClosed` after an earlier refusal, if there is a term.
+pub fn serialize_postings<W: Write>(
+    alloc: Global,
+    ctx: IndexingContext,
+    schema: &Schema,
+    per_field_postings_writers: &PerFieldPostingsWriter,
+    fieldnorm_readers: &FieldNormReaders,
+    serializer: &mut InvertedIndexSerializer<W>,
+) -> Result<(), Fault>
+    requires schema { schema.now ≡ serializer.old.entries }
+    requires few { length schema.now < 2 ^ 32 }
+    requires writers { length per_field_postings_writers.now ≡ length schema.now }
+    requires fresh { HasFields serializer.old.entries serializer.old.bodies serializer.old.bodies [] }
+    requires norms { AreShortNorms fieldnorm_readers.now }
+    requires terms { AllMayBeWritten (length schema.now) ctx }
+    ensures entries { serializer.new.entries ≡ serializer.old.entries }
+    ensures wrote { OnOk result (WroteTerms serializer.old serializer.new per_field_postings_writers.now ctx) }
+    ensures closes { OnOk result (serializer.new.closed ≡ serializer.old.closed) }
+{
+    let mut ctx = ctx;
+    ctx.sort()?;
+    let terms = ctx.terms_by_field(alloc, schema.num_fields())?;
+    serialize_fields(
+        alloc,
+        per_field_postings_writers,
+        fieldnorm_readers,
+        &terms,
+        serializer,
+    )
 }

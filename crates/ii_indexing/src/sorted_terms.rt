@@ -130,7 +130,7 @@ impl IndexingContext {
         alloc: Global,
         num_fields: usize,
     ) -> Result<Vec<FieldTerms<'a>>, Fault>
-        requires known { AllByRecursion (IsTermBelow num_fields) self.now }
+        requires known { AllByRecursion (λ t. field_in t.0 < num_fields) self.now }
         ensures ok { IfOk result (λ fields. fields.items ≡ map (λ field. terms_in field self.entry.now) (range_with_len 0 num_fields)) }
         ensures ascending { AreAscending (map (λ t. t.0) self.entry.now) → IfOk result (λ fields. AllByRecursion (λ ts. AreAscending (map (λ t. t.key) ts)) fields.items) }
         ensures only { IfErr result (λ e. e ≡ Fault.OutOfMemory) }
