@@ -6,3 +6,4 @@ pub mod RecorderLemmas
 pub mod PushLemmas
 pub mod PushLocated
 pub mod DeltaLemmas
+pub mod PushedEntries

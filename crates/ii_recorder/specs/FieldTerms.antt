@@ -62,6 +62,10 @@ IsTooLong t = (2 ^ 32 ≤ length (written_postings t.skip_info t.docs t.freqs)) 
 abbrev pub PassOffsets : TermPlacesState → OpenTermState → Type 0
 PassOffsets p t = (2 ^ 56 ≤ p.postings_end + length (written_postings t.skip_info t.docs t.freqs)) ⊎ (2 ^ 56 ≤ p.positions_end + length (positions_bytes t.mode t.deltas))
 
+-- Neither limit of a term is passed.
+abbrev pub IsWithinLimits : FieldTermsState → Type 0
+IsWithinLimits s = (¬ IsTooLong s.term) × (¬ PassOffsets s.places s.term)
+
 -- There is no room for a term: a count of a writer would pass its type, or an end 2 ^ 56.
 abbrev pub HasNoRoom : OpenTermState → TermPlacesState → CountingWriterState → CountingWriterState → Type 0
 HasNoRoom t p postings positions =

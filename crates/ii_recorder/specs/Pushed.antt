@@ -1,17 +1,20 @@
 -- What a recorder pushes to the serializer of a field, and how that ends.
-use Rattle.std.specs.Prelude.{◌≡◌, ℕ, ◌+◌, ◌^◌, ◌<◌, ◌↔◌, ◌⊎◌, true, false, if◌then◌else◌, IsTrue, List, ◌++◌, length, map, take, Result, OnOk, IfErr, IsErrOf}
+use Rattle.std.specs.Prelude.{◌≡◌, ℕ, ◌+◌, ◌^◌, ◌<◌, ◌↔◌, ◌⊎◌, true, false, if◌then◌else◌, IsTrue, List, [], ◌++◌, Ok, Some, length, map, take, Result, OnOk, IfErr, IsErrOf}
 use Rattle.std.specs.List.{AllByRecursion, flat_map}
 use Rattle.ii_io.specs.declared.faults.Fault.{Fault}
 use Rattle.ii_io.specs.declared.faults.Fault.TheVariants.{Limit, OutOfMemory, SerializerClosed}
 use Rattle.ii_io.specs.declared.faults.LimitName.TheVariants.{BlockFrequencySum}
 use Rattle.ii_io.specs.CountingWriter.{Closes}
 use Rattle.ii_base.specs.declared.schema.index_record_option.IndexRecordOption.{IndexRecordOption}
-use Rattle.ii_base.specs.Options.{has_freq, has_positions}
+use Rattle.ii_base.specs.Options.{downgrade, has_freq, has_positions}
 use Rattle.ii_codes.specs.Sums.{differences}
 use Rattle.ii_docset.specs.Entries.{Entry, are_documents, docs_of}
 use Rattle.ii_layout.specs.Positions.{positions_of}
 use Rattle.ii_layout.specs.PostingsSerializer.{IsSumTooLarge}
-use Rattle.ii_layout.specs.TermList.{AreDeltas}
+use Rattle.ii_layout.specs.TermList.{AreDeltas, term_list}
+use Rattle.ii_layout.specs.Written.{written_postings}
+use Rattle.ii_index.specs.Cut.{cut_entry}
+use Rattle.ii_recorder.specs.Terms.{positions_bytes}
 use Rattle.ii_recorder.specs.IndexSerializer.{IndexSerializerState}
 
 -- the counts of entries, 0 where the option keeps none
@@ -66,3 +69,18 @@ pub record Pushes (option : IndexRecordOption) (old new : IndexSerializerState) 
   pub limit : IsErrOf result (Limit BlockFrequencySum) → FillTooLarge old.field.term.skip_info old.field.term.freqs (pushed_freqs option es)
   pub closed : IsErrOf result SerializerClosed ↔ IsTrue old.closed
   pub only : IfErr result (λ e. (e ≡ OutOfMemory) ⊎ (e ≡ SerializerClosed) ⊎ (e ≡ Limit BlockFrequencySum))
+
+-- Entries that a term of a field may have, where the term's counts and positions are those that the field records.
+pub record AreReadable (mode : IndexRecordOption) (es : List Entry) : Type 0 where
+  pub documents : IsTrue (are_documents (docs_of es))
+  pub some : 0 < length es
+  pub counted : IsTrue (has_freq mode) → AllByRecursion (λ n. 0 < n) (pushed_freqs mode es)
+  pub fit : AllByRecursion (λ n. n < 2 ^ 32) (pushed_freqs mode es)
+  pub small : ¬ FillTooLarge mode [] (pushed_freqs mode es)
+  pub located : IsTrue (has_positions mode) → HaveDeltas es
+
+-- What is written of pushed entries gives them, as far as they are requested.
+abbrev pub ReadsEntriesBack : Type 0
+ReadsEntriesBack =
+    (mode requested : IndexRecordOption) (es : List Entry) → AreReadable mode es
+    → term_list mode requested (length es) (written_postings mode (docs_of es) (pushed_freqs mode es)) (Some (positions_bytes mode (pushed_deltas es))) ≡ Ok (map (cut_entry (downgrade mode requested)) es)

@@ -8,7 +8,7 @@ ghost use Rattle.ii_layout.specs.PostingsSerializer.{IsSumTooLarge};
 ghost use Rattle.ii_termdict.specs.ReadBack.{AreAscending};
 ghost use Rattle.ii_recorder.specs.Terms.{WrittenTerm, field_bodies};
 ghost use Rattle.ii_recorder.specs.HeldTerms.{HoldsTerms};
-ghost use Rattle.ii_recorder.specs.FieldTerms.{term_under};
+ghost use Rattle.ii_recorder.specs.FieldTerms.{IsWithinLimits, term_under};
 ghost use Rattle.ii_recorder.specs.IndexBodies.{IndexBodiesState, AddsBodies, AreBegun, LacksField, NoneFalls, failed_calls};
 ghost use Rattle.ii_recorder.specs.IndexSerializer.{IsFieldFault, IsTermFault, IsWriting};
 ghost use Rattle.ii_recorder.specs.contracts.serializer.InvertedIndexSerializer.{the_row};
@@ -186,6 +186,7 @@ impl<'a, W: Write> FieldSerializer<'a, W> {
         ensures by_one { IsErrOf result Fault.Write → failed_calls self.new.index.now.bodies ≡ failed_calls self.old.index.now.bodies + 1 }
         ensures kept { NoneFalls self.old.index.now.bodies self.new.index.now.bodies }
         ensures refused { IsTrue self.old.index.now.closed → self.new.index.now ≡ self.old.index.now }
+        ensures limits { IsTrue self.old.index.now.field.term_open → OnOk result (IsWithinLimits self.old.index.now.field) }
         ensures fault { IfErr result (λ e. (e ≡ Fault.SerializerClosed) ⊎ IsTermFault self.old.index.now e) }
         ensures closed { IsErrOf result Fault.SerializerClosed ↔ IsTrue self.old.index.now.closed }
     {
@@ -214,6 +215,7 @@ impl<'a, W: Write> FieldSerializer<'a, W> {
         ensures by_one { IsErrOf result Fault.Write → failed_calls self.exit.0.now.bodies ≡ failed_calls self.entry.index.now.bodies + 1 }
         ensures kept { NoneFalls self.entry.index.now.bodies self.exit.0.now.bodies }
         ensures refused { IsTrue self.entry.index.now.closed → self.exit.0.now ≡ self.entry.index.now }
+        ensures limits { IsTrue self.entry.index.now.field.term_open → OnOk result (IsWithinLimits self.entry.index.now.field) }
         ensures fault { IfErr result (λ e. (e ≡ Fault.SerializerClosed) ⊎ IsFieldFault self.entry.index.now e) }
         ensures closed { IsErrOf result Fault.SerializerClosed ↔ IsTrue self.entry.index.now.closed }
     {

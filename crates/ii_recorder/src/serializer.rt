@@ -9,7 +9,7 @@ ghost use Rattle.ii_layout.specs.PostingsSerializer.{IsSumTooLarge};
 ghost use Rattle.ii_termdict.specs.ReadBack.{AreAscending};
 ghost use Rattle.ii_recorder.specs.Terms.{WrittenTerm, field_bodies};
 ghost use Rattle.ii_recorder.specs.HeldTerms.{HoldsTerms};
-ghost use Rattle.ii_recorder.specs.FieldTerms.{closing_bytes, dictionary_of, term_under};
+ghost use Rattle.ii_recorder.specs.FieldTerms.{IsWithinLimits, closing_bytes, dictionary_of, term_under};
 ghost use Rattle.ii_recorder.specs.IndexBodies.{IndexBodiesState, AddsBodies, AreBegun, AreFull, LacksField, NoneFalls, failed_calls, tables_of};
 ghost use Rattle.ii_recorder.specs.IndexSerializer.{IsFieldFault, IsTermFault, IsWriting};
 
@@ -229,6 +229,7 @@ impl<W: Write> InvertedIndexSerializer<W> {
     }
 
     // Ends the open term, if there is one.
+    #[tactic(auto, using(crate::proofs::TermLemmas::ends_within))]
     pub(crate) fn end_term(&mut self) -> Result<(), Fault>
         requires begun { self.old.closed ≡ false → AreBegun self.old.bodies }
         ensures writing { (initial : IndexBodiesState) (field tokens : ℕ) (ts : List WrittenTerm) (key : List ℕ) → IsTrue self.old.field.term_open
@@ -245,6 +246,7 @@ impl<W: Write> InvertedIndexSerializer<W> {
         ensures by_one { IsErrOf result Fault.Write → failed_calls self.new.bodies ≡ failed_calls self.old.bodies + 1 }
         ensures kept { NoneFalls self.old.bodies self.new.bodies }
         ensures refused { IsTrue self.old.closed → self.new ≡ self.old }
+        ensures limits { IsTrue self.old.field.term_open → OnOk result (IsWithinLimits self.old.field) }
         ensures fault { IfErr result (λ e. (e ≡ Fault.SerializerClosed) ⊎ IsTermFault self.old e) }
         ensures room { OnOk result (AreFull self.new.bodies (dictionary_of self.new.field) → AreFull self.old.bodies (closing_bytes self.old.field)) }
         ensures closed { IsErrOf result Fault.SerializerClosed ↔ IsTrue self.old.closed }
@@ -305,6 +307,7 @@ impl<W: Write> InvertedIndexSerializer<W> {
         ensures by_one { IsErrOf result Fault.Write → failed_calls self.new.bodies ≡ failed_calls self.old.bodies + 1 }
         ensures kept { NoneFalls self.old.bodies self.new.bodies }
         ensures refused { IsTrue self.old.closed → self.new ≡ self.old }
+        ensures limits { IsTrue self.old.field.term_open → OnOk result (IsWithinLimits self.old.field) }
         ensures fault { IfErr result (λ e. (e ≡ Fault.SerializerClosed) ⊎ IsFieldFault self.old e) }
         ensures closed { IsErrOf result Fault.SerializerClosed ↔ IsTrue self.old.closed }
     {

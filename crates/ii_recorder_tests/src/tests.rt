@@ -37,7 +37,7 @@ fn write_five<W: Write>(index: &mut InvertedIndexSerializer<W>) -> Result<(), Fa
 }
 
 // A field of texts with positions.
-fn texts(alloc: Global) -> Result<Schema, Fault>
+pub(crate) fn texts(alloc: Global) -> Result<Schema, Fault>
     ensures { IfOk result (λ schema. 0 < length schema) }
 {
     let mut entries = Vec::new(alloc);

@@ -1,0 +1,116 @@
+ghost use Rattle.std.specs.Prelude.{◌<◌, ◌≡◌, true, false, length, IsTrue, IfOk};
+ghost use Rattle.std.specs.List.{AllByRecursion};
+ghost use Rattle.ii_base.specs.Options.{has_freq};
+ghost use Rattle.ii_docset.specs.Entries.{are_documents, docs_of};
+ghost use Rattle.ii_recorder.specs.IndexBodies.{LacksField};
+ghost use Rattle.ii_recorder.specs.Pushed.{pushed_freqs};
+ghost use Rattle.ii_recorder.specs.Recorded.{entries_in};
+
+use crate::tests::texts;
+use ii_base::{CountingWriter, Fault, Field};
+use ii_recorder::{
+    BufferLender, DocIdRecorder, InvertedIndexSerializer, Recorder, TermFrequencyRecorder,
+    TfAndPositionRecorder,
+};
+use std::alloc::Global;
+use std::io::Write;
+use std::test::Fail;
+
+// Document 0 at 0 and 4, and document 3 at 1, which stays open.
+fn two_documents(alloc: Global) -> Result<TfAndPositionRecorder, Fault>
+    ensures docs { IfOk result (λ r. IsTrue (are_documents (docs_of (entries_in r)))) }
+    ensures counted { IfOk result (λ r. AllByRecursion (λ n. 0 < n) (pushed_freqs r.option (entries_in r))) }
+{
+    let mut recorder = TfAndPositionRecorder::new(alloc);
+    recorder.new_doc(0)?;
+    recorder.record_position(0)?;
+    recorder.record_position(4)?;
+    recorder.close_doc()?;
+    recorder.new_doc(3)?;
+    recorder.record_position(1)?;
+    Ok(recorder)
+}
+
+// The same without positions.
+fn two_counts(alloc: Global) -> Result<TermFrequencyRecorder, Fault>
+    ensures docs { IfOk result (λ r. IsTrue (are_documents (docs_of (entries_in r)))) }
+    ensures counted { IfOk result (λ r. AllByRecursion (λ n. 0 < n) (pushed_freqs r.option (entries_in r))) }
+{
+    let mut recorder = TermFrequencyRecorder::new(alloc);
+    recorder.new_doc(0)?;
+    recorder.record_position(0)?;
+    recorder.record_position(4)?;
+    recorder.close_doc()?;
+    recorder.new_doc(3)?;
+    recorder.record_position(1)?;
+    Ok(recorder)
+}
+
+// And without counts.
+fn two_ids(alloc: Global) -> Result<DocIdRecorder, Fault>
+    ensures docs { IfOk result (λ r. IsTrue (are_documents (docs_of (entries_in r)))) }
+    ensures counted { IfOk result (λ r. has_freq r.option ≡ false) }
+{
+    let mut recorder = DocIdRecorder::new(alloc);
+    recorder.new_doc(0)?;
+    recorder.close_doc()?;
+    recorder.new_doc(3)?;
+    Ok(recorder)
+}
+
+// Writes a field of three tokens with one term, whose documents a recorder has.
+fn write_recorder<R: Recorder, W: Write>(
+    alloc: Global,
+    recorder: &R,
+    index: &mut InvertedIndexSerializer<W>,
+) -> Result<(), Fault>
+    requires known { 0 < length index.old.entries }
+    requires lacks { index.old.closed ≡ false → LacksField 0 index.old.bodies }
+    requires docs { IsTrue (are_documents (docs_of (entries_in (R.state recorder.now)))) }
+    requires counted { IsTrue (has_freq (R.state recorder.now).option) → AllByRecursion (λ n. 0 < n) (pushed_freqs (R.state recorder.now).option (entries_in (R.state recorder.now))) }
+{
+    let mut field = index.new_field(Field::from_field_id(0), 3, None)?;
+    field.new_term(b"a", 2, recorder.has_term_freq())?;
+    recorder.serialize(&mut BufferLender::new(alloc), &mut field)?;
+    field.close_term()?;
+    field.close()
+}
+
+// The bodies of postings and of positions of a field with one term.
+fn bodies_of<R: Recorder>(alloc: Global, recorder: &R) -> Result<(Vec<u8>, Vec<u8>), Fault>
+    requires docs { IsTrue (are_documents (docs_of (entries_in (R.state recorder.now)))) }
+    requires counted { IsTrue (has_freq (R.state recorder.now).option) → AllByRecursion (λ n. 0 < n) (pushed_freqs (R.state recorder.now).option (entries_in (R.state recorder.now))) }
+{
+    let schema = texts(alloc)?;
+    let mut index = InvertedIndexSerializer::open(
+        alloc,
+        CountingWriter::wrap(Vec::new(alloc)),
+        CountingWriter::wrap(Vec::new(alloc)),
+        CountingWriter::wrap(Vec::new(alloc)),
+        schema,
+    );
+    write_recorder(alloc, recorder, &mut index)?;
+    let (_, postings, positions, closed) = index.close();
+    closed?;
+    Ok((postings.finish(), positions.finish()))
+}
+
+#[test]
+fn recorders_are_serialized(rt: HostRuntime) -> Result<(), Fail> {
+    let alloc = rt.alloc();
+    // After three tokens: documents by their deltas, and counts. No block of positions, and deltas.
+    // Then a table of 24 bytes.
+    let (postings, positions) = bodies_of(alloc, &two_documents(alloc)?)?;
+    assert!(rt; postings.starts_with(&[3, 0, 0, 0, 0, 0, 0, 0, 0x80, 0x83, 0x82, 0x81]));
+    assert!(rt; postings.len() == 12 + 24);
+    assert!(rt; positions.starts_with(&[0x80, 0x80, 0x84, 0x81]));
+    assert!(rt; positions.len() == 4 + 24);
+    let (postings, positions) = bodies_of(alloc, &two_counts(alloc)?)?;
+    assert!(rt; postings.starts_with(&[3, 0, 0, 0, 0, 0, 0, 0, 0x80, 0x83, 0x82, 0x81]));
+    assert!(rt; positions.len() == 1 + 24);
+    let (postings, positions) = bodies_of(alloc, &two_ids(alloc)?)?;
+    assert!(rt; postings.starts_with(&[3, 0, 0, 0, 0, 0, 0, 0, 0x80, 0x83]));
+    assert!(rt; postings.len() == 10 + 24);
+    assert!(rt; positions.len() == 1 + 24);
+    Ok(())
+}
