@@ -2,11 +2,11 @@ ghost use Rattle.std.specs.Prelude.{◌≡◌};
 ghost use Rattle.ii_docset.specs.Entries.{are_documents};
 
 use crate::position_tests::{counted, gathered, opened, sought};
-use crate::{BlockSegmentPostings, LoadedPostings, SegmentPostings};
 use bytes::Bytes;
 use ii_base::{CountingWriter, IndexRecordOption};
 use ii_docset::{CursorAnswer, CursorCall, DocId, DocSet, Postings, TERMINATED, Walk, walk};
 use ii_layout::PostingsSerializer;
+use ii_reader::{BlockSegmentPostings, LoadedPostings, SegmentPostings};
 use std::alloc::Global;
 use std::test::Fail;
 

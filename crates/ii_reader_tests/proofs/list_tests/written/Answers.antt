@@ -1,6 +1,6 @@
 use Rattle.std.proofs.Common.{sym, ◌∙◌}
 use Rattle.ii_docset.proofs.CursorLemmas.{documents_take}
-use Rattle.ii_reader.proofs.list_tests.written.Goals as goal
+use Rattle.ii_reader_tests.proofs.list_tests.written.Goals as goal
 
 pub write_doc-requires-clause-ascending : goal.write_doc-requires-clause-ascending
 write_doc-requires-clause-ascending c = λ open_still.

@@ -1,13 +1,13 @@
 ghost use Rattle.std.specs.Prelude.{◌≡◌, [], ◌∷◌, IfSome};
 ghost use Rattle.ii_docset.specs.Entries.{document};
 
-use crate::{BlockSegmentPostings, SegmentPostings};
 use bytes::Bytes;
 use ii_base::{AliveBitSet, IndexRecordOption, LayoutFault, Part};
 use ii_check::FreqReadingOption;
 use ii_docset::{
     CursorAnswer, CursorCall, DocSet, Postings, SeekDangerResult, TERMINATED, Walk, walk,
 };
+use ii_reader::{BlockSegmentPostings, SegmentPostings};
 use std::alloc::Global;
 use std::test::Fail;
 

@@ -1,6 +1,6 @@
 use Rattle.std.proofs.Common.{sym, ◌∙◌}
 use Rattle.ii_layout.proofs.PositionRows.{row_two}
-use Rattle.ii_reader.proofs.position_tests.two_positions.Goals as goal
+use Rattle.ii_reader_tests.proofs.position_tests.two_positions.Goals as goal
 
 pub returns-in-Ok : goal.returns-in-Ok
 returns-in-Ok c =

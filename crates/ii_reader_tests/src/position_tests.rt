@@ -1,9 +1,9 @@
 ghost use Rattle.std.specs.Prelude.{◌≡◌, [], ◌∷◌, IfSome};
 
-use crate::SegmentPostings;
 use bytes::Bytes;
 use ii_base::{IndexRecordOption, LayoutFault, Part};
 use ii_docset::{DocId, DocSet, Postings, TERMINATED};
+use ii_reader::SegmentPostings;
 use std::alloc::Global;
 use std::test::Fail;
 

@@ -2,8 +2,8 @@ use Rattle.std.proofs.Common.{List, refl, ap, ◌∙◌}
 use denote.Param.Object.{read_made}
 use Rattle.ii_docset.specs.Entries.{Entry}
 use Rattle.ii_reader.specs.SegmentPostings.{SegmentPostingsState}
-use Rattle.ii_reader.proofs.cursor_tests.cursors_are_walked.OwnLists.{own-1, at-1-1}
-use Rattle.ii_reader.proofs.cursor_tests.cursors_are_walked.Goals as goal
+use Rattle.ii_reader_tests.proofs.cursor_tests.cursors_are_walked.OwnLists.{own-1, at-1-1}
+use Rattle.ii_reader_tests.proofs.cursor_tests.cursors_are_walked.Goals as goal
 
 pub row-requires-2 : goal.row-requires-2
 row-requires-2 g c =

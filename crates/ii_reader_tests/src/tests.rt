@@ -1,8 +1,8 @@
-use crate::{BlockSegmentPostings, SegmentPostings};
 use bytes::Bytes;
 use ii_base::{HasLen, IndexRecordOption, LayoutFault, Part};
 use ii_check::FreqReadingOption;
 use ii_docset::{DocSet, Postings, TERMINATED};
+use ii_reader::{BlockSegmentPostings, SegmentPostings};
 use std::alloc::Global;
 
 const BASIC: IndexRecordOption = IndexRecordOption::Basic;

@@ -1,6 +1,6 @@
 use Rattle.std.proofs.Common.{sym, ◌∙◌}
 use Rattle.ii_reader.proofs.WorkedRows.{row_three}
-use Rattle.ii_reader.proofs.cursor_tests.three.Goals as goal
+use Rattle.ii_reader_tests.proofs.cursor_tests.three.Goals as goal
 
 pub returns-in-Ok : goal.returns-in-Ok
 returns-in-Ok c =
