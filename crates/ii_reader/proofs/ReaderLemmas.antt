@@ -1,5 +1,5 @@
 -- Reading a term of a file.
-use Rattle.std.proofs.Common.{◌/◌, ◌%◌, ◌&&◌, ◌≡◌, ◌≤◌, ℕ, inr, Bool, true, false, List, Option, None, Some, nat_le, Ok, Err, length, drop, refl, sym, ap, [], ◌∷◌}
+use Rattle.std.proofs.Common.{◌||◌, not, inl, ◌∙◌, ◌/◌, ◌%◌, ◌&&◌, ◌≡◌, ◌≤◌, ℕ, inr, Bool, true, false, List, Option, None, Some, nat_le, Ok, Err, length, drop, refl, sym, ap, [], ◌∷◌}
 use Rattle.std.specs.Prelude.{Result, ok_or, unwrap_or, filter}
 use Rattle.ii_io.specs.declared.faults.Fault.{Fault}
 use Rattle.ii_io.specs.declared.faults.LayoutFault.{LayoutFault}
@@ -21,7 +21,13 @@ use Rattle.ii_index.specs.Tokens.{IndexToken}
 use Rattle.ii_index.specs.Postings.{is_at, key_postings, occurs}
 use Rattle.std.proofs.lemmas.Bool.{leb-true}
 use Rattle.std.specs.Option.{option_map}
-use Rattle.ii_reader.specs.InvertedIndexReader.{IsRefusal, given_if}
+use Rattle.std.specs.Result.{result_unwrap_or}
+use Rattle.ii_docset.specs.Entries.{Entry}
+use Rattle.ii_termstore.specs.declared.term_info.TermInfo.{TermInfo}
+use Rattle.ii_index.specs.Files.{HoldsTerm, bytes_in}
+use Rattle.ii_io.specs.declared.faults.Fault.TheVariants.{OutOfMemory}
+use Rattle.std.proofs.lemmas.Bool.{le-leb}
+use Rattle.ii_reader.specs.InvertedIndexReader.{InvertedIndexReaderState, IsRefusal, given_if, ranges_lie, reads_positions, term_of_file}
 
 front : (bytes : List ℕ) (n : ℕ) (rest : List ℕ) (b : Bool) → nat_le 8 (length bytes) ≡ b → number_at 8 bytes ≡ Some (n, rest) → (rest ≡ drop 8 bytes) × (8 ≤ length bytes)
 unfolding number_at
@@ -95,3 +101,41 @@ none_listed option field key requested ts none = rw (none_found (is_at field key
 -- the first part that fails, as a fault
 pub refused_by : {A : Type 0} (found : Result A Part) (fault : LayoutFault) → found ≡ Err (part_of fault) → IsRefusal found (as_fault fault)
 refused_by found (layout.Damaged part) is = inr (part, refl, is)
+
+-- the list of a term whose ranges lie in the bodies, from the bytes that are handed over
+pub file_list : (reader : InvertedIndexReaderState) (requested : IndexRecordOption) (info : TermInfo) (found : Result (List Entry) Part) → ranges_lie reader requested info ≡ true
+    → term_list reader.option requested info.doc_freq (bytes_in reader.postings info.postings_range) (given_if (reads_positions reader requested) (bytes_in reader.positions info.positions_range)) ≡ found
+    → term_of_file reader requested info ≡ found
+file_list reader requested info found lie is =
+    let given = term_list_given reader.option requested info.doc_freq (bytes_in reader.postings info.postings_range) (bytes_in reader.positions info.positions_range) (reads_positions reader requested) refl in
+    rw lie (sym given ∙ is)
+
+lies_from : (bytes : List ℕ) (start end : ℕ) → start ≤ end → end ≤ length bytes → (nat_le start end && nat_le end (length bytes)) ≡ true
+lies_from bytes start end forward within = rw (le-leb start end forward, le-leb end (length bytes) within) refl
+
+or_true : (b : Bool) → (b || true) ≡ true
+or_true true = refl
+or_true false = refl
+
+pub ranges_held : (reader : InvertedIndexReaderState) (field : ℕ) (key : List ℕ) (requested : IndexRecordOption) (ts : List IndexToken) (info : TermInfo)
+    → HoldsTerm reader.option field key reader.postings reader.positions ts info → ranges_lie reader requested info ≡ true
+ranges_held reader field key requested ts info holds =
+    let postings = lies_from reader.postings info.postings_range.start info.postings_range.end holds.postings_range.0 holds.postings_range.1 in
+    let positions = lies_from reader.positions info.positions_range.start info.positions_range.end holds.positions_range.0 holds.positions_range.1 in
+    rw (postings, positions) (or_true (not (reads_positions reader requested)))
+
+-- a term that is held gives the postings of its key
+pub list_held : (reader : InvertedIndexReaderState) (field : ℕ) (key : List ℕ) (requested : IndexRecordOption) (ts : List IndexToken) (info : TermInfo)
+    → HoldsTerm reader.option field key reader.postings reader.positions ts info → term_of_file reader requested info ≡ Ok (key_postings reader.option field key requested ts)
+list_held reader field key requested ts info holds = rw (ranges_held reader field key requested ts info holds) (holds.lists requested)
+
+pub list_is : (reader : InvertedIndexReaderState) (field : ℕ) (key : List ℕ) (requested : IndexRecordOption) (ts : List IndexToken) (info : TermInfo) (rest : List Entry)
+    → HoldsTerm reader.option field key reader.postings reader.positions ts info → term_of_file reader requested info ≡ Ok rest → rest ≡ key_postings reader.option field key requested ts
+list_is reader field key requested ts info rest holds found =
+    ap (λ (r : Result (List Entry) Part). result_unwrap_or r []) (sym found ∙ list_held reader field key requested ts info holds)
+
+-- so reading it is refused for memory alone
+pub memory_alone : (reader : InvertedIndexReaderState) (field : ℕ) (key : List ℕ) (requested : IndexRecordOption) (ts : List IndexToken) (info : TermInfo) (fault : Fault)
+    → HoldsTerm reader.option field key reader.postings reader.positions ts info → IsRefusal (term_of_file reader requested info) fault → fault ≡ OutOfMemory
+memory_alone reader field key requested ts info fault holds (inl memory) = memory
+memory_alone reader field key requested ts info fault holds (inr (part, is, found)) = absurd (ok_other _ part (sym (list_held reader field key requested ts info holds) ∙ found))

@@ -152,7 +152,7 @@ impl InvertedIndexReader {
 
     /// A cursor over the postings of a term of which this is kept, as far as they are requested. See
     /// `read_postings` for the faults.
-    #[tactic(auto, using(crate::proofs::ReaderLemmas::list_no_range, crate::proofs::ReaderLemmas::refused_by))]
+    #[tactic(auto, using(crate::proofs::ReaderLemmas::list_no_range, crate::proofs::ReaderLemmas::refused_by, crate::proofs::ReaderLemmas::file_list))]
     pub fn read_postings_from_terminfo(
         &self,
         term_info: &TermInfo,
@@ -168,10 +168,11 @@ impl InvertedIndexReader {
         if !self.do_ranges_lie(term_info, option) {
             return Err(Fault::Damaged(Part::Range));
         }
-        let postings = part_of(&self.postings, &term_info.postings_range)?;
+        let postings = self.postings_of(term_info)?;
         let positions = self.positions_of(term_info, option)?;
+        let record_option = self.record_option();
         let doc_freq = term_info.doc_freq;
-        match SegmentPostings::open(doc_freq, postings, positions, self.option, option) {
+        match SegmentPostings::open(doc_freq, postings, positions, record_option, option) {
             Ok(cursor) => Ok(cursor),
             Err(fault) => Err(Fault::from(fault)),
         }
@@ -267,6 +268,22 @@ impl InvertedIndexReader {
             return true;
         }
         does_lie_in(&self.positions, &term_info.positions_range)
+    }
+
+    // What the field records.
+    fn record_option(&self) -> IndexRecordOption
+        ensures { result ≡ self.now.option }
+    {
+        self.option
+    }
+
+    // The bytes of a term's postings.
+    fn postings_of(&self, term_info: &TermInfo) -> Result<Bytes, Fault>
+        requires { lies_in self.now.postings term_info.now.postings_range ≡ true }
+        ensures ok { IfOk result (λ found. found ≡ bytes_in self.now.postings term_info.now.postings_range) }
+        ensures only { IfErr result (λ fault. fault ≡ Fault.OutOfMemory) }
+    {
+        part_of(&self.postings, &term_info.postings_range)
     }
 
     // The bytes of a term's positions, where they are read.

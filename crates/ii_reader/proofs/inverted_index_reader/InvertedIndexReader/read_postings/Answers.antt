@@ -1,4 +1,3 @@
-use Rattle.std.proofs.Common.{ℕ, List}
 use Rattle.ii_reader.proofs.inverted_index_reader.InvertedIndexReader.read_postings.Goals as goal
 
 pub returns-in-Err-clause-holds : goal.returns-in-Err-clause-holds
