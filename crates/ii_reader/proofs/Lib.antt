@@ -1,6 +1,7 @@
 pub mod BlockLemmas
 pub mod BlockSearchLemmas
 pub mod CursorLemmas
+pub mod IndexLemmas
 pub mod LoadedLemmas
 pub mod PositionLemmas
 pub mod ReaderLemmas

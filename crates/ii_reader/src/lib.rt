@@ -2,11 +2,13 @@
 #![tactic(auto)]
 
 pub mod block_segment_postings;
+pub mod index_files;
 pub mod inverted_index_reader;
 pub mod loaded_postings;
 pub mod segment_postings;
 
 pub use block_segment_postings::BlockSegmentPostings;
+pub use index_files::{OpenIndex, open_index};
 pub use inverted_index_reader::InvertedIndexReader;
 pub use loaded_postings::LoadedPostings;
 pub use segment_postings::SegmentPostings;
