@@ -135,7 +135,7 @@ impl BlockSegmentPostings {
                 Ok(())
             }
             Err(fault) => {
-                *self = BlockSegmentPostings::empty_by(record_option, requested_option);
+                self.clear();
                 Err(fault)
             }
         }

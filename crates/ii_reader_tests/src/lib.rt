@@ -4,8 +4,12 @@
 #[cfg(test)]
 mod cursor_tests;
 #[cfg(test)]
+mod index_tests;
+#[cfg(test)]
 mod list_tests;
 #[cfg(test)]
 mod position_tests;
 #[cfg(test)]
 mod tests;
+#[cfg(test)]
+mod written_tests;
