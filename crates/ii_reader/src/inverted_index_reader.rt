@@ -1,4 +1,4 @@
-ghost use Rattle.std.specs.Prelude.{◌≡◌, ◌↔◌, ◌≤◌, ℕ, List, false, true, length, drop, None, Some, Ok, Err, IfNone, IfOk, IfErr, IfSome, IsErrOf, IsSomeAnd, MatchOption, OnOk, OnErr};
+ghost use Rattle.std.specs.Prelude.{◌≡◌, ◌↔◌, ◌⊎◌, ◌≤◌, ℕ, List, false, true, length, drop, None, Some, Ok, Err, IfNone, IfOk, IfErr, IfSome, IsErrOf, IsSomeAnd, MatchOption, OnOk, OnErr};
 ghost use Rattle.std.specs.Option.{option_map, option_map_or};
 ghost use Rattle.ii_io.specs.Numbers.{number_at};
 ghost use Rattle.ii_base.specs.declared.schema.index_record_option.IndexRecordOption.TheVariants.{Basic};
@@ -215,12 +215,9 @@ impl InvertedIndexReader {
         ensures err { IfErr result (IsRefusal (docs_of_file self.now.postings self.now.option option term_info.now)) }
         ensures range { IsErrOf result (Fault.Damaged Part.Range) ↔ (lies_in self.now.postings term_info.now.postings_range ≡ false) }
     {
-        let range = &term_info.postings_range;
-        if !does_lie_in(&self.postings, range) {
-            return Err(Fault::Damaged(Part::Range));
-        }
-        let postings = part_of(&self.postings, range)?;
-        match BlockSegmentPostings::open(term_info.doc_freq, postings, self.option, option) {
+        let postings = self.checked_postings_of(term_info)?;
+        let record_option = self.record_option();
+        match BlockSegmentPostings::open(term_info.doc_freq, postings, record_option, option) {
             Ok(cursor) => Ok(cursor),
             Err(fault) => Err(Fault::from(fault)),
         }
@@ -240,12 +237,7 @@ impl InvertedIndexReader {
         ensures range { IsErrOf result (Fault.Damaged Part.Range) ↔ (lies_in self.now.postings term_info.now.postings_range ≡ false) }
         ensures emptied { OnErr result (block_postings.new ≡ cursor_of_none block_postings.old.recorded block_postings.old.requested) }
     {
-        let range = &term_info.postings_range;
-        if !does_lie_in(&self.postings, range) {
-            block_postings.clear();
-            return Err(Fault::Damaged(Part::Range));
-        }
-        match part_of(&self.postings, range) {
+        match self.checked_postings_of(term_info) {
             Ok(postings) => match block_postings.reset(term_info.doc_freq, postings) {
                 Ok(()) => Ok(()),
                 Err(fault) => Err(Fault::from(fault)),
@@ -264,10 +256,17 @@ impl InvertedIndexReader {
         if !does_lie_in(&self.postings, &term_info.postings_range) {
             return false;
         }
-        if !self.option.downgrade(option).has_positions() {
+        if !self.reads_positions(option) {
             return true;
         }
         does_lie_in(&self.positions, &term_info.positions_range)
+    }
+
+    // Whether positions are read of a term that has counts.
+    fn reads_positions(&self, option: IndexRecordOption) -> bool
+        ensures { result ≡ reads_positions self.now option }
+    {
+        self.option.downgrade(option).has_positions()
     }
 
     // What the field records.
@@ -286,6 +285,18 @@ impl InvertedIndexReader {
         part_of(&self.postings, &term_info.postings_range)
     }
 
+    // The bytes of a term's postings, or `Range` where they don't lie in the body.
+    fn checked_postings_of(&self, term_info: &TermInfo) -> Result<Bytes, Fault>
+        ensures ok { IfOk result (λ found. (lies_in self.now.postings term_info.now.postings_range ≡ true) × (found ≡ bytes_in self.now.postings term_info.now.postings_range)) }
+        ensures only { IfErr result (λ fault. (fault ≡ Fault.OutOfMemory) ⊎ (fault ≡ Fault.Damaged Part.Range)) }
+        ensures range { IsErrOf result (Fault.Damaged Part.Range) ↔ (lies_in self.now.postings term_info.now.postings_range ≡ false) }
+    {
+        if !does_lie_in(&self.postings, &term_info.postings_range) {
+            return Err(Fault::Damaged(Part::Range));
+        }
+        self.postings_of(term_info)
+    }
+
     // The bytes of a term's positions, where they are read.
     fn positions_of(
         &self,
@@ -296,7 +307,7 @@ impl InvertedIndexReader {
         ensures ok { IfOk result (λ found. found ≡ given_if (reads_positions self.now option) (bytes_in self.now.positions term_info.now.positions_range)) }
         ensures only { IfErr result (λ fault. fault ≡ Fault.OutOfMemory) }
     {
-        if !self.option.downgrade(option).has_positions() {
+        if !self.reads_positions(option) {
             return Ok(None);
         }
         let positions = part_of(&self.positions, &term_info.positions_range)?;
