@@ -261,3 +261,25 @@ fn refused_resets_leave_no_documents(rt: HostRuntime) -> Result<(), Fail> {
     assert!(rt; blocks.docs().len() == 0);
     Ok(())
 }
+
+#[test]
+fn block_cursors_are_reset_to_other_terms(rt: HostRuntime) -> Result<(), Fail> {
+    // the number of tokens, and the documents of two terms: even ones, and odd ones
+    let body = Bytes::from_static(&[6, 0, 0, 0, 0, 0, 0, 0, 0x80, 0x82, 0x82, 0x81, 0x82, 0x82]);
+    let reader = InvertedIndexReader::new(TermDictionary::empty(), body, Bytes::new(), BASIC)?;
+    let even = TermInfo {
+        doc_freq: 3,
+        postings_range: 0..3,
+        positions_range: 0..0,
+    };
+    let odd = TermInfo {
+        doc_freq: 3,
+        postings_range: 3..6,
+        positions_range: 0..0,
+    };
+    let mut blocks = reader.read_block_postings_from_terminfo(&even, BASIC)?;
+    assert!(rt; blocks.docs() == [0, 2, 4].as_slice());
+    reader.reset_block_postings_from_terminfo(&odd, &mut blocks)?;
+    assert!(rt; blocks.docs() == [1, 3, 5].as_slice());
+    Ok(())
+}

@@ -4,7 +4,6 @@ ghost use Rattle.ii_recorder.specs.IndexBodies.{LacksField};
 use crate::position_tests::{counted, gathered};
 use bytes::Bytes;
 use ii_base::{CountingWriter, Fault, Field, FieldEntry, IndexRecordOption, Schema, Term};
-use ii_check::FreqReadingOption;
 use ii_docset::{DocId, DocSet, TERMINATED};
 use ii_reader::{
     BlockSegmentPostings, InvertedIndexReader, OpenIndex, SegmentPostings, open_index,
@@ -25,39 +24,34 @@ fn texts(alloc: Global) -> Result<Schema, Fault>
     Ok(Schema::new(entries))
 }
 
-// In document 0 a text with `a` at 0 and 4 and `b` at 1, and in documents 1, 3 and 5 a term without
-// counts.
-fn write_terms(index: &mut InvertedIndexSerializer<Vec<u8>>) -> Result<(), Fault>
+// In document 0 a text with `a` at 0 and 4.
+fn write_text(index: &mut InvertedIndexSerializer<Vec<u8>>) -> Result<(), Fault>
     requires known { 0 < length index.old.entries }
     requires lacks { index.old.closed ≡ false → LacksField 0 index.old.bodies }
 {
-    let mut field = index.new_field(Field::from_field_id(0), 6, None)?;
+    let mut field = index.new_field(Field::from_field_id(0), 2, None)?;
     field.new_term(b"a", 1, true)?;
     field.write_doc(0, 2, &[0, 4])?;
-    field.close_term()?;
-    field.new_term(b"b", 1, true)?;
-    field.write_doc(0, 1, &[1])?;
-    field.close_term()?;
+    field.close()
+}
+
+// `c` in documents 1, 3 and 5, without counts.
+fn write_uncounted(index: &mut InvertedIndexSerializer<Vec<u8>>) -> Result<(), Fault>
+    requires known { 0 < length index.old.entries }
+    requires lacks { index.old.closed ≡ false → LacksField 0 index.old.bodies }
+{
+    let mut field = index.new_field(Field::from_field_id(0), 3, None)?;
     field.new_term_without_freq(b"c")?;
     field.write_doc(1, 1, &[])?;
     field.write_doc(3, 1, &[])?;
     field.write_doc(5, 1, &[])?;
-    field.close_term()?;
     field.close()
 }
 
-// The index of these terms, written and opened.
-fn opened(alloc: Global) -> Result<OpenIndex, Fault>
+// Ends an index and opens what was written.
+fn reopened(alloc: Global, index: InvertedIndexSerializer<Vec<u8>>) -> Result<OpenIndex, Fault>
     ensures { IfOk result (λ index. 0 < length index) }
 {
-    let mut index = InvertedIndexSerializer::open(
-        alloc,
-        CountingWriter::wrap(Vec::new(alloc)),
-        CountingWriter::wrap(Vec::new(alloc)),
-        CountingWriter::wrap(Vec::new(alloc)),
-        texts(alloc)?,
-    );
-    write_terms(&mut index)?;
     let (terms, postings, positions, closed) = index.close();
     closed?;
     let schema = texts(alloc)?;
@@ -68,6 +62,36 @@ fn opened(alloc: Global) -> Result<OpenIndex, Fault>
         Bytes::from_vec(positions.finish())?,
         &schema,
     )
+}
+
+// The index of the text.
+fn counted_index(alloc: Global) -> Result<OpenIndex, Fault>
+    ensures { IfOk result (λ index. 0 < length index) }
+{
+    let mut index = InvertedIndexSerializer::open(
+        alloc,
+        CountingWriter::wrap(Vec::new(alloc)),
+        CountingWriter::wrap(Vec::new(alloc)),
+        CountingWriter::wrap(Vec::new(alloc)),
+        texts(alloc)?,
+    );
+    write_text(&mut index)?;
+    reopened(alloc, index)
+}
+
+// The index of the documents without counts.
+fn uncounted_index(alloc: Global) -> Result<OpenIndex, Fault>
+    ensures { IfOk result (λ index. 0 < length index) }
+{
+    let mut index = InvertedIndexSerializer::open(
+        alloc,
+        CountingWriter::wrap(Vec::new(alloc)),
+        CountingWriter::wrap(Vec::new(alloc)),
+        CountingWriter::wrap(Vec::new(alloc)),
+        texts(alloc)?,
+    );
+    write_uncounted(&mut index)?;
+    reopened(alloc, index)
 }
 
 // A cursor over the postings of a term, at its first document.
@@ -99,34 +123,15 @@ fn first(
 }
 
 #[test]
-fn written_terms_are_counted(rt: HostRuntime) -> Result<(), Fail> {
-    let alloc = rt.alloc();
-    let index = opened(alloc)?;
-    let field = Field::from_field_id(0);
-    let reader = index.reader(field);
-    assert!(rt; reader.total_num_tokens() == 6);
-    assert!(rt; reader.terms().num_terms() == 3);
-    assert!(rt; reader.doc_freq(&Term::from_field_text(alloc, field, "a")?) == 1);
-    assert!(rt; reader.doc_freq(&Term::from_field_text(alloc, field, "c")?) == 3);
-    assert!(rt; reader.doc_freq(&Term::from_field_text(alloc, field, "d")?) == 0);
-    Ok(())
-}
-
-#[test]
 fn written_positions_are_read(rt: HostRuntime) -> Result<(), Fail> {
     let alloc = rt.alloc();
-    let index = opened(alloc)?;
+    let index = counted_index(alloc)?;
     let reader = index.reader(Field::from_field_id(0));
+    assert!(rt; reader.total_num_tokens() == 2);
     let (doc, freq, positions) = first(alloc, reader, "a", FULL)?;
     assert!(rt; doc == 0 && freq == 2);
     assert!(rt; positions.as_slice() == [0, 4].as_slice());
-    let (doc, freq, positions) = first(alloc, reader, "b", FULL)?;
-    assert!(rt; doc == 0 && freq == 1);
-    assert!(rt; positions.as_slice() == [1].as_slice());
-    let (doc, freq, positions) = first(alloc, reader, "c", FULL)?;
-    assert!(rt; doc == 1 && freq == 1);
-    assert!(rt; positions.is_empty());
-    let (doc, _, _) = first(alloc, reader, "d", FULL)?;
+    let (doc, _, _) = first(alloc, reader, "b", FULL)?;
     assert!(rt; doc == TERMINATED);
     Ok(())
 }
@@ -134,7 +139,7 @@ fn written_positions_are_read(rt: HostRuntime) -> Result<(), Fail> {
 #[test]
 fn what_is_not_requested_is_not_read(rt: HostRuntime) -> Result<(), Fail> {
     let alloc = rt.alloc();
-    let index = opened(alloc)?;
+    let index = counted_index(alloc)?;
     let reader = index.reader(Field::from_field_id(0));
     let (doc, freq, positions) = first(alloc, reader, "a", IndexRecordOption::WithFreqs)?;
     assert!(rt; doc == 0 && freq == 2);
@@ -147,12 +152,15 @@ fn what_is_not_requested_is_not_read(rt: HostRuntime) -> Result<(), Fail> {
 
 #[test]
 fn written_documents_are_walked(rt: HostRuntime) -> Result<(), Fail> {
-    let index = opened(rt.alloc())?;
+    let index = uncounted_index(rt.alloc())?;
     let reader = index.reader(Field::from_field_id(0));
-    let Some(mut cursor) = cursor_of(rt.alloc(), reader, "c", FULL)? else {
+    let term = Term::from_field_text(rt.alloc(), Field::from_field_id(0), "c")?;
+    assert!(rt; reader.doc_freq(&term) == 3);
+    let Some(mut cursor) = reader.read_postings(&term, FULL)? else {
         assert!(rt; false, "a term in three documents");
         return Ok(());
     };
+    assert!(rt; counted(&cursor) == 1);
     assert!(rt; cursor.doc() == 1);
     assert!(rt; cursor.advance() == 3);
     assert!(rt; cursor.advance() == 5);
@@ -178,21 +186,18 @@ fn put(
 #[test]
 fn block_cursors_go_from_term_to_term(rt: HostRuntime) -> Result<(), Fail> {
     let alloc = rt.alloc();
-    let index = opened(alloc)?;
-    let reader = index.reader(Field::from_field_id(0));
-    let term = Term::from_field_text(alloc, Field::from_field_id(0), "a")?;
-    let Some(mut blocks) = reader.read_block_postings(&term, FULL)? else {
+    let (text, other) = (counted_index(alloc)?, uncounted_index(alloc)?);
+    let field = Field::from_field_id(0);
+    let term = Term::from_field_text(alloc, field, "a")?;
+    let Some(mut blocks) = text.reader(field).read_block_postings(&term, FULL)? else {
         assert!(rt; false, "a term in a document");
         return Ok(());
     };
     assert!(rt; blocks.docs() == [0].as_slice());
     assert!(rt; blocks.freqs() == [2].as_slice());
-    assert!(rt; put(alloc, reader, "c", &mut blocks)?);
+    assert!(rt; put(alloc, other.reader(field), "c", &mut blocks)?);
     assert!(rt; blocks.docs() == [1, 3, 5].as_slice());
     assert!(rt; blocks.freqs().len() == 0);
-    assert!(rt; blocks.freq_reading_option() == FreqReadingOption::NoFreq);
-    assert!(rt; put(alloc, reader, "b", &mut blocks)?);
-    assert!(rt; blocks.freqs() == [1].as_slice());
-    assert!(rt; !put(alloc, reader, "d", &mut blocks)?);
+    assert!(rt; !put(alloc, other.reader(field), "a", &mut blocks)?);
     Ok(())
 }
