@@ -1,4 +1,6 @@
 pub mod BlockSegmentPostings
+pub mod InvertedIndexReader
 pub mod LoadedPostings
+pub mod OpenIndex
 pub mod SegmentPostings
 pub mod SegmentPostingsLemmas

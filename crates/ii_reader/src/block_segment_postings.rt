@@ -135,10 +135,19 @@ impl BlockSegmentPostings {
                 Ok(())
             }
             Err(fault) => {
-                *self = BlockSegmentPostings::empty_by(record_option, requested_option);
+                self.clear();
                 Err(fault)
             }
         }
+    }
+
+    // Puts no documents in place of the list, and keeps the two options.
+    pub(crate) fn clear(&mut self)
+        ensures { self.new ≡ cursor_of_none self.old.recorded self.old.requested }
+    {
+        let record_option = self.checked.record_option();
+        let requested_option = self.checked.requested_option();
+        *self = BlockSegmentPostings::empty_by(record_option, requested_option);
     }
 
     /// A cursor over the same bytes, which are shared, at the same block. It has decoded and read as

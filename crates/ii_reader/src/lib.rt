@@ -1,18 +1,14 @@
-//! Cursors over the postings of a term.
+//! Cursors over the postings of a term, and look-ups in the files of an index.
 #![tactic(auto)]
 
 pub mod block_segment_postings;
-#[cfg(test)]
-mod cursor_tests;
-#[cfg(test)]
-mod list_tests;
+pub mod index_files;
+pub mod inverted_index_reader;
 pub mod loaded_postings;
-#[cfg(test)]
-mod position_tests;
 pub mod segment_postings;
-#[cfg(test)]
-mod tests;
 
 pub use block_segment_postings::BlockSegmentPostings;
+pub use index_files::{OpenIndex, open_index};
+pub use inverted_index_reader::InvertedIndexReader;
 pub use loaded_postings::LoadedPostings;
 pub use segment_postings::SegmentPostings;

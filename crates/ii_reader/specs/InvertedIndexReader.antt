@@ -1,0 +1,114 @@
+-- The terms of a field, as its bodies in the three files have them.
+use Rattle.std.specs.Prelude.{◌≡◌, ℕ, ◌≤◌, ◌⊎◌, Bool, true, false, not, ◌&&◌, ◌||◌, IsTrue, List, [], length, min, ◌/◌, nat_le, Option, None, Some, Result, Ok, Err, MatchOption}
+use Rattle.std.specs.Option.{option_map}
+use Rattle.std.specs.declared.ops.Range.{Range}
+use Rattle.ii_io.specs.declared.faults.Fault.{Fault}
+use Rattle.ii_io.specs.declared.faults.Fault.TheVariants.{OutOfMemory, Damaged}
+use Rattle.ii_io.specs.declared.faults.Part.{Part}
+use Rattle.ii_io.specs.declared.faults.Part.TheVariants as parts
+use Rattle.ii_io.specs.Numbers.{number_at}
+use Rattle.ii_base.specs.declared.schema.index_record_option.IndexRecordOption.{IndexRecordOption}
+use Rattle.ii_base.specs.Options.{downgrade, has_positions}
+use Rattle.ii_docset.specs.Entries.{Entry}
+use Rattle.ii_layout.specs.TermList.{docs_and_freqs, term_list}
+use Rattle.ii_termstore.specs.declared.term_info.TermInfo.{TermInfo}
+use Rattle.ii_termdict.specs.Dictionary.{info_under}
+use Rattle.ii_check.specs.FreqReading.{freq_reading}
+use Rattle.ii_index.specs.Tokens.{IndexToken}
+use Rattle.ii_index.specs.Postings.{field_count, key_postings, occurs}
+use Rattle.ii_index.specs.Files.{HoldsTerm, bytes_in}
+use Rattle.ii_reader.specs.BlockSegmentPostings.{AreEntries, BlockSegmentPostingsState, first_decodes}
+use Rattle.ii_reader.specs.SegmentPostings.{SegmentPostingsState}
+
+-- the entries of the dictionary, the bytes of the postings after the number of tokens, those of the positions, what the field records, and how many tokens it has
+pub record InvertedIndexReaderState : Type 0 where
+  pub terms : List (List ℕ × TermInfo)
+  pub postings : List ℕ
+  pub positions : List ℕ
+  pub option : IndexRecordOption
+  pub num_tokens : ℕ
+
+-- a reader over no terms
+abbrev pub reader_of_none : IndexRecordOption → InvertedIndexReaderState
+reader_of_none option = record { terms = []; postings = []; positions = []; option = option; num_tokens = 0 }
+
+-- a reader over a dictionary and the two bodies of its postings and positions, the first of which begins with the number of tokens; nothing where that is missing
+abbrev pub reader_over : List (List ℕ × TermInfo) → List ℕ → List ℕ → IndexRecordOption → Option InvertedIndexReaderState
+reader_over terms postings positions option =
+    option_map (λ (counted : ℕ × List ℕ). record { terms = terms; postings = counted.1; positions = positions; option = option; num_tokens = counted.0 }) (number_at 8 postings)
+
+-- whether a range lies in bytes
+abbrev pub lies_in : List ℕ → Range ℕ → Bool
+lies_in bytes range = nat_le range.start range.end && nat_le range.end (length bytes)
+
+-- whether positions are read of a term that has counts
+abbrev pub reads_positions : InvertedIndexReaderState → IndexRecordOption → Bool
+reads_positions reader requested = has_positions (downgrade reader.option requested)
+
+abbrev pub given_if : Bool → List ℕ → Option (List ℕ)
+given_if false bytes = None
+given_if true bytes = Some bytes
+
+-- whether the ranges of a term lie in the bodies, that of its positions where they are read
+abbrev pub ranges_lie : InvertedIndexReaderState → IndexRecordOption → TermInfo → Bool
+ranges_lie reader requested info =
+    lies_in reader.postings info.postings_range && (not (reads_positions reader requested) || lies_in reader.positions info.positions_range)
+
+-- what a term gives, or Range where its ranges don't lie in the bodies
+abbrev pub if_they_lie : {A : Type 0} → Bool → Result A Part → Result A Part
+if_they_lie false found = Err parts.Range
+if_they_lie true found = found
+
+-- the list of a term, or the first part that fails
+abbrev pub term_of_file : InvertedIndexReaderState → IndexRecordOption → TermInfo → Result (List Entry) Part
+term_of_file reader requested info =
+    if_they_lie (ranges_lie reader requested info)
+    (term_list reader.option requested info.doc_freq (bytes_in reader.postings info.postings_range) (Some (bytes_in reader.positions info.positions_range)))
+
+-- the documents of a term and, where they are read, their counts, or the first part that fails
+abbrev pub docs_of_file : List ℕ → IndexRecordOption → IndexRecordOption → TermInfo → Result (List ℕ × Option (List ℕ)) Part
+docs_of_file postings recorded requested info =
+    if_they_lie (lies_in postings info.postings_range) (docs_and_freqs recorded requested info.doc_freq (bytes_in postings info.postings_range))
+
+-- Why something wasn't read: there was no memory, or the first part that fails is damaged.
+abbrev pub IsRefusal : {A : Type 0} → Result A Part → Fault → Type 0
+IsRefusal found fault = (fault ≡ OutOfMemory) ⊎ ((part : Part) × (fault ≡ Damaged part) × (found ≡ Err part))
+
+-- A cursor was opened over the list of a term: all of it is left, and no block but the first was decoded.
+pub record OpensTerm (reader : InvertedIndexReaderState) (requested : IndexRecordOption) (info : TermInfo) (cursor : SegmentPostingsState) : Type 0 where
+  pub list : term_of_file reader requested info ≡ Ok cursor.rest
+  pub doc_freq : cursor.doc_freq ≡ info.doc_freq
+  pub reading : freq_reading reader.option requested info.doc_freq (bytes_in reader.postings info.postings_range) ≡ Ok cursor.freq_reading
+  pub first : cursor.block ≡ 0
+  pub doc_decodes : cursor.doc_decodes ≤ 1
+  pub freq_decodes : cursor.freq_decodes ≤ 1
+  pub entries_read : cursor.entries_read ≤ 1
+  pub position_decodes : cursor.position_decodes ≤ 1
+
+-- A block cursor was opened over the documents of a term, by these options: it is at the first block, and decoded no other.
+pub record OpensBlocks (postings : List ℕ) (recorded requested : IndexRecordOption) (info : TermInfo) (cursor : BlockSegmentPostingsState) : Type 0 where
+  pub docs : docs_of_file postings recorded requested info ≡ Ok (cursor.docs, cursor.freqs)
+  pub recorded_is : cursor.recorded ≡ recorded
+  pub requested_is : cursor.requested ≡ requested
+  pub reading : freq_reading recorded requested info.doc_freq (bytes_in postings info.postings_range) ≡ Ok cursor.freq_reading
+  pub entries : AreEntries info.doc_freq cursor.docs cursor.freqs
+  pub first : cursor.block ≡ 0
+  pub doc_decodes : cursor.doc_decodes ≡ min 1 info.doc_freq
+  pub freq_decodes : cursor.freq_decodes ≡ first_decodes cursor.freqs info.doc_freq
+  pub entries_read : cursor.entries_read ≡ min 1 (info.doc_freq / 128)
+
+-- A reader has the tokens of a field: how many there are, exactly the keys that occurred, and the postings of each.
+pub record ReaderHolds (field : ℕ) (reader : InvertedIndexReaderState) (ts : List IndexToken) : Type 0 where
+  pub counted : reader.num_tokens ≡ field_count field ts
+  pub exact : (key : List ℕ) → MatchOption (info_under key reader.terms) (occurs field key ts ≡ false) (HoldsTerm reader.option field key reader.postings reader.positions ts)
+
+-- The list of a term is this one: reading it is refused for memory alone.
+abbrev pub GivesList : List Entry → Result SegmentPostingsState Fault → Type 0
+GivesList es (Ok cursor) = cursor.rest ≡ es
+GivesList es (Err fault) = fault ≡ OutOfMemory
+
+-- A key gives nothing exactly where it didn't occur, and else its postings: reading them is refused for memory alone.
+abbrev pub GivesPostings : IndexRecordOption → ℕ → List ℕ → IndexRecordOption → List IndexToken → Result (Option SegmentPostingsState) Fault → Type 0
+GivesPostings option field key requested ts (Ok None) = occurs field key ts ≡ false
+GivesPostings option field key requested ts (Ok (Some cursor)) = IsTrue (occurs field key ts) × (cursor.rest ≡ key_postings option field key requested ts)
+GivesPostings option field key requested ts (Err fault) = fault ≡ OutOfMemory

@@ -1,0 +1,71 @@
+-- The readers of an index's fields, from its three files.
+use Rattle.std.specs.Prelude.{◌≡◌, ℕ, ◌<◌, List, [], ◌∷◌, IsSomeAnd, length, map, slice_get, Option, None, Some, Result, Ok, Err, ok_or}
+use Rattle.std.specs.List.{enumerate_from}
+use Rattle.ii_io.specs.declared.faults.Fault.{Fault}
+use Rattle.ii_io.specs.declared.faults.Fault.TheVariants.{OutOfMemory}
+use Rattle.ii_io.specs.declared.faults.Part.{Part}
+use Rattle.ii_io.specs.declared.faults.Part.TheVariants.{Composite, TokenCount}
+use Rattle.ii_io.specs.Parts.{◌>>=◌}
+use Rattle.ii_io.specs.Composite.{Body, body_of, composite}
+use Rattle.ii_base.specs.Schema.{Entry}
+use Rattle.ii_base.specs.declared.schema.index_record_option.IndexRecordOption.{IndexRecordOption}
+use Rattle.ii_termdict.specs.Dictionary.{dictionary}
+use Rattle.ii_index.specs.Tokens.{IndexToken}
+use Rattle.ii_reader.specs.InvertedIndexReader.{InvertedIndexReaderState, ReaderHolds, reader_of_none, reader_over}
+
+-- the bodies of the three files of an index
+pub record IndexBodies : Type 0 where
+  pub terms : List Body
+  pub postings : List Body
+  pub positions : List Body
+
+-- those of three files, or Composite
+abbrev pub index_bodies : List ℕ → List ℕ → List ℕ → Result IndexBodies Part
+index_bodies terms postings positions = do
+  t ← ok_or (composite terms) Composite
+  p ← ok_or (composite postings) Composite
+  q ← ok_or (composite positions) Composite
+  Ok (record { terms = t; postings = p; positions = q })
+
+-- the reader of a field's three bodies, or the first part that fails
+abbrev pub reader_of_bodies : IndexRecordOption → List ℕ → List ℕ → List ℕ → Result InvertedIndexReaderState Part
+reader_of_bodies option terms postings positions = do
+  entries ← dictionary terms
+  ok_or (reader_over entries postings positions option) TokenCount
+
+-- the reader of a field: over no terms where the body of these is missing, else over all three, none of which may be missing then
+abbrev pub reader_if : IndexRecordOption → Option (List ℕ) → Option (List ℕ) → Option (List ℕ) → Result InvertedIndexReaderState Part
+reader_if option None postings positions = Ok (reader_of_none option)
+reader_if option (Some terms) None positions = Err Composite
+reader_if option (Some terms) (Some postings) None = Err Composite
+reader_if option (Some terms) (Some postings) (Some positions) = reader_of_bodies option terms postings positions
+
+abbrev pub reader_of_field : IndexBodies → ℕ → IndexRecordOption → Result InvertedIndexReaderState Part
+reader_of_field bodies field option = reader_if option (body_of field bodies.terms) (body_of field bodies.postings) (body_of field bodies.positions)
+
+-- what all of them give, or the first part that fails
+abbrev pub all_or_first : {A : Type 0} → List (Result A Part) → Result (List A) Part
+all_or_first [] = Ok []
+all_or_first (found ∷ others) = do
+  x ← found
+  xs ← all_or_first others
+  Ok (x ∷ xs)
+
+-- the readers of the fields of a schema, one after the other; bodies of other fields aren't looked at
+abbrev pub field_readers : IndexBodies → List Entry → Result (List InvertedIndexReaderState) Part
+field_readers bodies entries = all_or_first (map (λ (f : ℕ × Entry). reader_of_field bodies f.0 f.1.option) (enumerate_from 0 entries))
+
+-- those of three files, or the first part that fails
+abbrev pub index_readers : List ℕ → List ℕ → List ℕ → List Entry → Result (List InvertedIndexReaderState) Part
+index_readers terms postings positions entries = do
+  bodies ← index_bodies terms postings positions
+  field_readers bodies entries
+
+-- The readers of the fields of a schema have the tokens of each.
+abbrev pub ReadersHold : List Entry → List InvertedIndexReaderState → List IndexToken → Type 0
+ReadersHold entries readers ts = (field : ℕ) → field < length entries → IsSomeAnd (slice_get readers field) (λ reader. ReaderHolds field reader ts)
+
+-- So they do where an index is opened, which is refused for memory alone.
+abbrev pub GivesReaders : List Entry → List IndexToken → Result (List InvertedIndexReaderState) Fault → Type 0
+GivesReaders entries ts (Ok readers) = ReadersHold entries readers ts
+GivesReaders entries ts (Err fault) = fault ≡ OutOfMemory

@@ -1,0 +1,346 @@
+ghost use Rattle.std.specs.Prelude.{◌≡◌, ◌↔◌, ◌⊎◌, ◌≤◌, ℕ, List, false, true, length, drop, None, Some, Ok, Err, IfNone, IfOk, IfErr, IfSome, IsErrOf, IsSomeAnd, MatchOption, OnOk, OnErr};
+ghost use Rattle.std.specs.Option.{option_map, option_map_or};
+ghost use Rattle.ii_io.specs.Numbers.{number_at};
+ghost use Rattle.ii_base.specs.declared.schema.index_record_option.IndexRecordOption.TheVariants.{Basic};
+ghost use Rattle.ii_termdict.specs.Dictionary.{info_under};
+ghost use Rattle.ii_index.specs.Tokens.{IndexToken};
+ghost use Rattle.ii_index.specs.Postings.{field_count, key_postings, occurs};
+ghost use Rattle.ii_index.specs.Files.{HoldsTerm, bytes_in};
+ghost use Rattle.ii_reader.specs.BlockSegmentPostings.{cursor_of_none};
+ghost use Rattle.ii_reader.specs.InvertedIndexReader.{GivesList, GivesPostings, IsRefusal, OpensBlocks, OpensTerm, ReaderHolds, docs_of_file, given_if, lies_in, ranges_lie, reader_of_none, reader_over, reads_positions, term_of_file};
+
+use super::block_segment_postings::BlockSegmentPostings;
+use super::segment_postings::SegmentPostings;
+use bytes::Bytes;
+use ii_base::{BinarySerializable, Fault, FixedSize, IndexRecordOption, Part, Term};
+use ii_termdict::{TermDictionary, TermInfo};
+use std::marker::Model;
+use std::ops::Range;
+
+/// The terms of a field, and where their postings and positions are.
+#[derive(Drop)]
+pub struct InvertedIndexReader {
+    terms: TermDictionary,
+    postings: Bytes,
+    positions: Bytes,
+    option: IndexRecordOption,
+    num_tokens: u64,
+}
+
+impl Model for InvertedIndexReader {
+    ghost use Rattle.ii_reader.specs.InvertedIndexReader.{InvertedIndexReaderState};
+
+    ghost Value = { InvertedIndexReaderState };
+
+    ghost view = { λ r. record {
+      terms = r.terms;
+      postings = r.postings;
+      positions = r.positions;
+      option = r.option;
+      num_tokens = r.num_tokens;
+    } };
+}
+
+impl InvertedIndexReader {
+    /// A reader over the dictionary of a field and its bodies in the files of postings and positions.
+    /// The former begins with the number of the field's tokens, in 8 bytes with the lowest first;
+    /// `Damaged(TokenCount)` where it has fewer. `option` is what the field records. It takes no
+    /// memory.
+    pub fn new(
+        terms: TermDictionary,
+        postings: Bytes,
+        positions: Bytes,
+        option: IndexRecordOption,
+    ) -> Result<InvertedIndexReader, Fault>
+        ensures ok { IfOk result (λ reader. reader_over terms postings positions option ≡ Some reader) }
+        ensures err { IfErr result (λ fault. (fault ≡ Fault.Damaged Part.TokenCount) × (reader_over terms postings positions option ≡ None)) }
+    {
+        let Some(num_tokens) = read_num_tokens(postings.as_slice()) else {
+            return Err(Fault::Damaged(Part::TokenCount));
+        };
+        let mut postings = postings;
+        postings.advance(u64::SIZE_IN_BYTES);
+        Ok(InvertedIndexReader {
+            terms,
+            postings,
+            positions,
+            option,
+            num_tokens,
+        })
+    }
+
+    /// A reader over no terms. It takes no memory.
+    pub fn empty(option: IndexRecordOption) -> InvertedIndexReader
+        ensures { result ≡ reader_of_none option }
+    {
+        InvertedIndexReader {
+            terms: TermDictionary::empty(),
+            postings: Bytes::new(),
+            positions: Bytes::new(),
+            option,
+            num_tokens: 0,
+        }
+    }
+
+    /// The terms of the field: its dictionary.
+    pub fn terms(&self) -> &TermDictionary
+        ensures { result.now ≡ self.now.terms }
+    {
+        &self.terms
+    }
+
+    /// How many tokens the field has.
+    pub fn total_num_tokens(&self) -> u64
+        ensures value { result ≡ self.now.num_tokens }
+        ensures holds { (field : ℕ) (tokens : List IndexToken) → ReaderHolds field self.now tokens → result ≡ field_count field tokens }
+    {
+        self.num_tokens
+    }
+
+    /// What is kept of a term, by the bytes of its value; its field isn't looked at. It takes no
+    /// memory.
+    pub fn get_term_info(&self, term: &Term) -> Option<TermInfo>
+        ensures value { result ≡ info_under term.now.value self.now.terms }
+        ensures holds { (field : ℕ) (tokens : List IndexToken) → ReaderHolds field self.now tokens
+            → MatchOption result (occurs field term.now.value tokens ≡ false)
+            (HoldsTerm self.now.option field term.now.value self.now.postings self.now.positions tokens) }
+    {
+        self.terms.get(term.serialized_value_bytes())
+    }
+
+    /// In how many documents a term is, 0 where the field has no such term. It takes no memory.
+    #[tactic(auto, using(crate::proofs::ReaderLemmas::none_listed))]
+    pub fn doc_freq(&self, term: &Term) -> u32
+        ensures value { result ≡ option_map_or (λ info. info.doc_freq) (info_under term.now.value self.now.terms) 0 }
+        ensures holds { (field : ℕ) (tokens : List IndexToken) → ReaderHolds field self.now tokens
+            → result ≡ length (key_postings self.now.option field term.now.value Basic tokens) }
+    {
+        match self.get_term_info(term) {
+            Some(term_info) => term_info.doc_freq,
+            None => 0,
+        }
+    }
+
+    /// A cursor over the postings of a term as far as they are requested, or nothing where the field
+    /// has no such term.
+    ///
+    /// `Damaged(Range)` where the range of its postings, or that of its positions where the field
+    /// records positions and they are requested, begins after its end or ends after the field's body;
+    /// else `Damaged` by the first part of its bytes that `SegmentPostings::open` refuses.
+    /// `OutOfMemory` where the files' buffer can't be shared once more.
+    pub fn read_postings(
+        &self,
+        term: &Term,
+        option: IndexRecordOption,
+    ) -> Result<Option<SegmentPostings>, Fault>
+        ensures none { IfNone (info_under term.now.value self.now.terms) (result ≡ Ok None) }
+        ensures ok { IfSome (info_under term.now.value self.now.terms) (λ info. IfOk result (λ found. IsSomeAnd found (OpensTerm self.now option info))) }
+        ensures err { IfSome (info_under term.now.value self.now.terms) (λ info. IfErr result (IsRefusal (term_of_file self.now option info))) }
+        ensures range { IfSome (info_under term.now.value self.now.terms) (λ info. IsErrOf result (Fault.Damaged Part.Range) ↔ (ranges_lie self.now option info ≡ false)) }
+        // where the files hold tokens
+        ensures holds { (field : ℕ) (tokens : List IndexToken) → ReaderHolds field self.now tokens
+            → GivesPostings self.now.option field term.now.value option tokens result }
+    {
+        let Some(term_info) = self.get_term_info(term) else {
+            return Ok(None);
+        };
+        match self.read_postings_from_terminfo(&term_info, option) {
+            Ok(cursor) => Ok(Some(cursor)),
+            Err(fault) => Err(fault),
+        }
+    }
+
+    /// A cursor over the postings of a term of which this is kept, as far as they are requested. See
+    /// `read_postings` for the faults.
+    #[tactic(auto, using(crate::proofs::ReaderLemmas::list_no_range, crate::proofs::ReaderLemmas::refused_by, crate::proofs::ReaderLemmas::file_list))]
+    pub fn read_postings_from_terminfo(
+        &self,
+        term_info: &TermInfo,
+        option: IndexRecordOption,
+    ) -> Result<SegmentPostings, Fault>
+        ensures ok { IfOk result (OpensTerm self.now option term_info.now) }
+        ensures err { IfErr result (IsRefusal (term_of_file self.now option term_info.now)) }
+        ensures range { IsErrOf result (Fault.Damaged Part.Range) ↔ (ranges_lie self.now option term_info.now ≡ false) }
+        // where the files hold tokens
+        ensures holds { (field : ℕ) (key : List ℕ) (tokens : List IndexToken) → HoldsTerm self.now.option field key self.now.postings self.now.positions tokens term_info.now
+            → GivesList (key_postings self.now.option field key option tokens) result }
+    {
+        if !self.do_ranges_lie(term_info, option) {
+            return Err(Fault::Damaged(Part::Range));
+        }
+        let postings = self.postings_of(term_info)?;
+        let positions = self.positions_of(term_info, option)?;
+        let record_option = self.record_option();
+        let doc_freq = term_info.doc_freq;
+        match SegmentPostings::open(doc_freq, postings, positions, record_option, option) {
+            Ok(cursor) => Ok(cursor),
+            Err(fault) => Err(Fault::from(fault)),
+        }
+    }
+
+    /// A block cursor over the postings of a term as far as they are requested, or nothing where the
+    /// field has no such term.
+    ///
+    /// `Damaged(Range)` where the range of its postings begins after its end or ends after the field's
+    /// body; else `Damaged` by the first part of its bytes that `BlockSegmentPostings::open` refuses.
+    /// `OutOfMemory` where the file's buffer can't be shared once more.
+    pub fn read_block_postings(
+        &self,
+        term: &Term,
+        option: IndexRecordOption,
+    ) -> Result<Option<BlockSegmentPostings>, Fault>
+        ensures none { IfNone (info_under term.now.value self.now.terms) (result ≡ Ok None) }
+        ensures ok { IfSome (info_under term.now.value self.now.terms) (λ info. IfOk result (λ found. IsSomeAnd found (OpensBlocks self.now.postings self.now.option option info))) }
+        ensures err { IfSome (info_under term.now.value self.now.terms) (λ info. IfErr result (IsRefusal (docs_of_file self.now.postings self.now.option option info))) }
+        ensures range { IfSome (info_under term.now.value self.now.terms) (λ info. IsErrOf result (Fault.Damaged Part.Range) ↔ (lies_in self.now.postings info.postings_range ≡ false)) }
+    {
+        let Some(term_info) = self.get_term_info(term) else {
+            return Ok(None);
+        };
+        match self.read_block_postings_from_terminfo(&term_info, option) {
+            Ok(cursor) => Ok(Some(cursor)),
+            Err(fault) => Err(fault),
+        }
+    }
+
+    /// A block cursor over the postings of a term of which this is kept, as far as they are requested.
+    /// See `read_block_postings` for the faults.
+    #[tactic(auto, using(crate::proofs::ReaderLemmas::docs_no_range, crate::proofs::ReaderLemmas::refused_by))]
+    pub fn read_block_postings_from_terminfo(
+        &self,
+        term_info: &TermInfo,
+        option: IndexRecordOption,
+    ) -> Result<BlockSegmentPostings, Fault>
+        ensures ok { IfOk result (OpensBlocks self.now.postings self.now.option option term_info.now) }
+        ensures err { IfErr result (IsRefusal (docs_of_file self.now.postings self.now.option option term_info.now)) }
+        ensures range { IsErrOf result (Fault.Damaged Part.Range) ↔ (lies_in self.now.postings term_info.now.postings_range ≡ false) }
+    {
+        let postings = self.checked_postings_of(term_info)?;
+        let record_option = self.record_option();
+        match BlockSegmentPostings::open(term_info.doc_freq, postings, record_option, option) {
+            Ok(cursor) => Ok(cursor),
+            Err(fault) => Err(Fault::from(fault)),
+        }
+    }
+
+    /// Puts the postings of a term of which this is kept in place of those of a block cursor, which
+    /// keeps its two options. See `read_block_postings` for the faults; the cursor is then over no
+    /// documents, and can be reset again.
+    #[tactic(auto, using(crate::proofs::ReaderLemmas::docs_no_range, crate::proofs::ReaderLemmas::refused_by))]
+    pub fn reset_block_postings_from_terminfo(
+        &self,
+        term_info: &TermInfo,
+        block_postings: &mut BlockSegmentPostings,
+    ) -> Result<(), Fault>
+        ensures ok { OnOk result (OpensBlocks self.now.postings block_postings.old.recorded block_postings.old.requested term_info.now block_postings.new) }
+        ensures err { IfErr result (IsRefusal (docs_of_file self.now.postings block_postings.old.recorded block_postings.old.requested term_info.now)) }
+        ensures range { IsErrOf result (Fault.Damaged Part.Range) ↔ (lies_in self.now.postings term_info.now.postings_range ≡ false) }
+        ensures emptied { OnErr result (block_postings.new ≡ cursor_of_none block_postings.old.recorded block_postings.old.requested) }
+    {
+        match self.checked_postings_of(term_info) {
+            Ok(postings) => match block_postings.reset(term_info.doc_freq, postings) {
+                Ok(()) => Ok(()),
+                Err(fault) => Err(Fault::from(fault)),
+            },
+            Err(fault) => {
+                block_postings.clear();
+                Err(fault)
+            }
+        }
+    }
+
+    // Whether the ranges of a term lie in the bodies, that of its positions where they are read.
+    fn do_ranges_lie(&self, term_info: &TermInfo, option: IndexRecordOption) -> bool
+        ensures { result ≡ ranges_lie self.now option term_info.now }
+    {
+        if !does_lie_in(&self.postings, &term_info.postings_range) {
+            return false;
+        }
+        if !self.reads_positions(option) {
+            return true;
+        }
+        does_lie_in(&self.positions, &term_info.positions_range)
+    }
+
+    // Whether positions are read of a term that has counts.
+    fn reads_positions(&self, option: IndexRecordOption) -> bool
+        ensures { result ≡ reads_positions self.now option }
+    {
+        self.option.downgrade(option).has_positions()
+    }
+
+    // What the field records.
+    fn record_option(&self) -> IndexRecordOption
+        ensures { result ≡ self.now.option }
+    {
+        self.option
+    }
+
+    // The bytes of a term's postings.
+    fn postings_of(&self, term_info: &TermInfo) -> Result<Bytes, Fault>
+        requires { lies_in self.now.postings term_info.now.postings_range ≡ true }
+        ensures ok { IfOk result (λ found. found ≡ bytes_in self.now.postings term_info.now.postings_range) }
+        ensures only { IfErr result (λ fault. fault ≡ Fault.OutOfMemory) }
+    {
+        part_of(&self.postings, &term_info.postings_range)
+    }
+
+    // The bytes of a term's postings, or `Range` where they don't lie in the body.
+    fn checked_postings_of(&self, term_info: &TermInfo) -> Result<Bytes, Fault>
+        ensures ok { IfOk result (λ found. (lies_in self.now.postings term_info.now.postings_range ≡ true) × (found ≡ bytes_in self.now.postings term_info.now.postings_range)) }
+        ensures only { IfErr result (λ fault. (fault ≡ Fault.OutOfMemory) ⊎ (fault ≡ Fault.Damaged Part.Range)) }
+        ensures range { IsErrOf result (Fault.Damaged Part.Range) ↔ (lies_in self.now.postings term_info.now.postings_range ≡ false) }
+    {
+        if !does_lie_in(&self.postings, &term_info.postings_range) {
+            return Err(Fault::Damaged(Part::Range));
+        }
+        self.postings_of(term_info)
+    }
+
+    // The bytes of a term's positions, where they are read.
+    fn positions_of(
+        &self,
+        term_info: &TermInfo,
+        option: IndexRecordOption,
+    ) -> Result<Option<Bytes>, Fault>
+        requires { ranges_lie self.now option term_info.now ≡ true }
+        ensures ok { IfOk result (λ found. found ≡ given_if (reads_positions self.now option) (bytes_in self.now.positions term_info.now.positions_range)) }
+        ensures only { IfErr result (λ fault. fault ≡ Fault.OutOfMemory) }
+    {
+        if !self.reads_positions(option) {
+            return Ok(None);
+        }
+        let positions = part_of(&self.positions, &term_info.positions_range)?;
+        Ok(Some(positions))
+    }
+}
+
+// The number that bytes begin with, if they are long enough.
+#[tactic(auto, using(crate::proofs::ReaderLemmas::number_front))]
+fn read_num_tokens(bytes: &[u8]) -> Option<u64>
+    ensures value { option_map (λ n. (n, drop 8 bytes.now)) result ≡ number_at 8 bytes.now }
+    ensures there { IfSome result (λ n. 8 ≤ length bytes.now) }
+{
+    let mut rest = bytes;
+    u64::deserialize(&mut rest)
+}
+
+// Whether a range lies in bytes.
+fn does_lie_in(bytes: &Bytes, range: &Range<usize>) -> bool
+    ensures { result ≡ lies_in bytes.now range.now }
+{
+    if range.start > range.end {
+        return false;
+    }
+    range.end <= bytes.len()
+}
+
+// The bytes of a range, which are shared.
+fn part_of(bytes: &Bytes, range: &Range<usize>) -> Result<Bytes, Fault>
+    requires { lies_in bytes.now range.now ≡ true }
+    ensures ok { IfOk result (λ part. part ≡ bytes_in bytes.now range.now) }
+    ensures only { IfErr result (λ fault. fault ≡ Fault.OutOfMemory) }
+{
+    let part = bytes.slice(range.start..range.end)?;
+    Ok(part)
+}

@@ -1,0 +1,163 @@
+ghost use Rattle.std.specs.Prelude.{◌≡◌, [], ◌∷◌, IfSome};
+
+use bytes::Bytes;
+use ii_base::{IndexRecordOption, LayoutFault, Part};
+use ii_docset::{DocId, DocSet, Postings, TERMINATED};
+use ii_reader::SegmentPostings;
+use std::alloc::Global;
+use std::test::Fail;
+
+const FULL: IndexRecordOption = IndexRecordOption::WithFreqsAndPositions;
+
+// Documents 0 to 127 with three positions each.
+static POSTINGS: [u8; 45] = [
+    0x8C, 0x7F, 0, 0, 0, 0x40, 2, 0x80, 1, 0, 0, 0, 0, 0xAA, 0xAA, 0xAA, 0xAA, 0xAA, 0xAA, 0xAA,
+    0xAA, 0xAA, 0xAA, 0xAA, 0xAA, 0xAA, 0xAA, 0xAA, 0xAA, 0xAA, 0xAA, 0xAA, 0xAA, 0xAA, 0xAA, 0xAA,
+    0xAA, 0xAA, 0xAA, 0xAA, 0xAA, 0xAA, 0xAA, 0xAA, 0xAA,
+];
+
+// These are 0, 1 and 2, in three blocks of width 1, and one number more.
+static POSITIONS: [u8; 53] = [
+    0x83, 1, 1, 1, 0xB6, 0x6D, 0xDB, 0xB6, 0x6D, 0xDB, 0xB6, 0x6D, 0xDB, 0xB6, 0x6D, 0xDB, 0xB6,
+    0x6D, 0xDB, 0xB6, 0x6D, 0xDB, 0xB6, 0x6D, 0xDB, 0xB6, 0x6D, 0xDB, 0xB6, 0x6D, 0xDB, 0xB6, 0x6D,
+    0xDB, 0xB6, 0x6D, 0xDB, 0xB6, 0x6D, 0xDB, 0xB6, 0x6D, 0xDB, 0xB6, 0x6D, 0xDB, 0xB6, 0x6D, 0xDB,
+    0xB6, 0x6D, 0xDB, 0x80,
+];
+
+pub(crate) fn opened(
+    doc_freq: u32,
+    postings: &'static [u8],
+    positions: &'static [u8],
+    requested_option: IndexRecordOption,
+) -> Result<SegmentPostings, LayoutFault> {
+    SegmentPostings::open(
+        doc_freq,
+        Bytes::from_static(postings),
+        Some(Bytes::from_static(positions)),
+        FULL,
+        requested_option,
+    )
+}
+
+// What a refused opening of positions names.
+fn damaged(
+    doc_freq: u32,
+    postings: &'static [u8],
+    positions: &'static [u8],
+    requested_option: IndexRecordOption,
+) -> Option<Part> {
+    match opened(doc_freq, postings, positions, requested_option) {
+        Ok(_) => None,
+        Err(LayoutFault::Damaged(part)) => Some(part),
+    }
+}
+
+// A cursor over document 0, in which a term stands at 0 and 4.
+fn two_positions() -> Option<SegmentPostings>
+    ensures { IfSome result (λ cursor. cursor.rest ≡ record { doc = 0; term_freq = 2; positions = 0 ∷ 4 ∷ [] } ∷ []) }
+{
+    let postings = Bytes::from_static(&[0x80, 0x82]);
+    let positions = Some(Bytes::from_static(&[0x80, 0x80, 0x84]));
+    match SegmentPostings::open(1, postings, positions, FULL, FULL) {
+        Ok(cursor) => Some(cursor),
+        Err(_) => None,
+    }
+}
+
+#[test]
+fn positions_are_appended(rt: HostRuntime) -> Result<(), Fail> {
+    let Some(mut cursor) = two_positions() else {
+        assert!(rt; false, "a document with two positions");
+        return Ok(());
+    };
+    let mut output = Vec::new(rt.alloc());
+    output.push(7)?;
+    assert!(rt; cursor.append_positions_with_offset(10, &mut output).is_ok());
+    assert!(rt; output.as_slice() == [7, 10, 14].as_slice());
+    assert!(rt; cursor.positions_with_offset(1, &mut output).is_ok());
+    assert!(rt; output.as_slice() == [1, 5].as_slice());
+    assert!(rt; cursor.positions(&mut output).is_ok());
+    assert!(rt; output.as_slice() == [0, 4].as_slice());
+    assert!(rt; cursor.doc() == 0);
+    assert!(rt; cursor.term_freq() == 2);
+    assert!(rt; cursor.advance() == TERMINATED);
+    Ok(())
+}
+
+// The positions of the current document of any cursor, none at its end.
+pub(crate) fn gathered<P: Postings>(alloc: Global, cursor: &mut P) -> Vec<u32> {
+    let mut output = Vec::new(alloc);
+    if cursor.doc() < TERMINATED && cursor.positions(&mut output).is_err() {
+        output.clear();
+    }
+    output
+}
+
+// Its count, 0 at its end.
+pub(crate) fn counted<P: Postings>(cursor: &P) -> u32 {
+    if cursor.doc() < TERMINATED {
+        cursor.term_freq()
+    } else {
+        0
+    }
+}
+
+// Where a seek leaves a cursor, if it may be made.
+pub(crate) fn sought<P: Postings>(cursor: &mut P, target: DocId) -> DocId {
+    if target <= TERMINATED && cursor.doc() <= target {
+        cursor.seek(target)
+    } else {
+        cursor.doc()
+    }
+}
+
+#[test]
+fn positions_follow_a_seek(rt: HostRuntime) {
+    let Ok(mut cursor) = opened(128, &POSTINGS, &POSITIONS[..52], FULL) else {
+        assert!(rt; false, "a block of documents with three positions each");
+        return;
+    };
+    let positions = gathered(rt.alloc(), &mut cursor);
+    assert!(rt; positions.as_slice() == [0, 1, 2].as_slice());
+    assert!(rt; sought(&mut cursor, 42) == 42);
+    assert!(rt; counted(&cursor) == 3);
+    let positions = gathered(rt.alloc(), &mut cursor);
+    assert!(rt; positions.as_slice() == [0, 1, 2].as_slice());
+    assert!(rt; sought(&mut cursor, 127) == 127);
+    let positions = gathered(rt.alloc(), &mut cursor);
+    assert!(rt; positions.as_slice() == [0, 1, 2].as_slice());
+}
+
+#[test]
+fn terms_without_positions_have_none(rt: HostRuntime) {
+    // not requested, and a term without counts: the bytes aren't looked at
+    let Ok(mut unasked) = opened(1, &[0x80, 0x82], &[], IndexRecordOption::WithFreqs) else {
+        assert!(rt; false, "positions that aren't requested");
+        return;
+    };
+    assert!(rt; gathered(rt.alloc(), &mut unasked).is_empty());
+    assert!(rt; counted(&unasked) == 2);
+    let Ok(mut number) = opened(1, &[0x80], &[0x80], FULL) else {
+        assert!(rt; false, "a term without counts");
+        return;
+    };
+    assert!(rt; gathered(rt.alloc(), &mut number).is_empty());
+    assert!(rt; counted(&number) == 1);
+    assert!(rt; gathered(rt.alloc(), &mut SegmentPostings::empty()).is_empty());
+}
+
+#[test]
+fn damaged_positions_are_named(rt: HostRuntime) {
+    let with_freqs = IndexRecordOption::WithFreqs;
+    let positions = Some(Part::Positions);
+    assert!(rt; damaged(1, &[0x80, 0x82], &[0x80, 0x80], FULL) == positions);
+    assert!(rt; damaged(1, &[0x80, 0x82], &[], FULL) == positions);
+    assert!(rt; damaged(128, &POSTINGS, &POSITIONS[..51], FULL) == positions);
+    assert!(rt; damaged(128, &POSTINGS, &POSITIONS, FULL) == positions);
+    assert!(rt; damaged(128, &POSTINGS, &POSITIONS[..51], with_freqs) == None);
+    // a position above 32 bits
+    let large = &[0x80, 0x81, 0x7F, 0x7F, 0x7F, 0x7F, 0x8F];
+    assert!(rt; damaged(1, &[0x80, 0x82], large, FULL) == positions);
+    // documents come before positions
+    assert!(rt; damaged(1, &[0x7F], &[], FULL) == Some(Part::Documents));
+}

@@ -1,0 +1,203 @@
+ghost use Rattle.std.specs.Prelude.{◌<◌, ◌≡◌, false, length, IfOk};
+ghost use Rattle.ii_recorder.specs.IndexBodies.{LacksField};
+
+use crate::position_tests::{counted, gathered};
+use bytes::Bytes;
+use ii_base::{CountingWriter, Fault, Field, FieldEntry, IndexRecordOption, Schema, Term};
+use ii_docset::{DocId, DocSet, TERMINATED};
+use ii_reader::{
+    BlockSegmentPostings, InvertedIndexReader, OpenIndex, SegmentPostings, open_index,
+};
+use ii_recorder::InvertedIndexSerializer;
+use std::alloc::Global;
+use std::test::Fail;
+
+const FULL: IndexRecordOption = IndexRecordOption::WithFreqsAndPositions;
+
+// A field of texts with positions.
+fn texts(alloc: Global) -> Result<Schema, Fault>
+    ensures { IfOk result (λ schema. 0 < length schema) }
+{
+    let mut entries = Vec::new(alloc);
+    let name = String::from_str(alloc, "text")?;
+    entries.push(FieldEntry::text(name, FULL, false))?;
+    Ok(Schema::new(entries))
+}
+
+// In document 0 a text with `a` at 0 and 4.
+fn write_text(index: &mut InvertedIndexSerializer<Vec<u8>>) -> Result<(), Fault>
+    requires known { 0 < length index.old.entries }
+    requires lacks { index.old.closed ≡ false → LacksField 0 index.old.bodies }
+{
+    let mut field = index.new_field(Field::from_field_id(0), 2, None)?;
+    field.new_term(b"a", 1, true)?;
+    field.write_doc(0, 2, &[0, 4])?;
+    field.close()
+}
+
+// `c` in documents 1, 3 and 5, without counts.
+fn write_uncounted(index: &mut InvertedIndexSerializer<Vec<u8>>) -> Result<(), Fault>
+    requires known { 0 < length index.old.entries }
+    requires lacks { index.old.closed ≡ false → LacksField 0 index.old.bodies }
+{
+    let mut field = index.new_field(Field::from_field_id(0), 3, None)?;
+    field.new_term_without_freq(b"c")?;
+    field.write_doc(1, 1, &[])?;
+    field.write_doc(3, 1, &[])?;
+    field.write_doc(5, 1, &[])?;
+    field.close()
+}
+
+// Ends an index and opens what was written.
+fn reopened(alloc: Global, index: InvertedIndexSerializer<Vec<u8>>) -> Result<OpenIndex, Fault>
+    ensures { IfOk result (λ index. 0 < length index) }
+{
+    let (terms, postings, positions, closed) = index.close();
+    closed?;
+    let schema = texts(alloc)?;
+    open_index(
+        alloc,
+        Bytes::from_vec(terms.finish())?,
+        Bytes::from_vec(postings.finish())?,
+        Bytes::from_vec(positions.finish())?,
+        &schema,
+    )
+}
+
+// The index of the text.
+fn counted_index(alloc: Global) -> Result<OpenIndex, Fault>
+    ensures { IfOk result (λ index. 0 < length index) }
+{
+    let mut index = InvertedIndexSerializer::open(
+        alloc,
+        CountingWriter::wrap(Vec::new(alloc)),
+        CountingWriter::wrap(Vec::new(alloc)),
+        CountingWriter::wrap(Vec::new(alloc)),
+        texts(alloc)?,
+    );
+    write_text(&mut index)?;
+    reopened(alloc, index)
+}
+
+// The index of the documents without counts.
+fn uncounted_index(alloc: Global) -> Result<OpenIndex, Fault>
+    ensures { IfOk result (λ index. 0 < length index) }
+{
+    let mut index = InvertedIndexSerializer::open(
+        alloc,
+        CountingWriter::wrap(Vec::new(alloc)),
+        CountingWriter::wrap(Vec::new(alloc)),
+        CountingWriter::wrap(Vec::new(alloc)),
+        texts(alloc)?,
+    );
+    write_uncounted(&mut index)?;
+    reopened(alloc, index)
+}
+
+// A cursor over the postings of a term, at its first document.
+fn cursor_of(
+    alloc: Global,
+    reader: &InvertedIndexReader,
+    key: &str,
+    option: IndexRecordOption,
+) -> Result<Option<SegmentPostings>, Fault> {
+    let term = Term::from_field_text(alloc, Field::from_field_id(0), key)?;
+    reader.read_postings(&term, option)
+}
+
+// Where a term's first document is, how often the term stands there and where; the document is the end
+// where there is no such term.
+fn first(
+    alloc: Global,
+    reader: &InvertedIndexReader,
+    key: &str,
+    option: IndexRecordOption,
+) -> Result<(DocId, u32, Vec<u32>), Fault> {
+    match cursor_of(alloc, reader, key, option)? {
+        Some(mut cursor) => {
+            let freq = counted(&cursor);
+            Ok((cursor.doc(), freq, gathered(alloc, &mut cursor)))
+        }
+        None => Ok((TERMINATED, 0, Vec::new(alloc))),
+    }
+}
+
+#[test]
+fn written_positions_are_read(rt: HostRuntime) -> Result<(), Fail> {
+    let alloc = rt.alloc();
+    let index = counted_index(alloc)?;
+    let reader = index.reader(Field::from_field_id(0));
+    assert!(rt; reader.total_num_tokens() == 2);
+    let (doc, freq, positions) = first(alloc, reader, "a", FULL)?;
+    assert!(rt; doc == 0 && freq == 2);
+    assert!(rt; positions.as_slice() == [0, 4].as_slice());
+    let (doc, _, _) = first(alloc, reader, "b", FULL)?;
+    assert!(rt; doc == TERMINATED);
+    Ok(())
+}
+
+#[test]
+fn what_is_not_requested_is_not_read(rt: HostRuntime) -> Result<(), Fail> {
+    let alloc = rt.alloc();
+    let index = counted_index(alloc)?;
+    let reader = index.reader(Field::from_field_id(0));
+    let (doc, freq, positions) = first(alloc, reader, "a", IndexRecordOption::WithFreqs)?;
+    assert!(rt; doc == 0 && freq == 2);
+    assert!(rt; positions.is_empty());
+    let (doc, freq, positions) = first(alloc, reader, "a", IndexRecordOption::Basic)?;
+    assert!(rt; doc == 0 && freq == 1);
+    assert!(rt; positions.is_empty());
+    Ok(())
+}
+
+#[test]
+fn written_documents_are_walked(rt: HostRuntime) -> Result<(), Fail> {
+    let index = uncounted_index(rt.alloc())?;
+    let reader = index.reader(Field::from_field_id(0));
+    let term = Term::from_field_text(rt.alloc(), Field::from_field_id(0), "c")?;
+    assert!(rt; reader.doc_freq(&term) == 3);
+    let Some(mut cursor) = reader.read_postings(&term, FULL)? else {
+        assert!(rt; false, "a term in three documents");
+        return Ok(());
+    };
+    assert!(rt; counted(&cursor) == 1);
+    assert!(rt; cursor.doc() == 1);
+    assert!(rt; cursor.advance() == 3);
+    assert!(rt; cursor.advance() == 5);
+    assert!(rt; cursor.advance() == TERMINATED);
+    Ok(())
+}
+
+// Puts the postings of a term in place of those of a block cursor, if the field has it.
+fn put(
+    alloc: Global,
+    reader: &InvertedIndexReader,
+    key: &str,
+    blocks: &mut BlockSegmentPostings,
+) -> Result<bool, Fault> {
+    let term = Term::from_field_text(alloc, Field::from_field_id(0), key)?;
+    let Some(info) = reader.get_term_info(&term) else {
+        return Ok(false);
+    };
+    reader.reset_block_postings_from_terminfo(&info, blocks)?;
+    Ok(true)
+}
+
+#[test]
+fn block_cursors_go_from_term_to_term(rt: HostRuntime) -> Result<(), Fail> {
+    let alloc = rt.alloc();
+    let (text, other) = (counted_index(alloc)?, uncounted_index(alloc)?);
+    let field = Field::from_field_id(0);
+    let term = Term::from_field_text(alloc, field, "a")?;
+    let Some(mut blocks) = text.reader(field).read_block_postings(&term, FULL)? else {
+        assert!(rt; false, "a term in a document");
+        return Ok(());
+    };
+    assert!(rt; blocks.docs() == [0].as_slice());
+    assert!(rt; blocks.freqs() == [2].as_slice());
+    assert!(rt; put(alloc, other.reader(field), "c", &mut blocks)?);
+    assert!(rt; blocks.docs() == [1, 3, 5].as_slice());
+    assert!(rt; blocks.freqs().len() == 0);
+    assert!(rt; !put(alloc, other.reader(field), "a", &mut blocks)?);
+    Ok(())
+}
