@@ -2,6 +2,7 @@ pub mod FieldLists
 pub mod PostingsLaws
 pub mod RecorderSteps
 pub mod RecordsLaws
+pub mod StoreLaws
 pub mod TermIndexLemmas
 pub mod TermLemmas
 pub mod TextLaws

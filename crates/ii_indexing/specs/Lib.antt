@@ -1,4 +1,5 @@
 pub mod IndexCalls
+pub mod IndexedTerms
 pub mod IndexingContext
 pub mod IndexingTerm
 pub mod Lending

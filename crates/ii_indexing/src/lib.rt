@@ -3,6 +3,7 @@
 #![tactic(auto)]
 
 pub mod index_call;
+mod indexed_terms;
 pub mod indexing_context;
 pub mod indexing_position;
 pub mod indexing_term;
