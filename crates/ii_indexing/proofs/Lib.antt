@@ -1,3 +1,4 @@
+pub mod DocumentLaws
 pub mod FieldLists
 pub mod PostingsLaws
 pub mod RecorderSteps

@@ -50,12 +50,12 @@ other_count field f ts us only other = sum_by-append (λ (u : IndexToken). cond 
 other_tokens : (field f : ℕ) (key : List ℕ) (ts us : List IndexToken) → OnlyIn field us → (field == f) ≡ false → tokens_at f key (ts ++ us) ≡ tokens_at f key ts
 other_tokens field f key ts us only other = tokens_at-append f key ts us ∙ rw (only.keys f key other) (append-nil (tokens_at f key ts))
 
-set_same : {A : Type 0} (xs : List A) (i : ℕ) (x w : A) → slice_get xs i ≡ Some x → slice_get (slice_set xs i w) i ≡ Some w
+pub set_same : {A : Type 0} (xs : List A) (i : ℕ) (x w : A) → slice_get xs i ≡ Some x → slice_get (slice_set xs i w) i ≡ Some w
 set_same [] i x w is = absurd (cc)
 set_same (y ∷ xs) zero x w is = refl
 set_same (y ∷ xs) (suc i) x w is = set_same xs i x w is
 
-set_other : {A : Type 0} (xs : List A) (i j : ℕ) (w : A) → (i == j) ≡ false → slice_get (slice_set xs i w) j ≡ slice_get xs j
+pub set_other : {A : Type 0} (xs : List A) (i j : ℕ) (w : A) → (i == j) ≡ false → slice_get (slice_set xs i w) j ≡ slice_get xs j
 set_other [] i j w other = refl
 set_other (y ∷ xs) zero zero w other = absurd (eqb-false 0 0 other refl)
 set_other (y ∷ xs) zero (suc j) w other = refl

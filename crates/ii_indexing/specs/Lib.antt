@@ -5,6 +5,7 @@ pub mod IndexingTerm
 pub mod Lending
 pub mod LendingWriters
 pub mod Norms
+pub mod OpenDocuments
 pub mod PostingsWriter
 pub mod Records
 pub mod Refusals

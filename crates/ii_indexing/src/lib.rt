@@ -4,6 +4,7 @@
 
 pub mod index_call;
 mod indexed_terms;
+mod open_documents;
 pub mod indexing_context;
 pub mod indexing_position;
 pub mod indexing_term;
