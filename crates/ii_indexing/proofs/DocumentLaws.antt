@@ -111,7 +111,7 @@ tells_opened field ps ts d doc ids above behind h = record {
     by None b n = n
     by (Some i) b n = norms_recorded field ts d doc i above b h.count n
 
-set_value : {A : Type 0} (xs : List A) (i : ℕ) (w d : A) → slice_get (slice_set xs i w) i ≡ Some d → d ≡ w
+pub set_value : {A : Type 0} (xs : List A) (i : ℕ) (w d : A) → slice_get (slice_set xs i w) i ≡ Some d → d ≡ w
 set_value [] i w d is = absurd (cc)
 set_value (y ∷ xs) zero w d is = cc
 set_value (y ∷ xs) (suc i) w d is = set_value xs i w d is

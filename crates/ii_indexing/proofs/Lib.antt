@@ -1,5 +1,6 @@
 pub mod DocumentLaws
 pub mod FieldLists
+pub mod PieceLaws
 pub mod PostingsLaws
 pub mod RecorderSteps
 pub mod RecordsLaws

@@ -1,5 +1,6 @@
 pub mod IndexCalls
 pub mod IndexedTerms
+pub mod Indexer
 pub mod IndexingContext
 pub mod IndexingTerm
 pub mod Lending

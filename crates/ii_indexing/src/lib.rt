@@ -3,6 +3,7 @@
 #![tactic(auto)]
 
 pub mod index_call;
+mod indexed_fields;
 mod indexed_terms;
 mod open_documents;
 pub mod indexing_context;

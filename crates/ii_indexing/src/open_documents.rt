@@ -39,6 +39,26 @@ impl Model for OpenDocuments {
 }
 
 impl OpenDocuments {
+    // Document 0 of each field, with no tokens.
+    pub(crate) fn new(alloc: Global, schema: &Schema) -> Result<OpenDocuments, Fault>
+        ensures ok { IfOk result (λ d. d ≡ record { documents = map (λ (e : Entry). empty_document 0) schema.now; norms = empty_buffers schema.now }) }
+        ensures only { IfErr result (λ e. e ≡ Fault.OutOfMemory) }
+    {
+        let mut documents = Vec::with_capacity(alloc, schema.num_fields())?;
+        for (_field, _entry) in schema.fields() {
+            documents.push(OpenDocument {
+                doc: 0,
+                num_tokens: 0,
+                end_position: 0,
+                norm: 0,
+            })?;
+        }
+        Ok(OpenDocuments {
+            documents,
+            norms: FieldNormsWriter::for_schema(alloc, schema)?,
+        })
+    }
+
     // Opens a document in a field, which isn't below the one before. The norm of that one is kept.
     pub(crate) fn open(&mut self, doc: DocId, field: Field) -> Result<OpenDocument, Fault>
         requires known { field < length self.old.documents }
