@@ -87,7 +87,7 @@ norms_recorded field ts d doc ids above behind counts h x low = by (nat_lt x d.d
         let count : doc_count x field ts ≡ 0 = omega (arith, none) in
         past ∙ sym (ap id_of_norm count ∙ zero_norm)
 
-at_empty : (doc other : ℕ) → document_at other (empty_document doc) ≡ empty_document other
+pub at_empty : (doc other : ℕ) → document_at other (empty_document doc) ≡ empty_document other
 at_empty doc other = by (doc == other) refl
   where
     by : (b : Bool) → (doc == other) ≡ b → document_at other (empty_document doc) ≡ empty_document other

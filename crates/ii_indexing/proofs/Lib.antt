@@ -1,3 +1,4 @@
+pub mod CallLaws
 pub mod DocumentLaws
 pub mod FieldLists
 pub mod PieceLaws

@@ -6,7 +6,7 @@ use Rattle.ii_io.specs.declared.faults.Fault.{Fault}
 use Rattle.ii_io.specs.declared.faults.Fault.TheVariants.{Limit}
 use Rattle.ii_io.specs.declared.faults.LimitName.TheVariants as limit
 use Rattle.ii_base.specs.Schema.{Entry}
-use Rattle.ii_base.specs.Values.{flipped, number_of_bool, u64_bytes}
+use Rattle.ii_base.specs.Values.{u64_bytes}
 use Rattle.ii_base.specs.Words.{Word}
 use Rattle.ii_base.specs.declared.schema.index_record_option.IndexRecordOption.{IndexRecordOption}
 use Rattle.ii_base.specs.declared.schema.index_record_option.IndexRecordOption.TheVariants.{Basic}
@@ -17,7 +17,7 @@ use Rattle.ii_indexing.specs.PostingsWriter.{PostingsWriterState, kept_of}
 use Rattle.ii_indexing.specs.Records.{Records}
 use Rattle.ii_indexing.specs.Refusals.{u64_max}
 use Rattle.ii_indexing.specs.declared.indexed_terms.FieldValue.{FieldValue}
-use Rattle.ii_indexing.specs.declared.indexed_terms.FieldValue.TheVariants.{U64, I64, Bool as Truth, Bytes, Ip}
+use Rattle.ii_indexing.specs.declared.indexed_terms.FieldValue.TheVariants.{Number, Bytes, Ip}
 
 -- The terms of all fields, and the writer of each field.
 pub record IndexedTermsState : Type 0 where
@@ -40,9 +40,7 @@ field_text doc field words = record { doc = doc; field = field; prefix = []; is_
 
 -- the bytes of a value
 abbrev pub key_of : FieldValue → List ℕ
-key_of (U64 n) = u64_bytes n
-key_of (I64 n) = u64_bytes (flipped n)
-key_of (Truth b) = u64_bytes (number_of_bool b)
+key_of (Number n) = u64_bytes n
 key_of (Bytes bytes) = bytes.items
 key_of (Ip address) = bytes_high_first 16 address
 

@@ -13,7 +13,7 @@ use crate::index_call::IndexCall;
 use crate::indexed_terms::{FieldValue, IndexedTerms};
 use crate::indexing_position::IndexingPosition;
 use crate::open_documents::{OpenDocument, OpenDocuments};
-use ii_base::{Fault, Field, Schema, TextAnalyzer, TokenList};
+use ii_base::{FastValue, Fault, Field, Schema, TextAnalyzer, TokenList};
 use ii_docset::DocId;
 use std::alloc::Global;
 use std::marker::Model;
@@ -71,13 +71,13 @@ impl IndexedFields {
             }
             IndexCall::Tokens(doc, field, tokens) => self.index_words(doc, field, tokens),
             IndexCall::U64(doc, field, number) => {
-                self.index_value(doc, field, FieldValue::U64(number))
+                self.index_value(doc, field, FieldValue::Number(number))
             }
             IndexCall::I64(doc, field, number) => {
-                self.index_value(doc, field, FieldValue::I64(number))
+                self.index_value(doc, field, FieldValue::Number(number.to_u64()))
             }
             IndexCall::Bool(doc, field, truth) => {
-                self.index_value(doc, field, FieldValue::Bool(truth))
+                self.index_value(doc, field, FieldValue::Number(truth.to_u64()))
             }
             IndexCall::Bytes(doc, field, bytes) => {
                 self.index_value(doc, field, FieldValue::Bytes(bytes))

@@ -18,12 +18,10 @@ use ii_docset::DocId;
 use std::alloc::Global;
 use std::marker::Model;
 
-/// A value that isn't text.
+/// A value that isn't text; a number or a truth value is the number of 64 bits that stands for it.
 #[derive(Drop)]
 pub(crate) enum FieldValue {
-    U64(u64),
-    I64(i64),
-    Bool(bool),
+    Number(u64),
     Bytes(Vec<u8>),
     Ip(u128),
 }
@@ -114,9 +112,7 @@ fn set_value(term: &mut IndexingTerm, value: FieldValue) -> Result<(), Fault>
     ensures only { IfErr result (λ e. e ≡ Fault.OutOfMemory) }
 {
     match value {
-        FieldValue::U64(number) => term.set_u64(number),
-        FieldValue::I64(number) => term.set_i64(number),
-        FieldValue::Bool(truth) => term.set_bool(truth),
+        FieldValue::Number(number) => term.set_u64(number),
         FieldValue::Bytes(bytes) => term.set_bytes(&bytes),
         FieldValue::Ip(address) => term.set_ip_addr(address),
     }
