@@ -1,11 +1,15 @@
 pub mod ByFieldLemmas
+pub mod CallLaws
+pub mod DocumentLaws
 pub mod FieldLists
 pub mod PartLemmas
+pub mod PieceLaws
 pub mod PostingsLaws
 pub mod RecorderSteps
 pub mod RecordsLaws
 pub mod SerializeLemmas
 pub mod SortedLemmas
+pub mod StoreLaws
 pub mod TermIndexLemmas
 pub mod TermLemmas
 pub mod TextLaws

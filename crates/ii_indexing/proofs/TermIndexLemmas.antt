@@ -98,3 +98,7 @@ is_inserted option doc position term m n k w terms h key is absent state =
 pub on_ok : {X E : Type 0} (r : Result X E) (P Q : Type 0) → (P → Q) → OnOk r P → OnOk r Q
 on_ok (Ok x) P Q f h = f h
 on_ok (Err e) P Q f h = h
+
+pub on_both : {X E : Type 0} (r : Result X E) (P R Q : Type 0) → (P → R → Q) → OnOk r P → OnOk r R → OnOk r Q
+on_both (Ok x) P R Q f h k = f h k
+on_both (Err e) P R Q f h k = h

@@ -83,7 +83,7 @@ downgrade_same WithFreqs = refl
 downgrade_same WithFreqsAndPositions = refl
 
 -- the recorder of a key, or a new one
-key_recorder : (option : IndexRecordOption) (ts : List IndexToken) (found : Option RecorderState) → HasKey option ts found → (unwrap_or found (new_recorder option)).option ≡ option
+pub key_recorder : (option : IndexRecordOption) (ts : List IndexToken) (found : Option RecorderState) → HasKey option ts found → (unwrap_or found (new_recorder option)).option ≡ option
 key_recorder option ts None none = refl
 key_recorder option ts (Some r) h = h.kept
 

@@ -1,10 +1,13 @@
-pub mod IndexCalls
 pub mod FieldParts
+pub mod IndexCalls
+pub mod IndexedTerms
+pub mod Indexer
 pub mod IndexingContext
 pub mod IndexingTerm
 pub mod Lending
 pub mod LendingWriters
 pub mod Norms
+pub mod OpenDocuments
 pub mod PostingsWriter
 pub mod Records
 pub mod Refusals

@@ -5,6 +5,9 @@ use Rattle.ii_io.specs.declared.faults.Fault.{Fault}
 use Rattle.ii_io.specs.declared.faults.Fault.TheVariants.{Limit, OutOfMemory}
 use Rattle.ii_io.specs.declared.faults.LimitName.TheVariants as limit
 use Rattle.ii_base.specs.declared.schema.index_record_option.IndexRecordOption.{IndexRecordOption}
+use Rattle.ii_base.specs.declared.schema.index_record_option.IndexRecordOption.TheVariants.{Basic}
+use Rattle.ii_base.specs.declared.schema.value_type.ValueType.{ValueType}
+use Rattle.ii_base.specs.declared.schema.value_type.ValueType.TheVariants.{Str, U64, I64, Bool as Truth, Date, Bytes, Json, IpAddr}
 use Rattle.ii_base.specs.Schema.{Entry}
 use Rattle.ii_base.specs.Words.{Word}
 use Rattle.ii_recorder.specs.Recorded.{u32_max}
@@ -21,9 +24,23 @@ pub record PostingsWriterState : Type 0 where
   pub option : IndexRecordOption
   pub total_num_tokens : ℕ
 
--- a writer of no tokens, by what a field records
+-- what is kept of a term: of a value that isn't text that it occurs, whatever the field records
+abbrev pub kept_as : ValueType → IndexRecordOption → IndexRecordOption
+kept_as Str option = option
+kept_as U64 option = Basic
+kept_as I64 option = Basic
+kept_as Truth option = Basic
+kept_as Date option = Basic
+kept_as Bytes option = Basic
+kept_as Json option = option
+kept_as IpAddr option = Basic
+
+abbrev pub kept_of : Entry → IndexRecordOption
+kept_of e = kept_as e.value_type e.option
+
+-- a writer of no tokens, by what a field keeps
 abbrev pub writer_of : Entry → PostingsWriterState
-writer_of e = record { option = e.option; total_num_tokens = 0 }
+writer_of e = record { option = kept_of e; total_num_tokens = 0 }
 
 abbrev pub writers_of : List Entry → List PostingsWriterState
 writers_of entries = map writer_of entries

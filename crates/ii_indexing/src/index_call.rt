@@ -1,3 +1,6 @@
+ghost use Rattle.std.specs.Prelude.{◌≡◌};
+ghost use Rattle.ii_indexing.specs.IndexCalls.{call_of};
+
 use ii_base::{Field, TokenList};
 use ii_docset::DocId;
 
@@ -18,4 +21,21 @@ pub enum IndexCall {
     Bytes(DocId, Field, Vec<u8>),
     /// An IP address.
     Ip(DocId, Field, u128),
+}
+
+impl IndexCall {
+    /// The document.
+    pub fn doc(&self) -> DocId
+        ensures { result ≡ (call_of self.now).doc }
+    {
+        match self {
+            IndexCall::Text(doc, _, _) => *doc,
+            IndexCall::Tokens(doc, _, _) => *doc,
+            IndexCall::U64(doc, _, _) => *doc,
+            IndexCall::I64(doc, _, _) => *doc,
+            IndexCall::Bool(doc, _, _) => *doc,
+            IndexCall::Bytes(doc, _, _) => *doc,
+            IndexCall::Ip(doc, _, _) => *doc,
+        }
+    }
 }

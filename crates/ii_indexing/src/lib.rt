@@ -3,6 +3,10 @@
 #![tactic(auto)]
 
 pub mod index_call;
+mod indexed_fields;
+mod indexed_terms;
+mod open_documents;
+pub mod indexer;
 pub mod indexing_context;
 pub mod indexing_position;
 pub mod indexing_term;
@@ -15,6 +19,7 @@ pub mod sorted_terms;
 mod tests;
 
 pub use index_call::IndexCall;
+pub use indexer::Indexer;
 pub use indexing_context::IndexingContext;
 pub use indexing_position::IndexingPosition;
 pub use indexing_term::{IndexingTerm, IndexingTermRef};

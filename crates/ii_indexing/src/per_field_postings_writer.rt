@@ -1,10 +1,10 @@
 ghost use Rattle.std.specs.Prelude.{◌≡◌, ◌<◌, length, map, slice_get, Some, IfErr, IfOk};
 ghost use Rattle.std.specs.Borrow.{sem};
 ghost use Rattle.ii_indexing.specs.LendingWriters.{LendsWriter};
-ghost use Rattle.ii_indexing.specs.PostingsWriter.{writers_of};
+ghost use Rattle.ii_indexing.specs.PostingsWriter.{kept_of, writers_of};
 
 use crate::postings_writer::SpecializedPostingsWriter;
-use ii_base::{Fault, Field, Schema};
+use ii_base::{Fault, Field, FieldEntry, IndexRecordOption, Schema, ValueType};
 use std::alloc::Global;
 use std::marker::Model;
 
@@ -24,7 +24,8 @@ impl Model for PerFieldPostingsWriter {
 }
 
 impl PerFieldPostingsWriter {
-    /// A writer of no tokens for each field, by what the field records. `OutOfMemory` where there is no
+    /// A writer of no tokens for each field, which keeps what the field records, or of values that
+    /// aren't text that they occur. `OutOfMemory` where there is no
     /// room for them.
     pub fn for_schema(alloc: Global, schema: &Schema) -> Result<PerFieldPostingsWriter, Fault>
         ensures ok { IfOk result (λ writers. writers ≡ writers_of schema.now) }
@@ -32,7 +33,7 @@ impl PerFieldPostingsWriter {
     {
         let mut writers = Vec::with_capacity(alloc, schema.num_fields())?;
         for (_field, entry) in schema.fields() {
-            writers.push(SpecializedPostingsWriter::new(entry.index_record_option()))?;
+            writers.push(SpecializedPostingsWriter::new(kept_of(entry)))?;
         }
         Ok(PerFieldPostingsWriter { writers })
     }
@@ -52,5 +53,15 @@ impl PerFieldPostingsWriter {
         ensures value { slice_get self.old field ≡ Some result.now }
     {
         &mut self.writers[field.field_id() as usize]
+    }
+}
+
+// What a field keeps of a term.
+fn kept_of(entry: &FieldEntry) -> IndexRecordOption
+    ensures { result ≡ kept_of entry.now }
+{
+    match entry.value_type() {
+        ValueType::Str | ValueType::Json => entry.index_record_option(),
+        _ => IndexRecordOption::Basic,
     }
 }

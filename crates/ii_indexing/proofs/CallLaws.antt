@@ -1,0 +1,69 @@
+-- What a call stores, and why it is refused, by the one text or value that it has.
+use Rattle.std.proofs.Common.{◌≡◌, ℕ, ◌<◌, List, [], ◌∷◌, ◌++◌, length, Option, Result, refl, sym, ap, subst}
+use Rattle.ii_io.specs.declared.faults.Fault.{Fault}
+use Rattle.ii_base.specs.Schema.{Entry}
+use Rattle.ii_base.specs.Words.{Word}
+use Rattle.ii_base.specs.declared.schema.index_record_option.IndexRecordOption.{IndexRecordOption}
+use Rattle.ii_base.specs.declared.schema.index_record_option.IndexRecordOption.TheVariants.{Basic}
+use Rattle.ii_base.specs.declared.schema.value_type.ValueType.{ValueType}
+use Rattle.ii_base.specs.declared.schema.value_type.ValueType.TheVariants.{Str}
+use Rattle.ii_index.specs.Fields.{option_of}
+use Rattle.ii_index.specs.Tokens.{Call, Piece, call_pieces, text, value, words}
+use Rattle.ii_indexing.specs.IndexCalls.{Takes}
+use Rattle.ii_indexing.specs.IndexedTerms.{field_text, field_value, kept_in}
+use Rattle.ii_indexing.specs.Indexer.{IndexedFieldsState, StoresPieces}
+use Rattle.ii_indexing.specs.PostingsWriter.{kept_as}
+use Rattle.ii_indexing.specs.Refusals.{IsRefusedBy, piece_fault, pieces_fault}
+use Rattle.ii_indexing.proofs.FieldLists.{one_fault, takes_inside, takes_text, takes_value}
+
+-- A call to a field of a type is stored.
+abbrev pub CallStored : (List ℕ → List Word) → IndexedFieldsState → IndexedFieldsState → Call → ValueType → Type 0
+CallStored analyze old new c t = (entries : List Entry) (ps : List Piece) → Takes entries c.field t → StoresPieces entries old ps → StoresPieces entries new (ps ++ call_pieces analyze c)
+
+-- It is refused by the cause that the definitions give.
+abbrev pub CallRefused : {T : Type 0} → (List ℕ → List Word) → IndexedFieldsState → Result T Fault → Call → ValueType → Type 0
+CallRefused analyze old result c t =
+    (entries : List Entry) (ps : List Piece) → Takes entries c.field t → StoresPieces entries old ps → IsRefusedBy (pieces_fault (option_of entries c.field) ps (call_pieces analyze c)) result
+
+-- What is known of a text, and of a value.
+abbrev pub TextStored : IndexedFieldsState → IndexedFieldsState → ℕ → ℕ → List Word → Type 0
+TextStored old new doc field ws = (entries : List Entry) (ps : List Piece) → field < length entries → StoresPieces entries old ps → StoresPieces entries new (ps ++ field_text doc field ws ∷ [])
+
+abbrev pub ValueStored : IndexedFieldsState → IndexedFieldsState → ℕ → ℕ → List ℕ → Type 0
+ValueStored old new doc field key =
+    (entries : List Entry) (ps : List Piece) → field < length entries → kept_in entries field ≡ Basic → StoresPieces entries old ps → StoresPieces entries new (ps ++ field_value doc field key ∷ [])
+
+abbrev pub TextRefused : {T : Type 0} → IndexedFieldsState → Result T Fault → ℕ → ℕ → List Word → Type 0
+TextRefused old result doc field ws =
+    (entries : List Entry) (ps : List Piece) → field < length entries → StoresPieces entries old ps → IsRefusedBy (piece_fault (kept_in entries field) ps (field_text doc field ws)) result
+
+abbrev pub ValueRefused : {T : Type 0} → IndexedFieldsState → Result T Fault → ℕ → ℕ → List ℕ → Type 0
+ValueRefused old result doc field key =
+    (entries : List Entry) (ps : List Piece) → field < length entries → kept_in entries field ≡ Basic → StoresPieces entries old ps → IsRefusedBy (piece_fault (kept_in entries field) ps (field_value doc field key)) result
+
+module _ (analyze : List ℕ → List Word) (old new : IndexedFieldsState) (doc field : ℕ) where
+  pub text_call : (t : List ℕ) → TextStored old new doc field (analyze t) → CallStored analyze old new (record { doc = doc; field = field; content = text t }) Str
+  text_call t h entries ps takes stored = h entries ps (takes_inside entries field Str takes) stored
+
+  pub words_call : (ws : List Word) → TextStored old new doc field ws → CallStored analyze old new (record { doc = doc; field = field; content = words ws }) Str
+  words_call ws h entries ps takes stored = h entries ps (takes_inside entries field Str takes) stored
+
+  pub value_call : (key : List ℕ) (t : ValueType) → ((o : IndexRecordOption) → kept_as t o ≡ Basic) → ValueStored old new doc field key → CallStored analyze old new (record { doc = doc; field = field; content = value key }) t
+  value_call key t plain h entries ps takes stored = h entries ps (takes_inside entries field t takes) (takes_value entries field t takes plain) stored
+
+module _ {T : Type 0} (analyze : List ℕ → List Word) (old : IndexedFieldsState) (result : Result T Fault) (doc field : ℕ) where
+  of_text : (entries : List Entry) (ps : List Piece) (ws : List Word) → Takes entries field Str → TextRefused old result doc field ws → StoresPieces entries old ps
+      → IsRefusedBy (pieces_fault (option_of entries field) ps (field_text doc field ws ∷ [])) result
+  of_text entries ps ws takes h stored =
+      subst (λ (o : IndexRecordOption). IsRefusedBy (pieces_fault o ps (field_text doc field ws ∷ [])) result) (takes_text entries field takes)
+      (subst (λ (f : Option Fault). IsRefusedBy f result) (one_fault (kept_in entries field) ps (field_text doc field ws)) (h entries ps (takes_inside entries field Str takes) stored))
+
+  pub text_call_refused : (t : List ℕ) → TextRefused old result doc field (analyze t) → CallRefused analyze old result (record { doc = doc; field = field; content = text t }) Str
+  text_call_refused t h entries ps takes stored = of_text entries ps (analyze t) takes h stored
+
+  pub words_call_refused : (ws : List Word) → TextRefused old result doc field ws → CallRefused analyze old result (record { doc = doc; field = field; content = words ws }) Str
+  words_call_refused ws h entries ps takes stored = of_text entries ps ws takes h stored
+
+  pub value_call_refused : (key : List ℕ) (t : ValueType) → ((o : IndexRecordOption) → kept_as t o ≡ Basic) → ValueRefused old result doc field key → CallRefused analyze old result (record { doc = doc; field = field; content = value key }) t
+  value_call_refused key t plain h entries ps takes stored =
+      subst (λ (f : Option Fault). IsRefusedBy f result) (one_fault (option_of entries field) ps (field_value doc field key)) (h entries ps (takes_inside entries field t takes) (takes_value entries field t takes plain) stored)

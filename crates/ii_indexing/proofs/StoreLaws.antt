@@ -1,0 +1,159 @@
+-- What is stored of a field once tokens of it are added.
+use Rattle.std.proofs.Common.{◌≡◌, ◌⊎◌, ℕ, zero, suc, ◌+◌, ◌<◌, ◌==◌, Bool, true, false, List, [], ◌∷◌, ◌++◌, map, length, cond, Some, None, Option, Ok, Err, Result, inl, inr, refl, sym, ap, ◌∙◌, subst, arith, append-nil}
+use Rattle.std.specs.Prelude.{slice_get, slice_set, nat_le, if◌then◌else◌, ⊤, MatchOption}
+use Rattle.std.proofs.lemmas.Bool.{eqb-true, eqb-false, eq-eqb}
+use Rattle.std.proofs.lemmas.List.Sums.{sum_by-append, sum_by-cons}
+use Rattle.ii_io.specs.declared.faults.Fault.{Fault}
+use Rattle.ii_io.specs.declared.faults.Fault.TheVariants.{OutOfMemory, Limit}
+use Rattle.ii_io.specs.declared.faults.LimitName.TheVariants as limit
+use Rattle.ii_base.specs.Schema.{Entry}
+use Rattle.ii_base.specs.Words.{Word}
+use Rattle.ii_base.specs.declared.schema.index_record_option.IndexRecordOption.{IndexRecordOption}
+use Rattle.ii_base.specs.declared.schema.index_record_option.IndexRecordOption.TheVariants.{Basic}
+use Rattle.ii_index.specs.Tokens.{IndexToken, Piece, kept_words, value_token, word_token}
+use Rattle.ii_index.specs.Postings.{field_count, is_at, kind_of, tokens_at}
+use Rattle.ii_indexing.specs.IndexedTerms.{IndexedTermsState, StoresTokens, field_text, field_value, kept_in, value_fault}
+use Rattle.ii_indexing.specs.IndexingContext.{TermIndex, record_fault, recorder_of, recorder_or_new}
+use Rattle.ii_indexing.specs.IndexingTerm.{field_bytes}
+use Rattle.ii_indexing.specs.PostingsWriter.{HasTokens, PostingsWriterState, subscribe_fault, tokens_counted}
+use Rattle.ii_indexing.specs.Records.{Records}
+use Rattle.ii_indexing.specs.Refusals.{IsRefusedBy, u64_max}
+use Rattle.ii_indexing.proofs.PostingsLaws.{tokens_at-append}
+use Rattle.ii_indexing.proofs.RecordsLaws.{HasKey, tokens_at_last}
+use Rattle.ii_indexing.proofs.TextLaws.{field_count_more, key_recorder}
+
+-- what is kept of the keys of each field
+abbrev pub kept_by : List Entry → ℕ → List ℕ → IndexRecordOption
+kept_by entries field key = kept_in entries field
+
+-- Tokens of one field alone.
+pub record OnlyIn (field : ℕ) (us : List IndexToken) : Type 0 where
+  pub counts : (f : ℕ) → (field == f) ≡ false → field_count f us ≡ 0
+  pub keys : (f : ℕ) (key : List ℕ) → (field == f) ≡ false → tokens_at f key us ≡ []
+
+no_tokens : (field : ℕ) → OnlyIn field []
+no_tokens field = record { counts = λ f other. refl; keys = λ f key other. refl }
+
+one_token : (field : ℕ) (t : IndexToken) (us : List IndexToken) → t.field ≡ field → OnlyIn field us → OnlyIn field (t ∷ us)
+one_token field t us is h = record {
+  counts = λ f other. sum_by-cons (λ (u : IndexToken). cond (u.field == f) 1 0) t us ∙ rw (is, other) (ap (λ (n : ℕ). 0 + n) (h.counts f other));
+  keys = λ f key other. rw (is, other) (h.keys f key other);
+}
+
+words_only : (p : Piece) (begin : ℕ) (ws : List Word) → OnlyIn p.field (map (word_token p begin) ws)
+words_only p begin [] = no_tokens p.field
+words_only p begin (w ∷ ws) = one_token p.field (word_token p begin w) (map (word_token p begin) ws) refl (words_only p begin ws)
+
+other_count : (field f : ℕ) (ts us : List IndexToken) → OnlyIn field us → (field == f) ≡ false → field_count f (ts ++ us) ≡ field_count f ts
+other_count field f ts us only other = sum_by-append (λ (u : IndexToken). cond (u.field == f) 1 0) ts us ∙ omega (arith, only.counts f other)
+
+other_tokens : (field f : ℕ) (key : List ℕ) (ts us : List IndexToken) → OnlyIn field us → (field == f) ≡ false → tokens_at f key (ts ++ us) ≡ tokens_at f key ts
+other_tokens field f key ts us only other = tokens_at-append f key ts us ∙ rw (only.keys f key other) (append-nil (tokens_at f key ts))
+
+pub set_same : {A : Type 0} (xs : List A) (i : ℕ) (x w : A) → slice_get xs i ≡ Some x → slice_get (slice_set xs i w) i ≡ Some w
+set_same [] i x w is = absurd (cc)
+set_same (y ∷ xs) zero x w is = refl
+set_same (y ∷ xs) (suc i) x w is = set_same xs i x w is
+
+pub set_other : {A : Type 0} (xs : List A) (i j : ℕ) (w : A) → (i == j) ≡ false → slice_get (slice_set xs i w) j ≡ slice_get xs j
+set_other [] i j w other = refl
+set_other (y ∷ xs) zero zero w other = absurd (eqb-false 0 0 other refl)
+set_other (y ∷ xs) zero (suc j) w other = refl
+set_other (y ∷ xs) (suc i) zero w other = refl
+set_other (y ∷ xs) (suc i) (suc j) w other = set_other xs i j w (grind (arith, other))
+
+-- What a field has with more tokens of it.
+pub record AddsTokens (entries : List Entry) (field : ℕ) (old : IndexedTermsState) (terms : TermIndex) (writer : PostingsWriterState) (ts us : List IndexToken) : Type 0 where
+  pub records : Records (kept_by entries) terms (ts ++ us)
+  pub writer_is : writer ≡ record { option = kept_in entries field; total_num_tokens = field_count field (ts ++ us) }
+  pub one_kind : (key : List ℕ) → kind_of (kept_in entries field) (tokens_at field key (ts ++ us)) ≡ kept_in entries field
+  pub only : OnlyIn field us
+
+pub tokens_stored : (entries : List Entry) (field : ℕ) (old : IndexedTermsState) (terms : TermIndex) (writer : PostingsWriterState) (ts us : List IndexToken) → field < length entries
+    → StoresTokens entries old ts → AddsTokens entries field old terms writer ts us → StoresTokens entries (record { terms = terms; writers = slice_set old.writers field writer }) (ts ++ us)
+tokens_stored entries field old terms writer ts us low h adds = record {
+  records = adds.records;
+  counted = λ f inside. by_count f inside (field == f) refl;
+  one_kind = λ f key. by_kind f key (field == f) refl;
+}
+  where
+    by_count : (f : ℕ) → f < length entries → (b : Bool) → (field == f) ≡ b → slice_get (slice_set old.writers field writer) f ≡ Some (record { option = kept_in entries f; total_num_tokens = field_count f (ts ++ us) })
+    by_count f inside true same =
+        let is = eqb-true field f same in
+        subst (λ (g : ℕ). slice_get (slice_set old.writers field writer) g ≡ Some (record { option = kept_in entries g; total_num_tokens = field_count g (ts ++ us) })) is
+        (set_same old.writers field (record { option = kept_in entries field; total_num_tokens = field_count field ts }) writer (h.counted field low) ∙ ap (λ (w : PostingsWriterState). Some w) adds.writer_is)
+    by_count f inside false other =
+        set_other old.writers field f writer other ∙ h.counted f inside
+        ∙ ap (λ (n : ℕ). Some (record { option = kept_in entries f; total_num_tokens = n })) (sym (other_count field f ts us adds.only other))
+
+    by_kind : (f : ℕ) (key : List ℕ) (b : Bool) → (field == f) ≡ b → kind_of (kept_in entries f) (tokens_at f key (ts ++ us)) ≡ kept_in entries f
+    by_kind f key true same = subst (λ (g : ℕ). kind_of (kept_in entries g) (tokens_at g key (ts ++ us)) ≡ kept_in entries g) (eqb-true field f same) (adds.one_kind key)
+    by_kind f key false other = ap (kind_of (kept_in entries f)) (other_tokens field f key ts us adds.only other) ∙ h.one_kind f key
+
+some_inside : {A : Type 0} (x y : A) → Some x ≡ Some y → x ≡ y
+some_inside x y is = cc
+
+-- what a writer of a text knows
+pub text_known : (entries : List Entry) (ts : List IndexToken) (s : IndexedTermsState) (doc field : ℕ) (words : List Word) (w : PostingsWriterState) → field < length entries
+    → StoresTokens entries s ts → slice_get s.writers field ≡ Some w → (w.option ≡ kept_in entries field) × HasTokens (kept_by entries) (field_text doc field words) s.terms w ts
+text_known entries ts s doc field words w low h found =
+    let is : w ≡ record { option = kept_in entries field; total_num_tokens = field_count field ts } = some_inside _ _ (sym found ∙ h.counted field low) in
+    let option : w.option ≡ kept_in entries field = ap (λ (v : PostingsWriterState). v.option) is in
+    (option, record {
+      records = h.records;
+      kinds = λ key. sym option;
+      of_text = λ key. rw option (h.one_kind field key);
+      counted = ap (λ (v : PostingsWriterState). v.total_num_tokens) is;
+    })
+
+-- a text was indexed
+pub text_stored : (entries : List Entry) (ts : List IndexToken) (s : IndexedTermsState) (doc field begin : ℕ) (words : List Word) (w : PostingsWriterState) (terms : TermIndex) (after : PostingsWriterState)
+    → field < length entries → StoresTokens entries s ts → slice_get s.writers field ≡ Some w → after.option ≡ w.option
+    → (HasTokens (kept_by entries) (field_text doc field words) s.terms w ts → HasTokens (kept_by entries) (field_text doc field words) terms after (ts ++ map (word_token (field_text doc field words) begin) (kept_words words)))
+    → StoresTokens entries (record { terms = terms; writers = slice_set s.writers field after }) (ts ++ map (word_token (field_text doc field words) begin) (kept_words words))
+text_stored entries ts s doc field begin words w terms after low h found same f =
+    let known = text_known entries ts s doc field words w low h found in
+    let new = f known.1 in
+    let option : after.option ≡ kept_in entries field = same ∙ known.0 in
+    tokens_stored entries field s terms after ts (map (word_token (field_text doc field words) begin) (kept_words words)) low h (record {
+      records = new.records;
+      writer_is = ap (λ (o : IndexRecordOption). record { option = o; total_num_tokens = after.total_num_tokens }) option ∙ ap (λ (n : ℕ). record { option = kept_in entries field; total_num_tokens = n }) new.counted;
+      one_kind = λ key. subst (λ (o : IndexRecordOption). kind_of o (tokens_at field key (ts ++ map (word_token (field_text doc field words) begin) (kept_words words))) ≡ o) option (new.of_text key);
+      only = words_only (field_text doc field words) begin (kept_words words);
+    })
+
+kind_basic : (ts : List IndexToken) → kind_of Basic ts ≡ Basic
+kind_basic [] = refl
+kind_basic (t ∷ ts) = by t.of_text
+  where
+    by : (b : Bool) → cond b Basic Basic ≡ Basic
+    by true = refl
+    by false = refl
+
+-- a value was indexed
+pub value_stored : (entries : List Entry) (ts : List IndexToken) (s : IndexedTermsState) (doc field : ℕ) (key : List ℕ) (w : PostingsWriterState) (terms : TermIndex) (after : PostingsWriterState)
+    → field < length entries → kept_in entries field ≡ Basic → StoresTokens entries s ts → slice_get s.writers field ≡ Some w → after ≡ tokens_counted 1 w
+    → (kept_in entries field ≡ w.option → Records (kept_by entries) s.terms ts → Records (kept_by entries) terms (ts ++ value_token (field_value doc field key) ∷ []))
+    → StoresTokens entries (record { terms = terms; writers = slice_set s.writers field after }) (ts ++ value_token (field_value doc field key) ∷ [])
+value_stored entries ts s doc field key w terms after low basic h found counted f =
+    let t = value_token (field_value doc field key) in
+    let is : w ≡ record { option = kept_in entries field; total_num_tokens = field_count field ts } = some_inside _ _ (sym found ∙ h.counted field low) in
+    tokens_stored entries field s terms after ts (t ∷ []) low h (record {
+      records = f (sym (ap (λ (v : PostingsWriterState). v.option) is)) h.records;
+      writer_is = counted ∙ ap (tokens_counted 1) is ∙ ap (λ (n : ℕ). record { option = kept_in entries field; total_num_tokens = n }) (sym (field_count_more field ts t refl));
+      one_kind = λ k. rw basic (kind_basic (tokens_at field k (ts ++ t ∷ [])));
+      only = one_token field t [] refl (no_tokens field);
+    })
+
+-- why it is refused
+pub value_refused : {T : Type 0} (entries : List Entry) (ts : List IndexToken) (s : IndexedTermsState) (doc field : ℕ) (key : List ℕ) (w : PostingsWriterState) (result : Result T Fault)
+    → field < length entries → field < 4294967296 → kept_in entries field ≡ Basic → StoresTokens entries s ts → slice_get s.writers field ≡ Some w
+    → IsRefusedBy (subscribe_fault w doc 0 (field_bytes field ++ key) s.terms) result → IsRefusedBy (value_fault field ts) result
+value_refused {T} entries ts s doc field key w result inside low basic h found refused =
+    let is : w ≡ record { option = kept_in entries field; total_num_tokens = field_count field ts } = some_inside _ _ (sym found ∙ h.counted field inside) in
+    let at : w ≡ record { option = Basic; total_num_tokens = field_count field ts } = is ∙ ap (λ (o : IndexRecordOption). record { option = o; total_num_tokens = field_count field ts }) basic in
+    let known : HasKey Basic (tokens_at field key ts) (recorder_of s.terms (field_bytes field ++ key)) =
+        subst (λ (o : IndexRecordOption). HasKey o (tokens_at field key ts) (recorder_of s.terms (field_bytes field ++ key))) basic (h.records field key low) in
+    let kept = key_recorder Basic (tokens_at field key ts) (recorder_of s.terms (field_bytes field ++ key)) known in
+    let cause : subscribe_fault w doc 0 (field_bytes field ++ key) s.terms ≡ value_fault field ts = rw at (rw kept refl) in
+    subst (λ (c : Option Fault). IsRefusedBy c result) cause refused

@@ -1,0 +1,38 @@
+use Rattle.std.proofs.Common.{List, ℕ, ◌++◌, ◌≡◌, ◌∙◌, sym, ap, subst, map}
+use Rattle.ii_index.specs.Tokens.{IndexToken, kept_words, word_token}
+use Rattle.ii_indexing.specs.IndexedTerms.{IndexedTermsState, StoresTokens, kept_in}
+use Rattle.ii_indexing.specs.IndexingContext.{AllEndBy}
+use Rattle.ii_indexing.specs.IndexingTerm.{IndexingTermState}
+use Rattle.ii_indexing.specs.PostingsWriter.{HasTokens, PostingsWriterState, text_fault, text_piece}
+use Rattle.ii_indexing.specs.Refusals.{IsRefusedBy}
+use Rattle.ii_indexing.proofs.StoreLaws.{kept_by, text_known, text_stored}
+use Rattle.ii_indexing.proofs.TermIndexLemmas.{on_both}
+use Rattle.ii_indexing.proofs.indexed_terms.IndexedTerms.index_text.Goals as goal
+
+pub index_text-requires-clause-ends : goal.index_text-requires-clause-ends
+index_text-requires-clause-ends g c = subst (λ (s : IndexedTermsState). AllEndBy c.args.doc s.terms) (sym c.self.view_is) c.requires.ends
+
+pub returns-clause-stored : goal.returns-clause-stored
+returns-clause-stored g c =
+    let words = g.S.TokenStream.to_come c.args.token_stream.now in
+    let begin = c.args.position.now.end_position in
+    let s : IndexedTermsState = record { terms = c.self.inside.ctx; writers = c.self.inside.writers } in
+    let w = c.get_for_field_mut-writer.result.now in
+    on_both c.index_text.result _ _ _
+    (λ h counted entries ts low stored.
+        let old = subst (λ (q : IndexedTermsState). StoresTokens entries q ts) (sym c.self.view_is) stored in
+        let tokens = subst (λ (t : IndexingTermState). HasTokens (kept_by entries) (text_piece c.args.doc t words) s.terms w ts
+            → HasTokens (kept_by entries) (text_piece c.args.doc t words) c.index_text.new.ctx c.index_text.new.self (ts ++ map (word_token (text_piece c.args.doc t words) begin) (kept_words words))) c.clear_with_field.ensures (h (kept_by entries) ts) in
+        text_stored entries ts s c.args.doc c.args.field begin words w c.index_text.new.ctx c.index_text.new.self low old c.get_for_field_mut-writer.ensures.value (ap (λ (v : PostingsWriterState). v.option) counted) tokens)
+    c.index_text.ensures.tokens c.index_text.ensures.counted
+
+pub returns-clause-refused : goal.returns-clause-refused
+returns-clause-refused g c entries ts low stored =
+    let words = g.S.TokenStream.to_come c.args.token_stream.now in
+    let s : IndexedTermsState = record { terms = c.self.inside.ctx; writers = c.self.inside.writers } in
+    let w = c.get_for_field_mut-writer.result.now in
+    let old = subst (λ (q : IndexedTermsState). StoresTokens entries q ts) (sym c.self.view_is) stored in
+    let known = text_known entries ts s c.args.doc c.args.field words w low old c.get_for_field_mut-writer.ensures.value in
+    let refused = subst (λ (t : IndexingTermState). HasTokens (kept_by entries) (text_piece c.args.doc t words) s.terms w ts → IsRefusedBy (text_fault w.option (text_piece c.args.doc t words) c.args.position.now ts) c.index_text.result)
+        c.clear_with_field.ensures (c.index_text.ensures.refused (kept_by entries) ts) in
+    rw (← known.0) (refused known.1)

@@ -1,0 +1,47 @@
+-- What is known of each field in the document that was opened last in it, and the norms of the documents before.
+use Rattle.std.specs.Prelude.{◌≡◌, ℕ, ◌<◌, ◌≤◌, ◌==◌, min, if◌then◌else◌, List, [], get_or, length, map, slice_get, IfSome, Option, Some}
+use Rattle.ii_base.specs.Schema.{Entry}
+use Rattle.ii_fieldnorm.specs.Buffers.{Buffers, buffer_of}
+use Rattle.ii_fieldnorm.specs.Norms.{id_of_norm}
+use Rattle.ii_index.specs.Tokens.{IndexToken, Piece, begin_after}
+use Rattle.ii_index.specs.Postings.{doc_count}
+use Rattle.ii_recorder.specs.Recorded.{u32_max}
+use Rattle.ii_indexing.specs.IndexedTerms.{field_text}
+use Rattle.ii_indexing.specs.Refusals.{group_count}
+use Rattle.ii_indexing.specs.declared.open_documents.OpenDocument.{OpenDocument}
+
+-- The open document of each field, and the norms so far.
+pub record OpenDocumentsState : Type 0 where
+  pub documents : List OpenDocument
+  pub norms : Buffers
+
+-- a document with no tokens
+abbrev pub empty_document : ℕ → OpenDocument
+empty_document doc = record { doc = doc; num_tokens = 0; end_position = 0; norm = 0 }
+
+-- what is known of a document that isn't below the open one
+abbrev pub document_at : ℕ → OpenDocument → OpenDocument
+document_at doc d = if d.doc == doc then d else empty_document doc
+
+-- The norms of a field are those of the documents before the open one, 0 where there is none.
+abbrev pub HasNorms : ℕ → List IndexToken → ℕ → List ℕ → Type 0
+HasNorms field ts before ids = (doc : ℕ) → doc < before → get_or ids doc 0 ≡ id_of_norm (doc_count doc field ts)
+
+-- The open document of a field after pieces, whose tokens are these: where its texts end, how many tokens they have, how many it has in all, and the norms before it.
+pub record Tells (field : ℕ) (ps : List Piece) (ts : List IndexToken) (d : OpenDocument) (ids : Option (List ℕ)) : Type 0 where
+  pub begin : (doc : ℕ) → d.doc ≤ doc → begin_after ps (field_text doc field []) ≡ (document_at doc d).end_position
+  pub group : (doc : ℕ) → d.doc ≤ doc → group_count ps (field_text doc field []) ≡ (document_at doc d).num_tokens
+  pub count : (doc : ℕ) → d.doc ≤ doc → min (doc_count doc field ts) u32_max ≡ (document_at doc d).norm
+  pub norms : IfSome ids (HasNorms field ts d.doc)
+
+-- So it is with each field.
+abbrev pub TellsAll : List Piece → List IndexToken → OpenDocumentsState → Type 0
+TellsAll ps ts s = (field : ℕ) (d : OpenDocument) → slice_get s.documents field ≡ Some d → Tells field ps ts d (buffer_of field s.norms)
+
+-- No open document lies above one.
+abbrev pub ReachTo : ℕ → OpenDocumentsState → Type 0
+ReachTo doc s = (field : ℕ) (d : OpenDocument) → slice_get s.documents field ≡ Some d → d.doc ≤ doc
+
+-- Norms are kept for documents before the open one alone.
+abbrev pub AreBehind : OpenDocumentsState → Type 0
+AreBehind s = (field : ℕ) (d : OpenDocument) → slice_get s.documents field ≡ Some d → IfSome (buffer_of field s.norms) (λ ids. length ids ≤ d.doc)

@@ -1,0 +1,141 @@
+ghost use Rattle.std.specs.Prelude.{◌≡◌, ◌<◌, ◌∷◌, ◌++◌, [], List, ℕ, length, string_bytes, IfErr, IfOk, OnErr, OnOk};
+ghost use Rattle.ii_base.specs.Schema.{Entry};
+ghost use Rattle.ii_base.specs.declared.schema.index_record_option.IndexRecordOption.TheVariants.{Basic};
+ghost use Rattle.ii_docset.specs.declared.docset.TheConstants.{TERMINATED};
+ghost use Rattle.ii_index.specs.Tokens.{Piece, call_pieces};
+ghost use Rattle.ii_index.specs.Fields.{option_of};
+ghost use Rattle.ii_indexing.specs.IndexCalls.{Takes, call_of, type_of};
+ghost use Rattle.ii_indexing.specs.IndexedTerms.{field_text, field_value, kept_in, key_of};
+ghost use Rattle.ii_indexing.specs.Indexer.{EndsAt, StoresPieces};
+ghost use Rattle.ii_indexing.specs.Refusals.{IsRefusedBy, piece_fault, pieces_fault};
+
+use crate::index_call::IndexCall;
+use crate::indexed_terms::{FieldValue, IndexedTerms};
+use crate::indexing_position::IndexingPosition;
+use crate::open_documents::{OpenDocument, OpenDocuments};
+use ii_base::{FastValue, Fault, Field, Schema, TextAnalyzer, TokenList};
+use ii_docset::DocId;
+use std::alloc::Global;
+use std::marker::Model;
+
+/// The terms of all fields of a schema, and the open document of each.
+#[derive(Drop)]
+pub(crate) struct IndexedFields {
+    terms: IndexedTerms,
+    documents: OpenDocuments,
+}
+
+impl Model for IndexedFields {
+    ghost use Rattle.ii_indexing.specs.Indexer.{IndexedFieldsState};
+
+    ghost Value = { IndexedFieldsState };
+
+    ghost view = { λ f. record { indexed = f.terms; opened = f.documents } };
+}
+
+impl IndexedFields {
+    // Nothing yet.
+    pub(crate) fn new(alloc: Global, schema: &Schema) -> Result<IndexedFields, Fault>
+        ensures stored { IfOk result (λ f. StoresPieces schema.now f []) }
+        ensures ends { IfOk result (EndsAt 0) }
+        ensures fields { IfOk result (λ f. length f.indexed.writers ≡ length schema.now) }
+        ensures only { IfErr result (λ e. e ≡ Fault.OutOfMemory) }
+    {
+        Ok(IndexedFields {
+            terms: IndexedTerms::new(alloc, schema)?,
+            documents: OpenDocuments::new(alloc, schema)?,
+        })
+    }
+
+    // Indexes a call.
+    pub(crate) fn index_call<A: TextAnalyzer>(
+        &mut self,
+        alloc: Global,
+        call: IndexCall,
+        analyzer: &A,
+    ) -> Result<(), Fault>
+        requires low { (call_of call).doc < TERMINATED }
+        requires known { (call_of call).field < length self.old.indexed.writers }
+        requires ends { EndsAt (call_of call).doc self.old }
+        ensures stored { OnOk result ((entries : List Entry) (ps : List Piece) → Takes entries (call_of call).field (type_of call) → StoresPieces entries self.old ps
+            → StoresPieces entries self.new (ps ++ call_pieces (A.words analyzer.now) (call_of call))) }
+        ensures ends { OnOk result (EndsAt (call_of call).doc self.new) }
+        ensures fields { OnOk result (length self.new.indexed.writers ≡ length self.old.indexed.writers) }
+        ensures refused { (entries : List Entry) (ps : List Piece) → Takes entries (call_of call).field (type_of call) → StoresPieces entries self.old ps
+            → IsRefusedBy (pieces_fault (option_of entries (call_of call).field) ps (call_pieces (A.words analyzer.now) (call_of call))) result }
+    {
+        match call {
+            IndexCall::Text(doc, field, text) => {
+                let tokens = analyzer.token_list(alloc, text.as_str())?;
+                self.index_words(doc, field, tokens)
+            }
+            IndexCall::Tokens(doc, field, tokens) => self.index_words(doc, field, tokens),
+            IndexCall::U64(doc, field, number) => {
+                self.index_value(doc, field, FieldValue::Number(number))
+            }
+            IndexCall::I64(doc, field, number) => {
+                self.index_value(doc, field, FieldValue::Number(number.to_u64()))
+            }
+            IndexCall::Bool(doc, field, truth) => {
+                self.index_value(doc, field, FieldValue::Number(truth.to_u64()))
+            }
+            IndexCall::Bytes(doc, field, bytes) => {
+                self.index_value(doc, field, FieldValue::Bytes(bytes))
+            }
+            IndexCall::Ip(doc, field, address) => {
+                self.index_value(doc, field, FieldValue::Ip(address))
+            }
+        }
+    }
+
+    // Indexes the words of a list that are still to come.
+    fn index_words(&mut self, doc: DocId, field: Field, tokens: TokenList) -> Result<(), Fault>
+        requires low { doc < TERMINATED }
+        requires known { field < length self.old.indexed.writers }
+        requires ends { EndsAt doc self.old }
+        ensures stored { OnOk result ((entries : List Entry) (ps : List Piece) → field < length entries → StoresPieces entries self.old ps → StoresPieces entries self.new (ps ++ field_text doc field tokens.to_come ∷ [])) }
+        ensures ends { OnOk result (EndsAt doc self.new) }
+        ensures fields { OnOk result (length self.new.indexed.writers ≡ length self.old.indexed.writers) }
+        ensures refused { (entries : List Entry) (ps : List Piece) → field < length entries → StoresPieces entries self.old ps → IsRefusedBy (piece_fault (kept_in entries field) ps (field_text doc field tokens.to_come)) result }
+    {
+        let mut tokens = tokens;
+        let open = self.documents.open(doc, field)?;
+        let mut position = IndexingPosition {
+            num_tokens: open.num_tokens,
+            end_position: open.end_position,
+        };
+        self.terms.index_text(doc, field, &mut tokens, &mut position)?;
+        let document = OpenDocument {
+            doc,
+            num_tokens: position.num_tokens,
+            end_position: position.end_position,
+            norm: open.norm.saturating_add(position.num_tokens - open.num_tokens),
+        };
+        self.documents.put(field, document);
+        Ok(())
+    }
+
+    // Indexes a value.
+    fn index_value(&mut self, doc: DocId, field: Field, value: FieldValue) -> Result<(), Fault>
+        requires low { doc < TERMINATED }
+        requires known { field < length self.old.indexed.writers }
+        requires ends { EndsAt doc self.old }
+        ensures stored { OnOk result ((entries : List Entry) (ps : List Piece) → field < length entries → kept_in entries field ≡ Basic → StoresPieces entries self.old ps
+            → StoresPieces entries self.new (ps ++ field_value doc field (key_of value) ∷ [])) }
+        ensures ends { OnOk result (EndsAt doc self.new) }
+        ensures fields { OnOk result (length self.new.indexed.writers ≡ length self.old.indexed.writers) }
+        ensures refused { (entries : List Entry) (ps : List Piece) → field < length entries → kept_in entries field ≡ Basic → StoresPieces entries self.old ps
+            → IsRefusedBy (piece_fault (kept_in entries field) ps (field_value doc field (key_of value))) result }
+    {
+        let open = self.documents.open(doc, field)?;
+        self.terms.index_value(doc, field, value)?;
+        let document = OpenDocument {
+            doc,
+            num_tokens: open.num_tokens,
+            end_position: open.end_position,
+            norm: open.norm.saturating_add(1),
+        };
+        self.documents.put(field, document);
+        Ok(())
+    }
+}

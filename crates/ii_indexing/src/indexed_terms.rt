@@ -1,0 +1,119 @@
+ghost use Rattle.std.specs.Prelude.{◌≡◌, ◌<◌, ◌+◌, ◌∷◌, ◌++◌, [], List, ℕ, true, length, IfErr, IfOk, OnErr, OnOk};
+ghost use Rattle.ii_base.specs.Schema.{Entry};
+ghost use Rattle.ii_base.specs.declared.schema.index_record_option.IndexRecordOption.TheVariants.{Basic};
+ghost use Rattle.ii_docset.specs.declared.docset.TheConstants.{TERMINATED};
+ghost use Rattle.ii_index.specs.Tokens.{IndexToken, end_after, kept_words, piece_tokens_from, value_token};
+ghost use Rattle.ii_indexing.specs.IndexedTerms.{StoresTokens, field_text, field_value, kept_in, key_of, value_fault};
+ghost use Rattle.ii_indexing.specs.IndexingContext.{AllEndBy};
+ghost use Rattle.ii_indexing.specs.PostingsWriter.{text_fault, writers_of};
+ghost use Rattle.ii_indexing.specs.Refusals.{IsRefusedBy};
+
+use crate::indexing_context::IndexingContext;
+use crate::indexing_position::IndexingPosition;
+use crate::indexing_term::IndexingTerm;
+use crate::per_field_postings_writer::PerFieldPostingsWriter;
+use crate::postings_writer::PostingsWriter;
+use ii_base::{Fault, Field, Schema, TokenStream};
+use ii_docset::DocId;
+use std::alloc::Global;
+use std::marker::Model;
+
+/// A value that isn't text; a number or a truth value is the number of 64 bits that stands for it.
+#[derive(Drop)]
+pub(crate) enum FieldValue {
+    Number(u64),
+    Bytes(Vec<u8>),
+    Ip(u128),
+}
+
+/// The terms of all fields, with the writer of each field and a term that is used again and again.
+#[derive(Drop)]
+pub(crate) struct IndexedTerms {
+    ctx: IndexingContext,
+    writers: PerFieldPostingsWriter,
+    term: IndexingTerm,
+}
+
+impl Model for IndexedTerms {
+    ghost use Rattle.ii_indexing.specs.IndexedTerms.{IndexedTermsState};
+
+    ghost Value = { IndexedTermsState };
+
+    ghost view = { λ t. record { terms = t.ctx; writers = t.writers } };
+}
+
+impl IndexedTerms {
+    // No terms.
+    pub(crate) fn new(alloc: Global, schema: &Schema) -> Result<IndexedTerms, Fault>
+        ensures ok { IfOk result (λ terms. terms ≡ record { terms = []; writers = writers_of schema.now }) }
+        ensures only { IfErr result (λ e. e ≡ Fault.OutOfMemory) }
+    {
+        Ok(IndexedTerms {
+            ctx: IndexingContext::new(alloc),
+            writers: PerFieldPostingsWriter::for_schema(alloc, schema)?,
+            term: IndexingTerm::with_capacity(alloc, 0)?,
+        })
+    }
+
+    // Indexes the words of a text of a field.
+    pub(crate) fn index_text<S: TokenStream>(
+        &mut self,
+        doc: DocId,
+        field: Field,
+        token_stream: &mut S,
+        position: &mut IndexingPosition,
+    ) -> Result<(), Fault>
+        requires low { doc < TERMINATED }
+        requires known { field < length self.old.writers }
+        requires ends { AllEndBy doc self.old.terms }
+        ensures stored { OnOk result ((entries : List Entry) (ts : List IndexToken) → field < length entries → StoresTokens entries self.old ts
+            → StoresTokens entries self.new (ts ++ piece_tokens_from true position.old.end_position (field_text doc field (S.to_come token_stream.old)))) }
+        ensures ends { OnOk result (AllEndBy doc self.new.terms) }
+        ensures fields { length self.new.writers ≡ length self.old.writers }
+        ensures num_tokens { OnOk result (position.new.num_tokens ≡ position.old.num_tokens + length (kept_words (S.to_come token_stream.old))) }
+        ensures end_position { OnOk result (position.new.end_position ≡ end_after position.old.end_position (S.to_come token_stream.old)) }
+        ensures refused { (entries : List Entry) (ts : List IndexToken) → field < length entries → StoresTokens entries self.old ts
+            → IsRefusedBy (text_fault (kept_in entries field) (field_text doc field (S.to_come token_stream.old)) position.old ts) result }
+    {
+        self.term.clear_with_field(field);
+        let writer = self.writers.get_for_field_mut(field);
+        writer.index_text(doc, token_stream, &mut self.term, &mut self.ctx, position)
+    }
+
+    // Indexes a value of a field.
+    pub(crate) fn index_value(
+        &mut self,
+        doc: DocId,
+        field: Field,
+        value: FieldValue,
+    ) -> Result<(), Fault>
+        requires low { doc < TERMINATED }
+        requires known { field < length self.old.writers }
+        requires ends { AllEndBy doc self.old.terms }
+        ensures stored { OnOk result ((entries : List Entry) (ts : List IndexToken) → field < length entries → kept_in entries field ≡ Basic → StoresTokens entries self.old ts
+            → StoresTokens entries self.new (ts ++ value_token (field_value doc field (key_of value)) ∷ [])) }
+        ensures ends { OnOk result (AllEndBy doc self.new.terms) }
+        ensures fields { length self.new.writers ≡ length self.old.writers }
+        ensures refused { (entries : List Entry) (ts : List IndexToken) → field < length entries → kept_in entries field ≡ Basic → StoresTokens entries self.old ts
+            → IsRefusedBy (value_fault field ts) result }
+    {
+        let _field = field.field_id();
+        self.term.clear_with_field(field);
+        set_value(&mut self.term, value)?;
+        let writer = self.writers.get_for_field_mut(field);
+        writer.subscribe(doc, 0, &self.term, &mut self.ctx)
+    }
+}
+
+// Sets the value of a term.
+fn set_value(term: &mut IndexingTerm, value: FieldValue) -> Result<(), Fault>
+    ensures ok { OnOk result (term.new ≡ record term.old { value = key_of value }) }
+    ensures err { OnErr result (term.new ≡ term.old) }
+    ensures only { IfErr result (λ e. e ≡ Fault.OutOfMemory) }
+{
+    match value {
+        FieldValue::Number(number) => term.set_u64(number),
+        FieldValue::Bytes(bytes) => term.set_bytes(&bytes),
+        FieldValue::Ip(address) => term.set_ip_addr(address),
+    }
+}

@@ -1,0 +1,101 @@
+ghost use Rattle.std.specs.Prelude.{◌≡◌, ◌<◌, ◌≤◌, ◌∷◌, ◌++◌, [], List, length, true, false, Err, IfErr, IfOk, OnErr, OnOk};
+ghost use Rattle.ii_docset.specs.declared.docset.TheConstants.{TERMINATED};
+ghost use Rattle.ii_index.specs.Fields.{option_of};
+ghost use Rattle.ii_index.specs.Tokens.{Call};
+ghost use Rattle.ii_indexing.specs.IndexCalls.{Takes, call_of, type_of};
+ghost use Rattle.ii_indexing.specs.Indexer.{IndexerState, StoresPieces, Stores};
+ghost use Rattle.ii_indexing.specs.Refusals.{IsRefusedBy, call_fault};
+
+use crate::index_call::IndexCall;
+use crate::indexed_fields::IndexedFields;
+use ii_base::{Fault, Schema, TextAnalyzer};
+use ii_docset::DocId;
+use std::alloc::Global;
+use std::marker::Model;
+
+/// Takes index calls in the order of their documents.
+///
+/// Clauses see what it has stored: the postings of each key, the number of tokens of each field, what is
+/// known of the open document of each field, and the norms of those before.
+#[derive(Drop)]
+pub struct Indexer {
+    schema: Schema,
+    num_docs: DocId,
+    last_doc: DocId,
+    fields: IndexedFields,
+    failed: bool,
+    alloc: Global,
+}
+
+impl Model for Indexer {
+    ghost use Rattle.std.specs.Prelude.{◌≡◌, ◌≤◌, false, length};
+    ghost use Rattle.ii_docset.specs.declared.docset.TheConstants.{TERMINATED};
+    ghost use Rattle.ii_indexing.specs.Indexer.{EndsAt, IndexerState};
+
+    ghost Value = { IndexerState };
+
+    ghost view = { λ i. record {
+      schema = i.schema;
+      num_docs = i.num_docs;
+      last_doc = i.last_doc;
+      fields = i.fields;
+      failed = i.failed;
+    } };
+
+    ghost invariant = { λ i. (i.num_docs ≤ TERMINATED)
+      × (i.failed ≡ false → EndsAt i.last_doc i.fields × (length i.fields.indexed.writers ≡ length i.schema)) };
+}
+
+impl Indexer {
+    /// An indexer of no calls, for so many documents, with fields of a schema. `OutOfMemory` where there
+    /// is no room for it.
+    pub fn new(alloc: Global, schema: Schema, num_docs: DocId) -> Result<Indexer, Fault>
+        requires { num_docs ≤ TERMINATED }
+        ensures made { IfOk result (λ i. (i.schema ≡ schema) × (i.num_docs ≡ num_docs) × (i.last_doc ≡ 0) × (i.failed ≡ false)) }
+        ensures stored { IfOk result (λ i. StoresPieces i.schema i.fields []) }
+        ensures only { IfErr result (λ e. e ≡ Fault.OutOfMemory) }
+    {
+        let fields = IndexedFields::new(alloc, &schema)?;
+        Ok(Indexer {
+            schema,
+            num_docs,
+            last_doc: 0,
+            fields,
+            failed: false,
+            alloc,
+        })
+    }
+
+    /// Indexes a call, whose document isn't below the one before and is one of the indexer's, and whose
+    /// field is indexed and has values of its type.
+    ///
+    /// The faults are those of the definitions (`call_fault`), for a text word by word: `Limit(Position)`
+    /// where it starts or ends above `u32::MAX`, `Limit(Tokens)` for more than `u32::MAX` tokens of the
+    /// texts of a document in a field or more than `u64::MAX` of a field, `Limit(Position)` at position
+    /// `u32::MAX`, `DecreasingPosition` below the last position of the term in the document,
+    /// `Limit(Count)` for more than `u32::MAX` of them; and `Limit(Position)` where the gap after the text
+    /// ends above `u32::MAX`. `OutOfMemory` where there is no room. After a fault each call is
+    /// `IndexerFailed`, and nothing changes.
+    pub fn index<A: TextAnalyzer>(&mut self, call: IndexCall, analyzer: &A) -> Result<(), Fault>
+        requires order { self.old.failed ≡ false → self.old.last_doc ≤ (call_of call).doc }
+        requires below { self.old.failed ≡ false → (call_of call).doc < self.old.num_docs }
+        requires takes { self.old.failed ≡ false → Takes self.old.schema (call_of call).field (type_of call) }
+        ensures stored { OnOk result ((calls : List Call) → Stores (A.words analyzer.now) self.old calls → Stores (A.words analyzer.now) self.new (calls ++ call_of call ∷ [])) }
+        ensures rest { OnOk result ((self.new.schema ≡ self.old.schema) × (self.new.num_docs ≡ self.old.num_docs) × (self.new.last_doc ≡ (call_of call).doc) × (self.new.failed ≡ false)) }
+        ensures refused { self.old.failed ≡ false → (calls : List Call) → Stores (A.words analyzer.now) self.old calls
+            → IsRefusedBy (call_fault (A.words analyzer.now) (option_of self.old.schema (call_of call).field) calls (call_of call)) result }
+        ensures fails { OnErr result (self.new.failed ≡ true) }
+        ensures failed { self.old.failed ≡ true → (result ≡ Err Fault.IndexerFailed) × (self.new ≡ self.old) }
+    {
+        if self.failed {
+            return Err(Fault::IndexerFailed);
+        }
+        self.failed = true;
+        let doc = call.doc();
+        let alloc = self.alloc;
+        self.fields.index_call(alloc, call, analyzer)?;
+        self.last_doc = doc;
+        self.failed = false;
+        Ok(())
+    }
+}

@@ -1,0 +1,97 @@
+ghost use Rattle.std.specs.Prelude.{◌≡◌, ◌<◌, ◌≤◌, [], List, length, map, slice_get, slice_set, Some, IfErr, IfOk, OnErr, OnOk};
+ghost use Rattle.ii_base.specs.Schema.{Entry};
+ghost use Rattle.ii_fieldnorm.specs.Buffers.{empty_buffers};
+ghost use Rattle.ii_index.specs.Tokens.{IndexToken, Piece};
+ghost use Rattle.ii_indexing.specs.declared.open_documents.OpenDocument.{OpenDocument};
+ghost use Rattle.ii_indexing.specs.OpenDocuments.{ReachTo, TellsAll, empty_document, document_at};
+
+use ii_base::{Fault, Field, Schema};
+use ii_docset::DocId;
+use ii_fieldnorm::FieldNormsWriter;
+use std::alloc::Global;
+use std::marker::Model;
+
+/// What is known of a field in a document: how many tokens its texts have and where the next one
+/// begins, and how many tokens it has in all, at most `u32::MAX`.
+#[derive(Clone, Copy, Drop)]
+pub(crate) struct OpenDocument {
+    pub doc: DocId,
+    pub num_tokens: u32,
+    pub end_position: u32,
+    pub norm: u32,
+}
+
+/// The document that was opened last in each field, and the norms of those before.
+#[derive(Drop)]
+pub(crate) struct OpenDocuments {
+    documents: Vec<OpenDocument>,
+    norms: FieldNormsWriter,
+}
+
+impl Model for OpenDocuments {
+    ghost use Rattle.ii_indexing.specs.OpenDocuments.{AreBehind, OpenDocumentsState};
+
+    ghost Value = { OpenDocumentsState };
+
+    ghost view = { λ o. record { documents = o.documents.items; norms = o.norms } };
+
+    ghost invariant = { λ o. AreBehind (record { documents = o.documents.items; norms = o.norms }) };
+}
+
+impl OpenDocuments {
+    // Document 0 of each field, with no tokens.
+    pub(crate) fn new(alloc: Global, schema: &Schema) -> Result<OpenDocuments, Fault>
+        ensures ok { IfOk result (λ d. d ≡ record { documents = map (λ (e : Entry). empty_document 0) schema.now; norms = empty_buffers schema.now }) }
+        ensures only { IfErr result (λ e. e ≡ Fault.OutOfMemory) }
+    {
+        let mut documents = Vec::with_capacity(alloc, schema.num_fields())?;
+        for (_field, _entry) in schema.fields() {
+            documents.push(OpenDocument {
+                doc: 0,
+                num_tokens: 0,
+                end_position: 0,
+                norm: 0,
+            })?;
+        }
+        Ok(OpenDocuments {
+            documents,
+            norms: FieldNormsWriter::for_schema(alloc, schema)?,
+        })
+    }
+
+    // Opens a document in a field, which isn't below the one before. The norm of that one is kept.
+    pub(crate) fn open(&mut self, doc: DocId, field: Field) -> Result<OpenDocument, Fault>
+        requires known { field < length self.old.documents }
+        requires reach { ReachTo doc self.old }
+        ensures found { IfOk result (λ d. slice_get self.new.documents field ≡ Some d) }
+        ensures at { IfOk result (λ d. d.doc ≡ doc) }
+        ensures told { OnOk result ((ps : List Piece) (ts : List IndexToken) → TellsAll ps ts self.old → TellsAll ps ts self.new) }
+        ensures reach { OnOk result (ReachTo doc self.new) }
+        ensures fields { OnOk result (length self.new.documents ≡ length self.old.documents) }
+        ensures only { IfErr result (λ e. e ≡ Fault.OutOfMemory) }
+    {
+        let index = field.field_id() as usize;
+        let last = self.documents[index];
+        if last.doc == doc {
+            return Ok(last);
+        }
+        self.norms.record(last.doc, field, last.norm)?;
+        let document = OpenDocument {
+            doc,
+            num_tokens: 0,
+            end_position: 0,
+            norm: 0,
+        };
+        self.documents[index] = document;
+        Ok(document)
+    }
+
+    // Puts what is known of the open document of a field in place of what was known.
+    pub(crate) fn put(&mut self, field: Field, document: OpenDocument)
+        requires same { (d : OpenDocument) → slice_get self.old.documents field ≡ Some d → d.doc ≡ document.doc }
+        requires known { field < length self.old.documents }
+        ensures { self.new ≡ record self.old { documents = slice_set self.old.documents field document } }
+    {
+        self.documents[field.field_id() as usize] = document;
+    }
+}
