@@ -1,5 +1,2 @@
-pub mod DeltaLaws
 mod FileRows
 pub mod GroupedLaws
-pub mod HeldTerms
-pub mod KeptLaws

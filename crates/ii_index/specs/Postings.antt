@@ -1,5 +1,5 @@
 -- The postings of a key, from the tokens.
-use Rattle.std.specs.Prelude.{ℕ, ◌+◌, Bool, ◌&&◌, ◌==◌, if◌then◌else◌, List, [], ◌∷◌, bytes_eq, count_by, filter, map}
+use Rattle.std.specs.Prelude.{◌≡◌, ℕ, ◌<◌, length, ◌+◌, Bool, ◌&&◌, ◌==◌, if◌then◌else◌, List, [], ◌∷◌, bytes_eq, count_by, filter, map}
 use Rattle.std.specs.List.{list_any}
 use Rattle.ii_base.specs.declared.schema.index_record_option.IndexRecordOption.{IndexRecordOption}
 use Rattle.ii_base.specs.declared.schema.index_record_option.IndexRecordOption.TheVariants.{Basic}
@@ -29,6 +29,11 @@ with_token t (e ∷ es) =
 abbrev pub grouped : List IndexToken → List Entry
 grouped [] = []
 grouped (t ∷ ts) = with_token t (grouped ts)
+
+-- An entry has at least one position, and as many as its count says.
+pub record IsCounted (e : Entry) : Type 0 where
+  pub many : length e.positions ≡ e.term_freq
+  pub some : 0 < e.term_freq
 
 -- what is kept of a key with these tokens: of a value's key documents alone, whatever the field records
 abbrev pub kind_of : IndexRecordOption → List IndexToken → IndexRecordOption

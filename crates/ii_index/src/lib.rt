@@ -1,5 +1,3 @@
 //! What an index holds: the tokens of index calls, the postings of a key, and what three files say of
-//! them, with the law of what is written. The crates that write and that read share it.
+//! them. Definitions alone, which the crates that write and that read share.
 #![tactic(auto)]
-
-pub mod written;
