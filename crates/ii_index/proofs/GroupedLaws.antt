@@ -7,7 +7,7 @@ use Rattle.std.proofs.lemmas.Bool.{leb-true, le-leb, eqb-true, eqb-false}
 use Rattle.ii_docset.specs.Entries.{Entry, ascend_from, are_documents, docs_of}
 use Rattle.std.specs.List.{AllByRecursion}
 use Rattle.ii_index.specs.InOrder.{in_order, in_order_from}
-use Rattle.ii_index.specs.Postings.{field_count, grouped, is_at, occurs, tokens_at, with_token}
+use Rattle.ii_index.specs.Postings.{IsCounted, field_count, grouped, is_at, occurs, tokens_at, with_token}
 use Rattle.ii_index.specs.Tokens.{IndexToken}
 
 -- three conditions, of which each holds
