@@ -78,7 +78,7 @@ impl<'a, W: Write> FieldSerializer<'a, W> {
         ensures writing { (initial : IndexBodiesState) (field tokens : ℕ) (ts : List WrittenTerm) → IsWriting initial self.old.index.now field tokens ts []
             → OnOk result (IsWriting initial self.new.index.now field tokens ts (term.now ∷ [])) }
         ensures term { OnOk result (self.new.index.now.field.term
-            ≡ record self.old.index.now.field.term { skip_info = if record_term_freq then self.old.index.now.field.term.mode else Basic; docs = []; freqs = [] }) }
+            ≡ record self.old.index.now.field.term { skip_info = if record_term_freq then self.old.index.now.field.term.mode else Basic; docs = []; freqs = []; deltas = [] }) }
         ensures inside { OnOk result (self.new.index.now.field.term_open ≡ true) }
         ensures entries { self.new.index.now.entries ≡ self.old.index.now.entries }
         ensures bodies { self.new.index.now.bodies ≡ self.old.index.now.bodies }
@@ -100,7 +100,7 @@ impl<'a, W: Write> FieldSerializer<'a, W> {
         ensures writing { (initial : IndexBodiesState) (field tokens : ℕ) (ts : List WrittenTerm) → IsWriting initial self.old.index.now field tokens ts []
             → OnOk result (IsWriting initial self.new.index.now field tokens ts (term.now ∷ [])) }
         ensures term { OnOk result (self.new.index.now.field.term
-            ≡ record self.old.index.now.field.term { skip_info = Basic; docs = []; freqs = [] }) }
+            ≡ record self.old.index.now.field.term { skip_info = Basic; docs = []; freqs = []; deltas = [] }) }
         ensures inside { OnOk result (self.new.index.now.field.term_open ≡ true) }
         ensures entries { self.new.index.now.entries ≡ self.old.index.now.entries }
         ensures bodies { self.new.index.now.bodies ≡ self.old.index.now.bodies }

@@ -83,7 +83,7 @@ impl FieldTerms {
         requires between { self.old.closed ≡ false → self.old.term_open ≡ false }
         requires ascending { self.old.closed ≡ false → AreAscending (self.old.places.keys ++ key.now ∷ []) }
         ensures ok { OnOk result (self.new ≡ record self.old {
-          term = record self.old.term { skip_info = if record_term_freq then self.old.term.mode else Basic; docs = []; freqs = [] };
+          term = record self.old.term { skip_info = if record_term_freq then self.old.term.mode else Basic; docs = []; freqs = []; deltas = [] };
           places = record self.old.places { keys = self.old.places.keys ++ key.now ∷ [] };
           term_open = true;
         }) }

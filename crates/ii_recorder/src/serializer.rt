@@ -158,7 +158,7 @@ impl<W: Write> InvertedIndexSerializer<W> {
         ensures writing { (initial : IndexBodiesState) (field tokens : ℕ) (ts : List WrittenTerm) → IsWriting initial self.old field tokens ts []
             → OnOk result (IsWriting initial self.new field tokens ts (key.now ∷ [])) }
         ensures term { OnOk result (self.new.field.term
-            ≡ record self.old.field.term { skip_info = if record_term_freq then self.old.field.term.mode else Basic; docs = []; freqs = [] }) }
+            ≡ record self.old.field.term { skip_info = if record_term_freq then self.old.field.term.mode else Basic; docs = []; freqs = []; deltas = [] }) }
         ensures inside { OnOk result (self.new.field.term_open ≡ true) }
         ensures entries { self.new.entries ≡ self.old.entries }
         ensures bodies { self.new.bodies ≡ self.old.bodies }
