@@ -7,3 +7,4 @@ pub mod PushLemmas
 pub mod PushLocated
 pub mod DeltaLemmas
 pub mod PushedEntries
+pub mod WorkedRows

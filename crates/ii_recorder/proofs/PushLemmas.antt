@@ -13,7 +13,9 @@ use Rattle.ii_base.specs.Options.{has_freq, has_positions}
 use Rattle.ii_codes.specs.Sums.{differences}
 use Rattle.ii_docset.specs.Entries.{Entry, ascend_from, docs_of}
 use Rattle.ii_layout.specs.PostingsSerializer.{IsSumTooLarge}
-use Rattle.ii_recorder.specs.IndexSerializer.{IndexSerializerState}
+use Rattle.ii_recorder.specs.IndexBodies.{IndexBodiesState}
+use Rattle.ii_recorder.specs.IndexSerializer.{IndexSerializerState, IsWriting}
+use Rattle.ii_recorder.specs.Terms.{WrittenTerm}
 use Rattle.ii_recorder.specs.Pushed.{FillTooLarge, MayPush, Pushes, pushed_deltas, pushed_freqs, with_entries}
 
 deltas_after : (b : Bool) (old : List ℕ) (xs ys : List Entry) → (if b then (if b then old ++ pushed_deltas xs else old) ++ pushed_deltas ys else (if b then old ++ pushed_deltas xs else old)) ≡ (if b then old ++ pushed_deltas (xs ++ ys) else old)
@@ -201,3 +203,8 @@ pub mapped_next : {A : Type 0} (f : A → Entry) (xs : List A) (k : ℕ) (d : A)
 mapped_next f xs k d below =
     let place : k + 1 ≡ suc k = omega arith in
     rw (place, take-suc xs k d below) (map-append f (take k xs) (get_or xs k d ∷ []))
+
+-- what was written of a field stays as it is
+pub writing_pushed : (option : IndexRecordOption) (initial : IndexBodiesState) (s : IndexSerializerState) (es : List Entry) (field tokens : ℕ) (ts : List WrittenTerm) (pending : List (List ℕ)) → IsWriting initial s field tokens ts pending
+    → IsWriting initial (with_entries option s es) field tokens ts pending
+writing_pushed option initial s es field tokens ts pending h = record { counted = h.counted; mode = h.mode; bodies = h.bodies; terms = h.terms }

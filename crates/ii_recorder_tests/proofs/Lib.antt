@@ -1,1 +1,2 @@
 mod FirstKey
+mod RecordedTermLemmas

@@ -1,8 +1,12 @@
-ghost use Rattle.std.specs.Prelude.{◌<◌, ◌≡◌, true, false, length, IsTrue, IfOk};
+ghost use Rattle.std.specs.Prelude.{◌<◌, ◌≡◌, [], ◌∷◌, true, false, length, IsTrue, IfOk, OnOk};
 ghost use Rattle.std.specs.List.{AllByRecursion};
 ghost use Rattle.ii_base.specs.Options.{has_freq};
 ghost use Rattle.ii_docset.specs.Entries.{are_documents, docs_of};
+ghost use Rattle.ii_index.specs.Fields.{option_of};
+ghost use Rattle.ii_recorder.specs.HeldTerms.{HoldsTerms};
 ghost use Rattle.ii_recorder.specs.IndexBodies.{LacksField};
+ghost use Rattle.ii_recorder.specs.Terms.{field_bodies};
+ghost use Rattle.ii_recorder_tests.specs.RecordedTerm.{recorded_term};
 ghost use Rattle.ii_recorder.specs.Pushed.{pushed_freqs};
 ghost use Rattle.ii_recorder.specs.Recorded.{entries_in};
 
@@ -68,6 +72,8 @@ fn write_recorder<R: Recorder, W: Write>(
     requires lacks { index.old.closed ≡ false → LacksField 0 index.old.bodies }
     requires docs { IsTrue (are_documents (docs_of (entries_in (R.state recorder.now)))) }
     requires counted { IsTrue (has_freq (R.state recorder.now).option) → AllByRecursion (λ n. 0 < n) (pushed_freqs (R.state recorder.now).option (entries_in (R.state recorder.now))) }
+    ensures { OnOk result (HoldsTerms (option_of index.old.entries 0) 3 (field_bodies (option_of index.old.entries 0) 3 (recorded_term (option_of index.old.entries 0) (R.state recorder.now) ∷ []))
+        (recorded_term (option_of index.old.entries 0) (R.state recorder.now) ∷ [])) }
 {
     let mut field = index.new_field(Field::from_field_id(0), 3, None)?;
     field.new_term(b"a", 2, recorder.has_term_freq())?;

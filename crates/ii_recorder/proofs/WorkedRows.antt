@@ -1,0 +1,34 @@
+-- What recorders push of document 0 at 0 and 4 and of document 3 at 1, and a term that is found by its key.
+use Rattle.std.proofs.Common.{◌≡◌, List, [], ◌∷◌, true, false, refl}
+use Rattle.ii_base.specs.declared.schema.index_record_option.IndexRecordOption.TheVariants.{Basic, WithFreqs, WithFreqsAndPositions}
+use Rattle.ii_docset.specs.Entries.{Entry, docs_of}
+use Rattle.ii_recorder.specs.HeldTerms.{has_key}
+use Rattle.ii_recorder.specs.Pushed.{pushed_deltas, pushed_freqs}
+use Rattle.ii_recorder.specs.Terms.{WrittenTerm}
+
+abbrev two_documents : List Entry
+two_documents = record { doc = 0; term_freq = 2; positions = 0 ∷ 4 ∷ [] } ∷ record { doc = 3; term_freq = 1; positions = 1 ∷ [] } ∷ []
+
+pub docs_are : docs_of two_documents ≡ 0 ∷ 3 ∷ []
+docs_are = refl
+
+pub counts_are : pushed_freqs WithFreqsAndPositions two_documents ≡ 2 ∷ 1 ∷ []
+counts_are = refl
+
+pub counts_alone : pushed_freqs WithFreqs two_documents ≡ 2 ∷ 1 ∷ []
+counts_alone = refl
+
+pub no_counts : pushed_freqs Basic two_documents ≡ 0 ∷ 0 ∷ []
+no_counts = refl
+
+pub deltas_are : pushed_deltas two_documents ≡ 0 ∷ 4 ∷ 1 ∷ []
+deltas_are = refl
+
+abbrev one_term : List WrittenTerm
+one_term = record { key = 97 ∷ []; skip_info = Basic; docs = 0 ∷ []; freqs = 0 ∷ []; deltas = [] } ∷ []
+
+pub is_there : has_key (97 ∷ []) one_term ≡ true
+is_there = refl
+
+pub is_not_there : has_key (98 ∷ []) one_term ≡ false
+is_not_there = refl
