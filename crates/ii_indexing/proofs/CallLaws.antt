@@ -1,5 +1,10 @@
 -- What a call stores, and why it is refused, by the one text or value that it has.
-use Rattle.std.proofs.Common.{◌≡◌, ℕ, ◌<◌, List, [], ◌∷◌, ◌++◌, length, Option, Result, refl, sym, ap, subst}
+use Rattle.std.proofs.Common.{◌≡◌, ℕ, ◌<◌, List, [], ◌∷◌, ◌++◌, length, ◌≤◌, ◌∙◌, Some, None, arith, append-nil, Option, Result, refl, sym, ap, subst}
+use Rattle.std.specs.Prelude.{MatchOption, ⊤}
+use Rattle.std.proofs.lemmas.Grind.{flat_map-append}
+use Rattle.ii_docset.specs.Entries.{Entry as DocEntry}
+use Rattle.ii_recorder.specs.Recorded.{RecorderState}
+use Rattle.ii_indexing.specs.IndexingContext.{EndsBy, recorder_of}
 use Rattle.ii_io.specs.declared.faults.Fault.{Fault}
 use Rattle.ii_base.specs.Schema.{Entry}
 use Rattle.ii_base.specs.Words.{Word}
@@ -8,10 +13,10 @@ use Rattle.ii_base.specs.declared.schema.index_record_option.IndexRecordOption.T
 use Rattle.ii_base.specs.declared.schema.value_type.ValueType.{ValueType}
 use Rattle.ii_base.specs.declared.schema.value_type.ValueType.TheVariants.{Str}
 use Rattle.ii_index.specs.Fields.{option_of}
-use Rattle.ii_index.specs.Tokens.{Call, Piece, call_pieces, text, value, words}
+use Rattle.ii_index.specs.Tokens.{Call, Piece, call_pieces, pieces_of, text, value, words}
 use Rattle.ii_indexing.specs.IndexCalls.{Takes}
 use Rattle.ii_indexing.specs.IndexedTerms.{field_text, field_value, kept_in}
-use Rattle.ii_indexing.specs.Indexer.{IndexedFieldsState, StoresPieces}
+use Rattle.ii_indexing.specs.Indexer.{EndsAt, IndexedFieldsState, StoresPieces}
 use Rattle.ii_indexing.specs.PostingsWriter.{kept_as}
 use Rattle.ii_indexing.specs.Refusals.{IsRefusedBy, piece_fault, pieces_fault}
 use Rattle.ii_indexing.proofs.FieldLists.{one_fault, takes_inside, takes_text, takes_value}
@@ -67,3 +72,23 @@ module _ {T : Type 0} (analyze : List ℕ → List Word) (old : IndexedFieldsSta
   pub value_call_refused : (key : List ℕ) (t : ValueType) → ((o : IndexRecordOption) → kept_as t o ≡ Basic) → ValueRefused old result doc field key → CallRefused analyze old result (record { doc = doc; field = field; content = value key }) t
   value_call_refused key t plain h entries ps takes stored =
       subst (λ (f : Option Fault). IsRefusedBy f result) (one_fault (option_of entries field) ps (field_value doc field key)) (h entries ps (takes_inside entries field t takes) (takes_value entries field t takes plain) stored)
+
+-- the pieces of one more call
+pub pieces_with : (analyze : List ℕ → List Word) (calls : List Call) (c : Call) → pieces_of analyze (calls ++ c ∷ []) ≡ pieces_of analyze calls ++ call_pieces analyze c
+pieces_with analyze calls c = flat_map-append (call_pieces analyze) calls (c ∷ []) ∙ ap (λ (ps : List Piece). pieces_of analyze calls ++ ps) (append-nil (call_pieces analyze c))
+
+-- what ends by a document ends by a later one
+ends_by_later : (last doc : ℕ) → last ≤ doc → (found : Option RecorderState) → MatchOption found ⊤ (EndsBy last) → MatchOption found ⊤ (EndsBy doc)
+ends_by_later last doc up None h = h
+ends_by_later last doc up (Some r) h = record { ascending = h.ascending; last = by r.pending h.last }
+  where
+    by : (p : Option DocEntry) → MatchOption p ⊥ (λ (e : DocEntry). e.doc ≤ last) → MatchOption p ⊥ (λ (e : DocEntry). e.doc ≤ doc)
+    by None b = b
+    by (Some e) b = omega (arith, b, up)
+
+pub ends_later : (last doc : ℕ) (s : IndexedFieldsState) → last ≤ doc → EndsAt last s → EndsAt doc s
+ends_later last doc s up h = record {
+  documents = h.documents;
+  terms = λ bytes. ends_by_later last doc up (recorder_of s.indexed.terms bytes) (h.terms bytes);
+  reach = λ field d is. omega (arith, h.reach field d is, up);
+}

@@ -9,6 +9,16 @@ use Rattle.ii_index.specs.Tokens.{Call, text, words, value}
 use Rattle.ii_indexing.specs.declared.index_call.IndexCall.{IndexCall}
 use Rattle.ii_indexing.specs.declared.index_call.IndexCall.TheVariants.{Text, Tokens, U64, I64, Bool as Truth, Bytes, Ip}
 
+-- the number that stands for a number or a truth value, 0 for any other value
+abbrev pub number_in : IndexCall → ℕ
+number_in (Text doc field t) = 0
+number_in (Tokens doc field tokens) = 0
+number_in (U64 doc field n) = n
+number_in (I64 doc field n) = flipped n
+number_in (Truth doc field b) = number_of_bool b
+number_in (Bytes doc field bytes) = 0
+number_in (Ip doc field address) = 0
+
 -- the document, the field and the content of a call
 abbrev pub call_of : IndexCall → Call
 call_of (Text doc field t) = record { doc = doc; field = field; content = text (string_bytes t) }

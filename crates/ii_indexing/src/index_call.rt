@@ -1,7 +1,7 @@
 ghost use Rattle.std.specs.Prelude.{◌≡◌};
-ghost use Rattle.ii_indexing.specs.IndexCalls.{call_of};
+ghost use Rattle.ii_indexing.specs.IndexCalls.{call_of, number_in};
 
-use ii_base::{Field, TokenList};
+use ii_base::{FastValue, Field, TokenList};
 use ii_docset::DocId;
 
 /// What is to be indexed: a document, a field, and a value of the field's type.
@@ -36,6 +36,18 @@ impl IndexCall {
             IndexCall::Bool(doc, _, _) => *doc,
             IndexCall::Bytes(doc, _, _) => *doc,
             IndexCall::Ip(doc, _, _) => *doc,
+        }
+    }
+
+    // The number of 64 bits that stands for a number or a truth value.
+    pub(crate) fn number(&self) -> u64
+        ensures { result ≡ number_in self.now }
+    {
+        match self {
+            IndexCall::U64(_, _, number) => *number,
+            IndexCall::I64(_, _, number) => (*number).to_u64(),
+            IndexCall::Bool(_, _, truth) => (*truth).to_u64(),
+            _ => 0,
         }
     }
 }

@@ -13,7 +13,7 @@ use crate::index_call::IndexCall;
 use crate::indexed_terms::{FieldValue, IndexedTerms};
 use crate::indexing_position::IndexingPosition;
 use crate::open_documents::{OpenDocument, OpenDocuments};
-use ii_base::{FastValue, Fault, Field, Schema, TextAnalyzer, TokenList};
+use ii_base::{Fault, Field, Schema, TextAnalyzer, TokenList};
 use ii_docset::DocId;
 use std::alloc::Global;
 use std::marker::Model;
@@ -64,20 +64,21 @@ impl IndexedFields {
         ensures refused { (entries : List Entry) (ps : List Piece) → Takes entries (call_of call).field (type_of call) → StoresPieces entries self.old ps
             → IsRefusedBy (pieces_fault (option_of entries (call_of call).field) ps (call_pieces (A.words analyzer.now) (call_of call))) result }
     {
+        let number = call.number();
         match call {
             IndexCall::Text(doc, field, text) => {
                 let tokens = analyzer.token_list(alloc, text.as_str())?;
                 self.index_words(doc, field, tokens)
             }
             IndexCall::Tokens(doc, field, tokens) => self.index_words(doc, field, tokens),
-            IndexCall::U64(doc, field, number) => {
+            IndexCall::U64(doc, field, _) => {
                 self.index_value(doc, field, FieldValue::Number(number))
             }
-            IndexCall::I64(doc, field, number) => {
-                self.index_value(doc, field, FieldValue::Number(number.to_u64()))
+            IndexCall::I64(doc, field, _) => {
+                self.index_value(doc, field, FieldValue::Number(number))
             }
-            IndexCall::Bool(doc, field, truth) => {
-                self.index_value(doc, field, FieldValue::Number(truth.to_u64()))
+            IndexCall::Bool(doc, field, _) => {
+                self.index_value(doc, field, FieldValue::Number(number))
             }
             IndexCall::Bytes(doc, field, bytes) => {
                 self.index_value(doc, field, FieldValue::Bytes(bytes))

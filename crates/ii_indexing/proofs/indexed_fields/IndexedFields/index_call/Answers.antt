@@ -4,7 +4,7 @@ use Rattle.ii_base.specs.Words.{TokenListState}
 use Rattle.ii_base.specs.declared.schema.value_type.ValueType.TheVariants as types
 use Rattle.ii_base.specs.Values.{u64_bytes}
 use Rattle.ii_index.specs.Tokens.{value}
-use Rattle.ii_indexing.specs.IndexCalls.{call_of, type_of}
+use Rattle.ii_indexing.specs.IndexCalls.{call_of, number_in, type_of}
 use Rattle.ii_indexing.specs.IndexedTerms.{key_of}
 use Rattle.ii_indexing.specs.declared.index_call.IndexCall.{IndexCall}
 use Rattle.ii_indexing.specs.declared.indexed_terms.FieldValue.TheVariants as values
@@ -40,37 +40,45 @@ returns-in-Tokens-clause-refused g c =
 
 pub returns-in-U64-clause-stored : goal.returns-in-U64-clause-stored
 returns-in-U64-clause-stored g c =
+    let number = c.number-number.ensures ∙ ap number_in c.in-U64.is in
     subst (λ (x : IndexCall). OnOk c.index_value.result (CallStored (g.A.TextAnalyzer.words c.args.analyzer.now) c.args.self.now c.index_value.new.self (call_of x) (type_of x))) (sym c.in-U64.is)
-    (on_ok c.index_value.result _ _ (value_call (g.A.TextAnalyzer.words c.args.analyzer.now) c.args.self.now c.index_value.new.self c.in-U64.doc c.in-U64.field (key_of (values.Number c.in-U64.number)) types.U64 (λ o. refl)) c.index_value.ensures.stored)
+    (subst (λ (n : ℕ). OnOk c.index_value.result (CallStored (g.A.TextAnalyzer.words c.args.analyzer.now) c.args.self.now c.index_value.new.self (record { doc = c.in-U64.doc; field = c.in-U64.field; content = value (u64_bytes n) }) types.U64)) number
+    (on_ok c.index_value.result _ _ (value_call (g.A.TextAnalyzer.words c.args.analyzer.now) c.args.self.now c.index_value.new.self c.in-U64.doc c.in-U64.field (key_of (values.Number c.number-number.result)) types.U64 (λ o. refl)) c.index_value.ensures.stored))
 
 pub returns-in-U64-clause-refused : goal.returns-in-U64-clause-refused
 returns-in-U64-clause-refused g c =
+    let number = c.number-number.ensures ∙ ap number_in c.in-U64.is in
     subst (λ (x : IndexCall). CallRefused (g.A.TextAnalyzer.words c.args.analyzer.now) c.args.self.now c.index_value.result (call_of x) (type_of x)) (sym c.in-U64.is)
-    (value_call_refused (g.A.TextAnalyzer.words c.args.analyzer.now) c.args.self.now c.index_value.result c.in-U64.doc c.in-U64.field (key_of (values.Number c.in-U64.number)) types.U64 (λ o. refl) c.index_value.ensures.refused)
+    (subst (λ (n : ℕ). CallRefused (g.A.TextAnalyzer.words c.args.analyzer.now) c.args.self.now c.index_value.result (record { doc = c.in-U64.doc; field = c.in-U64.field; content = value (u64_bytes n) }) types.U64) number
+    (value_call_refused (g.A.TextAnalyzer.words c.args.analyzer.now) c.args.self.now c.index_value.result c.in-U64.doc c.in-U64.field (key_of (values.Number c.number-number.result)) types.U64 (λ o. refl) c.index_value.ensures.refused))
 
 pub returns-in-I64-clause-stored : goal.returns-in-I64-clause-stored
 returns-in-I64-clause-stored g c =
+    let number = c.number-number.ensures ∙ ap number_in c.in-I64.is in
     subst (λ (x : IndexCall). OnOk c.index_value-in-I64.result (CallStored (g.A.TextAnalyzer.words c.args.analyzer.now) c.args.self.now c.index_value-in-I64.new.self (call_of x) (type_of x))) (sym c.in-I64.is)
-    (subst (λ (n : ℕ). OnOk c.index_value-in-I64.result (CallStored (g.A.TextAnalyzer.words c.args.analyzer.now) c.args.self.now c.index_value-in-I64.new.self (record { doc = c.in-I64.doc; field = c.in-I64.field; content = value (u64_bytes n) }) types.I64)) c.to_u64.ensures
-    (on_ok c.index_value-in-I64.result _ _ (value_call (g.A.TextAnalyzer.words c.args.analyzer.now) c.args.self.now c.index_value-in-I64.new.self c.in-I64.doc c.in-I64.field (key_of (values.Number c.to_u64.result)) types.I64 (λ o. refl)) c.index_value-in-I64.ensures.stored))
+    (subst (λ (n : ℕ). OnOk c.index_value-in-I64.result (CallStored (g.A.TextAnalyzer.words c.args.analyzer.now) c.args.self.now c.index_value-in-I64.new.self (record { doc = c.in-I64.doc; field = c.in-I64.field; content = value (u64_bytes n) }) types.I64)) number
+    (on_ok c.index_value-in-I64.result _ _ (value_call (g.A.TextAnalyzer.words c.args.analyzer.now) c.args.self.now c.index_value-in-I64.new.self c.in-I64.doc c.in-I64.field (key_of (values.Number c.number-number.result)) types.I64 (λ o. refl)) c.index_value-in-I64.ensures.stored))
 
 pub returns-in-I64-clause-refused : goal.returns-in-I64-clause-refused
 returns-in-I64-clause-refused g c =
+    let number = c.number-number.ensures ∙ ap number_in c.in-I64.is in
     subst (λ (x : IndexCall). CallRefused (g.A.TextAnalyzer.words c.args.analyzer.now) c.args.self.now c.index_value-in-I64.result (call_of x) (type_of x)) (sym c.in-I64.is)
-    (subst (λ (n : ℕ). CallRefused (g.A.TextAnalyzer.words c.args.analyzer.now) c.args.self.now c.index_value-in-I64.result (record { doc = c.in-I64.doc; field = c.in-I64.field; content = value (u64_bytes n) }) types.I64) c.to_u64.ensures
-    (value_call_refused (g.A.TextAnalyzer.words c.args.analyzer.now) c.args.self.now c.index_value-in-I64.result c.in-I64.doc c.in-I64.field (key_of (values.Number c.to_u64.result)) types.I64 (λ o. refl) c.index_value-in-I64.ensures.refused))
+    (subst (λ (n : ℕ). CallRefused (g.A.TextAnalyzer.words c.args.analyzer.now) c.args.self.now c.index_value-in-I64.result (record { doc = c.in-I64.doc; field = c.in-I64.field; content = value (u64_bytes n) }) types.I64) number
+    (value_call_refused (g.A.TextAnalyzer.words c.args.analyzer.now) c.args.self.now c.index_value-in-I64.result c.in-I64.doc c.in-I64.field (key_of (values.Number c.number-number.result)) types.I64 (λ o. refl) c.index_value-in-I64.ensures.refused))
 
 pub returns-in-Bool-clause-stored : goal.returns-in-Bool-clause-stored
 returns-in-Bool-clause-stored g c =
+    let number = c.number-number.ensures ∙ ap number_in c.in-Bool.is in
     subst (λ (x : IndexCall). OnOk c.index_value-in-Bool.result (CallStored (g.A.TextAnalyzer.words c.args.analyzer.now) c.args.self.now c.index_value-in-Bool.new.self (call_of x) (type_of x))) (sym c.in-Bool.is)
-    (subst (λ (n : ℕ). OnOk c.index_value-in-Bool.result (CallStored (g.A.TextAnalyzer.words c.args.analyzer.now) c.args.self.now c.index_value-in-Bool.new.self (record { doc = c.in-Bool.doc; field = c.in-Bool.field; content = value (u64_bytes n) }) types.Bool)) c.to_u64-in-Bool.ensures
-    (on_ok c.index_value-in-Bool.result _ _ (value_call (g.A.TextAnalyzer.words c.args.analyzer.now) c.args.self.now c.index_value-in-Bool.new.self c.in-Bool.doc c.in-Bool.field (key_of (values.Number c.to_u64-in-Bool.result)) types.Bool (λ o. refl)) c.index_value-in-Bool.ensures.stored))
+    (subst (λ (n : ℕ). OnOk c.index_value-in-Bool.result (CallStored (g.A.TextAnalyzer.words c.args.analyzer.now) c.args.self.now c.index_value-in-Bool.new.self (record { doc = c.in-Bool.doc; field = c.in-Bool.field; content = value (u64_bytes n) }) types.Bool)) number
+    (on_ok c.index_value-in-Bool.result _ _ (value_call (g.A.TextAnalyzer.words c.args.analyzer.now) c.args.self.now c.index_value-in-Bool.new.self c.in-Bool.doc c.in-Bool.field (key_of (values.Number c.number-number.result)) types.Bool (λ o. refl)) c.index_value-in-Bool.ensures.stored))
 
 pub returns-in-Bool-clause-refused : goal.returns-in-Bool-clause-refused
 returns-in-Bool-clause-refused g c =
+    let number = c.number-number.ensures ∙ ap number_in c.in-Bool.is in
     subst (λ (x : IndexCall). CallRefused (g.A.TextAnalyzer.words c.args.analyzer.now) c.args.self.now c.index_value-in-Bool.result (call_of x) (type_of x)) (sym c.in-Bool.is)
-    (subst (λ (n : ℕ). CallRefused (g.A.TextAnalyzer.words c.args.analyzer.now) c.args.self.now c.index_value-in-Bool.result (record { doc = c.in-Bool.doc; field = c.in-Bool.field; content = value (u64_bytes n) }) types.Bool) c.to_u64-in-Bool.ensures
-    (value_call_refused (g.A.TextAnalyzer.words c.args.analyzer.now) c.args.self.now c.index_value-in-Bool.result c.in-Bool.doc c.in-Bool.field (key_of (values.Number c.to_u64-in-Bool.result)) types.Bool (λ o. refl) c.index_value-in-Bool.ensures.refused))
+    (subst (λ (n : ℕ). CallRefused (g.A.TextAnalyzer.words c.args.analyzer.now) c.args.self.now c.index_value-in-Bool.result (record { doc = c.in-Bool.doc; field = c.in-Bool.field; content = value (u64_bytes n) }) types.Bool) number
+    (value_call_refused (g.A.TextAnalyzer.words c.args.analyzer.now) c.args.self.now c.index_value-in-Bool.result c.in-Bool.doc c.in-Bool.field (key_of (values.Number c.number-number.result)) types.Bool (λ o. refl) c.index_value-in-Bool.ensures.refused))
 
 pub returns-in-Bytes-clause-stored : goal.returns-in-Bytes-clause-stored
 returns-in-Bytes-clause-stored g c =

@@ -1,0 +1,32 @@
+use Rattle.std.proofs.Common.{◌≡◌, ◌≤◌, ◌++◌, ◌∷◌, [], List, false, sym, ap, ◌∙◌, subst, refl}
+use Rattle.std.proofs.lemmas.Result.{err_from_is_err_and}
+use Rattle.ii_index.specs.Tokens.{Piece, call_pieces, pieces_of}
+use Rattle.ii_indexing.specs.IndexCalls.{Takes, call_of, type_of}
+use Rattle.ii_indexing.specs.Indexer.{EndsAt, IndexerState, StoresPieces}
+use Rattle.ii_indexing.proofs.CallLaws.{ends_later, pieces_with}
+use Rattle.ii_indexing.proofs.indexer.Indexer.index.Goals as goal
+
+pub index_call-requires-clause-ends : goal.index_call-requires-clause-ends
+index_call-requires-clause-ends g c =
+    let now = c.self.view_is in
+    let running : c.args.self.now.failed ≡ false = sym (ap (λ (s : IndexerState). s.failed) now) ∙ c.if-self.false in
+    let order = subst (λ (s : IndexerState). s.last_doc ≤ (call_of c.args.call).doc) (sym now) (c.requires.order running) in
+    ends_later c.self.inside.last_doc (call_of c.args.call).doc c.self.inside.fields order (c.self.invariant.1 c.if-self.false).0
+
+pub returns-in_err-index_call-clause-refused : goal.returns-in_err-index_call-clause-refused
+returns-in_err-index_call-clause-refused g c fine calls stored =
+    let now = c.self.view_is in
+    let pieces = pieces_of (g.A.TextAnalyzer.words c.args.analyzer.now) calls in
+    let st = subst (λ (s : IndexerState). StoresPieces c.args.self.now.schema s.fields pieces) (sym now) stored in
+    let p = err_from_is_err_and c.from_residual.result c.from_residual.ensures.1 in
+    rw (p.1, p.2) (c.in_err-index_call.ensures.refused c.args.self.now.schema pieces (c.requires.takes fine) st)
+
+pub returns-clause-stored : goal.returns-clause-stored
+returns-clause-stored g c calls stored =
+    let now = c.self.view_is in
+    let analyze = g.A.TextAnalyzer.words c.args.analyzer.now in
+    let pieces = pieces_of analyze calls in
+    let running : c.args.self.now.failed ≡ false = sym (ap (λ (s : IndexerState). s.failed) now) ∙ c.if-self.false in
+    let st = subst (λ (s : IndexerState). StoresPieces s.schema s.fields pieces) (sym now) stored in
+    let takes = subst (λ (s : IndexerState). Takes s.schema (call_of c.args.call).field (type_of c.args.call)) (sym now) (c.requires.takes running) in
+    subst (StoresPieces c.self.inside.schema c.index_call.new.self) (sym (pieces_with analyze calls (call_of c.args.call))) (c.in_ok-index_call.ensures.stored c.self.inside.schema pieces takes st)
