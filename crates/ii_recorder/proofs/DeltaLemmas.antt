@@ -10,7 +10,7 @@ use Rattle.ii_codes.proofs.SortedVintLemmas.{fit_u32-all, running_sums-differenc
 use Rattle.ii_docset.specs.Entries.{Entry}
 use Rattle.ii_layout.specs.Positions.{positions_of}
 use Rattle.ii_recorder.specs.declared.recorder.term_frequency_recorder.DocFreq.{DocFreq}
-use Rattle.ii_recorder.specs.DocFreqs.{NoneFalls, entries_of, located, position_count}
+use Rattle.ii_recorder.specs.DocFreqs.{PositionsDoNotFall, entries_of, located, position_count}
 use Rattle.ii_recorder.specs.Pushed.{HaveDeltas, counts_of, pushed_deltas}
 use Rattle.ii_recorder.specs.Recorded.{entries_in, last_position}
 use Rattle.ii_recorder.proofs.PushLocated.{open_positions}
@@ -38,8 +38,8 @@ last_of_all [] = refl
 last_of_all (q ∷ qs) = sym (last_is q qs)
 
 -- after a position
-pub fall_not_recorded : (ds : List DocFreq) (d : DocFreq) (ps : List ℕ) (p : ℕ) → length ps ≡ position_count ds + d.term_freq → NoneFalls (entries_of ds ps) × DoNotFall 0 (drop (position_count ds) ps)
-    → last_position (drop (length ps - d.term_freq) ps) ≤ p → (length (ps ++ p ∷ []) ≡ position_count ds + (d.term_freq + 1)) × NoneFalls (entries_of ds (ps ++ p ∷ [])) × DoNotFall 0 (drop (position_count ds) (ps ++ p ∷ []))
+pub fall_not_recorded : (ds : List DocFreq) (d : DocFreq) (ps : List ℕ) (p : ℕ) → length ps ≡ position_count ds + d.term_freq → PositionsDoNotFall (entries_of ds ps) × DoNotFall 0 (drop (position_count ds) ps)
+    → last_position (drop (length ps - d.term_freq) ps) ≤ p → (length (ps ++ p ∷ []) ≡ position_count ds + (d.term_freq + 1)) × PositionsDoNotFall (entries_of ds (ps ++ p ∷ [])) × DoNotFall 0 (drop (position_count ds) (ps ++ p ∷ []))
 fall_not_recorded ds d ps p count h last =
     let within : position_count ds ≤ length ps = omega (arith, count) in
     let low : last_from 0 (drop (position_count ds) ps) ≤ p = rw (last_of_all (drop (position_count ds) ps), ← open_positions ds d ps count) last in
@@ -50,8 +50,8 @@ all_push P [] x h last = (last, tt)
 all_push P (y ∷ ys) x h last = (h.0, all_push P ys x h.1 last)
 
 -- after a document is closed
-pub fall_not_closed : (ds : List DocFreq) (d : DocFreq) (ps : List ℕ) → length ps ≡ position_count ds + d.term_freq → NoneFalls (entries_of ds ps) × DoNotFall 0 (drop (position_count ds) ps)
-    → (length ps ≡ position_count (ds ++ d ∷ []) + 0) × NoneFalls (entries_of (ds ++ d ∷ []) ps) × DoNotFall 0 (drop (position_count (ds ++ d ∷ [])) ps)
+pub fall_not_closed : (ds : List DocFreq) (d : DocFreq) (ps : List ℕ) → length ps ≡ position_count ds + d.term_freq → PositionsDoNotFall (entries_of ds ps) × DoNotFall 0 (drop (position_count ds) ps)
+    → (length ps ≡ position_count (ds ++ d ∷ []) + 0) × PositionsDoNotFall (entries_of (ds ++ d ∷ []) ps) × DoNotFall 0 (drop (position_count (ds ++ d ∷ [])) ps)
 fall_not_closed ds d ps count h =
     let one : position_count (d ∷ []) ≡ d.term_freq + position_count [] = sum_by-cons (λ (e : DocFreq). e.term_freq) d [] in
     let none : drop (position_count (ds ++ d ∷ [])) ps ≡ [] = drop_all (position_count (ds ++ d ∷ [])) ps (omega (arith, count, one, sum_by-append (λ (e : DocFreq). e.term_freq) ds (d ∷ []))) in
@@ -77,7 +77,7 @@ fit_both : (xs ys : List ℕ) → Fit xs → Fit ys → Fit (xs ++ ys)
 fit_both [] ys h k = k
 fit_both (x ∷ xs) ys h k = (h.0, fit_both xs ys h.1 k)
 
-located_closed : (ds : List DocFreq) (ps : List ℕ) → position_count ds ≤ length ps → NoneFalls (entries_of ds ps) → Fit ps → AllByRecursion IsLocated (entries_of ds ps)
+located_closed : (ds : List DocFreq) (ps : List ℕ) → position_count ds ≤ length ps → PositionsDoNotFall (entries_of ds ps) → Fit ps → AllByRecursion IsLocated (entries_of ds ps)
 located_closed [] ps within h fit = tt
 located_closed (d ∷ ds) ps within h fit =
     let count : position_count (d ∷ ds) ≡ d.term_freq + position_count ds = sum_by-cons (λ (e : DocFreq). e.term_freq) d ds in
@@ -85,7 +85,7 @@ located_closed (d ∷ ds) ps within h fit =
     ((many, h.0, fit_take d.term_freq ps fit), located_closed ds (drop d.term_freq ps) (omega (arith, count, length-drop d.term_freq ps)) h.1 (fit_drop d.term_freq ps fit))
 
 located_all : (ds : List DocFreq) (pending : Option DocFreq) (ps : List ℕ) → length ps ≡ position_count ds + unwrap_or (option_map (λ (d : DocFreq). d.term_freq) pending) 0
-    → NoneFalls (entries_of ds ps) × DoNotFall 0 (drop (position_count ds) ps) → Fit ps → AllByRecursion IsLocated (entries_in (state_of ds pending ps))
+    → PositionsDoNotFall (entries_of ds ps) × DoNotFall 0 (drop (position_count ds) ps) → Fit ps → AllByRecursion IsLocated (entries_in (state_of ds pending ps))
 located_all ds None ps count h fit = rw (append-nil (entries_of ds ps)) (located_closed ds ps (omega (arith, count)) h.0 fit)
 located_all ds (Some d) ps count h fit =
     let many : length (drop (position_count ds) ps) ≡ d.term_freq = omega (arith, count, length-drop (position_count ds) ps) in
@@ -137,7 +137,7 @@ count_all ds (Some d) ps =
     let one : sum (d.term_freq ∷ []) ≡ d.term_freq + sum [] = sum_by-cons (λ (n : ℕ). n) d.term_freq [] in
     rw (map-append (λ (e : Entry). e.term_freq) (entries_of ds ps) (located d (drop (position_count ds) ps) ∷ []), sum_by-append (λ (n : ℕ). n) (counts_of (entries_of ds ps)) (d.term_freq ∷ []), count_closed ds ps) (omega (arith, one))
 
-pub have_deltas : (ds : List DocFreq) (pending : Option DocFreq) (ps : List ℕ) → (length ps ≡ position_count ds + unwrap_or (option_map (λ (d : DocFreq). d.term_freq) pending) 0) × NoneFalls (entries_of ds ps) × DoNotFall 0 (drop (position_count ds) ps)
+pub have_deltas : (ds : List DocFreq) (pending : Option DocFreq) (ps : List ℕ) → (length ps ≡ position_count ds + unwrap_or (option_map (λ (d : DocFreq). d.term_freq) pending) 0) × PositionsDoNotFall (entries_of ds ps) × DoNotFall 0 (drop (position_count ds) ps)
     → Fit ps → length ps < 2 ^ 64 → HaveDeltas (entries_in (state_of ds pending ps))
 have_deltas ds pending ps h fit few =
     let es = entries_in (state_of ds pending ps) in

@@ -28,5 +28,5 @@ abbrev pub open_entry : Option DocFreq → List ℕ → List Entry
 open_entry pending positions = option_to_list (option_map (λ (d : DocFreq). located d (drop (length positions - d.term_freq) positions)) pending)
 
 -- In no document a position is below the one before it.
-abbrev pub NoneFalls : List Entry → Type 0
-NoneFalls es = AllByRecursion (λ (e : Entry). DoNotFall 0 e.positions) es
+abbrev pub PositionsDoNotFall : List Entry → Type 0
+PositionsDoNotFall es = AllByRecursion (λ (e : Entry). DoNotFall 0 e.positions) es

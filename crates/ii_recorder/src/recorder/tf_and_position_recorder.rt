@@ -30,7 +30,7 @@ impl Model for TfAndPositionRecorder {
     ghost use Rattle.std.specs.Option.{option_map};
     ghost use Rattle.ii_base.specs.declared.schema.index_record_option.IndexRecordOption.TheVariants.{WithFreqsAndPositions};
     ghost use Rattle.ii_codes.specs.Sums.{DoNotFall};
-    ghost use Rattle.ii_recorder.specs.DocFreqs.{NoneFalls, entries_of, located, position_count};
+    ghost use Rattle.ii_recorder.specs.DocFreqs.{PositionsDoNotFall, entries_of, located, position_count};
     ghost use Rattle.ii_recorder.specs.Recorded.{RecorderState};
 
     ghost Value = { RecorderState };
@@ -42,7 +42,7 @@ impl Model for TfAndPositionRecorder {
     } };
 
     ghost invariant = { λ r. (length r.positions.items ≡ position_count r.closed.items + unwrap_or (option_map (λ d. d.term_freq) r.pending) 0)
-        × NoneFalls (entries_of r.closed.items r.positions.items) × DoNotFall 0 (drop (position_count r.closed.items) r.positions.items) };
+        × PositionsDoNotFall (entries_of r.closed.items r.positions.items) × DoNotFall 0 (drop (position_count r.closed.items) r.positions.items) };
 }
 
 impl TfAndPositionRecorder {
