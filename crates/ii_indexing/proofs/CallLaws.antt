@@ -1,5 +1,5 @@
 -- What a call stores, and why it is refused, by the one text or value that it has.
-use Rattle.std.proofs.Common.{◌≡◌, ℕ, ◌<◌, List, [], ◌∷◌, ◌++◌, length, ◌≤◌, ◌∙◌, Some, None, arith, append-nil, Option, Result, refl, sym, ap, subst}
+use Rattle.std.proofs.Common.{◌≡◌, ℕ, ◌<◌, List, [], ◌∷◌, ◌++◌, length, ◌≤◌, ◌∙◌, Some, None, arith, append-nil, Option, Result, ap, subst}
 use Rattle.std.specs.Prelude.{MatchOption, ⊤}
 use Rattle.std.proofs.lemmas.Grind.{flat_map-append}
 use Rattle.ii_docset.specs.Entries.{Entry as DocEntry}

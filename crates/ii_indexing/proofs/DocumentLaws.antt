@@ -1,21 +1,19 @@
 -- What is known of the open documents of fields.
-use Rattle.std.proofs.Common.{◌≡◌, ◌≢◌, ◌⊎◌, ℕ, zero, suc, ◌+◌, ◌-◌, ◌<◌, ◌≤◌, ◌==◌, ◌&&◌, ◌^◌, min, Bool, true, false, List, [], ◌∷◌, ◌++◌, map, length, cond, replicate, get_or, Some, None, Option, inl, inr, refl, sym, ap, ◌∙◌, subst, arith, append-nil, length-append}
+use Rattle.std.proofs.Common.{◌≡◌, ℕ, zero, suc, ◌-◌, ◌<◌, ◌≤◌, ◌==◌, min, Bool, true, false, List, [], ◌∷◌, ◌++◌, length, replicate, get_or, Some, None, Option, refl, sym, ap, ◌∙◌, subst, arith, length-append}
 use Rattle.std.specs.Prelude.{slice_get, slice_set, IfSome, nat_le, nat_lt}
 use Rattle.std.specs.Option.{option_flatten, option_map}
-use Rattle.std.proofs.lemmas.Bool.{eqb-true, eqb-false, eq-eqb, leb-true}
+use Rattle.std.proofs.lemmas.Bool.{eqb-true, eq-eqb, leb-true}
 use Rattle.std.proofs.lemmas.List.{get_or-replicate, get_or_append_left, length-replicate}
 use Rattle.std.proofs.Math.Seq.{get_or-append_seam}
 use Rattle.ii_fieldnorm.specs.Buffers.{Buffers, buffer_of, recorded, recorded_buffers}
 use Rattle.ii_fieldnorm.specs.Norms.{id_of_norm, norm_of_id}
 use Rattle.ii_fieldnorm.proofs.NormLemmas.{id_of_norm-found}
-use Rattle.ii_index.specs.Tokens.{IndexToken, Piece, begin_after}
+use Rattle.ii_index.specs.Tokens.{IndexToken, Piece}
 use Rattle.ii_index.specs.Postings.{doc_count}
 use Rattle.ii_recorder.specs.Recorded.{u32_max}
-use Rattle.ii_indexing.specs.IndexedTerms.{field_text}
 use Rattle.ii_indexing.specs.OpenDocuments.{AreBehind, HasNorms, OpenDocumentsState, ReachTo, Tells, TellsAll, document_at, empty_document}
-use Rattle.ii_indexing.specs.Refusals.{group_count}
 use Rattle.ii_indexing.specs.declared.open_documents.OpenDocument.{OpenDocument}
-use Rattle.ii_indexing.proofs.StoreLaws.{set_other, set_same}
+use Rattle.ii_indexing.proofs.StoreLaws.{set_other}
 
 top : (m : ℕ) → u32_max ≤ m → id_of_norm m ≡ 255
 unfolding norm_of_id

@@ -1,8 +1,8 @@
 -- What one more text or value of a field changes.
-use Rattle.std.proofs.Common.{◌≡◌, ◌⊎◌, ℕ, ◌+◌, ◌<◌, ◌≤◌, ◌==◌, ◌&&◌, min, max, Bool, true, false, List, [], ◌∷◌, ◌++◌, map, filter, length, cond, Some, None, Option, Ok, Err, Result, inl, inr, refl, sym, ap, ◌∙◌, subst, arith, append-nil, length-append}
-use Rattle.std.specs.Prelude.{slice_get, slice_set, bytes_eq, fold, IfSome, if◌then◌else◌, nat_le}
+use Rattle.std.proofs.Common.{◌≡◌, ℕ, ◌+◌, ◌<◌, ◌≤◌, ◌==◌, ◌&&◌, min, Bool, true, false, List, [], ◌∷◌, ◌++◌, map, filter, length, cond, Some, None, Option, Result, refl, sym, ap, ◌∙◌, subst, arith, append-nil, length-append}
+use Rattle.std.specs.Prelude.{slice_get, slice_set, bytes_eq, fold, IfSome}
 use Rattle.std.specs.List.{flat_map}
-use Rattle.std.proofs.lemmas.Bool.{eqb-true, eqb-false, eq-eqb, ne_eqb}
+use Rattle.std.proofs.lemmas.Bool.{eqb-true, eq-eqb}
 use Rattle.std.proofs.lemmas.Grind.{flat_map-append}
 use Rattle.std.proofs.lemmas.List.{length-map}
 use Rattle.std.proofs.lemmas.List.Elements.{filter-append}
@@ -17,7 +17,7 @@ use Rattle.ii_index.specs.Tokens.{IndexToken, Piece, begin_after, end_after, is_
 use Rattle.ii_index.specs.Postings.{doc_count}
 use Rattle.ii_recorder.specs.Recorded.{u32_max}
 use Rattle.ii_indexing.specs.IndexedTerms.{IndexedTermsState, StoresTokens, field_text, field_value}
-use Rattle.ii_indexing.specs.Indexer.{IndexedFieldsState, StoresPieces}
+use Rattle.ii_indexing.specs.Indexer.{StoresPieces}
 use Rattle.ii_indexing.specs.OpenDocuments.{HasNorms, OpenDocumentsState, ReachTo, Tells, TellsAll, document_at, empty_document}
 use Rattle.ii_indexing.specs.PostingsWriter.{text_fault}
 use Rattle.ii_indexing.specs.Refusals.{IsRefusedBy, group_count, piece_fault}

@@ -1,25 +1,23 @@
 -- What is stored of a field once tokens of it are added.
-use Rattle.std.proofs.Common.{◌≡◌, ◌⊎◌, ℕ, zero, suc, ◌+◌, ◌<◌, ◌==◌, Bool, true, false, List, [], ◌∷◌, ◌++◌, map, length, cond, Some, None, Option, Ok, Err, Result, inl, inr, refl, sym, ap, ◌∙◌, subst, arith, append-nil}
-use Rattle.std.specs.Prelude.{slice_get, slice_set, nat_le, if◌then◌else◌, ⊤, MatchOption}
-use Rattle.std.proofs.lemmas.Bool.{eqb-true, eqb-false, eq-eqb}
+use Rattle.std.proofs.Common.{◌≡◌, ℕ, zero, suc, ◌+◌, ◌<◌, ◌==◌, Bool, true, false, List, [], ◌∷◌, ◌++◌, map, length, cond, Some, Option, Result, refl, sym, ap, ◌∙◌, subst, arith, append-nil}
+use Rattle.std.specs.Prelude.{slice_get, slice_set}
+use Rattle.std.proofs.lemmas.Bool.{eqb-true, eqb-false}
 use Rattle.std.proofs.lemmas.List.Sums.{sum_by-append, sum_by-cons}
 use Rattle.ii_io.specs.declared.faults.Fault.{Fault}
-use Rattle.ii_io.specs.declared.faults.Fault.TheVariants.{OutOfMemory, Limit}
-use Rattle.ii_io.specs.declared.faults.LimitName.TheVariants as limit
 use Rattle.ii_base.specs.Schema.{Entry}
 use Rattle.ii_base.specs.Words.{Word}
 use Rattle.ii_base.specs.declared.schema.index_record_option.IndexRecordOption.{IndexRecordOption}
 use Rattle.ii_base.specs.declared.schema.index_record_option.IndexRecordOption.TheVariants.{Basic}
 use Rattle.ii_index.specs.Tokens.{IndexToken, Piece, kept_words, value_token, word_token}
-use Rattle.ii_index.specs.Postings.{field_count, is_at, kind_of, tokens_at}
+use Rattle.ii_index.specs.Postings.{field_count, kind_of, tokens_at}
 use Rattle.ii_indexing.specs.IndexedTerms.{IndexedTermsState, StoresTokens, field_text, field_value, kept_in, value_fault}
-use Rattle.ii_indexing.specs.IndexingContext.{TermIndex, record_fault, recorder_of, recorder_or_new}
+use Rattle.ii_indexing.specs.IndexingContext.{TermIndex, recorder_of}
 use Rattle.ii_indexing.specs.IndexingTerm.{field_bytes}
 use Rattle.ii_indexing.specs.PostingsWriter.{HasTokens, PostingsWriterState, subscribe_fault, tokens_counted}
 use Rattle.ii_indexing.specs.Records.{Records}
-use Rattle.ii_indexing.specs.Refusals.{IsRefusedBy, u64_max}
+use Rattle.ii_indexing.specs.Refusals.{IsRefusedBy}
 use Rattle.ii_indexing.proofs.PostingsLaws.{tokens_at-append}
-use Rattle.ii_indexing.proofs.RecordsLaws.{HasKey, tokens_at_last}
+use Rattle.ii_indexing.proofs.RecordsLaws.{HasKey}
 use Rattle.ii_indexing.proofs.TextLaws.{field_count_more, key_recorder}
 
 -- what is kept of the keys of each field

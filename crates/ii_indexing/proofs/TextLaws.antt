@@ -1,7 +1,6 @@
 -- What indexing a word and a text adds to a context.
-use Rattle.std.proofs.Common.{arith, append-nil, ◌==◌, ◌≤◌, ◌&&◌, ◌||◌, filter, map, length, ◌≡◌, ℕ, ◌+◌, ◌<◌, ◌^◌, Bool, true, false, List, [], ◌∷◌, ◌++◌, Some, None, Option, Ok, Err, Result, refl, sym, ap, ◌∙◌, subst, cond, max, inl, inr, append_assoc, length-append, ⊎_elim,  ◌⊎◌}
+use Rattle.std.proofs.Common.{arith, append-nil, ◌==◌, ◌≤◌, ◌&&◌, ◌||◌, map, length, ◌≡◌, ℕ, ◌+◌, ◌<◌, ◌^◌, Bool, true, false, List, [], ◌∷◌, ◌++◌, Some, None, Option, Ok, Err, Result, refl, sym, ap, ◌∙◌, subst, cond, max, inl, inr, append_assoc, length-append, ⊎_elim, ◌⊎◌}
 use Rattle.std.specs.Prelude.{IfErr, OnOk, drop, slice_get, IsTrue, MatchOption, find, fold,  unwrap_or, ⊤, if◌then◌else◌, nat_le, nat_lt}
-use Rattle.std.specs.Option.{option_or}
 use Rattle.std.proofs.lemmas.Bool.{and_parts, eq-eqb, leb-true}
 use Rattle.std.proofs.lemmas.List.Folds.{find-append}
 use Rattle.std.proofs.lemmas.List.Sums.{fold-append, sum_by-append}
@@ -22,10 +21,10 @@ use Rattle.ii_indexing.specs.IndexingContext.{AllEndBy, EndsBy, IsRecorded, Term
 use Rattle.ii_indexing.specs.declared.indexing_position.IndexingPosition.{IndexingPosition}
 use Rattle.ii_indexing.specs.IndexingTerm.{IndexingTermState, term_bytes}
 use Rattle.ii_indexing.specs.PostingsWriter.{text_fault, RefusesWords, IndexesWords, text_piece, tokens_counted, HasTokens, IndexesKept, PostingsWriterState, TextState, kept_fault, subscribe_fault, term_token, word_bytes, word_end}
-use Rattle.ii_indexing.specs.Records.{HasPostings, Records}
+use Rattle.ii_indexing.specs.Records.{Records}
 use Rattle.ii_indexing.specs.Refusals.{IsRefusedBy, gap_fault, open_entry, first_fault, u64_max, word_fault, words_fault}
 use Rattle.ii_indexing.proofs.RecordsLaws.{HasKey, records_more, tokens_at_last}
-use Rattle.ii_indexing.proofs.RecorderSteps.{IsOpenIn, open_in}
+use Rattle.ii_indexing.proofs.RecorderSteps.{open_in}
 
 pub records_subscribed : (option : IndexRecordOption) (doc position : ℕ) (term : IndexingTermState) (old new : TermIndex) → term.field < 2 ^ 32 → IsRecorded option doc position (term_bytes term) old new
     → (kind : ℕ → List ℕ → IndexRecordOption) (ts : List IndexToken) (of_text : Bool) → kind term.field term.value ≡ option → Records kind old ts → Records kind new (ts ++ term_token doc position of_text term ∷ [])

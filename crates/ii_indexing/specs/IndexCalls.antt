@@ -1,5 +1,5 @@
 -- What an index call is to index.
-use Rattle.std.specs.Prelude.{◌≡◌, ℕ, ◌<◌, Bool, true, List, Some, slice_get, string_bytes}
+use Rattle.std.specs.Prelude.{◌≡◌, ℕ, true, List, Some, slice_get, string_bytes}
 use Rattle.std.specs.Int.{bytes_high_first}
 use Rattle.ii_base.specs.Schema.{Entry}
 use Rattle.ii_base.specs.Values.{flipped, number_of_bool, u64_bytes}

@@ -1,5 +1,5 @@
 -- What an indexer has stored of the calls that it took.
-use Rattle.std.specs.Prelude.{◌≡◌, ℕ, ◌≤◌, Bool, List, [], length}
+use Rattle.std.specs.Prelude.{◌≡◌, ℕ, Bool, List, [], length}
 use Rattle.ii_base.specs.Schema.{Entry}
 use Rattle.ii_base.specs.Words.{Word}
 use Rattle.ii_index.specs.Tokens.{Call, Piece, pieces_of, tokens_after}

@@ -1,6 +1,5 @@
 -- What is known of each field in the document that was opened last in it, and the norms of the documents before.
-use Rattle.std.specs.Prelude.{◌≡◌, ℕ, ◌<◌, ◌≤◌, ◌==◌, min, if◌then◌else◌, List, [], get_or, length, map, slice_get, IfSome, Option, Some}
-use Rattle.ii_base.specs.Schema.{Entry}
+use Rattle.std.specs.Prelude.{◌≡◌, ℕ, ◌<◌, ◌≤◌, ◌==◌, min, if◌then◌else◌, List, [], get_or, length, slice_get, IfSome, Option, Some}
 use Rattle.ii_fieldnorm.specs.Buffers.{Buffers, buffer_of}
 use Rattle.ii_fieldnorm.specs.Norms.{id_of_norm}
 use Rattle.ii_index.specs.Tokens.{IndexToken, Piece, begin_after}

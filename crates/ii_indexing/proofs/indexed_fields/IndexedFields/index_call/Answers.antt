@@ -1,4 +1,4 @@
-use Rattle.std.proofs.Common.{◌≡◌, List, ℕ, refl, sym, subst, ◌∙◌, ap}
+use Rattle.std.proofs.Common.{List, ℕ, refl, sym, subst, ◌∙◌, ap}
 use Rattle.std.specs.Prelude.{OnOk}
 use Rattle.ii_base.specs.Words.{TokenListState}
 use Rattle.ii_base.specs.declared.schema.value_type.ValueType.TheVariants as types

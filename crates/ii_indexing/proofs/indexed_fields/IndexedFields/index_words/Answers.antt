@@ -1,4 +1,4 @@
-use Rattle.std.proofs.Common.{◌≡◌, ◌+◌, ◌-◌, ◌<◌, [], length, sym, ap, ◌∙◌, subst, arith, min, refl, Err, Ok, ℕ}
+use Rattle.std.proofs.Common.{◌≡◌, ◌+◌, ◌-◌, [], length, sym, ap, ◌∙◌, subst, arith, min, refl, Ok, ℕ}
 use Rattle.std.proofs.lemmas.List.{length-set}
 use Rattle.std.proofs.lemmas.Result.{err_from_is_err_and}
 use Rattle.ii_recorder.specs.Recorded.{u32_max}
@@ -6,7 +6,6 @@ use Rattle.ii_index.specs.Tokens.{kept_words, tokens_after}
 use Rattle.ii_indexing.specs.IndexedTerms.{field_text, kept_in}
 use Rattle.ii_indexing.specs.Refusals.{IsRefusedBy, piece_fault}
 use Rattle.ii_indexing.specs.Indexer.{EndsAt, IndexedFieldsState, StoresPieces}
-use Rattle.ii_indexing.specs.OpenDocuments.{OpenDocumentsState, ReachTo}
 use Rattle.ii_indexing.specs.declared.open_documents.OpenDocument.{OpenDocument}
 use Rattle.ii_indexing.specs.declared.indexing_position.IndexingPosition.{IndexingPosition}
 use Rattle.ii_indexing.proofs.PieceLaws.{reach_put, text_refused, words_stored}

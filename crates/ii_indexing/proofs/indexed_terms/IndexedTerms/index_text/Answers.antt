@@ -1,6 +1,6 @@
-use Rattle.std.proofs.Common.{List, ℕ, ◌++◌, ◌≡◌, ◌∙◌, sym, ap, subst, map}
-use Rattle.ii_index.specs.Tokens.{IndexToken, kept_words, word_token}
-use Rattle.ii_indexing.specs.IndexedTerms.{IndexedTermsState, StoresTokens, kept_in}
+use Rattle.std.proofs.Common.{◌++◌, sym, ap, subst, map}
+use Rattle.ii_index.specs.Tokens.{kept_words, word_token}
+use Rattle.ii_indexing.specs.IndexedTerms.{IndexedTermsState, StoresTokens}
 use Rattle.ii_indexing.specs.IndexingContext.{AllEndBy}
 use Rattle.ii_indexing.specs.IndexingTerm.{IndexingTermState}
 use Rattle.ii_indexing.specs.PostingsWriter.{HasTokens, PostingsWriterState, text_fault, text_piece}

@@ -1,6 +1,5 @@
-use Rattle.std.proofs.Common.{List, ℕ, ◌≡◌, ◌++◌, ◌∷◌, ◌∙◌, [], false, sym, ap, subst}
-use Rattle.ii_index.specs.Tokens.{IndexToken, value_token}
-use Rattle.ii_indexing.specs.IndexedTerms.{IndexedTermsState, StoresTokens, field_value, kept_in, key_of}
+use Rattle.std.proofs.Common.{◌≡◌, ◌++◌, ◌∷◌, ◌∙◌, [], false, sym, ap, subst}
+use Rattle.ii_indexing.specs.IndexedTerms.{IndexedTermsState, StoresTokens, key_of}
 use Rattle.ii_indexing.specs.IndexingContext.{AllEndBy}
 use Rattle.ii_indexing.specs.IndexingTerm.{IndexingTermState, term_bytes}
 use Rattle.ii_indexing.specs.PostingsWriter.{subscribe_fault, term_token}

@@ -1,8 +1,8 @@
-use Rattle.std.proofs.Common.{◌≡◌, ◌≤◌, ◌++◌, ◌∷◌, [], List, false, sym, ap, ◌∙◌, subst, refl}
+use Rattle.std.proofs.Common.{◌≡◌, ◌≤◌, false, sym, ap, ◌∙◌, subst}
 use Rattle.std.proofs.lemmas.Result.{err_from_is_err_and}
-use Rattle.ii_index.specs.Tokens.{Piece, call_pieces, pieces_of}
+use Rattle.ii_index.specs.Tokens.{pieces_of}
 use Rattle.ii_indexing.specs.IndexCalls.{Takes, call_of, type_of}
-use Rattle.ii_indexing.specs.Indexer.{EndsAt, IndexerState, StoresPieces}
+use Rattle.ii_indexing.specs.Indexer.{IndexerState, StoresPieces}
 use Rattle.ii_indexing.proofs.CallLaws.{ends_later, pieces_with}
 use Rattle.ii_indexing.proofs.indexer.Indexer.index.Goals as goal
 

@@ -1,8 +1,6 @@
-use Rattle.std.proofs.Common.{◌≡◌, List, ap, ◌∙◌, refl}
+use Rattle.std.proofs.Common.{refl}
 use Rattle.ii_base.specs.Schema.{Entry}
-use Rattle.ii_fieldnorm.specs.Buffers.{Buffers}
-use Rattle.ii_indexing.specs.OpenDocuments.{OpenDocumentsState, empty_document}
-use Rattle.ii_indexing.specs.declared.open_documents.OpenDocument.{OpenDocument}
+use Rattle.ii_indexing.specs.OpenDocuments.{empty_document}
 use Rattle.ii_indexing.proofs.FieldLists.{all_made, short_norms}
 use Rattle.ii_indexing.proofs.open_documents.OpenDocuments.new.Goals as goal
 

@@ -1,5 +1,5 @@
 use Rattle.std.proofs.Common.{◌≡◌, ◌<◌, sym, ap, ◌∙◌, subst, arith, Some, length, get_or}
-use Rattle.std.specs.Prelude.{slice_get, slice_set}
+use Rattle.std.specs.Prelude.{slice_get}
 use Rattle.ii_indexing.specs.OpenDocuments.{OpenDocumentsState, ReachTo, TellsAll, empty_document}
 use Rattle.ii_indexing.proofs.DocumentLaws.{found_at, opened_behind, opened_reach, opened_tells}
 use Rattle.ii_indexing.proofs.StoreLaws.{set_same}

@@ -1,9 +1,9 @@
 use Rattle.std.proofs.Common.{◌≡◌, ◌<◌, ◌^◌, arith, length, List, true, [], ◌∷◌}
 use Rattle.std.specs.Prelude.{nat_le, string_bytes}
 use Rattle.ii_base.specs.Words.{Word, word_of}
-use Rattle.ii_index.specs.Tokens.{kept_words, max_token_len}
-use Rattle.ii_indexing.specs.PostingsWriter.{IndexesKept, IndexesWords, RefusesWords, kept_fault, text_piece, text_state}
-use Rattle.ii_indexing.proofs.TextLaws.{err_with, kept_one, ok_with, one_refused, one_word}
+use Rattle.ii_index.specs.Tokens.{max_token_len}
+use Rattle.ii_indexing.specs.PostingsWriter.{IndexesWords, kept_fault, text_piece, text_state}
+use Rattle.ii_indexing.proofs.TextLaws.{err_with, ok_with, one_refused, one_word}
 use Rattle.ii_indexing.proofs.postings_writer.SpecializedPostingsWriter.index_word.Goals as goal
 
 pub returns-clause-indexed : goal.returns-clause-indexed
