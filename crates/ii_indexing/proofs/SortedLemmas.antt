@@ -101,12 +101,12 @@ slice_cmp-prefix : (front xs ys : List ℕ) → slice_cmp nat_cmp (front ++ xs) 
 slice_cmp-prefix [] xs ys = refl
 slice_cmp-prefix (n ∷ front) xs ys = rw (nat_cmp-refl n) (slice_cmp-prefix front xs ys)
 
-field_of_bytes : (field : ℕ) (rest : List ℕ) → field < 2 ^ 32 → field_in (field_bytes field ++ rest) ≡ field
+pub field_of_bytes : (field : ℕ) (rest : List ℕ) → field < 2 ^ 32 → field_in (field_bytes field ++ rest) ≡ field
 unfolding field_in field_bytes
 field_of_bytes field rest small = omega (arith, small)
 
 -- bytes of a term are those of their field, and the others
-split_bytes : (bytes : List ℕ) → AreTermBytes bytes → bytes ≡ field_bytes (field_in bytes) ++ drop 4 bytes
+pub split_bytes : (bytes : List ℕ) → AreTermBytes bytes → bytes ≡ field_bytes (field_in bytes) ++ drop 4 bytes
 split_bytes bytes are = are.are ∙ ap (λ (field : ℕ). field_bytes field ++ drop 4 bytes) (sym (ap field_in are.are ∙ field_of_bytes are.field (drop 4 bytes) are.small))
 
 -- keys without the field that stands in front of each
@@ -127,7 +127,7 @@ module _ (field : ℕ) where
   dropped_ascends [] all sorted = tt
   dropped_ascends (k ∷ ks) all sorted = (below_dropped k ks all.0 all.1 sorted.0, dropped_ascends ks all.1 sorted.1)
 
-abbrev lies_in : ℕ → List ℕ → Bool
+abbrev pub lies_in : ℕ → List ℕ → Bool
 lies_in field bytes = nat_eq (field_in bytes) field
 
 keys_in : (field : ℕ) (terms : TermIndex) → map (λ (t : TermState). t.key) (terms_in field terms) ≡ map (drop 4) (filter (lies_in field) (keys_of terms))
@@ -185,10 +185,10 @@ none_above k (t ∷ ts) below =
     let apart : bytes_eq k t.0 ≡ false = sym (is_eq-slice_cmp k t.0) ∙ ap is_eq below.0 in
     rw apart (none_above k ts below.1)
 
-found_first : (t : List ℕ × RecorderState) (ts : TermIndex) → lookup (bytes_eq t.0) (t ∷ ts) ≡ Some t.1
+pub found_first : (t : List ℕ × RecorderState) (ts : TermIndex) → lookup (bytes_eq t.0) (t ∷ ts) ≡ Some t.1
 found_first t ts = rw (bytes_same t.0) refl
 
-found_later : (bytes : List ℕ) (t : List ℕ × RecorderState) (ts : TermIndex) → bytes_eq bytes t.0 ≡ false → lookup (bytes_eq bytes) (t ∷ ts) ≡ lookup (bytes_eq bytes) ts
+pub found_later : (bytes : List ℕ) (t : List ℕ × RecorderState) (ts : TermIndex) → bytes_eq bytes t.0 ≡ false → lookup (bytes_eq bytes) (t ∷ ts) ≡ lookup (bytes_eq bytes) ts
 found_later bytes t ts other = rw other refl
 
 -- what holds of each recorder by its term holds of all terms, where these ascend
