@@ -97,6 +97,19 @@ some_occurred field key ts some = by_case (occurs field key ts) refl
     by_case true is = is
     by_case false is = absurd (omega (arith, some, ap (λ (us : List IndexToken). length (grouped us)) (none_occurs field key ts is)))
 
+some_pending : (r : RecorderState) → IsSome r.pending → 0 < length (entries_in r)
+some_pending r opened = by_case r.pending refl
+  where
+    by_case : (o : Option Entry) → r.pending ≡ o → 0 < length (entries_in r)
+    by_case None is = absurd (true≢false (sym (subst IsSome is opened)))
+    by_case (Some e) is = rw is (omega (arith, length-append r.closed (e ∷ [])))
+
+-- a recorder with the postings of a key tells that it occurred
+pub recorder_occurred : (mode : IndexRecordOption) (field : ℕ) (key : List ℕ) (ts : List IndexToken) (r : RecorderState) → HasPostings (kind_of mode (tokens_at field key ts)) (tokens_at field key ts) r → IsTrue (occurs field key ts)
+recorder_occurred mode field key ts r has =
+    let es = grouped (tokens_at field key ts) in
+    some_occurred field key ts (subst (λ (n : ℕ). 0 < n) (ap length has.entries ∙ length-map es (cut_entry (kind_of mode (tokens_at field key ts)))) (some_pending r has.opened))
+
 module _ (law : ReadsEntriesBack) (uncounted : ReadsUncountedTermBack) where
   same_kind : (requested : IndexRecordOption) (es : List Entry) (s : TermState) → entries_in s.recorder ≡ map (cut_entry s.recorder.option) es → IsTold s.recorder.option s → IsWritable s → 0 < length es
       → list_read s.recorder.option requested (written_of s.recorder.option s) ≡ Ok (map (cut_entry (downgrade s.recorder.option requested)) es)
@@ -136,13 +149,6 @@ module _ (law : ReadsEntriesBack) (uncounted : ReadsUncountedTermBack) where
       by_case : (b : Bool) → t.of_text ≡ b → (kind_of mode (t ∷ ts) ≡ mode) ⊎ (kind_of mode (t ∷ ts) ≡ Basic)
       by_case true is = rw is (inl refl)
       by_case false is = rw is (inr refl)
-
-  some_pending : (r : RecorderState) → IsSome r.pending → 0 < length (entries_in r)
-  some_pending r opened = by_case r.pending refl
-    where
-      by_case : (o : Option Entry) → r.pending ≡ o → 0 < length (entries_in r)
-      by_case None is = absurd (true≢false (sym (subst IsSome is opened)))
-      by_case (Some e) is = rw is (omega (arith, length-append r.closed (e ∷ [])))
 
   -- what is kept of a key holds its postings
   pub holds_term : (mode : IndexRecordOption) (field : ℕ) (key postings positions : List ℕ) (ts : List IndexToken) (s : TermState) (info : TermInfo)

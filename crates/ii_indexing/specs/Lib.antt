@@ -1,4 +1,5 @@
 pub mod FieldParts
+pub mod HeldBodies
 pub mod IndexCalls
 pub mod IndexedTerms
 pub mod Indexer
