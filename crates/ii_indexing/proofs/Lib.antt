@@ -2,6 +2,7 @@ pub mod ByFieldLemmas
 pub mod CallLaws
 pub mod DocumentLaws
 pub mod FieldLists
+pub mod HeldBodies
 pub mod HeldFields
 pub mod HoldLaws
 pub mod PartLemmas

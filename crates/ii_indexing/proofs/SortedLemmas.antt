@@ -225,7 +225,7 @@ all_mapped P Q f (x ∷ xs) all = (f x all.0, all_mapped P Q f xs all.1)
 pub fields_known : (n : ℕ) (terms : TermIndex) → AllByRecursion (λ (t : List ℕ × RecorderState). MayBeWritten n t.0 t.1) terms → AllByRecursion (λ (t : List ℕ × RecorderState). field_in t.0 < n) terms
 fields_known n terms all = all_mapped (λ (t : List ℕ × RecorderState). MayBeWritten n t.0 t.1) (λ t. field_in t.0 < n) (λ t may. may.known) terms all
 
-kept_writable : (n field : ℕ) (terms : TermIndex) → AllByRecursion (λ (t : List ℕ × RecorderState). MayBeWritten n t.0 t.1) terms → AllByRecursion IsWritable (terms_in field terms)
+pub kept_writable : (n field : ℕ) (terms : TermIndex) → AllByRecursion (λ (t : List ℕ × RecorderState). MayBeWritten n t.0 t.1) terms → AllByRecursion IsWritable (terms_in field terms)
 kept_writable n field [] all = tt
 kept_writable n field (t ∷ ts) all = by_case (lies_in field t.0) refl (kept_writable n field ts all.1)
   where
