@@ -1,5 +1,5 @@
 -- The bodies of all fields hold their tokens.
-use Rattle.std.proofs.Common.{◌≡◌, ℕ, zero, suc, ◌+◌, ◌≤◌, ◌<◌, ◌^◌, ◌==◌, Bool, true, false, List, [], ◌∷◌, ◌++◌, length, map, Option, Some, None, refl, sym, ap, ◌∙◌, subst, arith, true≢false, nat_eq, nat_lt}
+use Rattle.std.proofs.Common.{zero-add, ◌≡◌, ℕ, zero, suc, ◌+◌, ◌≤◌, ◌<◌, ◌^◌, ◌==◌, Bool, true, false, List, [], ◌∷◌, ◌++◌, length, map, Option, Some, None, refl, sym, ap, ◌∙◌, subst, arith, true≢false, nat_eq, nat_lt}
 use Rattle.std.specs.Prelude.{filter, is_some, slice_index_or}
 use Rattle.std.specs.List.{AllByRecursion, flat_map, range_with_len}
 use Rattle.std.specs.List.Sorted.{IsStrictlySortedBy}
@@ -19,9 +19,16 @@ use Rattle.ii_index.specs.Tokens.{IndexToken}
 use Rattle.ii_recorder.specs.Pushed.{ReadsEntriesBack}
 use Rattle.ii_recorder.specs.Recorded.{RecorderState}
 use Rattle.ii_indexing.specs.FieldParts.{FieldPart, HoldsPart, bodies_of, first_parts, parts_of, positions_body, postings_body, terms_body, tokens_in}
-use Rattle.ii_indexing.specs.IndexingContext.{TermIndex}
+use Rattle.std.specs.Prelude.{MatchOption}
+use Rattle.ii_base.specs.declared.schema.index_record_option.IndexRecordOption.{IndexRecordOption}
+use Rattle.ii_indexing.specs.HeldBodies.{BodiesHold, HaveTokens, WroteTokens}
+use Rattle.ii_indexing.specs.IndexingTerm.{AreTermBytes, field_bytes}
+use Rattle.ii_indexing.specs.Records.{HasPostings}
+use Rattle.ii_indexing.proofs.HeldFields.{IsKnown, all_known, each_found, found_in, holds_field, some_terms, some_tokens}
+use Rattle.ii_indexing.proofs.SortedLemmas.{kept_writable}
+use Rattle.ii_indexing.specs.IndexingContext.{TermIndex, recorder_of}
 use Rattle.ii_indexing.specs.PostingsWriter.{PostingsWriterState}
-use Rattle.ii_indexing.specs.SortedTerms.{TermState, terms_in}
+use Rattle.ii_indexing.specs.SortedTerms.{MayBeWritten, TermState, terms_in}
 use Rattle.ii_indexing.proofs.PartLemmas.{part_of}
 
 module _ (entries : List Entry) (writers : List PostingsWriterState) (lists : List (List TermState)) where
@@ -110,3 +117,71 @@ module _ (entries : List Entry) (writers : List PostingsWriterState) (lists : Li
   -- the bodies of a field that was written hold its terms
   pub part_held : (field n : ℕ) → field < n → 0 < length (list_at field) → AllByRecursion (HoldsPart entries) (first_parts entries writers lists n) → HoldsPart entries (own_part field)
   part_held field n inside some all = held_from field 0 n (omega (arith)) (omega (arith, inside)) some all
+
+none_kept : (field n : ℕ) (ts : List IndexToken) → AllByRecursion (λ (t : IndexToken). t.field < n) ts → n ≤ field → length (filter (λ (t : IndexToken). t.field == field) ts) ≡ 0
+none_kept field n [] known high = refl
+none_kept field n (t ∷ ts) known high =
+    let other : nat_eq t.field field ≡ false = ne_eqb t.field field (λ e. absurd (omega (arith, e, known.0, high))) in
+    rw other (none_kept field n ts known.1 high)
+
+count_none : (field n : ℕ) (ts : List IndexToken) → AllByRecursion (λ (t : IndexToken). t.field < n) ts → n ≤ field → field_count field ts ≡ 0
+count_none field n ts known high = sym (length-filter (λ (t : IndexToken). t.field == field) ts) ∙ none_kept field n ts known high
+
+-- What is known of a sorted context that was written, and of its tokens.
+pub record IsWritten (entries : List Entry) (writers : List PostingsWriterState) (sorted : TermIndex) (ts : List IndexToken) : Type 0 where
+  pub few : length entries < 2 ^ 32
+  pub whole : AllByRecursion AreTermBytes (keys_of sorted)
+  pub ascending : IsStrictlySortedBy (slice_cmp nat_cmp) (keys_of sorted)
+  pub may : AllByRecursion (λ (t : List ℕ × RecorderState). MayBeWritten (length entries) t.0 t.1) sorted
+  pub tokens : HaveTokens entries sorted writers ts
+
+module _ (law : ReadsEntriesBack) (uncounted : ReadsUncountedTermBack) (entries : List Entry) (writers : List PostingsWriterState) (sorted : TermIndex) (ts : List IndexToken) (w : IsWritten entries writers sorted ts) where
+  abbrev n : ℕ
+  n = length entries
+
+  abbrev lists : List (List TermState)
+  lists = map (λ (field : ℕ). terms_in field sorted) (range_with_len 0 n)
+
+  abbrev mode_of : ℕ → IndexRecordOption
+  mode_of field = option_of entries field
+
+  list_is : (field : ℕ) → field < n → slice_index_or lists field [] ≡ terms_in field sorted
+  list_is field inside = get_or-map-range_with_len (λ (f : ℕ). terms_in f sorted) 0 n field field [] inside (zero-add field)
+
+  fits : (field : ℕ) → field < n → field < 2 ^ 32
+  fits field inside = omega (arith, inside, w.few)
+
+  records_in : (field : ℕ) → field < n → (key : List ℕ) → MatchOption (recorder_of sorted (field_bytes field ++ key)) (tokens_at field key ts ≡ []) (HasPostings (kind_of (mode_of field) (tokens_at field key ts)) (tokens_at field key ts))
+  records_in field inside key = w.tokens.records field key (fits field inside)
+
+  module _ (held : AllByRecursion (HoldsPart entries) (first_parts entries writers lists n)) where
+    part_is_held : (field : ℕ) → field < n → 0 < length (terms_in field sorted) → HoldsPart entries (part_of entries field (tokens_in writers field) (terms_in field sorted))
+    part_is_held field inside some =
+        let here = list_is field inside in
+        subst (λ (l : List TermState). HoldsPart entries (part_of entries field (tokens_in writers field) l)) here
+          (part_held entries writers lists field n inside (subst (λ (l : List TermState). 0 < length l) (sym here) some) held)
+
+    known_in : (field : ℕ) → field < n → AllByRecursion (IsKnown (mode_of field) field sorted) (terms_in field sorted)
+    known_in field inside = by_case (terms_in field sorted) refl
+      where
+        by_case : (l : List TermState) → terms_in field sorted ≡ l → AllByRecursion (IsKnown (mode_of field) field sorted) (terms_in field sorted)
+        by_case [] is = subst (AllByRecursion (IsKnown (mode_of field) field sorted)) (sym is) tt
+        by_case (t ∷ us) is =
+            let some : 0 < length (terms_in field sorted) = subst (λ (l : List TermState). 0 < length l) (sym is) (omega (arith)) in
+            all_known (mode_of field) field sorted (terms_in field sorted) (found_in field sorted sorted w.whole (each_found sorted w.ascending)) (kept_writable n field sorted w.may) (part_is_held field inside some).told
+
+    present_own : (body : FieldPart → Body) (same : (p : FieldPart) → (body p).field ≡ p.field) (field : ℕ) → field < n → is_some (own_body entries writers lists body same field (terms_in field sorted)) ≡ nat_lt 0 (field_count field ts)
+    present_own body same field inside = by_case (terms_in field sorted) refl
+      where
+        by_case : (l : List TermState) → terms_in field sorted ≡ l → is_some (own_body entries writers lists body same field (terms_in field sorted)) ≡ nat_lt 0 (field_count field ts)
+        by_case [] is = rw is (sym (count_zero (field_count field ts) refl))
+          where
+            count_zero : (m : ℕ) → field_count field ts ≡ m → nat_lt 0 (field_count field ts) ≡ false
+            count_zero zero none = rw none refl
+            count_zero (suc m) some =
+                let terms = some_terms law uncounted (mode_of field) field (fits field inside) sorted ts (records_in field inside) (omega (arith, some)) in
+                absurd (omega (arith, terms, ap length is))
+        by_case (t ∷ us) is =
+            let some : 0 < length (terms_in field sorted) = subst (λ (l : List TermState). 0 < length l) (sym is) (omega (arith)) in
+            let count = some_tokens law uncounted (mode_of field) field (fits field inside) sorted ts (records_in field inside) (known_in field inside) some in
+            rw is (sym (lt-ltb 0 (field_count field ts) count))
