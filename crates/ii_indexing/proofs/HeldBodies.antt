@@ -185,3 +185,52 @@ module _ (law : ReadsEntriesBack) (uncounted : ReadsUncountedTermBack) (entries 
             let some : 0 < length (terms_in field sorted) = subst (λ (l : List TermState). 0 < length l) (sym is) (omega (arith)) in
             let count = some_tokens law uncounted (mode_of field) field (fits field inside) sorted ts (records_in field inside) (known_in field inside) some in
             rw is (sym (lt-ltb 0 (field_count field ts) count))
+
+    has_field : (body : FieldPart → Body) (same : (p : FieldPart) → (body p).field ≡ p.field) (field : ℕ) → HasField field (map body (first_parts entries writers lists n)) ts
+    has_field body same field = by_case (nat_lt field n) refl
+      where
+        by_case : (b : Bool) → nat_lt field n ≡ b → HasField field (map body (first_parts entries writers lists n)) ts
+        by_case true is =
+            let inside = ltb-true field n is in
+            ap is_some (own_found entries writers lists body same field n inside ∙ ap (own_body entries writers lists body same field) (list_is field inside)) ∙ present_own body same field inside
+        by_case false is =
+            let outside : n ≤ field = ltb-false field n is in
+            ap is_some (none_found entries writers lists body same field n outside) ∙ sym (ap (nat_lt 0) (count_none field n ts w.tokens.known outside))
+
+    own_some : (body : FieldPart → Body) (same : (p : FieldPart) → (body p).field ≡ p.field) (field : ℕ) (l : List TermState) (bytes : List ℕ) → own_body entries writers lists body same field l ≡ Some bytes
+        → (0 < length l) × ((body (part_of entries field (tokens_in writers field) l)).bytes ≡ bytes)
+    own_some body same field [] bytes is = absurd (cc)
+    own_some body same field (t ∷ us) bytes is = let found : (body (part_of entries field (tokens_in writers field) (t ∷ us))).bytes ≡ bytes = cc in (omega (arith), found)
+
+    body_is : (body : FieldPart → Body) (same : (p : FieldPart) → (body p).field ≡ p.field) (field : ℕ) (bytes : List ℕ) → field < n → body_of field (map body (first_parts entries writers lists n)) ≡ Some bytes
+        → (0 < length (terms_in field sorted)) × ((body (part_of entries field (tokens_in writers field) (terms_in field sorted))).bytes ≡ bytes)
+    body_is body same field bytes inside found =
+        own_some body same field (terms_in field sorted) bytes (sym (ap (own_body entries writers lists body same field) (list_is field inside)) ∙ sym (own_found entries writers lists body same field n inside) ∙ found)
+
+    held_fields : (field : ℕ) (t p q : List ℕ) → body_of field (map (terms_body entries) (first_parts entries writers lists n)) ≡ Some t → body_of field (map (postings_body entries) (first_parts entries writers lists n)) ≡ Some p
+        → body_of field (map (positions_body entries) (first_parts entries writers lists n)) ≡ Some q → HoldsField (mode_of field) field t p q ts
+    held_fields field t p q at_terms at_postings at_positions = by_case (nat_lt field n) refl
+      where
+        inside_holds : field < n → HoldsField (mode_of field) field t p q ts
+        inside_holds inside =
+            let terms = body_is (terms_body entries) (λ f. refl) field t inside at_terms in
+            let postings = body_is (postings_body entries) (λ f. refl) field p inside at_postings in
+            let positions = body_is (positions_body entries) (λ f. refl) field q inside at_positions in
+            let own = part_of entries field (tokens_in writers field) (terms_in field sorted) in
+            let holds = holds_field law uncounted (mode_of field) field (fits field inside) sorted ts (records_in field inside) (tokens_in writers field) (bodies_of entries own) (w.tokens.counted field inside)
+                  (part_is_held field inside terms.0).terms (known_in field inside) in
+            subst (λ (bytes : List ℕ). HoldsField (mode_of field) field bytes p q ts) terms.1
+              (subst (λ (bytes : List ℕ). HoldsField (mode_of field) field (bodies_of entries own).terms bytes q ts) postings.1
+                (subst (λ (bytes : List ℕ). HoldsField (mode_of field) field (bodies_of entries own).terms (bodies_of entries own).postings bytes ts) positions.1 holds))
+        by_case : (b : Bool) → nat_lt field n ≡ b → HoldsField (mode_of field) field t p q ts
+        by_case true is = inside_holds (ltb-true field n is)
+        by_case false is =
+            let none = none_found entries writers lists (terms_body entries) (λ f. refl) field n (ltb-false field n is) in
+            absurd (cc)
+
+    -- the bodies of all fields hold the tokens
+    pub bodies_hold : BodiesHold mode_of (map (terms_body entries) (first_parts entries writers lists n)) (map (postings_body entries) (first_parts entries writers lists n)) (map (positions_body entries) (first_parts entries writers lists n)) ts
+    bodies_hold = record {
+      present = λ field. (has_field (terms_body entries) (λ f. refl) field, has_field (postings_body entries) (λ f. refl) field, has_field (positions_body entries) (λ f. refl) field);
+      fields = held_fields;
+    }
