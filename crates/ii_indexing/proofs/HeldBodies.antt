@@ -1,5 +1,5 @@
 -- The bodies of all fields hold their tokens.
-use Rattle.std.proofs.Common.{zero-add, ◌≡◌, ℕ, zero, suc, ◌+◌, ◌≤◌, ◌<◌, ◌^◌, ◌==◌, Bool, true, false, List, [], ◌∷◌, ◌++◌, length, map, Option, Some, None, refl, sym, ap, ◌∙◌, subst, arith, true≢false, nat_eq, nat_lt}
+use Rattle.std.proofs.Common.{Result, Ok, Err, OnOk, zero-add, ◌≡◌, ℕ, zero, suc, ◌+◌, ◌≤◌, ◌<◌, ◌^◌, ◌==◌, Bool, true, false, List, [], ◌∷◌, ◌++◌, length, map, Option, Some, None, refl, sym, ap, ◌∙◌, subst, arith, true≢false, nat_eq, nat_lt}
 use Rattle.std.specs.Prelude.{filter, is_some, slice_index_or}
 use Rattle.std.specs.List.{AllByRecursion, flat_map, range_with_len}
 use Rattle.std.specs.List.Sorted.{IsStrictlySortedBy}
@@ -18,17 +18,18 @@ use Rattle.ii_index.specs.Postings.{field_count, kind_of, tokens_at}
 use Rattle.ii_index.specs.Tokens.{IndexToken}
 use Rattle.ii_recorder.specs.Pushed.{ReadsEntriesBack}
 use Rattle.ii_recorder.specs.Recorded.{RecorderState}
-use Rattle.ii_indexing.specs.FieldParts.{FieldPart, HoldsPart, bodies_of, first_parts, parts_of, positions_body, postings_body, terms_body, tokens_in}
+use Rattle.ii_indexing.specs.FieldParts.{FieldPart, HoldsPart, WroteTerms, bodies_of, first_parts, parts_of, positions_body, postings_body, terms_body, tokens_in}
 use Rattle.std.specs.Prelude.{MatchOption}
 use Rattle.ii_base.specs.declared.schema.index_record_option.IndexRecordOption.{IndexRecordOption}
 use Rattle.ii_indexing.specs.HeldBodies.{BodiesHold, HaveTokens, WroteTokens}
 use Rattle.ii_indexing.specs.IndexingTerm.{AreTermBytes, field_bytes}
 use Rattle.ii_indexing.specs.Records.{HasPostings}
 use Rattle.ii_indexing.proofs.HeldFields.{IsKnown, all_known, each_found, found_in, holds_field, some_terms, some_tokens}
-use Rattle.ii_indexing.proofs.SortedLemmas.{kept_writable}
+use Rattle.ii_indexing.proofs.SortedLemmas.{each_may_be, kept_writable}
+use Rattle.ii_recorder.specs.IndexSerializer.{IndexSerializerState}
 use Rattle.ii_indexing.specs.IndexingContext.{TermIndex, recorder_of}
 use Rattle.ii_indexing.specs.PostingsWriter.{PostingsWriterState}
-use Rattle.ii_indexing.specs.SortedTerms.{MayBeWritten, TermState, terms_in}
+use Rattle.ii_indexing.specs.SortedTerms.{AllMayBeWritten, MayBeWritten, TermState, terms_in}
 use Rattle.ii_indexing.proofs.PartLemmas.{part_of}
 
 module _ (entries : List Entry) (writers : List PostingsWriterState) (lists : List (List TermState)) where
@@ -234,3 +235,23 @@ module _ (law : ReadsEntriesBack) (uncounted : ReadsUncountedTermBack) (entries 
       present = λ field. (has_field (terms_body entries) (λ f. refl) field, has_field (postings_body entries) (λ f. refl) field, has_field (positions_body entries) (λ f. refl) field);
       fields = held_fields;
     }
+
+sorted_tokens : (entries : List Entry) (terms sorted : TermIndex) (writers : List PostingsWriterState) (ts : List IndexToken) → ((bytes : List ℕ) → recorder_of sorted bytes ≡ recorder_of terms bytes) → HaveTokens entries terms writers ts → HaveTokens entries sorted writers ts
+sorted_tokens entries terms sorted writers ts same has = record {
+  records = λ field key small. subst (λ (o : Option RecorderState). MatchOption o (tokens_at field key ts ≡ []) (HasPostings (kind_of (option_of entries field) (tokens_at field key ts)) (tokens_at field key ts))) (sym (same (field_bytes field ++ key))) (has.records field key small);
+  counted = has.counted;
+  known = has.known;
+}
+
+-- how a call ends that writes the terms of a context with tokens
+pub wrote_tokens : {A E : Type 0} (result : Result A E) → ReadsEntriesBack → ReadsUncountedTermBack → (old new : IndexSerializerState) (writers : List PostingsWriterState) (terms sorted : TermIndex) (ts : List IndexToken) → length old.entries < 2 ^ 32
+    → ((bytes : List ℕ) → recorder_of sorted bytes ≡ recorder_of terms bytes) → IsStrictlySortedBy (slice_cmp nat_cmp) (keys_of sorted) → AllByRecursion AreTermBytes (keys_of sorted) → AllMayBeWritten (length old.entries) terms → HaveTokens old.entries terms writers ts
+    → OnOk result (WroteTerms old new writers terms sorted) → OnOk result (WroteTokens old new ts)
+wrote_tokens (Ok x) law uncounted old new writers terms sorted ts few same ascending whole may has wrote =
+    let w : IsWritten old.entries writers sorted ts = record { few = few; whole = whole; ascending = ascending; may = each_may_be (length old.entries) terms sorted same ascending may; tokens = sorted_tokens old.entries terms sorted writers ts same has } in
+    record {
+      fs = first_parts old.entries writers (map (λ (field : ℕ). terms_in field sorted) (range_with_len 0 (length old.entries))) (length old.entries);
+      fields = wrote.fields;
+      held = bodies_hold law uncounted old.entries writers sorted ts w wrote.fields.held;
+    }
+wrote_tokens (Err e) law uncounted old new writers terms sorted ts few same ascending whole may has wrote = tt

@@ -15,7 +15,7 @@ use Rattle.ii_base.specs.Schema.{Entry}
 use Rattle.ii_index.specs.Fields.{option_of}
 use Rattle.ii_recorder.specs.IndexBodies.{AddsBodies, IndexBodiesState, LacksField}
 use Rattle.ii_indexing.proofs.SerializeLemmas.{all_pushed}
-use Rattle.ii_indexing.specs.FieldParts.{FieldPart, HasFields, HoldsPart, WroteTerms, bodies_of, first_parts, parts_of, positions_body, postings_body, terms_body, tokens_in}
+use Rattle.ii_indexing.specs.FieldParts.{FieldPart, HasFields, HoldsPart, WroteContext, WroteTerms, bodies_of, first_parts, parts_of, positions_body, postings_body, terms_body, tokens_in}
 use Rattle.std.proofs.lemmas.List.FromFn.{length-map-range_with_len}
 use Rattle.ii_termdict.specs.ReadBack.{AreAscending}
 use Rattle.ii_recorder.specs.IndexSerializer.{IndexSerializerState}
@@ -133,15 +133,18 @@ next_part first entries writers terms n field ts initial new same is at has =
 -- how a call ends that writes the lists of terms of all fields
 pub wrote_terms : {A E : Type 0} (result : Result A E) (old new : IndexSerializerState) (writers : List PostingsWriterState) (terms sorted : TermIndex) (lists : List (List TermState)) (n : ℕ)
     → ((bytes : List ℕ) → recorder_of sorted bytes ≡ recorder_of terms bytes) → AreAscending (map (λ (t : List ℕ × RecorderState). t.0) sorted) → lists ≡ map (λ (field : ℕ). terms_in field sorted) (range_with_len 0 n) → n ≡ length old.entries
-    → OnOk result (HasFields old.entries old.bodies new.bodies (first_parts old.entries writers lists (length lists))) → OnOk result (WroteTerms old new writers terms)
+    → OnOk result (HasFields old.entries old.bodies new.bodies (first_parts old.entries writers lists (length lists))) → OnOk result (WroteTerms old new writers terms sorted)
 wrote_terms (Ok x) old new writers terms sorted lists n same ascending are many has =
     let whole : lists ≡ map (λ (field : ℕ). terms_in field sorted) (range_with_len 0 (length old.entries)) = are ∙ ap (λ (m : ℕ). map (λ (field : ℕ). terms_in field sorted) (range_with_len 0 m)) many in
     let count : length lists ≡ length old.entries = ap length whole ∙ length-map-range_with_len (λ (field : ℕ). terms_in field sorted) 0 (length old.entries) in
     record {
-      sorted = sorted;
       same = same;
       ascending = ascending;
       fields = subst (λ (ls : List (List TermState)). HasFields old.entries old.bodies new.bodies (first_parts old.entries writers ls (length old.entries))) whole
         (subst (λ (m : ℕ). HasFields old.entries old.bodies new.bodies (first_parts old.entries writers lists m)) count has);
     }
 wrote_terms (Err e) old new writers terms sorted lists n same ascending are many has = tt
+
+pub wrote_context : {A E : Type 0} (result : Result A E) (old new : IndexSerializerState) (writers : List PostingsWriterState) (terms sorted : TermIndex) → OnOk result (WroteTerms old new writers terms sorted) → OnOk result (WroteContext old new writers terms)
+wrote_context (Ok x) old new writers terms sorted wrote = record { sorted = sorted; wrote = wrote }
+wrote_context (Err e) old new writers terms sorted wrote = tt

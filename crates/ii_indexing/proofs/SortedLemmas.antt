@@ -154,7 +154,7 @@ terms_in_ascend field terms all sorted =
     subst (IsStrictlySortedBy (slice_cmp nat_cmp)) (sym (keys_in field terms))
       (dropped_ascends field (filter (lies_in field) (keys_of terms)) (all_in field (keys_of terms) all) (IsStrictlySortedBy-filter (slice_cmp nat_cmp) (lies_in field) (keys_of terms) sorted))
 
-each_key : {V : Type 0} (f : V → RecorderState) {A : Type 0} (es : List (Vec ℕ A × V)) → All (λ (k : Vec ℕ A). AreTermBytes k.items) (keys_of es) → AllByRecursion AreTermBytes (keys_of (map (λ (e : Vec ℕ A × V). (e.0.items, f e.1)) es))
+pub each_key : {V : Type 0} (f : V → RecorderState) {A : Type 0} (es : List (Vec ℕ A × V)) → All (λ (k : Vec ℕ A). AreTermBytes k.items) (keys_of es) → AllByRecursion AreTermBytes (keys_of (map (λ (e : Vec ℕ A × V). (e.0.items, f e.1)) es))
 each_key f [] all = tt
 each_key f (e ∷ es) all = (all 0 e.0 (omega (arith)), each_key f es (All-tail (λ (k : Vec ℕ _). AreTermBytes k.items) e.0 (keys_of es) all))
 

@@ -67,9 +67,13 @@ first_parts entries writers terms n = flat_map (λ (field : ℕ). parts_of entri
 abbrev pub AreShortNorms : List Body → Type 0
 AreShortNorms norms = (field : ℕ) → MatchOption (body_of field norms) ⊤ (λ ids. length ids < 2 ^ 32)
 
--- The terms of a context were written, those of each field in the order of their keys.
-pub record WroteTerms (old new : IndexSerializerState) (writers : List PostingsWriterState) (terms : TermIndex) : Type 0 where
-  pub sorted : TermIndex
+-- The terms of a context were written in this order, those of each field in the order of their keys.
+pub record WroteTerms (old new : IndexSerializerState) (writers : List PostingsWriterState) (terms sorted : TermIndex) : Type 0 where
   pub same : (bytes : List ℕ) → recorder_of sorted bytes ≡ recorder_of terms bytes
   pub ascending : AreAscending (map (λ (t : List ℕ × RecorderState). t.0) sorted)
   pub fields : HasFields old.entries old.bodies new.bodies (first_parts old.entries writers (map (λ (field : ℕ). terms_in field sorted) (range_with_len 0 (length old.entries))) (length old.entries))
+
+-- So they were in some order.
+pub record WroteContext (old new : IndexSerializerState) (writers : List PostingsWriterState) (terms : TermIndex) : Type 0 where
+  pub sorted : TermIndex
+  pub wrote : WroteTerms old new writers terms sorted

@@ -8,7 +8,9 @@ ghost use Rattle.ii_recorder.specs.IndexBodies.{AddsBodies, IndexBodiesState, La
 ghost use Rattle.ii_recorder.specs.IndexSerializer.{IsWriting};
 ghost use Rattle.ii_recorder.specs.Terms.{WrittenTerm, field_bodies};
 ghost use Rattle.ii_recorder.specs.HeldTerms.{HoldsTerms};
-ghost use Rattle.ii_indexing.specs.FieldParts.{AreShortNorms, FieldPart, HasFields, WroteTerms, first_parts, parts_of, tokens_in};
+ghost use Rattle.ii_indexing.specs.FieldParts.{AreShortNorms, FieldPart, HasFields, WroteContext, first_parts, parts_of, tokens_in};
+ghost use Rattle.ii_index.specs.Tokens.{IndexToken};
+ghost use Rattle.ii_indexing.specs.HeldBodies.{HaveTokens, WroteTokens};
 ghost use Rattle.ii_indexing.specs.SortedTerms.{AllMayBeWritten, IsTold, IsWritable, TermState, state_of, written_of};
 
 use crate::indexing_context::IndexingContext;
@@ -17,6 +19,8 @@ use crate::postings_writer::PostingsWriter;
 use crate::sorted_terms::{FieldTerms, TermOfField};
 use ii_base::{Fault, Field, Schema};
 use ii_fieldnorm::{FieldNormReader, FieldNormReaders};
+use ii_layout::written::reads_uncounted_term_back;
+use ii_recorder::held_terms::reads_entries_back;
 use ii_recorder::{AnyRecorder, BufferLender, FieldSerializer, InvertedIndexSerializer, Recorder};
 use std::alloc::Global;
 use std::io::Write;
@@ -166,9 +170,12 @@ pub fn serialize_postings<W: Write>(
     requires norms { AreShortNorms fieldnorm_readers.now }
     requires terms { AllMayBeWritten (length schema.now) ctx }
     ensures entries { serializer.new.entries ≡ serializer.old.entries }
-    ensures wrote { OnOk result (WroteTerms serializer.old serializer.new per_field_postings_writers.now ctx) }
+    ensures wrote { OnOk result (WroteContext serializer.old serializer.new per_field_postings_writers.now ctx) }
+    ensures holds { (ts : List IndexToken) → HaveTokens serializer.old.entries ctx per_field_postings_writers.now ts → OnOk result (WroteTokens serializer.old serializer.new ts) }
     ensures closes { OnOk result (serializer.new.closed ≡ serializer.old.closed) }
 {
+    reads_entries_back();
+    reads_uncounted_term_back();
     let mut ctx = ctx;
     ctx.sort()?;
     let terms = ctx.terms_by_field(alloc, schema.num_fields())?;

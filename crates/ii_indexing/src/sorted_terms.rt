@@ -3,7 +3,7 @@ ghost use Rattle.std.specs.List.{AllByRecursion, range_with_len};
 ghost use Rattle.ii_recorder.specs.AnyRecorder.{any_state};
 ghost use Rattle.ii_termdict.specs.ReadBack.{AreAscending};
 ghost use Rattle.ii_indexing.specs.IndexingContext.{recorder_of};
-ghost use Rattle.ii_indexing.specs.IndexingTerm.{field_in};
+ghost use Rattle.ii_indexing.specs.IndexingTerm.{AreTermBytes, field_in};
 ghost use Rattle.ii_indexing.specs.SortedTerms.{IsTermBelow, TermState, seen, state_of, terms_in};
 
 use crate::IndexingTermRef;
@@ -18,6 +18,7 @@ impl IndexingContext {
     // Puts the terms in the order of their bytes.
     pub(crate) fn sort(&mut self) -> Result<(), Fault>
         ensures ascending { OnOk result (AreAscending (map (λ t. t.0) self.new)) }
+        ensures whole { OnOk result (AllByRecursion AreTermBytes (map (λ t. t.0) self.new)) }
         ensures same { (bytes : List ℕ) → recorder_of self.new bytes ≡ recorder_of self.old bytes }
         ensures only { IfErr result (λ e. e ≡ Fault.OutOfMemory) }
     {

@@ -1,7 +1,7 @@
 use Rattle.std.proofs.lemmas.Map.Views.{All-map-IsPermutation}
 use Rattle.ii_recorder.specs.AnyRecorder.{any_state}
 use Rattle.ii_indexing.specs.IndexingTerm.{AreTermBytes}
-use Rattle.ii_indexing.proofs.SortedLemmas.{seen_ascends, seen_lookup, sorted_distinct}
+use Rattle.ii_indexing.proofs.SortedLemmas.{each_key, seen_ascends, seen_lookup, sorted_distinct}
 use Rattle.ii_indexing.proofs.indexing_context.IndexingContext.sort.Goals as goal
 
 pub invariant_of-self-2 : goal.invariant_of-self-2
@@ -14,3 +14,8 @@ returns-clause-ascending c =
 
 pub returns-clause-same : goal.returns-clause-same
 returns-clause-same c = rw (← c.self.view_is) (seen_lookup (λ k. k.items) any_state c.self.inside.term_index.entries c.sort_unstable_keys.new.self.entries c.sort_unstable_keys.ensures.reordered.0 c.sort_unstable_keys.ensures.unique)
+
+pub returns-clause-whole : goal.returns-clause-whole
+returns-clause-whole c =
+    each_key any_state c.sort_unstable_keys.new.self.entries
+      (All-map-IsPermutation (λ e. e.0) (λ k. AreTermBytes k.items) c.self.inside.term_index.entries c.sort_unstable_keys.new.self.entries c.sort_unstable_keys.ensures.reordered.0 c.self.invariant)
