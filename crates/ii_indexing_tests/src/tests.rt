@@ -1,11 +1,11 @@
-ghost use Rattle.std.specs.Prelude.{◌≡◌, ◌×◌, ◌<◌, ◌≤◌, true, false, IfOk, OnErr, OnOk};
+ghost use Rattle.std.specs.Prelude.{◌≡◌, ◌<◌, ◌≤◌, true, false, IfOk, OnErr, OnOk};
 ghost use Rattle.ii_base.specs.declared.schema.value_type.ValueType.TheVariants as types;
+ghost use Rattle.ii_base.specs.ValueTypes.{is_plain};
 ghost use Rattle.ii_indexing.specs.IndexCalls.{Takes};
-ghost use Rattle.ii_indexing.specs.Indexer.{IndexerState};
 
 use ii_base::{
     AsciiTokenizer, Fault, Field, FieldEntry, IndexRecordOption, LimitName, Schema, Token,
-    TokenList,
+    TokenList, ValueType,
 };
 use ii_indexing::{
     IndexCall, Indexer, IndexingContext, IndexingPosition, IndexingTerm, PostingsWriter,
@@ -149,6 +149,7 @@ fn a_refused_indexer_has_failed(rt: HostRuntime) -> Result<(), Fail> {
     let last = list(alloc, token(alloc, 4294967295, 0)?)?;
     let next = list(alloc, token(alloc, 0, 1)?)?;
     let Err(fault) = put(&mut indexer, 0, last) else {
+        assert!(rt; false);
         return Ok(());
     };
     assert!(rt; fault == Fault::Limit(LimitName::Position));
@@ -174,5 +175,48 @@ fn positions_begin_anew_in_a_document(rt: HostRuntime) -> Result<(), Fail> {
     let mut indexer = texts(alloc, IndexRecordOption::WithFreqsAndPositions)?;
     put(&mut indexer, 0, list(alloc, token(alloc, 5, 1)?)?)?;
     put(&mut indexer, 8, list(alloc, token(alloc, 0, 1)?)?)?;
+    Ok(())
+}
+
+// An indexer of a document with one field of values.
+fn values(alloc: Global, value_type: ValueType) -> Result<Indexer, Fault>
+    requires { is_plain value_type ≡ true }
+    ensures ready { IfOk result (λ i. (i.failed ≡ false) × (i.last_doc ≡ 0) × (i.num_docs ≡ 1)) }
+    ensures takes { IfOk result (λ i. Takes i.schema 0 value_type) }
+{
+    let mut entries = Vec::new(alloc);
+    let name = String::from_str(alloc, "value")?;
+    entries.push(FieldEntry::value(name, value_type, true))?;
+    Indexer::new(alloc, Schema::new(entries), 1)
+}
+
+#[test]
+fn numbers_are_taken(rt: HostRuntime) -> Result<(), Fail> {
+    let field = Field::from_field_id(0);
+    let mut unsigned = values(rt.alloc(), ValueType::U64)?;
+    unsigned.index(IndexCall::U64(0, field, 5), &AsciiTokenizer)?;
+    let mut signed = values(rt.alloc(), ValueType::I64)?;
+    signed.index(IndexCall::I64(0, field, -5), &AsciiTokenizer)?;
+    Ok(())
+}
+
+#[test]
+fn other_values_are_taken(rt: HostRuntime) -> Result<(), Fail> {
+    let field = Field::from_field_id(0);
+    let mut truth = values(rt.alloc(), ValueType::Bool)?;
+    truth.index(IndexCall::Bool(0, field, true), &AsciiTokenizer)?;
+    let mut address = values(rt.alloc(), ValueType::IpAddr)?;
+    address.index(IndexCall::Ip(0, field, 1), &AsciiTokenizer)?;
+    let mut bytes = values(rt.alloc(), ValueType::Bytes)?;
+    let value = Vec::from_slice(rt.alloc(), b"abc")?;
+    bytes.index(IndexCall::Bytes(0, field, value), &AsciiTokenizer)?;
+    Ok(())
+}
+
+#[test]
+fn texts_are_taken(rt: HostRuntime) -> Result<(), Fail> {
+    let mut indexer = texts(rt.alloc(), IndexRecordOption::WithFreqsAndPositions)?;
+    let text = String::from_str(rt.alloc(), "a b a")?;
+    indexer.index(IndexCall::Text(3, Field::from_field_id(0), text), &AsciiTokenizer)?;
     Ok(())
 }
