@@ -78,13 +78,13 @@ same_term t field key low high =
     let d = bytes_eq-Decides (field_bytes t.field ++ t.key) (field_bytes field ++ key) in
     both_true (bytes_eq (field_bytes t.field ++ t.key) (field_bytes field ++ key)) (is_at field key t)
     (λ (holds : bytes_eq (field_bytes t.field ++ t.key) (field_bytes field ++ key) ≡ true).
-        let same = d.0 holds in
-        let f = same_field t.field field t.key key low high same in
-        let k = same_key t.field field t.key key f same in
-        rw (eq-eqb t.field field f) ((bytes_eq-Decides t.key key).1 k))
+    let same = d.0 holds in
+    let f = same_field t.field field t.key key low high same in
+    let k = same_key t.field field t.key key f same in
+    rw (eq-eqb t.field field f) ((bytes_eq-Decides t.key key).1 k))
     (λ (holds : is_at field key t ≡ true).
-        let parts = and_parts (t.field == field) (bytes_eq t.key key) holds in
-        d.1 (cc (eqb-true t.field field parts.0, (bytes_eq-Decides t.key key).0 parts.1)))
+    let parts = and_parts (t.field == field) (bytes_eq t.key key) holds in
+    d.1 (cc (eqb-true t.field field parts.0, (bytes_eq-Decides t.key key).0 parts.1)))
 
 pub tokens_at_last : (field : ℕ) (key : List ℕ) (ts : List IndexToken) (t : IndexToken) (b : Bool) → is_at field key t ≡ b → tokens_at field key (ts ++ t ∷ []) ≡ tokens_at field key ts ++ cond b (t ∷ []) []
 tokens_at_last field key ts t true is = tokens_at-append field key ts (t ∷ []) ∙ rw is refl
@@ -112,13 +112,13 @@ records_more kind old new ts t low recorded known field key high = by (is_at fie
         let option = kind t.field t.key in
         let term = field_bytes t.field ++ t.key in
         let found : recorder_of new (field_bytes field ++ key) ≡ Some (recorded_at t.doc t.position (recorder_or_new option old term)) =
-            recorded (field_bytes field ++ key) ∙ ap (λ (b : Bool). cond b (Some (recorded_at t.doc t.position (recorder_or_new option old term))) (recorder_of old (field_bytes field ++ key))) (same_term t field key low high ∙ is) in
+        recorded (field_bytes field ++ key) ∙ ap (λ (b : Bool). cond b (Some (recorded_at t.doc t.position (recorder_or_new option old term))) (recorder_of old (field_bytes field ++ key))) (same_term t field key low high ∙ is) in
         rw (found, tokens_at_last field key ts t true is, sym at, sym same) (recorded_key option (tokens_at t.field t.key ts) t (recorder_of old term) (known t.field t.key low))
     by false is =
         let option = kind t.field t.key in
         let term = field_bytes t.field ++ t.key in
         let found : recorder_of new (field_bytes field ++ key) ≡ recorder_of old (field_bytes field ++ key) =
-            recorded (field_bytes field ++ key) ∙ ap (λ (b : Bool). cond b (Some (recorded_at t.doc t.position (recorder_or_new option old term))) (recorder_of old (field_bytes field ++ key))) (same_term t field key low high ∙ is) in
+        recorded (field_bytes field ++ key) ∙ ap (λ (b : Bool). cond b (Some (recorded_at t.doc t.position (recorder_or_new option old term))) (recorder_of old (field_bytes field ++ key))) (same_term t field key low high ∙ is) in
         rw (found, tokens_at_last field key ts t false is, append-nil (tokens_at field key ts)) (known field key high)
 
 -- each recorder ends by the document that was recorded last
@@ -128,6 +128,7 @@ all_end option doc position term old new recorded ends low bytes = subst (λ (fo
     at_term : (found : Option RecorderState) → MatchOption found ⊤ (EndsBy doc) → EndsBy doc (recorded_at doc position (unwrap_or found (new_recorder option)))
     at_term None none = first_ends option doc position low
     at_term (Some r) h = recorded_ends doc position r h low
+
     by : (b : Bool) → MatchOption (cond b (Some (recorded_at doc position (recorder_or_new option old term))) (recorder_of old bytes)) ⊤ (EndsBy doc)
     by true = at_term (recorder_of old term) (ends term)
     by false = ends bytes

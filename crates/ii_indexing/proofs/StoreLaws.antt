@@ -1,9 +1,11 @@
 -- What is stored of a field once tokens of it are added.
 use Rattle.std.proofs.Common.{◌≡◌, ℕ, zero, suc, ◌+◌, ◌<◌, ◌==◌, Bool, true, false, List, [], ◌∷◌, ◌++◌, map, length, cond, Some, Option, Result, refl, sym, ap, ◌∙◌, subst, arith, append-nil}
-use Rattle.std.specs.Prelude.{slice_get, slice_set}
+use Rattle.std.specs.Prelude.{slice_get, slice_set, if◌then◌else◌, nat_le}
 use Rattle.std.proofs.lemmas.Bool.{eqb-true, eqb-false}
 use Rattle.std.proofs.lemmas.List.Sums.{sum_by-append, sum_by-cons}
 use Rattle.ii_io.specs.declared.faults.Fault.{Fault}
+use Rattle.ii_io.specs.declared.faults.Fault.TheVariants.{Limit}
+use Rattle.ii_io.specs.declared.faults.LimitName.TheVariants as limit
 use Rattle.ii_base.specs.Schema.{Entry}
 use Rattle.ii_base.specs.Words.{Word}
 use Rattle.ii_base.specs.declared.schema.index_record_option.IndexRecordOption.{IndexRecordOption}
@@ -11,11 +13,12 @@ use Rattle.ii_base.specs.declared.schema.index_record_option.IndexRecordOption.T
 use Rattle.ii_index.specs.Tokens.{IndexToken, Piece, kept_words, value_token, word_token}
 use Rattle.ii_index.specs.Postings.{field_count, kind_of, tokens_at}
 use Rattle.ii_indexing.specs.IndexedTerms.{IndexedTermsState, StoresTokens, field_text, field_value, kept_in, value_fault}
-use Rattle.ii_indexing.specs.IndexingContext.{TermIndex, recorder_of}
+use Rattle.ii_recorder.specs.Recorded.{position_fault}
+use Rattle.ii_indexing.specs.IndexingContext.{entry_at, recorder_or_new, TermIndex, recorder_of}
 use Rattle.ii_indexing.specs.IndexingTerm.{field_bytes}
 use Rattle.ii_indexing.specs.PostingsWriter.{HasTokens, PostingsWriterState, subscribe_fault, tokens_counted}
 use Rattle.ii_indexing.specs.Records.{Records}
-use Rattle.ii_indexing.specs.Refusals.{IsRefusedBy}
+use Rattle.ii_indexing.specs.Refusals.{IsRefusedBy, u64_max}
 use Rattle.ii_indexing.proofs.PostingsLaws.{tokens_at-append}
 use Rattle.ii_indexing.proofs.RecordsLaws.{HasKey}
 use Rattle.ii_indexing.proofs.TextLaws.{field_count_more, key_recorder}
@@ -96,13 +99,15 @@ pub text_known : (entries : List Entry) (ts : List IndexToken) (s : IndexedTerms
     → StoresTokens entries s ts → slice_get s.writers field ≡ Some w → (w.option ≡ kept_in entries field) × HasTokens (kept_by entries) (field_text doc field words) s.terms w ts
 text_known entries ts s doc field words w low h found =
     let is : w ≡ record { option = kept_in entries field; total_num_tokens = field_count field ts } = some_inside _ _ (sym found ∙ h.counted field low) in
-    let option : w.option ≡ kept_in entries field = ap (λ (v : PostingsWriterState). v.option) is in
-    (option, record {
-      records = h.records;
-      kinds = λ key. sym option;
-      of_text = λ key. rw option (h.one_kind field key);
-      counted = ap (λ (v : PostingsWriterState). v.total_num_tokens) is;
-    })
+    let option : w.option ≡ kept_in entries field = ap (λ (v : PostingsWriterState). v.option) is in (
+      option,
+      record {
+        records = h.records;
+        kinds = λ key. sym option;
+        of_text = λ key. rw option (h.one_kind field key);
+        counted = ap (λ (v : PostingsWriterState). v.total_num_tokens) is;
+      },
+    )
 
 -- a text was indexed
 pub text_stored : (entries : List Entry) (ts : List IndexToken) (s : IndexedTermsState) (doc field begin : ℕ) (words : List Word) (w : PostingsWriterState) (terms : TermIndex) (after : PostingsWriterState)
@@ -151,7 +156,10 @@ value_refused {T} entries ts s doc field key w result inside low basic h found r
     let is : w ≡ record { option = kept_in entries field; total_num_tokens = field_count field ts } = some_inside _ _ (sym found ∙ h.counted field inside) in
     let at : w ≡ record { option = Basic; total_num_tokens = field_count field ts } = is ∙ ap (λ (o : IndexRecordOption). record { option = o; total_num_tokens = field_count field ts }) basic in
     let known : HasKey Basic (tokens_at field key ts) (recorder_of s.terms (field_bytes field ++ key)) =
-        subst (λ (o : IndexRecordOption). HasKey o (tokens_at field key ts) (recorder_of s.terms (field_bytes field ++ key))) basic (h.records field key low) in
+    subst (λ (o : IndexRecordOption). HasKey o (tokens_at field key ts) (recorder_of s.terms (field_bytes field ++ key))) basic (h.records field key low) in
     let kept = key_recorder Basic (tokens_at field key ts) (recorder_of s.terms (field_bytes field ++ key)) known in
-    let cause : subscribe_fault w doc 0 (field_bytes field ++ key) s.terms ≡ value_fault field ts = rw at (rw kept refl) in
+    let r = recorder_or_new Basic s.terms (field_bytes field ++ key) in
+    let cause : subscribe_fault w doc 0 (field_bytes field ++ key) s.terms ≡ value_fault field ts =
+        ap (λ (v : PostingsWriterState). subscribe_fault v doc 0 (field_bytes field ++ key) s.terms) at
+        ∙ ap (λ (o : IndexRecordOption). if nat_le u64_max (field_count field ts) then Some (Limit limit.Tokens) else position_fault o 0 (entry_at doc r)) kept in
     subst (λ (c : Option Fault). IsRefusedBy c result) cause refused

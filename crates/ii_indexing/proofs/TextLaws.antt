@@ -1,6 +1,6 @@
 -- What indexing a word and a text adds to a context.
 use Rattle.std.proofs.Common.{arith, append-nil, ◌==◌, ◌≤◌, ◌&&◌, ◌||◌, map, length, ◌≡◌, ℕ, ◌+◌, ◌<◌, ◌^◌, Bool, true, false, List, [], ◌∷◌, ◌++◌, Some, None, Option, Ok, Err, Result, refl, sym, ap, ◌∙◌, subst, cond, max, inl, inr, append_assoc, length-append, ⊎_elim, ◌⊎◌}
-use Rattle.std.specs.Prelude.{IfErr, OnOk, drop, slice_get, IsTrue, MatchOption, find, fold,  unwrap_or, ⊤, if◌then◌else◌, nat_le, nat_lt}
+use Rattle.std.specs.Prelude.{IfErr, OnOk, drop, slice_get, IsTrue, MatchOption, find, fold, unwrap_or, ⊤, if◌then◌else◌, nat_le, nat_lt}
 use Rattle.std.proofs.lemmas.Bool.{and_parts, eq-eqb, leb-true}
 use Rattle.std.proofs.lemmas.List.Folds.{find-append}
 use Rattle.std.proofs.lemmas.List.Sums.{fold-append, sum_by-append}
@@ -110,9 +110,9 @@ kept_is kind p begin w s ts low ends h =
     let many = nat_le u64_max (field_count p.field ts) in
     let r = recorder_or_new s.writer.option s.terms (word_bytes p w) in
     let inner : subscribe_fault s.writer p.doc (begin + w.position) (word_bytes p w) s.terms ≡ (if many then Some (Limit limit.Tokens) else fault) =
-        ap (λ (n : ℕ). if nat_le u64_max n then Some (Limit limit.Tokens) else record_fault p.doc (begin + w.position) r) h.counted
-        ∙ ap (λ (o : IndexRecordOption). if many then Some (Limit limit.Tokens) else position_fault o (begin + w.position) (entry_at p.doc r)) option
-        ∙ ap (λ (e : Entry). if many then Some (Limit limit.Tokens) else position_fault s.writer.option (begin + w.position) e) entry in
+    ap (λ (n : ℕ). if nat_le u64_max n then Some (Limit limit.Tokens) else record_fault p.doc (begin + w.position) r) h.counted
+    ∙ ap (λ (o : IndexRecordOption). if many then Some (Limit limit.Tokens) else position_fault o (begin + w.position) (entry_at p.doc r)) option
+    ∙ ap (λ (e : Entry). if many then Some (Limit limit.Tokens) else position_fault s.writer.option (begin + w.position) e) entry in
     three (nat_lt u32_max (word_end begin w)) (nat_le u32_max s.num_tokens) (nat_le u64_max (field_count p.field ts)) (Some (Limit limit.Position)) (Some (Limit limit.Tokens)) fault
     ∙ ap (λ (rest : Option Fault). if nat_lt u32_max (word_end begin w) then Some (Limit limit.Position) else if nat_le u32_max s.num_tokens then Some (Limit limit.Tokens) else rest) (sym inner)
 
@@ -271,7 +271,7 @@ pub word_refused : (p : Piece) (begin : ℕ) (all rest after : List Word) (w : W
     → RefusesWords p begin (kept_words (w ∷ [])) mid fault → RefusesWords p begin (kept_words all) old fault
 word_refused p begin all rest after w old mid fault h is refused =
     let parts : kept_words all ≡ kept_words h.past ++ (kept_words (w ∷ []) ++ kept_words after) =
-        ap kept_words (h.parts ∙ ap (λ (ws : List Word). h.past ++ ws) is) ∙ kept_append h.past (w ∷ after) ∙ ap (λ (ws : List Word). kept_words h.past ++ ws) (kept_append (w ∷ []) after) in
+    ap kept_words (h.parts ∙ ap (λ (ws : List Word). h.past ++ ws) is) ∙ kept_append h.past (w ∷ after) ∙ ap (λ (ws : List Word). kept_words h.past ++ ws) (kept_append (w ∷ []) after) in
     subst (λ (ws : List Word). RefusesWords p begin ws old fault) (sym parts)
     (then_refused p begin (kept_words h.past) (kept_words (w ∷ []) ++ kept_words after) old mid fault h.indexed (refused_before p begin (kept_words (w ∷ [])) (kept_words after) mid fault refused))
 

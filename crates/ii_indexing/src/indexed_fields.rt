@@ -105,12 +105,15 @@ impl IndexedFields {
             num_tokens: open.num_tokens,
             end_position: open.end_position,
         };
-        self.terms.index_text(doc, field, &mut tokens, &mut position)?;
+        self.terms
+            .index_text(doc, field, &mut tokens, &mut position)?;
         let document = OpenDocument {
             doc,
             num_tokens: position.num_tokens,
             end_position: position.end_position,
-            norm: open.norm.saturating_add(position.num_tokens - open.num_tokens),
+            norm: open
+                .norm
+                .saturating_add(position.num_tokens - open.num_tokens),
         };
         self.documents.put(field, document);
         Ok(())

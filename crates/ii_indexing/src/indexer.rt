@@ -43,7 +43,7 @@ impl Model for Indexer {
     } };
 
     ghost invariant = { λ i. (i.num_docs ≤ TERMINATED)
-      × (i.failed ≡ false → EndsAt i.last_doc i.fields × (length i.fields.indexed.writers ≡ length i.schema)) };
+        × (i.failed ≡ false → EndsAt i.last_doc i.fields × (length i.fields.indexed.writers ≡ length i.schema)) };
 }
 
 impl Indexer {

@@ -105,7 +105,7 @@ impl IndexingTerm {
         ensures err { OnErr result (self.new ≡ self.old) }
         ensures only { IfErr result (λ e. e ≡ Fault.OutOfMemory) }
     {
-        self.set_u64(val.to_u64())
+        self.set_u64(u64::from(val))
     }
 
     /// Sets the value to an IP address: 16 bytes, the highest first. `OutOfMemory` where there is no room

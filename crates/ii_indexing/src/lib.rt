@@ -5,11 +5,11 @@
 pub mod index_call;
 mod indexed_fields;
 mod indexed_terms;
-mod open_documents;
 pub mod indexer;
 pub mod indexing_context;
 pub mod indexing_position;
 pub mod indexing_term;
+mod open_documents;
 pub mod path_to_unordered_id;
 pub mod per_field_postings_writer;
 pub mod postings_writer;

@@ -238,7 +238,14 @@ impl PostingsWriter for SpecializedPostingsWriter {
         indexing_position: &mut IndexingPosition,
     ) -> Result<(), Fault> {
         let begin = indexing_position.end_position;
-        self.index_words(doc_id, token_stream, begin, term_buffer, ctx, indexing_position)?;
+        self.index_words(
+            doc_id,
+            token_stream,
+            begin,
+            term_buffer,
+            ctx,
+            indexing_position,
+        )?;
         indexing_position.end_position = next_text(indexing_position.end_position)?;
         Ok(())
     }
@@ -254,8 +261,12 @@ fn token_place(begin: u32, position: usize, position_length: usize) -> Result<(u
     ensures refused { result ≡ (if nat_lt u32_max (begin + position + position_length) then Err (Fault.Limit limit.Position) else Ok (begin + position, begin + position + position_length)) }
 {
     let limit = Fault::Limit(LimitName::Position);
-    let Some(position) = u64::from(begin).checked_add(position as u64) else { return Err(limit); };
-    let Some(end) = position.checked_add(position_length as u64) else { return Err(limit); };
+    let Some(position) = u64::from(begin).checked_add(position as u64) else {
+        return Err(limit);
+    };
+    let Some(end) = position.checked_add(position_length as u64) else {
+        return Err(limit);
+    };
     if end > u64::from(u32::MAX) {
         return Err(limit);
     }

@@ -1,11 +1,11 @@
-ghost use Rattle.std.specs.Prelude.{◌≡◌, ◌×◌, ◌<◌, ◌≤◌, true, false, IfOk, OnErr, OnOk};
+ghost use Rattle.std.specs.Prelude.{◌≡◌, ◌<◌, ◌≤◌, true, false, IfOk, OnErr, OnOk};
 ghost use Rattle.ii_base.specs.declared.schema.value_type.ValueType.TheVariants as types;
+ghost use Rattle.ii_base.specs.ValueTypes.{is_plain};
 ghost use Rattle.ii_indexing.specs.IndexCalls.{Takes};
-ghost use Rattle.ii_indexing.specs.Indexer.{IndexerState};
 
 use ii_base::{
     AsciiTokenizer, Fault, Field, FieldEntry, IndexRecordOption, LimitName, Schema, Token,
-    TokenList,
+    TokenList, ValueType,
 };
 use ii_indexing::{
     IndexCall, Indexer, IndexingContext, IndexingPosition, IndexingTerm, PostingsWriter,
@@ -15,6 +15,7 @@ use std::alloc::Global;
 use std::test::Fail;
 
 const LIMIT_POSITION: Result<(), Fault> = Err(Fault::Limit(LimitName::Position));
+
 const LIMIT_TOKENS: Result<(), Fault> = Err(Fault::Limit(LimitName::Tokens));
 
 // A token that says `a`, at a position.
@@ -78,42 +79,70 @@ fn index_text(
     Ok((answer, position))
 }
 
+// The same of one token that says `a`.
+fn index_one(
+    alloc: Global,
+    num_tokens: u32,
+    position: usize,
+) -> Result<(Result<(), Fault>, IndexingPosition), Fault> {
+    let tokens = list(alloc, token(alloc, position, 1)?)?;
+    index_text(alloc, num_tokens, 0, tokens)
+}
+
+// The same of no token.
+fn index_none(
+    alloc: Global,
+    end_position: u32,
+) -> Result<(Result<(), Fault>, IndexingPosition), Fault> {
+    index_text(alloc, 0, end_position, TokenList::new(Vec::new(alloc)))
+}
+
+// The same of one token of so many bytes.
+fn index_long(
+    alloc: Global,
+    len: usize,
+    position: usize,
+) -> Result<(Result<(), Fault>, IndexingPosition), Fault> {
+    let tokens = list(alloc, long_token(alloc, len, position)?)?;
+    index_text(alloc, 0, 0, tokens)
+}
+
 #[test]
 fn limits_come_in_their_order(rt: HostRuntime) -> Result<(), Fail> {
-    let alloc = rt.alloc();
-    let (many, _) = index_text(alloc, u32::MAX, 0, list(alloc, token(alloc, 0, 1)?)?)?;
+    let (many, _) = index_one(rt.alloc(), u32::MAX, 0)?;
     assert!(rt; many == LIMIT_TOKENS);
-    let (far, _) = index_text(alloc, u32::MAX, 0, list(alloc, token(alloc, 4294967296, 1)?)?)?;
+    let (far, _) = index_one(rt.alloc(), u32::MAX, 4294967296)?;
     assert!(rt; far == LIMIT_POSITION);
     Ok(())
 }
 
 #[test]
 fn gaps_have_a_limit(rt: HostRuntime) -> Result<(), Fail> {
-    let alloc = rt.alloc();
-    let (last, _) = index_text(alloc, 0, u32::MAX, TokenList::new(Vec::new(alloc)))?;
+    let (last, _) = index_none(rt.alloc(), u32::MAX)?;
     assert!(rt; last == LIMIT_POSITION);
-    let (fits, at) = index_text(alloc, 0, u32::MAX - 1, TokenList::new(Vec::new(alloc)))?;
+    let (fits, at) = index_none(rt.alloc(), u32::MAX - 1)?;
     assert!(rt; fits == Ok(()));
     assert!(rt; at.end_position == u32::MAX);
-    let (over, _) = index_text(alloc, 0, 0, list(alloc, token(alloc, 4294967294, 1)?)?)?;
+    Ok(())
+}
+
+#[test]
+fn gaps_after_tokens_have_a_limit(rt: HostRuntime) -> Result<(), Fail> {
+    let (over, _) = index_one(rt.alloc(), 0, 4294967294)?;
     assert!(rt; over == LIMIT_POSITION);
-    let (below, end) = index_text(alloc, 0, 0, list(alloc, token(alloc, 4294967293, 1)?)?)?;
+    let (below, end) = index_one(rt.alloc(), 0, 4294967293)?;
     assert!(rt; below == Ok(()));
     assert!(rt; end.end_position == u32::MAX);
-    assert!(rt; end.num_tokens == 1);
     Ok(())
 }
 
 #[test]
 fn long_tokens_are_left_out(rt: HostRuntime) -> Result<(), Fail> {
-    let alloc = rt.alloc();
-    let long = list(alloc, long_token(alloc, 65531, usize::MAX)?)?;
-    let (dropped, at) = index_text(alloc, 0, 0, long)?;
+    let (dropped, at) = index_long(rt.alloc(), 65531, usize::MAX)?;
     assert!(rt; dropped == Ok(()));
     assert!(rt; at.num_tokens == 0);
     assert!(rt; at.end_position == 1);
-    let (kept, end) = index_text(alloc, 0, 0, list(alloc, long_token(alloc, 65530, 0)?)?)?;
+    let (kept, end) = index_long(rt.alloc(), 65530, 0)?;
     assert!(rt; kept == Ok(()));
     assert!(rt; end.num_tokens == 1);
     Ok(())
@@ -142,37 +171,148 @@ fn put(indexer: &mut Indexer, doc: u32, tokens: TokenList) -> Result<(), Fault>
     indexer.index(IndexCall::Tokens(doc, field, tokens), &AsciiTokenizer)
 }
 
+// What an indexer answers to tokens of a document, and then to others.
+fn answers(
+    alloc: Global,
+    option: IndexRecordOption,
+    first: TokenList,
+    second: TokenList,
+) -> Result<(Result<(), Fault>, Result<(), Fault>), Fault> {
+    let mut indexer = texts(alloc, option)?;
+    match put(&mut indexer, 0, first) {
+        Ok(()) => Ok((Ok(()), put(&mut indexer, 8, second))),
+        Err(fault) => Ok((Err(fault), put(&mut indexer, 0, second))),
+    }
+}
+
+// What it answers to a term at two positions of a document, and then to one at 0 of another.
+fn falls(
+    alloc: Global,
+    option: IndexRecordOption,
+    first: usize,
+    second: usize,
+) -> Result<(Result<(), Fault>, Result<(), Fault>), Fault> {
+    let tokens = pair(alloc, first, second)?;
+    let others = list(alloc, token(alloc, 0, 1)?)?;
+    answers(alloc, option, tokens, others)
+}
+
+// What it answers to a token of no length at the last position, and then to another.
+fn passes_end(alloc: Global) -> Result<(Result<(), Fault>, Result<(), Fault>), Fault> {
+    let tokens = list(alloc, token(alloc, 4294967295, 0)?)?;
+    let others = list(alloc, token(alloc, 0, 1)?)?;
+    answers(
+        alloc,
+        IndexRecordOption::WithFreqsAndPositions,
+        tokens,
+        others,
+    )
+}
+
 #[test]
 fn a_refused_indexer_has_failed(rt: HostRuntime) -> Result<(), Fail> {
-    let alloc = rt.alloc();
-    let mut indexer = texts(alloc, IndexRecordOption::WithFreqsAndPositions)?;
-    let last = list(alloc, token(alloc, 4294967295, 0)?)?;
-    let next = list(alloc, token(alloc, 0, 1)?)?;
-    let Err(fault) = put(&mut indexer, 0, last) else {
-        return Ok(());
-    };
-    assert!(rt; fault == Fault::Limit(LimitName::Position));
-    assert!(rt; put(&mut indexer, 0, next) == Err(Fault::IndexerFailed));
+    let (answer, next) = passes_end(rt.alloc())?;
+    assert!(rt; answer == LIMIT_POSITION);
+    assert!(rt; next == Err(Fault::IndexerFailed));
     Ok(())
 }
 
 #[test]
 fn positions_may_not_fall(rt: HostRuntime) -> Result<(), Fail> {
-    let alloc = rt.alloc();
-    let mut falling = texts(alloc, IndexRecordOption::WithFreqsAndPositions)?;
-    assert!(rt; put(&mut falling, 0, pair(alloc, 5, 4)?) == Err(Fault::DecreasingPosition));
-    let mut equal = texts(alloc, IndexRecordOption::WithFreqsAndPositions)?;
-    assert!(rt; put(&mut equal, 0, pair(alloc, 5, 5)?) == Ok(()));
-    let mut counted = texts(alloc, IndexRecordOption::WithFreqs)?;
-    assert!(rt; put(&mut counted, 0, pair(alloc, 5, 4)?) == Ok(()));
+    let option = IndexRecordOption::WithFreqsAndPositions;
+    let (answer, next) = falls(rt.alloc(), option, 5, 4)?;
+    assert!(rt; answer == Err(Fault::DecreasingPosition));
+    assert!(rt; next == Err(Fault::IndexerFailed));
     Ok(())
 }
 
 #[test]
-fn positions_begin_anew_in_a_document(rt: HostRuntime) -> Result<(), Fail> {
-    let alloc = rt.alloc();
+fn positions_may_be_equal(rt: HostRuntime) -> Result<(), Fail> {
+    let option = IndexRecordOption::WithFreqsAndPositions;
+    let (answer, next) = falls(rt.alloc(), option, 5, 5)?;
+    assert!(rt; answer == Ok(()));
+    assert!(rt; next == Ok(()));
+    Ok(())
+}
+
+#[test]
+fn positions_that_are_not_kept_may_fall(rt: HostRuntime) -> Result<(), Fail> {
+    let (answer, next) = falls(rt.alloc(), IndexRecordOption::WithFreqs, 5, 4)?;
+    assert!(rt; answer == Ok(()));
+    assert!(rt; next == Ok(()));
+    Ok(())
+}
+
+// An indexer of a document with one field of values.
+fn values(alloc: Global, value_type: ValueType) -> Result<Indexer, Fault>
+    requires { is_plain value_type ≡ true }
+    ensures ready { IfOk result (λ i. (i.failed ≡ false) × (i.last_doc ≡ 0) × (i.num_docs ≡ 1)) }
+    ensures takes { IfOk result (λ i. Takes i.schema 0 value_type) }
+{
+    let mut entries = Vec::new(alloc);
+    let name = String::from_str(alloc, "value")?;
+    entries.push(FieldEntry::value(name, value_type, true))?;
+    Indexer::new(alloc, Schema::new(entries), 1)
+}
+
+// Each value once, to an indexer of its type.
+fn take_unsigned(alloc: Global) -> Result<(), Fault> {
+    let mut indexer = values(alloc, ValueType::U64)?;
+    indexer.index(
+        IndexCall::U64(0, Field::from_field_id(0), 5),
+        &AsciiTokenizer,
+    )
+}
+
+fn take_signed(alloc: Global) -> Result<(), Fault> {
+    let mut indexer = values(alloc, ValueType::I64)?;
+    indexer.index(
+        IndexCall::I64(0, Field::from_field_id(0), -5),
+        &AsciiTokenizer,
+    )
+}
+
+fn take_truth(alloc: Global) -> Result<(), Fault> {
+    let mut indexer = values(alloc, ValueType::Bool)?;
+    indexer.index(
+        IndexCall::Bool(0, Field::from_field_id(0), true),
+        &AsciiTokenizer,
+    )
+}
+
+fn take_address(alloc: Global) -> Result<(), Fault> {
+    let mut indexer = values(alloc, ValueType::IpAddr)?;
+    indexer.index(
+        IndexCall::Ip(0, Field::from_field_id(0), 1),
+        &AsciiTokenizer,
+    )
+}
+
+fn take_bytes(alloc: Global) -> Result<(), Fault> {
+    let value = Vec::from_slice(alloc, b"abc")?;
+    let mut indexer = values(alloc, ValueType::Bytes)?;
+    indexer.index(
+        IndexCall::Bytes(0, Field::from_field_id(0), value),
+        &AsciiTokenizer,
+    )
+}
+
+fn take_text(alloc: Global) -> Result<(), Fault> {
+    let text = String::from_str(alloc, "a b a")?;
     let mut indexer = texts(alloc, IndexRecordOption::WithFreqsAndPositions)?;
-    put(&mut indexer, 0, list(alloc, token(alloc, 5, 1)?)?)?;
-    put(&mut indexer, 8, list(alloc, token(alloc, 0, 1)?)?)?;
+    indexer.index(
+        IndexCall::Text(3, Field::from_field_id(0), text),
+        &AsciiTokenizer,
+    )
+}
+
+#[test]
+fn each_call_is_taken(rt: HostRuntime) -> Result<(), Fail> {
+    take_unsigned(rt.alloc())?;
+    take_signed(rt.alloc())?;
+    take_truth(rt.alloc())?;
+    take_address(rt.alloc())?;
+    take_bytes(rt.alloc())?;
+    take_text(rt.alloc())?;
     Ok(())
 }

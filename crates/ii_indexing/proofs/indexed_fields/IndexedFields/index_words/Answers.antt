@@ -19,7 +19,7 @@ returns-in_err-index_text-clause-refused c entries ps inside stored =
     let p = err_from_is_err_and c.from_residual-in_err-index_text.result c.from_residual-in_err-index_text.ensures.1 in
     let at : IndexingPosition = record { num_tokens = d.num_tokens; end_position = d.end_position } in
     let refused = text_refused (kept_in entries c.args.field) ps c.open.new.self c.args.doc c.args.field c.args.tokens.to_come d at c.index_text.result told c.in_ok-open.ensures.found c.in_ok-open.ensures.at refl
-        (c.index_text.ensures.refused entries (tokens_after [] ps) inside st.tokens) in
+    (c.index_text.ensures.refused entries (tokens_after [] ps) inside st.tokens) in
     rw (p.1, p.2) (subst (IsRefusedBy (piece_fault (kept_in entries c.args.field) ps (field_text c.args.doc c.args.field c.args.tokens.to_come))) c.in_err-index_text.was refused)
 
 pub returns-clause-stored : goal.returns-clause-stored

@@ -20,10 +20,10 @@ returns-clause-stored g c =
     let w = c.get_for_field_mut-writer.result.now in
     on_both c.index_text.result _ _ _
     (λ h counted entries ts low stored.
-        let old = subst (λ (q : IndexedTermsState). StoresTokens entries q ts) (sym c.self.view_is) stored in
-        let tokens = subst (λ (t : IndexingTermState). HasTokens (kept_by entries) (text_piece c.args.doc t words) s.terms w ts
-            → HasTokens (kept_by entries) (text_piece c.args.doc t words) c.index_text.new.ctx c.index_text.new.self (ts ++ map (word_token (text_piece c.args.doc t words) begin) (kept_words words))) c.clear_with_field.ensures (h (kept_by entries) ts) in
-        text_stored entries ts s c.args.doc c.args.field begin words w c.index_text.new.ctx c.index_text.new.self low old c.get_for_field_mut-writer.ensures.value (ap (λ (v : PostingsWriterState). v.option) counted) tokens)
+    let old = subst (λ (q : IndexedTermsState). StoresTokens entries q ts) (sym c.self.view_is) stored in
+    let tokens = subst (λ (t : IndexingTermState). HasTokens (kept_by entries) (text_piece c.args.doc t words) s.terms w ts
+    → HasTokens (kept_by entries) (text_piece c.args.doc t words) c.index_text.new.ctx c.index_text.new.self (ts ++ map (word_token (text_piece c.args.doc t words) begin) (kept_words words))) c.clear_with_field.ensures (h (kept_by entries) ts) in
+    text_stored entries ts s c.args.doc c.args.field begin words w c.index_text.new.ctx c.index_text.new.self low old c.get_for_field_mut-writer.ensures.value (ap (λ (v : PostingsWriterState). v.option) counted) tokens)
     c.index_text.ensures.tokens c.index_text.ensures.counted
 
 pub returns-clause-refused : goal.returns-clause-refused
@@ -34,5 +34,5 @@ returns-clause-refused g c entries ts low stored =
     let old = subst (λ (q : IndexedTermsState). StoresTokens entries q ts) (sym c.self.view_is) stored in
     let known = text_known entries ts s c.args.doc c.args.field words w low old c.get_for_field_mut-writer.ensures.value in
     let refused = subst (λ (t : IndexingTermState). HasTokens (kept_by entries) (text_piece c.args.doc t words) s.terms w ts → IsRefusedBy (text_fault w.option (text_piece c.args.doc t words) c.args.position.now ts) c.index_text.result)
-        c.clear_with_field.ensures (c.index_text.ensures.refused (kept_by entries) ts) in
+    c.clear_with_field.ensures (c.index_text.ensures.refused (kept_by entries) ts) in
     rw (← known.0) (refused known.1)

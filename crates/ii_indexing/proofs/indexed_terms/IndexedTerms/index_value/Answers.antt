@@ -20,10 +20,10 @@ returns-clause-stored c =
     let term : c.set_value.new.term ≡ record { field = c.args.field; value = key } = c.in_ok-set_value.ensures.ok ∙ ap (λ (t : IndexingTermState). record t { value = key }) c.clear_with_field.ensures in
     on_both c.subscribe.result _ _ _
     (λ h counted entries ts low basic stored.
-        let old = subst (λ (q : IndexedTermsState). StoresTokens entries q ts) (sym c.self.view_is) stored in
-        let tokens = subst (λ (t : IndexingTermState). kept_by entries t.field t.value ≡ w.option → Records (kept_by entries) s.terms ts → Records (kept_by entries) c.subscribe.new.ctx (ts ++ term_token c.args.doc 0 false t ∷ []))
-            term (h (kept_by entries) ts false) in
-        value_stored entries ts s c.args.doc c.args.field key w c.subscribe.new.ctx c.subscribe.new.self low basic old c.get_for_field_mut-writer.ensures.value counted tokens)
+    let old = subst (λ (q : IndexedTermsState). StoresTokens entries q ts) (sym c.self.view_is) stored in
+    let tokens = subst (λ (t : IndexingTermState). kept_by entries t.field t.value ≡ w.option → Records (kept_by entries) s.terms ts → Records (kept_by entries) c.subscribe.new.ctx (ts ++ term_token c.args.doc 0 false t ∷ []))
+    term (h (kept_by entries) ts false) in
+    value_stored entries ts s c.args.doc c.args.field key w c.subscribe.new.ctx c.subscribe.new.self low basic old c.get_for_field_mut-writer.ensures.value counted tokens)
     c.subscribe.ensures.tokens c.subscribe.ensures.counted
 
 pub returns-clause-refused : goal.returns-clause-refused

@@ -26,8 +26,8 @@ returns-in-Some-clause-ok c =
     let old = sym (found_or_new c.args.option c.args.self.now c.args.term.now (Some c.in-Some.recorder.now) found) in
     on_ok c.record_in.result _ _
     (λ (state : any_state c.record_in.new.recorder ≡ recorded_at c.args.doc c.args.position (any_state c.in-Some.recorder.now)).
-        is_recorded c.args.option c.args.doc c.args.position c.args.term.now c.self.inside.term_index (c.get_mut.follows.lender c.record_in.new.recorder) c.record_in.new.recorder c.args.self.now
-        ((c.get_mut.follows.holds c.record_in.new.recorder).3 (search rules)) c.self.view_is (state ∙ ap (recorded_at c.args.doc c.args.position) old))
+    is_recorded c.args.option c.args.doc c.args.position c.args.term.now c.self.inside.term_index (c.get_mut.follows.lender c.record_in.new.recorder) c.record_in.new.recorder c.args.self.now
+    ((c.get_mut.follows.holds c.record_in.new.recorder).3 (search rules)) c.self.view_is (state ∙ ap (recorded_at c.args.doc c.args.position) old))
     c.record_in.ensures.ok
 
 pub returns-in-Some-clause-refused : goal.returns-in-Some-clause-refused

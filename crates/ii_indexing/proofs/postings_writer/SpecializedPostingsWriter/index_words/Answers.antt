@@ -18,7 +18,7 @@ loop-self-preserved g c =
     let mid = text_state c.loop-self.ctx c.loop-self.self c.loop-self.at in
     let now = text_state c.index_word.new.ctx c.index_word.new.self c.index_word.new.at in
     let one : IndexesWords (text_piece c.args.doc c.args.term.now all) c.args.begin (kept_words (w ∷ [])) mid now =
-        subst (λ (t : IndexingTermState). IndexesWords (text_piece c.args.doc t all) c.args.begin (kept_words (w ∷ [])) mid now) c.loop-self.invariant.same (c.in_ok-index_word.ensures.indexed all) in
+    subst (λ (t : IndexingTermState). IndexesWords (text_piece c.args.doc t all) c.args.begin (kept_words (w ∷ [])) mid now) c.loop-self.invariant.same (c.in_ok-index_word.ensures.indexed all) in
     record {
       indexing = next_word (text_piece c.args.doc c.args.term.now all) c.args.begin all rest (g.S.TokenStream.to_come c.advance.new.self) w (text_state c.args.ctx.now c.args.self.now c.args.at.now) mid now c.loop-self.invariant.indexing parts one;
       same = c.in_ok-index_word.ensures.same_term ∙ c.loop-self.invariant.same;
@@ -35,5 +35,5 @@ returns-in_err-index_word-clause-refused g c =
     let p = err_from_is_err_and c.from_residual.result c.from_residual.ensures.1 in
     let fault = c.in_err-index_word.field-0.0 in
     let refused : RefusesWords (text_piece c.args.doc c.args.term.now all) c.args.begin (kept_words (w ∷ [])) mid fault =
-        subst (λ (t : IndexingTermState). RefusesWords (text_piece c.args.doc t all) c.args.begin (kept_words (w ∷ [])) mid fault) c.loop-self.invariant.same (c.in_err-index_word.ensures.refused all) in
+    subst (λ (t : IndexingTermState). RefusesWords (text_piece c.args.doc t all) c.args.begin (kept_words (w ∷ [])) mid fault) c.loop-self.invariant.same (c.in_err-index_word.ensures.refused all) in
     rw (p.1, p.2) (word_refused (text_piece c.args.doc c.args.term.now all) c.args.begin all rest (drop 1 rest) w (text_state c.args.ctx.now c.args.self.now c.args.at.now) mid fault c.loop-self.invariant.indexing parts refused)
