@@ -34,7 +34,7 @@ ascends_with least t (e ∷ es) low high rest = by_case (nat_eq e.doc t.doc) ref
         let known = parts (nat_le t.doc e.doc) (nat_lt e.doc 2147483647) (ascend_from (e.doc + 1) (docs_of es)) rest in
         let above = le-leb (t.doc + 1) e.doc (omega (arith, leb-true t.doc e.doc known.0, eqb-false e.doc t.doc other)) in
         rw other (joined (nat_le least t.doc) (nat_lt t.doc 2147483647) (ascend_from (t.doc + 1) (docs_of (e ∷ es))) low high
-            (joined (nat_le (t.doc + 1) e.doc) (nat_lt e.doc 2147483647) (ascend_from (e.doc + 1) (docs_of es)) above known.1 known.2))
+        (joined (nat_le (t.doc + 1) e.doc) (nat_lt e.doc 2147483647) (ascend_from (e.doc + 1) (docs_of es)) above known.1 known.2))
 
 grouped_from : (least : ℕ) (ts : List IndexToken) → in_order_from least ts ≡ true → ascend_from least (docs_of (grouped ts)) ≡ true
 grouped_from least [] ordered = refl
@@ -58,6 +58,7 @@ kept_from p least (t ∷ ts) ordered = by_case (p t) refl (kept_from p t.doc ts 
   where
     known : (nat_le least t.doc ≡ true) × (nat_lt t.doc 2147483647 ≡ true) × (in_order_from t.doc ts ≡ true)
     known = parts (nat_le least t.doc) (nat_lt t.doc 2147483647) (in_order_from t.doc ts) ordered
+
     by_case : (b : Bool) → p t ≡ b → in_order_from t.doc (filter p ts) ≡ true → in_order_from least (filter p (t ∷ ts)) ≡ true
     by_case true is rest = rw is (joined (nat_le least t.doc) (nat_lt t.doc 2147483647) (in_order_from t.doc (filter p ts)) known.0 known.1 rest)
     by_case false is rest = rw is (from_less least t.doc (filter p ts) (leb-true least t.doc known.0) rest)

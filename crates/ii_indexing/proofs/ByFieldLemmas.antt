@@ -1,8 +1,8 @@
 -- Terms that are put to their fields one after the other.
-use Rattle.std.proofs.Common.{add-one, add-suc, eq-eqb, append-nil, zero-add, cond, ◌≡◌, ℕ, zero, suc, ◌+◌, ◌<◌, Bool, true, false, List, [], ◌∷◌, ◌++◌, length, map, take, drop, replicate, slice_index_or, slice_set, nat_eq, refl, sym, ap, ◌∙◌, subst, arith, Some}
+use Rattle.std.proofs.Common.{add-one, eq-eqb, append-nil, zero-add, cond, ◌≡◌, ℕ, zero, suc, ◌+◌, ◌<◌, Bool, true, false, List, [], ◌∷◌, ◌++◌, length, map, take, drop, replicate, slice_index_or, slice_set, nat_eq, refl, sym, ap, ◌∙◌, subst, arith, Some}
 use Rattle.std.specs.Prelude.{slice_get, filter, Vec}
 use Rattle.std.specs.List.{AllByRecursion, range_with_len}
-use Rattle.std.proofs.lemmas.Bool.{eqb-false, eqb-true, ne_eqb}
+use Rattle.std.proofs.lemmas.Bool.{ne_eqb}
 use Rattle.std.proofs.lemmas.List.{map-append}
 use Rattle.std.proofs.lemmas.List.Elements.{filter-append}
 use Rattle.std.proofs.lemmas.List.FromFn.{get_or-map-range_with_len, length-map-range_with_len}
@@ -56,7 +56,7 @@ pub one_more : (n : ℕ) (terms : TermIndex) (t : List ℕ × RecorderState) →
 one_more n terms t inside =
     let here = get_or-map-range_with_len (λ (field : ℕ). terms_in field terms) 0 n (field_in t.0) (field_in t.0) [] inside (zero-add (field_in t.0)) in
     rw here (set_at (λ (field : ℕ). terms_in field terms) (λ (field : ℕ). terms_in field (terms ++ t ∷ [])) 0 n (field_in t.0) (field_in t.0) (terms_in (field_in t.0) terms ++ term_of t ∷ []) inside
-      (zero-add (field_in t.0)) (term_here terms t) (term_elsewhere terms t))
+    (zero-add (field_in t.0)) (term_here terms t) (term_elsewhere terms t))
 
 pub none_at_first : (first n : ℕ) → replicate n [] ≡ map (λ (field : ℕ). terms_in field []) (range_with_len first n)
 none_at_first first zero = refl

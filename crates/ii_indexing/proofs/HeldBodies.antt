@@ -1,5 +1,5 @@
 -- The bodies of all fields hold their tokens.
-use Rattle.std.proofs.Common.{Result, Ok, Err, OnOk, zero-add, ◌≡◌, ℕ, zero, suc, ◌+◌, ◌≤◌, ◌<◌, ◌^◌, ◌==◌, Bool, true, false, List, [], ◌∷◌, ◌++◌, length, map, Option, Some, None, refl, sym, ap, ◌∙◌, subst, arith, true≢false, nat_eq, nat_lt}
+use Rattle.std.proofs.Common.{Result, Ok, Err, OnOk, zero-add, ◌≡◌, ℕ, zero, suc, ◌+◌, ◌≤◌, ◌<◌, ◌^◌, ◌==◌, Bool, true, false, List, [], ◌∷◌, ◌++◌, length, map, Option, Some, None, refl, sym, ap, ◌∙◌, subst, arith, nat_eq, nat_lt}
 use Rattle.std.specs.Prelude.{filter, is_some, slice_index_or}
 use Rattle.std.specs.List.{AllByRecursion, flat_map, range_with_len}
 use Rattle.std.specs.List.Sorted.{IsStrictlySortedBy}
@@ -83,7 +83,7 @@ module _ (entries : List Entry) (writers : List PostingsWriterState) (lists : Li
         by_case true is later =
             let own : first ≡ field = eqb-true first field is in
             subst (λ (f : ℕ). body_of field (map body (flat_map part_list (range_with_len f (suc k)))) ≡ own_body field (list_at field)) (sym own)
-              (here field (list_at field) (flat_map part_list (range_with_len (field + 1) k)) (none_past field (field + 1) k (omega (arith))))
+            (here field (list_at field) (flat_map part_list (range_with_len (field + 1) k)) (none_past field (field + 1) k (omega (arith))))
         by_case false other later =
             let apart = eqb-false first field other in
             passed field first (tokens_in writers first) (list_at first) (flat_map part_list (range_with_len (first + 1) k)) apart ∙ later (omega (arith, low, apart)) (omega (arith, high))
@@ -160,7 +160,7 @@ module _ (law : ReadsEntriesBack) (uncounted : ReadsUncountedTermBack) (entries 
     part_is_held field inside some =
         let here = list_is field inside in
         subst (λ (l : List TermState). HoldsPart entries (part_of entries field (tokens_in writers field) l)) here
-          (part_held entries writers lists field n inside (subst (λ (l : List TermState). 0 < length l) (sym here) some) held)
+        (part_held entries writers lists field n inside (subst (λ (l : List TermState). 0 < length l) (sym here) some) held)
 
     known_in : (field : ℕ) → field < n → AllByRecursion (IsKnown (mode_of field) field sorted) (terms_in field sorted)
     known_in field inside = by_case (terms_in field sorted) refl
@@ -219,10 +219,11 @@ module _ (law : ReadsEntriesBack) (uncounted : ReadsUncountedTermBack) (entries 
             let positions = body_is (positions_body entries) (λ f. refl) field q inside at_positions in
             let own = part_of entries field (tokens_in writers field) (terms_in field sorted) in
             let holds = holds_field law uncounted (mode_of field) field (fits field inside) sorted ts (records_in field inside) (tokens_in writers field) (bodies_of entries own) (w.tokens.counted field inside)
-                  (part_is_held field inside terms.0).terms (known_in field inside) in
+            (part_is_held field inside terms.0).terms (known_in field inside) in
             subst (λ (bytes : List ℕ). HoldsField (mode_of field) field bytes p q ts) terms.1
-              (subst (λ (bytes : List ℕ). HoldsField (mode_of field) field (bodies_of entries own).terms bytes q ts) postings.1
-                (subst (λ (bytes : List ℕ). HoldsField (mode_of field) field (bodies_of entries own).terms (bodies_of entries own).postings bytes ts) positions.1 holds))
+            (subst (λ (bytes : List ℕ). HoldsField (mode_of field) field (bodies_of entries own).terms bytes q ts) postings.1
+            (subst (λ (bytes : List ℕ). HoldsField (mode_of field) field (bodies_of entries own).terms (bodies_of entries own).postings bytes ts) positions.1 holds))
+
         by_case : (b : Bool) → nat_lt field n ≡ b → HoldsField (mode_of field) field t p q ts
         by_case true is = inside_holds (ltb-true field n is)
         by_case false is =

@@ -3,7 +3,7 @@ use Rattle.std.proofs.Common.{◌==◌, get_or, zero, suc, ◌≡◌, ℕ, ◌<�
 use Rattle.std.specs.Prelude.{bytes_eq, MatchOption, filter, IsTrue}
 use Rattle.std.specs.Ordering.{is_eq, nat_cmp}
 use Rattle.std.specs.Cmp.Lexicographic.{bytes_decides, slice_cmp}
-use Rattle.std.specs.List.{AllByRecursion, list_any}
+use Rattle.std.specs.List.{AllByRecursion}
 use Rattle.std.specs.List.Sorted.{IsStrictlySortedBy}
 use Rattle.std.specs.Map.{keys_of, lookup}
 use Rattle.std.proofs.lemmas.Bool.{eq-eqb, eqb-true}
@@ -68,6 +68,7 @@ found_has_key mode field key r (t ∷ ts) small found = by_case (bytes_eq (field
     others : (b : Bool) → lies_in field t.0 ≡ b → has_key key (map (written_of mode) (terms_in field ts)) ≡ true → has_key key (map (written_of mode) (terms_in field (t ∷ ts))) ≡ true
     others true is rest = rw is (any_more (bytes_eq key (drop 4 t.0)) (has_key key (map (written_of mode) (terms_in field ts))) rest)
     others false is rest = rw is rest
+
     by_case : (b : Bool) → bytes_eq (field_bytes field ++ key) t.0 ≡ b → (recorder_of ts (field_bytes field ++ key) ≡ Some r → has_key key (map (written_of mode) (terms_in field ts)) ≡ true) → has_key key (map (written_of mode) (terms_in field (t ∷ ts))) ≡ true
     by_case true same rest =
         let here : field_bytes field ++ key ≡ t.0 = (bytes_decides (field_bytes field ++ key) t.0).0 same in

@@ -1,15 +1,13 @@
 -- What is written of a recorder gives the postings of its key.
 use Rattle.std.proofs.Common.{inl, inr, true≢false, length-append, Result, ◌≡◌, ℕ, ◌<◌, ◌^◌, Bool, true, false, List, [], ◌∷◌, length, map, Option, Some, None, Ok, refl, sym, ap, ◌∙◌, subst, arith, ⊎_elim}
 use Rattle.std.specs.Prelude.{◌⊎◌, IsTrue, IsSome, if◌then◌else◌}
-use Rattle.std.specs.List.{AllByRecursion}
 use Rattle.std.proofs.lemmas.List.{length-map}
 use Rattle.ii_io.specs.declared.faults.Part.{Part}
 use Rattle.ii_base.specs.declared.schema.index_record_option.IndexRecordOption.{IndexRecordOption}
 use Rattle.ii_base.specs.declared.schema.index_record_option.IndexRecordOption.TheVariants.{Basic, WithFreqs, WithFreqsAndPositions}
 use Rattle.ii_base.specs.Options.{downgrade, has_freq, has_positions}
-use Rattle.ii_docset.specs.Entries.{Entry, are_documents, docs_of, document}
-use Rattle.ii_layout.specs.Positions.{written_positions}
-use Rattle.ii_layout.specs.TermList.{ReadsUncountedTermBack, list_of, term_list}
+use Rattle.ii_docset.specs.Entries.{Entry, docs_of, document}
+use Rattle.ii_layout.specs.TermList.{ReadsUncountedTermBack, term_list}
 use Rattle.ii_layout.specs.Written.{written_postings}
 use Rattle.ii_index.specs.Cut.{cut_entry}
 use Rattle.ii_termstore.specs.declared.term_info.TermInfo.{TermInfo}
@@ -133,13 +131,13 @@ module _ (law : ReadsEntriesBack) (uncounted : ReadsUncountedTermBack) where
       → list_read mode requested (written_of mode s) ≡ Ok (map (cut_entry (downgrade kind requested)) es)
   lists_read mode kind requested es s kept which are told writable some few = ⊎_elim
       (λ same.
-        let o_mode = kept ∙ same in
-        let here = same_kind requested es s (subst (λ (k : IndexRecordOption). entries_in s.recorder ≡ map (cut_entry k) es) (sym kept) are) (subst (λ (m : IndexRecordOption). IsTold m s) (sym o_mode) told) writable some in
-        subst (λ (k : IndexRecordOption). list_read mode requested (written_of mode s) ≡ Ok (map (cut_entry (downgrade k requested)) es)) kept
-          (subst (λ (m : IndexRecordOption). list_read m requested (written_of m s) ≡ Ok (map (cut_entry (downgrade s.recorder.option requested)) es)) o_mode here))
+      let o_mode = kept ∙ same in
+      let here = same_kind requested es s (subst (λ (k : IndexRecordOption). entries_in s.recorder ≡ map (cut_entry k) es) (sym kept) are) (subst (λ (m : IndexRecordOption). IsTold m s) (sym o_mode) told) writable some in
+      subst (λ (k : IndexRecordOption). list_read mode requested (written_of mode s) ≡ Ok (map (cut_entry (downgrade k requested)) es)) kept
+      (subst (λ (m : IndexRecordOption). list_read m requested (written_of m s) ≡ Ok (map (cut_entry (downgrade s.recorder.option requested)) es)) o_mode here))
       (λ basic.
-        let here = documents_kind mode requested es s (kept ∙ basic) (subst (λ (k : IndexRecordOption). entries_in s.recorder ≡ map (cut_entry k) es) basic are) writable few in
-        subst (λ (k : IndexRecordOption). list_read mode requested (written_of mode s) ≡ Ok (map (cut_entry (downgrade k requested)) es)) (sym basic) here)
+      let here = documents_kind mode requested es s (kept ∙ basic) (subst (λ (k : IndexRecordOption). entries_in s.recorder ≡ map (cut_entry k) es) basic are) writable few in
+      subst (λ (k : IndexRecordOption). list_read mode requested (written_of mode s) ≡ Ok (map (cut_entry (downgrade k requested)) es)) (sym basic) here)
       which
 
   kind_which : (mode : IndexRecordOption) (tokens : List IndexToken) → (kind_of mode tokens ≡ mode) ⊎ (kind_of mode tokens ≡ Basic)
@@ -168,8 +166,8 @@ module _ (law : ReadsEntriesBack) (uncounted : ReadsUncountedTermBack) where
         postings_range = held.postings_range;
         positions_range = held.positions_range;
         lists = λ requested.
-          ap (λ (n : ℕ). term_list mode requested n (bytes_in postings info.postings_range) (Some (bytes_in positions info.positions_range))) held.doc_freq
-          ∙ ap (λ (ps : List ℕ). term_list mode requested (length (written_of mode s).docs) ps (Some (bytes_in positions info.positions_range))) held.postings_are
-          ∙ ap (λ (ps : List ℕ). term_list mode requested (length (written_of mode s).docs) (postings_bytes (written_of mode s)) (Some ps)) held.positions_are
-          ∙ lists_read mode (kind_of mode tokens) requested es s has.kept (kind_which mode tokens) has.entries told writable some (omega (arith, few, docs, count));
+            ap (λ (n : ℕ). term_list mode requested n (bytes_in postings info.postings_range) (Some (bytes_in positions info.positions_range))) held.doc_freq
+            ∙ ap (λ (ps : List ℕ). term_list mode requested (length (written_of mode s).docs) ps (Some (bytes_in positions info.positions_range))) held.postings_are
+            ∙ ap (λ (ps : List ℕ). term_list mode requested (length (written_of mode s).docs) (postings_bytes (written_of mode s)) (Some ps)) held.positions_are
+            ∙ lists_read mode (kind_of mode tokens) requested es s has.kept (kind_which mode tokens) has.entries told writable some (omega (arith, few, docs, count));
       }

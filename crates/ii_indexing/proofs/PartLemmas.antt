@@ -1,7 +1,6 @@
 -- Fields that are written one after the other.
-use Rattle.std.proofs.Common.{nat_eq, append-nil, zero-add, Result, Ok, Err, OnOk, ◌≡◌, ℕ, zero, suc, ◌+◌, ◌-◌, ◌≤◌, ◌<◌, Bool, true, false, List, [], ◌∷◌, ◌++◌, length, map, take, get_or, refl, sym, ap, ◌∙◌, subst, arith, Some}
+use Rattle.std.proofs.Common.{nat_eq, append-nil, zero-add, Result, Ok, Err, OnOk, ◌≡◌, ℕ, zero, suc, ◌+◌, ◌-◌, ◌≤◌, ◌<◌, false, List, [], ◌∷◌, ◌++◌, length, map, refl, sym, ap, ◌∙◌, subst, arith, Some}
 use Rattle.std.specs.Prelude.{◌^◌, slice_get, slice_index_or}
-use Rattle.std.specs.Option.{option_map}
 use Rattle.std.specs.List.{AllByRecursion, flat_map, range_with_len}
 use Rattle.std.proofs.lemmas.Bool.{ne_eqb}
 use Rattle.std.proofs.lemmas.Grind.{flat_map-append}
@@ -141,7 +140,7 @@ wrote_terms (Ok x) old new writers terms sorted lists n same ascending are many 
       same = same;
       ascending = ascending;
       fields = subst (λ (ls : List (List TermState)). HasFields old.entries old.bodies new.bodies (first_parts old.entries writers ls (length old.entries))) whole
-        (subst (λ (m : ℕ). HasFields old.entries old.bodies new.bodies (first_parts old.entries writers lists m)) count has);
+          (subst (λ (m : ℕ). HasFields old.entries old.bodies new.bodies (first_parts old.entries writers lists m)) count has);
     }
 wrote_terms (Err e) old new writers terms sorted lists n same ascending are many has = tt
 

@@ -1,5 +1,5 @@
 -- Terms of a field that are written one after the other.
-use Rattle.std.proofs.Common.{Result, Ok, Err, OnOk, zero, suc, ◌+◌, ◌<◌, arith, append-nil, take, map, length, Ordering, Less, get_or, ◌≡◌, ℕ, Bool, true, false, List, [], ◌∷◌, ◌++◌, refl, sym, ap, ◌∙◌, subst}
+use Rattle.std.proofs.Common.{Result, Ok, Err, OnOk, zero, suc, ◌+◌, ◌<◌, arith, append-nil, take, map, length, Ordering, Less, get_or, ◌≡◌, ℕ, Bool, List, [], ◌∷◌, ◌++◌, refl, sym, ap, ◌∙◌, subst}
 use Rattle.std.specs.Prelude.{if◌then◌else◌, IsTrue, ◌^◌}
 use Rattle.std.specs.List.{AllByRecursion}
 use Rattle.std.specs.List.Sorted.{IsStrictlySortedBy}
@@ -22,7 +22,7 @@ use Rattle.ii_recorder.specs.IndexSerializer.{IndexSerializerState, IsWriting}
 use Rattle.ii_recorder.specs.Pushed.{FillTooLarge, HaveDeltas, pushed_freqs, with_entries}
 use Rattle.ii_recorder.specs.Recorded.{RecorderState, entries_in}
 use Rattle.ii_recorder.specs.Terms.{WrittenTerm}
-use Rattle.ii_indexing.specs.SortedTerms.{IsTold, IsWritable, TermState, state_of, written_of}
+use Rattle.ii_indexing.specs.SortedTerms.{IsTold, IsWritable, state_of, written_of}
 
 -- documents that are pushed change nothing of what is written
 pub pushed_writing : (option : IndexRecordOption) (es : List Entry) (initial : IndexBodiesState) (s new : IndexSerializerState) (field tokens : ℕ) (ts : List WrittenTerm) (pending : List (List ℕ))
@@ -80,7 +80,7 @@ module _ (mode : IndexRecordOption) where
   next_above terms k d keys inside ascending known =
       let before : keys ≡ map key_of (take k terms) = known ∙ append-nil (map (λ (t : WrittenTerm). t.key) (all_written (take k terms))) ∙ written_keys (take k terms) in
       let all : map key_of (take (k + 1) terms) ≡ keys ++ key_of (get_or terms k d) ∷ [] =
-            ap (map key_of) (take_more terms k d inside) ∙ map-append key_of (take k terms) (get_or terms k d ∷ []) ∙ ap (λ (ks : List (List ℕ)). ks ++ key_of (get_or terms k d) ∷ []) (sym before) in
+      ap (map key_of) (take_more terms k d inside) ∙ map-append key_of (take k terms) (get_or terms k d ∷ []) ∙ ap (λ (ks : List (List ℕ)). ks ++ key_of (get_or terms k d) ∷ []) (sym before) in
       subst AreAscending (take-map key_of (k + 1) terms ∙ all) (ascend_taken (slice_cmp nat_cmp) (k + 1) (map key_of terms) ascending)
 
 pub writable_at : (terms : List TermOfField) (k : ℕ) (d : TermOfField) → k < length terms → AllByRecursion IsWritable (map state_of terms) → IsWritable (state_of (get_or terms k d))
@@ -93,14 +93,14 @@ pub next_written : (first entries : List SchemaEntry) (field : ℕ) (terms : Lis
     → all_written (option_of first field) (take k terms) ++ written_of (option_of entries field) (state_of t) ∷ [] ≡ all_written (option_of first field) (take (k + 1) terms)
 next_written first entries field terms k t inside is same =
     let here : written_of (option_of entries field) (state_of t) ≡ written_of (option_of first field) (state_of (get_or terms k t)) =
-          ap (λ (es : List SchemaEntry). written_of (option_of es field) (state_of t)) same ∙ ap (λ (u : TermOfField). written_of (option_of first field) (state_of u)) is in
+    ap (λ (es : List SchemaEntry). written_of (option_of es field) (state_of t)) same ∙ ap (λ (u : TermOfField). written_of (option_of first field) (state_of u)) is in
     ap (λ (u : WrittenTerm). all_written (option_of first field) (take k terms) ++ u ∷ []) here ∙ sym (one_more_written (option_of first field) terms k t inside)
 
 pub one_more_told : (mode : IndexRecordOption) (terms : List TermOfField) (k : ℕ) (t : TermOfField) → k < length terms → t ≡ get_or terms k t → IsTold mode (state_of t) → AllByRecursion (IsTold mode) (map state_of (take k terms))
     → AllByRecursion (IsTold mode) (map state_of (take (k + 1) terms))
 one_more_told mode terms k t inside is told all =
     let more : map state_of (take (k + 1) terms) ≡ map state_of (take k terms) ++ state_of t ∷ [] =
-          ap (map state_of) (take_more terms k t inside) ∙ map-append state_of (take k terms) (get_or terms k t ∷ []) ∙ ap (λ (u : TermOfField). map state_of (take k terms) ++ state_of u ∷ []) (sym is) in
+    ap (map state_of) (take_more terms k t inside) ∙ map-append state_of (take k terms) (get_or terms k t ∷ []) ∙ ap (λ (u : TermOfField). map state_of (take k terms) ++ state_of u ∷ []) (sym is) in
     subst (AllByRecursion (IsTold mode)) (sym more) (all_pushed (IsTold mode) (map state_of (take k terms)) (state_of t) all told)
 
 -- what was told of the entries of a term that was begun

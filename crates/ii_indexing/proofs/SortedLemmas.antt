@@ -3,7 +3,6 @@ use Rattle.std.proofs.Common.{length, length-append, ◌≤◌, Option, Some, Re
 use Rattle.std.proofs.Common.{Ordering, Less, Equal, Greater}
 use Rattle.std.specs.Ordering.{ordering_reverse}
 use Rattle.std.specs.Prelude.{bytes_eq}
-use Rattle.std.specs.Ordering.{eq_by_cmp}
 use Rattle.std.proofs.lemmas.List.Elements.{All-tail}
 use Rattle.std.specs.Prelude.{All, MatchOption, ⊤}
 use Rattle.std.specs.Ordering.{is_eq}
@@ -22,7 +21,6 @@ use Rattle.ii_indexing.specs.IndexingTerm.{AreTermBytes, field_bytes, field_in}
 use Rattle.std.specs.Map.{lookup}
 use Rattle.std.specs.List.Sorted.{IsPermutation}
 use Rattle.std.proofs.lemmas.List.Sorted.{IsPermutation-map}
-use Rattle.std.proofs.lemmas.Map.Keys.{IsDistinct-cons}
 use Rattle.indexmap.proofs.MapLemmas.{lookup_permutation}
 use Rattle.std.proofs.lemmas.Map.Text.{is_eq-slice_cmp}
 use Rattle.std.proofs.lemmas.List.Kept.{IsStrictlySortedBy-dedup, IsStrictlySortedBy-filter}
@@ -82,7 +80,7 @@ module _ {K V W : Type 0} (f : K → List ℕ) (g : V → W) where
       → lookup (bytes_eq bytes) (map seen fs) ≡ lookup (bytes_eq bytes) (map seen es)
   seen_lookup es fs moved distinct bytes =
       lookup_permutation nat_list_eq_equiv (map seen es) (map seen fs) (IsPermutation-map seen es fs moved)
-        (subst (IsDistinct bytes_eq) (sym (seen_keys fs)) (distinct_mapped bytes_eq f (keys_of fs) distinct)) (bytes_eq bytes) (λ x y. nat_list_eq_equiv.congr bytes x y)
+      (subst (IsDistinct bytes_eq) (sym (seen_keys fs)) (distinct_mapped bytes_eq f (keys_of fs) distinct)) (bytes_eq bytes) (λ x y. nat_list_eq_equiv.congr bytes x y)
 
   -- and ascend where the keys do
   pub seen_ascends : (es : List (K × V)) → IsStrictlySortedBy (slice_cmp nat_cmp) (map f (keys_of es)) → IsStrictlySortedBy (slice_cmp nat_cmp) (map (λ (t : List ℕ × W). t.0) (map seen es))
@@ -152,7 +150,7 @@ pub terms_in_ascend : (field : ℕ) (terms : TermIndex) → AllByRecursion AreTe
     → IsStrictlySortedBy (slice_cmp nat_cmp) (map (λ (t : TermState). t.key) (terms_in field terms))
 terms_in_ascend field terms all sorted =
     subst (IsStrictlySortedBy (slice_cmp nat_cmp)) (sym (keys_in field terms))
-      (dropped_ascends field (filter (lies_in field) (keys_of terms)) (all_in field (keys_of terms) all) (IsStrictlySortedBy-filter (slice_cmp nat_cmp) (lies_in field) (keys_of terms) sorted))
+    (dropped_ascends field (filter (lies_in field) (keys_of terms)) (all_in field (keys_of terms) all) (IsStrictlySortedBy-filter (slice_cmp nat_cmp) (lies_in field) (keys_of terms) sorted))
 
 pub each_key : {V : Type 0} (f : V → RecorderState) {A : Type 0} (es : List (Vec ℕ A × V)) → All (λ (k : Vec ℕ A). AreTermBytes k.items) (keys_of es) → AllByRecursion AreTermBytes (keys_of (map (λ (e : Vec ℕ A × V). (e.0.items, f e.1)) es))
 each_key f [] all = tt
@@ -169,7 +167,7 @@ pub fields_ascend : {A V : Type 0} (f : V → RecorderState) (es : List (Vec ℕ
     → AllByRecursion (λ (ts : List TermState). IsStrictlySortedBy (slice_cmp nat_cmp) (map (λ (t : TermState). t.key) ts)) fields
 fields_ascend f es n terms fields all same are sorted =
     subst (AllByRecursion (λ (ts : List TermState). IsStrictlySortedBy (slice_cmp nat_cmp) (map (λ (t : TermState). t.key) ts))) (sym are)
-      (lists_ascend 0 n terms (subst (λ (ts : TermIndex). AllByRecursion AreTermBytes (keys_of ts)) (sym same) (each_key f es all)) sorted)
+    (lists_ascend 0 n terms (subst (λ (ts : TermIndex). AllByRecursion AreTermBytes (keys_of ts)) (sym same) (each_key f es all)) sorted)
 
 pub if_ok : {X E : Type 0} (r : Result X E) (P Q : X → Type 0) → ((x : X) → P x → Q x) → IfOk r P → IfOk r Q
 if_ok (Ok x) P Q f h = f x h

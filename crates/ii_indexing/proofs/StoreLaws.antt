@@ -160,6 +160,6 @@ value_refused {T} entries ts s doc field key w result inside low basic h found r
     let kept = key_recorder Basic (tokens_at field key ts) (recorder_of s.terms (field_bytes field ++ key)) known in
     let r = recorder_or_new Basic s.terms (field_bytes field ++ key) in
     let cause : subscribe_fault w doc 0 (field_bytes field ++ key) s.terms ≡ value_fault field ts =
-        ap (λ (v : PostingsWriterState). subscribe_fault v doc 0 (field_bytes field ++ key) s.terms) at
-        ∙ ap (λ (o : IndexRecordOption). if nat_le u64_max (field_count field ts) then Some (Limit limit.Tokens) else position_fault o 0 (entry_at doc r)) kept in
+    ap (λ (v : PostingsWriterState). subscribe_fault v doc 0 (field_bytes field ++ key) s.terms) at
+    ∙ ap (λ (o : IndexRecordOption). if nat_le u64_max (field_count field ts) then Some (Limit limit.Tokens) else position_fault o 0 (entry_at doc r)) kept in
     subst (λ (c : Option Fault). IsRefusedBy c result) cause refused

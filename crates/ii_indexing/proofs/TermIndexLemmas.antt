@@ -1,5 +1,5 @@
 -- The recorders of terms, as a map has them.
-use Rattle.std.proofs.Common.{◌≡◌, ℕ, ◌≤◌, Bool, true, false, List, [], ◌∷◌, length, map, cond, refl, sym, ap, ◌∙◌, Some, None, Option, Ok, Err, Result, subst, Vec, Global}
+use Rattle.std.proofs.Common.{◌≡◌, ℕ, Bool, true, false, List, [], ◌∷◌, map, cond, refl, sym, ap, ◌∙◌, Some, None, Option, Ok, Err, Result, subst, Vec, Global}
 use Rattle.std.specs.Prelude.{All, MatchOption, OnOk, bytes_eq, unwrap_or, ⊤}
 use Rattle.std.proofs.lemmas.List.Elements.{All-cons, All-head, All-tail}
 use Rattle.std.specs.Map.{lookup, keys_of, IsKeyTest, AreApart, KeepsOthers}

@@ -140,7 +140,14 @@ fn serialize_fields<W: Write>(
     let mut buffer_lender = BufferLender::new(alloc);
     for place in 0..terms.len() {
         let field = Field::from_field_id(place as u32);
-        serialize_if_any(field, writers, norms, &terms[place], &mut buffer_lender, serializer)?;
+        serialize_if_any(
+            field,
+            writers,
+            norms,
+            &terms[place],
+            &mut buffer_lender,
+            serializer,
+        )?;
     }
     Ok(())
 }

@@ -1,4 +1,4 @@
-use Rattle.std.proofs.Common.{List, ◌++◌, ◌∷◌, [], ◌∙◌, ap, subst}
+use Rattle.std.proofs.Common.{◌++◌, ◌∷◌, [], ◌∙◌, ap, subst}
 use Rattle.ii_base.specs.declared.schema.index_record_option.IndexRecordOption.{IndexRecordOption}
 use Rattle.ii_recorder.specs.AnyRecorder.{any_state}
 use Rattle.ii_recorder.specs.IndexSerializer.{IndexSerializerState, IsWriting}
@@ -16,14 +16,14 @@ returns-clause-writing g c initial field tokens ts writing =
     let begun = c.in_ok-new_term.ensures.writing initial field tokens ts writing in
     let whole = pushed_writing r.option (entries_in r) initial c.new_term.new.self.index.now c.serialize.new.serializer.index.now field tokens ts (c.args.key.now ∷ []) pushed begun in
     let same = term_written c.args.key.now c.args.serializer.now.index.now.field.term r c.new_term.new.self.index.now c.serialize.new.serializer.index.now c.has_term_freq.result c.has_term_freq.ensures c.in_ok-new_term.ensures.term pushed
-      ∙ ap (λ (mode : IndexRecordOption). written_of mode (record { key = c.args.key.now; recorder = r })) writing.mode in
+    ∙ ap (λ (mode : IndexRecordOption). written_of mode (record { key = c.args.key.now; recorder = r })) writing.mode in
     on_ok c.close_term.result _ _
-      (λ w. subst (λ (t : WrittenTerm). IsWriting initial c.close_term.new.self.index.now field tokens (ts ++ t ∷ []) []) same w)
-      (c.close_term.ensures.writing initial field tokens ts c.args.key.now (ap (λ (n : IndexSerializerState). n.field.term_open) pushed ∙ c.in_ok-new_term.ensures.inside) whole)
+    (λ w. subst (λ (t : WrittenTerm). IsWriting initial c.close_term.new.self.index.now field tokens (ts ++ t ∷ []) []) same w)
+    (c.close_term.ensures.writing initial field tokens ts c.args.key.now (ap (λ (n : IndexSerializerState). n.field.term_open) pushed ∙ c.in_ok-new_term.ensures.inside) whole)
 
 pub returns-clause-told : goal.returns-clause-told
 returns-clause-told g c =
     let pushed = c.in_ok-serialize.ensures.pushes in
     always_on_ok c.close_term.result _
-      (was_told c.args.serializer.now.index.now.field.term c.args.key.now (any_state c.args.recorder.now) c.new_term.new.self.index.now.field.term c.has_term_freq.result c.has_term_freq.ensures c.in_ok-new_term.ensures.term
-        pushed.small pushed.fit c.in_ok-serialize.ensures.located)
+    (was_told c.args.serializer.now.index.now.field.term c.args.key.now (any_state c.args.recorder.now) c.new_term.new.self.index.now.field.term c.has_term_freq.result c.has_term_freq.ensures c.in_ok-new_term.ensures.term
+    pushed.small pushed.fit c.in_ok-serialize.ensures.located)

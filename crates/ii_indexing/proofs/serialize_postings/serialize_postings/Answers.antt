@@ -1,11 +1,9 @@
-use Rattle.std.proofs.Common.{◌≡◌, ◌<◌, ◌∙◌, ap, sym, subst, length, List, ℕ, Option, arith}
-use Rattle.std.specs.Prelude.{MatchOption, ⊤}
+use Rattle.std.proofs.Common.{◌<◌, ◌∙◌, ap, sym, subst, length, List, ℕ, arith}
 use Rattle.std.specs.List.{AllByRecursion}
 use Rattle.std.proofs.lemmas.List.FromFn.{length-map-range_with_len}
 use Rattle.ii_recorder.specs.Recorded.{RecorderState}
-use Rattle.ii_indexing.specs.IndexingContext.{TermIndex}
 use Rattle.ii_indexing.specs.IndexingTerm.{field_in}
-use Rattle.ii_indexing.specs.SortedTerms.{AllMayBeWritten, IsWritable, MayBeWritten, TermState, terms_in}
+use Rattle.ii_indexing.specs.SortedTerms.{AllMayBeWritten, IsWritable, TermState, terms_in}
 use Rattle.ii_indexing.proofs.PartLemmas.{wrote_context, wrote_terms}
 use Rattle.ii_indexing.proofs.HeldBodies.{wrote_tokens}
 use Rattle.ii_indexing.proofs.SortedLemmas.{all_writable, each_may_be, fields_known}
@@ -39,13 +37,13 @@ serialize_fields-requires-clause-writable g c =
 pub returns-clause-wrote : goal.returns-clause-wrote
 returns-clause-wrote g c =
     wrote_context c.serialize_fields.result c.args.serializer.now c.serialize_fields.new.serializer c.args.per_field_postings_writers.now c.args.ctx c.sort.new.self
-      (wrote_terms c.serialize_fields.result c.args.serializer.now c.serialize_fields.new.serializer c.args.per_field_postings_writers.now c.args.ctx c.sort.new.self c.in_ok-terms.terms.items c.num_fields.result
-        c.in_ok-sort.ensures.same c.in_ok-sort.ensures.ascending c.in_ok-terms.ensures.ok (c.num_fields.ensures.value ∙ ap length c.requires.schema) c.serialize_fields.ensures.wrote)
+    (wrote_terms c.serialize_fields.result c.args.serializer.now c.serialize_fields.new.serializer c.args.per_field_postings_writers.now c.args.ctx c.sort.new.self c.in_ok-terms.terms.items c.num_fields.result
+    c.in_ok-sort.ensures.same c.in_ok-sort.ensures.ascending c.in_ok-terms.ensures.ok (c.num_fields.ensures.value ∙ ap length c.requires.schema) c.serialize_fields.ensures.wrote)
 
 pub returns-clause-holds : goal.returns-clause-holds
 returns-clause-holds g c ts has =
     wrote_tokens c.serialize_fields.result c.reads_entries_back.ensures c.reads_uncounted_term_back.ensures c.args.serializer.now c.serialize_fields.new.serializer c.args.per_field_postings_writers.now c.args.ctx c.sort.new.self ts
-      (omega (arith, c.requires.few, ap length c.requires.schema)) c.in_ok-sort.ensures.same c.in_ok-sort.ensures.ascending c.in_ok-sort.ensures.whole
-      (subst (λ (n : ℕ). AllMayBeWritten n c.args.ctx) (ap length c.requires.schema) c.requires.terms) has
-      (wrote_terms c.serialize_fields.result c.args.serializer.now c.serialize_fields.new.serializer c.args.per_field_postings_writers.now c.args.ctx c.sort.new.self c.in_ok-terms.terms.items c.num_fields.result
-        c.in_ok-sort.ensures.same c.in_ok-sort.ensures.ascending c.in_ok-terms.ensures.ok (c.num_fields.ensures.value ∙ ap length c.requires.schema) c.serialize_fields.ensures.wrote)
+    (omega (arith, c.requires.few, ap length c.requires.schema)) c.in_ok-sort.ensures.same c.in_ok-sort.ensures.ascending c.in_ok-sort.ensures.whole
+    (subst (λ (n : ℕ). AllMayBeWritten n c.args.ctx) (ap length c.requires.schema) c.requires.terms) has
+    (wrote_terms c.serialize_fields.result c.args.serializer.now c.serialize_fields.new.serializer c.args.per_field_postings_writers.now c.args.ctx c.sort.new.self c.in_ok-terms.terms.items c.num_fields.result
+    c.in_ok-sort.ensures.same c.in_ok-sort.ensures.ascending c.in_ok-terms.ensures.ok (c.num_fields.ensures.value ∙ ap length c.requires.schema) c.serialize_fields.ensures.wrote)

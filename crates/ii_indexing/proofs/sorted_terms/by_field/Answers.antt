@@ -13,9 +13,9 @@ add_term-requires-clause-long c =
 pub add_term-requires-clause-known : goal.add_term-requires-clause-known
 add_term-requires-clause-known c =
     known_at c.args.num_fields (seen (c.in-Some.term.now, c.in-Some.recorder.now)) _ c.loop-place.fields.items c.deref.result.now
-      (seen_at c.args.num_fields c.args.terms.now.entries c.loop-place.place (c.in-Some.term.now, c.in-Some.recorder.now) c.requires.known (sym c.in-Some.ensures.entry)) c.deref.ensures.value c.loop-place.invariant
+    (seen_at c.args.num_fields c.args.terms.now.entries c.loop-place.place (c.in-Some.term.now, c.in-Some.recorder.now) c.requires.known (sym c.in-Some.ensures.entry)) c.deref.ensures.value c.loop-place.invariant
 
 pub loop-place-preserved : goal.loop-place-preserved
 loop-place-preserved c =
     added c.args.num_fields c.args.terms.now.entries c.loop-place.place (c.in-Some.term.now, c.in-Some.recorder.now) c.loop-place.fields.items c.add_term.new.fields.items c.deref.result.now
-      (sym c.in-Some.ensures.entry) c.requires.known c.deref.ensures.value c.loop-place.invariant c.in_ok-add_term.ensures.ok
+    (sym c.in-Some.ensures.entry) c.requires.known c.deref.ensures.value c.loop-place.invariant c.in_ok-add_term.ensures.ok

@@ -10,7 +10,7 @@ invariant_of-self-2 c = All-map-IsPermutation (λ e. e.0) (λ k. AreTermBytes k.
 pub returns-clause-ascending : goal.returns-clause-ascending
 returns-clause-ascending c =
     seen_ascends (λ k. k.items) any_state c.sort_unstable_keys.new.self.entries
-      (sorted_distinct (λ k. k.items) _ c.in_ok-sort_unstable_keys.ensures.sorted c.sort_unstable_keys.ensures.unique)
+    (sorted_distinct (λ k. k.items) _ c.in_ok-sort_unstable_keys.ensures.sorted c.sort_unstable_keys.ensures.unique)
 
 pub returns-clause-same : goal.returns-clause-same
 returns-clause-same c = rw (← c.self.view_is) (seen_lookup (λ k. k.items) any_state c.self.inside.term_index.entries c.sort_unstable_keys.new.self.entries c.sort_unstable_keys.ensures.reordered.0 c.sort_unstable_keys.ensures.unique)
@@ -18,4 +18,4 @@ returns-clause-same c = rw (← c.self.view_is) (seen_lookup (λ k. k.items) any
 pub returns-clause-whole : goal.returns-clause-whole
 returns-clause-whole c =
     each_key any_state c.sort_unstable_keys.new.self.entries
-      (All-map-IsPermutation (λ e. e.0) (λ k. AreTermBytes k.items) c.self.inside.term_index.entries c.sort_unstable_keys.new.self.entries c.sort_unstable_keys.ensures.reordered.0 c.self.invariant)
+    (All-map-IsPermutation (λ e. e.0) (λ k. AreTermBytes k.items) c.self.inside.term_index.entries c.sort_unstable_keys.new.self.entries c.sort_unstable_keys.ensures.reordered.0 c.self.invariant)

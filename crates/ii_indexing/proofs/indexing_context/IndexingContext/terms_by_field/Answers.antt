@@ -9,5 +9,5 @@ by_field-requires c = record { known = lie_below any_state c.self.inside.term_in
 pub returns-clause-ascending : goal.returns-clause-ascending
 returns-clause-ascending c sorted =
     if_ok c.by_field.result _ _
-      (λ fields are. fields_ascend any_state c.self.inside.term_index.entries c.args.num_fields c.args.self.now fields.items c.self.invariant (sym c.self.view_is) are sorted)
-      (rw (← c.self.view_is) c.by_field.ensures.ok)
+    (λ fields are. fields_ascend any_state c.self.inside.term_index.entries c.args.num_fields c.args.self.now fields.items c.self.invariant (sym c.self.view_is) are sorted)
+    (rw (← c.self.view_is) c.by_field.ensures.ok)

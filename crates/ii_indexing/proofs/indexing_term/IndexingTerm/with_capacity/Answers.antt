@@ -7,5 +7,5 @@ pub invariant_of-result : goal.invariant_of-result
 unfolding field_bytes
 invariant_of-result c =
     let front = field_in_front c.from_field_id.result c.extend_from_slice.new.self.items []
-      (c.in_ok-extend_from_slice.ensures.items ∙ ap (λ (front : List ℕ). front ++ c.to_be_bytes.result) c.in_ok-bytes.ensures.items ∙ c.to_be_bytes.ensures ∙ ap field_bytes (sym c.from_field_id.ensures)) in
+    (c.in_ok-extend_from_slice.ensures.items ∙ ap (λ (front : List ℕ). front ++ c.to_be_bytes.result) c.in_ok-bytes.ensures.items ∙ c.to_be_bytes.ensures ∙ ap field_bytes (sym c.from_field_id.ensures)) in
     (front.0, front.1, omega (arith, c.from_field_id.ensures))
