@@ -1,8 +1,8 @@
-ghost use Rattle.std.specs.Prelude.{◌≡◌, ◌^◌, ◌<◌, ◌≤◌, length, Some, vec_len, slice_get};
+ghost use Rattle.std.specs.Prelude.{◌≡◌, ◌^◌, ◌<◌, length, Some, vec_len, slice_get, IfErr, IfOk};
 ghost use Rattle.std.specs.List.{enumerate_from};
 
 use field_entry::FieldEntry;
-use ii_io::Field;
+use ii_io::{Fault, Field};
 use schema_fields::SchemaFields;
 use std::marker::Model;
 
@@ -19,29 +19,38 @@ pub struct Schema {
 }
 
 impl Model for Schema {
-    ghost use Rattle.std.specs.Prelude.{List, ◌^◌, ◌≤◌, length};
+    ghost use Rattle.std.specs.Prelude.{List, ◌^◌, ◌<◌, length};
     ghost use Rattle.ii_base.specs.Schema.{Entry};
 
     ghost Value = { List Entry };
 
     ghost view = { λ s. s.entries.items };
 
-    ghost invariant = { λ s. length s.entries.items ≤ 2 ^ 32 };
+    ghost invariant = { λ s. length s.entries.items < 2 ^ 32 };
 }
 
 impl Schema {
-    /// A schema of these entries, the first of which is field 0. It takes no memory.
+    /// A schema of these entries, fewer than 2^32, the first of which is field 0. It takes no memory.
     pub fn new(entries: Vec<FieldEntry>) -> Schema
-        requires { vec_len entries ≤ 2 ^ 32 }
+        requires { vec_len entries < 2 ^ 32 }
         ensures { result ≡ entries.items }
     {
         Schema { entries }
     }
 
+    /// The same schema. `OutOfMemory` where there is no room for it.
+    pub fn clone(&self) -> Result<Schema, Fault>
+        ensures same { IfOk result (λ copy. copy ≡ self.now) }
+        ensures only { IfErr result (λ e. e ≡ Fault.OutOfMemory) }
+    {
+        let entries = self.entries.clone()?;
+        Ok(Schema { entries })
+    }
+
     /// How many fields there are.
     pub fn num_fields(&self) -> usize
         ensures value { result ≡ length self.now }
-        ensures bound { result ≤ 2 ^ 32 }
+        ensures bound { result < 2 ^ 32 }
     {
         self.entries.len()
     }

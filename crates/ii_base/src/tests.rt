@@ -67,6 +67,14 @@ fn schemas_tell_their_fields(rt: HostRuntime) -> Result<(), Fail> {
 }
 
 #[test]
+fn schemas_are_copied(rt: HostRuntime) -> Result<(), Fail> {
+    let copy = four_fields(rt.alloc())?.clone()?;
+    assert!(rt; copy.num_fields() == 4);
+    assert!(rt; copy.get_field_entry(Field::from_field_id(1)).name() == "number");
+    Ok(())
+}
+
+#[test]
 fn options_are_ordered(rt: HostRuntime) {
     let options = [
         IndexRecordOption::Basic,

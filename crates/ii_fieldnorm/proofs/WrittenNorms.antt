@@ -50,7 +50,7 @@ body_of-norms first (suc k) (Some ids ∷ bs) =
     let same : first + suc k ≡ first + 1 + k = omega arith in
     skips (first + suc k) first ids rest (omega arith) ∙ ap (λ (f : ℕ). body_of f rest) same ∙ body_of-norms (first + 1) k bs
 
-body_of-norm_bodies : (field : ℕ) (bs : Buffers) → body_of field (norm_bodies bs) ≡ buffer_of field bs
+pub body_of-norm_bodies : (field : ℕ) (bs : Buffers) → body_of field (norm_bodies bs) ≡ buffer_of field bs
 body_of-norm_bodies field bs =
     let same : 0 + field ≡ field = omega arith in
     rw same at (body_of-norms 0 field bs)

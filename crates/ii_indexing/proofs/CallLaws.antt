@@ -32,7 +32,7 @@ CallRefused analyze old result c t =
 
 -- What is known of a text, and of a value.
 abbrev pub TextStored : IndexedFieldsState → IndexedFieldsState → ℕ → ℕ → List Word → Type 0
-TextStored old new doc field ws = (entries : List Entry) (ps : List Piece) → field < length entries → StoresPieces entries old ps → StoresPieces entries new (ps ++ field_text doc field ws ∷ [])
+TextStored old new doc field ws = (entries : List Entry) (ps : List Piece) → field < length entries → kept_in entries field ≡ option_of entries field → StoresPieces entries old ps → StoresPieces entries new (ps ++ field_text doc field ws ∷ [])
 
 abbrev pub ValueStored : IndexedFieldsState → IndexedFieldsState → ℕ → ℕ → List ℕ → Type 0
 ValueStored old new doc field key =
@@ -48,10 +48,10 @@ ValueRefused old result doc field key =
 
 module _ (analyze : List ℕ → List Word) (old new : IndexedFieldsState) (doc field : ℕ) where
   pub text_call : (t : List ℕ) → TextStored old new doc field (analyze t) → CallStored analyze old new (record { doc = doc; field = field; content = text t }) Str
-  text_call t h entries ps takes stored = h entries ps (takes_inside entries field Str takes) stored
+  text_call t h entries ps takes stored = h entries ps (takes_inside entries field Str takes) (takes_text entries field takes) stored
 
   pub words_call : (ws : List Word) → TextStored old new doc field ws → CallStored analyze old new (record { doc = doc; field = field; content = words ws }) Str
-  words_call ws h entries ps takes stored = h entries ps (takes_inside entries field Str takes) stored
+  words_call ws h entries ps takes stored = h entries ps (takes_inside entries field Str takes) (takes_text entries field takes) stored
 
   pub value_call : (key : List ℕ) (t : ValueType) → ((o : IndexRecordOption) → kept_as t o ≡ Basic) → ValueStored old new doc field key → CallStored analyze old new (record { doc = doc; field = field; content = value key }) t
   value_call key t plain h entries ps takes stored = h entries ps (takes_inside entries field t takes) (takes_value entries field t takes plain) stored

@@ -78,7 +78,7 @@ one_fault option ps p = by (piece_fault option ps p)
 -- an indexer of no calls stores none
 pub nothing_stored : (entries : List Entry) → StoresPieces entries (record { indexed = record { terms = []; writers = writers_of entries }; opened = record { documents = map (λ (e : Entry). empty_document 0) entries; norms = empty_buffers entries } }) []
 nothing_stored entries = record {
-  tokens = record { records = λ field key low. refl; counted = λ field inside. made_for entries field inside; one_kind = λ field key. refl };
+  tokens = record { records = λ field key low. refl; counted = λ field inside. made_for entries field inside; of_fields = tt };
   documents = λ field d is. subst (λ (e : OpenDocument). Tells field [] [] e (buffer_of field (empty_buffers entries))) (sym (made_alike (empty_document 0) entries field d is)) (record {
     begin = λ x from. ap (λ (e : OpenDocument). e.end_position) (sym (at_empty 0 x));
     group = λ x from. ap (λ (e : OpenDocument). e.num_tokens) (sym (at_empty 0 x));

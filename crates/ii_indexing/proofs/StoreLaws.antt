@@ -1,7 +1,8 @@
 -- What is stored of a field once tokens of it are added.
 use Rattle.std.proofs.Common.{◌≡◌, ℕ, zero, suc, ◌+◌, ◌<◌, ◌==◌, Bool, true, false, List, [], ◌∷◌, ◌++◌, map, length, cond, Some, Option, Result, refl, sym, ap, ◌∙◌, subst, arith, append-nil}
-use Rattle.std.specs.Prelude.{slice_get, slice_set, if◌then◌else◌, nat_le}
-use Rattle.std.proofs.lemmas.Bool.{eqb-true, eqb-false}
+use Rattle.std.specs.Prelude.{slice_get, slice_set, if◌then◌else◌, nat_le, bytes_eq, filter}
+use Rattle.std.specs.List.{AllByRecursion}
+use Rattle.std.proofs.lemmas.Bool.{and_parts, eqb-true, eqb-false}
 use Rattle.std.proofs.lemmas.List.Sums.{sum_by-append, sum_by-cons}
 use Rattle.ii_io.specs.declared.faults.Fault.{Fault}
 use Rattle.ii_io.specs.declared.faults.Fault.TheVariants.{Limit}
@@ -11,8 +12,9 @@ use Rattle.ii_base.specs.Words.{Word}
 use Rattle.ii_base.specs.declared.schema.index_record_option.IndexRecordOption.{IndexRecordOption}
 use Rattle.ii_base.specs.declared.schema.index_record_option.IndexRecordOption.TheVariants.{Basic}
 use Rattle.ii_index.specs.Tokens.{IndexToken, Piece, kept_words, value_token, word_token}
-use Rattle.ii_index.specs.Postings.{field_count, kind_of, tokens_at}
-use Rattle.ii_indexing.specs.IndexedTerms.{IndexedTermsState, StoresTokens, field_text, field_value, kept_in, value_fault}
+use Rattle.ii_index.specs.Fields.{option_of}
+use Rattle.ii_index.specs.Postings.{field_count, is_at, kind_of, tokens_at}
+use Rattle.ii_indexing.specs.IndexedTerms.{IndexedTermsState, IsOfField, StoresTokens, field_text, field_value, kept_in, value_fault}
 use Rattle.ii_recorder.specs.Recorded.{position_fault}
 use Rattle.ii_indexing.specs.IndexingContext.{entry_at, recorder_or_new, TermIndex, recorder_of}
 use Rattle.ii_indexing.specs.IndexingTerm.{field_bytes}
@@ -67,15 +69,53 @@ set_other (y ∷ xs) (suc i) (suc j) w other = set_other xs i j w (grind (arith,
 pub record AddsTokens (entries : List Entry) (field : ℕ) (old : IndexedTermsState) (terms : TermIndex) (writer : PostingsWriterState) (ts us : List IndexToken) : Type 0 where
   pub records : Records (kept_by entries) terms (ts ++ us)
   pub writer_is : writer ≡ record { option = kept_in entries field; total_num_tokens = field_count field (ts ++ us) }
-  pub one_kind : (key : List ℕ) → kind_of (kept_in entries field) (tokens_at field key (ts ++ us)) ≡ kept_in entries field
+  pub of_field : AllByRecursion (IsOfField entries) us
   pub only : OnlyIn field us
+
+all_joined : {A : Type 0} (P : A → Type 0) (xs ys : List A) → AllByRecursion P xs → AllByRecursion P ys → AllByRecursion P (xs ++ ys)
+all_joined P [] ys first second = second
+all_joined P (x ∷ xs) ys first second = (first.0, all_joined P xs ys first.1 second)
+
+-- the first of those that are kept
+first_kept : {A : Type 0} (p : A → Bool) (P : A → Type 0) (xs : List A) (y : A) (ys : List A) → filter p xs ≡ y ∷ ys → AllByRecursion P xs → P y × (p y ≡ true)
+first_kept p P [] y ys is all = absurd (cc)
+first_kept {A} p P (x ∷ xs) y ys is all = by (p x) refl (λ rest. first_kept p P xs y ys rest all.1)
+  where
+    by : (b : Bool) → p x ≡ b → (filter p xs ≡ y ∷ ys → P y × (p y ≡ true)) → P y × (p y ≡ true)
+    by true at rest =
+        let kept : x ∷ filter p xs ≡ y ∷ ys = sym (rw at refl) ∙ is in
+        let same : x ≡ y = cc in
+        subst (λ (z : A). P z × (p z ≡ true)) same (all.0, at)
+    by false at rest =
+        let kept : filter p xs ≡ y ∷ ys = sym (rw at refl) ∙ is in
+        rest kept
+
+-- what is kept of a key that occurred
+pub kept_kind : (entries : List Entry) (ts : List IndexToken) (field : ℕ) (key : List ℕ) (t : IndexToken) (us : List IndexToken) → tokens_at field key ts ≡ t ∷ us → AllByRecursion (IsOfField entries) ts
+    → kind_of (option_of entries field) (t ∷ us) ≡ kept_in entries field
+kept_kind entries ts field key t us is all =
+    let first = first_kept (is_at field key) (IsOfField entries) ts t us is all in
+    let at : t.field ≡ field = eqb-true t.field field (and_parts (t.field == field) (bytes_eq t.key key) first.1).0 in
+    subst (λ (f : ℕ). kind_of (option_of entries f) (t ∷ []) ≡ kept_in entries f) at first.0.kind
+
+basic_if : (o : IndexRecordOption) (b : Bool) (kept : IndexRecordOption) → cond b o Basic ≡ kept → cond b kept Basic ≡ kept
+basic_if o true kept is = refl
+basic_if o false kept is = is
+
+-- so it is kept of all its tokens
+one_kind : (entries : List Entry) (ts : List IndexToken) (field : ℕ) (key : List ℕ) → AllByRecursion (IsOfField entries) ts → kind_of (kept_in entries field) (tokens_at field key ts) ≡ kept_in entries field
+one_kind entries ts field key all = by (tokens_at field key ts) refl
+  where
+    by : (us : List IndexToken) → tokens_at field key ts ≡ us → kind_of (kept_in entries field) us ≡ kept_in entries field
+    by [] is = refl
+    by (t ∷ us) is = basic_if (option_of entries field) t.of_text (kept_in entries field) (kept_kind entries ts field key t us is all)
 
 pub tokens_stored : (entries : List Entry) (field : ℕ) (old : IndexedTermsState) (terms : TermIndex) (writer : PostingsWriterState) (ts us : List IndexToken) → field < length entries
     → StoresTokens entries old ts → AddsTokens entries field old terms writer ts us → StoresTokens entries (record { terms = terms; writers = slice_set old.writers field writer }) (ts ++ us)
 tokens_stored entries field old terms writer ts us low h adds = record {
   records = adds.records;
   counted = λ f inside. by_count f inside (field == f) refl;
-  one_kind = λ f key. by_kind f key (field == f) refl;
+  of_fields = all_joined (IsOfField entries) ts us h.of_fields adds.of_field;
 }
   where
     by_count : (f : ℕ) → f < length entries → (b : Bool) → (field == f) ≡ b → slice_get (slice_set old.writers field writer) f ≡ Some (record { option = kept_in entries f; total_num_tokens = field_count f (ts ++ us) })
@@ -86,10 +126,6 @@ tokens_stored entries field old terms writer ts us low h adds = record {
     by_count f inside false other =
         set_other old.writers field f writer other ∙ h.counted f inside
         ∙ ap (λ (n : ℕ). Some (record { option = kept_in entries f; total_num_tokens = n })) (sym (other_count field f ts us adds.only other))
-
-    by_kind : (f : ℕ) (key : List ℕ) (b : Bool) → (field == f) ≡ b → kind_of (kept_in entries f) (tokens_at f key (ts ++ us)) ≡ kept_in entries f
-    by_kind f key true same = subst (λ (g : ℕ). kind_of (kept_in entries g) (tokens_at g key (ts ++ us)) ≡ kept_in entries g) (eqb-true field f same) (adds.one_kind key)
-    by_kind f key false other = ap (kind_of (kept_in entries f)) (other_tokens field f key ts us adds.only other) ∙ h.one_kind f key
 
 some_inside : {A : Type 0} (x y : A) → Some x ≡ Some y → x ≡ y
 some_inside x y is = cc
@@ -104,34 +140,31 @@ text_known entries ts s doc field words w low h found =
       record {
         records = h.records;
         kinds = λ key. sym option;
-        of_text = λ key. rw option (h.one_kind field key);
+        of_text = λ key. rw option (one_kind entries ts field key h.of_fields);
         counted = ap (λ (v : PostingsWriterState). v.total_num_tokens) is;
       },
     )
 
+words_of_field : (entries : List Entry) (p : Piece) (begin : ℕ) (ws : List Word) → p.field < length entries → kept_in entries p.field ≡ option_of entries p.field
+    → AllByRecursion (IsOfField entries) (map (word_token p begin) ws)
+words_of_field entries p begin [] low of_text = tt
+words_of_field entries p begin (w ∷ ws) low of_text = (record { known = low; kind = sym of_text }, words_of_field entries p begin ws low of_text)
+
 -- a text was indexed
 pub text_stored : (entries : List Entry) (ts : List IndexToken) (s : IndexedTermsState) (doc field begin : ℕ) (words : List Word) (w : PostingsWriterState) (terms : TermIndex) (after : PostingsWriterState)
-    → field < length entries → StoresTokens entries s ts → slice_get s.writers field ≡ Some w → after.option ≡ w.option
+    → field < length entries → kept_in entries field ≡ option_of entries field → StoresTokens entries s ts → slice_get s.writers field ≡ Some w → after.option ≡ w.option
     → (HasTokens (kept_by entries) (field_text doc field words) s.terms w ts → HasTokens (kept_by entries) (field_text doc field words) terms after (ts ++ map (word_token (field_text doc field words) begin) (kept_words words)))
     → StoresTokens entries (record { terms = terms; writers = slice_set s.writers field after }) (ts ++ map (word_token (field_text doc field words) begin) (kept_words words))
-text_stored entries ts s doc field begin words w terms after low h found same f =
+text_stored entries ts s doc field begin words w terms after low of_text h found same f =
     let known = text_known entries ts s doc field words w low h found in
     let new = f known.1 in
     let option : after.option ≡ kept_in entries field = same ∙ known.0 in
     tokens_stored entries field s terms after ts (map (word_token (field_text doc field words) begin) (kept_words words)) low h (record {
       records = new.records;
       writer_is = ap (λ (o : IndexRecordOption). record { option = o; total_num_tokens = after.total_num_tokens }) option ∙ ap (λ (n : ℕ). record { option = kept_in entries field; total_num_tokens = n }) new.counted;
-      one_kind = λ key. subst (λ (o : IndexRecordOption). kind_of o (tokens_at field key (ts ++ map (word_token (field_text doc field words) begin) (kept_words words))) ≡ o) option (new.of_text key);
+      of_field = words_of_field entries (field_text doc field words) begin (kept_words words) low of_text;
       only = words_only (field_text doc field words) begin (kept_words words);
     })
-
-kind_basic : (ts : List IndexToken) → kind_of Basic ts ≡ Basic
-kind_basic [] = refl
-kind_basic (t ∷ ts) = by t.of_text
-  where
-    by : (b : Bool) → cond b Basic Basic ≡ Basic
-    by true = refl
-    by false = refl
 
 -- a value was indexed
 pub value_stored : (entries : List Entry) (ts : List IndexToken) (s : IndexedTermsState) (doc field : ℕ) (key : List ℕ) (w : PostingsWriterState) (terms : TermIndex) (after : PostingsWriterState)
@@ -144,7 +177,7 @@ value_stored entries ts s doc field key w terms after low basic h found counted 
     tokens_stored entries field s terms after ts (t ∷ []) low h (record {
       records = f (sym (ap (λ (v : PostingsWriterState). v.option) is)) h.records;
       writer_is = counted ∙ ap (tokens_counted 1) is ∙ ap (λ (n : ℕ). record { option = kept_in entries field; total_num_tokens = n }) (sym (field_count_more field ts t refl));
-      one_kind = λ k. rw basic (kind_basic (tokens_at field k (ts ++ t ∷ [])));
+      of_field = (record { known = low; kind = sym basic }, tt);
       only = one_token field t [] refl (no_tokens field);
     })
 

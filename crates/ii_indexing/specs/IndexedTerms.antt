@@ -1,6 +1,7 @@
 -- What is kept of the terms of all fields while documents are indexed.
-use Rattle.std.specs.Prelude.{◌≡◌, ℕ, ◌<◌, true, false, if◌then◌else◌, List, [], nat_le, length, Option, None, Some, slice_get, unwrap_or}
+use Rattle.std.specs.Prelude.{◌≡◌, ℕ, ◌<◌, true, false, if◌then◌else◌, List, [], ◌∷◌, nat_le, length, Option, None, Some, slice_get, unwrap_or}
 use Rattle.std.specs.Int.{bytes_high_first}
+use Rattle.std.specs.List.{AllByRecursion}
 use Rattle.std.specs.Option.{option_map}
 use Rattle.ii_io.specs.declared.faults.Fault.{Fault}
 use Rattle.ii_io.specs.declared.faults.Fault.TheVariants.{Limit}
@@ -11,7 +12,8 @@ use Rattle.ii_base.specs.Words.{Word}
 use Rattle.ii_base.specs.declared.schema.index_record_option.IndexRecordOption.{IndexRecordOption}
 use Rattle.ii_base.specs.declared.schema.index_record_option.IndexRecordOption.TheVariants.{Basic}
 use Rattle.ii_index.specs.Tokens.{IndexToken, Piece}
-use Rattle.ii_index.specs.Postings.{field_count, kind_of, tokens_at}
+use Rattle.ii_index.specs.Fields.{option_of}
+use Rattle.ii_index.specs.Postings.{field_count, kind_of}
 use Rattle.ii_indexing.specs.IndexingContext.{TermIndex}
 use Rattle.ii_indexing.specs.PostingsWriter.{PostingsWriterState, kept_of}
 use Rattle.ii_indexing.specs.Records.{Records}
@@ -28,11 +30,16 @@ pub record IndexedTermsState : Type 0 where
 abbrev pub kept_in : List Entry → ℕ → IndexRecordOption
 kept_in entries field = unwrap_or (option_map kept_of (slice_get entries field)) Basic
 
+-- A token stands in a field of a schema, which keeps of its key what the definitions keep of such a token's.
+pub record IsOfField (entries : List Entry) (t : IndexToken) : Type 0 where
+  pub known : t.field < length entries
+  pub kind : kind_of (option_of entries t.field) (t ∷ []) ≡ kept_in entries t.field
+
 -- Tokens of the fields of a schema are stored: the postings of each key, and how many there are of each field.
 pub record StoresTokens (entries : List Entry) (s : IndexedTermsState) (ts : List IndexToken) : Type 0 where
   pub records : Records (λ field key. kept_in entries field) s.terms ts
   pub counted : (field : ℕ) → field < length entries → slice_get s.writers field ≡ Some (record { option = kept_in entries field; total_num_tokens = field_count field ts })
-  pub one_kind : (field : ℕ) (key : List ℕ) → kind_of (kept_in entries field) (tokens_at field key ts) ≡ kept_in entries field
+  pub of_fields : AllByRecursion (IsOfField entries) ts
 
 -- a text of a field
 abbrev pub field_text : ℕ → ℕ → List Word → Piece

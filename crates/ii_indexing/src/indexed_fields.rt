@@ -94,7 +94,7 @@ impl IndexedFields {
         requires low { doc < TERMINATED }
         requires known { field < length self.old.indexed.writers }
         requires ends { EndsAt doc self.old }
-        ensures stored { OnOk result ((entries : List Entry) (ps : List Piece) → field < length entries → StoresPieces entries self.old ps → StoresPieces entries self.new (ps ++ field_text doc field tokens.to_come ∷ [])) }
+        ensures stored { OnOk result ((entries : List Entry) (ps : List Piece) → field < length entries → kept_in entries field ≡ option_of entries field → StoresPieces entries self.old ps → StoresPieces entries self.new (ps ++ field_text doc field tokens.to_come ∷ [])) }
         ensures ends { OnOk result (EndsAt doc self.new) }
         ensures fields { OnOk result (length self.new.indexed.writers ≡ length self.old.indexed.writers) }
         ensures refused { (entries : List Entry) (ps : List Piece) → field < length entries → StoresPieces entries self.old ps → IsRefusedBy (piece_fault (kept_in entries field) ps (field_text doc field tokens.to_come)) result }

@@ -2,6 +2,7 @@ ghost use Rattle.std.specs.Prelude.{◌≡◌, ◌<◌, ◌+◌, ◌∷◌, ◌+
 ghost use Rattle.ii_base.specs.Schema.{Entry};
 ghost use Rattle.ii_base.specs.declared.schema.index_record_option.IndexRecordOption.TheVariants.{Basic};
 ghost use Rattle.ii_docset.specs.declared.docset.TheConstants.{TERMINATED};
+ghost use Rattle.ii_index.specs.Fields.{option_of};
 ghost use Rattle.ii_index.specs.Tokens.{IndexToken, end_after, kept_words, piece_tokens_from, value_token};
 ghost use Rattle.ii_indexing.specs.IndexedTerms.{StoresTokens, field_text, field_value, kept_in, key_of, value_fault};
 ghost use Rattle.ii_indexing.specs.IndexingContext.{AllEndBy};
@@ -66,7 +67,7 @@ impl IndexedTerms {
         requires low { doc < TERMINATED }
         requires known { field < length self.old.writers }
         requires ends { AllEndBy doc self.old.terms }
-        ensures stored { OnOk result ((entries : List Entry) (ts : List IndexToken) → field < length entries → StoresTokens entries self.old ts
+        ensures stored { OnOk result ((entries : List Entry) (ts : List IndexToken) → field < length entries → kept_in entries field ≡ option_of entries field → StoresTokens entries self.old ts
             → StoresTokens entries self.new (ts ++ piece_tokens_from true position.old.end_position (field_text doc field (S.to_come token_stream.old)))) }
         ensures ends { OnOk result (AllEndBy doc self.new.terms) }
         ensures fields { length self.new.writers ≡ length self.old.writers }

@@ -20,3 +20,14 @@ number_of (fault.TheVariants.Damaged part) = 8
 -- the fault of a damaged part
 abbrev pub as_fault : LayoutFault → Fault
 as_fault (layout.Damaged part) = fault.TheVariants.Damaged part
+
+-- the fault of a writer to memory, whose calls fail for want of it alone
+abbrev pub memory_fault : Fault → Fault
+memory_fault OutOfMemory = OutOfMemory
+memory_fault Write = OutOfMemory
+memory_fault SerializerClosed = SerializerClosed
+memory_fault IndexerFailed = IndexerFailed
+memory_fault (UnsupportedLeaf kind) = UnsupportedLeaf kind
+memory_fault DecreasingPosition = DecreasingPosition
+memory_fault (Limit name) = Limit name
+memory_fault (fault.TheVariants.Damaged part) = fault.TheVariants.Damaged part

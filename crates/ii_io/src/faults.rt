@@ -1,5 +1,5 @@
 ghost use Rattle.std.specs.Prelude.{◌≡◌};
-ghost use Rattle.ii_io.specs.Faults.{number_of, as_fault};
+ghost use Rattle.ii_io.specs.Faults.{number_of, as_fault, memory_fault};
 
 use std::alloc::{AllocError, AllocFailed};
 use thiserror::Error;
@@ -139,6 +139,17 @@ impl Fault {
             Fault::DecreasingPosition => 6,
             Fault::Limit(_) => 7,
             Fault::Damaged(_) => 8,
+        }
+    }
+
+    /// The fault of a writer that writes to memory, and fails for want of it alone: `OutOfMemory` for
+    /// `Write`, and any other as it is.
+    pub fn in_memory(self) -> Fault
+        ensures { result ≡ memory_fault self }
+    {
+        match self {
+            Fault::Write => Fault::OutOfMemory,
+            fault => fault,
         }
     }
 }

@@ -5,6 +5,7 @@ ghost use Rattle.ii_base.specs.ValueTypes.{is_plain};
 
 use super::index_record_option::IndexRecordOption;
 use super::value_type::ValueType;
+use std::alloc::AllocError;
 use std::marker::Model;
 
 /// What a schema says of a field.
@@ -32,6 +33,24 @@ impl Model for FieldEntry {
       has_fieldnorms = e.has_fieldnorms;
       expands_dots = e.expands_dots;
     } };
+}
+
+impl Clone for FieldEntry {
+    ghost use Rattle.std.specs.Prelude.{◌≡◌};
+
+    ghost is_clone = { λ e copy. copy ≡ e };
+
+    fn clone(&self) -> Result<FieldEntry, AllocError> {
+        let name = self.name.clone()?;
+        Ok(FieldEntry {
+            name,
+            value_type: self.value_type,
+            option: self.option,
+            is_indexed: self.is_indexed,
+            has_fieldnorms: self.has_fieldnorms,
+            expands_dots: self.expands_dots,
+        })
+    }
 }
 
 impl FieldEntry {

@@ -1,4 +1,4 @@
-ghost use Rattle.std.specs.Prelude.{◌≡◌, ◌^◌, ◌≤◌, length};
+ghost use Rattle.std.specs.Prelude.{◌≡◌, ◌^◌, ◌<◌, length};
 ghost use Rattle.std.specs.List.{enumerate_from};
 
 use super::field_entry::FieldEntry;
@@ -13,7 +13,7 @@ pub struct SchemaFields<'a> {
 }
 
 impl<'a> Model for SchemaFields<'a> {
-    ghost use Rattle.std.specs.Prelude.{ℕ, List, ◌+◌, ◌^◌, ◌≤◌, length};
+    ghost use Rattle.std.specs.Prelude.{ℕ, List, ◌+◌, ◌^◌, ◌<◌, length};
     ghost use Rattle.std.specs.List.{enumerate_from};
     ghost use Rattle.ii_base.specs.Schema.{Entry};
 
@@ -21,13 +21,13 @@ impl<'a> Model for SchemaFields<'a> {
 
     ghost view = { λ s. enumerate_from s.next_id s.entries.now };
 
-    ghost invariant = { λ s. s.next_id + length s.entries.now ≤ 2 ^ 32 };
+    ghost invariant = { λ s. s.next_id + length s.entries.now < 2 ^ 32 };
 }
 
 impl<'a> SchemaFields<'a> {
     // The fields of these entries, numbered from 0.
     pub(crate) fn new(entries: &'a [FieldEntry]) -> SchemaFields<'a>
-        requires { length entries.now ≤ 2 ^ 32 }
+        requires { length entries.now < 2 ^ 32 }
         ensures { result ≡ enumerate_from 0 entries.entry.now }
     {
         SchemaFields {

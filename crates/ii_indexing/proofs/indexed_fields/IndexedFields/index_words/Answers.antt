@@ -23,7 +23,7 @@ returns-in_err-index_text-clause-refused c entries ps inside stored =
     rw (p.1, p.2) (subst (IsRefusedBy (piece_fault (kept_in entries c.args.field) ps (field_text c.args.doc c.args.field c.args.tokens.to_come))) c.in_err-index_text.was refused)
 
 pub returns-clause-stored : goal.returns-clause-stored
-returns-clause-stored c entries ps inside stored =
+returns-clause-stored c entries ps inside of_text stored =
     let st = subst (λ (s : IndexedFieldsState). StoresPieces entries s ps) (sym c.self.view_is) stored in
     let d = c.in_ok-open.open in
     let words = c.args.tokens.to_come in
@@ -33,7 +33,7 @@ returns-clause-stored c entries ps inside stored =
     let new : OpenDocument = record { doc = c.args.doc; num_tokens = c.index_text.new.position.num_tokens; end_position = c.index_text.new.position.end_position; norm = c.saturating_add.result } in
     rw c.put.ensures
     (words_stored entries ps c.args.doc c.args.field words c.index_text.new.self c.open.new.self d new told c.in_ok-open.ensures.found c.in_ok-open.ensures.at refl num c.in_ok-index_text.ensures.end_position
-    (c.saturating_add.ensures ∙ ap (λ (n : ℕ). min (d.norm + n) u32_max) more) (c.in_ok-index_text.ensures.stored entries (tokens_after [] ps) inside st.tokens))
+    (c.saturating_add.ensures ∙ ap (λ (n : ℕ). min (d.norm + n) u32_max) more) (c.in_ok-index_text.ensures.stored entries (tokens_after [] ps) inside of_text st.tokens))
 
 pub returns-clause-ends : goal.returns-clause-ends
 returns-clause-ends c =

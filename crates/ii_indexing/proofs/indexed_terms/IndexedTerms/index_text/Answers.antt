@@ -19,11 +19,11 @@ returns-clause-stored g c =
     let s : IndexedTermsState = record { terms = c.self.inside.ctx; writers = c.self.inside.writers } in
     let w = c.get_for_field_mut-writer.result.now in
     on_both c.index_text.result _ _ _
-    (λ h counted entries ts low stored.
+    (λ h counted entries ts low of_text stored.
     let old = subst (λ (q : IndexedTermsState). StoresTokens entries q ts) (sym c.self.view_is) stored in
     let tokens = subst (λ (t : IndexingTermState). HasTokens (kept_by entries) (text_piece c.args.doc t words) s.terms w ts
     → HasTokens (kept_by entries) (text_piece c.args.doc t words) c.index_text.new.ctx c.index_text.new.self (ts ++ map (word_token (text_piece c.args.doc t words) begin) (kept_words words))) c.clear_with_field.ensures (h (kept_by entries) ts) in
-    text_stored entries ts s c.args.doc c.args.field begin words w c.index_text.new.ctx c.index_text.new.self low old c.get_for_field_mut-writer.ensures.value (ap (λ (v : PostingsWriterState). v.option) counted) tokens)
+    text_stored entries ts s c.args.doc c.args.field begin words w c.index_text.new.ctx c.index_text.new.self low of_text old c.get_for_field_mut-writer.ensures.value (ap (λ (v : PostingsWriterState). v.option) counted) tokens)
     c.index_text.ensures.tokens c.index_text.ensures.counted
 
 pub returns-clause-refused : goal.returns-clause-refused
