@@ -60,7 +60,7 @@ unfolding id_of_norm norm_of_id
 zero_norm = refl
 
 -- the norm of one more document
-norms_recorded : (field : ℕ) (ts : List IndexToken) (d : OpenDocument) (doc : ℕ) (ids : List ℕ) → d.doc < doc → length ids ≤ d.doc
+pub norms_recorded : (field : ℕ) (ts : List IndexToken) (d : OpenDocument) (doc : ℕ) (ids : List ℕ) → d.doc < doc → length ids ≤ d.doc
     → ((x : ℕ) → d.doc ≤ x → min (doc_count x field ts) u32_max ≡ (document_at x d).norm) → HasNorms field ts d.doc ids → HasNorms field ts doc (recorded d.doc d.norm ids)
 norms_recorded field ts d doc ids above behind counts h x low = by (nat_lt x d.doc) (x == d.doc) refl refl
   where
@@ -114,12 +114,12 @@ set_value [] i w d is = absurd (cc)
 set_value (y ∷ xs) zero w d is = cc
 set_value (y ∷ xs) (suc i) w d is = set_value xs i w d is
 
-buffer_set : (bs : Buffers) (field : ℕ) (g : List ℕ → List ℕ) → buffer_of field (slice_set bs field (option_map g (buffer_of field bs))) ≡ option_map g (buffer_of field bs)
+pub buffer_set : (bs : Buffers) (field : ℕ) (g : List ℕ → List ℕ) → buffer_of field (slice_set bs field (option_map g (buffer_of field bs))) ≡ option_map g (buffer_of field bs)
 buffer_set [] field g = refl
 buffer_set (b ∷ bs) zero g = refl
 buffer_set (b ∷ bs) (suc field) g = buffer_set bs field g
 
-buffer_other : (bs : Buffers) (field other : ℕ) (b : Option (List ℕ)) → (field == other) ≡ false → buffer_of other (slice_set bs field b) ≡ buffer_of other bs
+pub buffer_other : (bs : Buffers) (field other : ℕ) (b : Option (List ℕ)) → (field == other) ≡ false → buffer_of other (slice_set bs field b) ≡ buffer_of other bs
 buffer_other bs field other b is = ap option_flatten (set_other bs field other b is)
 
 -- What holds of each field holds once one was changed.

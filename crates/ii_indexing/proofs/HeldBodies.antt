@@ -249,7 +249,7 @@ pub wrote_tokens : {A E : Type 0} (result : Result A E) → ReadsEntriesBack →
     → ((bytes : List ℕ) → recorder_of sorted bytes ≡ recorder_of terms bytes) → IsStrictlySortedBy (slice_cmp nat_cmp) (keys_of sorted) → AllByRecursion AreTermBytes (keys_of sorted) → AllMayBeWritten (length old.entries) terms → HaveTokens old.entries terms writers ts
     → OnOk result (WroteTerms old new writers terms sorted) → OnOk result (WroteTokens old new ts)
 wrote_tokens (Ok x) law uncounted old new writers terms sorted ts few same ascending whole may has wrote =
-    let w : IsWritten old.entries writers sorted ts = record { few = few; whole = whole; ascending = ascending; may = each_may_be (length old.entries) terms sorted same ascending may; tokens = sorted_tokens old.entries terms sorted writers ts same has } in
+    let w : IsWritten old.entries writers sorted ts = record { few = few; whole = whole; ascending = ascending; may = each_may_be (length old.entries) terms sorted same ascending whole may; tokens = sorted_tokens old.entries terms sorted writers ts same has } in
     record {
       fs = first_parts old.entries writers (map (λ (field : ℕ). terms_in field sorted) (range_with_len 0 (length old.entries))) (length old.entries);
       fields = wrote.fields;

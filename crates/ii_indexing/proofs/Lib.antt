@@ -5,6 +5,7 @@ pub mod FieldLists
 pub mod HeldBodies
 pub mod HeldFields
 pub mod HoldLaws
+pub mod NormFileLaws
 pub mod PartLemmas
 pub mod PieceLaws
 pub mod PostingsLaws
@@ -13,6 +14,7 @@ pub mod RecordsLaws
 pub mod SerializeLemmas
 pub mod SortedLemmas
 pub mod StoreLaws
+pub mod StoredLaws
 pub mod TermIndexLemmas
 pub mod TermLemmas
 pub mod TextLaws

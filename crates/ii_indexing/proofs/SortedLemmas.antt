@@ -215,7 +215,7 @@ pub lie_below : {A V : Type 0} (f : V → RecorderState) (es : List (Vec ℕ A �
     → terms ≡ map (λ (e : Vec ℕ A × V). (e.0.items, f e.1)) es → AllByRecursion (λ (t : List ℕ × RecorderState). field_in t.0 < n) terms → AllByRecursion (IsTermBelow n) (map (λ (e : Vec ℕ A × V). (e.0.items, f e.1)) es)
 lie_below f es n terms all same known = subst (AllByRecursion (IsTermBelow n)) same (all_below n terms (subst (λ (ts : TermIndex). AllByRecursion AreTermBytes (keys_of ts)) (sym same) (each_key f es all)) known)
 
-all_mapped : {X : Type 0} (P Q : X → Type 0) → ((x : X) → P x → Q x) → (xs : List X) → AllByRecursion P xs → AllByRecursion Q xs
+pub all_mapped : {X : Type 0} (P Q : X → Type 0) → ((x : X) → P x → Q x) → (xs : List X) → AllByRecursion P xs → AllByRecursion Q xs
 all_mapped P Q f [] all = tt
 all_mapped P Q f (x ∷ xs) all = (f x all.0, all_mapped P Q f xs all.1)
 
@@ -238,7 +238,16 @@ all_writable n first zero terms all = tt
 all_writable n first (suc count) terms all = (kept_writable n first terms all, all_writable n (first + 1) count terms all)
 
 -- terms that may be written may be so in their order
-pub each_may_be : (n : ℕ) (terms sorted : TermIndex) → ((bytes : List ℕ) → recorder_of sorted bytes ≡ recorder_of terms bytes) → IsStrictlySortedBy (slice_cmp nat_cmp) (map (λ (t : List ℕ × RecorderState). t.0) sorted) → AllMayBeWritten n terms
-    → AllByRecursion (λ (t : List ℕ × RecorderState). MayBeWritten n t.0 t.1) sorted
-each_may_be n terms sorted same ascending may =
-    each_by_lookup (MayBeWritten n) sorted ascending (λ bytes. subst (λ (o : Option RecorderState). MatchOption o ⊤ (MayBeWritten n bytes)) (sym (same bytes)) (may bytes))
+pub each_may_be : (n : ℕ) (terms sorted : TermIndex) → ((bytes : List ℕ) → recorder_of sorted bytes ≡ recorder_of terms bytes) → IsStrictlySortedBy (slice_cmp nat_cmp) (map (λ (t : List ℕ × RecorderState). t.0) sorted)
+    → AllByRecursion AreTermBytes (keys_of sorted) → AllMayBeWritten n terms → AllByRecursion (λ (t : List ℕ × RecorderState). MayBeWritten n t.0 t.1) sorted
+each_may_be n terms sorted same ascending whole may = both sorted (each_by_lookup (λ bytes r. AreTermBytes bytes → MayBeWritten n bytes r) sorted ascending (λ bytes. where_found bytes (recorder_of sorted bytes) (same bytes))) whole
+  where
+    where_found : (bytes : List ℕ) (o : Option RecorderState) → o ≡ recorder_of terms bytes → MatchOption o ⊤ (λ r. AreTermBytes bytes → MayBeWritten n bytes r)
+    where_found bytes None is = tt
+    where_found bytes (Some r) is = λ are.
+        let here : MatchOption (recorder_of terms bytes) ⊤ (MayBeWritten n bytes) = subst (λ (bs : List ℕ). MatchOption (recorder_of terms bs) ⊤ (MayBeWritten n bs)) (sym are.are) (may are.field (drop 4 bytes) are.small) in
+        subst (λ (o : Option RecorderState). MatchOption o ⊤ (MayBeWritten n bytes)) (sym is) here
+
+    both : (ts : TermIndex) → AllByRecursion (λ (t : List ℕ × RecorderState). AreTermBytes t.0 → MayBeWritten n t.0 t.1) ts → AllByRecursion AreTermBytes (keys_of ts) → AllByRecursion (λ (t : List ℕ × RecorderState). MayBeWritten n t.0 t.1) ts
+    both [] each are = tt
+    both (t ∷ ts) each are = (each.0 are.0, both ts each.1 are.1)

@@ -98,6 +98,13 @@ kept_kind entries ts field key t us is all =
     let at : t.field ≡ field = eqb-true t.field field (and_parts (t.field == field) (bytes_eq t.key key) first.1).0 in
     subst (λ (f : ℕ). kind_of (option_of entries f) (t ∷ []) ≡ kept_in entries f) at first.0.kind
 
+-- and its field is one of the schema
+pub token_field : (entries : List Entry) (ts : List IndexToken) (field : ℕ) (key : List ℕ) (t : IndexToken) (us : List IndexToken) → tokens_at field key ts ≡ t ∷ us → AllByRecursion (IsOfField entries) ts → field < length entries
+token_field entries ts field key t us is all =
+    let first = first_kept (is_at field key) (IsOfField entries) ts t us is all in
+    let at : t.field ≡ field = eqb-true t.field field (and_parts (t.field == field) (bytes_eq t.key key) first.1).0 in
+    subst (λ (f : ℕ). f < length entries) at first.0.known
+
 basic_if : (o : IndexRecordOption) (b : Bool) (kept : IndexRecordOption) → cond b o Basic ≡ kept → cond b kept Basic ≡ kept
 basic_if o true kept is = refl
 basic_if o false kept is = is

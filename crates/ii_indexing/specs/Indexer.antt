@@ -1,11 +1,11 @@
 -- What an indexer has stored of the calls that it took.
-use Rattle.std.specs.Prelude.{◌≡◌, ℕ, Bool, List, [], length}
-use Rattle.ii_base.specs.Schema.{Entry}
+use Rattle.std.specs.Prelude.{◌≡◌, ℕ, Bool, List, [], length, map}
+use Rattle.ii_base.specs.Schema.{Entry, keeps_norms}
 use Rattle.ii_base.specs.Words.{Word}
 use Rattle.ii_index.specs.Tokens.{Call, Piece, pieces_of, tokens_after}
 use Rattle.ii_indexing.specs.IndexedTerms.{IndexedTermsState, StoresTokens}
 use Rattle.ii_indexing.specs.IndexingContext.{AllEndBy}
-use Rattle.ii_indexing.specs.OpenDocuments.{OpenDocumentsState, ReachTo, TellsAll}
+use Rattle.ii_indexing.specs.OpenDocuments.{OpenDocumentsState, ReachTo, TellsAll, with_norms}
 
 -- The terms of all fields, and the open document of each.
 pub record IndexedFieldsState : Type 0 where
@@ -30,6 +30,18 @@ pub record IndexerState : Type 0 where
   pub last_doc : ℕ
   pub fields : IndexedFieldsState
   pub failed : Bool
+
+-- Some pieces are stored.
+pub record StoresSome (entries : List Entry) (s : IndexedFieldsState) : Type 0 where
+  pub pieces : List Piece
+  pub stored : StoresPieces entries s pieces
+
+-- What holds of an indexer's fields while no call was refused.
+pub record AreRunning (entries : List Entry) (last_doc : ℕ) (s : IndexedFieldsState) : Type 0 where
+  pub ends : EndsAt last_doc s
+  pub writers : length s.indexed.writers ≡ length entries
+  pub norms : with_norms s.opened.norms ≡ map keeps_norms entries
+  pub some : StoresSome entries s
 
 -- The calls are stored, by what an analyzer makes of a text.
 abbrev pub Stores : (List ℕ → List Word) → IndexerState → List Call → Type 0

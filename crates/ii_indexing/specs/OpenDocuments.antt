@@ -1,6 +1,7 @@
 -- What is known of each field in the document that was opened last in it, and the norms of the documents before.
-use Rattle.std.specs.Prelude.{◌≡◌, ℕ, ◌<◌, ◌≤◌, ◌==◌, min, if◌then◌else◌, List, [], get_or, length, slice_get, IfSome, Option, Some}
-use Rattle.ii_fieldnorm.specs.Buffers.{Buffers, buffer_of}
+use Rattle.std.specs.Prelude.{◌≡◌, ℕ, ◌<◌, ◌≤◌, Bool, ◌==◌, min, if◌then◌else◌, List, [], get_or, is_some, length, map, slice_get, IfSome, Option, None, Some}
+use Rattle.std.specs.Option.{option_map}
+use Rattle.ii_fieldnorm.specs.Buffers.{Buffers, buffer_of, recorded}
 use Rattle.ii_fieldnorm.specs.Norms.{id_of_norm}
 use Rattle.ii_index.specs.Tokens.{IndexToken, Piece, begin_after}
 use Rattle.ii_index.specs.Postings.{doc_count}
@@ -44,3 +45,16 @@ ReachTo doc s = (field : ℕ) (d : OpenDocument) → slice_get s.documents field
 -- Norms are kept for documents before the open one alone.
 abbrev pub AreBehind : OpenDocumentsState → Type 0
 AreBehind s = (field : ℕ) (d : OpenDocument) → slice_get s.documents field ≡ Some d → IfSome (buffer_of field s.norms) (λ ids. length ids ≤ d.doc)
+
+-- which fields have norms
+abbrev pub with_norms : Buffers → List Bool
+with_norms buffers = map is_some buffers
+
+-- the norms of a field once that of its open document was recorded
+abbrev pub closed_norms : Option OpenDocument → Option (List ℕ) → Option (List ℕ)
+closed_norms None ids = ids
+closed_norms (Some d) ids = option_map (recorded d.doc d.norm) ids
+
+-- So it is with the fields of these documents.
+abbrev pub AreClosed : List OpenDocument → Buffers → Buffers → Type 0
+AreClosed documents old new = (field : ℕ) → buffer_of field new ≡ closed_norms (slice_get documents field) (buffer_of field old)

@@ -1,5 +1,5 @@
 -- The terms of an index, field by field.
-use Rattle.std.specs.Prelude.{MatchOption, ⊤, ◌^◌, if◌then◌else◌, IsTrue, [], ℕ, ◌==◌, ◌<◌, ◌≤◌, List, drop, filter, length, map, Vec}
+use Rattle.std.specs.Prelude.{MatchOption, ⊤, ◌^◌, if◌then◌else◌, IsTrue, [], ℕ, ◌==◌, ◌<◌, ◌≤◌, List, ◌++◌, drop, filter, length, map, Vec}
 use Rattle.ii_recorder.specs.AnyRecorder.{any_state}
 use Rattle.ii_recorder.specs.declared.recorder.any_recorder.AnyRecorder.{AnyRecorder}
 use Rattle.std.specs.List.{AllByRecursion}
@@ -12,7 +12,7 @@ use Rattle.ii_recorder.specs.Recorded.{RecorderState, entries_in}
 use Rattle.ii_recorder.specs.Terms.{WrittenTerm}
 use Rattle.ii_indexing.specs.declared.sorted_terms.TermOfField.{TermOfField}
 use Rattle.ii_indexing.specs.IndexingContext.{TermIndex, recorder_of}
-use Rattle.ii_indexing.specs.IndexingTerm.{field_in}
+use Rattle.ii_indexing.specs.IndexingTerm.{field_bytes, field_in}
 
 -- A term of a field: its key, and what is kept of it.
 pub record TermState : Type 0 where
@@ -61,10 +61,10 @@ pub record IsTold (mode : IndexRecordOption) (t : TermState) : Type 0 where
   pub fit : AllByRecursion (λ n. n < 2 ^ 32) (pushed_freqs t.recorder.option (entries_in t.recorder))
   pub located : IsTrue (has_positions t.recorder.option) → HaveDeltas (entries_in t.recorder)
 
--- A term of a context may be written, in one of so many fields.
+-- What a context keeps of a term may be written, in one of so many fields.
 pub record MayBeWritten (num_fields : ℕ) (bytes : List ℕ) (r : RecorderState) : Type 0 where
   pub known : field_in bytes < num_fields
   pub writable : IsWritable (record { key = drop 4 bytes; recorder = r })
 
 abbrev pub AllMayBeWritten : ℕ → TermIndex → Type 0
-AllMayBeWritten num_fields terms = (bytes : List ℕ) → MatchOption (recorder_of terms bytes) ⊤ (MayBeWritten num_fields bytes)
+AllMayBeWritten num_fields terms = (field : ℕ) (key : List ℕ) → field < 2 ^ 32 → MatchOption (recorder_of terms (field_bytes field ++ key)) ⊤ (MayBeWritten num_fields (field_bytes field ++ key))

@@ -1,5 +1,5 @@
-ghost use Rattle.std.specs.Prelude.{◌≡◌, ◌<◌, ◌∷◌, ◌++◌, [], List, ℕ, length, string_bytes, IfErr, IfOk, OnErr, OnOk};
-ghost use Rattle.ii_base.specs.Schema.{Entry};
+ghost use Rattle.std.specs.Prelude.{◌≡◌, ◌<◌, ◌∷◌, ◌++◌, [], List, ℕ, length, map, string_bytes, IfErr, IfOk, OnErr, OnOk};
+ghost use Rattle.ii_base.specs.Schema.{Entry, keeps_norms};
 ghost use Rattle.ii_base.specs.declared.schema.index_record_option.IndexRecordOption.TheVariants.{Basic};
 ghost use Rattle.ii_docset.specs.declared.docset.TheConstants.{TERMINATED};
 ghost use Rattle.ii_index.specs.Tokens.{Piece, call_pieces};
@@ -7,6 +7,7 @@ ghost use Rattle.ii_index.specs.Fields.{option_of};
 ghost use Rattle.ii_indexing.specs.IndexCalls.{Takes, call_of, type_of};
 ghost use Rattle.ii_indexing.specs.IndexedTerms.{field_text, field_value, kept_in, key_of};
 ghost use Rattle.ii_indexing.specs.Indexer.{EndsAt, StoresPieces};
+ghost use Rattle.ii_indexing.specs.OpenDocuments.{with_norms};
 ghost use Rattle.ii_indexing.specs.Refusals.{IsRefusedBy, piece_fault, pieces_fault};
 
 use crate::index_call::IndexCall;
@@ -39,6 +40,7 @@ impl IndexedFields {
         ensures stored { IfOk result (λ f. StoresPieces schema.now f []) }
         ensures ends { IfOk result (EndsAt 0) }
         ensures fields { IfOk result (λ f. length f.indexed.writers ≡ length schema.now) }
+        ensures norms { IfOk result (λ f. with_norms f.opened.norms ≡ map keeps_norms schema.now) }
         ensures only { IfErr result (λ e. e ≡ Fault.OutOfMemory) }
     {
         Ok(IndexedFields {
@@ -61,6 +63,7 @@ impl IndexedFields {
             → StoresPieces entries self.new (ps ++ call_pieces (A.words analyzer.now) (call_of call))) }
         ensures ends { OnOk result (EndsAt (call_of call).doc self.new) }
         ensures fields { OnOk result (length self.new.indexed.writers ≡ length self.old.indexed.writers) }
+        ensures norms { OnOk result (with_norms self.new.opened.norms ≡ with_norms self.old.opened.norms) }
         ensures refused { (entries : List Entry) (ps : List Piece) → Takes entries (call_of call).field (type_of call) → StoresPieces entries self.old ps
             → IsRefusedBy (pieces_fault (option_of entries (call_of call).field) ps (call_pieces (A.words analyzer.now) (call_of call))) result }
     {
@@ -97,6 +100,7 @@ impl IndexedFields {
         ensures stored { OnOk result ((entries : List Entry) (ps : List Piece) → field < length entries → kept_in entries field ≡ option_of entries field → StoresPieces entries self.old ps → StoresPieces entries self.new (ps ++ field_text doc field tokens.to_come ∷ [])) }
         ensures ends { OnOk result (EndsAt doc self.new) }
         ensures fields { OnOk result (length self.new.indexed.writers ≡ length self.old.indexed.writers) }
+        ensures norms { OnOk result (with_norms self.new.opened.norms ≡ with_norms self.old.opened.norms) }
         ensures refused { (entries : List Entry) (ps : List Piece) → field < length entries → StoresPieces entries self.old ps → IsRefusedBy (piece_fault (kept_in entries field) ps (field_text doc field tokens.to_come)) result }
     {
         let mut tokens = tokens;
@@ -128,6 +132,7 @@ impl IndexedFields {
             → StoresPieces entries self.new (ps ++ field_value doc field (key_of value) ∷ [])) }
         ensures ends { OnOk result (EndsAt doc self.new) }
         ensures fields { OnOk result (length self.new.indexed.writers ≡ length self.old.indexed.writers) }
+        ensures norms { OnOk result (with_norms self.new.opened.norms ≡ with_norms self.old.opened.norms) }
         ensures refused { (entries : List Entry) (ps : List Piece) → field < length entries → kept_in entries field ≡ Basic → StoresPieces entries self.old ps
             → IsRefusedBy (piece_fault (kept_in entries field) ps (field_value doc field (key_of value))) result }
     {

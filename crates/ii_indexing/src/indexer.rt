@@ -28,9 +28,9 @@ pub struct Indexer {
 }
 
 impl Model for Indexer {
-    ghost use Rattle.std.specs.Prelude.{◌≡◌, ◌≤◌, false, length};
+    ghost use Rattle.std.specs.Prelude.{◌≡◌, ◌≤◌, false};
     ghost use Rattle.ii_docset.specs.declared.docset.TheConstants.{TERMINATED};
-    ghost use Rattle.ii_indexing.specs.Indexer.{EndsAt, IndexerState};
+    ghost use Rattle.ii_indexing.specs.Indexer.{AreRunning, IndexerState};
 
     ghost Value = { IndexerState };
 
@@ -42,8 +42,7 @@ impl Model for Indexer {
       failed = i.failed;
     } };
 
-    ghost invariant = { λ i. (i.num_docs ≤ TERMINATED)
-        × (i.failed ≡ false → EndsAt i.last_doc i.fields × (length i.fields.indexed.writers ≡ length i.schema)) };
+    ghost invariant = { λ i. (i.num_docs ≤ TERMINATED) × (i.failed ≡ false → AreRunning i.schema i.last_doc i.fields) };
 }
 
 impl Indexer {

@@ -3,6 +3,8 @@
 #![tactic(auto)]
 
 pub mod index_call;
+mod finished_fields;
+pub mod index_writers;
 mod indexed_fields;
 mod indexed_terms;
 pub mod indexer;

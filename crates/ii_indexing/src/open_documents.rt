@@ -1,13 +1,17 @@
-ghost use Rattle.std.specs.Prelude.{◌≡◌, ◌<◌, ◌≤◌, [], List, length, map, slice_get, slice_set, Some, IfErr, IfOk, OnErr, OnOk};
+ghost use Rattle.std.specs.Prelude.{◌≡◌, ◌<◌, ◌≤◌, ◌^◌, [], List, is_some, length, map, slice_get, slice_set, Some, IfErr, IfOk, OnErr, OnOk};
 ghost use Rattle.ii_base.specs.Schema.{Entry};
-ghost use Rattle.ii_fieldnorm.specs.Buffers.{empty_buffers};
+ghost use Rattle.ii_io.specs.Composite.{composite, written_composite};
+ghost use Rattle.ii_docset.specs.declared.docset.TheConstants.{TERMINATED};
+ghost use Rattle.ii_fieldnorm.specs.Buffers.{buffer_of, empty_buffers, norm_bodies};
+ghost use Rattle.ii_indexing.specs.Norms.{HoldNorms};
 ghost use Rattle.ii_index.specs.Tokens.{IndexToken, Piece};
 ghost use Rattle.ii_indexing.specs.declared.open_documents.OpenDocument.{OpenDocument};
-ghost use Rattle.ii_indexing.specs.OpenDocuments.{ReachTo, TellsAll, empty_document, document_at};
+ghost use Rattle.ii_indexing.specs.OpenDocuments.{AreBehind, AreClosed, ReachTo, TellsAll, empty_document, document_at, with_norms};
 
-use ii_base::{Fault, Field, Schema};
+use bytes::Bytes;
+use ii_base::{CountingWriter, Fault, Field, Schema};
 use ii_docset::DocId;
-use ii_fieldnorm::FieldNormsWriter;
+use ii_fieldnorm::{FieldNormsSerializer, FieldNormsWriter};
 use std::alloc::Global;
 use std::marker::Model;
 
@@ -68,6 +72,7 @@ impl OpenDocuments {
         ensures told { OnOk result ((ps : List Piece) (ts : List IndexToken) → TellsAll ps ts self.old → TellsAll ps ts self.new) }
         ensures reach { OnOk result (ReachTo doc self.new) }
         ensures fields { OnOk result (length self.new.documents ≡ length self.old.documents) }
+        ensures norms { OnOk result (with_norms self.new.norms ≡ with_norms self.old.norms) }
         ensures only { IfErr result (λ e. e ≡ Fault.OutOfMemory) }
     {
         let index = field.field_id() as usize;
@@ -93,5 +98,51 @@ impl OpenDocuments {
         ensures { self.new ≡ record self.old { documents = slice_set self.old.documents field document } }
     {
         self.documents[field.field_id() as usize] = document;
+    }
+
+    // The file of norms, so many for each field that has some, at most `TERMINATED`.
+    pub(crate) fn finish(self, alloc: Global, num_docs: DocId) -> Result<Bytes, Fault>
+        requires docs { num_docs ≤ TERMINATED }
+        requires few { length self.norms < 2 ^ 32 }
+        requires fields { length self.documents ≡ length self.norms }
+        ensures holds { IfOk result (λ bytes. (ps : List Piece) (ts : List IndexToken) → TellsAll ps ts self → HoldNorms (λ field. is_some (buffer_of field self.norms)) num_docs bytes ts) }
+        ensures only { IfErr result (λ e. e ≡ Fault.OutOfMemory) }
+    {
+        let OpenDocuments { documents, norms } = self;
+        let mut norms = norms;
+        close_documents(&documents, &mut norms)?;
+        norms.fill_up_to_max_doc(num_docs)?;
+        norms_file(alloc, &norms)
+    }
+}
+
+// Records the norms of open documents, each after those of its field.
+fn close_documents(documents: &[OpenDocument], norms: &mut FieldNormsWriter) -> Result<(), Fault>
+    requires behind { AreBehind (record { documents = documents.now; norms = norms.old }) }
+    requires few { length documents.now < 2 ^ 32 }
+    ensures ok { OnOk result (AreClosed documents.now norms.old norms.new) }
+    ensures norms { OnOk result (with_norms norms.new ≡ with_norms norms.old) }
+    ensures only { IfErr result (λ e. e ≡ Fault.OutOfMemory) }
+{
+    for place in 0..documents.len() {
+        let document = documents[place];
+        let field = Field::from_field_id(place as u32);
+        norms.record(document.doc, field, document.norm)?;
+    }
+    Ok(())
+}
+
+// The file of norms, which is below 2^64 bytes.
+fn norms_file(alloc: Global, norms: &FieldNormsWriter) -> Result<Bytes, Fault>
+    requires few { length norms.now < 2 ^ 32 }
+    requires small { length (written_composite (norm_bodies norms.now)) < 2 ^ 64 }
+    ensures reads { IfOk result (λ bytes. composite bytes ≡ Some (norm_bodies norms.now)) }
+    ensures only { IfErr result (λ e. e ≡ Fault.OutOfMemory) }
+{
+    let writer = CountingWriter::wrap(Vec::new(alloc));
+    let (writer, written) = norms.serialize(FieldNormsSerializer::from_write(alloc, writer));
+    match written {
+        Ok(()) => Ok(Bytes::from_vec(writer.finish())?),
+        Err(fault) => Err(fault.in_memory()),
     }
 }

@@ -10,7 +10,7 @@ use Rattle.ii_io.specs.Composite.{Body, place_bytes, places_at, lies_within, tab
 use Rattle.ii_io.specs.CompositeLemmas.{reads_place_back}
 use Rattle.ii_io.proofs.CompositeWriteLemmas.{length-places_bytes}
 
-length-places_from : (start : ℕ) (bodies : List Body) → length (places_from start bodies) ≡ length bodies
+pub length-places_from : (start : ℕ) (bodies : List Body) → length (places_from start bodies) ≡ length bodies
 length-places_from start [] = refl
 length-places_from start (b ∷ bs) = ap suc (length-places_from (start + length b.bytes) bs)
 

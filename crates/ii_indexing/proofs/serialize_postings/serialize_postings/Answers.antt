@@ -11,7 +11,7 @@ use Rattle.ii_indexing.proofs.serialize_postings.serialize_postings.Goals as goa
 
 pub terms_by_field-requires : goal.terms_by_field-requires
 terms_by_field-requires g c =
-    let all = each_may_be (length c.args.schema.now) c.args.ctx c.sort.new.self c.in_ok-sort.ensures.same c.in_ok-sort.ensures.ascending c.requires.terms in
+    let all = each_may_be (length c.args.schema.now) c.args.ctx c.sort.new.self c.in_ok-sort.ensures.same c.in_ok-sort.ensures.ascending c.in_ok-sort.ensures.whole c.requires.terms in
     record { known = subst (λ (n : ℕ). AllByRecursion (λ (t : List ℕ × RecorderState). field_in t.0 < n) c.sort.new.self) (sym c.num_fields.ensures.value) (fields_known (length c.args.schema.now) c.sort.new.self all) }
 
 pub serialize_fields-requires-clause-known : goal.serialize_fields-requires-clause-known
@@ -31,7 +31,7 @@ serialize_fields-requires-clause-writers g c =
 
 pub serialize_fields-requires-clause-writable : goal.serialize_fields-requires-clause-writable
 serialize_fields-requires-clause-writable g c =
-    let all = each_may_be (length c.args.schema.now) c.args.ctx c.sort.new.self c.in_ok-sort.ensures.same c.in_ok-sort.ensures.ascending c.requires.terms in
+    let all = each_may_be (length c.args.schema.now) c.args.ctx c.sort.new.self c.in_ok-sort.ensures.same c.in_ok-sort.ensures.ascending c.in_ok-sort.ensures.whole c.requires.terms in
     subst (AllByRecursion (λ (ts : List TermState). AllByRecursion IsWritable ts)) (sym c.in_ok-terms.ensures.ok) (all_writable (length c.args.schema.now) 0 c.num_fields.result c.sort.new.self all)
 
 pub returns-clause-wrote : goal.returns-clause-wrote

@@ -1,8 +1,8 @@
-use Rattle.std.proofs.Common.{◌≡◌, ◌≤◌, false, sym, ap, ◌∙◌, subst}
+use Rattle.std.proofs.Common.{◌≡◌, ◌≤◌, ◌++◌, ℕ, false, sym, ap, ◌∙◌, subst}
 use Rattle.std.proofs.lemmas.Result.{err_from_is_err_and}
-use Rattle.ii_index.specs.Tokens.{pieces_of}
+use Rattle.ii_index.specs.Tokens.{call_pieces, pieces_of}
 use Rattle.ii_indexing.specs.IndexCalls.{Takes, call_of, type_of}
-use Rattle.ii_indexing.specs.Indexer.{IndexerState, StoresPieces}
+use Rattle.ii_indexing.specs.Indexer.{EndsAt, IndexerState, StoresPieces}
 use Rattle.ii_indexing.proofs.CallLaws.{ends_later, pieces_with}
 use Rattle.ii_indexing.proofs.indexer.Indexer.index.Goals as goal
 
@@ -11,7 +11,7 @@ index_call-requires-clause-ends g c =
     let now = c.self.view_is in
     let running : c.args.self.now.failed ≡ false = sym (ap (λ (s : IndexerState). s.failed) now) ∙ c.if-self.false in
     let order = subst (λ (s : IndexerState). s.last_doc ≤ (call_of c.args.call).doc) (sym now) (c.requires.order running) in
-    ends_later c.self.inside.last_doc (call_of c.args.call).doc c.self.inside.fields order (c.self.invariant.1 c.if-self.false).0
+    ends_later c.self.inside.last_doc (call_of c.args.call).doc c.self.inside.fields order (c.self.invariant.1 c.if-self.false).ends
 
 pub returns-in_err-index_call-clause-refused : goal.returns-in_err-index_call-clause-refused
 returns-in_err-index_call-clause-refused g c fine calls stored =
@@ -30,3 +30,19 @@ returns-clause-stored g c calls stored =
     let st = subst (λ (s : IndexerState). StoresPieces s.schema s.fields pieces) (sym now) stored in
     let takes = subst (λ (s : IndexerState). Takes s.schema (call_of c.args.call).field (type_of c.args.call)) (sym now) (c.requires.takes running) in
     subst (StoresPieces c.self.inside.schema c.index_call.new.self) (sym (pieces_with analyze calls (call_of c.args.call))) (c.in_ok-index_call.ensures.stored c.self.inside.schema pieces takes st)
+
+pub invariant_of-self-2 : goal.invariant_of-self-2
+invariant_of-self-2 g c =
+    let now = c.self.view_is in
+    let old = c.self.invariant.1 c.if-self.false in
+    let running : c.args.self.now.failed ≡ false = sym (ap (λ (s : IndexerState). s.failed) now) ∙ c.if-self.false in
+    let takes = subst (λ (s : IndexerState). Takes s.schema (call_of c.args.call).field (type_of c.args.call)) (sym now) (c.requires.takes running) in
+    (
+      c.self.invariant.0,
+      λ fine. record {
+        ends = subst (λ (doc : ℕ). EndsAt doc c.index_call.new.self) (sym c.doc-doc.ensures) c.in_ok-index_call.ensures.ends;
+        writers = c.in_ok-index_call.ensures.fields ∙ old.writers;
+        norms = c.in_ok-index_call.ensures.norms ∙ old.norms;
+        some = record { pieces = old.some.pieces ++ call_pieces (g.A.TextAnalyzer.words c.args.analyzer.now) (call_of c.args.call); stored = c.in_ok-index_call.ensures.stored c.self.inside.schema old.some.pieces takes old.some.stored };
+      },
+    )

@@ -1,8 +1,10 @@
 use Rattle.std.proofs.Common.{◌≡◌, ◌<◌, sym, ap, ◌∙◌, subst, arith, Some, length, get_or}
 use Rattle.std.specs.Prelude.{slice_get}
-use Rattle.ii_indexing.specs.OpenDocuments.{OpenDocumentsState, ReachTo, TellsAll, empty_document}
+use Rattle.ii_fieldnorm.specs.Buffers.{recorded, recorded_buffers}
+use Rattle.ii_indexing.specs.OpenDocuments.{OpenDocumentsState, ReachTo, TellsAll, empty_document, with_norms}
 use Rattle.ii_indexing.proofs.DocumentLaws.{found_at, opened_behind, opened_reach, opened_tells}
 use Rattle.ii_indexing.proofs.StoreLaws.{set_same}
+use Rattle.ii_indexing.proofs.StoredLaws.{norms_kept}
 use Rattle.ii_indexing.proofs.open_documents.OpenDocuments.open.Goals as goal
 
 pub invariant_of-self-2 : goal.invariant_of-self-2
@@ -40,3 +42,9 @@ returns-clause-reach c =
     let last = c.index-last.result.now in
     let reach = subst (λ (q : OpenDocumentsState). ReachTo c.args.doc q) (sym c.self.view_is) c.requires.reach in
     rw c.field_id-index.ensures (opened_reach s c.args.field c.args.doc last reach)
+
+pub returns-clause-norms : goal.returns-clause-norms
+returns-clause-norms c =
+    let last = c.index-last.result.now in
+    rw c.in_ok-record.ensures.ok
+    (subst (λ (q : OpenDocumentsState). with_norms (recorded_buffers c.args.field last.doc last.norm c.self.inside.norms) ≡ with_norms q.norms) c.self.view_is (norms_kept c.self.inside.norms c.args.field (recorded last.doc last.norm)))

@@ -1,0 +1,210 @@
+-- The norms of all documents, as they are written in the end.
+use Rattle.std.proofs.Common.{◌≡◌, ℕ, zero, suc, ◌+◌, ◌-◌, ◌*◌, ◌^◌, ◌<◌, ◌≤◌, ◌==◌, Bool, true, false, List, [], ◌∷◌, ◌++◌, map, length, take, replicate, get_or, Option, Some, None, refl, sym, ap, ◌∙◌, subst, arith, add-one, length-append, take_all, ⊎_elim}
+use Rattle.std.specs.Prelude.{IfSome, is_some, nat_lt, slice_get, slice_set, if◌then◌else◌}
+use Rattle.std.specs.List.{range_with_len}
+use Rattle.std.specs.Option.{option_flatten, option_map}
+use Rattle.std.proofs.lemmas.Bool.{eqb-true, eqb-false}
+use Rattle.std.proofs.lemmas.List.{length-map, length-replicate}
+use Rattle.std.specs.Io.KnownBytes.{Appends}
+use Rattle.std.specs.Prelude.{Err, Result}
+use Rattle.ii_io.specs.Composite.{Body, bodies_bytes, body_of, composite, places_from, table_bytes, written_composite}
+use Rattle.ii_io.specs.CompositeWrite.{HasBodies}
+use Rattle.ii_io.proofs.CompositeLaws.{length-places_from}
+use Rattle.ii_io.proofs.CompositeWriteLemmas.{length-table_bytes}
+use Rattle.ii_io.specs.CountingWriter.{CountingWriterState, IsFull, WritesInMemory}
+use Rattle.ii_io.specs.CountingWriterLemmas.{wrote_nothing}
+use Rattle.ii_io.specs.Faults.{memory_fault}
+use Rattle.ii_io.specs.declared.faults.Fault.{Fault}
+use Rattle.ii_io.specs.declared.faults.Fault.TheVariants.{OutOfMemory, Write, SerializerClosed, IndexerFailed, UnsupportedLeaf, DecreasingPosition, Limit, Damaged}
+use Rattle.ii_io.specs.declared.faults.LimitName.TheVariants.{Offset}
+use Rattle.ii_fieldnorm.specs.Buffers.{Buffers, buffer_of, filled, filled_buffers, norm_bodies, norm_bodies_from, recorded, recorded_buffers, WroteNorms}
+use Rattle.ii_fieldnorm.specs.Norms.{id_of_norm}
+use Rattle.ii_fieldnorm.proofs.WrittenNorms.{body_of-norm_bodies}
+use Rattle.ii_index.specs.Postings.{doc_count}
+use Rattle.ii_index.specs.Tokens.{IndexToken, Piece}
+use Rattle.ii_indexing.specs.Norms.{HoldNorms, norm_ids}
+use Rattle.ii_indexing.specs.OpenDocuments.{AreBehind, AreClosed, HasNorms, OpenDocumentsState, Tells, TellsAll, closed_norms, with_norms}
+use Rattle.ii_indexing.specs.declared.open_documents.OpenDocument.{OpenDocument}
+use Rattle.ii_indexing.proofs.DocumentLaws.{buffer_other, buffer_set, norms_recorded}
+
+take_here : {A : Type 0} (xs : List A) (k : ℕ) (x : A) → slice_get xs k ≡ Some x → slice_get (take (suc k) xs) k ≡ Some x
+take_here [] k x is = absurd (cc)
+take_here (y ∷ ys) zero x is = is
+take_here (y ∷ ys) (suc k) x is = take_here ys k x is
+
+take_other : {A : Type 0} (xs : List A) (k i : ℕ) → (k == i) ≡ false → slice_get (take (suc k) xs) i ≡ slice_get (take k xs) i
+take_other [] zero i other = refl
+take_other [] (suc k) i other = refl
+take_other (x ∷ xs) zero zero other = absurd (eqb-false 0 0 other refl)
+take_other (x ∷ xs) zero (suc i) other = refl
+take_other (x ∷ xs) (suc k) zero other = refl
+take_other (x ∷ xs) (suc k) (suc i) other = take_other xs k i (grind (arith, other))
+
+take_past : {A : Type 0} (xs : List A) (k : ℕ) → slice_get (take k xs) k ≡ None
+take_past [] zero = refl
+take_past [] (suc k) = refl
+take_past (x ∷ xs) zero = refl
+take_past (x ∷ xs) (suc k) = take_past xs k
+
+module _ (ds : List OpenDocument) (old now : Buffers) (k : ℕ) (d : OpenDocument) (at : slice_get ds k ≡ Some d) (closes : AreClosed (take k ds) old now) where
+  still : buffer_of k now ≡ buffer_of k old
+  still = closes k ∙ ap (λ (o : Option OpenDocument). closed_norms o (buffer_of k old)) (take_past ds k)
+
+  -- the norms of the next field lie before its open document
+  pub may_close : AreBehind (record { documents = ds; norms = old }) → IfSome (buffer_of k now) (λ (ids : List ℕ). length ids ≤ d.doc)
+  may_close behind = subst (λ (o : Option (List ℕ)). IfSome o (λ (ids : List ℕ). length ids ≤ d.doc)) (sym still) (behind k d at)
+
+  -- that document was closed
+  pub one_closed : AreClosed (take (suc k) ds) old (recorded_buffers k d.doc d.norm now)
+  one_closed field = by (k == field) refl
+    where
+      by : (b : Bool) → (k == field) ≡ b → buffer_of field (recorded_buffers k d.doc d.norm now) ≡ closed_norms (slice_get (take (suc k) ds) field) (buffer_of field old)
+      by true same =
+          subst (λ (f : ℕ). buffer_of f (recorded_buffers k d.doc d.norm now) ≡ closed_norms (slice_get (take (suc k) ds) f) (buffer_of f old)) (eqb-true k field same)
+          (buffer_set now k (recorded d.doc d.norm) ∙ ap (option_map (recorded d.doc d.norm)) still ∙ sym (ap (λ (o : Option OpenDocument). closed_norms o (buffer_of k old)) (take_here ds k d at)))
+      by false other =
+          buffer_other now k field (option_map (recorded d.doc d.norm) (buffer_of k now)) other ∙ closes field
+          ∙ sym (ap (λ (o : Option OpenDocument). closed_norms o (buffer_of field old)) (take_other ds k field other))
+
+-- norms that are filled up, item by item
+filled_none : (n : ℕ) → filled (suc n) [] ≡ 0 ∷ filled n []
+filled_none zero = refl
+filled_none (suc n) =
+    let same : suc (suc n) - 0 ≡ suc (suc n) = omega arith in
+    let less : suc n - 0 ≡ suc n = omega arith in
+    ap (λ (m : ℕ). replicate m 0) same ∙ ap (λ (m : ℕ). 0 ∷ replicate m 0) (sym less)
+
+filled_more : (n id : ℕ) (ids : List ℕ) → filled (suc n) (id ∷ ids) ≡ id ∷ filled n ids
+filled_more n id ids =
+    let same : suc n - suc (length ids) ≡ n - length ids = omega arith in
+    ap (λ (m : ℕ). id ∷ (take n ids ++ replicate m 0)) same
+
+filled_zero : (ids : List ℕ) → filled 0 ids ≡ []
+filled_zero [] = refl
+filled_zero (id ∷ ids) =
+    let same : 0 - suc (length ids) ≡ 0 = omega arith in
+    ap (λ (m : ℕ). replicate {A = ℕ} m 0) same
+
+filled_is : (f : ℕ → ℕ) (n first : ℕ) (ids : List ℕ) → ((x : ℕ) → x < n → get_or ids x 0 ≡ f (first + x)) → filled n ids ≡ map f (range_with_len first n)
+filled_is f zero first ids h = filled_zero ids
+filled_is f (suc n) first [] h =
+    let here : 0 ≡ f first = h 0 (omega arith) ∙ ap f (omega arith) in
+    let rest = filled_is f n (first + 1) [] (λ x low. h (suc x) (omega (arith, low)) ∙ ap f (omega arith)) in
+    filled_none n ∙ ap (λ (y : ℕ). y ∷ filled n []) here ∙ ap (λ (xs : List ℕ). f first ∷ xs) rest
+filled_is f (suc n) first (id ∷ ids) h =
+    let here : id ≡ f first = h 0 (omega arith) ∙ ap f (omega arith) in
+    let rest = filled_is f n (first + 1) ids (λ x low. h (suc x) (omega (arith, low)) ∙ ap f (omega arith)) in
+    filled_more n id ids ∙ ap (λ (y : ℕ). y ∷ filled n ids) here ∙ ap (λ (xs : List ℕ). f first ∷ xs) rest
+
+-- the norms of a field once its open document is closed
+closed_ids : (field : ℕ) (ps : List Piece) (ts : List IndexToken) (d : OpenDocument) (ids : List ℕ) (n : ℕ) → length ids ≤ d.doc → Tells field ps ts d (Some ids) → filled n (recorded d.doc d.norm ids) ≡ norm_ids n field ts
+closed_ids field ps ts d ids n behind h =
+    let known = norms_recorded field ts d (d.doc + n + 1) ids (omega arith) behind h.count h.norms in
+    filled_is (λ (doc : ℕ). id_of_norm (doc_count doc field ts)) n 0 (recorded d.doc d.norm ids) (λ x low. known x (omega (arith, low)) ∙ ap (λ (doc : ℕ). id_of_norm (doc_count doc field ts)) (omega arith))
+
+filled_buffer : (bs : Buffers) (field n : ℕ) → buffer_of field (filled_buffers n bs) ≡ option_map (filled n) (buffer_of field bs)
+filled_buffer [] field n = refl
+filled_buffer (b ∷ bs) zero n = refl
+filled_buffer (b ∷ bs) (suc field) n = filled_buffer bs field n
+
+none_past : (bs : Buffers) (field : ℕ) (ids : List ℕ) → buffer_of field bs ≡ Some ids → field < length bs
+none_past [] field ids is = absurd (cc)
+none_past (b ∷ bs) zero ids is = omega arith
+none_past (b ∷ bs) (suc field) ids is = omega (arith, none_past bs field ids is)
+
+some_within : {A : Type 0} (xs : List A) (i : ℕ) → i < length xs → slice_get xs i ≡ None → ⊥
+some_within [] i inside none = omega (arith, inside)
+some_within (x ∷ xs) zero inside none = absurd (cc)
+some_within (x ∷ xs) (suc i) inside none = some_within xs i (omega (arith, inside)) none
+
+-- so the file has the norms of each field that has some
+pub holds_norms : (s : OpenDocumentsState) (closed : Buffers) (n : ℕ) (ps : List Piece) (ts : List IndexToken) (bytes : List ℕ) → length s.documents ≡ length s.norms → AreBehind s → TellsAll ps ts s
+    → AreClosed s.documents s.norms closed → composite bytes ≡ Some (norm_bodies (filled_buffers n closed)) → HoldNorms (λ (field : ℕ). is_some (buffer_of field s.norms)) n bytes ts
+holds_norms s closed n ps ts bytes same behind told closes reads = record {
+  bodies = norm_bodies (filled_buffers n closed);
+  opened = reads;
+  exact = λ field. body_of-norm_bodies field (filled_buffers n closed) ∙ filled_buffer closed field n ∙ ap (option_map (filled n)) (closes field) ∙ by field (slice_get s.documents field) (buffer_of field s.norms) refl refl;
+}
+  where
+    by : (field : ℕ) (d : Option OpenDocument) (ids : Option (List ℕ)) → slice_get s.documents field ≡ d → buffer_of field s.norms ≡ ids
+        → option_map (filled n) (closed_norms d ids) ≡ (if is_some ids then Some (norm_ids n field ts) else None)
+    by field None None at is = refl
+    by field (Some d) None at is = refl
+    by field None (Some ids) at is = absurd (some_within s.documents field (omega (arith, same, none_past s.norms field ids is)) at)
+    by field (Some d) (Some ids) at is =
+        let tells = subst (λ (o : Option (List ℕ)). Tells field ps ts d o) is (told field d at) in
+        let low = subst (λ (o : Option (List ℕ)). IfSome o (λ (i : List ℕ). length i ≤ d.doc)) is (behind field d at) in
+        ap (λ (i : List ℕ). Some i) (closed_ids field ps ts d ids n low tells)
+
+length_filled : (n : ℕ) (ids : List ℕ) → length (filled n ids) ≡ n
+length_filled zero ids = ap length (filled_zero ids)
+length_filled (suc n) [] = ap length (filled_none n) ∙ ap (λ (m : ℕ). suc m) (length_filled n [])
+length_filled (suc n) (id ∷ ids) = ap length (filled_more n id ids) ∙ ap (λ (m : ℕ). suc m) (length_filled n ids)
+
+-- how many bytes norms have
+norms_small : (n first : ℕ) (bs : Buffers) → n ≤ 2147483647
+    → (length (norm_bodies_from first (filled_buffers n bs)) ≤ length bs) × (length (bodies_bytes (norm_bodies_from first (filled_buffers n bs))) ≤ length bs * 2147483647)
+norms_small n first [] low = (omega arith, omega arith)
+norms_small n first (None ∷ bs) low =
+    let rest = norms_small n (first + 1) bs low in
+    (omega (arith, rest.0), omega (arith, rest.1))
+norms_small n first (Some ids ∷ bs) low =
+    let rest = norms_small n (first + 1) bs low in
+    (omega (arith, rest.0), omega (arith, low, rest.1, length_filled n ids, length-append (filled n ids) (bodies_bytes (norm_bodies_from (first + 1) (filled_buffers n bs)))))
+
+same_length : (xs ys : Buffers) → with_norms xs ≡ with_norms ys → length xs ≡ length ys
+same_length xs ys same = sym (length-map xs is_some) ∙ ap length same ∙ length-map ys is_some
+
+pub file_small : (n : ℕ) (bs : Buffers) → n ≤ 2147483647 → length bs < 2 ^ 32 → length (written_composite (norm_bodies (filled_buffers n bs))) < 2 ^ 64
+file_small n bs low few =
+    let bodies = norm_bodies (filled_buffers n bs) in
+    let small = norms_small n 0 bs low in
+    omega (arith, few, small.0, small.1, length-append (bodies_bytes bodies) (table_bytes (places_from 0 bodies)), length-table_bytes (places_from 0 bodies), length-places_from 0 bodies)
+
+pub few_filled : (n : ℕ) (old closed : Buffers) → with_norms closed ≡ with_norms old → length old < 2 ^ 32 → (length closed < 2 ^ 32) × (length (filled_buffers n closed) < 2 ^ 32)
+few_filled n old closed same few =
+    let len = same_length closed old same in
+    (omega (arith, few, len), omega (arith, few, len, length-map closed (option_map (filled n))))
+
+pub few_bodies : (first : ℕ) (bs : Buffers) → length (norm_bodies_from first bs) ≤ length bs
+few_bodies first [] = omega arith
+few_bodies first (None ∷ bs) = omega (arith, few_bodies (first + 1) bs)
+few_bodies first (Some ids ∷ bs) = omega (arith, few_bodies (first + 1) bs)
+
+-- a file that is begun
+pub begun_file : (w : CountingWriterState) → HasBodies w (record { writer = w; base = w.written_bytes; starts = []; closed = false }) []
+begun_file w = record { writer = wrote_nothing w; base = refl; starts = refl }
+
+-- what stands in memory is read back
+pub norms_read : (old new : CountingWriterState) (bs : Buffers) (bytes : List ℕ) → old.contents ≡ Some [] → new.contents ≡ Some bytes → WroteNorms old new [] bs → composite bytes ≡ Some (norm_bodies bs)
+norms_read old new bs bytes empty now h =
+    let more : Appends (Some []) (Some bytes) (written_composite (norm_bodies bs)) = subst (λ (o : Option (List ℕ)). Appends o (Some bytes) (written_composite (norm_bodies bs))) empty
+    (subst (λ (o : Option (List ℕ)). Appends old.contents o (written_composite (norm_bodies bs))) now h.composite.wrote.appends) in
+    ap composite more ∙ h.composite.reads_back
+
+pub memory_only : (old new : CountingWriterState) (bytes : List ℕ) (fault : Fault) → old.written_bytes ≡ 0 → old.failed_calls ≡ 0 → length bytes < 2 ^ 64 → WritesInMemory false old new bytes (Err fault) → memory_fault fault ≡ OutOfMemory
+memory_only old new bytes fault none whole small h = by fault refl
+  where
+    not_full : IsFull old (length bytes) → ⊥
+    not_full full = ⊎_elim (λ many. omega (arith, many, none, small)) (λ failed. omega (arith, failed, whole)) full
+
+    failure : Result (Unit {0}) Fault
+    failure = Err fault
+
+    inside : failure ≡ Err OutOfMemory → fault ≡ OutOfMemory
+    inside is = cc
+
+    only : (¬ (fault ≡ OutOfMemory)) → memory_fault fault ≡ OutOfMemory
+    only other =
+        let writes = h.writes refl (λ is. other (inside is)) in
+        ⊎_elim (λ (is : fault ≡ Write). ap memory_fault is) (λ (is : fault ≡ Limit Offset). absurd (not_full (writes.limit (ap (λ (e : Fault). Err e) is)))) writes.only
+
+    by : (f : Fault) → f ≡ fault → memory_fault fault ≡ OutOfMemory
+    by OutOfMemory is = ap memory_fault (sym is)
+    by Write is = ap memory_fault (sym is)
+    by SerializerClosed is = only (λ e. absurd (cc))
+    by IndexerFailed is = only (λ e. absurd (cc))
+    by (UnsupportedLeaf kind) is = only (λ e. absurd (cc))
+    by DecreasingPosition is = only (λ e. absurd (cc))
+    by (Limit name) is = only (λ e. absurd (cc))
+    by (Damaged part) is = only (λ e. absurd (cc))
