@@ -244,6 +244,19 @@ sorted_tokens entries terms sorted writers ts same has = record {
   known = has.known;
 }
 
+-- the fields of parts
+parts_below : (entries : List Entry) (writers : List PostingsWriterState) (lists : List (List TermState)) (first count limit : ℕ) → first + count ≤ limit
+    → AllByRecursion (λ (p : FieldPart). p.field < limit) (flat_map (λ (field : ℕ). parts_of entries field (tokens_in writers field) (slice_index_or lists field [])) (range_with_len first count))
+parts_below entries writers lists first zero limit low = tt
+parts_below entries writers lists first (suc count) limit low = by (slice_index_or lists first []) (parts_below entries writers lists (first + 1) count limit (omega (arith, low)))
+  where
+    by : (ts : List TermState) → {rest : List FieldPart} → AllByRecursion (λ (p : FieldPart). p.field < limit) rest → AllByRecursion (λ (p : FieldPart). p.field < limit) (parts_of entries first (tokens_in writers first) ts ++ rest)
+    by [] h = h
+    by (t ∷ us) h = (omega (arith, low), h)
+
+parts_known : (entries : List Entry) (writers : List PostingsWriterState) (lists : List (List TermState)) (n : ℕ) → AllByRecursion (λ (p : FieldPart). p.field < n) (first_parts entries writers lists n)
+parts_known entries writers lists n = parts_below entries writers lists 0 n n (omega arith)
+
 -- how a call ends that writes the terms of a context with tokens
 pub wrote_tokens : {A E : Type 0} (result : Result A E) → ReadsEntriesBack → ReadsUncountedTermBack → (old new : IndexSerializerState) (writers : List PostingsWriterState) (terms sorted : TermIndex) (ts : List IndexToken) → length old.entries < 2 ^ 32
     → ((bytes : List ℕ) → recorder_of sorted bytes ≡ recorder_of terms bytes) → IsStrictlySortedBy (slice_cmp nat_cmp) (keys_of sorted) → AllByRecursion AreTermBytes (keys_of sorted) → AllMayBeWritten (length old.entries) terms → HaveTokens old.entries terms writers ts
@@ -252,6 +265,7 @@ wrote_tokens (Ok x) law uncounted old new writers terms sorted ts few same ascen
     let w : IsWritten old.entries writers sorted ts = record { few = few; whole = whole; ascending = ascending; may = each_may_be (length old.entries) terms sorted same ascending whole may; tokens = sorted_tokens old.entries terms sorted writers ts same has } in
     record {
       fs = first_parts old.entries writers (map (λ (field : ℕ). terms_in field sorted) (range_with_len 0 (length old.entries))) (length old.entries);
+      known = parts_known old.entries writers (map (λ (field : ℕ). terms_in field sorted) (range_with_len 0 (length old.entries))) (length old.entries);
       fields = wrote.fields;
       held = bodies_hold law uncounted old.entries writers sorted ts w wrote.fields.held;
     }

@@ -28,5 +28,6 @@ pub record HaveTokens (entries : List Entry) (terms : TermIndex) (writers : List
 -- Tokens were written: the bodies that stand in the files hold them.
 pub record WroteTokens (old new : IndexSerializerState) (ts : List IndexToken) : Type 0 where
   pub fs : List FieldPart
+  pub known : AllByRecursion (λ (p : FieldPart). p.field < length old.entries) fs
   pub fields : HasFields old.entries old.bodies new.bodies fs
   pub held : BodiesHold (option_of old.entries) (map (terms_body old.entries) fs) (map (postings_body old.entries) fs) (map (positions_body old.entries) fs) ts

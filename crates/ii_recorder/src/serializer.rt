@@ -113,6 +113,20 @@ impl<W: Write> InvertedIndexSerializer<W> {
         bodies.close()
     }
 
+    /// The writers of terms, postings and positions as they stand, with no table written.
+    pub fn into_writers(self) -> (CountingWriter<W>, CountingWriter<W>, CountingWriter<W>)
+        ensures { result ≡ (self.bodies.terms.writer, self.bodies.postings.writer, self.bodies.positions.writer) }
+    {
+        let InvertedIndexSerializer {
+            schema: _,
+            bodies,
+            field: _,
+            alloc: _,
+            is_closed: _,
+        } = self;
+        bodies.into_writers()
+    }
+
     // Begins a field of the schema, which wasn't written yet.
     pub(crate) fn begin(
         &mut self,
