@@ -1,6 +1,8 @@
 pub mod ByFieldLemmas
 pub mod CallLaws
+pub mod ContextFaults
 pub mod DocumentLaws
+pub mod FaultLemmas
 pub mod FieldLists
 pub mod HeldBodies
 pub mod HeldFields

@@ -13,3 +13,4 @@ pub mod PostingsWriter
 pub mod Records
 pub mod Refusals
 pub mod SortedTerms
+pub mod WriteFaults

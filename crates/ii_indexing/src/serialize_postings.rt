@@ -1,4 +1,4 @@
-ghost use Rattle.std.specs.Prelude.{◌≡◌, ◌≤◌, ◌<◌, ◌++◌, ◌∷◌, ◌^◌, ℕ, List, [], false, length, map, IsTrue, IfErr, IfOk, IsErrOf, OnErr, OnOk, ◌↔◌};
+ghost use Rattle.std.specs.Prelude.{◌≡◌, ◌≤◌, ◌<◌, ◌++◌, ◌∷◌, ◌^◌, ◌⊎◌, ◌↔◌, ℕ, List, [], false, length, map, IsTrue, IfErr, IfOk, IsErrOf, OnErr, OnOk};
 ghost use Rattle.std.specs.List.{AllByRecursion};
 ghost use Rattle.ii_io.specs.CountingWriter.{Closes};
 ghost use Rattle.ii_termdict.specs.ReadBack.{AreAscending};
@@ -12,6 +12,7 @@ ghost use Rattle.ii_indexing.specs.FieldParts.{AreShortNorms, FieldPart, HasFiel
 ghost use Rattle.ii_index.specs.Tokens.{IndexToken};
 ghost use Rattle.ii_indexing.specs.HeldBodies.{HaveTokens, WroteTokens};
 ghost use Rattle.ii_indexing.specs.SortedTerms.{AllMayBeWritten, IsTold, IsWritable, TermState, state_of, written_of};
+ghost use Rattle.ii_indexing.specs.WriteFaults.{ClosesOrStays, CountsFailures, IsContextFault, IsPartFault, IsPartsFault, IsTermFaultAfter, StaysClosed};
 
 use crate::indexing_context::IndexingContext;
 use crate::per_field_postings_writer::PerFieldPostingsWriter;
@@ -42,6 +43,10 @@ fn serialize_one_term<W: Write>(
     ensures told { OnOk result (IsTold serializer.old.index.now.field.term.mode (record { key = key.now; recorder = any_state recorder.now })) }
     ensures between { OnOk result (serializer.new.index.now.field.term_open ≡ false) }
     ensures closes { Closes result serializer.new.index.now.closed }
+    ensures failures { CountsFailures serializer.old.index.now.bodies serializer.new.index.now.bodies result }
+    ensures fault { (initial : IndexBodiesState) (field tokens : ℕ) (ts : List WrittenTerm) → IsWriting initial serializer.old.index.now field tokens ts []
+        → IfErr result (IsTermFaultAfter initial (option_of serializer.old.index.now.entries field) tokens ts
+        (written_of (option_of serializer.old.index.now.entries field) (record { key = key.now; recorder = any_state recorder.now }))) }
     ensures none { ¬ IsErrOf result Fault.SerializerClosed }
     ensures entries { serializer.new.index.now.entries ≡ serializer.old.index.now.entries }
 {
@@ -73,6 +78,10 @@ fn serialize_field<W: Write>(
         (field_bodies (option_of serializer.old.entries field) total_num_tokens (map (written_of (option_of serializer.old.entries field)) (map state_of terms.now)))
         (map (written_of (option_of serializer.old.entries field)) (map state_of terms.now))) }
     ensures told { OnOk result (AllByRecursion (IsTold (option_of serializer.old.entries field)) (map state_of terms.now)) }
+    ensures failures { CountsFailures serializer.old.bodies serializer.new.bodies result }
+    ensures fault { IfErr result (λ e. (e ≡ Fault.SerializerClosed)
+        ⊎ IsPartFault serializer.old.entries serializer.old.bodies (record { field = field; tokens = total_num_tokens; terms = map state_of terms.now }) e) }
+    ensures refused { IsTrue serializer.old.closed → serializer.new ≡ serializer.old }
 {
     let mut serializer = serializer.new_field(field, total_num_tokens, fieldnorm_reader)?;
     for place in 0..terms.len() {
@@ -101,6 +110,13 @@ fn serialize_if_any<W: Write>(
     ensures closes { OnOk result (serializer.new.closed ≡ serializer.old.closed) }
     ensures wrote { (initial : IndexBodiesState) (fs : List FieldPart) → HasFields serializer.old.entries initial serializer.old.bodies fs
         → OnOk result (HasFields serializer.old.entries initial serializer.new.bodies (fs ++ parts_of serializer.old.entries field (tokens_in writers.now field) terms.now)) }
+    ensures failures { CountsFailures serializer.old.bodies serializer.new.bodies result }
+    ensures fault { IfErr result (λ e. (e ≡ Fault.SerializerClosed)
+        ⊎ IsPartFault serializer.old.entries serializer.old.bodies (record { field = field; tokens = tokens_in writers.now field; terms = terms.now }) e) }
+    ensures some { OnErr result (0 < length terms.now) }
+    ensures closed { IsErrOf result Fault.SerializerClosed → IsTrue serializer.old.closed }
+    ensures refused { IsTrue serializer.old.closed → StaysClosed (terms.now ≡ []) serializer.old serializer.new result }
+    ensures err { IfErr result (λ e. IsTrue serializer.new.closed ⊎ ((e ≡ Fault.OutOfMemory) × (serializer.new ≡ serializer.old))) }
 {
     let terms = terms.as_slice();
     if terms.is_empty() {
@@ -136,6 +152,12 @@ fn serialize_fields<W: Write>(
     ensures entries { serializer.new.entries ≡ serializer.old.entries }
     ensures wrote { OnOk result (HasFields serializer.old.entries serializer.old.bodies serializer.new.bodies (first_parts serializer.old.entries writers.now terms.now.items (length terms.now.items))) }
     ensures closes { OnOk result (serializer.new.closed ≡ serializer.old.closed) }
+    ensures failures { CountsFailures serializer.old.bodies serializer.new.bodies result }
+    ensures fault { IfErr result (λ e. (e ≡ Fault.SerializerClosed)
+        ⊎ IsPartsFault serializer.old.entries serializer.old.bodies (first_parts serializer.old.entries writers.now terms.now.items (length terms.now.items)) e) }
+    ensures closed { IsErrOf result Fault.SerializerClosed → IsTrue serializer.old.closed × (0 < length (first_parts serializer.old.entries writers.now terms.now.items (length terms.now.items))) }
+    ensures refused { IsTrue serializer.old.closed → StaysClosed (first_parts serializer.old.entries writers.now terms.now.items (length terms.now.items) ≡ []) serializer.old serializer.new result }
+    ensures err { IfErr result (ClosesOrStays serializer.old serializer.new) }
 {
     let mut buffer_lender = BufferLender::new(alloc);
     for place in 0..terms.len() {
@@ -161,7 +183,8 @@ fn serialize_fields<W: Write>(
 /// bytes of all terms of a field pass 2^56, `Limit(TermBytes)` where the postings or the positions of a
 /// term have more than `u32::MAX` bytes, `Limit(BlockFrequencySum)` where the counts of a block of a term
 /// with positions sum up above `u32::MAX`, `OutOfMemory` where a growth was refused;
-/// `SerializerClosed` after an earlier refusal, if there is a term.
+/// `SerializerClosed` after an earlier refusal, if there is a term. A refusal closes the serializer, except
+/// for `OutOfMemory` between two fields, which leaves it as it is there.
 pub fn serialize_postings<W: Write>(
     alloc: Global,
     ctx: IndexingContext,
@@ -180,6 +203,11 @@ pub fn serialize_postings<W: Write>(
     ensures wrote { OnOk result (WroteContext serializer.old serializer.new per_field_postings_writers.now ctx) }
     ensures holds { (ts : List IndexToken) → HaveTokens serializer.old.entries ctx per_field_postings_writers.now ts → OnOk result (WroteTokens serializer.old serializer.new ts) }
     ensures closes { OnOk result (serializer.new.closed ≡ serializer.old.closed) }
+    ensures failures { CountsFailures serializer.old.bodies serializer.new.bodies result }
+    ensures fault { IfErr result (λ e. (e ≡ Fault.OutOfMemory) ⊎ (e ≡ Fault.SerializerClosed) ⊎ IsContextFault serializer.old per_field_postings_writers.now ctx e) }
+    ensures closed { IsErrOf result Fault.SerializerClosed → IsTrue serializer.old.closed × (0 < length ctx) }
+    ensures refused { IsTrue serializer.old.closed → StaysClosed (ctx ≡ []) serializer.old serializer.new result }
+    ensures err { IfErr result (ClosesOrStays serializer.old serializer.new) }
 {
     reads_entries_back();
     reads_uncounted_term_back();

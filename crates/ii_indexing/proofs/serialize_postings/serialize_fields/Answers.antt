@@ -1,6 +1,8 @@
-use Rattle.std.proofs.Common.{[], ◌∙◌, sym, subst, arith, ℕ}
+use Rattle.std.proofs.Common.{rules, length, ◌≡◌, ◌<◌, [], ◌∙◌, sym, subst, arith, ℕ}
 use Rattle.std.proofs.lemmas.List.{get_or_default}
+use Rattle.std.proofs.lemmas.Result.{err_from_is_err_and}
 use Rattle.ii_recorder.specs.IndexBodies.{LacksField}
+use Rattle.ii_indexing.proofs.FaultLemmas.{IsNextField, all_some, field_fault, no_part}
 use Rattle.ii_indexing.proofs.PartLemmas.{lacks_next, next_part}
 use Rattle.ii_indexing.specs.FieldParts.{HasFields, first_parts}
 use Rattle.ii_indexing.proofs.serialize_postings.serialize_fields.Goals as goal
@@ -24,4 +26,44 @@ loop-place-preserved g c =
           w.2 c.from_field_id-field.ensures at wrote,
       c.in_ok-serialize_if_any.ensures.closes ∙ w.1,
       c.serialize_if_any.ensures.entries ∙ w.2,
+      λ closed.
+          (let before = w.3 closed in
+          let stays = c.in_ok-serialize_if_any.ensures.refused (w.1 ∙ closed) in
+          (stays.same ∙ before.0, no_part c.args.serializer.now.entries c.args.writers.now c.args.terms.now.items c.loop-place.place c.index.result.now at stays.none before.1)),
     )
+
+pub returns-in_err-serialize_if_any-clause-fault : goal.returns-in_err-serialize_if_any-clause-fault
+returns-in_err-serialize_if_any-clause-fault g c =
+    let p = err_from_is_err_and c.from_residual.result c.from_residual.ensures.1 in
+    let w = c.loop-place.invariant in
+    let low = c.loop-place-test.true in
+    let inside : c.loop-place.place < length c.args.terms.now.items = omega (arith, low, c.len-place-end.ensures) in
+    let at = c.index.ensures ∙ get_or_default c.args.terms.now.items c.loop-place.place c.index.result.now [] inside in
+    let next : IsNextField c.args.serializer.now.entries c.loop-place.serializer.entries c.args.terms.now.items c.loop-place.place c.from_field_id-field.result c.index.result.now = record { schema = w.2; number = c.from_field_id-field.ensures; at = at; some = c.in_err-serialize_if_any.ensures.some; low = inside } in
+    rw (p.1, p.2) (field_fault c.args.serializer.now.entries c.loop-place.serializer.entries c.args.writers.now c.args.terms.now.items c.loop-place.place c.from_field_id-field.result c.index.result.now next
+    c.args.serializer.now.bodies c.loop-place.serializer.bodies c.in_err-serialize_if_any.field-0.0 w.0 c.in_err-serialize_if_any.ensures.fault)
+
+pub returns-in_err-serialize_if_any-clause-closed : goal.returns-in_err-serialize_if_any-clause-closed
+returns-in_err-serialize_if_any-clause-closed g c is =
+    let p = err_from_is_err_and c.from_residual.result c.from_residual.ensures.1 in
+    let w = c.loop-place.invariant in
+    let low = c.loop-place-test.true in
+    let inside : c.loop-place.place < length c.args.terms.now.items = omega (arith, low, c.len-place-end.ensures) in
+    let at = c.index.ensures ∙ get_or_default c.args.terms.now.items c.loop-place.place c.index.result.now [] inside in
+    let next : IsNextField c.args.serializer.now.entries c.loop-place.serializer.entries c.args.terms.now.items c.loop-place.place c.from_field_id-field.result c.index.result.now = record { schema = w.2; number = c.from_field_id-field.ensures; at = at; some = c.in_err-serialize_if_any.ensures.some; low = inside } in (
+      sym w.1 ∙ c.in_err-serialize_if_any.ensures.closed (rw (← p.2) (sym p.1 ∙ is)),
+      all_some c.args.serializer.now.entries c.loop-place.serializer.entries c.args.writers.now c.args.terms.now.items c.loop-place.place c.from_field_id-field.result c.index.result.now next,
+    )
+
+pub returns-in_err-serialize_if_any-clause-refused : goal.returns-in_err-serialize_if_any-clause-refused
+returns-in_err-serialize_if_any-clause-refused g c closed =
+    let p = err_from_is_err_and c.from_residual.result c.from_residual.ensures.1 in
+    let w = c.loop-place.invariant in
+    let stays = c.in_err-serialize_if_any.ensures.refused (w.1 ∙ closed) in
+    record { same = stays.same ∙ (w.3 closed).0; none = rw p.1 tt; only = rw (p.1, p.2) stays.only }
+
+pub returns-clause-refused : goal.returns-clause-refused
+returns-clause-refused g c closed =
+    let before = c.loop-place.invariant.3 closed in
+    let all : c.loop-place.place ≡ length c.args.terms.now.items = search rules in
+    record { same = before.0; none = subst (λ (n : ℕ). first_parts c.args.serializer.now.entries c.args.writers.now c.args.terms.now.items n ≡ []) all before.1; only = tt }

@@ -1,4 +1,5 @@
-use Rattle.std.proofs.Common.{◌≡◌}
+use Rattle.std.proofs.Common.{◌≡◌, []}
+use Rattle.std.specs.Prelude.{IsTrue}
 use Rattle.ii_indexing.specs.FieldParts.{HasFields, first_parts}
 use Rattle.ii_indexing.proofs.serialize_postings.serialize_fields.Given as goal
 
@@ -7,3 +8,4 @@ invariant-loop-place g l =
     HasFields l.fn.serializer.entries l.fn.serializer.bodies l.serializer.bodies (first_parts l.fn.serializer.entries l.fn.writers l.fn.terms.items l.place)
     × (l.serializer.closed ≡ l.fn.serializer.closed)
     × (l.serializer.entries ≡ l.fn.serializer.entries)
+    × (IsTrue l.fn.serializer.closed → (l.serializer ≡ l.fn.serializer) × (first_parts l.fn.serializer.entries l.fn.writers l.fn.terms.items l.place ≡ []))

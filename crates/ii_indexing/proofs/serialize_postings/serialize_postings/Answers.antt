@@ -1,9 +1,12 @@
-use Rattle.std.proofs.Common.{◌<◌, ◌∙◌, ap, sym, subst, length, List, ℕ, arith}
-use Rattle.std.specs.List.{AllByRecursion}
+use Rattle.std.proofs.Common.{◌<◌, ◌∙◌, ap, sym, subst, length, map, List, ℕ, arith}
+use Rattle.std.specs.List.{AllByRecursion, range_with_len}
+use Rattle.std.proofs.lemmas.Result.{IfErr-weaker}
 use Rattle.std.proofs.lemmas.List.FromFn.{length-map-range_with_len}
 use Rattle.ii_recorder.specs.Recorded.{RecorderState}
 use Rattle.ii_indexing.specs.IndexingTerm.{field_in}
 use Rattle.ii_indexing.specs.SortedTerms.{AllMayBeWritten, IsWritable, TermState, terms_in}
+use Rattle.ii_indexing.proofs.ContextFaults.{AreLists, context_fault, no_terms, some_terms}
+use Rattle.ii_indexing.proofs.TermIndexLemmas.{on_ok}
 use Rattle.ii_indexing.proofs.PartLemmas.{wrote_context, wrote_terms}
 use Rattle.ii_indexing.proofs.HeldBodies.{wrote_tokens}
 use Rattle.ii_indexing.proofs.SortedLemmas.{all_writable, each_may_be, fields_known}
@@ -47,3 +50,38 @@ returns-clause-holds g c ts has =
     (subst (λ (n : ℕ). AllMayBeWritten n c.args.ctx) (ap length c.requires.schema) c.requires.terms) has
     (wrote_terms c.serialize_fields.result c.args.serializer.now c.serialize_fields.new.serializer c.args.per_field_postings_writers.now c.args.ctx c.sort.new.self c.in_ok-terms.terms.items c.num_fields.result
     c.in_ok-sort.ensures.same c.in_ok-sort.ensures.ascending c.in_ok-terms.ensures.ok (c.num_fields.ensures.value ∙ ap length c.requires.schema) c.serialize_fields.ensures.wrote)
+
+pub returns-clause-fault : goal.returns-clause-fault
+returns-clause-fault g c =
+    let lists : AreLists (length c.args.serializer.now.entries) c.args.ctx c.sort.new.self c.in_ok-terms.terms.items = record {
+      same = c.in_ok-sort.ensures.same;
+      ascending = c.in_ok-sort.ensures.ascending;
+      are = c.in_ok-terms.ensures.ok ∙ ap (λ (m : ℕ). map (λ (field : ℕ). terms_in field c.sort.new.self) (range_with_len 0 m)) (c.num_fields.ensures.value ∙ ap length c.requires.schema);
+    } in
+    IfErr-weaker c.serialize_fields.result _ _ (λ e fault. context_fault c.args.serializer.now c.args.per_field_postings_writers.now c.args.ctx c.sort.new.self c.in_ok-terms.terms.items e lists fault) c.serialize_fields.ensures.fault
+
+pub returns-clause-closed : goal.returns-clause-closed
+returns-clause-closed g c is =
+    let lists : AreLists (length c.args.serializer.now.entries) c.args.ctx c.sort.new.self c.in_ok-terms.terms.items = record {
+      same = c.in_ok-sort.ensures.same;
+      ascending = c.in_ok-sort.ensures.ascending;
+      are = c.in_ok-terms.ensures.ok ∙ ap (λ (m : ℕ). map (λ (field : ℕ). terms_in field c.sort.new.self) (range_with_len 0 m)) (c.num_fields.ensures.value ∙ ap length c.requires.schema);
+    } in
+    let closed = c.serialize_fields.ensures.closed is in
+    (closed.0, some_terms c.args.serializer.now.entries c.args.per_field_postings_writers.now (length c.args.serializer.now.entries) c.args.ctx c.sort.new.self c.in_ok-terms.terms.items lists closed.1)
+
+pub returns-clause-refused : goal.returns-clause-refused
+returns-clause-refused g c closed =
+    let lists : AreLists (length c.args.serializer.now.entries) c.args.ctx c.sort.new.self c.in_ok-terms.terms.items = record {
+      same = c.in_ok-sort.ensures.same;
+      ascending = c.in_ok-sort.ensures.ascending;
+      are = c.in_ok-terms.ensures.ok ∙ ap (λ (m : ℕ). map (λ (field : ℕ). terms_in field c.sort.new.self) (range_with_len 0 m)) (c.num_fields.ensures.value ∙ ap length c.requires.schema);
+    } in
+    let all = each_may_be (length c.args.schema.now) c.args.ctx c.sort.new.self c.in_ok-sort.ensures.same c.in_ok-sort.ensures.ascending c.requires.terms in
+    let known = subst (λ (n : ℕ). AllByRecursion (λ (t : List ℕ × RecorderState). field_in t.0 < n) c.sort.new.self) (ap length c.requires.schema) (fields_known (length c.args.schema.now) c.sort.new.self all) in
+    let stays = c.serialize_fields.ensures.refused closed in
+    record {
+      same = stays.same;
+      none = on_ok c.serialize_fields.result _ _ (no_terms c.args.serializer.now.entries c.args.per_field_postings_writers.now (length c.args.serializer.now.entries) c.args.ctx c.sort.new.self c.in_ok-terms.terms.items lists known) stays.none;
+      only = stays.only;
+    }
