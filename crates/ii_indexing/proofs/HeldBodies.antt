@@ -245,17 +245,17 @@ sorted_tokens entries terms sorted writers ts same has = record {
 }
 
 -- the fields of parts
-parts_below : (entries : List Entry) (writers : List PostingsWriterState) (lists : List (List TermState)) (first count limit : ℕ) → first + count ≤ limit
-    → AllByRecursion (λ (p : FieldPart). p.field < limit) (flat_map (λ (field : ℕ). parts_of entries field (tokens_in writers field) (slice_index_or lists field [])) (range_with_len first count))
-parts_below entries writers lists first zero limit low = tt
-parts_below entries writers lists first (suc count) limit low = by (slice_index_or lists first []) (parts_below entries writers lists (first + 1) count limit (omega (arith, low)))
+parts_below : (entries : List Entry) (writers : List PostingsWriterState) (terms : List (List TermState)) (first count limit : ℕ) → first + count ≤ limit
+    → AllByRecursion (λ (p : FieldPart). p.field < limit) (flat_map (λ (field : ℕ). parts_of entries field (tokens_in writers field) (slice_index_or terms field [])) (range_with_len first count))
+parts_below entries writers terms first zero limit low = tt
+parts_below entries writers terms first (suc count) limit low = by (slice_index_or terms first []) (flat_map (λ (field : ℕ). parts_of entries field (tokens_in writers field) (slice_index_or terms field [])) (range_with_len (first + 1) count)) (parts_below entries writers terms (first + 1) count limit (omega (arith, low)))
   where
-    by : (ts : List TermState) → {rest : List FieldPart} → AllByRecursion (λ (p : FieldPart). p.field < limit) rest → AllByRecursion (λ (p : FieldPart). p.field < limit) (parts_of entries first (tokens_in writers first) ts ++ rest)
-    by [] h = h
-    by (t ∷ us) h = (omega (arith, low), h)
+    by : (ts : List TermState) (rest : List FieldPart) → AllByRecursion (λ (p : FieldPart). p.field < limit) rest → AllByRecursion (λ (p : FieldPart). p.field < limit) (parts_of entries first (tokens_in writers first) ts ++ rest)
+    by [] rest h = h
+    by (t ∷ us) rest h = (omega (arith, low), h)
 
-parts_known : (entries : List Entry) (writers : List PostingsWriterState) (lists : List (List TermState)) (n : ℕ) → AllByRecursion (λ (p : FieldPart). p.field < n) (first_parts entries writers lists n)
-parts_known entries writers lists n = parts_below entries writers lists 0 n n (omega arith)
+parts_known : (entries : List Entry) (writers : List PostingsWriterState) (terms : List (List TermState)) (n : ℕ) → AllByRecursion (λ (p : FieldPart). p.field < n) (first_parts entries writers terms n)
+parts_known entries writers terms n = parts_below entries writers terms 0 n n (omega arith)
 
 -- how a call ends that writes the terms of a context with tokens
 pub wrote_tokens : {A E : Type 0} (result : Result A E) → ReadsEntriesBack → ReadsUncountedTermBack → (old new : IndexSerializerState) (writers : List PostingsWriterState) (terms sorted : TermIndex) (ts : List IndexToken) → length old.entries < 2 ^ 32

@@ -4,6 +4,7 @@ pub mod ContextFaults
 pub mod DocumentLaws
 pub mod FaultLemmas
 pub mod FieldLists
+pub mod FinishLaws
 pub mod HeldBodies
 pub mod HeldFields
 pub mod HoldLaws
@@ -21,3 +22,4 @@ pub mod TermIndexLemmas
 pub mod TermLemmas
 pub mod TextLaws
 mod WorkedRows
+pub mod WrittenFiles

@@ -22,6 +22,7 @@ use Rattle.ii_fieldnorm.specs.Norms.{id_of_norm}
 use Rattle.ii_fieldnorm.proofs.WrittenNorms.{body_of-norm_bodies}
 use Rattle.ii_index.specs.Postings.{doc_count}
 use Rattle.ii_index.specs.Tokens.{IndexToken, Piece}
+use Rattle.ii_indexing.specs.IndexFiles.{begun_file}
 use Rattle.ii_indexing.specs.Norms.{HoldNorms, norm_ids}
 use Rattle.ii_indexing.specs.OpenDocuments.{AreBehind, AreClosed, HasNorms, OpenDocumentsState, Tells, TellsAll, closed_norms, with_norms}
 use Rattle.ii_indexing.specs.declared.open_documents.OpenDocument.{OpenDocument}
@@ -172,8 +173,8 @@ few_bodies first (None ∷ bs) = omega (arith, few_bodies (first + 1) bs)
 few_bodies first (Some ids ∷ bs) = omega (arith, few_bodies (first + 1) bs)
 
 -- a file that is begun
-pub begun_file : (w : CountingWriterState) → HasBodies w (record { writer = w; base = w.written_bytes; starts = []; closed = false }) []
-begun_file w = record { writer = wrote_nothing w; base = refl; starts = refl }
+pub begun_bodies : (w : CountingWriterState) → HasBodies w (begun_file w) []
+begun_bodies w = record { writer = wrote_nothing w; base = refl; starts = refl }
 
 -- what stands in memory is read back
 pub norms_read : (old new : CountingWriterState) (bs : Buffers) (bytes : List ℕ) → old.contents ≡ Some [] → new.contents ≡ Some bytes → WroteNorms old new [] bs → composite bytes ≡ Some (norm_bodies bs)

@@ -1,5 +1,5 @@
 -- What an indexer has stored of the calls that it took.
-use Rattle.std.specs.Prelude.{◌≡◌, ℕ, Bool, List, [], length, map}
+use Rattle.std.specs.Prelude.{◌≡◌, ℕ, ◌<◌, ◌^◌, Bool, List, [], length, map}
 use Rattle.ii_base.specs.Schema.{Entry, keeps_norms}
 use Rattle.ii_base.specs.Words.{Word}
 use Rattle.ii_index.specs.Tokens.{Call, Piece, pieces_of, tokens_after}
@@ -38,6 +38,7 @@ pub record StoresSome (entries : List Entry) (s : IndexedFieldsState) : Type 0 w
 
 -- What holds of an indexer's fields while no call was refused.
 pub record AreRunning (entries : List Entry) (last_doc : ℕ) (s : IndexedFieldsState) : Type 0 where
+  pub few : length entries < 2 ^ 32
   pub ends : EndsAt last_doc s
   pub writers : length s.indexed.writers ≡ length entries
   pub norms : with_norms s.opened.norms ≡ map keeps_norms entries

@@ -1,6 +1,7 @@
 pub mod FieldParts
 pub mod HeldBodies
 pub mod IndexCalls
+pub mod IndexFiles
 pub mod IndexedTerms
 pub mod Indexer
 pub mod IndexingContext

@@ -1,21 +1,26 @@
-ghost use Rattle.std.specs.Prelude.{◌≡◌, ◌<◌, ◌∷◌, ◌++◌, [], List, ℕ, length, map, string_bytes, IfErr, IfOk, OnErr, OnOk};
+ghost use Rattle.std.specs.Prelude.{◌≡◌, ◌<◌, ◌≤◌, ◌^◌, ◌∷◌, ◌++◌, [], List, ℕ, length, map, string_bytes, IfErr, IfOk, OnErr, OnOk};
 ghost use Rattle.ii_base.specs.Schema.{Entry, keeps_norms};
 ghost use Rattle.ii_base.specs.declared.schema.index_record_option.IndexRecordOption.TheVariants.{Basic};
 ghost use Rattle.ii_docset.specs.declared.docset.TheConstants.{TERMINATED};
-ghost use Rattle.ii_index.specs.Tokens.{Piece, call_pieces};
+ghost use Rattle.ii_index.specs.Tokens.{IndexToken, Piece, call_pieces};
 ghost use Rattle.ii_index.specs.Fields.{option_of};
 ghost use Rattle.ii_indexing.specs.IndexCalls.{Takes, call_of, type_of};
 ghost use Rattle.ii_indexing.specs.IndexedTerms.{field_text, field_value, kept_in, key_of};
-ghost use Rattle.ii_indexing.specs.Indexer.{EndsAt, StoresPieces};
-ghost use Rattle.ii_indexing.specs.OpenDocuments.{with_norms};
+ghost use Rattle.ii_indexing.specs.FieldParts.{AreShortNorms};
+ghost use Rattle.ii_indexing.specs.IndexFiles.{has_norms};
+ghost use Rattle.ii_indexing.specs.Indexer.{EndsAt, StoresPieces, StoresSome};
+ghost use Rattle.ii_indexing.specs.Norms.{HoldNorms};
+ghost use Rattle.ii_indexing.specs.OpenDocuments.{TellsAll, with_norms};
 ghost use Rattle.ii_indexing.specs.Refusals.{IsRefusedBy, piece_fault, pieces_fault};
 
+use crate::finished_fields::FinishedFields;
 use crate::index_call::IndexCall;
 use crate::indexed_terms::{FieldValue, IndexedTerms};
 use crate::indexing_position::IndexingPosition;
 use crate::open_documents::{OpenDocument, OpenDocuments};
 use ii_base::{Fault, Field, Schema, TextAnalyzer, TokenList};
 use ii_docset::DocId;
+use ii_fieldnorm::FieldNormReaders;
 use std::alloc::Global;
 use std::marker::Model;
 
@@ -41,6 +46,7 @@ impl IndexedFields {
         ensures ends { IfOk result (EndsAt 0) }
         ensures fields { IfOk result (λ f. length f.indexed.writers ≡ length schema.now) }
         ensures norms { IfOk result (λ f. with_norms f.opened.norms ≡ map keeps_norms schema.now) }
+        ensures few { IfOk result (λ f. length schema.now < 2 ^ 32) }
         ensures only { IfErr result (λ e. e ≡ Fault.OutOfMemory) }
     {
         Ok(IndexedFields {
@@ -90,6 +96,35 @@ impl IndexedFields {
                 self.index_value(doc, field, FieldValue::Ip(address))
             }
         }
+    }
+
+    // The terms, and the norms of so many documents.
+    pub(crate) fn finish(
+        self,
+        alloc: Global,
+        schema: &Schema,
+        num_docs: DocId,
+    ) -> Result<FinishedFields, Fault>
+        requires docs { num_docs ≤ TERMINATED }
+        requires few { length schema.now < 2 ^ 32 }
+        requires documents { length self.opened.documents ≡ length schema.now }
+        requires norms { with_norms self.opened.norms ≡ map keeps_norms schema.now }
+        requires some { StoresSome schema.now self }
+        ensures schema { IfOk result (λ f. f.schema ≡ schema.now) }
+        ensures terms { IfOk result (λ f. f.terms ≡ self.indexed) }
+        ensures norms { IfOk result (λ f. (ps : List Piece) (ts : List IndexToken) → TellsAll ps ts self.opened → HoldNorms (has_norms schema.now) num_docs f.norms ts) }
+        ensures short { IfOk result (λ f. AreShortNorms f.readers) }
+        ensures only { IfErr result (λ e. e ≡ Fault.OutOfMemory) }
+    {
+        let IndexedFields { terms, documents } = self;
+        let norms = documents.finish(alloc, num_docs)?;
+        let readers = FieldNormReaders::open(alloc, norms.clone()?)?;
+        Ok(FinishedFields {
+            schema: schema.clone()?,
+            terms,
+            norms,
+            readers,
+        })
     }
 
     // Indexes the words of a list that are still to come.

@@ -1,22 +1,32 @@
-ghost use Rattle.std.specs.Prelude.{◌≡◌, ◌<◌, ◌+◌, ◌∷◌, ◌++◌, [], List, ℕ, true, length, IfErr, IfOk, OnErr, OnOk};
+ghost use Rattle.std.specs.Prelude.{◌≡◌, ◌<◌, ◌+◌, ◌∷◌, ◌++◌, ◌⊎◌, ◌^◌, [], List, ℕ, true, false, length, IfErr, IfOk, OnErr, OnOk};
 ghost use Rattle.ii_base.specs.Schema.{Entry};
 ghost use Rattle.ii_base.specs.declared.schema.index_record_option.IndexRecordOption.TheVariants.{Basic};
 ghost use Rattle.ii_docset.specs.declared.docset.TheConstants.{TERMINATED};
 ghost use Rattle.ii_index.specs.Fields.{option_of};
 ghost use Rattle.ii_index.specs.Tokens.{IndexToken, end_after, kept_words, piece_tokens_from, value_token};
 ghost use Rattle.ii_indexing.specs.IndexedTerms.{StoresTokens, field_text, field_value, kept_in, key_of, value_fault};
+ghost use Rattle.ii_indexing.specs.FieldParts.{AreShortNorms, HasFields};
+ghost use Rattle.ii_indexing.specs.HeldBodies.{HaveTokens};
+ghost use Rattle.ii_indexing.specs.IndexFiles.{ClosedFiles, CountsIndexFailures, CountsThreeFailures, FillTables, PassLimits, WroteTermFiles};
 ghost use Rattle.ii_indexing.specs.IndexingContext.{AllEndBy};
 ghost use Rattle.ii_indexing.specs.PostingsWriter.{text_fault, writers_of};
 ghost use Rattle.ii_indexing.specs.Refusals.{IsRefusedBy};
+ghost use Rattle.ii_indexing.specs.SortedTerms.{AllMayBeWritten};
+ghost use Rattle.ii_indexing.specs.WriteFaults.{IsContextFault};
 
+use crate::index_writers::IndexWriters;
 use crate::indexing_context::IndexingContext;
 use crate::indexing_position::IndexingPosition;
 use crate::indexing_term::IndexingTerm;
 use crate::per_field_postings_writer::PerFieldPostingsWriter;
 use crate::postings_writer::PostingsWriter;
-use ii_base::{Fault, Field, Schema, TokenStream};
+use crate::serialize_postings::serialize_postings;
+use ii_base::{CountingWriter, Fault, Field, LimitName, Schema, TokenStream};
 use ii_docset::DocId;
+use ii_fieldnorm::FieldNormReaders;
+use ii_recorder::InvertedIndexSerializer;
 use std::alloc::Global;
+use std::io::Write;
 use std::marker::Model;
 
 /// A value that isn't text; a number or a truth value is the number of 64 bits that stands for it.
@@ -103,6 +113,99 @@ impl IndexedTerms {
         set_value(&mut self.term, value)?;
         let writer = self.writers.get_for_field_mut(field);
         writer.subscribe(doc, 0, &self.term, &mut self.ctx)
+    }
+}
+
+impl IndexedTerms {
+    // Writes the files of terms, postings and positions, of the fields of a schema and its copy.
+    pub(crate) fn write<W: Write>(
+        self,
+        alloc: Global,
+        schema: &Schema,
+        copy: Schema,
+        fieldnorm_readers: &FieldNormReaders,
+        writers: IndexWriters<W>,
+    ) -> (IndexWriters<W>, Result<(), Fault>)
+        requires same { copy ≡ schema.now }
+        requires few { length schema.now < 2 ^ 32 }
+        requires writers { length self.writers ≡ length schema.now }
+        requires norms { AreShortNorms fieldnorm_readers.now }
+        requires terms { AllMayBeWritten (length schema.now) self.terms }
+        ensures holds { (ts : List IndexToken) → HaveTokens schema.now self.terms self.writers ts → OnOk result.1 (WroteTermFiles schema.now writers result.0 ts) }
+        ensures norms { result.0.fieldnorms ≡ writers.fieldnorms }
+        ensures failures { CountsIndexFailures writers result.0 result.1 }
+        ensures fault { IfErr result.1 (λ e. (e ≡ Fault.OutOfMemory) ⊎ (e ≡ Fault.Write) ⊎ PassLimits schema.now writers self e) }
+    {
+        let IndexedTerms {
+            ctx,
+            writers: postings_writers,
+            term: _,
+        } = self;
+        let IndexWriters {
+            terms,
+            postings,
+            positions,
+            fieldnorms,
+        } = writers;
+        let (terms, postings, positions, written) = write_files(
+            alloc,
+            ctx,
+            schema,
+            &postings_writers,
+            fieldnorm_readers,
+            InvertedIndexSerializer::open(alloc, terms, postings, positions, copy),
+        );
+        let writers = IndexWriters {
+            terms,
+            postings,
+            positions,
+            fieldnorms,
+        };
+        (writers, written)
+    }
+}
+
+// Writes terms, and then the tables of the three files.
+fn write_files<W: Write>(
+    alloc: Global,
+    ctx: IndexingContext,
+    schema: &Schema,
+    postings_writers: &PerFieldPostingsWriter,
+    fieldnorm_readers: &FieldNormReaders,
+    serializer: InvertedIndexSerializer<W>,
+) -> (
+    CountingWriter<W>,
+    CountingWriter<W>,
+    CountingWriter<W>,
+    Result<(), Fault>,
+)
+    requires open { serializer.closed ≡ false }
+    requires schema { schema.now ≡ serializer.entries }
+    requires few { length schema.now < 2 ^ 32 }
+    requires writers { length postings_writers.now ≡ length schema.now }
+    requires fresh { HasFields serializer.entries serializer.bodies serializer.bodies [] }
+    requires norms { AreShortNorms fieldnorm_readers.now }
+    requires terms { AllMayBeWritten (length schema.now) ctx }
+    ensures holds { (ts : List IndexToken) → HaveTokens serializer.entries ctx postings_writers.now ts
+        → OnOk result.3 (ClosedFiles serializer result.0 result.1 result.2 ts) }
+    ensures failures { CountsThreeFailures serializer.bodies result.0 result.1 result.2 result.3 }
+    ensures fault { IfErr result.3 (λ e. (e ≡ Fault.OutOfMemory) ⊎ (e ≡ Fault.Write) ⊎ IsContextFault serializer postings_writers.now ctx e
+        ⊎ ((e ≡ Fault.Limit LimitName.Offset) × FillTables serializer (record { terms = ctx; writers = postings_writers.now }))) }
+{
+    let mut serializer = serializer;
+    match serialize_postings(
+        alloc,
+        ctx,
+        schema,
+        postings_writers,
+        fieldnorm_readers,
+        &mut serializer,
+    ) {
+        Ok(()) => serializer.close(),
+        Err(fault) => {
+            let (terms, postings, positions) = serializer.into_writers();
+            (terms, postings, positions, Err(fault))
+        }
     }
 }
 

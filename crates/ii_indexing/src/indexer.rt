@@ -1,16 +1,20 @@
-ghost use Rattle.std.specs.Prelude.{◌≡◌, ◌<◌, ◌≤◌, ◌∷◌, ◌++◌, [], List, length, true, false, Err, IfErr, IfOk, OnErr, OnOk};
+ghost use Rattle.std.specs.Prelude.{◌≡◌, ◌<◌, ◌≤◌, ◌∷◌, ◌++◌, [], ℕ, List, length, true, false, Err, IfErr, IfOk, OnErr, OnOk};
 ghost use Rattle.ii_docset.specs.declared.docset.TheConstants.{TERMINATED};
 ghost use Rattle.ii_index.specs.Fields.{option_of};
-ghost use Rattle.ii_index.specs.Tokens.{Call};
+ghost use Rattle.ii_base.specs.Words.{Word};
+ghost use Rattle.ii_index.specs.Tokens.{Call, tokens_of};
+ghost use Rattle.ii_indexing.specs.IndexFiles.{CountsIndexFailures, IsIndexFault, WroteIndex};
 ghost use Rattle.ii_indexing.specs.IndexCalls.{Takes, call_of, type_of};
 ghost use Rattle.ii_indexing.specs.Indexer.{IndexerState, StoresPieces, Stores};
 ghost use Rattle.ii_indexing.specs.Refusals.{IsRefusedBy, call_fault};
 
 use crate::index_call::IndexCall;
+use crate::index_writers::IndexWriters;
 use crate::indexed_fields::IndexedFields;
 use ii_base::{Fault, Schema, TextAnalyzer};
 use ii_docset::DocId;
 use std::alloc::Global;
+use std::io::Write;
 use std::marker::Model;
 
 /// Takes index calls in the order of their documents.
@@ -96,5 +100,39 @@ impl Indexer {
         self.last_doc = doc;
         self.failed = false;
         Ok(())
+    }
+
+    /// Writes the files of what was indexed, the norms first, and hands the writers back.
+    ///
+    /// `IndexerFailed` after a refused call, and nothing is written. `Write` where a writer fails,
+    /// `Limit(Offset)` where a count of a writer would pass `u64::MAX` or the bytes of all terms of a
+    /// field pass 2^56, `Limit(TermBytes)` where the postings or the positions of a term have more than
+    /// `u32::MAX` bytes, `Limit(BlockFrequencySum)` where the counts of a block of a term with positions
+    /// sum up above `u32::MAX`, `OutOfMemory` where a growth was refused.
+    pub fn finish<W: Write>(
+        self,
+        writers: IndexWriters<W>,
+    ) -> (IndexWriters<W>, Result<(), Fault>)
+        ensures wrote { (analyze : List ℕ → List Word) (calls : List Call) → Stores analyze self calls → OnOk result.1 (WroteIndex self.schema self.num_docs writers result.0 (tokens_of analyze calls)) }
+        ensures failures { CountsIndexFailures writers result.0 result.1 }
+        ensures fault { self.failed ≡ false → (analyze : List ℕ → List Word) (calls : List Call) → Stores analyze self calls
+            → IfErr result.1 (IsIndexFault self.schema self.num_docs writers self.fields.indexed (tokens_of analyze calls)) }
+        ensures failed { self.failed ≡ true → (result.1 ≡ Err Fault.IndexerFailed) × (result.0 ≡ writers) }
+    {
+        let Indexer {
+            schema,
+            num_docs,
+            last_doc: _,
+            fields,
+            failed,
+            alloc,
+        } = self;
+        if failed {
+            return (writers, Err(Fault::IndexerFailed));
+        }
+        match fields.finish(alloc, &schema, num_docs) {
+            Ok(finished) => finished.write(alloc, num_docs, &schema, writers),
+            Err(fault) => (writers, Err(fault)),
+        }
     }
 }

@@ -46,6 +46,7 @@ impl OpenDocuments {
     // Document 0 of each field, with no tokens.
     pub(crate) fn new(alloc: Global, schema: &Schema) -> Result<OpenDocuments, Fault>
         ensures ok { IfOk result (λ d. d ≡ record { documents = map (λ (e : Entry). empty_document 0) schema.now; norms = empty_buffers schema.now }) }
+        ensures few { IfOk result (λ d. length schema.now < 2 ^ 32) }
         ensures only { IfErr result (λ e. e ≡ Fault.OutOfMemory) }
     {
         let mut documents = Vec::with_capacity(alloc, schema.num_fields())?;

@@ -175,8 +175,7 @@ fn serialize_fields<W: Write>(
 }
 
 /// Writes the terms of a context, the fields that have some in ascending order, with the numbers of
-/// tokens that their writers had. The schema, fewer than 2^32 fields, is that of the serializer and of
-/// the writers; no field was written yet; each term lies in a field of it, and its documents may be
+/// tokens that their writers had. The schema is that of the serializer and of the writers; no field was written yet; each term lies in a field of it, and its documents may be
 /// written.
 ///
 /// `Write` where a writer fails, `Limit(Offset)` where a count of a writer would pass `u64::MAX` or the
@@ -194,7 +193,6 @@ pub fn serialize_postings<W: Write>(
     serializer: &mut InvertedIndexSerializer<W>,
 ) -> Result<(), Fault>
     requires schema { schema.now ≡ serializer.old.entries }
-    requires few { length schema.now < 2 ^ 32 }
     requires writers { length per_field_postings_writers.now ≡ length schema.now }
     requires fresh { HasFields serializer.old.entries serializer.old.bodies serializer.old.bodies [] }
     requires norms { AreShortNorms fieldnorm_readers.now }

@@ -4,7 +4,7 @@ use Rattle.ii_io.specs.CompositeWrite.{CompositeWriteState, HasBodies}
 use Rattle.ii_io.specs.CountingWriter.{CountingWriterState, WritesInMemory}
 use Rattle.ii_io.specs.declared.faults.Fault.{Fault}
 use Rattle.ii_fieldnorm.specs.Buffers.{WroteNorms, norm_bodies, rest_of_file}
-use Rattle.ii_indexing.proofs.NormFileLaws.{begun_file, few_bodies, memory_only, norms_read}
+use Rattle.ii_indexing.proofs.NormFileLaws.{begun_bodies, few_bodies, memory_only, norms_read}
 use Rattle.ii_indexing.proofs.open_documents.norms_file.Goals as goal
 
 pub serialize-writer-requires-clause-few : goal.serialize-writer-requires-clause-few
@@ -13,7 +13,7 @@ serialize-writer-requires-clause-few c = λ running. omega (arith, c.requires.fe
 pub returns-in_ok-from_vec-in-Ok-clause-reads : goal.returns-in_ok-from_vec-in-Ok-clause-reads
 returns-in_ok-from_vec-in-Ok-clause-reads c =
     let w = c.wrap-writer.result in
-    let begun = subst (λ (s : CompositeWriteState). HasBodies w s []) (sym c.from_write.ensures) (begun_file w) in
+    let begun = subst (λ (s : CompositeWriteState). HasBodies w s []) (sym c.from_write.ensures) (begun_bodies w) in
     let wrote : WroteNorms w c.serialize-writer.result.0 [] c.args.norms.now = subst (λ (r : Result (Unit {0}) Fault). OnOk r (WroteNorms w c.serialize-writer.result.0 [] c.args.norms.now)) c.in-Ok.is (c.serialize-writer.ensures.norms w [] begun refl) in
     let empty : w.contents ≡ Some [] = ap (λ (s : CountingWriterState). s.contents) c.wrap-writer.ensures ∙ ap (λ (xs : List ℕ). Some xs) c.new.ensures.items in
     rw c.in_ok-from_vec-in-Ok.ensures.ok (norms_read w c.serialize-writer.result.0 c.args.norms.now c.finish.result.items empty (sym c.finish.ensures) wrote)
@@ -21,7 +21,7 @@ returns-in_ok-from_vec-in-Ok-clause-reads c =
 pub returns-in-Err-clause-only : goal.returns-in-Err-clause-only
 returns-in-Err-clause-only c =
     let w = c.wrap-writer.result in
-    let begun = subst (λ (s : CompositeWriteState). HasBodies w s []) (sym c.from_write.ensures) (begun_file w) in
+    let begun = subst (λ (s : CompositeWriteState). HasBodies w s []) (sym c.from_write.ensures) (begun_bodies w) in
     let how = c.serialize-writer.ensures.written w [] begun in
     let at = subst (λ (s : CompositeWriteState). WritesInMemory s.closed s.writer c.serialize-writer.result.0 (rest_of_file [] c.args.norms.now) c.serialize-writer.result.1) c.from_write.ensures how in
     let refused = subst (λ (r : Result (Unit {0}) Fault). WritesInMemory false w c.serialize-writer.result.0 (rest_of_file [] c.args.norms.now) r) c.in-Err.is at in

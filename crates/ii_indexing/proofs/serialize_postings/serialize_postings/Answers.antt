@@ -25,7 +25,7 @@ serialize_fields-requires-clause-known g c =
 pub serialize_fields-requires-clause-few : goal.serialize_fields-requires-clause-few
 serialize_fields-requires-clause-few g c =
     let many = ap length c.in_ok-terms.ensures.ok ∙ length-map-range_with_len (λ (field : ℕ). terms_in field c.sort.new.self) 0 c.num_fields.result in
-    omega (arith, many, c.num_fields.ensures.value, c.requires.few)
+    omega (arith, many, c.num_fields.ensures.bound)
 
 pub serialize_fields-requires-clause-writers : goal.serialize_fields-requires-clause-writers
 serialize_fields-requires-clause-writers g c =
@@ -46,7 +46,7 @@ returns-clause-wrote g c =
 pub returns-clause-holds : goal.returns-clause-holds
 returns-clause-holds g c ts has =
     wrote_tokens c.serialize_fields.result c.reads_entries_back.ensures c.reads_uncounted_term_back.ensures c.args.serializer.now c.serialize_fields.new.serializer c.args.per_field_postings_writers.now c.args.ctx c.sort.new.self ts
-    (omega (arith, c.requires.few, ap length c.requires.schema)) c.in_ok-sort.ensures.same c.in_ok-sort.ensures.ascending c.in_ok-sort.ensures.whole
+    (omega (arith, c.num_fields.ensures.value, c.num_fields.ensures.bound, ap length c.requires.schema)) c.in_ok-sort.ensures.same c.in_ok-sort.ensures.ascending c.in_ok-sort.ensures.whole
     (subst (λ (n : ℕ). AllMayBeWritten n c.args.ctx) (ap length c.requires.schema) c.requires.terms) has
     (wrote_terms c.serialize_fields.result c.args.serializer.now c.serialize_fields.new.serializer c.args.per_field_postings_writers.now c.args.ctx c.sort.new.self c.in_ok-terms.terms.items c.num_fields.result
     c.in_ok-sort.ensures.same c.in_ok-sort.ensures.ascending c.in_ok-terms.ensures.ok (c.num_fields.ensures.value ∙ ap length c.requires.schema) c.serialize_fields.ensures.wrote)
@@ -77,7 +77,7 @@ returns-clause-refused g c closed =
       ascending = c.in_ok-sort.ensures.ascending;
       are = c.in_ok-terms.ensures.ok ∙ ap (λ (m : ℕ). map (λ (field : ℕ). terms_in field c.sort.new.self) (range_with_len 0 m)) (c.num_fields.ensures.value ∙ ap length c.requires.schema);
     } in
-    let all = each_may_be (length c.args.schema.now) c.args.ctx c.sort.new.self c.in_ok-sort.ensures.same c.in_ok-sort.ensures.ascending c.requires.terms in
+    let all = each_may_be (length c.args.schema.now) c.args.ctx c.sort.new.self c.in_ok-sort.ensures.same c.in_ok-sort.ensures.ascending c.in_ok-sort.ensures.whole c.requires.terms in
     let known = subst (λ (n : ℕ). AllByRecursion (λ (t : List ℕ × RecorderState). field_in t.0 < n) c.sort.new.self) (ap length c.requires.schema) (fields_known (length c.args.schema.now) c.sort.new.self all) in
     let stays = c.serialize_fields.ensures.refused closed in
     record {

@@ -40,6 +40,7 @@ invariant_of-self-2 g c =
     (
       c.self.invariant.0,
       λ fine. record {
+        few = old.few;
         ends = subst (λ (doc : ℕ). EndsAt doc c.index_call.new.self) (sym c.doc-doc.ensures) c.in_ok-index_call.ensures.ends;
         writers = c.in_ok-index_call.ensures.fields ∙ old.writers;
         norms = c.in_ok-index_call.ensures.norms ∙ old.norms;

@@ -1,0 +1,57 @@
+-- What is known of the norms once all calls were indexed.
+use Rattle.std.proofs.Common.{◌≡◌, ℕ, zero, suc, ◌<◌, ◌≤◌, ◌^◌, Bool, true, false, List, [], ◌∷◌, map, length, Option, Some, None, refl, sym, ap, ◌∙◌, subst, arith}
+use Rattle.std.specs.Prelude.{MatchOption, is_some, ⊤, if◌then◌else◌}
+use Rattle.std.proofs.lemmas.List.FromFn.{length-map-range_with_len}
+use Rattle.ii_io.specs.Composite.{Body, body_of, composite}
+use Rattle.ii_base.specs.Schema.{Entry, keeps_norms}
+use Rattle.ii_fieldnorm.specs.Buffers.{Buffers, buffer_of}
+use Rattle.ii_fieldnorm.specs.Norms.{id_of_norm}
+use Rattle.ii_index.specs.Postings.{doc_count}
+use Rattle.ii_index.specs.Tokens.{IndexToken}
+use Rattle.ii_indexing.specs.FieldParts.{AreShortNorms}
+use Rattle.ii_indexing.specs.IndexFiles.{has_norms}
+use Rattle.ii_indexing.specs.Norms.{HoldNorms, norm_ids}
+use Rattle.ii_indexing.specs.OpenDocuments.{with_norms}
+
+-- the fields with norms are those of the schema
+norm_at : (bs : Buffers) (entries : List Entry) (field : ℕ) → with_norms bs ≡ map keeps_norms entries → is_some (buffer_of field bs) ≡ has_norms entries field
+norm_at [] [] field same = refl
+norm_at [] (e ∷ es) field same = absurd (cc)
+norm_at (b ∷ bs) [] field same = absurd (cc)
+norm_at (b ∷ bs) (e ∷ es) zero same = cc
+norm_at (b ∷ bs) (e ∷ es) (suc field) same = norm_at bs es field (rest same)
+  where
+    rest : with_norms (b ∷ bs) ≡ map keeps_norms (e ∷ es) → with_norms bs ≡ map keeps_norms es
+    rest is = cc
+
+pub schema_norms : (bs : Buffers) (entries : List Entry) (n : ℕ) (bytes : List ℕ) (ts : List IndexToken) → with_norms bs ≡ map keeps_norms entries → HoldNorms (λ (field : ℕ). is_some (buffer_of field bs)) n bytes ts → HoldNorms (has_norms entries) n bytes ts
+schema_norms bs entries n bytes ts same h = record {
+  bodies = h.bodies;
+  opened = h.opened;
+  exact = λ field. h.exact field ∙ ap (λ (b : Bool). if b then Some (norm_ids n field ts) else None) (norm_at bs entries field same);
+}
+
+-- their numbers fit
+pub short_bodies : (has : ℕ → Bool) (n : ℕ) (bytes : List ℕ) (ts : List IndexToken) (readers : List Body) → n ≤ 2147483647 → HoldNorms has n bytes ts → composite bytes ≡ Some readers → AreShortNorms readers
+short_bodies has n bytes ts readers low h opened field = by (has field) (ap (body_of field) same ∙ h.exact field)
+  where
+    inside : Some readers ≡ Some h.bodies → readers ≡ h.bodies
+    inside is = cc
+
+    same : readers ≡ h.bodies
+    same = inside (sym opened ∙ h.opened)
+
+    by : (b : Bool) → body_of field readers ≡ (if b then Some (norm_ids n field ts) else None) → MatchOption (body_of field readers) ⊤ (λ (ids : List ℕ). length ids < 2 ^ 32)
+    by true is =
+        let len : length (norm_ids n field ts) ≡ n = length-map-range_with_len (λ (doc : ℕ). id_of_norm (doc_count doc field ts)) 0 n in
+        rw is (omega (arith, low, len))
+    by false is = rw is tt
+
+pub with_length : (bs : Buffers) (entries : List Entry) → with_norms bs ≡ map keeps_norms entries → length bs ≡ length entries
+with_length [] [] same = refl
+with_length [] (e ∷ es) same = absurd (cc)
+with_length (b ∷ bs) [] same = absurd (cc)
+with_length (b ∷ bs) (e ∷ es) same = ap (λ (n : ℕ). suc n) (with_length bs es (rest same))
+  where
+    rest : with_norms (b ∷ bs) ≡ map keeps_norms (e ∷ es) → with_norms bs ≡ map keeps_norms es
+    rest is = cc

@@ -1,0 +1,23 @@
+use Rattle.std.proofs.Common.{inl, inr, [], ◌∙◌, sym, subst, ⊎_elim}
+use Rattle.std.proofs.lemmas.Result.{IfErr-weaker}
+use Rattle.ii_recorder.specs.IndexBodies.{IndexBodiesState}
+use Rattle.ii_indexing.specs.FieldParts.{HasFields}
+use Rattle.ii_indexing.specs.IndexedTerms.{IndexedTermsState}
+use Rattle.ii_indexing.specs.IndexFiles.{PassLimits}
+use Rattle.ii_indexing.proofs.WrittenFiles.{begun_fields}
+use Rattle.ii_indexing.proofs.indexed_terms.IndexedTerms.write.Goals as goal
+
+pub write_files-terms-requires-clause-fresh : goal.write_files-terms-requires-clause-fresh
+write_files-terms-requires-clause-fresh g c =
+    subst (λ (b : IndexBodiesState). HasFields c.open.result.entries b b []) (sym c.open.ensures.bodies) (begun_fields c.open.result.entries c.args.writers.terms c.args.writers.postings c.args.writers.positions)
+
+pub returns-clause-fault : goal.returns-clause-fault
+returns-clause-fault g c =
+    IfErr-weaker c.write_files-terms.result.3 _ _
+    (λ e fault. ⊎_elim inl (λ others. inr (⊎_elim inl (λ cause. inr (subst (λ (s : IndexedTermsState). PassLimits c.args.schema.now c.args.writers s e) c.self.view_is (record {
+      begun = c.open.result;
+      entries_are = c.open.ensures.entries ∙ c.requires.same;
+      bodies_are = c.open.ensures.bodies;
+      cause = cause;
+    }))) others)) fault)
+    c.write_files-terms.ensures.fault

@@ -1,0 +1,19 @@
+use Rattle.std.proofs.Common.{◌≡◌, ◌<◌, ◌^◌, ◌∙◌, false, List, ℕ, length, sym, ap, subst}
+use Rattle.ii_base.specs.Schema.{Entry}
+use Rattle.ii_indexing.proofs.WrittenFiles.{closed_files, table_fault, three_counted}
+use Rattle.ii_indexing.proofs.indexed_terms.write_files.Goals as goal
+
+pub returns-in-Ok-clause-holds : goal.returns-in-Ok-clause-holds
+returns-in-Ok-clause-holds g c ts has =
+    closed_files c.args.serializer c.serialize_postings.new.serializer c.close.result.0 c.close.result.1 c.close.result.2 c.close.result.3 ts (subst (λ (es : List Entry). length es < 2 ^ 32) c.requires.schema c.requires.few)
+    (c.in-Ok.ensures.holds ts has) c.close.ensures.terms c.close.ensures.postings c.close.ensures.positions
+
+pub returns-in-Ok-clause-failures : goal.returns-in-Ok-clause-failures
+returns-in-Ok-clause-failures g c =
+    three_counted c.args.serializer.bodies c.serialize_postings.new.serializer.bodies c.serialize_postings.result c.in-Ok.field-0 c.close.result.0 c.close.result.1 c.close.result.2 c.close.result.3 c.in-Ok.is c.serialize_postings.ensures.failures
+    (record { write = c.close.ensures.write; by_one = c.close.ensures.by_one; kept = c.close.ensures.kept })
+
+pub returns-in-Ok-clause-fault : goal.returns-in-Ok-clause-fault
+returns-in-Ok-clause-fault g c =
+    table_fault c.args.serializer c.serialize_postings.new.serializer c.args.postings_writers.now c.args.ctx c.close.result.3 (c.in-Ok.ensures.closes ∙ c.requires.open) c.in-Ok.ensures.wrote
+    (record { full = c.close.ensures.full; closed = c.close.ensures.closed; only = c.close.ensures.only })

@@ -1,0 +1,102 @@
+-- The files of an index as they are written.
+use Rattle.std.specs.Prelude.{◌≡◌, ℕ, ◌+◌, ◌<◌, ◌≤◌, ◌⊎◌, ◌↔◌, Bool, false, List, [], length, Result, IsErrOf, slice_get, unwrap_or}
+use Rattle.std.specs.Option.{option_map}
+use Rattle.ii_io.specs.declared.faults.Fault.{Fault}
+use Rattle.ii_io.specs.declared.faults.Fault.TheVariants.{Limit, OutOfMemory, Write}
+use Rattle.ii_io.specs.declared.faults.LimitName.TheVariants as limit
+use Rattle.ii_io.specs.Composite.{Body}
+use Rattle.ii_io.specs.CompositeWrite.{CompositeWriteState}
+use Rattle.ii_io.specs.CountingWriter.{CountingWriterState, IsFull, Wrote}
+use Rattle.ii_base.specs.Schema.{Entry, keeps_norms}
+use Rattle.ii_index.specs.Fields.{option_of}
+use Rattle.ii_index.specs.Files.{HoldTokens}
+use Rattle.ii_index.specs.Tokens.{IndexToken}
+use Rattle.ii_recorder.specs.IndexBodies.{AreFull, IndexBodiesState, failed_calls, tables_of}
+use Rattle.ii_recorder.specs.IndexSerializer.{IndexSerializerState}
+use Rattle.ii_indexing.specs.FieldParts.{WroteContext}
+use Rattle.ii_indexing.specs.IndexedTerms.{IndexedTermsState}
+use Rattle.ii_indexing.specs.Norms.{HoldNorms}
+use Rattle.ii_indexing.specs.WriteFaults.{IsContextFault}
+use Rattle.ii_indexing.specs.declared.index_writers.IndexWriters.{IndexWriters}
+
+-- whether a field of a schema has norms
+abbrev pub has_norms : List Entry → ℕ → Bool
+has_norms entries field = unwrap_or (option_map keeps_norms (slice_get entries field)) false
+
+-- The files of terms, postings and positions were written, and hold tokens.
+pub record WroteTermFiles {W : Type 0} (entries : List Entry) (old new : IndexWriters W) (ts : List IndexToken) : Type 0 where
+  pub terms : List ℕ
+  pub postings : List ℕ
+  pub positions : List ℕ
+  pub wrote_terms : Wrote old.terms new.terms terms
+  pub wrote_postings : Wrote old.postings new.postings postings
+  pub wrote_positions : Wrote old.positions new.positions positions
+  pub hold : HoldTokens (option_of entries) terms postings positions ts
+
+-- And so it is for the writers that were lent to a serializer, where nothing was written yet.
+pub record ClosedFiles (begun : IndexSerializerState) (new_terms new_postings new_positions : CountingWriterState) (ts : List IndexToken) : Type 0 where
+  pub terms : List ℕ
+  pub postings : List ℕ
+  pub positions : List ℕ
+  pub wrote_terms : Wrote begun.bodies.terms.writer new_terms terms
+  pub wrote_postings : Wrote begun.bodies.postings.writer new_postings postings
+  pub wrote_positions : Wrote begun.bodies.positions.writer new_positions positions
+  pub hold : HoldTokens (option_of begun.entries) terms postings positions ts
+
+-- The file of norms was written, so many for each field that has some.
+pub record WroteNormFile {W : Type 0} (entries : List Entry) (num_docs : ℕ) (old new : IndexWriters W) (ts : List IndexToken) : Type 0 where
+  pub fieldnorms : List ℕ
+  pub wrote : Wrote old.fieldnorms new.fieldnorms fieldnorms
+  pub hold : HoldNorms (has_norms entries) num_docs fieldnorms ts
+
+-- An index of tokens was written.
+pub record WroteIndex {W : Type 0} (entries : List Entry) (num_docs : ℕ) (old new : IndexWriters W) (ts : List IndexToken) : Type 0 where
+  pub terms : WroteTermFiles entries old new ts
+  pub norms : WroteNormFile entries num_docs old new ts
+
+-- how many calls of the four writers failed
+abbrev pub index_failed_calls : {W : Type 0} → IndexWriters W → ℕ
+index_failed_calls w = w.terms.failed_calls + w.postings.failed_calls + w.positions.failed_calls + w.fieldnorms.failed_calls
+
+-- How a call ends for the four writers: a refusal by one of them is counted once, and nothing else is.
+pub record CountsIndexFailures {W : Type 0} (old new : IndexWriters W) (result : Result (Unit {0}) Fault) : Type 0 where
+  pub write : IsErrOf result Write ↔ (index_failed_calls old < index_failed_calls new)
+  pub by_one : IsErrOf result Write → index_failed_calls new ≡ index_failed_calls old + 1
+  pub terms : old.terms.failed_calls ≤ new.terms.failed_calls
+  pub postings : old.postings.failed_calls ≤ new.postings.failed_calls
+  pub positions : old.positions.failed_calls ≤ new.positions.failed_calls
+  pub fieldnorms : old.fieldnorms.failed_calls ≤ new.fieldnorms.failed_calls
+
+-- And so it is for three of them.
+pub record CountsThreeFailures (old : IndexBodiesState) (new_terms new_postings new_positions : CountingWriterState) (result : Result (Unit {0}) Fault) : Type 0 where
+  pub write : IsErrOf result Write ↔ (failed_calls old < new_terms.failed_calls + new_postings.failed_calls + new_positions.failed_calls)
+  pub by_one : IsErrOf result Write → new_terms.failed_calls + new_postings.failed_calls + new_positions.failed_calls ≡ failed_calls old + 1
+  pub terms : old.terms.writer.failed_calls ≤ new_terms.failed_calls
+  pub postings : old.postings.writer.failed_calls ≤ new_postings.failed_calls
+  pub positions : old.positions.writer.failed_calls ≤ new_positions.failed_calls
+
+-- a file that is begun where a writer stands
+abbrev pub begun_file : CountingWriterState → CompositeWriteState
+begun_file w = record { writer = w; base = w.written_bytes; starts = []; closed = false }
+
+abbrev pub begun_files : {W : Type 0} → IndexWriters W → IndexBodiesState
+begun_files w = record { terms = begun_file w.terms; postings = begun_file w.postings; positions = begun_file w.positions }
+
+-- The tables of the three files have no room behind the bodies of all terms.
+pub record FillTables (begun : IndexSerializerState) (s : IndexedTermsState) : Type 0 where
+  pub now : IndexSerializerState
+  pub wrote : WroteContext begun now s.writers s.terms
+  pub full : AreFull now.bodies (tables_of now.bodies)
+
+-- Why the files of terms can't be written behind what three writers hold, by a limit.
+pub record PassLimits {W : Type 0} (entries : List Entry) (writers : IndexWriters W) (s : IndexedTermsState) (fault : Fault) : Type 0 where
+  pub begun : IndexSerializerState
+  pub entries_are : begun.entries ≡ entries
+  pub bodies_are : begun.bodies ≡ begun_files writers
+  pub cause : IsContextFault begun s.writers s.terms fault ⊎ ((fault ≡ Limit limit.Offset) × FillTables begun s)
+
+-- Why what was indexed can't be written: want of memory, a writer, a limit of its terms, or a file of norms that is too long.
+abbrev pub IsIndexFault : {W : Type 0} → List Entry → ℕ → IndexWriters W → IndexedTermsState → List IndexToken → Fault → Type 0
+IsIndexFault entries num_docs writers s ts fault =
+    (fault ≡ OutOfMemory) ⊎ (fault ≡ Write) ⊎ PassLimits entries writers s fault
+    ⊎ ((fault ≡ Limit limit.Offset) × (bytes : List ℕ) × HoldNorms (has_norms entries) num_docs bytes ts × IsFull writers.fieldnorms (length bytes))

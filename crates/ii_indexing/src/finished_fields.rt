@@ -1,0 +1,72 @@
+ghost use Rattle.std.specs.Prelude.{◌≡◌, ◌<◌, ◌^◌, List, length, OnOk, IfErr};
+ghost use Rattle.ii_io.specs.CountingWriter.{Writes};
+ghost use Rattle.ii_index.specs.Tokens.{IndexToken};
+ghost use Rattle.ii_indexing.specs.FieldParts.{AreShortNorms};
+ghost use Rattle.ii_indexing.specs.HeldBodies.{HaveTokens};
+ghost use Rattle.ii_indexing.specs.IndexFiles.{CountsIndexFailures, IsIndexFault, WroteIndex, has_norms};
+ghost use Rattle.ii_indexing.specs.Norms.{HoldNorms};
+ghost use Rattle.ii_indexing.specs.SortedTerms.{AllMayBeWritten};
+
+use crate::index_writers::IndexWriters;
+use crate::indexed_terms::IndexedTerms;
+use bytes::Bytes;
+use ii_base::{CountingWriter, Fault, Schema};
+use ii_fieldnorm::FieldNormReaders;
+use std::alloc::Global;
+use std::io::Write;
+use std::marker::Model;
+
+/// What was indexed of all calls: the terms, and the file of norms, opened. The schema is here once
+/// more.
+#[derive(Drop)]
+pub(crate) struct FinishedFields {
+    pub(crate) schema: Schema,
+    pub(crate) terms: IndexedTerms,
+    pub(crate) norms: Bytes,
+    pub(crate) readers: FieldNormReaders,
+}
+
+impl FinishedFields {
+    // Writes the file of norms, and then those of the terms.
+    pub(crate) fn write<W: Write>(
+        self,
+        alloc: Global,
+        num_docs: u32,
+        schema: &Schema,
+        writers: IndexWriters<W>,
+    ) -> (IndexWriters<W>, Result<(), Fault>)
+        requires same { self.schema ≡ schema.now }
+        requires few { length schema.now < 2 ^ 32 }
+        requires writers { length self.terms.writers ≡ length schema.now }
+        requires short { AreShortNorms self.readers }
+        requires terms { AllMayBeWritten (length schema.now) self.terms.terms }
+        ensures holds { (ts : List IndexToken) → HoldNorms (has_norms schema.now) num_docs self.norms ts → HaveTokens schema.now self.terms.terms self.terms.writers ts
+            → OnOk result.1 (WroteIndex schema.now num_docs writers result.0 ts) }
+        ensures failures { CountsIndexFailures writers result.0 result.1 }
+        ensures fault { (ts : List IndexToken) → HoldNorms (has_norms schema.now) num_docs self.norms ts → IfErr result.1 (IsIndexFault schema.now num_docs writers self.terms ts) }
+    {
+        let FinishedFields {
+            schema: copy,
+            terms,
+            norms,
+            readers,
+        } = self;
+        let mut writers = writers;
+        let written = write_norms(&mut writers.fieldnorms, &norms);
+        if written.is_err() {
+            return (writers, written);
+        }
+        terms.write(alloc, schema, copy, &readers, writers)
+    }
+}
+
+// Writes the bytes and flushes.
+fn write_norms<W: Write>(writer: &mut CountingWriter<W>, bytes: &[u8]) -> Result<(), Fault>
+    ensures written { Writes writer.old writer.new bytes.now result }
+{
+    let written = writer.write_all(bytes);
+    if written.is_err() {
+        return written;
+    }
+    writer.flush()
+}
