@@ -55,3 +55,8 @@ with_length (b ∷ bs) (e ∷ es) same = ap (λ (n : ℕ). suc n) (with_length b
   where
     rest : with_norms (b ∷ bs) ≡ map keeps_norms (e ∷ es) → with_norms bs ≡ map keeps_norms es
     rest is = cc
+
+pub none_of : (bytes : List ℕ) (bodies : List Body) → composite bytes ≡ Some bodies → composite bytes ≡ None → ⊥
+none_of bytes bodies some none =
+    let same : Some bodies ≡ None = sym some ∙ none in
+    absurd (cc)
