@@ -1,11 +1,9 @@
 -- The entries of tokens.
-use Rattle.std.proofs.Common.{true≢false, suc-ne-zero, ◌==◌, ◌||◌, ◌<◌, ◌≡◌, ℕ, ◌+◌, ◌≤◌, ◌<◌, Bool, true, false, ◌&&◌, List, [], ◌∷◌, length, nat_le, nat_lt, nat_eq, refl, sym, ap, ◌∙◌, arith}
+use Rattle.std.proofs.Common.{true≢false, suc-ne-zero, ◌==◌, ◌||◌, ◌<◌, ◌≡◌, ℕ, Bool, true, false, List, [], ◌∷◌, length, nat_eq, refl, sym, ap, ◌∙◌, arith}
 use Rattle.std.specs.Prelude.{filter}
 use Rattle.std.specs.List.{AllByRecursion}
 use Rattle.std.proofs.lemmas.List.Sums.{length-filter}
-use Rattle.std.proofs.lemmas.Bool.{leb-true, le-leb, eqb-true, eqb-false}
-use Rattle.ii_docset.specs.Entries.{Entry, ascend_from, are_documents, docs_of}
-use Rattle.std.specs.List.{AllByRecursion}
+use Rattle.ii_docset.specs.Entries.{Entry}
 use Rattle.ii_index.specs.Postings.{IsCounted, field_count, grouped, is_at, occurs, tokens_at, with_token}
 use Rattle.ii_index.specs.Tokens.{IndexToken}
 
