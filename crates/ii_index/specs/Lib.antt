@@ -1,6 +1,5 @@
 pub mod Cut
 pub mod Fields
 pub mod Files
-pub mod InOrder
 pub mod Postings
 pub mod Tokens

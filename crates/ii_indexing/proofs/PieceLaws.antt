@@ -86,9 +86,6 @@ not_third true true c = refl
 not_third true false c = refl
 not_third false b c = refl
 
-not_second : (b c : Bool) → (((true && false) && b) && c) ≡ false
-not_second b c = refl
-
 -- another field knows of the piece nothing
 pub tells_other : (field f : ℕ) (ps : List Piece) (ts us : List IndexToken) (p : Piece) (d : OpenDocument) (ids : Option (List ℕ)) → (p.field == f) ≡ false → OnlyAt p.doc p.field us → Tells f ps ts d ids
     → Tells f (ps ++ p ∷ []) (ts ++ us) d ids

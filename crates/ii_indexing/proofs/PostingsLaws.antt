@@ -1,15 +1,13 @@
 -- What one more token and one more call add.
 use Rattle.std.proofs.Common.{map, ◌≡◌, ℕ, ◌+◌, Bool, true, false, cond, List, [], ◌∷◌, ◌++◌, nat_eq, refl, sym, ap, ◌∙◌, append_assoc, append-nil}
 use Rattle.std.proofs.lemmas.Bool.{eqb-true, eq-eqb, ne_eqb, eqb-false}
-use Rattle.std.proofs.lemmas.Grind.{flat_map-append}
 use Rattle.std.proofs.lemmas.List.Elements.{filter-append}
-use Rattle.ii_base.specs.Words.{Word}
 use Rattle.ii_base.specs.declared.schema.index_record_option.IndexRecordOption.{IndexRecordOption}
 use Rattle.ii_base.specs.declared.schema.index_record_option.IndexRecordOption.TheVariants.{Basic, WithFreqs, WithFreqsAndPositions}
 use Rattle.ii_docset.specs.Entries.{Entry}
 use Rattle.ii_index.specs.Cut.{cut_entry}
 use Rattle.ii_recorder.specs.Recorded.{begun, with_position}
-use Rattle.ii_index.specs.Tokens.{Call, IndexToken, Piece, call_pieces, piece_tokens, pieces_of, tokens_after, tokens_of}
+use Rattle.ii_index.specs.Tokens.{IndexToken, Piece, piece_tokens, tokens_after}
 use Rattle.ii_index.specs.Postings.{entry_of, grouped, is_at, tokens_at, with_token}
 
 -- the tokens of pieces in two parts
@@ -19,13 +17,6 @@ tokens_after-append earlier (p ∷ ps) second =
     let rest = tokens_after-append (earlier ++ p ∷ []) ps second in
     ap (λ (ts : List IndexToken). piece_tokens earlier p ++ ts) (rest ∙ ap (λ (qs : List Piece). tokens_after (earlier ++ p ∷ []) ps ++ tokens_after qs second) (append_assoc earlier (p ∷ []) ps))
     ∙ sym (append_assoc (piece_tokens earlier p) (tokens_after (earlier ++ p ∷ []) ps) (tokens_after (earlier ++ p ∷ ps) second))
-
--- one more call adds its tokens after those that stand
-pub tokens_of_more : (analyze : List ℕ → List Word) (calls : List Call) (c : Call) → tokens_of analyze (calls ++ c ∷ []) ≡ tokens_of analyze calls ++ tokens_after (pieces_of analyze calls) (call_pieces analyze c)
-tokens_of_more analyze calls c =
-    let pieces = flat_map-append (call_pieces analyze) calls (c ∷ []) in
-    let last = append-nil (call_pieces analyze c) in
-    ap (tokens_after []) (pieces ∙ ap (λ (ps : List Piece). pieces_of analyze calls ++ ps) last) ∙ tokens_after-append [] (pieces_of analyze calls) (call_pieces analyze c)
 
 -- the entries with one more token after them: in the last one if it is of that document, or else in an entry of its own
 abbrev pub token_added : List Entry → IndexToken → List Entry

@@ -43,12 +43,13 @@ fn serialize_one_term<W: Write>(
     ensures told { OnOk result (IsTold serializer.old.index.now.field.term.mode (record { key = key.now; recorder = any_state recorder.now })) }
     ensures between { OnOk result (serializer.new.index.now.field.term_open ≡ false) }
     ensures closes { Closes result serializer.new.index.now.closed }
+    ensures entries { serializer.new.index.now.entries ≡ serializer.old.index.now.entries }
+    // where it is refused
     ensures failures { CountsFailures serializer.old.index.now.bodies serializer.new.index.now.bodies result }
     ensures fault { (initial : IndexBodiesState) (field tokens : ℕ) (ts : List WrittenTerm) → IsWriting initial serializer.old.index.now field tokens ts []
         → IfErr result (IsTermFaultAfter initial (option_of serializer.old.index.now.entries field) tokens ts
         (written_of (option_of serializer.old.index.now.entries field) (record { key = key.now; recorder = any_state recorder.now }))) }
     ensures none { ¬ IsErrOf result Fault.SerializerClosed }
-    ensures entries { serializer.new.index.now.entries ≡ serializer.old.index.now.entries }
 {
     let doc_freq = recorder.term_doc_freq().unwrap_or(0);
     serializer.new_term(key, doc_freq, recorder.has_term_freq())?;
@@ -78,6 +79,7 @@ fn serialize_field<W: Write>(
         (field_bodies (option_of serializer.old.entries field) total_num_tokens (map (written_of (option_of serializer.old.entries field)) (map state_of terms.now)))
         (map (written_of (option_of serializer.old.entries field)) (map state_of terms.now))) }
     ensures told { OnOk result (AllByRecursion (IsTold (option_of serializer.old.entries field)) (map state_of terms.now)) }
+    // where it is refused
     ensures failures { CountsFailures serializer.old.bodies serializer.new.bodies result }
     ensures fault { IfErr result (λ e. (e ≡ Fault.SerializerClosed)
         ⊎ IsPartFault serializer.old.entries serializer.old.bodies (record { field = field; tokens = total_num_tokens; terms = map state_of terms.now }) e) }
@@ -110,6 +112,7 @@ fn serialize_if_any<W: Write>(
     ensures closes { OnOk result (serializer.new.closed ≡ serializer.old.closed) }
     ensures wrote { (initial : IndexBodiesState) (fs : List FieldPart) → HasFields serializer.old.entries initial serializer.old.bodies fs
         → OnOk result (HasFields serializer.old.entries initial serializer.new.bodies (fs ++ parts_of serializer.old.entries field (tokens_in writers.now field) terms.now)) }
+    // where it is refused
     ensures failures { CountsFailures serializer.old.bodies serializer.new.bodies result }
     ensures fault { IfErr result (λ e. (e ≡ Fault.SerializerClosed)
         ⊎ IsPartFault serializer.old.entries serializer.old.bodies (record { field = field; tokens = tokens_in writers.now field; terms = terms.now }) e) }
@@ -152,6 +155,7 @@ fn serialize_fields<W: Write>(
     ensures entries { serializer.new.entries ≡ serializer.old.entries }
     ensures wrote { OnOk result (HasFields serializer.old.entries serializer.old.bodies serializer.new.bodies (first_parts serializer.old.entries writers.now terms.now.items (length terms.now.items))) }
     ensures closes { OnOk result (serializer.new.closed ≡ serializer.old.closed) }
+    // where it is refused
     ensures failures { CountsFailures serializer.old.bodies serializer.new.bodies result }
     ensures fault { IfErr result (λ e. (e ≡ Fault.SerializerClosed)
         ⊎ IsPartsFault serializer.old.entries serializer.old.bodies (first_parts serializer.old.entries writers.now terms.now.items (length terms.now.items)) e) }
@@ -201,6 +205,7 @@ pub fn serialize_postings<W: Write>(
     ensures wrote { OnOk result (WroteContext serializer.old serializer.new per_field_postings_writers.now ctx) }
     ensures holds { (ts : List IndexToken) → HaveTokens serializer.old.entries ctx per_field_postings_writers.now ts → OnOk result (WroteTokens serializer.old serializer.new ts) }
     ensures closes { OnOk result (serializer.new.closed ≡ serializer.old.closed) }
+    // where it is refused
     ensures failures { CountsFailures serializer.old.bodies serializer.new.bodies result }
     ensures fault { IfErr result (λ e. (e ≡ Fault.OutOfMemory) ⊎ (e ≡ Fault.SerializerClosed) ⊎ IsContextFault serializer.old per_field_postings_writers.now ctx e) }
     ensures closed { IsErrOf result Fault.SerializerClosed → IsTrue serializer.old.closed × (0 < length ctx) }
