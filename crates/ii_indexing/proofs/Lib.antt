@@ -1,6 +1,7 @@
 pub mod ByFieldLemmas
 pub mod CallLaws
 pub mod ContextFaults
+pub mod CallsLaws
 pub mod DocumentLaws
 pub mod FaultLemmas
 pub mod FieldLists
@@ -14,6 +15,7 @@ pub mod PieceLaws
 pub mod PostingsLaws
 pub mod RecorderSteps
 pub mod RecordsLaws
+pub mod RefusalLaws
 pub mod SerializeLemmas
 pub mod SortedLemmas
 pub mod StoreLaws

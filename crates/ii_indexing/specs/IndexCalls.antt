@@ -1,5 +1,7 @@
 -- What an index call is to index.
-use Rattle.std.specs.Prelude.{◌≡◌, ℕ, true, List, Some, slice_get, string_bytes}
+use Rattle.std.specs.Prelude.{◌≡◌, ℕ, ◌<◌, true, List, Some, slice_get, string_bytes}
+use Rattle.std.specs.List.{AllByRecursion}
+use Rattle.std.specs.List.Sorted.{IsNonDecreasingBy}
 use Rattle.std.specs.Int.{bytes_high_first}
 use Rattle.ii_base.specs.Schema.{Entry}
 use Rattle.ii_base.specs.Values.{flipped, number_of_bool, u64_bytes}
@@ -45,3 +47,13 @@ pub record Takes (entries : List Entry) (field : ℕ) (value_type : ValueType) :
   pub found : slice_get entries field ≡ Some entry
   pub indexed : entry.is_indexed ≡ true
   pub typed : entry.value_type ≡ value_type
+
+-- A call may be made: its document is one of so many, and its field takes its value.
+pub record MayBeIndexed (entries : List Entry) (num_docs : ℕ) (c : IndexCall) : Type 0 where
+  pub below : (call_of c).doc < num_docs
+  pub takes : Takes entries (call_of c).field (type_of c)
+
+-- Calls may be made one after the other: no document lies below the one before.
+pub record MayAllBeIndexed (entries : List Entry) (num_docs : ℕ) (calls : List IndexCall) : Type 0 where
+  pub each : AllByRecursion (MayBeIndexed entries num_docs) calls
+  pub ordered : IsNonDecreasingBy (λ (c : IndexCall). (call_of c).doc) calls

@@ -14,7 +14,7 @@ use Rattle.ii_index.specs.Tokens.{IndexToken}
 use Rattle.ii_recorder.specs.IndexBodies.{AreFull, IndexBodiesState, failed_calls, tables_of}
 use Rattle.ii_recorder.specs.IndexSerializer.{IndexSerializerState}
 use Rattle.ii_indexing.specs.FieldParts.{WroteContext}
-use Rattle.ii_indexing.specs.IndexedTerms.{IndexedTermsState}
+use Rattle.ii_indexing.specs.IndexedTerms.{IndexedTermsState, StoresTokens}
 use Rattle.ii_indexing.specs.Norms.{HoldNorms}
 use Rattle.ii_indexing.specs.WriteFaults.{IsContextFault}
 use Rattle.ii_indexing.specs.declared.index_writers.IndexWriters.{IndexWriters}
@@ -100,3 +100,9 @@ abbrev pub IsIndexFault : {W : Type 0} → List Entry → ℕ → IndexWriters W
 IsIndexFault entries num_docs writers s ts fault =
     (fault ≡ OutOfMemory) ⊎ (fault ≡ Write) ⊎ PassLimits entries writers s fault
     ⊎ ((fault ≡ Limit limit.Offset) × (bytes : List ℕ) × HoldNorms (has_norms entries) num_docs bytes ts × IsFull writers.fieldnorms (length bytes))
+
+-- And so it is for an index of tokens, by what is stored of them.
+pub record IsWriteFault {W : Type 0} (entries : List Entry) (num_docs : ℕ) (writers : IndexWriters W) (ts : List IndexToken) (fault : Fault) : Type 0 where
+  pub stored : IndexedTermsState
+  pub stores : StoresTokens entries stored ts
+  pub cause : IsIndexFault entries num_docs writers stored ts fault

@@ -64,3 +64,8 @@ pieces_fault option earlier (p ∷ ps) = first_fault (piece_fault option earlier
 -- why a call is refused after earlier ones
 abbrev pub call_fault : (List ℕ → List Word) → IndexRecordOption → List Call → Call → Option Fault
 call_fault analyze option earlier c = pieces_fault option (pieces_of analyze earlier) (call_pieces analyze c)
+
+-- why calls are refused after earlier ones, the first fault of one after the other, each by what its field records
+abbrev pub calls_fault : (List ℕ → List Word) → (ℕ → IndexRecordOption) → List Call → List Call → Option Fault
+calls_fault analyze option earlier [] = None
+calls_fault analyze option earlier (c ∷ cs) = first_fault (call_fault analyze (option c.field) earlier c) (calls_fault analyze option (earlier ++ c ∷ []) cs)

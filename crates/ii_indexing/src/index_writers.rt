@@ -1,4 +1,17 @@
-use ii_base::CountingWriter;
+ghost use Rattle.std.specs.Prelude.{◌≡◌, ◌≤◌, ◌⊎◌, [], List, map, false, None, Err, IfErr, IfOk, IfSome, OnOk};
+ghost use Rattle.ii_docset.specs.declared.docset.TheConstants.{TERMINATED};
+ghost use Rattle.ii_index.specs.Fields.{option_of};
+ghost use Rattle.ii_index.specs.Tokens.{tokens_of};
+ghost use Rattle.ii_indexing.specs.IndexCalls.{MayAllBeIndexed, call_of};
+ghost use Rattle.ii_indexing.specs.IndexFiles.{CountsIndexFailures, IsWriteFault, WroteIndex};
+ghost use Rattle.ii_indexing.specs.Indexer.{Stores};
+ghost use Rattle.ii_indexing.specs.Refusals.{IsRefusedBy, calls_fault};
+
+use crate::index_call::IndexCall;
+use crate::indexer::Indexer;
+use ii_base::{CountingWriter, Fault, Schema, TextAnalyzer};
+use ii_docset::DocId;
+use std::alloc::Global;
 use std::io::Write;
 
 /// The writers of the files of an index.
@@ -12,4 +25,54 @@ pub struct IndexWriters<W: Write> {
     pub positions: CountingWriter<W>,
     /// The norms of its fields.
     pub fieldnorms: CountingWriter<W>,
+}
+
+/// Indexes calls, and writes the files of the index that they give; hands the writers back. No call has
+/// a document below that of the one before, each one's is below `num_docs`, at most `TERMINATED`, and
+/// each one's field is indexed and has values of its type.
+///
+/// The first fault of the calls (`Indexer::index`) is answered, and nothing is written then; else one of
+/// `Indexer::finish`. `OutOfMemory` where there is no room.
+pub fn write_index<A: TextAnalyzer, W: Write>(
+    alloc: Global,
+    schema: Schema,
+    num_docs: DocId,
+    calls: Vec<IndexCall>,
+    analyzer: &A,
+    writers: IndexWriters<W>,
+) -> (IndexWriters<W>, Result<(), Fault>)
+    requires docs { num_docs ≤ TERMINATED }
+    requires calls { MayAllBeIndexed schema num_docs calls.items }
+    ensures wrote { OnOk result.1 (WroteIndex schema num_docs writers result.0 (tokens_of (A.words analyzer.now) (map call_of calls.items))) }
+    ensures failures { CountsIndexFailures writers result.0 result.1 }
+    ensures refused { IfSome (calls_fault (A.words analyzer.now) (option_of schema) [] (map call_of calls.items))
+        (λ fault. ((result.1 ≡ Err fault) ⊎ (result.1 ≡ Err Fault.OutOfMemory)) × (result.0 ≡ writers)) }
+    ensures fault { calls_fault (A.words analyzer.now) (option_of schema) [] (map call_of calls.items) ≡ None
+        → IfErr result.1 (λ e. (e ≡ Fault.OutOfMemory) ⊎ IsWriteFault schema num_docs writers (tokens_of (A.words analyzer.now) (map call_of calls.items)) e) }
+{
+    match index_calls(alloc, schema, num_docs, calls, analyzer) {
+        Ok(indexer) => indexer.finish(writers),
+        Err(fault) => (writers, Err(fault)),
+    }
+}
+
+// An indexer that has taken all calls.
+fn index_calls<A: TextAnalyzer>(
+    alloc: Global,
+    schema: Schema,
+    num_docs: DocId,
+    calls: Vec<IndexCall>,
+    analyzer: &A,
+) -> Result<Indexer, Fault>
+    requires docs { num_docs ≤ TERMINATED }
+    requires calls { MayAllBeIndexed schema num_docs calls.items }
+    ensures stored { IfOk result (λ i. Stores (A.words analyzer.now) i (map call_of calls.items)) }
+    ensures rest { IfOk result (λ i. (i.schema ≡ schema) × (i.num_docs ≡ num_docs) × (i.failed ≡ false)) }
+    ensures refused { IsRefusedBy (calls_fault (A.words analyzer.now) (option_of schema) [] (map call_of calls.items)) result }
+{
+    let mut indexer = Indexer::new(alloc, schema, num_docs)?;
+    for call in calls {
+        indexer.index(call, analyzer)?;
+    }
+    Ok(indexer)
 }

@@ -21,7 +21,7 @@ pub mod sorted_terms;
 mod tests;
 
 pub use index_call::IndexCall;
-pub use index_writers::IndexWriters;
+pub use index_writers::{IndexWriters, write_index};
 pub use indexer::Indexer;
 pub use indexing_context::IndexingContext;
 pub use indexing_position::IndexingPosition;

@@ -1,0 +1,98 @@
+-- What an indexer has taken of a list of calls.
+use Rattle.std.proofs.Common.{inl, inr, ◌≡◌, ℕ, zero, suc, ◌+◌, ◌<◌, ◌≤◌, false, List, [], ◌∷◌, ◌++◌, map, length, Option, Some, None, Result, Ok, Err, refl, sym, ap, ◌∙◌, subst, arith, append_assoc, append-nil, ⊎_elim}
+use Rattle.std.specs.Prelude.{◌⊎◌, ⊤, slice_index_or}
+use Rattle.std.specs.List.{AllByRecursion}
+use Rattle.std.specs.List.Sorted.{IsNonDecreasingBy}
+use Rattle.std.proofs.lemmas.List.{map-append}
+use Rattle.ii_io.specs.declared.faults.Fault.{Fault}
+use Rattle.ii_io.specs.declared.faults.Fault.TheVariants.{OutOfMemory}
+use Rattle.ii_base.specs.Schema.{Entry}
+use Rattle.ii_base.specs.Words.{Word}
+use Rattle.ii_index.specs.Fields.{option_of}
+use Rattle.ii_index.specs.Tokens.{Call}
+use Rattle.ii_indexing.specs.IndexCalls.{MayAllBeIndexed, MayBeIndexed, call_of}
+use Rattle.ii_indexing.specs.Indexer.{IndexerState, Stores}
+use Rattle.ii_indexing.specs.Refusals.{IsRefusedBy, call_fault, calls_fault, first_fault}
+use Rattle.ii_indexing.specs.declared.index_call.IndexCall.{IndexCall}
+
+-- No document lies below the one before, or below a least one.
+abbrev pub FollowFrom : ℕ → List IndexCall → Type 0
+FollowFrom least [] = ⊤
+FollowFrom least (c ∷ cs) = (least ≤ (call_of c).doc) × FollowFrom (call_of c).doc cs
+
+rest_ordered : (c : IndexCall) (cs : List IndexCall) → IsNonDecreasingBy (λ (x : IndexCall). (call_of x).doc) (c ∷ cs) → IsNonDecreasingBy (λ (x : IndexCall). (call_of x).doc) cs
+rest_ordered c cs h i j d low inside = h (suc i) (suc j) d (omega (arith, low)) (omega (arith, inside))
+
+follow : (least : ℕ) (cs : List IndexCall) → ((c : IndexCall) (rest : List IndexCall) → cs ≡ c ∷ rest → least ≤ (call_of c).doc) → IsNonDecreasingBy (λ (x : IndexCall). (call_of x).doc) cs → FollowFrom least cs
+follow least [] first h = tt
+follow least (c ∷ cs) first h = (first c cs refl, follow (call_of c).doc cs next (rest_ordered c cs h))
+  where
+    next : (d : IndexCall) (rest : List IndexCall) → cs ≡ d ∷ rest → (call_of c).doc ≤ (call_of d).doc
+    next d rest is = subst (λ (xs : List IndexCall). (call_of c).doc ≤ (call_of (slice_index_or xs 0 c)).doc) is (h 0 1 c (omega arith) (omega (arith, ap length is)))
+
+-- An indexer has taken some calls of a list, and these are left.
+pub record IsTaking (analyze : List ℕ → List Word) (entries : List Entry) (num_docs : ℕ) (all done rest : List IndexCall) (i : IndexerState) : Type 0 where
+  pub running : i.failed ≡ false
+  pub schema : i.schema ≡ entries
+  pub docs : i.num_docs ≡ num_docs
+  pub whole : done ++ rest ≡ all
+  pub stored : Stores analyze i (map call_of done)
+  pub each : AllByRecursion (MayBeIndexed entries num_docs) rest
+  pub ordered : FollowFrom i.last_doc rest
+  pub faults : calls_fault analyze (option_of entries) [] (map call_of all) ≡ calls_fault analyze (option_of entries) (map call_of done) (map call_of rest)
+
+-- What a new one knows.
+pub record IsNew (entries : List Entry) (num_docs : ℕ) (i : IndexerState) : Type 0 where
+  pub made : (i.schema ≡ entries) × (i.num_docs ≡ num_docs) × (i.last_doc ≡ 0) × (i.failed ≡ false)
+
+pub begins : (analyze : List ℕ → List Word) (entries : List Entry) (num_docs : ℕ) (all : List IndexCall) (i : IndexerState) → IsNew entries num_docs i → Stores analyze i [] → MayAllBeIndexed entries num_docs all
+    → IsTaking analyze entries num_docs all [] all i
+begins analyze entries num_docs all i new stored may = record {
+  running = new.made.3;
+  schema = new.made.0;
+  docs = new.made.1;
+  whole = refl;
+  stored = stored;
+  each = may.each;
+  ordered = follow i.last_doc all (λ c rest is. omega (arith, new.made.2)) may.ordered;
+  faults = refl;
+}
+
+module _ (analyze : List ℕ → List Word) (entries : List Entry) (num_docs : ℕ) (all done rest : List IndexCall) (c : IndexCall) (old : IndexerState) (t : IsTaking analyze entries num_docs all done (c ∷ rest) old) where
+  abbrev cause : Option Fault
+  cause = call_fault analyze (option_of old.schema (call_of c).field) (map call_of done) (call_of c)
+
+  abbrev later : Option Fault
+  later = calls_fault analyze (option_of entries) (map call_of done ++ call_of c ∷ []) (map call_of rest)
+
+  faults_are : calls_fault analyze (option_of entries) [] (map call_of all) ≡ first_fault cause later
+  faults_are = t.faults ∙ ap (λ (es : List Entry). first_fault (call_fault analyze (option_of es (call_of c).field) (map call_of done) (call_of c)) later) (sym t.schema)
+
+  -- the call was taken
+  pub takes_more : (new : IndexerState) → (new.schema ≡ old.schema) × (new.num_docs ≡ old.num_docs) × (new.last_doc ≡ (call_of c).doc) × (new.failed ≡ false) → Stores analyze new (map call_of done ++ call_of c ∷ []) → cause ≡ None
+      → IsTaking analyze entries num_docs all (done ++ c ∷ []) rest new
+  takes_more new keeps stored none =
+      let more : map call_of (done ++ c ∷ []) ≡ map call_of done ++ call_of c ∷ [] = map-append call_of done (c ∷ []) in
+      record {
+        running = keeps.3;
+        schema = keeps.0 ∙ t.schema;
+        docs = keeps.1 ∙ t.docs;
+        whole = append_assoc done (c ∷ []) rest ∙ t.whole;
+        stored = subst (Stores analyze new) (sym more) stored;
+        each = t.each.1;
+        ordered = subst (λ (doc : ℕ). FollowFrom doc rest) (sym keeps.2) t.ordered.1;
+        faults = faults_are ∙ ap (λ (f : Option Fault). first_fault f later) none ∙ ap (λ (cs : List Call). calls_fault analyze (option_of entries) cs (map call_of rest)) (sym more);
+      }
+
+  -- or refused
+  pub takes_none : (fault : Fault) → (fault ≡ OutOfMemory) ⊎ (cause ≡ Some fault) → (fault ≡ OutOfMemory) ⊎ (calls_fault analyze (option_of entries) [] (map call_of all) ≡ Some fault)
+  takes_none fault why = ⊎_elim inl (λ by_cause. inr (faults_are ∙ ap (λ (f : Option Fault). first_fault f later) by_cause)) why
+
+-- all were taken
+pub takes_all : (analyze : List ℕ → List Word) (entries : List Entry) (num_docs : ℕ) (all done rest : List IndexCall) (i : IndexerState) → rest ≡ [] → IsTaking analyze entries num_docs all done rest i
+    → (calls_fault analyze (option_of entries) [] (map call_of all) ≡ None) × Stores analyze i (map call_of all)
+takes_all analyze entries num_docs all done rest i is t =
+    let same : done ≡ all = sym (append-nil done) ∙ ap (λ (cs : List IndexCall). done ++ cs) (sym is) ∙ t.whole in (
+      t.faults ∙ ap (λ (cs : List IndexCall). calls_fault analyze (option_of entries) (map call_of done) (map call_of cs)) is,
+      subst (λ (cs : List IndexCall). Stores analyze i (map call_of cs)) same t.stored,
+    )

@@ -1,0 +1,87 @@
+-- No index call is refused for a writer.
+use Rattle.std.proofs.Common.{inl, inr, ◌≡◌, ℕ, ◌<◌, ◌+◌, Bool, true, false, ◌&&◌, ◌||◌, ◌==◌, List, [], ◌∷◌, ◌++◌, Option, Some, None, Err, Result, refl, sym, ap, ◌∙◌, subst, arith, ⊎_elim}
+use Rattle.std.specs.Prelude.{◌⊎◌, IfSome, if◌then◌else◌, nat_le, nat_lt}
+use Rattle.ii_io.specs.declared.faults.Fault.{Fault}
+use Rattle.ii_io.specs.declared.faults.Fault.TheVariants.{DecreasingPosition, Limit, OutOfMemory, Write}
+use Rattle.ii_io.specs.declared.faults.LimitName.TheVariants as limit
+use Rattle.ii_base.specs.Words.{Word}
+use Rattle.ii_base.specs.Options.{has_freq, has_positions}
+use Rattle.ii_base.specs.declared.schema.index_record_option.IndexRecordOption.{IndexRecordOption}
+use Rattle.ii_docset.specs.Entries.{Entry}
+use Rattle.ii_index.specs.Postings.{field_count}
+use Rattle.ii_index.specs.Tokens.{Call, IndexToken, Piece, begin_after, call_pieces, end_after, kept_words, pieces_of, tokens_after, word_token}
+use Rattle.ii_recorder.specs.Recorded.{last_position, position_fault, u32_max}
+use Rattle.ii_indexing.specs.IndexFiles.{CountsIndexFailures}
+use Rattle.ii_indexing.specs.Refusals.{call_fault, calls_fault, first_fault, gap_fault, group_count, open_entry, piece_fault, piece_fault_from, pieces_fault, u64_max, word_fault, words_fault}
+use Rattle.ii_indexing.specs.declared.index_writers.IndexWriters.{IndexWriters}
+
+-- A fault, if there is one, isn't a writer's.
+abbrev pub IsNotWrite : Option Fault → Type 0
+IsNotWrite o = IfSome o (λ f. ¬ (f ≡ Write))
+
+limit_or : (b : Bool) (f : Fault) (o : Option Fault) → (¬ (f ≡ Write)) → IsNotWrite o → IsNotWrite (if b then Some f else o)
+limit_or true f o other rest = other
+limit_or false f o other rest = rest
+
+first_or : (a b : Option Fault) → IsNotWrite a → IsNotWrite b → IsNotWrite (first_fault a b)
+first_or None b h k = k
+first_or (Some f) b h k = h
+
+position_other : (option : IndexRecordOption) (position : ℕ) (e : Entry) → IsNotWrite (position_fault option position e)
+position_other option position e =
+    limit_or (has_positions option && (position == u32_max)) (Limit limit.Position) _ (λ is. absurd (cc))
+    (limit_or (has_positions option && nat_lt position (last_position e.positions)) DecreasingPosition _ (λ is. absurd (cc))
+    (limit_or (has_freq option && (e.term_freq == u32_max)) (Limit limit.Count) None (λ is. absurd (cc)) tt))
+
+word_other : (option : IndexRecordOption) (p : Piece) (begin in_group : ℕ) (ts : List IndexToken) (w : Word) → IsNotWrite (word_fault option p begin in_group ts w)
+word_other option p begin in_group ts w =
+    limit_or (nat_lt u32_max (begin + w.position + w.position_length)) (Limit limit.Position) _ (λ is. absurd (cc))
+    (limit_or (nat_le u32_max in_group || nat_le u64_max (field_count p.field ts)) (Limit limit.Tokens) _ (λ is. absurd (cc))
+    (position_other option (word_token p begin w).position (open_entry option (word_token p begin w) ts)))
+
+words_other : (option : IndexRecordOption) (p : Piece) (begin in_group : ℕ) (ts : List IndexToken) (ws : List Word) → IsNotWrite (words_fault option p begin in_group ts ws)
+words_other option p begin in_group ts [] = tt
+words_other option p begin in_group ts (w ∷ ws) =
+    first_or (word_fault option p begin in_group ts w) (words_fault option p begin (in_group + 1) (ts ++ word_token p begin w ∷ []) ws) (word_other option p begin in_group ts w)
+    (words_other option p begin (in_group + 1) (ts ++ word_token p begin w ∷ []) ws)
+
+piece_other : (b : Bool) (option : IndexRecordOption) (earlier : List Piece) (ts : List IndexToken) (p : Piece) → IsNotWrite (piece_fault_from b option earlier ts p)
+piece_other true option earlier ts p =
+    let begin = begin_after earlier p in
+    first_or (words_fault option p begin (group_count earlier p) ts (kept_words p.words)) (gap_fault begin p.words) (words_other option p begin (group_count earlier p) ts (kept_words p.words))
+    (limit_or (nat_lt u32_max (end_after begin p.words)) (Limit limit.Position) None (λ is. absurd (cc)) tt)
+piece_other false option earlier ts p = limit_or (nat_le u64_max (field_count p.field ts)) (Limit limit.Tokens) None (λ is. absurd (cc)) tt
+
+pieces_other : (option : IndexRecordOption) (earlier ps : List Piece) → IsNotWrite (pieces_fault option earlier ps)
+pieces_other option earlier [] = tt
+pieces_other option earlier (p ∷ ps) =
+    first_or (piece_fault option earlier p) (pieces_fault option (earlier ++ p ∷ []) ps) (piece_other p.is_text option earlier (tokens_after [] earlier) p) (pieces_other option (earlier ++ p ∷ []) ps)
+
+calls_other : (analyze : List ℕ → List Word) (option : ℕ → IndexRecordOption) (earlier cs : List Call) → IsNotWrite (calls_fault analyze option earlier cs)
+calls_other analyze option earlier [] = tt
+calls_other analyze option earlier (c ∷ cs) =
+    first_or (call_fault analyze (option c.field) earlier c) (calls_fault analyze option (earlier ++ c ∷ []) cs) (pieces_other (option c.field) (pieces_of analyze earlier) (call_pieces analyze c))
+    (calls_other analyze option (earlier ++ c ∷ []) cs)
+
+-- what a refused call leaves of the writers
+pub none_written : {W : Type 0} (analyze : List ℕ → List Word) (option : ℕ → IndexRecordOption) (cs : List Call) (writers : IndexWriters W) (fault : Fault) → (fault ≡ OutOfMemory) ⊎ (calls_fault analyze option [] cs ≡ Some fault)
+    → CountsIndexFailures writers writers (Err fault)
+none_written {W} analyze option cs writers fault why = record {
+  write = (λ is. absurd (not_write (inside is)), λ more. absurd (omega (arith, more)));
+  by_one = λ is. absurd (not_write (inside is));
+  terms = omega arith;
+  postings = omega arith;
+  positions = omega arith;
+  fieldnorms = omega arith;
+}
+  where
+    failure : Result (Unit {0}) Fault
+    failure = Err fault
+
+    inside : failure ≡ Err Write → fault ≡ Write
+    inside is = cc
+
+    not_write : fault ≡ Write → ⊥
+    not_write is =
+        ⊎_elim (λ (memory : fault ≡ OutOfMemory). let same : Write ≡ OutOfMemory = sym is ∙ memory in absurd (cc))
+        (λ (cause : calls_fault analyze option [] cs ≡ Some fault). (subst IsNotWrite cause (calls_other analyze option [] cs)) is) why
