@@ -1,5 +1,5 @@
 -- What an indexer has taken of a list of calls.
-use Rattle.std.proofs.Common.{inl, inr, ◌≡◌, ℕ, zero, suc, ◌+◌, ◌<◌, ◌≤◌, false, List, [], ◌∷◌, ◌++◌, map, length, Option, Some, None, Result, Ok, Err, refl, sym, ap, ◌∙◌, subst, arith, append_assoc, append-nil, ⊎_elim}
+use Rattle.std.proofs.Common.{inl, inr, ◌≡◌, ℕ, suc, ◌≤◌, false, List, [], ◌∷◌, ◌++◌, map, length, Option, Some, None, refl, sym, ap, ◌∙◌, subst, arith, append_assoc, append-nil, ⊎_elim}
 use Rattle.std.specs.Prelude.{◌⊎◌, ⊤, slice_index_or}
 use Rattle.std.specs.List.{AllByRecursion}
 use Rattle.std.specs.List.Sorted.{IsNonDecreasingBy}
@@ -12,7 +12,7 @@ use Rattle.ii_index.specs.Fields.{option_of}
 use Rattle.ii_index.specs.Tokens.{Call}
 use Rattle.ii_indexing.specs.IndexCalls.{MayAllBeIndexed, MayBeIndexed, call_of}
 use Rattle.ii_indexing.specs.Indexer.{IndexerState, Stores}
-use Rattle.ii_indexing.specs.Refusals.{IsRefusedBy, call_fault, calls_fault, first_fault}
+use Rattle.ii_indexing.specs.Refusals.{call_fault, calls_fault, first_fault}
 use Rattle.ii_indexing.specs.declared.index_call.IndexCall.{IndexCall}
 
 -- No document lies below the one before, or below a least one.

@@ -1,13 +1,13 @@
 -- The norms of all documents, as they are written in the end.
-use Rattle.std.proofs.Common.{◌≡◌, ℕ, zero, suc, ◌+◌, ◌-◌, ◌*◌, ◌^◌, ◌<◌, ◌≤◌, ◌==◌, Bool, true, false, List, [], ◌∷◌, ◌++◌, map, length, take, replicate, get_or, Option, Some, None, refl, sym, ap, ◌∙◌, subst, arith, add-one, length-append, take_all, ⊎_elim}
-use Rattle.std.specs.Prelude.{IfSome, is_some, nat_lt, slice_get, slice_set, if◌then◌else◌}
+use Rattle.std.proofs.Common.{◌≡◌, ℕ, zero, suc, ◌+◌, ◌-◌, ◌*◌, ◌^◌, ◌<◌, ◌≤◌, ◌==◌, Bool, true, false, List, [], ◌∷◌, ◌++◌, map, length, take, replicate, get_or, Option, Some, None, refl, sym, ap, ◌∙◌, subst, arith, length-append, ⊎_elim}
+use Rattle.std.specs.Prelude.{IfSome, is_some, slice_get, if◌then◌else◌}
 use Rattle.std.specs.List.{range_with_len}
-use Rattle.std.specs.Option.{option_flatten, option_map}
+use Rattle.std.specs.Option.{option_map}
 use Rattle.std.proofs.lemmas.Bool.{eqb-true, eqb-false}
-use Rattle.std.proofs.lemmas.List.{length-map, length-replicate}
+use Rattle.std.proofs.lemmas.List.{length-map}
 use Rattle.std.specs.Io.KnownBytes.{Appends}
 use Rattle.std.specs.Prelude.{Err, Result}
-use Rattle.ii_io.specs.Composite.{Body, bodies_bytes, body_of, composite, places_from, table_bytes, written_composite}
+use Rattle.ii_io.specs.Composite.{bodies_bytes, composite, places_from, table_bytes, written_composite}
 use Rattle.ii_io.specs.CompositeWrite.{HasBodies}
 use Rattle.ii_io.proofs.CompositeLaws.{length-places_from}
 use Rattle.ii_io.proofs.CompositeWriteLemmas.{length-table_bytes}
@@ -24,7 +24,7 @@ use Rattle.ii_index.specs.Postings.{doc_count}
 use Rattle.ii_index.specs.Tokens.{IndexToken, Piece}
 use Rattle.ii_indexing.specs.IndexFiles.{begun_file}
 use Rattle.ii_indexing.specs.Norms.{HoldNorms, norm_ids}
-use Rattle.ii_indexing.specs.OpenDocuments.{AreBehind, AreClosed, HasNorms, OpenDocumentsState, Tells, TellsAll, closed_norms, with_norms}
+use Rattle.ii_indexing.specs.OpenDocuments.{AreBehind, AreClosed, OpenDocumentsState, Tells, TellsAll, closed_norms, with_norms}
 use Rattle.ii_indexing.specs.declared.open_documents.OpenDocument.{OpenDocument}
 use Rattle.ii_indexing.proofs.DocumentLaws.{buffer_other, buffer_set, norms_recorded}
 

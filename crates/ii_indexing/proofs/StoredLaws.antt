@@ -1,33 +1,31 @@
 -- What is stored of calls is what the context and the writers have, and may be written.
-use Rattle.std.proofs.Common.{◌≡◌, ℕ, zero, suc, ◌<◌, ◌^◌, Bool, true, false, List, [], ◌∷◌, ◌++◌, map, length, Option, Some, None, refl, sym, ap, ◌∙◌, subst, arith, length-append}
-use Rattle.std.specs.Prelude.{IsTrue, IsSome, MatchOption, is_some, drop, slice_get, slice_set, unwrap_or, ⊤, if◌then◌else◌}
+use Rattle.std.proofs.Common.{◌≡◌, ℕ, zero, suc, ◌<◌, Bool, true, false, List, [], ◌∷◌, ◌++◌, map, length, Option, Some, None, refl, sym, ap, ◌∙◌, subst, arith, length-append}
+use Rattle.std.specs.Prelude.{IsTrue, IsSome, MatchOption, is_some, slice_set, unwrap_or, ⊤, if◌then◌else◌}
 use Rattle.std.specs.List.{AllByRecursion}
 use Rattle.std.specs.Option.{option_map, option_to_list}
-use Rattle.std.proofs.lemmas.Bool.{and_parts, eqb-true}
 use Rattle.ii_base.specs.Schema.{Entry, keeps_norms}
 use Rattle.ii_base.specs.Options.{has_freq}
 use Rattle.ii_base.specs.declared.schema.index_record_option.IndexRecordOption.{IndexRecordOption}
 use Rattle.ii_base.specs.declared.schema.index_record_option.IndexRecordOption.TheVariants.{Basic, WithFreqs, WithFreqsAndPositions}
-use Rattle.ii_docset.specs.Entries.{Entry as DocEntry, docs_of}
+use Rattle.ii_docset.specs.Entries.{Entry as DocEntry}
 use Rattle.ii_fieldnorm.specs.Buffers.{Buffers, buffer_of, empty_buffers}
 use Rattle.ii_index.specs.Cut.{cut_entry}
 use Rattle.ii_index.specs.Fields.{option_of}
-use Rattle.ii_index.specs.Postings.{IsCounted, grouped, is_at, kind_of, tokens_at}
+use Rattle.ii_index.specs.Postings.{IsCounted, grouped, kind_of, tokens_at}
 use Rattle.ii_index.specs.Tokens.{IndexToken}
 use Rattle.ii_index.proofs.GroupedLaws.{grouped_counted}
 use Rattle.ii_recorder.specs.Pushed.{pushed_freqs}
-use Rattle.ii_recorder.specs.Recorded.{RecorderState, entries_in}
+use Rattle.ii_recorder.specs.Recorded.{RecorderState}
 use Rattle.ii_indexing.specs.HeldBodies.{HaveTokens}
 use Rattle.ii_indexing.specs.IndexedTerms.{IndexedTermsState, IsOfField, StoresTokens, kept_in}
 use Rattle.ii_indexing.specs.IndexingContext.{AllEndBy, EndsBy, recorder_of}
-use Rattle.ii_indexing.specs.IndexingTerm.{field_bytes, field_in}
+use Rattle.ii_indexing.specs.IndexingTerm.{field_bytes}
 use Rattle.ii_indexing.specs.OpenDocuments.{with_norms}
 use Rattle.ii_indexing.specs.PostingsWriter.{PostingsWriterState}
 use Rattle.ii_indexing.specs.Records.{HasPostings}
 use Rattle.ii_indexing.specs.SortedTerms.{AllMayBeWritten, MayBeWritten}
 use Rattle.ii_indexing.proofs.SortedLemmas.{all_mapped, field_of_bytes}
 use Rattle.ii_indexing.proofs.StoreLaws.{kept_kind, token_field}
-
 
 -- the counts of entries that are cut
 counts_some : (option : IndexRecordOption) (es : List DocEntry) → IsTrue (has_freq option) → AllByRecursion IsCounted es → AllByRecursion (λ n. 0 < n) (pushed_freqs option (map (cut_entry option) es))

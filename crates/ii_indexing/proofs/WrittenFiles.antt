@@ -1,5 +1,5 @@
 -- What the files of an index hold once they were closed.
-use Rattle.std.proofs.Common.{inl, inr, Result, Ok, Err, ◌≡◌, ℕ, ◌+◌, ◌<◌, ◌≤◌, ◌^◌, ◌&&◌, Bool, true, false, List, [], ◌∷◌, map, length, refl, sym, ap, ◌∙◌, subst, arith, ⊎_elim}
+use Rattle.std.proofs.Common.{inl, inr, Result, Ok, Err, ◌≡◌, ℕ, ◌+◌, ◌<◌, ◌≤◌, ◌^◌, Bool, true, false, List, [], ◌∷◌, map, length, refl, sym, ap, ◌∙◌, subst, arith, ⊎_elim}
 use Rattle.std.specs.Prelude.{◌⊎◌, ◌↔◌, IsTrue, IfErr, IsErrOf, OnOk, nat_le}
 use Rattle.std.specs.List.{AllByRecursion}
 use Rattle.std.proofs.lemmas.Bool.{le-leb, leb-true}
@@ -11,7 +11,7 @@ use Rattle.ii_io.specs.CompositeWrite.{CompositeWriteState, HasBodies, WroteComp
 use Rattle.ii_io.specs.CountingWriter.{CountingWriterState}
 use Rattle.ii_base.specs.Schema.{Entry}
 use Rattle.ii_index.specs.Tokens.{IndexToken}
-use Rattle.ii_recorder.specs.IndexBodies.{AreFull, IndexBodiesState, NoneFalls, failed_calls, tables_of}
+use Rattle.ii_recorder.specs.IndexBodies.{AreFull, IndexBodiesState, failed_calls, tables_of}
 use Rattle.ii_recorder.specs.IndexSerializer.{IndexSerializerState}
 use Rattle.ii_indexing.specs.FieldParts.{FieldPart, HasFields, WroteContext, positions_body, postings_body, terms_body}
 use Rattle.ii_indexing.specs.HeldBodies.{WroteTokens}

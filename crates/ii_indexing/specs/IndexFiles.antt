@@ -4,7 +4,6 @@ use Rattle.std.specs.Option.{option_map}
 use Rattle.ii_io.specs.declared.faults.Fault.{Fault}
 use Rattle.ii_io.specs.declared.faults.Fault.TheVariants.{Limit, OutOfMemory, Write}
 use Rattle.ii_io.specs.declared.faults.LimitName.TheVariants as limit
-use Rattle.ii_io.specs.Composite.{Body}
 use Rattle.ii_io.specs.CompositeWrite.{CompositeWriteState}
 use Rattle.ii_io.specs.CountingWriter.{CountingWriterState, IsFull, Wrote}
 use Rattle.ii_base.specs.Schema.{Entry, keeps_norms}

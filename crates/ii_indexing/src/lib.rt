@@ -2,8 +2,8 @@
 //! texts.
 #![tactic(auto)]
 
-pub mod index_call;
 mod finished_fields;
+pub mod index_call;
 pub mod index_writers;
 mod indexed_fields;
 mod indexed_terms;

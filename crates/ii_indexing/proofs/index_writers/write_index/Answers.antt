@@ -1,5 +1,4 @@
-use Rattle.std.proofs.Common.{inl, map, Some, None, ◌≡◌, sym, ◌∙◌, ⊎_elim}
-use Rattle.ii_io.specs.declared.faults.Fault.{Fault}
+use Rattle.std.proofs.Common.{map}
 use Rattle.ii_index.specs.Fields.{option_of}
 use Rattle.ii_indexing.specs.IndexCalls.{call_of}
 use Rattle.ii_indexing.proofs.RefusalLaws.{none_written}

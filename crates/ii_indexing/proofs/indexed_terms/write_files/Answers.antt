@@ -1,4 +1,4 @@
-use Rattle.std.proofs.Common.{◌≡◌, ◌<◌, ◌^◌, ◌∙◌, false, List, ℕ, length, sym, ap, subst}
+use Rattle.std.proofs.Common.{◌<◌, ◌^◌, ◌∙◌, List, length, subst}
 use Rattle.ii_base.specs.Schema.{Entry}
 use Rattle.ii_indexing.proofs.WrittenFiles.{closed_files, table_fault, three_counted}
 use Rattle.ii_indexing.proofs.indexed_terms.write_files.Goals as goal

@@ -1,9 +1,8 @@
-use Rattle.std.proofs.Common.{◌≡◌, ◌+◌, ◌∙◌, ◌≤◌, List, ℕ, length, take, take_all, add-one, refl, sym, ap, subst, arith, slice_index_or}
-use Rattle.std.specs.Prelude.{IfSome}
+use Rattle.std.proofs.Common.{◌∙◌, ◌≤◌, List, ℕ, length, take, take_all, add-one, refl, sym, subst, arith, slice_index_or}
 use Rattle.std.proofs.lemmas.Option.{slice_get-get_or}
-use Rattle.ii_fieldnorm.specs.Buffers.{Buffers, recorded, recorded_buffers}
+use Rattle.ii_fieldnorm.specs.Buffers.{recorded, recorded_buffers}
 use Rattle.ii_indexing.specs.declared.open_documents.OpenDocument.{OpenDocument}
-use Rattle.ii_indexing.specs.OpenDocuments.{AreClosed, empty_document, with_norms}
+use Rattle.ii_indexing.specs.OpenDocuments.{AreClosed, empty_document}
 use Rattle.ii_indexing.proofs.NormFileLaws.{may_close, one_closed}
 use Rattle.ii_indexing.proofs.StoredLaws.{norms_kept}
 use Rattle.ii_indexing.proofs.open_documents.close_documents.Goals as goal

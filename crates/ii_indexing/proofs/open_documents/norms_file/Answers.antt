@@ -1,9 +1,9 @@
-use Rattle.std.proofs.Common.{◌≡◌, ◌+◌, ◌<◌, ◌∙◌, [], List, ℕ, length, refl, sym, ap, subst, arith, false, Bool, Ok, Err, Some, Option}
+use Rattle.std.proofs.Common.{◌≡◌, ◌∙◌, [], List, ℕ, length, refl, sym, ap, subst, arith, false, Some}
 use Rattle.std.specs.Prelude.{OnOk, Result}
 use Rattle.ii_io.specs.CompositeWrite.{CompositeWriteState, HasBodies}
 use Rattle.ii_io.specs.CountingWriter.{CountingWriterState, WritesInMemory}
 use Rattle.ii_io.specs.declared.faults.Fault.{Fault}
-use Rattle.ii_fieldnorm.specs.Buffers.{WroteNorms, norm_bodies, rest_of_file}
+use Rattle.ii_fieldnorm.specs.Buffers.{WroteNorms, rest_of_file}
 use Rattle.ii_indexing.proofs.NormFileLaws.{begun_bodies, few_bodies, memory_only, norms_read}
 use Rattle.ii_indexing.proofs.open_documents.norms_file.Goals as goal
 

@@ -1,12 +1,10 @@
-use Rattle.std.proofs.Common.{◌≡◌, [], List, ℕ, Some, None, Err, sym, ap, ◌∙◌, subst, map, ⊎_elim}
+use Rattle.std.proofs.Common.{◌≡◌, [], Some, Err, sym, ap, ◌∙◌, subst, map, ⊎_elim}
 use Rattle.std.proofs.lemmas.Result.{err_from_is_err_and}
 use Rattle.ii_io.specs.Composite.{composite}
 use Rattle.ii_io.specs.declared.faults.Fault.{Fault}
 use Rattle.ii_base.specs.Schema.{keeps_norms}
-use Rattle.ii_index.specs.Tokens.{IndexToken, Piece, tokens_after}
-use Rattle.ii_indexing.specs.IndexFiles.{has_norms}
+use Rattle.ii_index.specs.Tokens.{tokens_after}
 use Rattle.ii_indexing.specs.Indexer.{IndexedFieldsState, StoresPieces}
-use Rattle.ii_indexing.specs.Norms.{HoldNorms}
 use Rattle.ii_indexing.specs.OpenDocuments.{TellsAll, with_norms}
 use Rattle.ii_indexing.proofs.FinishLaws.{none_of, schema_norms, short_bodies}
 use Rattle.ii_indexing.proofs.indexed_fields.IndexedFields.finish.Goals as goal

@@ -1,4 +1,4 @@
-use Rattle.std.proofs.Common.{◌≡◌, [], List, ℕ, length, sym, ap, ◌∙◌, subst}
+use Rattle.std.proofs.Common.{[], length, sym, subst}
 use Rattle.std.specs.Prelude.{IfErr, OnOk}
 use Rattle.ii_index.specs.Tokens.{pieces_of, tokens_after}
 use Rattle.ii_indexing.specs.HeldBodies.{HaveTokens}

@@ -36,8 +36,7 @@ invariant_of-self-2 g c =
     let now = c.self.view_is in
     let old = c.self.invariant.1 c.if-self.false in
     let running : c.args.self.now.failed ≡ false = sym (ap (λ (s : IndexerState). s.failed) now) ∙ c.if-self.false in
-    let takes = subst (λ (s : IndexerState). Takes s.schema (call_of c.args.call).field (type_of c.args.call)) (sym now) (c.requires.takes running) in
-    (
+    let takes = subst (λ (s : IndexerState). Takes s.schema (call_of c.args.call).field (type_of c.args.call)) (sym now) (c.requires.takes running) in (
       c.self.invariant.0,
       λ fine. record {
         few = old.few;

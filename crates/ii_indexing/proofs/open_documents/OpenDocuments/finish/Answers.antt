@@ -1,5 +1,5 @@
-use Rattle.std.proofs.Common.{◌≡◌, ◌<◌, ◌≤◌, ◌^◌, ◌∙◌, List, ℕ, Some, length, sym, ap, subst, arith}
-use Rattle.ii_io.specs.Composite.{composite, written_composite}
+use Rattle.std.proofs.Common.{◌≡◌, ◌<◌, ◌^◌, ◌∙◌, List, ℕ, Some, length, sym, ap, subst}
+use Rattle.ii_io.specs.Composite.{composite}
 use Rattle.ii_fieldnorm.specs.Buffers.{Buffers, norm_bodies}
 use Rattle.ii_index.specs.Tokens.{IndexToken, Piece}
 use Rattle.ii_indexing.specs.OpenDocuments.{AreClosed, OpenDocumentsState, TellsAll}
