@@ -366,18 +366,28 @@ fn shows(blocks: &BlockSegmentPostings, docs: &[DocId]) -> bool {
     blocks.docs() == docs
 }
 
+// Resets a block cursor to the byte between two places.
+fn reset_to(start: usize, end: usize, blocks: &mut BlockSegmentPostings) -> Result<(), Fault> {
+    reset(&one_byte()?, &info_at(start, end), blocks)
+}
+
 #[test]
 fn refused_resets_leave_no_documents(rt: HostRuntime) -> Result<(), Fail> {
-    let reader = one_byte()?;
     let mut blocks = seven()?;
     assert!(rt; shows(&blocks, &[7]));
-    let refused = reset(&reader, &info_at(0, 2), &mut blocks);
-    assert!(rt; refused == Err(Fault::Damaged(Part::Range)));
+    assert!(rt; reset_to(0, 2, &mut blocks) == Err(Fault::Damaged(Part::Range)));
     assert!(rt; shows(&blocks, &[]));
-    reset(&reader, &info_at(0, 1), &mut blocks)?;
+    assert!(rt; reset_to(0, 1, &mut blocks) == Ok(()));
     assert!(rt; shows(&blocks, &[0]));
-    let refused = reset(&reader, &info_at(0, 0), &mut blocks);
-    assert!(rt; refused == Err(Fault::Damaged(Part::Documents)));
+    Ok(())
+}
+
+#[test]
+fn resets_are_refused_for_documents(rt: HostRuntime) -> Result<(), Fail> {
+    let mut blocks = seven()?;
+    assert!(rt; reset_to(0, 1, &mut blocks) == Ok(()));
+    assert!(rt; shows(&blocks, &[0]));
+    assert!(rt; reset_to(0, 0, &mut blocks) == Err(Fault::Damaged(Part::Documents)));
     assert!(rt; shows(&blocks, &[]));
     Ok(())
 }

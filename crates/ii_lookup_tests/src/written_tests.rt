@@ -186,6 +186,12 @@ fn doc_freq_of(alloc: Global, reader: &InvertedIndexReader, key: &str) -> Result
     Ok(reader.doc_freq(&term))
 }
 
+// Where a cursor is, and where it then goes.
+fn four_of(cursor: &mut SegmentPostings) -> [DocId; 4] {
+    let (first, second) = (cursor.doc(), cursor.advance());
+    [first, second, cursor.advance(), cursor.advance()]
+}
+
 #[test]
 fn written_documents_are_walked(rt: HostRuntime) -> Result<(), Fail> {
     let index = uncounted_index(rt.alloc())?;
@@ -196,10 +202,7 @@ fn written_documents_are_walked(rt: HostRuntime) -> Result<(), Fail> {
         return Ok(());
     };
     assert!(rt; counted(&cursor) == 1);
-    assert!(rt; cursor.doc() == 1);
-    assert!(rt; cursor.advance() == 3);
-    assert!(rt; cursor.advance() == 5);
-    assert!(rt; cursor.advance() == TERMINATED);
+    assert!(rt; four_of(&mut cursor).as_slice() == [1, 3, 5, TERMINATED].as_slice());
     Ok(())
 }
 
