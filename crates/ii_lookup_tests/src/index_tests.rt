@@ -130,17 +130,29 @@ fn sizes(reader: &InvertedIndexReader) -> (u64, usize) {
     (reader.total_num_tokens(), reader.terms().num_terms())
 }
 
+// What is kept of a number in the index of the number 5, with the sizes of its reader.
+fn kept_of(alloc: Global, number: u64) -> Result<((u64, usize), u32, Option<TermInfo>), Fault> {
+    let index = opened(alloc, &TERMS, &POSTINGS, &POSITIONS)?;
+    let reader = index.reader(Field::from_field_id(0));
+    let (doc_freq, info) = kept(alloc, reader, number)?;
+    Ok((sizes(reader), doc_freq, info))
+}
+
+// Whether a number has no cursor there.
+fn lacks(alloc: Global, number: u64) -> Result<bool, Fault> {
+    let index = opened(alloc, &TERMS, &POSTINGS, &POSITIONS)?;
+    is_not_read(alloc, index.reader(Field::from_field_id(0)), number)
+}
+
 #[test]
 fn a_number_is_looked_up(rt: HostRuntime) -> Result<(), Fail> {
-    let index = opened(rt.alloc(), &TERMS, &POSTINGS, &POSITIONS)?;
-    let reader = index.reader(Field::from_field_id(0));
-    assert!(rt; sizes(reader) == (1, 1));
     let info = TermInfo {
         doc_freq: 1,
         postings_range: 0..1,
         positions_range: 0..0,
     };
-    let (doc_freq, found) = kept(rt.alloc(), reader, 5)?;
+    let (sizes, doc_freq, found) = kept_of(rt.alloc(), 5)?;
+    assert!(rt; sizes == (1, 1));
     assert!(rt; doc_freq == 1);
     assert!(rt; found == Some(info));
     Ok(())
@@ -148,12 +160,10 @@ fn a_number_is_looked_up(rt: HostRuntime) -> Result<(), Fail> {
 
 #[test]
 fn numbers_that_are_missing_are_not_found(rt: HostRuntime) -> Result<(), Fail> {
-    let index = opened(rt.alloc(), &TERMS, &POSTINGS, &POSITIONS)?;
-    let reader = index.reader(Field::from_field_id(0));
-    let (doc_freq, found) = kept(rt.alloc(), reader, 6)?;
+    let (_, doc_freq, found) = kept_of(rt.alloc(), 6)?;
     assert!(rt; doc_freq == 0);
     assert!(rt; found == None);
-    assert!(rt; is_not_read(rt.alloc(), reader, 6)?);
+    assert!(rt; lacks(rt.alloc(), 6)?);
     Ok(())
 }
 
@@ -299,12 +309,11 @@ fn one_byte() -> Result<InvertedIndexReader, Fault> {
     InvertedIndexReader::new(TermDictionary::empty(), body, Bytes::new(), FULL)
 }
 
-// The fault of a cursor at what is kept of a term.
-fn cursor_fault(
-    reader: &InvertedIndexReader,
-    info: &TermInfo,
-    option: IndexRecordOption,
-) -> Option<Fault> {
+// The fault of a cursor over that byte, at what is kept of a term.
+fn cursor_fault(info: &TermInfo, option: IndexRecordOption) -> Option<Fault> {
+    let Ok(reader) = one_byte() else {
+        return Some(Fault::Damaged(Part::TokenCount));
+    };
     match reader.read_postings_from_terminfo(info, option) {
         Ok(_) => None,
         Err(fault) => Some(fault),
@@ -312,11 +321,10 @@ fn cursor_fault(
 }
 
 // The fault of a block cursor there.
-fn block_fault(
-    reader: &InvertedIndexReader,
-    info: &TermInfo,
-    option: IndexRecordOption,
-) -> Option<Fault> {
+fn block_fault(info: &TermInfo, option: IndexRecordOption) -> Option<Fault> {
+    let Ok(reader) = one_byte() else {
+        return Some(Fault::Damaged(Part::TokenCount));
+    };
     match reader.read_block_postings_from_terminfo(info, option) {
         Ok(_) => None,
         Err(fault) => Some(fault),
@@ -324,27 +332,23 @@ fn block_fault(
 }
 
 #[test]
-fn ranges_lie_in_their_bodies(rt: HostRuntime) -> Result<(), Fail> {
-    let reader = one_byte()?;
+fn ranges_lie_in_their_bodies(rt: HostRuntime) {
     let range = Some(Fault::Damaged(Part::Range));
     for info in [info_at(0, 2), info_at(1, 0)] {
-        assert!(rt; cursor_fault(&reader, &info, BASIC) == range);
-        assert!(rt; block_fault(&reader, &info, FULL) == range);
+        assert!(rt; cursor_fault(&info, BASIC) == range);
+        assert!(rt; block_fault(&info, FULL) == range);
     }
     // no document, and one too many
     let documents = Some(Fault::Damaged(Part::Documents));
-    assert!(rt; block_fault(&reader, &info_at(0, 0), BASIC) == documents);
-    Ok(())
+    assert!(rt; block_fault(&info_at(0, 0), BASIC) == documents);
 }
 
 #[test]
-fn ranges_of_positions_are_looked_at_where_requested(rt: HostRuntime) -> Result<(), Fail> {
-    let reader = one_byte()?;
+fn ranges_of_positions_are_looked_at_where_requested(rt: HostRuntime) {
     let info = info_at(0, 1);
-    assert!(rt; cursor_fault(&reader, &info, FULL) == Some(Fault::Damaged(Part::Range)));
-    assert!(rt; cursor_fault(&reader, &info, BASIC) == None);
-    assert!(rt; block_fault(&reader, &info, FULL) == None);
-    Ok(())
+    assert!(rt; cursor_fault(&info, FULL) == Some(Fault::Damaged(Part::Range)));
+    assert!(rt; cursor_fault(&info, BASIC) == None);
+    assert!(rt; block_fault(&info, FULL) == None);
 }
 
 // A block cursor over document 7.

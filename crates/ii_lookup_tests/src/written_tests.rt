@@ -192,17 +192,24 @@ fn four_of(cursor: &mut SegmentPostings) -> [DocId; 4] {
     [first, second, cursor.advance(), cursor.advance()]
 }
 
+// How many documents have the term of the documents without counts, how often it stands in the first, and
+// where its cursor goes.
+fn walked_uncounted(alloc: Global) -> Result<(u32, u32, [DocId; 4]), Fault> {
+    let index = uncounted_index(alloc)?;
+    let reader = index.reader(Field::from_field_id(0));
+    let doc_freq = doc_freq_of(alloc, reader, "c")?;
+    match cursor_of(alloc, reader, "c", FULL)? {
+        Some(mut cursor) => Ok((doc_freq, counted(&cursor), four_of(&mut cursor))),
+        None => Ok((doc_freq, 0, [TERMINATED; 4])),
+    }
+}
+
 #[test]
 fn written_documents_are_walked(rt: HostRuntime) -> Result<(), Fail> {
-    let index = uncounted_index(rt.alloc())?;
-    let reader = index.reader(Field::from_field_id(0));
-    assert!(rt; doc_freq_of(rt.alloc(), reader, "c")? == 3);
-    let Some(mut cursor) = cursor_of(rt.alloc(), reader, "c", FULL)? else {
-        assert!(rt; false, "a term in three documents");
-        return Ok(());
-    };
-    assert!(rt; counted(&cursor) == 1);
-    assert!(rt; four_of(&mut cursor).as_slice() == [1, 3, 5, TERMINATED].as_slice());
+    let (doc_freq, count, docs) = walked_uncounted(rt.alloc())?;
+    assert!(rt; doc_freq == 3);
+    assert!(rt; count == 1);
+    assert!(rt; docs.as_slice() == [1, 3, 5, TERMINATED].as_slice());
     Ok(())
 }
 
