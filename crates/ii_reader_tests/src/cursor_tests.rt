@@ -1,11 +1,12 @@
 ghost use Rattle.std.specs.Prelude.{◌≡◌, [], ◌∷◌, IfSome};
 ghost use Rattle.ii_docset.specs.Entries.{document};
 
+use crate::position_tests::{first_freq, shows, sought, sought_at_end};
 use bytes::Bytes;
-use ii_base::{AliveBitSet, IndexRecordOption, LayoutFault, Part};
+use ii_base::{AliveBitSet, Fault, IndexRecordOption, LayoutFault, Part};
 use ii_check::FreqReadingOption;
 use ii_docset::{
-    CursorAnswer, CursorCall, DocSet, Postings, SeekDangerResult, TERMINATED, Walk, walk,
+    CursorAnswer, CursorCall, DocId, DocSet, Postings, SeekDangerResult, TERMINATED, Walk, walk,
 };
 use ii_reader::{BlockSegmentPostings, SegmentPostings};
 use std::alloc::Global;
@@ -15,39 +16,61 @@ const BASIC: IndexRecordOption = IndexRecordOption::Basic;
 
 const FULL: IndexRecordOption = IndexRecordOption::WithFreqsAndPositions;
 
-// The count of the first document of a block, 0 where it has none.
-fn first_freq(blocks: &BlockSegmentPostings) -> u32 {
-    if blocks.block_len() > 0 {
-        blocks.freq(0)
-    } else {
-        0
-    }
+// A block cursor over a list of documents alone.
+fn blocks_over(doc_freq: u32, bytes: &'static [u8]) -> Result<BlockSegmentPostings, LayoutFault> {
+    BlockSegmentPostings::open(doc_freq, Bytes::from_static(bytes), BASIC, BASIC)
+}
+
+// Resets a block cursor.
+fn reset(
+    blocks: &mut BlockSegmentPostings,
+    doc_freq: u32,
+    bytes: &'static [u8],
+) -> Result<(), LayoutFault> {
+    blocks.reset(doc_freq, Bytes::from_static(bytes))
 }
 
 #[test]
-fn cursors_are_reset(rt: HostRuntime) -> Result<(), Fail> {
+fn counts_are_reset(rt: HostRuntime) -> Result<(), Fail> {
     // a text with two positions, and then a number
     let text = Bytes::from_static(&[0x80, 0x82]);
     let mut blocks = BlockSegmentPostings::open(1, text, FULL, FULL)?;
     assert!(rt; first_freq(&blocks) == 2);
-    blocks.reset(1, Bytes::from_static(&[0x80]))?;
+    reset(&mut blocks, 1, &[0x80])?;
     assert!(rt; first_freq(&blocks) == 1);
     assert!(rt; blocks.freq_reading_option() == FreqReadingOption::NoFreq);
+    Ok(())
+}
+
+#[test]
+fn cursors_are_reset(rt: HostRuntime) -> Result<(), Fail> {
     // even documents, and then odd ones
-    let even = Bytes::from_static(&[0x80, 0x82, 0x82]);
-    let mut blocks = BlockSegmentPostings::open(3, even, BASIC, BASIC)?;
-    assert!(rt; blocks.docs() == [0, 2, 4].as_slice());
-    blocks.reset(3, Bytes::from_static(&[0x81, 0x82, 0x82]))?;
-    assert!(rt; blocks.docs() == [1, 3, 5].as_slice());
+    let mut blocks = blocks_over(3, &[0x80, 0x82, 0x82])?;
+    assert!(rt; shows(&blocks, &[0, 2, 4]));
+    reset(&mut blocks, 3, &[0x81, 0x82, 0x82])?;
+    assert!(rt; shows(&blocks, &[1, 3, 5]));
+    Ok(())
+}
+
+#[test]
+fn refused_resets_leave_nothing(rt: HostRuntime) -> Result<(), Fail> {
+    let mut blocks = blocks_over(3, &[0x81, 0x82, 0x82])?;
     // a document that comes twice
-    let copy = blocks.clone()?;
-    let refused = blocks.reset(2, Bytes::from_static(&[0x80, 0x80]));
+    let refused = reset(&mut blocks, 2, &[0x80, 0x80]);
     assert!(rt; matches!(refused, Err(LayoutFault::Damaged(Part::Documents))));
-    assert!(rt; blocks.docs().len() == 0);
+    assert!(rt; shows(&blocks, &[]));
     assert!(rt; blocks.doc_freq() == 0);
-    assert!(rt; copy.docs() == [1, 3, 5].as_slice());
-    blocks.reset(1, Bytes::from_static(&[0x87]))?;
-    assert!(rt; blocks.docs() == [7].as_slice());
+    reset(&mut blocks, 1, &[0x87])?;
+    assert!(rt; shows(&blocks, &[7]));
+    Ok(())
+}
+
+#[test]
+fn copies_stay_at_a_refused_reset(rt: HostRuntime) -> Result<(), Fail> {
+    let mut blocks = blocks_over(3, &[0x81, 0x82, 0x82])?;
+    let copy = blocks.clone()?;
+    assert!(rt; reset(&mut blocks, 2, &[0x80, 0x80]).is_err());
+    assert!(rt; shows(&copy, &[1, 3, 5]));
     Ok(())
 }
 
@@ -76,13 +99,8 @@ fn row<P: Postings>(alloc: Global, cursor: &mut P) -> Walk
     walk(alloc, cursor, &calls)
 }
 
-#[test]
-fn cursors_are_walked(rt: HostRuntime) -> Result<(), Fail> {
-    let (Some(mut cursor), Some(other), Some(third)) = (three(), three(), three()) else {
-        assert!(rt; false, "three documents");
-        return Ok(());
-    };
-    let mut erased: Box<dyn Postings> = Box::new(rt.alloc(), other)?;
+// Whether these are the answers.
+fn is_answered(walked: &Walk) -> bool {
     let want = [
         CursorAnswer::Doc(2),
         CursorAnswer::Freq(1),
@@ -90,30 +108,77 @@ fn cursors_are_walked(rt: HostRuntime) -> Result<(), Fail> {
         CursorAnswer::Doc(TERMINATED),
         CursorAnswer::Doc(TERMINATED),
     ];
-    let walks = [row(rt.alloc(), &mut cursor), row(rt.alloc(), &mut erased)];
-    for walked in &walks {
-        assert!(rt; walked.complete);
-        assert!(rt; walked.answers.as_slice() == want.as_slice());
+    if !walked.complete {
+        return false;
     }
-    let mut boxed = Box::new(rt.alloc(), third)?;
-    assert!(rt; boxed.seek(1) == 2);
-    assert!(rt; boxed.advance() == 10);
-    assert!(rt; boxed.advance() == TERMINATED);
-    assert!(rt; boxed.seek(0) == TERMINATED);
-    Ok(())
+    walked.answers.as_slice() == want.as_slice()
 }
 
 #[test]
-fn documents_are_asked_for(rt: HostRuntime) -> Result<(), Fail> {
-    let (Some(mut cursor), Some(fresh)) = (three(), three()) else {
+fn cursors_are_walked(rt: HostRuntime) {
+    let Some(mut cursor) = three() else {
+        assert!(rt; false, "three documents");
+        return;
+    };
+    assert!(rt; is_answered(&row(rt.alloc(), &mut cursor)));
+}
+
+// Whether a boxed cursor answers so.
+fn boxed_is_walked(alloc: Global) -> Result<bool, Fault> {
+    let Some(other) = three() else {
+        return Ok(false);
+    };
+    let mut erased: Box<dyn Postings> = Box::new(alloc, other)?;
+    Ok(is_answered(&row(alloc, &mut erased)))
+}
+
+#[test]
+fn boxed_cursors_are_walked(rt: HostRuntime) -> Result<(), Fail> {
+    assert!(rt; boxed_is_walked(rt.alloc())?);
+    let Some(third) = three() else {
         assert!(rt; false, "three documents");
         return Ok(());
     };
-    assert!(rt; cursor.seek_danger(1) == SeekDangerResult::SeekLowerBound(2));
-    assert!(rt; cursor.seek_danger(2) == SeekDangerResult::Found);
-    let end = SeekDangerResult::SeekLowerBound(TERMINATED);
-    assert!(rt; cursor.seek_danger(TERMINATED) == end);
+    let mut boxed = Box::new(rt.alloc(), third)?;
+    let found = [
+        sought(&mut boxed, 1),
+        boxed.advance(),
+        boxed.advance(),
+        sought_at_end(&mut boxed),
+    ];
+    assert!(rt; found.as_slice() == [2, 10, TERMINATED, TERMINATED].as_slice());
+    Ok(())
+}
+
+// What a cursor answers of a target, if it may be asked.
+fn danger_of(cursor: &mut SegmentPostings, target: DocId) -> Option<SeekDangerResult> {
+    if target <= TERMINATED {
+        Some(cursor.seek_danger(target))
+    } else {
+        None
+    }
+}
+
+#[test]
+fn documents_are_asked_for(rt: HostRuntime) {
+    let Some(mut cursor) = three() else {
+        assert!(rt; false, "three documents");
+        return;
+    };
+    let below = danger_of(&mut cursor, 1);
+    assert!(rt; below == Some(SeekDangerResult::SeekLowerBound(2)));
+    assert!(rt; danger_of(&mut cursor, 2) == Some(SeekDangerResult::Found));
+    let end = danger_of(&mut cursor, TERMINATED);
+    assert!(rt; end == Some(SeekDangerResult::SeekLowerBound(TERMINATED)));
     assert!(rt; cursor.doc() == 2);
+}
+
+#[test]
+fn alive_documents_are_counted(rt: HostRuntime) -> Result<(), Fail> {
+    let Some(fresh) = three() else {
+        assert!(rt; false, "three documents");
+        return Ok(());
+    };
     let without_2 = AliveBitSet::from_deleted_docs(rt.alloc(), &[2], 12)?;
     assert!(rt; fresh.doc_freq_given_deletes(&without_2)? == 2);
     let every = [0, 1, 2, 3, 4, 5, 6, 7, 8, 9, 10, 11];

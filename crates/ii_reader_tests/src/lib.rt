@@ -1,15 +1,11 @@
-//! Tests of `ii_reader`, by its public calls.
+//! Tests of the cursors of `ii_reader`, by its public calls.
 #![tactic(auto)]
 
 #[cfg(test)]
 mod cursor_tests;
-#[cfg(test)]
-mod index_tests;
 #[cfg(test)]
 mod list_tests;
 #[cfg(test)]
 mod position_tests;
 #[cfg(test)]
 mod tests;
-#[cfg(test)]
-mod written_tests;

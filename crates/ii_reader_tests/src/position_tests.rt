@@ -3,7 +3,7 @@ ghost use Rattle.std.specs.Prelude.{◌≡◌, [], ◌∷◌, IfSome};
 use bytes::Bytes;
 use ii_base::{IndexRecordOption, LayoutFault, Part};
 use ii_docset::{DocId, DocSet, Postings, TERMINATED};
-use ii_reader::SegmentPostings;
+use ii_reader::{BlockSegmentPostings, SegmentPostings};
 use std::alloc::Global;
 use std::test::Fail;
 
@@ -111,39 +111,83 @@ pub(crate) fn sought<P: Postings>(cursor: &mut P, target: DocId) -> DocId {
     }
 }
 
+// Where a seek leaves a cursor that is at its end, 0 where it isn't.
+pub(crate) fn sought_at_end<P: Postings>(cursor: &mut P) -> DocId {
+    if cursor.doc() < TERMINATED {
+        0
+    } else {
+        cursor.seek(0)
+    }
+}
+
+// Where a cursor is, and the documents that it comes to.
+pub(crate) fn walked<P: Postings>(cursor: &mut P) -> [DocId; 5] {
+    [
+        cursor.doc(),
+        cursor.advance(),
+        cursor.advance(),
+        cursor.advance(),
+        cursor.advance(),
+    ]
+}
+
+// Whether a block has these documents.
+pub(crate) fn shows(blocks: &BlockSegmentPostings, docs: &[DocId]) -> bool {
+    blocks.docs() == docs
+}
+
+// The count of the first document of a block, 0 where it has none.
+pub(crate) fn first_freq(blocks: &BlockSegmentPostings) -> u32 {
+    if blocks.block_len() > 0 {
+        blocks.freq(0)
+    } else {
+        0
+    }
+}
+
+// Whether the positions of the current document are these, none at the end.
+pub(crate) fn has_positions<P: Postings>(alloc: Global, cursor: &mut P, want: &[u32]) -> bool {
+    gathered(alloc, cursor).as_slice() == want
+}
+
 #[test]
 fn positions_follow_a_seek(rt: HostRuntime) {
     let Ok(mut cursor) = opened(128, &POSTINGS, &POSITIONS[..52], FULL) else {
         assert!(rt; false, "a block of documents with three positions each");
         return;
     };
-    let positions = gathered(rt.alloc(), &mut cursor);
-    assert!(rt; positions.as_slice() == [0, 1, 2].as_slice());
+    assert!(rt; has_positions(rt.alloc(), &mut cursor, &[0, 1, 2]));
     assert!(rt; sought(&mut cursor, 42) == 42);
     assert!(rt; counted(&cursor) == 3);
-    let positions = gathered(rt.alloc(), &mut cursor);
-    assert!(rt; positions.as_slice() == [0, 1, 2].as_slice());
+    assert!(rt; has_positions(rt.alloc(), &mut cursor, &[0, 1, 2]));
     assert!(rt; sought(&mut cursor, 127) == 127);
-    let positions = gathered(rt.alloc(), &mut cursor);
-    assert!(rt; positions.as_slice() == [0, 1, 2].as_slice());
+    assert!(rt; has_positions(rt.alloc(), &mut cursor, &[0, 1, 2]));
+}
+
+// Whether the first document of a term has no positions, and this count.
+fn has_none(
+    alloc: Global,
+    bytes: (&'static [u8], &'static [u8]),
+    requested_option: IndexRecordOption,
+    count: u32,
+) -> bool {
+    let Ok(mut cursor) = opened(1, bytes.0, bytes.1, requested_option) else {
+        return false;
+    };
+    if counted(&cursor) != count {
+        return false;
+    }
+    has_positions(alloc, &mut cursor, &[])
 }
 
 #[test]
 fn terms_without_positions_have_none(rt: HostRuntime) {
     // not requested, and a term without counts: the bytes aren't looked at
-    let Ok(mut unasked) = opened(1, &[0x80, 0x82], &[], IndexRecordOption::WithFreqs) else {
-        assert!(rt; false, "positions that aren't requested");
-        return;
-    };
-    assert!(rt; gathered(rt.alloc(), &mut unasked).is_empty());
-    assert!(rt; counted(&unasked) == 2);
-    let Ok(mut number) = opened(1, &[0x80], &[0x80], FULL) else {
-        assert!(rt; false, "a term without counts");
-        return;
-    };
-    assert!(rt; gathered(rt.alloc(), &mut number).is_empty());
-    assert!(rt; counted(&number) == 1);
-    assert!(rt; gathered(rt.alloc(), &mut SegmentPostings::empty()).is_empty());
+    let unasked: (&'static [u8], &'static [u8]) = (&[0x80, 0x82], &[]);
+    assert!(rt; has_none(rt.alloc(), unasked, IndexRecordOption::WithFreqs, 2));
+    let number: (&'static [u8], &'static [u8]) = (&[0x80], &[0x80]);
+    assert!(rt; has_none(rt.alloc(), number, FULL, 1));
+    assert!(rt; has_positions(rt.alloc(), &mut SegmentPostings::empty(), &[]));
 }
 
 #[test]

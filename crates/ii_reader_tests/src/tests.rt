@@ -1,7 +1,8 @@
+use crate::position_tests::{counted, first_freq, shows, sought, sought_at_end, walked};
 use bytes::Bytes;
 use ii_base::{HasLen, IndexRecordOption, LayoutFault, Part};
 use ii_check::FreqReadingOption;
-use ii_docset::{DocSet, Postings, TERMINATED};
+use ii_docset::{DocId, DocSet, Postings, TERMINATED};
 use ii_reader::{BlockSegmentPostings, SegmentPostings};
 use std::alloc::Global;
 
@@ -9,6 +10,15 @@ const BASIC: IndexRecordOption = IndexRecordOption::Basic;
 
 // 128 documents from 0 on, then 129 and 130.
 static LONG: [u8; 8] = [0x85, 0x7F, 0, 0, 0, 0x40, 0x82, 0x81];
+
+// Whether a cursor says that its list is so long.
+fn is_so_long(cursor: &SegmentPostings, len: u32) -> bool {
+    let mut same = cursor.doc_freq() == len;
+    same &= cursor.size_hint() == len;
+    same &= cursor.cost() == u64::from(len);
+    same &= u64::from(len) == cursor.len() as u64;
+    same
+}
 
 #[test]
 fn short_lists_are_walked(rt: HostRuntime) {
@@ -18,16 +28,22 @@ fn short_lists_are_walked(rt: HostRuntime) {
         assert!(rt; false, "a list of three");
         return;
     };
-    assert!(rt; cursor.doc_freq() == 3);
+    assert!(rt; is_so_long(&cursor, 3));
+    let docs = [0, 2, 10, TERMINATED, TERMINATED];
+    assert!(rt; walked(&mut cursor).as_slice() == docs.as_slice());
     assert!(rt; cursor.size_hint() == 3);
-    assert!(rt; cursor.cost() == 3);
-    assert!(rt; cursor.len() == 3);
-    assert!(rt; cursor.doc() == 0);
-    assert!(rt; cursor.advance() == 2);
-    assert!(rt; cursor.advance() == 10);
-    assert!(rt; cursor.advance() == TERMINATED);
-    assert!(rt; cursor.advance() == TERMINATED);
-    assert!(rt; cursor.size_hint() == 3);
+}
+
+// How many documents a block has, and what stands at its first places and at its last.
+fn places(blocks: &BlockSegmentPostings) -> (usize, DocId, DocId, DocId, DocId) {
+    let (first, second) = (blocks.doc(0), blocks.doc(1));
+    (
+        blocks.block_len(),
+        first,
+        second,
+        blocks.doc(2),
+        blocks.doc(127),
+    )
 }
 
 #[test]
@@ -38,17 +54,22 @@ fn blocks_are_walked(rt: HostRuntime) {
         return;
     };
     assert!(rt; cursor.doc_freq() == 130);
-    assert!(rt; cursor.block_len() == 128);
-    assert!(rt; cursor.doc(127) == 127);
+    assert!(rt; places(&cursor) == (128, 0, 1, 2, 127));
     cursor.advance();
-    assert!(rt; cursor.docs() == [129, 130].as_slice());
-    assert!(rt; cursor.doc(1) == 130);
-    assert!(rt; cursor.doc(2) == TERMINATED);
+    assert!(rt; shows(&cursor, &[129, 130]));
+    assert!(rt; places(&cursor) == (2, 129, 130, TERMINATED, TERMINATED));
     cursor.advance();
-    assert!(rt; cursor.block_len() == 0);
-    assert!(rt; cursor.doc(0) == TERMINATED);
+    let end = (0, TERMINATED, TERMINATED, TERMINATED, TERMINATED);
+    assert!(rt; places(&cursor) == end);
     cursor.advance();
-    assert!(rt; cursor.docs().len() == 0);
+    assert!(rt; shows(&cursor, &[]));
+}
+
+// Where a cursor is and how often its term stands there; it then goes on.
+fn passed(cursor: &mut SegmentPostings) -> (DocId, u32) {
+    let at = (cursor.doc(), counted(cursor));
+    let _ = cursor.advance();
+    at
 }
 
 #[test]
@@ -59,46 +80,45 @@ fn long_lists_are_walked(rt: HostRuntime) {
         return;
     };
     for doc in 0..128 {
-        assert!(rt; cursor.doc() == doc);
-        let _ = cursor.advance();
+        assert!(rt; passed(&mut cursor) == (doc, 1));
     }
-    assert!(rt; cursor.doc() == 129);
-    assert!(rt; cursor.advance() == 130);
-    assert!(rt; cursor.advance() == TERMINATED);
+    let docs = [129, 130, TERMINATED, TERMINATED, TERMINATED];
+    assert!(rt; walked(&mut cursor).as_slice() == docs.as_slice());
 }
 
 #[test]
 fn empty_cursors_have_nothing(rt: HostRuntime) {
     let mut cursor = SegmentPostings::empty();
-    assert!(rt; cursor.doc_freq() == 0);
-    assert!(rt; cursor.doc() == TERMINATED);
-    assert!(rt; cursor.advance() == TERMINATED);
-    assert!(rt; cursor.is_empty());
     assert!(rt; cursor.term_freq() == 1);
+    assert!(rt; is_so_long(&cursor, 0));
+    assert!(rt; cursor.is_empty());
+    assert!(rt; walked(&mut cursor).as_slice() == [TERMINATED; 5].as_slice());
+}
+
+#[test]
+fn empty_block_cursors_have_nothing(rt: HostRuntime) {
     let mut blocks = BlockSegmentPostings::empty();
-    assert!(rt; blocks.docs().len() == 0);
+    assert!(rt; shows(&blocks, &[]));
     blocks.advance();
-    assert!(rt; blocks.docs().len() == 0);
+    assert!(rt; shows(&blocks, &[]));
+    assert!(rt; sought_in_block(&mut blocks, TERMINATED) == 0);
+}
+
+// How many documents are counted in a list of documents alone, in a field with counts.
+fn count_of(doc_freq: u32, bytes: &'static [u8]) -> Option<u32> {
+    let bytes = Bytes::from_static(bytes);
+    let opened = SegmentPostings::open(doc_freq, bytes, None, IndexRecordOption::WithFreqs, BASIC);
+    match opened {
+        Ok(mut cursor) => Some(cursor.count_including_deleted()),
+        Err(_) => None,
+    }
 }
 
 #[test]
 fn counts_that_are_not_asked_for_are_not_read(rt: HostRuntime) {
-    let with_freqs = IndexRecordOption::WithFreqs;
-    let bytes = Bytes::from_static(&[0x80, 0x82, 0x88, 0xFF]);
-    let opened = SegmentPostings::open(3, bytes, None, with_freqs, BASIC);
-    let Ok(mut cursor) = opened else {
-        assert!(rt; false, "a list with counts");
-        return;
-    };
-    assert!(rt; cursor.count_including_deleted() == 3);
+    assert!(rt; count_of(3, &[0x80, 0x82, 0x88, 0xFF]) == Some(3));
     // the counts of a block take their place, and need not be there after the last one
-    let bytes = Bytes::from_static(&[0x88, 0x7F, 0, 0, 0, 0x40, 2, 0, 0]);
-    let opened = SegmentPostings::open(128, bytes, None, with_freqs, BASIC);
-    let Ok(mut cursor) = opened else {
-        assert!(rt; false, "a block with counts");
-        return;
-    };
-    assert!(rt; cursor.count_including_deleted() == 128);
+    assert!(rt; count_of(128, &[0x88, 0x7F, 0, 0, 0, 0x40, 2, 0, 0]) == Some(128));
 }
 
 // What a refused opening names.
@@ -155,40 +175,44 @@ fn items(
     Some((found, blocks.freq_reading_option()))
 }
 
+// What is done with the counts of a list that has these items.
+fn option_of(
+    rt: &HostRuntime,
+    bytes: &'static [u8],
+    requested_option: IndexRecordOption,
+    want: &[(u32, u32)],
+) -> Option<FreqReadingOption> {
+    let doc_freq = u32::try_from(want.len()).ok()?;
+    let (found, option) = items(rt, doc_freq, bytes, requested_option)?;
+    if found.as_slice() == want {
+        Some(option)
+    } else {
+        None
+    }
+}
+
 #[test]
 fn counts_are_read(rt: HostRuntime) {
     let with_freqs = IndexRecordOption::WithFreqs;
+    let (read, skip) = (FreqReadingOption::ReadFreq, FreqReadingOption::SkipFreq);
     let bytes = &[0x80, 0x82, 0x88, 0x81, 0x82, 0x83];
-    let Some((read, option)) = items(&rt, 3, bytes, with_freqs) else {
-        assert!(rt; false, "a list with counts");
-        return;
-    };
-    assert!(rt; read.as_slice() == [(0, 1), (2, 2), (10, 3)].as_slice());
-    assert!(rt; option == FreqReadingOption::ReadFreq);
-    let Some((read, option)) = items(&rt, 3, bytes, BASIC) else {
-        assert!(rt; false, "the same list, its counts not asked for");
-        return;
-    };
-    assert!(rt; read.as_slice() == [(0, 1), (2, 1), (10, 1)].as_slice());
-    assert!(rt; option == FreqReadingOption::SkipFreq);
+    let counts = [(0, 1), (2, 2), (10, 3)];
+    assert!(rt; option_of(&rt, bytes, with_freqs, &counts) == Some(read));
+    let ones = [(0, 1), (2, 1), (10, 1)];
+    assert!(rt; option_of(&rt, bytes, BASIC, &ones) == Some(skip));
+    // a count of 0
+    assert!(rt; option_of(&rt, &[0x80, 0x80], with_freqs, &[(0, 0)]) == Some(read));
+}
+
+#[test]
+fn terms_without_counts_have_one_each(rt: HostRuntime) {
     // a term that has no counts in a field that records them
     let bytes = &[0x80, 0x82, 0x88];
-    let Some((read, option)) = items(&rt, 3, bytes, with_freqs) else {
-        assert!(rt; false, "a list without counts");
-        return;
-    };
-    assert!(rt; read.as_slice() == [(0, 1), (2, 1), (10, 1)].as_slice());
-    assert!(rt; option == FreqReadingOption::NoFreq);
-    let Some((_, option)) = items(&rt, 3, bytes, BASIC) else {
-        assert!(rt; false, "the same list");
-        return;
-    };
-    assert!(rt; option == FreqReadingOption::SkipFreq);
-    let Some((read, _)) = items(&rt, 1, &[0x80, 0x80], with_freqs) else {
-        assert!(rt; false, "a count of 0");
-        return;
-    };
-    assert!(rt; read.as_slice() == [(0, 0)].as_slice());
+    let ones = [(0, 1), (2, 1), (10, 1)];
+    let none = Some(FreqReadingOption::NoFreq);
+    assert!(rt; option_of(&rt, bytes, IndexRecordOption::WithFreqs, &ones) == none);
+    let skip = Some(FreqReadingOption::SkipFreq);
+    assert!(rt; option_of(&rt, bytes, BASIC, &ones) == skip);
 }
 
 // 128 documents from 0 on with the count 3 each, then document 128 with the count 4.
@@ -208,31 +232,36 @@ fn counts_of_blocks_are_read(rt: HostRuntime) {
         return;
     };
     for doc in 0..128 {
-        assert!(rt; cursor.doc() == doc);
-        if cursor.doc() < TERMINATED {
-            assert!(rt; cursor.term_freq() == 3);
-        }
-        let _ = cursor.advance();
+        assert!(rt; passed(&mut cursor) == (doc, 3));
     }
-    assert!(rt; cursor.doc() == 128);
-    if cursor.doc() < TERMINATED {
-        assert!(rt; cursor.term_freq() == 4);
-    }
-    assert!(rt; cursor.advance() == TERMINATED);
-    // without the last count, and with its documents alone
+    assert!(rt; passed(&mut cursor) == (128, 4));
+    assert!(rt; cursor.doc() == TERMINATED);
+}
+
+// The same without the last count.
+fn without_last_count(
+    requested_option: IndexRecordOption,
+) -> Result<BlockSegmentPostings, LayoutFault> {
     let cut = Bytes::from_static(&COUNTED[..42]);
-    let opened = BlockSegmentPostings::open(129, cut, with_freqs, with_freqs);
+    BlockSegmentPostings::open(129, cut, IndexRecordOption::WithFreqs, requested_option)
+}
+
+#[test]
+fn counts_that_are_missing_are_told(rt: HostRuntime) {
+    let opened = without_last_count(IndexRecordOption::WithFreqs);
     assert!(rt; matches!(opened, Err(LayoutFault::Damaged(Part::Frequencies))));
-    let cut = Bytes::from_static(&COUNTED[..42]);
-    let opened = BlockSegmentPostings::open(129, cut, with_freqs, BASIC);
-    let Ok(mut blocks) = opened else {
+}
+
+#[test]
+fn documents_are_read_without_their_counts(rt: HostRuntime) {
+    let Ok(mut blocks) = without_last_count(BASIC) else {
         assert!(rt; false, "documents alone");
         return;
     };
     assert!(rt; blocks.freqs().len() == 0);
     blocks.advance();
-    assert!(rt; blocks.docs() == [128].as_slice());
-    assert!(rt; blocks.freq(0) == 1);
+    assert!(rt; shows(&blocks, &[128]));
+    assert!(rt; first_freq(&blocks) == 1);
 }
 
 // 256 documents from 0 on with the count 1 each, in a field with positions; the first sum, and the
@@ -276,12 +305,24 @@ fn seeks_pass_over_blocks(rt: HostRuntime) {
         return;
     };
     assert!(rt; cursor.doc() == 0);
-    assert!(rt; cursor.seek(0) == 0);
-    assert!(rt; cursor.seek(100) == 100);
-    assert!(rt; cursor.seek(128) == 129);
-    assert!(rt; cursor.advance() == 130);
-    assert!(rt; cursor.seek(TERMINATED) == TERMINATED);
-    assert!(rt; cursor.seek(0) == TERMINATED);
+    let found = [
+        sought(&mut cursor, 0),
+        sought(&mut cursor, 100),
+        sought(&mut cursor, 128),
+        cursor.advance(),
+        sought(&mut cursor, TERMINATED),
+        sought_at_end(&mut cursor),
+    ];
+    assert!(rt; found.as_slice() == [0, 100, 129, 130, TERMINATED, TERMINATED].as_slice());
+}
+
+// Where a seek leaves a block cursor, if it may be made.
+fn sought_in_block(blocks: &mut BlockSegmentPostings, target: DocId) -> usize {
+    if target <= TERMINATED {
+        blocks.seek(target)
+    } else {
+        0
+    }
 }
 
 #[test]
@@ -292,13 +333,11 @@ fn blocks_are_sought(rt: HostRuntime) {
         return;
     };
     assert!(rt; cursor.block_len() == 128);
-    assert!(rt; cursor.seek(5) == 5);
-    assert!(rt; cursor.seek(129) == 0);
-    assert!(rt; cursor.docs() == [129, 130].as_slice());
-    assert!(rt; cursor.seek(131) == 2);
+    assert!(rt; sought_in_block(&mut cursor, 5) == 5);
+    assert!(rt; sought_in_block(&mut cursor, 129) == 0);
+    assert!(rt; shows(&cursor, &[129, 130]));
+    assert!(rt; sought_in_block(&mut cursor, 131) == 2);
     cursor.advance();
-    assert!(rt; cursor.block_len() == 0);
-    assert!(rt; cursor.seek(0) == 0);
-    let mut none = BlockSegmentPostings::empty();
-    assert!(rt; none.seek(TERMINATED) == 0);
+    assert!(rt; shows(&cursor, &[]));
+    assert!(rt; sought_in_block(&mut cursor, 0) == 0);
 }

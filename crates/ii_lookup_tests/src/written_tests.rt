@@ -1,10 +1,9 @@
 ghost use Rattle.std.specs.Prelude.{◌<◌, ◌≡◌, false, length, IfOk};
 ghost use Rattle.ii_recorder.specs.IndexBodies.{LacksField};
 
-use crate::position_tests::{counted, gathered};
 use bytes::Bytes;
 use ii_base::{CountingWriter, Fault, Field, FieldEntry, IndexRecordOption, Schema, Term};
-use ii_docset::{DocId, DocSet, TERMINATED};
+use ii_docset::{DocId, DocSet, Postings, TERMINATED};
 use ii_reader::{
     BlockSegmentPostings, InvertedIndexReader, OpenIndex, SegmentPostings, open_index,
 };
@@ -64,17 +63,26 @@ fn reopened(alloc: Global, index: InvertedIndexSerializer<Vec<u8>>) -> Result<Op
     )
 }
 
-// The index of the text.
-fn counted_index(alloc: Global) -> Result<OpenIndex, Fault>
-    ensures { IfOk result (λ index. 0 < length index) }
+// An index of a field of texts, in which nothing is written.
+fn begun(alloc: Global) -> Result<InvertedIndexSerializer<Vec<u8>>, Fault>
+    ensures known { IfOk result (λ index. 0 < length index.entries) }
+    ensures lacks { IfOk result (λ index. index.closed ≡ false → LacksField 0 index.bodies) }
 {
-    let mut index = InvertedIndexSerializer::open(
+    let schema = texts(alloc)?;
+    Ok(InvertedIndexSerializer::open(
         alloc,
         CountingWriter::wrap(Vec::new(alloc)),
         CountingWriter::wrap(Vec::new(alloc)),
         CountingWriter::wrap(Vec::new(alloc)),
-        texts(alloc)?,
-    );
+        schema,
+    ))
+}
+
+// The index of the text.
+fn counted_index(alloc: Global) -> Result<OpenIndex, Fault>
+    ensures { IfOk result (λ index. 0 < length index) }
+{
+    let mut index = begun(alloc)?;
     write_text(&mut index)?;
     reopened(alloc, index)
 }
@@ -83,15 +91,27 @@ fn counted_index(alloc: Global) -> Result<OpenIndex, Fault>
 fn uncounted_index(alloc: Global) -> Result<OpenIndex, Fault>
     ensures { IfOk result (λ index. 0 < length index) }
 {
-    let mut index = InvertedIndexSerializer::open(
-        alloc,
-        CountingWriter::wrap(Vec::new(alloc)),
-        CountingWriter::wrap(Vec::new(alloc)),
-        CountingWriter::wrap(Vec::new(alloc)),
-        texts(alloc)?,
-    );
+    let mut index = begun(alloc)?;
     write_uncounted(&mut index)?;
     reopened(alloc, index)
+}
+
+// The positions of the current document of any cursor, none at its end.
+fn gathered<P: Postings>(alloc: Global, cursor: &mut P) -> Vec<u32> {
+    let mut output = Vec::new(alloc);
+    if cursor.doc() < TERMINATED && cursor.positions(&mut output).is_err() {
+        output.clear();
+    }
+    output
+}
+
+// Its count, 0 at its end.
+fn counted<P: Postings>(cursor: &P) -> u32 {
+    if cursor.doc() < TERMINATED {
+        cursor.term_freq()
+    } else {
+        0
+    }
 }
 
 // A cursor over the postings of a term, at its first document.
@@ -122,50 +142,84 @@ fn first(
     }
 }
 
+// The same of the text's index.
+fn first_of_text(
+    alloc: Global,
+    key: &str,
+    option: IndexRecordOption,
+) -> Result<(DocId, u32, Vec<u32>), Fault> {
+    let index = counted_index(alloc)?;
+    first(alloc, index.reader(Field::from_field_id(0)), key, option)
+}
+
+// How many tokens the text's index has.
+fn tokens_of_text(alloc: Global) -> Result<u64, Fault> {
+    let index = counted_index(alloc)?;
+    Ok(index.reader(Field::from_field_id(0)).total_num_tokens())
+}
+
 #[test]
 fn written_positions_are_read(rt: HostRuntime) -> Result<(), Fail> {
-    let alloc = rt.alloc();
-    let index = counted_index(alloc)?;
-    let reader = index.reader(Field::from_field_id(0));
-    assert!(rt; reader.total_num_tokens() == 2);
-    let (doc, freq, positions) = first(alloc, reader, "a", FULL)?;
+    assert!(rt; tokens_of_text(rt.alloc())? == 2);
+    let (doc, freq, positions) = first_of_text(rt.alloc(), "a", FULL)?;
     assert!(rt; doc == 0 && freq == 2);
     assert!(rt; positions.as_slice() == [0, 4].as_slice());
-    let (doc, _, _) = first(alloc, reader, "b", FULL)?;
+    let (doc, _, _) = first_of_text(rt.alloc(), "b", FULL)?;
     assert!(rt; doc == TERMINATED);
     Ok(())
 }
 
 #[test]
 fn what_is_not_requested_is_not_read(rt: HostRuntime) -> Result<(), Fail> {
-    let alloc = rt.alloc();
-    let index = counted_index(alloc)?;
-    let reader = index.reader(Field::from_field_id(0));
-    let (doc, freq, positions) = first(alloc, reader, "a", IndexRecordOption::WithFreqs)?;
+    let (doc, freq, positions) = first_of_text(rt.alloc(), "a", IndexRecordOption::WithFreqs)?;
     assert!(rt; doc == 0 && freq == 2);
     assert!(rt; positions.is_empty());
-    let (doc, freq, positions) = first(alloc, reader, "a", IndexRecordOption::Basic)?;
+    let (doc, freq, positions) = first_of_text(rt.alloc(), "a", IndexRecordOption::Basic)?;
     assert!(rt; doc == 0 && freq == 1);
     assert!(rt; positions.is_empty());
     Ok(())
 }
 
+// How many documents a term has.
+fn doc_freq_of(alloc: Global, reader: &InvertedIndexReader, key: &str) -> Result<u32, Fault> {
+    let term = Term::from_field_text(alloc, Field::from_field_id(0), key)?;
+    Ok(reader.doc_freq(&term))
+}
+
+// Where a cursor is, and where it then goes.
+fn four_of(cursor: &mut SegmentPostings) -> [DocId; 4] {
+    let (first, second) = (cursor.doc(), cursor.advance());
+    [first, second, cursor.advance(), cursor.advance()]
+}
+
+// How many documents have the term of the documents without counts, how often it stands in the first, and
+// where its cursor goes.
+fn walked_uncounted(alloc: Global) -> Result<(u32, u32, [DocId; 4]), Fault> {
+    let index = uncounted_index(alloc)?;
+    let reader = index.reader(Field::from_field_id(0));
+    let doc_freq = doc_freq_of(alloc, reader, "c")?;
+    match cursor_of(alloc, reader, "c", FULL)? {
+        Some(mut cursor) => Ok((doc_freq, counted(&cursor), four_of(&mut cursor))),
+        None => Ok((doc_freq, 0, [TERMINATED; 4])),
+    }
+}
+
 #[test]
 fn written_documents_are_walked(rt: HostRuntime) -> Result<(), Fail> {
-    let index = uncounted_index(rt.alloc())?;
-    let reader = index.reader(Field::from_field_id(0));
-    let term = Term::from_field_text(rt.alloc(), Field::from_field_id(0), "c")?;
-    assert!(rt; reader.doc_freq(&term) == 3);
-    let Some(mut cursor) = reader.read_postings(&term, FULL)? else {
-        assert!(rt; false, "a term in three documents");
-        return Ok(());
-    };
-    assert!(rt; counted(&cursor) == 1);
-    assert!(rt; cursor.doc() == 1);
-    assert!(rt; cursor.advance() == 3);
-    assert!(rt; cursor.advance() == 5);
-    assert!(rt; cursor.advance() == TERMINATED);
+    let (doc_freq, count, docs) = walked_uncounted(rt.alloc())?;
+    assert!(rt; doc_freq == 3);
+    assert!(rt; count == 1);
+    assert!(rt; docs.as_slice() == [1, 3, 5, TERMINATED].as_slice());
     Ok(())
+}
+
+// A block cursor over the only term of the text.
+fn blocks_of_text(alloc: Global) -> Result<Option<BlockSegmentPostings>, Fault> {
+    let index = counted_index(alloc)?;
+    let term = Term::from_field_text(alloc, Field::from_field_id(0), "a")?;
+    index
+        .reader(Field::from_field_id(0))
+        .read_block_postings(&term, FULL)
 }
 
 // Puts the postings of a term in place of those of a block cursor, if the field has it.
@@ -183,21 +237,33 @@ fn put(
     Ok(true)
 }
 
+// The same of the documents without counts.
+fn put_uncounted(
+    alloc: Global,
+    key: &str,
+    blocks: &mut BlockSegmentPostings,
+) -> Result<bool, Fault> {
+    let index = uncounted_index(alloc)?;
+    put(alloc, index.reader(Field::from_field_id(0)), key, blocks)
+}
+
+// Whether a block cursor has these documents and counts.
+fn shows(blocks: &BlockSegmentPostings, docs: &[DocId], freqs: &[u32]) -> bool {
+    if blocks.docs() != docs {
+        return false;
+    }
+    blocks.freqs() == freqs
+}
+
 #[test]
 fn block_cursors_go_from_term_to_term(rt: HostRuntime) -> Result<(), Fail> {
-    let alloc = rt.alloc();
-    let (text, other) = (counted_index(alloc)?, uncounted_index(alloc)?);
-    let field = Field::from_field_id(0);
-    let term = Term::from_field_text(alloc, field, "a")?;
-    let Some(mut blocks) = text.reader(field).read_block_postings(&term, FULL)? else {
+    let Some(mut blocks) = blocks_of_text(rt.alloc())? else {
         assert!(rt; false, "a term in a document");
         return Ok(());
     };
-    assert!(rt; blocks.docs() == [0].as_slice());
-    assert!(rt; blocks.freqs() == [2].as_slice());
-    assert!(rt; put(alloc, other.reader(field), "c", &mut blocks)?);
-    assert!(rt; blocks.docs() == [1, 3, 5].as_slice());
-    assert!(rt; blocks.freqs().len() == 0);
-    assert!(rt; !put(alloc, other.reader(field), "a", &mut blocks)?);
+    assert!(rt; shows(&blocks, &[0], &[2]));
+    assert!(rt; put_uncounted(rt.alloc(), "c", &mut blocks)?);
+    assert!(rt; shows(&blocks, &[1, 3, 5], &[]));
+    assert!(rt; !put_uncounted(rt.alloc(), "a", &mut blocks)?);
     Ok(())
 }

@@ -1,0 +1,427 @@
+ghost use Rattle.std.specs.Prelude.{◌<◌, length, IfOk};
+
+use bytes::Bytes;
+use ii_base::{
+    Fault, Field, FieldEntry, IndexRecordOption, LayoutFault, Part, Schema, Term, ValueType,
+};
+use ii_docset::{DocId, DocSet, TERMINATED};
+use ii_reader::{BlockSegmentPostings, InvertedIndexReader, OpenIndex, open_index};
+use ii_termdict::{TermDictionary, TermInfo};
+use std::alloc::Global;
+use std::test::Fail;
+
+const BASIC: IndexRecordOption = IndexRecordOption::Basic;
+
+const FULL: IndexRecordOption = IndexRecordOption::WithFreqsAndPositions;
+
+// The number 5 in document 0: a dictionary of one key of 8 bytes, whose postings are one byte.
+static TERMS: [u8; 104] = [
+    1, 0, 0, 0, 0, 0, 0, 0, 8, 0, 0, 0, 0, 0, 0, 0, 0, 0, 0, 0, 0, 0, 0, 5, 39, 0, 0, 0, 0, 0, 0,
+    0, 1, 0, 0, 0, 0, 0, 0, 0, 0, 0, 0, 0, 0, 0, 0, 0, 1, 0, 0, 0, 0, 0, 0, 0, 0, 0, 0, 0, 1, 0, 0,
+    0, 0, 0, 0, 0, 0, 0, 0, 0, 0, 0, 0, 0, 0, 1, 0, 1, 0, 0, 0, 0, 0, 0, 0, 0, 0, 0, 0, 0, 80, 0,
+    0, 0, 0, 0, 0, 0, 1, 0, 0, 0,
+];
+
+// One token, and document 0.
+static POSTINGS: [u8; 33] = [
+    1, 0, 0, 0, 0, 0, 0, 0, 0x80, 0, 0, 0, 0, 0, 0, 0, 0, 0, 0, 0, 0, 9, 0, 0, 0, 0, 0, 0, 0, 1, 0,
+    0, 0,
+];
+
+// An empty body of field 0.
+static POSITIONS: [u8; 24] = [
+    0, 0, 0, 0, 0, 0, 0, 0, 0, 0, 0, 0, 0, 0, 0, 0, 0, 0, 0, 0, 1, 0, 0, 0,
+];
+
+// A file without bodies.
+static NONE: [u8; 4] = [0, 0, 0, 0];
+
+// A body of 7 bytes.
+static SHORT: [u8; 31] = [
+    1, 0, 0, 0, 0, 0, 0, 0, 0, 0, 0, 0, 0, 0, 0, 0, 0, 0, 0, 7, 0, 0, 0, 0, 0, 0, 0, 1, 0, 0, 0,
+];
+
+// A field of numbers.
+fn numbers(alloc: Global) -> Result<Schema, Fault>
+    ensures { IfOk result (λ schema. 0 < length schema) }
+{
+    let mut entries = Vec::new(alloc);
+    let name = String::from_str(alloc, "number")?;
+    entries.push(FieldEntry::value(name, ValueType::U64, false))?;
+    Ok(Schema::new(entries))
+}
+
+// The index of a field of numbers in three files.
+fn opened(
+    alloc: Global,
+    terms: &'static [u8],
+    postings: &'static [u8],
+    positions: &'static [u8],
+) -> Result<OpenIndex, Fault>
+    ensures { IfOk result (λ index. 0 < length index) }
+{
+    let schema = numbers(alloc)?;
+    open_index(
+        alloc,
+        Bytes::from_static(terms),
+        Bytes::from_static(postings),
+        Bytes::from_static(positions),
+        &schema,
+    )
+}
+
+// The fault of files that aren't an index.
+fn refused(
+    alloc: Global,
+    terms: &'static [u8],
+    postings: &'static [u8],
+    positions: &'static [u8],
+) -> Option<Fault> {
+    match opened(alloc, terms, postings, positions) {
+        Ok(_) => None,
+        Err(fault) => Some(fault),
+    }
+}
+
+// The term of a number.
+fn term_of(alloc: Global, number: u64) -> Result<Term, Fault> {
+    Term::from_field_u64(alloc, Field::from_field_id(0), number)
+}
+
+// How many documents have a number, and what is kept of it.
+fn kept(
+    alloc: Global,
+    reader: &InvertedIndexReader,
+    number: u64,
+) -> Result<(u32, Option<TermInfo>), Fault> {
+    let term = term_of(alloc, number)?;
+    Ok((reader.doc_freq(&term), reader.get_term_info(&term)))
+}
+
+// Whether a term has a cursor.
+fn has_cursor(
+    reader: &InvertedIndexReader,
+    term: &Term,
+    option: IndexRecordOption,
+) -> Result<bool, Fault> {
+    Ok(reader.read_postings(term, option)?.is_some())
+}
+
+// Whether it has a block cursor.
+fn has_blocks(
+    reader: &InvertedIndexReader,
+    term: &Term,
+    option: IndexRecordOption,
+) -> Result<bool, Fault> {
+    Ok(reader.read_block_postings(term, option)?.is_some())
+}
+
+// Whether a number has neither.
+fn is_not_read(alloc: Global, reader: &InvertedIndexReader, number: u64) -> Result<bool, Fault> {
+    let term = term_of(alloc, number)?;
+    if has_cursor(reader, &term, BASIC)? || has_cursor(reader, &term, FULL)? {
+        return Ok(false);
+    }
+    Ok(!has_blocks(reader, &term, BASIC)? && !has_blocks(reader, &term, FULL)?)
+}
+
+// How many tokens and how many terms a reader has.
+fn sizes(reader: &InvertedIndexReader) -> (u64, usize) {
+    (reader.total_num_tokens(), reader.terms().num_terms())
+}
+
+// What is kept of a number in the index of the number 5, with the sizes of its reader.
+fn kept_of(alloc: Global, number: u64) -> Result<((u64, usize), u32, Option<TermInfo>), Fault> {
+    let index = opened(alloc, &TERMS, &POSTINGS, &POSITIONS)?;
+    let reader = index.reader(Field::from_field_id(0));
+    let (doc_freq, info) = kept(alloc, reader, number)?;
+    Ok((sizes(reader), doc_freq, info))
+}
+
+// Whether a number has no cursor there.
+fn lacks(alloc: Global, number: u64) -> Result<bool, Fault> {
+    let index = opened(alloc, &TERMS, &POSTINGS, &POSITIONS)?;
+    is_not_read(alloc, index.reader(Field::from_field_id(0)), number)
+}
+
+#[test]
+fn a_number_is_looked_up(rt: HostRuntime) -> Result<(), Fail> {
+    let info = TermInfo {
+        doc_freq: 1,
+        postings_range: 0..1,
+        positions_range: 0..0,
+    };
+    let (sizes, doc_freq, found) = kept_of(rt.alloc(), 5)?;
+    assert!(rt; sizes == (1, 1));
+    assert!(rt; doc_freq == 1);
+    assert!(rt; found == Some(info));
+    Ok(())
+}
+
+#[test]
+fn numbers_that_are_missing_are_not_found(rt: HostRuntime) -> Result<(), Fail> {
+    let (_, doc_freq, found) = kept_of(rt.alloc(), 6)?;
+    assert!(rt; doc_freq == 0);
+    assert!(rt; found == None);
+    assert!(rt; lacks(rt.alloc(), 6)?);
+    Ok(())
+}
+
+// The first document of a term and the next one, the end where there is no such term.
+fn walked(
+    reader: &InvertedIndexReader,
+    term: &Term,
+    option: IndexRecordOption,
+) -> Result<(DocId, DocId), Fault> {
+    match reader.read_postings(term, option)? {
+        Some(mut cursor) => Ok((cursor.doc(), cursor.advance())),
+        None => Ok((TERMINATED, TERMINATED)),
+    }
+}
+
+// Whether the first block of a term has these documents.
+fn block_is(
+    reader: &InvertedIndexReader,
+    term: &Term,
+    option: IndexRecordOption,
+    docs: &[DocId],
+) -> Result<bool, Fault> {
+    match reader.read_block_postings(term, option)? {
+        Some(blocks) => Ok(blocks.docs() == docs),
+        None => Ok(false),
+    }
+}
+
+// The first two documents of the number 5, and whether its block is document 0.
+fn read_as(alloc: Global, option: IndexRecordOption) -> Result<(DocId, DocId, bool), Fault> {
+    let index = opened(alloc, &TERMS, &POSTINGS, &POSITIONS)?;
+    let reader = index.reader(Field::from_field_id(0));
+    let five = term_of(alloc, 5)?;
+    let (first, second) = walked(reader, &five, option)?;
+    Ok((first, second, block_is(reader, &five, option, &[0])?))
+}
+
+#[test]
+fn its_postings_are_read(rt: HostRuntime) -> Result<(), Fail> {
+    for option in [BASIC, IndexRecordOption::WithFreqs, FULL] {
+        let (first, second, is_block) = read_as(rt.alloc(), option)?;
+        assert!(rt; first == 0);
+        assert!(rt; second == TERMINATED);
+        assert!(rt; is_block);
+    }
+    Ok(())
+}
+
+// Whether a reader has no terms and no tokens.
+fn has_nothing(alloc: Global, reader: &InvertedIndexReader) -> Result<bool, Fault> {
+    if sizes(reader) != (0, 0) {
+        return Ok(false);
+    }
+    let (doc_freq, info) = kept(alloc, reader, 5)?;
+    if doc_freq != 0 || info.is_some() {
+        return Ok(false);
+    }
+    is_not_read(alloc, reader, 5)
+}
+
+// Whether the reader of field 0 in three files has nothing.
+fn index_has_nothing(
+    alloc: Global,
+    terms: &'static [u8],
+    postings: &'static [u8],
+    positions: &'static [u8],
+) -> Result<bool, Fault> {
+    let index = opened(alloc, terms, postings, positions)?;
+    has_nothing(alloc, index.reader(Field::from_field_id(0)))
+}
+
+#[test]
+fn readers_of_no_terms_have_nothing(rt: HostRuntime) -> Result<(), Fail> {
+    assert!(rt; has_nothing(rt.alloc(), &InvertedIndexReader::empty(FULL))?);
+    assert!(rt; index_has_nothing(rt.alloc(), &NONE, &NONE, &NONE)?);
+    Ok(())
+}
+
+#[test]
+fn bodies_that_are_missing_are_told(rt: HostRuntime) -> Result<(), Fail> {
+    let composite = Some(Fault::Damaged(Part::Composite));
+    assert!(rt; refused(rt.alloc(), &TERMS, &NONE, &POSITIONS) == composite);
+    assert!(rt; refused(rt.alloc(), &TERMS, &POSTINGS, &NONE) == composite);
+    // a field that the file of terms lacks has no terms
+    assert!(rt; index_has_nothing(rt.alloc(), &NONE, &POSTINGS, &POSITIONS)?);
+    Ok(())
+}
+
+#[test]
+fn damaged_files_are_told(rt: HostRuntime) {
+    let composite = Some(Fault::Damaged(Part::Composite));
+    assert!(rt; refused(rt.alloc(), &TERMS[..103], &POSTINGS, &POSITIONS) == composite);
+    assert!(rt; refused(rt.alloc(), &TERMS, &POSTINGS[..3], &POSITIONS) == composite);
+    assert!(rt; refused(rt.alloc(), &TERMS, &POSTINGS, &POSITIONS[..20]) == composite);
+    let count = Some(Fault::Damaged(Part::TokenCount));
+    assert!(rt; refused(rt.alloc(), &TERMS, &SHORT, &POSITIONS) == count);
+    // the dictionary comes before the number of tokens, and a missing body before both
+    let dictionary = Some(Fault::Damaged(Part::Dictionary));
+    assert!(rt; refused(rt.alloc(), &SHORT, &SHORT, &POSITIONS) == dictionary);
+    assert!(rt; refused(rt.alloc(), &SHORT, &SHORT, &NONE) == composite);
+}
+
+// The number of tokens of a body of postings.
+fn tokens_in(body: &'static [u8]) -> Result<u64, Fault> {
+    let body = Bytes::from_static(body);
+    let reader = InvertedIndexReader::new(TermDictionary::empty(), body, Bytes::new(), BASIC)?;
+    Ok(reader.total_num_tokens())
+}
+
+#[test]
+fn short_bodies_have_no_number_of_tokens(rt: HostRuntime) {
+    assert!(rt; tokens_in(&SHORT[..7]) == Err(Fault::Damaged(Part::TokenCount)));
+    assert!(rt; tokens_in(&SHORT[..8]) == Ok(1));
+}
+
+#[test]
+fn fields_that_the_schema_lacks_are_left(rt: HostRuntime) -> Result<(), Fail> {
+    let schema = Schema::new(Vec::new(rt.alloc()));
+    let terms = Bytes::from_static(&TERMS);
+    let opened = open_index(
+        rt.alloc(),
+        terms,
+        Bytes::from_static(&SHORT),
+        Bytes::from_static(&NONE),
+        &schema,
+    );
+    assert!(rt; opened.is_ok());
+    Ok(())
+}
+
+// What is kept of a term, whose postings lie between two places.
+fn info_at(start: usize, end: usize) -> TermInfo {
+    TermInfo {
+        doc_freq: 1,
+        postings_range: start..end,
+        positions_range: 3..1,
+    }
+}
+
+// A reader of documents with positions, whose body of positions is empty.
+fn one_byte() -> Result<InvertedIndexReader, Fault> {
+    let body = Bytes::from_static(&POSTINGS[..9]);
+    InvertedIndexReader::new(TermDictionary::empty(), body, Bytes::new(), FULL)
+}
+
+// The fault of a cursor over that byte, at what is kept of a term.
+fn cursor_fault(info: &TermInfo, option: IndexRecordOption) -> Option<Fault> {
+    let Ok(reader) = one_byte() else {
+        return Some(Fault::Damaged(Part::TokenCount));
+    };
+    match reader.read_postings_from_terminfo(info, option) {
+        Ok(_) => None,
+        Err(fault) => Some(fault),
+    }
+}
+
+// The fault of a block cursor there.
+fn block_fault(info: &TermInfo, option: IndexRecordOption) -> Option<Fault> {
+    let Ok(reader) = one_byte() else {
+        return Some(Fault::Damaged(Part::TokenCount));
+    };
+    match reader.read_block_postings_from_terminfo(info, option) {
+        Ok(_) => None,
+        Err(fault) => Some(fault),
+    }
+}
+
+#[test]
+fn ranges_lie_in_their_bodies(rt: HostRuntime) {
+    let range = Some(Fault::Damaged(Part::Range));
+    for info in [info_at(0, 2), info_at(1, 0)] {
+        assert!(rt; cursor_fault(&info, BASIC) == range);
+        assert!(rt; block_fault(&info, FULL) == range);
+    }
+    // no document, and one too many
+    let documents = Some(Fault::Damaged(Part::Documents));
+    assert!(rt; block_fault(&info_at(0, 0), BASIC) == documents);
+}
+
+#[test]
+fn ranges_of_positions_are_looked_at_where_requested(rt: HostRuntime) {
+    let info = info_at(0, 1);
+    assert!(rt; cursor_fault(&info, FULL) == Some(Fault::Damaged(Part::Range)));
+    assert!(rt; cursor_fault(&info, BASIC) == None);
+    assert!(rt; block_fault(&info, FULL) == None);
+}
+
+// A block cursor over document 7.
+fn seven() -> Result<BlockSegmentPostings, LayoutFault> {
+    BlockSegmentPostings::open(1, Bytes::from_static(&[0x87]), BASIC, BASIC)
+}
+
+// Resets a block cursor to what is kept of a term.
+fn reset(
+    reader: &InvertedIndexReader,
+    info: &TermInfo,
+    blocks: &mut BlockSegmentPostings,
+) -> Result<(), Fault> {
+    reader.reset_block_postings_from_terminfo(info, blocks)
+}
+
+// Whether the documents of a block are these.
+fn shows(blocks: &BlockSegmentPostings, docs: &[DocId]) -> bool {
+    blocks.docs() == docs
+}
+
+// Resets a block cursor to the byte between two places.
+fn reset_to(start: usize, end: usize, blocks: &mut BlockSegmentPostings) -> Result<(), Fault> {
+    reset(&one_byte()?, &info_at(start, end), blocks)
+}
+
+#[test]
+fn refused_resets_leave_no_documents(rt: HostRuntime) -> Result<(), Fail> {
+    let mut blocks = seven()?;
+    assert!(rt; shows(&blocks, &[7]));
+    assert!(rt; reset_to(0, 2, &mut blocks) == Err(Fault::Damaged(Part::Range)));
+    assert!(rt; shows(&blocks, &[]));
+    assert!(rt; reset_to(0, 1, &mut blocks) == Ok(()));
+    assert!(rt; shows(&blocks, &[0]));
+    Ok(())
+}
+
+#[test]
+fn resets_are_refused_for_documents(rt: HostRuntime) -> Result<(), Fail> {
+    let mut blocks = seven()?;
+    assert!(rt; reset_to(0, 1, &mut blocks) == Ok(()));
+    assert!(rt; shows(&blocks, &[0]));
+    assert!(rt; reset_to(0, 0, &mut blocks) == Err(Fault::Damaged(Part::Documents)));
+    assert!(rt; shows(&blocks, &[]));
+    Ok(())
+}
+
+// A reader of the documents of two terms: even ones, and odd ones.
+fn even_and_odd() -> Result<InvertedIndexReader, Fault> {
+    let body = Bytes::from_static(&[6, 0, 0, 0, 0, 0, 0, 0, 0x80, 0x82, 0x82, 0x81, 0x82, 0x82]);
+    InvertedIndexReader::new(TermDictionary::empty(), body, Bytes::new(), BASIC)
+}
+
+// What is kept of a term of three documents, whose postings lie between two places.
+fn three_at(start: usize, end: usize) -> TermInfo {
+    TermInfo {
+        doc_freq: 3,
+        postings_range: start..end,
+        positions_range: 0..0,
+    }
+}
+
+// A block cursor over what is kept of a term.
+fn blocks_at(reader: &InvertedIndexReader, info: &TermInfo) -> Result<BlockSegmentPostings, Fault> {
+    reader.read_block_postings_from_terminfo(info, BASIC)
+}
+
+#[test]
+fn block_cursors_are_reset_to_other_terms(rt: HostRuntime) -> Result<(), Fail> {
+    let reader = even_and_odd()?;
+    let mut blocks = blocks_at(&reader, &three_at(0, 3))?;
+    assert!(rt; shows(&blocks, &[0, 2, 4]));
+    reset(&reader, &three_at(3, 6), &mut blocks)?;
+    assert!(rt; shows(&blocks, &[1, 3, 5]));
+    Ok(())
+}
