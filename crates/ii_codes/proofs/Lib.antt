@@ -2,6 +2,7 @@ pub mod BitLaws
 pub mod BitLemmas
 pub mod BlockLaws
 pub mod BlockLemmas
+pub mod LaneLemmas
 pub mod LastLemmas
 pub mod LengthLemmas
 pub mod PackLemmas

@@ -10,9 +10,12 @@ ghost use Rattle.ii_codes.specs.Sums.{fit_u32};
 
 use super::{COMPRESSION_BLOCK_SIZE, compressed_block_size};
 use byteorder::{ByteOrder, LittleEndian};
+use lanes::sorted_narrow;
 
-/// A block of entries of 32 bits and eight bytes more.
-const PADDED_BLOCK_SIZE: usize = 520;
+mod lanes;
+
+/// A block of entries of 32 bits and sixteen bytes more.
+const PADDED_BLOCK_SIZE: usize = 528;
 
 /// The first 64 bits of bytes as one number, the lowest first.
 #[inline(always)]
@@ -132,7 +135,7 @@ fn unpack_from(bytes: &[u8], width: u8, output: &mut [u32])
 /// A block, and zero bytes after it.
 fn padded_block(bytes: &[u8]) -> [u8; PADDED_BLOCK_SIZE]
     requires { length bytes.now ≤ 512 }
-    ensures { result ≡ bytes.now ++ replicate (520 - length bytes.now) 0 }
+    ensures { result ≡ bytes.now ++ replicate (528 - length bytes.now) 0 }
 {
     let mut block = [0u8; PADDED_BLOCK_SIZE];
     block[..bytes.len()].copy_from_slice(bytes);
@@ -288,10 +291,10 @@ fn sorted_width<const W: usize>(bytes: &[u8], gap: u64, least: u64, output: &mut
     next < (1 << 32) + gap
 }
 
-/// Unpacks values of a sorted block, where eight bytes more than the block's are at hand.
+/// Unpacks values of a sorted block, where sixteen bytes more than the block's are at hand.
 fn sorted_from(bytes: &[u8], width: u8, gap: u64, least: u64, output: &mut [u32]) -> bool
     requires narrow { width ≤ 32 }
-    requires enough { 16 * width + 8 ≤ length bytes.now }
+    requires enough { 16 * width + 16 ≤ length bytes.now }
     requires room { length output.old ≡ 128 }
     requires gap { gap ≤ 1 }
     requires least { least < 2 ^ 32 + gap }
@@ -300,15 +303,15 @@ fn sorted_from(bytes: &[u8], width: u8, gap: u64, least: u64, output: &mut [u32]
 {
     match width {
         0 => sorted_width::<0>(bytes, gap, least, output),
-        1 => sorted_width::<1>(bytes, gap, least, output),
-        2 => sorted_width::<2>(bytes, gap, least, output),
-        3 => sorted_width::<3>(bytes, gap, least, output),
-        4 => sorted_width::<4>(bytes, gap, least, output),
-        5 => sorted_width::<5>(bytes, gap, least, output),
-        6 => sorted_width::<6>(bytes, gap, least, output),
-        7 => sorted_width::<7>(bytes, gap, least, output),
-        8 => sorted_width::<8>(bytes, gap, least, output),
-        9 => sorted_width::<9>(bytes, gap, least, output),
+        1 => sorted_narrow::<1>(bytes, gap, least, output),
+        2 => sorted_narrow::<2>(bytes, gap, least, output),
+        3 => sorted_narrow::<3>(bytes, gap, least, output),
+        4 => sorted_narrow::<4>(bytes, gap, least, output),
+        5 => sorted_narrow::<5>(bytes, gap, least, output),
+        6 => sorted_narrow::<6>(bytes, gap, least, output),
+        7 => sorted_narrow::<7>(bytes, gap, least, output),
+        8 => sorted_narrow::<8>(bytes, gap, least, output),
+        9 => sorted_narrow::<9>(bytes, gap, least, output),
         10 => sorted_width::<10>(bytes, gap, least, output),
         11 => sorted_width::<11>(bytes, gap, least, output),
         12 => sorted_width::<12>(bytes, gap, least, output),
@@ -346,7 +349,7 @@ fn sorted_values(bytes: &[u8], width: u8, gap: u64, least: u64, output: &mut [u3
     ensures values { OnTrue result (output.new ≡ values_from gap least (unpacked width bytes.now)) }
 {
     let size = compressed_block_size(width);
-    if bytes.len() - size >= 8 {
+    if bytes.len() - size >= 16 {
         return sorted_from(bytes, width, gap, least, output);
     }
     sorted_from(&padded_block(&bytes[..size]), width, gap, least, output)
