@@ -52,12 +52,12 @@ lane_cut m row place w r x e some within =
     parts x f n s a b c d = rw (a, b, c, d) refl
 
 -- byte k of the sixteen that are loaded from a place on
-loaded : (row : List ℕ) (at k : ℕ) → k < 16 → get_or (chunk 0 16 (take (at + 16 - at) (drop at row))) (0 + k) 0 ≡ get_or row (at + k) 0
+pub loaded : (row : List ℕ) (at k : ℕ) → k < 16 → get_or (chunk 0 16 (take (at + 16 - at) (drop at row))) (0 + k) 0 ≡ get_or row (at + k) 0
 loaded row at k small =
     let none : 0 + k ≡ k = omega arith in
     rw none (get_or-chunk 0 16 (take (at + 16 - at) (drop at row)) k 0 small ∙ rw none (get_or-take (at + 16 - at) (drop at row) k 0 (omega arith) ∙ get_or-drop at row k 0))
 
-taken_small : (n : ℕ) (xs : List ℕ) → ((k : ℕ) → get_or xs k 0 < 256) → (k : ℕ) → get_or (take n xs) k 0 < 256
+pub taken_small : (n : ℕ) (xs : List ℕ) → ((k : ℕ) → get_or xs k 0 < 256) → (k : ℕ) → get_or (take n xs) k 0 < 256
 taken_small zero xs h k = omega arith
 taken_small (suc n) [] h k = omega arith
 taken_small (suc n) (x ∷ xs) h zero = h 0
@@ -67,7 +67,7 @@ cond_small : (b : Bool) (x : ℕ) → x < 256 → cond b 0 x < 256
 cond_small true x h = omega arith
 cond_small false x h = h
 
-chosen_small : (v : List ℕ) (i : ℕ) (js : List ℕ) → ((k : ℕ) → get_or v k 0 < 256) → Each1 (λ x. x < 256) (swz_l w8 16 v i js)
+pub chosen_small : (v : List ℕ) (i : ℕ) (js : List ℕ) → ((k : ℕ) → get_or v k 0 < 256) → Each1 (λ x. x < 256) (swz_l w8 16 v i js)
 chosen_small v i [] h = tt
 chosen_small v i (j ∷ js) h = (cond_small _ _ (h _), chosen_small v (suc i) js h)
 
@@ -163,10 +163,10 @@ eight_small row at w narrow (suc (suc (suc (suc (suc (suc zero)))))) h = entry_s
 eight_small row at w narrow (suc (suc (suc (suc (suc (suc (suc zero))))))) h = entry_small row (at * 8 + 7 * w) w narrow
 eight_small row at w narrow (suc (suc (suc (suc (suc (suc (suc (suc k)))))))) h = absurd (omega arith)
 
-cons_same : {x y : ℕ} {xs ys : List ℕ} → x ≡ y → xs ≡ ys → x ∷ xs ≡ y ∷ ys
+pub cons_same : {x y : ℕ} {xs ys : List ℕ} → x ≡ y → xs ≡ ys → x ∷ xs ≡ y ∷ ys
 cons_same e f = rw (e, f) refl
 
-wrapped_same : (gap n m : ℕ) (es : List ℕ) → n % 4294967296 ≡ m % 4294967296 → wrapped_from gap n es ≡ wrapped_from gap m es
+pub wrapped_same : (gap n m : ℕ) (es : List ℕ) → n % 4294967296 ≡ m % 4294967296 → wrapped_from gap n es ≡ wrapped_from gap m es
 wrapped_same gap n m [] h = refl
 wrapped_same gap n m (e ∷ es) h = cons_same (omega arith) (wrapped_same gap (n + e + gap) (m + e + gap) es (omega arith))
 
@@ -238,19 +238,19 @@ fits_by_last least rest small =
     (λ (above : 4294967296 ≤ least + rest). rw (le-ltb (least + rest) 4294967296 above) (lt-leb least ((least + rest) % 4294967296) (omega arith)))
     (cases_lt (least + rest) 4294967296)
 
-lanes-all : (gap least k : ℕ) (es out before : List ℕ) → IsSummingLanes gap least k es out before → k ≡ 128 → length es ≡ 128 → length out ≡ 128 → out ≡ wrapped_from gap least es
-lanes-all gap least k es out before h done many room =
-    let values = rw (drop_all k es (omega arith), take_all k out (omega arith), append-nil out) at h.values in
+lanes-all : (gap least k next : ℕ) (es out : List ℕ) → take k out ++ wrapped_from gap next (drop k es) ≡ wrapped_from gap least es → k ≡ 128 → length es ≡ 128 → length out ≡ 128 → out ≡ wrapped_from gap least es
+lanes-all gap least k next es out h done many room =
+    let values = rw (drop_all k es (omega arith), take_all k out (omega arith), append-nil out) at h in
     values
 
 length-values : (gap least : ℕ) (es : List ℕ) → length (values_from gap least es) ≡ length es
 length-values gap least [] = refl
 length-values gap least (e ∷ es) = ap suc (length-values gap (least + e + gap) es)
 
-pub lanes-fits : (gap least k : ℕ) (es out before : List ℕ) → IsSummingLanes gap least k es out before → k ≡ 128 → length es ≡ 128 → length out ≡ 128 → gap ≤ 1 → ((k : ℕ) → k < length es → get_or es k 0 ≤ 33554431)
+pub lanes-fits : (gap least k next : ℕ) (es out : List ℕ) → take k out ++ wrapped_from gap next (drop k es) ≡ wrapped_from gap least es → k ≡ 128 → length es ≡ 128 → length out ≡ 128 → gap ≤ 1 → ((k : ℕ) → k < length es → get_or es k 0 ≤ 33554431)
     → nat_le least (get_or out 127 0) ≡ fit_u32 (values_from gap least es)
-lanes-fits gap least k es out before h done many room g entries =
-    let all = lanes-all gap least k es out before h done many room in
+lanes-fits gap least k next es out h done many room g entries =
+    let all = lanes-all gap least k next es out h done many room in
     let total = rw many at (sum_small 33554431 es entries) in
     let last = get_or-map (λ v. v % 4294967296) (values_from gap least es) 127 0 0 (omega (arith, length-values gap least es)) in
     let place : least + sum es + 127 * gap ≡ least + (sum es + 127 * gap) = omega arith in
@@ -258,10 +258,10 @@ lanes-fits gap least k es out before h done many room g entries =
     let bound : sum es + 127 * gap < 4294967296 = omega (arith, total) in
     rw value (fits_by_last least (sum es + 127 * gap) bound ∙ sym (last_fits gap least es many ∙ ap (λ (x : ℕ). nat_lt x 4294967296) place))
 
-pub lanes-values : (gap least k : ℕ) (fits : Bool) (es out before : List ℕ) → IsSummingLanes gap least k es out before → k ≡ 128 → length es ≡ 128 → length out ≡ 128 → fits ≡ fit_u32 (values_from gap least es)
+pub lanes-values : (gap least k next : ℕ) (fits : Bool) (es out : List ℕ) → take k out ++ wrapped_from gap next (drop k es) ≡ wrapped_from gap least es → k ≡ 128 → length es ≡ 128 → length out ≡ 128 → fits ≡ fit_u32 (values_from gap least es)
     → OnTrue fits (out ≡ values_from gap least es)
-lanes-values gap least k fits es out before h done many room e =
-    on_true fits (λ all. lanes-all gap least k es out before h done many room ∙ fit_wrapped (values_from gap least es) (sym e ∙ all))
+lanes-values gap least k next fits es out h done many room e =
+    on_true fits (λ all. lanes-all gap least k next es out h done many room ∙ fit_wrapped (values_from gap least es) (sym e ∙ all))
 
 pub entries_small : (w : ℕ) (bytes : List ℕ) → w ≤ 25 → (k : ℕ) → k < length (unpacked w bytes) → get_or (unpacked w bytes) k 0 ≤ 33554431
 entries_small w bytes narrow k within =

@@ -20,12 +20,12 @@ loop-group-preserved g c =
 
 pub returns-clause-fits : goal.returns-clause-fits
 returns-clause-fits g c =
-    rw c.from.ensures (lanes-fits c.args.gap c.args.least (8 * c.loop-group.group) (unpacked g.row.W c.args.bytes.now) c.loop-group.output c.loop-group.before c.loop-group.invariant
+    rw c.from.ensures (lanes-fits c.args.gap c.args.least (8 * c.loop-group.group) _ (unpacked g.row.W c.args.bytes.now) c.loop-group.output c.loop-group.invariant.values
     (omega arith) (length-unpacked g.row.W c.args.bytes.now) (omega arith) c.requires.gap (entries_small g.row.W c.args.bytes.now (omega arith)))
 
 pub returns-clause-values : goal.returns-clause-values
 returns-clause-values g c =
-    let fits = lanes-fits c.args.gap c.args.least (8 * c.loop-group.group) (unpacked g.row.W c.args.bytes.now) c.loop-group.output c.loop-group.before c.loop-group.invariant
+    let fits = lanes-fits c.args.gap c.args.least (8 * c.loop-group.group) _ (unpacked g.row.W c.args.bytes.now) c.loop-group.output c.loop-group.invariant.values
     (omega arith) (length-unpacked g.row.W c.args.bytes.now) (omega arith) c.requires.gap (entries_small g.row.W c.args.bytes.now (omega arith)) in
-    rw c.from.ensures (lanes-values c.args.gap c.args.least (8 * c.loop-group.group) _ (unpacked g.row.W c.args.bytes.now) c.loop-group.output c.loop-group.before c.loop-group.invariant
+    rw c.from.ensures (lanes-values c.args.gap c.args.least (8 * c.loop-group.group) _ _ (unpacked g.row.W c.args.bytes.now) c.loop-group.output c.loop-group.invariant.values
     (omega arith) (length-unpacked g.row.W c.args.bytes.now) (omega arith) fits)
