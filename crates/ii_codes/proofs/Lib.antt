@@ -2,6 +2,7 @@ pub mod BitLaws
 pub mod BitLemmas
 pub mod BlockLaws
 pub mod BlockLemmas
+pub mod LaneLemmas
 pub mod LastLemmas
 pub mod LengthLemmas
 pub mod PackLemmas
@@ -10,6 +11,7 @@ pub mod PackedLemmas
 pub mod PrefixLemmas
 pub mod SearchLemmas
 pub mod SortedVintLemmas
+pub mod WideLaneLemmas
 pub mod WidthLemmas
 pub mod WindowLemmas
 pub mod WorkedRows

@@ -40,12 +40,12 @@ summing-more gap least next k e es out h more within entry small g =
       fit = rw place (fit ∙ fit_more gap next (next + e) (fit_u32 (values_from gap (next + e + gap) (drop (k + 1) es))) (omega arith));
     }
 
-on_true : (b : Bool) {P : Type 0} → (b ≡ true → P) → OnTrue b P
+pub on_true : (b : Bool) {P : Type 0} → (b ≡ true → P) → OnTrue b P
 on_true true p = p refl
 on_true false p = tt
 
 -- values that fit stand as they are
-fit_wrapped : (vs : List ℕ) → fit_u32 vs ≡ true → map (λ v. v % 2 ^ 32) vs ≡ vs
+pub fit_wrapped : (vs : List ℕ) → fit_u32 vs ≡ true → map (λ v. v % 2 ^ 32) vs ≡ vs
 fit_wrapped [] h = refl
 fit_wrapped (v ∷ vs) h =
     let both = and_parts (nat_lt v (2 ^ 32)) (fit_u32 vs) h in

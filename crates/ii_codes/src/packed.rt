@@ -10,9 +10,12 @@ ghost use Rattle.ii_codes.specs.Sums.{fit_u32};
 
 use super::{COMPRESSION_BLOCK_SIZE, compressed_block_size};
 use byteorder::{ByteOrder, LittleEndian};
+use lanes::{sorted_narrow, sorted_wide, unpack_narrow, unpack_wide};
 
-/// A block of entries of 32 bits and eight bytes more.
-const PADDED_BLOCK_SIZE: usize = 520;
+mod lanes;
+
+/// A block of entries of 32 bits and sixteen bytes more.
+const PADDED_BLOCK_SIZE: usize = 528;
 
 /// The first 64 bits of bytes as one number, the lowest first.
 #[inline(always)]
@@ -85,40 +88,40 @@ fn unpack_width<const W: usize>(bytes: &[u8], output: &mut [u32])
     }
 }
 
-/// Unpacks entries, where eight bytes more than the block's are at hand.
+/// Unpacks entries, where sixteen bytes more than the block's are at hand.
 fn unpack_from(bytes: &[u8], width: u8, output: &mut [u32])
     requires narrow { width ≤ 32 }
-    requires enough { 16 * width + 8 ≤ length bytes.now }
+    requires enough { 16 * width + 16 ≤ length bytes.now }
     requires room { length output.old ≡ 128 }
     ensures { output.new ≡ unpacked width bytes.now }
 {
     match width {
         0 => unpack_width::<0>(bytes, output),
-        1 => unpack_width::<1>(bytes, output),
-        2 => unpack_width::<2>(bytes, output),
-        3 => unpack_width::<3>(bytes, output),
-        4 => unpack_width::<4>(bytes, output),
-        5 => unpack_width::<5>(bytes, output),
-        6 => unpack_width::<6>(bytes, output),
-        7 => unpack_width::<7>(bytes, output),
-        8 => unpack_width::<8>(bytes, output),
-        9 => unpack_width::<9>(bytes, output),
-        10 => unpack_width::<10>(bytes, output),
-        11 => unpack_width::<11>(bytes, output),
-        12 => unpack_width::<12>(bytes, output),
-        13 => unpack_width::<13>(bytes, output),
-        14 => unpack_width::<14>(bytes, output),
-        15 => unpack_width::<15>(bytes, output),
-        16 => unpack_width::<16>(bytes, output),
-        17 => unpack_width::<17>(bytes, output),
-        18 => unpack_width::<18>(bytes, output),
-        19 => unpack_width::<19>(bytes, output),
-        20 => unpack_width::<20>(bytes, output),
-        21 => unpack_width::<21>(bytes, output),
-        22 => unpack_width::<22>(bytes, output),
-        23 => unpack_width::<23>(bytes, output),
-        24 => unpack_width::<24>(bytes, output),
-        25 => unpack_width::<25>(bytes, output),
+        1 => unpack_narrow::<1>(bytes, output),
+        2 => unpack_narrow::<2>(bytes, output),
+        3 => unpack_narrow::<3>(bytes, output),
+        4 => unpack_narrow::<4>(bytes, output),
+        5 => unpack_narrow::<5>(bytes, output),
+        6 => unpack_narrow::<6>(bytes, output),
+        7 => unpack_narrow::<7>(bytes, output),
+        8 => unpack_narrow::<8>(bytes, output),
+        9 => unpack_narrow::<9>(bytes, output),
+        10 => unpack_wide::<10>(bytes, output),
+        11 => unpack_wide::<11>(bytes, output),
+        12 => unpack_wide::<12>(bytes, output),
+        13 => unpack_wide::<13>(bytes, output),
+        14 => unpack_wide::<14>(bytes, output),
+        15 => unpack_wide::<15>(bytes, output),
+        16 => unpack_wide::<16>(bytes, output),
+        17 => unpack_wide::<17>(bytes, output),
+        18 => unpack_wide::<18>(bytes, output),
+        19 => unpack_wide::<19>(bytes, output),
+        20 => unpack_wide::<20>(bytes, output),
+        21 => unpack_wide::<21>(bytes, output),
+        22 => unpack_wide::<22>(bytes, output),
+        23 => unpack_wide::<23>(bytes, output),
+        24 => unpack_wide::<24>(bytes, output),
+        25 => unpack_wide::<25>(bytes, output),
         26 => unpack_width::<26>(bytes, output),
         27 => unpack_width::<27>(bytes, output),
         28 => unpack_width::<28>(bytes, output),
@@ -132,7 +135,7 @@ fn unpack_from(bytes: &[u8], width: u8, output: &mut [u32])
 /// A block, and zero bytes after it.
 fn padded_block(bytes: &[u8]) -> [u8; PADDED_BLOCK_SIZE]
     requires { length bytes.now ≤ 512 }
-    ensures { result ≡ bytes.now ++ replicate (520 - length bytes.now) 0 }
+    ensures { result ≡ bytes.now ++ replicate (528 - length bytes.now) 0 }
 {
     let mut block = [0u8; PADDED_BLOCK_SIZE];
     block[..bytes.len()].copy_from_slice(bytes);
@@ -147,7 +150,7 @@ pub(crate) fn unpack(bytes: &[u8], width: u8, output: &mut [u32])
     ensures { output.new ≡ unpacked width bytes.now }
 {
     let size = compressed_block_size(width);
-    if bytes.len() - size >= 8 {
+    if bytes.len() - size >= 16 {
         unpack_from(bytes, width, output);
         return;
     }
@@ -288,10 +291,10 @@ fn sorted_width<const W: usize>(bytes: &[u8], gap: u64, least: u64, output: &mut
     next < (1 << 32) + gap
 }
 
-/// Unpacks values of a sorted block, where eight bytes more than the block's are at hand.
+/// Unpacks values of a sorted block, where sixteen bytes more than the block's are at hand.
 fn sorted_from(bytes: &[u8], width: u8, gap: u64, least: u64, output: &mut [u32]) -> bool
     requires narrow { width ≤ 32 }
-    requires enough { 16 * width + 8 ≤ length bytes.now }
+    requires enough { 16 * width + 16 ≤ length bytes.now }
     requires room { length output.old ≡ 128 }
     requires gap { gap ≤ 1 }
     requires least { least < 2 ^ 32 + gap }
@@ -300,31 +303,31 @@ fn sorted_from(bytes: &[u8], width: u8, gap: u64, least: u64, output: &mut [u32]
 {
     match width {
         0 => sorted_width::<0>(bytes, gap, least, output),
-        1 => sorted_width::<1>(bytes, gap, least, output),
-        2 => sorted_width::<2>(bytes, gap, least, output),
-        3 => sorted_width::<3>(bytes, gap, least, output),
-        4 => sorted_width::<4>(bytes, gap, least, output),
-        5 => sorted_width::<5>(bytes, gap, least, output),
-        6 => sorted_width::<6>(bytes, gap, least, output),
-        7 => sorted_width::<7>(bytes, gap, least, output),
-        8 => sorted_width::<8>(bytes, gap, least, output),
-        9 => sorted_width::<9>(bytes, gap, least, output),
-        10 => sorted_width::<10>(bytes, gap, least, output),
-        11 => sorted_width::<11>(bytes, gap, least, output),
-        12 => sorted_width::<12>(bytes, gap, least, output),
-        13 => sorted_width::<13>(bytes, gap, least, output),
-        14 => sorted_width::<14>(bytes, gap, least, output),
-        15 => sorted_width::<15>(bytes, gap, least, output),
-        16 => sorted_width::<16>(bytes, gap, least, output),
-        17 => sorted_width::<17>(bytes, gap, least, output),
-        18 => sorted_width::<18>(bytes, gap, least, output),
-        19 => sorted_width::<19>(bytes, gap, least, output),
-        20 => sorted_width::<20>(bytes, gap, least, output),
-        21 => sorted_width::<21>(bytes, gap, least, output),
-        22 => sorted_width::<22>(bytes, gap, least, output),
-        23 => sorted_width::<23>(bytes, gap, least, output),
-        24 => sorted_width::<24>(bytes, gap, least, output),
-        25 => sorted_width::<25>(bytes, gap, least, output),
+        1 => sorted_narrow::<1>(bytes, gap, least, output),
+        2 => sorted_narrow::<2>(bytes, gap, least, output),
+        3 => sorted_narrow::<3>(bytes, gap, least, output),
+        4 => sorted_narrow::<4>(bytes, gap, least, output),
+        5 => sorted_narrow::<5>(bytes, gap, least, output),
+        6 => sorted_narrow::<6>(bytes, gap, least, output),
+        7 => sorted_narrow::<7>(bytes, gap, least, output),
+        8 => sorted_narrow::<8>(bytes, gap, least, output),
+        9 => sorted_narrow::<9>(bytes, gap, least, output),
+        10 => sorted_wide::<10>(bytes, gap, least, output),
+        11 => sorted_wide::<11>(bytes, gap, least, output),
+        12 => sorted_wide::<12>(bytes, gap, least, output),
+        13 => sorted_wide::<13>(bytes, gap, least, output),
+        14 => sorted_wide::<14>(bytes, gap, least, output),
+        15 => sorted_wide::<15>(bytes, gap, least, output),
+        16 => sorted_wide::<16>(bytes, gap, least, output),
+        17 => sorted_wide::<17>(bytes, gap, least, output),
+        18 => sorted_wide::<18>(bytes, gap, least, output),
+        19 => sorted_wide::<19>(bytes, gap, least, output),
+        20 => sorted_wide::<20>(bytes, gap, least, output),
+        21 => sorted_wide::<21>(bytes, gap, least, output),
+        22 => sorted_wide::<22>(bytes, gap, least, output),
+        23 => sorted_wide::<23>(bytes, gap, least, output),
+        24 => sorted_wide::<24>(bytes, gap, least, output),
+        25 => sorted_wide::<25>(bytes, gap, least, output),
         26 => sorted_width::<26>(bytes, gap, least, output),
         27 => sorted_width::<27>(bytes, gap, least, output),
         28 => sorted_width::<28>(bytes, gap, least, output),
@@ -346,7 +349,7 @@ fn sorted_values(bytes: &[u8], width: u8, gap: u64, least: u64, output: &mut [u3
     ensures values { OnTrue result (output.new ≡ values_from gap least (unpacked width bytes.now)) }
 {
     let size = compressed_block_size(width);
-    if bytes.len() - size >= 8 {
+    if bytes.len() - size >= 16 {
         return sorted_from(bytes, width, gap, least, output);
     }
     sorted_from(&padded_block(&bytes[..size]), width, gap, least, output)

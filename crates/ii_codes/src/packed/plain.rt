@@ -1,7 +1,7 @@
 ghost use Rattle.std.specs.Prelude.{◌≡◌, ◌+◌, ◌*◌, ◌≤◌, length, take};
 ghost use Rattle.ii_codes.specs.Packed.{bits_in, unpacked, packed};
 
-use super::{pack, unpack};
+use super::{pack, unpack, unpack_sorted};
 use crate::{COMPRESSION_BLOCK_SIZE, compressed_block_size};
 
 // What the definitions say, bit by bit: the fast forms are compared with these.
@@ -78,6 +78,41 @@ fn agree(entries: &[u32; 128], width: u8) -> bool
     fast == plain && short == *entries && long == *entries && slow == *entries
 }
 
+// The values of a sorted block from 0 on by strict deltas, one after the other.
+fn plain_values(entries: &[u32; 128]) -> Option<[u32; 128]> {
+    let mut values = [0u32; 128];
+    let mut next = 0u64;
+    for k in 0..128usize {
+        let value = next.wrapping_add(u64::from(entries[k]));
+        let Ok(number) = u32::try_from(value) else {
+            return None;
+        };
+        values[k] = number;
+        next = value.wrapping_add(1);
+    }
+    Some(values)
+}
+
+// Whether entries of a width are the same sorted values as one by one, with no byte after the block
+// and with others after it.
+fn values_agree(entries: &[u32; 128], width: u8) -> bool
+    requires { width ≤ 32 }
+{
+    let size = compressed_block_size(width);
+    let mut bytes = [0xADu8; 530];
+    pack(entries, width, &mut bytes);
+    let mut short = [7u32; 128];
+    let mut long = [7u32; 128];
+    let used_short = unpack_sorted(&bytes[..size], 0, width, true, &mut short);
+    let used_long = unpack_sorted(&bytes, 0, width, true, &mut long);
+    match plain_values(entries) {
+        Some(values) => {
+            used_short == Some(size) && used_long == Some(size) && short == values && long == values
+        }
+        None => used_short.is_none() && used_long.is_none(),
+    }
+}
+
 #[test]
 fn agrees_with_bit_by_bit_at_each_width(rt: HostRuntime) {
     for width in 0..=32u8 {
@@ -88,5 +123,7 @@ fn agrees_with_bit_by_bit_at_each_width(rt: HostRuntime) {
         }
         assert!(rt; agree(&[most; 128], width));
         assert!(rt; agree(&counted, width));
+        assert!(rt; values_agree(&[most; 128], width));
+        assert!(rt; values_agree(&counted, width));
     }
 }

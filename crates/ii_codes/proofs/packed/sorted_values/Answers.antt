@@ -5,12 +5,12 @@ use Rattle.ii_codes.proofs.packed.sorted_values.Goals as goal
 
 pub returns-clause-fits : goal.returns-clause-fits
 returns-clause-fits c =
-    let same = unpacked-padded c.args.width c.compressed_block_size-size.result (520 - length (take c.compressed_block_size-size.result c.args.bytes.now)) c.args.bytes.now
+    let same = unpacked-padded c.args.width c.compressed_block_size-size.result (528 - length (take c.compressed_block_size-size.result c.args.bytes.now)) c.args.bytes.now
     c.padded_block.result (unpacked c.args.width c.padded_block.result) c.compressed_block_size-size.ensures c.requires.enough c.padded_block.ensures refl in
     rw (← same) c.sorted_from-2.ensures.fits
 
 pub returns-clause-values : goal.returns-clause-values
 returns-clause-values c =
-    let same = unpacked-padded c.args.width c.compressed_block_size-size.result (520 - length (take c.compressed_block_size-size.result c.args.bytes.now)) c.args.bytes.now
+    let same = unpacked-padded c.args.width c.compressed_block_size-size.result (528 - length (take c.compressed_block_size-size.result c.args.bytes.now)) c.args.bytes.now
     c.padded_block.result (unpacked c.args.width c.padded_block.result) c.compressed_block_size-size.ensures c.requires.enough c.padded_block.ensures refl in
     rw (← same) c.sorted_from-2.ensures.values

@@ -5,6 +5,6 @@ use Rattle.ii_codes.proofs.packed.sum_of.Goals as goal
 
 pub returns-clause-value : goal.returns-clause-value
 returns-clause-value c =
-    let same = unpacked-padded c.args.width c.compressed_block_size-size.result (520 - length (take c.compressed_block_size-size.result c.args.bytes.now)) c.args.bytes.now
+    let same = unpacked-padded c.args.width c.compressed_block_size-size.result (528 - length (take c.compressed_block_size-size.result c.args.bytes.now)) c.args.bytes.now
     c.padded_block.result (unpacked c.args.width c.padded_block.result) c.compressed_block_size-size.ensures c.requires.enough c.padded_block.ensures refl in
     rw (← same) c.sum_from-2.ensures.value

@@ -4,5 +4,5 @@ use Rattle.ii_codes.proofs.packed.unpack.Goals as goal
 
 pub returns : goal.returns
 returns c =
-    unpacked-padded c.args.width c.compressed_block_size-size.result (520 - length (take c.compressed_block_size-size.result c.args.bytes.now)) c.args.bytes.now
+    unpacked-padded c.args.width c.compressed_block_size-size.result (528 - length (take c.compressed_block_size-size.result c.args.bytes.now)) c.args.bytes.now
     c.padded_block.result c.unpack_from-2.new.output c.compressed_block_size-size.ensures c.requires.enough c.padded_block.ensures c.unpack_from-2.ensures

@@ -1,0 +1,139 @@
+ghost use Rattle.std.specs.Prelude.{◌≡◌, ◌<◌};
+ghost use Rattle.ii_docset.specs.Entries.{are_documents};
+
+use crate::table::{Measured, ROUNDS, print_row};
+use anyhow::Result;
+use bytes::Bytes;
+use ii_base::{CountingWriter, Fault, IndexRecordOption};
+use ii_docset::{DocId, DocSet, TERMINATED};
+use ii_layout::PostingsSerializer;
+use ii_reader::SegmentPostings;
+use std::alloc::{AllocError, Global};
+use std::time::{Duration, Instant};
+
+const BASIC: IndexRecordOption = IndexRecordOption::Basic;
+
+/// How many documents a list has.
+const DOCS: u32 = 1_000_000;
+
+/// Prints what it takes to write, open and walk lists of a million documents, of three densities.
+pub fn measure(rt: &HostRuntime) -> Result<()> {
+    measure_list(rt, "1", &documents(rt.alloc(), 1)?)?;
+    measure_list(rt, "1/15", &documents(rt.alloc(), 29)?)?;
+    measure_list(rt, "1/1000", &documents(rt.alloc(), 1999)?)
+}
+
+// The documents of a list, each by a random number below `spread` and 1 above the one before it.
+fn documents(alloc: Global, spread: u32) -> Result<Vec<DocId>, AllocError>
+    requires { 0 < spread }
+{
+    let mut docs = Vec::new(alloc);
+    let mut state = 88_172_645_463_325_252u64;
+    let mut next = 0u32;
+    for _ in 0..DOCS {
+        state ^= state << 13;
+        state ^= state >> 7;
+        state ^= state << 17;
+        let doc = next.saturating_add((state % u64::from(spread)) as u32);
+        docs.push(doc)?;
+        next = doc.saturating_add(1);
+    }
+    Ok(docs)
+}
+
+// What so many rounds over all documents took at least.
+fn of_documents(took: Duration) -> Measured {
+    Measured {
+        took,
+        items: u64::from(DOCS),
+        bytes: 4 * u64::from(DOCS),
+    }
+}
+
+fn measure_list(rt: &HostRuntime, density: &str, docs: &[DocId]) -> Result<()> {
+    let (bytes, writing) = write(rt, docs)?;
+    print_row(
+        rt,
+        &format!(in rt.alloc(); "writing, density {density}: a document")?,
+        &writing,
+    )?;
+    let opening = open(rt, &bytes)?;
+    print_row(
+        rt,
+        &format!(in rt.alloc(); "opening, density {density}: a document")?,
+        &opening,
+    )?;
+    let walking = walk(rt, &bytes)?;
+    print_row(
+        rt,
+        &format!(in rt.alloc(); "walking, density {density}: a document")?,
+        &walking,
+    )?;
+    Ok(())
+}
+
+fn write(rt: &HostRuntime, docs: &[DocId]) -> Result<(Bytes, Measured)> {
+    let mut bytes = Bytes::new();
+    let mut least = Duration::MAX;
+    for _ in 0..ROUNDS {
+        let start = Instant::now(rt)?;
+        bytes = written(rt.alloc(), docs)?;
+        least = least.min(start.elapsed(rt)?);
+    }
+    Ok((bytes, of_documents(least)))
+}
+
+fn open(rt: &HostRuntime, bytes: &Bytes) -> Result<Measured> {
+    let mut least = Duration::MAX;
+    for _ in 0..ROUNDS {
+        let bytes = bytes.clone()?;
+        let start = Instant::now(rt)?;
+        let _cursor = SegmentPostings::open(DOCS, bytes, None, BASIC, BASIC)?;
+        least = least.min(start.elapsed(rt)?);
+    }
+    Ok(of_documents(least))
+}
+
+fn walk(rt: &HostRuntime, bytes: &Bytes) -> Result<Measured> {
+    let mut least = Duration::MAX;
+    for _ in 0..ROUNDS {
+        let mut cursor = SegmentPostings::open(DOCS, bytes.clone()?, None, BASIC, BASIC)?;
+        let start = Instant::now(rt)?;
+        for _ in 0..DOCS {
+            let _doc = cursor.advance();
+        }
+        least = least.min(start.elapsed(rt)?);
+    }
+    Ok(of_documents(least))
+}
+
+// The bytes of documents that ascend.
+fn written(alloc: Global, docs: &[DocId]) -> Result<Bytes, Fault> {
+    if !ascend(docs) {
+        return Err(Fault::SerializerClosed);
+    }
+    let Ok(doc_freq) = u32::try_from(docs.len()) else {
+        return Err(Fault::SerializerClosed);
+    };
+    let mut output = CountingWriter::wrap(Vec::new(alloc));
+    let mut serializer = PostingsSerializer::new(alloc, BASIC, None);
+    for doc in docs {
+        serializer.write_doc(*doc, 1)?;
+    }
+    serializer.close_term(doc_freq, &mut output)?;
+    Ok(Bytes::from_vec(output.finish())?)
+}
+
+// Whether documents ascend, below the end.
+fn ascend(docs: &[DocId]) -> bool
+    ensures { result ≡ are_documents docs.now }
+{
+    let mut next = 0;
+    for doc in docs {
+        if *doc < next || *doc >= TERMINATED {
+            return false;
+        }
+        next = *doc + 1;
+    }
+    true
+}

@@ -1,0 +1,23 @@
+//! Measures the crates by the clock, and prints a table of what they took, if it is given an argument.
+//! How long that is no contract says.
+#![tactic(auto)]
+
+mod ascending_terms;
+mod blocks;
+mod dictionaries;
+mod lists;
+mod table;
+
+use anyhow::Result;
+use std::env;
+
+fn main(rt: HostRuntime) -> Result<()> {
+    if env::args(&rt)?.count() < 2 {
+        println!(rt; "an argument, whatever it is, begins the measuring")?;
+        return Ok(());
+    }
+    table::print_head(&rt)?;
+    blocks::measure(&rt)?;
+    lists::measure(&rt)?;
+    dictionaries::measure(&rt)
+}

@@ -1,0 +1,30 @@
+use std::io;
+use std::time::Duration;
+
+/// How often each thing is measured; the least time counts, since other programs only add to it.
+pub const ROUNDS: u32 = 7;
+
+/// What was measured: how long it took, for so many items, which take so many bytes in all.
+#[derive(Clone, Copy)]
+pub struct Measured {
+    pub took: Duration,
+    pub items: u64,
+    pub bytes: u64,
+}
+
+/// The two lines above the rows.
+pub fn print_head(rt: &HostRuntime) -> io::Result<()> {
+    println!(rt; "| what | ns | MB/s |")?;
+    println!(rt; "|---|--:|--:|")
+}
+
+/// A row: nanoseconds an item, in hundredths, and megabytes a second.
+pub fn print_row(rt: &HostRuntime, name: &str, measured: &Measured) -> io::Result<()> {
+    let nanos = u64::try_from(measured.took.as_nanos())
+        .unwrap_or(u64::MAX)
+        .max(1);
+    let hundredths = nanos.saturating_mul(100) / measured.items.max(1);
+    let speed = measured.bytes.saturating_mul(1000) / nanos;
+    let (whole, rest) = (hundredths / 100, hundredths % 100);
+    println!(rt; "| {name} | {whole}.{rest:02} | {speed} |")
+}

@@ -1,0 +1,6 @@
+use Rattle.std.proofs.Common.{◌+◌, arith}
+use Rattle.std.proofs.lemmas.Simd.{take_more_put_chunk}
+use Rattle.ii_codes.proofs.packed.lanes.put_four.Goals as goal
+
+pub returns : goal.returns
+returns c = take_more_put_chunk c.args.place c.args.output.now c.args.values (c.args.place + 4) (omega arith) c.requires.room
