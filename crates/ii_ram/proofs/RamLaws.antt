@@ -1,0 +1,68 @@
+-- What is written to files in memory, and why it can't be.
+use Rattle.std.proofs.Common.{inl, inr, ◌≡◌, ℕ, List, [], Option, Some, None, Result, Ok, Err, refl, sym, ap, ◌∙◌, subst, ⊎_elim}
+use Rattle.std.specs.Prelude.{◌⊎◌, IfErr, IfOk}
+use Rattle.std.specs.Io.KnownBytes.{Appends}
+use Rattle.ii_io.specs.declared.faults.Fault.{Fault}
+use Rattle.ii_io.specs.declared.faults.Fault.TheVariants.{OutOfMemory, Write, SerializerClosed, IndexerFailed, UnsupportedLeaf, DecreasingPosition, Limit, Damaged}
+use Rattle.ii_io.specs.Faults.{memory_fault}
+use Rattle.ii_base.specs.Schema.{Entry}
+use Rattle.ii_index.specs.Tokens.{IndexToken}
+use Rattle.ii_indexing.specs.IndexFiles.{IsWriteFault, WroteIndex}
+use Rattle.ii_indexing.specs.declared.index_writers.IndexWriters.{IndexWriters}
+use Rattle.ii_reader.specs.InvertedIndexReader.{InvertedIndexReaderState}
+use Rattle.ii_reader.specs.OpenIndex.{GivesReaders, ReadersHold}
+use Rattle.ii_ram.specs.Ram.{IsRamFault, empty_files}
+
+pub appended : (bytes : List ℕ) (o : Option (List ℕ)) → Appends (Some []) o bytes → o ≡ Some bytes
+appended bytes None h = absurd h
+appended bytes (Some ys) h = ap (λ (xs : List ℕ). Some xs) h
+
+-- the three files as they stand in memory
+pub in_ram : {W : Type 0} (entries : List Entry) (n : ℕ) (old new : IndexWriters W) (ts : List IndexToken) → old ≡ empty_files → (w : WroteIndex entries n old new ts)
+    → (new.terms.contents ≡ Some w.terms.terms) × (new.postings.contents ≡ Some w.terms.postings) × (new.positions.contents ≡ Some w.terms.positions)
+in_ram {W} entries n old new ts empty w = (
+  appended w.terms.terms new.terms.contents (subst (λ (o : Option (List ℕ)). Appends o new.terms.contents w.terms.terms) (ap (λ (f : IndexWriters W). f.terms.contents) empty) w.terms.wrote_terms.appends),
+  appended w.terms.postings new.postings.contents (subst (λ (o : Option (List ℕ)). Appends o new.postings.contents w.terms.postings) (ap (λ (f : IndexWriters W). f.postings.contents) empty) w.terms.wrote_postings.appends),
+  appended w.terms.positions new.positions.contents (subst (λ (o : Option (List ℕ)). Appends o new.positions.contents w.terms.positions) (ap (λ (f : IndexWriters W). f.positions.contents) empty) w.terms.wrote_positions.appends),
+)
+
+pub readers_hold : (entries : List Entry) (ts : List IndexToken) (r : Result (List InvertedIndexReaderState) Fault) → GivesReaders entries ts r → IfOk r (λ readers. ReadersHold entries readers ts)
+readers_hold entries ts (Ok readers) h = h
+readers_hold entries ts (Err e) h = tt
+
+pub readers_fault : (entries : List Entry) (ts : List IndexToken) (P : Fault → Type 0) (r : Result (List InvertedIndexReaderState) Fault) → GivesReaders entries ts r → IfErr r (λ e. (e ≡ OutOfMemory) ⊎ P e)
+readers_fault entries ts P (Ok readers) h = tt
+readers_fault entries ts P (Err e) h = inl h
+
+pub memory_or : (f : Fault) → (memory_fault f ≡ f) ⊎ (memory_fault f ≡ OutOfMemory)
+memory_or OutOfMemory = inl refl
+memory_or Write = inr refl
+memory_or SerializerClosed = inl refl
+memory_or IndexerFailed = inl refl
+memory_or (UnsupportedLeaf kind) = inl refl
+memory_or DecreasingPosition = inl refl
+memory_or (Limit name) = inl refl
+memory_or (Damaged part) = inl refl
+
+-- why they can't be written
+pub fault_in_ram : {W : Type 0} (entries : List Entry) (n : ℕ) (files : IndexWriters W) (ts : List IndexToken) (fault : Fault) → files ≡ empty_files → (fault ≡ OutOfMemory) ⊎ IsWriteFault entries n files ts fault
+    → (memory_fault fault ≡ OutOfMemory) ⊎ IsRamFault entries n ts (memory_fault fault)
+fault_in_ram {W} entries n files ts fault empty why =
+    ⊎_elim (λ (memory : fault ≡ OutOfMemory). inl (ap memory_fault memory))
+    (λ (cause : IsWriteFault entries n files ts fault).
+    ⊎_elim (λ (same : memory_fault fault ≡ fault). inr (subst (IsRamFault entries n ts) (sym same) (anyhow (subst (λ (f : IndexWriters W). IsWriteFault entries n f ts fault) empty cause)))) inl (memory_or fault))
+    why
+  where
+    anyhow : IsWriteFault {W = W} entries n empty_files ts fault → IsRamFault entries n ts fault
+    anyhow w = record {
+      stored = w.stored;
+      stores = w.stores;
+      cause = ⊎_elim inl (λ o. inr (⊎_elim inl (λ p. inr (⊎_elim (λ limits. inl (record { begun = limits.begun; entries_are = limits.entries_are; bodies_are = limits.bodies_are; cause = limits.cause })) inr p)) o)) w.cause;
+    }
+
+-- a file that was taken out of its writer
+pub same_file : (bytes items known : List ℕ) (o : Option (List ℕ)) → bytes ≡ items → Some items ≡ o → o ≡ Some known → known ≡ bytes
+same_file bytes items known o taken now is = sym (inside (now ∙ is)) ∙ sym taken
+  where
+    inside : Some items ≡ Some known → items ≡ known
+    inside e = cc

@@ -1,0 +1,43 @@
+use Rattle.std.proofs.Common.{◌≡◌, List, map, Result, sym, subst}
+use Rattle.std.specs.Prelude.{◌⊎◌, IfErr, OnOk}
+use Rattle.ii_io.specs.declared.faults.Fault.{Fault}
+use Rattle.ii_io.specs.declared.faults.Fault.TheVariants.{OutOfMemory}
+use Rattle.ii_base.specs.Schema.{Entry}
+use Rattle.ii_index.specs.Fields.{option_of}
+use Rattle.ii_index.specs.Files.{HoldTokens}
+use Rattle.ii_index.specs.Tokens.{tokens_of}
+use Rattle.ii_indexing.specs.IndexCalls.{call_of}
+use Rattle.ii_indexing.specs.IndexFiles.{IsWriteFault, WroteIndex}
+use Rattle.ii_reader.specs.OpenIndex.{GivesReaders}
+use Rattle.ii_ram.specs.Ram.{IsRamFault}
+use Rattle.ii_ram.proofs.RamLaws.{fault_in_ram, in_ram, readers_fault, readers_hold}
+use Rattle.ii_ram.proofs.index_in_ram.Goals as goal
+
+pub returns-in-Ok-clause-holds : goal.returns-in-Ok-clause-holds
+returns-in-Ok-clause-holds g c =
+    let ts = tokens_of (g.A.TextAnalyzer.words c.args.analyzer.now) (map call_of c.args.calls.items) in
+    let files = c.files_in_ram-files.result in
+    let new = c.write_index-files.result.0 in
+    let wrote : WroteIndex c.args.schema c.args.num_docs files new ts = subst (λ (r : Result (Unit {0}) Fault). OnOk r (WroteIndex c.args.schema c.args.num_docs files new ts)) c.in-Ok.is c.write_index-files.ensures.wrote in
+    let ram = in_ram c.args.schema c.args.num_docs files new ts c.files_in_ram-files.ensures wrote in
+    let hold = subst (λ (es : List Entry). HoldTokens (option_of es) wrote.terms.terms wrote.terms.postings wrote.terms.positions ts) (sym c.in_ok-copy.ensures.same) wrote.terms.hold in
+    readers_hold c.args.schema ts c.open_files.result
+    (subst (λ (es : List Entry). GivesReaders es ts c.open_files.result) c.in_ok-copy.ensures.same (c.open_files.ensures.holds wrote.terms.terms wrote.terms.postings wrote.terms.positions ts ram.0 ram.1 ram.2 hold))
+
+pub returns-in-Ok-clause-fault : goal.returns-in-Ok-clause-fault
+returns-in-Ok-clause-fault g c none =
+    let ts = tokens_of (g.A.TextAnalyzer.words c.args.analyzer.now) (map call_of c.args.calls.items) in
+    let files = c.files_in_ram-files.result in
+    let new = c.write_index-files.result.0 in
+    let wrote : WroteIndex c.args.schema c.args.num_docs files new ts = subst (λ (r : Result (Unit {0}) Fault). OnOk r (WroteIndex c.args.schema c.args.num_docs files new ts)) c.in-Ok.is c.write_index-files.ensures.wrote in
+    let ram = in_ram c.args.schema c.args.num_docs files new ts c.files_in_ram-files.ensures wrote in
+    let hold = subst (λ (es : List Entry). HoldTokens (option_of es) wrote.terms.terms wrote.terms.postings wrote.terms.positions ts) (sym c.in_ok-copy.ensures.same) wrote.terms.hold in
+    readers_fault c.in_ok-copy.copy ts (IsRamFault c.args.schema c.args.num_docs ts) c.open_files.result (c.open_files.ensures.holds wrote.terms.terms wrote.terms.postings wrote.terms.positions ts ram.0 ram.1 ram.2 hold)
+
+pub returns-clause-fault : goal.returns-clause-fault
+returns-clause-fault g c none =
+    let ts = tokens_of (g.A.TextAnalyzer.words c.args.analyzer.now) (map call_of c.args.calls.items) in
+    let files = c.files_in_ram-files.result in
+    rw c.in_memory.ensures
+    (fault_in_ram c.args.schema c.args.num_docs files ts c.in-Err.fault c.files_in_ram-files.ensures
+    (subst (λ (r : Result (Unit {0}) Fault). IfErr r (λ e. (e ≡ OutOfMemory) ⊎ IsWriteFault c.args.schema c.args.num_docs files ts e)) c.in-Err.is (c.write_index-files.ensures.fault none)))

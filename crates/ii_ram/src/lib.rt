@@ -1,0 +1,86 @@
+//! An index in memory: index calls go in, and readers of its fields come out.
+#![tactic(auto)]
+
+ghost use Rattle.std.specs.Prelude.{◌≡◌, ◌≤◌, ◌⊎◌, [], ℕ, List, map, None, Err, IfErr, IfOk, IfSome, OnOk, Some};
+ghost use Rattle.ii_docset.specs.declared.docset.TheConstants.{TERMINATED};
+ghost use Rattle.ii_index.specs.Fields.{option_of};
+ghost use Rattle.ii_index.specs.Files.{HoldTokens};
+ghost use Rattle.ii_index.specs.Tokens.{IndexToken, tokens_of};
+ghost use Rattle.ii_indexing.specs.IndexCalls.{MayAllBeIndexed, call_of};
+ghost use Rattle.ii_indexing.specs.Refusals.{calls_fault};
+ghost use Rattle.ii_ram.specs.Ram.{IsRamFault, empty_files};
+ghost use Rattle.ii_reader.specs.OpenIndex.{GivesReaders, ReadersHold};
+
+use bytes::Bytes;
+use ii_base::{CountingWriter, Fault, Schema, TextAnalyzer};
+use ii_docset::DocId;
+use ii_indexing::{IndexCall, IndexWriters, write_index};
+use ii_reader::{OpenIndex, open_index};
+use std::alloc::Global;
+
+/// Indexes calls, writes the files of the index that they give to memory, and opens them: the readers of
+/// the fields hold exactly the tokens of the calls. No call has a document below that of the one before,
+/// each one's is below `num_docs`, at most `TERMINATED`, and each one's field is indexed and has values
+/// of its type.
+///
+/// The first fault of the calls (`Indexer::index`) is answered, else a limit of what is written
+/// (`Indexer::finish`), or `OutOfMemory`.
+pub fn index_in_ram<A: TextAnalyzer>(
+    alloc: Global,
+    schema: Schema,
+    num_docs: DocId,
+    calls: Vec<IndexCall>,
+    analyzer: &A,
+) -> Result<OpenIndex, Fault>
+    requires docs { num_docs ≤ TERMINATED }
+    requires calls { MayAllBeIndexed schema num_docs calls.items }
+    ensures holds { IfOk result (λ index. ReadersHold schema index (tokens_of (A.words analyzer.now) (map call_of calls.items))) }
+    ensures refused { IfSome (calls_fault (A.words analyzer.now) (option_of schema) [] (map call_of calls.items)) (λ fault. (result ≡ Err fault) ⊎ (result ≡ Err Fault.OutOfMemory)) }
+    ensures fault { calls_fault (A.words analyzer.now) (option_of schema) [] (map call_of calls.items) ≡ None
+        → IfErr result (λ e. (e ≡ Fault.OutOfMemory) ⊎ IsRamFault schema num_docs (tokens_of (A.words analyzer.now) (map call_of calls.items)) e) }
+{
+    let copy = schema.clone()?;
+    let files = files_in_ram(alloc);
+    let (files, written) = write_index(alloc, schema, num_docs, calls, analyzer, files);
+    match written {
+        Ok(()) => open_files(alloc, files, &copy),
+        Err(fault) => Err(fault.in_memory()),
+    }
+}
+
+// Files that have no bytes yet.
+fn files_in_ram(alloc: Global) -> IndexWriters<Vec<u8>>
+    ensures { result ≡ empty_files }
+{
+    IndexWriters {
+        terms: CountingWriter::wrap(Vec::new(alloc)),
+        postings: CountingWriter::wrap(Vec::new(alloc)),
+        positions: CountingWriter::wrap(Vec::new(alloc)),
+        fieldnorms: CountingWriter::wrap(Vec::new(alloc)),
+    }
+}
+
+// The readers of the fields of a schema.
+fn open_files(
+    alloc: Global,
+    files: IndexWriters<Vec<u8>>,
+    schema: &Schema,
+) -> Result<OpenIndex, Fault>
+    ensures holds { (terms : List ℕ) (postings : List ℕ) (positions : List ℕ) (tokens : List IndexToken)
+        → files.terms.contents ≡ Some terms → files.postings.contents ≡ Some postings → files.positions.contents ≡ Some positions
+        → HoldTokens (option_of schema.now) terms postings positions tokens → GivesReaders schema.now tokens result }
+{
+    let IndexWriters {
+        terms,
+        postings,
+        positions,
+        fieldnorms: _,
+    } = files;
+    open_index(
+        alloc,
+        Bytes::from_vec(terms.finish())?,
+        Bytes::from_vec(postings.finish())?,
+        Bytes::from_vec(positions.finish())?,
+        schema,
+    )
+}
