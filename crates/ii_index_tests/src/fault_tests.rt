@@ -84,7 +84,7 @@ enum Ending {
     Other,
 }
 
-fn ending(alloc: Global, right: &Index, place: u32, call: u64) -> Result<Ending, Fault> {
+fn end_of_run(alloc: Global, right: &Index, place: u32, call: u64) -> Result<Ending, Fault> {
     let (writers, answer) = run(alloc, (place, call))?;
     match answer {
         Ok(()) => {
@@ -108,7 +108,7 @@ fn ending(alloc: Global, right: &Index, place: u32, call: u64) -> Result<Ending,
 fn told_calls(alloc: Global, place: u32) -> Result<Option<u64>, Fault> {
     let right = two_fields(alloc)?;
     for call in 1..100 {
-        match ending(alloc, &right, place, call)? {
+        match end_of_run(alloc, &right, place, call)? {
             Ending::Told => (),
             Ending::Written => return Ok(Some(call - 1)),
             Ending::Other => return Ok(None),

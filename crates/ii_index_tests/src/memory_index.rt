@@ -239,7 +239,7 @@ pub(crate) fn written_texts(
 }
 
 fn opened(alloc: Global, index: &Index) -> Result<OpenIndex, Fault>
-    ensures { IfOk result (λ opened. length opened ≡ length index.schema) }
+    ensures { IfOk result (λ opened. length opened ≡ length index.now.schema) }
 {
     let terms = index.terms.clone()?;
     let postings = index.postings.clone()?;
