@@ -1,29 +1,54 @@
-//! Writes a list of documents, opens it again and walks it: how a program of your own uses the crates.
+//! Indexes three texts in memory, opens what was written, and prints where a word stands: how a
+//! program of your own uses the crates.
 #![tactic(auto)]
+
+mod texts;
 
 use anyhow::Result;
 use bytes::Bytes;
-use ii_base::{CountingWriter, IndexRecordOption};
-use ii_docset::DocSet;
-use ii_layout::PostingsSerializer;
-use ii_reader::SegmentPostings;
+use ii_base::{AsciiTokenizer, CountingWriter, Field, IndexRecordOption, Term};
+use ii_docset::{DocSet, Postings, TERMINATED};
+use ii_indexing::{IndexWriters, write_index};
+use ii_reader::{SegmentPostings, open_index};
 
 fn main(rt: HostRuntime) -> Result<()> {
-    let basic = IndexRecordOption::Basic;
+    let alloc = rt.alloc();
+    let writers = IndexWriters {
+        terms: CountingWriter::wrap(Vec::new(alloc)),
+        postings: CountingWriter::wrap(Vec::new(alloc)),
+        positions: CountingWriter::wrap(Vec::new(alloc)),
+        fieldnorms: CountingWriter::wrap(Vec::new(alloc)),
+    };
+    let (schema, calls) = (texts::schema(alloc)?, texts::calls(alloc)?);
+    let (files, written) = write_index(alloc, schema, 3, calls, &AsciiTokenizer, writers);
+    written?;
 
-    let mut output = CountingWriter::wrap(Vec::new(rt.alloc()));
-    let mut serializer = PostingsSerializer::new(rt.alloc(), basic, None);
-    serializer.new_term(3, false);
-    serializer.write_doc(3, 1)?;
-    serializer.write_doc(141, 1)?;
-    serializer.write_doc(592, 1)?;
-    serializer.close_term(3, &mut output)?;
-    let bytes = Bytes::from_vec(output.finish())?;
-    println!(rt; "{} bytes", bytes.as_slice().len())?;
+    let schema = texts::schema(alloc)?;
+    let terms = Bytes::from_vec(files.terms.finish())?;
+    let postings = Bytes::from_vec(files.postings.finish())?;
+    let positions = Bytes::from_vec(files.positions.finish())?;
+    let index = open_index(alloc, terms, postings, positions, &schema)?;
 
-    let mut cursor = SegmentPostings::open(3, bytes, None, basic, basic)?;
+    let body = Field::from_field_id(0);
+    let term = Term::from_field_text(alloc, body, "the")?;
+    let option = IndexRecordOption::WithFreqsAndPositions;
+    match index.reader(body).read_postings(&term, option)? {
+        Some(cursor) => print(&rt, cursor),
+        None => Ok(()),
+    }
+}
+
+// Prints each document of a cursor, and where its term stands there.
+fn print(rt: &HostRuntime, cursor: SegmentPostings) -> Result<()> {
+    let mut cursor = cursor;
+    let mut positions = Vec::new(rt.alloc());
     for _ in 0..cursor.doc_freq() {
-        println!(rt; "{}", cursor.doc())?;
+        let doc = cursor.doc();
+        if doc == TERMINATED {
+            return Ok(());
+        }
+        cursor.positions(&mut positions)?;
+        println!(rt; "{doc} at {:?}", positions)?;
         let _next = cursor.advance();
     }
     Ok(())

@@ -1,0 +1,355 @@
+// Indexes in memory: written, opened, and looked up.
+ghost use Rattle.std.specs.Prelude.{◌≡◌, ◌<◌, true, length, IfOk};
+ghost use Rattle.ii_indexing.specs.IndexCalls.{MayAllBeIndexed, MayBeIndexed, call_of, type_of};
+
+use bytes::Bytes;
+use ii_base::{
+    AsciiTokenizer, CountingWriter, Fault, Field, FieldEntry, IndexRecordOption, Schema, Term,
+    ValueType,
+};
+use ii_docset::{DocId, DocSet, Postings, TERMINATED};
+use ii_indexing::{IndexCall, IndexWriters, write_index};
+use ii_reader::{OpenIndex, SegmentPostings, open_index};
+use std::alloc::Global;
+use std::io::Write;
+
+pub(crate) const FULL: IndexRecordOption = IndexRecordOption::WithFreqsAndPositions;
+
+/// A schema, and the files of an index.
+#[derive(Drop)]
+pub(crate) struct Index {
+    pub(crate) schema: Schema,
+    pub(crate) terms: Bytes,
+    pub(crate) postings: Bytes,
+    pub(crate) positions: Bytes,
+    pub(crate) fieldnorms: Bytes,
+}
+
+// A field of texts.
+pub(crate) fn text_entry(
+    alloc: Global,
+    option: IndexRecordOption,
+    norms: bool,
+) -> Result<FieldEntry, Fault> {
+    Ok(FieldEntry::text(
+        String::from_str(alloc, "text")?,
+        option,
+        norms,
+    ))
+}
+
+// A field of texts with positions, and norms if they are wanted.
+pub(crate) fn texts(alloc: Global, norms: bool) -> Result<Schema, Fault> {
+    let mut entries = Vec::new(alloc);
+    entries.push(text_entry(alloc, FULL, norms)?)?;
+    Ok(Schema::new(entries))
+}
+
+// Two such fields, the first with norms.
+pub(crate) fn two_texts(alloc: Global) -> Result<Schema, Fault> {
+    let mut entries = Vec::new(alloc);
+    entries.push(text_entry(alloc, FULL, true)?)?;
+    entries.push(text_entry(alloc, FULL, false)?)?;
+    Ok(Schema::new(entries))
+}
+
+// A text with positions and norms, and a number without.
+pub(crate) fn text_and_number(alloc: Global) -> Result<Schema, Fault> {
+    let mut entries = Vec::new(alloc);
+    entries.push(text_entry(alloc, FULL, true)?)?;
+    let name = String::from_str(alloc, "number")?;
+    entries.push(FieldEntry::value(name, ValueType::U64, false))?;
+    Ok(Schema::new(entries))
+}
+
+// A number without norms.
+pub(crate) fn numbers(alloc: Global) -> Result<Schema, Fault> {
+    let mut entries = Vec::new(alloc);
+    let name = String::from_str(alloc, "number")?;
+    entries.push(FieldEntry::value(name, ValueType::U64, false))?;
+    Ok(Schema::new(entries))
+}
+
+// A text of a document in a field.
+pub(crate) fn text_call(
+    alloc: Global,
+    doc: DocId,
+    field: u32,
+    text: &str,
+) -> Result<IndexCall, Fault> {
+    let text = String::from_str(alloc, text)?;
+    Ok(IndexCall::Text(doc, Field::from_field_id(field), text))
+}
+
+// Texts, each of a document in a field.
+pub(crate) fn text_calls(
+    alloc: Global,
+    texts: &[(DocId, u32, &'static str)],
+) -> Result<Vec<IndexCall>, Fault> {
+    let mut calls = Vec::new(alloc);
+    for text in texts {
+        let (doc, field, text) = *text;
+        calls.push(text_call(alloc, doc, field, text)?)?;
+    }
+    Ok(calls)
+}
+
+fn field_of(call: &IndexCall) -> Field
+    ensures { result ≡ (call_of call.now).field }
+{
+    match call {
+        IndexCall::Text(_, field, _) => *field,
+        IndexCall::Tokens(_, field, _) => *field,
+        IndexCall::U64(_, field, _) => *field,
+        IndexCall::I64(_, field, _) => *field,
+        IndexCall::Bool(_, field, _) => *field,
+        IndexCall::Bytes(_, field, _) => *field,
+        IndexCall::Ip(_, field, _) => *field,
+    }
+}
+
+fn type_in(call: &IndexCall) -> ValueType
+    ensures { result ≡ type_of call.now }
+{
+    match call {
+        IndexCall::Text(_, _, _) => ValueType::Str,
+        IndexCall::Tokens(_, _, _) => ValueType::Str,
+        IndexCall::U64(_, _, _) => ValueType::U64,
+        IndexCall::I64(_, _, _) => ValueType::I64,
+        IndexCall::Bool(_, _, _) => ValueType::Bool,
+        IndexCall::Bytes(_, _, _) => ValueType::Bytes,
+        IndexCall::Ip(_, _, _) => ValueType::IpAddr,
+    }
+}
+
+// Whether a call may be made.
+fn may_be_indexed(schema: &Schema, num_docs: DocId, call: &IndexCall) -> bool
+    ensures { result ≡ true → MayBeIndexed schema.now num_docs call.now }
+{
+    let field = field_of(call);
+    if call.doc() >= num_docs {
+        return false;
+    }
+    if field.field_id() as usize >= schema.num_fields() {
+        return false;
+    }
+    let entry = schema.get_field_entry(field);
+    if !entry.is_indexed() {
+        return false;
+    }
+    entry.value_type() == type_in(call)
+}
+
+// These calls, where they may be made one after the other.
+fn checked(
+    alloc: Global,
+    schema: &Schema,
+    num_docs: DocId,
+    calls: Vec<IndexCall>,
+) -> Result<Vec<IndexCall>, Fault>
+    ensures { IfOk result (λ checked. MayAllBeIndexed schema.now num_docs checked.items) }
+{
+    let mut checked = Vec::new(alloc);
+    let mut last = 0;
+    for call in calls {
+        let doc = call.doc();
+        if doc < last {
+            return Err(Fault::IndexerFailed);
+        }
+        if !may_be_indexed(schema, num_docs, &call) {
+            return Err(Fault::IndexerFailed);
+        }
+        checked.push(call)?;
+        last = doc;
+    }
+    Ok(checked)
+}
+
+// Indexes calls, where they may be made; `IndexerFailed` else.
+pub(crate) fn write_to<W: Write + Drop>(
+    alloc: Global,
+    schema: Schema,
+    num_docs: DocId,
+    calls: Vec<IndexCall>,
+    writers: IndexWriters<W>,
+) -> Result<(IndexWriters<W>, Result<(), Fault>), Fault> {
+    if num_docs > TERMINATED {
+        return Err(Fault::IndexerFailed);
+    }
+    let calls = checked(alloc, &schema, num_docs, calls)?;
+    Ok(write_index(
+        alloc,
+        schema,
+        num_docs,
+        calls,
+        &AsciiTokenizer,
+        writers,
+    ))
+}
+
+// Writers over memory.
+pub(crate) fn writers(alloc: Global) -> IndexWriters<Vec<u8>> {
+    IndexWriters {
+        terms: CountingWriter::wrap(Vec::new(alloc)),
+        postings: CountingWriter::wrap(Vec::new(alloc)),
+        positions: CountingWriter::wrap(Vec::new(alloc)),
+        fieldnorms: CountingWriter::wrap(Vec::new(alloc)),
+    }
+}
+
+// What they hold is the index of a schema.
+pub(crate) fn index_of(schema: Schema, writers: IndexWriters<Vec<u8>>) -> Result<Index, Fault> {
+    let IndexWriters {
+        terms,
+        postings,
+        positions,
+        fieldnorms,
+    } = writers;
+    Ok(Index {
+        schema,
+        terms: Bytes::from_vec(terms.finish())?,
+        postings: Bytes::from_vec(postings.finish())?,
+        positions: Bytes::from_vec(positions.finish())?,
+        fieldnorms: Bytes::from_vec(fieldnorms.finish())?,
+    })
+}
+
+// The index of calls.
+pub(crate) fn written(
+    alloc: Global,
+    schema: Schema,
+    num_docs: DocId,
+    calls: Vec<IndexCall>,
+) -> Result<Index, Fault> {
+    let copy = schema.clone()?;
+    let (writers, answer) = write_to(alloc, copy, num_docs, calls, writers(alloc))?;
+    answer?;
+    index_of(schema, writers)
+}
+
+// The index of texts, each of a document in a field.
+pub(crate) fn written_texts(
+    alloc: Global,
+    schema: Schema,
+    num_docs: DocId,
+    texts: &[(DocId, u32, &'static str)],
+) -> Result<Index, Fault> {
+    let calls = text_calls(alloc, texts)?;
+    written(alloc, schema, num_docs, calls)
+}
+
+fn opened(alloc: Global, index: &Index) -> Result<OpenIndex, Fault>
+    ensures { IfOk result (λ opened. length opened ≡ length index.now.schema) }
+{
+    let terms = index.terms.clone()?;
+    let postings = index.postings.clone()?;
+    let positions = index.positions.clone()?;
+    open_index(alloc, terms, postings, positions, &index.schema)
+}
+
+// A cursor over the postings of a term, if its field has it.
+pub(crate) fn cursor_of(
+    alloc: Global,
+    index: &Index,
+    term: &Term,
+    option: IndexRecordOption,
+) -> Result<Option<SegmentPostings>, Fault> {
+    let field = term.field();
+    if field.field_id() as usize >= index.schema.num_fields() {
+        return Ok(None);
+    }
+    let opened = opened(alloc, index)?;
+    opened.reader(field).read_postings(term, option)
+}
+
+// How many tokens and terms a field has.
+pub(crate) fn counts(alloc: Global, index: &Index, field: u32) -> Result<(u64, usize), Fault> {
+    let field = Field::from_field_id(field);
+    if field.field_id() as usize >= index.schema.num_fields() {
+        return Ok((0, 0));
+    }
+    let opened = opened(alloc, index)?;
+    let reader = opened.reader(field);
+    Ok((reader.total_num_tokens(), reader.terms().num_terms()))
+}
+
+// Adds the document of a cursor with its count and positions, and a space.
+fn push_doc(
+    alloc: Global,
+    text: &mut String,
+    cursor: &mut SegmentPostings,
+) -> Result<(), Fault> {
+    let doc = cursor.doc();
+    if doc >= TERMINATED {
+        text.push_str("end ")?;
+        return Ok(());
+    }
+    let count = cursor.term_freq();
+    write!(text, "{doc}:{count}:")?;
+    let mut positions = Vec::new(alloc);
+    cursor.positions(&mut positions)?;
+    for position in positions.as_slice() {
+        write!(text, "{position},")?;
+    }
+    text.push(' ')?;
+    Ok(())
+}
+
+// Each document of a cursor.
+fn walked(alloc: Global, cursor: &mut SegmentPostings) -> Result<String, Fault> {
+    let mut text = String::new(alloc);
+    for _ in 0..cursor.doc_freq() {
+        push_doc(alloc, &mut text, cursor)?;
+        let _next = cursor.advance();
+    }
+    Ok(text)
+}
+
+// The postings of a term: `DOC:COUNT:POS,POS, ` for each document; nothing where the field lacks it.
+pub(crate) fn postings_of(
+    alloc: Global,
+    index: &Index,
+    term: &Term,
+    option: IndexRecordOption,
+) -> Result<String, Fault> {
+    match cursor_of(alloc, index, term, option)? {
+        Some(mut cursor) => walked(alloc, &mut cursor),
+        None => Ok(String::new(alloc)),
+    }
+}
+
+// The same of a word in a field of texts, with all that is kept.
+pub(crate) fn found(alloc: Global, index: &Index, field: u32, word: &str) -> Result<String, Fault> {
+    let term = Term::from_field_text(alloc, Field::from_field_id(field), word)?;
+    postings_of(alloc, index, &term, FULL)
+}
+
+// The documents that a cursor stands on after each seek to some that ascend.
+fn sought(
+    alloc: Global,
+    cursor: &mut SegmentPostings,
+    targets: &[DocId],
+) -> Result<String, Fault> {
+    let mut text = String::new(alloc);
+    for target in targets {
+        if cursor.doc() <= *target && *target <= TERMINATED {
+            let _doc = cursor.seek(*target);
+        }
+        push_doc(alloc, &mut text, cursor)?;
+    }
+    Ok(text)
+}
+
+// The same over the postings of a word in field 0.
+pub(crate) fn found_by_seeks(
+    alloc: Global,
+    index: &Index,
+    word: &str,
+    targets: &[DocId],
+) -> Result<String, Fault> {
+    let term = Term::from_field_text(alloc, Field::from_field_id(0), word)?;
+    match cursor_of(alloc, index, &term, FULL)? {
+        Some(mut cursor) => sought(alloc, &mut cursor, targets),
+        None => Ok(String::new(alloc)),
+    }
+}
