@@ -10,4 +10,6 @@ mod indexer_tests;
 #[cfg(test)]
 mod memory_index;
 #[cfg(test)]
+mod ram_tests;
+#[cfg(test)]
 mod text_tests;

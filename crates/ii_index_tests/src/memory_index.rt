@@ -141,7 +141,7 @@ fn may_be_indexed(schema: &Schema, num_docs: DocId, call: &IndexCall) -> bool
 }
 
 // These calls, where they may be made one after the other.
-fn checked(
+pub(crate) fn checked(
     alloc: Global,
     schema: &Schema,
     num_docs: DocId,

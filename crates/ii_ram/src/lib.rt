@@ -1,7 +1,7 @@
 //! An index in memory: index calls go in, and readers of its fields come out.
 #![tactic(auto)]
 
-ghost use Rattle.std.specs.Prelude.{◌≡◌, ◌≤◌, ◌⊎◌, [], ℕ, List, map, None, Err, IfErr, IfOk, IfSome, OnOk, Some};
+ghost use Rattle.std.specs.Prelude.{◌≡◌, ◌≤◌, ◌⊎◌, [], ℕ, List, length, map, None, Err, IfErr, IfOk, IfSome, OnOk, Some};
 ghost use Rattle.ii_docset.specs.declared.docset.TheConstants.{TERMINATED};
 ghost use Rattle.ii_index.specs.Fields.{option_of};
 ghost use Rattle.ii_index.specs.Files.{HoldTokens};
@@ -35,6 +35,7 @@ pub fn index_in_ram<A: TextAnalyzer>(
     requires docs { num_docs ≤ TERMINATED }
     requires calls { MayAllBeIndexed schema num_docs calls.items }
     ensures holds { IfOk result (λ index. ReadersHold schema index (tokens_of (A.words analyzer.now) (map call_of calls.items))) }
+    ensures many { IfOk result (λ index. length index ≡ length schema) }
     ensures refused { IfSome (calls_fault (A.words analyzer.now) (option_of schema) [] (map call_of calls.items)) (λ fault. (result ≡ Err fault) ⊎ (result ≡ Err Fault.OutOfMemory)) }
     ensures fault { calls_fault (A.words analyzer.now) (option_of schema) [] (map call_of calls.items) ≡ None
         → IfErr result (λ e. (e ≡ Fault.OutOfMemory) ⊎ IsRamFault schema num_docs (tokens_of (A.words analyzer.now) (map call_of calls.items)) e) }
@@ -69,6 +70,7 @@ fn open_files(
     ensures holds { (terms : List ℕ) (postings : List ℕ) (positions : List ℕ) (tokens : List IndexToken)
         → files.terms.contents ≡ Some terms → files.postings.contents ≡ Some postings → files.positions.contents ≡ Some positions
         → HoldTokens (option_of schema.now) terms postings positions tokens → GivesReaders schema.now tokens result }
+    ensures many { IfOk result (λ index. length index ≡ length schema.now) }
 {
     let IndexWriters {
         terms,
