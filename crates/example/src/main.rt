@@ -44,7 +44,7 @@ fn print(rt: &HostRuntime, cursor: SegmentPostings) -> Result<()> {
     let mut positions = Vec::new(rt.alloc());
     for _ in 0..cursor.doc_freq() {
         let doc = cursor.doc();
-        if doc == TERMINATED {
+        if doc >= TERMINATED {
             return Ok(());
         }
         cursor.positions(&mut positions)?;

@@ -1,4 +1,4 @@
-use crate::memory_index::{Index, text_and_number, text_call, texts, write_to, written, writers};
+use crate::memory_index::{Index, text_and_number, text_call, texts, write_to, writers, written};
 use ii_base::{CountingWriter, FailingWriter, Fault, Field, LimitName, Token, TokenList};
 use ii_indexing::{IndexCall, IndexWriters};
 use std::alloc::Global;
@@ -19,11 +19,7 @@ fn two_fields(alloc: Global) -> Result<Index, Fault> {
 }
 
 // The call that fails of the writer at a place, if it is this one.
-fn failing_writer(
-    alloc: Global,
-    place: u32,
-    failing: (u32, u64),
-) -> CountingWriter<FailingWriter> {
+fn failing_writer(alloc: Global, place: u32, failing: (u32, u64)) -> CountingWriter<FailingWriter> {
     let (failing_place, failing_call) = failing;
     if place == failing_place {
         return CountingWriter::wrap(FailingWriter::new(alloc, failing_call));
@@ -70,7 +66,11 @@ fn are_handed_back(writers: IndexWriters<FailingWriter>, place: u32, right: &Ind
     let mut all = is_left(terms, u64::from(place == 0), right.terms.as_slice());
     all &= is_left(postings, u64::from(place == 1), right.postings.as_slice());
     all &= is_left(positions, u64::from(place == 2), right.positions.as_slice());
-    all &= is_left(fieldnorms, u64::from(place == 3), right.fieldnorms.as_slice());
+    all &= is_left(
+        fieldnorms,
+        u64::from(place == 3),
+        right.fieldnorms.as_slice(),
+    );
     all
 }
 

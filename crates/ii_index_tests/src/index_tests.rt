@@ -103,11 +103,7 @@ fn norm_of(alloc: Global, index: &Index, field: u32, doc: u32) -> Result<Option<
 #[test]
 fn fields_have_the_norms_that_they_want(rt: HostRuntime) -> Result<(), Fail> {
     let schema = two_texts(rt.alloc())?;
-    let calls = [
-        (0, 0, "a b a c a d a a."),
-        (0, 0, "d d d d a"),
-        (0, 1, "a"),
-    ];
+    let calls = [(0, 0, "a b a c a d a a."), (0, 0, "d d d d a"), (0, 1, "a")];
     let index = written_texts(rt.alloc(), schema, 2, &calls)?;
     assert!(rt; norm_of(rt.alloc(), &index, 0, 0)? == Some((13, 13)));
     assert!(rt; norm_of(rt.alloc(), &index, 0, 1)? == Some((0, 0)));

@@ -3,10 +3,8 @@ ghost use Rattle.ii_base.specs.declared.schema.value_type.ValueType.TheVariants 
 ghost use Rattle.ii_indexing.specs.IndexCalls.{Takes};
 
 use crate::fault_tests::are_untouched;
-use crate::memory_index::{Index, FULL, found, index_of, texts, writers};
-use ii_base::{
-    AsciiTokenizer, Fault, Field, FieldEntry, LimitName, Schema, Token, TokenList,
-};
+use crate::memory_index::{FULL, Index, found, index_of, texts, writers};
+use ii_base::{AsciiTokenizer, Fault, Field, FieldEntry, LimitName, Schema, Token, TokenList};
 use ii_indexing::{IndexCall, Indexer};
 use std::alloc::Global;
 use std::test::Fail;

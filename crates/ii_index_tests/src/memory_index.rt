@@ -31,11 +31,7 @@ pub(crate) fn text_entry(
     option: IndexRecordOption,
     norms: bool,
 ) -> Result<FieldEntry, Fault> {
-    Ok(FieldEntry::text(
-        String::from_str(alloc, "text")?,
-        option,
-        norms,
-    ))
+    Ok(FieldEntry::text(String::from_str(alloc, "text")?, option, norms))
 }
 
 // A field of texts with positions, and norms if they are wanted.
@@ -177,14 +173,7 @@ pub(crate) fn write_to<W: Write + Drop>(
         return Err(Fault::IndexerFailed);
     }
     let calls = checked(alloc, &schema, num_docs, calls)?;
-    Ok(write_index(
-        alloc,
-        schema,
-        num_docs,
-        calls,
-        &AsciiTokenizer,
-        writers,
-    ))
+    Ok(write_index(alloc, schema, num_docs, calls, &AsciiTokenizer, writers))
 }
 
 // Writers over memory.
@@ -274,11 +263,7 @@ pub(crate) fn counts(alloc: Global, index: &Index, field: u32) -> Result<(u64, u
 }
 
 // Adds the document of a cursor with its count and positions, and a space.
-fn push_doc(
-    alloc: Global,
-    text: &mut String,
-    cursor: &mut SegmentPostings,
-) -> Result<(), Fault> {
+fn push_doc(alloc: Global, text: &mut String, cursor: &mut SegmentPostings) -> Result<(), Fault> {
     let doc = cursor.doc();
     if doc >= TERMINATED {
         text.push_str("end ")?;
@@ -325,11 +310,7 @@ pub(crate) fn found(alloc: Global, index: &Index, field: u32, word: &str) -> Res
 }
 
 // The documents that a cursor stands on after each seek to some that ascend.
-fn sought(
-    alloc: Global,
-    cursor: &mut SegmentPostings,
-    targets: &[DocId],
-) -> Result<String, Fault> {
+fn sought(alloc: Global, cursor: &mut SegmentPostings, targets: &[DocId]) -> Result<String, Fault> {
     let mut text = String::new(alloc);
     for target in targets {
         if cursor.doc() <= *target && *target <= TERMINATED {

@@ -185,7 +185,12 @@ fn many_documents(alloc: Global) -> Result<Index, Fault> {
         }
     }
     let calls = text_calls(alloc, texts.as_slice())?;
-    written(alloc, crate::memory_index::texts(alloc, false)?, LAST + 1, calls)
+    written(
+        alloc,
+        crate::memory_index::texts(alloc, false)?,
+        LAST + 1,
+        calls,
+    )
 }
 
 // Where its `abc` stand.
