@@ -17,8 +17,6 @@ pub mod per_field_postings_writer;
 pub mod postings_writer;
 mod serialize_postings;
 pub mod sorted_terms;
-#[cfg(test)]
-mod tests;
 
 pub use index_call::IndexCall;
 pub use index_writers::{IndexWriters, write_index};

@@ -1,5 +1,5 @@
-use crate::{IndexingPosition, IndexingTerm, IndexingTermRef, OrderedPathId};
 use ii_base::{DateTime, Field};
+use ii_indexing::{IndexingPosition, IndexingTerm, IndexingTermRef, OrderedPathId};
 use std::test::Fail;
 
 #[test]
