@@ -17,7 +17,7 @@ use Rattle.ii_index.specs.Fields.{option_of}
 use Rattle.ii_index.specs.Postings.{field_count, occurs}
 use Rattle.ii_index.specs.Files.{HoldTokens, HoldsField}
 use Rattle.ii_reader.specs.InvertedIndexReader.{InvertedIndexReaderState, IsRefusal, ReaderHolds, reader_of_none}
-use Rattle.ii_reader.specs.OpenIndex.{IndexBodies, ReadersHold, all_or_first, field_readers, index_bodies, index_readers, reader_if, reader_of_field}
+use Rattle.ii_reader.specs.OpenIndex.{FieldReaderHolds, IndexBodies, ReadersHold, all_or_first, field_readers, index_bodies, index_readers, reader_if, reader_of_field}
 
 -- what stands before what others give
 abbrev pub in_front : {A : Type 0} → List A → Result (List A) Part → Result (List A) Part
@@ -80,20 +80,24 @@ no_tokens field key (t ∷ ts) none = none_counted field key t ts (t.field == fi
 no_body : (n : ℕ) → false ≡ nat_lt 0 n → n ≡ 0
 no_body n e = let none = ltb-false 0 n (sym e) in omega (arith, none)
 
+-- A reader has this option, and the tokens of a field.
+abbrev HasTokens : ℕ → IndexRecordOption → List IndexToken → InvertedIndexReaderState → Type 0
+HasTokens field option ts reader = (reader.option ≡ option) × ReaderHolds field reader ts
+
 -- a field without tokens
 none_held : (field : ℕ) (option : IndexRecordOption) (ts : List IndexToken) → field_count field ts ≡ 0 → ReaderHolds field (reader_of_none option) ts
 none_held field option ts none = record { counted = sym none; exact = λ key. no_tokens field key ts none }
 
 bodies_held : (field : ℕ) (option : IndexRecordOption) (ts : List IndexToken) (terms postings positions : List ℕ) → HoldsField option field terms postings positions ts
-    → IsOkAnd (reader_if option (Some terms) (Some postings) (Some positions)) (λ reader. ReaderHolds field reader ts)
+    → IsOkAnd (reader_if option (Some terms) (Some postings) (Some positions)) (HasTokens field option ts)
 bodies_held field option ts terms postings positions holds =
-    rw (holds.sorted, holds.counted) (record { counted = refl; exact = holds.exact })
+    rw (holds.sorted, holds.counted) (refl, record { counted = refl; exact = holds.exact })
 
 -- the bodies that a field has in three files
 field_held : (field : ℕ) (option : IndexRecordOption) (ts : List IndexToken) (t p q : Option (List ℕ)) → is_some t ≡ nat_lt 0 (field_count field ts) → is_some p ≡ nat_lt 0 (field_count field ts) → is_some q ≡ nat_lt 0 (field_count field ts)
     → ((terms postings positions : List ℕ) → t ≡ Some terms → p ≡ Some postings → q ≡ Some positions → HoldsField option field terms postings positions ts)
-    → IsOkAnd (reader_if option t p q) (λ reader. ReaderHolds field reader ts)
-field_held field option ts None p q has_t has_p has_q held = none_held field option ts (no_body (field_count field ts) has_t)
+    → IsOkAnd (reader_if option t p q) (HasTokens field option ts)
+field_held field option ts None p q has_t has_p has_q held = (refl, none_held field option ts (no_body (field_count field ts) has_t))
 field_held field option ts (Some t) None q has_t has_p has_q held = absurd (let e = has_t ∙ sym has_p in cc)
 field_held field option ts (Some t) (Some p) None has_t has_p has_q held = absurd (let e = has_t ∙ sym has_q in cc)
 field_held field option ts (Some t) (Some p) (Some q) has_t has_p has_q held = bodies_held field option ts t p q (held t p q refl refl refl)
@@ -132,28 +136,30 @@ also_ok (Ok x) P Q held more = more x held
 also_ok (Err part) P Q held more = absurd held
 
 field_in : (entries : List Entry) (terms postings positions : List ℕ) (ts : List IndexToken) (h : HoldTokens (option_of entries) terms postings positions ts) (i : ℕ) (e : Entry) → slice_get entries i ≡ Some e
-    → IsOkAnd (reader_if e.option (body_of i h.term_bodies) (body_of i h.postings_bodies) (body_of i h.positions_bodies)) (λ reader. ReaderHolds i reader ts)
+    → IsOkAnd (reader_if e.option (body_of i h.term_bodies) (body_of i h.postings_bodies) (body_of i h.positions_bodies)) (λ reader. FieldReaderHolds entries i reader ts)
 field_in entries terms postings positions ts h i e at =
     let option : option_of entries i ≡ e.option = rw at refl in
     let has = h.present i in
-    field_held i e.option ts (body_of i h.term_bodies) (body_of i h.postings_bodies) (body_of i h.positions_bodies) has.0 has.1 has.2
-    (λ t p q in_terms in_postings in_positions. subst (λ (o : IndexRecordOption). HoldsField o i t p q ts) option (h.fields i t p q in_terms in_postings in_positions))
+    also_ok _ (HasTokens i e.option ts) (λ reader. FieldReaderHolds entries i reader ts)
+    (field_held i e.option ts (body_of i h.term_bodies) (body_of i h.postings_bodies) (body_of i h.positions_bodies) has.0 has.1 has.2
+    (λ t p q in_terms in_postings in_positions. subst (λ (o : IndexRecordOption). HoldsField o i t p q ts) option (h.fields i t p q in_terms in_postings in_positions)))
+    (λ reader has. record { option_is = has.0 ∙ sym option; holds = has.1 })
 
 -- files that hold tokens are opened
 pub index_held : (entries : List Entry) (terms postings positions : List ℕ) (ts : List IndexToken) → HoldTokens (option_of entries) terms postings positions ts
     → IsOkAnd (index_readers terms postings positions entries) (λ readers. ReadersHold entries readers ts)
 index_held entries terms postings positions ts h =
     let bodies : IndexBodies = record { terms = h.term_bodies; postings = h.postings_bodies; positions = h.positions_bodies } in
-    let each : (i : ℕ) (e : Entry) → slice_get entries i ≡ Some e → IsOkAnd (reader_of_field bodies (0 + i) e.option) (λ reader. ReaderHolds (0 + i) reader ts) =
+    let each : (i : ℕ) (e : Entry) → slice_get entries i ≡ Some e → IsOkAnd (reader_of_field bodies (0 + i) e.option) (λ reader. FieldReaderHolds entries (0 + i) reader ts) =
     λ i e at.
     let same : i ≡ 0 + i = omega arith in
-    subst (λ (k : ℕ). IsOkAnd (reader_of_field bodies k e.option) (λ reader. ReaderHolds k reader ts)) same (field_in entries terms postings positions ts h i e at) in
-    let all = fields_held (λ field reader. ReaderHolds field reader ts) (λ (f : ℕ × Entry). reader_of_field bodies f.0 f.1.option) 0 entries each in
+    subst (λ (k : ℕ). IsOkAnd (reader_of_field bodies k e.option) (λ reader. FieldReaderHolds entries k reader ts)) same (field_in entries terms postings positions ts h i e at) in
+    let all = fields_held (λ field reader. FieldReaderHolds entries field reader ts) (λ (f : ℕ × Entry). reader_of_field bodies f.0 f.1.option) 0 entries each in
     rw (h.opened_terms, h.opened_postings, h.opened_positions)
-    (also_ok (field_readers bodies entries) (λ readers. (i : ℕ) → i < length entries → IsSomeAnd (slice_get readers i) (λ reader. ReaderHolds (0 + i) reader ts)) (λ readers. ReadersHold entries readers ts) all
+    (also_ok (field_readers bodies entries) (λ readers. (i : ℕ) → i < length entries → IsSomeAnd (slice_get readers i) (λ reader. FieldReaderHolds entries (0 + i) reader ts)) (λ readers. ReadersHold entries readers ts) all
     (λ readers held i within.
     let same : 0 + i ≡ i = omega arith in
-    subst (λ (k : ℕ). IsSomeAnd (slice_get readers i) (λ reader. ReaderHolds k reader ts)) same (held i within)))
+    subst (λ (k : ℕ). IsSomeAnd (slice_get readers i) (λ reader. FieldReaderHolds entries k reader ts)) same (held i within)))
 
 gives_ok : (found : Result (List InvertedIndexReaderState) Part) (entries : List Entry) (ts : List IndexToken) (readers : List InvertedIndexReaderState) → found ≡ Ok readers → IsOkAnd found (λ rs. ReadersHold entries rs ts) → ReadersHold entries readers ts
 gives_ok found entries ts readers is held = rw is at held

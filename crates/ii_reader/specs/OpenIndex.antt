@@ -10,6 +10,7 @@ use Rattle.ii_io.specs.Composite.{Body, body_of, composite}
 use Rattle.ii_base.specs.Schema.{Entry}
 use Rattle.ii_base.specs.declared.schema.index_record_option.IndexRecordOption.{IndexRecordOption}
 use Rattle.ii_termdict.specs.Dictionary.{dictionary}
+use Rattle.ii_index.specs.Fields.{option_of}
 use Rattle.ii_index.specs.Tokens.{IndexToken}
 use Rattle.ii_reader.specs.InvertedIndexReader.{InvertedIndexReaderState, ReaderHolds, reader_of_none, reader_over}
 
@@ -61,9 +62,14 @@ index_readers terms postings positions entries = do
   bodies ← index_bodies terms postings positions
   field_readers bodies entries
 
+-- A reader has what a field of the schema records, and its tokens.
+pub record FieldReaderHolds (entries : List Entry) (field : ℕ) (reader : InvertedIndexReaderState) (ts : List IndexToken) : Type 0 where
+  pub option_is : reader.option ≡ option_of entries field
+  pub holds : ReaderHolds field reader ts
+
 -- The readers of the fields of a schema have the tokens of each.
 abbrev pub ReadersHold : List Entry → List InvertedIndexReaderState → List IndexToken → Type 0
-ReadersHold entries readers ts = (field : ℕ) → field < length entries → IsSomeAnd (slice_get readers field) (λ reader. ReaderHolds field reader ts)
+ReadersHold entries readers ts = (field : ℕ) → field < length entries → IsSomeAnd (slice_get readers field) (λ reader. FieldReaderHolds entries field reader ts)
 
 -- So they do where an index is opened, which is refused for memory alone.
 abbrev pub GivesReaders : List Entry → List IndexToken → Result (List InvertedIndexReaderState) Fault → Type 0
