@@ -24,7 +24,7 @@ use std::alloc::Global;
 /// of its type.
 ///
 /// The first fault of the calls (`Indexer::index`) is answered, else a limit of what is written
-/// (`Indexer::finish`), or `OutOfMemory`.
+/// (`Indexer::finish`), or `OutOfMemory`; never `Write`, since what can't be written to memory wants memory.
 pub fn index_in_ram<A: TextAnalyzer>(
     alloc: Global,
     schema: Schema,

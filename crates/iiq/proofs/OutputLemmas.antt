@@ -1,12 +1,10 @@
 -- Laws of what is printed.
-use Rattle.std.proofs.Common.{◌≡◌, ℕ, ◌<◌, true, false, List, [], ◌∷◌, ◌++◌, drop, map, refl, sym, ap, arith, decimal}
+use Rattle.std.proofs.Common.{◌≡◌, ℕ, ◌<◌, List, [], ◌∷◌, ◌++◌, drop, map, refl, sym, ap, arith, decimal}
 use Rattle.std.specs.List.{join_with_byte, flat_map}
 use Rattle.std.proofs.lemmas.List.{append-nil}
 use Rattle.ii_base.specs.declared.schema.index_record_option.IndexRecordOption.{IndexRecordOption}
-use Rattle.ii_base.specs.declared.schema.index_record_option.IndexRecordOption.TheVariants.{Basic, WithFreqs, WithFreqsAndPositions}
-use Rattle.ii_base.specs.Options.{has_freq, has_positions}
 use Rattle.ii_docset.specs.Entries.{Entry}
-use Rattle.ii_docset.specs.Cursor.{doc_at, term_freq_at, positions_at, IsAscending}
+use Rattle.ii_docset.specs.Cursor.{doc_at, IsAscending}
 use Rattle.iiq.specs.Output.{item, item_at, list_text, positions_text}
 use Rattle.ii_docset.proofs.CursorLemmas.{nothing_left, doc_below}
 

@@ -1,7 +1,9 @@
 -- Laws of replies.
-use Rattle.std.proofs.Common.{◌≡◌, ◌<◌, ℕ, arith, Bool, true, false, List, [], ◌∷◌, length, map, Option, Some, None, Result, Ok, Err, refl, sym, ◌∙◌, codes, eqb}
+use Rattle.std.proofs.Common.{◌≡◌, ◌<◌, ◌++◌, ℕ, arith, Bool, true, false, List, [], ◌∷◌, length, map, Option, Some, None, Result, Ok, Err, refl, sym, ap, subst, ◌∙◌, codes, eqb, String, Global}
+use Rattle.std.specs.Prelude.{IfOk, MatchOption, string_bytes, unwrap_or}
 use Rattle.std.specs.Option.{option_map}
 use Rattle.std.specs.Str.{IsUtf8, is_utf8}
+use Rattle.std.proofs.lemmas.Bool.{eqb-true}
 use Rattle.std.proofs.lemmas.Str.{IsUtf8-from_is_utf8, is_utf8-from_IsUtf8}
 use Rattle.std.proofs.lemmas.List.{append-nil, length-map}
 use Rattle.ii_docset.proofs.CursorLemmas.{ascending, length_below}
@@ -12,31 +14,124 @@ use Rattle.ii_io.specs.CountingWriter.{CountingWriterState, Wrote}
 use Rattle.ii_layout.specs.TermList.{term_list}
 use Rattle.ii_layout.proofs.TermLemmas.{plain_list}
 use Rattle.ii_layout.specs.Written.{written_documents, written_postings, ReadsDocumentsBack}
-use Rattle.iiq.specs.Commands.{Command, command_of}
-use Rattle.iiq.specs.Output.{with_ends, command_texts, maybe_texts, reply_to}
+use Rattle.ii_index.specs.Tokens.{Call}
+use Rattle.iiq.specs.declared.commands.Opening.{Opening}
+use Rattle.iiq.specs.declared.commands.Query.{Query}
+use Rattle.iiq.specs.declared.session.Session.{Session as SessionKept}
+use Rattle.iiq.specs.Commands.{Command, command_of, index_call, show_ids}
+use Rattle.iiq.specs.Known.{Answers, AnswersAlone, IsReply, Keeps, Knows, open_texts, opening_command, query_look_up}
+use Rattle.iiq.specs.Output.{AnswersLine, AnswersMaybe, error_line, ids_texts, line_command, look_up_text, with_ends}
+use Rattle.iiq.specs.Session.{Session, Indexes, kept_with}
 
 not_utf8 : (line : List ℕ) (t : Bool) → is_utf8 line ≡ t → ¬ (IsUtf8 line) → t ≡ false
 not_utf8 line true e h = absurd (h (IsUtf8-from_is_utf8 line e))
 not_utf8 line false e h = refl
 
+no_command : (line : List ℕ) → ¬ (IsUtf8 line) → line_command line ≡ None
+no_command line h = rw (not_utf8 line (is_utf8 line) refl h) refl
+
+the_command : (line : List ℕ) → IsUtf8 line → line_command line ≡ command_of line
+the_command line h = rw (is_utf8-from_IsUtf8 line h) refl
+
+answers_line : (old : Session) (line : List ℕ) (new : Session) (found : Option (List (List ℕ))) → false ≡ (eqb (length line) 0) → AnswersMaybe old (line_command line) new found → AnswersLine old line new (unwrap_or found error_line)
+answers_line old [] new found some answers = absurd (cc)
+answers_line old (c ∷ cs) new found some answers = (found, answers, refl)
+
+empty_line : (s : Session) (line : List ℕ) (kept : SessionKept) → true ≡ (eqb (length line) 0) → Knows kept s → IsReply s line kept []
+empty_line s [] kept none knows = record { new = s; texts = []; knows = knows; answers = (refl, refl); text_is = refl }
+empty_line s (c ∷ cs) kept none knows = absurd (let e = eqb-true (length (c ∷ cs)) 0 (sym none) in omega (arith, e))
+
+-- an empty line
+pub reply_nothing : (s : Session) (line text : List ℕ) (kept : SessionKept) → true ≡ (eqb (length line) 0) → Knows kept s → text ≡ [] → IsReply s line kept text
+reply_nothing s line text kept none knows e = rw e (empty_line s line kept none knows)
+
 -- a line that is no text
-pub reply_no_text : (line : List ℕ) → false ≡ (eqb (length line) 0) → ¬ (IsUtf8 line) → reply_to line ≡ codes "error line\n"
-reply_no_text [] some h = absurd (cc)
-reply_no_text (c ∷ cs) some h = rw (not_utf8 (c ∷ cs) (is_utf8 (c ∷ cs)) refl h) refl
+pub reply_no_text : (s : Session) (line text : List ℕ) (kept : SessionKept) → false ≡ (eqb (length line) 0) → ¬ (IsUtf8 line) → Knows kept s → text ≡ codes "error line\n" → IsReply s line kept text
+reply_no_text s line text kept some h knows e = record {
+  new = s;
+  texts = error_line;
+  knows = knows;
+  answers = answers_line s line s None some (subst (λ (o : Option Command). AnswersMaybe s o s None) (sym (no_command line h)) (refl, refl));
+  text_is = e;
+}
 
--- a line of text that asks for this
-reply_is : (line : List ℕ) (found : Option Command) → false ≡ (eqb (length line) 0) → IsUtf8 line → command_of line ≡ found → reply_to line ≡ with_ends (maybe_texts found)
-reply_is [] found some h e = absurd (cc)
-reply_is (c ∷ cs) found some h e = rw (is_utf8-from_IsUtf8 (c ∷ cs) h, e) refl
+some_text : (text : List ℕ) (texts : Option (List (List ℕ))) → Some text ≡ option_map with_ends texts → text ≡ with_ends (unwrap_or texts error_line)
+some_text text None e = absurd (cc)
+some_text text (Some ts) e = cc
 
-text_cases : (line text : List ℕ) (found : Option Command) → false ≡ (eqb (length line) 0) → IsUtf8 line → command_of line ≡ found
-    → Some text ≡ option_map (λ command. with_ends (command_texts command)) found → text ≡ reply_to line
-text_cases line text None some h e r = absurd (cc)
-text_cases line text (Some command) some h e r = (let same : text ≡ with_ends (command_texts command) = cc in same) ∙ sym (reply_is line (Some command) some h e)
+-- a line that is answered
+pub reply_some : (s : Session) (line text : List ℕ) (kept : SessionKept) (reply : Option (List ℕ)) → false ≡ (eqb (length line) 0) → IsUtf8 line → Answers s (command_of line) kept reply → reply ≡ Some text → IsReply s line kept text
+reply_some s line text kept reply some h a e = record {
+  new = a.new;
+  texts = unwrap_or a.texts error_line;
+  knows = a.knows;
+  answers = answers_line s line a.new a.texts some (subst (λ (o : Option Command). AnswersMaybe s o a.new a.texts) (sym (the_command line h)) a.answers);
+  text_is = some_text text a.texts (sym e ∙ a.reply_is);
+}
 
-pub reply_text : (line text : List ℕ) → false ≡ (eqb (length line) 0) → IsUtf8 line
-    → Some text ≡ option_map (λ command. with_ends (command_texts command)) (command_of line) → text ≡ reply_to line
-reply_text line text some h r = text_cases line text (command_of line) some h refl r
+no_texts : (text : List ℕ) (texts : Option (List (List ℕ))) → None ≡ option_map with_ends texts → text ≡ codes "error line\n" → text ≡ with_ends (unwrap_or texts error_line)
+no_texts text None none e = e
+no_texts text (Some ts) none e = absurd (cc)
+
+-- a line that is refused
+pub reply_none : (s : Session) (line text : List ℕ) (kept : SessionKept) (reply : Option (List ℕ)) → false ≡ (eqb (length line) 0) → IsUtf8 line → Answers s (command_of line) kept reply → reply ≡ None → text ≡ codes "error line\n" → IsReply s line kept text
+reply_none s line text kept reply some h a none e = record {
+  new = a.new;
+  texts = unwrap_or a.texts error_line;
+  knows = a.knows;
+  answers = answers_line s line a.new a.texts some (subst (λ (o : Option Command). AnswersMaybe s o a.new a.texts) (sym (the_command line h)) a.answers);
+  text_is = no_texts text a.texts (sym none ∙ a.reply_is) e;
+}
+
+-- what is answered whatever the session is
+pub alone : (s : Session) (command : Option Command) (kept : SessionKept) (reply : Option (List ℕ)) → Knows kept s → AnswersAlone command reply → Answers s command kept reply
+alone s command kept reply knows a = record { new = s; texts = a.texts; knows = knows; answers = a.answers s; reply_is = a.reply_is }
+
+pub alone_ok : {E : Type 0} (r : Result (Option (String Global)) E) (s : Session) (command given : Option Command) (kept : SessionKept) → Knows kept s → given ≡ command → IfOk r (λ reply. AnswersAlone given (option_map string_bytes reply))
+    → IfOk r (λ reply. Answers s command kept (option_map string_bytes reply))
+alone_ok (Ok reply) s command given kept knows same a = alone s command kept (option_map string_bytes reply) knows (rw same at a)
+alone_ok (Err e) s command given kept knows same a = tt
+
+-- what is no command
+pub answers_none : (s : Session) (command : Option Command) (kept : SessionKept) → Knows kept s → command ≡ None → Answers s command kept None
+answers_none s command kept knows e = record { new = s; texts = None; knows = knows; answers = rw e (refl, refl); reply_is = refl }
+
+pub alone_none : (command : Option Command) → command ≡ None → AnswersAlone command None
+alone_none command e = record { texts = None; answers = λ s. rw e (refl, refl); reply_is = refl }
+
+-- a list of documents, and a list that was opened
+pub alone_ids : (command : Option Command) (docs text : List ℕ) → command ≡ Some (show_ids docs) → text ≡ with_ends (ids_texts docs) → AnswersAlone command (Some text)
+alone_ids command docs text e t = record { texts = Some (ids_texts docs); answers = λ s. rw e (refl, refl); reply_is = ap (λ (bytes : List ℕ). Some bytes) t }
+
+pub alone_open : (command : Option Command) (o : Opening) (text : List ℕ) → command ≡ Some (opening_command o) → text ≡ with_ends (open_texts o) → AnswersAlone command (Some text)
+alone_open command o text e t = record { texts = Some (open_texts o); answers = λ s. rw e (refl, refl); reply_is = ap (λ (bytes : List ℕ). Some bytes) t }
+
+keeps_cases : (s : Session) (c : Call) (kept : SessionKept) (found : Option Session) → kept_with s c ≡ found → MatchOption found ((true ≡ false) × Knows kept s) (λ t. (true ≡ true) × Knows kept t) → Answers s (Some (index_call c)) kept (Some [])
+keeps_cases s c kept None e (never, knows) = absurd (cc)
+keeps_cases s c kept (Some t) e (taken, knows) = record { new = t; texts = Some []; knows = knows; answers = rw e (refl, refl); reply_is = refl }
+
+-- a call that was kept
+pub answers_kept : (s : Session) (c : Call) (kept : SessionKept) (taken : Bool) → Keeps s c kept taken → taken ≡ true → Answers s (Some (index_call c)) kept (Some [])
+answers_kept s c kept taken keeps e = keeps_cases s c kept (kept_with s c) refl (rw e at keeps)
+
+refuses_cases : (s : Session) (c : Call) (kept : SessionKept) (found : Option Session) → kept_with s c ≡ found → MatchOption found ((false ≡ false) × Knows kept s) (λ t. (false ≡ true) × Knows kept t) → Answers s (Some (index_call c)) kept None
+refuses_cases s c kept None e (taken, knows) = record { new = s; texts = None; knows = knows; answers = rw e (refl, refl); reply_is = refl }
+refuses_cases s c kept (Some t) e (never, knows) = absurd (cc)
+
+-- and one that was not
+pub answers_refused : (s : Session) (c : Call) (kept : SessionKept) (taken : Bool) → Keeps s c kept taken → taken ≡ false → Answers s (Some (index_call c)) kept None
+answers_refused s c kept taken keeps e = refuses_cases s c kept (kept_with s c) refl (rw e at keeps)
+
+-- a look-up
+pub answers_look_up : (s : Session) (q : Query) (kept : SessionKept) (command : Option Command) (text line : List ℕ) (t : Session) → command ≡ Some (query_look_up q) → Indexes s t → Knows kept t
+    → text ≡ look_up_text t q.requested q.term.field q.term.value → line ≡ text ++ 10 ∷ [] → Answers s command kept (Some line)
+answers_look_up s q kept command text line t e indexes knows is whole = record {
+  new = t;
+  texts = Some (look_up_text t q.requested q.term.field q.term.value ∷ []);
+  knows = knows;
+  answers = rw e (indexes, refl);
+  reply_is = ap (λ (bytes : List ℕ). Some bytes) (whole ∙ ap (λ (bytes : List ℕ). bytes ++ 10 ∷ []) is ∙ sym (append-nil _));
+}
 
 -- documents lie below 2 ^ 31, so there are fewer
 pub few_documents : (docs : List ℕ) → are_documents docs ≡ true → length docs < 4294967296

@@ -8,7 +8,10 @@ use Rattle.std.proofs.KnownBytes.{Appends-trans, Appends-nil}
 use Rattle.std.proofs.lemmas.List.{append-nil, take-append-drop}
 use Rattle.std.proofs.lemmas.List.Folds.{list_all-append}
 use Rattle.iiq.specs.Words.{parts, lines_of}
-use Rattle.iiq.specs.Output.{with_ends, reply_to, texts_of, Prints, has_no_error, PrintsAll, PrintsBeginning, PutsBeginning}
+use Rattle.iiq.specs.declared.session.Session.{Session as SessionKept}
+use Rattle.iiq.specs.Known.{IsReply}
+use Rattle.iiq.specs.Output.{with_ends, Prints, has_no_error, PrintsAll, PrintsBeginning, PutsBeginning}
+use Rattle.iiq.specs.Session.{Session, gathering}
 
 -- parts are never none
 some_part_cases : (c x : ℕ) (xs : List ℕ) (t : Bool) → (q : List ℕ) × (qs : List (List ℕ)) × (parts c xs ≡ q ∷ qs)
@@ -63,35 +66,39 @@ no_error_ends (t ∷ ts) more =
     ∙ sym (and_assoc (has_no_error t) (has_no_error (with_ends ts)) (has_no_error more))
     ∙ ap (λ b. b && has_no_error more) (sym (ap has_no_error right ∙ no_error_append t (with_ends ts)))
 
--- What a run knows that has answered some lines and has these left.
-pub record IsAnswering (old now : Option (List ℕ)) (text : List ℕ) (left : List (List ℕ)) (fine : Bool) : Type 0 where
+-- What a run knows that has answered some lines, and has these left for a session.
+pub record IsAnswering (old now : Option (List ℕ)) (text : List ℕ) (left : List (List ℕ)) (s : Session) (fine : Bool) : Type 0 where
   pub written : List ℕ
   pub appends : Appends old now written
-  pub prints : (out : List ℕ) → Prints left out → Prints (lines_of text) (written ++ out)
+  pub prints : (out : List ℕ) → Prints s left out → Prints (gathering []) (lines_of text) (written ++ out)
   pub fine_is : (more : List ℕ) → has_no_error (written ++ more) ≡ (fine && has_no_error more)
 
-pub answering_first : (old : Option (List ℕ)) (text : List ℕ) → Appends old old [] → IsAnswering old old text (lines_of text) true
+pub answering_first : (old : Option (List ℕ)) (text : List ℕ) → Appends old old [] → IsAnswering old old text (lines_of text) (gathering []) true
 answering_first old text same = record { written = []; appends = same; prints = λ out p. p; fine_is = λ more. refl }
 
--- one more line answered
-pub answering_next : (old now new : Option (List ℕ)) (text line answer : List ℕ) (left more : List (List ℕ)) (fine : Bool) → IsAnswering old now text left fine
-    → left ≡ line ∷ more → answer ≡ reply_to line → Appends now new answer → IsAnswering old new text more (fine && has_no_error answer)
-answering_next old now new text line answer left more fine a e reply appends =
+-- one more line answered, before what is written for the others
+prints_line : (s : Session) (line answer : List ℕ) (left more : List (List ℕ)) (now : SessionKept) (r : IsReply s line now answer) (out : List ℕ) → left ≡ line ∷ more → Prints r.new more out → Prints s left (answer ++ out)
+prints_line s line answer left more now r out e later =
+    rw e (inl (record { new = r.new; texts = r.texts; rest = out; answers = r.answers; out_is = ap (λ (a : List ℕ). a ++ out) r.text_is; others = later }))
+
+pub answering_next : (old now new : Option (List ℕ)) (text line answer : List ℕ) (left more : List (List ℕ)) (s : Session) (kept : SessionKept) (fine : Bool) → IsAnswering old now text left s fine
+    → left ≡ line ∷ more → (r : IsReply s line kept answer) → Appends now new answer → IsAnswering old new text more r.new (fine && has_no_error answer)
+answering_next old now new text line answer left more s kept fine a e r appends =
     let known = a.fine_is in
     let prints = a.prints in
     record {
       written = a.written ++ answer;
       appends = Appends-trans old now new a.written answer a.appends appends;
-      prints = λ out p. rw append_assoc (prints (answer ++ out) (rw (e, reply) (inl (out, refl, p))));
+      prints = λ out p. rw append_assoc (prints (answer ++ out) (prints_line s line answer left more kept r out e p));
       fine_is = λ rest.
           rw append_assoc (known (answer ++ rest)
-          ∙ ap (λ b. fine && b) (rw reply (no_error_ends (texts_of line) rest))
+          ∙ ap (λ b. fine && b) (rw r.text_is (no_error_ends r.texts rest))
           ∙ sym (and_assoc fine (has_no_error answer) (has_no_error rest)));
     }
 
 -- no line is left
-pub answered : (old now : Option (List ℕ)) (text : List ℕ) (left : List (List ℕ)) (fine : Bool) → IsAnswering old now text left fine → left ≡ [] → PrintsAll old now text fine
-answered old now text left fine a e =
+pub answered : (old now : Option (List ℕ)) (text : List ℕ) (left : List (List ℕ)) (s : Session) (fine : Bool) → IsAnswering old now text left s fine → left ≡ [] → PrintsAll old now text fine
+answered old now text left s fine a e =
     let prints = a.prints in
     let known = a.fine_is in
     record {
@@ -102,9 +109,9 @@ answered old now text left fine a e =
     }
 
 -- memory for a line was refused
-pub answered_no_memory : (old now new : Option (List ℕ)) (text line : List ℕ) (left more : List (List ℕ)) (fine : Bool) → IsAnswering old now text left fine
+pub answered_no_memory : (old now new : Option (List ℕ)) (text line : List ℕ) (left more : List (List ℕ)) (s : Session) (fine : Bool) → IsAnswering old now text left s fine
     → left ≡ line ∷ more → Appends now new (codes "error 1\n") → PrintsAll old new text false
-answered_no_memory old now new text line left more fine a e appends =
+answered_no_memory old now new text line left more s fine a e appends =
     let prints = a.prints in
     let known = a.fine_is in
     record {
@@ -115,9 +122,9 @@ answered_no_memory old now new text line left more fine a e appends =
     }
 
 -- the writer failed within these bytes, after which the rest of the run would have been written
-pub answered_beginning : (old now new : Option (List ℕ)) (text bytes rest : List ℕ) (left : List (List ℕ)) (fine : Bool) → IsAnswering old now text left fine
-    → Prints left (bytes ++ rest) → PutsBeginning now new bytes → PrintsBeginning old new text
-answered_beginning old now new text bytes rest left fine a p (out, after, appends, e) =
+pub answered_beginning : (old now new : Option (List ℕ)) (text bytes rest : List ℕ) (left : List (List ℕ)) (s : Session) (fine : Bool) → IsAnswering old now text left s fine
+    → Prints s left (bytes ++ rest) → PutsBeginning now new bytes → PrintsBeginning old new text
+answered_beginning old now new text bytes rest left s fine a p (out, after, appends, e) =
     let prints = a.prints in
     let whole : a.written ++ (bytes ++ rest) ≡ (a.written ++ out) ++ (after ++ rest) = rw (e, append_assoc, append_assoc) refl in
     record {
@@ -128,41 +135,39 @@ answered_beginning old now new text bytes rest left fine a p (out, after, append
     }
 
 -- some text is written for any lines
-pub prints_some : (lines : List (List ℕ)) → (out : List ℕ) × Prints lines out
-prints_some [] = ([], refl)
-prints_some (line ∷ lines) =
-    let later = prints_some lines in
-    (reply_to line ++ later.0, inl (later.0, refl, later.1))
+pub prints_some : (s : Session) (lines : List (List ℕ)) → (out : List ℕ) × Prints s lines out
+prints_some s [] = ([], refl)
+prints_some s (line ∷ lines) = (codes "error 1\n", inr refl)
 
 -- the writer failed within the answer to a line
-pub answered_part : (old now new : Option (List ℕ)) (text line answer : List ℕ) (left more : List (List ℕ)) (fine : Bool) → IsAnswering old now text left fine
-    → left ≡ line ∷ more → answer ≡ reply_to line → PutsBeginning now new answer → PrintsBeginning old new text
-answered_part old now new text line answer left more fine a e reply puts =
-    let later = prints_some more in
-    answered_beginning old now new text answer later.0 left fine a (rw (e, reply) (inl (later.0, refl, later.1))) puts
+pub answered_part : (old now new : Option (List ℕ)) (text line answer : List ℕ) (left more : List (List ℕ)) (s : Session) (kept : SessionKept) (fine : Bool) → IsAnswering old now text left s fine
+    → left ≡ line ∷ more → IsReply s line kept answer → PutsBeginning now new answer → PrintsBeginning old new text
+answered_part old now new text line answer left more s kept fine a e r puts =
+    let later = prints_some r.new more in
+    answered_beginning old now new text answer later.0 left s fine a (prints_line s line answer left more kept r later.0 e later.1) puts
 
 -- the writer failed within the last line of a run that found no memory
-pub answered_no_memory_part : (old now new : Option (List ℕ)) (text line : List ℕ) (left more : List (List ℕ)) (fine : Bool) → IsAnswering old now text left fine
+pub answered_no_memory_part : (old now new : Option (List ℕ)) (text line : List ℕ) (left more : List (List ℕ)) (s : Session) (fine : Bool) → IsAnswering old now text left s fine
     → left ≡ line ∷ more → PutsBeginning now new (codes "error 1\n") → PrintsBeginning old new text
-answered_no_memory_part old now new text line left more fine a e puts =
-    answered_beginning old now new text (codes "error 1\n") [] left fine a (rw (e, append-nil) (inr refl)) puts
+answered_no_memory_part old now new text line left more s fine a e puts =
+    answered_beginning old now new text (codes "error 1\n") [] left s fine a (rw (e, append-nil) (inr refl)) puts
 
 -- a run that writes nothing, or that found no memory for its input
 lines_some : (text : List ℕ) → (line : List ℕ) × (lines : List (List ℕ)) × (lines_of text ≡ line ∷ lines)
 lines_some text = some_part 10 text
 
 pub nothing_answered : (old : Option (List ℕ)) (text : List ℕ) → Appends old old [] → PrintsBeginning old old text
-nothing_answered old text same = record { out = []; rest = (prints_some (lines_of text)).0; appends = same; prints = (prints_some (lines_of text)).1 }
+nothing_answered old text same = record { out = []; rest = (prints_some (gathering []) (lines_of text)).0; appends = same; prints = (prints_some (gathering []) (lines_of text)).1 }
 
 pub no_memory_answered : (old new : Option (List ℕ)) (text : List ℕ) → Appends old old [] → Appends old new (codes "error 1\n") → PrintsAll old new text false
 no_memory_answered old new text same appends =
     let some = lines_some text in
-    answered_no_memory old old new text some.0 (lines_of text) some.1 true (answering_first old text same) some.2 appends
+    answered_no_memory old old new text some.0 (lines_of text) some.1 (gathering []) true (answering_first old text same) some.2 appends
 
 pub no_memory_answered_part : (old new : Option (List ℕ)) (text : List ℕ) → Appends old old [] → PutsBeginning old new (codes "error 1\n") → PrintsBeginning old new text
 no_memory_answered_part old new text same puts =
     let some = lines_some text in
-    answered_no_memory_part old old new text some.0 (lines_of text) some.1 true (answering_first old text same) some.2 puts
+    answered_no_memory_part old old new text some.0 (lines_of text) some.1 (gathering []) true (answering_first old text same) some.2 puts
 
 appends_kept : (a b c : Option (List ℕ)) (bs : List ℕ) → Appends a b bs → Keeps b c → Appends a c bs
 appends_kept None b c bs p q = tt
@@ -171,18 +176,18 @@ appends_kept (Some x) (Some y) None bs p q = absurd q
 appends_kept (Some x) (Some y) (Some z) bs p q = q ∙ p
 
 -- a flush at the end
-pub answered_kept : (old now new : Option (List ℕ)) (text : List ℕ) (left : List (List ℕ)) (fine : Bool) → IsAnswering old now text left fine → Keeps now new → IsAnswering old new text left fine
-answered_kept old now new text left fine a kept = record { written = a.written; appends = appends_kept old now new a.written a.appends kept; prints = a.prints; fine_is = a.fine_is }
+pub answered_kept : (old now new : Option (List ℕ)) (text : List ℕ) (left : List (List ℕ)) (s : Session) (fine : Bool) → IsAnswering old now text left s fine → Keeps now new → IsAnswering old new text left s fine
+answered_kept old now new text left s fine a kept = record { written = a.written; appends = appends_kept old now new a.written a.appends kept; prints = a.prints; fine_is = a.fine_is }
 
-pub answered_all : {E : Type 0} (r : Result Bool E) (old now new : Option (List ℕ)) (text : List ℕ) (left : List (List ℕ)) (fine : Bool) → IsAnswering old now text left fine → left ≡ [] → Keeps now new → IfOk r (λ answer. answer ≡ fine)
+pub answered_all : {E : Type 0} (r : Result Bool E) (old now new : Option (List ℕ)) (text : List ℕ) (left : List (List ℕ)) (s : Session) (fine : Bool) → IsAnswering old now text left s fine → left ≡ [] → Keeps now new → IfOk r (λ answer. answer ≡ fine)
     → IfOk r (λ answer. PrintsAll old new text answer)
-answered_all (Ok answer) old now new text left fine a e kept same = rw same (answered old new text left fine (answered_kept old now new text left fine a kept) e)
-answered_all (Err x) old now new text left fine a e kept same = tt
+answered_all (Ok answer) old now new text left s fine a e kept same = rw same (answered old new text left s fine (answered_kept old now new text left s fine a kept) e)
+answered_all (Err x) old now new text left s fine a e kept same = tt
 
-pub answered_all_part : {E : Type 0} (r : Result Bool E) (old now new : Option (List ℕ)) (text : List ℕ) (left : List (List ℕ)) (fine : Bool) → IsAnswering old now text left fine → left ≡ [] → Keeps now new → OnErr r (PrintsBeginning old new text)
-answered_all_part (Ok answer) old now new text left fine a e kept = tt
-answered_all_part (Err x) old now new text left fine a e kept =
-    let all = answered old new text left fine (answered_kept old now new text left fine a kept) e in
+pub answered_all_part : {E : Type 0} (r : Result Bool E) (old now new : Option (List ℕ)) (text : List ℕ) (left : List (List ℕ)) (s : Session) (fine : Bool) → IsAnswering old now text left s fine → left ≡ [] → Keeps now new → OnErr r (PrintsBeginning old new text)
+answered_all_part (Ok answer) old now new text left s fine a e kept = tt
+answered_all_part (Err x) old now new text left s fine a e kept =
+    let all = answered old new text left s fine (answered_kept old now new text left s fine a kept) e in
     record { out = all.out; rest = []; appends = all.appends; prints = rw append-nil all.prints }
 
 pub ended : {E : Type 0} (r : Result Bool E) (old now new : Option (List ℕ)) (bs : List ℕ) → Appends old now bs → Keeps now new → IfOk r (λ answer. answer ≡ false) → IfOk r (λ answer. (answer ≡ false) × Appends old new bs)

@@ -1,9 +1,9 @@
 -- Laws of parts and numbers.
 use Rattle.std.proofs.Common.{◌≡◌, ◌≢◌, ℕ, zero, suc, ◌+◌, ◌*◌, ◌-◌, ◌^◌, ◌<◌, Bool, true, false, ◌&&◌, List, [], ◌∷◌, length, take, drop, get_or, Some, None, Result, Ok, Err, nat_lt, nat_le, refl, sym, ap, arith, cond, eqb, not, subst}
-use Rattle.std.proofs.lemmas.List.Sums.{prefix_len_passes}
-use Rattle.std.proofs.lemmas.Bool.{ltb-true, ltb-false, leb-true}
+use Rattle.std.proofs.lemmas.List.Sums.{passes_at_first, prefix_len_passes}
+use Rattle.std.proofs.lemmas.Bool.{eqb-true, ltb-true, ltb-false, leb-true}
 use Rattle.std.proofs.lemmas.List.Splits.{slice_split_first, slice_split_none}
-use Rattle.std.proofs.lemmas.Str.{IsUtf8-from_ascii}
+use Rattle.std.proofs.lemmas.Str.{IsUtf8-from_ascii, IsUtf8-drop, IsCharBoundary-after_ascii}
 use Rattle.std.proofs.lemmas.Str.Parse.{IsNumeralModel, numerals_by_fold, tells_all_ascii_digits, parse_plain}
 use Rattle.std.specs.Str.Parse.{ParsesUnsigned}
 use Rattle.std.specs.List.{position, position_or_len, All}
@@ -27,6 +27,14 @@ parts_at c text i e =
     let found = some_if (nat_lt (position_or_len (λ b. eqb b c) text) (length text)) (position_or_len (λ b. eqb b c) text) i (sym e) in
     let within = ltb-true (position_or_len (λ b. eqb b c) text) (length text) found.0 in
     rw (← found.1) (slice_split_first (λ b. eqb b c) text 0 within)
+
+-- what stands behind a separator that is ASCII is text, where the whole is
+pub utf8_behind : (c : ℕ) (text : List ℕ) (i : ℕ) → Some i ≡ position (λ b. eqb b c) text → c < 128 → IsUtf8 text → IsUtf8 (drop (i + 1) text)
+utf8_behind c text i e ascii whole =
+    let found = some_if (nat_lt (position_or_len (λ b. eqb b c) text) (length text)) (position_or_len (λ b. eqb b c) text) i (sym e) in
+    let within : i < length text = rw found.1 at (ltb-true (position_or_len (λ b. eqb b c) text) (length text) found.0) in
+    let here : get_or text i 0 ≡ c = eqb-true (get_or text i 0) c (rw found.1 at (passes_at_first (λ b. eqb b c) text 0 (ltb-true (position_or_len (λ b. eqb b c) text) (length text) found.0))) in
+    IsUtf8-drop text (i + 1) whole (IsCharBoundary-after_ascii text i whole within (omega (arith, here, ascii)))
 
 not_true : (b : Bool) → not b ≡ true → b ≡ false
 not_true true e = absurd (cc)

@@ -1,16 +1,29 @@
 -- What a line asks for.
-use Rattle.std.specs.Prelude.{ℕ, ◌^◌, List, [], ◌∷◌, if◌then◌else◌, Option, Some, None, option_map, codes}
+use Rattle.std.specs.Prelude.{ℕ, ◌^◌, List, [], ◌∷◌, length, if◌then◌else◌, nat_lt, Option, Some, None, option_map, codes}
+use Rattle.std.specs.List.{join_with_byte}
 use Rattle.std.specs.Str.{bytes_eq}
+use Rattle.ii_base.specs.Values.{u64_bytes}
 use Rattle.ii_base.specs.declared.schema.index_record_option.IndexRecordOption.{IndexRecordOption}
 use Rattle.ii_base.specs.declared.schema.index_record_option.IndexRecordOption.TheVariants.{Basic, WithFreqs, WithFreqsAndPositions}
 use Rattle.ii_io.specs.Steps.{◌>>=◌, needs}
 use Rattle.ii_docset.specs.declared.docset.TheConstants.{TERMINATED}
 use Rattle.ii_docset.specs.Entries.{are_documents}
+use Rattle.ii_index.specs.Tokens.{Call, text, value}
 use Rattle.iiq.specs.Words.{words_of, number_below, numbers_below, bytes_of_word}
 
+-- A look-up has the option that is asked for, the field, and the key.
 pub data Command : Type 0 where
   show_ids : List ℕ → Command
   open_list : IndexRecordOption → IndexRecordOption → ℕ → List ℕ → Option (List ℕ) → Command
+  index_call : Call → Command
+  look_up : IndexRecordOption → ℕ → List ℕ → Command
+
+-- the field of texts, and the field of numbers
+abbrev pub text_field : ℕ
+text_field = 0
+
+abbrev pub num_field : ℕ
+num_field = 1
 
 abbrev pub option_of_word : List ℕ → Option IndexRecordOption
 option_of_word word =
@@ -34,6 +47,12 @@ abbrev pub next_by : {A : Type 0} → (List ℕ → Option A) → List (List ℕ
 next_by read [] = None
 next_by read (word ∷ words) = read word >>= λ value. Some (value, words)
 
+-- what the one word that is left writes
+abbrev pub last_by : {A : Type 0} → (List ℕ → Option A) → List (List ℕ) → Option A
+last_by read [] = None
+last_by read (word ∷ []) = read word
+last_by read (word ∷ more ∷ words) = None
+
 -- the bytes of positions, if they are given, as the last word
 abbrev pub positions_of_words : List (List ℕ) → Option (Option (List ℕ))
 positions_of_words [] = Some None
@@ -49,12 +68,48 @@ open_command words = do
   positions ← positions_of_words bytes.1
   Some (open_list recorded.0 requested.0 doc_freq.0 bytes.0 positions)
 
+-- the text is all that stands behind the document's space, if anything does
+abbrev pub text_command : List (List ℕ) → Option Command
+text_command words = do
+  doc ← next_by (number_below TERMINATED) words
+  Some (index_call (record { doc = doc.0; field = text_field; content = text (join_with_byte 32 doc.1) }))
+
+abbrev pub num_command : List (List ℕ) → Option Command
+num_command words = do
+  doc ← next_by (number_below TERMINATED) words
+  number ← last_by (number_below (2 ^ 64)) doc.1
+  Some (index_call (record { doc = doc.0; field = num_field; content = value (u64_bytes number) }))
+
+-- a word that isn't empty, as it stands
+abbrev pub key_of_word : List ℕ → Option (List ℕ)
+key_of_word word = needs (nat_lt 0 (length word)) >>= λ _. Some word
+
+abbrev pub text_query : List (List ℕ) → Option Command
+text_query words = do
+  option ← next_by option_of_word words
+  key ← last_by key_of_word option.1
+  Some (look_up option.0 text_field key)
+
+abbrev pub num_query : List (List ℕ) → Option Command
+num_query words = option_map (λ number. look_up Basic num_field (u64_bytes number)) (last_by (number_below (2 ^ 64)) words)
+
+-- a look-up, by the word behind the question mark
+abbrev pub query_command : List (List ℕ) → Option Command
+query_command [] = None
+query_command (word ∷ words) =
+    if bytes_eq word (codes "text") then text_query words
+    else if bytes_eq word (codes "num") then num_query words
+    else None
+
 -- a line of words, by its first one
 abbrev pub words_command : List (List ℕ) → Option Command
 words_command [] = None
 words_command (word ∷ words) =
     if bytes_eq word (codes "ids") then ids_command words
     else if bytes_eq word (codes "open") then open_command words
+    else if bytes_eq word (codes "text") then text_command words
+    else if bytes_eq word (codes "num") then num_command words
+    else if bytes_eq word (codes "?") then query_command words
     else None
 
 -- what a line asks for, if it is well formed

@@ -1,4 +1,5 @@
 pub mod Words
 pub mod Commands
-pub mod Opening
+pub mod Known
 pub mod Output
+pub mod Session

@@ -1,18 +1,23 @@
 -- What the program writes for the bytes that it reads.
-use Rattle.std.specs.Prelude.{◌≡◌, ℕ, Bool, not, ◌⊎◌, nat_eq, List, [], ◌∷◌, ◌++◌, map, if◌then◌else◌, Option, Some, None, Result, Ok, Err, codes, decimal, flat_map}
+use Rattle.std.specs.Prelude.{◌≡◌, ℕ, Bool, not, ◌⊎◌, nat_eq, List, [], ◌∷◌, ◌++◌, map, if◌then◌else◌, Option, Some, None, MatchOption, Result, Ok, Err, codes, decimal, flat_map, unwrap_or}
 use Rattle.std.specs.List.{join_with_byte, list_all, starts_with}
 use Rattle.std.specs.Str.{is_utf8}
 use Rattle.std.specs.Io.KnownBytes.{Appends}
 use Rattle.ii_base.specs.declared.schema.index_record_option.IndexRecordOption.{IndexRecordOption}
 use Rattle.ii_base.specs.declared.schema.index_record_option.IndexRecordOption.TheVariants.{Basic, WithFreqs, WithFreqsAndPositions}
 use Rattle.ii_base.specs.Options.{downgrade}
+use Rattle.ii_io.specs.Faults.{number_of}
 use Rattle.ii_io.specs.declared.faults.Part.{Part}
 use Rattle.ii_io.specs.declared.faults.Part.TheVariants.{Skip, Documents, Frequencies, Positions}
 use Rattle.ii_docset.specs.Entries.{Entry, document}
 use Rattle.ii_layout.specs.TermList.{term_list}
 use Rattle.ii_layout.specs.Written.{written_documents}
+use Rattle.ii_index.specs.Fields.{option_of}
+use Rattle.ii_index.specs.Postings.{key_postings, occurs}
+use Rattle.ii_index.specs.Tokens.{IndexToken}
 use Rattle.iiq.specs.Words.{lines_of, nothing, written_hex}
-use Rattle.iiq.specs.Commands.{Command, show_ids, open_list, command_of}
+use Rattle.iiq.specs.Commands.{Command, show_ids, open_list, index_call, look_up, command_of}
+use Rattle.iiq.specs.Session.{Session, gathering, opened, refused, Indexes, fields, kept_with}
 
 -- positions, parted by commas
 abbrev pub positions_text : List ℕ → List ℕ
@@ -45,31 +50,65 @@ abbrev pub opened_text : IndexRecordOption → Result (List Entry) Part → List
 opened_text option (Ok entries) = list_text option entries
 opened_text option (Err part) = codes "damaged " ++ part_name part
 
--- the texts that are written for a command
-abbrev pub command_texts : Command → List (List ℕ)
-command_texts (show_ids docs) = written_hex (written_documents docs) ∷ list_text Basic (map document docs) ∷ []
-command_texts (open_list recorded requested doc_freq bytes positions) = opened_text (downgrade recorded requested) (term_list recorded requested doc_freq bytes positions) ∷ []
+-- the postings of a key in a field, as far as they are asked for and recorded
+abbrev pub key_text : IndexRecordOption → ℕ → List ℕ → List IndexToken → List ℕ
+key_text requested field key ts =
+    let option = option_of fields field in
+    if occurs field key ts then list_text (downgrade option requested) (key_postings option field key requested ts) else codes "none"
 
-abbrev pub maybe_texts : Option Command → List (List ℕ)
-maybe_texts None = codes "error line" ∷ []
-maybe_texts (Some command) = command_texts command
+-- what a look-up is answered with, once there is an index
+abbrev pub look_up_text : Session → IndexRecordOption → ℕ → List ℕ → List ℕ
+look_up_text (gathering calls) requested field key = []
+look_up_text (opened ts) requested field key = key_text requested field key ts
+look_up_text (refused fault) requested field key = codes "error " ++ decimal (number_of fault)
 
--- the texts of a line: none for an empty one
-abbrev pub texts_of : List ℕ → List (List ℕ)
-texts_of [] = []
-texts_of (c ∷ cs) = maybe_texts (if is_utf8 (c ∷ cs) then command_of (c ∷ cs) else None)
+abbrev pub ids_texts : List ℕ → List (List ℕ)
+ids_texts docs = written_hex (written_documents docs) ∷ list_text Basic (map document docs) ∷ []
+
+-- A command is answered by these texts, or by none where it is refused, and leaves this session.
+abbrev pub AnswersCommand : Session → Command → Session → Option (List (List ℕ)) → Type 0
+AnswersCommand old (show_ids docs) new texts = (new ≡ old) × (texts ≡ Some (ids_texts docs))
+AnswersCommand old (open_list recorded requested doc_freq bytes positions) new texts =
+    (new ≡ old) × (texts ≡ Some (opened_text (downgrade recorded requested) (term_list recorded requested doc_freq bytes positions) ∷ []))
+AnswersCommand old (index_call c) new texts = MatchOption (kept_with old c) ((new ≡ old) × (texts ≡ None)) (λ kept. (new ≡ kept) × (texts ≡ Some []))
+AnswersCommand old (look_up requested field key) new texts = Indexes old new × (texts ≡ Some (look_up_text new requested field key ∷ []))
+
+-- So it is for a line, if it is well formed.
+abbrev pub AnswersMaybe : Session → Option Command → Session → Option (List (List ℕ)) → Type 0
+AnswersMaybe old None new texts = (new ≡ old) × (texts ≡ None)
+AnswersMaybe old (Some command) new texts = AnswersCommand old command new texts
+
+-- the command of a line that is text
+abbrev pub line_command : List ℕ → Option Command
+line_command line = if is_utf8 line then command_of line else None
+
+-- a line that is refused
+abbrev pub error_line : List (List ℕ)
+error_line = codes "error line" ∷ []
+
+-- A line is answered by these texts, an empty one by none, and leaves this session.
+abbrev pub AnswersLine : Session → List ℕ → Session → List (List ℕ) → Type 0
+AnswersLine old [] new texts = (new ≡ old) × (texts ≡ [])
+AnswersLine old (c ∷ cs) new texts =
+    (found : Option (List (List ℕ))) × AnswersMaybe old (line_command (c ∷ cs)) new found × (texts ≡ unwrap_or found error_line)
 
 -- each text with its line's end
 abbrev pub with_ends : List (List ℕ) → List ℕ
 with_ends texts = flat_map (λ text. text ++ 10 ∷ []) texts
 
-abbrev pub reply_to : List ℕ → List ℕ
-reply_to line = with_ends (texts_of line)
+-- One of the lines is answered, and then the others.
+pub record PrintsLine (P : Session → List ℕ → Type 0) (old : Session) (line out : List ℕ) : Type 0 where
+  pub new : Session
+  pub texts : List (List ℕ)
+  pub rest : List ℕ
+  pub answers : AnswersLine old line new texts
+  pub out_is : out ≡ with_ends texts ++ rest
+  pub others : P new rest
 
 -- What is written for these lines. A line for which memory is refused prints `error 1` and ends the run.
-abbrev pub Prints : List (List ℕ) → List ℕ → Type 0
-Prints [] out = out ≡ []
-Prints (line ∷ lines) out = ((rest : List ℕ) × (out ≡ reply_to line ++ rest) × Prints lines rest) ⊎ (out ≡ codes "error 1\n")
+abbrev pub Prints : Session → List (List ℕ) → List ℕ → Type 0
+Prints old [] out = out ≡ []
+Prints old (line ∷ lines) out = PrintsLine (λ new rest. Prints new lines rest) old line out ⊎ (out ≡ codes "error 1\n")
 
 -- no line of the text begins with `error`
 abbrev pub has_no_error : List ℕ → Bool
@@ -79,7 +118,7 @@ has_no_error text = list_all (λ line. not (starts_with nat_eq line (codes "erro
 pub record PrintsAll (old new : Option (List ℕ)) (input : List ℕ) (fine : Bool) : Type 0 where
   pub out : List ℕ
   pub appends : Appends old new out
-  pub prints : Prints (lines_of input) out
+  pub prints : Prints (gathering []) (lines_of input) out
   pub fine_is : fine ≡ has_no_error out
 
 -- The output grows by a beginning of what is written for the input.
@@ -87,7 +126,7 @@ pub record PrintsBeginning (old new : Option (List ℕ)) (input : List ℕ) : Ty
   pub out : List ℕ
   pub rest : List ℕ
   pub appends : Appends old new out
-  pub prints : Prints (lines_of input) (out ++ rest)
+  pub prints : Prints (gathering []) (lines_of input) (out ++ rest)
 
 -- The output grows by a beginning of these bytes.
 abbrev pub PutsBeginning : Option (List ℕ) → Option (List ℕ) → List ℕ → Type 0

@@ -1,14 +1,18 @@
-ghost use Rattle.std.specs.Prelude.{◌≡◌, ◌^◌, ◌≤◌, IfOk, MatchOption, None, Some};
-ghost use Rattle.std.specs.Option.{option_map};
-ghost use Rattle.iiq.specs.Words.{number_below, bytes_of_word};
-ghost use Rattle.iiq.specs.Commands.{documents_of_words, next_by, option_of_word, positions_of_words, open_command};
-ghost use Rattle.iiq.specs.Opening.{opening_command};
+ghost use Rattle.std.specs.Prelude.{◌≡◌, ◌^◌, ◌<◌, ◌≤◌, length, string_bytes, IfOk, IfSome, MatchOption, None, Some};
+ghost use Rattle.std.specs.Option.{option_copied, option_map};
+ghost use Rattle.std.specs.List.{join_with_byte};
+ghost use Rattle.std.specs.Str.{IsUtf8};
+ghost use Rattle.iiq.specs.Words.{number_below, bytes_of_word, parts_left};
+ghost use Rattle.iiq.specs.Commands.{documents_of_words, last_by, next_by, num_command, num_query, open_command, option_of_word, positions_of_words, query_command, text_command, text_query};
+ghost use Rattle.iiq.specs.Known.{IsCall, call_command, opening_command, query_look_up};
+ghost use Rattle.iiq.specs.Session.{fields};
 
-use crate::parts::Parts;
-use crate::words::{bytes_of, number_up_to, option_of};
+use crate::parts::{Parts, cut};
+use crate::words::{bytes_of, number, number_up_to, option_of};
 use bytes::Bytes;
-use ii_base::IndexRecordOption;
+use ii_base::{Field, IndexRecordOption, Term};
 use ii_docset::TERMINATED;
+use ii_indexing::IndexCall;
 use std::alloc::{AllocError, Global};
 
 /// What a line that opens a list names.
@@ -19,6 +23,13 @@ pub struct Opening {
     pub doc_freq: u32,
     pub postings: Bytes,
     pub positions: Option<Bytes>,
+}
+
+/// What a line looks up: a term, and what is asked for of its postings.
+#[derive(Drop)]
+pub struct Query {
+    pub requested: IndexRecordOption,
+    pub term: Term,
 }
 
 /// The documents that words write: ascending strictly, below `TERMINATED`.
@@ -80,8 +91,9 @@ fn next_option(words: &mut Parts<'_>) -> Option<IndexRecordOption>
 
 fn next_number(words: &mut Parts<'_>, limit: u64) -> Option<u32>
     requires { limit ≤ 2 ^ 32 }
-    ensures { MatchOption result (next_by (number_below limit) words.old ≡ None)
+    ensures value { MatchOption result (next_by (number_below limit) words.old ≡ None)
         (λ number. next_by (number_below limit) words.old ≡ Some (number, words.new)) }
+    ensures below { IfSome result (λ n. n < limit) }
 {
     let Some(word) = words.next() else {
         return None;
@@ -122,4 +134,125 @@ fn shared_bytes(alloc: Global, word: &[u8]) -> Result<Option<Bytes>, AllocError>
         Some(bytes) => Ok(Some(Bytes::from_vec(bytes)?)),
         None => Ok(None),
     }
+}
+
+/// The text that stands behind the word `text` and a document, if the document is one.
+pub fn text_call(alloc: Global, rest: Option<&[u8]>) -> Result<Option<IndexCall>, AllocError>
+    requires { IfSome rest (λ text. IsUtf8 text.now) }
+    ensures call { IfOk result (λ call. option_map call_command call ≡ text_command (parts_left 32 (option_copied rest.entry))) }
+    ensures lawful { IfOk result (λ call. IfSome call IsCall) }
+{
+    let Some(rest) = rest else {
+        return Ok(None);
+    };
+    let (word, text) = cut(rest, b' ');
+    let Some(doc) = number_up_to(word, u64::from(TERMINATED)) else {
+        return Ok(None);
+    };
+    let text = text_of(alloc, text)?;
+    Ok(Some(IndexCall::Text(doc, Field::from_field_id(0), text)))
+}
+
+// A text, or none at all.
+fn text_of(alloc: Global, text: Option<&[u8]>) -> Result<String, AllocError>
+    requires { IfSome text (λ t. IsUtf8 t.now) }
+    ensures { IfOk result (λ string. string_bytes string ≡ join_with_byte 32 (parts_left 32 (option_copied text.entry))) }
+{
+    let Some(bytes) = text else {
+        return Ok(String::new(alloc));
+    };
+    match std::str::from_utf8(bytes) {
+        Ok(text) => String::from_str(alloc, text),
+        Err(_) => Ok(String::new(alloc)),
+    }
+}
+
+/// The document and the number that the words after `num` name.
+pub fn num_call(words: &mut Parts<'_>) -> Option<IndexCall>
+    ensures call { option_map call_command result ≡ num_command words.old }
+    ensures lawful { IfSome result IsCall }
+{
+    let Some(doc) = next_number(words, u64::from(TERMINATED)) else {
+        return None;
+    };
+    let Some(number) = last_number(words) else {
+        return None;
+    };
+    Some(IndexCall::U64(doc, Field::from_field_id(1), number))
+}
+
+/// What the words after the question mark look up.
+pub fn term_to_look_up(alloc: Global, words: &mut Parts<'_>) -> Result<Option<Query>, AllocError>
+    ensures query { IfOk result (λ query. option_map query_look_up query ≡ query_command words.old) }
+    ensures field { IfOk result (λ query. IfSome query (λ q. q.term.field < length fields)) }
+{
+    let Some(word) = words.next() else {
+        return Ok(None);
+    };
+    if word == b"text".as_slice() {
+        return text_query(alloc, words);
+    }
+    if word == b"num".as_slice() {
+        return num_query(alloc, words);
+    }
+    Ok(None)
+}
+
+// An option, and a text as it stands.
+fn text_query(alloc: Global, words: &mut Parts<'_>) -> Result<Option<Query>, AllocError>
+    ensures query { IfOk result (λ query. option_map query_look_up query ≡ text_query words.old) }
+    ensures field { IfOk result (λ query. IfSome query (λ q. q.term.field < length fields)) }
+{
+    let Some(requested) = next_option(words) else {
+        return Ok(None);
+    };
+    let Some(word) = last_word(words) else {
+        return Ok(None);
+    };
+    if word.is_empty() {
+        return Ok(None);
+    }
+    let field = Field::from_field_id(0);
+    let Ok(term) = Term::from_field_bytes(alloc, field, word) else {
+        return Err(AllocError);
+    };
+    Ok(Some(Query { requested, term }))
+}
+
+// A number.
+fn num_query(alloc: Global, words: &mut Parts<'_>) -> Result<Option<Query>, AllocError>
+    ensures query { IfOk result (λ query. option_map query_look_up query ≡ num_query words.old) }
+    ensures field { IfOk result (λ query. IfSome query (λ q. q.term.field < length fields)) }
+{
+    let Some(number) = last_number(words) else {
+        return Ok(None);
+    };
+    let field = Field::from_field_id(1);
+    let Ok(term) = Term::from_field_u64(alloc, field, number) else {
+        return Err(AllocError);
+    };
+    let requested = IndexRecordOption::Basic;
+    Ok(Some(Query { requested, term }))
+}
+
+// The one word that is left.
+fn last_word<'a>(words: &mut Parts<'a>) -> Option<&'a [u8]>
+    ensures { option_copied result ≡ last_by (λ word. Some word) words.old }
+{
+    let Some(word) = words.next() else {
+        return None;
+    };
+    if words.next().is_some() {
+        return None;
+    }
+    Some(word)
+}
+
+fn last_number(words: &mut Parts<'_>) -> Option<u64>
+    ensures { result ≡ last_by (number_below (2 ^ 64)) words.old }
+{
+    let Some(word) = last_word(words) else {
+        return None;
+    };
+    number(word)
 }

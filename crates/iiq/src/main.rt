@@ -1,4 +1,5 @@
-//! A program that writes, opens and walks lists of documents, by lines of commands.
+//! A program that indexes texts and numbers and looks terms up, and that writes, opens and walks lists
+//! of documents, by lines of commands.
 #![tactic(auto)]
 
 mod commands;
@@ -6,6 +7,7 @@ mod output;
 mod parts;
 mod replies;
 mod run;
+mod session;
 mod words;
 
 use run::{RunFault, run as run_lines};

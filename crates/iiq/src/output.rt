@@ -5,7 +5,7 @@ ghost use Rattle.ii_docset.specs.Entries.{are_documents, document};
 ghost use Rattle.iiq.specs.Commands.{documents_of_words};
 ghost use Rattle.iiq.specs.Words.{written_hex};
 ghost use Rattle.ii_layout.specs.Written.{written_documents};
-ghost use Rattle.iiq.specs.Output.{item_at, list_text, part_name, positions_text, reply_to};
+ghost use Rattle.iiq.specs.Output.{item_at, list_text, part_name, positions_text};
 
 use ii_base::{CountingWriter, IndexRecordOption, Part};
 use ii_docset::{DocSet, Postings, TERMINATED};

@@ -1,4 +1,5 @@
-ghost use Rattle.std.specs.Prelude.{◌≡◌, ◌==◌, [], ◌∷◌, IfNone, MatchOption, position};
+ghost use Rattle.std.specs.Prelude.{◌≡◌, ◌<◌, ◌==◌, [], ◌∷◌, IfNone, IfSome, MatchOption, position};
+ghost use Rattle.std.specs.Str.{IsUtf8};
 ghost use Rattle.std.specs.Option.{option_copied};
 ghost use Rattle.iiq.specs.Words.{parts, parts_left};
 
@@ -32,6 +33,13 @@ impl<'a> Parts<'a> {
         }
     }
 
+    /// The parts of a text that is left, if one is.
+    pub fn left(rest: Option<&'a [u8]>, separator: u8) -> Parts<'a>
+        ensures { result ≡ parts_left separator (option_copied rest.entry) }
+    {
+        Parts { separator, rest }
+    }
+
     /// The next part, if one is left.
     pub fn next(&mut self) -> Option<&'a [u8]>
         ensures part { MatchOption result (self.old ≡ []) (λ part. self.old ≡ part.now ∷ self.new) }
@@ -46,9 +54,10 @@ impl<'a> Parts<'a> {
     }
 }
 
-// The text before the first separator, and the text after it, if there is one.
-fn cut(text: &[u8], separator: u8) -> (&[u8], Option<&[u8]>)
-    ensures { parts separator text.now ≡ result.0.now ∷ parts_left separator (option_copied result.1) }
+/// The text before the first separator, and the text after it, if there is one.
+pub fn cut(text: &[u8], separator: u8) -> (&[u8], Option<&[u8]>)
+    ensures parts { parts separator text.now ≡ result.0.now ∷ parts_left separator (option_copied result.1) }
+    ensures utf8 { separator < 128 → IsUtf8 text.now → IfSome result.1 (λ rest. IsUtf8 rest.now) }
 {
     match find(text, separator) {
         Some(i) => (&text[..i], Some(&text[i + 1..])),

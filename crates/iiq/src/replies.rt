@@ -1,23 +1,30 @@
-ghost use Rattle.std.specs.Prelude.{◌≡◌, IsTrue, IfOk, string_bytes, option_map, map};
+ghost use Rattle.std.specs.Prelude.{◌≡◌, ◌++◌, List, ℕ, IsTrue, IfOk, IfSome, string_bytes, option_map, map};
+ghost use Rattle.std.specs.Option.{option_copied};
+ghost use Rattle.std.specs.Str.{IsUtf8};
 ghost use Rattle.ii_docset.specs.Entries.{are_documents, document};
 ghost use Rattle.ii_layout.specs.Written.{written_documents};
-ghost use Rattle.iiq.specs.Commands.{show_ids, ids_command, open_command, command_of};
-ghost use Rattle.iiq.specs.Opening.{opening_command};
-ghost use Rattle.iiq.specs.Output.{reply_to, command_texts, with_ends};
+ghost use Rattle.iiq.specs.Commands.{Command, ids_command, open_command, query_command, command_of};
+ghost use Rattle.iiq.specs.Known.{Answers, AnswersAlone, IsCall, IsReply, IsSession, Knows, call_command, open_texts};
+ghost use Rattle.iiq.specs.Output.{ids_texts, with_ends};
+ghost use Rattle.iiq.specs.Session.{Session as SessionState};
+ghost use Rattle.iiq.specs.Words.{parts_left};
 
-use crate::commands::{Opening, documents, list_to_open};
+use crate::commands::{Opening, documents, list_to_open, num_call, term_to_look_up, text_call};
 use crate::output::{hex_text, name_of, push_list, written};
-use crate::parts::Parts;
+use crate::parts::{Parts, cut};
+use crate::session::Session;
 use bytes::Bytes;
 use ii_base::{IndexRecordOption, LayoutFault};
+use ii_indexing::IndexCall;
 use ii_layout::written::reads_documents_back;
 use ii_reader::SegmentPostings;
 use std::alloc::{AllocError, Global};
 
 /// What a line is answered with: nothing for an empty line, `error line` for one that is not well
-/// formed.
-pub fn reply(alloc: Global, line: &[u8]) -> Result<String, AllocError>
-    ensures { IfOk result (λ text. string_bytes text ≡ reply_to line.now) }
+/// formed or whose index call isn't kept.
+pub fn reply(alloc: Global, session: &mut Session, line: &[u8]) -> Result<String, AllocError>
+    requires { IsSession session.old }
+    ensures { (s : SessionState) → Knows session.old s → IfOk result (λ text. IsReply s line.now session.new (string_bytes text)) }
 {
     if line.is_empty() {
         return Ok(String::new(alloc));
@@ -25,20 +32,34 @@ pub fn reply(alloc: Global, line: &[u8]) -> Result<String, AllocError>
     let Ok(_) = std::str::from_utf8(line) else {
         return String::from_str(alloc, "error line\n");
     };
-    match command_reply(alloc, line)? {
+    match command_reply(alloc, session, line)? {
         Some(text) => Ok(text),
         None => String::from_str(alloc, "error line\n"),
     }
 }
 
-fn command_reply(alloc: Global, line: &[u8]) -> Result<Option<String>, AllocError>
-    ensures { IfOk result (λ reply. option_map string_bytes reply
-        ≡ option_map (λ command. with_ends (command_texts command)) (command_of line.now)) }
+fn command_reply(
+    alloc: Global,
+    session: &mut Session,
+    line: &[u8],
+) -> Result<Option<String>, AllocError>
+    requires session { IsSession session.old }
+    requires text { IsUtf8 line.now }
+    ensures { (s : SessionState) → Knows session.old s → IfOk result (λ reply. Answers s (command_of line.now) session.new (option_map string_bytes reply)) }
 {
-    let mut words = Parts::of(line, b' ');
-    let Some(word) = words.next() else {
-        return Ok(None);
-    };
+    let (word, rest) = cut(line, b' ');
+    if word == b"text".as_slice() {
+        let call = text_call(alloc, rest)?;
+        return call_reply(alloc, session, call);
+    }
+    let mut words = Parts::left(rest, b' ');
+    if word == b"num".as_slice() {
+        let call = num_call(&mut words);
+        return call_reply(alloc, session, call);
+    }
+    if word == b"?".as_slice() {
+        return query_reply(alloc, session, &mut words);
+    }
     if word == b"ids".as_slice() {
         return ids_reply(alloc, &mut words);
     }
@@ -48,9 +69,44 @@ fn command_reply(alloc: Global, line: &[u8]) -> Result<Option<String>, AllocErro
     Ok(None)
 }
 
+// A call is kept in silence.
+fn call_reply(
+    alloc: Global,
+    session: &mut Session,
+    call: Option<IndexCall>,
+) -> Result<Option<String>, AllocError>
+    requires session { IsSession session.old }
+    requires call { IfSome call IsCall }
+    ensures { (s : SessionState) → Knows session.old s → IfOk result (λ reply. Answers s (option_map call_command call) session.new (option_map string_bytes reply)) }
+{
+    let Some(call) = call else {
+        return Ok(None);
+    };
+    if session.keep(call)? {
+        Ok(Some(String::new(alloc)))
+    } else {
+        Ok(None)
+    }
+}
+
+fn query_reply(
+    alloc: Global,
+    session: &mut Session,
+    words: &mut Parts<'_>,
+) -> Result<Option<String>, AllocError>
+    requires { IsSession session.old }
+    ensures { (s : SessionState) → Knows session.old s → IfOk result (λ reply. Answers s (query_command words.old) session.new (option_map string_bytes reply)) }
+{
+    let Some(query) = term_to_look_up(alloc, words)? else {
+        return Ok(None);
+    };
+    let mut text = session.look_up(alloc, &query)?;
+    text.push('\n')?;
+    Ok(Some(text))
+}
+
 fn ids_reply(alloc: Global, words: &mut Parts<'_>) -> Result<Option<String>, AllocError>
-    ensures { IfOk result (λ reply. option_map string_bytes reply
-        ≡ option_map (λ command. with_ends (command_texts command)) (ids_command words.old)) }
+    ensures { IfOk result (λ reply. AnswersAlone (ids_command words.old) (option_map string_bytes reply)) }
 {
     let Some(docs) = documents(alloc, words)? else {
         return Ok(None);
@@ -61,7 +117,7 @@ fn ids_reply(alloc: Global, words: &mut Parts<'_>) -> Result<Option<String>, All
 // The bytes of a list of documents, and the list read back from them.
 fn ids_text(alloc: Global, docs: &[u32]) -> Result<String, AllocError>
     requires { IsTrue (are_documents docs.now) }
-    ensures { IfOk result (λ text. string_bytes text ≡ with_ends (command_texts (show_ids docs.now))) }
+    ensures { IfOk result (λ text. string_bytes text ≡ with_ends (ids_texts docs.now)) }
 {
     let bytes = written(alloc, docs)?;
     let mut text = hex_text(alloc, &bytes)?;
@@ -87,8 +143,7 @@ fn reopened(docs: &[u32], postings: Bytes) -> SegmentPostings
 }
 
 fn open_reply(alloc: Global, words: &mut Parts<'_>) -> Result<Option<String>, AllocError>
-    ensures { IfOk result (λ reply. option_map string_bytes reply
-        ≡ option_map (λ command. with_ends (command_texts command)) (open_command words.old)) }
+    ensures { IfOk result (λ reply. AnswersAlone (open_command words.old) (option_map string_bytes reply)) }
 {
     let Some(opening) = list_to_open(alloc, words)? else {
         return Ok(None);
@@ -98,7 +153,7 @@ fn open_reply(alloc: Global, words: &mut Parts<'_>) -> Result<Option<String>, Al
 
 // The list that bytes give, or the part of them that is damaged.
 fn open_text(alloc: Global, opening: Opening) -> Result<String, AllocError>
-    ensures { IfOk result (λ text. string_bytes text ≡ with_ends (command_texts (opening_command opening))) }
+    ensures { IfOk result (λ text. string_bytes text ≡ with_ends (open_texts opening)) }
 {
     let mut text = String::new(alloc);
     let option = opening.record_option.downgrade(opening.requested_option);

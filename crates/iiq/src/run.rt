@@ -4,6 +4,7 @@ ghost use Rattle.iiq.specs.Output.{PrintsAll, PrintsBeginning, PutsBeginning, ha
 
 use crate::parts::Parts;
 use crate::replies::reply;
+use crate::session::Session;
 use std::alloc::Global;
 use std::io::{Read, Write};
 
@@ -71,9 +72,10 @@ fn answer_lines<W: Write>(alloc: Global, text: &[u8], writer: &mut W) -> Result<
     ensures only { IfErr result (λ e. e ≡ RunFault.Output) }
 {
     let mut lines = Parts::of(text, b'\n');
+    let mut session = Session::new(alloc);
     let mut fine = true;
     while let Some(line) = lines.next() {
-        let Ok(answer) = reply(alloc, line) else {
+        let Ok(answer) = reply(alloc, &mut session, line) else {
             return end_run(writer);
         };
         fine &= has_no_error(answer.as_bytes());

@@ -1,4 +1,4 @@
-ghost use Rattle.std.specs.Prelude.{◌≡◌, ◌^◌, ◌≤◌, IfOk};
+ghost use Rattle.std.specs.Prelude.{◌≡◌, ◌^◌, ◌<◌, ◌≤◌, IfOk, IfSome};
 ghost use Rattle.std.specs.Option.{option_map};
 ghost use Rattle.iiq.specs.Words.{number_below, bytes_of_word};
 ghost use Rattle.iiq.specs.Commands.{option_of_word};
@@ -28,7 +28,8 @@ pub fn number(word: &[u8]) -> Option<u64>
 /// The number below `limit` that decimal digits write.
 pub fn number_up_to(word: &[u8], limit: u64) -> Option<u32>
     requires { limit ≤ 2 ^ 32 }
-    ensures { result ≡ number_below limit word.now }
+    ensures value { result ≡ number_below limit word.now }
+    ensures below { IfSome result (λ n. n < limit) }
 {
     let Some(value) = number(word) else {
         return None;

@@ -1,0 +1,187 @@
+-- Laws of sessions.
+use Rattle.std.proofs.Common.{◌≡◌, ◌∙◌, ◌+◌, ◌<◌, ◌≤◌, ◌++◌, ◌∷◌, [], ℕ, zero, suc, inl, inr, true, false, List, Option, None, Some, Result, Ok, Err, length, map, nat_le, is_some, refl, sym, ap, subst, arith, String, Global, Vec, ⊎_elim}
+use Rattle.std.specs.Prelude.{◌⊎◌, IfErr, IfOk, IfSome, slice_get, string_bytes}
+use Rattle.std.specs.List.{AllByRecursion, slice_index_or}
+use Rattle.std.specs.List.Sorted.{IsNonDecreasingBy}
+use Rattle.std.proofs.lemmas.Bool.{le-leb, lt-leb}
+use Rattle.std.proofs.lemmas.List.{map-append}
+use Rattle.std.proofs.lemmas.List.Sums.{fold-append}
+use Rattle.ii_io.specs.declared.faults.Fault.{Fault}
+use Rattle.ii_io.specs.declared.faults.Fault.TheVariants.{OutOfMemory}
+use Rattle.ii_base.specs.AsciiWords.{ascii_words}
+use Rattle.ii_base.specs.Options.{downgrade}
+use Rattle.ii_base.specs.Schema.{Entry}
+use Rattle.ii_base.specs.declared.schema.index_record_option.IndexRecordOption.{IndexRecordOption}
+use Rattle.ii_docset.specs.declared.docset.TheConstants.{TERMINATED}
+use Rattle.ii_index.specs.Fields.{option_of}
+use Rattle.ii_index.specs.Postings.{key_postings}
+use Rattle.ii_index.specs.Tokens.{Call, IndexToken, tokens_of}
+use Rattle.ii_indexing.specs.declared.index_call.IndexCall.{IndexCall}
+use Rattle.ii_indexing.specs.declared.index_call.IndexCall.TheVariants as calls
+use Rattle.ii_indexing.specs.IndexCalls.{MayBeIndexed, call_of}
+use Rattle.ii_indexing.specs.Refusals.{calls_fault}
+use Rattle.ii_ram.specs.Ram.{IsRamFault}
+use Rattle.ii_reader.specs.InvertedIndexReader.{GivesPostings, InvertedIndexReaderState, ReaderHolds}
+use Rattle.ii_reader.specs.OpenIndex.{FieldReaderHolds, ReadersHold}
+use Rattle.ii_reader.specs.SegmentPostings.{SegmentPostingsState}
+use Rattle.iiq.specs.declared.session.Session.{Session as SessionKept}
+use Rattle.iiq.specs.Known.{AreGathered, GivesIndex, IsCall, IsOpen, Keeps, Knows, KnowsIndex}
+use Rattle.iiq.specs.Output.{list_text, look_up_text, key_text}
+use Rattle.iiq.specs.Session.{Session, gathering, opened, refused, Indexes, IsIndexed, fields, kept_with, num_docs_of, refusal_of}
+
+err_is : {A E : Type 0} (r : Result A E) (x y : E) → r ≡ Err x → r ≡ Err y → x ≡ y
+err_is r x y p q = cc
+
+no_err : {A E : Type 0} (r : Result A E) (x : A) (y : E) → r ≡ Ok x → r ≡ Err y → ⊥
+no_err r x y p q = cc
+
+-- where a number is at most that of each element, and of one more
+least_more : {X : Type 0} (f : X → ℕ) (m : ℕ) (xs : List X) (y d : X) → ((k : ℕ) → k < length xs → m ≤ f (slice_index_or xs k d)) → m ≤ f y
+    → (j : ℕ) → j < length (xs ++ y ∷ []) → m ≤ f (slice_index_or (xs ++ y ∷ []) j d)
+least_more f m [] y d each last zero within = last
+least_more f m [] y d each last (suc j) within = absurd (omega (arith, within))
+least_more f m (x ∷ xs) y d each last zero within = each 0 (omega arith)
+least_more f m (x ∷ xs) y d each last (suc j) within =
+    least_more f m xs y d (λ k below. each (suc k) (omega (arith, below))) last j (omega (arith, within))
+
+-- one more element at the end of a list in order
+ordered_more : {X : Type 0} (f : X → ℕ) (xs : List X) (y : X) → IsNonDecreasingBy f xs → AllByRecursion (λ x. f x ≤ f y) xs → IsNonDecreasingBy f (xs ++ y ∷ [])
+ordered_more f [] y ordered below zero zero d low within = omega arith
+ordered_more f [] y ordered below zero (suc j) d low within = absurd (omega (arith, within))
+ordered_more f [] y ordered below (suc i) j d low within = absurd (omega (arith, low, within))
+ordered_more f (x ∷ xs) y ordered below zero j d low within =
+    least_more f (f x) (x ∷ xs) y d (λ k inside. ordered zero k d (omega arith) inside) below.0 j within
+ordered_more f (x ∷ xs) y ordered below (suc i) zero d low within = absurd (omega (arith, low))
+ordered_more f (x ∷ xs) y ordered below (suc i) (suc j) d low within =
+    ordered_more f xs y (λ a b e less inside. ordered (suc a) (suc b) e (omega (arith, less)) (omega (arith, inside))) below.1 i j d (omega (arith, low)) (omega (arith, within))
+
+all_more : {X : Type 0} (P Q : X → Type 0) (xs : List X) (y : X) → ((x : X) → P x → Q x) → AllByRecursion P xs → Q y → AllByRecursion Q (xs ++ y ∷ [])
+all_more P Q [] y weaker all last = (last, tt)
+all_more P Q (x ∷ xs) y weaker all last = (weaker x all.0, all_more P Q xs y weaker all.1 last)
+
+all_weaker : {X : Type 0} (P Q : X → Type 0) (xs : List X) → ((x : X) → P x → Q x) → AllByRecursion P xs → AllByRecursion Q xs
+all_weaker P Q [] weaker all = tt
+all_weaker P Q (x ∷ xs) weaker all = (weaker x all.0, all_weaker P Q xs weaker all.1)
+
+-- one more call
+pub gathered_more : (kept : List IndexCall) (n : ℕ) (calls : List Call) (call : IndexCall) → AreGathered kept n calls → IsCall call → n ≤ (call_of call).doc + 1
+    → AreGathered (kept ++ call ∷ []) ((call_of call).doc + 1) (calls ++ call_of call ∷ [])
+gathered_more kept n calls call g may low =
+    let m = (call_of call).doc + 1 in
+    record {
+      calls_are = map-append call_of kept (call ∷ []) ∙ ap (λ (cs : List Call). cs ++ call_of call ∷ []) g.calls_are;
+      num_docs_is = sym (fold-append (λ (k : ℕ) (c : Call). c.doc + 1) 0 calls (call_of call ∷ []));
+      most = let below = may.below in omega (arith, below);
+      may = record {
+        each = all_more (MayBeIndexed fields n) (MayBeIndexed fields m) kept call
+            (λ x h. record { below = let less = h.below in omega (arith, less, low); takes = h.takes }) g.may.each (record { below = omega arith; takes = may.takes });
+        ordered = ordered_more (λ (c : IndexCall). (call_of c).doc) kept call g.may.ordered
+            (all_weaker (MayBeIndexed fields n) (λ (x : IndexCall). (call_of x).doc ≤ (call_of call).doc) kept (λ x h. let less = h.below in omega (arith, less, low)) g.may.each);
+      };
+    }
+
+pub nothing_gathered : AreGathered [] 0 []
+nothing_gathered = record { calls_are = refl; num_docs_is = refl; most = omega arith; may = record { each = tt; ordered = λ i j d low within. absurd (omega (arith, within)) } }
+
+-- nothing is kept once an index was asked for
+pub none_kept : (kept : List IndexCall) (n : ℕ) (index : Option (Result (List InvertedIndexReaderState) Fault)) (s : Session) (c : Call) → is_some index ≡ true → KnowsIndex kept n index s → kept_with s c ≡ None
+none_kept kept n None s c some knows = absurd (cc)
+none_kept kept n (Some (Ok readers)) s c some knows = rw knows.1 refl
+none_kept kept n (Some (Err fault)) s c some knows = rw knows refl
+
+-- nor a call below the last one
+pub late_not_kept : (kept : List IndexCall) (n : ℕ) (index : Option (Result (List InvertedIndexReaderState) Fault)) (s : Session) (c : Call) → is_some index ≡ false → KnowsIndex kept n index s → c.doc + 1 < n → kept_with s c ≡ None
+late_not_kept kept n None s c none knows late =
+    let is = knows.2.num_docs_is in
+    let below : nat_le (num_docs_of knows.0) (c.doc + 1) ≡ false = lt-leb (num_docs_of knows.0) (c.doc + 1) (omega (arith, late, is)) in
+    rw (knows.1, below) refl
+late_not_kept kept n (Some found) s c none knows late = absurd (cc)
+
+-- one that follows is
+pub kept_then : (kept : List IndexCall) (n : ℕ) (index : Option (Result (List InvertedIndexReaderState) Fault)) (s : Session) (call : IndexCall) → is_some index ≡ false → KnowsIndex kept n index s → IsCall call → n ≤ (call_of call).doc + 1
+    → (calls : List Call) × (kept_with s (call_of call) ≡ Some (gathering calls)) × KnowsIndex (kept ++ call ∷ []) ((call_of call).doc + 1) index (gathering calls)
+kept_then kept n None s call none knows may low =
+    let is = knows.2.num_docs_is in
+    let above : nat_le (num_docs_of knows.0) ((call_of call).doc + 1) ≡ true = le-leb (num_docs_of knows.0) ((call_of call).doc + 1) (omega (arith, low, is)) in
+    (knows.0 ++ call_of call ∷ [], rw (knows.1, above) refl, (knows.0 ++ call_of call ∷ [], refl, gathered_more kept n knows.0 call knows.2 may low))
+kept_then kept n (Some found) s call none knows may low = absurd (cc)
+
+-- what is asked where no index was asked for yet
+pub gathered_if : (kept : List IndexCall) (n : ℕ) (index : Option (Result (List InvertedIndexReaderState) Fault)) (s : Session) → is_some index ≡ false → KnowsIndex kept n index s → (calls : List Call) × AreGathered kept n calls
+gathered_if kept n None s none knows = (knows.0, knows.2)
+gathered_if kept n (Some found) s none knows = absurd (cc)
+
+-- an index that was asked for stays
+pub indexed_before : (kept : List IndexCall) (n : ℕ) (index : Option (Result (List InvertedIndexReaderState) Fault)) (s : Session) → is_some index ≡ true → KnowsIndex kept n index s → Indexes s s
+indexed_before kept n None s some knows = absurd (cc)
+indexed_before kept n (Some (Ok readers)) s some knows = subst (λ (t : Session). Indexes t t) (sym knows.1) refl
+indexed_before kept n (Some (Err fault)) s some knows = subst (λ (t : Session). Indexes t t) (sym knows) refl
+
+-- and so it is for one that is asked for now
+pub indexed_now : (kept more : List IndexCall) (n : ℕ) (index : Option (Result (List InvertedIndexReaderState) Fault)) (s : Session) (found : Result (List InvertedIndexReaderState) Fault) → is_some index ≡ false → KnowsIndex kept n index s → GivesIndex (map call_of kept) found
+    → (t : Session) × Indexes s t × KnowsIndex more n (Some found) t
+indexed_now kept more n None s (Ok readers) none knows gives =
+    let indexed = subst (λ (calls : List Call). IsIndexed calls (opened gives.0)) knows.2.calls_are gives.1 in
+    (opened gives.0, subst (λ (t : Session). Indexes t (opened gives.0)) (sym knows.1) indexed, (gives.0, refl, gives.2))
+indexed_now kept more n None s (Err fault) none knows gives =
+    let indexed = subst (λ (calls : List Call). IsIndexed calls (refused fault)) knows.2.calls_are gives in
+    (refused fault, subst (λ (t : Session). Indexes t (refused fault)) (sym knows.1) indexed, refl)
+indexed_now kept more n (Some before) s found none knows gives = absurd (cc)
+
+-- a number, and a text, that is to be indexed
+pub number_is_call : (doc field number limit : ℕ) → field ≡ 1 → limit ≡ TERMINATED → doc < limit → IsCall (calls.U64 doc field number)
+number_is_call doc field number limit field_is limit_is below =
+    subst (λ (f : ℕ). IsCall (calls.U64 doc f number)) (sym field_is)
+    (record { below = rw limit_is at below; takes = record { entry = _; found = refl; indexed = refl; typed = refl } })
+
+pub text_is_call : (doc field : ℕ) (t : String Global) (limit : ℕ) → field ≡ 0 → limit ≡ TERMINATED → doc < limit → IsCall (calls.Text doc field t)
+text_is_call doc field t limit field_is limit_is below =
+    subst (λ (f : ℕ). IsCall (calls.Text doc f t)) (sym field_is)
+    (record { below = rw limit_is at below; takes = record { entry = _; found = refl; indexed = refl; typed = refl } })
+
+-- what keeping a call answers
+pub keeps_one_more : (kept more : List IndexCall) (n doc : ℕ) (index : Option (Result (List InvertedIndexReaderState) Fault)) (s : Session) (call : IndexCall) (items : Vec IndexCall Global) → doc ≡ (call_of call).doc → is_some index ≡ false → KnowsIndex kept n index s → IsCall call → n ≤ doc + 1 → items.items ≡ kept ++ call ∷ []
+    → Keeps s (call_of call) (record { calls = items; num_docs = doc + 1; index = index }) true
+keeps_one_more kept more n doc index s call items doc_is none knows may low pushed =
+    let then = kept_then kept n index s call none knows may (rw doc_is at low) in
+    rw then.1 (refl, rw (pushed, doc_is) then.2)
+
+-- the list of a term, as text
+pub listed_text : (requested : IndexRecordOption) (field : ℕ) (key : List ℕ) (readers : List InvertedIndexReaderState) (ts : List IndexToken) (reader : InvertedIndexReaderState) (cursor : SegmentPostingsState) (text : List ℕ)
+    → field < length fields → IsOpen readers ts → slice_get readers field ≡ Some reader
+    → ((f : ℕ) (tokens : List IndexToken) → ReaderHolds f reader tokens → GivesPostings reader.option f key requested tokens (Ok (Some cursor)))
+    → text ≡ list_text (downgrade (option_of fields field) requested) cursor.rest → text ≡ key_text requested field key ts
+listed_text requested field key readers ts reader cursor text below o found holds is =
+    let held : FieldReaderHolds fields field reader ts = rw found at (o.hold field below) in
+    let gives = holds field ts held.holds in
+    let option_is = held.option_is in
+    rw gives.0 (is ∙ ap (list_text (downgrade (option_of fields field) requested)) (gives.1 ∙ ap (λ (o : IndexRecordOption). key_postings o field key requested ts) option_is))
+
+-- the index of calls, by what indexing them in memory answers
+pub gives_index : (schema : List Entry) (n : ℕ) (kept : List IndexCall) (found : Result (List InvertedIndexReaderState) Fault) → schema ≡ fields → n ≡ num_docs_of (map call_of kept)
+    → IfOk found (λ index. ReadersHold schema index (tokens_of ascii_words (map call_of kept))) → IfOk found (λ index. length index ≡ length schema)
+    → IfSome (calls_fault ascii_words (option_of schema) [] (map call_of kept)) (λ fault. (found ≡ Err fault) ⊎ (found ≡ Err OutOfMemory))
+    → (calls_fault ascii_words (option_of schema) [] (map call_of kept) ≡ None → IfErr found (λ e. (e ≡ OutOfMemory) ⊎ IsRamFault schema n (tokens_of ascii_words (map call_of kept)) e))
+    → GivesIndex (map call_of kept) found
+gives_index schema n kept found schema_is n_is holds many known fault =
+    gives_cases n (map call_of kept) found (refusal_of (map call_of kept)) n_is refl (rw schema_is at holds) (rw schema_is at many) (rw schema_is at known) (rw schema_is at fault)
+  where
+    gives_cases : (n : ℕ) (calls : List Call) (found : Result (List InvertedIndexReaderState) Fault) (why : Option Fault) → n ≡ num_docs_of calls → refusal_of calls ≡ why
+        → IfOk found (λ index. ReadersHold fields index (tokens_of ascii_words calls)) → IfOk found (λ index. length index ≡ length fields)
+        → IfSome why (λ fault. (found ≡ Err fault) ⊎ (found ≡ Err OutOfMemory))
+        → (why ≡ None → IfErr found (λ e. (e ≡ OutOfMemory) ⊎ IsRamFault fields n (tokens_of ascii_words calls) e))
+        → GivesIndex calls found
+    gives_cases n calls (Ok readers) None n_is why holds many known fault = (tokens_of ascii_words calls, (why, refl), record { many = many; hold = holds })
+    gives_cases n calls (Ok readers) (Some f) n_is why holds many known fault = absurd (⊎_elim (λ e. no_err (Ok readers) readers f refl e) (λ e. no_err (Ok readers) readers OutOfMemory refl e) known)
+    gives_cases n calls (Err e) None n_is why holds many known fault =
+        ⊎_elim inl (λ limit. inr (inr (why, subst (λ (m : ℕ). IsRamFault fields m (tokens_of ascii_words calls) e) n_is limit))) (fault refl)
+    gives_cases n calls (Err e) (Some f) n_is why holds many known fault =
+        ⊎_elim (λ same. inr (inl (why ∙ ap Some (sym (err_is (Err e) e f refl same))))) (λ memory. inl (err_is (Err e) e OutOfMemory refl memory)) known
+
+-- what a look-up in an open index answers
+pub looked_up : {E : Type 0} (kept : SessionKept) (t : Session) (readers : List InvertedIndexReaderState) (requested : IndexRecordOption) (field : ℕ) (key : List ℕ) (r : Result (String Global) E) → kept.index ≡ Some (Ok readers) → Knows kept t
+    → ((ts : List IndexToken) → IsOpen readers ts → IfOk r (λ text. string_bytes text ≡ key_text requested field key ts))
+    → IfOk r (λ text. string_bytes text ≡ look_up_text t requested field key)
+looked_up kept t readers requested field key r is knows text =
+    let o : (ts : List IndexToken) × (t ≡ opened ts) × IsOpen readers ts = rw is at knows in
+    rw o.1 (text o.0 o.2)

@@ -1,0 +1,92 @@
+-- The program's records, as what they stand for.
+use Rattle.std.specs.Prelude.{◌≡◌, ℕ, ◌<◌, ◌≤◌, false, true, Bool, List, [], ◌∷◌, length, map, Option, None, Some, MatchOption, Result, Ok, Err}
+use Rattle.std.specs.Option.{option_map}
+use Rattle.ii_io.specs.declared.faults.Fault.{Fault}
+use Rattle.ii_base.specs.Options.{downgrade}
+use Rattle.ii_docset.specs.declared.docset.TheConstants.{TERMINATED}
+use Rattle.ii_layout.specs.TermList.{term_list}
+use Rattle.ii_index.specs.Tokens.{Call, IndexToken}
+use Rattle.ii_indexing.specs.declared.index_call.IndexCall.{IndexCall}
+use Rattle.ii_indexing.specs.IndexCalls.{MayAllBeIndexed, Takes, call_of, type_of}
+use Rattle.ii_reader.specs.InvertedIndexReader.{InvertedIndexReaderState}
+use Rattle.ii_reader.specs.OpenIndex.{ReadersHold}
+use Rattle.iiq.specs.declared.commands.Opening.{Opening}
+use Rattle.iiq.specs.declared.commands.Query.{Query}
+use Rattle.iiq.specs.declared.session.Session.{Session as SessionKept}
+use Rattle.iiq.specs.Commands.{Command, index_call, look_up, open_list}
+use Rattle.iiq.specs.Output.{AnswersLine, AnswersMaybe, opened_text, with_ends}
+use Rattle.iiq.specs.Session.{Session, gathering, opened, refused, IsIndexed, fields, kept_with, num_docs_of}
+
+abbrev pub opening_command : Opening → Command
+opening_command o = open_list o.record_option o.requested_option o.doc_freq o.postings o.positions
+
+abbrev pub call_command : IndexCall → Command
+call_command call = index_call (call_of call)
+
+abbrev pub query_look_up : Query → Command
+query_look_up q = look_up q.requested q.term.field q.term.value
+
+-- A call is for a field of the schema, and for a document.
+pub record IsCall (call : IndexCall) : Type 0 where
+  pub below : (call_of call).doc < TERMINATED
+  pub takes : Takes fields (call_of call).field (type_of call)
+
+-- Calls were gathered: they may be indexed in this order, and have so many documents.
+pub record AreGathered (kept : List IndexCall) (num_docs : ℕ) (calls : List Call) : Type 0 where
+  pub calls_are : map call_of kept ≡ calls
+  pub num_docs_is : num_docs ≡ num_docs_of calls
+  pub most : num_docs ≤ TERMINATED
+  pub may : MayAllBeIndexed fields num_docs kept
+
+-- The readers of an open index have these tokens.
+pub record IsOpen (readers : List InvertedIndexReaderState) (ts : List IndexToken) : Type 0 where
+  pub many : length readers ≡ length fields
+  pub hold : ReadersHold fields readers ts
+
+-- What is known where no index was asked for, or it is open, or was refused.
+abbrev pub KnowsIndex : List IndexCall → ℕ → Option (Result (List InvertedIndexReaderState) Fault) → Session → Type 0
+KnowsIndex kept num_docs None s = (calls : List Call) × (s ≡ gathering calls) × AreGathered kept num_docs calls
+KnowsIndex kept num_docs (Some (Ok readers)) s = (ts : List IndexToken) × (s ≡ opened ts) × IsOpen readers ts
+KnowsIndex kept num_docs (Some (Err fault)) s = s ≡ refused fault
+
+-- The program's session is this one.
+abbrev pub Knows : SessionKept → Session → Type 0
+Knows kept s = KnowsIndex kept.calls.items kept.num_docs kept.index s
+
+abbrev pub IsSession : SessionKept → Type 0
+IsSession kept = (s : Session) × Knows kept s
+
+-- An index call was kept, or not.
+abbrev pub Keeps : Session → Call → SessionKept → Bool → Type 0
+Keeps s c new taken = MatchOption (kept_with s c) ((taken ≡ false) × Knows new s) (λ t. (taken ≡ true) × Knows new t)
+
+-- The index of calls is open, or was refused.
+abbrev pub GivesIndex : List Call → Result (List InvertedIndexReaderState) Fault → Type 0
+GivesIndex calls (Ok readers) = (ts : List IndexToken) × IsIndexed calls (opened ts) × IsOpen readers ts
+GivesIndex calls (Err fault) = IsIndexed calls (refused fault)
+
+-- what a line that opens a list is answered with
+abbrev pub open_texts : Opening → List (List ℕ)
+open_texts o = opened_text (downgrade o.record_option o.requested_option) (term_list o.record_option o.requested_option o.doc_freq o.postings o.positions) ∷ []
+
+-- A command is answered by this text, whatever session it meets.
+pub record AnswersAlone (command : Option Command) (reply : Option (List ℕ)) : Type 0 where
+  pub texts : Option (List (List ℕ))
+  pub answers : (s : Session) → AnswersMaybe s command s texts
+  pub reply_is : reply ≡ option_map with_ends texts
+
+-- A command is answered by this text, and leaves the program's session so.
+pub record Answers (old : Session) (command : Option Command) (now : SessionKept) (reply : Option (List ℕ)) : Type 0 where
+  pub new : Session
+  pub texts : Option (List (List ℕ))
+  pub knows : Knows now new
+  pub answers : AnswersMaybe old command new texts
+  pub reply_is : reply ≡ option_map with_ends texts
+
+-- So it is for a line.
+pub record IsReply (old : Session) (line : List ℕ) (now : SessionKept) (text : List ℕ) : Type 0 where
+  pub new : Session
+  pub texts : List (List ℕ)
+  pub knows : Knows now new
+  pub answers : AnswersLine old line new texts
+  pub text_is : text ≡ with_ends texts

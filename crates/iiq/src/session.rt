@@ -1,0 +1,157 @@
+ghost use Rattle.std.specs.Prelude.{◌≡◌, ◌++◌, ◌<◌, ◌≤◌, [], List, length, map, codes, decimal, string_bytes, IfErr, IfOk};
+ghost use Rattle.ii_io.specs.Faults.{number_of};
+ghost use Rattle.ii_docset.specs.declared.docset.TheConstants.{TERMINATED};
+ghost use Rattle.ii_index.specs.Fields.{option_of as option_of_field};
+ghost use Rattle.ii_index.specs.Tokens.{IndexToken};
+ghost use Rattle.ii_indexing.specs.IndexCalls.{MayAllBeIndexed, call_of};
+ghost use Rattle.iiq.specs.Known.{GivesIndex, IsCall, IsOpen, IsSession, Keeps, Knows};
+ghost use Rattle.iiq.specs.Output.{key_text, look_up_text};
+ghost use Rattle.iiq.specs.Session.{Session as SessionState, gathering, Indexes, fields, num_docs_of};
+
+use crate::commands::Query;
+use crate::output::push_list;
+use ii_base::{
+    AsciiTokenizer, Fault, Field, FieldEntry, IndexRecordOption, Schema, Term, ValueType,
+};
+use ii_docset::DocId;
+use ii_indexing::IndexCall;
+use ii_ram::index_in_ram;
+use ii_reader::OpenIndex;
+use std::alloc::{AllocError, Global};
+use std::mem;
+
+/// What a run keeps from line to line: index calls with the number of their documents, and from the
+/// first look-up on their index, or the fault that refused it.
+#[derive(Drop)]
+pub struct Session {
+    pub calls: Vec<IndexCall>,
+    pub num_docs: DocId,
+    pub index: Option<Result<OpenIndex, Fault>>,
+}
+
+impl Session {
+    /// A session without calls.
+    pub fn new(alloc: Global) -> Session
+        ensures { Knows result (gathering []) }
+    {
+        Session {
+            calls: Vec::new(alloc),
+            num_docs: 0,
+            index: None,
+        }
+    }
+
+    /// Keeps a call, and says whether it did: not once an index was asked for, nor where the call's
+    /// document lies below that of the last one.
+    pub fn keep(&mut self, call: IndexCall) -> Result<bool, AllocError>
+        requires session { IsSession self.old }
+        requires call { IsCall call }
+        ensures { (s : SessionState) → Knows self.old s → IfOk result (λ kept. Keeps s (call_of call) self.new kept) }
+    {
+        if self.index.is_some() {
+            return Ok(false);
+        }
+        let num_docs = call.doc() + 1;
+        if num_docs < self.num_docs {
+            return Ok(false);
+        }
+        self.calls.push(call)?;
+        self.num_docs = num_docs;
+        Ok(true)
+    }
+
+    /// Looks a term up: its list, as far as it is asked for and recorded, or `none` where it didn't
+    /// occur; `error` and the fault's number where the index of the calls was refused.
+    pub fn look_up(&mut self, alloc: Global, query: &Query) -> Result<String, AllocError>
+        requires session { IsSession self.old }
+        requires field { query.now.term.field < length fields }
+        ensures { (s : SessionState) → Knows self.old s → (t : SessionState) × Indexes s t × Knows self.new t
+            × IfOk result (λ text. string_bytes text ≡ look_up_text t query.now.requested query.now.term.field query.now.term.value) }
+    {
+        self.open(alloc);
+        match &self.index {
+            None => Ok(String::new(alloc)),
+            Some(Ok(index)) => list_text(alloc, index, query),
+            Some(Err(fault)) => error_text(alloc, *fault),
+        }
+    }
+
+    // Indexes the calls, if that wasn't done.
+    fn open(&mut self, alloc: Global)
+        requires { IsSession self.old }
+        ensures { (s : SessionState) → Knows self.old s → (t : SessionState) × Indexes s t × Knows self.new t }
+    {
+        if self.index.is_some() {
+            return;
+        }
+        let calls = mem::replace(&mut self.calls, Vec::new(alloc));
+        self.index = Some(index_of(alloc, calls, self.num_docs));
+    }
+}
+
+// The index of calls, in memory.
+fn index_of(alloc: Global, calls: Vec<IndexCall>, num_docs: DocId) -> Result<OpenIndex, Fault>
+    requires docs { num_docs ≤ TERMINATED }
+    requires many { num_docs ≡ num_docs_of (map call_of calls.items) }
+    requires calls { MayAllBeIndexed fields num_docs calls.items }
+    ensures { GivesIndex (map call_of calls.items) result }
+{
+    let schema = schema(alloc)?;
+    index_in_ram(alloc, schema, num_docs, calls, &AsciiTokenizer)
+}
+
+// A field of texts with positions, and one of numbers.
+fn schema(alloc: Global) -> Result<Schema, Fault>
+    ensures ok { IfOk result (λ schema. schema ≡ fields) }
+    ensures only { IfErr result (λ e. e ≡ Fault.OutOfMemory) }
+{
+    let mut entries = Vec::new(alloc);
+    let name = String::from_str(alloc, "text")?;
+    let option = IndexRecordOption::WithFreqsAndPositions;
+    entries.push(FieldEntry::text(name, option, false))?;
+    let name = String::from_str(alloc, "num")?;
+    entries.push(FieldEntry::value(name, ValueType::U64, false))?;
+    Ok(Schema::new(entries))
+}
+
+// What a field records.
+fn option_of(field: Field) -> IndexRecordOption
+    requires { field < length fields }
+    ensures { result ≡ option_of_field fields field }
+{
+    if field == Field::from_field_id(0) {
+        IndexRecordOption::WithFreqsAndPositions
+    } else {
+        IndexRecordOption::Basic
+    }
+}
+
+// The list of a term in an index, or `none`.
+fn list_text(alloc: Global, index: &OpenIndex, query: &Query) -> Result<String, AllocError>
+    requires many { length index.now ≡ length fields }
+    requires field { query.now.term.field < length fields }
+    ensures { (ts : List IndexToken) → IsOpen index.now ts
+        → IfOk result (λ text. string_bytes text ≡ key_text query.now.requested query.now.term.field query.now.term.value ts) }
+{
+    let field = query.term.field();
+    let reader = index.reader(field);
+    match reader.read_postings(&query.term, query.requested) {
+        Ok(None) => String::from_str(alloc, "none"),
+        Ok(Some(mut cursor)) => {
+            let mut text = String::new(alloc);
+            let option = option_of(field).downgrade(query.requested);
+            push_list(alloc, &mut text, &mut cursor, option)?;
+            Ok(text)
+        }
+        Err(_) => Err(AllocError),
+    }
+}
+
+// The number of a fault.
+fn error_text(alloc: Global, fault: Fault) -> Result<String, AllocError>
+    ensures { IfOk result (λ text. string_bytes text ≡ codes "error " ++ decimal (number_of fault)) }
+{
+    let mut text = String::new(alloc);
+    write!(text, "error {}", fault.number())?;
+    Ok(text)
+}
