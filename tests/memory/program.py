@@ -1,6 +1,6 @@
 #!/usr/bin/env python3
 """Runs the program with each allocation refused in turn: each line that it prints has to be the right one of its
-place, or `error 1`, which is the last."""
+place, or `error 1`, which is the last; but where the index was refused, each look-up prints `error 1`."""
 import os
 import sys
 import tempfile
@@ -9,13 +9,21 @@ sys.dont_write_bytecode = True
 sys.path.insert(0, os.path.dirname(os.path.dirname(os.path.abspath(__file__))))
 import refusing
 
+# So many lines at the end answer look-ups, and an index call that comes after one.
+LOOKED_UP = 5
+
+
+def is_part(lines, wanted):
+    """Whether the lines are the wanted ones, or as many of them before an `error 1` that ends them."""
+    return lines == wanted or lines[-2:] == [b'error 1', b''] and lines[:-2] == wanted[:len(lines) - 2]
+
 
 def is_lawful(got, right):
-    """Whether the lines are the right ones, up to an `error 1` that ends them."""
+    """Whether the lines are the right ones, or those of a run whose index was refused, up to an `error 1` that ends them."""
     lines, wanted = got.split(b'\n'), right.split(b'\n')
-    if lines == wanted:
-        return True
-    return lines[-2:] == [b'error 1', b''] and lines[:-2] == wanted[:len(lines) - 2]
+    first = len(wanted) - 1 - LOOKED_UP
+    refused = [b'error 1' if line not in (b'error line', b'') and place >= first else line for place, line in enumerate(wanted)]
+    return is_part(lines, wanted) or is_part(lines, refused)
 
 
 def main():

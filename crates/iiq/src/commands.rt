@@ -242,10 +242,10 @@ fn last_word<'a>(words: &mut Parts<'a>) -> Option<&'a [u8]>
     let Some(word) = words.next() else {
         return None;
     };
-    if words.next().is_some() {
-        return None;
+    match words.next() {
+        Some(_) => None,
+        None => Some(word),
     }
-    Some(word)
 }
 
 fn last_number(words: &mut Parts<'_>) -> Option<u64>

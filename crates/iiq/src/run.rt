@@ -143,9 +143,9 @@ mod tests {
     use super::*;
     use ii_io::{FailingReader, FailingWriter};
 
-    const INPUT: &[u8] = b"ids 0 2 10\n\nopen b b 3 8082\nids 2 1";
+    const INPUT: &[u8] = b"ids 0 2 10\n\nopen b b 3 8082\ntext 0 a b\nids 2 1\n? text p b";
 
-    const OUTPUT: &[u8] = b"808288\n0 2 10\ndamaged documents\nerror line\n";
+    const OUTPUT: &[u8] = b"808288\n0 2 10\ndamaged documents\nerror line\n0:1:1\n";
 
     #[test]
     fn answers_each_line(rt: HostRuntime) {
@@ -176,8 +176,8 @@ mod tests {
             let answer = run(rt.alloc(), &mut reader, &mut writer);
             assert!(rt; OUTPUT.starts_with(writer.bytes()));
             if answer.is_ok() {
-                // three answers, and a flush
-                assert!(rt; k == 5);
+                // four answers, and a flush
+                assert!(rt; k == 6);
                 return;
             }
             assert!(rt; answer == Err(RunFault::Output), "write {k}");
