@@ -5,6 +5,7 @@
 mod ascending_terms;
 mod blocks;
 mod dictionaries;
+mod indexes;
 mod lists;
 mod table;
 
@@ -19,5 +20,6 @@ fn main(rt: HostRuntime) -> Result<()> {
     table::print_head(&rt)?;
     blocks::measure(&rt)?;
     lists::measure(&rt)?;
-    dictionaries::measure(&rt)
+    dictionaries::measure(&rt)?;
+    indexes::measure(&rt)
 }

@@ -1,0 +1,215 @@
+ghost use Rattle.std.specs.Prelude.{◌≡◌, ◌<◌, length, IfOk};
+ghost use Rattle.ii_base.specs.declared.schema.value_type.ValueType.TheVariants.{Str};
+ghost use Rattle.ii_indexing.specs.IndexCalls.{Takes};
+
+use crate::table::{Measured, print_row};
+use anyhow::Result;
+use bytes::Bytes;
+use ii_base::{AsciiTokenizer, Field, FieldEntry, IndexRecordOption, Schema, Term};
+use ii_indexing::{IndexCall, IndexWriters, Indexer};
+use ii_io::{CountingWriter, Fault};
+use ii_reader::{OpenIndex, open_index};
+use std::alloc::Global;
+use std::time::{Duration, Instant};
+
+/// How many documents are indexed, and how many words each one's text has.
+const DOCS: u32 = 10_000;
+
+const WORDS: u32 = 100;
+
+/// How many different words there are.
+const TERMS: u64 = 50_000;
+
+const LOOK_UPS: u64 = 100_000;
+
+/// How often each thing is measured; the least time counts.
+const ROUNDS: u32 = 3;
+
+/// Prints what it takes to index a million words, to open the files, and to look words up.
+pub fn measure(rt: &HostRuntime) -> Result<()> {
+    let mut least = round(rt)?;
+    for _ in 1..ROUNDS {
+        let figures = round(rt)?;
+        least.indexing = least.indexing.min(figures.indexing);
+        least.opening = least.opening.min(figures.opening);
+        least.looking = least.looking.min(figures.looking);
+    }
+    let tokens = u64::from(DOCS) * u64::from(WORDS);
+    let indexing = of(least.indexing, tokens, least.text_bytes);
+    print_row(rt, "indexing and writing: a word", &indexing)?;
+    let opening = of(least.opening, TERMS, least.file_bytes);
+    print_row(rt, "opening an index: a term", &opening)?;
+    let looking = of(least.looking, LOOK_UPS, 6 * LOOK_UPS);
+    print_row(rt, "looking a word up, with positions", &looking)?;
+    Ok(())
+}
+
+fn of(took: Duration, items: u64, bytes: u64) -> Measured {
+    Measured { took, items, bytes }
+}
+
+// What a round took, and how many bytes its texts and its files have.
+#[derive(Clone, Copy)]
+struct Figures {
+    indexing: Duration,
+    opening: Duration,
+    looking: Duration,
+    text_bytes: u64,
+    file_bytes: u64,
+}
+
+fn round(rt: &HostRuntime) -> Result<Figures> {
+    let alloc = rt.alloc();
+    let (texts, text_bytes) = texts(alloc)?;
+    let start = Instant::now(rt)?;
+    let files = written(alloc, indexed(alloc, texts)?)?;
+    let indexing = start.elapsed(rt)?;
+    let file_bytes = files.len();
+    let start = Instant::now(rt)?;
+    let index = opened(alloc, files)?;
+    let opening = start.elapsed(rt)?;
+    let looking = look_up(rt, &index)?;
+    Ok(Figures {
+        indexing,
+        opening,
+        looking,
+        text_bytes,
+        file_bytes,
+    })
+}
+
+// Numbers that look drawn at random.
+#[derive(Clone, Copy)]
+struct Drawn(u64);
+
+impl Drawn {
+    fn next(&mut self) -> u64 {
+        self.0 = self
+            .0
+            .wrapping_mul(6_364_136_223_846_793_005)
+            .wrapping_add(1_442_695_040_888_963_407);
+        (self.0 >> 33) % TERMS
+    }
+}
+
+// The texts, and how many bytes they have.
+fn texts(alloc: Global) -> Result<(Vec<String>, u64)> {
+    let mut drawn = Drawn(1);
+    let mut texts = Vec::new(alloc);
+    let mut bytes = 0u64;
+    for _ in 0..DOCS {
+        let mut text = String::new(alloc);
+        for _ in 0..WORDS {
+            write!(text, "w{} ", drawn.next())?;
+        }
+        bytes = bytes.saturating_add(text.len() as u64);
+        texts.push(text)?;
+    }
+    Ok((texts, bytes))
+}
+
+fn schema(alloc: Global) -> Result<Schema, Fault>
+    ensures takes { IfOk result (λ schema. Takes schema 0 Str) }
+    ensures some { IfOk result (λ schema. 0 < length schema) }
+{
+    let mut entries = Vec::new(alloc);
+    let name = String::from_str(alloc, "text")?;
+    let option = IndexRecordOption::WithFreqsAndPositions;
+    entries.push(FieldEntry::text(name, option, true))?;
+    Ok(Schema::new(entries))
+}
+
+// The four files, in memory.
+#[derive(Drop)]
+struct Files {
+    terms: Bytes,
+    postings: Bytes,
+    positions: Bytes,
+    fieldnorms: Bytes,
+}
+
+impl Files {
+    fn len(&self) -> u64 {
+        let terms = self.terms.len() as u64;
+        let postings = self.postings.len() as u64;
+        terms
+            .saturating_add(postings)
+            .saturating_add(self.positions.len() as u64)
+            .saturating_add(self.fieldnorms.len() as u64)
+    }
+}
+
+fn file(writer: CountingWriter<Vec<u8>>) -> Result<Bytes, Fault> {
+    Ok(Bytes::from_vec(writer.finish())?)
+}
+
+fn written(alloc: Global, indexer: Indexer) -> Result<Files, Fault> {
+    let writers = IndexWriters {
+        terms: CountingWriter::wrap(Vec::new(alloc)),
+        postings: CountingWriter::wrap(Vec::new(alloc)),
+        positions: CountingWriter::wrap(Vec::new(alloc)),
+        fieldnorms: CountingWriter::wrap(Vec::new(alloc)),
+    };
+    let (writers, finished) = indexer.finish(writers);
+    finished?;
+    Ok(Files {
+        terms: file(writers.terms)?,
+        postings: file(writers.postings)?,
+        positions: file(writers.positions)?,
+        fieldnorms: file(writers.fieldnorms)?,
+    })
+}
+
+fn indexed(alloc: Global, texts: Vec<String>) -> Result<Indexer, Fault> {
+    let mut indexer = Indexer::new(alloc, schema(alloc)?, DOCS)?;
+    let mut doc = 0;
+    for text in texts {
+        if doc >= DOCS {
+            return Ok(indexer);
+        }
+        indexer.index(
+            IndexCall::Text(doc, Field::from_field_id(0), text),
+            &AsciiTokenizer,
+        )?;
+        doc += 1;
+    }
+    Ok(indexer)
+}
+
+fn opened(alloc: Global, files: Files) -> Result<OpenIndex, Fault>
+    ensures { IfOk result (λ index. 0 < length index) }
+{
+    let schema = schema(alloc)?;
+    let Files {
+        terms,
+        postings,
+        positions,
+        fieldnorms: _,
+    } = files;
+    open_index(alloc, terms, postings, positions, &schema)
+}
+
+// What it takes to look words up.
+fn look_up(rt: &HostRuntime, index: &OpenIndex) -> Result<Duration>
+    requires { 0 < length index.now }
+{
+    let reader = index.reader(Field::from_field_id(0));
+    let terms = terms(rt.alloc())?;
+    let start = Instant::now(rt)?;
+    for term in &terms {
+        let _cursor = reader.read_postings(term, IndexRecordOption::WithFreqsAndPositions)?;
+    }
+    Ok(start.elapsed(rt)?)
+}
+
+fn terms(alloc: Global) -> Result<Vec<Term>> {
+    let mut drawn = Drawn(7);
+    let mut terms = Vec::new(alloc);
+    let field = Field::from_field_id(0);
+    for _ in 0..LOOK_UPS {
+        let mut word = String::new(alloc);
+        write!(word, "w{}", drawn.next())?;
+        terms.push(Term::from_field_text(alloc, field, word.as_str())?)?;
+    }
+    Ok(terms)
+}
