@@ -4,7 +4,7 @@ use Rattle.ii_io.specs.declared.faults.Fault.{Fault}
 use Rattle.ii_io.specs.declared.faults.Fault.TheVariants.{Limit, OutOfMemory, Write}
 use Rattle.ii_io.specs.declared.faults.LimitName.TheVariants as limit
 use Rattle.ii_io.specs.CompositeWrite.{CompositeWriteState}
-use Rattle.ii_io.specs.CountingWriter.{CountingWriterState, IsFull, Wrote}
+use Rattle.ii_io.specs.CountingWriter.{CountingWriterState, Grows, IsFull, Wrote}
 use Rattle.ii_base.specs.Schema.{Entry}
 use Rattle.ii_index.specs.Fields.{option_of}
 use Rattle.ii_index.specs.Files.{HoldTokens}
@@ -47,6 +47,13 @@ pub record WroteNormFile {W : Type 0} (entries : List Entry) (num_docs : ℕ) (o
 pub record WroteIndex {W : Type 0} (entries : List Entry) (num_docs : ℕ) (old new : IndexWriters W) (ts : List IndexToken) : Type 0 where
   pub terms : WroteTermFiles entries old new ts
   pub norms : WroteNormFile entries num_docs old new ts
+
+-- Each of the four writers has what it had, and maybe more behind it.
+pub record FilesGrow {W : Type 0} (old new : IndexWriters W) : Type 0 where
+  pub terms : Grows old.terms new.terms
+  pub postings : Grows old.postings new.postings
+  pub positions : Grows old.positions new.positions
+  pub fieldnorms : Grows old.fieldnorms new.fieldnorms
 
 -- how many calls of the four writers failed
 abbrev pub index_failed_calls : {W : Type 0} → IndexWriters W → ℕ
