@@ -32,7 +32,8 @@ pub struct IndexWriters<W: Write> {
 /// each one's field is indexed and has values of its type.
 ///
 /// The first fault of the calls (`Indexer::index`) is answered, and nothing is written then; else one of
-/// `Indexer::finish`. `OutOfMemory` where there is no room.
+/// `Indexer::finish`, and each file has what it had, and maybe more behind it. `OutOfMemory` where there
+/// is no room.
 pub fn write_index<A: TextAnalyzer, W: Write>(
     alloc: Global,
     schema: Schema,
