@@ -6,23 +6,17 @@ use Rattle.std.proofs.lemmas.List.FromFn.{get_or-map-range_with_len, length-map-
 use Rattle.ii_io.specs.declared.faults.Fault.{Fault}
 use Rattle.ii_io.specs.declared.faults.Fault.TheVariants.{OutOfMemory, SerializerClosed}
 use Rattle.ii_base.specs.Schema.{Entry}
-use Rattle.ii_termdict.specs.ReadBack.{AreAscending}
 use Rattle.ii_recorder.specs.IndexSerializer.{IndexSerializerState}
 use Rattle.ii_recorder.specs.Recorded.{RecorderState}
 use Rattle.ii_indexing.specs.FieldParts.{first_parts}
-use Rattle.ii_indexing.specs.IndexingContext.{TermIndex, recorder_of}
+use Rattle.ii_indexing.specs.IndexingContext.{TermIndex}
 use Rattle.ii_indexing.specs.IndexingTerm.{field_in}
 use Rattle.ii_indexing.specs.PostingsWriter.{PostingsWriterState}
 use Rattle.ii_indexing.specs.SortedTerms.{TermState, terms_in}
 use Rattle.ii_indexing.specs.WriteFaults.{IsContextFault, IsPartsFault}
 use Rattle.ii_indexing.proofs.FaultLemmas.{all_some, no_part}
+use Rattle.ii_indexing.proofs.PartLemmas.{AreLists}
 use Rattle.ii_indexing.proofs.SortedLemmas.{found_first}
-
--- The lists of the terms of so many fields, of a context whose terms were sorted.
-pub record AreLists (n : ℕ) (terms sorted : TermIndex) (lists : List (List TermState)) : Type 0 where
-  pub same : (bytes : List ℕ) → recorder_of sorted bytes ≡ recorder_of terms bytes
-  pub ascending : AreAscending (map (λ (t : List ℕ × RecorderState). t.0) sorted)
-  pub are : lists ≡ map (λ (field : ℕ). terms_in field sorted) (range_with_len 0 n)
 
 pub context_fault : (old : IndexSerializerState) (writers : List PostingsWriterState) (terms sorted : TermIndex) (lists : List (List TermState)) (e : Fault) → AreLists (length old.entries) terms sorted lists
     → (e ≡ SerializerClosed) ⊎ IsPartsFault old.entries old.bodies (first_parts old.entries writers lists (length lists)) e → (e ≡ OutOfMemory) ⊎ (e ≡ SerializerClosed) ⊎ IsContextFault old writers terms e

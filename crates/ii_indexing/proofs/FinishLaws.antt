@@ -9,12 +9,11 @@ use Rattle.ii_fieldnorm.specs.Norms.{id_of_norm}
 use Rattle.ii_index.specs.Postings.{doc_count}
 use Rattle.ii_index.specs.Tokens.{IndexToken}
 use Rattle.ii_indexing.specs.FieldParts.{AreShortNorms}
-use Rattle.ii_indexing.specs.IndexFiles.{has_norms}
-use Rattle.ii_indexing.specs.Norms.{HoldNorms, norm_ids}
+use Rattle.ii_indexing.specs.Norms.{HoldNorms, has_norms, norm_file, norm_ids}
 use Rattle.ii_indexing.specs.OpenDocuments.{with_norms}
 
 -- the fields with norms are those of the schema
-norm_at : (bs : Buffers) (entries : List Entry) (field : ℕ) → with_norms bs ≡ map keeps_norms entries → is_some (buffer_of field bs) ≡ has_norms entries field
+pub norm_at : (bs : Buffers) (entries : List Entry) (field : ℕ) → with_norms bs ≡ map keeps_norms entries → is_some (buffer_of field bs) ≡ has_norms entries field
 norm_at [] [] field same = refl
 norm_at [] (e ∷ es) field same = absurd (cc)
 norm_at (b ∷ bs) [] field same = absurd (cc)
@@ -24,21 +23,14 @@ norm_at (b ∷ bs) (e ∷ es) (suc field) same = norm_at bs es field (rest same)
     rest : with_norms (b ∷ bs) ≡ map keeps_norms (e ∷ es) → with_norms bs ≡ map keeps_norms es
     rest is = cc
 
-pub schema_norms : (bs : Buffers) (entries : List Entry) (n : ℕ) (bytes : List ℕ) (ts : List IndexToken) → with_norms bs ≡ map keeps_norms entries → HoldNorms (λ (field : ℕ). is_some (buffer_of field bs)) n bytes ts → HoldNorms (has_norms entries) n bytes ts
-schema_norms bs entries n bytes ts same h = record {
-  bodies = h.bodies;
-  opened = h.opened;
-  exact = λ field. h.exact field ∙ ap (λ (b : Bool). if b then Some (norm_ids n field ts) else None) (norm_at bs entries field same);
-}
-
 -- their numbers fit
-pub short_bodies : (has : ℕ → Bool) (n : ℕ) (bytes : List ℕ) (ts : List IndexToken) (readers : List Body) → n ≤ 2147483647 → HoldNorms has n bytes ts → composite bytes ≡ Some readers → AreShortNorms readers
-short_bodies has n bytes ts readers low h opened field = by (has field) (ap (body_of field) same ∙ h.exact field)
+pub short_bodies : (entries : List Entry) (n : ℕ) (bytes : List ℕ) (ts : List IndexToken) (readers : List Body) → n ≤ 2147483647 → HoldNorms entries n bytes ts → composite bytes ≡ Some readers → AreShortNorms readers
+short_bodies entries n bytes ts readers low h opened field = by (has_norms entries field) (ap (body_of field) same ∙ h.exact field)
   where
-    inside : Some readers ≡ Some h.bodies → readers ≡ h.bodies
+    inside : Some readers ≡ Some (norm_file entries n ts) → readers ≡ norm_file entries n ts
     inside is = cc
 
-    same : readers ≡ h.bodies
+    same : readers ≡ norm_file entries n ts
     same = inside (sym opened ∙ h.opened)
 
     by : (b : Bool) → body_of field readers ≡ (if b then Some (norm_ids n field ts) else None) → MatchOption (body_of field readers) ⊤ (λ (ids : List ℕ). length ids < 2 ^ 32)

@@ -257,16 +257,18 @@ parts_below entries writers terms first (suc count) limit low = by (slice_index_
 parts_known : (entries : List Entry) (writers : List PostingsWriterState) (terms : List (List TermState)) (n : ℕ) → AllByRecursion (λ (p : FieldPart). p.field < n) (first_parts entries writers terms n)
 parts_known entries writers terms n = parts_below entries writers terms 0 n n (omega arith)
 
+-- a sorted context has what the context had
+pub sorted_written : (entries : List Entry) (terms sorted : TermIndex) (writers : List PostingsWriterState) (ts : List IndexToken) → length entries < 2 ^ 32 → ((bytes : List ℕ) → recorder_of sorted bytes ≡ recorder_of terms bytes)
+    → IsStrictlySortedBy (slice_cmp nat_cmp) (keys_of sorted) → AllByRecursion AreTermBytes (keys_of sorted) → AllMayBeWritten (length entries) terms → HaveTokens entries terms writers ts → IsWritten entries writers sorted ts
+sorted_written entries terms sorted writers ts few same ascending whole may has = record { few = few; whole = whole; ascending = ascending; may = each_may_be (length entries) terms sorted same ascending whole may; tokens = sorted_tokens entries terms sorted writers ts same has }
+
 -- how a call ends that writes the terms of a context with tokens
-pub wrote_tokens : {A E : Type 0} (result : Result A E) → ReadsEntriesBack → ReadsUncountedTermBack → (old new : IndexSerializerState) (writers : List PostingsWriterState) (terms sorted : TermIndex) (ts : List IndexToken) → length old.entries < 2 ^ 32
-    → ((bytes : List ℕ) → recorder_of sorted bytes ≡ recorder_of terms bytes) → IsStrictlySortedBy (slice_cmp nat_cmp) (keys_of sorted) → AllByRecursion AreTermBytes (keys_of sorted) → AllMayBeWritten (length old.entries) terms → HaveTokens old.entries terms writers ts
+pub wrote_tokens : {A E : Type 0} (result : Result A E) → ReadsEntriesBack → ReadsUncountedTermBack → (old new : IndexSerializerState) (writers : List PostingsWriterState) (terms sorted : TermIndex) (ts : List IndexToken) → IsWritten old.entries writers sorted ts
     → OnOk result (WroteTerms old new writers terms sorted) → OnOk result (WroteTokens old new ts)
-wrote_tokens (Ok x) law uncounted old new writers terms sorted ts few same ascending whole may has wrote =
-    let w : IsWritten old.entries writers sorted ts = record { few = few; whole = whole; ascending = ascending; may = each_may_be (length old.entries) terms sorted same ascending whole may; tokens = sorted_tokens old.entries terms sorted writers ts same has } in
-    record {
-      fs = first_parts old.entries writers (map (λ (field : ℕ). terms_in field sorted) (range_with_len 0 (length old.entries))) (length old.entries);
-      known = parts_known old.entries writers (map (λ (field : ℕ). terms_in field sorted) (range_with_len 0 (length old.entries))) (length old.entries);
-      fields = wrote.fields;
-      held = bodies_hold law uncounted old.entries writers sorted ts w wrote.fields.held;
-    }
-wrote_tokens (Err e) law uncounted old new writers terms sorted ts few same ascending whole may has wrote = tt
+wrote_tokens (Ok x) law uncounted old new writers terms sorted ts w wrote = record {
+  fs = first_parts old.entries writers (map (λ (field : ℕ). terms_in field sorted) (range_with_len 0 (length old.entries))) (length old.entries);
+  known = parts_known old.entries writers (map (λ (field : ℕ). terms_in field sorted) (range_with_len 0 (length old.entries))) (length old.entries);
+  fields = wrote.fields;
+  held = bodies_hold law uncounted old.entries writers sorted ts w wrote.fields.held;
+}
+wrote_tokens (Err e) law uncounted old new writers terms sorted ts w wrote = tt

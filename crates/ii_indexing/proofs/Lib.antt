@@ -6,6 +6,7 @@ pub mod DocumentLaws
 pub mod FaultLemmas
 pub mod FieldLists
 pub mod FinishLaws
+pub mod GrowthLaws
 pub mod HeldBodies
 pub mod HeldFields
 pub mod HoldLaws

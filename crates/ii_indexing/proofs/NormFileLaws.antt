@@ -1,13 +1,13 @@
 -- The norms of all documents, as they are written in the end.
-use Rattle.std.proofs.Common.{◌≡◌, ℕ, zero, suc, ◌+◌, ◌-◌, ◌*◌, ◌^◌, ◌<◌, ◌≤◌, ◌==◌, Bool, true, false, List, [], ◌∷◌, ◌++◌, map, length, take, replicate, get_or, Option, Some, None, refl, sym, ap, ◌∙◌, subst, arith, length-append, ⊎_elim}
+use Rattle.std.proofs.Common.{◌≡◌, ℕ, zero, suc, ◌+◌, ◌-◌, ◌*◌, ◌^◌, ◌<◌, ◌≤◌, ◌==◌, Bool, true, false, List, [], ◌∷◌, ◌++◌, map, length, take, replicate, get_or, filter, Option, Some, None, refl, sym, ap, ◌∙◌, subst, arith, length-append, ⊎_elim}
 use Rattle.std.specs.Prelude.{IfSome, is_some, slice_get, if◌then◌else◌}
-use Rattle.std.specs.List.{range_with_len}
+use Rattle.std.specs.List.{enumerate_from, range_with_len}
 use Rattle.std.specs.Option.{option_map}
 use Rattle.std.proofs.lemmas.Bool.{eqb-true, eqb-false}
 use Rattle.std.proofs.lemmas.List.{length-map}
 use Rattle.std.specs.Io.KnownBytes.{Appends}
 use Rattle.std.specs.Prelude.{Err, Result}
-use Rattle.ii_io.specs.Composite.{bodies_bytes, composite, places_from, table_bytes, written_composite}
+use Rattle.ii_io.specs.Composite.{Body, bodies_bytes, body_of, composite, places_from, table_bytes, written_composite}
 use Rattle.ii_io.specs.CompositeWrite.{HasBodies}
 use Rattle.ii_io.proofs.CompositeLaws.{length-places_from}
 use Rattle.ii_io.proofs.CompositeWriteLemmas.{length-table_bytes}
@@ -17,15 +17,17 @@ use Rattle.ii_io.specs.Faults.{memory_fault}
 use Rattle.ii_io.specs.declared.faults.Fault.{Fault}
 use Rattle.ii_io.specs.declared.faults.Fault.TheVariants.{OutOfMemory, Write, SerializerClosed, IndexerFailed, UnsupportedLeaf, DecreasingPosition, Limit, Damaged}
 use Rattle.ii_io.specs.declared.faults.LimitName.TheVariants.{Offset}
+use Rattle.ii_base.specs.Schema.{Entry, keeps_norms}
 use Rattle.ii_fieldnorm.specs.Buffers.{Buffers, buffer_of, filled, filled_buffers, norm_bodies, norm_bodies_from, recorded, recorded_buffers, WroteNorms}
 use Rattle.ii_fieldnorm.specs.Norms.{id_of_norm}
 use Rattle.ii_fieldnorm.proofs.WrittenNorms.{body_of-norm_bodies}
 use Rattle.ii_index.specs.Postings.{doc_count}
 use Rattle.ii_index.specs.Tokens.{IndexToken, Piece}
 use Rattle.ii_indexing.specs.IndexFiles.{begun_file}
-use Rattle.ii_indexing.specs.Norms.{HoldNorms, norm_ids}
+use Rattle.ii_indexing.specs.Norms.{HoldNorms, has_norms, norm_body, norm_file, norm_ids}
 use Rattle.ii_indexing.specs.OpenDocuments.{AreBehind, AreClosed, OpenDocumentsState, Tells, TellsAll, closed_norms, with_norms}
 use Rattle.ii_indexing.specs.declared.open_documents.OpenDocument.{OpenDocument}
+use Rattle.ii_indexing.proofs.FinishLaws.{with_length}
 use Rattle.ii_indexing.proofs.DocumentLaws.{buffer_other, buffer_set, norms_recorded}
 
 take_here : {A : Type 0} (xs : List A) (k : ℕ) (x : A) → slice_get xs k ≡ Some x → slice_get (take (suc k) xs) k ≡ Some x
@@ -118,24 +120,65 @@ some_within [] i inside none = omega (arith, inside)
 some_within (x ∷ xs) zero inside none = absurd (cc)
 some_within (x ∷ xs) (suc i) inside none = some_within xs i (omega (arith, inside)) none
 
--- so the file has the norms of each field that has some
-pub holds_norms : (s : OpenDocumentsState) (closed : Buffers) (n : ℕ) (ps : List Piece) (ts : List IndexToken) (bytes : List ℕ) → length s.documents ≡ length s.norms → AreBehind s → TellsAll ps ts s
-    → AreClosed s.documents s.norms closed → composite bytes ≡ Some (norm_bodies (filled_buffers n closed)) → HoldNorms (λ (field : ℕ). is_some (buffer_of field s.norms)) n bytes ts
-holds_norms s closed n ps ts bytes same behind told closes reads = record {
-  bodies = norm_bodies (filled_buffers n closed);
-  opened = reads;
-  exact = λ field. body_of-norm_bodies field (filled_buffers n closed) ∙ filled_buffer closed field n ∙ ap (option_map (filled n)) (closes field) ∙ by field (slice_get s.documents field) (buffer_of field s.norms) refl refl;
-}
+-- what is written of each field in the end
+pub closed_buffers : (s : OpenDocumentsState) (closed : Buffers) (n : ℕ) (ps : List Piece) (ts : List IndexToken) → length s.documents ≡ length s.norms → AreBehind s → TellsAll ps ts s
+    → AreClosed s.documents s.norms closed → (field : ℕ) → buffer_of field (filled_buffers n closed) ≡ (if is_some (buffer_of field s.norms) then Some (norm_ids n field ts) else None)
+closed_buffers s closed n ps ts same behind told closes field =
+    filled_buffer closed field n ∙ ap (option_map (filled n)) (closes field) ∙ by (slice_get s.documents field) (buffer_of field s.norms) refl refl
   where
-    by : (field : ℕ) (d : Option OpenDocument) (ids : Option (List ℕ)) → slice_get s.documents field ≡ d → buffer_of field s.norms ≡ ids
+    by : (d : Option OpenDocument) (ids : Option (List ℕ)) → slice_get s.documents field ≡ d → buffer_of field s.norms ≡ ids
         → option_map (filled n) (closed_norms d ids) ≡ (if is_some ids then Some (norm_ids n field ts) else None)
-    by field None None at is = refl
-    by field (Some d) None at is = refl
-    by field None (Some ids) at is = absurd (some_within s.documents field (omega (arith, same, none_past s.norms field ids is)) at)
-    by field (Some d) (Some ids) at is =
+    by None None at is = refl
+    by (Some d) None at is = refl
+    by None (Some ids) at is = absurd (some_within s.documents field (omega (arith, same, none_past s.norms field ids is)) at)
+    by (Some d) (Some ids) at is =
         let tells = subst (λ (o : Option (List ℕ)). Tells field ps ts d o) is (told field d at) in
         let low = subst (λ (o : Option (List ℕ)). IfSome o (λ (i : List ℕ). length i ≤ d.doc)) is (behind field d at) in
         ap (λ (i : List ℕ). Some i) (closed_ids field ps ts d ids n low tells)
+
+pub with_filled : (n : ℕ) (bs : Buffers) → with_norms (filled_buffers n bs) ≡ with_norms bs
+with_filled n [] = refl
+with_filled n (None ∷ bs) = ap (λ (rest : List Bool). false ∷ rest) (with_filled n bs)
+with_filled n (Some ids ∷ bs) = ap (λ (rest : List Bool). true ∷ rest) (with_filled n bs)
+
+-- the bodies of fields from one on
+abbrev norm_file_from : ℕ → List Entry → ℕ → List IndexToken → List Body
+norm_file_from first entries n ts = map (norm_body n ts) (map (λ (f : ℕ × Entry). f.0) (filter (λ (f : ℕ × Entry). keeps_norms f.1) (enumerate_from first entries)))
+
+-- they are written for buffers of which each is that of its field
+norms_from : (first n : ℕ) (ts : List IndexToken) (bs : Buffers) (entries : List Entry) → length bs ≡ length entries
+    → ((k : ℕ) → buffer_of k bs ≡ (if has_norms entries k then Some (norm_ids n (first + k) ts) else None))
+    → norm_bodies_from first bs ≡ norm_file_from first entries n ts
+norms_from first n ts [] [] same h = refl
+norms_from first n ts [] (e ∷ es) same h = absurd (omega (arith, same))
+norms_from first n ts (b ∷ bs) [] same h = absurd (omega (arith, same))
+norms_from first n ts (b ∷ bs) (e ∷ es) same h =
+    by b (keeps_norms e) refl (h 0)
+    (norms_from (first + 1) n ts bs es (omega (arith, same)) (λ k. h (suc k) ∙ ap (λ (field : ℕ). if has_norms es k then Some (norm_ids n field ts) else None) (omega arith)))
+  where
+    by : (o : Option (List ℕ)) (keeps : Bool) → keeps_norms e ≡ keeps → o ≡ (if keeps then Some (norm_ids n (first + 0) ts) else None) → norm_bodies_from (first + 1) bs ≡ norm_file_from (first + 1) es n ts
+        → norm_bodies_from first (o ∷ bs) ≡ norm_file_from first (e ∷ es) n ts
+    by None true is at rest = absurd (cc)
+    by (Some ids) false is at rest = absurd (cc)
+    by None false is at rest = rw is rest
+    by (Some ids) true is at rest =
+        let here : ids ≡ norm_ids n first ts = inside at ∙ ap (λ (field : ℕ). norm_ids n field ts) (omega arith) in
+        rw is (ap (λ (xs : List ℕ). record { field = first; bytes = xs } ∷ norm_bodies_from (first + 1) bs) here ∙ ap (λ (bodies : List Body). norm_body n ts first ∷ bodies) rest)
+      where
+        inside : Some ids ≡ Some (norm_ids n (first + 0) ts) → ids ≡ norm_ids n (first + 0) ts
+        inside e = cc
+
+-- so the file has the norms of each field that has some
+pub holds_norms : (bs : Buffers) (entries : List Entry) (n : ℕ) (bytes : List ℕ) (ts : List IndexToken) → with_norms bs ≡ map keeps_norms entries
+    → ((field : ℕ) → buffer_of field bs ≡ (if has_norms entries field then Some (norm_ids n field ts) else None))
+    → bytes ≡ written_composite (norm_bodies bs) → composite bytes ≡ Some (norm_bodies bs) → HoldNorms entries n bytes ts
+holds_norms bs entries n bytes ts same each written reads =
+    let are : norm_bodies bs ≡ norm_file entries n ts = norms_from 0 n ts bs entries (with_length bs entries same) (λ field. each field ∙ ap (λ (f : ℕ). if has_norms entries field then Some (norm_ids n f ts) else None) (omega arith)) in
+    record {
+      written = written ∙ ap written_composite are;
+      opened = reads ∙ ap (λ (bodies : List Body). Some bodies) are;
+      exact = λ field. ap (body_of field) (sym are) ∙ body_of-norm_bodies field bs ∙ each field;
+    }
 
 length_filled : (n : ℕ) (ids : List ℕ) → length (filled n ids) ≡ n
 length_filled zero ids = ap length (filled_zero ids)
@@ -177,11 +220,12 @@ pub begun_bodies : (w : CountingWriterState) → HasBodies w (begun_file w) []
 begun_bodies w = record { writer = wrote_nothing w; base = refl; starts = refl }
 
 -- what stands in memory is read back
+pub norms_written : (old new : CountingWriterState) (bs : Buffers) (bytes : List ℕ) → old.contents ≡ Some [] → new.contents ≡ Some bytes → WroteNorms old new [] bs → bytes ≡ written_composite (norm_bodies bs)
+norms_written old new bs bytes empty now h =
+    subst (λ (o : Option (List ℕ)). Appends o (Some bytes) (written_composite (norm_bodies bs))) empty (subst (λ (o : Option (List ℕ)). Appends old.contents o (written_composite (norm_bodies bs))) now h.composite.wrote.appends)
+
 pub norms_read : (old new : CountingWriterState) (bs : Buffers) (bytes : List ℕ) → old.contents ≡ Some [] → new.contents ≡ Some bytes → WroteNorms old new [] bs → composite bytes ≡ Some (norm_bodies bs)
-norms_read old new bs bytes empty now h =
-    let more : Appends (Some []) (Some bytes) (written_composite (norm_bodies bs)) = subst (λ (o : Option (List ℕ)). Appends o (Some bytes) (written_composite (norm_bodies bs))) empty
-    (subst (λ (o : Option (List ℕ)). Appends old.contents o (written_composite (norm_bodies bs))) now h.composite.wrote.appends) in
-    ap composite more ∙ h.composite.reads_back
+norms_read old new bs bytes empty now h = ap composite (norms_written old new bs bytes empty now h) ∙ h.composite.reads_back
 
 pub memory_only : (old new : CountingWriterState) (bytes : List ℕ) (fault : Fault) → old.written_bytes ≡ 0 → old.failed_calls ≡ 0 → length bytes < 2 ^ 64 → WritesInMemory false old new bytes (Err fault) → memory_fault fault ≡ OutOfMemory
 memory_only old new bytes fault none whole small h = by fault refl

@@ -14,14 +14,14 @@ use Rattle.ii_base.specs.Schema.{Entry}
 use Rattle.ii_index.specs.Fields.{option_of}
 use Rattle.ii_recorder.specs.IndexBodies.{AddsBodies, IndexBodiesState, LacksField}
 use Rattle.ii_indexing.proofs.SerializeLemmas.{all_pushed}
-use Rattle.ii_indexing.specs.FieldParts.{FieldPart, HasFields, HoldsPart, WroteContext, WroteTerms, bodies_of, first_parts, parts_of, positions_body, postings_body, terms_body, tokens_in}
+use Rattle.ii_indexing.specs.FieldParts.{FieldPart, HasFields, HoldsPart, WroteContext, WroteTerms, bodies_of, first_parts, parts_of, positions_body, postings_body, terms_body, tokens_in, written_terms}
 use Rattle.std.proofs.lemmas.List.FromFn.{length-map-range_with_len}
 use Rattle.ii_termdict.specs.ReadBack.{AreAscending}
 use Rattle.ii_recorder.specs.IndexSerializer.{IndexSerializerState}
 use Rattle.ii_recorder.specs.Recorded.{RecorderState}
 use Rattle.ii_indexing.specs.IndexingContext.{TermIndex, recorder_of}
 use Rattle.ii_indexing.specs.PostingsWriter.{PostingsWriterState}
-use Rattle.ii_indexing.specs.SortedTerms.{IsTold, TermState, state_of, terms_in, written_of}
+use Rattle.ii_indexing.specs.SortedTerms.{IsTold, TermState, state_of, terms_in}
 use Rattle.ii_recorder.specs.HeldTerms.{HoldsTerms}
 use Rattle.ii_indexing.specs.declared.sorted_terms.TermOfField.{TermOfField}
 
@@ -54,12 +54,11 @@ pub tokens_of_writer : (writers : List PostingsWriterState) (field : ℕ) (w : P
 tokens_of_writer writers field w is = rw is refl
 
 -- how a call ends that writes a field with terms
-pub part_wrote : {A E : Type 0} (result : Result A E) (entries : List Entry) (initial old new : IndexBodiesState) (fs : List FieldPart) (field total tokens : ℕ) (seen terms : List TermState) → HasFields entries initial old fs
-    → total ≡ tokens → seen ≡ terms → 0 < length seen → OnOk result (AddsBodies old new field (bodies_of entries (part_of entries field total seen))) → OnOk result (HoldsTerms (option_of entries field) total (bodies_of entries (part_of entries field total seen)) (map (written_of (option_of entries field)) seen)) → OnOk result (AllByRecursion (IsTold (option_of entries field)) seen)
-    → OnOk result (HasFields entries initial new (fs ++ parts_of entries field tokens terms))
-part_wrote (Ok x) entries initial old new fs field total tokens seen terms has counted same some adds holds told =
-    rw (← counted, ← same, some_part entries field total seen some) (part_added entries initial old new fs (part_of entries field total seen) has adds (record { terms = holds; told = told }))
-part_wrote (Err e) entries initial old new fs field total tokens seen terms has counted same some adds holds told = tt
+pub part_wrote : {A E : Type 0} (result : Result A E) (entries : List Entry) (initial old new : IndexBodiesState) (fs : List FieldPart) (p : FieldPart) → HasFields entries initial old fs → 0 < length p.terms
+    → OnOk result (AddsBodies old new p.field (bodies_of entries p)) → OnOk result (HoldsTerms (option_of entries p.field) p.tokens (bodies_of entries p) (written_terms entries p)) → OnOk result (AllByRecursion (IsTold (option_of entries p.field)) p.terms)
+    → OnOk result (HasFields entries initial new (fs ++ parts_of entries p.field p.tokens p.terms))
+part_wrote (Ok x) entries initial old new fs p has some adds holds told = rw (some_part entries p.field p.tokens p.terms some) (part_added entries initial old new fs p has adds (record { terms = holds; told = told }))
+part_wrote (Err e) entries initial old new fs p has some adds holds told = tt
 
 pub some_seen : (terms : List TermOfField) → 0 < length terms → 0 < length (map state_of terms)
 some_seen terms some = omega (arith, some, length-map terms state_of)
@@ -129,20 +128,24 @@ next_part first entries writers terms n field ts initial new same is at has =
     let by_terms = subst (λ (us : List TermState). HasFields first initial new (fs ++ parts_of first n (tokens_in writers n) us)) at by_field in
     subst (HasFields first initial new) (sym (one_more_part first writers terms n)) by_terms
 
--- how a call ends that writes the lists of terms of all fields
-pub wrote_terms : {A E : Type 0} (result : Result A E) (old new : IndexSerializerState) (writers : List PostingsWriterState) (terms sorted : TermIndex) (lists : List (List TermState)) (n : ℕ)
-    → ((bytes : List ℕ) → recorder_of sorted bytes ≡ recorder_of terms bytes) → AreAscending (map (λ (t : List ℕ × RecorderState). t.0) sorted) → lists ≡ map (λ (field : ℕ). terms_in field sorted) (range_with_len 0 n) → n ≡ length old.entries
+-- The lists of the terms of so many fields, of a context whose terms were sorted.
+pub record AreLists (n : ℕ) (terms sorted : TermIndex) (lists : List (List TermState)) : Type 0 where
+  pub same : (bytes : List ℕ) → recorder_of sorted bytes ≡ recorder_of terms bytes
+  pub ascending : AreAscending (map (λ (t : List ℕ × RecorderState). t.0) sorted)
+  pub are : lists ≡ map (λ (field : ℕ). terms_in field sorted) (range_with_len 0 n)
+
+-- how a call ends that writes them
+pub wrote_terms : {A E : Type 0} (result : Result A E) (old new : IndexSerializerState) (writers : List PostingsWriterState) (terms sorted : TermIndex) (lists : List (List TermState)) → AreLists (length old.entries) terms sorted lists
     → OnOk result (HasFields old.entries old.bodies new.bodies (first_parts old.entries writers lists (length lists))) → OnOk result (WroteTerms old new writers terms sorted)
-wrote_terms (Ok x) old new writers terms sorted lists n same ascending are many has =
-    let whole : lists ≡ map (λ (field : ℕ). terms_in field sorted) (range_with_len 0 (length old.entries)) = are ∙ ap (λ (m : ℕ). map (λ (field : ℕ). terms_in field sorted) (range_with_len 0 m)) many in
-    let count : length lists ≡ length old.entries = ap length whole ∙ length-map-range_with_len (λ (field : ℕ). terms_in field sorted) 0 (length old.entries) in
+wrote_terms (Ok x) old new writers terms sorted lists h has =
+    let count : length lists ≡ length old.entries = ap length h.are ∙ length-map-range_with_len (λ (field : ℕ). terms_in field sorted) 0 (length old.entries) in
     record {
-      same = same;
-      ascending = ascending;
-      fields = subst (λ (ls : List (List TermState)). HasFields old.entries old.bodies new.bodies (first_parts old.entries writers ls (length old.entries))) whole
+      same = h.same;
+      ascending = h.ascending;
+      fields = subst (λ (ls : List (List TermState)). HasFields old.entries old.bodies new.bodies (first_parts old.entries writers ls (length old.entries))) h.are
           (subst (λ (m : ℕ). HasFields old.entries old.bodies new.bodies (first_parts old.entries writers lists m)) count has);
     }
-wrote_terms (Err e) old new writers terms sorted lists n same ascending are many has = tt
+wrote_terms (Err e) old new writers terms sorted lists h has = tt
 
 pub wrote_context : {A E : Type 0} (result : Result A E) (old new : IndexSerializerState) (writers : List PostingsWriterState) (terms sorted : TermIndex) → OnOk result (WroteTerms old new writers terms sorted) → OnOk result (WroteContext old new writers terms)
 wrote_context (Ok x) old new writers terms sorted wrote = record { sorted = sorted; wrote = wrote }

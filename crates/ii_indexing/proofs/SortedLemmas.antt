@@ -173,6 +173,10 @@ pub if_ok : {X E : Type 0} (r : Result X E) (P Q : X → Type 0) → ((x : X) �
 if_ok (Ok x) P Q f h = f x h
 if_ok (Err e) P Q f h = tt
 
+pub if_both : {X E : Type 0} (r : Result X E) (P R Q : X → Type 0) → ((x : X) → P x → R x → Q x) → IfOk r P → IfOk r R → IfOk r Q
+if_both (Ok x) P R Q f h k = f x h k
+if_both (Err e) P R Q f h k = tt
+
 bytes_same : (bytes : List ℕ) → bytes_eq bytes bytes ≡ true
 bytes_same bytes = nat_list_eq_equiv.refl bytes
 

@@ -14,7 +14,7 @@ use Rattle.ii_base.specs.declared.schema.index_record_option.IndexRecordOption.T
 use Rattle.ii_index.specs.Tokens.{IndexToken, Piece, kept_words, value_token, word_token}
 use Rattle.ii_index.specs.Fields.{option_of}
 use Rattle.ii_index.specs.Postings.{field_count, is_at, kind_of, tokens_at}
-use Rattle.ii_indexing.specs.IndexedTerms.{IndexedTermsState, IsOfField, StoresTokens, field_text, field_value, kept_in, value_fault}
+use Rattle.ii_indexing.specs.IndexedTerms.{IndexedTermsState, IsOfField, StoresTokens, kept_in, value_fault}
 use Rattle.ii_recorder.specs.Recorded.{position_fault}
 use Rattle.ii_indexing.specs.IndexingContext.{entry_at, recorder_or_new, TermIndex, recorder_of}
 use Rattle.ii_indexing.specs.IndexingTerm.{field_bytes}
@@ -138,16 +138,16 @@ some_inside : {A : Type 0} (x y : A) → Some x ≡ Some y → x ≡ y
 some_inside x y is = cc
 
 -- what a writer of a text knows
-pub text_known : (entries : List Entry) (ts : List IndexToken) (s : IndexedTermsState) (doc field : ℕ) (words : List Word) (w : PostingsWriterState) → field < length entries
-    → StoresTokens entries s ts → slice_get s.writers field ≡ Some w → (w.option ≡ kept_in entries field) × HasTokens (kept_by entries) (field_text doc field words) s.terms w ts
-text_known entries ts s doc field words w low h found =
-    let is : w ≡ record { option = kept_in entries field; total_num_tokens = field_count field ts } = some_inside _ _ (sym found ∙ h.counted field low) in
-    let option : w.option ≡ kept_in entries field = ap (λ (v : PostingsWriterState). v.option) is in (
+pub text_known : (entries : List Entry) (ts : List IndexToken) (s : IndexedTermsState) (p : Piece) (w : PostingsWriterState) → p.field < length entries
+    → StoresTokens entries s ts → slice_get s.writers p.field ≡ Some w → (w.option ≡ kept_in entries p.field) × HasTokens (kept_by entries) p s.terms w ts
+text_known entries ts s p w low h found =
+    let is : w ≡ record { option = kept_in entries p.field; total_num_tokens = field_count p.field ts } = some_inside _ _ (sym found ∙ h.counted p.field low) in
+    let option : w.option ≡ kept_in entries p.field = ap (λ (v : PostingsWriterState). v.option) is in (
       option,
       record {
         records = h.records;
         kinds = λ key. sym option;
-        of_text = λ key. rw option (one_kind entries ts field key h.of_fields);
+        of_text = λ key. rw option (one_kind entries ts p.field (p.prefix ++ key) h.of_fields);
         counted = ap (λ (v : PostingsWriterState). v.total_num_tokens) is;
       },
     )
@@ -158,34 +158,34 @@ words_of_field entries p begin [] low of_text = tt
 words_of_field entries p begin (w ∷ ws) low of_text = (record { known = low; kind = sym of_text }, words_of_field entries p begin ws low of_text)
 
 -- a text was indexed
-pub text_stored : (entries : List Entry) (ts : List IndexToken) (s : IndexedTermsState) (doc field begin : ℕ) (words : List Word) (w : PostingsWriterState) (terms : TermIndex) (after : PostingsWriterState)
-    → field < length entries → kept_in entries field ≡ option_of entries field → StoresTokens entries s ts → slice_get s.writers field ≡ Some w → after.option ≡ w.option
-    → (HasTokens (kept_by entries) (field_text doc field words) s.terms w ts → HasTokens (kept_by entries) (field_text doc field words) terms after (ts ++ map (word_token (field_text doc field words) begin) (kept_words words)))
-    → StoresTokens entries (record { terms = terms; writers = slice_set s.writers field after }) (ts ++ map (word_token (field_text doc field words) begin) (kept_words words))
-text_stored entries ts s doc field begin words w terms after low of_text h found same f =
-    let known = text_known entries ts s doc field words w low h found in
+pub text_stored : (entries : List Entry) (ts : List IndexToken) (s : IndexedTermsState) (p : Piece) (begin : ℕ) (w : PostingsWriterState) (terms : TermIndex) (after : PostingsWriterState)
+    → p.field < length entries → kept_in entries p.field ≡ option_of entries p.field → StoresTokens entries s ts → slice_get s.writers p.field ≡ Some w → after.option ≡ w.option
+    → (HasTokens (kept_by entries) p s.terms w ts → HasTokens (kept_by entries) p terms after (ts ++ map (word_token p begin) (kept_words p.words)))
+    → StoresTokens entries (record { terms = terms; writers = slice_set s.writers p.field after }) (ts ++ map (word_token p begin) (kept_words p.words))
+text_stored entries ts s p begin w terms after low of_text h found same f =
+    let known = text_known entries ts s p w low h found in
     let new = f known.1 in
-    let option : after.option ≡ kept_in entries field = same ∙ known.0 in
-    tokens_stored entries field s terms after ts (map (word_token (field_text doc field words) begin) (kept_words words)) low h (record {
+    let option : after.option ≡ kept_in entries p.field = same ∙ known.0 in
+    tokens_stored entries p.field s terms after ts (map (word_token p begin) (kept_words p.words)) low h (record {
       records = new.records;
-      writer_is = ap (λ (o : IndexRecordOption). record { option = o; total_num_tokens = after.total_num_tokens }) option ∙ ap (λ (n : ℕ). record { option = kept_in entries field; total_num_tokens = n }) new.counted;
-      of_field = words_of_field entries (field_text doc field words) begin (kept_words words) low of_text;
-      only = words_only (field_text doc field words) begin (kept_words words);
+      writer_is = ap (λ (o : IndexRecordOption). record { option = o; total_num_tokens = after.total_num_tokens }) option ∙ ap (λ (n : ℕ). record { option = kept_in entries p.field; total_num_tokens = n }) new.counted;
+      of_field = words_of_field entries p begin (kept_words p.words) low of_text;
+      only = words_only p begin (kept_words p.words);
     })
 
 -- a value was indexed
-pub value_stored : (entries : List Entry) (ts : List IndexToken) (s : IndexedTermsState) (doc field : ℕ) (key : List ℕ) (w : PostingsWriterState) (terms : TermIndex) (after : PostingsWriterState)
-    → field < length entries → kept_in entries field ≡ Basic → StoresTokens entries s ts → slice_get s.writers field ≡ Some w → after ≡ tokens_counted 1 w
-    → (kept_in entries field ≡ w.option → Records (kept_by entries) s.terms ts → Records (kept_by entries) terms (ts ++ value_token (field_value doc field key) ∷ []))
-    → StoresTokens entries (record { terms = terms; writers = slice_set s.writers field after }) (ts ++ value_token (field_value doc field key) ∷ [])
-value_stored entries ts s doc field key w terms after low basic h found counted f =
-    let t = value_token (field_value doc field key) in
-    let is : w ≡ record { option = kept_in entries field; total_num_tokens = field_count field ts } = some_inside _ _ (sym found ∙ h.counted field low) in
-    tokens_stored entries field s terms after ts (t ∷ []) low h (record {
+pub value_stored : (entries : List Entry) (ts : List IndexToken) (s : IndexedTermsState) (p : Piece) (w : PostingsWriterState) (terms : TermIndex) (after : PostingsWriterState)
+    → p.field < length entries → kept_in entries p.field ≡ Basic → StoresTokens entries s ts → slice_get s.writers p.field ≡ Some w → after ≡ tokens_counted 1 w
+    → (kept_in entries p.field ≡ w.option → Records (kept_by entries) s.terms ts → Records (kept_by entries) terms (ts ++ value_token p ∷ []))
+    → StoresTokens entries (record { terms = terms; writers = slice_set s.writers p.field after }) (ts ++ value_token p ∷ [])
+value_stored entries ts s p w terms after low basic h found counted f =
+    let t = value_token p in
+    let is : w ≡ record { option = kept_in entries p.field; total_num_tokens = field_count p.field ts } = some_inside _ _ (sym found ∙ h.counted p.field low) in
+    tokens_stored entries p.field s terms after ts (t ∷ []) low h (record {
       records = f (sym (ap (λ (v : PostingsWriterState). v.option) is)) h.records;
-      writer_is = counted ∙ ap (tokens_counted 1) is ∙ ap (λ (n : ℕ). record { option = kept_in entries field; total_num_tokens = n }) (sym (field_count_more field ts t refl));
+      writer_is = counted ∙ ap (tokens_counted 1) is ∙ ap (λ (n : ℕ). record { option = kept_in entries p.field; total_num_tokens = n }) (sym (field_count_more p.field ts t refl));
       of_field = (record { known = low; kind = sym basic }, tt);
-      only = one_token field t [] refl (no_tokens field);
+      only = one_token p.field t [] refl (no_tokens p.field);
     })
 
 -- why it is refused

@@ -1,12 +1,11 @@
 -- The files of an index as they are written.
-use Rattle.std.specs.Prelude.{◌≡◌, ℕ, ◌+◌, ◌<◌, ◌≤◌, ◌⊎◌, ◌↔◌, Bool, false, List, [], length, Result, IsErrOf, slice_get, unwrap_or}
-use Rattle.std.specs.Option.{option_map}
+use Rattle.std.specs.Prelude.{◌≡◌, ℕ, ◌+◌, ◌<◌, ◌≤◌, ◌⊎◌, ◌↔◌, false, List, [], length, Result, IsErrOf}
 use Rattle.ii_io.specs.declared.faults.Fault.{Fault}
 use Rattle.ii_io.specs.declared.faults.Fault.TheVariants.{Limit, OutOfMemory, Write}
 use Rattle.ii_io.specs.declared.faults.LimitName.TheVariants as limit
 use Rattle.ii_io.specs.CompositeWrite.{CompositeWriteState}
-use Rattle.ii_io.specs.CountingWriter.{CountingWriterState, IsFull, Wrote}
-use Rattle.ii_base.specs.Schema.{Entry, keeps_norms}
+use Rattle.ii_io.specs.CountingWriter.{CountingWriterState, Grows, IsFull, Wrote}
+use Rattle.ii_base.specs.Schema.{Entry}
 use Rattle.ii_index.specs.Fields.{option_of}
 use Rattle.ii_index.specs.Files.{HoldTokens}
 use Rattle.ii_index.specs.Tokens.{IndexToken}
@@ -17,10 +16,6 @@ use Rattle.ii_indexing.specs.IndexedTerms.{IndexedTermsState, StoresTokens}
 use Rattle.ii_indexing.specs.Norms.{HoldNorms}
 use Rattle.ii_indexing.specs.WriteFaults.{IsContextFault}
 use Rattle.ii_indexing.specs.declared.index_writers.IndexWriters.{IndexWriters}
-
--- whether a field of a schema has norms
-abbrev pub has_norms : List Entry → ℕ → Bool
-has_norms entries field = unwrap_or (option_map keeps_norms (slice_get entries field)) false
 
 -- The files of terms, postings and positions were written, and hold tokens.
 pub record WroteTermFiles {W : Type 0} (entries : List Entry) (old new : IndexWriters W) (ts : List IndexToken) : Type 0 where
@@ -46,12 +41,19 @@ pub record ClosedFiles (begun : IndexSerializerState) (new_terms new_postings ne
 pub record WroteNormFile {W : Type 0} (entries : List Entry) (num_docs : ℕ) (old new : IndexWriters W) (ts : List IndexToken) : Type 0 where
   pub fieldnorms : List ℕ
   pub wrote : Wrote old.fieldnorms new.fieldnorms fieldnorms
-  pub hold : HoldNorms (has_norms entries) num_docs fieldnorms ts
+  pub hold : HoldNorms entries num_docs fieldnorms ts
 
 -- An index of tokens was written.
 pub record WroteIndex {W : Type 0} (entries : List Entry) (num_docs : ℕ) (old new : IndexWriters W) (ts : List IndexToken) : Type 0 where
   pub terms : WroteTermFiles entries old new ts
   pub norms : WroteNormFile entries num_docs old new ts
+
+-- Each of the four writers has what it had, and maybe more behind it.
+pub record FilesGrow {W : Type 0} (old new : IndexWriters W) : Type 0 where
+  pub terms : Grows old.terms new.terms
+  pub postings : Grows old.postings new.postings
+  pub positions : Grows old.positions new.positions
+  pub fieldnorms : Grows old.fieldnorms new.fieldnorms
 
 -- how many calls of the four writers failed
 abbrev pub index_failed_calls : {W : Type 0} → IndexWriters W → ℕ
@@ -98,7 +100,7 @@ pub record PassLimits {W : Type 0} (entries : List Entry) (writers : IndexWriter
 abbrev pub IsIndexFault : {W : Type 0} → List Entry → ℕ → IndexWriters W → IndexedTermsState → List IndexToken → Fault → Type 0
 IsIndexFault entries num_docs writers s ts fault =
     (fault ≡ OutOfMemory) ⊎ (fault ≡ Write) ⊎ PassLimits entries writers s fault
-    ⊎ ((fault ≡ Limit limit.Offset) × (bytes : List ℕ) × HoldNorms (has_norms entries) num_docs bytes ts × IsFull writers.fieldnorms (length bytes))
+    ⊎ ((fault ≡ Limit limit.Offset) × (bytes : List ℕ) × HoldNorms entries num_docs bytes ts × IsFull writers.fieldnorms (length bytes))
 
 -- And so it is for an index of tokens, by what is stored of them.
 pub record IsWriteFault {W : Type 0} (entries : List Entry) (num_docs : ℕ) (writers : IndexWriters W) (ts : List IndexToken) (fault : Fault) : Type 0 where

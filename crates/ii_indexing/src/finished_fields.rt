@@ -3,7 +3,7 @@ ghost use Rattle.ii_io.specs.CountingWriter.{Writes};
 ghost use Rattle.ii_index.specs.Tokens.{IndexToken};
 ghost use Rattle.ii_indexing.specs.FieldParts.{AreShortNorms};
 ghost use Rattle.ii_indexing.specs.HeldBodies.{HaveTokens};
-ghost use Rattle.ii_indexing.specs.IndexFiles.{CountsIndexFailures, IsIndexFault, WroteIndex, has_norms};
+ghost use Rattle.ii_indexing.specs.IndexFiles.{CountsIndexFailures, FilesGrow, IsIndexFault, WroteIndex};
 ghost use Rattle.ii_indexing.specs.Norms.{HoldNorms};
 ghost use Rattle.ii_indexing.specs.SortedTerms.{AllMayBeWritten};
 
@@ -40,10 +40,11 @@ impl FinishedFields {
         requires writers { length self.terms.writers ≡ length schema.now }
         requires short { AreShortNorms self.readers }
         requires terms { AllMayBeWritten (length schema.now) self.terms.terms }
-        ensures holds { (ts : List IndexToken) → HoldNorms (has_norms schema.now) num_docs self.norms ts → HaveTokens schema.now self.terms.terms self.terms.writers ts
+        ensures holds { (ts : List IndexToken) → HoldNorms schema.now num_docs self.norms ts → HaveTokens schema.now self.terms.terms self.terms.writers ts
             → OnOk result.1 (WroteIndex schema.now num_docs writers result.0 ts) }
         ensures failures { CountsIndexFailures writers result.0 result.1 }
-        ensures fault { (ts : List IndexToken) → HoldNorms (has_norms schema.now) num_docs self.norms ts → IfErr result.1 (IsIndexFault schema.now num_docs writers self.terms ts) }
+        ensures grow { FilesGrow writers result.0 }
+        ensures fault { (ts : List IndexToken) → HoldNorms schema.now num_docs self.norms ts → IfErr result.1 (IsIndexFault schema.now num_docs writers self.terms ts) }
     {
         let FinishedFields {
             schema: copy,

@@ -3,7 +3,7 @@ ghost use Rattle.ii_docset.specs.declared.docset.TheConstants.{TERMINATED};
 ghost use Rattle.ii_index.specs.Fields.{option_of};
 ghost use Rattle.ii_index.specs.Tokens.{tokens_of};
 ghost use Rattle.ii_indexing.specs.IndexCalls.{MayAllBeIndexed, call_of};
-ghost use Rattle.ii_indexing.specs.IndexFiles.{CountsIndexFailures, IsWriteFault, WroteIndex};
+ghost use Rattle.ii_indexing.specs.IndexFiles.{CountsIndexFailures, FilesGrow, IsWriteFault, WroteIndex};
 ghost use Rattle.ii_indexing.specs.Indexer.{Stores};
 ghost use Rattle.ii_indexing.specs.Refusals.{IsRefusedBy, calls_fault};
 
@@ -32,7 +32,8 @@ pub struct IndexWriters<W: Write> {
 /// each one's field is indexed and has values of its type.
 ///
 /// The first fault of the calls (`Indexer::index`) is answered, and nothing is written then; else one of
-/// `Indexer::finish`. `OutOfMemory` where there is no room.
+/// `Indexer::finish`, and each file has what it had, and maybe more behind it. `OutOfMemory` where there
+/// is no room.
 pub fn write_index<A: TextAnalyzer, W: Write>(
     alloc: Global,
     schema: Schema,
@@ -45,6 +46,7 @@ pub fn write_index<A: TextAnalyzer, W: Write>(
     requires calls { MayAllBeIndexed schema num_docs calls.items }
     ensures wrote { OnOk result.1 (WroteIndex schema num_docs writers result.0 (tokens_of (A.words analyzer.now) (map call_of calls.items))) }
     ensures failures { CountsIndexFailures writers result.0 result.1 }
+    ensures grow { FilesGrow writers result.0 }
     ensures refused { IfSome (calls_fault (A.words analyzer.now) (option_of schema) [] (map call_of calls.items))
         (λ fault. ((result.1 ≡ Err fault) ⊎ (result.1 ≡ Err Fault.OutOfMemory)) × (result.0 ≡ writers)) }
     ensures fault { calls_fault (A.words analyzer.now) (option_of schema) [] (map call_of calls.items) ≡ None

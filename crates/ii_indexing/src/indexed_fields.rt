@@ -7,7 +7,6 @@ ghost use Rattle.ii_index.specs.Fields.{option_of};
 ghost use Rattle.ii_indexing.specs.IndexCalls.{Takes, call_of, type_of};
 ghost use Rattle.ii_indexing.specs.IndexedTerms.{field_text, field_value, kept_in, key_of};
 ghost use Rattle.ii_indexing.specs.FieldParts.{AreShortNorms};
-ghost use Rattle.ii_indexing.specs.IndexFiles.{has_norms};
 ghost use Rattle.ii_indexing.specs.Indexer.{EndsAt, StoresPieces, StoresSome};
 ghost use Rattle.ii_indexing.specs.Norms.{HoldNorms};
 ghost use Rattle.ii_indexing.specs.OpenDocuments.{TellsAll, with_norms};
@@ -112,7 +111,7 @@ impl IndexedFields {
         requires some { StoresSome schema.now self }
         ensures schema { IfOk result (λ f. f.schema ≡ schema.now) }
         ensures terms { IfOk result (λ f. f.terms ≡ self.indexed) }
-        ensures norms { IfOk result (λ f. (ps : List Piece) (ts : List IndexToken) → TellsAll ps ts self.opened → HoldNorms (has_norms schema.now) num_docs f.norms ts) }
+        ensures norms { IfOk result (λ f. (ps : List Piece) (ts : List IndexToken) → TellsAll ps ts self.opened → HoldNorms schema.now num_docs f.norms ts) }
         ensures short { IfOk result (λ f. AreShortNorms f.readers) }
         ensures only { IfErr result (λ e. e ≡ Fault.OutOfMemory) }
     {

@@ -1,4 +1,5 @@
 ghost use Rattle.std.specs.Prelude.{◌≡◌, ◌<◌, ◌+◌, ◌∷◌, ◌++◌, ◌⊎◌, ◌^◌, [], List, ℕ, true, false, length, IfErr, IfOk, OnErr, OnOk};
+ghost use Rattle.ii_io.specs.CountingWriter.{Grows};
 ghost use Rattle.ii_base.specs.Schema.{Entry};
 ghost use Rattle.ii_base.specs.declared.schema.index_record_option.IndexRecordOption.TheVariants.{Basic};
 ghost use Rattle.ii_docset.specs.declared.docset.TheConstants.{TERMINATED};
@@ -7,7 +8,7 @@ ghost use Rattle.ii_index.specs.Tokens.{IndexToken, end_after, kept_words, piece
 ghost use Rattle.ii_indexing.specs.IndexedTerms.{StoresTokens, field_text, field_value, kept_in, key_of, value_fault};
 ghost use Rattle.ii_indexing.specs.FieldParts.{AreShortNorms, HasFields};
 ghost use Rattle.ii_indexing.specs.HeldBodies.{HaveTokens};
-ghost use Rattle.ii_indexing.specs.IndexFiles.{ClosedFiles, CountsIndexFailures, CountsThreeFailures, FillTables, PassLimits, WroteTermFiles};
+ghost use Rattle.ii_indexing.specs.IndexFiles.{ClosedFiles, CountsIndexFailures, CountsThreeFailures, FilesGrow, FillTables, PassLimits, WroteTermFiles};
 ghost use Rattle.ii_indexing.specs.IndexingContext.{AllEndBy};
 ghost use Rattle.ii_indexing.specs.PostingsWriter.{text_fault, writers_of};
 ghost use Rattle.ii_indexing.specs.Refusals.{IsRefusedBy};
@@ -134,6 +135,7 @@ impl IndexedTerms {
         ensures holds { (ts : List IndexToken) → HaveTokens schema.now self.terms self.writers ts → OnOk result.1 (WroteTermFiles schema.now writers result.0 ts) }
         ensures norms { result.0.fieldnorms ≡ writers.fieldnorms }
         ensures failures { CountsIndexFailures writers result.0 result.1 }
+        ensures grow { FilesGrow writers result.0 }
         ensures fault { IfErr result.1 (λ e. (e ≡ Fault.OutOfMemory) ⊎ (e ≡ Fault.Write) ⊎ PassLimits schema.now writers self e) }
     {
         let IndexedTerms {
@@ -189,6 +191,7 @@ fn write_files<W: Write>(
     ensures holds { (ts : List IndexToken) → HaveTokens serializer.entries ctx postings_writers.now ts
         → OnOk result.3 (ClosedFiles serializer result.0 result.1 result.2 ts) }
     ensures failures { CountsThreeFailures serializer.bodies result.0 result.1 result.2 result.3 }
+    ensures grow { Grows serializer.bodies.terms.writer result.0 × Grows serializer.bodies.postings.writer result.1 × Grows serializer.bodies.positions.writer result.2 }
     ensures fault { IfErr result.3 (λ e. (e ≡ Fault.OutOfMemory) ⊎ (e ≡ Fault.Write) ⊎ IsContextFault serializer postings_writers.now ctx e
         ⊎ ((e ≡ Fault.Limit LimitName.Offset) × FillTables serializer (record { terms = ctx; writers = postings_writers.now }))) }
 {

@@ -3,7 +3,7 @@ ghost use Rattle.ii_docset.specs.declared.docset.TheConstants.{TERMINATED};
 ghost use Rattle.ii_index.specs.Fields.{option_of};
 ghost use Rattle.ii_base.specs.Words.{Word};
 ghost use Rattle.ii_index.specs.Tokens.{Call, tokens_of};
-ghost use Rattle.ii_indexing.specs.IndexFiles.{CountsIndexFailures, IsIndexFault, WroteIndex};
+ghost use Rattle.ii_indexing.specs.IndexFiles.{CountsIndexFailures, FilesGrow, IsIndexFault, WroteIndex};
 ghost use Rattle.ii_indexing.specs.IndexCalls.{Takes, call_of, type_of};
 ghost use Rattle.ii_indexing.specs.Indexer.{IndexerState, StoresPieces, Stores};
 ghost use Rattle.ii_indexing.specs.Refusals.{IsRefusedBy, call_fault};
@@ -108,10 +108,12 @@ impl Indexer {
     /// `Limit(Offset)` where a count of a writer would pass `u64::MAX` or the bytes of all terms of a
     /// field pass 2^56, `Limit(TermBytes)` where the postings or the positions of a term have more than
     /// `u32::MAX` bytes, `Limit(BlockFrequencySum)` where the counts of a block of a term with positions
-    /// sum up above `u32::MAX`, `OutOfMemory` where a growth was refused.
+    /// sum up above `u32::MAX`, `OutOfMemory` where a growth was refused. After a fault each file has what
+    /// it had, and maybe more behind it.
     pub fn finish<W: Write>(self, writers: IndexWriters<W>) -> (IndexWriters<W>, Result<(), Fault>)
         ensures wrote { (analyze : List ℕ → List Word) (calls : List Call) → Stores analyze self calls → OnOk result.1 (WroteIndex self.schema self.num_docs writers result.0 (tokens_of analyze calls)) }
         ensures failures { CountsIndexFailures writers result.0 result.1 }
+        ensures grow { FilesGrow writers result.0 }
         ensures fault { self.failed ≡ false → (analyze : List ℕ → List Word) (calls : List Call) → Stores analyze self calls
             → IfErr result.1 (IsIndexFault self.schema self.num_docs writers self.fields.indexed (tokens_of analyze calls)) }
         ensures failed { self.failed ≡ true → (result.1 ≡ Err Fault.IndexerFailed) × (result.0 ≡ writers) }

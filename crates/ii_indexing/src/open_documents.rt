@@ -1,8 +1,8 @@
-ghost use Rattle.std.specs.Prelude.{◌≡◌, ◌<◌, ◌≤◌, ◌^◌, [], List, is_some, length, map, slice_get, slice_set, Some, IfErr, IfOk, OnErr, OnOk};
-ghost use Rattle.ii_base.specs.Schema.{Entry};
+ghost use Rattle.std.specs.Prelude.{◌≡◌, ◌<◌, ◌≤◌, ◌^◌, [], List, length, map, slice_get, slice_set, Some, IfErr, IfOk, OnErr, OnOk};
+ghost use Rattle.ii_base.specs.Schema.{Entry, keeps_norms};
 ghost use Rattle.ii_io.specs.Composite.{composite, written_composite};
 ghost use Rattle.ii_docset.specs.declared.docset.TheConstants.{TERMINATED};
-ghost use Rattle.ii_fieldnorm.specs.Buffers.{buffer_of, empty_buffers, norm_bodies};
+ghost use Rattle.ii_fieldnorm.specs.Buffers.{empty_buffers, norm_bodies};
 ghost use Rattle.ii_indexing.specs.Norms.{HoldNorms};
 ghost use Rattle.ii_index.specs.Tokens.{IndexToken, Piece};
 ghost use Rattle.ii_indexing.specs.declared.open_documents.OpenDocument.{OpenDocument};
@@ -106,7 +106,8 @@ impl OpenDocuments {
         requires docs { num_docs ≤ TERMINATED }
         requires few { length self.norms < 2 ^ 32 }
         requires fields { length self.documents ≡ length self.norms }
-        ensures holds { IfOk result (λ bytes. (ps : List Piece) (ts : List IndexToken) → TellsAll ps ts self → HoldNorms (λ field. is_some (buffer_of field self.norms)) num_docs bytes ts) }
+        ensures holds { IfOk result (λ bytes. (entries : List Entry) (ps : List Piece) (ts : List IndexToken) → with_norms self.norms ≡ map keeps_norms entries → TellsAll ps ts self
+            → HoldNorms entries num_docs bytes ts) }
         ensures only { IfErr result (λ e. e ≡ Fault.OutOfMemory) }
     {
         let OpenDocuments { documents, norms } = self;
@@ -137,6 +138,7 @@ fn close_documents(documents: &[OpenDocument], norms: &mut FieldNormsWriter) -> 
 fn norms_file(alloc: Global, norms: &FieldNormsWriter) -> Result<Bytes, Fault>
     requires few { length norms.now < 2 ^ 32 }
     requires small { length (written_composite (norm_bodies norms.now)) < 2 ^ 64 }
+    ensures written { IfOk result (λ bytes. bytes ≡ written_composite (norm_bodies norms.now)) }
     ensures reads { IfOk result (λ bytes. composite bytes ≡ Some (norm_bodies norms.now)) }
     ensures only { IfErr result (λ e. e ≡ Fault.OutOfMemory) }
 {

@@ -33,7 +33,8 @@ pub trait PostingsWriter: Drop {
     /// context before.
     ///
     /// `Limit(Tokens)` for more than `u64::MAX` tokens, and then what the term's recorder says.
-    /// `OutOfMemory` where there is no room for it. Nothing is said of the context after a fault.
+    /// `OutOfMemory` where there is no room for it. After a fault no token was counted, and nothing is
+    /// said of the context.
     fn subscribe(
         &mut self,
         doc: DocId,
@@ -48,6 +49,7 @@ pub trait PostingsWriter: Drop {
         ensures tokens { OnOk result ((kind : ℕ → List ℕ → IndexRecordOption) (ts : List IndexToken) (of_text : Bool)
             → kind term.now.field term.now.value ≡ (state self.old).option → Records kind ctx.old ts → Records kind ctx.new (ts ++ term_token doc pos of_text term.now ∷ [])) }
         ensures counted { OnOk result (state self.new ≡ tokens_counted 1 (state self.old)) }
+        ensures uncounted { OnErr result (state self.new ≡ state self.old) }
         ensures refused { IsRefusedBy (subscribe_fault (state self.old) doc pos (term_bytes term.now) ctx.old) result };
 
     /// Indexes the tokens of a text that are still to come, under the terms that the buffer's value and
@@ -128,6 +130,7 @@ impl SpecializedPostingsWriter {
         ensures recorded { OnOk result (IsRecorded self.old.option doc pos (field_bytes term.old.field ++ (term.old.value ++ word.now)) ctx.old ctx.new) }
         ensures ends { OnOk result (AllEndBy doc ctx.new) }
         ensures counted { OnOk result (self.new ≡ tokens_counted 1 self.old) }
+        ensures uncounted { OnErr result (self.new ≡ self.old) }
         ensures refused { IsRefusedBy (subscribe_fault self.old doc pos (field_bytes term.old.field ++ (term.old.value ++ word.now)) ctx.old) result }
         ensures same_term { OnOk result (term.new ≡ term.old) }
     {

@@ -4,7 +4,7 @@ ghost use Rattle.ii_io.specs.CountingWriter.{Closes};
 ghost use Rattle.ii_termdict.specs.ReadBack.{AreAscending};
 ghost use Rattle.ii_index.specs.Fields.{option_of};
 ghost use Rattle.ii_recorder.specs.AnyRecorder.{any_state};
-ghost use Rattle.ii_recorder.specs.IndexBodies.{AddsBodies, IndexBodiesState, LacksField};
+ghost use Rattle.ii_recorder.specs.IndexBodies.{AddsBodies, AllGrow, IndexBodiesState, LacksField};
 ghost use Rattle.ii_recorder.specs.IndexSerializer.{IsWriting};
 ghost use Rattle.ii_recorder.specs.Terms.{WrittenTerm, field_bodies};
 ghost use Rattle.ii_recorder.specs.HeldTerms.{HoldsTerms};
@@ -46,6 +46,7 @@ fn serialize_one_term<W: Write>(
     ensures entries { serializer.new.index.now.entries ≡ serializer.old.index.now.entries }
     // where it is refused
     ensures failures { CountsFailures serializer.old.index.now.bodies serializer.new.index.now.bodies result }
+    ensures grow { AllGrow serializer.old.index.now.bodies serializer.new.index.now.bodies }
     ensures fault { (initial : IndexBodiesState) (field tokens : ℕ) (ts : List WrittenTerm) → IsWriting initial serializer.old.index.now field tokens ts []
         → IfErr result (IsTermFaultAfter initial (option_of serializer.old.index.now.entries field) tokens ts
         (written_of (option_of serializer.old.index.now.entries field) (record { key = key.now; recorder = any_state recorder.now }))) }
@@ -81,6 +82,7 @@ fn serialize_field<W: Write>(
     ensures told { OnOk result (AllByRecursion (IsTold (option_of serializer.old.entries field)) (map state_of terms.now)) }
     // where it is refused
     ensures failures { CountsFailures serializer.old.bodies serializer.new.bodies result }
+    ensures grow { AllGrow serializer.old.bodies serializer.new.bodies }
     ensures fault { IfErr result (λ e. (e ≡ Fault.SerializerClosed)
         ⊎ IsPartFault serializer.old.entries serializer.old.bodies (record { field = field; tokens = total_num_tokens; terms = map state_of terms.now }) e) }
     ensures refused { IsTrue serializer.old.closed → serializer.new ≡ serializer.old }
@@ -114,6 +116,7 @@ fn serialize_if_any<W: Write>(
         → OnOk result (HasFields serializer.old.entries initial serializer.new.bodies (fs ++ parts_of serializer.old.entries field (tokens_in writers.now field) terms.now)) }
     // where it is refused
     ensures failures { CountsFailures serializer.old.bodies serializer.new.bodies result }
+    ensures grow { AllGrow serializer.old.bodies serializer.new.bodies }
     ensures fault { IfErr result (λ e. (e ≡ Fault.SerializerClosed)
         ⊎ IsPartFault serializer.old.entries serializer.old.bodies (record { field = field; tokens = tokens_in writers.now field; terms = terms.now }) e) }
     ensures some { OnErr result (0 < length terms.now) }
@@ -157,6 +160,7 @@ fn serialize_fields<W: Write>(
     ensures closes { OnOk result (serializer.new.closed ≡ serializer.old.closed) }
     // where it is refused
     ensures failures { CountsFailures serializer.old.bodies serializer.new.bodies result }
+    ensures grow { AllGrow serializer.old.bodies serializer.new.bodies }
     ensures fault { IfErr result (λ e. (e ≡ Fault.SerializerClosed)
         ⊎ IsPartsFault serializer.old.entries serializer.old.bodies (first_parts serializer.old.entries writers.now terms.now.items (length terms.now.items)) e) }
     ensures closed { IsErrOf result Fault.SerializerClosed → IsTrue serializer.old.closed × (0 < length (first_parts serializer.old.entries writers.now terms.now.items (length terms.now.items))) }
@@ -207,6 +211,7 @@ pub fn serialize_postings<W: Write>(
     ensures closes { OnOk result (serializer.new.closed ≡ serializer.old.closed) }
     // where it is refused
     ensures failures { CountsFailures serializer.old.bodies serializer.new.bodies result }
+    ensures grow { AllGrow serializer.old.bodies serializer.new.bodies }
     ensures fault { IfErr result (λ e. (e ≡ Fault.OutOfMemory) ⊎ (e ≡ Fault.SerializerClosed) ⊎ IsContextFault serializer.old per_field_postings_writers.now ctx e) }
     ensures closed { IsErrOf result Fault.SerializerClosed → IsTrue serializer.old.closed × (0 < length ctx) }
     ensures refused { IsTrue serializer.old.closed → StaysClosed (ctx ≡ []) serializer.old serializer.new result }

@@ -29,6 +29,12 @@ pub record WrotePrefix (old new : CountingWriterState) (bytes : List ℕ) : Type
   pub written_bytes : new.written_bytes ≡ old.written_bytes + count
   pub failed_calls : old.failed_calls ≤ new.failed_calls
 
+-- Bytes, or none, were written after the old ones.
+pub record Grows (old new : CountingWriterState) : Type 0 where
+  pub bytes : List ℕ
+  pub appends : Appends old.contents new.contents bytes
+  pub written_bytes : new.written_bytes ≡ old.written_bytes + length bytes
+
 -- How a call ends that writes these bytes. A call that failed is counted once.
 pub record Writes (old new : CountingWriterState) (bytes : List ℕ) (result : Result (Unit {0}) Fault) : Type 0 where
   pub ok : OnOk result (Wrote old new bytes)

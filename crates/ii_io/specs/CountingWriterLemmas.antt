@@ -1,13 +1,13 @@
 -- Laws of what is written in steps.
-use Rattle.std.proofs.Common.{◌≡◌, ◌<◌, ◌≤◌, ℕ, ◌+◌, true, false, List, [], ◌∷◌, ◌++◌, length, Result, Ok, Err, is_err, refl, sym, ◌∙◌, arith, length-append, ⊎_elim, inl, inr}
+use Rattle.std.proofs.Common.{◌≡◌, ◌<◌, ◌≤◌, ℕ, ◌+◌, true, false, List, [], ◌∷◌, ◌++◌, length, take, Bool, Result, Ok, Err, is_err, refl, sym, subst, ◌∙◌, arith, length-append, ⊎_elim, inl, inr}
 use Rattle.std.specs.Prelude.{OnOk}
 use Rattle.std.proofs.KnownBytes.{Appends-nil, Appends-trans}
-use Rattle.std.proofs.lemmas.List.{take-append-le, append-nil}
+use Rattle.std.proofs.lemmas.List.{length-take, take-append-le, append-nil}
 use Rattle.std.proofs.Math.Seq.{take-append-add}
 use Rattle.ii_io.specs.declared.faults.Fault.{Fault}
 use Rattle.ii_io.specs.declared.faults.Fault.TheVariants.{Limit}
 use Rattle.ii_io.specs.declared.faults.LimitName.TheVariants.{Offset}
-use Rattle.ii_io.specs.CountingWriter.{CountingWriterState, Wrote, WrotePrefix, IsFull, Writes, WritesInMemory}
+use Rattle.ii_io.specs.CountingWriter.{CountingWriterState, Wrote, WrotePrefix, Grows, IsFull, Writes, WritesInMemory, WritesUnlessClosed}
 
 -- a count that fewer bytes pass is passed by more
 pub full_more : (writer : CountingWriterState) (n size : ℕ) → n ≤ size → IsFull writer n → IsFull writer size
@@ -124,3 +124,31 @@ memory_refused_by a b xs ys result refused k = record {
   memory = λ none. let found = k.memory none in (prefix_of_more a b xs ys found.0, found.1);
   refused = λ closed. absurd (cc);
 }
+
+-- whatever was written, a writer grew
+pub grows_not : (a b : CountingWriterState) → b ≡ a → Grows a b
+grows_not a b same = subst (Grows a) (sym same) (record { bytes = []; appends = Appends-nil a.contents; written_bytes = omega arith })
+
+pub wrote_grows : (a b : CountingWriterState) (xs : List ℕ) → Wrote a b xs → Grows a b
+wrote_grows a b xs h = record { bytes = xs; appends = h.appends; written_bytes = h.written_bytes }
+
+pub prefix_grows : (a b : CountingWriterState) (xs : List ℕ) → WrotePrefix a b xs → Grows a b
+prefix_grows a b xs h =
+    let within = h.within in
+    let written = h.written_bytes in
+    record { bytes = take h.count xs; appends = h.appends; written_bytes = omega (arith, length-take h.count xs) }
+
+pub Grows-trans : (a b c : CountingWriterState) → Grows a b → Grows b c → Grows a c
+Grows-trans a b c h k = record {
+  bytes = h.bytes ++ k.bytes;
+  appends = Appends-trans a.contents b.contents c.contents h.bytes k.bytes h.appends k.appends;
+  written_bytes = let one = h.written_bytes in let two = k.written_bytes in omega (arith, length-append h.bytes k.bytes);
+}
+
+pub writes_grows : (a b : CountingWriterState) (xs : List ℕ) (result : Result (Unit {0}) Fault) → Writes a b xs result → Grows a b
+writes_grows a b xs (Ok u) h = wrote_grows a b xs h.ok
+writes_grows a b xs (Err e) h = prefix_grows a b xs h.prefix
+
+pub unless_closed_grows : (is_closed : Bool) (a b : CountingWriterState) (xs : List ℕ) (result : Result (Unit {0}) Fault) → WritesUnlessClosed is_closed a b xs result → Grows a b
+unless_closed_grows false a b xs result h = writes_grows a b xs result (h.writes refl)
+unless_closed_grows true a b xs result h = grows_not a b (h.refused refl).1

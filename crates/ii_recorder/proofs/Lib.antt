@@ -2,6 +2,7 @@ pub mod Documents
 pub mod TermLemmas
 pub mod IndexLemmas
 pub mod HeldTermLemmas
+pub mod GrowthLemmas
 pub mod RecorderLemmas
 pub mod PushLemmas
 pub mod PushLocated

@@ -1,7 +1,7 @@
 -- The three composites of an index as they are written: terms, postings and positions.
 use Rattle.std.specs.Prelude.{List, ◌≡◌, ℕ, ◌+◌, ◌-◌, ◌^◌, ◌<◌, ◌≤◌, ◌⊎◌, false, length}
 use Rattle.ii_io.specs.Composite.{table_bytes}
-use Rattle.ii_io.specs.CountingWriter.{IsFull, Wrote}
+use Rattle.ii_io.specs.CountingWriter.{Grows, IsFull, Wrote}
 use Rattle.ii_io.specs.CompositeWrite.{CompositeWriteState, AddsBody, has_start, places_of}
 use Rattle.ii_recorder.specs.Terms.{FieldBodies}
 
@@ -19,6 +19,12 @@ pub record NoneFalls (old new : IndexBodiesState) : Type 0 where
   pub terms : old.terms.writer.failed_calls ≤ new.terms.writer.failed_calls
   pub postings : old.postings.writer.failed_calls ≤ new.postings.writer.failed_calls
   pub positions : old.positions.writer.failed_calls ≤ new.positions.writer.failed_calls
+
+-- Each writer has what it had, and maybe more behind it.
+pub record AllGrow (old new : IndexBodiesState) : Type 0 where
+  pub terms : Grows old.terms.writer new.terms.writer
+  pub postings : Grows old.postings.writer new.postings.writer
+  pub positions : Grows old.positions.writer new.positions.writer
 
 -- A count of a writer would pass its type by these bytes, or by a failed call.
 abbrev pub AreFull : IndexBodiesState → FieldBodies → Type 0

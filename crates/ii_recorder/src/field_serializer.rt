@@ -9,7 +9,7 @@ ghost use Rattle.ii_termdict.specs.ReadBack.{AreAscending};
 ghost use Rattle.ii_recorder.specs.Terms.{WrittenTerm, field_bodies};
 ghost use Rattle.ii_recorder.specs.HeldTerms.{HoldsTerms};
 ghost use Rattle.ii_recorder.specs.FieldTerms.{IsWithinLimits, term_under};
-ghost use Rattle.ii_recorder.specs.IndexBodies.{IndexBodiesState, AddsBodies, AreBegun, LacksField, NoneFalls, failed_calls};
+ghost use Rattle.ii_recorder.specs.IndexBodies.{IndexBodiesState, AddsBodies, AllGrow, AreBegun, LacksField, NoneFalls, failed_calls};
 ghost use Rattle.ii_recorder.specs.IndexSerializer.{IsFieldFault, IsTermFault, IsWriting};
 ghost use Rattle.ii_recorder.specs.contracts.serializer.InvertedIndexSerializer.{the_row};
 
@@ -43,7 +43,7 @@ impl<W: Write> InvertedIndexSerializer<W> {
         requires known { field < length self.old.entries }
         requires lacks { self.old.closed ≡ false → LacksField field self.old.bodies }
         ensures* refused { sem 𝓛 (RestsIfErr (the_row W.row W.Write) self.entry (λ f. f.index.ghost_name) result
-            (λ n. IsTrue n.closed × (n.entries ≡ self.old.entries) × NoneFalls self.old.bodies n.bodies
+            (λ n. IsTrue n.closed × (n.entries ≡ self.old.entries) × NoneFalls self.old.bodies n.bodies × AllGrow self.old.bodies n.bodies
             × (IsErrOf result Fault.Write ↔ (failed_calls self.old.bodies < failed_calls n.bodies))
             × (IsErrOf result Fault.Write → failed_calls n.bodies ≡ failed_calls self.old.bodies + 1)
             × (IsTrue self.old.closed → n ≡ self.old))) }
@@ -185,6 +185,7 @@ impl<'a, W: Write> FieldSerializer<'a, W> {
         ensures write { IsErrOf result Fault.Write ↔ (failed_calls self.old.index.now.bodies < failed_calls self.new.index.now.bodies) }
         ensures by_one { IsErrOf result Fault.Write → failed_calls self.new.index.now.bodies ≡ failed_calls self.old.index.now.bodies + 1 }
         ensures kept { NoneFalls self.old.index.now.bodies self.new.index.now.bodies }
+        ensures grow { AllGrow self.old.index.now.bodies self.new.index.now.bodies }
         ensures refused { IsTrue self.old.index.now.closed → self.new.index.now ≡ self.old.index.now }
         ensures limits { IsTrue self.old.index.now.field.term_open → OnOk result (IsWithinLimits self.old.index.now.field) }
         ensures fault { IfErr result (λ e. (e ≡ Fault.SerializerClosed) ⊎ IsTermFault self.old.index.now e) }
@@ -214,6 +215,7 @@ impl<'a, W: Write> FieldSerializer<'a, W> {
         ensures write { IsErrOf result Fault.Write ↔ (failed_calls self.entry.index.now.bodies < failed_calls self.exit.0.now.bodies) }
         ensures by_one { IsErrOf result Fault.Write → failed_calls self.exit.0.now.bodies ≡ failed_calls self.entry.index.now.bodies + 1 }
         ensures kept { NoneFalls self.entry.index.now.bodies self.exit.0.now.bodies }
+        ensures grow { AllGrow self.entry.index.now.bodies self.exit.0.now.bodies }
         ensures refused { IsTrue self.entry.index.now.closed → self.exit.0.now ≡ self.entry.index.now }
         ensures limits { IsTrue self.entry.index.now.field.term_open → OnOk result (IsWithinLimits self.entry.index.now.field) }
         ensures fault { IfErr result (λ e. (e ≡ Fault.SerializerClosed) ⊎ IsFieldFault self.entry.index.now e) }

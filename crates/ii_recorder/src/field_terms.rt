@@ -2,7 +2,7 @@ ghost use Rattle.std.specs.Prelude.{◌≡◌, ◌+◌, ◌^◌, ◌<◌, ◌≤
 ghost use Rattle.std.specs.List.{zip};
 ghost use Rattle.ii_base.specs.declared.schema.index_record_option.IndexRecordOption.TheVariants.{Basic};
 ghost use Rattle.ii_base.specs.Options.{has_freq, has_positions};
-ghost use Rattle.ii_io.specs.CountingWriter.{Wrote, WritesUnlessClosed, Closes};
+ghost use Rattle.ii_io.specs.CountingWriter.{Grows, Wrote, WritesUnlessClosed, Closes};
 ghost use Rattle.ii_docset.specs.Entries.{are_documents};
 ghost use Rattle.ii_layout.specs.PostingsSerializer.{IsSumTooLarge};
 ghost use Rattle.ii_layout.specs.Written.{written_postings};
@@ -163,6 +163,7 @@ impl FieldTerms {
         ensures by_one { IsErrOf result Fault.Write
             → postings_write.new.failed_calls + positions_write.new.failed_calls ≡ postings_write.old.failed_calls + positions_write.old.failed_calls + 1 }
         ensures kept { (postings_write.old.failed_calls ≤ postings_write.new.failed_calls) × (positions_write.old.failed_calls ≤ positions_write.new.failed_calls) }
+        ensures grow { Grows postings_write.old postings_write.new × Grows positions_write.old positions_write.new }
         ensures fault { IfErr result (λ e. (e ≡ Fault.SerializerClosed) ⊎ IsEndFault self.old.term self.old.places postings_write.old positions_write.old e) }
         ensures refused { IsTrue self.old.closed → (self.new ≡ self.old) × (postings_write.new ≡ postings_write.old) × (positions_write.new ≡ positions_write.old) }
         ensures closed { IsErrOf result Fault.SerializerClosed ↔ IsTrue self.old.closed }
@@ -227,6 +228,7 @@ fn put_term<W: Write>(
     ensures by_one { IsErrOf result Fault.Write
         → postings_write.new.failed_calls + positions_write.new.failed_calls ≡ postings_write.old.failed_calls + positions_write.old.failed_calls + 1 }
     ensures kept { (postings_write.old.failed_calls ≤ postings_write.new.failed_calls) × (positions_write.old.failed_calls ≤ positions_write.new.failed_calls) }
+    ensures grow { Grows postings_write.old postings_write.new × Grows positions_write.old positions_write.new }
     ensures fault { IfErr result (λ e. IsEndFault term.old places.old postings_write.old positions_write.old e) }
 {
     let doc_freq = term.doc_freq();

@@ -1,10 +1,10 @@
 ghost use Rattle.std.specs.Prelude.{◌≡◌, ◌+◌, ◌-◌, ◌^◌, ◌<◌, ◌≤◌, ◌⊎◌, ◌↔◌, List, [], ◌∷◌, ◌++◌, true, false, length, Ok, OnOk, OnErr, IfErr, IsErrOf, IsTrue};
 ghost use Rattle.std.specs.List.{zip};
-ghost use Rattle.ii_io.specs.CountingWriter.{CountingWriterState, IsFull};
+ghost use Rattle.ii_io.specs.CountingWriter.{CountingWriterState, Grows, IsFull};
 ghost use Rattle.ii_io.specs.CompositeWrite.{AddsBody, HasBodies, WroteComposite, has_start};
 ghost use Rattle.ii_io.specs.Composite.{Body, fit_fields};
 ghost use Rattle.ii_io.specs.Numbers.{le_bytes};
-ghost use Rattle.ii_recorder.specs.IndexBodies.{AddsBodies, AddsMore, AreBegun, AreFull, AreUnclosed, LacksField, NoneFalls, failed_calls, tables_of};
+ghost use Rattle.ii_recorder.specs.IndexBodies.{AddsBodies, AddsMore, AllGrow, AreBegun, AreFull, AreUnclosed, LacksField, NoneFalls, failed_calls, tables_of};
 ghost use Rattle.ii_recorder.specs.FieldTerms.{EndsTerm, IsEndFault, bytes_of, dictionary_of};
 ghost use Rattle.ii_termdict.specs.Dictionary.{dictionary};
 ghost use Rattle.ii_termdict.specs.Written.{written_dictionary};
@@ -62,6 +62,7 @@ impl<W: Write> IndexBodies<W> {
         ensures write { IsErrOf result Fault.Write ↔ (failed_calls self.old < failed_calls self.new) }
         ensures by_one { IsErrOf result Fault.Write → failed_calls self.new ≡ failed_calls self.old + 1 }
         ensures kept { NoneFalls self.old self.new }
+        ensures grow { AllGrow self.old self.new }
         ensures full { IsErrOf result (Fault.Limit LimitName.Offset) → IsFull self.old.postings.writer 8 }
         ensures only { IfErr result (λ e. (e ≡ Fault.OutOfMemory) ⊎ (e ≡ Fault.Write) ⊎ (e ≡ Fault.Limit LimitName.Offset)) }
     {
@@ -85,6 +86,7 @@ impl<W: Write> IndexBodies<W> {
         ensures write { IsErrOf result Fault.Write ↔ (failed_calls self.old < failed_calls self.new) }
         ensures by_one { IsErrOf result Fault.Write → failed_calls self.new ≡ failed_calls self.old + 1 }
         ensures kept { NoneFalls self.old self.new }
+        ensures grow { AllGrow self.old self.new }
         ensures refused { IsTrue terms.old.closed → (terms.new ≡ terms.old) × (self.new ≡ self.old) }
         ensures fault { IfErr result (λ e. (e ≡ Fault.SerializerClosed) ⊎ IsEndFault terms.old.term terms.old.places self.old.postings.writer self.old.positions.writer e) }
         ensures closed { IsErrOf result Fault.SerializerClosed ↔ IsTrue terms.old.closed }
@@ -101,6 +103,7 @@ impl<W: Write> IndexBodies<W> {
         ensures write { IsErrOf result Fault.Write ↔ (failed_calls self.old < failed_calls self.new) }
         ensures by_one { IsErrOf result Fault.Write → failed_calls self.new ≡ failed_calls self.old + 1 }
         ensures kept { NoneFalls self.old self.new }
+        ensures grow { AllGrow self.old self.new }
         ensures full { IsErrOf result (Fault.Limit LimitName.Offset)
             → AreFull self.old (dictionary_of terms.old) }
         ensures only { IfErr result (λ e. (e ≡ Fault.Write) ⊎ (e ≡ Fault.Limit LimitName.Offset) ⊎ (e ≡ Fault.SerializerClosed)) }
@@ -124,6 +127,7 @@ impl<W: Write> IndexBodies<W> {
         ensures write { IsErrOf result Fault.Write ↔ (failed_calls self.old < failed_calls self.new) }
         ensures by_one { IsErrOf result Fault.Write → failed_calls self.new ≡ failed_calls self.old + 1 }
         ensures kept { NoneFalls self.old self.new }
+        ensures grow { AllGrow self.old self.new }
         ensures full { IsErrOf result (Fault.Limit LimitName.Offset) → AreFull self.old (record { terms = []; postings = []; positions = [] }) }
         ensures unclosed { AreUnclosed self.old → AreUnclosed self.new }
         ensures begun { AreBegun self.new }
@@ -168,6 +172,7 @@ impl<W: Write> IndexBodies<W> {
         ensures write { IsErrOf result.3 Fault.Write ↔ (failed_calls self < result.0.failed_calls + result.1.failed_calls + result.2.failed_calls) }
         ensures by_one { IsErrOf result.3 Fault.Write → result.0.failed_calls + result.1.failed_calls + result.2.failed_calls ≡ failed_calls self + 1 }
         ensures kept { (self.terms.writer.failed_calls ≤ result.0.failed_calls) × (self.postings.writer.failed_calls ≤ result.1.failed_calls) × (self.positions.writer.failed_calls ≤ result.2.failed_calls) }
+        ensures grow { Grows self.terms.writer result.0 × Grows self.postings.writer result.1 × Grows self.positions.writer result.2 }
         ensures full { IsErrOf result.3 (Fault.Limit LimitName.Offset) → AreFull self (tables_of self) }
         ensures only { IfErr result.3 (λ e. (e ≡ Fault.Write) ⊎ (e ≡ Fault.Limit LimitName.Offset)) }
     {
@@ -207,7 +212,7 @@ fn begin_body<W: Write>(composite: &mut CompositeWrite<W>, field: Field) -> Resu
     ensures ok { OnOk result (AddsBody composite.old composite.new field []) }
     ensures unclosed { OnOk result (composite.new.closed ≡ false) }
     ensures begun { OnOk result (0 < length composite.new.starts) }
-    ensures failed { composite.new.writer.failed_calls ≡ composite.old.writer.failed_calls }
+    ensures writer { composite.new.writer ≡ composite.old.writer }
     ensures only { IfErr result (λ e. e ≡ Fault.OutOfMemory) }
 {
     composite.for_field(field)?;

@@ -1,7 +1,7 @@
 ghost use Rattle.std.specs.Prelude.{◌≡◌, ◌+◌, ◌^◌, ◌<◌, ◌≤◌, ◌↔◌, ◌⊎◌, if◌then◌else◌, [], ◌∷◌, ◌++◌, true, false, length, OnOk, OnErr, IfOk, IfErr, IsErrOf, IsTrue};
 ghost use Rattle.ii_base.specs.declared.schema.index_record_option.IndexRecordOption.TheVariants.{Basic};
 ghost use Rattle.ii_base.specs.Options.{has_freq, has_positions};
-ghost use Rattle.ii_io.specs.CountingWriter.{IsFull, Wrote};
+ghost use Rattle.ii_io.specs.CountingWriter.{Grows, IsFull, Wrote};
 ghost use Rattle.ii_docset.specs.Entries.{are_documents};
 ghost use Rattle.ii_layout.specs.PostingsSerializer.{IsSumTooLarge};
 ghost use Rattle.ii_layout.specs.Written.{written_postings};
@@ -119,6 +119,7 @@ impl OpenTerm {
         ensures write { IsErrOf result Fault.Write ↔ (writer.old.failed_calls < writer.new.failed_calls) }
         ensures by_one { IsErrOf result Fault.Write → writer.new.failed_calls ≡ writer.old.failed_calls + 1 }
         ensures kept { writer.old.failed_calls ≤ writer.new.failed_calls }
+        ensures grows { Grows writer.old writer.new }
         ensures full { IsErrOf result (Fault.Limit LimitName.Offset) → IsFull writer.old (length (written_postings self.old.skip_info self.old.docs self.old.freqs)) }
         ensures long { IsErrOf result (Fault.Limit LimitName.TermBytes) → 2 ^ 32 ≤ length (written_postings self.old.skip_info self.old.docs self.old.freqs) }
         ensures only { IfErr result (λ e. (e ≡ Fault.Write) ⊎ (e ≡ Fault.Limit LimitName.Offset) ⊎ (e ≡ Fault.Limit LimitName.TermBytes)) }
@@ -146,6 +147,7 @@ impl OpenTerm {
         ensures write { IsErrOf result Fault.Write ↔ (writer.old.failed_calls < writer.new.failed_calls) }
         ensures by_one { IsErrOf result Fault.Write → writer.new.failed_calls ≡ writer.old.failed_calls + 1 }
         ensures kept { writer.old.failed_calls ≤ writer.new.failed_calls }
+        ensures grows { Grows writer.old writer.new }
         ensures full { IsErrOf result (Fault.Limit LimitName.Offset) → IsTrue (has_positions self.old.mode) × IsFull writer.old (length (positions_bytes self.old.mode self.old.deltas)) }
         ensures long { IsErrOf result (Fault.Limit LimitName.TermBytes) → 2 ^ 32 ≤ length (positions_bytes self.old.mode self.old.deltas) }
         ensures only { IfErr result (λ e. (e ≡ Fault.Write) ⊎ (e ≡ Fault.Limit LimitName.Offset) ⊎ (e ≡ Fault.Limit LimitName.TermBytes)) }

@@ -1,7 +1,7 @@
 ghost use Rattle.std.specs.Prelude.{◌≡◌, ◌+◌, ◌^◌, ◌<◌, ◌≤◌, ◌⊎◌, ◌↔◌, if◌then◌else◌, ℕ, List, [], ◌∷◌, ◌++◌, true, false, length, Ok, Err, OnOk, OnErr, IfErr, IsErrOf, IsTrue};
 ghost use Rattle.ii_base.specs.declared.schema.index_record_option.IndexRecordOption.TheVariants.{Basic};
 ghost use Rattle.ii_base.specs.Options.{has_freq, has_positions};
-ghost use Rattle.ii_io.specs.CountingWriter.{Closes, CountingWriterState, IsFull};
+ghost use Rattle.ii_io.specs.CountingWriter.{Closes, CountingWriterState, Grows, IsFull};
 ghost use Rattle.ii_io.specs.Composite.{Body, fit_fields};
 ghost use Rattle.ii_io.specs.CompositeWrite.{HasBodies, WroteComposite};
 ghost use Rattle.ii_docset.specs.Entries.{are_documents};
@@ -10,7 +10,7 @@ ghost use Rattle.ii_termdict.specs.ReadBack.{AreAscending};
 ghost use Rattle.ii_recorder.specs.Terms.{WrittenTerm, field_bodies};
 ghost use Rattle.ii_recorder.specs.HeldTerms.{HoldsTerms};
 ghost use Rattle.ii_recorder.specs.FieldTerms.{IsWithinLimits, closing_bytes, dictionary_of, term_under};
-ghost use Rattle.ii_recorder.specs.IndexBodies.{IndexBodiesState, AddsBodies, AreBegun, AreFull, LacksField, NoneFalls, failed_calls, tables_of};
+ghost use Rattle.ii_recorder.specs.IndexBodies.{IndexBodiesState, AddsBodies, AllGrow, AreBegun, AreFull, LacksField, NoneFalls, failed_calls, tables_of};
 ghost use Rattle.ii_recorder.specs.IndexSerializer.{IsFieldFault, IsTermFault, IsWriting};
 
 use super::field_terms::FieldTerms;
@@ -94,6 +94,7 @@ impl<W: Write> InvertedIndexSerializer<W> {
         ensures write { IsErrOf result.3 Fault.Write ↔ (failed_calls self.bodies < result.0.failed_calls + result.1.failed_calls + result.2.failed_calls) }
         ensures by_one { IsErrOf result.3 Fault.Write → result.0.failed_calls + result.1.failed_calls + result.2.failed_calls ≡ failed_calls self.bodies + 1 }
         ensures kept { (self.bodies.terms.writer.failed_calls ≤ result.0.failed_calls) × (self.bodies.postings.writer.failed_calls ≤ result.1.failed_calls) × (self.bodies.positions.writer.failed_calls ≤ result.2.failed_calls) }
+        ensures grow { Grows self.bodies.terms.writer result.0 × Grows self.bodies.postings.writer result.1 × Grows self.bodies.positions.writer result.2 }
         ensures full { IsErrOf result.3 (Fault.Limit LimitName.Offset) → AreFull self.bodies (tables_of self.bodies) }
         ensures refused { IsTrue self.closed → (result.0 ≡ self.bodies.terms.writer) × (result.1 ≡ self.bodies.postings.writer) × (result.2 ≡ self.bodies.positions.writer) }
         ensures closed { IsErrOf result.3 Fault.SerializerClosed ↔ IsTrue self.closed }
@@ -146,6 +147,7 @@ impl<W: Write> InvertedIndexSerializer<W> {
         ensures write { IsErrOf result Fault.Write ↔ (failed_calls self.old.bodies < failed_calls self.new.bodies) }
         ensures by_one { IsErrOf result Fault.Write → failed_calls self.new.bodies ≡ failed_calls self.old.bodies + 1 }
         ensures kept { NoneFalls self.old.bodies self.new.bodies }
+        ensures grow { AllGrow self.old.bodies self.new.bodies }
         ensures refused { IsTrue self.old.closed → self.new ≡ self.old }
         ensures closed { IsErrOf result Fault.SerializerClosed ↔ IsTrue self.old.closed }
         ensures only { IfErr result (λ e. (e ≡ Fault.OutOfMemory) ⊎ (e ≡ Fault.Write) ⊎ (e ≡ Fault.Limit LimitName.Offset) ⊎ (e ≡ Fault.SerializerClosed)) }
@@ -259,6 +261,7 @@ impl<W: Write> InvertedIndexSerializer<W> {
         ensures write { IsErrOf result Fault.Write ↔ (failed_calls self.old.bodies < failed_calls self.new.bodies) }
         ensures by_one { IsErrOf result Fault.Write → failed_calls self.new.bodies ≡ failed_calls self.old.bodies + 1 }
         ensures kept { NoneFalls self.old.bodies self.new.bodies }
+        ensures grow { AllGrow self.old.bodies self.new.bodies }
         ensures refused { IsTrue self.old.closed → self.new ≡ self.old }
         ensures limits { IsTrue self.old.field.term_open → OnOk result (IsWithinLimits self.old.field) }
         ensures fault { IfErr result (λ e. (e ≡ Fault.SerializerClosed) ⊎ IsTermFault self.old e) }
@@ -287,6 +290,7 @@ impl<W: Write> InvertedIndexSerializer<W> {
         ensures write { IsErrOf result Fault.Write ↔ (failed_calls self.old.bodies < failed_calls self.new.bodies) }
         ensures by_one { IsErrOf result Fault.Write → failed_calls self.new.bodies ≡ failed_calls self.old.bodies + 1 }
         ensures kept { NoneFalls self.old.bodies self.new.bodies }
+        ensures grow { AllGrow self.old.bodies self.new.bodies }
         ensures refused { IsTrue self.old.closed → self.new ≡ self.old }
         ensures fault { IfErr result (λ e. (e ≡ Fault.SerializerClosed) ⊎ (e ≡ Fault.Write) ⊎ ((e ≡ Fault.Limit LimitName.Offset) × AreFull self.old.bodies (dictionary_of self.old.field))) }
         ensures closed { IsErrOf result Fault.SerializerClosed ↔ IsTrue self.old.closed }
@@ -320,6 +324,7 @@ impl<W: Write> InvertedIndexSerializer<W> {
         ensures write { IsErrOf result Fault.Write ↔ (failed_calls self.old.bodies < failed_calls self.new.bodies) }
         ensures by_one { IsErrOf result Fault.Write → failed_calls self.new.bodies ≡ failed_calls self.old.bodies + 1 }
         ensures kept { NoneFalls self.old.bodies self.new.bodies }
+        ensures grow { AllGrow self.old.bodies self.new.bodies }
         ensures refused { IsTrue self.old.closed → self.new ≡ self.old }
         ensures limits { IsTrue self.old.field.term_open → OnOk result (IsWithinLimits self.old.field) }
         ensures fault { IfErr result (λ e. (e ≡ Fault.SerializerClosed) ⊎ IsFieldFault self.old e) }

@@ -1,6 +1,7 @@
 use Rattle.std.proofs.Common.{◌<◌, ◌^◌, ◌∙◌, List, length, subst}
 use Rattle.ii_base.specs.Schema.{Entry}
 use Rattle.ii_indexing.proofs.WrittenFiles.{closed_files, table_fault, three_counted}
+use Rattle.ii_io.specs.CountingWriterLemmas.{Grows-trans}
 use Rattle.ii_indexing.proofs.indexed_terms.write_files.Goals as goal
 
 pub returns-in-Ok-clause-holds : goal.returns-in-Ok-clause-holds
@@ -17,3 +18,14 @@ pub returns-in-Ok-clause-fault : goal.returns-in-Ok-clause-fault
 returns-in-Ok-clause-fault g c =
     table_fault c.args.serializer c.serialize_postings.new.serializer c.args.postings_writers.now c.args.ctx c.close.result.3 (c.in-Ok.ensures.closes ∙ c.requires.open) c.in-Ok.ensures.wrote
     (record { full = c.close.ensures.full; closed = c.close.ensures.closed; only = c.close.ensures.only })
+
+pub returns-in-Ok-clause-grow : goal.returns-in-Ok-clause-grow
+returns-in-Ok-clause-grow g c =
+    let old = c.args.serializer.bodies in
+    let now = c.serialize_postings.new.serializer.bodies in
+    let before = c.serialize_postings.ensures.grow in
+    let after = c.close.ensures.grow in (
+      Grows-trans old.terms.writer now.terms.writer c.close.result.0 before.terms after.0,
+      Grows-trans old.postings.writer now.postings.writer c.close.result.1 before.postings after.1,
+      Grows-trans old.positions.writer now.positions.writer c.close.result.2 before.positions after.2,
+    )

@@ -9,6 +9,7 @@ use Rattle.ii_indexing.proofs.FaultLemmas.{begun_fault, closed_fault, split_writ
 use Rattle.ii_indexing.proofs.SerializeLemmas.{all_written, next_above, next_written, one_more_told, writable_at}
 use Rattle.ii_indexing.specs.SortedTerms.{IsTold, IsWritable, state_of, written_of}
 use Rattle.ii_indexing.specs.WriteFaults.{IsTermFaultAfter}
+use Rattle.ii_recorder.proofs.GrowthLemmas.{AllGrow-trans, bodies_grow}
 use Rattle.ii_indexing.proofs.serialize_postings.serialize_field.Goals as goal
 
 pub serialize_one_term-requires-clause-ascending :
@@ -74,3 +75,17 @@ returns-clause-fault g c =
     let whole = subst (λ ts. IsWriting initial s c.args.field tokens (all_written mode ts) []) all w.0 in
     let kept = w.0.mode ∙ ap (λ es. option_of es c.args.field) w.3 in
     unless_closed c.close.result s.closed _ _ c.close.ensures.closed w.1 (λ e fault. inr (closed_fault initial s c.args.field tokens (all_written mode terms) mode e whole w.2 kept fault)) c.close.ensures.fault
+
+pub returns-in_err-serialize_one_term-clause-grow : goal.returns-in_err-serialize_one_term-clause-grow
+returns-in_err-serialize_one_term-clause-grow g c =
+    let now = c.loop-place.serializer.index.now.bodies in
+    let begun = bodies_grow c.args.serializer.now.bodies now c.args.field _ c.loop-place.invariant.0.bodies in
+    let all = AllGrow-trans c.args.serializer.now.bodies now c.serialize_one_term.new.serializer.index.now.bodies begun c.serialize_one_term.ensures.grow in
+    search (rules, all)
+
+pub returns-clause-grow : goal.returns-clause-grow
+returns-clause-grow g c =
+    let now = c.loop-place.serializer.index.now.bodies in
+    let begun = bodies_grow c.args.serializer.now.bodies now c.args.field _ c.loop-place.invariant.0.bodies in
+    let all = AllGrow-trans c.args.serializer.now.bodies now c.close.new.self.0.bodies begun c.close.ensures.grow in
+    search (rules, all)

@@ -5,6 +5,8 @@ use Rattle.ii_recorder.specs.IndexBodies.{LacksField}
 use Rattle.ii_indexing.proofs.FaultLemmas.{IsNextField, all_some, field_fault, no_part}
 use Rattle.ii_indexing.proofs.PartLemmas.{lacks_next, next_part}
 use Rattle.ii_indexing.specs.FieldParts.{HasFields, first_parts}
+use Rattle.ii_recorder.proofs.GrowthLemmas.{AllGrow-trans}
+use Rattle.ii_indexing.proofs.GrowthLaws.{fields_grow}
 use Rattle.ii_indexing.proofs.serialize_postings.serialize_fields.Goals as goal
 
 pub serialize_if_any-requires-clause-lacks : goal.serialize_if_any-requires-clause-lacks
@@ -67,3 +69,8 @@ returns-clause-refused g c closed =
     let before = c.loop-place.invariant.3 closed in
     let all : c.loop-place.place ≡ length c.args.terms.now.items = search rules in
     record { same = before.0; none = subst (λ (n : ℕ). first_parts c.args.serializer.now.entries c.args.writers.now c.args.terms.now.items n ≡ []) all before.1; only = tt }
+
+pub returns-in_err-serialize_if_any-clause-grow : goal.returns-in_err-serialize_if_any-clause-grow
+returns-in_err-serialize_if_any-clause-grow g c =
+    let now = c.loop-place.serializer.bodies in
+    AllGrow-trans c.args.serializer.now.bodies now c.serialize_if_any.new.serializer.bodies (fields_grow c.args.serializer.now.entries c.args.serializer.now.bodies now _ c.loop-place.invariant.0) c.serialize_if_any.ensures.grow

@@ -1,14 +1,14 @@
-use Rattle.std.proofs.Common.{◌<◌, ◌∙◌, ap, sym, subst, length, map, List, ℕ, arith}
+use Rattle.std.proofs.Common.{◌<◌, ◌^◌, ◌∙◌, ap, sym, subst, length, map, List, ℕ, arith}
 use Rattle.std.specs.List.{AllByRecursion, range_with_len}
 use Rattle.std.proofs.lemmas.Result.{IfErr-weaker}
 use Rattle.std.proofs.lemmas.List.FromFn.{length-map-range_with_len}
 use Rattle.ii_recorder.specs.Recorded.{RecorderState}
 use Rattle.ii_indexing.specs.IndexingTerm.{field_in}
 use Rattle.ii_indexing.specs.SortedTerms.{AllMayBeWritten, IsWritable, TermState, terms_in}
-use Rattle.ii_indexing.proofs.ContextFaults.{AreLists, context_fault, no_terms, some_terms}
+use Rattle.ii_indexing.proofs.ContextFaults.{context_fault, no_terms, some_terms}
 use Rattle.ii_indexing.proofs.TermIndexLemmas.{on_ok}
-use Rattle.ii_indexing.proofs.PartLemmas.{wrote_context, wrote_terms}
-use Rattle.ii_indexing.proofs.HeldBodies.{wrote_tokens}
+use Rattle.ii_indexing.proofs.PartLemmas.{AreLists, wrote_context, wrote_terms}
+use Rattle.ii_indexing.proofs.HeldBodies.{sorted_written, wrote_tokens}
 use Rattle.ii_indexing.proofs.SortedLemmas.{all_writable, each_may_be, fields_known}
 use Rattle.ii_indexing.proofs.serialize_postings.serialize_postings.Goals as goal
 
@@ -39,17 +39,26 @@ serialize_fields-requires-clause-writable g c =
 
 pub returns-clause-wrote : goal.returns-clause-wrote
 returns-clause-wrote g c =
+    let lists : AreLists (length c.args.serializer.now.entries) c.args.ctx c.sort.new.self c.in_ok-terms.terms.items = record {
+      same = c.in_ok-sort.ensures.same;
+      ascending = c.in_ok-sort.ensures.ascending;
+      are = c.in_ok-terms.ensures.ok ∙ ap (λ (m : ℕ). map (λ (field : ℕ). terms_in field c.sort.new.self) (range_with_len 0 m)) (c.num_fields.ensures.value ∙ ap length c.requires.schema);
+    } in
     wrote_context c.serialize_fields.result c.args.serializer.now c.serialize_fields.new.serializer c.args.per_field_postings_writers.now c.args.ctx c.sort.new.self
-    (wrote_terms c.serialize_fields.result c.args.serializer.now c.serialize_fields.new.serializer c.args.per_field_postings_writers.now c.args.ctx c.sort.new.self c.in_ok-terms.terms.items c.num_fields.result
-    c.in_ok-sort.ensures.same c.in_ok-sort.ensures.ascending c.in_ok-terms.ensures.ok (c.num_fields.ensures.value ∙ ap length c.requires.schema) c.serialize_fields.ensures.wrote)
+    (wrote_terms c.serialize_fields.result c.args.serializer.now c.serialize_fields.new.serializer c.args.per_field_postings_writers.now c.args.ctx c.sort.new.self c.in_ok-terms.terms.items lists c.serialize_fields.ensures.wrote)
 
 pub returns-clause-holds : goal.returns-clause-holds
 returns-clause-holds g c ts has =
-    wrote_tokens c.serialize_fields.result c.reads_entries_back.ensures c.reads_uncounted_term_back.ensures c.args.serializer.now c.serialize_fields.new.serializer c.args.per_field_postings_writers.now c.args.ctx c.sort.new.self ts
-    (omega (arith, c.num_fields.ensures.value, c.num_fields.ensures.bound, ap length c.requires.schema)) c.in_ok-sort.ensures.same c.in_ok-sort.ensures.ascending c.in_ok-sort.ensures.whole
-    (subst (λ (n : ℕ). AllMayBeWritten n c.args.ctx) (ap length c.requires.schema) c.requires.terms) has
-    (wrote_terms c.serialize_fields.result c.args.serializer.now c.serialize_fields.new.serializer c.args.per_field_postings_writers.now c.args.ctx c.sort.new.self c.in_ok-terms.terms.items c.num_fields.result
-    c.in_ok-sort.ensures.same c.in_ok-sort.ensures.ascending c.in_ok-terms.ensures.ok (c.num_fields.ensures.value ∙ ap length c.requires.schema) c.serialize_fields.ensures.wrote)
+    let lists : AreLists (length c.args.serializer.now.entries) c.args.ctx c.sort.new.self c.in_ok-terms.terms.items = record {
+      same = c.in_ok-sort.ensures.same;
+      ascending = c.in_ok-sort.ensures.ascending;
+      are = c.in_ok-terms.ensures.ok ∙ ap (λ (m : ℕ). map (λ (field : ℕ). terms_in field c.sort.new.self) (range_with_len 0 m)) (c.num_fields.ensures.value ∙ ap length c.requires.schema);
+    } in
+    let few : length c.args.serializer.now.entries < 2 ^ 32 = omega (arith, c.num_fields.ensures.value, c.num_fields.ensures.bound, ap length c.requires.schema) in
+    let may = subst (λ (n : ℕ). AllMayBeWritten n c.args.ctx) (ap length c.requires.schema) c.requires.terms in
+    let written = sorted_written c.args.serializer.now.entries c.args.ctx c.sort.new.self c.args.per_field_postings_writers.now ts few c.in_ok-sort.ensures.same c.in_ok-sort.ensures.ascending c.in_ok-sort.ensures.whole may has in
+    wrote_tokens c.serialize_fields.result c.reads_entries_back.ensures c.reads_uncounted_term_back.ensures c.args.serializer.now c.serialize_fields.new.serializer c.args.per_field_postings_writers.now c.args.ctx c.sort.new.self ts written
+    (wrote_terms c.serialize_fields.result c.args.serializer.now c.serialize_fields.new.serializer c.args.per_field_postings_writers.now c.args.ctx c.sort.new.self c.in_ok-terms.terms.items lists c.serialize_fields.ensures.wrote)
 
 pub returns-clause-fault : goal.returns-clause-fault
 returns-clause-fault g c =

@@ -1,6 +1,6 @@
 use Rattle.std.proofs.Common.{◌++◌, sym, ap, subst, map}
 use Rattle.ii_index.specs.Tokens.{kept_words, word_token}
-use Rattle.ii_indexing.specs.IndexedTerms.{IndexedTermsState, StoresTokens}
+use Rattle.ii_indexing.specs.IndexedTerms.{IndexedTermsState, StoresTokens, field_text}
 use Rattle.ii_indexing.specs.IndexingContext.{AllEndBy}
 use Rattle.ii_indexing.specs.IndexingTerm.{IndexingTermState}
 use Rattle.ii_indexing.specs.PostingsWriter.{HasTokens, PostingsWriterState, text_fault, text_piece}
@@ -23,7 +23,7 @@ returns-clause-stored g c =
     let old = subst (λ (q : IndexedTermsState). StoresTokens entries q ts) (sym c.self.view_is) stored in
     let tokens = subst (λ (t : IndexingTermState). HasTokens (kept_by entries) (text_piece c.args.doc t words) s.terms w ts
     → HasTokens (kept_by entries) (text_piece c.args.doc t words) c.index_text.new.ctx c.index_text.new.self (ts ++ map (word_token (text_piece c.args.doc t words) begin) (kept_words words))) c.clear_with_field.ensures (h (kept_by entries) ts) in
-    text_stored entries ts s c.args.doc c.args.field begin words w c.index_text.new.ctx c.index_text.new.self low of_text old c.get_for_field_mut-writer.ensures.value (ap (λ (v : PostingsWriterState). v.option) counted) tokens)
+    text_stored entries ts s (field_text c.args.doc c.args.field words) begin w c.index_text.new.ctx c.index_text.new.self low of_text old c.get_for_field_mut-writer.ensures.value (ap (λ (v : PostingsWriterState). v.option) counted) tokens)
     c.index_text.ensures.tokens c.index_text.ensures.counted
 
 pub returns-clause-refused : goal.returns-clause-refused
@@ -32,7 +32,7 @@ returns-clause-refused g c entries ts low stored =
     let s : IndexedTermsState = record { terms = c.self.inside.ctx; writers = c.self.inside.writers } in
     let w = c.get_for_field_mut-writer.result.now in
     let old = subst (λ (q : IndexedTermsState). StoresTokens entries q ts) (sym c.self.view_is) stored in
-    let known = text_known entries ts s c.args.doc c.args.field words w low old c.get_for_field_mut-writer.ensures.value in
+    let known = text_known entries ts s (field_text c.args.doc c.args.field words) w low old c.get_for_field_mut-writer.ensures.value in
     let refused = subst (λ (t : IndexingTermState). HasTokens (kept_by entries) (text_piece c.args.doc t words) s.terms w ts → IsRefusedBy (text_fault w.option (text_piece c.args.doc t words) c.args.position.now ts) c.index_text.result)
     c.clear_with_field.ensures (c.index_text.ensures.refused (kept_by entries) ts) in
     rw (← known.0) (refused known.1)

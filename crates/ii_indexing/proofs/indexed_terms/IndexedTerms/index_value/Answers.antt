@@ -1,5 +1,5 @@
 use Rattle.std.proofs.Common.{◌≡◌, ◌++◌, ◌∷◌, ◌∙◌, [], false, sym, ap, subst}
-use Rattle.ii_indexing.specs.IndexedTerms.{IndexedTermsState, StoresTokens, key_of}
+use Rattle.ii_indexing.specs.IndexedTerms.{IndexedTermsState, StoresTokens, field_value, key_of}
 use Rattle.ii_indexing.specs.IndexingContext.{AllEndBy}
 use Rattle.ii_indexing.specs.IndexingTerm.{IndexingTermState, term_bytes}
 use Rattle.ii_indexing.specs.PostingsWriter.{subscribe_fault, term_token}
@@ -23,7 +23,7 @@ returns-clause-stored c =
     let old = subst (λ (q : IndexedTermsState). StoresTokens entries q ts) (sym c.self.view_is) stored in
     let tokens = subst (λ (t : IndexingTermState). kept_by entries t.field t.value ≡ w.option → Records (kept_by entries) s.terms ts → Records (kept_by entries) c.subscribe.new.ctx (ts ++ term_token c.args.doc 0 false t ∷ []))
     term (h (kept_by entries) ts false) in
-    value_stored entries ts s c.args.doc c.args.field key w c.subscribe.new.ctx c.subscribe.new.self low basic old c.get_for_field_mut-writer.ensures.value counted tokens)
+    value_stored entries ts s (field_value c.args.doc c.args.field key) w c.subscribe.new.ctx c.subscribe.new.self low basic old c.get_for_field_mut-writer.ensures.value counted tokens)
     c.subscribe.ensures.tokens c.subscribe.ensures.counted
 
 pub returns-clause-refused : goal.returns-clause-refused

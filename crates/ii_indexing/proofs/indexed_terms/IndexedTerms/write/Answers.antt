@@ -1,10 +1,12 @@
-use Rattle.std.proofs.Common.{inl, inr, [], ◌∙◌, sym, subst, ⊎_elim}
+use Rattle.std.proofs.Common.{inl, inr, [], ◌∙◌, refl, sym, subst, ⊎_elim}
 use Rattle.std.proofs.lemmas.Result.{IfErr-weaker}
 use Rattle.ii_recorder.specs.IndexBodies.{IndexBodiesState}
 use Rattle.ii_indexing.specs.FieldParts.{HasFields}
 use Rattle.ii_indexing.specs.IndexedTerms.{IndexedTermsState}
 use Rattle.ii_indexing.specs.IndexFiles.{PassLimits}
 use Rattle.ii_indexing.proofs.WrittenFiles.{begun_fields}
+use Rattle.ii_io.specs.CountingWriter.{Grows}
+use Rattle.ii_io.specs.CountingWriterLemmas.{grows_not}
 use Rattle.ii_indexing.proofs.indexed_terms.IndexedTerms.write.Goals as goal
 
 pub write_files-terms-requires-clause-fresh : goal.write_files-terms-requires-clause-fresh
@@ -21,3 +23,9 @@ returns-clause-fault g c =
       cause = cause;
     }))) others)) fault)
     c.write_files-terms.ensures.fault
+
+pub returns-clause-grow : goal.returns-clause-grow
+returns-clause-grow g c =
+    let r = c.write_files-terms.result in
+    let grown = subst (λ (b : IndexBodiesState). Grows b.terms.writer r.0 × Grows b.postings.writer r.1 × Grows b.positions.writer r.2) c.open.ensures.bodies c.write_files-terms.ensures.grow in
+    record { terms = grown.0; postings = grown.1; positions = grown.2; fieldnorms = grows_not c.args.writers.fieldnorms c.args.writers.fieldnorms refl }

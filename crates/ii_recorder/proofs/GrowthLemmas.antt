@@ -1,0 +1,27 @@
+-- What the writers of an index have after calls that went well or were refused.
+use Rattle.std.proofs.Common.{◌≡◌, ℕ, ap}
+use Rattle.ii_io.specs.CountingWriterLemmas.{Grows-trans, grows_not, wrote_grows}
+use Rattle.ii_recorder.specs.IndexBodies.{AddsBodies, AllGrow, IndexBodiesState}
+use Rattle.ii_recorder.specs.Terms.{FieldBodies}
+
+pub all_grow_not : (a b : IndexBodiesState) → b ≡ a → AllGrow a b
+all_grow_not a b same = record {
+  terms = grows_not a.terms.writer b.terms.writer (ap (λ (s : IndexBodiesState). s.terms.writer) same);
+  postings = grows_not a.postings.writer b.postings.writer (ap (λ (s : IndexBodiesState). s.postings.writer) same);
+  positions = grows_not a.positions.writer b.positions.writer (ap (λ (s : IndexBodiesState). s.positions.writer) same);
+}
+
+pub AllGrow-trans : (a b c : IndexBodiesState) → AllGrow a b → AllGrow b c → AllGrow a c
+AllGrow-trans a b c h k = record {
+  terms = Grows-trans a.terms.writer b.terms.writer c.terms.writer h.terms k.terms;
+  postings = Grows-trans a.postings.writer b.postings.writer c.postings.writer h.postings k.postings;
+  positions = Grows-trans a.positions.writer b.positions.writer c.positions.writer h.positions k.positions;
+}
+
+-- bodies that were begun
+pub bodies_grow : (a b : IndexBodiesState) (field : ℕ) (bodies : FieldBodies) → AddsBodies a b field bodies → AllGrow a b
+bodies_grow a b field bodies h = record {
+  terms = wrote_grows a.terms.writer b.terms.writer bodies.terms h.terms.writer;
+  postings = wrote_grows a.postings.writer b.postings.writer bodies.postings h.postings.writer;
+  positions = wrote_grows a.positions.writer b.positions.writer bodies.positions h.positions.writer;
+}
