@@ -4,7 +4,7 @@ ghost use Rattle.std.specs.List.{sum};
 ghost use Rattle.std.specs.List.Sorted.{IsStrictlyIncreasing};
 ghost use Rattle.std.specs.Option.{option_map};
 ghost use Rattle.std.specs.Int.{bytes_low_first};
-ghost use Rattle.ii_codes.specs.Packed.{bits_in, unpacked, packed, least_width, HoldsWhatIsUnpacked, HoldsWhatIsPacked, HoldsFromLeastWidth};
+ghost use Rattle.ii_codes.specs.Packed.{bits_in, unpacked, packed, least_width, IsPackedUpTo, HoldsWhatIsUnpacked, HoldsWhatIsPacked, HoldsFromLeastWidth};
 ghost use Rattle.ii_codes.specs.Blocks.{gap_of, least_first, values_from, sorted_entries, unsorted_values, unsorted_entries, sorted_block_at, unsorted_block_at, sorted_width, sorted_bytes, unsorted_width, unsorted_bytes, ReadsSortedBlocks, ReadsUnsortedBlocks};
 ghost use Rattle.ii_codes.specs.Sums.{fit_u32};
 
@@ -166,6 +166,58 @@ fn put_word(output: &mut [u8], end: usize, word: u32)
     LittleEndian::write_u32(&mut output[end..], word);
 }
 
+/// Adds entry `i` of the 32 that begin at byte `4 * group * W` to `word`, which has the bits after the
+/// last whole word, and writes the word that is then whole. Answers the bits after it.
+#[inline(always)]
+fn pack_entry<const W: usize>(
+    entries: &[u32],
+    group: usize,
+    i: usize,
+    word: u64,
+    output: &mut [u8],
+) -> u64
+    requires many { length entries.now ≡ 128 }
+    requires narrow { W ≤ 32 }
+    requires group { group < 4 }
+    requires near { i < 32 }
+    requires room { 16 * W ≤ length output.old }
+    requires before { IsPackedUpTo W (32 * group + i) word entries.now output.old }
+    ensures { IsPackedUpTo W (32 * group + i + 1) result entries.now output.new }
+{
+    let bits = i * W % 32;
+    let more = word + ((u64::from(entries[32 * group + i]) % (1 << W)) << bits);
+    if bits + W < 32 {
+        return more;
+    }
+    let end = 4 * (group * W + i * W / 32);
+    put_word(output, end, (more % (1 << 32)) as u32);
+    more >> 32
+}
+
+/// Adds eight entries as `pack_entry` does, from entry `i` of the 32 on.
+#[inline(always)]
+fn pack_eight<const W: usize>(
+    entries: &[u32],
+    group: usize,
+    i: usize,
+    word: u64,
+    output: &mut [u8],
+) -> u64
+    requires many { length entries.now ≡ 128 }
+    requires narrow { W ≤ 32 }
+    requires group { group < 4 }
+    requires near { i ≤ 24 }
+    requires room { 16 * W ≤ length output.old }
+    requires before { IsPackedUpTo W (32 * group + i) word entries.now output.old }
+    ensures { IsPackedUpTo W (32 * group + (i + 8)) result entries.now output.new }
+{
+    let mut left = word;
+    for j in 0..8usize {
+        left = pack_entry::<W>(entries, group, i + j, left, output);
+    }
+    left
+}
+
 /// Packs entries of a width that is known where this is compiled, so that shifts are constants:
 /// 32 entries fill as many words of 32 bits as a width has bits.
 #[inline(never)]
@@ -176,20 +228,10 @@ fn pack_width<const W: usize>(entries: &[u32], output: &mut [u8])
     ensures { take (16 * W) output.new ≡ packed W entries.now }
 {
     for group in 0..4usize {
-        let mut end = 4 * group * W;
-        let mut word = 0u64;
-        let mut bits = 0;
-        for i in 0..32usize {
-            word += (u64::from(entries[32 * group + i]) % (1 << W)) << bits;
-            bits += W;
-            if bits < 32 {
-                continue;
-            }
-            put_word(output, end, (word % (1 << 32)) as u32);
-            end += 4;
-            word >>= 32;
-            bits -= 32;
-        }
+        let word = pack_eight::<W>(entries, group, 0, 0, output);
+        let word = pack_eight::<W>(entries, group, 8, word, output);
+        let word = pack_eight::<W>(entries, group, 16, word, output);
+        pack_eight::<W>(entries, group, 24, word, output);
     }
 }
 
@@ -476,11 +518,9 @@ fn strict_deltas(block: &[u32], offset: u32) -> [u32; COMPRESSION_BLOCK_SIZE]
     ensures { result ≡ sorted_entries true offset block.now }
 {
     let mut entries = [0u32; COMPRESSION_BLOCK_SIZE];
-    let mut least = least_first(true, offset);
-    for k in 0..COMPRESSION_BLOCK_SIZE {
-        let value = u64::from(block[k]);
-        entries[k] = (value - least) as u32;
-        least = value + 1;
+    entries[0] = (u64::from(block[0]) - least_first(true, offset)) as u32;
+    for k in 1..COMPRESSION_BLOCK_SIZE {
+        entries[k] = block[k] - block[k - 1] - 1;
     }
     entries
 }
