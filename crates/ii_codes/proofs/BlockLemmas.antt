@@ -5,7 +5,7 @@ use Rattle.std.proofs.lemmas.Bool.{le-leb, lt-leb, lt-ltb}
 use Rattle.std.specs.List.{range_with_len}
 use Rattle.ii_codes.specs.Packed.{bits_in, entries_in, unpacked}
 use Rattle.ii_codes.proofs.PackedLemmas.{bits_in-fits}
-use Rattle.ii_codes.specs.Blocks.{gap_of, least_first, values_from, entries_from, sorted_values, unsorted_values, unsorted_entries, block_at, sorted_block_at, unsorted_block_at}
+use Rattle.ii_codes.specs.Blocks.{gap_of, least_first, values_from, sorted_values, unsorted_values, unsorted_entries, block_at, sorted_block_at, unsorted_block_at}
 use Rattle.ii_codes.specs.Sums.{fit_u32}
 
 -- one value more is written in front of what is to come
@@ -27,17 +27,6 @@ pub less_one-all : (block out : List ℕ) (k : ℕ) → take k out ++ unsorted_e
     → out ≡ unsorted_entries true block
 less_one-all block out k e end many room =
     all_written out (unsorted_entries true (drop k block)) (unsorted_entries true block) k e (omega arith) (rw (drop_all k block (omega arith)) refl)
-
-pub deltas-more : (gap least : ℕ) (block out : List ℕ) {whole : List ℕ} (k : ℕ) → take k out ++ entries_from gap least (drop k block) ≡ whole → k < length block → k < length out
-    → take (k + 1) (set out k (get_or block k 0 - least)) ++ entries_from gap (get_or block k 0 + gap) (drop (k + 1) block) ≡ whole
-deltas-more gap least block out {whole} k e within room =
-    let here = rw (drop_more block k 0 within) at e in
-    written_more out (entries_from gap (get_or block k 0 + gap) (drop (k + 1) block)) whole k (get_or block k 0 - least) room here
-
-pub deltas-all : (gap least : ℕ) (block out : List ℕ) {whole : List ℕ} (k : ℕ) → take k out ++ entries_from gap least (drop k block) ≡ whole → k ≡ 128 → length block ≡ 128 → length out ≡ 128
-    → out ≡ whole
-deltas-all gap least block out {whole} k e end many room =
-    all_written out (entries_from gap least (drop k block)) whole k e (omega arith) (rw (drop_all k block (omega arith)) refl)
 
 -- what a reader of a block answers
 block_at-wide : (values : List ℕ → List ℕ) (w : ℕ) (bytes : List ℕ) → 32 < w → None ≡ block_at values w bytes

@@ -27,6 +27,8 @@ fn window(bytes: &[u8]) -> u64
 }
 
 /// Fewer than eight bytes, and zero bytes after them.
+#[cold]
+#[inline(never)]
 fn padded(bytes: &[u8]) -> [u8; 8]
     requires { length bytes.now < 8 }
     ensures { result ≡ bytes.now ++ replicate (8 - length bytes.now) 0 }
@@ -166,56 +168,36 @@ fn put_word(output: &mut [u8], end: usize, word: u32)
     LittleEndian::write_u32(&mut output[end..], word);
 }
 
-/// Adds entry `i` of the 32 that begin at byte `4 * group * W` to `word`, which has the bits after the
-/// last whole word, and writes the word that is then whole. Answers the bits after it.
-#[inline(always)]
-fn pack_entry<const W: usize>(
-    entries: &[u32],
-    group: usize,
-    i: usize,
-    word: u64,
-    output: &mut [u8],
-) -> u64
-    requires many { length entries.now ≡ 128 }
-    requires narrow { W ≤ 32 }
-    requires group { group < 4 }
-    requires near { i < 32 }
-    requires room { 16 * W ≤ length output.old }
-    requires before { IsPackedUpTo W (32 * group + i) word entries.now output.old }
-    ensures { IsPackedUpTo W (32 * group + i + 1) result entries.now output.new }
-{
-    let bits = i * W % 32;
-    let more = word + ((u64::from(entries[32 * group + i]) % (1 << W)) << bits);
-    if bits + W < 32 {
-        return more;
-    }
-    let end = 4 * (group * W + i * W / 32);
-    put_word(output, end, (more % (1 << 32)) as u32);
-    more >> 32
-}
-
-/// Adds eight entries as `pack_entry` does, from entry `i` of the 32 on.
+/// Adds eight of the 32 entries that begin at byte `4 * group * W` to `left`, which has the bits
+/// after the last whole word, and writes the words that are then whole. Answers the bits after them.
 #[inline(always)]
 fn pack_eight<const W: usize>(
     entries: &[u32],
     group: usize,
-    i: usize,
-    word: u64,
+    first: usize,
+    left: u64,
     output: &mut [u8],
 ) -> u64
     requires many { length entries.now ≡ 128 }
     requires narrow { W ≤ 32 }
     requires group { group < 4 }
-    requires near { i ≤ 24 }
+    requires near { first ≤ 24 }
     requires room { 16 * W ≤ length output.old }
-    requires before { IsPackedUpTo W (32 * group + i) word entries.now output.old }
-    ensures { IsPackedUpTo W (32 * group + (i + 8)) result entries.now output.new }
+    requires before { IsPackedUpTo W (32 * group + first) left entries.now output.old }
+    ensures { IsPackedUpTo W (32 * group + (first + 8)) result entries.now output.new }
 {
-    let mut left = word;
-    for j in 0..8usize {
-        left = pack_entry::<W>(entries, group, i + j, left, output);
+    let mut word = left;
+    for i in first..first + 8 {
+        let bits = i * W % 32;
+        word += (u64::from(entries[32 * group + i]) % (1 << W)) << bits;
+        if bits + W < 32 {
+            continue;
+        }
+        let end = 4 * (group * W + i * W / 32);
+        put_word(output, end, (word % (1 << 32)) as u32);
+        word >>= 32;
     }
-    left
+    word
 }
 
 /// Packs entries of a width that is known where this is compiled, so that shifts are constants:
