@@ -5,7 +5,7 @@ use Rattle.std.proofs.lemmas.Bool.{le-leb, lt-leb, lt-ltb}
 use Rattle.std.specs.List.{range_with_len}
 use Rattle.ii_codes.specs.Packed.{bits_in, entries_in, unpacked}
 use Rattle.ii_codes.proofs.PackedLemmas.{bits_in-fits}
-use Rattle.ii_codes.specs.Blocks.{gap_of, least_first, values_from, entries_from, sorted_values, unsorted_values, unsorted_entries, block_at, sorted_block_at, unsorted_block_at}
+use Rattle.ii_codes.specs.Blocks.{gap_of, least_first, raised, values_from, sorted_values, unsorted_values, unsorted_entries, block_at, sorted_block_at, unsorted_block_at}
 use Rattle.ii_codes.specs.Sums.{fit_u32}
 
 -- one value more is written in front of what is to come
@@ -27,17 +27,6 @@ pub less_one-all : (block out : List ℕ) (k : ℕ) → take k out ++ unsorted_e
     → out ≡ unsorted_entries true block
 less_one-all block out k e end many room =
     all_written out (unsorted_entries true (drop k block)) (unsorted_entries true block) k e (omega arith) (rw (drop_all k block (omega arith)) refl)
-
-pub deltas-more : (gap least : ℕ) (block out : List ℕ) {whole : List ℕ} (k : ℕ) → take k out ++ entries_from gap least (drop k block) ≡ whole → k < length block → k < length out
-    → take (k + 1) (set out k (get_or block k 0 - least)) ++ entries_from gap (get_or block k 0 + gap) (drop (k + 1) block) ≡ whole
-deltas-more gap least block out {whole} k e within room =
-    let here = rw (drop_more block k 0 within) at e in
-    written_more out (entries_from gap (get_or block k 0 + gap) (drop (k + 1) block)) whole k (get_or block k 0 - least) room here
-
-pub deltas-all : (gap least : ℕ) (block out : List ℕ) {whole : List ℕ} (k : ℕ) → take k out ++ entries_from gap least (drop k block) ≡ whole → k ≡ 128 → length block ≡ 128 → length out ≡ 128
-    → out ≡ whole
-deltas-all gap least block out {whole} k e end many room =
-    all_written out (entries_from gap least (drop k block)) whole k e (omega arith) (rw (drop_all k block (omega arith)) refl)
 
 -- what a reader of a block answers
 block_at-wide : (values : List ℕ → List ℕ) (w : ℕ) (bytes : List ℕ) → 32 < w → None ≡ block_at values w bytes
@@ -105,7 +94,28 @@ pub unpacked-fit : (w : ℕ) (bytes : List ℕ) → w ≤ 32 → fit_u32 (unpack
 unfolding unpacked entries_in
 unpacked-fit w bytes narrow = fit_u32-fill (λ k. bits_in 8 bytes (k * w) w) 0 128 (λ k. bits_in-fits 8 w 32 bytes (k * w) narrow)
 
-pub unsorted-plain : (minus_one : Bool) (w size : ℕ) (bytes es : List ℕ) → w ≤ 32 → 16 * w ≤ length bytes → size ≡ 16 * w → es ≡ unpacked w bytes → minus_one ≡ false
+raised-none : (es : List ℕ) → raised 0 es ≡ es
+raised-none [] = refl
+raised-none (e ∷ es) = let same : e + 0 ≡ e = omega arith in rw (same, raised-none es) refl
+
+pub unsorted-plain : (minus_one : Bool) (w size : ℕ) (bytes es : List ℕ) → w ≤ 32 → 16 * w ≤ length bytes → size ≡ 16 * w → es ≡ raised 0 (unpacked w bytes) → minus_one ≡ false
     → Some (es, drop size bytes) ≡ unsorted_block_at minus_one w bytes
 unsorted-plain minus_one w size bytes es narrow enough s e plain =
-    rw plain (unsorted-found false w size bytes es es narrow enough s e (rw e (sym (unpacked-fit w bytes narrow))) refl)
+    let same = e ∙ raised-none (unpacked w bytes) in
+    rw plain (unsorted-found false w size bytes es es narrow enough s same (rw same (sym (unpacked-fit w bytes narrow))) refl)
+
+raised_fit-fill : (f : ℕ → ℕ) (a n : ℕ) → ((k : ℕ) → f k < 2 ^ 31) → fit_u32 (raised 1 (map f (range_with_len a n))) ≡ true
+raised_fit-fill f a zero h = refl
+raised_fit-fill f a (suc n) h = let small = h a in rw (lt-ltb (f a + 1) 4294967296 (omega arith)) (raised_fit-fill f (a + 1) n h)
+
+raised-fit : (w : ℕ) (bytes : List ℕ) → w ≤ 31 → fit_u32 (raised 1 (unpacked w bytes)) ≡ true
+unfolding unpacked entries_in
+raised-fit w bytes narrow = raised_fit-fill (λ k. bits_in 8 bytes (k * w) w) 0 128 (λ k. bits_in-fits 8 w 31 bytes (k * w) narrow)
+
+pub unsorted-raised : (minus_one : Bool) (w size : ℕ) (bytes vs : List ℕ) → w ≤ 31 → 16 * w ≤ length bytes → size ≡ 16 * w → vs ≡ raised 1 (unpacked w bytes) → minus_one ≡ true
+    → Some (vs, drop size bytes) ≡ unsorted_block_at minus_one w bytes
+unsorted-raised minus_one w size bytes vs narrow enough s v one =
+    rw one (unsorted-found true w size bytes (unpacked w bytes) vs (omega arith) enough s refl (sym (raised-fit w bytes narrow)) v)
+
+pub not_raised : (w : ℕ) (bytes es : List ℕ) → es ≡ raised 0 (unpacked w bytes) → es ≡ unpacked w bytes
+not_raised w bytes es e = e ∙ raised-none (unpacked w bytes)

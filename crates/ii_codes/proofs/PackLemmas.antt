@@ -5,8 +5,8 @@ use Rattle.std.proofs.Math.Pow.{pow_mono}
 use Rattle.std.proofs.lemmas.Nat.{div-add-mod', shl_whole, pow_pos}
 use Rattle.std.proofs.lemmas.Nat.Bits.{bit_at_cat_low}
 use Rattle.std.specs.Int.{bytes_low_first}
-use Rattle.ii_codes.specs.Packed.{bits_in, entries_in}
-use Rattle.ii_codes.proofs.PackedLemmas.{bits_in-lt, same_as_bits_in, bit_in_at, entries_in-more}
+use Rattle.ii_codes.specs.Packed.{bits_in, entries_in, IsPackedUpTo}
+use Rattle.ii_codes.proofs.PackedLemmas.{bits_in-zero, bits_in-lt, same_as_bits_in, bit_in_at, entries_in-more}
 use Rattle.ii_codes.proofs.WindowLemmas.{bits_in-split, window_cut, window_rest}
 
 -- an entry is its w lowest bits
@@ -19,8 +19,8 @@ entry_bits w row k =
     let same = rw whole at low in
     sym same ∙ sym (bit_in_at w k i row small))
 
--- What a packer knows after k entries: so many bytes are written, and the bits after them stand in a word.
-pub record IsPacking (w k end word bits : ℕ) (entries out : List ℕ) : Type 0 where
+-- The same with the place in the bytes, and how many bits stand in the word.
+record IsPacking (w k end word bits : ℕ) (entries out : List ℕ) : Type 0 where
   pub place : end * 8 + bits ≡ k * w
   pub few : bits < 32
   pub left : word ≡ bits_in w entries (end * 8) bits
@@ -28,7 +28,7 @@ pub record IsPacking (w k end word bits : ℕ) (entries out : List ℕ) : Type 0
   pub whole : end % 4 ≡ 0
 
 -- one entry more in the word
-pub word_more : (w k end word bits e x : ℕ) (entries : List ℕ) → end * 8 + bits ≡ k * w → bits < 32 → word ≡ bits_in w entries (end * 8) bits → w ≤ 32 → e ≡ get_or entries k 0 → x ≡ e % (1 * 2 ^ w % 2 ^ 64) * 2 ^ bits % 2 ^ 64
+word_more : (w k end word bits e x : ℕ) (entries : List ℕ) → end * 8 + bits ≡ k * w → bits < 32 → word ≡ bits_in w entries (end * 8) bits → w ≤ 32 → e ≡ get_or entries k 0 → x ≡ e % (1 * 2 ^ w % 2 ^ 64) * 2 ^ bits % 2 ^ 64
     → (word + x ≡ bits_in w entries (end * 8) (bits + w)) × (word + x < 2 ^ 64)
 word_more w k end word bits e x entries here few stands narrow entry shifted =
     let one : 1 * 2 ^ w % 2 ^ 64 ≡ 1 * 2 ^ w = shl_whole 1 1 w 64 (omega arith) (omega arith) in
@@ -74,7 +74,7 @@ four_bytes w row end n x e within =
     rw (four_entries w end row, b0, b1, b2, b3) refl
 
 -- a word of 32 bits is written
-pub word_written : (w k end bits x : ℕ) (entries old new : List ℕ) → end * 8 + bits ≡ k * w → bits < 32 → end % 4 ≡ 0 → take end old ≡ entries_in w 8 end entries → w ≤ 32 → x ≡ bits_in w entries (end * 8) (bits + w)
+word_written : (w k end bits x : ℕ) (entries old new : List ℕ) → end * 8 + bits ≡ k * w → bits < 32 → end % 4 ≡ 0 → take end old ≡ entries_in w 8 end entries → w ≤ 32 → x ≡ bits_in w entries (end * 8) (bits + w)
     → 32 ≤ bits + w → take (end + 4) new ≡ take end old ++ bytes_low_first 0 4 (x % 2 ^ 32) → IsPacking w (k + 1) (end + 4) (x / 2 ^ 32) (bits + w - 32) entries new
 word_written w k end bits x entries old new here few quarter written narrow e full bytes =
     let next : (end + 4) * 8 ≡ end * 8 + 32 = omega arith in
@@ -88,9 +88,67 @@ word_written w k end bits x entries old new here few quarter written narrow e fu
     }
 
 -- a word that is not full waits
-pub word_waits : (w k end word bits : ℕ) (entries out : List ℕ) → IsPacking w k end word bits entries out → (x : ℕ) → x ≡ bits_in w entries (end * 8) (bits + w) → bits + w < 32
+word_waits : (w k end word bits : ℕ) (entries out : List ℕ) → IsPacking w k end word bits entries out → (x : ℕ) → x ≡ bits_in w entries (end * 8) (bits + w) → bits + w < 32
     → IsPacking w (k + 1) end x (bits + w) entries out
 word_waits w k end word bits entries out h x e few =
     let here = h.place in
     let row : (k + 1) * w ≡ k * w + w = omega arith in
     record { place = rw row (omega arith); few = few; left = e; written = h.written; whole = h.whole }
+
+packing : (w g i word : ℕ) (entries out : List ℕ) → IsPackedUpTo w (32 * g + i) word entries out → IsPacking w (32 * g + i) (4 * (g * w + i * w / 32)) word (i * w % 32) entries out
+packing w g i word entries out h =
+    let quarters : (32 * g + i) * w / 32 ≡ g * w + i * w / 32 = omega arith in
+    let part : (32 * g + i) * w % 32 ≡ i * w % 32 = omega arith in
+    let end : (g * w + i * w / 32) * 32 ≡ 4 * (g * w + i * w / 32) * 8 = omega arith in
+    record {
+      place = omega arith;
+      few = omega arith;
+      left = rw (quarters, part, end) at h.rest;
+      written = rw quarters at h.whole;
+      whole = omega arith;
+    }
+
+packed_up_to : (w k end word bits : ℕ) (entries out : List ℕ) → IsPacking w k end word bits entries out → IsPackedUpTo w k word entries out
+packed_up_to w k end word bits entries out h =
+    let here = h.place in
+    let few = h.few in
+    let quarter = h.whole in
+    let whole : 4 * (k * w / 32) ≡ end = omega arith in
+    let place : k * w / 32 * 32 ≡ end * 8 = omega arith in
+    let part : k * w % 32 ≡ bits = omega arith in
+    record { whole = rw whole h.written; rest = rw (place, part) h.left }
+
+-- What a packer was asked, and the bits x that it adds to its word.
+pub record IsAdding (w g i word e x : ℕ) (entries out : List ℕ) : Type 0 where
+  pub before : IsPackedUpTo w (32 * g + i) word entries out
+  pub narrow : w ≤ 32
+  pub entry : e ≡ get_or entries (32 * g + i) 0
+  pub added : x ≡ e % (1 * 2 ^ w % 2 ^ 64) * 2 ^ (i * w % 32) % 2 ^ 64
+
+more_of : (w g i word e x : ℕ) (entries out : List ℕ) → IsAdding w g i word e x entries out → (word + x ≡ bits_in w entries (4 * (g * w + i * w / 32) * 8) (i * w % 32 + w)) × (word + x < 2 ^ 64)
+more_of w g i word e x entries out h =
+    let p = packing w g i word entries out h.before in
+    word_more w (32 * g + i) (4 * (g * w + i * w / 32)) word (i * w % 32) e x entries p.place p.few p.left h.narrow h.entry h.added
+
+pub adding-fits : (w g i word e x : ℕ) (entries out : List ℕ) → IsAdding w g i word e x entries out → word + x < 2 ^ 64
+adding-fits w g i word e x entries out h = (more_of w g i word e x entries out h).1
+
+pub adding-waits : (w g i word e x : ℕ) (entries out : List ℕ) → IsAdding w g i word e x entries out → i * w % 32 + w < 32 → IsPackedUpTo w (32 * g + i + 1) (word + x) entries out
+adding-waits w g i word e x entries out h few =
+    let p = packing w g i word entries out h.before in
+    packed_up_to w (32 * g + i + 1) (4 * (g * w + i * w / 32)) (word + x) (i * w % 32 + w) entries out
+    (word_waits w (32 * g + i) (4 * (g * w + i * w / 32)) word (i * w % 32) entries out p (word + x) (more_of w g i word e x entries out h).0 few)
+
+pub adding-written : (w g i word e x : ℕ) (entries old new : List ℕ) → IsAdding w g i word e x entries old → 32 ≤ i * w % 32 + w
+    → take (4 * (g * w + i * w / 32) + 4) new ≡ take (4 * (g * w + i * w / 32)) old ++ bytes_low_first 0 4 ((word + x) % 2 ^ 32) → IsPackedUpTo w (32 * g + i + 1) ((word + x) / 2 ^ 32) entries new
+adding-written w g i word e x entries old new h full bytes =
+    let p = packing w g i word entries old h.before in
+    packed_up_to w (32 * g + i + 1) (4 * (g * w + i * w / 32) + 4) ((word + x) / 2 ^ 32) (i * w % 32 + w - 32) entries new
+    (word_written w (32 * g + i) (4 * (g * w + i * w / 32)) (i * w % 32) (word + x) entries old new p.place p.few p.whole p.written h.narrow (more_of w g i word e x entries old h).0 full bytes)
+
+-- 32 entries begin with a whole word
+pub packing-starts : (w g : ℕ) (entries out : List ℕ) → take (4 * g * w) out ≡ entries_in w 8 (4 * g * w) entries → IsPackedUpTo w (32 * g + 0) 0 entries out
+packing-starts w g entries out h =
+    let whole : 4 * ((32 * g + 0) * w / 32) ≡ 4 * g * w = omega arith in
+    let none : (32 * g + 0) * w % 32 ≡ 0 = omega arith in
+    record { whole = rw whole h; rest = rw none (sym (bits_in-zero w entries ((32 * g + 0) * w / 32 * 32))) }

@@ -4,9 +4,10 @@ use Rattle.std.proofs.Math.Nat.{pow-suc, suc-mul, mul-le-mul_right}
 use Rattle.std.proofs.Math.Pow.{pow_mono}
 use Rattle.std.proofs.lemmas.Nat.{mod_below, div_below, div-add-mod', div-mul-add, mod-mul-add, shl_whole}
 use Rattle.std.proofs.lemmas.Nat.Bits.{bit_at_lowest, bit_at-suc, bit_at-lt, same_from_bits_below}
-use Rattle.std.proofs.lemmas.List.{same_lists, get_or_default, take_more_set, take_all}
+use Rattle.std.proofs.lemmas.List.{same_lists, get_or_default, take_more_set, take_all, map-append}
 use Rattle.std.proofs.lemmas.List.FromFn.{length-map-range_with_len, get_or-map-range_with_len, map-range_with_len_more}
 use Rattle.std.specs.Int.{bit_at}
+use Rattle.ii_codes.specs.Blocks.{raised}
 use Rattle.ii_codes.specs.Packed.{bit_in, bits_in, entries_in, unpacked, packed}
 
 pub bits_in-zero : (w : ℕ) (row : List ℕ) (place : ℕ) → bits_in w row place 0 ≡ 0
@@ -149,6 +150,16 @@ entries_written w v k x row out before e within =
 pub all_unpacked : (w : ℕ) (bytes out : List ℕ) → take 128 out ≡ entries_in 8 w 128 bytes → length out ≡ 128 → out ≡ unpacked w bytes
 unfolding unpacked
 all_unpacked w bytes out e many = sym (take_all 128 out (omega arith)) ∙ e
+
+-- the same, each raised
+pub raised_written : (w v k x more : ℕ) (row out : List ℕ) → take k out ≡ raised more (entries_in w v k row) → x ≡ bits_in w row (k * v) v → k < length out
+    → take (k + 1) (set out k (x + more)) ≡ raised more (entries_in w v (k + 1) row)
+raised_written w v k x more row out before e within =
+    rw (take_more_set out k (x + more) within, before, e, entries_in-more w v k row) (sym (map-append (λ (e : ℕ). e + more) (entries_in w v k row) (bits_in w row (k * v) v ∷ [])))
+
+pub all_raised : (w more : ℕ) (bytes out : List ℕ) → take 128 out ≡ raised more (entries_in 8 w 128 bytes) → length out ≡ 128 → out ≡ raised more (unpacked w bytes)
+unfolding unpacked
+all_raised w more bytes out e many = sym (take_all 128 out (omega arith)) ∙ e
 
 pub all_packed : (w n : ℕ) (entries out : List ℕ) → take n out ≡ entries_in w 8 n entries → n ≡ 16 * w → take (16 * w) out ≡ packed w entries
 unfolding packed

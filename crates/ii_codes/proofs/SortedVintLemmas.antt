@@ -1,15 +1,15 @@
 -- Laws of rows of vints.
-use Rattle.std.proofs.Common.{◌≡◌, ℕ, zero, suc, ◌+◌, ◌-◌, ◌%◌, ◌^◌, ◌<◌, ◌≤◌, true, List, [], ◌∷◌, ◌++◌, length, take, drop, set, Option, Some, None, refl, sym, ap, ◌∙◌, arith, append_assoc, get_or}
+use Rattle.std.proofs.Common.{◌≡◌, ℕ, zero, suc, ◌+◌, ◌-◌, ◌*◌, ◌%◌, ◌^◌, ◌<◌, ◌≤◌, Bool, true, false, ◌&&◌, nat_lt, List, [], ◌∷◌, ◌++◌, length, take, drop, set, Option, Some, None, refl, sym, ap, ◌∙◌, arith, append_assoc, get_or}
 use Rattle.std.specs.Option.{option_map}
 use Rattle.std.specs.List.{flat_map, AllByRecursion}
 use Rattle.std.proofs.lemmas.Bool.{lt-ltb, le-ltb}
 use Rattle.std.proofs.lemmas.List.{take_more_set, take_all, drop-drop, length-set, length-drop}
 use Rattle.std.proofs.lemmas.List.{append-nil}
-use Rattle.ii_io.specs.Steps.{◌>>=◌}
+use Rattle.ii_io.specs.Steps.{◌>>=◌, needs}
 use Rattle.ii_io.specs.Vints.{u32_at, u32s_at, vint_u32}
 use Rattle.ii_io.specs.VintLemmas.{u32_at-vint_u32}
 use Rattle.ii_codes.specs.Sums.{running_sums, differences, DoNotFall, fit_u32}
-use Rattle.ii_codes.specs.SortedVints.{ReadsSortedVintsBack}
+use Rattle.ii_codes.specs.SortedVints.{sorted_vints_at, ReadsSortedVintsBack}
 use Rattle.ii_codes.specs.UnsortedVints.{u32s_until_end, ReadsUnsortedVintsBack}
 
 -- the sums of differences are the values
@@ -107,6 +107,63 @@ row-all bytes output i used r done =
     let row = rw (left, take_all i output done) at r.row in
     sym (row ∙ ap (λ (xs : List ℕ). Some (xs, drop used bytes)) (append-nil output))
 
+-- the next value is the sum of the one before it and the next difference
+sum_step : (v : ℕ) (t s : Bool) (vs rest : List ℕ) → (needs (t && s) >>= λ _. Some (v ∷ vs, rest)) ≡ (needs t >>= λ _. in_front (v ∷ []) (needs s >>= λ _. Some (vs, rest)))
+sum_step v true true vs rest = refl
+sum_step v true false vs rest = refl
+sum_step v false s vs rest = refl
+
+no_sums : (v : ℕ) (t : Bool) → None ≡ (needs t >>= λ _. in_front (v ∷ []) None)
+no_sums v true = refl
+no_sums v false = refl
+
+sums_of : (before d : ℕ) (o : Option (List ℕ × List ℕ)) → (in_front (d ∷ []) o >>= λ (found : List ℕ × List ℕ). needs (fit_u32 (running_sums before found.0)) >>= λ _. Some (running_sums before found.0, found.1))
+    ≡ (needs (nat_lt (before + d) (2 ^ 32)) >>= λ _. in_front ((before + d) ∷ []) (o >>= λ (found : List ℕ × List ℕ). needs (fit_u32 (running_sums (before + d) found.0)) >>= λ _. Some (running_sums (before + d) found.0, found.1)))
+sums_of before d None = no_sums (before + d) (nat_lt (before + d) (2 ^ 32))
+sums_of before d (Some f) = sum_step (before + d) (nat_lt (before + d) (2 ^ 32)) (fit_u32 (running_sums (before + d) f.0)) (running_sums (before + d) f.0) f.1
+
+sorted_vints_at-more : (before n d : ℕ) (bytes rest : List ℕ) → Some (d, rest) ≡ u32_at bytes
+    → sorted_vints_at before (suc n) bytes ≡ (needs (nat_lt (before + d) (2 ^ 32)) >>= λ _. in_front ((before + d) ∷ []) (sorted_vints_at (before + d) n rest))
+sorted_vints_at-more before n d bytes rest e = rw (u32s_at-more n d bytes rest e) (sums_of before d (u32s_at n rest))
+
+sorted_vints_at-none : (before n : ℕ) (bytes : List ℕ) → None ≡ u32_at bytes → sorted_vints_at before (suc n) bytes ≡ None
+sorted_vints_at-none before n bytes e = rw (u32s_at-none n bytes e) refl
+
+-- What a reader of sorted values knows that has i values in its output, of which the last is this one, from so many bytes.
+pub record IsReadingSums (offset last : ℕ) (bytes output : List ℕ) (i used : ℕ) : Type 0 where
+  pub within : used ≤ length bytes
+  pub row : sorted_vints_at offset (length output) bytes ≡ in_front (take i output) (sorted_vints_at last (length output - i) (drop used bytes))
+
+pub sums-none : (offset last : ℕ) (bytes output : List ℕ) (i used : ℕ) → IsReadingSums offset last bytes output i used → i < length output → None ≡ u32_at (drop used bytes) → None ≡ sorted_vints_at offset (length output) bytes
+sums-none offset last bytes output i used r more e =
+    let row = rw (left_is (length output) i more) at r.row in
+    sym (row ∙ ap (in_front (take i output)) (sorted_vints_at-none last (length output - (i + 1)) (drop used bytes) e))
+
+pub sums-past : (offset last : ℕ) (bytes output : List ℕ) (i used d size : ℕ) → IsReadingSums offset last bytes output i used → i < length output
+    → Some (d, drop size (drop used bytes)) ≡ u32_at (drop used bytes) → 2 ^ 32 ≤ last + d → None ≡ sorted_vints_at offset (length output) bytes
+sums-past offset last bytes output i used d size r more e past =
+    let row = rw (left_is (length output) i more) at r.row in
+    let next = rw (le-ltb (last + d) 4294967296 past) at (sorted_vints_at-more last (length output - (i + 1)) d (drop used bytes) (drop size (drop used bytes)) e) in
+    sym (row ∙ ap (in_front (take i output)) next)
+
+pub sums-more : (offset last : ℕ) (bytes output : List ℕ) (i used d size : ℕ) → IsReadingSums offset last bytes output i used → i < length output
+    → Some (d, drop size (drop used bytes)) ≡ u32_at (drop used bytes) → size ≤ length (drop used bytes) → last + d < 2 ^ 32 → IsReadingSums offset (last + d) bytes (set output i (last + d)) (i + 1) (used + size)
+sums-more offset last bytes output i used d size r more e within fits =
+    let inside = r.within in
+    let row = rw (left_is (length output) i more) at r.row in
+    let next = rw (lt-ltb (last + d) 4294967296 fits) at (sorted_vints_at-more last (length output - (i + 1)) d (drop used bytes) (drop size (drop used bytes)) e) in
+    let whole = row ∙ ap (in_front (take i output)) next ∙ in_front-in_front (take i output) ((last + d) ∷ []) _ in
+    record {
+      within = let room = rw length-drop at within in omega arith;
+      row = rw (length-set output i (last + d), take_more_set output i (last + d) more, ← drop-drop size used bytes) whole;
+    }
+
+pub sums-all : (offset last : ℕ) (bytes output : List ℕ) (i used : ℕ) → IsReadingSums offset last bytes output i used → length output ≤ i → Some (output, drop used bytes) ≡ sorted_vints_at offset (length output) bytes
+sums-all offset last bytes output i used r done =
+    let left : length output - i ≡ 0 = omega arith in
+    let row = rw (left, take_all i output done) at r.row in
+    sym (row ∙ ap (λ (xs : List ℕ). Some (xs, drop used bytes)) (append-nil output))
+
 -- values in front of those that are read to the end
 abbrev pub ends_with : List ℕ → Option (List ℕ) → Option (List ℕ)
 ends_with xs found = option_map (λ (ys : List ℕ). xs ++ ys) found
@@ -156,6 +213,20 @@ u32_at-one [] n high byte e = absurd (omega arith)
 u32_at-one (b ∷ rest) n high byte e =
     let low : b % 128 ≡ n = omega arith in
     rw (le-ltb b 128 high, low, lt-ltb n 4294967296 (omega arith)) refl
+
+-- a number of two bytes
+pub u32_at-two : (bytes : List ℕ) (n : ℕ) → get_or bytes 0 0 < 128 → 128 ≤ get_or bytes 1 0 → get_or bytes 1 0 < 256 → n ≡ get_or bytes 0 0 + 128 * (get_or bytes 1 0 - 128) → Some (n, drop 2 bytes) ≡ u32_at bytes
+unfolding u32_at
+u32_at-two [] n low high byte e = absurd (omega arith)
+u32_at-two (a ∷ []) n low high byte e = absurd (omega arith)
+u32_at-two (a ∷ b ∷ rest) n low high byte e =
+    let value : a % 128 + 128 * (b % 128) ≡ n = omega arith in
+    rw (lt-ltb a 128 low, le-ltb b 128 high, value, lt-ltb n 4294967296 (omega arith)) refl
+
+pub u32_at-nothing : (bytes : List ℕ) → length bytes ≡ 0 → None ≡ u32_at bytes
+unfolding u32_at
+u32_at-nothing [] h = refl
+u32_at-nothing (b ∷ bs) h = absurd (omega arith)
 
 -- values by their places
 pub falls_by : (before : ℕ) (vs : List ℕ) → (0 < length vs → before ≤ get_or vs 0 0) → ((k : ℕ) → suc k < length vs → get_or vs k 0 ≤ get_or vs (suc k) 0) → DoNotFall before vs

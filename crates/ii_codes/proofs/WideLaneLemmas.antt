@@ -5,15 +5,15 @@ use lib.Lanes.{chunk, number_l, digits_l}
 use mir.Syntax.{w8}
 use Rattle.std.proofs.Math.Pow.{pow_mono}
 use Rattle.std.proofs.lemmas.Bool.{lt-leb}
-use Rattle.std.proofs.lemmas.List.{get_or-drop, drop_more, drop_all, take_all, append-nil}
+use Rattle.std.proofs.lemmas.List.{get_or-drop, drop_more, drop_all, take_all, append-nil, drop-map, map-append, length-map}
 use Rattle.std.proofs.lemmas.Simd.{swz_l, get_or_wider}
 use Rattle.ii_codes.specs.Packed.{bits_in, unpacked}
-use Rattle.ii_codes.specs.Blocks.{values_from}
+use Rattle.ii_codes.specs.Blocks.{values_from, raised}
 use Rattle.ii_codes.proofs.PackedLemmas.{bits_in-lt}
 use Rattle.ii_codes.proofs.PackedLaws.{length-unpacked, get_or-unpacked}
 use Rattle.ii_codes.proofs.PrefixLemmas.{wrapped_from}
 use Rattle.ii_codes.proofs.WindowLemmas.{little_bits}
-use Rattle.ii_codes.proofs.LaneLemmas.{after, cons_same, chosen_small, lane_cut, loaded, taken_small, wrapped_same}
+use Rattle.ii_codes.proofs.LaneLemmas.{after, block_eight, cons_same, eight_same, chosen_small, lane_cut, loaded, taken_small, wrapped_same}
 
 quad_value : (b c d e : Bool) (x y z u : ℕ) {v w s t : ℕ} → b ≡ false → c ≡ false → d ≡ false → e ≡ false → x ≡ v → y ≡ w → z ≡ s → u ≡ t
     → cond b 0 x + 256 * (cond c 0 y + 256 * (cond d 0 z + 256 * (cond e 0 u + 256 * 0))) ≡ v + 256 * (w + 256 * (s + 256 * (t + 256 * 0)))
@@ -152,7 +152,7 @@ block_four w k at first bytes few here =
     ∙ cons_same (ap (λ (i : ℕ). get_or (unpacked w bytes) i 0) none ∙ entry_from w k 0 at first bytes (omega arith) here) (cons_same (entry_from w k 1 at first bytes (omega arith) here) (cons_same (entry_from w k 2 at first bytes (omega arith) here) (cons_same (entry_from w k 3 at first bytes (omega arith) here) refl)))
 
 -- values more, in front of those to come
-pub filling-more : (k n : ℕ) (es out new vs : List ℕ) → take k out ++ drop k es ≡ es → drop k es ≡ vs ++ drop (k + n) es → take (k + n) new ≡ take k out ++ vs → take (k + n) new ++ drop (k + n) es ≡ es
+filling-more : (k n : ℕ) (es out new vs : List ℕ) → take k out ++ drop k es ≡ es → drop k es ≡ vs ++ drop (k + n) es → take (k + n) new ≡ take k out ++ vs → take (k + n) new ++ drop (k + n) es ≡ es
 filling-more k n es out new vs h here written =
     rw written (append_assoc (take k out) vs (drop (k + n) es) ∙ ap (λ (xs : List ℕ). take k out ++ xs) (sym here) ∙ h)
 
@@ -160,3 +160,50 @@ pub filling-all : (k : ℕ) (es out : List ℕ) → take k out ++ drop k es ≡ 
 filling-all k es out h done full =
     let all = rw (drop_all k es done, take_all k out full, append-nil out) at h in
     all
+
+-- entries of at most 25 bits that are raised
+raise_lane : (row : List ℕ) (place w more : ℕ) → w ≤ 25 → more ≤ 1 → (bits_in 8 row place w + more) % 4294967296 ≡ bits_in 8 row place w + more
+raise_lane row place w more narrow one =
+    let small = bits_in-lt 8 row place w in
+    let wide = pow_mono {i = w} {j = 25} narrow in
+    omega arith
+
+-- some entries of a list, raised
+raised_more : (more k n : ℕ) (es vs : List ℕ) → drop k es ≡ vs ++ drop (k + n) es → drop k (raised more es) ≡ raised more vs ++ drop (k + n) (raised more es)
+raised_more more k n es vs h =
+    rw (drop-map (λ (e : ℕ). e + more) k es, drop-map (λ (e : ℕ). e + more) (k + n) es, h) (map-append (λ (e : ℕ). e + more) vs (drop (k + n) es))
+
+raised_eight : (bytes : List ℕ) (g w more : ℕ) → w ≤ 25 → more ≤ 1
+    → ((bits_in 8 bytes (g * w * 8 + 0 * w) w + more) % 4294967296) ∷ ((bits_in 8 bytes (g * w * 8 + 1 * w) w + more) % 4294967296) ∷ ((bits_in 8 bytes (g * w * 8 + 2 * w) w + more) % 4294967296) ∷ ((bits_in 8 bytes (g * w * 8 + 3 * w) w + more) % 4294967296) ∷ ((bits_in 8 bytes (g * w * 8 + 4 * w) w + more) % 4294967296) ∷ ((bits_in 8 bytes (g * w * 8 + 5 * w) w + more) % 4294967296) ∷ ((bits_in 8 bytes (g * w * 8 + 6 * w) w + more) % 4294967296) ∷ ((bits_in 8 bytes (g * w * 8 + 7 * w) w + more) % 4294967296) ∷ []
+    ≡ raised more (bits_in 8 bytes (g * w * 8 + 0 * w) w ∷ bits_in 8 bytes (g * w * 8 + 1 * w) w ∷ bits_in 8 bytes (g * w * 8 + 2 * w) w ∷ bits_in 8 bytes (g * w * 8 + 3 * w) w ∷ bits_in 8 bytes (g * w * 8 + 4 * w) w ∷ bits_in 8 bytes (g * w * 8 + 5 * w) w ∷ bits_in 8 bytes (g * w * 8 + 6 * w) w ∷ bits_in 8 bytes (g * w * 8 + 7 * w) w ∷ [])
+raised_eight bytes g w more narrow one =
+    eight_same _ _ _ _ _ _ _ _ (raise_lane bytes (g * w * 8 + 0 * w) w more narrow one) (raise_lane bytes (g * w * 8 + 1 * w) w more narrow one) (raise_lane bytes (g * w * 8 + 2 * w) w more narrow one) (raise_lane bytes (g * w * 8 + 3 * w) w more narrow one) (raise_lane bytes (g * w * 8 + 4 * w) w more narrow one) (raise_lane bytes (g * w * 8 + 5 * w) w more narrow one) (raise_lane bytes (g * w * 8 + 6 * w) w more narrow one) (raise_lane bytes (g * w * 8 + 7 * w) w more narrow one)
+
+-- the eight entries of a group are raised
+pub raised_eight-more : (more w g : ℕ) (bytes out new : List ℕ) → g < 16 → w ≤ 25 → more ≤ 1 → take (8 * g) out ++ drop (8 * g) (raised more (unpacked w bytes)) ≡ raised more (unpacked w bytes)
+    → take (8 * g + 8) new ≡ take (8 * g) out ++ (((bits_in 8 bytes (g * w * 8 + 0 * w) w + more) % 4294967296) ∷ ((bits_in 8 bytes (g * w * 8 + 1 * w) w + more) % 4294967296) ∷ ((bits_in 8 bytes (g * w * 8 + 2 * w) w + more) % 4294967296) ∷ ((bits_in 8 bytes (g * w * 8 + 3 * w) w + more) % 4294967296) ∷ ((bits_in 8 bytes (g * w * 8 + 4 * w) w + more) % 4294967296) ∷ ((bits_in 8 bytes (g * w * 8 + 5 * w) w + more) % 4294967296) ∷ ((bits_in 8 bytes (g * w * 8 + 6 * w) w + more) % 4294967296) ∷ ((bits_in 8 bytes (g * w * 8 + 7 * w) w + more) % 4294967296) ∷ [])
+    → take (8 * g + 8) new ++ drop (8 * g + 8) (raised more (unpacked w bytes)) ≡ raised more (unpacked w bytes)
+raised_eight-more more w g bytes out new few narrow one h written =
+    let entries : List ℕ = bits_in 8 bytes (g * w * 8 + 0 * w) w ∷ bits_in 8 bytes (g * w * 8 + 1 * w) w ∷ bits_in 8 bytes (g * w * 8 + 2 * w) w ∷ bits_in 8 bytes (g * w * 8 + 3 * w) w ∷ bits_in 8 bytes (g * w * 8 + 4 * w) w ∷ bits_in 8 bytes (g * w * 8 + 5 * w) w ∷ bits_in 8 bytes (g * w * 8 + 6 * w) w ∷ bits_in 8 bytes (g * w * 8 + 7 * w) w ∷ [] in
+    filling-more (8 * g) 8 (raised more (unpacked w bytes)) out new (raised more entries) h
+    (raised_more more (8 * g) 8 (unpacked w bytes) entries (block_eight w g bytes few))
+    (written ∙ ap (λ (xs : List ℕ). take (8 * g) out ++ xs) (raised_eight bytes g w more narrow one))
+
+raised_four : (bytes : List ℕ) (at w first more : ℕ) → w ≤ 25 → more ≤ 1
+    → ((bits_in 8 bytes (at * 8 + (first + 0 * w)) w + more) % 4294967296) ∷ ((bits_in 8 bytes (at * 8 + (first + 1 * w)) w + more) % 4294967296) ∷ ((bits_in 8 bytes (at * 8 + (first + 2 * w)) w + more) % 4294967296) ∷ ((bits_in 8 bytes (at * 8 + (first + 3 * w)) w + more) % 4294967296) ∷ []
+    ≡ raised more (bits_in 8 bytes (at * 8 + (first + 0 * w)) w ∷ bits_in 8 bytes (at * 8 + (first + 1 * w)) w ∷ bits_in 8 bytes (at * 8 + (first + 2 * w)) w ∷ bits_in 8 bytes (at * 8 + (first + 3 * w)) w ∷ [])
+raised_four bytes at w first more narrow one =
+    cons_same (raise_lane bytes (at * 8 + (first + 0 * w)) w more narrow one) (cons_same (raise_lane bytes (at * 8 + (first + 1 * w)) w more narrow one) (cons_same (raise_lane bytes (at * 8 + (first + 2 * w)) w more narrow one) (cons_same (raise_lane bytes (at * 8 + (first + 3 * w)) w more narrow one) refl)))
+
+-- four entries are raised
+pub raised_four-more : (more w k at first : ℕ) (bytes out new : List ℕ) → k + 4 ≤ 128 → at * 8 + first ≡ k * w → w ≤ 25 → more ≤ 1 → take k out ++ drop k (raised more (unpacked w bytes)) ≡ raised more (unpacked w bytes)
+    → take (k + 4) new ≡ take k out ++ (((bits_in 8 bytes (at * 8 + (first + 0 * w)) w + more) % 4294967296) ∷ ((bits_in 8 bytes (at * 8 + (first + 1 * w)) w + more) % 4294967296) ∷ ((bits_in 8 bytes (at * 8 + (first + 2 * w)) w + more) % 4294967296) ∷ ((bits_in 8 bytes (at * 8 + (first + 3 * w)) w + more) % 4294967296) ∷ [])
+    → take (k + 4) new ++ drop (k + 4) (raised more (unpacked w bytes)) ≡ raised more (unpacked w bytes)
+raised_four-more more w k at first bytes out new few here narrow one h written =
+    let entries : List ℕ = bits_in 8 bytes (at * 8 + (first + 0 * w)) w ∷ bits_in 8 bytes (at * 8 + (first + 1 * w)) w ∷ bits_in 8 bytes (at * 8 + (first + 2 * w)) w ∷ bits_in 8 bytes (at * 8 + (first + 3 * w)) w ∷ [] in
+    filling-more k 4 (raised more (unpacked w bytes)) out new (raised more entries) h
+    (raised_more more k 4 (unpacked w bytes) entries (block_four w k at first bytes few here))
+    (written ∙ ap (λ (xs : List ℕ). take k out ++ xs) (raised_four bytes at w first more narrow one))
+
+pub length-raised : (more w : ℕ) (bytes : List ℕ) → length (raised more (unpacked w bytes)) ≡ 128
+length-raised more w bytes = length-map (unpacked w bytes) (λ (e : ℕ). e + more) ∙ length-unpacked w bytes

@@ -30,6 +30,10 @@ sorted_values strict offset es = values_from (gap_of strict) (least_first strict
 abbrev pub sorted_entries : Bool → ℕ → List ℕ → List ℕ
 sorted_entries strict offset vs = entries_from (gap_of strict) (least_first strict offset) vs
 
+-- entries, each raised by a number
+abbrev pub raised : ℕ → List ℕ → List ℕ
+raised more es = map (λ e. e + more) es
+
 -- the values of an unsorted block, each lowered by one or as it is
 abbrev pub unsorted_values : Bool → List ℕ → List ℕ
 unsorted_values true es = map (λ e. e + 1) es

@@ -1,5 +1,5 @@
 -- Rows of entries of w bits each, one after the other, the lowest bit first. Bytes are a row of entries of 8 bits.
-use Rattle.std.specs.Prelude.{◌≡◌, ◌↔◌, ℕ, zero, suc, ◌+◌, ◌*◌, ◌/◌, ◌%◌, ◌^◌, ◌<◌, ◌≤◌, max, List, [], ◌∷◌, length, map, slice_index, nat_le}
+use Rattle.std.specs.Prelude.{◌≡◌, ◌↔◌, ℕ, zero, suc, ◌+◌, ◌*◌, ◌/◌, ◌%◌, ◌^◌, ◌<◌, ◌≤◌, max, List, [], ◌∷◌, length, take, map, slice_index, nat_le}
 use Rattle.std.specs.Int.{bit_at}
 use Rattle.std.specs.List.{count_by, range_with_len}
 
@@ -30,6 +30,11 @@ pub record IsPacked (w : ℕ) (bytes entries : List ℕ) : Type 0 where
   pub many : length entries ≡ 128
   pub fits : (k : ℕ) → k < 128 → slice_index entries k < 2 ^ w
   pub bits : (k i : ℕ) → k < 128 → i < w → bit_at (slice_index entries k) i ≡ bit_in 8 bytes (k * w + i)
+
+-- The first k entries are packed: whole words of 32 bits stand at the front of the bytes, and the bits after these in a word.
+pub record IsPackedUpTo (w k word : ℕ) (entries bytes : List ℕ) : Type 0 where
+  pub whole : take (4 * (k * w / 32)) bytes ≡ entries_in w 8 (4 * (k * w / 32)) entries
+  pub rest : word ≡ bits_in w entries (k * w / 32 * 32) (k * w % 32)
 
 -- how many bits a number below 2 ^ 64 takes: how many powers of two are not above it
 unfoldable pub num_bits : ℕ → ℕ

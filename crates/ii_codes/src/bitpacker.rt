@@ -18,6 +18,7 @@ pub fn compute_num_bits(n: u64) -> u8
 
 /// The number that `num_bits` bits of `bytes`, at most 56, make from bit `addr_bits` on, the lowest
 /// first. Bit `j` of bytes is bit `j % 8` of byte `j / 8`.
+#[inline(always)]
 pub fn extract_bits(bytes: &[u8], addr_bits: usize, num_bits: u8) -> u64
     requires narrow { num_bits ≤ 56 }
     requires within { addr_bits + num_bits ≤ 8 * length bytes.now }

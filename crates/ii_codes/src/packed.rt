@@ -4,8 +4,8 @@ ghost use Rattle.std.specs.List.{sum};
 ghost use Rattle.std.specs.List.Sorted.{IsStrictlyIncreasing};
 ghost use Rattle.std.specs.Option.{option_map};
 ghost use Rattle.std.specs.Int.{bytes_low_first};
-ghost use Rattle.ii_codes.specs.Packed.{bits_in, unpacked, packed, least_width, HoldsWhatIsUnpacked, HoldsWhatIsPacked, HoldsFromLeastWidth};
-ghost use Rattle.ii_codes.specs.Blocks.{gap_of, least_first, values_from, sorted_entries, unsorted_values, unsorted_entries, sorted_block_at, unsorted_block_at, sorted_width, sorted_bytes, unsorted_width, unsorted_bytes, ReadsSortedBlocks, ReadsUnsortedBlocks};
+ghost use Rattle.ii_codes.specs.Packed.{bits_in, unpacked, packed, least_width, IsPackedUpTo, HoldsWhatIsUnpacked, HoldsWhatIsPacked, HoldsFromLeastWidth};
+ghost use Rattle.ii_codes.specs.Blocks.{gap_of, least_first, raised, values_from, sorted_entries, unsorted_values, unsorted_entries, sorted_block_at, unsorted_block_at, sorted_width, sorted_bytes, unsorted_width, unsorted_bytes, ReadsSortedBlocks, ReadsUnsortedBlocks};
 ghost use Rattle.ii_codes.specs.Sums.{fit_u32};
 
 use super::{COMPRESSION_BLOCK_SIZE, compressed_block_size};
@@ -27,6 +27,8 @@ fn window(bytes: &[u8]) -> u64
 }
 
 /// Fewer than eight bytes, and zero bytes after them.
+#[cold]
+#[inline(never)]
 fn padded(bytes: &[u8]) -> [u8; 8]
     requires { length bytes.now < 8 }
     ensures { result ≡ bytes.now ++ replicate (8 - length bytes.now) 0 }
@@ -72,63 +74,66 @@ fn entry_of(bytes: &[u8], width: usize, group: usize, i: usize) -> u32
     ((window >> (bit % 8)) % (1 << width)) as u32
 }
 
-/// Unpacks entries of a width that is known where this is compiled, so that shifts are constants.
-/// Eight bytes more than the block's are at hand.
+/// Unpacks entries of a width that is known where this is compiled, so that shifts are constants,
+/// each raised by `more`. Eight bytes more than the block's are at hand.
 #[inline(never)]
-fn unpack_width<const W: usize>(bytes: &[u8], output: &mut [u32])
+fn unpack_width<const W: usize>(bytes: &[u8], more: u32, output: &mut [u32])
     requires narrow { W ≤ 32 }
     requires enough { 16 * W + 8 ≤ length bytes.now }
     requires room { length output.old ≡ 128 }
-    ensures { output.new ≡ unpacked W bytes.now }
+    requires fits { 2 ^ W + more ≤ 2 ^ 32 }
+    ensures { output.new ≡ raised more (unpacked W bytes.now) }
 {
     for group in 0..16usize {
         for i in 0..8usize {
-            output[8 * group + i] = entry_of(bytes, W, group, i);
+            output[8 * group + i] = entry_of(bytes, W, group, i) + more;
         }
     }
 }
 
-/// Unpacks entries, where sixteen bytes more than the block's are at hand.
-fn unpack_from(bytes: &[u8], width: u8, output: &mut [u32])
+/// Unpacks entries, each raised by `more`, where sixteen bytes more than the block's are at hand.
+fn unpack_from(bytes: &[u8], width: u8, more: u32, output: &mut [u32])
     requires narrow { width ≤ 32 }
     requires enough { 16 * width + 16 ≤ length bytes.now }
     requires room { length output.old ≡ 128 }
-    ensures { output.new ≡ unpacked width bytes.now }
+    requires more { more ≤ 1 }
+    requires fits { width ≡ 32 → more ≡ 0 }
+    ensures { output.new ≡ raised more (unpacked width bytes.now) }
 {
     match width {
-        0 => unpack_width::<0>(bytes, output),
-        1 => unpack_narrow::<1>(bytes, output),
-        2 => unpack_narrow::<2>(bytes, output),
-        3 => unpack_narrow::<3>(bytes, output),
-        4 => unpack_narrow::<4>(bytes, output),
-        5 => unpack_narrow::<5>(bytes, output),
-        6 => unpack_narrow::<6>(bytes, output),
-        7 => unpack_narrow::<7>(bytes, output),
-        8 => unpack_narrow::<8>(bytes, output),
-        9 => unpack_narrow::<9>(bytes, output),
-        10 => unpack_wide::<10>(bytes, output),
-        11 => unpack_wide::<11>(bytes, output),
-        12 => unpack_wide::<12>(bytes, output),
-        13 => unpack_wide::<13>(bytes, output),
-        14 => unpack_wide::<14>(bytes, output),
-        15 => unpack_wide::<15>(bytes, output),
-        16 => unpack_wide::<16>(bytes, output),
-        17 => unpack_wide::<17>(bytes, output),
-        18 => unpack_wide::<18>(bytes, output),
-        19 => unpack_wide::<19>(bytes, output),
-        20 => unpack_wide::<20>(bytes, output),
-        21 => unpack_wide::<21>(bytes, output),
-        22 => unpack_wide::<22>(bytes, output),
-        23 => unpack_wide::<23>(bytes, output),
-        24 => unpack_wide::<24>(bytes, output),
-        25 => unpack_wide::<25>(bytes, output),
-        26 => unpack_width::<26>(bytes, output),
-        27 => unpack_width::<27>(bytes, output),
-        28 => unpack_width::<28>(bytes, output),
-        29 => unpack_width::<29>(bytes, output),
-        30 => unpack_width::<30>(bytes, output),
-        31 => unpack_width::<31>(bytes, output),
-        _ => unpack_width::<32>(bytes, output),
+        0 => unpack_width::<0>(bytes, more, output),
+        1 => unpack_narrow::<1>(bytes, more, output),
+        2 => unpack_narrow::<2>(bytes, more, output),
+        3 => unpack_narrow::<3>(bytes, more, output),
+        4 => unpack_narrow::<4>(bytes, more, output),
+        5 => unpack_narrow::<5>(bytes, more, output),
+        6 => unpack_narrow::<6>(bytes, more, output),
+        7 => unpack_narrow::<7>(bytes, more, output),
+        8 => unpack_narrow::<8>(bytes, more, output),
+        9 => unpack_narrow::<9>(bytes, more, output),
+        10 => unpack_wide::<10>(bytes, more, output),
+        11 => unpack_wide::<11>(bytes, more, output),
+        12 => unpack_wide::<12>(bytes, more, output),
+        13 => unpack_wide::<13>(bytes, more, output),
+        14 => unpack_wide::<14>(bytes, more, output),
+        15 => unpack_wide::<15>(bytes, more, output),
+        16 => unpack_wide::<16>(bytes, more, output),
+        17 => unpack_wide::<17>(bytes, more, output),
+        18 => unpack_wide::<18>(bytes, more, output),
+        19 => unpack_wide::<19>(bytes, more, output),
+        20 => unpack_wide::<20>(bytes, more, output),
+        21 => unpack_wide::<21>(bytes, more, output),
+        22 => unpack_wide::<22>(bytes, more, output),
+        23 => unpack_wide::<23>(bytes, more, output),
+        24 => unpack_wide::<24>(bytes, more, output),
+        25 => unpack_wide::<25>(bytes, more, output),
+        26 => unpack_width::<26>(bytes, more, output),
+        27 => unpack_width::<27>(bytes, more, output),
+        28 => unpack_width::<28>(bytes, more, output),
+        29 => unpack_width::<29>(bytes, more, output),
+        30 => unpack_width::<30>(bytes, more, output),
+        31 => unpack_width::<31>(bytes, more, output),
+        _ => unpack_width::<32>(bytes, more, output),
     }
 }
 
@@ -142,19 +147,21 @@ fn padded_block(bytes: &[u8]) -> [u8; PADDED_BLOCK_SIZE]
     block
 }
 
-/// Puts the 128 entries of `width` bits that `bytes` begin with into `output`.
-pub(crate) fn unpack(bytes: &[u8], width: u8, output: &mut [u32])
+/// Puts the 128 entries of `width` bits that `bytes` begin with into `output`, each raised by `more`.
+pub(crate) fn unpack(bytes: &[u8], width: u8, more: u32, output: &mut [u32])
     requires narrow { width ≤ 32 }
     requires enough { 16 * width ≤ length bytes.now }
     requires room { length output.old ≡ 128 }
-    ensures { output.new ≡ unpacked width bytes.now }
+    requires more { more ≤ 1 }
+    requires fits { width ≡ 32 → more ≡ 0 }
+    ensures { output.new ≡ raised more (unpacked width bytes.now) }
 {
     let size = compressed_block_size(width);
     if bytes.len() - size >= 16 {
-        unpack_from(bytes, width, output);
+        unpack_from(bytes, width, more, output);
         return;
     }
-    unpack_from(&padded_block(&bytes[..size]), width, output);
+    unpack_from(&padded_block(&bytes[..size]), width, more, output);
 }
 
 /// Writes a word of 32 bits at byte `end`, the lowest byte first.
@@ -164,6 +171,38 @@ fn put_word(output: &mut [u8], end: usize, word: u32)
     ensures { take (end + 4) output.new ≡ take end output.old ++ bytes_low_first 0 4 word }
 {
     LittleEndian::write_u32(&mut output[end..], word);
+}
+
+/// Adds eight of the 32 entries that begin at byte `4 * group * W` to `left`, which has the bits
+/// after the last whole word, and writes the words that are then whole. Answers the bits after them.
+#[inline(always)]
+fn pack_eight<const W: usize>(
+    entries: &[u32],
+    group: usize,
+    first: usize,
+    left: u64,
+    output: &mut [u8],
+) -> u64
+    requires many { length entries.now ≡ 128 }
+    requires narrow { W ≤ 32 }
+    requires group { group < 4 }
+    requires near { first ≤ 24 }
+    requires room { 16 * W ≤ length output.old }
+    requires before { IsPackedUpTo W (32 * group + first) left entries.now output.old }
+    ensures { IsPackedUpTo W (32 * group + (first + 8)) result entries.now output.new }
+{
+    let mut word = left;
+    for i in first..first + 8 {
+        let bits = i * W % 32;
+        word += (u64::from(entries[32 * group + i]) % (1 << W)) << bits;
+        if bits + W < 32 {
+            continue;
+        }
+        let end = 4 * (group * W + i * W / 32);
+        put_word(output, end, (word % (1 << 32)) as u32);
+        word >>= 32;
+    }
+    word
 }
 
 /// Packs entries of a width that is known where this is compiled, so that shifts are constants:
@@ -176,20 +215,10 @@ fn pack_width<const W: usize>(entries: &[u32], output: &mut [u8])
     ensures { take (16 * W) output.new ≡ packed W entries.now }
 {
     for group in 0..4usize {
-        let mut end = 4 * group * W;
-        let mut word = 0u64;
-        let mut bits = 0;
-        for i in 0..32usize {
-            word += (u64::from(entries[32 * group + i]) % (1 << W)) << bits;
-            bits += W;
-            if bits < 32 {
-                continue;
-            }
-            put_word(output, end, (word % (1 << 32)) as u32);
-            end += 4;
-            word >>= 32;
-            bits -= 32;
-        }
+        let word = pack_eight::<W>(entries, group, 0, 0, output);
+        let word = pack_eight::<W>(entries, group, 8, word, output);
+        let word = pack_eight::<W>(entries, group, 16, word, output);
+        pack_eight::<W>(entries, group, 24, word, output);
     }
 }
 
@@ -476,11 +505,9 @@ fn strict_deltas(block: &[u32], offset: u32) -> [u32; COMPRESSION_BLOCK_SIZE]
     ensures { result ≡ sorted_entries true offset block.now }
 {
     let mut entries = [0u32; COMPRESSION_BLOCK_SIZE];
-    let mut least = least_first(true, offset);
-    for k in 0..COMPRESSION_BLOCK_SIZE {
-        let value = u64::from(block[k]);
-        entries[k] = (value - least) as u32;
-        least = value + 1;
+    entries[0] = (u64::from(block[0]) - least_first(true, offset)) as u32;
+    for k in 1..COMPRESSION_BLOCK_SIZE {
+        entries[k] = block[k] - block[k - 1] - 1;
     }
     entries
 }
@@ -590,10 +617,15 @@ pub(crate) fn unpack_unsorted(
     if bytes.len() < size {
         return None;
     }
-    unpack(bytes, width, output);
     if !minus_one {
+        unpack(bytes, width, 0, output);
         return Some(size);
     }
+    if width < 32 {
+        unpack(bytes, width, 1, output);
+        return Some(size);
+    }
+    unpack(bytes, width, 0, output);
     if add_one(output) { Some(size) } else { None }
 }
 

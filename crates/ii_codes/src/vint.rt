@@ -1,8 +1,7 @@
 ghost use Rattle.std.specs.Prelude.{◌≡◌, ℕ, ◌+◌, ◌*◌, ◌<◌, ◌≤◌, length, drop, take, Some, IsSome, IfSome};
-ghost use Rattle.std.specs.Bool.{OnTrue};
 ghost use Rattle.std.specs.Option.{option_map};
 ghost use Rattle.ii_io.specs.Vints.{u32_at, u32s_at};
-ghost use Rattle.ii_codes.specs.Sums.{DoNotFall, fit_u32, running_sums};
+ghost use Rattle.ii_codes.specs.Sums.{DoNotFall};
 ghost use Rattle.ii_codes.specs.SortedVints.{sorted_vints_at, sorted_vints, ReadsSortedVintsBack};
 ghost use Rattle.ii_codes.specs.UnsortedVints.{unsorted_vints, u32s_until_end, ReadsUnsortedVintsBack};
 
@@ -39,20 +38,11 @@ pub fn compress_unsorted<'a>(input: &[u32], output: &'a mut [u8]) -> &'a [u8]
     requires room { 5 * length input.now ≤ length output.old }
     ensures { result.now ≡ unsorted_vints input.now }
 {
-    let end = write_unsorted(input, output);
-    &output[..end]
-}
-
-fn write_unsorted(input: &[u32], output: &mut [u8]) -> usize
-    requires room { 5 * length input.now ≤ length output.old }
-    ensures written { take result output.new ≡ unsorted_vints input.now }
-    ensures within { result ≤ length output.old }
-{
     let mut end = 0;
     for value in input {
         end = vint::write_u32(*value, output, end);
     }
-    end
+    &output[..end]
 }
 
 /// Reads as many values as `output` has room for, each the sum of a vint and the value before it,
@@ -80,31 +70,20 @@ pub(crate) fn try_uncompress_sorted(
         ≡ sorted_vints_at offset (length output.old) compressed_data.now }
     ensures within { IfSome result (λ used. used ≤ length compressed_data.now) }
 {
-    let Some(used) = try_uncompress_unsorted(compressed_data, output) else {
-        return None;
-    };
-    if add_up(output, offset) {
-        Some(used)
-    } else {
-        None
-    }
-}
-
-/// Makes each difference the sum of it and the value before it, beginning with `offset`. False where
-/// a value passes `u32::MAX`.
-fn add_up(output: &mut [u32], offset: u32) -> bool
-    ensures fits { result ≡ fit_u32 (running_sums offset output.old) }
-    ensures values { OnTrue result (output.new ≡ running_sums offset output.old) }
-{
-    let mut before = offset;
-    for k in 0..output.len() {
-        let Some(value) = before.checked_add(output[k]) else {
-            return false;
+    let mut used = 0;
+    let mut last = offset;
+    for value in output.iter_mut() {
+        let Some((difference, size)) = read_u32(&compressed_data[used..]) else {
+            return None;
         };
-        output[k] = value;
-        before = value;
+        let Some(sum) = last.checked_add(difference) else {
+            return None;
+        };
+        *value = sum;
+        last = sum;
+        used += size;
     }
-    true
+    Some(used)
 }
 
 /// Reads as many values as `output` has room for. Answers how many bytes they take.
@@ -172,15 +151,31 @@ pub(crate) fn try_uncompress_unsorted_until_end(
     Some(output.len())
 }
 
-/// Reads a number as `ii_io::vint::read_u32` does, of which most have one byte.
+/// Reads a number as `ii_io::vint::read_u32` does, of which most have one byte or two.
 #[inline(always)]
 fn read_u32(bytes: &[u8]) -> Option<(u32, usize)>
     ensures value { option_map (λ read. (read.0, drop read.1 bytes.now)) result ≡ u32_at bytes.now }
     ensures within { IfSome result (λ read. read.1 ≤ length bytes.now) }
 {
-    if !bytes.is_empty() && bytes[0] >= 128 {
+    if bytes.is_empty() {
+        return None;
+    }
+    if bytes[0] >= 128 {
         return Some((u32::from(bytes[0] - 128), 1));
     }
+    if bytes.len() >= 2 && bytes[1] >= 128 {
+        return Some((u32::from(bytes[0]) + 128 * u32::from(bytes[1] - 128), 2));
+    }
+    read_long_u32(bytes)
+}
+
+// Reads one of more bytes, apart from the loops.
+#[cold]
+#[inline(never)]
+fn read_long_u32(bytes: &[u8]) -> Option<(u32, usize)>
+    ensures value { option_map (λ read. (read.0, drop read.1 bytes.now)) result ≡ u32_at bytes.now }
+    ensures within { IfSome result (λ read. read.1 ≤ length bytes.now) }
+{
     vint::read_u32(bytes)
 }
 

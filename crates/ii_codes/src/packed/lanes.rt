@@ -1,7 +1,7 @@
 ghost use Rattle.std.specs.Prelude.{◌≡◌, ℕ, ◌+◌, ◌*◌, ◌/◌, ◌%◌, ◌^◌, map, replicate, ◌<◌, ◌≤◌, ◌∷◌, [], ◌++◌, length, take, slice_index};
 ghost use Rattle.std.specs.Bool.{OnTrue};
 ghost use Rattle.ii_codes.specs.Packed.{bits_in, unpacked};
-ghost use Rattle.ii_codes.specs.Blocks.{values_from};
+ghost use Rattle.ii_codes.specs.Blocks.{values_from, raised};
 ghost use Rattle.ii_codes.specs.Sums.{fit_u32};
 
 use std::simd::prelude::*;
@@ -238,32 +238,36 @@ pub(crate) fn sorted_wide<const W: usize>(
 
 /// Unpacks entries as `unpack_width` does, of at most 9 bits each, eight at a time.
 #[inline(never)]
-pub(crate) fn unpack_narrow<const W: usize>(bytes: &[u8], output: &mut [u32])
+pub(crate) fn unpack_narrow<const W: usize>(bytes: &[u8], more: u32, output: &mut [u32])
     requires some { 1 ≤ W }
     requires narrow { W ≤ 9 }
     requires enough { 16 * W + 16 ≤ length bytes.now }
     requires room { length output.old ≡ 128 }
-    ensures { output.new ≡ unpacked W bytes.now }
+    requires more { more ≤ 1 }
+    ensures { output.new ≡ raised more (unpacked W bytes.now) }
 {
     for group in 0..16usize {
         let entries = eight::<W>(bytes, group * W);
-        put_eight(output, 8 * group, entries.cast::<u32>());
+        let values = entries.cast::<u32>() + u32x8::splat(more);
+        put_eight(output, 8 * group, values);
     }
 }
 
 /// Unpacks entries as `unpack_width` does, of at most 25 bits each, four at a time.
 #[inline(never)]
-pub(crate) fn unpack_wide<const W: usize>(bytes: &[u8], output: &mut [u32])
+pub(crate) fn unpack_wide<const W: usize>(bytes: &[u8], more: u32, output: &mut [u32])
     requires some { 1 ≤ W }
     requires narrow { W ≤ 25 }
     requires enough { 16 * W + 16 ≤ length bytes.now }
     requires room { length output.old ≡ 128 }
-    ensures { output.new ≡ unpacked W bytes.now }
+    requires more { more ≤ 1 }
+    ensures { output.new ≡ raised more (unpacked W bytes.now) }
 {
     for group in 0..16usize {
         let at = group * W;
-        put_four(output, 8 * group, four::<W>(bytes, at, 0));
+        let low = four::<W>(bytes, at, 0);
+        put_four(output, 8 * group, low + u32x4::splat(more));
         let high = four::<W>(bytes, at + W / 2, W % 2 * 4);
-        put_four(output, 8 * group + 4, high);
+        put_four(output, 8 * group + 4, high + u32x4::splat(more));
     }
 }

@@ -72,8 +72,8 @@ fn agree(entries: &[u32; 128], width: u8) -> bool
     let mut short = [7u32; 128];
     let mut long = [7u32; 128];
     let mut slow = [7u32; 128];
-    unpack(&fast[..size], width, &mut short);
-    unpack(&fast, width, &mut long);
+    unpack(&fast[..size], width, 0, &mut short);
+    unpack(&fast, width, 0, &mut long);
     plain_unpack(&plain, width, &mut slow);
     fast == plain && short == *entries && long == *entries && slow == *entries
 }

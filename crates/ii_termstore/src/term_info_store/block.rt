@@ -10,6 +10,7 @@ use ii_codes::extract_bits;
 use std::ops::Range;
 
 // The number of `width` bits at a place after an offset in bytes. No bit is read at width 0.
+#[inline(always)]
 fn number_after(bits: &[u8], offset: u64, place: usize, width: u8) -> u64
     requires narrow { width ≤ MAX_OFFSET_NBITS }
     requires near { place < 65536 }
@@ -25,6 +26,7 @@ fn number_after(bits: &[u8], offset: u64, place: usize, width: u8) -> u64
 
 // A range from two places after a first one. `None` where it ends before it begins, has 2^32 bytes
 // or more, or passes `u64::MAX`.
+#[inline(always)]
 fn range_after(first: usize, start: u64, end: u64) -> Option<Range<usize>>
     ensures { result ≡ (if nat_le start end && nat_lt (end - start) (2 ^ 32) && nat_lt (first + end) (2 ^ 64)
         then Some (record { start = first + start; end = first + end }) else None) }
@@ -39,6 +41,7 @@ fn range_after(first: usize, start: u64, end: u64) -> Option<Range<usize>>
 }
 
 // How many bits the two places of a term after the first take.
+#[inline(always)]
 fn places_bits(meta: &TermInfoBlockMeta) -> usize
     ensures { result ≡ meta.now.postings_offset_nbits + meta.now.positions_offset_nbits }
 {
@@ -46,6 +49,7 @@ fn places_bits(meta: &TermInfoBlockMeta) -> usize
 }
 
 // How many bits a term after the first takes.
+#[inline(always)]
 fn term_bits(meta: &TermInfoBlockMeta) -> usize
     ensures { result ≡ term_bits meta.now }
 {
@@ -54,6 +58,7 @@ fn term_bits(meta: &TermInfoBlockMeta) -> usize
 
 // Where the postings of term `k` begin, counted from the first term's. After the last term stands
 // where its postings end.
+#[inline(always)]
 fn postings_number(meta: &TermInfoBlockMeta, bits: &[u8], terms: usize, k: usize) -> u64
     requires widths { widths_fit meta.now ≡ true }
     requires lie { bits_lie meta.now terms (length bits.now) ≡ true }
@@ -66,6 +71,7 @@ fn postings_number(meta: &TermInfoBlockMeta, bits: &[u8], terms: usize, k: usize
 }
 
 // Where its positions begin, likewise.
+#[inline(always)]
 fn positions_number(meta: &TermInfoBlockMeta, bits: &[u8], terms: usize, k: usize) -> u64
     requires widths { widths_fit meta.now ≡ true }
     requires lie { bits_lie meta.now terms (length bits.now) ≡ true }
@@ -78,6 +84,7 @@ fn positions_number(meta: &TermInfoBlockMeta, bits: &[u8], terms: usize, k: usiz
 }
 
 // In how many documents term `k` is.
+#[inline(always)]
 fn doc_freq_number(meta: &TermInfoBlockMeta, bits: &[u8], terms: usize, k: usize) -> u32
     requires widths { widths_fit meta.now ≡ true }
     requires lie { bits_lie meta.now terms (length bits.now) ≡ true }
@@ -90,6 +97,7 @@ fn doc_freq_number(meta: &TermInfoBlockMeta, bits: &[u8], terms: usize, k: usize
 }
 
 // Term `k` of a block of so many terms, or `None` where it isn't sound.
+#[inline(always)]
 pub(super) fn sound_info(
     meta: &TermInfoBlockMeta,
     bits: &[u8],

@@ -1,6 +1,6 @@
 use Rattle.std.proofs.Common.{◌≡◌, ◌*◌, ◌≤◌, ◌++◌, take, drop}
 use Rattle.ii_codes.specs.UnsortedVints.{unsorted_vints}
-use Rattle.ii_codes.proofs.vint.write_unsorted.Given as goal
+use Rattle.ii_codes.proofs.vint.compress_unsorted.Given as goal
 
 abbrev pub invariant-loop-value : goal.invariant-loop-value
 invariant-loop-value l = record {
