@@ -55,13 +55,15 @@ fn constants_answer_for_any_document(rt: HostRuntime) -> Result<(), Fail> {
 fn two_fields(alloc: Global) -> Result<Schema, AllocError>
     ensures { IfOk result (λ schema. empty_buffers schema ≡ Some [] ∷ None ∷ []) }
 {
-    let option = IndexRecordOption::WithFreqs;
-    let text = FieldEntry::text(String::from_str(alloc, "text")?, option, true);
-    let number = FieldEntry::value(String::from_str(alloc, "number")?, ValueType::U64, false);
-    Ok(Schema::new(vec![in alloc; text, number]?))
+    let mut entries = Vec::new(alloc);
+    let name = String::from_str(alloc, "text")?;
+    entries.push(FieldEntry::text(name, IndexRecordOption::WithFreqs, true))?;
+    let name = String::from_str(alloc, "number")?;
+    entries.push(FieldEntry::value(name, ValueType::U64, false))?;
+    Ok(Schema::new(entries))
 }
 
-const TWO_NORMS: [u8; 26] = [
+static TWO_NORMS: [u8; 26] = [
     0x0D, 2, 0, 0, 0, 0, 0, 0, 0, 0, 0, 0, 0, 0, 2, 0, 0, 0, 0, 0, 0, 0, 1, 0, 0, 0,
 ];
 
@@ -90,16 +92,27 @@ fn norms_are_written(rt: HostRuntime) -> Result<(), Fail> {
     Ok(())
 }
 
+// A copy of the readers of that file.
+fn two_readers(alloc: Global) -> Result<FieldNormReaders, Fault> {
+    Ok(FieldNormReaders::open(alloc, Bytes::from_static(&TWO_NORMS))?.clone()?)
+}
+
+// The norms of the two documents of field 0, if it has so many.
+fn norms_in(readers: &FieldNormReaders) -> Result<Option<(u32, u32)>, Fault> {
+    let Some(reader) = readers.get_field(Field::from_field_id(0))? else {
+        return Ok(None);
+    };
+    if reader.num_docs() != 2 {
+        return Ok(None);
+    }
+    Ok(Some((reader.fieldnorm(0), reader.fieldnorm(1))))
+}
+
 #[test]
 fn norms_are_read(rt: HostRuntime) -> Result<(), Fail> {
-    let readers = FieldNormReaders::open(rt.alloc(), Bytes::from_static(&TWO_NORMS))?.clone()?;
-    assert!(rt; readers.get_field(Field::from_field_id(1))?.is_none());
-    let reader = readers.get_field(Field::from_field_id(0))?.ok_or("norms")?;
-    assert!(rt; reader.num_docs() == 2);
-    for doc in 0..reader.num_docs() {
-        let norm = if doc == 0 { 13 } else { 2 };
-        assert!(rt; reader.fieldnorm(doc) == norm);
-    }
+    let readers = two_readers(rt.alloc())?;
+    assert!(rt; !has_some(&readers, 1)?);
+    assert!(rt; norms_in(&readers)? == Some((13, 2)));
     Ok(())
 }
 
@@ -118,6 +131,13 @@ fn norms_are_filled_up_and_cut(rt: HostRuntime) -> Result<(), Fail> {
     Ok(())
 }
 
+// Adds a field's number, and where its one byte begins and ends.
+fn push_place(bytes: &mut Vec<u8>, field: u32, start: u64) -> Result<(), AllocError> {
+    bytes.extend_from_slice(&field.to_le_bytes())?;
+    bytes.extend_from_slice(&start.to_le_bytes())?;
+    bytes.extend_from_slice(&start.saturating_add(1).to_le_bytes())
+}
+
 // The file of a thousand fields, each with one document: field `f` at byte `f`, whose norm is its
 // number's rest by 40. The last of them stands under the number `last`.
 fn thousand_fields(alloc: Global, last: u32) -> Result<Vec<u8>, AllocError> {
@@ -127,43 +147,56 @@ fn thousand_fields(alloc: Global, last: u32) -> Result<Vec<u8>, AllocError> {
     }
     for f in 0..1000u32 {
         let field = if f == 999 { last } else { f };
-        bytes.extend_from_slice(&field.to_le_bytes())?;
-        bytes.extend_from_slice(&u64::from(f).to_le_bytes())?;
-        bytes.extend_from_slice(&(u64::from(f) + 1).to_le_bytes())?;
+        push_place(&mut bytes, field, u64::from(f))?;
     }
     bytes.extend_from_slice(&1000u32.to_le_bytes())?;
     Ok(bytes)
 }
 
+// The readers of that file.
+fn thousand_readers(alloc: Global, last: u32) -> Result<FieldNormReaders, Fault> {
+    let bytes = thousand_fields(alloc, last)?;
+    FieldNormReaders::open(alloc, Bytes::from_vec(bytes)?)
+}
+
+// Whether a field has one document, of this norm.
+fn has_norm(readers: &FieldNormReaders, field: u32, norm: u32) -> Result<bool, Fault> {
+    let Some(reader) = readers.get_field(Field::from_field_id(field))? else {
+        return Ok(false);
+    };
+    if reader.num_docs() != 1 {
+        return Ok(false);
+    }
+    Ok(reader.fieldnorm(0) == norm)
+}
+
+// Whether a field has norms.
+fn has_some(readers: &FieldNormReaders, field: u32) -> Result<bool, Fault> {
+    Ok(readers.get_field(Field::from_field_id(field))?.is_some())
+}
+
 #[test]
 fn each_of_a_thousand_fields_is_read(rt: HostRuntime) -> Result<(), Fail> {
-    let bytes = Bytes::from_vec(thousand_fields(rt.alloc(), 999)?)?;
-    let readers = FieldNormReaders::open(rt.alloc(), bytes)?;
+    let readers = thousand_readers(rt.alloc(), 999)?;
     for f in 0..1000u32 {
-        let reader = readers.get_field(Field::from_field_id(f))?.ok_or("norms")?;
-        assert!(rt; reader.num_docs() == 1, "field {f}");
-        for doc in 0..reader.num_docs() {
-            assert!(rt; reader.fieldnorm(doc) == f % 40, "field {f}");
-        }
+        assert!(rt; has_norm(&readers, f, f % 40)?, "field {f}");
     }
-    assert!(rt; readers.get_field(Field::from_field_id(1000))?.is_none());
+    assert!(rt; !has_some(&readers, 1000)?);
     Ok(())
 }
 
 #[test]
 fn a_field_among_a_thousand_is_not_repeated(rt: HostRuntime) -> Result<(), Fail> {
     for last in [0, 7, 998] {
-        let bytes = Bytes::from_vec(thousand_fields(rt.alloc(), last)?)?;
-        let answer = FieldNormReaders::open(rt.alloc(), bytes);
+        let fault = thousand_readers(rt.alloc(), last).err();
         assert!(rt;
-            matches!(answer.err(), Some(Fault::Damaged(Part::Composite))),
+            fault == Some(Fault::Damaged(Part::Composite)),
             "field {last} twice"
         );
     }
-    let bytes = Bytes::from_vec(thousand_fields(rt.alloc(), u32::MAX)?)?;
-    let readers = FieldNormReaders::open(rt.alloc(), bytes)?;
-    assert!(rt; readers.get_field(Field::from_field_id(u32::MAX))?.is_some());
-    assert!(rt; readers.get_field(Field::from_field_id(999))?.is_none());
+    let readers = thousand_readers(rt.alloc(), u32::MAX)?;
+    assert!(rt; has_some(&readers, u32::MAX)?);
+    assert!(rt; !has_some(&readers, 999)?);
     Ok(())
 }
 

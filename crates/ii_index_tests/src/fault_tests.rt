@@ -1,13 +1,13 @@
-use crate::memory_index::{Index, text_and_number, text_call, texts, write_to, writers, written};
-use ii_base::{CountingWriter, FailingWriter, Fault, Field, LimitName, Token, TokenList};
+use crate::indexer_tests::last_token;
+use crate::memory_index::{Index, text_and_number, text_calls, texts, write_to, writers, written};
+use ii_base::{CountingWriter, FailingWriter, Fault, Field, LimitName};
 use ii_indexing::{IndexCall, IndexWriters};
 use std::alloc::Global;
 use std::test::Fail;
 
 // A word in document 0, a number in document 1.
 fn two_calls(alloc: Global) -> Result<Vec<IndexCall>, Fault> {
-    let mut calls = Vec::new(alloc);
-    calls.push(text_call(alloc, 0, 0, "a b")?)?;
+    let mut calls = text_calls(alloc, &[(0, 0, "a b")])?;
     calls.push(IndexCall::U64(1, Field::from_field_id(1), 7))?;
     Ok(calls)
 }
@@ -84,69 +84,61 @@ enum Ending {
     Other,
 }
 
-fn end_of_run(alloc: Global, right: &Index, place: u32, call: u64) -> Result<Ending, Fault> {
-    let (writers, answer) = run(alloc, (place, call))?;
+// The ending of which writers and an answer tell.
+fn ending_of(
+    writers: IndexWriters<FailingWriter>,
+    answer: Result<(), Fault>,
+    place: u32,
+    right: &Index,
+) -> Ending {
+    let failing = if answer == Ok(()) { 4 } else { place };
+    if !are_handed_back(writers, failing, right) {
+        return Ending::Other;
+    }
     match answer {
-        Ok(()) => {
-            if are_handed_back(writers, 4, right) {
-                Ok(Ending::Written)
-            } else {
-                Ok(Ending::Other)
-            }
-        }
-        Err(fault) => {
-            if fault == Fault::Write && are_handed_back(writers, place, right) {
-                Ok(Ending::Told)
-            } else {
-                Ok(Ending::Other)
-            }
-        }
+        Ok(()) => Ending::Written,
+        Err(Fault::Write) => Ending::Told,
+        Err(_) => Ending::Other,
     }
 }
 
-// How many calls of the writer at a place are told when they fail, up to the first run that meets none.
-fn told_calls(alloc: Global, place: u32) -> Result<Option<u64>, Fault> {
-    let right = two_fields(alloc)?;
+fn end_of_run(alloc: Global, right: &Index, place: u32, call: u64) -> Result<Ending, Fault> {
+    let (writers, answer) = run(alloc, (place, call))?;
+    Ok(ending_of(writers, answer, place, right))
+}
+
+// How many calls of the writer at a place are told when they fail, up to the first run that meets
+// none; 0 if another isn't.
+fn told_calls(alloc: Global, right: &Index, place: u32) -> Result<u64, Fault> {
     for call in 1..100 {
-        match end_of_run(alloc, &right, place, call)? {
+        match end_of_run(alloc, right, place, call)? {
             Ending::Told => (),
-            Ending::Written => return Ok(Some(call - 1)),
-            Ending::Other => return Ok(None),
+            Ending::Written => return Ok(call - 1),
+            Ending::Other => return Ok(0),
         }
     }
-    Ok(None)
+    Ok(0)
 }
 
 // Whether each call was told, at least a write and a flush.
 fn are_told(alloc: Global, place: u32) -> Result<bool, Fault> {
-    match told_calls(alloc, place)? {
-        Some(calls) => Ok(calls >= 2),
-        None => Ok(false),
-    }
+    let right = two_fields(alloc)?;
+    Ok(told_calls(alloc, &right, place)? >= 2)
 }
 
 #[test]
 fn a_failing_writer_is_told(rt: HostRuntime) -> Result<(), Fail> {
-    assert!(rt; are_told(rt.alloc(), 0)?, "terms");
-    assert!(rt; are_told(rt.alloc(), 1)?, "postings");
-    assert!(rt; are_told(rt.alloc(), 2)?, "positions");
-    assert!(rt; are_told(rt.alloc(), 3)?, "fieldnorms");
+    // of terms, postings, positions, norms
+    for place in 0..4 {
+        assert!(rt; are_told(rt.alloc(), place)?, "writer {place}");
+    }
     Ok(())
 }
 
 // A text of document 0, and after it a token of no length at the last position.
 fn refused_calls(alloc: Global) -> Result<Vec<IndexCall>, Fault> {
-    let mut tokens = Vec::new(alloc);
-    tokens.push(Token {
-        offset_from: 0,
-        offset_to: 1,
-        position: 4294967295,
-        text: String::from_str(alloc, "a")?,
-        position_length: 0,
-    })?;
-    let tokens = TokenList::new(tokens);
-    let mut calls = Vec::new(alloc);
-    calls.push(text_call(alloc, 0, 0, "a b")?)?;
+    let tokens = last_token(alloc)?;
+    let mut calls = text_calls(alloc, &[(0, 0, "a b")])?;
     calls.push(IndexCall::Tokens(1, Field::from_field_id(0), tokens))?;
     Ok(calls)
 }
@@ -160,12 +152,17 @@ pub(crate) fn are_untouched(writers: &IndexWriters<Vec<u8>>) -> bool {
     all
 }
 
-#[test]
-fn refused_calls_write_nothing(rt: HostRuntime) -> Result<(), Fail> {
-    let alloc = rt.alloc();
+// The fault of these calls, and whether nothing was written.
+fn refused(alloc: Global) -> Result<(bool, Result<(), Fault>), Fault> {
     let calls = refused_calls(alloc)?;
     let (writers, answer) = write_to(alloc, texts(alloc, true)?, 2, calls, writers(alloc))?;
+    Ok((are_untouched(&writers), answer))
+}
+
+#[test]
+fn refused_calls_write_nothing(rt: HostRuntime) -> Result<(), Fail> {
+    let (is_untouched, answer) = refused(rt.alloc())?;
+    assert!(rt; is_untouched);
     assert!(rt; answer == Err(Fault::Limit(LimitName::Position)));
-    assert!(rt; are_untouched(&writers));
     Ok(())
 }

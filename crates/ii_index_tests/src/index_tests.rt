@@ -1,6 +1,6 @@
 use crate::memory_index::{
-    FULL, Index, counts, found, numbers, postings_of, text_and_number, text_call, texts, two_texts,
-    written, written_texts,
+    FULL, Index, found, numbers, postings_of, push_counts, text_and_number, text_calls, texts,
+    told, two_texts, written, written_texts,
 };
 use bytes::Bytes;
 use ii_base::{Fault, Field, Schema, Term};
@@ -20,16 +20,36 @@ fn found_number(alloc: Global, index: &Index, field: u32, number: u64) -> Result
     postings_of(alloc, index, &term, FULL)
 }
 
+// An index of no calls.
+fn empty(alloc: Global) -> Result<Index, Fault> {
+    written(alloc, texts(alloc, false)?, 0, Vec::new(alloc))
+}
+
+// Whether each file is one without bodies.
+fn has_no_bodies(index: &Index) -> bool {
+    let mut none = index.terms.as_slice() == NONE.as_slice();
+    none &= index.postings.as_slice() == NONE.as_slice();
+    none &= index.positions.as_slice() == NONE.as_slice();
+    none &= index.fieldnorms.as_slice() == NONE.as_slice();
+    none
+}
+
+// Whether an index has neither bodies nor terms.
+fn has_nothing_in(alloc: Global, index: &Index) -> Result<bool, Fault> {
+    if !has_no_bodies(index) {
+        return Ok(false);
+    }
+    Ok(told(alloc, index, &[(0, "a")])?.as_str() == "; 0 tokens of 0 terms")
+}
+
+// The same of the index of no calls.
+fn has_nothing(alloc: Global) -> Result<bool, Fault> {
+    has_nothing_in(alloc, &empty(alloc)?)
+}
+
 #[test]
 fn no_calls_give_files_without_bodies(rt: HostRuntime) -> Result<(), Fail> {
-    let schema = texts(rt.alloc(), false)?;
-    let index = written(rt.alloc(), schema, 0, Vec::new(rt.alloc()))?;
-    assert!(rt; index.terms.as_slice() == NONE.as_slice());
-    assert!(rt; index.postings.as_slice() == NONE.as_slice());
-    assert!(rt; index.positions.as_slice() == NONE.as_slice());
-    assert!(rt; index.fieldnorms.as_slice() == NONE.as_slice());
-    assert!(rt; found(rt.alloc(), &index, 0, "a")?.is_empty());
-    assert!(rt; counts(rt.alloc(), &index, 0)? == (0, 0));
+    assert!(rt; has_nothing(rt.alloc())?);
     Ok(())
 }
 
@@ -40,42 +60,71 @@ fn five(alloc: Global) -> Result<Index, Fault> {
     written(alloc, numbers(alloc)?, 1, calls)
 }
 
+// The lengths of the files.
+fn lengths(index: &Index) -> [usize; 4] {
+    let (terms, postings) = (index.terms.len(), index.postings.len());
+    [
+        terms,
+        postings,
+        index.positions.len(),
+        index.fieldnorms.len(),
+    ]
+}
+
 #[test]
 fn a_number_is_written(rt: HostRuntime) -> Result<(), Fail> {
     let index = five(rt.alloc())?;
-    assert!(rt; index.terms.len() == 104);
-    assert!(rt; index.postings.len() == 33);
-    assert!(rt; index.positions.len() == 24);
-    assert!(rt; index.fieldnorms.len() == 4);
+    assert!(rt; lengths(&index) == [104, 33, 24, 4]);
     assert!(rt; index.postings.as_slice().starts_with(&FIVE));
     Ok(())
 }
 
+// What is found of 5 and of 6, and how many tokens and terms there are.
+fn told_of_five_in(alloc: Global, index: &Index) -> Result<String, Fault> {
+    let mut text = found_number(alloc, index, 0, 5)?;
+    text.push_str("; ")?;
+    text.push_str(found_number(alloc, index, 0, 6)?.as_str())?;
+    text.push_str("; ")?;
+    push_counts(alloc, &mut text, index)?;
+    Ok(text)
+}
+
+// The same of the number 5 in document 0.
+fn told_of_five(alloc: Global) -> Result<String, Fault> {
+    told_of_five_in(alloc, &five(alloc)?)
+}
+
 #[test]
 fn a_number_is_found(rt: HostRuntime) -> Result<(), Fail> {
-    let index = five(rt.alloc())?;
-    assert!(rt; found_number(rt.alloc(), &index, 0, 5)?.as_str() == "0:1: ");
-    assert!(rt; found_number(rt.alloc(), &index, 0, 6)?.is_empty());
-    assert!(rt; counts(rt.alloc(), &index, 0)? == (1, 1));
+    let told = told_of_five(rt.alloc())?;
+    assert!(rt; told.as_str() == "0:1: ; ; 1 tokens of 1 terms");
     Ok(())
 }
 
 // Texts of document 0, and a number of document 1.
 fn texts_and_number(alloc: Global) -> Result<Index, Fault> {
-    let mut calls = Vec::new(alloc);
-    calls.push(text_call(alloc, 0, 0, "a b")?)?;
-    calls.push(text_call(alloc, 0, 0, "")?)?;
-    calls.push(text_call(alloc, 0, 0, "a")?)?;
+    let mut calls = text_calls(alloc, &[(0, 0, "a b"), (0, 0, ""), (0, 0, "a")])?;
     calls.push(IndexCall::U64(1, Field::from_field_id(1), 7))?;
     written(alloc, text_and_number(alloc)?, 2, calls)
 }
 
+// What is told of the texts, and found of the number.
+fn told_of_both_in(alloc: Global, index: &Index) -> Result<String, Fault> {
+    let mut text = told(alloc, index, &[(0, "a"), (0, "z")])?;
+    text.push_str("; ")?;
+    text.push_str(found_number(alloc, index, 1, 7)?.as_str())?;
+    Ok(text)
+}
+
+// The same of both together.
+fn told_of_both(alloc: Global) -> Result<String, Fault> {
+    told_of_both_in(alloc, &texts_and_number(alloc)?)
+}
+
 #[test]
 fn texts_and_numbers_stand_side_by_side(rt: HostRuntime) -> Result<(), Fail> {
-    let index = texts_and_number(rt.alloc())?;
-    assert!(rt; found(rt.alloc(), &index, 0, "a")?.as_str() == "0:2:0,4, ");
-    assert!(rt; found(rt.alloc(), &index, 0, "z")?.is_empty());
-    assert!(rt; found_number(rt.alloc(), &index, 1, 7)?.as_str() == "1:1: ");
+    let told = told_of_both(rt.alloc())?;
+    assert!(rt; told.as_str() == "0:2:0,4, ; ; 3 tokens of 2 terms; 1:1: ");
     Ok(())
 }
 
@@ -100,15 +149,29 @@ fn norm_of(alloc: Global, index: &Index, field: u32, doc: u32) -> Result<Option<
     Ok(Some((norms.fieldnorm(doc), norms.fieldnorm_id(doc))))
 }
 
+// Two fields of texts in two documents, the first field with norms.
+fn norms_wanted(alloc: Global) -> Result<Index, Fault> {
+    let texts = [(0, 0, "a b a c a d a a."), (0, 0, "d d d d a"), (0, 1, "a")];
+    written_texts(alloc, two_texts(alloc)?, 2, &texts)
+}
+
+// The norms of three documents in the first field, and of one in the second.
+fn norms_found_in(alloc: Global, index: &Index) -> Result<[Option<(u32, u8)>; 4], Fault> {
+    let zero = norm_of(alloc, index, 0, 0)?;
+    let one = norm_of(alloc, index, 0, 1)?;
+    let two = norm_of(alloc, index, 0, 2)?;
+    Ok([zero, one, two, norm_of(alloc, index, 1, 0)?])
+}
+
+// The same of those texts.
+fn norms_found(alloc: Global) -> Result<[Option<(u32, u8)>; 4], Fault> {
+    norms_found_in(alloc, &norms_wanted(alloc)?)
+}
+
 #[test]
 fn fields_have_the_norms_that_they_want(rt: HostRuntime) -> Result<(), Fail> {
-    let schema = two_texts(rt.alloc())?;
-    let calls = [(0, 0, "a b a c a d a a."), (0, 0, "d d d d a"), (0, 1, "a")];
-    let index = written_texts(rt.alloc(), schema, 2, &calls)?;
-    assert!(rt; norm_of(rt.alloc(), &index, 0, 0)? == Some((13, 13)));
-    assert!(rt; norm_of(rt.alloc(), &index, 0, 1)? == Some((0, 0)));
-    assert!(rt; norm_of(rt.alloc(), &index, 0, 2)? == None);
-    assert!(rt; norm_of(rt.alloc(), &index, 1, 0)? == None);
+    let norms = norms_found(rt.alloc())?;
+    assert!(rt; norms == [Some((13, 13)), Some((0, 0)), None, None]);
     Ok(())
 }
 
@@ -126,10 +189,12 @@ const DOCS: u32 = 1000;
 
 // Two texts in document 0, `b a` in 1, and in each other one as many `e` as its number, and an `a`.
 fn growing_calls(alloc: Global) -> Result<Vec<IndexCall>, Fault> {
-    let mut calls = Vec::new(alloc);
-    calls.push(text_call(alloc, 0, 0, "a b a c a d a a.")?)?;
-    calls.push(text_call(alloc, 0, 0, "d d d d a")?)?;
-    calls.push(text_call(alloc, 1, 0, "b a")?)?;
+    let first = [
+        (0, 0, "a b a c a d a a."),
+        (0, 0, "d d d d a"),
+        (1, 0, "b a"),
+    ];
+    let mut calls = text_calls(alloc, &first)?;
     for doc in 2..DOCS {
         let text = text_of(alloc, doc)?;
         calls.push(IndexCall::Text(doc, Field::from_field_id(0), text))?;
@@ -167,13 +232,20 @@ fn wanted_many(alloc: Global) -> Result<String, Fault> {
     Ok(text)
 }
 
-#[test]
-fn growing_texts_are_found(rt: HostRuntime) -> Result<(), Fail> {
-    let index = growing(rt.alloc())?;
-    assert!(rt; found(rt.alloc(), &index, 0, "a")? == wanted_last(rt.alloc())?);
-    assert!(rt; found(rt.alloc(), &index, 0, "e")? == wanted_many(rt.alloc())?);
-    assert!(rt; found(rt.alloc(), &index, 0, "abcdef")?.is_empty());
-    Ok(())
+// Whether a word is found as it is wanted.
+fn is_found(alloc: Global, index: &Index, word: &str, want: &String) -> Result<bool, Fault> {
+    Ok(found(alloc, index, 0, word)?.as_str() == want.as_str())
+}
+
+// Whether both words are found, and one that isn't there isn't.
+fn are_found(alloc: Global, index: &Index) -> Result<bool, Fault> {
+    if !is_found(alloc, index, "a", &wanted_last(alloc)?)? {
+        return Ok(false);
+    }
+    if !is_found(alloc, index, "e", &wanted_many(alloc)?)? {
+        return Ok(false);
+    }
+    is_found(alloc, index, "abcdef", &String::new(alloc))
 }
 
 // Whether the norm of each document from 2 on is that of one token more than its number.
@@ -192,9 +264,21 @@ fn has_growing_norms(alloc: Global, index: &Index) -> Result<bool, Fault> {
     Ok(true)
 }
 
+// Whether the words are found, and the norms are right.
+fn is_right_in(alloc: Global, index: &Index) -> Result<bool, Fault> {
+    if !are_found(alloc, index)? {
+        return Ok(false);
+    }
+    has_growing_norms(alloc, index)
+}
+
+// The same of the growing texts.
+fn is_right(alloc: Global) -> Result<bool, Fault> {
+    is_right_in(alloc, &growing(alloc)?)
+}
+
 #[test]
-fn growing_texts_have_their_norms(rt: HostRuntime) -> Result<(), Fail> {
-    let index = growing(rt.alloc())?;
-    assert!(rt; has_growing_norms(rt.alloc(), &index)?);
+fn growing_texts_are_found_and_have_their_norms(rt: HostRuntime) -> Result<(), Fail> {
+    assert!(rt; is_right(rt.alloc())?);
     Ok(())
 }

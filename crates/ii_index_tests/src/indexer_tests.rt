@@ -3,7 +3,7 @@ ghost use Rattle.ii_base.specs.declared.schema.value_type.ValueType.TheVariants 
 ghost use Rattle.ii_indexing.specs.IndexCalls.{Takes};
 
 use crate::fault_tests::are_untouched;
-use crate::memory_index::{FULL, Index, found, index_of, texts, writers};
+use crate::memory_index::{FULL, Index, index_of, texts, told, writers};
 use ii_base::{AsciiTokenizer, Fault, Field, FieldEntry, LimitName, Schema, Token, TokenList};
 use ii_indexing::{IndexCall, Indexer};
 use std::alloc::Global;
@@ -33,11 +33,21 @@ fn put(alloc: Global, indexer: &mut Indexer, doc: u32, text: &str) -> Result<(),
     indexer.index(IndexCall::Text(doc, field, text), &AsciiTokenizer)
 }
 
-// `a b` in document 2 and `b` in 8.
+// Indexes `a b` in document 2 and `b` in 8.
+fn put_two(alloc: Global, indexer: &mut Indexer) -> Result<(), Fault>
+    requires running { indexer.old.failed ≡ false }
+    requires order { indexer.old.last_doc ≡ 0 }
+    requires many { indexer.old.num_docs ≡ 9 }
+    requires takes { Takes indexer.old.schema 0 types.Str }
+{
+    put(alloc, indexer, 2, "a b")?;
+    put(alloc, indexer, 8, "b")
+}
+
+// An indexer that has taken them.
 fn filled(alloc: Global) -> Result<Indexer, Fault> {
     let mut indexer = indexer(alloc)?;
-    put(alloc, &mut indexer, 2, "a b")?;
-    put(alloc, &mut indexer, 8, "b")?;
+    put_two(alloc, &mut indexer)?;
     Ok(indexer)
 }
 
@@ -49,16 +59,20 @@ fn finished(alloc: Global) -> Result<Index, Fault> {
     index_of(texts(alloc, true)?, writers)
 }
 
+// What is told of it.
+fn told_of_finished(alloc: Global) -> Result<String, Fault> {
+    told(alloc, &finished(alloc)?, &[(0, "a"), (0, "b")])
+}
+
 #[test]
 fn an_indexer_is_finished(rt: HostRuntime) -> Result<(), Fail> {
-    let index = finished(rt.alloc())?;
-    assert!(rt; found(rt.alloc(), &index, 0, "a")?.as_str() == "2:1:0, ");
-    assert!(rt; found(rt.alloc(), &index, 0, "b")?.as_str() == "2:1:1, 8:1:0, ");
+    let told = told_of_finished(rt.alloc())?;
+    assert!(rt; told.as_str() == "2:1:0, ; 2:1:1, 8:1:0, ; 3 tokens of 2 terms");
     Ok(())
 }
 
 // A token of no length at the last position.
-fn last_token(alloc: Global) -> Result<TokenList, Fault> {
+pub(crate) fn last_token(alloc: Global) -> Result<TokenList, Fault> {
     let mut tokens = Vec::new(alloc);
     tokens.push(Token {
         offset_from: 0,
@@ -70,22 +84,38 @@ fn last_token(alloc: Global) -> Result<TokenList, Fault> {
     Ok(TokenList::new(tokens))
 }
 
+// Indexes `a` in document 0 and then that token in 1.
+fn put_last(alloc: Global, indexer: &mut Indexer) -> Result<Result<(), Fault>, Fault>
+    requires running { indexer.old.failed ≡ false }
+    requires order { indexer.old.last_doc ≡ 0 }
+    requires many { indexer.old.num_docs ≡ 9 }
+    requires takes { Takes indexer.old.schema 0 types.Str }
+{
+    let tokens = last_token(alloc)?;
+    put(alloc, indexer, 0, "a")?;
+    let field = Field::from_field_id(0);
+    Ok(indexer.index(IndexCall::Tokens(1, field, tokens), &AsciiTokenizer))
+}
+
 // An indexer that refused it, and the fault.
 fn refused(alloc: Global) -> Result<(Indexer, Result<(), Fault>), Fault> {
     let mut indexer = indexer(alloc)?;
-    put(alloc, &mut indexer, 0, "a")?;
-    let tokens = last_token(alloc)?;
-    let field = Field::from_field_id(0);
-    let answer = indexer.index(IndexCall::Tokens(1, field, tokens), &AsciiTokenizer);
+    let answer = put_last(alloc, &mut indexer)?;
     Ok((indexer, answer))
+}
+
+// That fault, that of finishing it, and whether nothing was written.
+fn finished_refused(alloc: Global) -> Result<(Result<(), Fault>, Result<(), Fault>, bool), Fault> {
+    let (indexer, answer) = refused(alloc)?;
+    let (writers, finished) = indexer.finish(writers(alloc));
+    Ok((answer, finished, are_untouched(&writers)))
 }
 
 #[test]
 fn a_failed_indexer_writes_nothing(rt: HostRuntime) -> Result<(), Fail> {
-    let (indexer, answer) = refused(rt.alloc())?;
+    let (answer, finished, is_untouched) = finished_refused(rt.alloc())?;
     assert!(rt; answer == Err(Fault::Limit(LimitName::Position)));
-    let (writers, finished) = indexer.finish(writers(rt.alloc()));
     assert!(rt; finished == Err(Fault::IndexerFailed));
-    assert!(rt; are_untouched(&writers));
+    assert!(rt; is_untouched);
     Ok(())
 }

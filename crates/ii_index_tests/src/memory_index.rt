@@ -1,5 +1,6 @@
 // Indexes in memory: written, opened, and looked up.
-ghost use Rattle.std.specs.Prelude.{◌≡◌, ◌<◌, true, length, IfOk};
+ghost use Rattle.std.specs.Prelude.{◌≡◌, ◌<◌, ◌≤◌, true, length, IfOk};
+ghost use Rattle.ii_docset.specs.declared.docset.TheConstants.{TERMINATED};
 ghost use Rattle.ii_indexing.specs.IndexCalls.{MayAllBeIndexed, MayBeIndexed, call_of, type_of};
 
 use bytes::Bytes;
@@ -161,6 +162,20 @@ pub(crate) fn checked(
     Ok(checked)
 }
 
+// Indexes calls that may be made.
+fn write_checked<W: Write>(
+    alloc: Global,
+    schema: Schema,
+    num_docs: DocId,
+    calls: Vec<IndexCall>,
+    writers: IndexWriters<W>,
+) -> (IndexWriters<W>, Result<(), Fault>)
+    requires docs { num_docs ≤ TERMINATED }
+    requires calls { MayAllBeIndexed schema num_docs calls.items }
+{
+    write_index(alloc, schema, num_docs, calls, &AsciiTokenizer, writers)
+}
+
 // Indexes calls, where they may be made; `IndexerFailed` else.
 pub(crate) fn write_to<W: Write + Drop>(
     alloc: Global,
@@ -173,7 +188,7 @@ pub(crate) fn write_to<W: Write + Drop>(
         return Err(Fault::IndexerFailed);
     }
     let calls = checked(alloc, &schema, num_docs, calls)?;
-    Ok(write_index(alloc, schema, num_docs, calls, &AsciiTokenizer, writers))
+    Ok(write_checked(alloc, schema, num_docs, calls, writers))
 }
 
 // Writers over memory.
@@ -262,22 +277,31 @@ pub(crate) fn counts(alloc: Global, index: &Index, field: u32) -> Result<(u64, u
     Ok((reader.total_num_tokens(), reader.terms().num_terms()))
 }
 
+// Adds the positions of the document of a cursor, if it is at one, and a space.
+fn push_positions(
+    alloc: Global,
+    text: &mut String,
+    cursor: &mut SegmentPostings,
+) -> Result<(), Fault> {
+    let mut positions = Vec::new(alloc);
+    if cursor.doc() < TERMINATED {
+        cursor.positions(&mut positions)?;
+    }
+    for position in positions.as_slice() {
+        write!(text, "{position},")?;
+    }
+    Ok(text.push(' ')?)
+}
+
 // Adds the document of a cursor with its count and positions, and a space.
 fn push_doc(alloc: Global, text: &mut String, cursor: &mut SegmentPostings) -> Result<(), Fault> {
     let doc = cursor.doc();
     if doc >= TERMINATED {
-        text.push_str("end ")?;
-        return Ok(());
+        return Ok(text.push_str("end ")?);
     }
     let count = cursor.term_freq();
     write!(text, "{doc}:{count}:")?;
-    let mut positions = Vec::new(alloc);
-    cursor.positions(&mut positions)?;
-    for position in positions.as_slice() {
-        write!(text, "{position},")?;
-    }
-    text.push(' ')?;
-    Ok(())
+    push_positions(alloc, text, cursor)
 }
 
 // Each document of a cursor.
@@ -333,4 +357,48 @@ pub(crate) fn found_by_seeks(
         Some(mut cursor) => sought(alloc, &mut cursor, targets),
         None => Ok(String::new(alloc)),
     }
+}
+
+// Adds how many tokens and terms field 0 has.
+pub(crate) fn push_counts(alloc: Global, text: &mut String, index: &Index) -> Result<(), Fault> {
+    let (tokens, terms) = counts(alloc, index, 0)?;
+    Ok(write!(text, "{tokens} tokens of {terms} terms")?)
+}
+
+// What is found of words, each in a field, and how many tokens and terms field 0 has.
+pub(crate) fn told(alloc: Global, index: &Index, words: &[(u32, &str)]) -> Result<String, Fault> {
+    let mut text = String::new(alloc);
+    for word in words {
+        let (field, word) = *word;
+        text.push_str(found(alloc, index, field, word)?.as_str())?;
+        text.push_str("; ")?;
+    }
+    push_counts(alloc, &mut text, index)?;
+    Ok(text)
+}
+
+// The same of texts in one field without norms.
+pub(crate) fn told_of_text(
+    alloc: Global,
+    num_docs: DocId,
+    texts: &[(DocId, u32, &'static str)],
+    words: &[(u32, &'static str)],
+) -> Result<String, Fault> {
+    let schema = crate::memory_index::texts(alloc, false)?;
+    told(
+        alloc,
+        &written_texts(alloc, schema, num_docs, texts)?,
+        words,
+    )
+}
+
+// The same of calls.
+pub(crate) fn told_of_calls(
+    alloc: Global,
+    schema: Schema,
+    num_docs: DocId,
+    calls: Vec<IndexCall>,
+    words: &[(u32, &'static str)],
+) -> Result<String, Fault> {
+    told(alloc, &written(alloc, schema, num_docs, calls)?, words)
 }

@@ -1,6 +1,6 @@
 use crate::memory_index::{
-    FULL, Index, counts, found, found_by_seeks, text_calls, text_entry, texts, two_texts, written,
-    written_texts,
+    FULL, Index, found, found_by_seeks, text_calls, text_entry, texts, told, told_of_calls,
+    told_of_text, two_texts, written, written_texts,
 };
 use ii_base::{Fault, Field, IndexRecordOption, Schema, Token, TokenList};
 use ii_docset::DocId;
@@ -10,42 +10,39 @@ use std::test::Fail;
 
 #[test]
 fn texts_of_a_document_have_a_gap_between(rt: HostRuntime) -> Result<(), Fail> {
-    let schema = texts(rt.alloc(), false)?;
-    let calls = [(0, 0, "a b"), (0, 0, ""), (0, 0, "a")];
-    let index = written_texts(rt.alloc(), schema, 1, &calls)?;
-    assert!(rt; found(rt.alloc(), &index, 0, "a")?.as_str() == "0:2:0,4, ");
-    assert!(rt; found(rt.alloc(), &index, 0, "b")?.as_str() == "0:1:1, ");
-    assert!(rt; counts(rt.alloc(), &index, 0)? == (3, 2));
+    let texts = [(0, 0, "a b"), (0, 0, ""), (0, 0, "a")];
+    let told = told_of_text(rt.alloc(), 1, &texts, &[(0, "a"), (0, "b")])?;
+    assert!(rt; told.as_str() == "0:2:0,4, ; 0:1:1, ; 3 tokens of 2 terms");
     Ok(())
 }
 
 #[test]
 fn two_texts_of_a_document_are_found(rt: HostRuntime) -> Result<(), Fail> {
-    let schema = texts(rt.alloc(), false)?;
-    let calls = [(0, 0, "a b a c a d a a."), (0, 0, "d d d d a")];
-    let index = written_texts(rt.alloc(), schema, 1, &calls)?;
-    assert!(rt; found(rt.alloc(), &index, 0, "a")?.as_str() == "0:6:0,2,4,6,7,13, ");
-    assert!(rt; found(rt.alloc(), &index, 0, "d")?.as_str() == "0:5:5,9,10,11,12, ");
-    assert!(rt; counts(rt.alloc(), &index, 0)? == (13, 4));
+    let texts = [(0, 0, "a b a c a d a a."), (0, 0, "d d d d a")];
+    let told = told_of_text(rt.alloc(), 1, &texts, &[(0, "a"), (0, "d")])?;
+    let want = "0:6:0,2,4,6,7,13, ; 0:5:5,9,10,11,12, ; 13 tokens of 4 terms";
+    assert!(rt; told.as_str() == want);
     Ok(())
+}
+
+// What is told of two fields of texts.
+fn told_of_two(alloc: Global) -> Result<String, Fault> {
+    let texts = [(0, 0, "a"), (0, 1, "b"), (0, 0, "a")];
+    let index = written_texts(alloc, two_texts(alloc)?, 1, &texts)?;
+    told(alloc, &index, &[(0, "a"), (1, "b"), (1, "a")])
 }
 
 #[test]
 fn fields_count_their_positions_apart(rt: HostRuntime) -> Result<(), Fail> {
-    let schema = two_texts(rt.alloc())?;
-    let calls = [(0, 0, "a"), (0, 1, "b"), (0, 0, "a")];
-    let index = written_texts(rt.alloc(), schema, 1, &calls)?;
-    assert!(rt; found(rt.alloc(), &index, 0, "a")?.as_str() == "0:2:0,2, ");
-    assert!(rt; found(rt.alloc(), &index, 1, "b")?.as_str() == "0:1:0, ");
-    assert!(rt; found(rt.alloc(), &index, 1, "a")?.is_empty());
+    let told = told_of_two(rt.alloc())?;
+    assert!(rt; told.as_str() == "0:2:0,2, ; 0:1:0, ; ; 2 tokens of 1 terms");
     Ok(())
 }
 
 #[test]
 fn words_of_a_text_are_found(rt: HostRuntime) -> Result<(), Fail> {
-    let schema = texts(rt.alloc(), false)?;
-    let index = written_texts(rt.alloc(), schema, 1, &[(0, 0, "g a b b a d c g c")])?;
-    assert!(rt; found(rt.alloc(), &index, 0, "a")?.as_str() == "0:2:1,4, ");
+    let told = told_of_text(rt.alloc(), 1, &[(0, 0, "g a b b a d c g c")], &[(0, "a")])?;
+    assert!(rt; told.as_str() == "0:2:1,4, ; 9 tokens of 5 terms");
     Ok(())
 }
 
@@ -67,21 +64,28 @@ fn long_words(alloc: Global, len: usize) -> Result<Index, Fault> {
     written(alloc, texts(alloc, false)?, 1, calls)
 }
 
+// What is told of that word.
+fn told_of_word(alloc: Global, index: &Index, len: usize) -> Result<String, Fault> {
+    let word = long_word(alloc, len)?;
+    told(alloc, index, &[(0, word.as_str())])
+}
+
+// The same of the index of such a word and `hello`.
+fn told_of_long(alloc: Global, len: usize) -> Result<String, Fault> {
+    told_of_word(alloc, &long_words(alloc, len)?, len)
+}
+
 #[test]
 fn long_words_are_kept(rt: HostRuntime) -> Result<(), Fail> {
-    let index = long_words(rt.alloc(), 65530)?;
-    let word = long_word(rt.alloc(), 65530)?;
-    assert!(rt; found(rt.alloc(), &index, 0, word.as_str())?.as_str() == "0:1:0, ");
-    assert!(rt; counts(rt.alloc(), &index, 0)? == (2, 2));
+    let told = told_of_long(rt.alloc(), 65530)?;
+    assert!(rt; told.as_str() == "0:1:0, ; 2 tokens of 2 terms");
     Ok(())
 }
 
 #[test]
 fn longer_words_are_left_out(rt: HostRuntime) -> Result<(), Fail> {
-    let index = long_words(rt.alloc(), 65531)?;
-    let word = long_word(rt.alloc(), 65531)?;
-    assert!(rt; found(rt.alloc(), &index, 0, word.as_str())?.is_empty());
-    assert!(rt; counts(rt.alloc(), &index, 0)? == (1, 1));
+    let told = told_of_long(rt.alloc(), 65531)?;
+    assert!(rt; told.as_str() == "; 1 tokens of 1 terms");
     Ok(())
 }
 
@@ -109,11 +113,16 @@ fn placed(alloc: Global, places: &[(DocId, usize)]) -> Result<Vec<IndexCall>, Fa
     Ok(calls)
 }
 
+// What is told of `a` at these places.
+fn told_of_placed(alloc: Global) -> Result<String, Fault> {
+    let calls = placed(alloc, &[(0, 5), (1, 0)])?;
+    told_of_calls(alloc, texts(alloc, false)?, 2, calls, &[(0, "a")])
+}
+
 #[test]
 fn positions_begin_anew_in_each_document(rt: HostRuntime) -> Result<(), Fail> {
-    let calls = placed(rt.alloc(), &[(0, 5), (1, 0)])?;
-    let index = written(rt.alloc(), texts(rt.alloc(), false)?, 2, calls)?;
-    assert!(rt; found(rt.alloc(), &index, 0, "a")?.as_str() == "0:1:5, 1:1:0, ");
+    let told = told_of_placed(rt.alloc())?;
+    assert!(rt; told.as_str() == "0:1:5, 1:1:0, ; 2 tokens of 1 terms");
     Ok(())
 }
 
@@ -135,40 +144,45 @@ fn pair(alloc: Global, first: usize, second: usize) -> Result<Vec<IndexCall>, Fa
     Ok(calls)
 }
 
-// The index of such tokens in a field that keeps of a term what an option says.
-fn pair_index(
+// What is found of such tokens in a field that keeps of a term what an option says.
+fn found_of_pair(
     alloc: Global,
     option: IndexRecordOption,
     first: usize,
     second: usize,
-) -> Result<Index, Fault> {
+) -> Result<String, Fault> {
     let mut entries = Vec::new(alloc);
     entries.push(text_entry(alloc, option, false)?)?;
     let calls = pair(alloc, first, second)?;
-    written(alloc, Schema::new(entries), 1, calls)
+    let index = written(alloc, Schema::new(entries), 1, calls)?;
+    found(alloc, &index, 0, "a")
 }
 
 #[test]
 fn positions_that_are_not_kept_may_fall(rt: HostRuntime) -> Result<(), Fail> {
-    let index = pair_index(rt.alloc(), IndexRecordOption::WithFreqs, 5, 4)?;
-    assert!(rt; found(rt.alloc(), &index, 0, "a")?.as_str() == "0:2: ");
+    let found = found_of_pair(rt.alloc(), IndexRecordOption::WithFreqs, 5, 4)?;
+    assert!(rt; found.as_str() == "0:2: ");
     Ok(())
 }
 
 #[test]
 fn positions_may_be_equal(rt: HostRuntime) -> Result<(), Fail> {
-    let index = pair_index(rt.alloc(), FULL, 5, 5)?;
-    assert!(rt; found(rt.alloc(), &index, 0, "a")?.as_str() == "0:2:5,5, ");
+    let found = found_of_pair(rt.alloc(), FULL, 5, 5)?;
+    assert!(rt; found.as_str() == "0:2:5,5, ");
     Ok(())
+}
+
+// What is told of a long word at the last place.
+fn told_of_last(alloc: Global) -> Result<String, Fault> {
+    let tokens = one_token(alloc, usize::MAX, long_word(alloc, 65531)?)?;
+    let mut calls = Vec::new(alloc);
+    calls.push(IndexCall::Tokens(0, Field::from_field_id(0), tokens))?;
+    told_of_calls(alloc, texts(alloc, false)?, 1, calls, &[])
 }
 
 #[test]
 fn long_tokens_are_left_out_wherever_they_stand(rt: HostRuntime) -> Result<(), Fail> {
-    let tokens = one_token(rt.alloc(), usize::MAX, long_word(rt.alloc(), 65531)?)?;
-    let mut calls = Vec::new(rt.alloc());
-    calls.push(IndexCall::Tokens(0, Field::from_field_id(0), tokens))?;
-    let index = written(rt.alloc(), texts(rt.alloc(), false)?, 1, calls)?;
-    assert!(rt; counts(rt.alloc(), &index, 0)? == (0, 0));
+    assert!(rt; told_of_last(rt.alloc())?.as_str() == "0 tokens of 0 terms");
     Ok(())
 }
 
@@ -206,20 +220,39 @@ fn wanted_postings(alloc: Global) -> Result<String, Fault> {
     Ok(text)
 }
 
+// Whether all of them are found.
+fn are_walked_in(alloc: Global, index: &Index) -> Result<bool, Fault> {
+    let wanted = wanted_postings(alloc)?;
+    Ok(found(alloc, index, 0, "abc")? == wanted)
+}
+
+// The same of those documents.
+fn are_walked(alloc: Global) -> Result<bool, Fault> {
+    are_walked_in(alloc, &many_documents(alloc)?)
+}
+
 #[test]
 fn many_documents_are_walked(rt: HostRuntime) -> Result<(), Fail> {
-    let index = many_documents(rt.alloc())?;
-    let wanted = wanted_postings(rt.alloc())?;
-    assert!(rt; found(rt.alloc(), &index, 0, "abc")? == wanted);
+    assert!(rt; are_walked(rt.alloc())?);
     Ok(())
+}
+
+// What is found by a seek, and by two.
+fn sought_twice_in(alloc: Global, index: &Index) -> Result<String, Fault> {
+    let mut text = found_by_seeks(alloc, index, "abc", &[1])?;
+    text.push_str("; ")?;
+    text.push_str(found_by_seeks(alloc, index, "abc", &[100, LAST])?.as_str())?;
+    Ok(text)
+}
+
+// The same of those documents.
+fn sought_twice(alloc: Global) -> Result<String, Fault> {
+    sought_twice_in(alloc, &many_documents(alloc)?)
 }
 
 #[test]
 fn many_documents_are_sought(rt: HostRuntime) -> Result<(), Fail> {
-    let index = many_documents(rt.alloc())?;
-    let at_one = found_by_seeks(rt.alloc(), &index, "abc", &[1])?;
-    assert!(rt; at_one.as_str() == "1:2:0,5, ");
-    let far = found_by_seeks(rt.alloc(), &index, "abc", &[100, LAST])?;
-    assert!(rt; far.as_str() == "100:3:0,1,2, 1002:2:0,5, ");
+    let told = sought_twice(rt.alloc())?;
+    assert!(rt; told.as_str() == "1:2:0,5, ; 100:3:0,1,2, 1002:2:0,5, ");
     Ok(())
 }

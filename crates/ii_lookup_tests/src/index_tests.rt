@@ -396,9 +396,12 @@ fn resets_are_refused_for_documents(rt: HostRuntime) -> Result<(), Fail> {
     Ok(())
 }
 
-// A reader of the documents of two terms: even ones, and odd ones.
+// Six tokens, and the documents of two terms: even ones, and odd ones.
+static TWO_TERMS: [u8; 14] = [6, 0, 0, 0, 0, 0, 0, 0, 0x80, 0x82, 0x82, 0x81, 0x82, 0x82];
+
+// A reader of them.
 fn even_and_odd() -> Result<InvertedIndexReader, Fault> {
-    let body = Bytes::from_static(&[6, 0, 0, 0, 0, 0, 0, 0, 0x80, 0x82, 0x82, 0x81, 0x82, 0x82]);
+    let body = Bytes::from_static(&TWO_TERMS);
     InvertedIndexReader::new(TermDictionary::empty(), body, Bytes::new(), BASIC)
 }
 

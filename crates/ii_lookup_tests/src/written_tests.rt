@@ -1,4 +1,4 @@
-ghost use Rattle.std.specs.Prelude.{◌<◌, ◌≡◌, false, length, IfOk};
+ghost use Rattle.std.specs.Prelude.{◌<◌, ◌≡◌, [], false, length, IfOk};
 ghost use Rattle.ii_recorder.specs.IndexBodies.{LacksField};
 
 use bytes::Bytes;
@@ -7,7 +7,7 @@ use ii_docset::{DocId, DocSet, Postings, TERMINATED};
 use ii_reader::{
     BlockSegmentPostings, InvertedIndexReader, OpenIndex, SegmentPostings, open_index,
 };
-use ii_recorder::InvertedIndexSerializer;
+use ii_recorder::{FieldSerializer, InvertedIndexSerializer};
 use std::alloc::Global;
 use std::test::Fail;
 
@@ -23,44 +23,62 @@ fn texts(alloc: Global) -> Result<Schema, Fault>
     Ok(Schema::new(entries))
 }
 
-// In document 0 a text with `a` at 0 and 4.
+// `a` in document 0 at 0 and 4.
+fn put_text(field: &mut FieldSerializer<'_, Vec<u8>>) -> Result<(), Fault>
+    requires between { field.old.index.now.closed ≡ false → field.old.index.now.field.term_open ≡ false }
+    requires first { field.old.index.now.closed ≡ false → field.old.index.now.field.places.keys ≡ [] }
+{
+    field.new_term(b"a", 1, true)?;
+    field.write_doc(0, 2, &[0, 4])
+}
+
+// The same as a field.
 fn write_text(index: &mut InvertedIndexSerializer<Vec<u8>>) -> Result<(), Fault>
     requires known { 0 < length index.old.entries }
     requires lacks { index.old.closed ≡ false → LacksField 0 index.old.bodies }
 {
     let mut field = index.new_field(Field::from_field_id(0), 2, None)?;
-    field.new_term(b"a", 1, true)?;
-    field.write_doc(0, 2, &[0, 4])?;
+    put_text(&mut field)?;
     field.close()
 }
 
 // `c` in documents 1, 3 and 5, without counts.
+fn put_uncounted(field: &mut FieldSerializer<'_, Vec<u8>>) -> Result<(), Fault>
+    requires between { field.old.index.now.closed ≡ false → field.old.index.now.field.term_open ≡ false }
+    requires first { field.old.index.now.closed ≡ false → field.old.index.now.field.places.keys ≡ [] }
+{
+    field.new_term_without_freq(b"c")?;
+    field.write_doc(1, 1, &[])?;
+    field.write_doc(3, 1, &[])?;
+    field.write_doc(5, 1, &[])
+}
+
+// The same as a field.
 fn write_uncounted(index: &mut InvertedIndexSerializer<Vec<u8>>) -> Result<(), Fault>
     requires known { 0 < length index.old.entries }
     requires lacks { index.old.closed ≡ false → LacksField 0 index.old.bodies }
 {
     let mut field = index.new_field(Field::from_field_id(0), 3, None)?;
-    field.new_term_without_freq(b"c")?;
-    field.write_doc(1, 1, &[])?;
-    field.write_doc(3, 1, &[])?;
-    field.write_doc(5, 1, &[])?;
+    put_uncounted(&mut field)?;
     field.close()
+}
+
+// Ends an index: its terms, postings and positions.
+fn files(index: InvertedIndexSerializer<Vec<u8>>) -> Result<(Bytes, Bytes, Bytes), Fault> {
+    let (terms, postings, positions, closed) = index.close();
+    closed?;
+    let terms = Bytes::from_vec(terms.finish())?;
+    let postings = Bytes::from_vec(postings.finish())?;
+    Ok((terms, postings, Bytes::from_vec(positions.finish())?))
 }
 
 // Ends an index and opens what was written.
 fn reopened(alloc: Global, index: InvertedIndexSerializer<Vec<u8>>) -> Result<OpenIndex, Fault>
     ensures { IfOk result (λ index. 0 < length index) }
 {
-    let (terms, postings, positions, closed) = index.close();
-    closed?;
+    let (terms, postings, positions) = files(index)?;
     let schema = texts(alloc)?;
-    open_index(
-        alloc,
-        Bytes::from_vec(terms.finish())?,
-        Bytes::from_vec(postings.finish())?,
-        Bytes::from_vec(positions.finish())?,
-        &schema,
-    )
+    open_index(alloc, terms, postings, positions, &schema)
 }
 
 // An index of a field of texts, in which nothing is written.
@@ -238,7 +256,7 @@ fn put(
 }
 
 // The same of the documents without counts.
-fn put_uncounted(
+fn put_from_uncounted(
     alloc: Global,
     key: &str,
     blocks: &mut BlockSegmentPostings,
@@ -262,8 +280,8 @@ fn block_cursors_go_from_term_to_term(rt: HostRuntime) -> Result<(), Fail> {
         return Ok(());
     };
     assert!(rt; shows(&blocks, &[0], &[2]));
-    assert!(rt; put_uncounted(rt.alloc(), "c", &mut blocks)?);
+    assert!(rt; put_from_uncounted(rt.alloc(), "c", &mut blocks)?);
     assert!(rt; shows(&blocks, &[1, 3, 5], &[]));
-    assert!(rt; !put_uncounted(rt.alloc(), "a", &mut blocks)?);
+    assert!(rt; !put_from_uncounted(rt.alloc(), "a", &mut blocks)?);
     Ok(())
 }

@@ -192,15 +192,21 @@ fn seeks_find_the_next_document(rt: HostRuntime) -> Result<(), Fail> {
     Ok(())
 }
 
-// A cursor over the first 1,024 multiples of 3.
-fn threes(alloc: Global) -> Option<SegmentPostings> {
+// The first 1,024 multiples of 3.
+fn multiples(alloc: Global) -> Result<Vec<DocId>, Fault> {
     let mut docs = Vec::new(alloc);
     for i in 0..1024 {
-        if docs.push(3 * i).is_err() {
-            return None;
-        }
+        docs.push(3 * i)?;
     }
-    cursor_over(alloc, docs.as_slice())
+    Ok(docs)
+}
+
+// A cursor over them.
+fn threes(alloc: Global) -> Option<SegmentPostings> {
+    match multiples(alloc) {
+        Ok(docs) => cursor_over(alloc, docs.as_slice()),
+        Err(_) => None,
+    }
 }
 
 #[test]
@@ -287,6 +293,13 @@ fn comes_to_its_end<P: Postings>(alloc: Global, cursor: &mut P) -> bool {
     walked.answers.as_slice() == want.as_slice()
 }
 
+// Whether what a cursor is loaded into does.
+fn loaded_comes_to_its_end(alloc: Global, cursor: &SegmentPostings) -> Result<bool, Fault> {
+    let mut source = cursor.clone()?;
+    let mut loaded = LoadedPostings::load(alloc, &mut source)?;
+    Ok(comes_to_its_end(alloc, &mut loaded))
+}
+
 #[test]
 fn walks_come_to_their_end(rt: HostRuntime) -> Result<(), Fail> {
     let Some(mut cursor) = two_blocks(rt.alloc()) else {
@@ -294,8 +307,7 @@ fn walks_come_to_their_end(rt: HostRuntime) -> Result<(), Fail> {
         return Ok(());
     };
     assert!(rt; found_by_copy(&cursor, 131)? == TERMINATED);
-    let mut loaded = LoadedPostings::load(rt.alloc(), &mut cursor.clone()?)?;
+    assert!(rt; loaded_comes_to_its_end(rt.alloc(), &cursor)?);
     assert!(rt; comes_to_its_end(rt.alloc(), &mut cursor));
-    assert!(rt; comes_to_its_end(rt.alloc(), &mut loaded));
     Ok(())
 }

@@ -11,8 +11,6 @@ mod open_term;
 pub mod recorder;
 pub mod serializer;
 mod term_places;
-#[cfg(test)]
-mod tests;
 
 pub use buffer_lender::BufferLender;
 pub use field_serializer::FieldSerializer;

@@ -2,6 +2,8 @@
 #![tactic(auto)]
 
 #[cfg(test)]
+mod buffer_tests;
+#[cfg(test)]
 mod recorder_tests;
 #[cfg(test)]
 mod refusal_tests;

@@ -4,6 +4,7 @@
 
 mod composite;
 mod dictionary;
+mod index;
 mod norms;
 mod postings;
 mod schema;
@@ -21,11 +22,20 @@ fn main(rt: HostRuntime) -> ExitCode {
 
 // A line for each part.
 fn report_all(rt: &HostRuntime) -> io::Result<()> {
+    report_fields(rt)?;
+    report_terms(rt)
+}
+
+fn report_fields(rt: &HostRuntime) -> io::Result<()> {
     report(rt, "composite", composite::read_back(rt.alloc()))?;
     report(rt, "schema", schema::read_back(rt.alloc()))?;
-    report(rt, "norms", norms::read_back(rt.alloc()))?;
+    report(rt, "norms", norms::read_back(rt.alloc()))
+}
+
+fn report_terms(rt: &HostRuntime) -> io::Result<()> {
     report(rt, "postings", postings::read_back(rt.alloc()))?;
-    report(rt, "dictionary", dictionary::read_back(rt.alloc()))
+    report(rt, "dictionary", dictionary::read_back(rt.alloc()))?;
+    report(rt, "index", index::read_back(rt.alloc()))
 }
 
 // Prints what was read back, or the fault.
