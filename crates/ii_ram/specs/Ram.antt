@@ -6,7 +6,7 @@ use Rattle.ii_io.specs.declared.faults.LimitName.TheVariants as limit
 use Rattle.ii_io.specs.CountingWriter.{CountingWriterState, IsFull}
 use Rattle.ii_base.specs.Schema.{Entry}
 use Rattle.ii_index.specs.Tokens.{IndexToken}
-use Rattle.ii_indexing.specs.IndexFiles.{PassLimits, has_norms}
+use Rattle.ii_indexing.specs.IndexFiles.{PassLimits}
 use Rattle.ii_indexing.specs.IndexedTerms.{IndexedTermsState, StoresTokens}
 use Rattle.ii_indexing.specs.Norms.{HoldNorms}
 use Rattle.ii_indexing.specs.declared.index_writers.IndexWriters.{IndexWriters}
@@ -23,4 +23,4 @@ pub record IsRamFault (entries : List Entry) (num_docs : ℕ) (ts : List IndexTo
   pub stored : IndexedTermsState
   pub stores : StoresTokens entries stored ts
   pub cause : PassLimits {W = ℕ} entries empty_files stored fault
-      ⊎ ((fault ≡ Limit limit.Offset) × (bytes : List ℕ) × HoldNorms (has_norms entries) num_docs bytes ts × IsFull empty_file (length bytes))
+      ⊎ ((fault ≡ Limit limit.Offset) × (bytes : List ℕ) × HoldNorms entries num_docs bytes ts × IsFull empty_file (length bytes))
