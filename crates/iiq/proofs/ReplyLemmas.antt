@@ -3,7 +3,6 @@ use Rattle.std.proofs.Common.{◌≡◌, ◌<◌, ◌++◌, ℕ, arith, Bool, tr
 use Rattle.std.specs.Prelude.{IfOk, MatchOption, string_bytes, unwrap_or}
 use Rattle.std.specs.Option.{option_map}
 use Rattle.std.specs.Str.{IsUtf8, is_utf8}
-use Rattle.std.proofs.lemmas.Bool.{eqb-true}
 use Rattle.std.proofs.lemmas.Str.{IsUtf8-from_is_utf8, is_utf8-from_IsUtf8}
 use Rattle.std.proofs.lemmas.List.{append-nil, length-map}
 use Rattle.ii_docset.proofs.CursorLemmas.{ascending, length_below}
@@ -36,14 +35,6 @@ the_command line h = rw (is_utf8-from_IsUtf8 line h) refl
 answers_line : (old : Session) (line : List ℕ) (new : Session) (found : Option (List (List ℕ))) → false ≡ (eqb (length line) 0) → AnswersMaybe old (line_command line) new found → AnswersLine old line new (unwrap_or found error_line)
 answers_line old [] new found some answers = absurd (cc)
 answers_line old (c ∷ cs) new found some answers = (found, answers, refl)
-
-empty_line : (s : Session) (line : List ℕ) (kept : SessionKept) → true ≡ (eqb (length line) 0) → Knows kept s → IsReply s line kept []
-empty_line s [] kept none knows = record { new = s; texts = []; knows = knows; answers = (refl, refl); text_is = refl }
-empty_line s (c ∷ cs) kept none knows = absurd (let e = eqb-true (length (c ∷ cs)) 0 (sym none) in omega (arith, e))
-
--- an empty line
-pub reply_nothing : (s : Session) (line text : List ℕ) (kept : SessionKept) → true ≡ (eqb (length line) 0) → Knows kept s → text ≡ [] → IsReply s line kept text
-reply_nothing s line text kept none knows e = rw e (empty_line s line kept none knows)
 
 -- a line that is no text
 pub reply_no_text : (s : Session) (line text : List ℕ) (kept : SessionKept) → false ≡ (eqb (length line) 0) → ¬ (IsUtf8 line) → Knows kept s → text ≡ codes "error line\n" → IsReply s line kept text
@@ -92,13 +83,6 @@ pub alone_ok : {E : Type 0} (r : Result (Option (String Global)) E) (s : Session
 alone_ok (Ok reply) s command given kept knows same a = alone s command kept (option_map string_bytes reply) knows (rw same at a)
 alone_ok (Err e) s command given kept knows same a = tt
 
--- what is no command
-pub answers_none : (s : Session) (command : Option Command) (kept : SessionKept) → Knows kept s → command ≡ None → Answers s command kept None
-answers_none s command kept knows e = record { new = s; texts = None; knows = knows; answers = rw e (refl, refl); reply_is = refl }
-
-pub alone_none : (command : Option Command) → command ≡ None → AnswersAlone command None
-alone_none command e = record { texts = None; answers = λ s. rw e (refl, refl); reply_is = refl }
-
 -- a list of documents, and a list that was opened
 pub alone_ids : (command : Option Command) (docs text : List ℕ) → command ≡ Some (show_ids docs) → text ≡ with_ends (ids_texts docs) → AnswersAlone command (Some text)
 alone_ids command docs text e t = record { texts = Some (ids_texts docs); answers = λ s. rw e (refl, refl); reply_is = ap (λ (bytes : List ℕ). Some bytes) t }
@@ -113,14 +97,6 @@ keeps_cases s c kept (Some t) e (taken, knows) = record { new = t; texts = Some 
 -- a call that was kept
 pub answers_kept : (s : Session) (c : Call) (kept : SessionKept) (taken : Bool) → Keeps s c kept taken → taken ≡ true → Answers s (Some (index_call c)) kept (Some [])
 answers_kept s c kept taken keeps e = keeps_cases s c kept (kept_with s c) refl (rw e at keeps)
-
-refuses_cases : (s : Session) (c : Call) (kept : SessionKept) (found : Option Session) → kept_with s c ≡ found → MatchOption found ((false ≡ false) × Knows kept s) (λ t. (false ≡ true) × Knows kept t) → Answers s (Some (index_call c)) kept None
-refuses_cases s c kept None e (taken, knows) = record { new = s; texts = None; knows = knows; answers = rw e (refl, refl); reply_is = refl }
-refuses_cases s c kept (Some t) e (never, knows) = absurd (cc)
-
--- and one that was not
-pub answers_refused : (s : Session) (c : Call) (kept : SessionKept) (taken : Bool) → Keeps s c kept taken → taken ≡ false → Answers s (Some (index_call c)) kept None
-answers_refused s c kept taken keeps e = refuses_cases s c kept (kept_with s c) refl (rw e at keeps)
 
 -- a look-up
 pub answers_look_up : (s : Session) (q : Query) (kept : SessionKept) (command : Option Command) (text line : List ℕ) (t : Session) → command ≡ Some (query_look_up q) → Indexes s t → Knows kept t

@@ -5,6 +5,7 @@ use Rattle.std.specs.Option.{IfSome}
 use Rattle.std.specs.List.{onto_first, list_all, starts_with}
 use Rattle.std.specs.Io.KnownBytes.{Appends, Keeps}
 use Rattle.std.proofs.KnownBytes.{Appends-trans, Appends-nil}
+use Rattle.std.proofs.lemmas.Result.{IfOk-weaker}
 use Rattle.std.proofs.lemmas.List.{append-nil, take-append-drop}
 use Rattle.std.proofs.lemmas.List.Folds.{list_all-append}
 use Rattle.iiq.specs.Words.{parts, lines_of}
@@ -81,20 +82,61 @@ prints_line : (s : Session) (line answer : List ℕ) (left more : List (List ℕ
 prints_line s line answer left more now r out e later =
     rw e (inl (record { new = r.new; texts = r.texts; rest = out; answers = r.answers; out_is = ap (λ (a : List ℕ). a ++ out) r.text_is; others = later }))
 
-pub answering_next : (old now new : Option (List ℕ)) (text line answer : List ℕ) (left more : List (List ℕ)) (s : Session) (kept : SessionKept) (fine : Bool) → IsAnswering old now text left s fine
-    → left ≡ line ∷ more → (r : IsReply s line kept answer) → Appends now new answer → IsAnswering old new text more r.new (fine && has_no_error answer)
-answering_next old now new text line answer left more s kept fine a e r appends =
-    let known = a.fine_is in
-    let prints = a.prints in
-    record {
-      written = a.written ++ answer;
-      appends = Appends-trans old now new a.written answer a.appends appends;
-      prints = λ out p. rw append_assoc (prints (answer ++ out) (prints_line s line answer left more kept r out e p));
-      fine_is = λ rest.
-          rw append_assoc (known (answer ++ rest)
-          ∙ ap (λ b. fine && b) (rw r.text_is (no_error_ends r.texts rest))
-          ∙ sym (and_assoc fine (has_no_error answer) (has_no_error rest)));
-    }
+-- some text is written for any lines
+pub prints_some : (s : Session) (lines : List (List ℕ)) → (out : List ℕ) × Prints s lines out
+prints_some s [] = ([], refl)
+prints_some s (line ∷ lines) = (codes "error 1\n", inr refl)
+
+-- What one who answers lines meets next: all that was written, and that these are left.
+module _ (old now new : Option (List ℕ)) (text : List ℕ) (left : List (List ℕ)) (s : Session) (fine : Bool) (a : IsAnswering old now text left s fine) where
+  -- one more line is answered
+  pub answering_next : (line answer : List ℕ) (more : List (List ℕ)) (kept : SessionKept) → left ≡ line ∷ more → (r : IsReply s line kept answer) → Appends now new answer → IsAnswering old new text more r.new (fine && has_no_error answer)
+  answering_next line answer more kept e r appends =
+      let known = a.fine_is in
+      let prints = a.prints in
+      record {
+        written = a.written ++ answer;
+        appends = Appends-trans old now new a.written answer a.appends appends;
+        prints = λ out p. rw append_assoc (prints (answer ++ out) (prints_line s line answer left more kept r out e p));
+        fine_is = λ rest.
+            rw append_assoc (known (answer ++ rest)
+            ∙ ap (λ b. fine && b) (rw r.text_is (no_error_ends r.texts rest))
+            ∙ sym (and_assoc fine (has_no_error answer) (has_no_error rest)));
+      }
+
+  -- memory for a line was refused
+  pub answered_no_memory : (line : List ℕ) (more : List (List ℕ)) → left ≡ line ∷ more → Appends now new (codes "error 1\n") → PrintsAll old new text false
+  answered_no_memory line more e appends =
+      let known = a.fine_is in
+      let prints = a.prints in
+      record {
+        out = a.written ++ codes "error 1\n";
+        appends = Appends-trans old now new a.written (codes "error 1\n") a.appends appends;
+        prints = prints (codes "error 1\n") (rw e (inr refl));
+        fine_is = sym (known (codes "error 1\n") ∙ and_false fine);
+      }
+
+  -- the writer failed within these bytes, after which the rest of the run would have been written
+  pub answered_beginning : (bytes rest : List ℕ) → Prints s left (bytes ++ rest) → PutsBeginning now new bytes → PrintsBeginning old new text
+  answered_beginning bytes rest p (out, after, appends, e) =
+      let prints = a.prints in
+      let whole : a.written ++ (bytes ++ rest) ≡ (a.written ++ out) ++ (after ++ rest) = rw (e, append_assoc, append_assoc) refl in
+      record {
+        out = a.written ++ out;
+        rest = after ++ rest;
+        appends = Appends-trans old now new a.written out a.appends appends;
+        prints = rw (← whole) (prints (bytes ++ rest) p);
+      }
+
+  -- the writer failed within the answer to a line
+  pub answered_part : (line answer : List ℕ) (more : List (List ℕ)) (kept : SessionKept) → left ≡ line ∷ more → IsReply s line kept answer → PutsBeginning now new answer → PrintsBeginning old new text
+  answered_part line answer more kept e r puts =
+      let later = prints_some r.new more in
+      answered_beginning answer later.0 (prints_line s line answer left more kept r later.0 e later.1) puts
+
+  -- the writer failed within the last line of a run that found no memory
+  pub answered_no_memory_part : (line : List ℕ) (more : List (List ℕ)) → left ≡ line ∷ more → PutsBeginning now new (codes "error 1\n") → PrintsBeginning old new text
+  answered_no_memory_part line more e puts = answered_beginning (codes "error 1\n") [] (rw (e, append-nil) (inr refl)) puts
 
 -- no line is left
 pub answered : (old now : Option (List ℕ)) (text : List ℕ) (left : List (List ℕ)) (s : Session) (fine : Bool) → IsAnswering old now text left s fine → left ≡ [] → PrintsAll old now text fine
@@ -108,50 +150,6 @@ answered old now text left s fine a e =
       fine_is = sym (rw append-nil at (known []) ∙ and_true fine);
     }
 
--- memory for a line was refused
-pub answered_no_memory : (old now new : Option (List ℕ)) (text line : List ℕ) (left more : List (List ℕ)) (s : Session) (fine : Bool) → IsAnswering old now text left s fine
-    → left ≡ line ∷ more → Appends now new (codes "error 1\n") → PrintsAll old new text false
-answered_no_memory old now new text line left more s fine a e appends =
-    let prints = a.prints in
-    let known = a.fine_is in
-    record {
-      out = a.written ++ codes "error 1\n";
-      appends = Appends-trans old now new a.written (codes "error 1\n") a.appends appends;
-      prints = prints (codes "error 1\n") (rw e (inr refl));
-      fine_is = sym (known (codes "error 1\n") ∙ and_false fine);
-    }
-
--- the writer failed within these bytes, after which the rest of the run would have been written
-pub answered_beginning : (old now new : Option (List ℕ)) (text bytes rest : List ℕ) (left : List (List ℕ)) (s : Session) (fine : Bool) → IsAnswering old now text left s fine
-    → Prints s left (bytes ++ rest) → PutsBeginning now new bytes → PrintsBeginning old new text
-answered_beginning old now new text bytes rest left s fine a p (out, after, appends, e) =
-    let prints = a.prints in
-    let whole : a.written ++ (bytes ++ rest) ≡ (a.written ++ out) ++ (after ++ rest) = rw (e, append_assoc, append_assoc) refl in
-    record {
-      out = a.written ++ out;
-      rest = after ++ rest;
-      appends = Appends-trans old now new a.written out a.appends appends;
-      prints = rw (← whole) (prints (bytes ++ rest) p);
-    }
-
--- some text is written for any lines
-pub prints_some : (s : Session) (lines : List (List ℕ)) → (out : List ℕ) × Prints s lines out
-prints_some s [] = ([], refl)
-prints_some s (line ∷ lines) = (codes "error 1\n", inr refl)
-
--- the writer failed within the answer to a line
-pub answered_part : (old now new : Option (List ℕ)) (text line answer : List ℕ) (left more : List (List ℕ)) (s : Session) (kept : SessionKept) (fine : Bool) → IsAnswering old now text left s fine
-    → left ≡ line ∷ more → IsReply s line kept answer → PutsBeginning now new answer → PrintsBeginning old new text
-answered_part old now new text line answer left more s kept fine a e r puts =
-    let later = prints_some r.new more in
-    answered_beginning old now new text answer later.0 left s fine a (prints_line s line answer left more kept r later.0 e later.1) puts
-
--- the writer failed within the last line of a run that found no memory
-pub answered_no_memory_part : (old now new : Option (List ℕ)) (text line : List ℕ) (left more : List (List ℕ)) (s : Session) (fine : Bool) → IsAnswering old now text left s fine
-    → left ≡ line ∷ more → PutsBeginning now new (codes "error 1\n") → PrintsBeginning old new text
-answered_no_memory_part old now new text line left more s fine a e puts =
-    answered_beginning old now new text (codes "error 1\n") [] left s fine a (rw (e, append-nil) (inr refl)) puts
-
 -- a run that writes nothing, or that found no memory for its input
 lines_some : (text : List ℕ) → (line : List ℕ) × (lines : List (List ℕ)) × (lines_of text ≡ line ∷ lines)
 lines_some text = some_part 10 text
@@ -162,12 +160,12 @@ nothing_answered old text same = record { out = []; rest = (prints_some (gatheri
 pub no_memory_answered : (old new : Option (List ℕ)) (text : List ℕ) → Appends old old [] → Appends old new (codes "error 1\n") → PrintsAll old new text false
 no_memory_answered old new text same appends =
     let some = lines_some text in
-    answered_no_memory old old new text some.0 (lines_of text) some.1 (gathering []) true (answering_first old text same) some.2 appends
+    answered_no_memory old old new text (lines_of text) (gathering []) true (answering_first old text same) some.0 some.1 some.2 appends
 
 pub no_memory_answered_part : (old new : Option (List ℕ)) (text : List ℕ) → Appends old old [] → PutsBeginning old new (codes "error 1\n") → PrintsBeginning old new text
 no_memory_answered_part old new text same puts =
     let some = lines_some text in
-    answered_no_memory_part old old new text some.0 (lines_of text) some.1 (gathering []) true (answering_first old text same) some.2 puts
+    answered_no_memory_part old old new text (lines_of text) (gathering []) true (answering_first old text same) some.0 some.1 some.2 puts
 
 appends_kept : (a b c : Option (List ℕ)) (bs : List ℕ) → Appends a b bs → Keeps b c → Appends a c bs
 appends_kept None b c bs p q = tt
@@ -175,20 +173,22 @@ appends_kept (Some x) None c bs p q = absurd p
 appends_kept (Some x) (Some y) None bs p q = absurd q
 appends_kept (Some x) (Some y) (Some z) bs p q = q ∙ p
 
+pub on_err_from : {A E Q : Type 0} (r : Result A E) → Q → OnErr r Q
+on_err_from (Ok x) q = tt
+on_err_from (Err e) q = q
+
 -- a flush at the end
 pub answered_kept : (old now new : Option (List ℕ)) (text : List ℕ) (left : List (List ℕ)) (s : Session) (fine : Bool) → IsAnswering old now text left s fine → Keeps now new → IsAnswering old new text left s fine
 answered_kept old now new text left s fine a kept = record { written = a.written; appends = appends_kept old now new a.written a.appends kept; prints = a.prints; fine_is = a.fine_is }
 
-pub answered_all : {E : Type 0} (r : Result Bool E) (old now new : Option (List ℕ)) (text : List ℕ) (left : List (List ℕ)) (s : Session) (fine : Bool) → IsAnswering old now text left s fine → left ≡ [] → Keeps now new → IfOk r (λ answer. answer ≡ fine)
-    → IfOk r (λ answer. PrintsAll old new text answer)
-answered_all (Ok answer) old now new text left s fine a e kept same = rw same (answered old new text left s fine (answered_kept old now new text left s fine a kept) e)
-answered_all (Err x) old now new text left s fine a e kept same = tt
+module _ {E : Type 0} (r : Result Bool E) (old now new : Option (List ℕ)) (text : List ℕ) (left : List (List ℕ)) (s : Session) (fine : Bool) (a : IsAnswering old now text left s fine) where
+  pub answered_all : left ≡ [] → Keeps now new → IfOk r (λ answer. answer ≡ fine) → IfOk r (λ answer. PrintsAll old new text answer)
+  answered_all e kept same = IfOk-weaker r _ _ (λ answer is. rw is (answered old new text left s fine (answered_kept old now new text left s fine a kept) e)) same
 
-pub answered_all_part : {E : Type 0} (r : Result Bool E) (old now new : Option (List ℕ)) (text : List ℕ) (left : List (List ℕ)) (s : Session) (fine : Bool) → IsAnswering old now text left s fine → left ≡ [] → Keeps now new → OnErr r (PrintsBeginning old new text)
-answered_all_part (Ok answer) old now new text left s fine a e kept = tt
-answered_all_part (Err x) old now new text left s fine a e kept =
-    let all = answered old new text left s fine (answered_kept old now new text left s fine a kept) e in
-    record { out = all.out; rest = []; appends = all.appends; prints = rw append-nil all.prints }
+  pub answered_all_part : left ≡ [] → Keeps now new → OnErr r (PrintsBeginning old new text)
+  answered_all_part e kept =
+      let all = answered old new text left s fine (answered_kept old now new text left s fine a kept) e in
+      on_err_from r (record { out = all.out; rest = []; appends = all.appends; prints = rw append-nil all.prints })
 
 pub ended : {E : Type 0} (r : Result Bool E) (old now new : Option (List ℕ)) (bs : List ℕ) → Appends old now bs → Keeps now new → IfOk r (λ answer. answer ≡ false) → IfOk r (λ answer. (answer ≡ false) × Appends old new bs)
 ended (Ok answer) old now new bs front kept same = (same, appends_kept old now new bs front kept)
@@ -205,10 +205,6 @@ puts_kept a b c bs i front kept = (take i bs, drop i bs, appends_kept a b c (tak
 pub puts_nothing : (a b c : Option (List ℕ)) (bs : List ℕ) (i : ℕ) → Appends a b (take i bs) → Appends b c [] → PutsBeginning a c bs
 puts_nothing a b c bs i front none =
     (take i bs, drop i bs, rw append-nil at (Appends-trans a b c (take i bs) [] front none), sym (take-append-drop i bs))
-
-pub on_err_from : {A E Q : Type 0} (r : Result A E) → Q → OnErr r Q
-on_err_from (Ok x) q = tt
-on_err_from (Err e) q = q
 
 -- where nothing of the input was answered
 pub nothing_read : (o old : Option (List ℕ)) → IfSome o (λ input. PrintsBeginning old old input)

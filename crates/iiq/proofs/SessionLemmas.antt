@@ -3,7 +3,7 @@ use Rattle.std.proofs.Common.{◌≡◌, ◌∙◌, ◌+◌, ◌<◌, ◌≤◌,
 use Rattle.std.specs.Prelude.{◌⊎◌, IfErr, IfOk, IfSome, slice_get, string_bytes}
 use Rattle.std.specs.List.{AllByRecursion, slice_index_or}
 use Rattle.std.specs.List.Sorted.{IsNonDecreasingBy}
-use Rattle.std.proofs.lemmas.Bool.{le-leb, lt-leb}
+use Rattle.std.proofs.lemmas.Bool.{le-leb}
 use Rattle.std.proofs.lemmas.List.{map-append}
 use Rattle.std.proofs.lemmas.List.Sums.{fold-append}
 use Rattle.ii_io.specs.declared.faults.Fault.{Fault}
@@ -27,13 +27,11 @@ use Rattle.ii_reader.specs.SegmentPostings.{SegmentPostingsState}
 use Rattle.iiq.specs.declared.session.Session.{Session as SessionKept}
 use Rattle.iiq.specs.Known.{AreGathered, GivesIndex, IsCall, IsOpen, Keeps, Knows, KnowsIndex}
 use Rattle.iiq.specs.Output.{list_text, look_up_text, key_text}
+use Rattle.iiq.proofs.ReplyLemmas.{ok_no_err}
 use Rattle.iiq.specs.Session.{Session, gathering, opened, refused, Indexes, IsIndexed, fields, kept_with, num_docs_of, refusal_of}
 
 err_is : {A E : Type 0} (r : Result A E) (x y : E) → r ≡ Err x → r ≡ Err y → x ≡ y
 err_is r x y p q = cc
-
-no_err : {A E : Type 0} (r : Result A E) (x : A) (y : E) → r ≡ Ok x → r ≡ Err y → ⊥
-no_err r x y p q = cc
 
 -- where a number is at most that of each element, and of one more
 least_more : {X : Type 0} (f : X → ℕ) (m : ℕ) (xs : List X) (y d : X) → ((k : ℕ) → k < length xs → m ≤ f (slice_index_or xs k d)) → m ≤ f y
@@ -80,24 +78,7 @@ gathered_more kept n calls call g may low =
       };
     }
 
-pub nothing_gathered : AreGathered [] 0 []
-nothing_gathered = record { calls_are = refl; num_docs_is = refl; most = omega arith; may = record { each = tt; ordered = λ i j d low within. absurd (omega (arith, within)) } }
-
--- nothing is kept once an index was asked for
-pub none_kept : (kept : List IndexCall) (n : ℕ) (index : Option (Result (List InvertedIndexReaderState) Fault)) (s : Session) (c : Call) → is_some index ≡ true → KnowsIndex kept n index s → kept_with s c ≡ None
-none_kept kept n None s c some knows = absurd (cc)
-none_kept kept n (Some (Ok readers)) s c some knows = rw knows.1 refl
-none_kept kept n (Some (Err fault)) s c some knows = rw knows refl
-
--- nor a call below the last one
-pub late_not_kept : (kept : List IndexCall) (n : ℕ) (index : Option (Result (List InvertedIndexReaderState) Fault)) (s : Session) (c : Call) → is_some index ≡ false → KnowsIndex kept n index s → c.doc + 1 < n → kept_with s c ≡ None
-late_not_kept kept n None s c none knows late =
-    let is = knows.2.num_docs_is in
-    let below : nat_le (num_docs_of knows.0) (c.doc + 1) ≡ false = lt-leb (num_docs_of knows.0) (c.doc + 1) (omega (arith, late, is)) in
-    rw (knows.1, below) refl
-late_not_kept kept n (Some found) s c none knows late = absurd (cc)
-
--- one that follows is
+-- a call that follows is kept
 pub kept_then : (kept : List IndexCall) (n : ℕ) (index : Option (Result (List InvertedIndexReaderState) Fault)) (s : Session) (call : IndexCall) → is_some index ≡ false → KnowsIndex kept n index s → IsCall call → n ≤ (call_of call).doc + 1
     → (calls : List Call) × (kept_with s (call_of call) ≡ Some (gathering calls)) × KnowsIndex (kept ++ call ∷ []) ((call_of call).doc + 1) index (gathering calls)
 kept_then kept n None s call none knows may low =
@@ -106,18 +87,7 @@ kept_then kept n None s call none knows may low =
     (knows.0 ++ call_of call ∷ [], rw (knows.1, above) refl, (knows.0 ++ call_of call ∷ [], refl, gathered_more kept n knows.0 call knows.2 may low))
 kept_then kept n (Some found) s call none knows may low = absurd (cc)
 
--- what is asked where no index was asked for yet
-pub gathered_if : (kept : List IndexCall) (n : ℕ) (index : Option (Result (List InvertedIndexReaderState) Fault)) (s : Session) → is_some index ≡ false → KnowsIndex kept n index s → (calls : List Call) × AreGathered kept n calls
-gathered_if kept n None s none knows = (knows.0, knows.2)
-gathered_if kept n (Some found) s none knows = absurd (cc)
-
--- an index that was asked for stays
-pub indexed_before : (kept : List IndexCall) (n : ℕ) (index : Option (Result (List InvertedIndexReaderState) Fault)) (s : Session) → is_some index ≡ true → KnowsIndex kept n index s → Indexes s s
-indexed_before kept n None s some knows = absurd (cc)
-indexed_before kept n (Some (Ok readers)) s some knows = subst (λ (t : Session). Indexes t t) (sym knows.1) refl
-indexed_before kept n (Some (Err fault)) s some knows = subst (λ (t : Session). Indexes t t) (sym knows) refl
-
--- and so it is for one that is asked for now
+-- an index that is asked for now
 pub indexed_now : (kept more : List IndexCall) (n : ℕ) (index : Option (Result (List InvertedIndexReaderState) Fault)) (s : Session) (found : Result (List InvertedIndexReaderState) Fault) → is_some index ≡ false → KnowsIndex kept n index s → GivesIndex (map call_of kept) found
     → (t : Session) × Indexes s t × KnowsIndex more n (Some found) t
 indexed_now kept more n None s (Ok readers) none knows gives =
@@ -172,7 +142,7 @@ gives_index schema n kept found schema_is n_is holds many known fault =
         → (why ≡ None → IfErr found (λ e. (e ≡ OutOfMemory) ⊎ IsRamFault fields n (tokens_of ascii_words calls) e))
         → GivesIndex calls found
     gives_cases n calls (Ok readers) None n_is why holds many known fault = (tokens_of ascii_words calls, (why, refl), record { many = many; hold = holds })
-    gives_cases n calls (Ok readers) (Some f) n_is why holds many known fault = absurd (⊎_elim (λ e. no_err (Ok readers) readers f refl e) (λ e. no_err (Ok readers) readers OutOfMemory refl e) known)
+    gives_cases n calls (Ok readers) (Some f) n_is why holds many known fault = absurd (⊎_elim (λ e. ok_no_err (Ok readers) readers f refl e) (λ e. ok_no_err (Ok readers) readers OutOfMemory refl e) known)
     gives_cases n calls (Err e) None n_is why holds many known fault =
         ⊎_elim inl (λ limit. inr (inr (why, subst (λ (m : ℕ). IsRamFault fields m (tokens_of ascii_words calls) e) n_is limit))) (fault refl)
     gives_cases n calls (Err e) (Some f) n_is why holds many known fault =
