@@ -1,14 +1,18 @@
 -- Worked rows, each computed.
-use Rattle.std.specs.Prelude.{◌≡◌, ℕ, List, [], ◌∷◌, codes, length, replicate, true, None, Some, refl}
+use Rattle.std.specs.Prelude.{◌≡◌, ℕ, List, [], ◌∷◌, ◌++◌, codes, length, replicate, true, false, None, Some, refl}
 use Rattle.ii_io.specs.declared.faults.Fault.TheVariants.{DecreasingPosition, Limit}
 use Rattle.ii_io.specs.declared.faults.LimitName.TheVariants as limit
+use Rattle.ii_io.specs.Composite.{place_bytes, written_composite}
+use Rattle.ii_io.specs.Numbers.{le_bytes}
+use Rattle.ii_base.specs.Schema.{Entry as SchemaEntry}
+use Rattle.ii_base.specs.declared.schema.value_type.ValueType.TheVariants.{Str}
 use Rattle.ii_base.specs.declared.schema.index_record_option.IndexRecordOption.TheVariants.{WithFreqs, WithFreqsAndPositions}
 use Rattle.ii_base.specs.AsciiWords.{ascii_words}
 use Rattle.ii_base.specs.Values.{u64_bytes}
 use Rattle.ii_base.specs.Words.{Word}
 use Rattle.ii_docset.specs.Entries.{Entry, document}
 use Rattle.ii_fieldnorm.specs.Norms.{id_of_norm, norm_of_id}
-use Rattle.ii_indexing.specs.Norms.{norm_ids}
+use Rattle.ii_indexing.specs.Norms.{norm_file, norm_ids}
 use Rattle.ii_index.specs.Tokens.{Call, IndexToken, text, words, value, tokens_of}
 use Rattle.ii_index.specs.Postings.{doc_count, field_count, key_postings}
 use Rattle.ii_indexing.specs.Refusals.{call_fault}
@@ -96,3 +100,11 @@ number = refl
 pub three_norms : norm_ids 2 0 three ≡ 3 ∷ 0 ∷ []
 unfolding id_of_norm norm_of_id
 three_norms = refl
+
+-- the file of norms of two documents, of one field of texts
+abbrev titles : SchemaEntry
+titles = record { name = codes "title"; value_type = Str; option = WithFreqsAndPositions; is_indexed = true; has_fieldnorms = true; expands_dots = false }
+
+pub two_documents : written_composite (norm_file (titles ∷ []) 2 (tokens_of ascii_words (text_of 0 (codes "a b") ∷ record (text_of 0 (codes "a")) { doc = 1 } ∷ []))) ≡ 2 ∷ 1 ∷ replicate 12 0 ++ 2 ∷ replicate 7 0 ++ 1 ∷ replicate 3 0
+unfolding id_of_norm norm_of_id place_bytes le_bytes
+two_documents = refl
