@@ -33,15 +33,20 @@ fn three_positions(alloc: Global) -> Result<Bytes, AllocError> {
     Ok(Bytes::from_vec(bytes)?)
 }
 
+// The widths of three blocks, and four vints.
+static WIDTHS: [u8; 4] = [0x83, 2, 2, 2];
+
+static VINTS: [u8; 4] = [0x81, 0x82, 0x83, 0x82];
+
 // 120 documents with the deltas 1, 2, 3, 2.
 fn four_deltas(alloc: Global) -> Result<Bytes, AllocError> {
     let mut bytes = Vec::new(alloc);
-    bytes.extend_from_slice(&[0x83, 2, 2, 2])?;
+    bytes.extend_from_slice(&WIDTHS)?;
     for _ in 0..96 {
         bytes.push(0xB9)?;
     }
     for _ in 0..24 {
-        bytes.extend_from_slice(&[0x81, 0x82, 0x83, 0x82])?;
+        bytes.extend_from_slice(&VINTS)?;
     }
     Ok(Bytes::from_vec(bytes)?)
 }
@@ -157,26 +162,34 @@ fn many_deltas(alloc: Global) -> Result<Bytes, Fault> {
     Ok(Bytes::from_vec(output.finish())?)
 }
 
+// Whether a part of them is read, of at most 400.
+fn is_part_read(reader: &mut PositionReader, offset: u32, len: u32) -> bool {
+    let mut output = [0; 400];
+    let part = &mut output[..len.min(400) as usize];
+    if !read_if_there(reader, u64::from(offset), part) {
+        return false;
+    }
+    for (i, found) in part.iter().enumerate() {
+        if *found != delta(offset.wrapping_add(i as u32)) {
+            return false;
+        }
+    }
+    true
+}
+
 #[test]
 fn any_part_is_read_in_any_order(rt: HostRuntime) -> Result<(), Fail> {
     let Ok(mut reader) = PositionReader::open(many_deltas(rt.alloc())?) else {
         panic!(rt; "refused");
     };
     assert!(rt; reader.len() == u128::from(NUM_DELTAS));
-    let mut output = [0; 400];
     for k in 0..500u32 {
         let offset = k.wrapping_mul(0x85EB_CA6B) % NUM_DELTAS;
         let len = (k * 7 % 400).min(NUM_DELTAS - offset);
-        let part = &mut output[..len as usize];
-        assert!(rt; read_if_there(&mut reader, u64::from(offset), part));
-        for (i, found) in part.iter().enumerate() {
-            assert!(rt; *found == delta(offset + i as u32), "read {k}, {i}");
-        }
+        assert!(rt; is_part_read(&mut reader, offset, len), "read {k}");
     }
-    let mut one = [0];
     for i in 0..NUM_DELTAS {
-        assert!(rt; read_if_there(&mut reader, u64::from(i), &mut one));
-        assert!(rt; one[0] == delta(i), "delta {i}");
+        assert!(rt; is_part_read(&mut reader, i, 1), "delta {i}");
     }
     Ok(())
 }
@@ -196,36 +209,53 @@ fn a_refused_writer_is_closed(rt: HostRuntime) {
     assert!(rt; output.failed_calls() == 1);
 }
 
-// Writes a block and two deltas more.
+// A block of ones.
+static ONES: [u32; 128] = [1; 128];
+
+// Writes it and two deltas more.
 fn write_some(serializer: &mut PositionSerializer<FailingWriter>) -> Result<(), Fault> {
-    serializer.write_positions_delta(&[1; 128])?;
+    serializer.write_positions_delta(&ONES)?;
     serializer.write_positions_delta(&[2, 3])?;
     serializer.close_term()
 }
 
-#[test]
-fn a_failing_writer_is_told(rt: HostRuntime) {
+// How writing them ends where a call fails, how closing does, and what is written.
+fn failing(
+    alloc: Global,
+    failing_call: u64,
+) -> (FailingWriter, Result<(), Fault>, Result<(), Fault>) {
+    let output = CountingWriter::wrap(FailingWriter::new(alloc, failing_call));
+    let mut serializer = PositionSerializer::new(alloc, output);
+    let answer = write_some(&mut serializer);
+    let (output, closed) = serializer.close();
+    (output.finish(), answer, closed)
+}
+
+// Whether so many bytes are written, as those of a writer that does not fail begin.
+fn begins(writer: &FailingWriter, len: usize) -> bool {
     let mut right = [0xFF; 20];
     right[..2].copy_from_slice(&[0x81, 1]);
     right[18..].copy_from_slice(&[0x82, 0x83]);
-    let places = [20, 0, 1, 2, 18, 20, 20];
-    for k in 0..7 {
-        let output = CountingWriter::wrap(FailingWriter::new(rt.alloc(), k));
-        let mut serializer = PositionSerializer::new(rt.alloc(), output);
-        let answer = write_some(&mut serializer);
-        assert!(rt; answer.is_err() == (0 < k && k < 5), "call {k}");
-        assert!(rt; answer.is_ok() || answer == Err(Fault::Write), "call {k}");
-        let (output, closed) = serializer.close();
-        // the fifth call is the flush
-        let told = match k {
-            0 | 6 => Ok(()),
-            5 => Err(Fault::Write),
-            _ => Err(Fault::SerializerClosed),
-        };
+    if writer.bytes().len() != len {
+        return false;
+    }
+    right.starts_with(writer.bytes())
+}
+
+#[test]
+fn a_failing_writer_is_told(rt: HostRuntime) {
+    for (k, len) in [(1, 0), (2, 1), (3, 2), (4, 18)] {
+        let (writer, answer, closed) = failing(rt.alloc(), k);
+        assert!(rt; answer == Err(Fault::Write), "call {k}");
+        assert!(rt; closed == Err(Fault::SerializerClosed), "call {k}");
+        assert!(rt; begins(&writer, len), "call {k}");
+    }
+    // the fifth call is the flush
+    for (k, told) in [(0, Ok(())), (5, Err(Fault::Write)), (6, Ok(()))] {
+        let (writer, answer, closed) = failing(rt.alloc(), k);
+        assert!(rt; answer == Ok(()), "call {k}");
         assert!(rt; closed == told, "call {k}");
-        let writer = output.finish();
-        assert!(rt; right.starts_with(writer.bytes()), "call {k}");
-        assert!(rt; writer.bytes().len() == places[k as usize], "call {k}");
+        assert!(rt; begins(&writer, 20), "call {k}");
     }
 }
 
@@ -235,20 +265,29 @@ fn is_damaged(alloc: Global, data: &[u8]) -> Result<bool, AllocError> {
     Ok(matches!(opened, Err(LayoutFault::Damaged(Part::Positions))))
 }
 
+// Whether a block of a width is refused that is so long, with its head of two bytes.
+fn is_block_damaged(alloc: Global, width: u8, len: usize) -> Result<bool, AllocError> {
+    let mut wide = [0; 530];
+    wide[0] = 0x81;
+    wide[1] = width;
+    is_damaged(alloc, &wide[..len.min(530)])
+}
+
+#[test]
+fn damaged_blocks_are_told(rt: HostRuntime) -> Result<(), Fail> {
+    // a width above 32, and a block that is cut
+    assert!(rt; is_block_damaged(rt.alloc(), 33, 530)?);
+    assert!(rt; !is_block_damaged(rt.alloc(), 32, 514)?);
+    assert!(rt; is_block_damaged(rt.alloc(), 32, 513)?);
+    assert!(rt; !is_block_damaged(rt.alloc(), 1, 18)?);
+    assert!(rt; is_block_damaged(rt.alloc(), 1, 17)?);
+    Ok(())
+}
+
 #[test]
 fn damage_is_told(rt: HostRuntime) -> Result<(), Fail> {
     assert!(rt; is_damaged(rt.alloc(), &[])?);
     assert!(rt; !is_damaged(rt.alloc(), &[0x80])?);
-    // a width above 32, and a block that is cut
-    let mut wide = [0; 530];
-    wide[..2].copy_from_slice(&[0x81, 33]);
-    assert!(rt; is_damaged(rt.alloc(), &wide)?);
-    wide[1] = 32;
-    assert!(rt; !is_damaged(rt.alloc(), &wide[..514])?);
-    assert!(rt; is_damaged(rt.alloc(), &wide[..513])?);
-    wide[1] = 1;
-    assert!(rt; !is_damaged(rt.alloc(), &wide[..18])?);
-    assert!(rt; is_damaged(rt.alloc(), &wide[..17])?);
     // 128 vints, and one without an end
     assert!(rt; is_damaged(rt.alloc(), &[0x80; 129])?);
     assert!(rt; !is_damaged(rt.alloc(), &[0x80; 128])?);

@@ -44,48 +44,69 @@ fn write_below<W: Write>(
     serializer.close_term(count, output)
 }
 
+// What is written of 128 documents, each with the count 3.
+fn block(alloc: Global, mode: IndexRecordOption) -> Result<Vec<u8>, Fault> {
+    let mut output = CountingWriter::wrap(Vec::new(alloc));
+    write_below(alloc, mode, 128, &mut output)?;
+    Ok(output.finish())
+}
+
 #[test]
 fn blocks_are_written(rt: HostRuntime) -> Result<(), Fail> {
-    let mut output = CountingWriter::wrap(Vec::new(rt.alloc()));
-    write_below(rt.alloc(), IndexRecordOption::Basic, 128, &mut output)?;
-    assert!(rt; output.finish().as_slice() == [0x85, 0x7F, 0, 0, 0, 0x40].as_slice());
+    let bytes = block(rt.alloc(), IndexRecordOption::Basic)?;
+    assert!(rt; bytes.as_slice() == [0x85, 0x7F, 0, 0, 0, 0x40].as_slice());
     reads_documents_back();
     reads_postings_back();
     reads_uncounted_back();
     Ok(())
 }
 
+// Whether bytes begin so, have 0xAA after that, and are so many in all.
+fn is_filled(bytes: &[u8], front: &[u8], len: usize) -> bool {
+    if bytes.len() != len || !bytes.starts_with(front) {
+        return false;
+    }
+    for byte in bytes.iter().skip(front.len()) {
+        if *byte != 0xAA {
+            return false;
+        }
+    }
+    true
+}
+
 #[test]
 fn counts_of_a_block_are_written(rt: HostRuntime) -> Result<(), Fail> {
-    let mut right = [0xAA; 41];
-    right[..9].copy_from_slice(&[0x88, 0x7F, 0, 0, 0, 0x40, 2, 0, 0]);
-    let mut output = CountingWriter::wrap(Vec::new(rt.alloc()));
-    write_below(rt.alloc(), IndexRecordOption::WithFreqs, 128, &mut output)?;
-    assert!(rt; output.finish().as_slice() == right.as_slice());
-    let mut right = [0xAA; 45];
-    right[..13].copy_from_slice(&[0x8C, 0x7F, 0, 0, 0, 0x40, 2, 0x80, 1, 0, 0, 0, 0]);
-    let mut output = CountingWriter::wrap(Vec::new(rt.alloc()));
-    let mode = IndexRecordOption::WithFreqsAndPositions;
-    write_below(rt.alloc(), mode, 128, &mut output)?;
-    assert!(rt; output.finish().as_slice() == right.as_slice());
+    let bytes = block(rt.alloc(), IndexRecordOption::WithFreqs)?;
+    assert!(rt; is_filled(&bytes, &[0x88, 0x7F, 0, 0, 0, 0x40, 2, 0, 0], 41));
+    let bytes = block(rt.alloc(), IndexRecordOption::WithFreqsAndPositions)?;
+    let front = [0x8C, 0x7F, 0, 0, 0, 0x40, 2, 0x80, 1, 0, 0, 0, 0];
+    assert!(rt; is_filled(&bytes, &front, 45));
     Ok(())
+}
+
+// How writing 130 documents ends where a call fails, and what is written.
+fn failing(
+    alloc: Global,
+    mode: IndexRecordOption,
+    failing_call: u64,
+) -> (FailingWriter, Result<(), Fault>) {
+    let mut output = CountingWriter::wrap(FailingWriter::new(alloc, failing_call));
+    let answer = write_below(alloc, mode, 130, &mut output);
+    (output.finish(), answer)
 }
 
 #[test]
 fn a_failing_writer_is_told(rt: HostRuntime) {
     let right = [0x85, 0x7F, 0, 0, 0, 0x40, 0x81, 0x81];
-    for k in 1..6 {
-        let mut output = CountingWriter::wrap(FailingWriter::new(rt.alloc(), k));
-        let answer = write_below(rt.alloc(), IndexRecordOption::Basic, 130, &mut output);
-        assert!(rt; answer.is_err() == (k < 4), "call {k}");
-        assert!(rt; answer.is_ok() || answer == Err(Fault::Write), "call {k}");
-        let writer = output.finish();
-        let written = if k < 4 {
-            usize::from(k > 1) + usize::from(k > 2) * 5
-        } else {
-            8
-        };
+    for (k, written) in [(1, 0), (2, 1), (3, 6)] {
+        let (writer, answer) = failing(rt.alloc(), IndexRecordOption::Basic, k);
+        assert!(rt; answer == Err(Fault::Write), "call {k}");
         assert!(rt; writer.bytes() == &right[..written], "call {k}");
+    }
+    for k in 4..6 {
+        let (writer, answer) = failing(rt.alloc(), IndexRecordOption::Basic, k);
+        assert!(rt; answer == Ok(()), "call {k}");
+        assert!(rt; writer.bytes() == right.as_slice(), "call {k}");
     }
 }
 
@@ -94,14 +115,15 @@ fn a_failing_writer_is_told_with_counts(rt: HostRuntime) {
     let mut right = [0xAA; 45];
     right[..9].copy_from_slice(&[0x88, 0x7F, 0, 0, 0, 0x40, 2, 0, 0]);
     right[41..].copy_from_slice(&[0x81, 0x81, 0x83, 0x83]);
-    let places = [0, 0, 1, 9, 41, 43, 45, 45];
-    for k in 1..8 {
-        let mut output = CountingWriter::wrap(FailingWriter::new(rt.alloc(), k));
-        let answer = write_below(rt.alloc(), IndexRecordOption::WithFreqs, 130, &mut output);
-        assert!(rt; answer.is_err() == (k < 6), "call {k}");
-        assert!(rt; answer.is_ok() || answer == Err(Fault::Write), "call {k}");
-        let writer = output.finish();
-        assert!(rt; writer.bytes() == &right[..places[k as usize]], "call {k}");
+    for (k, written) in [(1, 0), (2, 1), (3, 9), (4, 41), (5, 43)] {
+        let (writer, answer) = failing(rt.alloc(), IndexRecordOption::WithFreqs, k);
+        assert!(rt; answer == Err(Fault::Write), "call {k}");
+        assert!(rt; writer.bytes() == &right[..written], "call {k}");
+    }
+    for k in 6..8 {
+        let (writer, answer) = failing(rt.alloc(), IndexRecordOption::WithFreqs, k);
+        assert!(rt; answer == Ok(()), "call {k}");
+        assert!(rt; writer.bytes() == right.as_slice(), "call {k}");
     }
 }
 
@@ -121,17 +143,28 @@ fn write_three<W: Write>(
     serializer.close_term(3, output)
 }
 
+// Drops a document of an open term, and writes a term without counts, one without documents and one
+// with counts.
+fn write_terms(
+    serializer: &mut PostingsSerializer,
+    output: &mut CountingWriter<Vec<u8>>,
+) -> Result<(), Fault>
+    requires { serializer.old.docs ≡ [] }
+{
+    serializer.write_doc(7, 1)?;
+    serializer.new_term(3, false);
+    write_three(serializer, 0, output)?;
+    serializer.close_term(0, output)?;
+    serializer.new_term(3, true);
+    write_three(serializer, 1, output)
+}
+
 #[test]
 fn terms_are_written_one_after_the_other(rt: HostRuntime) -> Result<(), Fail> {
     let norms = Some(FieldNormReader::constant(11, 10));
     let mut serializer = PostingsSerializer::new(rt.alloc(), IndexRecordOption::WithFreqs, norms);
     let mut output = CountingWriter::wrap(Vec::new(rt.alloc()));
-    serializer.write_doc(7, 1)?;
-    serializer.new_term(3, false);
-    write_three(&mut serializer, 0, &mut output)?;
-    serializer.close_term(0, &mut output)?;
-    serializer.new_term(3, true);
-    write_three(&mut serializer, 1, &mut output)?;
+    write_terms(&mut serializer, &mut output)?;
     assert!(rt;
         output.finish().as_slice()
             == [0x80, 0x82, 0x88, 0x80, 0x82, 0x88, 0x81, 0x82, 0x83].as_slice()

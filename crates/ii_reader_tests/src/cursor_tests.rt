@@ -16,6 +16,20 @@ const BASIC: IndexRecordOption = IndexRecordOption::Basic;
 
 const FULL: IndexRecordOption = IndexRecordOption::WithFreqsAndPositions;
 
+// Even documents, odd ones, document 0 twice, and document 7.
+static EVEN: [u8; 3] = [0x80, 0x82, 0x82];
+
+static ODD: [u8; 3] = [0x81, 0x82, 0x82];
+
+static TWICE: [u8; 2] = [0x80, 0x80];
+
+static SEVEN: [u8; 1] = [0x87];
+
+// Document 0 with two positions, and without a count.
+static TEXT: [u8; 2] = [0x80, 0x82];
+
+static NUMBER: [u8; 1] = [0x80];
+
 // A block cursor over a list of documents alone.
 fn blocks_over(doc_freq: u32, bytes: &'static [u8]) -> Result<BlockSegmentPostings, LayoutFault> {
     BlockSegmentPostings::open(doc_freq, Bytes::from_static(bytes), BASIC, BASIC)
@@ -33,10 +47,10 @@ fn reset(
 #[test]
 fn counts_are_reset(rt: HostRuntime) -> Result<(), Fail> {
     // a text with two positions, and then a number
-    let text = Bytes::from_static(&[0x80, 0x82]);
+    let text = Bytes::from_static(&TEXT);
     let mut blocks = BlockSegmentPostings::open(1, text, FULL, FULL)?;
     assert!(rt; first_freq(&blocks) == 2);
-    reset(&mut blocks, 1, &[0x80])?;
+    reset(&mut blocks, 1, &NUMBER)?;
     assert!(rt; first_freq(&blocks) == 1);
     assert!(rt; blocks.freq_reading_option() == FreqReadingOption::NoFreq);
     Ok(())
@@ -45,40 +59,43 @@ fn counts_are_reset(rt: HostRuntime) -> Result<(), Fail> {
 #[test]
 fn cursors_are_reset(rt: HostRuntime) -> Result<(), Fail> {
     // even documents, and then odd ones
-    let mut blocks = blocks_over(3, &[0x80, 0x82, 0x82])?;
+    let mut blocks = blocks_over(3, &EVEN)?;
     assert!(rt; shows(&blocks, &[0, 2, 4]));
-    reset(&mut blocks, 3, &[0x81, 0x82, 0x82])?;
+    reset(&mut blocks, 3, &ODD)?;
     assert!(rt; shows(&blocks, &[1, 3, 5]));
     Ok(())
 }
 
 #[test]
 fn refused_resets_leave_nothing(rt: HostRuntime) -> Result<(), Fail> {
-    let mut blocks = blocks_over(3, &[0x81, 0x82, 0x82])?;
+    let mut blocks = blocks_over(3, &ODD)?;
     // a document that comes twice
-    let refused = reset(&mut blocks, 2, &[0x80, 0x80]);
+    let refused = reset(&mut blocks, 2, &TWICE);
     assert!(rt; matches!(refused, Err(LayoutFault::Damaged(Part::Documents))));
     assert!(rt; shows(&blocks, &[]));
     assert!(rt; blocks.doc_freq() == 0);
-    reset(&mut blocks, 1, &[0x87])?;
+    reset(&mut blocks, 1, &SEVEN)?;
     assert!(rt; shows(&blocks, &[7]));
     Ok(())
 }
 
 #[test]
 fn copies_stay_at_a_refused_reset(rt: HostRuntime) -> Result<(), Fail> {
-    let mut blocks = blocks_over(3, &[0x81, 0x82, 0x82])?;
+    let mut blocks = blocks_over(3, &ODD)?;
     let copy = blocks.clone()?;
-    assert!(rt; reset(&mut blocks, 2, &[0x80, 0x80]).is_err());
+    assert!(rt; reset(&mut blocks, 2, &TWICE).is_err());
     assert!(rt; shows(&copy, &[1, 3, 5]));
     Ok(())
 }
 
-// A cursor over documents 0, 2 and 10.
+// Documents 0, 2 and 10.
+static THREE: [u8; 3] = [0x80, 0x82, 0x88];
+
+// A cursor over them.
 fn three() -> Option<SegmentPostings>
     ensures { IfSome result (λ cursor. cursor.rest ≡ document 0 ∷ document 2 ∷ document 10 ∷ []) }
 {
-    let bytes = Bytes::from_static(&[0x80, 0x82, 0x88]);
+    let bytes = Bytes::from_static(&THREE);
     match SegmentPostings::open(3, bytes, None, BASIC, BASIC) {
         Ok(cursor) => Some(cursor),
         Err(_) => None,

@@ -52,12 +52,17 @@ fn damaged(
     }
 }
 
-// A cursor over document 0, in which a term stands at 0 and 4.
+// Document 0, in which a term stands at 0 and 4.
+static TWO_POSTINGS: [u8; 2] = [0x80, 0x82];
+
+static TWO_POSITIONS: [u8; 3] = [0x80, 0x80, 0x84];
+
+// A cursor over it.
 fn two_positions() -> Option<SegmentPostings>
     ensures { IfSome result (λ cursor. cursor.rest ≡ record { doc = 0; term_freq = 2; positions = 0 ∷ 4 ∷ [] } ∷ []) }
 {
-    let postings = Bytes::from_static(&[0x80, 0x82]);
-    let positions = Some(Bytes::from_static(&[0x80, 0x80, 0x84]));
+    let postings = Bytes::from_static(&TWO_POSTINGS);
+    let positions = Some(Bytes::from_static(&TWO_POSITIONS));
     match SegmentPostings::open(1, postings, positions, FULL, FULL) {
         Ok(cursor) => Some(cursor),
         Err(_) => None,

@@ -4,7 +4,7 @@ use ascending_terms::AscendingTerms;
 use bytes::Bytes;
 use ii_io::{CountingWriter, FailingWriter, Fault, Part};
 use ii_termdict::written::reads_dictionary_back;
-use ii_termdict::{TermDictionary, TermDictionaryWriter, TermInfo};
+use ii_termdict::{TermDictionary, TermDictionaryWriter, TermInfo, TermStreamer};
 use std::alloc::Global;
 use std::test::Fail;
 
@@ -47,16 +47,23 @@ fn build(alloc: Global, failing_call: u64) -> (FailingWriter, Result<(), Fault>)
     (writer.finish(), term.and(finished))
 }
 
+// How many bytes of that dictionary are written where a call fails, if no others are, and the answer.
+fn ending(alloc: Global, failing_call: u64) -> (Option<usize>, Result<(), Fault>) {
+    let (writer, answer) = build(alloc, failing_call);
+    if one().starts_with(writer.bytes()) {
+        return (Some(writer.bytes().len()), answer);
+    }
+    (None, answer)
+}
+
 #[test]
-fn writes_one_key(rt: HostRuntime) -> Result<(), Fail> {
-    let (writer, answer) = build(rt.alloc(), 0);
-    assert!(rt; answer == Ok(()));
-    assert!(rt; writer.bytes() == one().as_slice());
+fn writes_one_key(rt: HostRuntime) {
+    assert!(rt; ending(rt.alloc(), 0) == (Some(73), Ok(())));
     let mut failed = 0;
     for k in 1..20 {
-        let (writer, answer) = build(rt.alloc(), k);
-        assert!(rt; one().starts_with(writer.bytes()), "call {k}");
-        if writer.bytes().len() == 73 {
+        let (written, answer) = ending(rt.alloc(), k);
+        assert!(rt; written.is_some(), "call {k}");
+        if written == Some(73) {
             assert!(rt; answer == Ok(()), "call {k}");
         } else {
             assert!(rt; answer == Err(Fault::Write), "call {k}");
@@ -64,7 +71,6 @@ fn writes_one_key(rt: HostRuntime) -> Result<(), Fail> {
         }
     }
     assert!(rt; 0 < failed && failed < 19);
-    Ok(())
 }
 
 // Key `i` of keys that ascend.
@@ -84,28 +90,71 @@ fn kept(i: u32) -> TermInfo
     }
 }
 
-#[test]
-fn looks_a_hundred_thousand_keys_up(rt: HostRuntime) -> Result<(), Fail> {
-    let writer = CountingWriter::wrap(Vec::new(rt.alloc()));
-    let mut builder = AscendingTerms::new(rt.alloc(), writer);
+// A dictionary of 100,000 of them, each two above the one before.
+fn many(alloc: Global) -> Result<TermDictionary, Fault> {
+    let writer = CountingWriter::wrap(Vec::new(alloc));
+    let mut builder = AscendingTerms::new(alloc, writer);
     for i in 0..100_000u32 {
         builder.write(&numbered(2 * i + 1), i % 1000, 7, 21)?;
     }
     let (writer, finished) = builder.finish();
     finished?;
-    let terms = TermDictionary::open(Bytes::from_vec(writer.finish())?)?;
+    TermDictionary::open(Bytes::from_vec(writer.finish())?)
+}
+
+// Whether term `i` is found under its key, and nothing under the one below.
+fn is_found(terms: &TermDictionary, i: u32) -> bool
+    requires { i ≤ 1000000 }
+{
+    if terms.get(&numbered(2 * i + 1)) != Some(kept(i)) {
+        return false;
+    }
+    terms.get(&numbered(2 * i)).is_none()
+}
+
+// Whether a stream goes on to term `i`.
+fn goes_on_to(stream: &mut TermStreamer<'_>, i: u32) -> bool
+    requires { i ≤ 1000000 }
+{
+    if !stream.advance() {
+        return false;
+    }
+    if stream.key() != numbered(2 * i + 1).as_slice() {
+        return false;
+    }
+    stream.value() == kept(i)
+}
+
+#[test]
+fn looks_a_hundred_thousand_keys_up(rt: HostRuntime) -> Result<(), Fail> {
+    let terms = many(rt.alloc())?;
     assert!(rt; terms.num_terms() == 100_000);
     let mut stream = terms.stream();
     for i in 0..100_000u32 {
-        let key = numbered(2 * i + 1);
-        assert!(rt; terms.get(&key) == Some(kept(i)), "term {i}");
-        assert!(rt; terms.get(&numbered(2 * i)).is_none(), "term {i}");
-        assert!(rt; stream.advance(), "term {i}");
-        assert!(rt; stream.key() == key.as_slice(), "term {i}");
-        assert!(rt; stream.value() == kept(i), "term {i}");
+        assert!(rt; is_found(&terms, i), "term {i}");
+        assert!(rt; goes_on_to(&mut stream, i), "term {i}");
     }
     assert!(rt; !stream.advance());
     Ok(())
+}
+
+// Whether the key stands at place 0, and none at 1.
+fn has_one_place(alloc: Global, terms: &TermDictionary) -> Result<bool, Fault> {
+    let mut key = Vec::new(alloc);
+    let mut all = terms.ord_to_term(0, &mut key)?;
+    all &= key.as_slice() == b"a".as_slice();
+    all &= !terms.ord_to_term(1, &mut key)?;
+    all &= key.is_empty();
+    Ok(all)
+}
+
+// Whether a stream has one term.
+fn streams_one(terms: &TermDictionary) -> bool {
+    let mut stream = terms.stream();
+    if stream.next().is_none() {
+        return false;
+    }
+    !stream.advance()
 }
 
 #[test]
@@ -116,14 +165,8 @@ fn looks_keys_up(rt: HostRuntime) -> Result<(), Fail> {
     assert!(rt; terms.get(b"") == None);
     let info = terms.get(b"a").ok_or("lost")?;
     assert!(rt; (info.doc_freq, info.postings_range) == (3, 0..3));
-    let mut key = Vec::new(rt.alloc());
-    assert!(rt; terms.ord_to_term(0, &mut key)?);
-    assert!(rt; key.as_slice() == b"a".as_slice());
-    assert!(rt; !terms.ord_to_term(1, &mut key)?);
-    assert!(rt; key.is_empty());
-    let mut stream = terms.stream();
-    assert!(rt; stream.next().is_some());
-    assert!(rt; !stream.advance());
+    assert!(rt; has_one_place(rt.alloc(), &terms)?);
+    assert!(rt; streams_one(&terms));
     assert!(rt; TermDictionary::empty().num_terms() == 0);
     reads_dictionary_back();
     Ok(())
