@@ -1,7 +1,7 @@
 ghost use Rattle.std.specs.Prelude.{◌≡◌, ◌+◌, ◌*◌, ◌≤◌, length, take};
 ghost use Rattle.ii_codes.specs.Packed.{bits_in, unpacked, packed};
 
-use super::{pack, unpack, unpack_sorted};
+use super::{pack, unpack, unpack_sorted, unpack_unsorted};
 use crate::{COMPRESSION_BLOCK_SIZE, compressed_block_size};
 
 // What the definitions say, bit by bit: the fast forms are compared with these.
@@ -113,6 +113,38 @@ fn values_agree(entries: &[u32; 128], width: u8) -> bool
     }
 }
 
+// One more than each entry, one after the other.
+fn plain_raised(entries: &[u32; 128]) -> Option<[u32; 128]> {
+    let mut values = [0u32; 128];
+    for k in 0..128usize {
+        let Some(value) = entries[k].checked_add(1) else {
+            return None;
+        };
+        values[k] = value;
+    }
+    Some(values)
+}
+
+// Whether entries of a width are the same values of an unsorted block as one by one, with no byte
+// after the block and with others after it.
+fn raised_agree(entries: &[u32; 128], width: u8) -> bool
+    requires { width ≤ 32 }
+{
+    let size = compressed_block_size(width);
+    let mut bytes = [0xADu8; 530];
+    pack(entries, width, &mut bytes);
+    let mut short = [7u32; 128];
+    let mut long = [7u32; 128];
+    let used_short = unpack_unsorted(&bytes[..size], width, true, &mut short);
+    let used_long = unpack_unsorted(&bytes, width, true, &mut long);
+    match plain_raised(entries) {
+        Some(values) => {
+            used_short == Some(size) && used_long == Some(size) && short == values && long == values
+        }
+        None => used_short.is_none() && used_long.is_none(),
+    }
+}
+
 #[test]
 fn agrees_with_bit_by_bit_at_each_width(rt: HostRuntime) {
     for width in 0..=32u8 {
@@ -125,5 +157,7 @@ fn agrees_with_bit_by_bit_at_each_width(rt: HostRuntime) {
         assert!(rt; agree(&counted, width));
         assert!(rt; values_agree(&[most; 128], width));
         assert!(rt; values_agree(&counted, width));
+        assert!(rt; raised_agree(&[most; 128], width));
+        assert!(rt; raised_agree(&counted, width));
     }
 }

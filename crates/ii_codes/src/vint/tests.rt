@@ -43,6 +43,40 @@ fn encodes_sorted_vints(rt: HostRuntime) {
 }
 
 #[test]
+fn sums_up_vints_of_each_length(rt: HostRuntime) {
+    let differences = [
+        127,
+        128,
+        16_383,
+        16_384,
+        2_097_151,
+        2_097_152,
+        268_435_455,
+        268_435_456,
+    ];
+    let mut encoder = BlockEncoder::new();
+    let bytes = encoder.compress_vint_unsorted(&differences);
+    assert!(rt; bytes.len() == 24);
+    let mut decoder = BlockDecoder::default();
+    assert!(rt; decoder.try_uncompress_vint_sorted(bytes, 0, 8, 0) == Ok(24));
+    let sums = [
+        127,
+        255,
+        16_638,
+        33_022,
+        2_130_173,
+        4_227_325,
+        272_662_780,
+        541_098_236,
+    ];
+    assert!(rt; decoder.output_array() == sums.as_slice());
+    let refused = decoder.try_uncompress_vint_sorted(bytes, u32::MAX - 541_098_235, 8, 0);
+    assert!(rt; refused == Err(LayoutFault::Damaged(Part::Documents)));
+    assert!(rt; decoder.try_uncompress_vint_sorted(bytes, u32::MAX - 541_098_236, 8, 0) == Ok(24));
+    assert!(rt; decoder.output(7) == u32::MAX);
+}
+
+#[test]
 fn encodes_unsorted_vints(rt: HostRuntime) {
     let mut encoder = BlockEncoder::new();
     assert!(rt; encoder.compress_vint_unsorted(&[1, 2, 3]) == [0x81, 0x82, 0x83].as_slice());

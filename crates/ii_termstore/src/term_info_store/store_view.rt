@@ -176,11 +176,11 @@ fn term_info_at(parts: &Parts<'_>, term_ord: u64) -> TermInfo
 {
     let b = term_ord / BLOCK_TERMS;
     let Some(meta) = read_meta(parts.metas, b) else {
-        return TermInfo::default();
+        unreachable!();
     };
     let terms = count_terms(parts.num_terms, b);
     match sound_info(&meta, parts.bits, terms, (term_ord % BLOCK_TERMS) as usize) {
         Some(info) => info,
-        None => TermInfo::default(),
+        None => unreachable!(),
     }
 }
