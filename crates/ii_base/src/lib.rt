@@ -6,8 +6,6 @@ pub mod alive_bitset;
 pub mod datetime;
 pub mod fast_value;
 pub mod schema;
-#[cfg(test)]
-mod tests;
 pub mod tokenizer;
 
 pub use alive_bitset::AliveBitSet;

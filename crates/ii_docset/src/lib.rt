@@ -7,8 +7,6 @@ pub mod docset;
 pub mod intersection;
 pub mod lent;
 pub mod postings;
-#[cfg(test)]
-mod tests;
 pub mod walking;
 
 pub use calls::{CursorAnswer, CursorCall, Walk};

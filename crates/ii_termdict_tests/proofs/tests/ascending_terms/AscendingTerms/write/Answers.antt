@@ -1,4 +1,4 @@
-use Rattle.std.proofs.Common.{◌≡◌, [], ◌∷◌, ◌++◌, sym, ◌∙◌, arith, length-append}
+use Rattle.std.proofs.Common.{[], ◌∷◌, sym, ◌∙◌, arith, length-append}
 use Rattle.ii_termstore.specs.TermInfos.{term_info_from}
 use Rattle.ii_termstore.specs.ReadBackLemmas.{joined_more, end_at_last}
 use Rattle.ii_termdict.specs.ReadBackLemmas.{ascending_more, last_key}

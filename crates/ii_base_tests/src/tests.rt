@@ -1,6 +1,6 @@
 ghost use Rattle.std.specs.Prelude.{◌≡◌};
 
-use crate::{
+use ii_base::{
     AliveBitSet, AsciiTokenizer, DateTime, FastValue, Fault, Field, FieldEntry, IndexRecordOption,
     Schema, Term, TextAnalyzer, TokenStream, ValueType,
 };
@@ -42,27 +42,47 @@ fn four_fields(alloc: Global) -> Result<Schema, AllocError> {
     Ok(Schema::new(vec![in alloc; text, number, json, stored]?))
 }
 
+// Whether a field is indexed, has norms, and has paths with dots.
+fn told_of(entry: &FieldEntry) -> (bool, bool, bool) {
+    let (indexed, norms) = (entry.is_indexed(), entry.has_fieldnorms());
+    (indexed, norms, entry.expands_dots())
+}
+
 #[test]
 fn schemas_tell_their_fields(rt: HostRuntime) -> Result<(), Fail> {
     let schema = four_fields(rt.alloc())?;
-    assert!(rt; schema.num_fields() == 4);
-    let names = ["text", "number", "json", "stored"];
+    let rows = [
+        ("text", (true, true, false)),
+        ("number", (true, true, false)),
+        ("json", (true, false, true)),
+        ("stored", (false, false, false)),
+    ];
     let mut seen = 0;
-    for (field, entry) in schema.fields() {
+    for ((field, entry), (name, told)) in schema.fields().zip(rows) {
         assert!(rt; field.field_id() == seen);
-        assert!(rt; Some(&entry.name()) == names.get(seen as usize));
-        assert!(rt; entry.is_indexed() == (seen < 3));
-        assert!(rt; entry.has_fieldnorms() == (seen < 2));
-        assert!(rt; entry.expands_dots() == (seen == 2));
+        assert!(rt; entry.name() == name);
+        assert!(rt; told_of(entry) == told);
         seen = seen.saturating_add(1);
     }
     assert!(rt; seen == 4);
-    assert!(rt; schema.num_fields() > 3);
-    let stored = schema.get_field_entry(Field::from_field_id(3));
-    assert!(rt; stored.value_type() == ValueType::Date);
-    assert!(rt; stored.index_record_option() == IndexRecordOption::Basic);
-    let json = schema.get_field_entry(Field::from_field_id(2));
-    assert!(rt; json.index_record_option() == IndexRecordOption::WithFreqs);
+    assert!(rt; schema.num_fields() == 4);
+    Ok(())
+}
+
+// The type of a field, and what is recorded of it, if there is one.
+fn kind_of(schema: &Schema, field: u32) -> Option<(ValueType, IndexRecordOption)> {
+    if field as usize >= schema.num_fields() {
+        return None;
+    }
+    let entry = schema.get_field_entry(Field::from_field_id(field));
+    Some((entry.value_type(), entry.index_record_option()))
+}
+
+#[test]
+fn schemas_tell_what_is_recorded(rt: HostRuntime) -> Result<(), Fail> {
+    let schema = four_fields(rt.alloc())?;
+    assert!(rt; kind_of(&schema, 2) == Some((ValueType::Json, IndexRecordOption::WithFreqs)));
+    assert!(rt; kind_of(&schema, 3) == Some((ValueType::Date, IndexRecordOption::Basic)));
     Ok(())
 }
 
@@ -159,36 +179,66 @@ fn appended<T: FastValue>(alloc: Global, val: T) -> Result<Term, Fault> {
     Ok(term)
 }
 
+// Adds terms of values.
+fn push_values(alloc: Global, terms: &mut Vec<Term>) -> Result<(), Fault> {
+    let field = Field::from_field_id(3);
+    terms.push(Term::from_field_u64(alloc, field, 983)?)?;
+    terms.push(Term::from_field_i64(alloc, field, -4)?)?;
+    terms.push(Term::from_field_bool(alloc, field, true)?)?;
+    terms.push(Term::from_field_bytes(alloc, field, b"ab")?)?;
+    Ok(())
+}
+
+// Adds terms of values under a path.
+fn push_appended(alloc: Global, terms: &mut Vec<Term>) -> Result<(), Fault> {
+    terms.push(appended(alloc, 4u64)?)?;
+    terms.push(appended(alloc, -4i64)?)?;
+    terms.push(appended(alloc, true)?)?;
+    terms.push(appended(alloc, DateTime(5))?)?;
+    let mut term = Term::from_field_text(alloc, Field::from_field_id(3), "color")?;
+    term.append_type_and_str("red")?;
+    terms.push(term)?;
+    Ok(())
+}
+
+// Whether terms of field 3 have these bytes, as many as there are.
+fn have_bytes(terms: &[Term], rows: &[&'static [u8]]) -> bool {
+    if terms.len() != rows.len() {
+        return false;
+    }
+    for (term, row) in terms.iter().zip(rows) {
+        if term.field() != Field::from_field_id(3) || term.serialized_value_bytes() != *row {
+            return false;
+        }
+    }
+    true
+}
+
 #[test]
 fn values_have_terms(rt: HostRuntime) -> Result<(), Fail> {
-    let alloc = rt.alloc();
-    let field = Field::from_field_id(3);
-    let terms = [
-        Term::from_field_u64(alloc, field, 983)?,
-        Term::from_field_i64(alloc, field, -4)?,
-        Term::from_field_bool(alloc, field, true)?,
-        Term::from_field_bytes(alloc, field, b"ab")?,
-        appended(alloc, 4u64)?,
-        appended(alloc, -4i64)?,
-        appended(alloc, true)?,
-        appended(alloc, DateTime(5))?,
-    ];
-    let rows: [&[u8]; 8] = [
+    let mut terms = Vec::new(rt.alloc());
+    push_values(rt.alloc(), &mut terms)?;
+    let rows: [&'static [u8]; 4] = [
         b"\x00\x00\x00\x00\x00\x00\x03\xd7",
         b"\x7f\xff\xff\xff\xff\xff\xff\xfc",
         b"\x00\x00\x00\x00\x00\x00\x00\x01",
         b"ab",
+    ];
+    assert!(rt; have_bytes(terms.as_slice(), &rows));
+    Ok(())
+}
+
+#[test]
+fn values_under_paths_have_terms(rt: HostRuntime) -> Result<(), Fail> {
+    let mut terms = Vec::new(rt.alloc());
+    push_appended(rt.alloc(), &mut terms)?;
+    let rows: [&'static [u8]; 5] = [
         b"nu\x00\x00\x00\x00\x00\x00\x00\x04",
         b"ni\x7f\xff\xff\xff\xff\xff\xff\xfc",
         b"no\x00\x00\x00\x00\x00\x00\x00\x01",
         b"nd\x80\x00\x00\x00\x00\x00\x00\x05",
+        b"colorsred",
     ];
-    for (term, row) in terms.iter().zip(rows) {
-        assert!(rt; term.field() == field);
-        assert!(rt; term.serialized_value_bytes() == row);
-    }
-    let mut term = Term::from_field_text(alloc, field, "color")?;
-    term.append_type_and_str("red")?;
-    assert!(rt; term.serialized_value_bytes() == b"colorsred".as_slice());
+    assert!(rt; have_bytes(terms.as_slice(), &rows));
     Ok(())
 }

@@ -3,8 +3,8 @@ ghost use Rattle.std.specs.List.{All};
 ghost use Rattle.ii_docset.specs.Entries.{Entry};
 ghost use Rattle.ii_docset.specs.Cursor.{IsSound};
 
-use crate::{DocId, DocSet, Postings, TERMINATED};
 use ii_base::Fault;
+use ii_docset::{DocId, DocSet, Postings, TERMINATED};
 use std::marker::Model;
 
 // A document, and where a term occurs there.
@@ -22,7 +22,7 @@ pub struct ListPostings {
 
 impl Model for ListPostings {
     ghost use Rattle.std.specs.Prelude.{List, length, map};
-    ghost use Rattle.ii_docset.specs.declared.tests.list_postings.Place.{Place};
+    ghost use Rattle.ii_docset_tests.specs.declared.tests.list_postings.Place.{Place};
     ghost use Rattle.ii_docset.specs.Cursor.{IsSound};
     ghost use Rattle.ii_docset.specs.Entries.{Entry};
 

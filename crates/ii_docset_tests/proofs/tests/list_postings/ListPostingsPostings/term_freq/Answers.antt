@@ -1,7 +1,7 @@
 use Rattle.std.proofs.Common.{arith}
 use Rattle.std.proofs.lemmas.List.Elements.{All-head}
 use Rattle.ii_docset.specs.Cursor.{FitsU32}
-use Rattle.ii_docset.proofs.tests.list_postings.ListPostingsPostings.term_freq.Goals as goal
+use Rattle.ii_docset_tests.proofs.tests.list_postings.ListPostingsPostings.term_freq.Goals as goal
 
 pub overflow_cast-result : goal.overflow_cast-result
 overflow_cast-result c =

@@ -1,8 +1,8 @@
 use Rattle.std.proofs.Common.{List, refl, ◌∙◌}
 use denote.Param.Object.{read_made}
 use Rattle.ii_docset.specs.Entries.{Entry}
-use Rattle.ii_docset.proofs.tests.cursors_are_walked.OwnLists.{own-1, at-1-1}
-use Rattle.ii_docset.proofs.tests.cursors_are_walked.Goals as goal
+use Rattle.ii_docset_tests.proofs.tests.cursors_are_walked.OwnLists.{own-1, at-1-1}
+use Rattle.ii_docset_tests.proofs.tests.cursors_are_walked.Goals as goal
 
 pub row-requires-3 : goal.row-requires-3
 row-requires-3 g c =

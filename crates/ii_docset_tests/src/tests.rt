@@ -4,11 +4,11 @@ ghost use Rattle.ii_docset.specs.Cursor.{doc_at, from_doc, IsDangerAnswer, IsSou
 
 mod list_postings;
 
-use crate::{
+use ii_base::AliveBitSet;
+use ii_docset::{
     COLLECT_BLOCK_BUFFER_LEN, CursorAnswer, CursorCall, DocId, DocSet, Lent, Postings,
     SeekDangerResult, TERMINATED, Walk, intersect, walk,
 };
-use ii_base::AliveBitSet;
 use list_postings::{ListPostings, Place};
 use std::alloc::Global;
 use std::marker::Model;
