@@ -9,9 +9,9 @@ use Rattle.std.specs.List.{concat}
 use Rattle.ii_io.specs.Steps.{◌>>=◌}
 use Rattle.ii_io.specs.StepLemmas.{needs-some, step-some, some-same}
 use Rattle.ii_codes.specs.Packed.{unpacked}
-use Rattle.ii_codes.specs.Blocks.{unsorted_block_at}
+use Rattle.ii_codes.specs.Blocks.{raised, unsorted_block_at}
 use Rattle.ii_codes.specs.UnsortedVints.{u32s_until_end}
-use Rattle.ii_codes.proofs.BlockLemmas.{unsorted-wide, unsorted-short, unsorted-plain}
+use Rattle.ii_codes.proofs.BlockLemmas.{not_raised, unsorted-wide, unsorted-short, unsorted-plain}
 use Rattle.ii_layout.specs.Each.{each}
 use Rattle.ii_layout.specs.Positions.{PositionList, position_list, place_by_widths, block_deltas, rest_deltas, position_deltas}
 use Rattle.ii_layout.specs.PositionReader.{deltas_of, list_at, AreAnchors, anchored, rest_at, deltas_at_block, KeepsBlock}
@@ -98,7 +98,8 @@ block_there : (widths body : List ℕ) (place block : ℕ) → place ≡ place_b
     → block_deltas (record { widths = widths; body = body }) block ≡ Some (unpacked (get_or widths block 0) (drop place body))
 block_there widths body place block place_is narrow enough =
     let w = get_or widths block 0 in
-    let read = unsorted-plain false (get_or widths block 0) (16 * get_or widths block 0) (drop place body) (unpacked (get_or widths block 0) (drop place body)) narrow (omega (arith, length-drop place body)) refl refl refl in
+    let plain = sym (not_raised (get_or widths block 0) (drop place body) (raised 0 (unpacked (get_or widths block 0) (drop place body))) refl) in
+    let read = unsorted-plain false (get_or widths block 0) (16 * get_or widths block 0) (drop place body) (unpacked (get_or widths block 0) (drop place body)) narrow (omega (arith, length-drop place body)) refl plain refl in
     rw (← place_is, ← read) refl
 
 pub finds_more : (widths body : List ℕ) (stride place block size : ℕ) (anchors new : List ℕ) → FindsBlocks widths body stride anchors place block → block < length widths → length widths < 64 * stride
