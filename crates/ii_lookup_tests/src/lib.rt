@@ -4,4 +4,6 @@
 #[cfg(test)]
 mod index_tests;
 #[cfg(test)]
+mod json_tests;
+#[cfg(test)]
 mod written_tests;

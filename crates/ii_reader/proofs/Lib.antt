@@ -2,6 +2,7 @@ pub mod BlockLemmas
 pub mod BlockSearchLemmas
 pub mod CursorLemmas
 pub mod IndexLemmas
+pub mod JsonLemmas
 pub mod LoadedLemmas
 pub mod PositionLemmas
 pub mod ReaderLemmas

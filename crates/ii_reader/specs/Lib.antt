@@ -1,5 +1,6 @@
 pub mod BlockSegmentPostings
 pub mod InvertedIndexReader
+pub mod JsonFields
 pub mod LoadedPostings
 pub mod OpenIndex
 pub mod SegmentPostings

@@ -2,12 +2,14 @@
 #![tactic(auto)]
 
 pub mod block_segment_postings;
+pub mod field_space;
 pub mod index_files;
 pub mod inverted_index_reader;
 pub mod loaded_postings;
 pub mod segment_postings;
 
 pub use block_segment_postings::BlockSegmentPostings;
+pub use field_space::InvertedIndexFieldSpace;
 pub use index_files::{OpenIndex, open_index};
 pub use inverted_index_reader::InvertedIndexReader;
 pub use loaded_postings::LoadedPostings;
