@@ -35,7 +35,7 @@ entry_at [] n key info first second = absurd (cc)
 entry_at ((k, i) ∷ es) zero key info first second = cc
 entry_at (e ∷ es) (suc n) key info first second = entry_at es n key info first second
 
-label_is : (s t : FieldSpaceState) → is_same_label s t ≡ true → (s.field_name ≡ t.field_name) × (code_of s.field_type ≡ code_of t.field_type)
+pub label_is : (s t : FieldSpaceState) → is_same_label s t ≡ true → (s.field_name ≡ t.field_name) × (code_of s.field_type ≡ code_of t.field_type)
 label_is s t same =
     let parts = and_parts (bytes_eq s.field_name t.field_name) (nat_eq (code_of s.field_type) (code_of t.field_type)) same in
     ((bytes_eq-Decides s.field_name t.field_name).0 parts.0, eqb-true _ _ parts.1)

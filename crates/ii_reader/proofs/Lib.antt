@@ -3,6 +3,7 @@ pub mod BlockSearchLemmas
 pub mod CursorLemmas
 pub mod IndexLemmas
 pub mod JsonLemmas
+pub mod JsonOrderLemmas
 pub mod LoadedLemmas
 pub mod PositionLemmas
 pub mod ReaderLemmas

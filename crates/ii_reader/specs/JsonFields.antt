@@ -1,5 +1,5 @@
 -- The paths and types of a JSON field's keys.
-use Rattle.std.specs.Prelude.{ℕ, ◌≤◌, ◌+◌, ◌-◌, ◌*◌, ◌^◌, Bool, not, ◌&&◌, List, [], ◌∷◌, length, ◌==◌, if◌then◌else◌, Option, Some, bytes_eq, slice_get}
+use Rattle.std.specs.Prelude.{ℕ, ◌++◌, ◌≤◌, ◌+◌, ◌-◌, ◌*◌, ◌^◌, Bool, not, ◌&&◌, List, [], ◌∷◌, length, ◌==◌, if◌then◌else◌, Option, Some, bytes_eq, slice_get}
 use Rattle.std.specs.List.{find, take_while}
 use Rattle.std.specs.Option.{option_map}
 use Rattle.ii_io.specs.Steps.{◌>>=◌}
@@ -44,6 +44,10 @@ space_of_term key info value_type = record {
 -- what one term takes, if its key has a type
 abbrev pub space_of : Entry → Option FieldSpaceState
 space_of e = option_map (space_of_term e.0 e.1) (type_in e.0)
+
+-- what all keys of a path with a type begin with
+abbrev pub label_of : FieldSpaceState → List ℕ
+label_of s = s.field_name ++ 0 ∷ code_of s.field_type ∷ []
 
 abbrev pub is_same_label : FieldSpaceState → FieldSpaceState → Bool
 is_same_label s t = bytes_eq s.field_name t.field_name && (code_of s.field_type == code_of t.field_type)

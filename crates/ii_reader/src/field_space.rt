@@ -1,6 +1,8 @@
-ghost use Rattle.std.specs.Prelude.{◌≡◌, ℕ, ◌⊎◌, ◌+◌, ◌-◌, ◌^◌, if◌then◌else◌, length, drop, None, Some, IfErr, IfOk};
+ghost use Rattle.std.specs.Prelude.{◌≡◌, ℕ, ◌⊎◌, ◌+◌, ◌-◌, ◌^◌, if◌then◌else◌, length, drop, map, None, Some, IfErr, IfOk};
 ghost use Rattle.std.specs.Option.{option_map};
-ghost use Rattle.ii_reader.specs.JsonFields.{IsWithin, is_path_byte, is_same_label, path_in, space_of_term, spaces_of, sum_of, type_in, with_space};
+ghost use Rattle.ii_termdict.specs.Dictionary.{entry_keys};
+ghost use Rattle.ii_termdict.specs.ReadBack.{AreAscending};
+ghost use Rattle.ii_reader.specs.JsonFields.{IsWithin, is_path_byte, is_same_label, label_of, path_in, space_of_term, spaces_of, sum_of, type_in, with_space};
 
 use super::inverted_index_reader::InvertedIndexReader;
 use ii_base::{Fault, Part, ValueType};
@@ -89,6 +91,7 @@ impl InvertedIndexReader {
         alloc: Global,
     ) -> Result<Vec<InvertedIndexFieldSpace>, Fault>
         ensures ok { IfOk result (λ fields. spaces_of self.now.terms ≡ Some fields.items) }
+        ensures ascending { IfOk result (λ fields. AreAscending (entry_keys self.now.terms) → AreAscending (map label_of fields.items)) }
         ensures err { IfErr result (λ e. (e ≡ Fault.OutOfMemory) ⊎ ((e ≡ Fault.Damaged Part.JsonKey) × (spaces_of self.now.terms ≡ None))) }
     {
         let mut terms = self.terms().stream();
