@@ -1,0 +1,2 @@
+mod KnownPaths
+mod WorkedRows

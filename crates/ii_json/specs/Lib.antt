@@ -1,0 +1,2 @@
+pub mod PathRank
+pub mod Paths

@@ -1,0 +1,6 @@
+//! The JSON paths of a field's values, while these are indexed and when they are written.
+#![tactic(auto)]
+
+pub mod path_to_unordered_id;
+
+pub use path_to_unordered_id::{OrderedPathId, PathToUnorderedId};

@@ -1,0 +1,115 @@
+ghost use Rattle.std.specs.Prelude.{◌≡◌, ◌⊎◌, ◌≤◌, ◌<◌, ◌^◌, [], IsOk, IsTrue, IfErr, IfOk, MatchResult, None, false, OnErr, OnOk, Some};
+ghost use Rattle.ii_json.specs.PathRank.{AreAscending, path_rank, path_ranks};
+ghost use Rattle.ii_json.specs.Paths.{AreDistinct, is_known, path_fault, path_id, with_path};
+
+use ii_base::{Fault, LimitName};
+use indexmap::IndexSet;
+use std::alloc::Global;
+use std::marker::Model;
+
+/// The id of a JSON path in the order of the paths. Clauses see it as that number.
+#[derive(Clone, Copy, Debug, Default, PartialEq, Eq, PartialOrd, Ord, Hash)]
+pub struct OrderedPathId(u32);
+
+impl Model for OrderedPathId {
+    ghost use Rattle.std.specs.Prelude.{ℕ};
+
+    ghost Value = { ℕ };
+
+    ghost view = { λ id. id.0 };
+
+    ghost inverse = { λ id. record { 0 = id } };
+}
+
+impl OrderedPathId {
+    /// The path of this id.
+    pub fn from_ordered_id(id: u32) -> OrderedPathId
+        ensures { result ≡ id }
+    {
+        OrderedPathId(id)
+    }
+
+    /// The id.
+    pub fn path_id(self) -> u32
+        ensures { result ≡ self }
+    {
+        self.0
+    }
+}
+
+impl From<u32> for OrderedPathId {
+    ghost use Rattle.std.specs.Prelude.{◌≡◌};
+
+    ghost from_gives = { λ id path. path ≡ id };
+
+    fn from(id: u32) -> OrderedPathId {
+        OrderedPathId::from_ordered_id(id)
+    }
+}
+
+/// The paths of an index, each once, in the order in which they became known: a path's place is its
+/// unordered id.
+#[derive(Drop)]
+pub struct PathToUnorderedId {
+    paths: IndexSet<String>,
+    alloc: Global,
+}
+
+impl Model for PathToUnorderedId {
+    ghost use Rattle.std.specs.Prelude.{ℕ, List, ◌≤◌, ◌^◌, length, map, string_bytes};
+    ghost use Rattle.ii_json.specs.Paths.{AreDistinct};
+
+    ghost Value = { List (List ℕ) };
+
+    ghost view = { λ p. map string_bytes p.paths.keys };
+
+    ghost invariant = { λ p. (length p.paths.keys ≤ 2 ^ 32) × AreDistinct (map string_bytes p.paths.keys) };
+}
+
+impl PathToUnorderedId {
+    /// No path is known.
+    pub fn new(alloc: Global) -> PathToUnorderedId
+        ensures { result ≡ [] }
+    {
+        PathToUnorderedId {
+            paths: IndexSet::new(alloc),
+            alloc,
+        }
+    }
+
+    /// The unordered id of a path: its own where it is known, else the next one, and the path is known
+    /// from then on. `Limit(Paths)` where a new path's id would be above `u32::MAX`, and `OutOfMemory`
+    /// where there is no room for a new path: the known ones then stay.
+    pub fn get_or_allocate_unordered_id(&mut self, path: &str) -> Result<u32, Fault>
+        ensures ok { IfOk result (λ id. id ≡ path_id self.old path.now) }
+        ensures paths { OnOk result (self.new ≡ with_path self.old path.now) }
+        ensures err { OnErr result (self.new ≡ self.old) }
+        ensures refused { MatchResult result (λ _. path_fault self.old path.now ≡ None) (λ e. (e ≡ Fault.OutOfMemory) ⊎ (path_fault self.old path.now ≡ Some e)) }
+        ensures known { IsTrue (is_known self.old path.now) → IsOk result }
+        ensures distinct { AreDistinct self.new }
+    {
+        if let Some(id) = self.paths.get_index_of(path) {
+            return Ok(id as u32);
+        }
+        self.insert_new_path(path)
+    }
+
+    // The next id, for a path that isn't known.
+    #[cold]
+    fn insert_new_path(&mut self, path: &str) -> Result<u32, Fault>
+        requires unknown { is_known self.old path.now ≡ false }
+        ensures ok { IfOk result (λ id. id ≡ path_id self.old path.now) }
+        ensures paths { OnOk result (self.new ≡ with_path self.old path.now) }
+        ensures err { OnErr result (self.new ≡ self.old) }
+        ensures refused { MatchResult result (λ _. path_fault self.old path.now ≡ None) (λ e. (e ≡ Fault.OutOfMemory) ⊎ (path_fault self.old path.now ≡ Some e)) }
+        ensures distinct { AreDistinct self.new }
+    {
+        let next_id = self.paths.len();
+        if next_id > u32::MAX as usize {
+            return Err(Fault::Limit(LimitName::Paths));
+        }
+        let new_path = String::from_str(self.alloc, path)?;
+        self.paths.insert(new_path)?;
+        Ok(next_id as u32)
+    }
+}
