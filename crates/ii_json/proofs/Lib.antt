@@ -1,2 +1,3 @@
 mod KnownPaths
+mod RankLemmas
 mod WorkedRows

@@ -1,5 +1,5 @@
 -- The order of paths by their bytes.
-use Rattle.std.specs.Prelude.{ℕ, Bool, List, map}
+use Rattle.std.specs.Prelude.{◌≡◌, ℕ, Bool, List, [], map, slice_index_or}
 use Rattle.std.specs.List.{count_by}
 use Rattle.std.specs.Ordering.{is_lt, nat_cmp}
 use Rattle.std.specs.Cmp.Lexicographic.{slice_cmp}
@@ -20,3 +20,7 @@ path_ranks known = map (path_rank known) known
 -- Each path is smaller than all that follow.
 abbrev pub AreAscending : List (List ℕ) → Type 0
 AreAscending paths = IsStrictlySortedBy (slice_cmp nat_cmp) paths
+
+-- Each known path stands at the place of its rank.
+abbrev pub StandAtRanks : List (List ℕ) → List (List ℕ) → Type 0
+StandAtRanks known paths = map (λ path. slice_index_or paths (path_rank known path) []) known ≡ known

@@ -1,5 +1,6 @@
 -- The paths of an index, each once, in the order in which they became known.
-use Rattle.std.specs.Prelude.{ℕ, ◌^◌, Bool, List, [], ◌∷◌, ◌++◌, length, nat_lt, if◌then◌else◌, Option, None, Some, bytes_eq}
+use Rattle.std.specs.Prelude.{ℕ, ◌^◌, Bool, List, [], ◌∷◌, ◌++◌, length, nat_lt, if◌then◌else◌, map, Option, None, Some, bytes_eq}
+use Rattle.std.specs.Borrow.{Bor}
 use Rattle.std.specs.List.{IsDistinct, list_any, position_or_len}
 use Rattle.ii_io.specs.declared.faults.Fault.{Fault}
 use Rattle.ii_io.specs.declared.faults.Fault.TheVariants.{Limit}
@@ -23,3 +24,7 @@ with_path known path = if is_known known path then known else known ++ path ∷ 
 -- why a path can't have an id of 32 bits
 abbrev pub path_fault : List (List ℕ) → List ℕ → Option Fault
 path_fault known path = if is_known known path then None else if nat_lt (length known) (2 ^ 32) then None else Some (Limit limit.Paths)
+
+-- lent texts, by their bytes
+abbrev pub texts_of : List (Bor (List ℕ)) → List (List ℕ)
+texts_of texts = map (λ text. text.now) texts

@@ -1,6 +1,8 @@
-ghost use Rattle.std.specs.Prelude.{◌≡◌, ◌⊎◌, ◌≤◌, ◌<◌, ◌^◌, [], IsOk, IsTrue, IfErr, IfOk, MatchResult, None, false, OnErr, OnOk, Some};
-ghost use Rattle.ii_json.specs.PathRank.{AreAscending, path_rank, path_ranks};
-ghost use Rattle.ii_json.specs.Paths.{AreDistinct, is_known, path_fault, path_id, with_path};
+ghost use Rattle.std.specs.Prelude.{length, map, slice_index_or, Contains, ◌≡◌, ◌⊎◌, ◌≤◌, ◌<◌, ◌^◌, [], IsOk, IsTrue, IfErr, IfOk, MatchResult, None, false, OnErr, OnOk, Some};
+ghost use Rattle.std.specs.List.{range_with_len};
+ghost use Rattle.std.specs.List.Sorted.{IsPermutation};
+ghost use Rattle.ii_json.specs.PathRank.{AreAscending, StandAtRanks, is_smaller, path_rank, path_ranks};
+ghost use Rattle.ii_json.specs.Paths.{AreDistinct, is_known, path_fault, path_id, texts_of, with_path};
 
 use ii_base::{Fault, LimitName};
 use indexmap::IndexSet;
@@ -12,7 +14,7 @@ use std::marker::Model;
 pub struct OrderedPathId(u32);
 
 impl Model for OrderedPathId {
-    ghost use Rattle.std.specs.Prelude.{ℕ};
+    ghost use Rattle.std.specs.Prelude.{length, map, slice_index_or, Contains, ℕ};
 
     ghost Value = { ℕ };
 
@@ -38,7 +40,7 @@ impl OrderedPathId {
 }
 
 impl From<u32> for OrderedPathId {
-    ghost use Rattle.std.specs.Prelude.{◌≡◌};
+    ghost use Rattle.std.specs.Prelude.{length, map, slice_index_or, Contains, ◌≡◌};
 
     ghost from_gives = { λ id path. path ≡ id };
 
@@ -56,7 +58,7 @@ pub struct PathToUnorderedId {
 }
 
 impl Model for PathToUnorderedId {
-    ghost use Rattle.std.specs.Prelude.{ℕ, List, ◌≤◌, ◌^◌, length, map, string_bytes};
+    ghost use Rattle.std.specs.Prelude.{length, map, slice_index_or, Contains, ℕ, List, ◌≤◌, ◌^◌, length, map, string_bytes};
     ghost use Rattle.ii_json.specs.Paths.{AreDistinct};
 
     ghost Value = { List (List ℕ) };
@@ -112,4 +114,60 @@ impl PathToUnorderedId {
         self.paths.insert(new_path)?;
         Ok(next_id as u32)
     }
+
+    /// The ordered id of each known path, in the order of the unordered ids: how many known paths are
+    /// smaller by their bytes. `OutOfMemory` where there is no room for them.
+    pub fn unordered_id_to_ordered_id(&self, alloc: Global) -> Result<Vec<OrderedPathId>, Fault>
+        ensures ranks { IfOk result (λ ids. ids.items ≡ path_ranks self.now) }
+        ensures permutation { IfOk result (λ ids. IsPermutation (range_with_len 0 (length self.now)) ids.items) }
+        ensures only { IfErr result (λ e. e ≡ Fault.OutOfMemory) }
+    {
+        let sorted = self.ordered_id_to_path(alloc)?;
+        let mut ids = Vec::new(alloc);
+        for path in self.paths.as_slice() {
+            ids.push(ordered_id_in(&sorted, path.as_str()))?;
+        }
+        Ok(ids)
+    }
+
+    /// The known paths in the order of their bytes: an ordered id is a place in it. `OutOfMemory` where
+    /// there is no room for them.
+    pub fn ordered_id_to_path(&self, alloc: Global) -> Result<Vec<&str>, Fault>
+        ensures ascending { IfOk result (λ paths. AreAscending (texts_of paths.items)) }
+        ensures permutation { IfOk result (λ paths. IsPermutation self.entry.now (texts_of paths.items)) }
+        ensures places { IfOk result (λ paths. StandAtRanks self.entry.now (texts_of paths.items)) }
+        ensures only { IfErr result (λ e. e ≡ Fault.OutOfMemory) }
+    {
+        let mut paths = self.known_paths(alloc)?;
+        paths.sort_unstable();
+        Ok(paths)
+    }
+
+    // The known paths, in the order of their unordered ids.
+    fn known_paths(&self, alloc: Global) -> Result<Vec<&str>, Fault>
+        ensures ok { IfOk result (λ paths. texts_of paths.items ≡ self.entry.now) }
+        ensures distinct { AreDistinct self.entry.now }
+        ensures only { IfErr result (λ e. e ≡ Fault.OutOfMemory) }
+    {
+        let mut paths = Vec::new(alloc);
+        for path in self.paths.as_slice() {
+            paths.push(path.as_str())?;
+        }
+        Ok(paths)
+    }
+}
+
+// The ordered id of one of some paths, which ascend.
+fn ordered_id_in(sorted: &[&str], path: &str) -> OrderedPathId
+    requires ascending { AreAscending (texts_of sorted.now) }
+    requires known { Contains (texts_of sorted.now) path.now }
+    requires few { length sorted.now ≤ 2 ^ 32 }
+    ensures { result ≡ path_rank (texts_of sorted.now) path.now }
+{
+    let place = sorted.partition_point(
+        |other: &&str| -> bool
+            ensures { result ≡ is_smaller other.now.now path.entry.now }
+        { *other < path },
+    );
+    OrderedPathId::from_ordered_id(place as u32)
 }
