@@ -1,2 +1,4 @@
+pub mod JsonTerms
+pub mod Lending
 pub mod PathRank
 pub mod Paths
