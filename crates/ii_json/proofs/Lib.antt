@@ -1,3 +1,4 @@
+mod DottedLemmas
 mod KnownPaths
 mod RankLemmas
 mod WorkedRows

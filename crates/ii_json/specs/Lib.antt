@@ -1,3 +1,4 @@
+pub mod DottedPaths
 pub mod JsonTerms
 pub mod Lending
 pub mod PathRank

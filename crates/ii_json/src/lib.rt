@@ -2,7 +2,9 @@
 #![tactic(auto)]
 
 pub mod json_term_serializer;
+pub mod json_utils;
 pub mod path_to_unordered_id;
 
 pub use json_term_serializer::JsonTermSerializer;
+pub use json_utils::json_path_sep_to_dot;
 pub use path_to_unordered_id::{OrderedPathId, PathToUnorderedId};
