@@ -1,4 +1,5 @@
 pub mod DottedPaths
+pub mod FastValues
 pub mod JsonTerms
 pub mod Lending
 pub mod PathRank
