@@ -1,4 +1,4 @@
-ghost use Rattle.std.specs.Prelude.{◌≡◌, ◌++◌, ◌∷◌, string_bytes, IfErr, IfOk, None, Ok, OnErr, OnOk, Some};
+ghost use Rattle.std.specs.Prelude.{◌≡◌, string_bytes, IfErr, IfOk, None, Ok, OnErr, OnOk, Some};
 ghost use Rattle.std.specs.Option.{option_map};
 ghost use Rattle.ii_json.specs.DottedPaths.{dot_between, with_dots};
 ghost use Rattle.ii_json.specs.FastValues.{IsPathAlone, bool_in, fast_value_in, i64_in, typed_value, u64_in, with_value};

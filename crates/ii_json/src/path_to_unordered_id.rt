@@ -1,4 +1,4 @@
-ghost use Rattle.std.specs.Prelude.{length, map, slice_index_or, Contains, ◌≡◌, ◌⊎◌, ◌≤◌, ◌<◌, ◌^◌, [], IsOk, IsTrue, IfErr, IfOk, MatchResult, None, false, OnErr, OnOk, Some};
+ghost use Rattle.std.specs.Prelude.{length, Contains, ◌≡◌, ◌⊎◌, ◌≤◌, ◌^◌, [], IsOk, IsTrue, IfErr, IfOk, MatchResult, None, false, OnErr, OnOk, Some};
 ghost use Rattle.std.specs.List.{range_with_len};
 ghost use Rattle.std.specs.List.Sorted.{IsPermutation};
 ghost use Rattle.ii_json.specs.PathRank.{AreAscending, StandAtRanks, is_smaller, path_rank, path_ranks};
