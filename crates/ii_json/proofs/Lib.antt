@@ -1,0 +1,5 @@
+mod DottedLemmas
+mod KnownPaths
+mod ParseLemmas
+mod RankLemmas
+mod WorkedRows

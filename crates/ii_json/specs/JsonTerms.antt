@@ -1,0 +1,13 @@
+-- The bytes of a term in a JSON field.
+use Rattle.std.specs.Prelude.{ℕ, List, [], ◌∷◌, ◌++◌, map, ◌==◌, if◌then◌else◌}
+
+-- the byte that ends a path, and what stands for one inside it: the digit 0
+abbrev pub end_of_path : ℕ
+end_of_path = 0x00
+
+abbrev pub written_byte : ℕ → ℕ
+written_byte byte = if byte == end_of_path then 0x30 else byte
+
+-- a path as it stands in a term, with the byte that ends it
+abbrev pub written_path : List ℕ → List ℕ
+written_path path = map written_byte path ++ end_of_path ∷ []

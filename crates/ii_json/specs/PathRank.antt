@@ -1,0 +1,26 @@
+-- The order of paths by their bytes.
+use Rattle.std.specs.Prelude.{◌≡◌, ℕ, Bool, List, [], map, slice_index_or}
+use Rattle.std.specs.List.{count_by}
+use Rattle.std.specs.Ordering.{is_lt, nat_cmp}
+use Rattle.std.specs.Cmp.Lexicographic.{slice_cmp}
+use Rattle.std.specs.List.Sorted.{IsStrictlySortedBy}
+
+-- a path is smaller than another by its bytes
+abbrev pub is_smaller : List ℕ → List ℕ → Bool
+is_smaller path other = is_lt (slice_cmp nat_cmp path other)
+
+-- how many of the known paths are smaller
+abbrev pub path_rank : List (List ℕ) → List ℕ → ℕ
+path_rank known path = count_by (λ other. is_smaller other path) known
+
+-- the rank of each known path, in their order
+abbrev pub path_ranks : List (List ℕ) → List ℕ
+path_ranks known = map (path_rank known) known
+
+-- Each path is smaller than all that follow.
+abbrev pub AreAscending : List (List ℕ) → Type 0
+AreAscending paths = IsStrictlySortedBy (slice_cmp nat_cmp) paths
+
+-- Each known path stands at the place of its rank.
+abbrev pub StandAtRanks : List (List ℕ) → List (List ℕ) → Type 0
+StandAtRanks known paths = map (λ path. slice_index_or paths (path_rank known path) []) known ≡ known

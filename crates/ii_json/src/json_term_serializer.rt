@@ -1,0 +1,118 @@
+ghost use Rattle.std.specs.Prelude.{◌≡◌, ◌++◌, [], length, take, IfErr, IfOk, OnErr, OnOk};
+ghost use Rattle.std.specs.Borrow.{sem};
+ghost use Rattle.ii_json.specs.JsonTerms.{written_byte, written_path};
+ghost use Rattle.ii_json.specs.Lending.{RestsWith};
+
+use ii_base::Fault;
+use std::alloc::Global;
+use std::marker::Model;
+
+// The byte that ends a path, and what stands for one inside it.
+const END_OF_PATH: u8 = 0;
+
+const END_OF_PATH_INSIDE: u8 = b'0';
+
+/// The bytes of a term in a JSON field, as a dictionary has them: a path, byte 00, the letter of a type,
+/// and those of a value.
+#[derive(Drop)]
+pub struct JsonTermSerializer {
+    bytes: Vec<u8>,
+}
+
+impl Model for JsonTermSerializer {
+    ghost use Rattle.std.specs.Prelude.{ℕ, List};
+
+    ghost Value = { List ℕ };
+
+    ghost view = { λ s. s.bytes.items };
+}
+
+impl JsonTermSerializer {
+    /// No bytes.
+    pub fn new(alloc: Global) -> JsonTermSerializer
+        ensures { result ≡ [] }
+    {
+        JsonTermSerializer {
+            bytes: Vec::new(alloc),
+        }
+    }
+
+    /// Adds a path, each byte 00 in it as `30`, and byte 00. `OutOfMemory` where there is no room for them:
+    /// the bytes then stay.
+    pub fn append_json_path(&mut self, path: &str) -> Result<(), Fault>
+        ensures ok { OnOk result (self.new ≡ self.old ++ written_path path.now) }
+        ensures err { OnErr result (self.new ≡ self.old) }
+        ensures only { IfErr result (λ e. e ≡ Fault.OutOfMemory) }
+    {
+        let len = self.bytes.len();
+        if let Err(refused) = push_path(&mut self.bytes, path.as_bytes()) {
+            self.bytes.truncate(len);
+            return Err(refused);
+        }
+        Ok(())
+    }
+
+    /// Adds bytes, and lends what it added. `OutOfMemory` where there is no room for them: the bytes then
+    /// stay.
+    pub fn append_bytes(&mut self, bytes: &[u8]) -> Result<&[u8], Fault>
+        ensures* rests { sem 𝓛 (RestsWith self.entry bytes.entry.now result) }
+        ensures ok { IfOk result (λ added. added.now ≡ bytes.entry.now) }
+        ensures only { IfErr result (λ e. e ≡ Fault.OutOfMemory) }
+    {
+        let len = self.bytes.len();
+        self.bytes.extend_from_slice(bytes)?;
+        Ok(&self.bytes[len..])
+    }
+
+    /// Drops all bytes, and keeps the memory.
+    pub fn clear(&mut self)
+        ensures { self.new ≡ [] }
+    {
+        self.bytes.clear();
+    }
+
+    /// Drops the bytes after so many; where there are no more, nothing changes.
+    pub fn truncate(&mut self, len: usize)
+        ensures { self.new ≡ take len self.old }
+    {
+        self.bytes.truncate(len);
+    }
+
+    /// How many bytes there are.
+    pub fn len(&self) -> usize
+        ensures { result ≡ length self.now }
+    {
+        self.bytes.len()
+    }
+
+    /// All bytes.
+    pub fn as_bytes(&self) -> &[u8]
+        ensures { result.now ≡ self.now }
+    {
+        &self.bytes
+    }
+}
+
+// Pushes a path as it stands in a term. What stood before stays.
+fn push_path(bytes: &mut Vec<u8>, path: &[u8]) -> Result<(), Fault>
+    ensures ok { OnOk result (bytes.new.items ≡ bytes.old.items ++ written_path path.now) }
+    ensures err { OnErr result (take (length bytes.old.items) bytes.new.items ≡ bytes.old.items) }
+    ensures only { IfErr result (λ e. e ≡ Fault.OutOfMemory) }
+{
+    for byte in path {
+        bytes.push(written_byte(*byte))?;
+    }
+    bytes.push(END_OF_PATH)?;
+    Ok(())
+}
+
+// A byte of a path as it stands in a term.
+fn written_byte(byte: u8) -> u8
+    ensures { result ≡ written_byte byte }
+{
+    if byte == END_OF_PATH {
+        END_OF_PATH_INSIDE
+    } else {
+        byte
+    }
+}

@@ -1,0 +1,173 @@
+ghost use Rattle.std.specs.Prelude.{length, Contains, ◌≡◌, ◌⊎◌, ◌≤◌, ◌^◌, [], IsOk, IsTrue, IfErr, IfOk, MatchResult, None, false, OnErr, OnOk, Some};
+ghost use Rattle.std.specs.List.{range_with_len};
+ghost use Rattle.std.specs.List.Sorted.{IsPermutation};
+ghost use Rattle.ii_json.specs.PathRank.{AreAscending, StandAtRanks, is_smaller, path_rank, path_ranks};
+ghost use Rattle.ii_json.specs.Paths.{AreDistinct, is_known, path_fault, path_id, texts_of, with_path};
+
+use ii_base::{Fault, LimitName};
+use indexmap::IndexSet;
+use std::alloc::Global;
+use std::marker::Model;
+
+/// The id of a JSON path in the order of the paths. Clauses see it as that number.
+#[derive(Clone, Copy, Debug, Default, PartialEq, Eq, PartialOrd, Ord, Hash)]
+pub struct OrderedPathId(u32);
+
+impl Model for OrderedPathId {
+    ghost use Rattle.std.specs.Prelude.{length, map, slice_index_or, Contains, ℕ};
+
+    ghost Value = { ℕ };
+
+    ghost view = { λ id. id.0 };
+
+    ghost inverse = { λ id. record { 0 = id } };
+}
+
+impl OrderedPathId {
+    /// The path of this id.
+    pub fn from_ordered_id(id: u32) -> OrderedPathId
+        ensures { result ≡ id }
+    {
+        OrderedPathId(id)
+    }
+
+    /// The id.
+    pub fn path_id(self) -> u32
+        ensures { result ≡ self }
+    {
+        self.0
+    }
+}
+
+impl From<u32> for OrderedPathId {
+    ghost use Rattle.std.specs.Prelude.{length, map, slice_index_or, Contains, ◌≡◌};
+
+    ghost from_gives = { λ id path. path ≡ id };
+
+    fn from(id: u32) -> OrderedPathId {
+        OrderedPathId::from_ordered_id(id)
+    }
+}
+
+/// The paths of an index, each once, in the order in which they became known: a path's place is its
+/// unordered id.
+#[derive(Drop)]
+pub struct PathToUnorderedId {
+    paths: IndexSet<String>,
+    alloc: Global,
+}
+
+impl Model for PathToUnorderedId {
+    ghost use Rattle.std.specs.Prelude.{length, map, slice_index_or, Contains, ℕ, List, ◌≤◌, ◌^◌, length, map, string_bytes};
+    ghost use Rattle.ii_json.specs.Paths.{AreDistinct};
+
+    ghost Value = { List (List ℕ) };
+
+    ghost view = { λ p. map string_bytes p.paths.keys };
+
+    ghost invariant = { λ p. (length p.paths.keys ≤ 2 ^ 32) × AreDistinct (map string_bytes p.paths.keys) };
+}
+
+impl PathToUnorderedId {
+    /// No path is known.
+    pub fn new(alloc: Global) -> PathToUnorderedId
+        ensures { result ≡ [] }
+    {
+        PathToUnorderedId {
+            paths: IndexSet::new(alloc),
+            alloc,
+        }
+    }
+
+    /// The unordered id of a path: its own where it is known, else the next one, and the path is known
+    /// from then on. `Limit(Paths)` where a new path's id would be above `u32::MAX`, and `OutOfMemory`
+    /// where there is no room for a new path: the known ones then stay.
+    pub fn get_or_allocate_unordered_id(&mut self, path: &str) -> Result<u32, Fault>
+        ensures ok { IfOk result (λ id. id ≡ path_id self.old path.now) }
+        ensures paths { OnOk result (self.new ≡ with_path self.old path.now) }
+        ensures err { OnErr result (self.new ≡ self.old) }
+        ensures refused { MatchResult result (λ _. path_fault self.old path.now ≡ None) (λ e. (e ≡ Fault.OutOfMemory) ⊎ (path_fault self.old path.now ≡ Some e)) }
+        ensures known { IsTrue (is_known self.old path.now) → IsOk result }
+        ensures distinct { AreDistinct self.new }
+    {
+        if let Some(id) = self.paths.get_index_of(path) {
+            return Ok(id as u32);
+        }
+        self.insert_new_path(path)
+    }
+
+    // The next id, for a path that isn't known.
+    #[cold]
+    fn insert_new_path(&mut self, path: &str) -> Result<u32, Fault>
+        requires unknown { is_known self.old path.now ≡ false }
+        ensures ok { IfOk result (λ id. id ≡ path_id self.old path.now) }
+        ensures paths { OnOk result (self.new ≡ with_path self.old path.now) }
+        ensures err { OnErr result (self.new ≡ self.old) }
+        ensures refused { MatchResult result (λ _. path_fault self.old path.now ≡ None) (λ e. (e ≡ Fault.OutOfMemory) ⊎ (path_fault self.old path.now ≡ Some e)) }
+        ensures distinct { AreDistinct self.new }
+    {
+        let next_id = self.paths.len();
+        if next_id > u32::MAX as usize {
+            return Err(Fault::Limit(LimitName::Paths));
+        }
+        let new_path = String::from_str(self.alloc, path)?;
+        self.paths.insert(new_path)?;
+        Ok(next_id as u32)
+    }
+
+    /// The ordered id of each known path, in the order of the unordered ids: how many known paths are
+    /// smaller by their bytes. `OutOfMemory` where there is no room for them.
+    pub fn unordered_id_to_ordered_id(&self, alloc: Global) -> Result<Vec<OrderedPathId>, Fault>
+        ensures ranks { IfOk result (λ ids. ids.items ≡ path_ranks self.now) }
+        ensures permutation { IfOk result (λ ids. IsPermutation (range_with_len 0 (length self.now)) ids.items) }
+        ensures only { IfErr result (λ e. e ≡ Fault.OutOfMemory) }
+    {
+        let sorted = self.ordered_id_to_path(alloc)?;
+        let mut ids = Vec::new(alloc);
+        for path in self.paths.as_slice() {
+            ids.push(ordered_id_in(&sorted, path.as_str()))?;
+        }
+        Ok(ids)
+    }
+
+    /// The known paths in the order of their bytes: an ordered id is a place in it. `OutOfMemory` where
+    /// there is no room for them.
+    pub fn ordered_id_to_path(&self, alloc: Global) -> Result<Vec<&str>, Fault>
+        ensures ascending { IfOk result (λ paths. AreAscending (texts_of paths.items)) }
+        ensures permutation { IfOk result (λ paths. IsPermutation self.entry.now (texts_of paths.items)) }
+        ensures places { IfOk result (λ paths. StandAtRanks self.entry.now (texts_of paths.items)) }
+        ensures only { IfErr result (λ e. e ≡ Fault.OutOfMemory) }
+    {
+        let mut paths = self.known_paths(alloc)?;
+        paths.sort_unstable();
+        Ok(paths)
+    }
+
+    // The known paths, in the order of their unordered ids.
+    fn known_paths(&self, alloc: Global) -> Result<Vec<&str>, Fault>
+        ensures ok { IfOk result (λ paths. texts_of paths.items ≡ self.entry.now) }
+        ensures distinct { AreDistinct self.entry.now }
+        ensures only { IfErr result (λ e. e ≡ Fault.OutOfMemory) }
+    {
+        let mut paths = Vec::new(alloc);
+        for path in self.paths.as_slice() {
+            paths.push(path.as_str())?;
+        }
+        Ok(paths)
+    }
+}
+
+// The ordered id of one of some paths, which ascend.
+fn ordered_id_in(sorted: &[&str], path: &str) -> OrderedPathId
+    requires ascending { AreAscending (texts_of sorted.now) }
+    requires known { Contains (texts_of sorted.now) path.now }
+    requires few { length sorted.now ≤ 2 ^ 32 }
+    ensures { result ≡ path_rank (texts_of sorted.now) path.now }
+{
+    let place = sorted.partition_point(
+        |other: &&str| -> bool
+            ensures { result ≡ is_smaller other.now.now path.entry.now }
+        { *other < path },
+    );
+    OrderedPathId::from_ordered_id(place as u32)
+}
