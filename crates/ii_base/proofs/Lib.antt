@@ -1,3 +1,4 @@
 mod AliveLemmas
 mod AsciiLemmas
+mod PathRows
 mod WorkedRows
