@@ -1,4 +1,6 @@
 mod AliveLemmas
 mod AsciiLemmas
+mod CharLemmas
+mod PathLemmas
 mod PathRows
 mod WorkedRows

@@ -1,5 +1,5 @@
 -- Paths into a JSON value.
-use Rattle.std.specs.Prelude.{ℕ, Bool, true, false, not, ◌&&◌, List, [], ◌∷◌, map, filter, ◌==◌, if◌then◌else◌}
+use Rattle.std.specs.Prelude.{◌≡◌, ℕ, ◌+◌, ◌-◌, Bool, true, false, not, ◌&&◌, List, [], ◌∷◌, drop, length, map, filter, slice_range, ◌==◌, if◌then◌else◌}
 use Rattle.std.specs.List.{join_with_byte, slice_split}
 
 -- the bytes of a text, each with whether a backslash before it keeps it as it is
@@ -30,3 +30,28 @@ joined_segments segments = join_with_byte 1 segments
 
 abbrev pub path_bytes : Bool → List (List ℕ) → List ℕ
 path_bytes expand_dots segments = joined_segments (map (segment_bytes expand_dots) segments)
+
+-- where the segments of a path begin, the first of them at a place
+abbrev pub starts_from : ℕ → List (List ℕ) → List ℕ
+starts_from place [] = []
+starts_from place (s ∷ ss) = place ∷ starts_from (place + length s + 1) ss
+
+-- the segments of a path that begin at these places
+abbrev pub cut_at : List ℕ → List ℕ → List (List ℕ)
+cut_at path [] = []
+cut_at path (start ∷ []) = drop start path ∷ []
+cut_at path (start ∷ next ∷ starts) = slice_range path start (next - 1) ∷ cut_at path (next ∷ starts)
+
+-- the bytes of a path of segments, and where these begin
+pub record IsPathOf (segments : List (List ℕ)) (path starts : List ℕ) : Type 0 where
+  pub bytes : path ≡ joined_segments segments
+  pub places : starts ≡ starts_from 0 segments
+
+-- A path that is written: its segments as they stand there, and whether dots in a further one are expanded.
+pub record PathState : Type 0 where
+  pub segments : List (List ℕ)
+  pub expand_dots : Bool
+
+-- a segment's bytes behind what parts it from the one before
+abbrev pub behind_separator : Bool → List ℕ → List ℕ
+behind_separator is_first segment = if is_first then segment else 1 ∷ segment

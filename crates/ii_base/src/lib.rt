@@ -5,6 +5,7 @@
 pub mod alive_bitset;
 pub mod datetime;
 pub mod fast_value;
+pub mod json_path_writer;
 pub mod schema;
 pub mod tokenizer;
 
@@ -16,6 +17,7 @@ pub use ii_io::{
     BinarySerializable, CompositeFile, CompositeWrite, CountingWriter, FailingReader,
     FailingWriter, Fault, Field, FixedSize, HasLen, LayoutFault, LeafKind, LimitName, Part,
 };
+pub use json_path_writer::JsonPathWriter;
 pub use schema::Schema;
 pub use schema::field_entry::FieldEntry;
 pub use schema::index_record_option::IndexRecordOption;
