@@ -3,4 +3,5 @@ mod AsciiLemmas
 mod CharLemmas
 mod PathLemmas
 mod PathRows
+mod SplitLemmas
 mod WorkedRows

@@ -1,6 +1,6 @@
 -- Paths into a JSON value.
 use Rattle.std.specs.Prelude.{◌≡◌, ℕ, ◌+◌, ◌-◌, Bool, true, false, not, ◌&&◌, List, [], ◌∷◌, drop, length, map, filter, slice_range, ◌==◌, if◌then◌else◌}
-use Rattle.std.specs.List.{join_with_byte, slice_split}
+use Rattle.std.specs.List.{join_with_byte, list_any, slice_split}
 
 -- the bytes of a text, each with whether a backslash before it keeps it as it is
 abbrev pub marked : Bool → List ℕ → List (ℕ × Bool)
@@ -30,6 +30,10 @@ joined_segments segments = join_with_byte 1 segments
 
 abbrev pub path_bytes : Bool → List (List ℕ) → List ℕ
 path_bytes expand_dots segments = joined_segments (map (segment_bytes expand_dots) segments)
+
+-- whether bytes hold byte 0, which ends a path
+abbrev pub has_zero : List ℕ → Bool
+has_zero bytes = list_any (λ b. b == 0) bytes
 
 -- where the segments of a path begin, the first of them at a place
 abbrev pub starts_from : ℕ → List (List ℕ) → List ℕ
