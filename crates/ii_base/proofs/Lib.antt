@@ -1,6 +1,7 @@
 mod AliveLemmas
 mod AsciiLemmas
 mod CharLemmas
+mod JsonRows
 mod PathLemmas
 mod PathRows
 mod SplitLemmas

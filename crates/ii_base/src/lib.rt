@@ -7,6 +7,7 @@ pub mod datetime;
 pub mod fast_value;
 pub mod json_path_writer;
 pub mod json_utils;
+pub mod json_value;
 pub mod schema;
 pub mod tokenizer;
 
@@ -20,6 +21,7 @@ pub use ii_io::{
 };
 pub use json_path_writer::JsonPathWriter;
 pub use json_utils::split_json_path;
+pub use json_value::JsonValue;
 pub use schema::Schema;
 pub use schema::field_entry::FieldEntry;
 pub use schema::index_record_option::IndexRecordOption;
