@@ -2,8 +2,8 @@
 use Rattle.std.specs.Prelude.{◌≡◌, ℕ, ◌+◌, ◌++◌, ◌^◌, [], ◌∷◌, List, codes, replicate, negsuc, true, false, refl}
 use Rattle.ii_io.specs.declared.faults.LeafKind.TheVariants as kinds
 use Rattle.ii_base.specs.declared.schema.value_type.ValueType.TheVariants as types
-use Rattle.ii_base.specs.Json.{Json, array, item, json_leaves, leaf, member, no_items, no_members, null, object, text_leaf, u64_leaf, unsupported, value_leaf, whole_seconds}
-use Rattle.ii_base.specs.Values.{flipped, json_key, text_key, typed_key}
+use Rattle.ii_base.specs.Json.{Json, array, item, json_leaves, leaf, member, no_items, no_members, null, object, text_leaf, u64_leaf, unsupported, value_leaf}
+use Rattle.ii_base.specs.Values.{whole_seconds, flipped, json_key, text_key, typed_key}
 
 abbrev one_member : List ℕ → Json → Json
 one_member key j = object (member key j no_members)

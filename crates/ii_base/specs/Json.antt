@@ -1,14 +1,16 @@
 -- A JSON value and its leaves.
-use Rattle.std.specs.Prelude.{ℕ, ◌^◌, Bool, ℤ, pos, ◌-ℤ◌, int_rem, List, [], ◌∷◌, ◌++◌, nat_lt, if◌then◌else◌, String, string_bytes}
+use Rattle.std.specs.Prelude.{ℕ, ◌^◌, Bool, pos, List, [], ◌∷◌, ◌++◌, nat_lt, if◌then◌else◌, Option, Some, None, String, string_bytes}
 use Rattle.std.specs.declared.alloc.Global.{Global}
 use Rattle.ii_io.specs.declared.faults.LeafKind.{LeafKind}
 use Rattle.ii_io.specs.declared.faults.LeafKind.TheVariants as kinds
 use Rattle.ii_base.specs.declared.json_value.JsonValue.{JsonValue, fold-JsonValue}
 use Rattle.ii_base.specs.declared.json_value.JsonValue.TheOpen.{JsonValue-F}
+use Rattle.ii_base.specs.declared.json_value.JsonLeaf.{JsonLeaf}
+use Rattle.ii_base.specs.declared.json_value.JsonLeaf.TheVariants.{Text, Value, Unsupported}
 use Rattle.ii_base.specs.declared.schema.value_type.ValueType.{ValueType}
 use Rattle.ii_base.specs.declared.schema.value_type.ValueType.TheVariants as types
 use Rattle.ii_base.specs.Paths.{has_zero, joined_segments, segment_bytes}
-use Rattle.ii_base.specs.Values.{flipped, number_of_bool}
+use Rattle.ii_base.specs.Values.{flipped, number_of_bool, whole_seconds}
 
 -- What a leaf gives: a text to be cut into tokens, a value of a type by its number, or nothing that can be indexed.
 pub data Leaf : Type 0 where
@@ -52,10 +54,6 @@ abbrev mutual
 abbrev pub json_leaves : Bool → Json → List (List ℕ × Leaf)
 json_leaves expand_dots j = leaves_below expand_dots [] j
 
--- nanoseconds in whole seconds, toward zero
-abbrev pub whole_seconds : ℤ → ℤ
-whole_seconds n = n -ℤ int_rem n (pos 1000000000)
-
 -- an unsigned number is taken as a signed one where it fits
 abbrev pub u64_leaf : ℕ → Leaf
 u64_leaf n = if nat_lt n (2 ^ 63) then value_leaf types.I64 (flipped (pos n)) else value_leaf types.U64 n
@@ -86,3 +84,16 @@ json_step (JsonValue-F.Object v) = object (members_from v.items)
 
 abbrev pub json_of : JsonValue → Json
 json_of = fold-JsonValue Json json_step
+
+-- what a program's leaf stands for
+abbrev pub leaf_of : JsonLeaf → Leaf
+leaf_of (Text text) = text_leaf text.now
+leaf_of (Value t n) = value_leaf t n
+leaf_of (Unsupported kind) = unsupported kind
+
+-- the leaf that a value is, if it is one
+abbrev pub leaf_at : Json → Option Leaf
+leaf_at null = None
+leaf_at (leaf l) = Some l
+leaf_at (array is) = None
+leaf_at (object ms) = None

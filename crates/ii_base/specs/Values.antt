@@ -1,5 +1,5 @@
 -- Values as bytes, so that their order is that of the bytes.
-use Rattle.std.specs.Prelude.{ℕ, suc, ◌+◌, ◌-◌, ◌^◌, Bool, true, false, ℤ, pos, negsuc, List, ◌∷◌, ◌++◌}
+use Rattle.std.specs.Prelude.{ℕ, suc, ◌+◌, ◌-◌, ◌^◌, Bool, true, false, ℤ, pos, negsuc, ◌-ℤ◌, int_rem, List, ◌∷◌, ◌++◌}
 use Rattle.std.specs.Int.{bytes_high_first}
 use Rattle.ii_base.specs.declared.schema.value_type.ValueType.{ValueType}
 use Rattle.ii_base.specs.declared.schema.value_type.ValueType.TheVariants.{Str}
@@ -18,6 +18,10 @@ number_of_bool false = 0
 -- a number of 64 bits as 8 bytes, the highest first
 abbrev pub u64_bytes : ℕ → List ℕ
 u64_bytes n = bytes_high_first 8 n
+
+-- nanoseconds in whole seconds, toward zero
+abbrev pub whole_seconds : ℤ → ℤ
+whole_seconds n = n -ℤ int_rem n (pos 1000000000)
 
 -- a value in a JSON key: its type's letter, and its number
 abbrev pub typed_key : ValueType → ℕ → List ℕ
