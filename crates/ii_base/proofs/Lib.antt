@@ -1,3 +1,8 @@
 mod AliveLemmas
 mod AsciiLemmas
+mod CharLemmas
+mod JsonRows
+mod PathLemmas
+mod PathRows
+mod SplitLemmas
 mod WorkedRows

@@ -1,6 +1,8 @@
 pub mod AliveBitSet
 pub mod AsciiWords
+pub mod Json
 pub mod Options
+pub mod Paths
 pub mod Schema
 pub mod Terms
 pub mod ValueTypes

@@ -1,6 +1,9 @@
 -- Values as bytes, so that their order is that of the bytes.
-use Rattle.std.specs.Prelude.{ℕ, suc, ◌+◌, ◌-◌, ◌^◌, Bool, true, false, ℤ, pos, negsuc, List}
+use Rattle.std.specs.Prelude.{ℕ, suc, ◌+◌, ◌-◌, ◌^◌, Bool, true, false, ℤ, pos, negsuc, ◌-ℤ◌, int_rem, List, ◌∷◌, ◌++◌}
 use Rattle.std.specs.Int.{bytes_high_first}
+use Rattle.ii_base.specs.declared.schema.value_type.ValueType.{ValueType}
+use Rattle.ii_base.specs.declared.schema.value_type.ValueType.TheVariants.{Str}
+use Rattle.ii_base.specs.ValueTypes.{code_of}
 
 -- a signed number of 64 bits with its top bit flipped
 abbrev pub flipped : ℤ → ℕ
@@ -15,3 +18,19 @@ number_of_bool false = 0
 -- a number of 64 bits as 8 bytes, the highest first
 abbrev pub u64_bytes : ℕ → List ℕ
 u64_bytes n = bytes_high_first 8 n
+
+-- nanoseconds in whole seconds, toward zero
+abbrev pub whole_seconds : ℤ → ℤ
+whole_seconds n = n -ℤ int_rem n (pos 1000000000)
+
+-- a value in a JSON key: its type's letter, and its number
+abbrev pub typed_key : ValueType → ℕ → List ℕ
+typed_key t n = code_of t ∷ u64_bytes n
+
+-- a text there
+abbrev pub text_key : List ℕ → List ℕ
+text_key text = code_of Str ∷ text
+
+-- the key of a value or a text at a path
+abbrev pub json_key : List ℕ → List ℕ → List ℕ
+json_key path key = path ++ 0 ∷ key

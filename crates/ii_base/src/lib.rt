@@ -5,6 +5,9 @@
 pub mod alive_bitset;
 pub mod datetime;
 pub mod fast_value;
+pub mod json_path_writer;
+pub mod json_utils;
+pub mod json_value;
 pub mod schema;
 pub mod tokenizer;
 
@@ -16,6 +19,9 @@ pub use ii_io::{
     BinarySerializable, CompositeFile, CompositeWrite, CountingWriter, FailingReader,
     FailingWriter, Fault, Field, FixedSize, HasLen, LayoutFault, LeafKind, LimitName, Part,
 };
+pub use json_path_writer::JsonPathWriter;
+pub use json_utils::split_json_path;
+pub use json_value::{JsonLeaf, JsonValue};
 pub use schema::Schema;
 pub use schema::field_entry::FieldEntry;
 pub use schema::index_record_option::IndexRecordOption;

@@ -1,9 +1,12 @@
-ghost use Rattle.std.specs.Prelude.{◌≡◌, ◌∷◌, ◌++◌, pos, IfErr, IfOk, OnErr, OnOk};
+ghost use Rattle.std.specs.Prelude.{◌≡◌, [], ◌∷◌, ◌++◌, map, false, pos, IfErr, IfOk, OnErr, OnOk};
+ghost use Rattle.ii_base.specs.Paths.{has_zero, path_bytes, segment_bytes, segments_of};
 ghost use Rattle.ii_base.specs.ValueTypes.{code_of};
 ghost use Rattle.ii_base.specs.Values.{flipped, number_of_bool, u64_bytes};
 
 use super::value_type::ValueType;
 use crate::fast_value::FastValue;
+use crate::json_path_writer::JsonPathWriter;
+use crate::json_utils::split_json_path;
 use ii_io::{Fault, Field};
 use std::alloc::Global;
 use std::marker::Model;
@@ -68,6 +71,28 @@ impl Term {
         Ok(Term { field, value })
     }
 
+    /// The term of a path into the JSON values of a field, which goes on with a value: the path's
+    /// segments with byte 1 before each but the first, and byte 0. In the text of the path, which holds
+    /// no byte 0, a dot parts two segments, and a backslash keeps the character behind it as it is; with
+    /// dots expanded, a dot that is kept becomes byte 1. `OutOfMemory` where there is no room for them.
+    pub fn from_field_json_path(
+        alloc: Global,
+        field: Field,
+        path: &str,
+        expand_dots: bool,
+    ) -> Result<Term, Fault>
+        requires { has_zero path.now ≡ false }
+        ensures ok { IfOk result (λ term. term ≡ record { field = field; value = path_bytes expand_dots (segments_of path.now) ++ 0 ∷ [] }) }
+        ensures only { IfErr result (λ e. e ≡ Fault.OutOfMemory) }
+    {
+        let mut writer = JsonPathWriter::new(alloc);
+        writer.set_expand_dots(expand_dots);
+        push_path(alloc, &mut writer, path)?;
+        let mut value = writer.into_string().into_bytes();
+        value.push(0)?;
+        Ok(Term { field, value })
+    }
+
     /// Adds a value in a JSON field: the letter of its type, and the 8 bytes of the number that stands
     /// for it, the highest first. `OutOfMemory` where there is no room for them: the term then stays.
     pub fn append_type_and_fast_value<T: FastValue>(&mut self, val: T) -> Result<(), Fault>
@@ -116,4 +141,16 @@ impl Term {
     {
         &self.value
     }
+}
+
+// Adds the segments of a path's text.
+fn push_path(alloc: Global, writer: &mut JsonPathWriter, path: &str) -> Result<(), Fault>
+    ensures ok { OnOk result (writer.new ≡ record writer.old { segments = writer.old.segments ++ map (segment_bytes writer.old.expand_dots) (segments_of path.now) }) }
+    ensures only { IfErr result (λ e. e ≡ Fault.OutOfMemory) }
+{
+    let segments = split_json_path(alloc, path)?;
+    for segment in &segments {
+        writer.push(segment.as_str())?;
+    }
+    Ok(())
 }

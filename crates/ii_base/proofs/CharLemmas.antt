@@ -1,0 +1,52 @@
+-- The characters of a path's text and of its segments.
+use Rattle.std.proofs.Common.{◌≡◌, ℕ, ◌≤◌, true, List, [], ◌∷◌, ◌++◌, append_assoc, append-nil, length, take, length-take, refl, sym, ap, arith, ◌∙◌, ⊎_elim, lit<}
+use lib.Utf8.{encode}
+use Rattle.std.specs.List.{All}
+use Rattle.std.proofs.lemmas.Bool.{cases_lt, ne_eqb}
+use Rattle.std.proofs.lemmas.List.{take-append-le}
+use Rattle.std.proofs.lemmas.List.Elements.{All-from_get_or, All-head, All-tail}
+use Rattle.std.proofs.lemmas.Str.{encode_ascii, inside_one, IsCharBoundary-from_take}
+use Rattle.std.specs.Str.{IsCharBoundary, IsUtf8}
+use Rattle.ii_base.specs.Paths.{segment_bytes}
+
+-- no byte of a character past ASCII is ASCII
+pub past_ascii : (c : ℕ) → 128 ≤ c → All (λ b. 128 ≤ b) (encode c)
+past_ascii c high =
+    All-from_get_or (λ b. 128 ≤ b) (encode c) 0 (λ i within. ⊎_elim (λ low.
+    let same = inside_one c [] (encode c) i (sym (append-nil (encode c))) within low in
+    absurd (omega (arith, same, low, high))) (λ h. h) (cases_lt _ 128))
+
+expanded_past : (xs rest : List ℕ) → All (λ b. 128 ≤ b) xs → segment_bytes true (xs ++ rest) ≡ xs ++ segment_bytes true rest
+expanded_past [] rest high = refl
+expanded_past (x ∷ xs) rest high = rw (ne_eqb x 46 (λ e. omega (arith, e, All-head (λ b. 128 ≤ b) x xs high))) (ap (λ (l : List ℕ). x ∷ l) (expanded_past xs rest (All-tail (λ b. 128 ≤ b) x xs high)))
+
+pub expanded_dot : (text rest : List ℕ) → text ≡ encode 46 ++ rest → segment_bytes true text ≡ encode 1 ++ segment_bytes true rest
+expanded_dot text rest is =
+    let dot : encode 46 ≡ 46 ∷ [] = encode_ascii 46 (lit< tt) in
+    let one : encode 1 ≡ 1 ∷ [] = encode_ascii 1 (lit< tt) in
+    rw (is, dot, one) refl
+
+pub expanded_other : (c : ℕ) (text rest : List ℕ) → text ≡ encode c ++ rest → (c ≡ 46 → ⊥) → segment_bytes true text ≡ encode c ++ segment_bytes true rest
+expanded_other c text rest is other = rw is (⊎_elim (λ low. rw (encode_ascii c low, ne_eqb c 46 other) refl) (λ high. expanded_past (encode c) rest (past_ascii c high)) (cases_lt c 128))
+
+-- A segment is added to a path: what is written, and what is to come, make up the whole.
+pub record IsExpanding (before segment path rest : List ℕ) : Type 0 where
+  pub whole : path ++ segment_bytes true rest ≡ before ++ segment_bytes true segment
+  pub front : take (length before) path ≡ before
+
+pub expanding_more : (before segment path text rest piece : List ℕ) → IsExpanding before segment path text → segment_bytes true text ≡ piece ++ segment_bytes true rest → IsExpanding before segment (path ++ piece) rest
+expanding_more before segment path text rest piece is next = record {
+  whole = append_assoc path piece (segment_bytes true rest) ∙ ap (λ (l : List ℕ). path ++ l) (sym next) ∙ is.whole;
+  front = kept_front before path piece is.front;
+}
+  where
+    kept_front : (before path piece : List ℕ) → take (length before) path ≡ before → take (length before) (path ++ piece) ≡ before
+    kept_front before path piece front =
+        let within : length before ≤ length path = omega (arith, ap length front, length-take (length before) path) in
+        take-append-le (length before) path piece within ∙ front
+
+-- a text may be cut behind a text that it begins with
+pub cut_behind_front : (bytes front : List ℕ) (n : ℕ) → IsUtf8 bytes → IsUtf8 front → take n bytes ≡ front → n ≡ length front → IsCharBoundary bytes n
+cut_behind_front bytes front n whole utf8 is len =
+    let within : n ≤ length bytes = omega (arith, len, ap length is, length-take n bytes) in
+    IsCharBoundary-from_take bytes n whole within (rw is utf8)

@@ -1,0 +1,61 @@
+-- Paths into a JSON value.
+use Rattle.std.specs.Prelude.{◌≡◌, ℕ, ◌+◌, ◌-◌, Bool, true, false, not, ◌&&◌, List, [], ◌∷◌, drop, length, map, filter, slice_range, ◌==◌, if◌then◌else◌}
+use Rattle.std.specs.List.{join_with_byte, list_any, slice_split}
+
+-- the bytes of a text, each with whether a backslash before it keeps it as it is
+abbrev pub marked : Bool → List ℕ → List (ℕ × Bool)
+marked kept [] = []
+marked kept (c ∷ cs) = (c, kept) ∷ marked (not kept && (c == 92)) cs
+
+-- whether a byte is this one, and isn't kept
+abbrev pub acts_as : ℕ → ℕ × Bool → Bool
+acts_as c b = not b.1 && (b.0 == c)
+
+-- bytes without the backslashes that keep another
+abbrev pub kept_bytes : List (ℕ × Bool) → List ℕ
+kept_bytes bs = map (λ b. b.0) (filter (λ b. not (acts_as 92 b)) bs)
+
+-- the segments of a path's text: what stands between its dots
+abbrev pub segments_of : List ℕ → List (List ℕ)
+segments_of text = map kept_bytes (slice_split (acts_as 46) (marked false text))
+
+-- a segment as it stands in a path; with dots expanded each dot parts it
+abbrev pub segment_bytes : Bool → List ℕ → List ℕ
+segment_bytes false segment = segment
+segment_bytes true segment = map (λ c. if c == 46 then 1 else c) segment
+
+-- the bytes of a path: its segments as they stand there, with byte 1 before each but the first
+abbrev pub joined_segments : List (List ℕ) → List ℕ
+joined_segments segments = join_with_byte 1 segments
+
+abbrev pub path_bytes : Bool → List (List ℕ) → List ℕ
+path_bytes expand_dots segments = joined_segments (map (segment_bytes expand_dots) segments)
+
+-- whether bytes hold byte 0, which ends a path
+abbrev pub has_zero : List ℕ → Bool
+has_zero bytes = list_any (λ b. b == 0) bytes
+
+-- where the segments of a path begin, the first of them at a place
+abbrev pub starts_from : ℕ → List (List ℕ) → List ℕ
+starts_from place [] = []
+starts_from place (s ∷ ss) = place ∷ starts_from (place + length s + 1) ss
+
+-- the segments of a path that begin at these places
+abbrev pub cut_at : List ℕ → List ℕ → List (List ℕ)
+cut_at path [] = []
+cut_at path (start ∷ []) = drop start path ∷ []
+cut_at path (start ∷ next ∷ starts) = slice_range path start (next - 1) ∷ cut_at path (next ∷ starts)
+
+-- the bytes of a path of segments, and where these begin
+pub record IsPathOf (segments : List (List ℕ)) (path starts : List ℕ) : Type 0 where
+  pub bytes : path ≡ joined_segments segments
+  pub places : starts ≡ starts_from 0 segments
+
+-- A path that is written: its segments as they stand there, and whether dots in a further one are expanded.
+pub record PathState : Type 0 where
+  pub segments : List (List ℕ)
+  pub expand_dots : Bool
+
+-- a segment's bytes behind what parts it from the one before
+abbrev pub behind_separator : Bool → List ℕ → List ℕ
+behind_separator is_first segment = if is_first then segment else 1 ∷ segment
