@@ -1,6 +1,7 @@
-ghost use Rattle.std.specs.Prelude.{◌≡◌, map, string_bytes, IfErr, IfOk};
-ghost use Rattle.ii_base.specs.Paths.{segments_of};
+ghost use Rattle.std.specs.Prelude.{◌≡◌, ◌∷◌, ◌++◌, map, string_bytes, IfErr, IfOk, OnOk};
+ghost use Rattle.ii_base.specs.Paths.{joined_segments, segment_bytes, segments_of};
 
+use crate::json_path_writer::JsonPathWriter;
 use ii_io::Fault;
 use std::alloc::Global;
 use std::mem;
@@ -31,4 +32,35 @@ pub fn split_json_path(alloc: Global, path: &str) -> Result<Vec<String>, Fault>
     }
     segments.push(segment)?;
     Ok(segments)
+}
+
+// Adds the segments of a path's text.
+pub(crate) fn push_path(alloc: Global, writer: &mut JsonPathWriter, path: &str) -> Result<(), Fault>
+    ensures ok { OnOk result (writer.new ≡ record writer.old { segments = writer.old.segments ++ map (segment_bytes writer.old.expand_dots) (segments_of path.now) }) }
+    ensures only { IfErr result (λ e. e ≡ Fault.OutOfMemory) }
+{
+    let segments = split_json_path(alloc, path)?;
+    for segment in &segments {
+        writer.push(segment.as_str())?;
+    }
+    Ok(())
+}
+
+/// The name of the column of a path in a JSON field: the field's name, and the segments of the path's
+/// text, with byte 1 before each; with dots expanded, each dot of a segment becomes byte 1.
+/// `OutOfMemory` where there is no room for it.
+pub fn encode_column_name(
+    alloc: Global,
+    field_name: &str,
+    json_path: &str,
+    expand_dots: bool,
+) -> Result<String, Fault>
+    ensures ok { IfOk result (λ name. string_bytes name ≡ joined_segments (field_name.now ∷ map (segment_bytes expand_dots) (segments_of json_path.now))) }
+    ensures only { IfErr result (λ e. e ≡ Fault.OutOfMemory) }
+{
+    let mut writer = JsonPathWriter::new(alloc);
+    writer.push(field_name)?;
+    writer.set_expand_dots(expand_dots);
+    push_path(alloc, &mut writer, json_path)?;
+    Ok(writer.into_string())
 }

@@ -20,7 +20,7 @@ pub use ii_io::{
     FailingWriter, Fault, Field, FixedSize, HasLen, LayoutFault, LeafKind, LimitName, Part,
 };
 pub use json_path_writer::JsonPathWriter;
-pub use json_utils::split_json_path;
+pub use json_utils::{encode_column_name, split_json_path};
 pub use json_value::{JsonLeaf, JsonValue};
 pub use schema::Schema;
 pub use schema::field_entry::FieldEntry;

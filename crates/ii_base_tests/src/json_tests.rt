@@ -1,7 +1,10 @@
 ghost use Rattle.std.specs.Prelude.{◌≡◌, false};
 ghost use Rattle.ii_base.specs.Paths.{has_zero};
 
-use ii_base::{Fault, Field, JsonLeaf, JsonPathWriter, JsonValue, LeafKind, Term, split_json_path};
+use ii_base::{
+    Fault, Field, JsonLeaf, JsonPathWriter, JsonValue, LeafKind, Term, encode_column_name,
+    split_json_path,
+};
 use std::alloc::Global;
 use std::test::Fail;
 
@@ -95,6 +98,21 @@ static PATHS: &str = concat!(
 fn paths_are_written(rt: HostRuntime) -> Result<(), Fail> {
     let paths = written_paths(rt.alloc())?;
     assert!(rt; paths.as_str() == PATHS);
+    Ok(())
+}
+
+// The names of a column, its dots kept and then expanded.
+fn column_names(alloc: Global) -> Result<String, Fault> {
+    let mut names = encode_column_name(alloc, "attr", "a\\.b.c", false)?;
+    names.push('|')?;
+    names.push_str(encode_column_name(alloc, "attr", "a\\.b.c", true)?.as_str())?;
+    Ok(names)
+}
+
+#[test]
+fn columns_have_names(rt: HostRuntime) -> Result<(), Fail> {
+    let names = column_names(rt.alloc())?;
+    assert!(rt; names.as_str() == "attr\u{1}a.b\u{1}c|attr\u{1}a\u{1}b\u{1}c");
     Ok(())
 }
 

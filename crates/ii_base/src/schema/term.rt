@@ -1,12 +1,12 @@
-ghost use Rattle.std.specs.Prelude.{◌≡◌, [], ◌∷◌, ◌++◌, map, false, pos, IfErr, IfOk, OnErr, OnOk};
-ghost use Rattle.ii_base.specs.Paths.{has_zero, path_bytes, segment_bytes, segments_of};
+ghost use Rattle.std.specs.Prelude.{◌≡◌, [], ◌∷◌, ◌++◌, false, pos, IfErr, IfOk, OnErr, OnOk};
+ghost use Rattle.ii_base.specs.Paths.{has_zero, path_bytes, segments_of};
 ghost use Rattle.ii_base.specs.ValueTypes.{code_of};
 ghost use Rattle.ii_base.specs.Values.{flipped, number_of_bool, u64_bytes};
 
 use super::value_type::ValueType;
 use crate::fast_value::FastValue;
 use crate::json_path_writer::JsonPathWriter;
-use crate::json_utils::split_json_path;
+use crate::json_utils::push_path;
 use ii_io::{Fault, Field};
 use std::alloc::Global;
 use std::marker::Model;
@@ -141,16 +141,4 @@ impl Term {
     {
         &self.value
     }
-}
-
-// Adds the segments of a path's text.
-fn push_path(alloc: Global, writer: &mut JsonPathWriter, path: &str) -> Result<(), Fault>
-    ensures ok { OnOk result (writer.new ≡ record writer.old { segments = writer.old.segments ++ map (segment_bytes writer.old.expand_dots) (segments_of path.now) }) }
-    ensures only { IfErr result (λ e. e ≡ Fault.OutOfMemory) }
-{
-    let segments = split_json_path(alloc, path)?;
-    for segment in &segments {
-        writer.push(segment.as_str())?;
-    }
-    Ok(())
 }

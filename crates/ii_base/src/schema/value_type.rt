@@ -2,7 +2,7 @@ ghost use Rattle.std.specs.Prelude.{◌≡◌, ◌≢◌, MatchOption};
 ghost use Rattle.ii_base.specs.declared.schema.value_type.ValueType.{ValueType};
 ghost use Rattle.ii_base.specs.ValueTypes.{code_of};
 
-/// The type of a value, writer in a JSON key by one letter.
+/// The type of a value, written in a JSON key as one letter.
 #[derive(Clone, Copy, Debug, PartialEq, Eq)]
 pub enum ValueType {
     /// Text, `s`.
