@@ -4,4 +4,5 @@ pub mod LoadLemmas
 pub mod CheckedPostingsLemmas
 pub mod PartLemmas
 pub mod SeekLemmas
+pub mod StrictLemmas
 pub mod PositionLemmas

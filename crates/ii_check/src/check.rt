@@ -1,4 +1,4 @@
-ghost use Rattle.std.specs.Prelude.{◌≡◌, ◌*◌, ◌/◌, ◌%◌, ◌^◌, ◌&&◌, ◌||◌, ◌<◌, ◌≤◌, ℕ, drop, length, nat_lt, is_some, IsTrue, IfOk, IfErr, IfSome, Err};
+ghost use Rattle.std.specs.Prelude.{◌≡◌, ◌*◌, ◌/◌, ◌%◌, ◌^◌, ◌&&◌, ◌||◌, ◌==◌, ◌<◌, ◌≤◌, ℕ, true, drop, length, slice_index, nat_le, nat_lt, is_some, IsTrue, IfOk, IfErr, IfSome, Err};
 ghost use Rattle.std.specs.List.{sum};
 ghost use Rattle.std.specs.Option.{option_map};
 ghost use Rattle.ii_io.specs.Parts.{part_of};
@@ -6,19 +6,20 @@ ghost use Rattle.ii_io.specs.Vints.{u32s_at};
 ghost use Rattle.ii_base.specs.Options.{has_freq};
 ghost use Rattle.ii_docset.specs.declared.docset.TheConstants.{TERMINATED};
 ghost use Rattle.ii_docset.specs.Entries.{ascend_from};
+ghost use Rattle.ii_codes.specs.Blocks.{least_first, sorted_block_at};
 ghost use Rattle.ii_codes.specs.SortedVints.{sorted_vints_at};
 ghost use Rattle.ii_layout.specs.Documents.{documents_at};
 ghost use Rattle.ii_layout.specs.Frequencies.{freqs_at};
 ghost use Rattle.ii_layout.specs.Postings.{postings};
 ghost use Rattle.ii_layout.specs.SkipList.{entry_size};
-ghost use Rattle.ii_check.specs.Check.{HoldsRow, after_rest, block_fits, block_freqs_in, skip_list_of};
+ghost use Rattle.ii_check.specs.Check.{HoldsRow, after_rest, block_fits, block_freqs_in, fits_by, skip_list_of};
 ghost use Rattle.ii_check.specs.CheckedPostings.{IsChecked, LoadsBlock, given};
 ghost use Rattle.ii_check.specs.FreqReading.{reading_by};
 
 use super::freq_reading_option::FreqReadingOption;
 use super::load::NO_FREQ;
 use ii_base::{IndexRecordOption, LayoutFault, Part};
-use ii_codes::{BlockDecoder, COMPRESSION_BLOCK_SIZE, compressed_block_size};
+use ii_codes::{BlockDecoder, COMPRESSION_BLOCK_SIZE, compressed_block_size, last_of_sorted_block};
 use ii_docset::{DocId, TERMINATED};
 use ii_layout::{BlockInfo, SkipPlaces, SkipReader, bytes_from, split_into_skips_and_postings};
 
@@ -101,7 +102,8 @@ fn after_documents<'a>(
 }
 
 // Whether bytes begin with the full block at which a skip reader stands: one that ends in its
-// entry's last document, and ascends from `least` on.
+// entry's last document, and ascends from `least` on. Strict deltas ascend, so that the block's last
+// document tells.
 fn is_block(decoder: &mut BlockDecoder, skip: &SkipReader, least: DocId, bytes: &[u8]) -> bool
     ensures { result
         ≡ block_fits skip.now.block_info skip.now.last_doc_in_previous_block skip.now.last_doc_in_block least bytes.now }
@@ -115,6 +117,12 @@ fn is_block(decoder: &mut BlockDecoder, skip: &SkipReader, least: DocId, bytes: 
         return false;
     };
     let before = skip.last_doc_in_previous_block();
+    let last_doc = skip.last_doc_in_block();
+    if strict_delta_encoded {
+        if comes_after(least, before) {
+            return is_strict_block(bytes, before, doc_num_bits, last_doc);
+        }
+    }
     let Ok(_) = decoder.try_uncompress_block_sorted(
         bytes,
         before,
@@ -123,10 +131,35 @@ fn is_block(decoder: &mut BlockDecoder, skip: &SkipReader, least: DocId, bytes: 
     ) else {
         return false;
     };
-    if decoder.output(COMPRESSION_BLOCK_SIZE - 1) != skip.last_doc_in_block() {
+    if decoder.output(COMPRESSION_BLOCK_SIZE - 1) != last_doc {
         return false;
     }
     ascend(decoder.output_array(), least)
+}
+
+// Whether each block of strict deltas after a last document begins at `least` or above.
+fn comes_after(least: DocId, before: DocId) -> bool
+    ensures { result ≡ nat_le least (least_first true before) }
+{
+    if before == 0 {
+        return least == 0;
+    }
+    u64::from(least) <= u64::from(before) + 1
+}
+
+// Whether bytes begin with a block of strict deltas after a last document, which ends in `last_doc`
+// and below the end.
+fn is_strict_block(bytes: &[u8], before: DocId, width: u8, last_doc: DocId) -> bool
+    ensures { (least : ℕ) → least ≤ least_first true before
+        → result ≡ fits_by (λ docs. slice_index docs 127 == last_doc && ascend_from least docs) (sorted_block_at true before width bytes.now) }
+{
+    let Some(last) = last_of_sorted_block(bytes, before, width, true) else {
+        return false;
+    };
+    if last != last_doc {
+        return false;
+    }
+    last < TERMINATED
 }
 
 // How many bytes the last documents take that bytes begin with, and which ascend from `least` on; or

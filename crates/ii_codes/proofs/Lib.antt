@@ -11,6 +11,7 @@ pub mod PackedLemmas
 pub mod PrefixLemmas
 pub mod SearchLemmas
 pub mod SortedVintLemmas
+pub mod SumLaneLemmas
 pub mod WideLaneLemmas
 pub mod WidthLemmas
 pub mod WindowLemmas

@@ -10,7 +10,7 @@ ghost use Rattle.ii_codes.specs.Sums.{fit_u32};
 
 use super::{COMPRESSION_BLOCK_SIZE, compressed_block_size};
 use byteorder::{ByteOrder, LittleEndian};
-use lanes::{sorted_narrow, sorted_wide, unpack_narrow, unpack_wide};
+use lanes::{sorted_narrow, sorted_wide, sum_narrow, sum_wide, unpack_narrow, unpack_wide};
 
 mod lanes;
 
@@ -384,79 +384,54 @@ fn sorted_values(bytes: &[u8], width: u8, gap: u64, least: u64, output: &mut [u3
     sorted_from(&padded_block(&bytes[..size]), width, gap, least, output)
 }
 
-/// The sum of the entries of a width that is known where this is compiled.
-#[inline(never)]
-fn sum_width<const W: usize>(bytes: &[u8]) -> u64
-    requires narrow { W ≤ 32 }
-    requires enough { 16 * W + 8 ≤ length bytes.now }
-    ensures value { result ≡ sum (unpacked W bytes.now) }
-    ensures fits { result ≤ 128 * 2 ^ 32 }
-{
-    let mut sum = 0u64;
-    for group in 0..16usize {
-        for i in 0..8usize {
-            sum += u64::from(entry_of(bytes, W, group, i));
-        }
-    }
-    sum
-}
-
-/// The sum of the entries, where eight bytes more than the block's are at hand.
-fn sum_from(bytes: &[u8], width: u8) -> u64
-    requires narrow { width ≤ 32 }
-    requires enough { 16 * width + 8 ≤ length bytes.now }
-    ensures value { result ≡ sum (unpacked width bytes.now) }
-    ensures fits { result ≤ 128 * 2 ^ 32 }
-{
-    match width {
-        0 => sum_width::<0>(bytes),
-        1 => sum_width::<1>(bytes),
-        2 => sum_width::<2>(bytes),
-        3 => sum_width::<3>(bytes),
-        4 => sum_width::<4>(bytes),
-        5 => sum_width::<5>(bytes),
-        6 => sum_width::<6>(bytes),
-        7 => sum_width::<7>(bytes),
-        8 => sum_width::<8>(bytes),
-        9 => sum_width::<9>(bytes),
-        10 => sum_width::<10>(bytes),
-        11 => sum_width::<11>(bytes),
-        12 => sum_width::<12>(bytes),
-        13 => sum_width::<13>(bytes),
-        14 => sum_width::<14>(bytes),
-        15 => sum_width::<15>(bytes),
-        16 => sum_width::<16>(bytes),
-        17 => sum_width::<17>(bytes),
-        18 => sum_width::<18>(bytes),
-        19 => sum_width::<19>(bytes),
-        20 => sum_width::<20>(bytes),
-        21 => sum_width::<21>(bytes),
-        22 => sum_width::<22>(bytes),
-        23 => sum_width::<23>(bytes),
-        24 => sum_width::<24>(bytes),
-        25 => sum_width::<25>(bytes),
-        26 => sum_width::<26>(bytes),
-        27 => sum_width::<27>(bytes),
-        28 => sum_width::<28>(bytes),
-        29 => sum_width::<29>(bytes),
-        30 => sum_width::<30>(bytes),
-        31 => sum_width::<31>(bytes),
-        _ => sum_width::<32>(bytes),
-    }
-}
-
-/// The sum of the 128 entries of `width` bits that `bytes` begin with.
+/// The sum of the 128 entries of `width` bits that `bytes` begin with: in lanes where these are
+/// narrow and sixteen bytes more are at hand.
 fn sum_of(bytes: &[u8], width: u8) -> u64
     requires narrow { width ≤ 32 }
     requires enough { 16 * width ≤ length bytes.now }
     ensures value { result ≡ sum (unpacked width bytes.now) }
     ensures fits { result ≤ 128 * 2 ^ 32 }
 {
-    let size = compressed_block_size(width);
-    if bytes.len() - size >= 8 {
-        return sum_from(bytes, width);
+    if width == 0 {
+        return 0;
     }
-    sum_from(&padded_block(&bytes[..size]), width)
+    if bytes.len() - compressed_block_size(width) >= 16 {
+        match width {
+            1 => return sum_narrow::<1>(bytes),
+            2 => return sum_narrow::<2>(bytes),
+            3 => return sum_narrow::<3>(bytes),
+            4 => return sum_narrow::<4>(bytes),
+            5 => return sum_narrow::<5>(bytes),
+            6 => return sum_narrow::<6>(bytes),
+            7 => return sum_narrow::<7>(bytes),
+            8 => return sum_narrow::<8>(bytes),
+            9 => return sum_narrow::<9>(bytes),
+            10 => return sum_wide::<10>(bytes),
+            11 => return sum_wide::<11>(bytes),
+            12 => return sum_wide::<12>(bytes),
+            13 => return sum_wide::<13>(bytes),
+            14 => return sum_wide::<14>(bytes),
+            15 => return sum_wide::<15>(bytes),
+            16 => return sum_wide::<16>(bytes),
+            17 => return sum_wide::<17>(bytes),
+            18 => return sum_wide::<18>(bytes),
+            19 => return sum_wide::<19>(bytes),
+            20 => return sum_wide::<20>(bytes),
+            21 => return sum_wide::<21>(bytes),
+            22 => return sum_wide::<22>(bytes),
+            23 => return sum_wide::<23>(bytes),
+            24 => return sum_wide::<24>(bytes),
+            25 => return sum_wide::<25>(bytes),
+            _ => {}
+        }
+    }
+    let mut entries = [0u32; COMPRESSION_BLOCK_SIZE];
+    unpack(bytes, width, 0, &mut entries);
+    let mut sum = 0u64;
+    for entry in &entries {
+        sum += u64::from(*entry);
+    }
+    sum
 }
 
 /// The last value of the block of 128 values of `num_bits` bits that the bytes begin with, sorted

@@ -1,5 +1,6 @@
 ghost use Rattle.std.specs.Prelude.{◌≡◌, ℕ, ◌+◌, ◌*◌, ◌/◌, ◌%◌, ◌^◌, map, replicate, ◌<◌, ◌≤◌, ◌∷◌, [], ◌++◌, length, take, slice_index};
 ghost use Rattle.std.specs.Bool.{OnTrue};
+ghost use Rattle.std.specs.List.{sum};
 ghost use Rattle.ii_codes.specs.Packed.{bits_in, unpacked};
 ghost use Rattle.ii_codes.specs.Blocks.{values_from, raised};
 ghost use Rattle.ii_codes.specs.Sums.{fit_u32};
@@ -270,4 +271,38 @@ pub(crate) fn unpack_wide<const W: usize>(bytes: &[u8], more: u32, output: &mut 
         let high = four::<W>(bytes, at + W / 2, W % 2 * 4);
         put_four(output, 8 * group + 4, high + u32x4::splat(more));
     }
+}
+
+/// The sum of entries of at most 9 bits each, eight at a time.
+#[inline(never)]
+pub(crate) fn sum_narrow<const W: usize>(bytes: &[u8]) -> u64
+    requires some { 1 ≤ W }
+    requires narrow { W ≤ 9 }
+    requires enough { 16 * W + 16 ≤ length bytes.now }
+    ensures value { result ≡ sum (unpacked W bytes.now) }
+    ensures fits { result < 2 ^ 32 }
+{
+    let mut sums = u16x8::splat(0);
+    for group in 0..16usize {
+        sums = sums.strict_add(eight::<W>(bytes, group * W));
+    }
+    u64::from(sums.strict_reduce_sum())
+}
+
+/// The sum of entries of at most 25 bits each, four at a time.
+#[inline(never)]
+pub(crate) fn sum_wide<const W: usize>(bytes: &[u8]) -> u64
+    requires some { 1 ≤ W }
+    requires narrow { W ≤ 25 }
+    requires enough { 16 * W + 16 ≤ length bytes.now }
+    ensures value { result ≡ sum (unpacked W bytes.now) }
+    ensures fits { result < 2 ^ 32 }
+{
+    let mut sums = u32x4::splat(0);
+    for group in 0..16usize {
+        let at = group * W;
+        let low = sums.strict_add(four::<W>(bytes, at, 0));
+        sums = low.strict_add(four::<W>(bytes, at + W / 2, W % 2 * 4));
+    }
+    u64::from(sums.strict_reduce_sum())
 }

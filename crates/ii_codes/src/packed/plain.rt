@@ -1,7 +1,7 @@
 ghost use Rattle.std.specs.Prelude.{◌≡◌, ◌+◌, ◌*◌, ◌≤◌, length, take};
 ghost use Rattle.ii_codes.specs.Packed.{bits_in, unpacked, packed};
 
-use super::{pack, unpack, unpack_sorted, unpack_unsorted};
+use super::{pack, sum_of, unpack, unpack_sorted, unpack_unsorted};
 use crate::{COMPRESSION_BLOCK_SIZE, compressed_block_size};
 
 // What the definitions say, bit by bit: the fast forms are compared with these.
@@ -145,6 +145,21 @@ fn raised_agree(entries: &[u32; 128], width: u8) -> bool
     }
 }
 
+// Whether entries of a width have the sum that they have one after the other, with no byte after the
+// block and with others after it.
+fn sums_agree(entries: &[u32; 128], width: u8) -> bool
+    requires { width ≤ 32 }
+{
+    let size = compressed_block_size(width);
+    let mut bytes = [0xADu8; 530];
+    pack(entries, width, &mut bytes);
+    let mut sum = 0u64;
+    for entry in entries {
+        sum = sum.wrapping_add(u64::from(*entry));
+    }
+    sum_of(&bytes[..size], width) == sum && sum_of(&bytes, width) == sum
+}
+
 #[test]
 fn agrees_with_bit_by_bit_at_each_width(rt: HostRuntime) {
     for width in 0..=32u8 {
@@ -159,5 +174,7 @@ fn agrees_with_bit_by_bit_at_each_width(rt: HostRuntime) {
         assert!(rt; values_agree(&counted, width));
         assert!(rt; raised_agree(&[most; 128], width));
         assert!(rt; raised_agree(&counted, width));
+        assert!(rt; sums_agree(&[most; 128], width));
+        assert!(rt; sums_agree(&counted, width));
     }
 }
