@@ -1,5 +1,6 @@
 mod DottedLemmas
 mod KnownPaths
+mod LeafVisitLemmas
 mod ParseLemmas
 mod RankLemmas
 mod WorkedRows

@@ -1,6 +1,7 @@
 pub mod DottedPaths
 pub mod FastValues
 pub mod JsonTerms
+pub mod LeafVisit
 pub mod Lending
 pub mod PathRank
 pub mod Paths

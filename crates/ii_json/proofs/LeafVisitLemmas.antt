@@ -1,0 +1,76 @@
+-- The fault of leaves after others.
+use Rattle.std.proofs.Common.{◌≡◌, ◌⊎◌, ℕ, ◌+◌, ◌-◌, length, length-append, take, String, Global, arith, List, [], ◌∷◌, ◌++◌, append_assoc, append-nil, Option, None, Some, inl, inr, refl, sym, ap, subst, ◌∙◌}
+use Rattle.ii_io.specs.declared.faults.Fault.{Fault}
+use Rattle.ii_io.specs.declared.faults.Fault.TheVariants.{OutOfMemory}
+use Rattle.std.proofs.Math.Seq.{take-append_seam}
+use Rattle.ii_base.specs.Json.{Leaf}
+use Rattle.ii_base.specs.Paths.{PathState, segment_bytes}
+use Rattle.ii_base.specs.declared.json_value.JsonValue.{JsonValue}
+use Rattle.ii_json.specs.LeafVisit.{first_fault, leaves_fault}
+
+abbrev pub AtPath : Type 0
+AtPath = List ℕ × Leaf
+
+abbrev pub LeafFault : Type 0
+LeafFault = List AtPath → AtPath → Option Fault
+
+later_fault : (a b c : Option Fault) → first_fault a (first_fault b c) ≡ first_fault (first_fault a b) c
+later_fault None b c = refl
+later_fault (Some f) b c = refl
+
+pub leaves_fault-append : (fault : LeafFault) (before one rest : List AtPath) → leaves_fault fault before (one ++ rest) ≡ first_fault (leaves_fault fault before one) (leaves_fault fault (before ++ one) rest)
+leaves_fault-append fault before [] rest = ap (λ (l : List AtPath). leaves_fault fault l rest) (sym (append-nil before))
+leaves_fault-append fault before (l ∷ one) rest =
+    ap (first_fault (fault before l)) (leaves_fault-append fault (before ++ l ∷ []) one rest ∙ ap (λ (k : List AtPath). first_fault (leaves_fault fault (before ++ l ∷ []) one) (leaves_fault fault k rest)) (append_assoc before (l ∷ []) one))
+    ∙ later_fault (fault before l) (leaves_fault fault (before ++ l ∷ []) one) (leaves_fault fault (before ++ (l ∷ one)) rest)
+
+-- the fault of a first part is that of the whole
+cause_first : (cause later : Option Fault) (e : Fault) → (e ≡ OutOfMemory) ⊎ (cause ≡ Some e) → (e ≡ OutOfMemory) ⊎ (first_fault cause later ≡ Some e)
+cause_first cause later e (inl memory) = inl memory
+cause_first cause later e (inr is) = inr (ap (λ (c : Option Fault). first_fault c later) is)
+
+module _ {S : Type 0} (holds : S → List AtPath → Type 0) (fault : S → LeafFault) (start now : S) (all rest : List AtPath) where
+  -- Leaves are handed on: for what was held, what is held now, by which the rest leads to the whole, and the rest's fault is that of the whole.
+  pub record IsHanding : Type 0 where
+    pub same : fault now ≡ fault start
+    pub held : (before : List AtPath) → holds start before → (taken : List AtPath) × (holds now taken) × (taken ++ rest ≡ before ++ all) × (leaves_fault (fault start) before all ≡ leaves_fault (fault start) taken rest)
+
+pub handed_none : {S : Type 0} (holds : S → List AtPath → Type 0) (fault : S → LeafFault) (start : S) (all : List AtPath) → IsHanding holds fault start start all all
+handed_none holds fault start all = record { same = refl; held = λ before h. (before, h, refl, refl) }
+
+pub handed_more : {S : Type 0} (holds : S → List AtPath → Type 0) (fault : S → LeafFault) (start now after : S) (all rest one more : List AtPath) → IsHanding holds fault start now all rest → rest ≡ one ++ more → ((before : List AtPath) → holds now before → holds after (before ++ one)) → ((before : List AtPath) → holds now before → leaves_fault (fault now) before one ≡ None) → fault after ≡ fault now → IsHanding holds fault start after all more
+handed_more holds fault start now after all rest one more is step takes fine kept = record {
+  same = kept ∙ is.same;
+  held = λ before h.
+      let k = is.held before h in
+      let none : leaves_fault (fault start) k.0 one ≡ None = ap (λ (f : LeafFault). leaves_fault f k.0 one) (sym is.same) ∙ fine k.0 k.1 in (
+        k.0 ++ one,
+        takes k.0 k.1,
+        append_assoc k.0 one more ∙ ap (λ (l : List AtPath). k.0 ++ l) (sym step) ∙ k.2,
+        k.3 ∙ ap (leaves_fault (fault start) k.0) step ∙ leaves_fault-append (fault start) k.0 one more ∙ ap (λ (c : Option Fault). first_fault c (leaves_fault (fault start) (k.0 ++ one) more)) none,
+      );
+}
+
+pub handed_refused : {S : Type 0} (holds : S → List AtPath → Type 0) (fault : S → LeafFault) (start now : S) (all rest one more before : List AtPath) (e : Fault) → IsHanding holds fault start now all rest → rest ≡ one ++ more → holds start before → ((b : List AtPath) → holds now b → (e ≡ OutOfMemory) ⊎ (leaves_fault (fault now) b one ≡ Some e)) → (e ≡ OutOfMemory) ⊎ (leaves_fault (fault start) before all ≡ Some e)
+handed_refused holds fault start now all rest one more before e is step h refused =
+    let k = is.held before h in
+    let cause : (e ≡ OutOfMemory) ⊎ (leaves_fault (fault start) k.0 one ≡ Some e) = subst (λ (f : LeafFault). (e ≡ OutOfMemory) ⊎ (leaves_fault f k.0 one ≡ Some e)) is.same (refused k.0 k.1) in
+    let whole = k.3 ∙ ap (leaves_fault (fault start) k.0) step ∙ leaves_fault-append (fault start) k.0 one more in
+    subst (λ (c : Option Fault). (e ≡ OutOfMemory) ⊎ (c ≡ Some e)) (sym whole) (cause_first (leaves_fault (fault start) k.0 one) (leaves_fault (fault start) (k.0 ++ one) more) e cause)
+
+abbrev pub Member : Type 0
+Member = String Global × JsonValue
+
+-- a path with one segment more
+abbrev pub with_key : PathState → List ℕ → PathState
+with_key at key = record { segments = at.segments ++ segment_bytes at.expand_dots key ∷ []; expand_dots = at.expand_dots }
+
+abbrev pub without_last : PathState → PathState
+without_last at = record { segments = take (length at.segments - 1) at.segments; expand_dots = at.expand_dots }
+
+pub key_popped : (at : PathState) (key : List ℕ) → without_last (with_key at key) ≡ at
+key_popped at key =
+    let len : length (at.segments ++ segment_bytes at.expand_dots key ∷ []) - 1 ≡ length at.segments = omega (arith, length-append at.segments (segment_bytes at.expand_dots key ∷ [])) in
+    let back : take (length (at.segments ++ segment_bytes at.expand_dots key ∷ []) - 1) (at.segments ++ segment_bytes at.expand_dots key ∷ []) ≡ at.segments = rw len (take-append_seam at.segments (segment_bytes at.expand_dots key ∷ [])) in
+    let made : List (List ℕ) → PathState = λ s. record { segments = s; expand_dots = at.expand_dots } in
+    ap made back
