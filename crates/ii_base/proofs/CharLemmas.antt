@@ -1,5 +1,5 @@
 -- The characters of a path's text and of its segments.
-use Rattle.std.proofs.Common.{◌≡◌, ℕ, ◌≤◌, true, List, [], ◌∷◌, ◌++◌, append_assoc, append-nil, length, take, length-take, refl, sym, ap, arith, ◌∙◌, ⊎_elim, lit<}
+use Rattle.std.proofs.Common.{◌≡◌, ℕ, ◌≤◌, true, List, [], ◌∷◌, ◌++◌, append_assoc, append-nil, length, take, length-take, refl, sym, ap, arith, ◌∙◌, ⊎_elim}
 use lib.Utf8.{encode}
 use Rattle.std.specs.List.{All}
 use Rattle.std.proofs.lemmas.Bool.{cases_lt, ne_eqb}
@@ -19,12 +19,6 @@ past_ascii c high =
 expanded_past : (xs rest : List ℕ) → All (λ b. 128 ≤ b) xs → segment_bytes true (xs ++ rest) ≡ xs ++ segment_bytes true rest
 expanded_past [] rest high = refl
 expanded_past (x ∷ xs) rest high = rw (ne_eqb x 46 (λ e. omega (arith, e, All-head (λ b. 128 ≤ b) x xs high))) (ap (λ (l : List ℕ). x ∷ l) (expanded_past xs rest (All-tail (λ b. 128 ≤ b) x xs high)))
-
-pub expanded_dot : (text rest : List ℕ) → text ≡ encode 46 ++ rest → segment_bytes true text ≡ encode 1 ++ segment_bytes true rest
-expanded_dot text rest is =
-    let dot : encode 46 ≡ 46 ∷ [] = encode_ascii 46 (lit< tt) in
-    let one : encode 1 ≡ 1 ∷ [] = encode_ascii 1 (lit< tt) in
-    rw (is, dot, one) refl
 
 pub expanded_other : (c : ℕ) (text rest : List ℕ) → text ≡ encode c ++ rest → (c ≡ 46 → ⊥) → segment_bytes true text ≡ encode c ++ segment_bytes true rest
 expanded_other c text rest is other = rw is (⊎_elim (λ low. rw (encode_ascii c low, ne_eqb c 46 other) refl) (λ high. expanded_past (encode c) rest (past_ascii c high)) (cases_lt c 128))

@@ -36,9 +36,6 @@ in_front_parts (x ∷ bs) = parts_by (acts_as 46 x) x (slice_split (acts_as 46) 
 pub in_front_nothing : (kept : Bool) (bytes : List ℕ) → in_front [] (segments_from kept bytes) ≡ segments_from kept bytes
 in_front_nothing kept bytes = in_front_parts (marked kept bytes)
 
-pub at_dot : (rest : List ℕ) → segments_of (46 ∷ rest) ≡ [] ∷ segments_of rest
-at_dot rest = refl
-
 unkept : (parts : List (List (ℕ × Bool))) → map kept_bytes (onto_first (92, false) parts) ≡ in_front [] (map kept_bytes parts)
 unkept [] = refl
 unkept (p ∷ ps) = refl

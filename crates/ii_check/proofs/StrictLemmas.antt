@@ -55,9 +55,6 @@ none_fits : (last_doc least : ℕ) (o : Option (List ℕ × List ℕ)) → None 
 none_fits last_doc least None h = refl
 none_fits last_doc least (Some found) h = absurd (cc)
 
-pub strict_none : (before w last_doc least : ℕ) (bytes : List ℕ) → None ≡ last_in (sorted_block_at true before w bytes) → false ≡ fits_by (ends_in last_doc least) (sorted_block_at true before w bytes)
-strict_none before w last_doc least bytes h = none_fits last_doc least (sorted_block_at true before w bytes) h
-
 some_fits : (before w last last_doc least : ℕ) (bytes : List ℕ) (o : Option (List ℕ × List ℕ)) → sorted_block_at true before w bytes ≡ o → least ≤ least_first true before → Some last ≡ last_in o
     → (eqb last last_doc && nat_lt last 2147483647) ≡ fits_by (ends_in last_doc least) o
 some_fits before w last last_doc least bytes None e up h = absurd (cc)

@@ -1,9 +1,7 @@
-use Rattle.std.proofs.Common.{◌≡◌, ℕ, ◌+◌, ◌∷◌, ◌++◌, List, drop, string_bytes, rules, sym, ap, ◌∙◌, arith, Some, None, false, refl}
+use Rattle.std.proofs.Common.{◌≡◌, ℕ, ◌+◌, ◌∷◌, ◌++◌, List, drop, string_bytes, rules, sym, ap, ◌∙◌, arith, false, refl}
 use Rattle.std.proofs.lemmas.List.{drop_more}
 use Rattle.std.proofs.lemmas.Result.{err_from_is_err_and}
-use Rattle.ii_base.specs.Json.{json_of, Leaf}
 use Rattle.ii_base.specs.Paths.{PathState, has_zero}
-use Rattle.ii_json.specs.LeafVisit.{IsRefusedBy, leaves_fault}
 use Rattle.ii_json.specs.LeafVisit.{leaves_at, items_leaves_at, members_leaves_at}
 use Rattle.ii_base.specs.declared.json_value.JsonValue.{JsonValue}
 use Rattle.ii_json.proofs.LeafVisitLemmas.{handed_more, handed_refused}
