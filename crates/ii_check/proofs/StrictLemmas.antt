@@ -1,5 +1,5 @@
 -- A block of strict deltas ascends, so that its last document tells whether it fits.
-use Rattle.std.proofs.Common.{◌≡◌, ℕ, ◌+◌, ◌*◌, ◌≤◌, Bool, true, false, ◌&&◌, List, [], ◌∷◌, length, get_or, eqb, nat_le, nat_lt, Option, Some, None, refl, ap, ◌∙◌, arith, ⊎_elim}
+use Rattle.std.proofs.Common.{◌≡◌, ℕ, ◌+◌, ◌*◌, ◌≤◌, Bool, true, ◌&&◌, List, [], ◌∷◌, length, get_or, eqb, nat_le, nat_lt, Option, Some, None, refl, ap, ◌∙◌, arith, ⊎_elim}
 use Rattle.std.proofs.Math.Bool.{and-false, and-true}
 use Rattle.std.proofs.lemmas.Bool.{cases_lt, le-leb, lt-ltb, le-ltb}
 use Rattle.std.specs.Option.{option_map}
@@ -50,10 +50,6 @@ last_in found = option_map (λ (block : List ℕ × List ℕ). get_or block.0 12
 
 abbrev ends_in : ℕ → ℕ → List ℕ → Bool
 ends_in last_doc least docs = eqb (get_or docs 127 0) last_doc && ascend_from least docs
-
-none_fits : (last_doc least : ℕ) (o : Option (List ℕ × List ℕ)) → None ≡ last_in o → false ≡ fits_by (ends_in last_doc least) o
-none_fits last_doc least None h = refl
-none_fits last_doc least (Some found) h = absurd (cc)
 
 some_fits : (before w last last_doc least : ℕ) (bytes : List ℕ) (o : Option (List ℕ × List ℕ)) → sorted_block_at true before w bytes ≡ o → least ≤ least_first true before → Some last ≡ last_in o
     → (eqb last last_doc && nat_lt last 2147483647) ≡ fits_by (ends_in last_doc least) o
