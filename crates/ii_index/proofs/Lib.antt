@@ -1,2 +1,4 @@
 mod FileRows
 pub mod GroupedLaws
+mod JsonRows
+pub mod KeyLaws

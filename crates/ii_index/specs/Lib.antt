@@ -1,5 +1,6 @@
 pub mod Cut
 pub mod Fields
 pub mod Files
+pub mod JsonKeys
 pub mod Postings
 pub mod Tokens

@@ -1,6 +1,8 @@
 -- The tokens of a list of index calls.
 use Rattle.std.specs.Prelude.{ℕ, ◌+◌, max, Bool, true, false, ◌&&◌, ◌==◌, List, [], ◌∷◌, ◌++◌, bytes_eq, filter, length, map, nat_le}
 use Rattle.std.specs.List.{flat_map, fold}
+use Rattle.ii_base.specs.Json.{Leaf, text_leaf, unsupported, value_leaf}
+use Rattle.ii_base.specs.Values.{json_key, text_key, typed_key}
 use Rattle.ii_base.specs.Words.{Word}
 
 -- what a call is to index
@@ -8,6 +10,7 @@ pub data Content : Type 0 where
   text : List ℕ → Content
   words : List Word → Content
   value : List ℕ → Content
+  leaves : List (List ℕ × Leaf) → Content
 
 pub record Call : Type 0 where
   pub doc : ℕ
@@ -67,11 +70,25 @@ abbrev pub tokens_after : List Piece → List Piece → List IndexToken
 tokens_after earlier [] = []
 tokens_after earlier (p ∷ ps) = piece_tokens earlier p ++ tokens_after (earlier ++ p ∷ []) ps
 
--- the pieces of a call, by what an analyzer makes of a text
+-- a text whose words stand under keys with a prefix, and a value under its key
+abbrev pub text_at : ℕ → ℕ → List ℕ → List Word → Piece
+text_at doc field prefix ws = record { doc = doc; field = field; prefix = prefix; is_text = true; words = ws }
+
+abbrev pub value_at : ℕ → ℕ → List ℕ → Piece
+value_at doc field key = record { doc = doc; field = field; prefix = key; is_text = false; words = [] }
+
+-- what a leaf of a JSON value gives, by what an analyzer makes of a text
+abbrev pub leaf_pieces : (List ℕ → List Word) → ℕ → ℕ → List ℕ × Leaf → List Piece
+leaf_pieces analyze doc field (path, text_leaf t) = text_at doc field (json_key path (text_key [])) (analyze t) ∷ []
+leaf_pieces analyze doc field (path, value_leaf t n) = value_at doc field (json_key path (typed_key t n)) ∷ []
+leaf_pieces analyze doc field (path, unsupported kind) = []
+
+-- the pieces of a call
 abbrev pub content_pieces : (List ℕ → List Word) → Call → Content → List Piece
-content_pieces analyze c (text t) = record { doc = c.doc; field = c.field; prefix = []; is_text = true; words = analyze t } ∷ []
-content_pieces analyze c (words ws) = record { doc = c.doc; field = c.field; prefix = []; is_text = true; words = ws } ∷ []
-content_pieces analyze c (value key) = record { doc = c.doc; field = c.field; prefix = key; is_text = false; words = [] } ∷ []
+content_pieces analyze c (text t) = text_at c.doc c.field [] (analyze t) ∷ []
+content_pieces analyze c (words ws) = text_at c.doc c.field [] ws ∷ []
+content_pieces analyze c (value key) = value_at c.doc c.field key ∷ []
+content_pieces analyze c (leaves ls) = flat_map (leaf_pieces analyze c.doc c.field) ls
 
 abbrev pub call_pieces : (List ℕ → List Word) → Call → List Piece
 call_pieces analyze c = content_pieces analyze c c.content

@@ -29,34 +29,42 @@ cause_first : (cause later : Option Fault) (e : Fault) → (e ≡ OutOfMemory) �
 cause_first cause later e (inl memory) = inl memory
 cause_first cause later e (inr is) = inr (ap (λ (c : Option Fault). first_fault c later) is)
 
-module _ {S : Type 0} (holds : S → List AtPath → Type 0) (fault : S → LeafFault) (start now : S) (all rest : List AtPath) where
+module _ {S Given Constant : Type 0} (constant : S → Constant) (ready : S → Type 0) (holds : S → Given → List AtPath → Type 0) (fault : Constant → Given → LeafFault) (start now : S) (all rest : List AtPath) where
   -- Leaves are handed on: for what was held, what is held now, by which the rest leads to the whole, and the rest's fault is that of the whole.
   pub record IsHanding : Type 0 where
-    pub same : fault now ≡ fault start
-    pub held : (before : List AtPath) → holds start before → (taken : List AtPath) × (holds now taken) × (taken ++ rest ≡ before ++ all) × (leaves_fault (fault start) before all ≡ leaves_fault (fault start) taken rest)
+    pub same : constant now ≡ constant start
+    pub is_ready : ready now
+    pub held : (given : Given) (before : List AtPath) → holds start given before
+        → (taken : List AtPath) × (holds now given taken) × (taken ++ rest ≡ before ++ all) × (leaves_fault (fault (constant start) given) before all ≡ leaves_fault (fault (constant start) given) taken rest)
 
-pub handed_none : {S : Type 0} (holds : S → List AtPath → Type 0) (fault : S → LeafFault) (start : S) (all : List AtPath) → IsHanding holds fault start start all all
-handed_none holds fault start all = record { same = refl; held = λ before h. (before, h, refl, refl) }
+module _ {S Given Constant : Type 0} (constant : S → Constant) (ready : S → Type 0) (holds : S → Given → List AtPath → Type 0) (fault : Constant → Given → LeafFault) (start now : S) (all rest : List AtPath) where
+  pub handed_more : (after : S) (one more : List AtPath) → IsHanding constant ready holds fault start now all rest → rest ≡ one ++ more → ready after
+      → ((given : Given) (before : List AtPath) → holds now given before → holds after given (before ++ one))
+      → ((given : Given) (before : List AtPath) → holds now given before → leaves_fault (fault (constant now) given) before one ≡ None)
+      → constant after ≡ constant now → IsHanding constant ready holds fault start after all more
+  handed_more after one more is step goes takes fine kept = record {
+    same = kept ∙ is.same;
+    is_ready = goes;
+    held = λ given before h.
+        let k = is.held given before h in
+        let f = fault (constant start) given in
+        let none : leaves_fault f k.0 one ≡ None = ap (λ (c : Constant). leaves_fault (fault c given) k.0 one) (sym is.same) ∙ fine given k.0 k.1 in (
+          k.0 ++ one,
+          takes given k.0 k.1,
+          append_assoc k.0 one more ∙ ap (λ (l : List AtPath). k.0 ++ l) (sym step) ∙ k.2,
+          k.3 ∙ ap (leaves_fault f k.0) step ∙ leaves_fault-append f k.0 one more ∙ ap (λ (c : Option Fault). first_fault c (leaves_fault f (k.0 ++ one) more)) none,
+        );
+  }
 
-pub handed_more : {S : Type 0} (holds : S → List AtPath → Type 0) (fault : S → LeafFault) (start now after : S) (all rest one more : List AtPath) → IsHanding holds fault start now all rest → rest ≡ one ++ more → ((before : List AtPath) → holds now before → holds after (before ++ one)) → ((before : List AtPath) → holds now before → leaves_fault (fault now) before one ≡ None) → fault after ≡ fault now → IsHanding holds fault start after all more
-handed_more holds fault start now after all rest one more is step takes fine kept = record {
-  same = kept ∙ is.same;
-  held = λ before h.
-      let k = is.held before h in
-      let none : leaves_fault (fault start) k.0 one ≡ None = ap (λ (f : LeafFault). leaves_fault f k.0 one) (sym is.same) ∙ fine k.0 k.1 in (
-        k.0 ++ one,
-        takes k.0 k.1,
-        append_assoc k.0 one more ∙ ap (λ (l : List AtPath). k.0 ++ l) (sym step) ∙ k.2,
-        k.3 ∙ ap (leaves_fault (fault start) k.0) step ∙ leaves_fault-append (fault start) k.0 one more ∙ ap (λ (c : Option Fault). first_fault c (leaves_fault (fault start) (k.0 ++ one) more)) none,
-      );
-}
-
-pub handed_refused : {S : Type 0} (holds : S → List AtPath → Type 0) (fault : S → LeafFault) (start now : S) (all rest one more before : List AtPath) (e : Fault) → IsHanding holds fault start now all rest → rest ≡ one ++ more → holds start before → ((b : List AtPath) → holds now b → (e ≡ OutOfMemory) ⊎ (leaves_fault (fault now) b one ≡ Some e)) → (e ≡ OutOfMemory) ⊎ (leaves_fault (fault start) before all ≡ Some e)
-handed_refused holds fault start now all rest one more before e is step h refused =
-    let k = is.held before h in
-    let cause : (e ≡ OutOfMemory) ⊎ (leaves_fault (fault start) k.0 one ≡ Some e) = subst (λ (f : LeafFault). (e ≡ OutOfMemory) ⊎ (leaves_fault f k.0 one ≡ Some e)) is.same (refused k.0 k.1) in
-    let whole = k.3 ∙ ap (leaves_fault (fault start) k.0) step ∙ leaves_fault-append (fault start) k.0 one more in
-    subst (λ (c : Option Fault). (e ≡ OutOfMemory) ⊎ (c ≡ Some e)) (sym whole) (cause_first (leaves_fault (fault start) k.0 one) (leaves_fault (fault start) (k.0 ++ one) more) e cause)
+  pub handed_refused : (one more : List AtPath) (e : Fault) → IsHanding constant ready holds fault start now all rest → rest ≡ one ++ more
+      → ((given : Given) (b : List AtPath) → holds now given b → (e ≡ OutOfMemory) ⊎ (leaves_fault (fault (constant now) given) b one ≡ Some e))
+      → (given : Given) (before : List AtPath) → holds start given before → (e ≡ OutOfMemory) ⊎ (leaves_fault (fault (constant start) given) before all ≡ Some e)
+  handed_refused one more e is step refused given before h =
+      let k = is.held given before h in
+      let f = fault (constant start) given in
+      let cause : (e ≡ OutOfMemory) ⊎ (leaves_fault f k.0 one ≡ Some e) = subst (λ (c : Constant). (e ≡ OutOfMemory) ⊎ (leaves_fault (fault c given) k.0 one ≡ Some e)) is.same (refused given k.0 k.1) in
+      let whole = k.3 ∙ ap (leaves_fault f k.0) step ∙ leaves_fault-append f k.0 one more in
+      subst (λ (c : Option Fault). (e ≡ OutOfMemory) ⊎ (c ≡ Some e)) (sym whole) (cause_first (leaves_fault f k.0 one) (leaves_fault f (k.0 ++ one) more) e cause)
 
 abbrev pub Member : Type 0
 Member = String Global × JsonValue

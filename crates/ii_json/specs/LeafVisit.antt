@@ -4,7 +4,9 @@ use Rattle.std.specs.declared.alloc.Global.{Global}
 use Rattle.ii_io.specs.declared.faults.Fault.{Fault}
 use Rattle.ii_io.specs.declared.faults.Fault.TheVariants.{OutOfMemory}
 use Rattle.ii_base.specs.declared.json_value.JsonValue.{JsonValue}
-use Rattle.ii_base.specs.Json.{Json, Leaf, array, items_from, items_leaves, json_of, leaf, leaves_below, members_from, members_leaves, null, object}
+use Rattle.ii_base.specs.Json.{Json, Leaf, array, items_from, items_leaves, json_of, leaf, leaves_below, members_from, members_leaves, null, object, text_leaf, unsupported, value_leaf}
+use Rattle.ii_base.specs.declared.schema.value_type.ValueType.{ValueType}
+use Rattle.ii_base.specs.declared.schema.value_type.ValueType.TheVariants as types
 use Rattle.ii_base.specs.Paths.{PathState}
 
 -- whether a value is neither an array nor an object
@@ -13,6 +15,23 @@ is_no_branch null = true
 is_no_branch (leaf l) = true
 is_no_branch (array is) = false
 is_no_branch (object ms) = false
+
+-- whether a value of a type is a number of 64 bits
+abbrev pub is_number_type : ValueType → Bool
+is_number_type types.Str = false
+is_number_type types.U64 = true
+is_number_type types.I64 = true
+is_number_type types.Bool = true
+is_number_type types.Date = true
+is_number_type types.Bytes = false
+is_number_type types.Json = false
+is_number_type types.IpAddr = false
+
+-- whether a JSON value may have such a leaf: its value, if it has one, is a number
+abbrev pub may_be_leaf : Leaf → Bool
+may_be_leaf (text_leaf t) = true
+may_be_leaf (value_leaf t n) = is_number_type t
+may_be_leaf (unsupported kind) = true
 
 -- the leaves of a value that stands at a path, of values and of members
 abbrev pub leaves_at : PathState → JsonValue → List (List ℕ × Leaf)

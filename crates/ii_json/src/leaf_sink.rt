@@ -1,36 +1,63 @@
-ghost use Rattle.std.specs.Prelude.{◌≡◌, ◌++◌, ◌∷◌, [], List, ℕ, true, map, string_bytes, Option, OnOk};
+ghost use Rattle.std.specs.Prelude.{◌≡◌, ◌++◌, ◌∷◌, [], List, ℕ, true, false, Option, IfErr, OnErr, OnOk};
 ghost use Rattle.ii_io.specs.declared.faults.Fault.{Fault};
 ghost use Rattle.ii_base.specs.Json.{json_of, Leaf, leaf_of};
-ghost use Rattle.ii_json.specs.LeafVisit.{IsRefusedBy, is_no_branch, items_leaves_at, leaves_at, leaves_fault, members_leaves_at};
+ghost use Rattle.ii_base.specs.Paths.{has_zero, joined_segments, segment_bytes};
+ghost use Rattle.ii_json.specs.LeafVisit.{IsRefusedBy, is_no_branch, may_be_leaf, items_leaves_at, leaves_at, leaves_fault, members_leaves_at};
 
 use ii_base::{Fault, JsonLeaf, JsonPathWriter, JsonValue};
 
 /// Takes the leaves of a JSON value, one after the other.
 pub trait LeafSink {
+    // What its clauses speak of beside it.
+    ghost Given: { Type 0 };
+
+    // What stays of it.
+    ghost Constant: { Type 0 };
+
+    ghost constant: { Self → Constant };
+
+    // When it takes a leaf.
+    ghost ready: { Self → Type 0 };
+
     // What it holds, of the leaves that it took.
-    ghost holds: { Self → List (List ℕ × Leaf) → Type 0 };
+    ghost holds: { Self → Given → List (List ℕ × Leaf) → Type 0 };
 
     // Why it refuses a leaf after those that it took, memory aside.
-    ghost fault: { Self → List (List ℕ × Leaf) → List ℕ × Leaf → Option Fault };
+    ghost fault: { Constant → Given → List (List ℕ × Leaf) → List ℕ × Leaf → Option Fault };
 
-    /// Takes a leaf at a path.
+    /// Takes a leaf at a path, whose segments are parted by a byte 1 and which holds no byte 0. A value is
+    /// a number of 64 bits.
+    ///
+    /// The fault that the sink has for the leaf after those that it took, if there is one. `OutOfMemory`
+    /// where there is no room.
     fn take_leaf(&mut self, path: &str, leaf: JsonLeaf<'_>) -> Result<(), Fault>
-        ensures refused { (before : List (List ℕ × Leaf)) → holds self.old before → IsRefusedBy (fault self.old before (path.now, leaf_of leaf.entry)) result }
-        ensures kept { OnOk result (fault self.new ≡ fault self.old) }
-        ensures ok { OnOk result ((before : List (List ℕ × Leaf)) → holds self.old before → holds self.new (before ++ (path.now, leaf_of leaf.entry) ∷ [])) };
+        requires path { has_zero path.now ≡ false }
+        requires value { may_be_leaf (leaf_of leaf) ≡ true }
+        requires ready { ready self.old }
+        ensures refused { (given : Given) (before : List (List ℕ × Leaf)) → holds self.old given before → IsRefusedBy (fault (constant self.old) given before (path.now, leaf_of leaf.entry)) result }
+        ensures ready { OnOk result (ready self.new) }
+        ensures constant { OnOk result (constant self.new ≡ constant self.old) }
+        ensures ok { OnOk result ((given : Given) (before : List (List ℕ × Leaf)) → holds self.old given before → holds self.new given (before ++ (path.now, leaf_of leaf.entry) ∷ [])) };
 }
 
-/// Hands the leaves of a JSON value on, each with its path.
+/// Hands the leaves of a JSON value on in order, each with its path below the writer's. A member whose key
+/// holds a byte 0 is left out; the writer's path holds none. The writer ends as it was, also after a
+/// refusal.
+///
+/// The first fault that the sink has for a leaf. `OutOfMemory` where there is no room.
 #[cycle(visit)]
 pub fn visit_leaves<S: LeafSink>(
     value: &JsonValue,
     writer: &mut JsonPathWriter,
     sink: &mut S,
 ) -> Result<(), Fault>
-    ensures leaves { OnOk result ((before : List (List ℕ × Leaf)) → S.holds sink.old before → S.holds sink.new (before ++ leaves_at writer.old value.now)) }
-    ensures refused { (before : List (List ℕ × Leaf)) → S.holds sink.old before → IsRefusedBy (leaves_fault (S.fault sink.old) before (leaves_at writer.old value.now)) result }
-    ensures kept { OnOk result (S.fault sink.new ≡ S.fault sink.old) }
-    ensures writer { OnOk result (writer.new ≡ writer.old) }
+    requires path { has_zero (joined_segments writer.old.segments) ≡ false }
+    requires ready { S.ready sink.old }
+    ensures leaves { OnOk result ((given : S.Given) (before : List (List ℕ × Leaf)) → S.holds sink.old given before → S.holds sink.new given (before ++ leaves_at writer.old value.now)) }
+    ensures refused { (given : S.Given) (before : List (List ℕ × Leaf)) → S.holds sink.old given before → IsRefusedBy (leaves_fault (S.fault (S.constant sink.old) given) before (leaves_at writer.old value.now)) result }
+    ensures ready { OnOk result (S.ready sink.new) }
+    ensures constant { OnOk result (S.constant sink.new ≡ S.constant sink.old) }
+    ensures writer { writer.new ≡ writer.old }
 {
     match value {
         JsonValue::Array(items) => visit_items(items, writer, sink),
@@ -45,10 +72,13 @@ fn visit_items<S: LeafSink>(
     writer: &mut JsonPathWriter,
     sink: &mut S,
 ) -> Result<(), Fault>
-    ensures leaves { OnOk result ((before : List (List ℕ × Leaf)) → S.holds sink.old before → S.holds sink.new (before ++ items_leaves_at writer.old items.now.items)) }
-    ensures refused { (before : List (List ℕ × Leaf)) → S.holds sink.old before → IsRefusedBy (leaves_fault (S.fault sink.old) before (items_leaves_at writer.old items.now.items)) result }
-    ensures kept { OnOk result (S.fault sink.new ≡ S.fault sink.old) }
-    ensures writer { OnOk result (writer.new ≡ writer.old) }
+    requires path { has_zero (joined_segments writer.old.segments) ≡ false }
+    requires ready { S.ready sink.old }
+    ensures leaves { OnOk result ((given : S.Given) (before : List (List ℕ × Leaf)) → S.holds sink.old given before → S.holds sink.new given (before ++ items_leaves_at writer.old items.now.items)) }
+    ensures refused { (given : S.Given) (before : List (List ℕ × Leaf)) → S.holds sink.old given before → IsRefusedBy (leaves_fault (S.fault (S.constant sink.old) given) before (items_leaves_at writer.old items.now.items)) result }
+    ensures ready { OnOk result (S.ready sink.new) }
+    ensures constant { OnOk result (S.constant sink.new ≡ S.constant sink.old) }
+    ensures writer { writer.new ≡ writer.old }
 {
     for item in items {
         visit_leaves(item, writer, sink)?;
@@ -62,20 +92,37 @@ fn visit_members<S: LeafSink>(
     writer: &mut JsonPathWriter,
     sink: &mut S,
 ) -> Result<(), Fault>
-    ensures leaves { OnOk result ((before : List (List ℕ × Leaf)) → S.holds sink.old before → S.holds sink.new (before ++ members_leaves_at writer.old members.now.items)) }
-    ensures refused { (before : List (List ℕ × Leaf)) → S.holds sink.old before → IsRefusedBy (leaves_fault (S.fault sink.old) before (members_leaves_at writer.old members.now.items)) result }
-    ensures kept { OnOk result (S.fault sink.new ≡ S.fault sink.old) }
-    ensures writer { OnOk result (writer.new ≡ writer.old) }
+    requires path { has_zero (joined_segments writer.old.segments) ≡ false }
+    requires ready { S.ready sink.old }
+    ensures leaves { OnOk result ((given : S.Given) (before : List (List ℕ × Leaf)) → S.holds sink.old given before → S.holds sink.new given (before ++ members_leaves_at writer.old members.now.items)) }
+    ensures refused { (given : S.Given) (before : List (List ℕ × Leaf)) → S.holds sink.old given before → IsRefusedBy (leaves_fault (S.fault (S.constant sink.old) given) before (members_leaves_at writer.old members.now.items)) result }
+    ensures ready { OnOk result (S.ready sink.new) }
+    ensures constant { OnOk result (S.constant sink.new ≡ S.constant sink.old) }
+    ensures writer { writer.new ≡ writer.old }
 {
     for (key, member) in members {
         if key.as_bytes().contains(&0) {
             continue;
         }
-        writer.push(key.as_str())?;
-        visit_leaves(member, writer, sink)?;
+        push_key(writer, key.as_str())?;
+        let visited = visit_leaves(member, writer, sink);
         writer.pop();
+        visited?;
     }
     Ok(())
+}
+
+// Adds a key that holds no byte 0 to a path that holds none.
+#[tactic(auto, using(crate::proofs::CleanPaths::clean_key))]
+fn push_key(writer: &mut JsonPathWriter, key: &str) -> Result<(), Fault>
+    requires path { has_zero (joined_segments writer.old.segments) ≡ false }
+    requires key { has_zero key.now ≡ false }
+    ensures path { OnOk result (has_zero (joined_segments writer.new.segments) ≡ false) }
+    ensures ok { OnOk result (writer.new ≡ record writer.old { segments = writer.old.segments ++ segment_bytes writer.old.expand_dots key.now ∷ [] }) }
+    ensures err { OnErr result (writer.new ≡ writer.old) }
+    ensures only { IfErr result (λ e. e ≡ Fault.OutOfMemory) }
+{
+    writer.push(key)
 }
 
 // Hands a value on that is a leaf.
@@ -84,10 +131,13 @@ fn visit_leaf<S: LeafSink>(
     writer: &JsonPathWriter,
     sink: &mut S,
 ) -> Result<(), Fault>
-    requires { is_no_branch (json_of value.now) ≡ true }
-    ensures leaves { OnOk result ((before : List (List ℕ × Leaf)) → S.holds sink.old before → S.holds sink.new (before ++ leaves_at writer.now value.now)) }
-    ensures refused { (before : List (List ℕ × Leaf)) → S.holds sink.old before → IsRefusedBy (leaves_fault (S.fault sink.old) before (leaves_at writer.now value.now)) result }
-    ensures kept { OnOk result (S.fault sink.new ≡ S.fault sink.old) }
+    requires leaf { is_no_branch (json_of value.now) ≡ true }
+    requires path { has_zero (joined_segments writer.now.segments) ≡ false }
+    requires ready { S.ready sink.old }
+    ensures leaves { OnOk result ((given : S.Given) (before : List (List ℕ × Leaf)) → S.holds sink.old given before → S.holds sink.new given (before ++ leaves_at writer.now value.now)) }
+    ensures refused { (given : S.Given) (before : List (List ℕ × Leaf)) → S.holds sink.old given before → IsRefusedBy (leaves_fault (S.fault (S.constant sink.old) given) before (leaves_at writer.now value.now)) result }
+    ensures ready { OnOk result (S.ready sink.new) }
+    ensures constant { OnOk result (S.constant sink.new ≡ S.constant sink.old) }
 {
     let Some(leaf) = value.leaf() else {
         return Ok(());

@@ -14,7 +14,7 @@ use std::marker::Model;
 pub struct OrderedPathId(u32);
 
 impl Model for OrderedPathId {
-    ghost use Rattle.std.specs.Prelude.{length, map, slice_index_or, Contains, ℕ};
+    ghost use Rattle.std.specs.Prelude.{ℕ};
 
     ghost Value = { ℕ };
 
@@ -40,7 +40,7 @@ impl OrderedPathId {
 }
 
 impl From<u32> for OrderedPathId {
-    ghost use Rattle.std.specs.Prelude.{length, map, slice_index_or, Contains, ◌≡◌};
+    ghost use Rattle.std.specs.Prelude.{◌≡◌};
 
     ghost from_gives = { λ id path. path ≡ id };
 
@@ -58,7 +58,7 @@ pub struct PathToUnorderedId {
 }
 
 impl Model for PathToUnorderedId {
-    ghost use Rattle.std.specs.Prelude.{length, map, slice_index_or, Contains, ℕ, List, ◌≤◌, ◌^◌, length, map, string_bytes};
+    ghost use Rattle.std.specs.Prelude.{ℕ, List, ◌≤◌, ◌^◌, length, map, string_bytes};
     ghost use Rattle.ii_json.specs.Paths.{AreDistinct};
 
     ghost Value = { List (List ℕ) };

@@ -12,11 +12,19 @@ struct Gathered {
 }
 
 impl LeafSink for Gathered {
-    ghost use Rattle.std.specs.Prelude.{⊤, None};
+    ghost use Rattle.std.specs.Prelude.{⊤, None, Unit};
 
-    ghost holds = { λ gathered leaves. ⊤ };
+    ghost Given = { Unit {0} };
 
-    ghost fault = { λ gathered leaves leaf. None };
+    ghost Constant = { Unit {0} };
+
+    ghost constant = { λ gathered. tt };
+
+    ghost ready = { λ gathered. ⊤ };
+
+    ghost holds = { λ gathered given leaves. ⊤ };
+
+    ghost fault = { λ constant given leaves leaf. None };
 
     fn take_leaf(&mut self, path: &str, leaf: JsonLeaf<'_>) -> Result<(), Fault> {
         gather(&mut self.text, path, leaf)

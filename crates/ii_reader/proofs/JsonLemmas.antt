@@ -10,7 +10,8 @@ use Rattle.ii_base.specs.declared.schema.value_type.ValueType.{ValueType}
 use Rattle.ii_base.specs.declared.schema.value_type.ValueType.TheVariants.{Str, U64, I64, Bool as Truth, Date, Bytes, Json, IpAddr}
 use Rattle.ii_termstore.specs.declared.term_info.TermInfo.{TermInfo}
 use Rattle.ii_termdict.specs.Dictionary.{Entry}
-use Rattle.ii_reader.specs.JsonFields.{FieldSpaceState, IsWithin, is_same_label, space_of_term, spaces_of, sum_of, type_in, type_of_code, with_space}
+use Rattle.ii_index.specs.JsonKeys.{type_in, type_of_code}
+use Rattle.ii_reader.specs.JsonFields.{FieldSpaceState, IsWithin, is_same_label, space_of_term, spaces_of, sum_of, with_space}
 
 of_letter : (t : ValueType) → Some t ≡ type_of_code (code_of t)
 of_letter Str = refl

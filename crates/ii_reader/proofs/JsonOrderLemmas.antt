@@ -17,7 +17,8 @@ use Rattle.ii_io.specs.Steps.{◌>>=◌}
 use Rattle.ii_base.specs.ValueTypes.{code_of}
 use Rattle.ii_base.specs.declared.schema.value_type.ValueType.{ValueType}
 use Rattle.ii_base.specs.declared.schema.value_type.ValueType.TheVariants.{Str, U64, I64, Bool as Truth, Date, Bytes, Json, IpAddr}
-use Rattle.ii_reader.specs.JsonFields.{FieldSpaceState, is_path_byte, is_same_label, label_of, path_in, space_of_term, spaces_of, type_in, type_of_code, with_space}
+use Rattle.ii_index.specs.JsonKeys.{is_path_byte, path_in, type_in, type_of_code}
+use Rattle.ii_reader.specs.JsonFields.{FieldSpaceState, is_same_label, label_of, space_of_term, spaces_of, with_space}
 use Rattle.ii_reader.proofs.JsonLemmas.{label_is}
 
 found_passes : {A : Type 0} (test : A → Bool) (xs : List A) (x : A) → find test xs ≡ Some x → test x ≡ true

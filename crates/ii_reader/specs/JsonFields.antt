@@ -1,28 +1,12 @@
 -- The paths and types of a JSON field's keys.
-use Rattle.std.specs.Prelude.{ℕ, ◌++◌, ◌≤◌, ◌+◌, ◌-◌, ◌*◌, ◌^◌, Bool, not, ◌&&◌, List, [], ◌∷◌, length, ◌==◌, if◌then◌else◌, Option, Some, bytes_eq, slice_get}
-use Rattle.std.specs.List.{find, take_while}
+use Rattle.std.specs.Prelude.{ℕ, ◌++◌, ◌≤◌, ◌+◌, ◌-◌, ◌*◌, ◌^◌, Bool, ◌&&◌, List, [], ◌∷◌, ◌==◌, if◌then◌else◌, Option, Some, bytes_eq}
 use Rattle.std.specs.Option.{option_map}
 use Rattle.ii_io.specs.Steps.{◌>>=◌}
 use Rattle.ii_base.specs.ValueTypes.{code_of}
 use Rattle.ii_base.specs.declared.schema.value_type.ValueType.{ValueType}
-use Rattle.ii_base.specs.declared.schema.value_type.ValueType.TheVariants.{Str, U64, I64, Bool as Truth, Date, Bytes, Json, IpAddr}
+use Rattle.ii_index.specs.JsonKeys.{path_in, type_in}
 use Rattle.ii_termstore.specs.declared.term_info.TermInfo.{TermInfo}
 use Rattle.ii_termdict.specs.Dictionary.{Entry}
-
-abbrev pub is_path_byte : ℕ → Bool
-is_path_byte b = not (b == 0)
-
--- the path that a key begins with: what stands before its first byte 0
-abbrev pub path_in : List ℕ → List ℕ
-path_in key = take_while is_path_byte key
-
--- the type that a letter stands for
-abbrev pub type_of_code : ℕ → Option ValueType
-type_of_code code = find (λ t. code_of t == code) (Str ∷ U64 ∷ I64 ∷ Truth ∷ Date ∷ Bytes ∷ Json ∷ IpAddr ∷ [])
-
--- the type in a key, whose letter stands after the byte 0
-unfoldable pub type_in : List ℕ → Option ValueType
-type_in key = slice_get key (length (path_in key) + 1) >>= type_of_code
 
 -- A path with a type, how many bytes its terms take, and how many there are.
 pub record FieldSpaceState : Type 0 where

@@ -2,7 +2,8 @@ ghost use Rattle.std.specs.Prelude.{◌≡◌, ℕ, ◌⊎◌, ◌+◌, ◌-◌,
 ghost use Rattle.std.specs.Option.{option_map};
 ghost use Rattle.ii_termdict.specs.Dictionary.{entry_keys};
 ghost use Rattle.ii_termdict.specs.ReadBack.{AreAscending};
-ghost use Rattle.ii_reader.specs.JsonFields.{IsWithin, is_path_byte, is_same_label, label_of, path_in, space_of_term, spaces_of, sum_of, type_in, with_space};
+ghost use Rattle.ii_index.specs.JsonKeys.{is_path_byte, path_in, type_in};
+ghost use Rattle.ii_reader.specs.JsonFields.{IsWithin, is_same_label, label_of, space_of_term, spaces_of, sum_of, with_space};
 
 use super::inverted_index_reader::InvertedIndexReader;
 use ii_base::{Fault, Part, ValueType};
@@ -160,7 +161,7 @@ fn path_in(key: &[u8]) -> &[u8]
 }
 
 // The type that a key has after its path.
-#[tactic(auto, unfolding(crate::specs::JsonFields::type_in))]
+#[tactic(auto, unfolding(ii_index::specs::JsonKeys::type_in))]
 fn type_in(key: &[u8]) -> Option<ValueType>
     ensures { result ≡ type_in key.now }
 {

@@ -1,0 +1,46 @@
+-- A path whose segments hold no byte 0 holds none.
+use Rattle.std.proofs.Common.{◌≡◌, ℕ, Bool, true, false, ◌||◌, ◌==◌, List, [], ◌∷◌, ◌++◌, map, refl, sym, ap, ◌∙◌}
+use Rattle.std.specs.Prelude.{if◌then◌else◌}
+use Rattle.std.proofs.lemmas.List.Folds.{list_any-append}
+use Rattle.ii_base.specs.Paths.{PathState, has_zero, joined_segments, segment_bytes}
+
+neither : (a b : Bool) → a ≡ false → b ≡ false → (a || b) ≡ false
+neither a b none nor = rw (none, nor) refl
+
+or_left : (a b : Bool) → (a || b) ≡ false → a ≡ false
+or_left false b none = refl
+or_left true b none = absurd (cc)
+
+or_right : (a b : Bool) → (a || b) ≡ false → b ≡ false
+or_right false b none = none
+or_right true b none = absurd (cc)
+
+none_parted : (c : ℕ) → (c == 0) ≡ false → ((if c == 46 then 1 else c) == 0) ≡ false
+none_parted c none = by (c == 46)
+  where
+    by : (b : Bool) → ((if b then 1 else c) == 0) ≡ false
+    by true = refl
+    by false = none
+
+clean_segment : (expand_dots : Bool) (key : List ℕ) → has_zero key ≡ false → has_zero (segment_bytes expand_dots key) ≡ false
+clean_segment false key none = none
+clean_segment true [] none = refl
+clean_segment true (c ∷ cs) none =
+    neither ((if c == 46 then 1 else c) == 0) (has_zero (segment_bytes true cs)) (none_parted c (or_left (c == 0) (has_zero cs) none)) (clean_segment true cs (or_right (c == 0) (has_zero cs) none))
+
+-- what two parts hold between which byte 1 stands
+none_held : (x s : List ℕ) → has_zero (x ++ 1 ∷ s) ≡ (has_zero x || has_zero s)
+none_held x s = list_any-append (λ (b : ℕ). b == 0) x (1 ∷ s)
+
+clean_joined : (segments : List (List ℕ)) (s : List ℕ) → has_zero (joined_segments segments) ≡ false → has_zero s ≡ false → has_zero (joined_segments (segments ++ s ∷ [])) ≡ false
+clean_joined [] s none s_none = s_none
+clean_joined (x ∷ []) s none s_none = none_held x s ∙ neither (has_zero x) (has_zero s) none s_none
+clean_joined (x ∷ y ∷ ss) s none s_none =
+    let both : (has_zero x || has_zero (joined_segments (y ∷ ss))) ≡ false = sym (none_held x (joined_segments (y ∷ ss))) ∙ none in
+    none_held x (joined_segments (y ∷ ss ++ s ∷ []))
+    ∙ neither (has_zero x) (has_zero (joined_segments (y ∷ ss ++ s ∷ []))) (or_left (has_zero x) (has_zero (joined_segments (y ∷ ss))) both)
+    (clean_joined (y ∷ ss) s (or_right (has_zero x) (has_zero (joined_segments (y ∷ ss))) both) s_none)
+
+-- and with a further segment
+pub clean_key : (at : PathState) (key : List ℕ) → has_zero (joined_segments at.segments) ≡ false → has_zero key ≡ false → has_zero (joined_segments (at.segments ++ segment_bytes at.expand_dots key ∷ [])) ≡ false
+clean_key at key none key_none = clean_joined at.segments (segment_bytes at.expand_dots key) none (clean_segment at.expand_dots key key_none)
