@@ -1,11 +1,12 @@
 -- What a call stores, and why it is refused, by the one text or value that it has.
-use Rattle.std.proofs.Common.{◌≡◌, ℕ, ◌<◌, List, [], ◌∷◌, ◌++◌, length, ◌≤◌, ◌∙◌, Some, None, arith, append-nil, Option, Result, ap, subst}
-use Rattle.std.specs.Prelude.{MatchOption, ⊤}
+use Rattle.std.proofs.Common.{◌≡◌, ℕ, ◌<◌, List, [], ◌∷◌, ◌++◌, length, ◌≤◌, ◌∙◌, Some, None, Ok, Err, inl, arith, append-nil, Option, Result, ap, subst}
+use Rattle.std.specs.Prelude.{IfErr, MatchOption, ⊤}
 use Rattle.std.proofs.lemmas.Grind.{flat_map-append}
 use Rattle.ii_docset.specs.Entries.{Entry as DocEntry}
 use Rattle.ii_recorder.specs.Recorded.{RecorderState}
 use Rattle.ii_indexing.specs.IndexingContext.{EndsBy, recorder_of}
 use Rattle.ii_io.specs.declared.faults.Fault.{Fault}
+use Rattle.ii_io.specs.declared.faults.Fault.TheVariants.{OutOfMemory}
 use Rattle.ii_base.specs.Schema.{Entry}
 use Rattle.ii_base.specs.Words.{Word}
 use Rattle.ii_base.specs.declared.schema.index_record_option.IndexRecordOption.{IndexRecordOption}
@@ -13,13 +14,13 @@ use Rattle.ii_base.specs.declared.schema.index_record_option.IndexRecordOption.T
 use Rattle.ii_base.specs.declared.schema.value_type.ValueType.{ValueType}
 use Rattle.ii_base.specs.declared.schema.value_type.ValueType.TheVariants.{Str}
 use Rattle.ii_index.specs.Fields.{option_of}
-use Rattle.ii_index.specs.Tokens.{Call, Piece, call_pieces, pieces_of, text, value, words}
+use Rattle.ii_index.specs.Tokens.{Call, Piece, call_pieces, pieces_of, text, text_at, value, value_at, words}
 use Rattle.ii_indexing.specs.IndexCalls.{Takes}
-use Rattle.ii_indexing.specs.IndexedTerms.{field_text, field_value, kept_in}
+use Rattle.ii_indexing.specs.IndexedTerms.{TakesTexts, TakesValue}
 use Rattle.ii_indexing.specs.Indexer.{EndsAt, IndexedFieldsState, StoresPieces}
-use Rattle.ii_indexing.specs.PostingsWriter.{kept_as}
-use Rattle.ii_indexing.specs.Refusals.{IsRefusedBy, piece_fault, pieces_fault}
-use Rattle.ii_indexing.proofs.FieldLists.{one_fault, takes_inside, takes_text, takes_value}
+use Rattle.ii_indexing.specs.Refusals.{content_fault, piece_fault, pieces_fault}
+use Rattle.ii_json.specs.LeafVisit.{IsRefusedBy}
+use Rattle.ii_indexing.proofs.FieldLists.{IsPlain, one_fault, takes_text, takes_value}
 
 -- A call to a field of a type is stored.
 abbrev pub CallStored : (List ℕ → List Word) → IndexedFieldsState → IndexedFieldsState → Call → ValueType → Type 0
@@ -28,50 +29,49 @@ CallStored analyze old new c t = (entries : List Entry) (ps : List Piece) → Ta
 -- It is refused by the cause that the definitions give.
 abbrev pub CallRefused : {T : Type 0} → (List ℕ → List Word) → IndexedFieldsState → Result T Fault → Call → ValueType → Type 0
 CallRefused analyze old result c t =
-    (entries : List Entry) (ps : List Piece) → Takes entries c.field t → StoresPieces entries old ps → IsRefusedBy (pieces_fault (option_of entries c.field) ps (call_pieces analyze c)) result
+    (entries : List Entry) (ps : List Piece) → Takes entries c.field t → StoresPieces entries old ps → IsRefusedBy (content_fault analyze (option_of entries c.field) ps c c.content) result
 
 -- What is known of a text, and of a value.
-abbrev pub TextStored : IndexedFieldsState → IndexedFieldsState → ℕ → ℕ → List Word → Type 0
-TextStored old new doc field ws = (entries : List Entry) (ps : List Piece) → field < length entries → kept_in entries field ≡ option_of entries field → StoresPieces entries old ps → StoresPieces entries new (ps ++ field_text doc field ws ∷ [])
+abbrev pub TextStored : IndexedFieldsState → IndexedFieldsState → ℕ → ℕ → List ℕ → List Word → Type 0
+TextStored old new doc field prefix ws =
+    (entries : List Entry) (ps : List Piece) → TakesTexts entries field prefix → StoresPieces entries old ps → StoresPieces entries new (ps ++ text_at doc field prefix ws ∷ [])
 
 abbrev pub ValueStored : IndexedFieldsState → IndexedFieldsState → ℕ → ℕ → List ℕ → Type 0
 ValueStored old new doc field key =
-    (entries : List Entry) (ps : List Piece) → field < length entries → kept_in entries field ≡ Basic → StoresPieces entries old ps → StoresPieces entries new (ps ++ field_value doc field key ∷ [])
+    (entries : List Entry) (ps : List Piece) → TakesValue entries field key → StoresPieces entries old ps → StoresPieces entries new (ps ++ value_at doc field key ∷ [])
 
-abbrev pub TextRefused : {T : Type 0} → IndexedFieldsState → Result T Fault → ℕ → ℕ → List Word → Type 0
-TextRefused old result doc field ws =
-    (entries : List Entry) (ps : List Piece) → field < length entries → StoresPieces entries old ps → IsRefusedBy (piece_fault (kept_in entries field) ps (field_text doc field ws)) result
+abbrev pub TextRefused : {T : Type 0} → IndexedFieldsState → Result T Fault → ℕ → ℕ → List ℕ → List Word → Type 0
+TextRefused old result doc field prefix ws =
+    (entries : List Entry) (ps : List Piece) → TakesTexts entries field prefix → StoresPieces entries old ps → IsRefusedBy (piece_fault (option_of entries field) ps (text_at doc field prefix ws)) result
 
 abbrev pub ValueRefused : {T : Type 0} → IndexedFieldsState → Result T Fault → ℕ → ℕ → List ℕ → Type 0
 ValueRefused old result doc field key =
-    (entries : List Entry) (ps : List Piece) → field < length entries → kept_in entries field ≡ Basic → StoresPieces entries old ps → IsRefusedBy (piece_fault (kept_in entries field) ps (field_value doc field key)) result
+    (entries : List Entry) (ps : List Piece) → TakesValue entries field key → StoresPieces entries old ps → IsRefusedBy (piece_fault (option_of entries field) ps (value_at doc field key)) result
 
 module _ (analyze : List ℕ → List Word) (old new : IndexedFieldsState) (doc field : ℕ) where
-  pub text_call : (t : List ℕ) → TextStored old new doc field (analyze t) → CallStored analyze old new (record { doc = doc; field = field; content = text t }) Str
-  text_call t h entries ps takes stored = h entries ps (takes_inside entries field Str takes) (takes_text entries field takes) stored
+  pub text_call : (t : List ℕ) → TextStored old new doc field [] (analyze t) → CallStored analyze old new (record { doc = doc; field = field; content = text t }) Str
+  text_call t h entries ps takes stored = h entries ps (takes_text entries field takes) stored
 
-  pub words_call : (ws : List Word) → TextStored old new doc field ws → CallStored analyze old new (record { doc = doc; field = field; content = words ws }) Str
-  words_call ws h entries ps takes stored = h entries ps (takes_inside entries field Str takes) (takes_text entries field takes) stored
+  pub words_call : (ws : List Word) → TextStored old new doc field [] ws → CallStored analyze old new (record { doc = doc; field = field; content = words ws }) Str
+  words_call ws h entries ps takes stored = h entries ps (takes_text entries field takes) stored
 
-  pub value_call : (key : List ℕ) (t : ValueType) → ((o : IndexRecordOption) → kept_as t o ≡ Basic) → ValueStored old new doc field key → CallStored analyze old new (record { doc = doc; field = field; content = value key }) t
-  value_call key t plain h entries ps takes stored = h entries ps (takes_inside entries field t takes) (takes_value entries field t takes plain) stored
+  pub value_call : (key : List ℕ) (t : ValueType) → IsPlain t → ValueStored old new doc field key → CallStored analyze old new (record { doc = doc; field = field; content = value key }) t
+  value_call key t plain h entries ps takes stored = h entries ps (takes_value entries field t takes plain key) stored
 
 module _ {T : Type 0} (analyze : List ℕ → List Word) (old : IndexedFieldsState) (result : Result T Fault) (doc field : ℕ) where
-  of_text : (entries : List Entry) (ps : List Piece) (ws : List Word) → Takes entries field Str → TextRefused old result doc field ws → StoresPieces entries old ps
-      → IsRefusedBy (pieces_fault (option_of entries field) ps (field_text doc field ws ∷ [])) result
-  of_text entries ps ws takes h stored =
-      subst (λ (o : IndexRecordOption). IsRefusedBy (pieces_fault o ps (field_text doc field ws ∷ [])) result) (takes_text entries field takes)
-      (subst (λ (f : Option Fault). IsRefusedBy f result) (one_fault (kept_in entries field) ps (field_text doc field ws)) (h entries ps (takes_inside entries field Str takes) stored))
+  of_text : (entries : List Entry) (ps : List Piece) (ws : List Word) → Takes entries field Str → TextRefused old result doc field [] ws → StoresPieces entries old ps
+      → IsRefusedBy (pieces_fault (option_of entries field) ps (text_at doc field [] ws ∷ [])) result
+  of_text entries ps ws takes h stored = subst (λ (f : Option Fault). IsRefusedBy f result) (one_fault (option_of entries field) ps (text_at doc field [] ws)) (h entries ps (takes_text entries field takes) stored)
 
-  pub text_call_refused : (t : List ℕ) → TextRefused old result doc field (analyze t) → CallRefused analyze old result (record { doc = doc; field = field; content = text t }) Str
+  pub text_call_refused : (t : List ℕ) → TextRefused old result doc field [] (analyze t) → CallRefused analyze old result (record { doc = doc; field = field; content = text t }) Str
   text_call_refused t h entries ps takes stored = of_text entries ps (analyze t) takes h stored
 
-  pub words_call_refused : (ws : List Word) → TextRefused old result doc field ws → CallRefused analyze old result (record { doc = doc; field = field; content = words ws }) Str
+  pub words_call_refused : (ws : List Word) → TextRefused old result doc field [] ws → CallRefused analyze old result (record { doc = doc; field = field; content = words ws }) Str
   words_call_refused ws h entries ps takes stored = of_text entries ps ws takes h stored
 
-  pub value_call_refused : (key : List ℕ) (t : ValueType) → ((o : IndexRecordOption) → kept_as t o ≡ Basic) → ValueRefused old result doc field key → CallRefused analyze old result (record { doc = doc; field = field; content = value key }) t
+  pub value_call_refused : (key : List ℕ) (t : ValueType) → IsPlain t → ValueRefused old result doc field key → CallRefused analyze old result (record { doc = doc; field = field; content = value key }) t
   value_call_refused key t plain h entries ps takes stored =
-      subst (λ (f : Option Fault). IsRefusedBy f result) (one_fault (option_of entries field) ps (field_value doc field key)) (h entries ps (takes_inside entries field t takes) (takes_value entries field t takes plain) stored)
+      subst (λ (f : Option Fault). IsRefusedBy f result) (one_fault (option_of entries field) ps (value_at doc field key)) (h entries ps (takes_value entries field t takes plain key) stored)
 
 -- the pieces of one more call
 pub pieces_with : (analyze : List ℕ → List Word) (calls : List Call) (c : Call) → pieces_of analyze (calls ++ c ∷ []) ≡ pieces_of analyze calls ++ call_pieces analyze c
@@ -91,4 +91,11 @@ ends_later last doc s up h = record {
   documents = h.documents;
   terms = λ bytes. ends_by_later last doc up (recorder_of s.indexed.terms bytes) (h.terms bytes);
   reach = λ field d is. omega (arith, h.reach field d is, up);
+  paths = h.paths;
+  paths_reach = λ field o is. omega (arith, h.paths_reach field o is, up);
 }
+
+-- what is refused for want of memory alone
+pub refused_for_memory : {T : Type 0} (cause : Option Fault) (result : Result T Fault) → cause ≡ None → IfErr result (λ e. e ≡ OutOfMemory) → IsRefusedBy cause result
+refused_for_memory cause (Ok x) none only = none
+refused_for_memory cause (Err e) none only = inl only

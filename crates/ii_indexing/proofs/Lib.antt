@@ -1,4 +1,5 @@
 pub mod ByFieldLemmas
+pub mod ByteKeys
 pub mod CallLaws
 pub mod ContextFaults
 pub mod CallsLaws
@@ -11,7 +12,10 @@ pub mod HeldBodies
 pub mod HeldFields
 pub mod HoldLaws
 pub mod NormFileLaws
+pub mod LeafLaws
 pub mod PartLemmas
+pub mod PathLaws
+mod PathPositions
 pub mod PieceLaws
 pub mod PostingsLaws
 pub mod RecorderSteps

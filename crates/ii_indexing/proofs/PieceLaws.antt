@@ -13,14 +13,16 @@ use Rattle.ii_base.specs.Words.{Word}
 use Rattle.ii_base.specs.declared.schema.index_record_option.IndexRecordOption.{IndexRecordOption}
 use Rattle.ii_fieldnorm.specs.Buffers.{buffer_of}
 use Rattle.ii_fieldnorm.specs.Norms.{id_of_norm}
-use Rattle.ii_index.specs.Tokens.{IndexToken, Piece, begin_after, end_after, is_same_group, kept_words, piece_tokens, piece_tokens_from, tokens_after, value_token, word_token}
+use Rattle.ii_index.specs.Tokens.{IndexToken, Piece, begin_after, end_after, is_same_group, kept_words, piece_tokens, piece_tokens_from, tokens_after, value_token, word_token, text_at, value_at}
 use Rattle.ii_index.specs.Postings.{doc_count}
 use Rattle.ii_recorder.specs.Recorded.{u32_max}
-use Rattle.ii_indexing.specs.IndexedTerms.{IndexedTermsState, StoresTokens, field_text, field_value}
+use Rattle.ii_indexing.specs.IndexedTerms.{IndexedTermsState, StoresTokens}
 use Rattle.ii_indexing.specs.Indexer.{StoresPieces}
 use Rattle.ii_indexing.specs.OpenDocuments.{HasNorms, OpenDocumentsState, ReachTo, Tells, TellsAll, document_at, empty_document}
+use Rattle.ii_indexing.specs.OpenPaths.{OpenPathsState, TellAllPaths}
 use Rattle.ii_indexing.specs.PostingsWriter.{text_fault}
-use Rattle.ii_indexing.specs.Refusals.{IsRefusedBy, group_count, piece_fault}
+use Rattle.ii_indexing.specs.Refusals.{group_count, piece_fault}
+use Rattle.ii_json.specs.LeafVisit.{IsRefusedBy}
 use Rattle.ii_indexing.specs.declared.indexing_position.IndexingPosition.{IndexingPosition}
 use Rattle.ii_indexing.specs.declared.open_documents.OpenDocument.{OpenDocument}
 use Rattle.ii_indexing.proofs.DocumentLaws.{at_other, at_same, set_value}
@@ -58,7 +60,7 @@ unchanged : (x f : ℕ) (ts us : List IndexToken) → doc_count x f us ≡ 0 →
 unchanged x f ts us none = omega (arith, doc_count-append x f ts us, none)
 
 -- a piece of the group, or another
-begin_more : (ps : List Piece) (p q : Piece) (b : Bool) → is_same_group q p ≡ b → begin_after (ps ++ p ∷ []) q ≡ cond b (end_after (begin_after ps q) p.words) (begin_after ps q)
+pub begin_more : (ps : List Piece) (p q : Piece) (b : Bool) → is_same_group q p ≡ b → begin_after (ps ++ p ∷ []) q ≡ cond b (end_after (begin_after ps q) p.words) (begin_after ps q)
 begin_more ps p q b is =
     ap (fold (λ (end : ℕ) (r : Piece). end_after end r.words) 0) (filter-append (is_same_group q) ps (p ∷ []) ∙ ap (λ (c : Bool). filter (is_same_group q) ps ++ cond c (p ∷ []) []) is)
     ∙ fold-append (λ (end : ℕ) (r : Piece). end_after end r.words) 0 (filter (is_same_group q) ps) (cond b (p ∷ []) [])
@@ -68,7 +70,7 @@ begin_more ps p q b is =
     last true = refl
     last false = refl
 
-group_more : (ps : List Piece) (p q : Piece) (b : Bool) → is_same_group q p ≡ b → group_count (ps ++ p ∷ []) q ≡ cond b (group_count ps q + length (kept_words p.words)) (group_count ps q)
+pub group_more : (ps : List Piece) (p q : Piece) (b : Bool) → is_same_group q p ≡ b → group_count (ps ++ p ∷ []) q ≡ cond b (group_count ps q + length (kept_words p.words)) (group_count ps q)
 group_more ps p q b is =
     let words = λ (r : Piece). kept_words r.words in
     ap (λ (rs : List Piece). length (flat_map (λ (r : Piece). kept_words r.words) rs)) (filter-append (is_same_group q) ps (p ∷ []) ∙ ap (λ (c : Bool). filter (is_same_group q) ps ++ cond c (p ∷ []) []) is)
@@ -90,13 +92,13 @@ not_third false b c = refl
 pub tells_other : (field f : ℕ) (ps : List Piece) (ts us : List IndexToken) (p : Piece) (d : OpenDocument) (ids : Option (List ℕ)) → (p.field == f) ≡ false → OnlyAt p.doc p.field us → Tells f ps ts d ids
     → Tells f (ps ++ p ∷ []) (ts ++ us) d ids
 tells_other field f ps ts us p d ids other only h = record {
-  begin = λ x from. begin_more ps p (field_text x f []) false (apart x) ∙ h.begin x from;
-  group = λ x from. group_more ps p (field_text x f []) false (apart x) ∙ h.group x from;
+  begin = λ x from. begin_more ps p (text_at x f [] []) false (apart x) ∙ h.begin x from;
+  group = λ x from. group_more ps p (text_at x f [] []) false (apart x) ∙ h.group x from;
   count = λ x from. ap (λ (n : ℕ). min n u32_max) (unchanged x f ts us (only.other_field x f other)) ∙ h.count x from;
   norms = by ids h.norms;
 }
   where
-    apart : (x : ℕ) → is_same_group (field_text x f []) p ≡ false
+    apart : (x : ℕ) → is_same_group (text_at x f [] []) p ≡ false
     apart x = rw other (not_third p.is_text (p.doc == x) (bytes_eq p.prefix []))
 
     by : (o : Option (List ℕ)) → IfSome o (HasNorms f ts d.doc) → IfSome o (HasNorms f (ts ++ us) d.doc)
@@ -109,7 +111,7 @@ not_doc false b c = refl
 
 -- the field of the piece has its tokens more
 pub tells_more : (doc field : ℕ) (ps : List Piece) (ts us : List IndexToken) (p : Piece) (d new : OpenDocument) (ids : Option (List ℕ)) → p.doc ≡ doc → d.doc ≡ doc → new.doc ≡ doc → OnlyAt doc field us
-    → begin_after (ps ++ p ∷ []) (field_text doc field []) ≡ new.end_position → group_count (ps ++ p ∷ []) (field_text doc field []) ≡ new.num_tokens → new.norm ≡ min (d.norm + length us) u32_max
+    → begin_after (ps ++ p ∷ []) (text_at doc field [] []) ≡ new.end_position → group_count (ps ++ p ∷ []) (text_at doc field [] []) ≡ new.num_tokens → new.norm ≡ min (d.norm + length us) u32_max
     → Tells field ps ts d ids → Tells field (ps ++ p ∷ []) (ts ++ us) new ids
 tells_more doc field ps ts us p d new ids pd dd nd only ends counts norm h = record {
   begin = λ x from. begins x (omega (arith, from, nd, dd)) (doc == x) refl;
@@ -118,7 +120,7 @@ tells_more doc field ps ts us p d new ids pd dd nd only ends counts norm h = rec
   norms = by ids h.norms;
 }
   where
-    apart : (x : ℕ) → (doc == x) ≡ false → is_same_group (field_text x field []) p ≡ false
+    apart : (x : ℕ) → (doc == x) ≡ false → is_same_group (text_at x field [] []) p ≡ false
     apart x other = rw (pd, other) (not_doc p.is_text (p.field == field) (bytes_eq p.prefix []))
 
     old_at : (x : ℕ) → (doc == x) ≡ false → document_at x d ≡ empty_document x
@@ -127,19 +129,19 @@ tells_more doc field ps ts us p d new ids pd dd nd only ends counts norm h = rec
     new_at : (x : ℕ) → (doc == x) ≡ false → document_at x new ≡ empty_document x
     new_at x other = at_other new x (ap (λ (n : ℕ). n == x) nd ∙ other)
 
-    begins : (x : ℕ) → d.doc ≤ x → (b : Bool) → (doc == x) ≡ b → begin_after (ps ++ p ∷ []) (field_text x field []) ≡ (document_at x new).end_position
+    begins : (x : ℕ) → d.doc ≤ x → (b : Bool) → (doc == x) ≡ b → begin_after (ps ++ p ∷ []) (text_at x field [] []) ≡ (document_at x new).end_position
     begins x from true same =
         let is = eqb-true doc x same in
-        subst (λ (y : ℕ). begin_after (ps ++ p ∷ []) (field_text y field []) ≡ (document_at y new).end_position) is (ends ∙ ap (λ (e : OpenDocument). e.end_position) (sym (at_same new doc nd)))
+        subst (λ (y : ℕ). begin_after (ps ++ p ∷ []) (text_at y field [] []) ≡ (document_at y new).end_position) is (ends ∙ ap (λ (e : OpenDocument). e.end_position) (sym (at_same new doc nd)))
     begins x from false other =
-        begin_more ps p (field_text x field []) false (apart x other) ∙ h.begin x from ∙ ap (λ (e : OpenDocument). e.end_position) (old_at x other ∙ sym (new_at x other))
+        begin_more ps p (text_at x field [] []) false (apart x other) ∙ h.begin x from ∙ ap (λ (e : OpenDocument). e.end_position) (old_at x other ∙ sym (new_at x other))
 
-    groups : (x : ℕ) → d.doc ≤ x → (b : Bool) → (doc == x) ≡ b → group_count (ps ++ p ∷ []) (field_text x field []) ≡ (document_at x new).num_tokens
+    groups : (x : ℕ) → d.doc ≤ x → (b : Bool) → (doc == x) ≡ b → group_count (ps ++ p ∷ []) (text_at x field [] []) ≡ (document_at x new).num_tokens
     groups x from true same =
         let is = eqb-true doc x same in
-        subst (λ (y : ℕ). group_count (ps ++ p ∷ []) (field_text y field []) ≡ (document_at y new).num_tokens) is (counts ∙ ap (λ (e : OpenDocument). e.num_tokens) (sym (at_same new doc nd)))
+        subst (λ (y : ℕ). group_count (ps ++ p ∷ []) (text_at y field [] []) ≡ (document_at y new).num_tokens) is (counts ∙ ap (λ (e : OpenDocument). e.num_tokens) (sym (at_same new doc nd)))
     groups x from false other =
-        group_more ps p (field_text x field []) false (apart x other) ∙ h.group x from ∙ ap (λ (e : OpenDocument). e.num_tokens) (old_at x other ∙ sym (new_at x other))
+        group_more ps p (text_at x field [] []) false (apart x other) ∙ h.group x from ∙ ap (λ (e : OpenDocument). e.num_tokens) (old_at x other ∙ sym (new_at x other))
 
     here : min (doc_count doc field (ts ++ us)) u32_max ≡ new.norm
     here =
@@ -187,77 +189,106 @@ pub record IndexesPiece (entries : List Entry) (ps : List Piece) (p : Piece) (us
   pub tokens : StoresTokens entries indexed (tokens_after [] ps ++ us)
   pub tokens_are : piece_tokens ps p ≡ us
   pub only : OnlyAt p.doc p.field us
-  pub end_position : begin_after (ps ++ p ∷ []) (field_text p.doc p.field []) ≡ new.end_position
-  pub num_tokens : group_count (ps ++ p ∷ []) (field_text p.doc p.field []) ≡ new.num_tokens
-
-pub piece_stored : (entries : List Entry) (ps : List Piece) (p : Piece) (us : List IndexToken) (indexed : IndexedTermsState) (s : OpenDocumentsState) (d new : OpenDocument) → IndexesPiece entries ps p us indexed s d new
-    → StoresPieces entries (record { indexed = indexed; opened = record s { documents = slice_set s.documents p.field new } }) (ps ++ p ∷ [])
-piece_stored entries ps p us indexed s d new h =
-    let ts = tokens_after [] ps in
-    let all : tokens_after [] (ps ++ p ∷ []) ≡ ts ++ us = tokens_with ps p ∙ ap (λ (vs : List IndexToken). ts ++ vs) h.tokens_are in
-    let here = tells_more p.doc p.field ps ts us p d new (buffer_of p.field s.norms) refl h.old_doc h.new_doc h.only h.end_position h.num_tokens h.norm (h.told p.field d h.found) in
-    record {
-      tokens = subst (StoresTokens entries indexed) (sym all) h.tokens;
-      documents = subst (λ (vs : List IndexToken). TellsAll (ps ++ p ∷ []) vs (record s { documents = slice_set s.documents p.field new })) (sym all) (all_tell ps ts us p s p.field new refl h.only h.told here);
-    }
+  pub end_position : begin_after (ps ++ p ∷ []) (text_at p.doc p.field [] []) ≡ new.end_position
+  pub num_tokens : group_count (ps ++ p ∷ []) (text_at p.doc p.field [] []) ≡ new.num_tokens
 
 -- where the texts of a field end in its open document, and how many tokens they have
 pub begin_known : (ps : List Piece) (ts : List IndexToken) (s : OpenDocumentsState) (doc field : ℕ) (words : List Word) (d : OpenDocument) → TellsAll ps ts s → slice_get s.documents field ≡ Some d → d.doc ≡ doc
-    → (begin_after ps (field_text doc field words) ≡ d.end_position) × (group_count ps (field_text doc field words) ≡ d.num_tokens)
+    → (begin_after ps (text_at doc field [] words) ≡ d.end_position) × (group_count ps (text_at doc field [] words) ≡ d.num_tokens)
 begin_known ps ts s doc field words d told found at =
     let h = told field d found in
     (h.begin doc (omega (arith, at)) ∙ ap (λ (e : OpenDocument). e.end_position) (at_same d doc at), h.group doc (omega (arith, at)) ∙ ap (λ (e : OpenDocument). e.num_tokens) (at_same d doc at))
 
-same_text : (doc field : ℕ) (words : List Word) → is_same_group (field_text doc field []) (field_text doc field words) ≡ true
+same_text : (doc field : ℕ) (words : List Word) → is_same_group (text_at doc field [] []) (text_at doc field [] words) ≡ true
 same_text doc field words = rw (eq-eqb doc doc refl, eq-eqb field field refl) refl
 
-pub words_stored : (entries : List Entry) (ps : List Piece) (doc field : ℕ) (words : List Word) (indexed : IndexedTermsState) (s : OpenDocumentsState) (d new : OpenDocument)
-    → TellsAll ps (tokens_after [] ps) s → slice_get s.documents field ≡ Some d → d.doc ≡ doc → new.doc ≡ doc → new.num_tokens ≡ d.num_tokens + length (kept_words words) → new.end_position ≡ end_after d.end_position words
-    → new.norm ≡ min (d.norm + length (kept_words words)) u32_max → StoresTokens entries indexed (tokens_after [] ps ++ piece_tokens_from true d.end_position (field_text doc field words))
-    → StoresPieces entries (record { indexed = indexed; opened = record s { documents = slice_set s.documents field new } }) (ps ++ field_text doc field words ∷ [])
-words_stored entries ps doc field words indexed s d new told found at now num end norm tokens =
-    let p = field_text doc field words in
-    let us = piece_tokens_from true d.end_position p in
-    let known = begin_known ps (tokens_after [] ps) s doc field words d told found at in
-    piece_stored entries ps p us indexed s d new (record {
-      told = told;
-      found = found;
-      old_doc = at;
-      new_doc = now;
-      norm = norm ∙ ap (λ (n : ℕ). min (d.norm + n) u32_max) (sym (length-map (kept_words words) (word_token p d.end_position)));
-      tokens = tokens;
-      tokens_are = ap (λ (b : ℕ). piece_tokens_from true b p) known.0;
-      only = words_at p d.end_position (kept_words words);
-      end_position = begin_more ps p (field_text doc field []) true (same_text doc field words) ∙ ap (λ (b : ℕ). end_after b words) known.0 ∙ sym end;
-      num_tokens = group_more ps p (field_text doc field []) true (same_text doc field words) ∙ ap (λ (n : ℕ). n + length (kept_words words)) known.1 ∙ sym num;
-    })
+other_text : (doc field : ℕ) (prefix : List ℕ) (words : List Word) → bytes_eq prefix [] ≡ false → is_same_group (text_at doc field [] []) (text_at doc field prefix words) ≡ false
+other_text doc field prefix words some = rw some (and_last ((doc == doc) && (field == field)))
 
-pub value_added : (entries : List Entry) (ps : List Piece) (doc field : ℕ) (key : List ℕ) (indexed : IndexedTermsState) (s : OpenDocumentsState) (d new : OpenDocument)
-    → TellsAll ps (tokens_after [] ps) s → slice_get s.documents field ≡ Some d → d.doc ≡ doc → new.doc ≡ doc → new.num_tokens ≡ d.num_tokens → new.end_position ≡ d.end_position
-    → new.norm ≡ min (d.norm + 1) u32_max → StoresTokens entries indexed (tokens_after [] ps ++ value_token (field_value doc field key) ∷ [])
-    → StoresPieces entries (record { indexed = indexed; opened = record s { documents = slice_set s.documents field new } }) (ps ++ field_value doc field key ∷ [])
-value_added entries ps doc field key indexed s d new told found at now num end norm tokens =
-    let p = field_value doc field key in
-    let known = begin_known ps (tokens_after [] ps) s doc field [] d told found at in
-    piece_stored entries ps p (value_token p ∷ []) indexed s d new (record {
-      told = told;
-      found = found;
-      old_doc = at;
-      new_doc = now;
-      norm = norm;
-      tokens = tokens;
-      tokens_are = refl;
-      only = more_at doc field (value_token p) [] refl refl (none_at doc field);
-      end_position = begin_more ps p (field_text doc field []) false refl ∙ known.0 ∙ sym end;
-      num_tokens = group_more ps p (field_text doc field []) false refl ∙ known.1 ∙ sym num;
-    })
+-- One more text or value of a field was indexed.
+module _ (entries : List Entry) (ps : List Piece) (indexed : IndexedTermsState) (s : OpenDocumentsState) (d new : OpenDocument) (paths : List OpenPathsState) where
+  piece_stored : (p : Piece) (us : List IndexToken) → IndexesPiece entries ps p us indexed s d new
+      → TellAllPaths (ps ++ p ∷ []) paths → StoresPieces entries (record { indexed = indexed; opened = record s { documents = slice_set s.documents p.field new }; paths = paths }) (ps ++ p ∷ [])
+  piece_stored p us h by_path =
+      let ts = tokens_after [] ps in
+      let all : tokens_after [] (ps ++ p ∷ []) ≡ ts ++ us = tokens_with ps p ∙ ap (λ (vs : List IndexToken). ts ++ vs) h.tokens_are in
+      let here = tells_more p.doc p.field ps ts us p d new (buffer_of p.field s.norms) refl h.old_doc h.new_doc h.only h.end_position h.num_tokens h.norm (h.told p.field d h.found) in
+      record {
+        tokens = subst (StoresTokens entries indexed) (sym all) h.tokens;
+        documents = subst (λ (vs : List IndexToken). TellsAll (ps ++ p ∷ []) vs (record s { documents = slice_set s.documents p.field new })) (sym all) (all_tell ps ts us p s p.field new refl h.only h.told here);
+        paths = by_path;
+      }
+
+  pub words_stored : (doc field : ℕ) (words : List Word)
+      → TellAllPaths (ps ++ text_at doc field [] words ∷ []) paths → TellsAll ps (tokens_after [] ps) s → slice_get s.documents field ≡ Some d → d.doc ≡ doc → new.doc ≡ doc → new.num_tokens ≡ d.num_tokens + length (kept_words words) → new.end_position ≡ end_after d.end_position words
+      → new.norm ≡ min (d.norm + length (kept_words words)) u32_max → StoresTokens entries indexed (tokens_after [] ps ++ piece_tokens_from true d.end_position (text_at doc field [] words))
+      → StoresPieces entries (record { indexed = indexed; opened = record s { documents = slice_set s.documents field new }; paths = paths }) (ps ++ text_at doc field [] words ∷ [])
+  words_stored doc field words by_path told found at now num end norm tokens =
+      let p = text_at doc field [] words in
+      let us = piece_tokens_from true d.end_position p in
+      let known = begin_known ps (tokens_after [] ps) s doc field words d told found at in
+      piece_stored p us (record {
+        told = told;
+        found = found;
+        old_doc = at;
+        new_doc = now;
+        norm = norm ∙ ap (λ (n : ℕ). min (d.norm + n) u32_max) (sym (length-map (kept_words words) (word_token p d.end_position)));
+        tokens = tokens;
+        tokens_are = ap (λ (b : ℕ). piece_tokens_from true b p) known.0;
+        only = words_at p d.end_position (kept_words words);
+        end_position = begin_more ps p (text_at doc field [] []) true (same_text doc field words) ∙ ap (λ (b : ℕ). end_after b words) known.0 ∙ sym end;
+        num_tokens = group_more ps p (text_at doc field [] []) true (same_text doc field words) ∙ ap (λ (n : ℕ). n + length (kept_words words)) known.1 ∙ sym num;
+      }) by_path
+
+  pub value_added : (doc field : ℕ) (key : List ℕ)
+      → TellAllPaths (ps ++ value_at doc field key ∷ []) paths → TellsAll ps (tokens_after [] ps) s → slice_get s.documents field ≡ Some d → d.doc ≡ doc → new.doc ≡ doc → new.num_tokens ≡ d.num_tokens → new.end_position ≡ d.end_position
+      → new.norm ≡ min (d.norm + 1) u32_max → StoresTokens entries indexed (tokens_after [] ps ++ value_token (value_at doc field key) ∷ [])
+      → StoresPieces entries (record { indexed = indexed; opened = record s { documents = slice_set s.documents field new }; paths = paths }) (ps ++ value_at doc field key ∷ [])
+  value_added doc field key by_path told found at now num end norm tokens =
+      let p = value_at doc field key in
+      let known = begin_known ps (tokens_after [] ps) s doc field [] d told found at in
+      piece_stored p (value_token p ∷ []) (record {
+        told = told;
+        found = found;
+        old_doc = at;
+        new_doc = now;
+        norm = norm;
+        tokens = tokens;
+        tokens_are = refl;
+        only = more_at doc field (value_token p) [] refl refl (none_at doc field);
+        end_position = begin_more ps p (text_at doc field [] []) false refl ∙ known.0 ∙ sym end;
+        num_tokens = group_more ps p (text_at doc field [] []) false refl ∙ known.1 ∙ sym num;
+      }) by_path
+
+  -- a text under a prefix changes nothing of where the texts of the field without one end
+  pub words_under_stored : (doc field : ℕ) (prefix : List ℕ) (words : List Word)
+      → TellAllPaths (ps ++ text_at doc field prefix words ∷ []) paths → bytes_eq prefix [] ≡ false → TellsAll ps (tokens_after [] ps) s → slice_get s.documents field ≡ Some d → d.doc ≡ doc → new.doc ≡ doc
+      → new.num_tokens ≡ d.num_tokens → new.end_position ≡ d.end_position → new.norm ≡ min (d.norm + length (kept_words words)) u32_max
+      → StoresTokens entries indexed (tokens_after [] ps ++ piece_tokens ps (text_at doc field prefix words))
+      → StoresPieces entries (record { indexed = indexed; opened = record s { documents = slice_set s.documents field new }; paths = paths }) (ps ++ text_at doc field prefix words ∷ [])
+  words_under_stored doc field prefix words by_path some told found at now num end norm tokens =
+      let p = text_at doc field prefix words in
+      let begin = begin_after ps p in
+      let known = begin_known ps (tokens_after [] ps) s doc field [] d told found at in
+      piece_stored p (piece_tokens ps p) (record {
+        told = told;
+        found = found;
+        old_doc = at;
+        new_doc = now;
+        norm = norm ∙ ap (λ (n : ℕ). min (d.norm + n) u32_max) (sym (length-map (kept_words words) (word_token p begin)));
+        tokens = tokens;
+        tokens_are = refl;
+        only = words_at p begin (kept_words words);
+        end_position = begin_more ps p (text_at doc field [] []) false (other_text doc field prefix words some) ∙ known.0 ∙ sym end;
+        num_tokens = group_more ps p (text_at doc field [] []) false (other_text doc field prefix words some) ∙ known.1 ∙ sym num;
+      }) by_path
 
 -- why a text is refused, by what is known of its field
 pub text_refused : {T : Type 0} (option : IndexRecordOption) (ps : List Piece) (s : OpenDocumentsState) (doc field : ℕ) (words : List Word) (d : OpenDocument) (at : IndexingPosition) (result : Result T Fault)
     → TellsAll ps (tokens_after [] ps) s → slice_get s.documents field ≡ Some d → d.doc ≡ doc → at ≡ record { num_tokens = d.num_tokens; end_position = d.end_position }
-    → IsRefusedBy (text_fault option (field_text doc field words) at (tokens_after [] ps)) result → IsRefusedBy (piece_fault option ps (field_text doc field words)) result
+    → IsRefusedBy (text_fault option (text_at doc field [] words) at (tokens_after [] ps)) result → IsRefusedBy (piece_fault option ps (text_at doc field [] words)) result
 text_refused {T} option ps s doc field words d at result told found same is refused =
-    let p = field_text doc field words in
+    let p = text_at doc field [] words in
     let ts = tokens_after [] ps in
     let known = begin_known ps ts s doc field words d told found same in
     let begin : at ≡ record { num_tokens = group_count ps p; end_position = begin_after ps p } = is ∙ ap (λ (n : ℕ). record { num_tokens = n; end_position = d.end_position }) (sym known.1) ∙ ap (λ (n : ℕ). record { num_tokens = group_count ps p; end_position = n }) (sym known.0) in

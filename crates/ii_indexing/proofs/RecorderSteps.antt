@@ -10,7 +10,7 @@ use Rattle.std.proofs.lemmas.Bool.{eqb-false}
 use Rattle.ii_recorder.specs.Recorded.{RecorderState, begun, current_doc, entries_in, last_doc, position_fault, u32_max, with_position}
 use Rattle.ii_io.specs.declared.faults.Fault.{Fault}
 use Rattle.ii_io.specs.declared.faults.Fault.TheVariants.{OutOfMemory}
-use Rattle.ii_indexing.specs.Refusals.{IsRefusedBy}
+use Rattle.ii_json.specs.LeafVisit.{IsRefusedBy}
 use Rattle.ii_indexing.specs.IndexingContext.{EndsBy, entry_at, is_open, new_recorder, opened_at, recorded_at}
 
 pub docs_of_push : (es : List Entry) (e : Entry) → docs_of (es ++ e ∷ []) ≡ docs_of es ++ e.doc ∷ []

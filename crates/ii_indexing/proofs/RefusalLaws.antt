@@ -2,17 +2,20 @@
 use Rattle.std.proofs.Common.{◌≡◌, ℕ, ◌+◌, Bool, true, false, ◌&&◌, ◌||◌, ◌==◌, List, [], ◌∷◌, ◌++◌, Option, Some, None, Err, Result, sym, ◌∙◌, subst, arith, ⊎_elim}
 use Rattle.std.specs.Prelude.{◌⊎◌, IfSome, if◌then◌else◌, nat_le, nat_lt}
 use Rattle.ii_io.specs.declared.faults.Fault.{Fault}
-use Rattle.ii_io.specs.declared.faults.Fault.TheVariants.{DecreasingPosition, Limit, OutOfMemory, Write}
+use Rattle.ii_io.specs.declared.faults.Fault.TheVariants.{DecreasingPosition, Limit, OutOfMemory, UnsupportedLeaf, Write}
 use Rattle.ii_io.specs.declared.faults.LimitName.TheVariants as limit
+use Rattle.std.specs.List.{flat_map}
+use Rattle.ii_base.specs.Json.{Leaf, text_leaf, unsupported, value_leaf}
 use Rattle.ii_base.specs.Words.{Word}
 use Rattle.ii_base.specs.Options.{has_freq, has_positions}
 use Rattle.ii_base.specs.declared.schema.index_record_option.IndexRecordOption.{IndexRecordOption}
 use Rattle.ii_docset.specs.Entries.{Entry}
 use Rattle.ii_index.specs.Postings.{field_count}
-use Rattle.ii_index.specs.Tokens.{Call, IndexToken, Piece, begin_after, call_pieces, end_after, kept_words, pieces_of, tokens_after, word_token}
+use Rattle.ii_index.specs.Tokens.{Call, Content, IndexToken, Piece, begin_after, content_pieces, end_after, kept_words, leaf_pieces, leaves, pieces_of, text, tokens_after, value, word_token, words}
 use Rattle.ii_recorder.specs.Recorded.{last_position, position_fault, u32_max}
 use Rattle.ii_indexing.specs.IndexFiles.{CountsIndexFailures}
-use Rattle.ii_indexing.specs.Refusals.{call_fault, calls_fault, first_fault, gap_fault, group_count, open_entry, piece_fault, piece_fault_from, pieces_fault, u64_max, word_fault, words_fault}
+use Rattle.ii_indexing.specs.Refusals.{call_fault, calls_fault, content_fault, gap_fault, leaf_fault, next_leaf_fault, group_count, open_entry, piece_fault, piece_fault_from, pieces_fault, u64_max, word_fault, words_fault}
+use Rattle.ii_json.specs.LeafVisit.{first_fault, leaves_fault}
 use Rattle.ii_indexing.specs.declared.index_writers.IndexWriters.{IndexWriters}
 
 -- A fault, if there is one, isn't a writer's.
@@ -57,10 +60,26 @@ pieces_other option earlier [] = tt
 pieces_other option earlier (p ∷ ps) =
     first_or (piece_fault option earlier p) (pieces_fault option (earlier ++ p ∷ []) ps) (piece_other p.is_text option earlier (tokens_after [] earlier) p) (pieces_other option (earlier ++ p ∷ []) ps)
 
+leaf_other : (analyze : List ℕ → List Word) (option : IndexRecordOption) (earlier : List Piece) (doc field : ℕ) (l : List ℕ × Leaf) → IsNotWrite (leaf_fault analyze option earlier doc field l)
+leaf_other analyze option earlier doc field (path, text_leaf t) = pieces_other option earlier (leaf_pieces analyze doc field (path, text_leaf t))
+leaf_other analyze option earlier doc field (path, value_leaf t n) = pieces_other option earlier (leaf_pieces analyze doc field (path, value_leaf t n))
+leaf_other analyze option earlier doc field (path, unsupported kind) = λ is. absurd (cc)
+
+leaves_other : (fault : List (List ℕ × Leaf) → List ℕ × Leaf → Option Fault) → ((before : List (List ℕ × Leaf)) (l : List ℕ × Leaf) → IsNotWrite (fault before l)) → (before ls : List (List ℕ × Leaf)) → IsNotWrite (leaves_fault fault before ls)
+leaves_other fault each before [] = tt
+leaves_other fault each before (l ∷ ls) = first_or (fault before l) (leaves_fault fault (before ++ l ∷ []) ls) (each before l) (leaves_other fault each (before ++ l ∷ []) ls)
+
+content_other : (analyze : List ℕ → List Word) (option : IndexRecordOption) (earlier : List Piece) (c : Call) (content : Content) → IsNotWrite (content_fault analyze option earlier c content)
+content_other analyze option earlier c (text t) = pieces_other option earlier (content_pieces analyze c (text t))
+content_other analyze option earlier c (words ws) = pieces_other option earlier (content_pieces analyze c (words ws))
+content_other analyze option earlier c (value key) = pieces_other option earlier (content_pieces analyze c (value key))
+content_other analyze option earlier c (leaves ls) =
+    leaves_other (next_leaf_fault analyze option earlier c.doc c.field) (λ before l. leaf_other analyze option (earlier ++ flat_map (leaf_pieces analyze c.doc c.field) before) c.doc c.field l) [] ls
+
 calls_other : (analyze : List ℕ → List Word) (option : ℕ → IndexRecordOption) (earlier cs : List Call) → IsNotWrite (calls_fault analyze option earlier cs)
 calls_other analyze option earlier [] = tt
 calls_other analyze option earlier (c ∷ cs) =
-    first_or (call_fault analyze (option c.field) earlier c) (calls_fault analyze option (earlier ++ c ∷ []) cs) (pieces_other (option c.field) (pieces_of analyze earlier) (call_pieces analyze c))
+    first_or (call_fault analyze (option c.field) earlier c) (calls_fault analyze option (earlier ++ c ∷ []) cs) (content_other analyze (option c.field) (pieces_of analyze earlier) c c.content)
     (calls_other analyze option (earlier ++ c ∷ []) cs)
 
 -- what a refused call leaves of the writers

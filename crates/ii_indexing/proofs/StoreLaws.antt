@@ -4,6 +4,7 @@ use Rattle.std.specs.Prelude.{slice_get, slice_set, if◌then◌else◌, nat_le,
 use Rattle.std.specs.List.{AllByRecursion}
 use Rattle.std.proofs.lemmas.Bool.{and_parts, eqb-true, eqb-false}
 use Rattle.std.proofs.lemmas.List.Sums.{sum_by-append, sum_by-cons}
+use Rattle.std.proofs.lemmas.Slice.Eq.{bytes_eq-Decides}
 use Rattle.ii_io.specs.declared.faults.Fault.{Fault}
 use Rattle.ii_io.specs.declared.faults.Fault.TheVariants.{Limit}
 use Rattle.ii_io.specs.declared.faults.LimitName.TheVariants as limit
@@ -14,20 +15,17 @@ use Rattle.ii_base.specs.declared.schema.index_record_option.IndexRecordOption.T
 use Rattle.ii_index.specs.Tokens.{IndexToken, Piece, kept_words, value_token, word_token}
 use Rattle.ii_index.specs.Fields.{option_of}
 use Rattle.ii_index.specs.Postings.{field_count, is_at, kind_of, tokens_at}
-use Rattle.ii_indexing.specs.IndexedTerms.{IndexedTermsState, IsOfField, StoresTokens, kept_in, value_fault}
+use Rattle.ii_indexing.specs.IndexedTerms.{IndexedTermsState, IsOfField, StoresTokens, TakesTexts, TakesValue, kept_at, kept_in, value_fault, writer_in}
 use Rattle.ii_recorder.specs.Recorded.{position_fault}
 use Rattle.ii_indexing.specs.IndexingContext.{entry_at, recorder_or_new, TermIndex, recorder_of}
 use Rattle.ii_indexing.specs.IndexingTerm.{field_bytes}
 use Rattle.ii_indexing.specs.PostingsWriter.{HasTokens, PostingsWriterState, subscribe_fault, tokens_counted}
 use Rattle.ii_indexing.specs.Records.{Records}
-use Rattle.ii_indexing.specs.Refusals.{IsRefusedBy, u64_max}
+use Rattle.ii_indexing.specs.Refusals.{u64_max}
+use Rattle.ii_json.specs.LeafVisit.{IsRefusedBy}
 use Rattle.ii_indexing.proofs.PostingsLaws.{tokens_at-append}
 use Rattle.ii_indexing.proofs.RecordsLaws.{HasKey}
 use Rattle.ii_indexing.proofs.TextLaws.{field_count_more, key_recorder}
-
--- what is kept of the keys of each field
-abbrev pub kept_by : List Entry → ℕ → List ℕ → IndexRecordOption
-kept_by entries field key = kept_in entries field
 
 -- Tokens of one field alone.
 pub record OnlyIn (field : ℕ) (us : List IndexToken) : Type 0 where
@@ -67,8 +65,8 @@ set_other (y ∷ xs) (suc i) (suc j) w other = set_other xs i j w (grind (arith,
 
 -- What a field has with more tokens of it.
 pub record AddsTokens (entries : List Entry) (field : ℕ) (old : IndexedTermsState) (terms : TermIndex) (writer : PostingsWriterState) (ts us : List IndexToken) : Type 0 where
-  pub records : Records (kept_by entries) terms (ts ++ us)
-  pub writer_is : writer ≡ record { option = kept_in entries field; total_num_tokens = field_count field (ts ++ us) }
+  pub records : Records (kept_at entries) terms (ts ++ us)
+  pub writer_is : writer ≡ writer_in entries field (field_count field (ts ++ us))
   pub of_field : AllByRecursion (IsOfField entries) us
   pub only : OnlyIn field us
 
@@ -92,11 +90,13 @@ first_kept {A} p P (x ∷ xs) y ys is all = by (p x) refl (λ rest. first_kept p
 
 -- what is kept of a key that occurred
 pub kept_kind : (entries : List Entry) (ts : List IndexToken) (field : ℕ) (key : List ℕ) (t : IndexToken) (us : List IndexToken) → tokens_at field key ts ≡ t ∷ us → AllByRecursion (IsOfField entries) ts
-    → kind_of (option_of entries field) (t ∷ us) ≡ kept_in entries field
+    → kind_of (option_of entries field) (t ∷ us) ≡ kept_at entries field key
 kept_kind entries ts field key t us is all =
     let first = first_kept (is_at field key) (IsOfField entries) ts t us is all in
-    let at : t.field ≡ field = eqb-true t.field field (and_parts (t.field == field) (bytes_eq t.key key) first.1).0 in
-    subst (λ (f : ℕ). kind_of (option_of entries f) (t ∷ []) ≡ kept_in entries f) at first.0.kind
+    let parts = and_parts (t.field == field) (bytes_eq t.key key) first.1 in
+    let at : t.field ≡ field = eqb-true t.field field parts.0 in
+    let same : t.key ≡ key = (bytes_eq-Decides t.key key).0 parts.1 in
+    subst (λ (k : List ℕ). kind_of (option_of entries field) (t ∷ []) ≡ kept_at entries field k) same (subst (λ (f : ℕ). kind_of (option_of entries f) (t ∷ []) ≡ kept_at entries f t.key) at first.0.kind)
 
 -- and its field is one of the schema
 pub token_field : (entries : List Entry) (ts : List IndexToken) (field : ℕ) (key : List ℕ) (t : IndexToken) (us : List IndexToken) → tokens_at field key ts ≡ t ∷ us → AllByRecursion (IsOfField entries) ts → field < length entries
@@ -110,12 +110,12 @@ basic_if o true kept is = refl
 basic_if o false kept is = is
 
 -- so it is kept of all its tokens
-one_kind : (entries : List Entry) (ts : List IndexToken) (field : ℕ) (key : List ℕ) → AllByRecursion (IsOfField entries) ts → kind_of (kept_in entries field) (tokens_at field key ts) ≡ kept_in entries field
+one_kind : (entries : List Entry) (ts : List IndexToken) (field : ℕ) (key : List ℕ) → AllByRecursion (IsOfField entries) ts → kind_of (kept_at entries field key) (tokens_at field key ts) ≡ kept_at entries field key
 one_kind entries ts field key all = by (tokens_at field key ts) refl
   where
-    by : (us : List IndexToken) → tokens_at field key ts ≡ us → kind_of (kept_in entries field) us ≡ kept_in entries field
+    by : (us : List IndexToken) → tokens_at field key ts ≡ us → kind_of (kept_at entries field key) us ≡ kept_at entries field key
     by [] is = refl
-    by (t ∷ us) is = basic_if (option_of entries field) t.of_text (kept_in entries field) (kept_kind entries ts field key t us is all)
+    by (t ∷ us) is = basic_if (option_of entries field) t.of_text (kept_at entries field key) (kept_kind entries ts field key t us is all)
 
 pub tokens_stored : (entries : List Entry) (field : ℕ) (old : IndexedTermsState) (terms : TermIndex) (writer : PostingsWriterState) (ts us : List IndexToken) → field < length entries
     → StoresTokens entries old ts → AddsTokens entries field old terms writer ts us → StoresTokens entries (record { terms = terms; writers = slice_set old.writers field writer }) (ts ++ us)
@@ -125,81 +125,88 @@ tokens_stored entries field old terms writer ts us low h adds = record {
   of_fields = all_joined (IsOfField entries) ts us h.of_fields adds.of_field;
 }
   where
-    by_count : (f : ℕ) → f < length entries → (b : Bool) → (field == f) ≡ b → slice_get (slice_set old.writers field writer) f ≡ Some (record { option = kept_in entries f; total_num_tokens = field_count f (ts ++ us) })
+    by_count : (f : ℕ) → f < length entries → (b : Bool) → (field == f) ≡ b → slice_get (slice_set old.writers field writer) f ≡ Some (writer_in entries f (field_count f (ts ++ us)))
     by_count f inside true same =
         let is = eqb-true field f same in
-        subst (λ (g : ℕ). slice_get (slice_set old.writers field writer) g ≡ Some (record { option = kept_in entries g; total_num_tokens = field_count g (ts ++ us) })) is
-        (set_same old.writers field (record { option = kept_in entries field; total_num_tokens = field_count field ts }) writer (h.counted field low) ∙ ap (λ (w : PostingsWriterState). Some w) adds.writer_is)
+        subst (λ (g : ℕ). slice_get (slice_set old.writers field writer) g ≡ Some (writer_in entries g (field_count g (ts ++ us)))) is
+        (set_same old.writers field (writer_in entries field (field_count field ts)) writer (h.counted field low) ∙ ap (λ (w : PostingsWriterState). Some w) adds.writer_is)
     by_count f inside false other =
         set_other old.writers field f writer other ∙ h.counted f inside
-        ∙ ap (λ (n : ℕ). Some (record { option = kept_in entries f; total_num_tokens = n })) (sym (other_count field f ts us adds.only other))
+        ∙ ap (λ (n : ℕ). Some (writer_in entries f n)) (sym (other_count field f ts us adds.only other))
 
 some_inside : {A : Type 0} (x y : A) → Some x ≡ Some y → x ≡ y
 some_inside x y is = cc
 
 -- what a writer of a text knows
-pub text_known : (entries : List Entry) (ts : List IndexToken) (s : IndexedTermsState) (p : Piece) (w : PostingsWriterState) → p.field < length entries
-    → StoresTokens entries s ts → slice_get s.writers p.field ≡ Some w → (w.option ≡ kept_in entries p.field) × HasTokens (kept_by entries) p s.terms w ts
-text_known entries ts s p w low h found =
-    let is : w ≡ record { option = kept_in entries p.field; total_num_tokens = field_count p.field ts } = some_inside _ _ (sym found ∙ h.counted p.field low) in
+pub text_known : (entries : List Entry) (ts : List IndexToken) (s : IndexedTermsState) (p : Piece) (w : PostingsWriterState) → TakesTexts entries p.field p.prefix
+    → StoresTokens entries s ts → slice_get s.writers p.field ≡ Some w → (w.option ≡ option_of entries p.field) × HasTokens (kept_at entries) p s.terms w ts
+text_known entries ts s p w takes h found =
+    let is : w ≡ writer_in entries p.field (field_count p.field ts) = some_inside _ _ (sym found ∙ h.counted p.field takes.known) in
     let option : w.option ≡ kept_in entries p.field = ap (λ (v : PostingsWriterState). v.option) is in (
-      option,
+      option ∙ takes.option,
       record {
         records = h.records;
-        kinds = λ key. sym option;
-        of_text = λ key. rw option (one_kind entries ts p.field (p.prefix ++ key) h.of_fields);
+        kinds = λ key. takes.kept key ∙ sym option;
+        of_text = λ key.
+            let same : kept_at entries p.field (p.prefix ++ key) ≡ w.option = takes.kept key ∙ sym option in
+            subst (λ (o : IndexRecordOption). kind_of o (tokens_at p.field (p.prefix ++ key) ts) ≡ o) same (one_kind entries ts p.field (p.prefix ++ key) h.of_fields);
         counted = ap (λ (v : PostingsWriterState). v.total_num_tokens) is;
       },
     )
 
-words_of_field : (entries : List Entry) (p : Piece) (begin : ℕ) (ws : List Word) → p.field < length entries → kept_in entries p.field ≡ option_of entries p.field
-    → AllByRecursion (IsOfField entries) (map (word_token p begin) ws)
-words_of_field entries p begin [] low of_text = tt
-words_of_field entries p begin (w ∷ ws) low of_text = (record { known = low; kind = sym of_text }, words_of_field entries p begin ws low of_text)
+words_of_field : (entries : List Entry) (p : Piece) (begin : ℕ) (ws : List Word) → TakesTexts entries p.field p.prefix → AllByRecursion (IsOfField entries) (map (word_token p begin) ws)
+words_of_field entries p begin [] takes = tt
+words_of_field entries p begin (w ∷ ws) takes = (record { known = takes.known; kind = sym (takes.kept w.text ∙ takes.option) }, words_of_field entries p begin ws takes)
 
 -- a text was indexed
 pub text_stored : (entries : List Entry) (ts : List IndexToken) (s : IndexedTermsState) (p : Piece) (begin : ℕ) (w : PostingsWriterState) (terms : TermIndex) (after : PostingsWriterState)
-    → p.field < length entries → kept_in entries p.field ≡ option_of entries p.field → StoresTokens entries s ts → slice_get s.writers p.field ≡ Some w → after.option ≡ w.option
-    → (HasTokens (kept_by entries) p s.terms w ts → HasTokens (kept_by entries) p terms after (ts ++ map (word_token p begin) (kept_words p.words)))
+    → TakesTexts entries p.field p.prefix → StoresTokens entries s ts → slice_get s.writers p.field ≡ Some w → after ≡ tokens_counted (length (kept_words p.words)) w
+    → (HasTokens (kept_at entries) p s.terms w ts → HasTokens (kept_at entries) p terms after (ts ++ map (word_token p begin) (kept_words p.words)))
     → StoresTokens entries (record { terms = terms; writers = slice_set s.writers p.field after }) (ts ++ map (word_token p begin) (kept_words p.words))
-text_stored entries ts s p begin w terms after low of_text h found same f =
-    let known = text_known entries ts s p w low h found in
+text_stored entries ts s p begin w terms after takes h found counted f =
+    let known = text_known entries ts s p w takes h found in
     let new = f known.1 in
-    let option : after.option ≡ kept_in entries p.field = same ∙ known.0 in
-    tokens_stored entries p.field s terms after ts (map (word_token p begin) (kept_words p.words)) low h (record {
+    let is : w ≡ writer_in entries p.field (field_count p.field ts) = some_inside _ _ (sym found ∙ h.counted p.field takes.known) in
+    let made : after ≡ tokens_counted (length (kept_words p.words)) (writer_in entries p.field (field_count p.field ts)) = counted ∙ ap (tokens_counted (length (kept_words p.words))) is in
+    let many = sym (ap (λ (v : PostingsWriterState). v.total_num_tokens) made) ∙ new.counted in
+    tokens_stored entries p.field s terms after ts (map (word_token p begin) (kept_words p.words)) takes.known h (record {
       records = new.records;
-      writer_is = ap (λ (o : IndexRecordOption). record { option = o; total_num_tokens = after.total_num_tokens }) option ∙ ap (λ (n : ℕ). record { option = kept_in entries p.field; total_num_tokens = n }) new.counted;
-      of_field = words_of_field entries p begin (kept_words p.words) low of_text;
+      writer_is = made ∙ ap (writer_in entries p.field) many;
+      of_field = words_of_field entries p begin (kept_words p.words) takes;
       only = words_only p begin (kept_words p.words);
     })
 
 -- a value was indexed
 pub value_stored : (entries : List Entry) (ts : List IndexToken) (s : IndexedTermsState) (p : Piece) (w : PostingsWriterState) (terms : TermIndex) (after : PostingsWriterState)
-    → p.field < length entries → kept_in entries p.field ≡ Basic → StoresTokens entries s ts → slice_get s.writers p.field ≡ Some w → after ≡ tokens_counted 1 w
-    → (kept_in entries p.field ≡ w.option → Records (kept_by entries) s.terms ts → Records (kept_by entries) terms (ts ++ value_token p ∷ []))
+    → TakesValue entries p.field p.prefix → StoresTokens entries s ts → slice_get s.writers p.field ≡ Some w → after ≡ tokens_counted 1 w
+    → (kept_at entries p.field p.prefix ≡ w.value_option → Records (kept_at entries) s.terms ts → Records (kept_at entries) terms (ts ++ value_token p ∷ []))
     → StoresTokens entries (record { terms = terms; writers = slice_set s.writers p.field after }) (ts ++ value_token p ∷ [])
-value_stored entries ts s p w terms after low basic h found counted f =
+value_stored entries ts s p w terms after takes h found counted f =
     let t = value_token p in
-    let is : w ≡ record { option = kept_in entries p.field; total_num_tokens = field_count p.field ts } = some_inside _ _ (sym found ∙ h.counted p.field low) in
-    tokens_stored entries p.field s terms after ts (t ∷ []) low h (record {
-      records = f (sym (ap (λ (v : PostingsWriterState). v.option) is)) h.records;
-      writer_is = counted ∙ ap (tokens_counted 1) is ∙ ap (λ (n : ℕ). record { option = kept_in entries p.field; total_num_tokens = n }) (sym (field_count_more p.field ts t refl));
-      of_field = (record { known = low; kind = sym basic }, tt);
+    let is : w ≡ writer_in entries p.field (field_count p.field ts) = some_inside _ _ (sym found ∙ h.counted p.field takes.known) in
+    let option : w.value_option ≡ Basic = ap (λ (v : PostingsWriterState). v.value_option) is ∙ takes.option in
+    tokens_stored entries p.field s terms after ts (t ∷ []) takes.known h (record {
+      records = f (takes.kept ∙ sym option) h.records;
+      writer_is = counted ∙ ap (tokens_counted 1) is ∙ ap (writer_in entries p.field) (sym (field_count_more p.field ts t refl));
+      of_field = (record { known = takes.known; kind = sym takes.kept }, tt);
       only = one_token p.field t [] refl (no_tokens p.field);
     })
 
 -- why it is refused
 pub value_refused : {T : Type 0} (entries : List Entry) (ts : List IndexToken) (s : IndexedTermsState) (doc field : ℕ) (key : List ℕ) (w : PostingsWriterState) (result : Result T Fault)
-    → field < length entries → field < 4294967296 → kept_in entries field ≡ Basic → StoresTokens entries s ts → slice_get s.writers field ≡ Some w
-    → IsRefusedBy (subscribe_fault w doc 0 (field_bytes field ++ key) s.terms) result → IsRefusedBy (value_fault field ts) result
-value_refused {T} entries ts s doc field key w result inside low basic h found refused =
-    let is : w ≡ record { option = kept_in entries field; total_num_tokens = field_count field ts } = some_inside _ _ (sym found ∙ h.counted field inside) in
-    let at : w ≡ record { option = Basic; total_num_tokens = field_count field ts } = is ∙ ap (λ (o : IndexRecordOption). record { option = o; total_num_tokens = field_count field ts }) basic in
-    let known : HasKey Basic (tokens_at field key ts) (recorder_of s.terms (field_bytes field ++ key)) =
-    subst (λ (o : IndexRecordOption). HasKey o (tokens_at field key ts) (recorder_of s.terms (field_bytes field ++ key))) basic (h.records field key low) in
-    let kept = key_recorder Basic (tokens_at field key ts) (recorder_of s.terms (field_bytes field ++ key)) known in
-    let r = recorder_or_new Basic s.terms (field_bytes field ++ key) in
-    let cause : subscribe_fault w doc 0 (field_bytes field ++ key) s.terms ≡ value_fault field ts =
-    ap (λ (v : PostingsWriterState). subscribe_fault v doc 0 (field_bytes field ++ key) s.terms) at
+    → field < 4294967296 → TakesValue entries field key → StoresTokens entries s ts → slice_get s.writers field ≡ Some w
+    → IsRefusedBy (subscribe_fault w.value_option w.total_num_tokens doc 0 (field_bytes field ++ key) s.terms) result → IsRefusedBy (value_fault field ts) result
+value_refused {T} entries ts s doc field key w result low takes h found refused =
+    let is : w ≡ writer_in entries field (field_count field ts) = some_inside _ _ (sym found ∙ h.counted field takes.known) in
+    let option : w.value_option ≡ Basic = ap (λ (v : PostingsWriterState). v.value_option) is ∙ takes.option in
+    let many : w.total_num_tokens ≡ field_count field ts = ap (λ (v : PostingsWriterState). v.total_num_tokens) is in
+    let bytes = field_bytes field ++ key in
+    let known : HasKey Basic (tokens_at field key ts) (recorder_of s.terms bytes) =
+    subst (λ (o : IndexRecordOption). HasKey o (tokens_at field key ts) (recorder_of s.terms bytes)) takes.kept (h.records field key low) in
+    let kept = key_recorder Basic (tokens_at field key ts) (recorder_of s.terms bytes) known in
+    let r = recorder_or_new Basic s.terms bytes in
+    let cause : subscribe_fault w.value_option w.total_num_tokens doc 0 bytes s.terms ≡ value_fault field ts =
+    ap (λ (o : IndexRecordOption). subscribe_fault o w.total_num_tokens doc 0 bytes s.terms) option
+    ∙ ap (λ (n : ℕ). subscribe_fault Basic n doc 0 bytes s.terms) many
     ∙ ap (λ (o : IndexRecordOption). if nat_le u64_max (field_count field ts) then Some (Limit limit.Tokens) else position_fault o 0 (entry_at doc r)) kept in
     subst (λ (c : Option Fault). IsRefusedBy c result) cause refused

@@ -17,7 +17,7 @@ use Rattle.ii_index.proofs.GroupedLaws.{grouped_counted}
 use Rattle.ii_recorder.specs.Pushed.{pushed_freqs}
 use Rattle.ii_recorder.specs.Recorded.{RecorderState}
 use Rattle.ii_indexing.specs.HeldBodies.{HaveTokens}
-use Rattle.ii_indexing.specs.IndexedTerms.{IndexedTermsState, IsOfField, StoresTokens, kept_in}
+use Rattle.ii_indexing.specs.IndexedTerms.{IndexedTermsState, IsOfField, StoresTokens, kept_at}
 use Rattle.ii_indexing.specs.IndexingContext.{AllEndBy, EndsBy, recorder_of}
 use Rattle.ii_indexing.specs.IndexingTerm.{field_bytes}
 use Rattle.ii_indexing.specs.OpenDocuments.{with_norms}
@@ -46,24 +46,24 @@ has_some option ts r has none = by r.pending refl has.opened
 
 module _ (entries : List Entry) (s : IndexedTermsState) (ts : List IndexToken) (h : StoresTokens entries s ts) where
   -- the field of a key that occurred
-  known_field : (field : ℕ) (key : List ℕ) (r : RecorderState) → HasPostings (kept_in entries field) (tokens_at field key ts) r → field < length entries
+  known_field : (field : ℕ) (key : List ℕ) (r : RecorderState) → HasPostings (kept_at entries field key) (tokens_at field key ts) r → field < length entries
   known_field field key r has = by (tokens_at field key ts) refl
     where
       by : (us : List IndexToken) → tokens_at field key ts ≡ us → field < length entries
-      by [] is = absurd (has_some (kept_in entries field) (tokens_at field key ts) r has is)
+      by [] is = absurd (has_some (kept_at entries field key) (tokens_at field key ts) r has is)
       by (t ∷ us) is = token_field entries ts field key t us is h.of_fields
 
   pub may_be_written : (doc : ℕ) → AllEndBy doc s.terms → AllMayBeWritten (length entries) s.terms
   may_be_written doc ends field key small = by (recorder_of s.terms (field_bytes field ++ key)) (h.records field key small) (ends (field_bytes field ++ key))
     where
-      by : (o : Option RecorderState) → MatchOption o (tokens_at field key ts ≡ []) (HasPostings (kept_in entries field) (tokens_at field key ts)) → MatchOption o ⊤ (EndsBy doc)
+      by : (o : Option RecorderState) → MatchOption o (tokens_at field key ts ≡ []) (HasPostings (kept_at entries field key) (tokens_at field key ts)) → MatchOption o ⊤ (EndsBy doc)
           → MatchOption o ⊤ (MayBeWritten (length entries) (field_bytes field ++ key))
       by None has end = tt
       by (Some r) has end = record {
         known = rw (field_of_bytes field key small) (known_field field key r has);
         writable = record {
           ascending = end.ascending;
-          counted = λ some. rw (has.entries, has.kept) (counts_some (kept_in entries field) (grouped (tokens_at field key ts)) (rw (← has.kept) some) (grouped_counted (tokens_at field key ts)));
+          counted = λ some. rw (has.entries, has.kept) (counts_some (kept_at entries field key) (grouped (tokens_at field key ts)) (rw (← has.kept) some) (grouped_counted (tokens_at field key ts)));
         };
       }
 
@@ -74,12 +74,12 @@ module _ (entries : List Entry) (s : IndexedTermsState) (ts : List IndexToken) (
     known = all_mapped (IsOfField entries) (λ (t : IndexToken). t.field < length entries) (λ t of. of.known) ts h.of_fields;
   }
     where
-      by : (field : ℕ) (key : List ℕ) (us : List IndexToken) → tokens_at field key ts ≡ us → (o : Option RecorderState) → MatchOption o (tokens_at field key ts ≡ []) (HasPostings (kept_in entries field) (tokens_at field key ts))
+      by : (field : ℕ) (key : List ℕ) (us : List IndexToken) → tokens_at field key ts ≡ us → (o : Option RecorderState) → MatchOption o (tokens_at field key ts ≡ []) (HasPostings (kept_at entries field key) (tokens_at field key ts))
           → MatchOption o (tokens_at field key ts ≡ []) (HasPostings (kind_of (option_of entries field) (tokens_at field key ts)) (tokens_at field key ts))
       by field key us is None has = has
-      by field key [] is (Some r) has = absurd (has_some (kept_in entries field) (tokens_at field key ts) r has is)
+      by field key [] is (Some r) has = absurd (has_some (kept_at entries field key) (tokens_at field key ts) r has is)
       by field key (t ∷ us) is (Some r) has =
-          let kind : kept_in entries field ≡ kind_of (option_of entries field) (tokens_at field key ts) = sym (ap (kind_of (option_of entries field)) is ∙ kept_kind entries ts field key t us is h.of_fields) in
+          let kind : kept_at entries field key ≡ kind_of (option_of entries field) (tokens_at field key ts) = sym (ap (kind_of (option_of entries field)) is ∙ kept_kind entries ts field key t us is h.of_fields) in
           subst (λ (o : IndexRecordOption). HasPostings o (tokens_at field key ts) r) kind has
 
 some_kept : (g : List ℕ → List ℕ) (b : Option (List ℕ)) → is_some (option_map g b) ≡ is_some b

@@ -12,33 +12,14 @@ use Rattle.ii_recorder.specs.declared.recorder.any_recorder.AnyRecorder.{AnyReco
 use Rattle.ii_recorder.specs.AnyRecorder.{any_state}
 use Rattle.ii_recorder.specs.Recorded.{RecorderState}
 use Rattle.ii_indexing.specs.IndexingTerm.{AreTermBytes}
+use Rattle.ii_indexing.proofs.ByteKeys.{Key, is_key, lookup_seen, updated, updates_at}
 use Rattle.ii_indexing.specs.IndexingContext.{AllEndBy, EndsBy, IsRecorded, TermIndex, new_recorder, recorded_at, recorder_of, recorder_or_new}
-
-abbrev pub Key : Type 0
-Key = Vec ℕ Global
 
 abbrev pub stored : List (Key × AnyRecorder) → TermIndex
 stored es = map (λ (e : Key × AnyRecorder). (e.0.items, any_state e.1)) es
 
-abbrev pub is_key : List ℕ → Key → Bool
-is_key bytes k = bytes_eq bytes k.items
-
 pub recorder_of-stored : (es : List (Key × AnyRecorder)) (bytes : List ℕ) → recorder_of (stored es) bytes ≡ option_map any_state (lookup (is_key bytes) es)
-recorder_of-stored [] bytes = refl
-recorder_of-stored (e ∷ es) bytes = by (bytes_eq bytes e.0.items) (recorder_of-stored es bytes)
-  where
-    by : (b : Bool) → recorder_of (stored es) bytes ≡ option_map any_state (lookup (is_key bytes) es)
-        → cond b (Some (any_state e.1)) (recorder_of (stored es) bytes) ≡ option_map any_state (cond b (Some e.1) (lookup (is_key bytes) es))
-    by true rest = refl
-    by false rest = rest
-
-others : {K X : Type 0} (eq : K → K → Bool) (test : K → Bool) (old new : List (K × X)) → KeepsOthers eq test old new
-    → (other : K → Bool) → IsKeyTest eq other → AreApart test other → lookup other new ≡ lookup other old
-unfolding KeepsOthers
-others eq test old new h = h
-
-apart : (bs cs ks : List ℕ) → bytes_eq bs cs ≡ false → bytes_eq bs ks ≡ true → bytes_eq cs ks ≡ false
-apart bs cs ks n y = nat_list_eq_equiv.symm cs ks ∙ sym (nat_list_eq_equiv.congr bs ks cs y) ∙ n
+recorder_of-stored es bytes = lookup_seen any_state es bytes
 
 whole_entries : (es : List (Key × AnyRecorder)) (k : Key) (v : AnyRecorder) → All (λ (j : Key). AreTermBytes j.items) (keys_of es) → AreTermBytes k.items
     → All (λ (j : Key). AreTermBytes j.items) (keys_of (insert_entry (λ (x : Key) (y : Key). bytes_eq x.items y.items) es k v))
@@ -53,14 +34,6 @@ whole_entries (e ∷ es) k v h long = by (bytes_eq k.items e.0.items) (whole_ent
 module _ {S : Type 0} where
   pub recorder_under : (m : IndexMap Key AnyRecorder S) (terms : TermIndex) (bytes : List ℕ) (found : Option AnyRecorder) → stored m.entries ≡ terms → found ≡ get_by (is_key bytes) m → recorder_of terms bytes ≡ option_map any_state found
   recorder_under m terms bytes found is at = ap (λ (t : TermIndex). recorder_of t bytes) (sym is) ∙ recorder_of-stored m.entries bytes ∙ ap (option_map any_state) (sym at)
-
-  updated : (bs : List ℕ) (m n : IndexMap Key AnyRecorder S) (w : Option AnyRecorder) → UpdatesBy (λ (x : Key) (y : Key). bytes_eq x.items y.items) (is_key bs) m n w
-      → (cs : List ℕ) → get_by (is_key cs) n ≡ cond (bytes_eq bs cs) w (get_by (is_key cs) m)
-  updated bs m n w h cs = by (bytes_eq bs cs) refl
-    where
-      by : (b : Bool) → bytes_eq bs cs ≡ b → get_by (is_key cs) n ≡ cond b w (get_by (is_key cs) m)
-      by true is = subst (λ (l : List ℕ). get_by (is_key l) n ≡ w) ((bytes_eq-Decides bs cs).0 is) h.1
-      by false is = others (λ (x : Key) (y : Key). bytes_eq x.items y.items) (is_key bs) m.entries n.entries h.3 (is_key cs) (λ x y. nat_list_eq_equiv.congr cs x.items y.items) (λ k. apart bs cs k.items is)
 
   -- a position was recorded where the recorder of the term was
   pub is_recorded : (option : IndexRecordOption) (doc position : ℕ) (term : List ℕ) (m n : IndexMap Key AnyRecorder S) (w : AnyRecorder) (terms : TermIndex)
@@ -83,10 +56,6 @@ found_or_new option terms bytes found is = ap (λ (o : Option RecorderState). un
 pub whole_keys : {S : Type 0} (m n : IndexMap Key AnyRecorder S) (k : Key) (v : AnyRecorder) → n.entries ≡ insert_entry (λ (x : Key) (y : Key). bytes_eq x.items y.items) m.entries k v
     → All (λ (j : Key). AreTermBytes j.items) (keys m) → AreTermBytes k.items → All (λ (j : Key). AreTermBytes j.items) (keys n)
 whole_keys m n k v is h long = subst (λ (es : List (Key × AnyRecorder)). All (λ (j : Key). AreTermBytes j.items) (keys_of es)) (sym is) (whole_entries m.entries k v h long)
-
-updates_at : {S : Type 0} (k : Key) (bs : List ℕ) → k.items ≡ bs → (m n : IndexMap Key AnyRecorder S) (w : Option AnyRecorder)
-    → UpdatesBy (λ (x : Key) (y : Key). bytes_eq x.items y.items) (is_key k.items) m n w → UpdatesBy (λ (x : Key) (y : Key). bytes_eq x.items y.items) (is_key bs) m n w
-updates_at k bs e m n w h = subst (λ (l : List ℕ). UpdatesBy (λ (x : Key) (y : Key). bytes_eq x.items y.items) (is_key l) m n w) e h
 
 -- a position was recorded in a recorder of its own
 pub is_inserted : {S : Type 0} (option : IndexRecordOption) (doc position : ℕ) (term : List ℕ) (m n : IndexMap Key AnyRecorder S) (k : Key) (w : AnyRecorder) (terms : TermIndex)

@@ -22,7 +22,8 @@ use Rattle.ii_indexing.specs.declared.indexing_position.IndexingPosition.{Indexi
 use Rattle.ii_indexing.specs.IndexingTerm.{IndexingTermState, term_bytes}
 use Rattle.ii_indexing.specs.PostingsWriter.{text_fault, RefusesWords, IndexesWords, text_piece, tokens_counted, HasTokens, IndexesKept, PostingsWriterState, TextState, kept_fault, subscribe_fault, term_token, word_bytes, word_end}
 use Rattle.ii_indexing.specs.Records.{Records}
-use Rattle.ii_indexing.specs.Refusals.{IsRefusedBy, gap_fault, open_entry, first_fault, u64_max, word_fault, words_fault}
+use Rattle.ii_indexing.specs.Refusals.{gap_fault, open_entry, u64_max, word_fault, words_fault}
+use Rattle.ii_json.specs.LeafVisit.{IsRefusedBy, first_fault}
 use Rattle.ii_indexing.proofs.RecordsLaws.{HasKey, records_more, tokens_at_last}
 use Rattle.ii_indexing.proofs.RecorderSteps.{open_in}
 
@@ -42,7 +43,7 @@ was_err false f e x is = absurd (cc)
 
 -- a word that has its place and fits its group
 pub fitting_fault : (p : Piece) (begin : ℕ) (w : Word) (s : TextState) → nat_lt u32_max (word_end begin w) ≡ false → nat_le u32_max s.num_tokens ≡ false
-    → kept_fault p begin w s ≡ subscribe_fault s.writer p.doc (begin + w.position) (word_bytes p w) s.terms
+    → kept_fault p begin w s ≡ subscribe_fault s.writer.option s.writer.total_num_tokens p.doc (begin + w.position) (word_bytes p w) s.terms
 fitting_fault p begin w s placed fits = rw (placed, fits) refl
 
 -- no document before the last one of ascending documents is that one or above it
@@ -109,7 +110,7 @@ kept_is kind p begin w s ts low ends h =
     let fault = position_fault s.writer.option (begin + w.position) (open_entry s.writer.option (word_token p begin w) ts) in
     let many = nat_le u64_max (field_count p.field ts) in
     let r = recorder_or_new s.writer.option s.terms (word_bytes p w) in
-    let inner : subscribe_fault s.writer p.doc (begin + w.position) (word_bytes p w) s.terms ≡ (if many then Some (Limit limit.Tokens) else fault) =
+    let inner : subscribe_fault s.writer.option s.writer.total_num_tokens p.doc (begin + w.position) (word_bytes p w) s.terms ≡ (if many then Some (Limit limit.Tokens) else fault) =
     ap (λ (n : ℕ). if nat_le u64_max n then Some (Limit limit.Tokens) else record_fault p.doc (begin + w.position) r) h.counted
     ∙ ap (λ (o : IndexRecordOption). if many then Some (Limit limit.Tokens) else position_fault o (begin + w.position) (entry_at p.doc r)) option
     ∙ ap (λ (e : Entry). if many then Some (Limit limit.Tokens) else position_fault s.writer.option (begin + w.position) e) entry in

@@ -1,27 +1,33 @@
 -- What an indexer has stored of the calls that it took.
 use Rattle.std.specs.Prelude.{◌≡◌, ℕ, ◌<◌, ◌^◌, Bool, List, [], length, map}
+use Rattle.std.specs.Borrow.{GName}
 use Rattle.ii_base.specs.Schema.{Entry, keeps_norms}
 use Rattle.ii_base.specs.Words.{Word}
 use Rattle.ii_index.specs.Tokens.{Call, Piece, pieces_of, tokens_after}
 use Rattle.ii_indexing.specs.IndexedTerms.{IndexedTermsState, StoresTokens}
 use Rattle.ii_indexing.specs.IndexingContext.{AllEndBy}
 use Rattle.ii_indexing.specs.OpenDocuments.{OpenDocumentsState, ReachTo, TellsAll, with_norms}
+use Rattle.ii_indexing.specs.OpenPaths.{OpenPathsState, PathsReachTo, TellAllPaths}
 
--- The terms of all fields, and the open document of each.
+-- The terms of all fields, the open document of each, and what is known of that path by path.
 pub record IndexedFieldsState : Type 0 where
   pub indexed : IndexedTermsState
   pub opened : OpenDocumentsState
+  pub paths : List OpenPathsState
 
 -- Texts and values are stored: the tokens that they give, and of each field what is known of its open document and the norms before it.
 pub record StoresPieces (entries : List Entry) (s : IndexedFieldsState) (ps : List Piece) : Type 0 where
   pub tokens : StoresTokens entries s.indexed (tokens_after [] ps)
   pub documents : TellsAll ps (tokens_after [] ps) s.opened
+  pub paths : TellAllPaths ps s.paths
 
 -- Each field has an open document, and nothing lies above a document.
 pub record EndsAt (doc : ℕ) (s : IndexedFieldsState) : Type 0 where
   pub documents : length s.opened.documents ≡ length s.indexed.writers
   pub terms : AllEndBy doc s.indexed.terms
   pub reach : ReachTo doc s.opened
+  pub paths : length s.paths ≡ length s.indexed.writers
+  pub paths_reach : PathsReachTo doc s.paths
 
 -- An indexer: its schema, how many documents there are, the document of the last call, what it has stored, and whether a call was refused.
 pub record IndexerState : Type 0 where
@@ -43,6 +49,20 @@ pub record AreRunning (entries : List Entry) (last_doc : ℕ) (s : IndexedFields
   pub writers : length s.indexed.writers ≡ length entries
   pub norms : with_norms s.opened.norms ≡ map keeps_norms entries
   pub some : StoresSome entries s
+
+-- What was indexed before the leaves of a JSON value: pieces, in fields of a schema.
+pub record LeafGiven : Type 0 where
+  pub entries : List Entry
+  pub pieces : List Piece
+
+-- What stays while they are indexed: the document and the field, what an analyzer makes of a text, by which reference the fields are lent, how many fields there are and which have norms.
+pub record LeafConstant : Type 0 where
+  pub doc : ℕ
+  pub field : ℕ
+  pub words : List ℕ → List Word
+  pub reference : GName
+  pub writers : ℕ
+  pub norms : List Bool
 
 -- The calls are stored, by what an analyzer makes of a text.
 abbrev pub Stores : (List ℕ → List Word) → IndexerState → List Call → Type 0

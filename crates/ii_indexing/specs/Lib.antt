@@ -1,4 +1,5 @@
 pub mod FieldParts
+pub mod FieldValues
 pub mod HeldBodies
 pub mod IndexCalls
 pub mod IndexFiles
@@ -10,6 +11,7 @@ pub mod Lending
 pub mod LendingWriters
 pub mod Norms
 pub mod OpenDocuments
+pub mod OpenPaths
 pub mod PostingsWriter
 pub mod Records
 pub mod Refusals

@@ -3,10 +3,9 @@ use Rattle.std.specs.Prelude.{◌≡◌, ℕ, ◌<◌, ◌≤◌, Bool, ◌==◌
 use Rattle.std.specs.Option.{option_map}
 use Rattle.ii_fieldnorm.specs.Buffers.{Buffers, buffer_of, recorded}
 use Rattle.ii_fieldnorm.specs.Norms.{id_of_norm}
-use Rattle.ii_index.specs.Tokens.{IndexToken, Piece, begin_after}
+use Rattle.ii_index.specs.Tokens.{IndexToken, Piece, begin_after, text_at}
 use Rattle.ii_index.specs.Postings.{doc_count}
 use Rattle.ii_recorder.specs.Recorded.{u32_max}
-use Rattle.ii_indexing.specs.IndexedTerms.{field_text}
 use Rattle.ii_indexing.specs.Refusals.{group_count}
 use Rattle.ii_indexing.specs.declared.open_documents.OpenDocument.{OpenDocument}
 
@@ -29,8 +28,8 @@ HasNorms field ts before ids = (doc : ℕ) → doc < before → get_or ids doc 0
 
 -- The open document of a field after pieces, whose tokens are these: where its texts end, how many tokens they have, how many it has in all, and the norms before it.
 pub record Tells (field : ℕ) (ps : List Piece) (ts : List IndexToken) (d : OpenDocument) (ids : Option (List ℕ)) : Type 0 where
-  pub begin : (doc : ℕ) → d.doc ≤ doc → begin_after ps (field_text doc field []) ≡ (document_at doc d).end_position
-  pub group : (doc : ℕ) → d.doc ≤ doc → group_count ps (field_text doc field []) ≡ (document_at doc d).num_tokens
+  pub begin : (doc : ℕ) → d.doc ≤ doc → begin_after ps (text_at doc field [] []) ≡ (document_at doc d).end_position
+  pub group : (doc : ℕ) → d.doc ≤ doc → group_count ps (text_at doc field [] []) ≡ (document_at doc d).num_tokens
   pub count : (doc : ℕ) → d.doc ≤ doc → min (doc_count doc field ts) u32_max ≡ (document_at doc d).norm
   pub norms : IfSome ids (HasNorms field ts d.doc)
 

@@ -9,6 +9,7 @@ use Rattle.ii_base.specs.declared.schema.index_record_option.IndexRecordOption.T
 use Rattle.ii_base.specs.declared.schema.value_type.ValueType.{ValueType}
 use Rattle.ii_base.specs.declared.schema.value_type.ValueType.TheVariants.{Str, U64, I64, Bool as Truth, Date, Bytes, Json, IpAddr}
 use Rattle.ii_base.specs.Schema.{Entry}
+use Rattle.ii_index.specs.JsonKeys.{is_json}
 use Rattle.ii_base.specs.Words.{Word}
 use Rattle.ii_recorder.specs.Recorded.{u32_max}
 use Rattle.ii_index.specs.Tokens.{IndexToken, Piece, kept_words, word_token}
@@ -17,11 +18,13 @@ use Rattle.ii_indexing.specs.IndexingContext.{AllEndBy, IsRecorded, TermIndex, r
 use Rattle.ii_indexing.specs.declared.indexing_position.IndexingPosition.{IndexingPosition}
 use Rattle.ii_indexing.specs.IndexingTerm.{IndexingTermState, field_bytes}
 use Rattle.ii_indexing.specs.Records.{Records}
-use Rattle.ii_indexing.specs.Refusals.{first_fault, gap_fault, u64_max, words_fault}
+use Rattle.ii_indexing.specs.Refusals.{gap_fault, u64_max, words_fault}
+use Rattle.ii_json.specs.LeafVisit.{first_fault}
 
--- What a postings writer keeps of a term, and how many tokens it had.
+-- What a postings writer keeps of a text's terms and of a value's, and how many tokens it had.
 pub record PostingsWriterState : Type 0 where
   pub option : IndexRecordOption
+  pub value_option : IndexRecordOption
   pub total_num_tokens : ℕ
 
 -- what is kept of a term: of a value that isn't text that it occurs, whatever the field records
@@ -38,9 +41,13 @@ kept_as IpAddr option = Basic
 abbrev pub kept_of : Entry → IndexRecordOption
 kept_of e = kept_as e.value_type e.option
 
+-- and of a term of a value there: in a JSON field that it occurs
+abbrev pub value_kept_of : Entry → IndexRecordOption
+value_kept_of e = if is_json e.value_type then Basic else kept_of e
+
 -- a writer of no tokens, by what a field keeps
 abbrev pub writer_of : Entry → PostingsWriterState
-writer_of e = record { option = kept_of e; total_num_tokens = 0 }
+writer_of e = record { option = kept_of e; value_option = value_kept_of e; total_num_tokens = 0 }
 
 abbrev pub writers_of : List Entry → List PostingsWriterState
 writers_of entries = map writer_of entries
@@ -53,11 +60,11 @@ tokens_counted n w = record w { total_num_tokens = w.total_num_tokens + n }
 abbrev pub term_token : ℕ → ℕ → Bool → IndexingTermState → IndexToken
 term_token doc position of_text term = record { doc = doc; field = term.field; key = term.value; position = position; of_text = of_text }
 
--- why a position can't be recorded under a term: the field has too many tokens, or what its recorder says
-abbrev pub subscribe_fault : PostingsWriterState → ℕ → ℕ → List ℕ → TermIndex → Option Fault
-subscribe_fault w doc position term terms =
-    if nat_le u64_max w.total_num_tokens then Some (Limit limit.Tokens)
-    else record_fault doc position (recorder_or_new w.option terms term)
+-- why a position can't be recorded under a term of which so much is kept: the field has too many tokens, or what its recorder says
+abbrev pub subscribe_fault : IndexRecordOption → ℕ → ℕ → ℕ → List ℕ → TermIndex → Option Fault
+subscribe_fault option num_tokens doc position term terms =
+    if nat_le u64_max num_tokens then Some (Limit limit.Tokens)
+    else record_fault doc position (recorder_or_new option terms term)
 
 -- What changes while the words of a text are indexed.
 pub record TextState : Type 0 where
@@ -86,7 +93,7 @@ abbrev pub kept_fault : Piece → ℕ → Word → TextState → Option Fault
 kept_fault p begin w s =
     if nat_lt u32_max (word_end begin w) then Some (Limit limit.Position)
     else if nat_le u32_max s.num_tokens then Some (Limit limit.Tokens)
-    else subscribe_fault s.writer p.doc (begin + w.position) (word_bytes p w) s.terms
+    else subscribe_fault s.writer.option s.writer.total_num_tokens p.doc (begin + w.position) (word_bytes p w) s.terms
 
 -- A word that is kept was indexed.
 pub record IndexesKept (p : Piece) (begin : ℕ) (w : Word) (old new : TextState) : Type 0 where

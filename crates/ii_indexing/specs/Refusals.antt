@@ -2,26 +2,19 @@
 use Rattle.std.specs.Prelude.{◌≡◌, ◌⊎◌, ℕ, ◌+◌, ◌-◌, ◌^◌, Bool, true, false, ◌||◌, ◌==◌, if◌then◌else◌, List, [], ◌∷◌, ◌++◌, length, nat_lt, nat_le, Option, None, Some, MatchResult, Result, unwrap_or}
 use Rattle.std.specs.List.{filter, find, flat_map}
 use Rattle.ii_io.specs.declared.faults.Fault.{Fault}
-use Rattle.ii_io.specs.declared.faults.Fault.TheVariants.{Limit, OutOfMemory}
+use Rattle.ii_io.specs.declared.faults.Fault.TheVariants.{Limit, OutOfMemory, UnsupportedLeaf}
 use Rattle.ii_io.specs.declared.faults.LimitName.TheVariants as limit
 use Rattle.ii_base.specs.declared.schema.index_record_option.IndexRecordOption.{IndexRecordOption}
+use Rattle.ii_base.specs.Json.{Leaf, text_leaf, unsupported, value_leaf}
 use Rattle.ii_base.specs.Words.{Word}
+use Rattle.ii_json.specs.LeafVisit.{IsRefusedBy, first_fault, leaves_fault}
 use Rattle.ii_docset.specs.Entries.{Entry}
 use Rattle.ii_recorder.specs.Recorded.{begun, position_fault, u32_max}
-use Rattle.ii_index.specs.Tokens.{Call, IndexToken, Piece, begin_after, call_pieces, end_after, is_same_group, kept_words, pieces_of, tokens_after, word_token}
+use Rattle.ii_index.specs.Tokens.{Call, Content, IndexToken, Piece, begin_after, content_pieces, end_after, is_same_group, kept_words, leaf_pieces, leaves, pieces_of, text, tokens_after, value, word_token, words}
 use Rattle.ii_index.specs.Postings.{field_count, key_postings}
 
 abbrev pub u64_max : ℕ
 u64_max = 2 ^ 64 - 1
-
--- the first of two faults
-abbrev pub first_fault : Option Fault → Option Fault → Option Fault
-first_fault None later = later
-first_fault (Some fault) later = Some fault
-
--- A call ends well where there is no cause to refuse it; else it is refused by that cause, or for want of memory.
-abbrev pub IsRefusedBy : {T : Type 0} → Option Fault → Result T Fault → Type 0
-IsRefusedBy cause result = MatchResult result (λ _. cause ≡ None) (λ e. (e ≡ OutOfMemory) ⊎ (cause ≡ Some e))
 
 -- how many kept words the earlier texts of a group have
 abbrev pub group_count : List Piece → Piece → ℕ
@@ -61,9 +54,26 @@ abbrev pub pieces_fault : IndexRecordOption → List Piece → List Piece → Op
 pieces_fault option earlier [] = None
 pieces_fault option earlier (p ∷ ps) = first_fault (piece_fault option earlier p) (pieces_fault option (earlier ++ p ∷ []) ps)
 
+-- why a leaf of a JSON value is refused after pieces: it can't be indexed, or what it gives is refused
+abbrev pub leaf_fault : (List ℕ → List Word) → IndexRecordOption → List Piece → ℕ → ℕ → List ℕ × Leaf → Option Fault
+leaf_fault analyze option earlier doc field (path, text_leaf t) = pieces_fault option earlier (leaf_pieces analyze doc field (path, text_leaf t))
+leaf_fault analyze option earlier doc field (path, value_leaf t n) = pieces_fault option earlier (leaf_pieces analyze doc field (path, value_leaf t n))
+leaf_fault analyze option earlier doc field (path, unsupported kind) = Some (UnsupportedLeaf kind)
+
+-- so it is with the leaf after some of the same value
+abbrev pub next_leaf_fault : (List ℕ → List Word) → IndexRecordOption → List Piece → ℕ → ℕ → List (List ℕ × Leaf) → List ℕ × Leaf → Option Fault
+next_leaf_fault analyze option earlier doc field before l = leaf_fault analyze option (earlier ++ flat_map (leaf_pieces analyze doc field) before) doc field l
+
+-- why a call is refused after pieces: by its one text or value, or by the first leaf that is
+abbrev pub content_fault : (List ℕ → List Word) → IndexRecordOption → List Piece → Call → Content → Option Fault
+content_fault analyze option earlier c (text t) = pieces_fault option earlier (content_pieces analyze c (text t))
+content_fault analyze option earlier c (words ws) = pieces_fault option earlier (content_pieces analyze c (words ws))
+content_fault analyze option earlier c (value key) = pieces_fault option earlier (content_pieces analyze c (value key))
+content_fault analyze option earlier c (leaves ls) = leaves_fault (next_leaf_fault analyze option earlier c.doc c.field) [] ls
+
 -- why a call is refused after earlier ones
 abbrev pub call_fault : (List ℕ → List Word) → IndexRecordOption → List Call → Call → Option Fault
-call_fault analyze option earlier c = pieces_fault option (pieces_of analyze earlier) (call_pieces analyze c)
+call_fault analyze option earlier c = content_fault analyze option (pieces_of analyze earlier) c c.content
 
 -- why calls are refused after earlier ones, the first fault of one after the other, each by what its field records
 abbrev pub calls_fault : (List ℕ → List Word) → (ℕ → IndexRecordOption) → List Call → List Call → Option Fault

@@ -1,7 +1,7 @@
 ghost use Rattle.std.specs.Prelude.{◌≡◌};
-ghost use Rattle.ii_indexing.specs.IndexCalls.{call_of, number_in};
+ghost use Rattle.ii_indexing.specs.IndexCalls.{doc_of, field_of, number_in};
 
-use ii_base::{FastValue, Field, TokenList};
+use ii_base::{FastValue, Field, JsonValue, TokenList};
 use ii_docset::DocId;
 
 /// What is to be indexed: a document, a field, and a value of the field's type.
@@ -21,12 +21,14 @@ pub enum IndexCall {
     Bytes(DocId, Field, Vec<u8>),
     /// An IP address.
     Ip(DocId, Field, u128),
+    /// A JSON value: its texts are cut by the analyzer, and stand with its other leaves under their paths.
+    Json(DocId, Field, JsonValue),
 }
 
 impl IndexCall {
     /// The document.
     pub fn doc(&self) -> DocId
-        ensures { result ≡ (call_of self.now).doc }
+        ensures { result ≡ doc_of self.now }
     {
         match self {
             IndexCall::Text(doc, _, _) => *doc,
@@ -36,6 +38,23 @@ impl IndexCall {
             IndexCall::Bool(doc, _, _) => *doc,
             IndexCall::Bytes(doc, _, _) => *doc,
             IndexCall::Ip(doc, _, _) => *doc,
+            IndexCall::Json(doc, _, _) => *doc,
+        }
+    }
+
+    /// The field.
+    pub fn field(&self) -> Field
+        ensures { result ≡ field_of self.now }
+    {
+        match self {
+            IndexCall::Text(_, field, _) => *field,
+            IndexCall::Tokens(_, field, _) => *field,
+            IndexCall::U64(_, field, _) => *field,
+            IndexCall::I64(_, field, _) => *field,
+            IndexCall::Bool(_, field, _) => *field,
+            IndexCall::Bytes(_, field, _) => *field,
+            IndexCall::Ip(_, field, _) => *field,
+            IndexCall::Json(_, field, _) => *field,
         }
     }
 

@@ -5,7 +5,8 @@ ghost use Rattle.ii_index.specs.Tokens.{tokens_of};
 ghost use Rattle.ii_indexing.specs.IndexCalls.{MayAllBeIndexed, call_of};
 ghost use Rattle.ii_indexing.specs.IndexFiles.{CountsIndexFailures, FilesGrow, IsWriteFault, WroteIndex};
 ghost use Rattle.ii_indexing.specs.Indexer.{Stores};
-ghost use Rattle.ii_indexing.specs.Refusals.{IsRefusedBy, calls_fault};
+ghost use Rattle.ii_indexing.specs.Refusals.{calls_fault};
+ghost use Rattle.ii_json.specs.LeafVisit.{IsRefusedBy};
 
 use crate::index_call::IndexCall;
 use crate::indexer::Indexer;
@@ -44,13 +45,13 @@ pub fn write_index<A: TextAnalyzer, W: Write>(
 ) -> (IndexWriters<W>, Result<(), Fault>)
     requires docs { num_docs ≤ TERMINATED }
     requires calls { MayAllBeIndexed schema num_docs calls.items }
-    ensures wrote { OnOk result.1 (WroteIndex schema num_docs writers result.0 (tokens_of (A.words analyzer.now) (map call_of calls.items))) }
+    ensures wrote { OnOk result.1 (WroteIndex schema num_docs writers result.0 (tokens_of (A.words analyzer.now) (map (call_of schema) calls.items))) }
     ensures failures { CountsIndexFailures writers result.0 result.1 }
     ensures grow { FilesGrow writers result.0 }
-    ensures refused { IfSome (calls_fault (A.words analyzer.now) (option_of schema) [] (map call_of calls.items))
+    ensures refused { IfSome (calls_fault (A.words analyzer.now) (option_of schema) [] (map (call_of schema) calls.items))
         (λ fault. ((result.1 ≡ Err fault) ⊎ (result.1 ≡ Err Fault.OutOfMemory)) × (result.0 ≡ writers)) }
-    ensures fault { calls_fault (A.words analyzer.now) (option_of schema) [] (map call_of calls.items) ≡ None
-        → IfErr result.1 (λ e. (e ≡ Fault.OutOfMemory) ⊎ IsWriteFault schema num_docs writers (tokens_of (A.words analyzer.now) (map call_of calls.items)) e) }
+    ensures fault { calls_fault (A.words analyzer.now) (option_of schema) [] (map (call_of schema) calls.items) ≡ None
+        → IfErr result.1 (λ e. (e ≡ Fault.OutOfMemory) ⊎ IsWriteFault schema num_docs writers (tokens_of (A.words analyzer.now) (map (call_of schema) calls.items)) e) }
 {
     match index_calls(alloc, schema, num_docs, calls, analyzer) {
         Ok(indexer) => indexer.finish(writers),
@@ -68,9 +69,9 @@ fn index_calls<A: TextAnalyzer>(
 ) -> Result<Indexer, Fault>
     requires docs { num_docs ≤ TERMINATED }
     requires calls { MayAllBeIndexed schema num_docs calls.items }
-    ensures stored { IfOk result (λ i. Stores (A.words analyzer.now) i (map call_of calls.items)) }
+    ensures stored { IfOk result (λ i. Stores (A.words analyzer.now) i (map (call_of schema) calls.items)) }
     ensures rest { IfOk result (λ i. (i.schema ≡ schema) × (i.num_docs ≡ num_docs) × (i.failed ≡ false)) }
-    ensures refused { IsRefusedBy (calls_fault (A.words analyzer.now) (option_of schema) [] (map call_of calls.items)) result }
+    ensures refused { IsRefusedBy (calls_fault (A.words analyzer.now) (option_of schema) [] (map (call_of schema) calls.items)) result }
 {
     let mut indexer = Indexer::new(alloc, schema, num_docs)?;
     for call in calls {

@@ -1,33 +1,49 @@
-ghost use Rattle.std.specs.Prelude.{◌≡◌, ◌<◌, ◌≤◌, ◌^◌, ◌∷◌, ◌++◌, [], List, ℕ, length, map, string_bytes, IfErr, IfOk, OnErr, OnOk};
+ghost use Rattle.std.specs.Prelude.{◌≡◌, ◌<◌, ◌≤◌, ◌^◌, ◌∷◌, ◌++◌, [], List, ℕ, true, false, bytes_eq, length, map, IfErr, IfOk, OnErr, OnOk};
 ghost use Rattle.ii_base.specs.Schema.{Entry, keeps_norms};
-ghost use Rattle.ii_base.specs.declared.schema.index_record_option.IndexRecordOption.TheVariants.{Basic};
 ghost use Rattle.ii_docset.specs.declared.docset.TheConstants.{TERMINATED};
-ghost use Rattle.ii_index.specs.Tokens.{IndexToken, Piece, call_pieces};
+ghost use Rattle.ii_index.specs.Tokens.{IndexToken, Piece, call_pieces, text_at, value_at};
 ghost use Rattle.ii_index.specs.Fields.{option_of};
-ghost use Rattle.ii_indexing.specs.IndexCalls.{Takes, call_of, type_of};
-ghost use Rattle.ii_indexing.specs.IndexedTerms.{field_text, field_value, kept_in, key_of};
+ghost use Rattle.ii_base.specs.Paths.{has_zero};
+ghost use Rattle.ii_base.specs.Values.{json_key, text_key, typed_key};
+ghost use Rattle.ii_base.specs.declared.schema.value_type.ValueType.TheVariants.{Json};
+ghost use Rattle.ii_json.specs.LeafVisit.{is_number_type};
+ghost use Rattle.ii_indexing.specs.IndexCalls.{Takes, call_with, content_of, doc_of, field_of, type_of};
+ghost use Rattle.ii_indexing.specs.FieldValues.{key_of};
+ghost use Rattle.ii_indexing.specs.IndexedTerms.{TakesTexts, TakesValue};
 ghost use Rattle.ii_indexing.specs.FieldParts.{AreShortNorms};
 ghost use Rattle.ii_indexing.specs.Indexer.{EndsAt, StoresPieces, StoresSome};
 ghost use Rattle.ii_indexing.specs.Norms.{HoldNorms};
 ghost use Rattle.ii_indexing.specs.OpenDocuments.{TellsAll, with_norms};
-ghost use Rattle.ii_indexing.specs.Refusals.{IsRefusedBy, piece_fault, pieces_fault};
+ghost use Rattle.ii_indexing.specs.Refusals.{content_fault, piece_fault};
+ghost use Rattle.ii_json.specs.LeafVisit.{IsRefusedBy};
 
 use crate::finished_fields::FinishedFields;
 use crate::index_call::IndexCall;
-use crate::indexed_terms::{FieldValue, IndexedTerms};
+use crate::indexed_terms::IndexedTerms;
 use crate::indexing_position::IndexingPosition;
+use crate::json_utils::{index_json_value, text_prefix, value_key};
 use crate::open_documents::{OpenDocument, OpenDocuments};
-use ii_base::{Fault, Field, Schema, TextAnalyzer, TokenList};
+use crate::open_paths::OpenPaths;
+use ii_base::{Fault, Field, JsonValue, Schema, TextAnalyzer, TokenList, ValueType};
 use ii_docset::DocId;
 use ii_fieldnorm::FieldNormReaders;
 use std::alloc::Global;
 use std::marker::Model;
+
+/// A value that isn't text; a number or a truth value is the number of 64 bits that stands for it.
+#[derive(Drop)]
+enum FieldValue {
+    Number(u64),
+    Bytes(Vec<u8>),
+    Ip(u128),
+}
 
 /// The terms of all fields of a schema, and the open document of each.
 #[derive(Drop)]
 pub(crate) struct IndexedFields {
     terms: IndexedTerms,
     documents: OpenDocuments,
+    paths: OpenPaths,
 }
 
 impl Model for IndexedFields {
@@ -35,7 +51,7 @@ impl Model for IndexedFields {
 
     ghost Value = { IndexedFieldsState };
 
-    ghost view = { λ f. record { indexed = f.terms; opened = f.documents } };
+    ghost view = { λ f. record { indexed = f.terms; opened = f.documents; paths = f.paths } };
 }
 
 impl IndexedFields {
@@ -51,26 +67,28 @@ impl IndexedFields {
         Ok(IndexedFields {
             terms: IndexedTerms::new(alloc, schema)?,
             documents: OpenDocuments::new(alloc, schema)?,
+            paths: OpenPaths::new(alloc, schema)?,
         })
     }
 
-    // Indexes a call.
+    // Indexes a call to a field where the dots of keys are expanded or not.
     pub(crate) fn index_call<A: TextAnalyzer>(
         &mut self,
         alloc: Global,
         call: IndexCall,
+        expand_dots: bool,
         analyzer: &A,
     ) -> Result<(), Fault>
-        requires low { (call_of call).doc < TERMINATED }
-        requires known { (call_of call).field < length self.old.indexed.writers }
-        requires ends { EndsAt (call_of call).doc self.old }
-        ensures stored { OnOk result ((entries : List Entry) (ps : List Piece) → Takes entries (call_of call).field (type_of call) → StoresPieces entries self.old ps
-            → StoresPieces entries self.new (ps ++ call_pieces (A.words analyzer.now) (call_of call))) }
-        ensures ends { OnOk result (EndsAt (call_of call).doc self.new) }
+        requires low { doc_of call < TERMINATED }
+        requires known { field_of call < length self.old.indexed.writers }
+        requires ends { EndsAt (doc_of call) self.old }
+        ensures stored { OnOk result ((entries : List Entry) (ps : List Piece) → Takes entries (field_of call) (type_of call) → StoresPieces entries self.old ps
+            → StoresPieces entries self.new (ps ++ call_pieces (A.words analyzer.now) (call_with expand_dots call))) }
+        ensures ends { OnOk result (EndsAt (doc_of call) self.new) }
         ensures fields { OnOk result (length self.new.indexed.writers ≡ length self.old.indexed.writers) }
         ensures norms { OnOk result (with_norms self.new.opened.norms ≡ with_norms self.old.opened.norms) }
-        ensures refused { (entries : List Entry) (ps : List Piece) → Takes entries (call_of call).field (type_of call) → StoresPieces entries self.old ps
-            → IsRefusedBy (pieces_fault (option_of entries (call_of call).field) ps (call_pieces (A.words analyzer.now) (call_of call))) result }
+        ensures refused { (entries : List Entry) (ps : List Piece) → Takes entries (field_of call) (type_of call) → StoresPieces entries self.old ps
+            → IsRefusedBy (content_fault (A.words analyzer.now) (option_of entries (field_of call)) ps (call_with expand_dots call) (content_of expand_dots call)) result }
     {
         let number = call.number();
         match call {
@@ -80,19 +98,22 @@ impl IndexedFields {
             }
             IndexCall::Tokens(doc, field, tokens) => self.index_words(doc, field, tokens),
             IndexCall::U64(doc, field, _) => {
-                self.index_value(doc, field, FieldValue::Number(number))
+                self.index_field_value(doc, field, FieldValue::Number(number))
             }
             IndexCall::I64(doc, field, _) => {
-                self.index_value(doc, field, FieldValue::Number(number))
+                self.index_field_value(doc, field, FieldValue::Number(number))
             }
             IndexCall::Bool(doc, field, _) => {
-                self.index_value(doc, field, FieldValue::Number(number))
+                self.index_field_value(doc, field, FieldValue::Number(number))
             }
             IndexCall::Bytes(doc, field, bytes) => {
-                self.index_value(doc, field, FieldValue::Bytes(bytes))
+                self.index_field_value(doc, field, FieldValue::Bytes(bytes))
             }
             IndexCall::Ip(doc, field, address) => {
-                self.index_value(doc, field, FieldValue::Ip(address))
+                self.index_field_value(doc, field, FieldValue::Ip(address))
+            }
+            IndexCall::Json(doc, field, value) => {
+                index_json_value(alloc, self, doc, field, &value, expand_dots, analyzer)
             }
         }
     }
@@ -115,7 +136,11 @@ impl IndexedFields {
         ensures short { IfOk result (λ f. AreShortNorms f.readers) }
         ensures only { IfErr result (λ e. e ≡ Fault.OutOfMemory) }
     {
-        let IndexedFields { terms, documents } = self;
+        let IndexedFields {
+            terms,
+            documents,
+            paths: _,
+        } = self;
         let norms = documents.finish(alloc, num_docs)?;
         let readers = FieldNormReaders::open(alloc, norms.clone()?)?;
         Ok(FinishedFields {
@@ -131,11 +156,11 @@ impl IndexedFields {
         requires low { doc < TERMINATED }
         requires known { field < length self.old.indexed.writers }
         requires ends { EndsAt doc self.old }
-        ensures stored { OnOk result ((entries : List Entry) (ps : List Piece) → field < length entries → kept_in entries field ≡ option_of entries field → StoresPieces entries self.old ps → StoresPieces entries self.new (ps ++ field_text doc field tokens.to_come ∷ [])) }
+        ensures stored { OnOk result ((entries : List Entry) (ps : List Piece) → TakesTexts entries field [] → StoresPieces entries self.old ps → StoresPieces entries self.new (ps ++ text_at doc field [] tokens.to_come ∷ [])) }
         ensures ends { OnOk result (EndsAt doc self.new) }
         ensures fields { OnOk result (length self.new.indexed.writers ≡ length self.old.indexed.writers) }
         ensures norms { OnOk result (with_norms self.new.opened.norms ≡ with_norms self.old.opened.norms) }
-        ensures refused { (entries : List Entry) (ps : List Piece) → field < length entries → StoresPieces entries self.old ps → IsRefusedBy (piece_fault (kept_in entries field) ps (field_text doc field tokens.to_come)) result }
+        ensures refused { (entries : List Entry) (ps : List Piece) → TakesTexts entries field [] → StoresPieces entries self.old ps → IsRefusedBy (piece_fault (option_of entries field) ps (text_at doc field [] tokens.to_come)) result }
     {
         let mut tokens = tokens;
         let open = self.documents.open(doc, field)?;
@@ -144,7 +169,7 @@ impl IndexedFields {
             end_position: open.end_position,
         };
         self.terms
-            .index_text(doc, field, &mut tokens, &mut position)?;
+            .index_text(doc, field, &[], &mut tokens, &mut position)?;
         let document = OpenDocument {
             doc,
             num_tokens: position.num_tokens,
@@ -157,21 +182,135 @@ impl IndexedFields {
         Ok(())
     }
 
-    // Indexes a value.
-    fn index_value(&mut self, doc: DocId, field: Field, value: FieldValue) -> Result<(), Fault>
+    // Indexes the words of a list that are still to come, under keys with a prefix.
+    fn index_words_under(
+        &mut self,
+        alloc: Global,
+        doc: DocId,
+        field: Field,
+        prefix: &[u8],
+        tokens: TokenList,
+    ) -> Result<(), Fault>
         requires low { doc < TERMINATED }
         requires known { field < length self.old.indexed.writers }
         requires ends { EndsAt doc self.old }
-        ensures stored { OnOk result ((entries : List Entry) (ps : List Piece) → field < length entries → kept_in entries field ≡ Basic → StoresPieces entries self.old ps
-            → StoresPieces entries self.new (ps ++ field_value doc field (key_of value) ∷ [])) }
+        requires some { bytes_eq prefix.now [] ≡ false }
+        ensures stored { OnOk result ((entries : List Entry) (ps : List Piece) → TakesTexts entries field prefix.now → StoresPieces entries self.old ps
+            → StoresPieces entries self.new (ps ++ text_at doc field prefix.now tokens.to_come ∷ [])) }
         ensures ends { OnOk result (EndsAt doc self.new) }
         ensures fields { OnOk result (length self.new.indexed.writers ≡ length self.old.indexed.writers) }
         ensures norms { OnOk result (with_norms self.new.opened.norms ≡ with_norms self.old.opened.norms) }
-        ensures refused { (entries : List Entry) (ps : List Piece) → field < length entries → kept_in entries field ≡ Basic → StoresPieces entries self.old ps
-            → IsRefusedBy (piece_fault (kept_in entries field) ps (field_value doc field (key_of value))) result }
+        ensures refused { (entries : List Entry) (ps : List Piece) → TakesTexts entries field prefix.now → StoresPieces entries self.old ps
+            → IsRefusedBy (piece_fault (option_of entries field) ps (text_at doc field prefix.now tokens.to_come)) result }
+    {
+        let mut tokens = tokens;
+        let open = self.documents.open(doc, field)?;
+        let mut position = self.paths.open(doc, field, prefix);
+        let num_tokens = position.num_tokens;
+        self.terms
+            .index_text(doc, field, prefix, &mut tokens, &mut position)?;
+        let document = OpenDocument {
+            doc,
+            num_tokens: open.num_tokens,
+            end_position: open.end_position,
+            norm: open.norm.saturating_add(position.num_tokens - num_tokens),
+        };
+        self.documents.put(field, document);
+        self.paths.put(alloc, field, prefix, position)
+    }
+
+    // Indexes the words of a text at a path of a JSON field, which holds no byte 0.
+    pub(crate) fn index_text_at(
+        &mut self,
+        alloc: Global,
+        doc: DocId,
+        field: Field,
+        path: &str,
+        tokens: TokenList,
+    ) -> Result<(), Fault>
+        requires low { doc < TERMINATED }
+        requires known { field < length self.old.indexed.writers }
+        requires ends { EndsAt doc self.old }
+        requires path { has_zero path.now ≡ false }
+        ensures stored { OnOk result ((entries : List Entry) (ps : List Piece) → Takes entries field Json → StoresPieces entries self.old ps
+            → StoresPieces entries self.new (ps ++ text_at doc field (json_key path.now (text_key [])) tokens.to_come ∷ [])) }
+        ensures ends { OnOk result (EndsAt doc self.new) }
+        ensures fields { OnOk result (length self.new.indexed.writers ≡ length self.old.indexed.writers) }
+        ensures norms { OnOk result (with_norms self.new.opened.norms ≡ with_norms self.old.opened.norms) }
+        ensures refused { (entries : List Entry) (ps : List Piece) → Takes entries field Json → StoresPieces entries self.old ps
+            → IsRefusedBy (piece_fault (option_of entries field) ps (text_at doc field (json_key path.now (text_key [])) tokens.to_come)) result }
+    {
+        let prefix = text_prefix(alloc, path)?;
+        self.index_words_under(alloc, doc, field, &prefix, tokens)
+    }
+
+    // Indexes a number at a path of a JSON field, which holds no byte 0.
+    pub(crate) fn index_number_at(
+        &mut self,
+        alloc: Global,
+        doc: DocId,
+        field: Field,
+        path: &str,
+        value_type: ValueType,
+        number: u64,
+    ) -> Result<(), Fault>
+        requires low { doc < TERMINATED }
+        requires known { field < length self.old.indexed.writers }
+        requires ends { EndsAt doc self.old }
+        requires path { has_zero path.now ≡ false }
+        requires number { is_number_type value_type ≡ true }
+        ensures stored { OnOk result ((entries : List Entry) (ps : List Piece) → Takes entries field Json → StoresPieces entries self.old ps
+            → StoresPieces entries self.new (ps ++ value_at doc field (json_key path.now (typed_key value_type number)) ∷ [])) }
+        ensures ends { OnOk result (EndsAt doc self.new) }
+        ensures fields { OnOk result (length self.new.indexed.writers ≡ length self.old.indexed.writers) }
+        ensures norms { OnOk result (with_norms self.new.opened.norms ≡ with_norms self.old.opened.norms) }
+        ensures refused { (entries : List Entry) (ps : List Piece) → Takes entries field Json → StoresPieces entries self.old ps
+            → IsRefusedBy (piece_fault (option_of entries field) ps (value_at doc field (json_key path.now (typed_key value_type number)))) result }
+    {
+        let key = value_key(alloc, path, value_type, number)?;
+        self.index_value(doc, field, &key)
+    }
+
+    // Indexes a value that isn't text.
+    fn index_field_value(
+        &mut self,
+        doc: DocId,
+        field: Field,
+        value: FieldValue,
+    ) -> Result<(), Fault>
+        requires low { doc < TERMINATED }
+        requires known { field < length self.old.indexed.writers }
+        requires ends { EndsAt doc self.old }
+        ensures stored { OnOk result ((entries : List Entry) (ps : List Piece) → TakesValue entries field (key_of value) → StoresPieces entries self.old ps
+            → StoresPieces entries self.new (ps ++ value_at doc field (key_of value) ∷ [])) }
+        ensures ends { OnOk result (EndsAt doc self.new) }
+        ensures fields { OnOk result (length self.new.indexed.writers ≡ length self.old.indexed.writers) }
+        ensures norms { OnOk result (with_norms self.new.opened.norms ≡ with_norms self.old.opened.norms) }
+        ensures refused { (entries : List Entry) (ps : List Piece) → TakesValue entries field (key_of value) → StoresPieces entries self.old ps
+            → IsRefusedBy (piece_fault (option_of entries field) ps (value_at doc field (key_of value))) result }
+    {
+        match value {
+            FieldValue::Number(number) => self.index_value(doc, field, &number.to_be_bytes()),
+            FieldValue::Bytes(bytes) => self.index_value(doc, field, &bytes),
+            FieldValue::Ip(address) => self.index_value(doc, field, &address.to_be_bytes()),
+        }
+    }
+
+    // Indexes a value under its key.
+    fn index_value(&mut self, doc: DocId, field: Field, key: &[u8]) -> Result<(), Fault>
+        requires low { doc < TERMINATED }
+        requires known { field < length self.old.indexed.writers }
+        requires ends { EndsAt doc self.old }
+        ensures stored { OnOk result ((entries : List Entry) (ps : List Piece) → TakesValue entries field key.now → StoresPieces entries self.old ps
+            → StoresPieces entries self.new (ps ++ value_at doc field key.now ∷ [])) }
+        ensures ends { OnOk result (EndsAt doc self.new) }
+        ensures fields { OnOk result (length self.new.indexed.writers ≡ length self.old.indexed.writers) }
+        ensures norms { OnOk result (with_norms self.new.opened.norms ≡ with_norms self.old.opened.norms) }
+        ensures refused { (entries : List Entry) (ps : List Piece) → TakesValue entries field key.now → StoresPieces entries self.old ps
+            → IsRefusedBy (piece_fault (option_of entries field) ps (value_at doc field key.now)) result }
     {
         let open = self.documents.open(doc, field)?;
-        self.terms.index_value(doc, field, value)?;
+        self.terms.index_value(doc, field, key)?;
         let document = OpenDocument {
             doc,
             num_tokens: open.num_tokens,

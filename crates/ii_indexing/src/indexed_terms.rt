@@ -1,17 +1,16 @@
 ghost use Rattle.std.specs.Prelude.{◌≡◌, ◌<◌, ◌+◌, ◌∷◌, ◌++◌, ◌⊎◌, ◌^◌, [], List, ℕ, true, false, length, IfErr, IfOk, OnErr, OnOk};
 ghost use Rattle.ii_io.specs.CountingWriter.{Grows};
 ghost use Rattle.ii_base.specs.Schema.{Entry};
-ghost use Rattle.ii_base.specs.declared.schema.index_record_option.IndexRecordOption.TheVariants.{Basic};
 ghost use Rattle.ii_docset.specs.declared.docset.TheConstants.{TERMINATED};
 ghost use Rattle.ii_index.specs.Fields.{option_of};
-ghost use Rattle.ii_index.specs.Tokens.{IndexToken, end_after, kept_words, piece_tokens_from, value_token};
-ghost use Rattle.ii_indexing.specs.IndexedTerms.{StoresTokens, field_text, field_value, kept_in, key_of, value_fault};
+ghost use Rattle.ii_index.specs.Tokens.{IndexToken, end_after, kept_words, piece_tokens_from, text_at, value_at, value_token};
+ghost use Rattle.ii_indexing.specs.IndexedTerms.{StoresTokens, TakesTexts, TakesValue, value_fault};
 ghost use Rattle.ii_indexing.specs.FieldParts.{AreShortNorms, HasFields};
 ghost use Rattle.ii_indexing.specs.HeldBodies.{HaveTokens};
 ghost use Rattle.ii_indexing.specs.IndexFiles.{ClosedFiles, CountsIndexFailures, CountsThreeFailures, FilesGrow, FillTables, PassLimits, WroteTermFiles};
 ghost use Rattle.ii_indexing.specs.IndexingContext.{AllEndBy};
 ghost use Rattle.ii_indexing.specs.PostingsWriter.{text_fault, writers_of};
-ghost use Rattle.ii_indexing.specs.Refusals.{IsRefusedBy};
+ghost use Rattle.ii_json.specs.LeafVisit.{IsRefusedBy};
 ghost use Rattle.ii_indexing.specs.SortedTerms.{AllMayBeWritten};
 ghost use Rattle.ii_indexing.specs.WriteFaults.{IsContextFault};
 
@@ -29,14 +28,6 @@ use ii_recorder::InvertedIndexSerializer;
 use std::alloc::Global;
 use std::io::Write;
 use std::marker::Model;
-
-/// A value that isn't text; a number or a truth value is the number of 64 bits that stands for it.
-#[derive(Drop)]
-pub(crate) enum FieldValue {
-    Number(u64),
-    Bytes(Vec<u8>),
-    Ip(u128),
-}
 
 /// The terms of all fields, with the writer of each field and a term that is used again and again.
 #[derive(Drop)]
@@ -67,51 +58,48 @@ impl IndexedTerms {
         })
     }
 
-    // Indexes the words of a text of a field.
+    // Indexes the words of a text of a field, which stand under keys with a prefix.
     pub(crate) fn index_text<S: TokenStream>(
         &mut self,
         doc: DocId,
         field: Field,
+        prefix: &[u8],
         token_stream: &mut S,
         position: &mut IndexingPosition,
     ) -> Result<(), Fault>
         requires low { doc < TERMINATED }
         requires known { field < length self.old.writers }
         requires ends { AllEndBy doc self.old.terms }
-        ensures stored { OnOk result ((entries : List Entry) (ts : List IndexToken) → field < length entries → kept_in entries field ≡ option_of entries field → StoresTokens entries self.old ts
-            → StoresTokens entries self.new (ts ++ piece_tokens_from true position.old.end_position (field_text doc field (S.to_come token_stream.old)))) }
+        ensures stored { OnOk result ((entries : List Entry) (ts : List IndexToken) → TakesTexts entries field prefix.now → StoresTokens entries self.old ts
+            → StoresTokens entries self.new (ts ++ piece_tokens_from true position.old.end_position (text_at doc field prefix.now (S.to_come token_stream.old)))) }
         ensures ends { OnOk result (AllEndBy doc self.new.terms) }
         ensures fields { length self.new.writers ≡ length self.old.writers }
         ensures num_tokens { OnOk result (position.new.num_tokens ≡ position.old.num_tokens + length (kept_words (S.to_come token_stream.old))) }
         ensures end_position { OnOk result (position.new.end_position ≡ end_after position.old.end_position (S.to_come token_stream.old)) }
-        ensures refused { (entries : List Entry) (ts : List IndexToken) → field < length entries → StoresTokens entries self.old ts
-            → IsRefusedBy (text_fault (kept_in entries field) (field_text doc field (S.to_come token_stream.old)) position.old ts) result }
+        ensures refused { (entries : List Entry) (ts : List IndexToken) → TakesTexts entries field prefix.now → StoresTokens entries self.old ts
+            → IsRefusedBy (text_fault (option_of entries field) (text_at doc field prefix.now (S.to_come token_stream.old)) position.old ts) result }
     {
         self.term.clear_with_field(field);
+        self.term.set_bytes(prefix)?;
         let writer = self.writers.get_for_field_mut(field);
         writer.index_text(doc, token_stream, &mut self.term, &mut self.ctx, position)
     }
 
-    // Indexes a value of a field.
-    pub(crate) fn index_value(
-        &mut self,
-        doc: DocId,
-        field: Field,
-        value: FieldValue,
-    ) -> Result<(), Fault>
+    // Indexes a value of a field under its key.
+    pub(crate) fn index_value(&mut self, doc: DocId, field: Field, key: &[u8]) -> Result<(), Fault>
         requires low { doc < TERMINATED }
         requires known { field < length self.old.writers }
         requires ends { AllEndBy doc self.old.terms }
-        ensures stored { OnOk result ((entries : List Entry) (ts : List IndexToken) → field < length entries → kept_in entries field ≡ Basic → StoresTokens entries self.old ts
-            → StoresTokens entries self.new (ts ++ value_token (field_value doc field (key_of value)) ∷ [])) }
+        ensures stored { OnOk result ((entries : List Entry) (ts : List IndexToken) → TakesValue entries field key.now → StoresTokens entries self.old ts
+            → StoresTokens entries self.new (ts ++ value_token (value_at doc field key.now) ∷ [])) }
         ensures ends { OnOk result (AllEndBy doc self.new.terms) }
         ensures fields { length self.new.writers ≡ length self.old.writers }
-        ensures refused { (entries : List Entry) (ts : List IndexToken) → field < length entries → kept_in entries field ≡ Basic → StoresTokens entries self.old ts
+        ensures refused { (entries : List Entry) (ts : List IndexToken) → TakesValue entries field key.now → StoresTokens entries self.old ts
             → IsRefusedBy (value_fault field ts) result }
     {
         let _field = field.field_id();
         self.term.clear_with_field(field);
-        set_value(&mut self.term, value)?;
+        self.term.set_bytes(key)?;
         let writer = self.writers.get_for_field_mut(field);
         writer.subscribe(doc, 0, &self.term, &mut self.ctx)
     }
@@ -209,18 +197,5 @@ fn write_files<W: Write>(
             let (terms, postings, positions) = serializer.into_writers();
             (terms, postings, positions, Err(fault))
         }
-    }
-}
-
-// Sets the value of a term.
-fn set_value(term: &mut IndexingTerm, value: FieldValue) -> Result<(), Fault>
-    ensures ok { OnOk result (term.new ≡ record term.old { value = key_of value }) }
-    ensures err { OnErr result (term.new ≡ term.old) }
-    ensures only { IfErr result (λ e. e ≡ Fault.OutOfMemory) }
-{
-    match value {
-        FieldValue::Number(number) => term.set_u64(number),
-        FieldValue::Bytes(bytes) => term.set_bytes(&bytes),
-        FieldValue::Ip(address) => term.set_ip_addr(address),
     }
 }

@@ -4,14 +4,15 @@ ghost use Rattle.ii_index.specs.Fields.{option_of};
 ghost use Rattle.ii_base.specs.Words.{Word};
 ghost use Rattle.ii_index.specs.Tokens.{Call, tokens_of};
 ghost use Rattle.ii_indexing.specs.IndexFiles.{CountsIndexFailures, FilesGrow, IsIndexFault, WroteIndex};
-ghost use Rattle.ii_indexing.specs.IndexCalls.{Takes, call_of, type_of};
+ghost use Rattle.ii_indexing.specs.IndexCalls.{Takes, call_of, doc_of, expands_dots_in, field_of, type_of};
 ghost use Rattle.ii_indexing.specs.Indexer.{IndexerState, StoresPieces, Stores};
-ghost use Rattle.ii_indexing.specs.Refusals.{IsRefusedBy, call_fault};
+ghost use Rattle.ii_indexing.specs.Refusals.{call_fault};
+ghost use Rattle.ii_json.specs.LeafVisit.{IsRefusedBy};
 
 use crate::index_call::IndexCall;
 use crate::index_writers::IndexWriters;
 use crate::indexed_fields::IndexedFields;
-use ii_base::{Fault, Schema, TextAnalyzer};
+use ii_base::{Fault, Field, Schema, TextAnalyzer};
 use ii_docset::DocId;
 use std::alloc::Global;
 use std::io::Write;
@@ -72,31 +73,32 @@ impl Indexer {
     /// Indexes a call, whose document isn't below the one before and is one of the indexer's, and whose
     /// field is indexed and has values of its type.
     ///
-    /// The faults are those of the definitions (`call_fault`), for a text word by word: `Limit(Position)`
-    /// where it starts or ends above `u32::MAX`, `Limit(Tokens)` for more than `u32::MAX` tokens of the
-    /// texts of a document in a field or more than `u64::MAX` of a field, `Limit(Position)` at position
-    /// `u32::MAX`, `DecreasingPosition` below the last position of the term in the document,
-    /// `Limit(Count)` for more than `u32::MAX` of them; and `Limit(Position)` where the gap after the text
-    /// ends above `u32::MAX`. `OutOfMemory` where there is no room. After a fault each call is
-    /// `IndexerFailed`, and nothing changes.
+    /// The faults are those of the definitions (`call_fault`), for a JSON value leaf by leaf, for a text word
+    /// by word: `Limit(Position)` where it starts or ends above `u32::MAX`, `Limit(Tokens)` for more than
+    /// `u32::MAX` tokens of the texts of a document in a field, or at a path of it, or more than `u64::MAX`
+    /// of a field, `Limit(Position)` at position `u32::MAX`, `DecreasingPosition` below the last position of
+    /// the term in the document, `Limit(Count)` for more than `u32::MAX` of them; and `Limit(Position)` where
+    /// the gap after the text ends above `u32::MAX`; `UnsupportedLeaf` for a leaf that can't be indexed.
+    /// `OutOfMemory` where there is no room. After a fault each call is `IndexerFailed`, and nothing changes.
     pub fn index<A: TextAnalyzer>(&mut self, call: IndexCall, analyzer: &A) -> Result<(), Fault>
-        requires order { self.old.failed ≡ false → self.old.last_doc ≤ (call_of call).doc }
-        requires below { self.old.failed ≡ false → (call_of call).doc < self.old.num_docs }
-        requires takes { self.old.failed ≡ false → Takes self.old.schema (call_of call).field (type_of call) }
-        ensures stored { OnOk result ((calls : List Call) → Stores (A.words analyzer.now) self.old calls → Stores (A.words analyzer.now) self.new (calls ++ call_of call ∷ [])) }
-        ensures rest { OnOk result ((self.new.schema ≡ self.old.schema) × (self.new.num_docs ≡ self.old.num_docs) × (self.new.last_doc ≡ (call_of call).doc) × (self.new.failed ≡ false)) }
+        requires order { self.old.failed ≡ false → self.old.last_doc ≤ doc_of call }
+        requires below { self.old.failed ≡ false → doc_of call < self.old.num_docs }
+        requires takes { self.old.failed ≡ false → Takes self.old.schema (field_of call) (type_of call) }
+        ensures stored { OnOk result ((calls : List Call) → Stores (A.words analyzer.now) self.old calls → Stores (A.words analyzer.now) self.new (calls ++ call_of self.old.schema call ∷ [])) }
+        ensures rest { OnOk result ((self.new.schema ≡ self.old.schema) × (self.new.num_docs ≡ self.old.num_docs) × (self.new.last_doc ≡ doc_of call) × (self.new.failed ≡ false)) }
         ensures refused { self.old.failed ≡ false → (calls : List Call) → Stores (A.words analyzer.now) self.old calls
-            → IsRefusedBy (call_fault (A.words analyzer.now) (option_of self.old.schema (call_of call).field) calls (call_of call)) result }
+            → IsRefusedBy (call_fault (A.words analyzer.now) (option_of self.old.schema (field_of call)) calls (call_of self.old.schema call)) result }
         ensures fails { OnErr result (self.new.failed ≡ true) }
         ensures failed { self.old.failed ≡ true → (result ≡ Err Fault.IndexerFailed) × (self.new ≡ self.old) }
     {
         if self.failed {
             return Err(Fault::IndexerFailed);
         }
+        let expand_dots = expands_dots(&self.schema, call.field());
         self.failed = true;
         let doc = call.doc();
         let alloc = self.alloc;
-        self.fields.index_call(alloc, call, analyzer)?;
+        self.fields.index_call(alloc, call, expand_dots, analyzer)?;
         self.last_doc = doc;
         self.failed = false;
         Ok(())
@@ -134,4 +136,12 @@ impl Indexer {
             Err(fault) => (writers, Err(fault)),
         }
     }
+}
+
+// Whether the dots of keys are expanded in a field of a schema.
+fn expands_dots(schema: &Schema, field: Field) -> bool
+    requires { field < length schema.now }
+    ensures { result ≡ expands_dots_in schema.now field }
+{
+    schema.get_field_entry(field).expands_dots()
 }

@@ -3,7 +3,7 @@ ghost use Rattle.ii_docset.specs.declared.docset.TheConstants.{TERMINATED};
 ghost use Rattle.ii_recorder.specs.AnyRecorder.{any_state};
 ghost use Rattle.ii_indexing.specs.IndexingContext.{AllEndBy, EndsBy, IsRecorded, new_recorder, opened_at, record_fault, recorded_at, recorder_or_new};
 ghost use Rattle.ii_indexing.specs.IndexingTerm.{AreTermBytes};
-ghost use Rattle.ii_indexing.specs.Refusals.{IsRefusedBy};
+ghost use Rattle.ii_json.specs.LeafVisit.{IsRefusedBy};
 
 use ii_base::{Fault, IndexRecordOption};
 use ii_docset::DocId;

@@ -1,7 +1,7 @@
 ghost use Rattle.std.specs.Prelude.{◌≡◌, ◌<◌, length, map, slice_get, Some, IfErr, IfOk};
 ghost use Rattle.std.specs.Borrow.{sem};
 ghost use Rattle.ii_indexing.specs.LendingWriters.{LendsWriter};
-ghost use Rattle.ii_indexing.specs.PostingsWriter.{kept_of, writers_of};
+ghost use Rattle.ii_indexing.specs.PostingsWriter.{writer_of, writers_of};
 
 use crate::postings_writer::SpecializedPostingsWriter;
 use ii_base::{Fault, Field, FieldEntry, IndexRecordOption, Schema, ValueType};
@@ -25,15 +25,14 @@ impl Model for PerFieldPostingsWriter {
 
 impl PerFieldPostingsWriter {
     /// A writer of no tokens for each field, which keeps what the field records, or of values that
-    /// aren't text that they occur. `OutOfMemory` where there is no
-    /// room for them.
+    /// aren't text that they occur. `OutOfMemory` where there is no room for them.
     pub fn for_schema(alloc: Global, schema: &Schema) -> Result<PerFieldPostingsWriter, Fault>
         ensures ok { IfOk result (λ writers. writers ≡ writers_of schema.now) }
         ensures only { IfErr result (λ e. e ≡ Fault.OutOfMemory) }
     {
         let mut writers = Vec::with_capacity(alloc, schema.num_fields())?;
         for (_field, entry) in schema.fields() {
-            writers.push(SpecializedPostingsWriter::new(kept_of(entry)))?;
+            writers.push(writer_of(entry))?;
         }
         Ok(PerFieldPostingsWriter { writers })
     }
@@ -56,12 +55,13 @@ impl PerFieldPostingsWriter {
     }
 }
 
-// What a field keeps of a term.
-fn kept_of(entry: &FieldEntry) -> IndexRecordOption
-    ensures { result ≡ kept_of entry.now }
+// The writer of a field.
+fn writer_of(entry: &FieldEntry) -> SpecializedPostingsWriter
+    ensures { result ≡ writer_of entry.now }
 {
     match entry.value_type() {
-        ValueType::Str | ValueType::Json => entry.index_record_option(),
-        _ => IndexRecordOption::Basic,
+        ValueType::Str => SpecializedPostingsWriter::new(entry.index_record_option()),
+        ValueType::Json => SpecializedPostingsWriter::for_json(entry.index_record_option()),
+        _ => SpecializedPostingsWriter::new(IndexRecordOption::Basic),
     }
 }

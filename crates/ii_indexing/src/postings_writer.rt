@@ -1,6 +1,7 @@
 ghost use Rattle.std.specs.Prelude.{◌≡◌, ◌≤◌, ◌<◌, ◌+◌, ◌++◌, ◌∷◌, ◌^◌, [], ℕ, List, Bool, length, max, map, nat_le, nat_lt, if◌then◌else◌, true, Err, Ok, Some, None, IfErr, IfOk, OnErr, OnOk};
 ghost use Rattle.ii_io.specs.declared.faults.LimitName.TheVariants as limit;
 ghost use Rattle.ii_base.specs.Words.{Word, word_of};
+ghost use Rattle.ii_base.specs.declared.schema.index_record_option.IndexRecordOption.TheVariants.{Basic};
 ghost use Rattle.ii_docset.specs.declared.docset.TheConstants.{TERMINATED};
 ghost use Rattle.ii_recorder.specs.Recorded.{u32_max};
 ghost use Rattle.ii_index.specs.Tokens.{IndexToken, end_after, kept_words, piece_tokens_from};
@@ -8,7 +9,8 @@ ghost use Rattle.ii_indexing.specs.IndexingContext.{AllEndBy, IsRecorded};
 ghost use Rattle.ii_indexing.specs.IndexingTerm.{field_bytes, term_bytes};
 ghost use Rattle.ii_indexing.specs.PostingsWriter.{HasTokens, IndexesKept, IndexesWords, PostingsWriterState, RefusesWords, TextState, kept_fault, subscribe_fault, term_token, text_fault, text_piece, text_state, tokens_counted};
 ghost use Rattle.ii_indexing.specs.Records.{Records};
-ghost use Rattle.ii_indexing.specs.Refusals.{IsRefusedBy, gap_fault, words_fault, first_fault};
+ghost use Rattle.ii_indexing.specs.Refusals.{gap_fault, words_fault};
+ghost use Rattle.ii_json.specs.LeafVisit.{IsRefusedBy, first_fault};
 
 use crate::indexing_context::IndexingContext;
 use crate::indexing_position::IndexingPosition;
@@ -25,11 +27,11 @@ pub const MAX_TOKEN_LEN: usize = 65530;
 
 /// Puts the terms of documents into an indexing context, and counts them.
 ///
-/// Its meaning is what it keeps of a term, and how many tokens it had.
+/// Its meaning is what it keeps of a text's terms and of a value's, and how many tokens it had.
 pub trait PostingsWriter: Drop {
     ghost state: { Self → PostingsWriterState };
 
-    /// Adds a position of a term in a document, which isn't below those that were added to the
+    /// Adds a position of a value's term in a document, which isn't below those that were added to the
     /// context before.
     ///
     /// `Limit(Tokens)` for more than `u64::MAX` tokens, and then what the term's recorder says.
@@ -44,13 +46,13 @@ pub trait PostingsWriter: Drop {
     ) -> Result<(), Fault>
         requires low { doc < TERMINATED }
         requires ends { AllEndBy doc ctx.old }
-        ensures recorded { OnOk result (IsRecorded (state self.old).option doc pos (term_bytes term.now) ctx.old ctx.new) }
+        ensures recorded { OnOk result (IsRecorded (state self.old).value_option doc pos (term_bytes term.now) ctx.old ctx.new) }
         ensures ends { OnOk result (AllEndBy doc ctx.new) }
         ensures tokens { OnOk result ((kind : ℕ → List ℕ → IndexRecordOption) (ts : List IndexToken) (of_text : Bool)
-            → kind term.now.field term.now.value ≡ (state self.old).option → Records kind ctx.old ts → Records kind ctx.new (ts ++ term_token doc pos of_text term.now ∷ [])) }
+            → kind term.now.field term.now.value ≡ (state self.old).value_option → Records kind ctx.old ts → Records kind ctx.new (ts ++ term_token doc pos of_text term.now ∷ [])) }
         ensures counted { OnOk result (state self.new ≡ tokens_counted 1 (state self.old)) }
         ensures uncounted { OnErr result (state self.new ≡ state self.old) }
-        ensures refused { IsRefusedBy (subscribe_fault (state self.old) doc pos (term_bytes term.now) ctx.old) result };
+        ensures refused { IsRefusedBy (subscribe_fault (state self.old).value_option (state self.old).total_num_tokens doc pos (term_bytes term.now) ctx.old) result };
 
     /// Indexes the tokens of a text that are still to come, under the terms that the buffer's value and
     /// their own bytes make, in a document that isn't below those before. They stand behind the texts
@@ -90,10 +92,11 @@ pub trait PostingsWriter: Drop {
         ensures { result ≡ (state self.now).total_num_tokens };
 }
 
-/// Keeps the same of each term.
+/// Keeps the same of each term of a text, and the same of each term of a value.
 #[derive(Drop)]
 pub struct SpecializedPostingsWriter {
     option: IndexRecordOption,
+    value_option: IndexRecordOption,
     total_num_tokens: u64,
 }
 
@@ -102,18 +105,57 @@ impl Model for SpecializedPostingsWriter {
 
     ghost Value = { PostingsWriterState };
 
-    ghost view = { λ w. record { option = w.option; total_num_tokens = w.total_num_tokens } };
+    ghost view = { λ w. record { option = w.option; value_option = w.value_option; total_num_tokens = w.total_num_tokens } };
 }
 
 impl SpecializedPostingsWriter {
     /// A writer of no tokens, which keeps of each term what `option` says.
     pub fn new(option: IndexRecordOption) -> SpecializedPostingsWriter
-        ensures { result ≡ record { option = option; total_num_tokens = 0 } }
+        ensures { result ≡ record { option = option; value_option = option; total_num_tokens = 0 } }
     {
         SpecializedPostingsWriter {
             option,
+            value_option: option,
             total_num_tokens: 0,
         }
+    }
+
+    /// A writer of no tokens for a JSON field, which keeps of each term of a text what `option` says, and
+    /// of a value's that it occurs.
+    pub fn for_json(option: IndexRecordOption) -> SpecializedPostingsWriter
+        ensures { result ≡ record { option = option; value_option = Basic; total_num_tokens = 0 } }
+    {
+        SpecializedPostingsWriter {
+            option,
+            value_option: IndexRecordOption::Basic,
+            total_num_tokens: 0,
+        }
+    }
+
+    // Adds a position of a term of which so much is kept.
+    #[tactic(auto, using(crate::proofs::TermLemmas::long_term))]
+    fn record(
+        &mut self,
+        option: IndexRecordOption,
+        doc: DocId,
+        pos: u32,
+        term: &IndexingTerm,
+        ctx: &mut IndexingContext,
+    ) -> Result<(), Fault>
+        requires low { doc < TERMINATED }
+        requires ends { AllEndBy doc ctx.old }
+        ensures recorded { OnOk result (IsRecorded option doc pos (term_bytes term.now) ctx.old ctx.new) }
+        ensures ends { OnOk result (AllEndBy doc ctx.new) }
+        ensures counted { OnOk result (self.new ≡ tokens_counted 1 self.old) }
+        ensures uncounted { OnErr result (self.new ≡ self.old) }
+        ensures refused { IsRefusedBy (subscribe_fault option self.old.total_num_tokens doc pos (term_bytes term.now) ctx.old) result }
+    {
+        if self.total_num_tokens == u64::MAX {
+            return Err(Fault::Limit(LimitName::Tokens));
+        }
+        ctx.record(option, term.serialized_term(), doc, pos)?;
+        self.total_num_tokens += 1;
+        Ok(())
     }
 
     // Adds a position of a word, whose bytes stand behind the term's.
@@ -131,12 +173,12 @@ impl SpecializedPostingsWriter {
         ensures ends { OnOk result (AllEndBy doc ctx.new) }
         ensures counted { OnOk result (self.new ≡ tokens_counted 1 self.old) }
         ensures uncounted { OnErr result (self.new ≡ self.old) }
-        ensures refused { IsRefusedBy (subscribe_fault self.old doc pos (field_bytes term.old.field ++ (term.old.value ++ word.now)) ctx.old) result }
+        ensures refused { IsRefusedBy (subscribe_fault self.old.option self.old.total_num_tokens doc pos (field_bytes term.old.field ++ (term.old.value ++ word.now)) ctx.old) result }
         ensures same_term { OnOk result (term.new ≡ term.old) }
     {
         let len = term.len_bytes();
         term.add_bytes(word)?;
-        self.subscribe(doc, pos, term, ctx)?;
+        self.record(self.option, doc, pos, term, ctx)?;
         term.truncate_value_bytes(len);
         Ok(())
     }
@@ -215,7 +257,6 @@ impl SpecializedPostingsWriter {
 impl PostingsWriter for SpecializedPostingsWriter {
     ghost state = { λ w. w };
 
-    #[tactic(auto, using(crate::proofs::TermLemmas::long_term))]
     fn subscribe(
         &mut self,
         doc: DocId,
@@ -224,12 +265,7 @@ impl PostingsWriter for SpecializedPostingsWriter {
         ctx: &mut IndexingContext,
     ) -> Result<(), Fault> {
         let _field = term.field().field_id();
-        if self.total_num_tokens == u64::MAX {
-            return Err(Fault::Limit(LimitName::Tokens));
-        }
-        ctx.record(self.option, term.serialized_term(), doc, pos)?;
-        self.total_num_tokens += 1;
-        Ok(())
+        self.record(self.value_option, doc, pos, term, ctx)
     }
 
     fn index_text<S: TokenStream>(

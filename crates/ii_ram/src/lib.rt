@@ -34,11 +34,11 @@ pub fn index_in_ram<A: TextAnalyzer>(
 ) -> Result<OpenIndex, Fault>
     requires docs { num_docs ≤ TERMINATED }
     requires calls { MayAllBeIndexed schema num_docs calls.items }
-    ensures holds { IfOk result (λ index. ReadersHold schema index (tokens_of (A.words analyzer.now) (map call_of calls.items))) }
+    ensures holds { IfOk result (λ index. ReadersHold schema index (tokens_of (A.words analyzer.now) (map (call_of schema) calls.items))) }
     ensures many { IfOk result (λ index. length index ≡ length schema) }
-    ensures refused { IfSome (calls_fault (A.words analyzer.now) (option_of schema) [] (map call_of calls.items)) (λ fault. (result ≡ Err fault) ⊎ (result ≡ Err Fault.OutOfMemory)) }
-    ensures fault { calls_fault (A.words analyzer.now) (option_of schema) [] (map call_of calls.items) ≡ None
-        → IfErr result (λ e. (e ≡ Fault.OutOfMemory) ⊎ IsRamFault schema num_docs (tokens_of (A.words analyzer.now) (map call_of calls.items)) e) }
+    ensures refused { IfSome (calls_fault (A.words analyzer.now) (option_of schema) [] (map (call_of schema) calls.items)) (λ fault. (result ≡ Err fault) ⊎ (result ≡ Err Fault.OutOfMemory)) }
+    ensures fault { calls_fault (A.words analyzer.now) (option_of schema) [] (map (call_of schema) calls.items) ≡ None
+        → IfErr result (λ e. (e ≡ Fault.OutOfMemory) ⊎ IsRamFault schema num_docs (tokens_of (A.words analyzer.now) (map (call_of schema) calls.items)) e) }
 {
     let copy = schema.clone()?;
     let files = files_in_ram(alloc);

@@ -18,7 +18,7 @@ use Rattle.ii_index.specs.Postings.{key_postings}
 use Rattle.ii_index.specs.Tokens.{Call, IndexToken, tokens_of}
 use Rattle.ii_indexing.specs.declared.index_call.IndexCall.{IndexCall}
 use Rattle.ii_indexing.specs.declared.index_call.IndexCall.TheVariants as calls
-use Rattle.ii_indexing.specs.IndexCalls.{MayBeIndexed, call_of}
+use Rattle.ii_indexing.specs.IndexCalls.{MayBeIndexed, call_of, doc_of}
 use Rattle.ii_indexing.specs.Refusals.{calls_fault}
 use Rattle.ii_ram.specs.Ram.{IsRamFault}
 use Rattle.ii_reader.specs.InvertedIndexReader.{GivesPostings, InvertedIndexReaderState, ReaderHolds}
@@ -62,33 +62,33 @@ all_weaker P Q [] weaker all = tt
 all_weaker P Q (x ∷ xs) weaker all = (weaker x all.0, all_weaker P Q xs weaker all.1)
 
 -- one more call
-pub gathered_more : (kept : List IndexCall) (n : ℕ) (calls : List Call) (call : IndexCall) → AreGathered kept n calls → IsCall call → n ≤ (call_of call).doc + 1
-    → AreGathered (kept ++ call ∷ []) ((call_of call).doc + 1) (calls ++ call_of call ∷ [])
+pub gathered_more : (kept : List IndexCall) (n : ℕ) (calls : List Call) (call : IndexCall) → AreGathered kept n calls → IsCall call → n ≤ doc_of call + 1
+    → AreGathered (kept ++ call ∷ []) (doc_of call + 1) (calls ++ call_of fields call ∷ [])
 gathered_more kept n calls call g may low =
-    let m = (call_of call).doc + 1 in
+    let m = doc_of call + 1 in
     record {
-      calls_are = map-append call_of kept (call ∷ []) ∙ ap (λ (cs : List Call). cs ++ call_of call ∷ []) g.calls_are;
-      num_docs_is = sym (fold-append (λ (k : ℕ) (c : Call). c.doc + 1) 0 calls (call_of call ∷ []));
+      calls_are = map-append (call_of fields) kept (call ∷ []) ∙ ap (λ (cs : List Call). cs ++ call_of fields call ∷ []) g.calls_are;
+      num_docs_is = sym (fold-append (λ (k : ℕ) (c : Call). c.doc + 1) 0 calls (call_of fields call ∷ []));
       most = let below = may.below in omega (arith, below);
       may = record {
         each = all_more (MayBeIndexed fields n) (MayBeIndexed fields m) kept call
             (λ x h. record { below = let less = h.below in omega (arith, less, low); takes = h.takes }) g.may.each (record { below = omega arith; takes = may.takes });
-        ordered = ordered_more (λ (c : IndexCall). (call_of c).doc) kept call g.may.ordered
-            (all_weaker (MayBeIndexed fields n) (λ (x : IndexCall). (call_of x).doc ≤ (call_of call).doc) kept (λ x h. let less = h.below in omega (arith, less, low)) g.may.each);
+        ordered = ordered_more doc_of kept call g.may.ordered
+            (all_weaker (MayBeIndexed fields n) (λ (x : IndexCall). doc_of x ≤ doc_of call) kept (λ x h. let less = h.below in omega (arith, less, low)) g.may.each);
       };
     }
 
 -- a call that follows is kept
-pub kept_then : (kept : List IndexCall) (n : ℕ) (index : Option (Result (List InvertedIndexReaderState) Fault)) (s : Session) (call : IndexCall) → is_some index ≡ false → KnowsIndex kept n index s → IsCall call → n ≤ (call_of call).doc + 1
-    → (calls : List Call) × (kept_with s (call_of call) ≡ Some (gathering calls)) × KnowsIndex (kept ++ call ∷ []) ((call_of call).doc + 1) index (gathering calls)
+pub kept_then : (kept : List IndexCall) (n : ℕ) (index : Option (Result (List InvertedIndexReaderState) Fault)) (s : Session) (call : IndexCall) → is_some index ≡ false → KnowsIndex kept n index s → IsCall call → n ≤ doc_of call + 1
+    → (calls : List Call) × (kept_with s (call_of fields call) ≡ Some (gathering calls)) × KnowsIndex (kept ++ call ∷ []) (doc_of call + 1) index (gathering calls)
 kept_then kept n None s call none knows may low =
     let is = knows.2.num_docs_is in
-    let above : nat_le (num_docs_of knows.0) ((call_of call).doc + 1) ≡ true = le-leb (num_docs_of knows.0) ((call_of call).doc + 1) (omega (arith, low, is)) in
-    (knows.0 ++ call_of call ∷ [], rw (knows.1, above) refl, (knows.0 ++ call_of call ∷ [], refl, gathered_more kept n knows.0 call knows.2 may low))
+    let above : nat_le (num_docs_of knows.0) (doc_of call + 1) ≡ true = le-leb (num_docs_of knows.0) (doc_of call + 1) (omega (arith, low, is)) in
+    (knows.0 ++ call_of fields call ∷ [], rw (knows.1, above) refl, (knows.0 ++ call_of fields call ∷ [], refl, gathered_more kept n knows.0 call knows.2 may low))
 kept_then kept n (Some found) s call none knows may low = absurd (cc)
 
 -- an index that is asked for now
-pub indexed_now : (kept more : List IndexCall) (n : ℕ) (index : Option (Result (List InvertedIndexReaderState) Fault)) (s : Session) (found : Result (List InvertedIndexReaderState) Fault) → is_some index ≡ false → KnowsIndex kept n index s → GivesIndex (map call_of kept) found
+pub indexed_now : (kept more : List IndexCall) (n : ℕ) (index : Option (Result (List InvertedIndexReaderState) Fault)) (s : Session) (found : Result (List InvertedIndexReaderState) Fault) → is_some index ≡ false → KnowsIndex kept n index s → GivesIndex (map (call_of fields) kept) found
     → (t : Session) × Indexes s t × KnowsIndex more n (Some found) t
 indexed_now kept more n None s (Ok readers) none knows gives =
     let indexed = subst (λ (calls : List Call). IsIndexed calls (opened gives.0)) knows.2.calls_are gives.1 in
@@ -110,8 +110,8 @@ text_is_call doc field t limit field_is limit_is below =
     (record { below = rw limit_is at below; takes = record { entry = _; found = refl; indexed = refl; typed = refl } })
 
 -- what keeping a call answers
-pub keeps_one_more : (kept more : List IndexCall) (n doc : ℕ) (index : Option (Result (List InvertedIndexReaderState) Fault)) (s : Session) (call : IndexCall) (items : Vec IndexCall Global) → doc ≡ (call_of call).doc → is_some index ≡ false → KnowsIndex kept n index s → IsCall call → n ≤ doc + 1 → items.items ≡ kept ++ call ∷ []
-    → Keeps s (call_of call) (record { calls = items; num_docs = doc + 1; index = index }) true
+pub keeps_one_more : (kept more : List IndexCall) (n doc : ℕ) (index : Option (Result (List InvertedIndexReaderState) Fault)) (s : Session) (call : IndexCall) (items : Vec IndexCall Global) → doc ≡ doc_of call → is_some index ≡ false → KnowsIndex kept n index s → IsCall call → n ≤ doc + 1 → items.items ≡ kept ++ call ∷ []
+    → Keeps s (call_of fields call) (record { calls = items; num_docs = doc + 1; index = index }) true
 keeps_one_more kept more n doc index s call items doc_is none knows may low pushed =
     let then = kept_then kept n index s call none knows may (rw doc_is at low) in
     rw then.1 (refl, rw (pushed, doc_is) then.2)
@@ -128,13 +128,13 @@ listed_text requested field key readers ts reader cursor text below o found hold
     rw gives.0 (is ∙ ap (list_text (downgrade (option_of fields field) requested)) (gives.1 ∙ ap (λ (o : IndexRecordOption). key_postings o field key requested ts) option_is))
 
 -- the index of calls, by what indexing them in memory answers
-pub gives_index : (schema : List Entry) (n : ℕ) (kept : List IndexCall) (found : Result (List InvertedIndexReaderState) Fault) → schema ≡ fields → n ≡ num_docs_of (map call_of kept)
-    → IfOk found (λ index. ReadersHold schema index (tokens_of ascii_words (map call_of kept))) → IfOk found (λ index. length index ≡ length schema)
-    → IfSome (calls_fault ascii_words (option_of schema) [] (map call_of kept)) (λ fault. (found ≡ Err fault) ⊎ (found ≡ Err OutOfMemory))
-    → (calls_fault ascii_words (option_of schema) [] (map call_of kept) ≡ None → IfErr found (λ e. (e ≡ OutOfMemory) ⊎ IsRamFault schema n (tokens_of ascii_words (map call_of kept)) e))
-    → GivesIndex (map call_of kept) found
+pub gives_index : (schema : List Entry) (n : ℕ) (kept : List IndexCall) (found : Result (List InvertedIndexReaderState) Fault) → schema ≡ fields → n ≡ num_docs_of (map (call_of fields) kept)
+    → IfOk found (λ index. ReadersHold schema index (tokens_of ascii_words (map (call_of schema) kept))) → IfOk found (λ index. length index ≡ length schema)
+    → IfSome (calls_fault ascii_words (option_of schema) [] (map (call_of schema) kept)) (λ fault. (found ≡ Err fault) ⊎ (found ≡ Err OutOfMemory))
+    → (calls_fault ascii_words (option_of schema) [] (map (call_of schema) kept) ≡ None → IfErr found (λ e. (e ≡ OutOfMemory) ⊎ IsRamFault schema n (tokens_of ascii_words (map (call_of schema) kept)) e))
+    → GivesIndex (map (call_of fields) kept) found
 gives_index schema n kept found schema_is n_is holds many known fault =
-    gives_cases n (map call_of kept) found (refusal_of (map call_of kept)) n_is refl (rw schema_is at holds) (rw schema_is at many) (rw schema_is at known) (rw schema_is at fault)
+    gives_cases n (map (call_of fields) kept) found (refusal_of (map (call_of fields) kept)) n_is refl (rw schema_is at holds) (rw schema_is at many) (rw schema_is at known) (rw schema_is at fault)
   where
     gives_cases : (n : ℕ) (calls : List Call) (found : Result (List InvertedIndexReaderState) Fault) (why : Option Fault) → n ≡ num_docs_of calls → refusal_of calls ≡ why
         → IfOk found (λ index. ReadersHold fields index (tokens_of ascii_words calls)) → IfOk found (λ index. length index ≡ length fields)

@@ -7,7 +7,7 @@ use Rattle.ii_docset.specs.declared.docset.TheConstants.{TERMINATED}
 use Rattle.ii_layout.specs.TermList.{term_list}
 use Rattle.ii_index.specs.Tokens.{Call, IndexToken}
 use Rattle.ii_indexing.specs.declared.index_call.IndexCall.{IndexCall}
-use Rattle.ii_indexing.specs.IndexCalls.{MayAllBeIndexed, Takes, call_of, type_of}
+use Rattle.ii_indexing.specs.IndexCalls.{MayAllBeIndexed, Takes, call_of, doc_of, field_of, type_of}
 use Rattle.ii_reader.specs.InvertedIndexReader.{InvertedIndexReaderState}
 use Rattle.ii_reader.specs.OpenIndex.{ReadersHold}
 use Rattle.iiq.specs.declared.commands.Opening.{Opening}
@@ -21,19 +21,19 @@ abbrev pub opening_command : Opening → Command
 opening_command o = open_list o.record_option o.requested_option o.doc_freq o.postings o.positions
 
 abbrev pub call_command : IndexCall → Command
-call_command call = index_call (call_of call)
+call_command call = index_call (call_of fields call)
 
 abbrev pub query_look_up : Query → Command
 query_look_up q = look_up q.requested q.term.field q.term.value
 
 -- A call is for a field of the schema, and for a document.
 pub record IsCall (call : IndexCall) : Type 0 where
-  pub below : (call_of call).doc < TERMINATED
-  pub takes : Takes fields (call_of call).field (type_of call)
+  pub below : doc_of call < TERMINATED
+  pub takes : Takes fields (field_of call) (type_of call)
 
 -- Calls were gathered: they may be indexed in this order, and have so many documents.
 pub record AreGathered (kept : List IndexCall) (num_docs : ℕ) (calls : List Call) : Type 0 where
-  pub calls_are : map call_of kept ≡ calls
+  pub calls_are : map (call_of fields) kept ≡ calls
   pub num_docs_is : num_docs ≡ num_docs_of calls
   pub most : num_docs ≤ TERMINATED
   pub may : MayAllBeIndexed fields num_docs kept

@@ -46,7 +46,7 @@ impl Session {
     pub fn keep(&mut self, call: IndexCall) -> Result<bool, AllocError>
         requires session { IsSession self.old }
         requires call { IsCall call }
-        ensures { (s : SessionState) → Knows self.old s → IfOk result (λ kept. Keeps s (call_of call) self.new kept) }
+        ensures { (s : SessionState) → Knows self.old s → IfOk result (λ kept. Keeps s (call_of fields call) self.new kept) }
     {
         if self.index.is_some() {
             return Ok(false);
@@ -92,9 +92,9 @@ impl Session {
 // The index of calls, in memory.
 fn index_of(alloc: Global, calls: Vec<IndexCall>, num_docs: DocId) -> Result<OpenIndex, Fault>
     requires docs { num_docs ≤ TERMINATED }
-    requires many { num_docs ≡ num_docs_of (map call_of calls.items) }
+    requires many { num_docs ≡ num_docs_of (map (call_of fields) calls.items) }
     requires calls { MayAllBeIndexed fields num_docs calls.items }
-    ensures { GivesIndex (map call_of calls.items) result }
+    ensures { GivesIndex (map (call_of fields) calls.items) result }
 {
     let schema = schema(alloc)?;
     index_in_ram(alloc, schema, num_docs, calls, &AsciiTokenizer)

@@ -15,7 +15,7 @@ use Rattle.ii_ram.proofs.index_in_ram.Goals as goal
 
 pub returns-in-Ok-clause-holds : goal.returns-in-Ok-clause-holds
 returns-in-Ok-clause-holds g c =
-    let ts = tokens_of (g.A.TextAnalyzer.words c.args.analyzer.now) (map call_of c.args.calls.items) in
+    let ts = tokens_of (g.A.TextAnalyzer.words c.args.analyzer.now) (map (call_of c.args.schema) c.args.calls.items) in
     let files = c.files_in_ram-files.result in
     let new = c.write_index-files.result.0 in
     let wrote : WroteIndex c.args.schema c.args.num_docs files new ts = subst (λ (r : Result (Unit {0}) Fault). OnOk r (WroteIndex c.args.schema c.args.num_docs files new ts)) c.in-Ok.is c.write_index-files.ensures.wrote in
@@ -26,7 +26,7 @@ returns-in-Ok-clause-holds g c =
 
 pub returns-in-Ok-clause-fault : goal.returns-in-Ok-clause-fault
 returns-in-Ok-clause-fault g c none =
-    let ts = tokens_of (g.A.TextAnalyzer.words c.args.analyzer.now) (map call_of c.args.calls.items) in
+    let ts = tokens_of (g.A.TextAnalyzer.words c.args.analyzer.now) (map (call_of c.args.schema) c.args.calls.items) in
     let files = c.files_in_ram-files.result in
     let new = c.write_index-files.result.0 in
     let wrote : WroteIndex c.args.schema c.args.num_docs files new ts = subst (λ (r : Result (Unit {0}) Fault). OnOk r (WroteIndex c.args.schema c.args.num_docs files new ts)) c.in-Ok.is c.write_index-files.ensures.wrote in
@@ -36,7 +36,7 @@ returns-in-Ok-clause-fault g c none =
 
 pub returns-clause-fault : goal.returns-clause-fault
 returns-clause-fault g c none =
-    let ts = tokens_of (g.A.TextAnalyzer.words c.args.analyzer.now) (map call_of c.args.calls.items) in
+    let ts = tokens_of (g.A.TextAnalyzer.words c.args.analyzer.now) (map (call_of c.args.schema) c.args.calls.items) in
     let files = c.files_in_ram-files.result in
     rw c.in_memory.ensures
     (fault_in_ram c.args.schema c.args.num_docs files ts c.in-Err.fault c.files_in_ram-files.ensures

@@ -1,28 +1,29 @@
 use Rattle.std.proofs.Common.{[], sym, ◌∙◌, subst, refl}
 use Rattle.std.proofs.lemmas.List.{length-set}
 use Rattle.std.proofs.lemmas.Result.{err_from_is_err_and}
-use Rattle.ii_index.specs.Tokens.{tokens_after}
-use Rattle.ii_indexing.specs.IndexedTerms.{key_of}
+use Rattle.ii_index.specs.Tokens.{tokens_after, value_at}
 use Rattle.ii_indexing.specs.Indexer.{EndsAt, IndexedFieldsState, StoresPieces}
 use Rattle.ii_indexing.specs.declared.open_documents.OpenDocument.{OpenDocument}
+use Rattle.ii_indexing.proofs.PathLaws.{paths_kept, value_has_none}
 use Rattle.ii_indexing.proofs.PieceLaws.{reach_put, value_added}
 use Rattle.ii_indexing.proofs.indexed_fields.IndexedFields.index_value.Goals as goal
 
 pub returns-in_err-index_value-clause-refused : goal.returns-in_err-index_value-clause-refused
-returns-in_err-index_value-clause-refused c entries ps inside basic stored =
+returns-in_err-index_value-clause-refused c entries ps takes stored =
     let st = subst (λ (s : IndexedFieldsState). StoresPieces entries s ps) (sym c.self.view_is) stored in
     let p = err_from_is_err_and c.from_residual-in_err-index_value.result c.from_residual-in_err-index_value.ensures.1 in
-    rw (p.1, p.2) (c.in_err-index_value.ensures.refused entries (tokens_after [] ps) inside basic st.tokens)
+    rw (p.1, p.2) (c.in_err-index_value.ensures.refused entries (tokens_after [] ps) takes st.tokens)
 
 pub returns-clause-stored : goal.returns-clause-stored
-returns-clause-stored c entries ps inside basic stored =
+returns-clause-stored c entries ps takes stored =
     let st = subst (λ (s : IndexedFieldsState). StoresPieces entries s ps) (sym c.self.view_is) stored in
     let d = c.in_ok-open.open in
     let told = c.in_ok-open.ensures.told ps (tokens_after [] ps) st.documents in
     let new : OpenDocument = record { doc = c.args.doc; num_tokens = d.num_tokens; end_position = d.end_position; norm = c.saturating_add.result } in
     rw c.put.ensures
-    (value_added entries ps c.args.doc c.args.field (key_of c.args.value) c.index_value.new.self c.open.new.self d new told c.in_ok-open.ensures.found c.in_ok-open.ensures.at refl refl refl c.saturating_add.ensures
-    (c.in_ok-index_value.ensures.stored entries (tokens_after [] ps) inside basic st.tokens))
+    (value_added entries ps c.index_value.new.self c.open.new.self d new c.self.inside.paths c.args.doc c.args.field c.args.key.now
+    (paths_kept ps (value_at c.args.doc c.args.field c.args.key.now) c.self.inside.paths (value_has_none c.args.doc c.args.field c.args.key.now) st.paths) told c.in_ok-open.ensures.found c.in_ok-open.ensures.at refl refl refl c.saturating_add.ensures
+    (c.in_ok-index_value.ensures.stored entries (tokens_after [] ps) takes st.tokens))
 
 pub returns-clause-ends : goal.returns-clause-ends
 returns-clause-ends c =
@@ -33,9 +34,11 @@ returns-clause-ends c =
       documents = rw (c.put.ensures, length-set c.open.new.self.documents c.args.field new) (c.in_ok-open.ensures.fields ∙ ends.documents ∙ sym c.in_ok-index_value.ensures.fields);
       terms = c.in_ok-index_value.ensures.ends;
       reach = rw c.put.ensures (reach_put c.open.new.self c.args.field c.args.doc new refl c.in_ok-open.ensures.reach);
+      paths = ends.paths ∙ sym c.in_ok-index_value.ensures.fields;
+      paths_reach = ends.paths_reach;
     }
 
 pub returns-clause-refused : goal.returns-clause-refused
-returns-clause-refused c entries ps inside basic stored =
+returns-clause-refused c entries ps takes stored =
     let st = subst (λ (s : IndexedFieldsState). StoresPieces entries s ps) (sym c.self.view_is) stored in
-    c.in_ok-index_value.ensures.refused entries (tokens_after [] ps) inside basic st.tokens
+    c.in_ok-index_value.ensures.refused entries (tokens_after [] ps) takes st.tokens

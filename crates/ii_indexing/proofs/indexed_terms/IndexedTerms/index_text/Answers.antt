@@ -1,11 +1,11 @@
-use Rattle.std.proofs.Common.{◌++◌, sym, ap, subst, map}
-use Rattle.ii_index.specs.Tokens.{kept_words, word_token}
-use Rattle.ii_indexing.specs.IndexedTerms.{IndexedTermsState, StoresTokens, field_text}
+use Rattle.std.proofs.Common.{◌≡◌, ◌++◌, ◌∙◌, sym, ap, subst, map}
+use Rattle.ii_index.specs.Tokens.{kept_words, text_at, word_token}
+use Rattle.ii_indexing.specs.IndexedTerms.{IndexedTermsState, StoresTokens, kept_at}
 use Rattle.ii_indexing.specs.IndexingContext.{AllEndBy}
 use Rattle.ii_indexing.specs.IndexingTerm.{IndexingTermState}
-use Rattle.ii_indexing.specs.PostingsWriter.{HasTokens, PostingsWriterState, text_fault, text_piece}
-use Rattle.ii_indexing.specs.Refusals.{IsRefusedBy}
-use Rattle.ii_indexing.proofs.StoreLaws.{kept_by, text_known, text_stored}
+use Rattle.ii_indexing.specs.PostingsWriter.{HasTokens, text_fault, text_piece}
+use Rattle.ii_json.specs.LeafVisit.{IsRefusedBy}
+use Rattle.ii_indexing.proofs.StoreLaws.{text_known, text_stored}
 use Rattle.ii_indexing.proofs.TermIndexLemmas.{on_both}
 use Rattle.ii_indexing.proofs.indexed_terms.IndexedTerms.index_text.Goals as goal
 
@@ -16,23 +16,27 @@ pub returns-clause-stored : goal.returns-clause-stored
 returns-clause-stored g c =
     let words = g.S.TokenStream.to_come c.args.token_stream.now in
     let begin = c.args.position.now.end_position in
+    let prefix = c.args.prefix.now in
     let s : IndexedTermsState = record { terms = c.self.inside.ctx; writers = c.self.inside.writers } in
     let w = c.get_for_field_mut-writer.result.now in
+    let term : c.set_bytes.new.self ≡ record { field = c.args.field; value = prefix } = c.in_ok-set_bytes.ensures.ok ∙ ap (λ (t : IndexingTermState). record t { value = prefix }) c.clear_with_field.ensures in
     on_both c.index_text.result _ _ _
-    (λ h counted entries ts low of_text stored.
+    (λ h counted entries ts takes stored.
     let old = subst (λ (q : IndexedTermsState). StoresTokens entries q ts) (sym c.self.view_is) stored in
-    let tokens = subst (λ (t : IndexingTermState). HasTokens (kept_by entries) (text_piece c.args.doc t words) s.terms w ts
-    → HasTokens (kept_by entries) (text_piece c.args.doc t words) c.index_text.new.ctx c.index_text.new.self (ts ++ map (word_token (text_piece c.args.doc t words) begin) (kept_words words))) c.clear_with_field.ensures (h (kept_by entries) ts) in
-    text_stored entries ts s (field_text c.args.doc c.args.field words) begin w c.index_text.new.ctx c.index_text.new.self low of_text old c.get_for_field_mut-writer.ensures.value (ap (λ (v : PostingsWriterState). v.option) counted) tokens)
+    let tokens = subst (λ (t : IndexingTermState). HasTokens (kept_at entries) (text_piece c.args.doc t words) s.terms w ts
+    → HasTokens (kept_at entries) (text_piece c.args.doc t words) c.index_text.new.ctx c.index_text.new.self (ts ++ map (word_token (text_piece c.args.doc t words) begin) (kept_words words))) term (h (kept_at entries) ts) in
+    text_stored entries ts s (text_at c.args.doc c.args.field prefix words) begin w c.index_text.new.ctx c.index_text.new.self takes old c.get_for_field_mut-writer.ensures.value counted tokens)
     c.index_text.ensures.tokens c.index_text.ensures.counted
 
 pub returns-clause-refused : goal.returns-clause-refused
-returns-clause-refused g c entries ts low stored =
+returns-clause-refused g c entries ts takes stored =
     let words = g.S.TokenStream.to_come c.args.token_stream.now in
+    let prefix = c.args.prefix.now in
     let s : IndexedTermsState = record { terms = c.self.inside.ctx; writers = c.self.inside.writers } in
     let w = c.get_for_field_mut-writer.result.now in
+    let term : c.set_bytes.new.self ≡ record { field = c.args.field; value = prefix } = c.in_ok-set_bytes.ensures.ok ∙ ap (λ (t : IndexingTermState). record t { value = prefix }) c.clear_with_field.ensures in
     let old = subst (λ (q : IndexedTermsState). StoresTokens entries q ts) (sym c.self.view_is) stored in
-    let known = text_known entries ts s (field_text c.args.doc c.args.field words) w low old c.get_for_field_mut-writer.ensures.value in
-    let refused = subst (λ (t : IndexingTermState). HasTokens (kept_by entries) (text_piece c.args.doc t words) s.terms w ts → IsRefusedBy (text_fault w.option (text_piece c.args.doc t words) c.args.position.now ts) c.index_text.result)
-    c.clear_with_field.ensures (c.index_text.ensures.refused (kept_by entries) ts) in
+    let known = text_known entries ts s (text_at c.args.doc c.args.field prefix words) w takes old c.get_for_field_mut-writer.ensures.value in
+    let refused = subst (λ (t : IndexingTermState). HasTokens (kept_at entries) (text_piece c.args.doc t words) s.terms w ts → IsRefusedBy (text_fault w.option (text_piece c.args.doc t words) c.args.position.now ts) c.index_text.result)
+    term (c.index_text.ensures.refused (kept_at entries) ts) in
     rw (← known.0) (refused known.1)

@@ -1,0 +1,142 @@
+ghost use Rattle.std.specs.Prelude.{◌≡◌, ◌<◌, ◌++◌, ◌∷◌, [], List, ℕ, true, false, length, IfErr, IfOk, OnOk};
+ghost use Rattle.std.specs.List.{flat_map};
+ghost use Rattle.ii_base.specs.Json.{json_leaves, json_of};
+ghost use Rattle.ii_base.specs.Schema.{Entry};
+ghost use Rattle.ii_base.specs.Values.{json_key, text_key, typed_key};
+ghost use Rattle.ii_base.specs.declared.schema.value_type.ValueType.TheVariants.{Json};
+ghost use Rattle.ii_docset.specs.declared.docset.TheConstants.{TERMINATED};
+ghost use Rattle.ii_index.specs.Fields.{option_of};
+ghost use Rattle.ii_index.specs.Tokens.{Piece, leaf_pieces};
+ghost use Rattle.ii_json.specs.LeafVisit.{IsRefusedBy, leaves_fault};
+ghost use Rattle.ii_indexing.specs.IndexCalls.{Takes};
+ghost use Rattle.ii_indexing.specs.Indexer.{EndsAt, StoresPieces};
+ghost use Rattle.ii_indexing.specs.OpenDocuments.{with_norms};
+ghost use Rattle.ii_indexing.specs.Refusals.{next_leaf_fault};
+
+use crate::indexed_fields::IndexedFields;
+use ii_base::{Fault, Field, JsonLeaf, JsonPathWriter, JsonValue, TextAnalyzer, ValueType};
+use ii_docset::DocId;
+use ii_json::{LeafSink, visit_leaves};
+use std::alloc::Global;
+
+// What ends a path in a key.
+const JSON_END_OF_PATH: u8 = 0;
+
+// The first bytes of the keys of a text's words at a path: the path, byte 0, and the letter of texts.
+pub(crate) fn text_prefix(alloc: Global, path: &str) -> Result<Vec<u8>, Fault>
+    ensures ok { IfOk result (λ prefix. prefix.items ≡ json_key path.now (text_key [])) }
+    ensures only { IfErr result (λ e. e ≡ Fault.OutOfMemory) }
+{
+    let mut prefix = Vec::from_slice(alloc, path.as_bytes())?;
+    prefix.push(JSON_END_OF_PATH)?;
+    prefix.push(ValueType::Str.to_code())?;
+    Ok(prefix)
+}
+
+// The key of a number at a path: the path, byte 0, the letter of its type, and its 8 bytes, the highest
+// first.
+pub(crate) fn value_key(
+    alloc: Global,
+    path: &str,
+    value_type: ValueType,
+    number: u64,
+) -> Result<Vec<u8>, Fault>
+    ensures ok { IfOk result (λ key. key.items ≡ json_key path.now (typed_key value_type number)) }
+    ensures only { IfErr result (λ e. e ≡ Fault.OutOfMemory) }
+{
+    let mut key = Vec::from_slice(alloc, path.as_bytes())?;
+    key.push(JSON_END_OF_PATH)?;
+    key.push(value_type.to_code())?;
+    key.extend_from_slice(&number.to_be_bytes())?;
+    Ok(key)
+}
+
+/// Indexes the leaves of a JSON value in a field of a document.
+#[derive(Drop)]
+struct LeafIndexer<'a, A: TextAnalyzer> {
+    fields: &'a mut IndexedFields,
+    analyzer: &'a A,
+    doc: DocId,
+    field: Field,
+    alloc: Global,
+}
+
+impl<A: TextAnalyzer> LeafSink for LeafIndexer<'_, A> {
+    ghost use Rattle.std.specs.Prelude.{◌<◌, ◌++◌, length};
+    ghost use Rattle.std.specs.List.{flat_map};
+    ghost use Rattle.ii_base.specs.declared.schema.value_type.ValueType.TheVariants.{Json};
+    ghost use Rattle.ii_docset.specs.declared.docset.TheConstants.{TERMINATED};
+    ghost use Rattle.ii_index.specs.Fields.{option_of};
+    ghost use Rattle.ii_index.specs.Tokens.{leaf_pieces};
+    ghost use Rattle.ii_indexing.specs.IndexCalls.{Takes};
+    ghost use Rattle.ii_indexing.specs.Indexer.{EndsAt, LeafConstant, LeafGiven, StoresPieces};
+    ghost use Rattle.ii_indexing.specs.OpenDocuments.{with_norms};
+    ghost use Rattle.ii_indexing.specs.Refusals.{next_leaf_fault};
+
+    ghost Given = { LeafGiven };
+
+    ghost Constant = { LeafConstant };
+
+    ghost constant = { λ s. record {
+      doc = s.doc;
+      field = s.field;
+      words = A.words s.analyzer.now;
+      reference = s.fields.ghost_name;
+      writers = length s.fields.now.indexed.writers;
+      norms = with_norms s.fields.now.opened.norms;
+    } };
+
+    ghost ready = { λ s. (s.doc < TERMINATED) × (s.field < length s.fields.now.indexed.writers) × EndsAt s.doc s.fields.now };
+
+    ghost holds = { λ s given leaves. Takes given.entries s.field Json
+        × StoresPieces given.entries s.fields.now (given.pieces ++ flat_map (leaf_pieces (A.words s.analyzer.now) s.doc s.field) leaves) };
+
+    ghost fault = { λ k given before leaf. next_leaf_fault k.words (option_of given.entries k.field) given.pieces k.doc k.field before leaf };
+
+    fn take_leaf(&mut self, path: &str, leaf: JsonLeaf<'_>) -> Result<(), Fault> {
+        match leaf {
+            JsonLeaf::Text(text) => {
+                let tokens = self.analyzer.token_list(self.alloc, text)?;
+                self.fields
+                    .index_text_at(self.alloc, self.doc, self.field, path, tokens)
+            }
+            JsonLeaf::Value(value_type, number) => self
+                .fields
+                .index_number_at(self.alloc, self.doc, self.field, path, value_type, number),
+            JsonLeaf::Unsupported(kind) => Err(Fault::UnsupportedLeaf(kind)),
+        }
+    }
+}
+
+// Indexes the leaves of a value in a field where the dots of keys are expanded or not.
+pub(crate) fn index_json_value<A: TextAnalyzer>(
+    alloc: Global,
+    fields: &mut IndexedFields,
+    doc: DocId,
+    field: Field,
+    value: &JsonValue,
+    expand_dots: bool,
+    analyzer: &A,
+) -> Result<(), Fault>
+    requires low { doc < TERMINATED }
+    requires known { field < length fields.old.indexed.writers }
+    requires ends { EndsAt doc fields.old }
+    ensures stored { OnOk result ((entries : List Entry) (ps : List Piece) → Takes entries field Json → StoresPieces entries fields.old ps
+        → StoresPieces entries fields.new (ps ++ flat_map (leaf_pieces (A.words analyzer.now) doc field) (json_leaves expand_dots (json_of value.now)))) }
+    ensures ends { OnOk result (EndsAt doc fields.new) }
+    ensures fields { OnOk result (length fields.new.indexed.writers ≡ length fields.old.indexed.writers) }
+    ensures norms { OnOk result (with_norms fields.new.opened.norms ≡ with_norms fields.old.opened.norms) }
+    ensures refused { (entries : List Entry) (ps : List Piece) → Takes entries field Json → StoresPieces entries fields.old ps
+        → IsRefusedBy (leaves_fault (next_leaf_fault (A.words analyzer.now) (option_of entries field) ps doc field) [] (json_leaves expand_dots (json_of value.now))) result }
+{
+    let mut writer = JsonPathWriter::new(alloc);
+    writer.set_expand_dots(expand_dots);
+    let mut sink = LeafIndexer {
+        fields,
+        analyzer,
+        doc,
+        field,
+        alloc,
+    };
+    visit_leaves(value, &mut writer, &mut sink)
+}

@@ -1,0 +1,123 @@
+ghost use Rattle.std.specs.Prelude.{◌≡◌, ◌<◌, List, ℕ, bytes_eq, if◌then◌else◌, length, map, slice_get, slice_set, Some, IfErr, IfOk, OnOk};
+ghost use Rattle.ii_base.specs.Schema.{Entry};
+ghost use Rattle.ii_indexing.specs.OpenPaths.{OpenPathsState, PutsPosition, no_paths, opened_path, position_under};
+
+use crate::indexing_position::IndexingPosition;
+use crate::indexing_positions_per_path::IndexingPositionsPerPath;
+use ii_base::{Fault, Field, Schema};
+use ii_docset::DocId;
+use std::alloc::Global;
+use std::marker::Model;
+
+/// The document that was opened last in a field, and its texts path by path.
+#[derive(Drop)]
+pub(crate) struct FieldPaths {
+    doc: DocId,
+    positions: IndexingPositionsPerPath,
+}
+
+impl Model for FieldPaths {
+    ghost use Rattle.ii_indexing.specs.OpenPaths.{OpenPathsState};
+
+    ghost Value = { OpenPathsState };
+
+    ghost view = { λ p. record { doc = p.doc; positions = p.positions } };
+}
+
+impl FieldPaths {
+    // Document 0, with no texts.
+    pub(crate) fn new(alloc: Global) -> FieldPaths
+        ensures { result ≡ no_paths }
+    {
+        FieldPaths {
+            doc: 0,
+            positions: IndexingPositionsPerPath::new(alloc),
+        }
+    }
+
+    // Opens a document that isn't below the one before.
+    pub(crate) fn open(&mut self, doc: DocId)
+        ensures { self.new ≡ opened_path doc self.old }
+    {
+        if self.doc != doc {
+            self.positions.clear();
+            self.doc = doc;
+        }
+    }
+
+    // What is known of the texts under a prefix.
+    pub(crate) fn position(&self, prefix: &[u8]) -> IndexingPosition
+        ensures { result ≡ position_under prefix.now self.now.positions }
+    {
+        self.positions.position(prefix)
+    }
+
+    // Puts what is known of the texts under a prefix in place of what was known.
+    pub(crate) fn put(
+        &mut self,
+        alloc: Global,
+        prefix: &[u8],
+        position: IndexingPosition,
+    ) -> Result<(), Fault>
+        ensures doc { OnOk result (self.new.doc ≡ self.old.doc) }
+        ensures ok { OnOk result ((other : List ℕ) → position_under other self.new.positions ≡ (if bytes_eq prefix.now other then position else position_under other self.old.positions)) }
+        ensures only { IfErr result (λ e. e ≡ Fault.OutOfMemory) }
+    {
+        self.positions.put(alloc, prefix, position)
+    }
+}
+
+/// The document that was opened last in each field, and its texts path by path.
+#[derive(Drop)]
+pub(crate) struct OpenPaths {
+    fields: Vec<FieldPaths>,
+}
+
+impl Model for OpenPaths {
+    ghost use Rattle.std.specs.Prelude.{List};
+    ghost use Rattle.ii_indexing.specs.OpenPaths.{OpenPathsState};
+
+    ghost Value = { List OpenPathsState };
+
+    ghost view = { λ p. p.fields.items };
+}
+
+impl OpenPaths {
+    // Document 0 of each field, with no texts.
+    pub(crate) fn new(alloc: Global, schema: &Schema) -> Result<OpenPaths, Fault>
+        ensures ok { IfOk result (λ paths. paths ≡ map (λ (e : Entry). no_paths) schema.now) }
+        ensures only { IfErr result (λ e. e ≡ Fault.OutOfMemory) }
+    {
+        let mut fields = Vec::with_capacity(alloc, schema.num_fields())?;
+        for (_field, _entry) in schema.fields() {
+            fields.push(FieldPaths::new(alloc))?;
+        }
+        Ok(OpenPaths { fields })
+    }
+
+    // Opens a document in a field, which isn't below the one before, and tells of its texts under a prefix.
+    pub(crate) fn open(&mut self, doc: DocId, field: Field, prefix: &[u8]) -> IndexingPosition
+        requires known { field < length self.old }
+        ensures opened { (o : OpenPathsState) → slice_get self.old field ≡ Some o → self.new ≡ slice_set self.old field (opened_path doc o) }
+        ensures position { (o : OpenPathsState) → slice_get self.old field ≡ Some o → result ≡ position_under prefix.now (opened_path doc o).positions }
+    {
+        let paths = &mut self.fields[field.field_id() as usize];
+        paths.open(doc);
+        paths.position(prefix)
+    }
+
+    // Puts what is known of the texts under a prefix of a field in place of what was known.
+    pub(crate) fn put(
+        &mut self,
+        alloc: Global,
+        field: Field,
+        prefix: &[u8],
+        position: IndexingPosition,
+    ) -> Result<(), Fault>
+        requires known { field < length self.old }
+        ensures ok { OnOk result ((o : OpenPathsState) → slice_get self.old field ≡ Some o → PutsPosition field prefix.now position self.old self.new o) }
+        ensures only { IfErr result (λ e. e ≡ Fault.OutOfMemory) }
+    {
+        self.fields[field.field_id() as usize].put(alloc, prefix, position)
+    }
+}
