@@ -2,7 +2,7 @@
 ghost use Rattle.std.specs.Prelude.{◌≡◌, ◌<◌, List, length, IfOk};
 ghost use Rattle.ii_base.specs.Schema.{Entry};
 ghost use Rattle.ii_base.specs.declared.schema.value_type.ValueType.TheVariants.{Str};
-ghost use Rattle.ii_indexing.specs.IndexCalls.{MayAllBeIndexed, Takes, call_of, type_of};
+ghost use Rattle.ii_indexing.specs.IndexCalls.{MayAllBeIndexed, Takes, doc_of, field_of, type_of};
 
 use anyhow::Result;
 use ii_base::{Field, FieldEntry, IndexRecordOption, Schema};
@@ -34,8 +34,8 @@ pub(crate) fn calls(alloc: Global) -> Result<Vec<IndexCall>>
 
 // A text of a document.
 fn text(alloc: Global, doc: u32, text: &str) -> Result<IndexCall>
-    ensures doc { IfOk result (λ call. (call_of call).doc ≡ doc) }
-    ensures field { IfOk result (λ call. ((call_of call).field ≡ 0) × (type_of call ≡ Str)) }
+    ensures doc { IfOk result (λ call. doc_of call ≡ doc) }
+    ensures field { IfOk result (λ call. (field_of call ≡ 0) × (type_of call ≡ Str)) }
 {
     let text = String::from_str(alloc, text)?;
     Ok(IndexCall::Text(doc, Field::from_field_id(0), text))

@@ -4,12 +4,8 @@ use Rattle.std.specs.List.{AllByRecursion}
 use Rattle.std.proofs.lemmas.List.{get_or_push, length_push}
 use Rattle.std.proofs.lemmas.List.Sorted.{IsNonDecreasingBy-push, IsNonDecreasingBy-short}
 use Rattle.ii_base.specs.Schema.{Entry}
-use Rattle.ii_indexing.specs.IndexCalls.{MayAllBeIndexed, MayBeIndexed, call_of}
+use Rattle.ii_indexing.specs.IndexCalls.{MayAllBeIndexed, MayBeIndexed, doc_of}
 use Rattle.ii_indexing.specs.declared.index_call.IndexCall.{IndexCall}
-
--- the document of a call
-abbrev pub doc_of : IndexCall → ℕ
-doc_of c = (call_of c).doc
 
 -- Calls may be made one after the other, and the last document is at most this one.
 pub record AreChecked (entries : List Entry) (num_docs last : ℕ) (calls : List IndexCall) : Type 0 where

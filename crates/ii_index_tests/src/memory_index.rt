@@ -1,7 +1,7 @@
 // Indexes in memory: written, opened, and looked up.
 ghost use Rattle.std.specs.Prelude.{◌≡◌, ◌<◌, ◌≤◌, true, length, IfOk};
 ghost use Rattle.ii_docset.specs.declared.docset.TheConstants.{TERMINATED};
-ghost use Rattle.ii_indexing.specs.IndexCalls.{MayAllBeIndexed, MayBeIndexed, call_of, type_of};
+ghost use Rattle.ii_indexing.specs.IndexCalls.{MayAllBeIndexed, MayBeIndexed, type_of};
 
 use bytes::Bytes;
 use ii_base::{
@@ -91,20 +91,6 @@ pub(crate) fn text_calls(
     Ok(calls)
 }
 
-fn field_of(call: &IndexCall) -> Field
-    ensures { result ≡ (call_of call.now).field }
-{
-    match call {
-        IndexCall::Text(_, field, _) => *field,
-        IndexCall::Tokens(_, field, _) => *field,
-        IndexCall::U64(_, field, _) => *field,
-        IndexCall::I64(_, field, _) => *field,
-        IndexCall::Bool(_, field, _) => *field,
-        IndexCall::Bytes(_, field, _) => *field,
-        IndexCall::Ip(_, field, _) => *field,
-    }
-}
-
 fn type_in(call: &IndexCall) -> ValueType
     ensures { result ≡ type_of call.now }
 {
@@ -116,6 +102,7 @@ fn type_in(call: &IndexCall) -> ValueType
         IndexCall::Bool(_, _, _) => ValueType::Bool,
         IndexCall::Bytes(_, _, _) => ValueType::Bytes,
         IndexCall::Ip(_, _, _) => ValueType::IpAddr,
+        IndexCall::Json(_, _, _) => ValueType::Json,
     }
 }
 
@@ -123,7 +110,7 @@ fn type_in(call: &IndexCall) -> ValueType
 fn may_be_indexed(schema: &Schema, num_docs: DocId, call: &IndexCall) -> bool
     ensures { result ≡ true → MayBeIndexed schema.now num_docs call.now }
 {
-    let field = field_of(call);
+    let field = call.field();
     if call.doc() >= num_docs {
         return false;
     }
@@ -242,7 +229,7 @@ pub(crate) fn written_texts(
     written(alloc, schema, num_docs, calls)
 }
 
-fn opened(alloc: Global, index: &Index) -> Result<OpenIndex, Fault>
+pub(crate) fn opened(alloc: Global, index: &Index) -> Result<OpenIndex, Fault>
     ensures { IfOk result (λ opened. length opened ≡ length index.now.schema) }
 {
     let terms = index.terms.clone()?;
