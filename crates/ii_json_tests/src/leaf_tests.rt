@@ -12,7 +12,7 @@ struct Gathered {
 }
 
 impl LeafSink for Gathered {
-    ghost use Rattle.std.specs.Prelude.{⊤, None, Unit};
+    ghost use Rattle.std.specs.Prelude.{⊤, None};
 
     ghost Given = { Unit {0} };
 
