@@ -9,13 +9,21 @@ use ii_reader::{BlockSegmentPostings, InvertedIndexFieldSpace, InvertedIndexRead
 use std::alloc::Global;
 use std::test::Fail;
 
-// So many JSON fields with positions.
-fn json_fields(alloc: Global, count: u32, expand_dots: bool) -> Result<Schema, Fault> {
+// A JSON field with positions.
+fn json_entry(alloc: Global, expand_dots: bool) -> Result<FieldEntry, Fault> {
+    Ok(FieldEntry::json(String::from_str(alloc, "json")?, FULL, expand_dots))
+}
+
+fn one_json(alloc: Global, expand_dots: bool) -> Result<Schema, Fault> {
     let mut entries = Vec::new(alloc);
-    for _ in 0..count {
-        let name = String::from_str(alloc, "json")?;
-        entries.push(FieldEntry::json(name, FULL, expand_dots))?;
-    }
+    entries.push(json_entry(alloc, expand_dots)?)?;
+    Ok(Schema::new(entries))
+}
+
+fn two_jsons(alloc: Global) -> Result<Schema, Fault> {
+    let mut entries = Vec::new(alloc);
+    entries.push(json_entry(alloc, false)?)?;
+    entries.push(json_entry(alloc, false)?)?;
     Ok(Schema::new(entries))
 }
 
@@ -44,7 +52,7 @@ fn json_call(field: u32, value: JsonValue) -> IndexCall {
 fn index_of_one(alloc: Global, expand_dots: bool, value: JsonValue) -> Result<Index, Fault> {
     let mut calls = Vec::new(alloc);
     calls.push(json_call(0, value))?;
-    written(alloc, json_fields(alloc, 1, expand_dots)?, 1, calls)
+    written(alloc, one_json(alloc, expand_dots)?, 1, calls)
 }
 
 // The postings under each key of a field, and how many tokens and terms field 0 has.
@@ -159,7 +167,7 @@ fn three_texts(alloc: Global) -> Result<Index, Fault> {
     for field in [0, 1, 0] {
         calls.push(json_call(field, text_at(alloc, "a", "x")?))?;
     }
-    written(alloc, json_fields(alloc, 2, false)?, 1, calls)
+    written(alloc, two_jsons(alloc)?, 1, calls)
 }
 
 #[test]
@@ -280,7 +288,7 @@ fn with_float(alloc: Global, key: &str) -> Result<Vec<IndexCall>, Fault> {
 // How such a call ends, and whether nothing was written.
 fn end_of_float(alloc: Global, key: &str) -> Result<(bool, Result<(), Fault>), Fault> {
     let calls = with_float(alloc, key)?;
-    let schema = json_fields(alloc, 1, false)?;
+    let schema = one_json(alloc, false)?;
     let (writers, answer) = write_to(alloc, schema, 1, calls, writers(alloc))?;
     Ok((are_untouched(&writers), answer))
 }
