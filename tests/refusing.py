@@ -1,4 +1,4 @@
-"""Runs built programs with an allocation refused."""
+"""Runs built programs with an allocation, a read or a write refused."""
 import os
 import subprocess
 
@@ -33,22 +33,21 @@ def build(crate):
     return ran.returncode == 0
 
 
-def shim(folder):
-    """The library that refuses an allocation, made by the kit's compiler."""
+def shim(folder, source='memory/refuse.c'):
+    """The library that refuses an allocation, or another that is loaded before the C library, made by the kit's compiler."""
     kit = os.path.dirname(subprocess.run(['rt', 'doc'], capture_output=True, text=True).stdout.split()[0])
-    made = os.path.join(folder, 'refuse.so')
+    made = os.path.join(folder, 'shim.so')
     tools = os.path.join(kit, 'toolchain', 'bin')
-    source = os.path.join(HERE, 'memory', 'refuse.c')
     subprocess.run([os.path.join(tools, 'clang'), '-shared', '-fPIC', '-O1', '-fno-builtin', '-nostdlib',
-                    '-fuse-ld=' + os.path.join(tools, 'ld.lld'), '-o', made, source], check=True)
+                    '-fuse-ld=' + os.path.join(tools, 'ld.lld'), '-o', made, os.path.join(HERE, source)], check=True)
     return made
 
 
-def run(crate, text, library, refused, folder):
-    """What the program writes, its status, and whether an allocation was refused."""
+def run(crate, text, library, refused, folder, variable='REFUSE'):
+    """What the program writes, its status, and whether the call was refused whose number the variable gives."""
     told = os.path.join(folder, 'told')
     with open(told, 'wb') as sink:
         os.dup2(sink.fileno(), 3)
         done = subprocess.run([program_of(crate)], input=text, stdout=subprocess.PIPE, stderr=subprocess.PIPE,
-                              timeout=60, pass_fds=(3,), env={'LD_PRELOAD': library, 'REFUSE': str(refused)})
+                              timeout=60, pass_fds=(3,), env={'LD_PRELOAD': library, variable: str(refused)})
     return done, os.path.getsize(told) > 0

@@ -1,6 +1,7 @@
 ghost use Rattle.std.specs.Prelude.{◌≡◌, false};
 ghost use Rattle.ii_base.specs.Paths.{has_zero};
 
+use crate::tests::have_bytes;
 use ii_base::{
     Fault, Field, JsonLeaf, JsonPathWriter, JsonValue, LeafKind, Term, encode_column_name,
     split_json_path,
@@ -164,19 +165,6 @@ fn push_values(alloc: Global, terms: &mut Vec<Term>) -> Result<(), Fault> {
     Ok(())
 }
 
-// Whether terms of field 3 have these bytes, as many as there are.
-fn have_bytes(terms: &[Term], rows: &[&'static [u8]]) -> bool {
-    if terms.len() != rows.len() {
-        return false;
-    }
-    for (term, row) in terms.iter().zip(rows) {
-        if term.field() != Field::from_field_id(3) || term.serialized_value_bytes() != *row {
-            return false;
-        }
-    }
-    true
-}
-
 #[test]
 fn paths_have_terms(rt: HostRuntime) -> Result<(), Fail> {
     let mut terms = Vec::new(rt.alloc());
@@ -236,13 +224,28 @@ fn push_others(leaves: &mut String) -> Result<(), Fault> {
     push_leaf(leaves, &JsonValue::Ip)
 }
 
+fn text(alloc: Global) -> Result<JsonValue, Fault> {
+    Ok(JsonValue::Str(String::from_str(alloc, "Elliot Smith")?))
+}
+
+// An object of that text.
+fn band(alloc: Global) -> Result<JsonValue, Fault> {
+    let mut members = Vec::new(alloc);
+    members.push((String::from_str(alloc, "band_name")?, text(alloc)?))?;
+    Ok(JsonValue::Object(members))
+}
+
+// A list of it.
+fn bands(alloc: Global) -> Result<JsonValue, Fault> {
+    let mut bands = Vec::new(alloc);
+    bands.push(band(alloc)?)?;
+    Ok(JsonValue::Array(bands))
+}
+
 fn push_made(alloc: Global, leaves: &mut String) -> Result<(), Fault> {
-    let text = JsonValue::Str(String::from_str(alloc, "Elliot Smith")?);
-    push_leaf(leaves, &text)?;
-    let name = String::from_str(alloc, "band_name")?;
-    let band = JsonValue::Object(vec![in alloc; (name, text)]?);
-    push_leaf(leaves, &band)?;
-    push_leaf(leaves, &JsonValue::Array(vec![in alloc; band]?))
+    push_leaf(leaves, &text(alloc)?)?;
+    push_leaf(leaves, &band(alloc)?)?;
+    push_leaf(leaves, &bands(alloc)?)
 }
 
 fn told_leaves(alloc: Global) -> Result<String, Fault> {

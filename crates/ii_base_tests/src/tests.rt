@@ -29,17 +29,31 @@ fn types_have_codes(rt: HostRuntime) {
     }
 }
 
-fn four_fields(alloc: Global) -> Result<Schema, AllocError> {
+fn text_entry(alloc: Global) -> Result<FieldEntry, AllocError> {
     let option = IndexRecordOption::WithFreqsAndPositions;
-    let text = FieldEntry::text(String::from_str(alloc, "text")?, option, true);
-    let number = FieldEntry::value(String::from_str(alloc, "number")?, ValueType::U64, true);
-    let json = FieldEntry::json(
-        String::from_str(alloc, "json")?,
-        IndexRecordOption::WithFreqs,
-        true,
-    );
-    let stored = FieldEntry::unindexed(String::from_str(alloc, "stored")?, ValueType::Date);
-    Ok(Schema::new(vec![in alloc; text, number, json, stored]?))
+    Ok(FieldEntry::text(String::from_str(alloc, "text")?, option, true))
+}
+
+fn number_entry(alloc: Global) -> Result<FieldEntry, AllocError> {
+    Ok(FieldEntry::value(String::from_str(alloc, "number")?, ValueType::U64, true))
+}
+
+fn json_entry(alloc: Global) -> Result<FieldEntry, AllocError> {
+    let option = IndexRecordOption::WithFreqs;
+    Ok(FieldEntry::json(String::from_str(alloc, "json")?, option, true))
+}
+
+fn stored_entry(alloc: Global) -> Result<FieldEntry, AllocError> {
+    Ok(FieldEntry::unindexed(String::from_str(alloc, "stored")?, ValueType::Date))
+}
+
+fn four_fields(alloc: Global) -> Result<Schema, AllocError> {
+    let mut entries = Vec::new(alloc);
+    entries.push(text_entry(alloc)?)?;
+    entries.push(number_entry(alloc)?)?;
+    entries.push(json_entry(alloc)?)?;
+    entries.push(stored_entry(alloc)?)?;
+    Ok(Schema::new(entries))
 }
 
 // Whether a field is indexed, has norms, and has paths with dots.
@@ -202,7 +216,7 @@ fn push_appended(alloc: Global, terms: &mut Vec<Term>) -> Result<(), Fault> {
 }
 
 // Whether terms of field 3 have these bytes, as many as there are.
-fn have_bytes(terms: &[Term], rows: &[&'static [u8]]) -> bool {
+pub(crate) fn have_bytes(terms: &[Term], rows: &[&'static [u8]]) -> bool {
     if terms.len() != rows.len() {
         return false;
     }

@@ -1,7 +1,9 @@
 use crate::indexer_tests::last_token;
-use crate::memory_index::{Index, text_and_number, text_calls, texts, write_to, writers, written};
 use ii_base::{CountingWriter, FailingWriter, Fault, Field, LimitName};
 use ii_indexing::{IndexCall, IndexWriters};
+use ii_memory_index::{
+    Index, are_untouched, text_and_number, text_calls, texts, write_to, writers, written,
+};
 use std::alloc::Global;
 use std::test::Fail;
 
@@ -141,15 +143,6 @@ fn refused_calls(alloc: Global) -> Result<Vec<IndexCall>, Fault> {
     let mut calls = text_calls(alloc, &[(0, 0, "a b")])?;
     calls.push(IndexCall::Tokens(1, Field::from_field_id(0), tokens))?;
     Ok(calls)
-}
-
-// Whether nothing was written.
-pub(crate) fn are_untouched(writers: &IndexWriters<Vec<u8>>) -> bool {
-    let mut all = writers.terms.written_bytes() == 0;
-    all &= writers.postings.written_bytes() == 0;
-    all &= writers.positions.written_bytes() == 0;
-    all &= writers.fieldnorms.written_bytes() == 0;
-    all
 }
 
 // The fault of these calls, and whether nothing was written.

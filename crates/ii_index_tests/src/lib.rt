@@ -8,10 +8,6 @@ mod index_tests;
 #[cfg(test)]
 mod indexer_tests;
 #[cfg(test)]
-mod json_tests;
-#[cfg(test)]
-mod memory_index;
-#[cfg(test)]
 mod ram_tests;
 #[cfg(test)]
 mod text_tests;

@@ -1,5 +1,5 @@
-use crate::memory_index::{checked, text_calls, texts};
 use ii_base::{AsciiTokenizer, Fault, Field};
+use ii_memory_index::{checked, text_calls, texts};
 use ii_ram::index_in_ram;
 use std::alloc::Global;
 use std::test::Fail;

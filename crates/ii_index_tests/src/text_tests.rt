@@ -1,10 +1,10 @@
-use crate::memory_index::{
-    FULL, Index, found, found_by_seeks, text_calls, text_entry, texts, told, told_of_calls,
-    told_of_text, two_texts, written, written_texts,
-};
 use ii_base::{Fault, Field, IndexRecordOption, Schema, Token, TokenList};
 use ii_docset::DocId;
 use ii_indexing::IndexCall;
+use ii_memory_index::{
+    FULL, Index, found, found_by_seeks, text_call, text_calls, text_entry, texts, told,
+    told_of_calls, told_of_text, two_texts, written, written_texts,
+};
 use std::alloc::Global;
 use std::test::Fail;
 
@@ -60,7 +60,7 @@ fn long_words(alloc: Global, len: usize) -> Result<Index, Fault> {
     let word = long_word(alloc, len)?;
     let mut calls = Vec::new(alloc);
     calls.push(IndexCall::Text(0, Field::from_field_id(0), word))?;
-    calls.push(crate::memory_index::text_call(alloc, 0, 0, "hello")?)?;
+    calls.push(text_call(alloc, 0, 0, "hello")?)?;
     written(alloc, texts(alloc, false)?, 1, calls)
 }
 
@@ -190,21 +190,16 @@ const LAST: DocId = 1002;
 
 // `abc be be be be abc` in documents 1 and 1002, `abc abc abc` in the others up to there.
 fn many_documents(alloc: Global) -> Result<Index, Fault> {
-    let mut texts = Vec::new(alloc);
+    let mut said = Vec::new(alloc);
     for doc in 0..LAST + 1 {
         if doc == 1 || doc == LAST {
-            texts.push((doc, 0, "abc be be be be abc"))?;
+            said.push((doc, 0, "abc be be be be abc"))?;
         } else {
-            texts.push((doc, 0, "abc abc abc"))?;
+            said.push((doc, 0, "abc abc abc"))?;
         }
     }
-    let calls = text_calls(alloc, texts.as_slice())?;
-    written(
-        alloc,
-        crate::memory_index::texts(alloc, false)?,
-        LAST + 1,
-        calls,
-    )
+    let calls = text_calls(alloc, said.as_slice())?;
+    written(alloc, texts(alloc, false)?, LAST + 1, calls)
 }
 
 // Where its `abc` stand.

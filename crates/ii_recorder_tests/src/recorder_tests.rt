@@ -101,22 +101,48 @@ fn bodies_of<R: Recorder>(alloc: Global, recorder: &R) -> Result<(Vec<u8>, Vec<u
     Ok((postings.finish(), positions.finish()))
 }
 
+// Whether both bodies begin with these bytes, and how long they are.
+fn told_of(bodies: &(Vec<u8>, Vec<u8>), begins: (&[u8], &[u8])) -> (bool, usize, usize) {
+    let (postings, positions) = bodies;
+    let (first, second) = begins;
+    let both = postings.starts_with(first) && positions.starts_with(second);
+    (both, postings.len(), positions.len())
+}
+
+// The same of what a recorder gives.
+fn told_of_recorder<R: Recorder>(
+    alloc: Global,
+    recorder: &R,
+    begins: (&[u8], &[u8]),
+) -> Result<(bool, usize, usize), Fault>
+    requires docs { IsTrue (are_documents (docs_of (entries_in (R.state recorder.now)))) }
+    requires counted { IsTrue (has_freq (R.state recorder.now).option) → AllByRecursion (λ n. 0 < n) (pushed_freqs (R.state recorder.now).option (entries_in (R.state recorder.now))) }
+{
+    Ok(told_of(&bodies_of(alloc, recorder)?, begins))
+}
+
+// After three tokens, documents by their deltas, and counts; no block of positions, and deltas. Then a
+// table of 24 bytes.
+fn told_of_positions(alloc: Global) -> Result<(bool, usize, usize), Fault> {
+    let postings = [3, 0, 0, 0, 0, 0, 0, 0, 0x80, 0x83, 0x82, 0x81];
+    let positions = [0x80, 0x80, 0x84, 0x81];
+    told_of_recorder(alloc, &two_documents(alloc)?, (&postings, &positions))
+}
+
+fn told_of_counts(alloc: Global) -> Result<(bool, usize, usize), Fault> {
+    let postings = [3, 0, 0, 0, 0, 0, 0, 0, 0x80, 0x83, 0x82, 0x81];
+    told_of_recorder(alloc, &two_counts(alloc)?, (&postings, &[]))
+}
+
+fn told_of_ids(alloc: Global) -> Result<(bool, usize, usize), Fault> {
+    let postings = [3, 0, 0, 0, 0, 0, 0, 0, 0x80, 0x83];
+    told_of_recorder(alloc, &two_ids(alloc)?, (&postings, &[]))
+}
+
 #[test]
 fn recorders_are_serialized(rt: HostRuntime) -> Result<(), Fail> {
-    let alloc = rt.alloc();
-    // After three tokens: documents by their deltas, and counts. No block of positions, and deltas.
-    // Then a table of 24 bytes.
-    let (postings, positions) = bodies_of(alloc, &two_documents(alloc)?)?;
-    assert!(rt; postings.starts_with(&[3, 0, 0, 0, 0, 0, 0, 0, 0x80, 0x83, 0x82, 0x81]));
-    assert!(rt; postings.len() == 12 + 24);
-    assert!(rt; positions.starts_with(&[0x80, 0x80, 0x84, 0x81]));
-    assert!(rt; positions.len() == 4 + 24);
-    let (postings, positions) = bodies_of(alloc, &two_counts(alloc)?)?;
-    assert!(rt; postings.starts_with(&[3, 0, 0, 0, 0, 0, 0, 0, 0x80, 0x83, 0x82, 0x81]));
-    assert!(rt; positions.len() == 1 + 24);
-    let (postings, positions) = bodies_of(alloc, &two_ids(alloc)?)?;
-    assert!(rt; postings.starts_with(&[3, 0, 0, 0, 0, 0, 0, 0, 0x80, 0x83]));
-    assert!(rt; postings.len() == 10 + 24);
-    assert!(rt; positions.len() == 1 + 24);
+    assert!(rt; told_of_positions(rt.alloc())? == (true, 12 + 24, 4 + 24));
+    assert!(rt; told_of_counts(rt.alloc())? == (true, 12 + 24, 1 + 24));
+    assert!(rt; told_of_ids(rt.alloc())? == (true, 10 + 24, 1 + 24));
     Ok(())
 }

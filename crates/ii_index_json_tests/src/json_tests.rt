@@ -1,10 +1,9 @@
 // Indexes of JSON values, whose terms are looked up by the bytes of their keys.
-use crate::fault_tests::are_untouched;
-use crate::memory_index::{
-    FULL, Index, opened, postings_of, push_counts, write_to, writers, written,
-};
 use ii_base::{Fault, Field, FieldEntry, JsonValue, LeafKind, Schema, Term};
 use ii_indexing::IndexCall;
+use ii_memory_index::{
+    FULL, Index, are_untouched, opened, postings_of, push_counts, write_to, writers, written,
+};
 use ii_reader::{BlockSegmentPostings, InvertedIndexFieldSpace, InvertedIndexReader};
 use std::alloc::Global;
 use std::test::Fail;
@@ -186,20 +185,26 @@ fn a_text_at_the_root_has_no_path(rt: HostRuntime) -> Result<(), Fail> {
     Ok(())
 }
 
+// Whether a value under a key is the one term of its index, with these bytes.
+fn is_term(
+    alloc: Global,
+    key: &str,
+    value: JsonValue,
+    bytes: &'static [u8],
+) -> Result<bool, Fault> {
+    let value = object(alloc, key, value)?;
+    Ok(told_of_one(alloc, value, &[(0, bytes)])?.as_str() == "0:1: ; 1 tokens of 1 terms")
+}
+
 #[test]
 fn values_stand_under_their_bytes(rt: HostRuntime) -> Result<(), Fail> {
-    let value = object(rt.alloc(), "d", JsonValue::Date(-1))?;
     let key: &'static [u8] = &[0x64, 0, 0x64, 0x80, 0, 0, 0, 0, 0, 0, 0];
-    let date = told_of_one(rt.alloc(), value, &[(0, key)])?;
-    let value = object(rt.alloc(), "d", JsonValue::Date(-1500000000))?;
+    let date = is_term(rt.alloc(), "d", JsonValue::Date(-1), key)?;
     let key: &'static [u8] = &[0x64, 0, 0x64, 0x7F, 0xFF, 0xFF, 0xFF, 0xC4, 0x65, 0x36, 0];
-    let later = told_of_one(rt.alloc(), value, &[(0, key)])?;
-    let value = object(rt.alloc(), "u", JsonValue::U64(9223372036854775808))?;
+    let earlier = is_term(rt.alloc(), "d", JsonValue::Date(-1500000000), key)?;
     let key: &'static [u8] = &[0x75, 0, 0x75, 0x80, 0, 0, 0, 0, 0, 0, 0];
-    let great = told_of_one(rt.alloc(), value, &[(0, key)])?;
-    for told in [date, later, great] {
-        assert!(rt; told.as_str() == "0:1: ; 1 tokens of 1 terms");
-    }
+    let great = is_term(rt.alloc(), "u", JsonValue::U64(9223372036854775808), key)?;
+    assert!(rt; date && earlier && great);
     Ok(())
 }
 

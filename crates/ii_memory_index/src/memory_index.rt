@@ -14,20 +14,26 @@ use ii_reader::{OpenIndex, SegmentPostings, open_index};
 use std::alloc::Global;
 use std::io::Write;
 
-pub(crate) const FULL: IndexRecordOption = IndexRecordOption::WithFreqsAndPositions;
+/// With counts and positions.
+pub const FULL: IndexRecordOption = IndexRecordOption::WithFreqsAndPositions;
 
 /// A schema, and the files of an index.
 #[derive(Drop)]
-pub(crate) struct Index {
-    pub(crate) schema: Schema,
-    pub(crate) terms: Bytes,
-    pub(crate) postings: Bytes,
-    pub(crate) positions: Bytes,
-    pub(crate) fieldnorms: Bytes,
+pub struct Index {
+    /// The fields.
+    pub schema: Schema,
+    /// The dictionaries of the fields' keys.
+    pub terms: Bytes,
+    /// Their postings.
+    pub postings: Bytes,
+    /// Their positions.
+    pub positions: Bytes,
+    /// Their norms.
+    pub fieldnorms: Bytes,
 }
 
-// A field of texts.
-pub(crate) fn text_entry(
+/// A field of texts.
+pub fn text_entry(
     alloc: Global,
     option: IndexRecordOption,
     norms: bool,
@@ -35,23 +41,23 @@ pub(crate) fn text_entry(
     Ok(FieldEntry::text(String::from_str(alloc, "text")?, option, norms))
 }
 
-// A field of texts with positions, and norms if they are wanted.
-pub(crate) fn texts(alloc: Global, norms: bool) -> Result<Schema, Fault> {
+/// A field of texts with positions, and norms if they are wanted.
+pub fn texts(alloc: Global, norms: bool) -> Result<Schema, Fault> {
     let mut entries = Vec::new(alloc);
     entries.push(text_entry(alloc, FULL, norms)?)?;
     Ok(Schema::new(entries))
 }
 
-// Two such fields, the first with norms.
-pub(crate) fn two_texts(alloc: Global) -> Result<Schema, Fault> {
+/// Two such fields, the first with norms.
+pub fn two_texts(alloc: Global) -> Result<Schema, Fault> {
     let mut entries = Vec::new(alloc);
     entries.push(text_entry(alloc, FULL, true)?)?;
     entries.push(text_entry(alloc, FULL, false)?)?;
     Ok(Schema::new(entries))
 }
 
-// A text with positions and norms, and a number without.
-pub(crate) fn text_and_number(alloc: Global) -> Result<Schema, Fault> {
+/// A text with positions and norms, and a number without.
+pub fn text_and_number(alloc: Global) -> Result<Schema, Fault> {
     let mut entries = Vec::new(alloc);
     entries.push(text_entry(alloc, FULL, true)?)?;
     let name = String::from_str(alloc, "number")?;
@@ -59,27 +65,22 @@ pub(crate) fn text_and_number(alloc: Global) -> Result<Schema, Fault> {
     Ok(Schema::new(entries))
 }
 
-// A number without norms.
-pub(crate) fn numbers(alloc: Global) -> Result<Schema, Fault> {
+/// A number without norms.
+pub fn numbers(alloc: Global) -> Result<Schema, Fault> {
     let mut entries = Vec::new(alloc);
     let name = String::from_str(alloc, "number")?;
     entries.push(FieldEntry::value(name, ValueType::U64, false))?;
     Ok(Schema::new(entries))
 }
 
-// A text of a document in a field.
-pub(crate) fn text_call(
-    alloc: Global,
-    doc: DocId,
-    field: u32,
-    text: &str,
-) -> Result<IndexCall, Fault> {
+/// A text of a document in a field.
+pub fn text_call(alloc: Global, doc: DocId, field: u32, text: &str) -> Result<IndexCall, Fault> {
     let text = String::from_str(alloc, text)?;
     Ok(IndexCall::Text(doc, Field::from_field_id(field), text))
 }
 
-// Texts, each of a document in a field.
-pub(crate) fn text_calls(
+/// Texts, each of a document in a field.
+pub fn text_calls(
     alloc: Global,
     texts: &[(DocId, u32, &'static str)],
 ) -> Result<Vec<IndexCall>, Fault> {
@@ -124,8 +125,8 @@ fn may_be_indexed(schema: &Schema, num_docs: DocId, call: &IndexCall) -> bool
     entry.value_type() == type_in(call)
 }
 
-// These calls, where they may be made one after the other.
-pub(crate) fn checked(
+/// These calls, where they may be made one after the other.
+pub fn checked(
     alloc: Global,
     schema: &Schema,
     num_docs: DocId,
@@ -163,8 +164,8 @@ fn write_checked<W: Write>(
     write_index(alloc, schema, num_docs, calls, &AsciiTokenizer, writers)
 }
 
-// Indexes calls, where they may be made; `IndexerFailed` else.
-pub(crate) fn write_to<W: Write + Drop>(
+/// Indexes calls, where they may be made; `IndexerFailed` else.
+pub fn write_to<W: Write + Drop>(
     alloc: Global,
     schema: Schema,
     num_docs: DocId,
@@ -178,8 +179,8 @@ pub(crate) fn write_to<W: Write + Drop>(
     Ok(write_checked(alloc, schema, num_docs, calls, writers))
 }
 
-// Writers over memory.
-pub(crate) fn writers(alloc: Global) -> IndexWriters<Vec<u8>> {
+/// Writers over memory.
+pub fn writers(alloc: Global) -> IndexWriters<Vec<u8>> {
     IndexWriters {
         terms: CountingWriter::wrap(Vec::new(alloc)),
         postings: CountingWriter::wrap(Vec::new(alloc)),
@@ -188,8 +189,8 @@ pub(crate) fn writers(alloc: Global) -> IndexWriters<Vec<u8>> {
     }
 }
 
-// What they hold is the index of a schema.
-pub(crate) fn index_of(schema: Schema, writers: IndexWriters<Vec<u8>>) -> Result<Index, Fault> {
+/// What they hold is the index of a schema.
+pub fn index_of(schema: Schema, writers: IndexWriters<Vec<u8>>) -> Result<Index, Fault> {
     let IndexWriters {
         terms,
         postings,
@@ -205,8 +206,8 @@ pub(crate) fn index_of(schema: Schema, writers: IndexWriters<Vec<u8>>) -> Result
     })
 }
 
-// The index of calls.
-pub(crate) fn written(
+/// The index of calls.
+pub fn written(
     alloc: Global,
     schema: Schema,
     num_docs: DocId,
@@ -218,8 +219,8 @@ pub(crate) fn written(
     index_of(schema, writers)
 }
 
-// The index of texts, each of a document in a field.
-pub(crate) fn written_texts(
+/// The index of texts, each of a document in a field.
+pub fn written_texts(
     alloc: Global,
     schema: Schema,
     num_docs: DocId,
@@ -229,7 +230,8 @@ pub(crate) fn written_texts(
     written(alloc, schema, num_docs, calls)
 }
 
-pub(crate) fn opened(alloc: Global, index: &Index) -> Result<OpenIndex, Fault>
+/// An index opened.
+pub fn opened(alloc: Global, index: &Index) -> Result<OpenIndex, Fault>
     ensures { IfOk result (λ opened. length opened ≡ length index.now.schema) }
 {
     let terms = index.terms.clone()?;
@@ -239,7 +241,7 @@ pub(crate) fn opened(alloc: Global, index: &Index) -> Result<OpenIndex, Fault>
 }
 
 // A cursor over the postings of a term, if its field has it.
-pub(crate) fn cursor_of(
+fn cursor_of(
     alloc: Global,
     index: &Index,
     term: &Term,
@@ -254,7 +256,7 @@ pub(crate) fn cursor_of(
 }
 
 // How many tokens and terms a field has.
-pub(crate) fn counts(alloc: Global, index: &Index, field: u32) -> Result<(u64, usize), Fault> {
+fn counts(alloc: Global, index: &Index, field: u32) -> Result<(u64, usize), Fault> {
     let field = Field::from_field_id(field);
     if field.field_id() as usize >= index.schema.num_fields() {
         return Ok((0, 0));
@@ -301,8 +303,8 @@ fn walked(alloc: Global, cursor: &mut SegmentPostings) -> Result<String, Fault> 
     Ok(text)
 }
 
-// The postings of a term: `DOC:COUNT:POS,POS, ` for each document; nothing where the field lacks it.
-pub(crate) fn postings_of(
+/// The postings of a term: `DOC:COUNT:POS,POS, ` for each document; nothing where the field lacks it.
+pub fn postings_of(
     alloc: Global,
     index: &Index,
     term: &Term,
@@ -314,8 +316,8 @@ pub(crate) fn postings_of(
     }
 }
 
-// The same of a word in a field of texts, with all that is kept.
-pub(crate) fn found(alloc: Global, index: &Index, field: u32, word: &str) -> Result<String, Fault> {
+/// The same of a word in a field of texts, with all that is kept.
+pub fn found(alloc: Global, index: &Index, field: u32, word: &str) -> Result<String, Fault> {
     let term = Term::from_field_text(alloc, Field::from_field_id(field), word)?;
     postings_of(alloc, index, &term, FULL)
 }
@@ -332,8 +334,8 @@ fn sought(alloc: Global, cursor: &mut SegmentPostings, targets: &[DocId]) -> Res
     Ok(text)
 }
 
-// The same over the postings of a word in field 0.
-pub(crate) fn found_by_seeks(
+/// The same over the postings of a word in field 0.
+pub fn found_by_seeks(
     alloc: Global,
     index: &Index,
     word: &str,
@@ -346,14 +348,14 @@ pub(crate) fn found_by_seeks(
     }
 }
 
-// Adds how many tokens and terms field 0 has.
-pub(crate) fn push_counts(alloc: Global, text: &mut String, index: &Index) -> Result<(), Fault> {
+/// Adds how many tokens and terms field 0 has.
+pub fn push_counts(alloc: Global, text: &mut String, index: &Index) -> Result<(), Fault> {
     let (tokens, terms) = counts(alloc, index, 0)?;
     Ok(write!(text, "{tokens} tokens of {terms} terms")?)
 }
 
-// What is found of words, each in a field, and how many tokens and terms field 0 has.
-pub(crate) fn told(alloc: Global, index: &Index, words: &[(u32, &str)]) -> Result<String, Fault> {
+/// What is found of words, each in a field, and how many tokens and terms field 0 has.
+pub fn told(alloc: Global, index: &Index, words: &[(u32, &str)]) -> Result<String, Fault> {
     let mut text = String::new(alloc);
     for word in words {
         let (field, word) = *word;
@@ -364,23 +366,19 @@ pub(crate) fn told(alloc: Global, index: &Index, words: &[(u32, &str)]) -> Resul
     Ok(text)
 }
 
-// The same of texts in one field without norms.
-pub(crate) fn told_of_text(
+/// The same of texts in one field without norms.
+pub fn told_of_text(
     alloc: Global,
     num_docs: DocId,
-    texts: &[(DocId, u32, &'static str)],
+    said: &[(DocId, u32, &'static str)],
     words: &[(u32, &'static str)],
 ) -> Result<String, Fault> {
-    let schema = crate::memory_index::texts(alloc, false)?;
-    told(
-        alloc,
-        &written_texts(alloc, schema, num_docs, texts)?,
-        words,
-    )
+    let index = written_texts(alloc, texts(alloc, false)?, num_docs, said)?;
+    told(alloc, &index, words)
 }
 
-// The same of calls.
-pub(crate) fn told_of_calls(
+/// The same of calls.
+pub fn told_of_calls(
     alloc: Global,
     schema: Schema,
     num_docs: DocId,
@@ -388,4 +386,13 @@ pub(crate) fn told_of_calls(
     words: &[(u32, &'static str)],
 ) -> Result<String, Fault> {
     told(alloc, &written(alloc, schema, num_docs, calls)?, words)
+}
+
+/// Whether nothing was written.
+pub fn are_untouched(writers: &IndexWriters<Vec<u8>>) -> bool {
+    let mut all = writers.terms.written_bytes() == 0;
+    all &= writers.postings.written_bytes() == 0;
+    all &= writers.positions.written_bytes() == 0;
+    all &= writers.fieldnorms.written_bytes() == 0;
+    all
 }
