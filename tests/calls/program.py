@@ -37,6 +37,9 @@ def main():
         text = f.read()
     with open(os.path.join(refusing.TOP, 'crates', 'iiq', 'stdout'), 'rb') as f:
         right = f.read()
+    # as much before it that it takes several reads and writes
+    text = b'ids 0 2 10\n' * 2000 + text
+    right = b'808288\n0 2 10\n' * 2000 + right
     os.dup2(2, 3)
     with tempfile.TemporaryDirectory() as folder:
         library = refusing.shim(folder, 'calls/fail.c')
