@@ -1,7 +1,11 @@
-//! Tests of `ii_base`, by its public calls.
+//! Tests of `ii_base` and `ii_json`, by their public calls.
 #![tactic(auto)]
 
 #[cfg(test)]
 mod json_tests;
 #[cfg(test)]
+mod leaf_tests;
+#[cfg(test)]
 mod tests;
+#[cfg(test)]
+mod value_tests;

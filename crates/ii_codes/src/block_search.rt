@@ -4,9 +4,6 @@ ghost use Rattle.ii_codes.specs.Search.{count_below};
 
 use super::COMPRESSION_BLOCK_SIZE;
 
-#[cfg(test)]
-mod tests;
-
 // So many comparisons tell 128 places apart.
 const COMPARISONS: u32 = 7;
 

@@ -622,8 +622,3 @@ pub fn reads_what_is_packed()
     ensures sorted { ReadsSortedBlocks }
     ensures unsorted { ReadsUnsortedBlocks }
 {}
-
-#[cfg(test)]
-mod plain;
-#[cfg(test)]
-mod tests;

@@ -188,6 +188,3 @@ pub fn reads_sorted_vints_back()
 pub fn reads_unsorted_vints_back()
     ensures { ReadsUnsortedVintsBack }
 {}
-
-#[cfg(test)]
-mod tests;

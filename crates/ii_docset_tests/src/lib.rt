@@ -1,5 +1,7 @@
-//! Tests of `ii_docset`, by its public calls.
+//! Tests of `ii_docset` and `ii_fieldnorm`, by their public calls.
 #![tactic(auto)]
 
+#[cfg(test)]
+mod fieldnorm_tests;
 #[cfg(test)]
 mod tests;

@@ -1,16 +1,14 @@
 -- What a call stores, and why it is refused, by the one text or value that it has.
-use Rattle.std.proofs.Common.{◌≡◌, ℕ, ◌<◌, List, [], ◌∷◌, ◌++◌, length, ◌≤◌, ◌∙◌, Some, None, Ok, Err, inl, arith, append-nil, Option, Result, ap, subst}
+use Rattle.std.proofs.Common.{◌≡◌, ℕ, List, [], ◌∷◌, ◌++◌, ◌≤◌, ◌∙◌, Some, None, Ok, Err, inl, arith, append-nil, Option, Result, ap, subst}
 use Rattle.std.specs.Prelude.{IfErr, MatchOption, ⊤}
 use Rattle.std.proofs.lemmas.Grind.{flat_map-append}
 use Rattle.ii_docset.specs.Entries.{Entry as DocEntry}
 use Rattle.ii_recorder.specs.Recorded.{RecorderState}
-use Rattle.ii_indexing.specs.IndexingContext.{EndsBy, recorder_of}
+use Rattle.ii_postings_writer.specs.IndexingContext.{EndsBy, recorder_of}
 use Rattle.ii_io.specs.declared.faults.Fault.{Fault}
 use Rattle.ii_io.specs.declared.faults.Fault.TheVariants.{OutOfMemory}
 use Rattle.ii_base.specs.Schema.{Entry}
 use Rattle.ii_base.specs.Words.{Word}
-use Rattle.ii_base.specs.declared.schema.index_record_option.IndexRecordOption.{IndexRecordOption}
-use Rattle.ii_base.specs.declared.schema.index_record_option.IndexRecordOption.TheVariants.{Basic}
 use Rattle.ii_base.specs.declared.schema.value_type.ValueType.{ValueType}
 use Rattle.ii_base.specs.declared.schema.value_type.ValueType.TheVariants.{Str}
 use Rattle.ii_index.specs.Fields.{option_of}

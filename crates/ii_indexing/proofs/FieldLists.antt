@@ -1,5 +1,5 @@
 -- Lists with an item for each field of a schema.
-use Rattle.std.proofs.Common.{◌≡◌, ℕ, zero, suc, ◌+◌, ◌<◌, ◌≤◌, ◌==◌, Bool, true, false, List, [], ◌∷◌, ◌++◌, map, length, Some, None, Option, sym, ap, ◌∙◌, refl, subst, arith, append-nil, append_assoc}
+use Rattle.std.proofs.Common.{◌≡◌, ℕ, zero, suc, ◌<◌, ◌≤◌, ◌==◌, Bool, true, false, List, [], ◌∷◌, map, length, Some, None, Option, sym, ap, ◌∙◌, refl, subst, arith, append_assoc}
 use Rattle.std.specs.Prelude.{slice_get, unwrap_or, IfSome, if◌then◌else◌}
 use Rattle.std.specs.Option.{option_map}
 use Rattle.std.proofs.lemmas.List.{length-map}
@@ -24,23 +24,12 @@ use Rattle.ii_indexing.specs.OpenPaths.{OpenPathsState, TellsPaths, no_paths, po
 use Rattle.ii_indexing.specs.IndexedTerms.{TakesTexts, TakesValue, kept_at, kept_in, kept_under, values_kept_in, writer_in}
 use Rattle.ii_indexing.specs.Indexer.{EndsAt, StoresPieces}
 use Rattle.ii_indexing.specs.OpenDocuments.{HasNorms, Tells, empty_document}
-use Rattle.ii_indexing.specs.PostingsWriter.{kept_as, kept_of, value_kept_of, writer_of, writers_of}
+use Rattle.ii_postings_writer.specs.PostingsWriter.{kept_as, kept_of, value_kept_of, writer_of, writers_of}
 use Rattle.ii_indexing.specs.Refusals.{piece_fault, pieces_fault}
 use Rattle.ii_json.specs.LeafVisit.{first_fault}
 use Rattle.ii_indexing.specs.declared.open_documents.OpenDocument.{OpenDocument}
 use Rattle.ii_indexing.proofs.DocumentLaws.{at_empty}
-use Rattle.std.specs.List.{enumerate_from}
 use Rattle.ii_base.specs.Schema.{Entry}
-
-map_entries : {A : Type 0} (f : Entry → A) (first : ℕ) (entries : List Entry) → map (λ (e : ℕ × Entry). f e.1) (enumerate_from first entries) ≡ map f entries
-map_entries f first [] = refl
-map_entries f first (e ∷ es) = ap (λ xs. f e ∷ xs) (map_entries f (first + 1) es)
-
--- an item was made for each
-pub all_made : {A : Type 0} (f : Entry → A) (made : List A) (rest : List (ℕ × Entry)) (entries : List Entry) → rest ≡ []
-    → made ++ map (λ (e : ℕ × Entry). f e.1) rest ≡ map (λ (e : ℕ × Entry). f e.1) (enumerate_from 0 entries) → made ≡ map f entries
-all_made f made rest entries is h =
-    sym (append-nil made) ∙ ap (λ (es : List (ℕ × Entry)). made ++ map (λ (e : ℕ × Entry). f e.1) es) (sym is) ∙ h ∙ map_entries f 0 entries
 
 -- an item of a list that was made alike
 pub made_alike : {A : Type 0} (x : A) (entries : List Entry) (i : ℕ) (d : A) → slice_get (map (λ (e : Entry). x) entries) i ≡ Some d → d ≡ x

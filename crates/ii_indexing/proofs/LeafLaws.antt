@@ -1,5 +1,5 @@
 -- What one more leaf of a JSON value stores, and why it is refused.
-use Rattle.std.proofs.Common.{◌≡◌, ℕ, List, [], ◌∷◌, ◌++◌, Option, Result, refl, sym, ap, ◌∙◌, subst, append_assoc, append-nil}
+use Rattle.std.proofs.Common.{◌≡◌, ℕ, List, [], ◌∷◌, ◌++◌, Option, Result, sym, ap, ◌∙◌, subst, append_assoc, append-nil}
 use Rattle.std.specs.List.{flat_map}
 use Rattle.std.proofs.lemmas.Grind.{flat_map-append}
 use Rattle.ii_io.specs.declared.faults.Fault.{Fault}
@@ -7,7 +7,6 @@ use Rattle.ii_base.specs.Json.{Leaf, text_leaf, value_leaf}
 use Rattle.ii_base.specs.Schema.{Entry}
 use Rattle.ii_base.specs.Values.{json_key, text_key, typed_key}
 use Rattle.ii_base.specs.Words.{Word}
-use Rattle.ii_base.specs.declared.schema.index_record_option.IndexRecordOption.{IndexRecordOption}
 use Rattle.ii_base.specs.declared.schema.value_type.ValueType.{ValueType}
 use Rattle.ii_base.specs.declared.schema.value_type.ValueType.TheVariants.{Json}
 use Rattle.ii_index.specs.Fields.{option_of}

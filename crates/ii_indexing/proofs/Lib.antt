@@ -1,32 +1,15 @@
-pub mod ByFieldLemmas
-pub mod ByteKeys
 pub mod CallLaws
-pub mod ContextFaults
 pub mod CallsLaws
 pub mod DocumentLaws
-pub mod FaultLemmas
 pub mod FieldLists
 pub mod FinishLaws
-pub mod GrowthLaws
-pub mod HeldBodies
-pub mod HeldFields
-pub mod HoldLaws
 pub mod NormFileLaws
 pub mod LeafLaws
-pub mod PartLemmas
 pub mod PathLaws
 mod PathPositions
 pub mod PieceLaws
-pub mod PostingsLaws
-pub mod RecorderSteps
-pub mod RecordsLaws
 pub mod RefusalLaws
-pub mod SerializeLemmas
-pub mod SortedLemmas
 pub mod StoreLaws
 pub mod StoredLaws
-pub mod TermIndexLemmas
-pub mod TermLemmas
-pub mod TextLaws
 mod WorkedRows
 pub mod WrittenFiles

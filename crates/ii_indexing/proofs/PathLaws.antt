@@ -9,7 +9,7 @@ use Rattle.ii_base.specs.Words.{Word}
 use Rattle.ii_index.specs.Tokens.{Piece, begin_after, end_after, is_same_group, kept_words, text_at, value_at}
 use Rattle.ii_indexing.specs.OpenPaths.{OpenPathsState, PathsReachTo, PutsPosition, TellAllPaths, TellsPaths, opened_path, position_under, positions_at, texts_under}
 use Rattle.ii_indexing.specs.Refusals.{group_count}
-use Rattle.ii_indexing.specs.declared.indexing_position.IndexingPosition.{IndexingPosition}
+use Rattle.ii_postings_writer.specs.declared.indexing_position.IndexingPosition.{IndexingPosition}
 use Rattle.ii_indexing.proofs.DocumentLaws.{set_value}
 use Rattle.ii_indexing.proofs.PieceLaws.{begin_more, group_more}
 use Rattle.ii_indexing.proofs.StoreLaws.{set_other, set_same}

@@ -5,8 +5,8 @@ use Rattle.std.specs.Map.{lookup}
 use Rattle.std.specs.Option.{option_map}
 use Rattle.indexmap.specs.IndexMap.{IndexMap, Updates, get_by}
 use Rattle.ii_indexing.specs.OpenPaths.{PathPositions, no_texts, position_under}
-use Rattle.ii_indexing.specs.declared.indexing_position.IndexingPosition.{IndexingPosition}
-use Rattle.ii_indexing.proofs.ByteKeys.{Key, is_key, lookup_seen, updated, updates_at}
+use Rattle.ii_postings_writer.specs.declared.indexing_position.IndexingPosition.{IndexingPosition}
+use Rattle.ii_postings_writer.proofs.ByteKeys.{Key, is_key, lookup_seen, updated, updates_at}
 
 abbrev pub seen : List (Key × IndexingPosition) → PathPositions
 seen es = map (λ (e : Key × IndexingPosition). (e.0.items, e.1)) es

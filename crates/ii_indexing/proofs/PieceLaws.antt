@@ -20,13 +20,13 @@ use Rattle.ii_indexing.specs.IndexedTerms.{IndexedTermsState, StoresTokens}
 use Rattle.ii_indexing.specs.Indexer.{StoresPieces}
 use Rattle.ii_indexing.specs.OpenDocuments.{HasNorms, OpenDocumentsState, ReachTo, Tells, TellsAll, document_at, empty_document}
 use Rattle.ii_indexing.specs.OpenPaths.{OpenPathsState, TellAllPaths}
-use Rattle.ii_indexing.specs.PostingsWriter.{text_fault}
+use Rattle.ii_postings_writer.specs.PostingsWriter.{text_fault}
 use Rattle.ii_indexing.specs.Refusals.{group_count, piece_fault}
 use Rattle.ii_json.specs.LeafVisit.{IsRefusedBy}
-use Rattle.ii_indexing.specs.declared.indexing_position.IndexingPosition.{IndexingPosition}
+use Rattle.ii_postings_writer.specs.declared.indexing_position.IndexingPosition.{IndexingPosition}
 use Rattle.ii_indexing.specs.declared.open_documents.OpenDocument.{OpenDocument}
 use Rattle.ii_indexing.proofs.DocumentLaws.{at_other, at_same, set_value}
-use Rattle.ii_indexing.proofs.PostingsLaws.{tokens_after-append}
+use Rattle.ii_postings_writer.proofs.PostingsLaws.{tokens_after-append}
 use Rattle.ii_indexing.proofs.StoreLaws.{set_other}
 
 -- Tokens of one document and field alone.

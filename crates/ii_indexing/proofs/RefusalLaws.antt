@@ -2,7 +2,7 @@
 use Rattle.std.proofs.Common.{◌≡◌, ℕ, ◌+◌, Bool, true, false, ◌&&◌, ◌||◌, ◌==◌, List, [], ◌∷◌, ◌++◌, Option, Some, None, Err, Result, sym, ◌∙◌, subst, arith, ⊎_elim}
 use Rattle.std.specs.Prelude.{◌⊎◌, IfSome, if◌then◌else◌, nat_le, nat_lt}
 use Rattle.ii_io.specs.declared.faults.Fault.{Fault}
-use Rattle.ii_io.specs.declared.faults.Fault.TheVariants.{DecreasingPosition, Limit, OutOfMemory, UnsupportedLeaf, Write}
+use Rattle.ii_io.specs.declared.faults.Fault.TheVariants.{DecreasingPosition, Limit, OutOfMemory, Write}
 use Rattle.ii_io.specs.declared.faults.LimitName.TheVariants as limit
 use Rattle.std.specs.List.{flat_map}
 use Rattle.ii_base.specs.Json.{Leaf, text_leaf, unsupported, value_leaf}
@@ -14,7 +14,8 @@ use Rattle.ii_index.specs.Postings.{field_count}
 use Rattle.ii_index.specs.Tokens.{Call, Content, IndexToken, Piece, begin_after, content_pieces, end_after, kept_words, leaf_pieces, leaves, pieces_of, text, tokens_after, value, word_token, words}
 use Rattle.ii_recorder.specs.Recorded.{last_position, position_fault, u32_max}
 use Rattle.ii_indexing.specs.IndexFiles.{CountsIndexFailures}
-use Rattle.ii_indexing.specs.Refusals.{call_fault, calls_fault, content_fault, gap_fault, leaf_fault, next_leaf_fault, group_count, open_entry, piece_fault, piece_fault_from, pieces_fault, u64_max, word_fault, words_fault}
+use Rattle.ii_indexing.specs.Refusals.{call_fault, calls_fault, content_fault, leaf_fault, next_leaf_fault, group_count, piece_fault, piece_fault_from, pieces_fault}
+use Rattle.ii_postings_writer.specs.WordRefusals.{gap_fault, open_entry, u64_max, word_fault, words_fault}
 use Rattle.ii_json.specs.LeafVisit.{first_fault, leaves_fault}
 use Rattle.ii_indexing.specs.declared.index_writers.IndexWriters.{IndexWriters}
 

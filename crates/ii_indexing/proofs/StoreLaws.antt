@@ -17,15 +17,15 @@ use Rattle.ii_index.specs.Fields.{option_of}
 use Rattle.ii_index.specs.Postings.{field_count, is_at, kind_of, tokens_at}
 use Rattle.ii_indexing.specs.IndexedTerms.{IndexedTermsState, IsOfField, StoresTokens, TakesTexts, TakesValue, kept_at, kept_in, value_fault, writer_in}
 use Rattle.ii_recorder.specs.Recorded.{position_fault}
-use Rattle.ii_indexing.specs.IndexingContext.{entry_at, recorder_or_new, TermIndex, recorder_of}
-use Rattle.ii_indexing.specs.IndexingTerm.{field_bytes}
-use Rattle.ii_indexing.specs.PostingsWriter.{HasTokens, PostingsWriterState, subscribe_fault, tokens_counted}
-use Rattle.ii_indexing.specs.Records.{Records}
-use Rattle.ii_indexing.specs.Refusals.{u64_max}
+use Rattle.ii_postings_writer.specs.IndexingContext.{entry_at, recorder_or_new, TermIndex, recorder_of}
+use Rattle.ii_postings_writer.specs.IndexingTerm.{field_bytes}
+use Rattle.ii_postings_writer.specs.PostingsWriter.{HasTokens, PostingsWriterState, subscribe_fault, tokens_counted}
+use Rattle.ii_postings_writer.specs.Records.{Records}
+use Rattle.ii_postings_writer.specs.WordRefusals.{u64_max}
 use Rattle.ii_json.specs.LeafVisit.{IsRefusedBy}
-use Rattle.ii_indexing.proofs.PostingsLaws.{tokens_at-append}
-use Rattle.ii_indexing.proofs.RecordsLaws.{HasKey}
-use Rattle.ii_indexing.proofs.TextLaws.{field_count_more, key_recorder}
+use Rattle.ii_postings_writer.proofs.PostingsLaws.{tokens_at-append}
+use Rattle.ii_postings_writer.proofs.RecordsLaws.{HasKey}
+use Rattle.ii_postings_writer.proofs.TextLaws.{field_count_more, key_recorder}
 
 -- Tokens of one field alone.
 pub record OnlyIn (field : ℕ) (us : List IndexToken) : Type 0 where

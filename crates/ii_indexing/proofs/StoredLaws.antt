@@ -16,15 +16,15 @@ use Rattle.ii_index.specs.Tokens.{IndexToken}
 use Rattle.ii_index.proofs.GroupedLaws.{grouped_counted}
 use Rattle.ii_recorder.specs.Pushed.{pushed_freqs}
 use Rattle.ii_recorder.specs.Recorded.{RecorderState}
-use Rattle.ii_indexing.specs.HeldBodies.{HaveTokens}
+use Rattle.ii_postings_writer.specs.HeldBodies.{HaveTokens}
 use Rattle.ii_indexing.specs.IndexedTerms.{IndexedTermsState, IsOfField, StoresTokens, kept_at}
-use Rattle.ii_indexing.specs.IndexingContext.{AllEndBy, EndsBy, recorder_of}
-use Rattle.ii_indexing.specs.IndexingTerm.{field_bytes}
+use Rattle.ii_postings_writer.specs.IndexingContext.{AllEndBy, EndsBy, recorder_of}
+use Rattle.ii_postings_writer.specs.IndexingTerm.{field_bytes}
 use Rattle.ii_indexing.specs.OpenDocuments.{with_norms}
-use Rattle.ii_indexing.specs.PostingsWriter.{PostingsWriterState}
-use Rattle.ii_indexing.specs.Records.{HasPostings}
-use Rattle.ii_indexing.specs.SortedTerms.{AllMayBeWritten, MayBeWritten}
-use Rattle.ii_indexing.proofs.SortedLemmas.{all_mapped, field_of_bytes}
+use Rattle.ii_postings_writer.specs.PostingsWriter.{PostingsWriterState}
+use Rattle.ii_postings_writer.specs.Records.{HasPostings}
+use Rattle.ii_postings_writer.specs.SortedTerms.{AllMayBeWritten, MayBeWritten}
+use Rattle.ii_postings_writer.proofs.SortedLemmas.{all_mapped, field_of_bytes}
 use Rattle.ii_indexing.proofs.StoreLaws.{kept_kind, token_field}
 
 -- the counts of entries that are cut

@@ -13,12 +13,12 @@ use Rattle.ii_base.specs.Schema.{Entry}
 use Rattle.ii_index.specs.Tokens.{IndexToken}
 use Rattle.ii_recorder.specs.IndexBodies.{AreFull, IndexBodiesState, failed_calls, tables_of}
 use Rattle.ii_recorder.specs.IndexSerializer.{IndexSerializerState}
-use Rattle.ii_indexing.specs.FieldParts.{FieldPart, HasFields, WroteContext, positions_body, postings_body, terms_body}
-use Rattle.ii_indexing.specs.HeldBodies.{WroteTokens}
+use Rattle.ii_postings_writer.specs.FieldParts.{FieldPart, HasFields, WroteContext, positions_body, postings_body, terms_body}
+use Rattle.ii_postings_writer.specs.HeldBodies.{WroteTokens}
 use Rattle.ii_indexing.specs.IndexFiles.{ClosedFiles, CountsThreeFailures, FillTables, begun_file}
-use Rattle.ii_indexing.specs.IndexingContext.{TermIndex}
-use Rattle.ii_indexing.specs.PostingsWriter.{PostingsWriterState}
-use Rattle.ii_indexing.specs.WriteFaults.{CountsFailures, IsContextFault}
+use Rattle.ii_postings_writer.specs.IndexingContext.{TermIndex}
+use Rattle.ii_postings_writer.specs.PostingsWriter.{PostingsWriterState}
+use Rattle.ii_postings_writer.specs.WriteFaults.{CountsFailures, IsContextFault}
 use Rattle.ii_indexing.proofs.NormFileLaws.{begun_bodies}
 
 -- three files in which nothing was written yet

@@ -11,10 +11,10 @@ use Rattle.ii_index.specs.Files.{HoldTokens}
 use Rattle.ii_index.specs.Tokens.{IndexToken}
 use Rattle.ii_recorder.specs.IndexBodies.{AreFull, IndexBodiesState, failed_calls, tables_of}
 use Rattle.ii_recorder.specs.IndexSerializer.{IndexSerializerState}
-use Rattle.ii_indexing.specs.FieldParts.{WroteContext}
+use Rattle.ii_postings_writer.specs.FieldParts.{WroteContext}
 use Rattle.ii_indexing.specs.IndexedTerms.{IndexedTermsState, StoresTokens}
 use Rattle.ii_indexing.specs.Norms.{HoldNorms}
-use Rattle.ii_indexing.specs.WriteFaults.{IsContextFault}
+use Rattle.ii_postings_writer.specs.WriteFaults.{IsContextFault}
 use Rattle.ii_indexing.specs.declared.index_writers.IndexWriters.{IndexWriters}
 
 -- The files of terms, postings and positions were written, and hold tokens.

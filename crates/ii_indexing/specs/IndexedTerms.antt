@@ -12,10 +12,10 @@ use Rattle.ii_index.specs.JsonKeys.{type_under}
 use Rattle.ii_index.specs.Tokens.{IndexToken}
 use Rattle.ii_index.specs.Fields.{option_of}
 use Rattle.ii_index.specs.Postings.{field_count, kind_of}
-use Rattle.ii_indexing.specs.IndexingContext.{TermIndex}
-use Rattle.ii_indexing.specs.PostingsWriter.{PostingsWriterState, kept_as, kept_of, value_kept_of}
-use Rattle.ii_indexing.specs.Records.{Records}
-use Rattle.ii_indexing.specs.Refusals.{u64_max}
+use Rattle.ii_postings_writer.specs.IndexingContext.{TermIndex}
+use Rattle.ii_postings_writer.specs.PostingsWriter.{PostingsWriterState, kept_as, kept_of, value_kept_of}
+use Rattle.ii_postings_writer.specs.Records.{Records}
+use Rattle.ii_postings_writer.specs.WordRefusals.{u64_max}
 
 -- The terms of all fields, and the writer of each field.
 pub record IndexedTermsState : Type 0 where

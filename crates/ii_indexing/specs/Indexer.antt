@@ -5,7 +5,7 @@ use Rattle.ii_base.specs.Schema.{Entry, keeps_norms}
 use Rattle.ii_base.specs.Words.{Word}
 use Rattle.ii_index.specs.Tokens.{Call, Piece, pieces_of, tokens_after}
 use Rattle.ii_indexing.specs.IndexedTerms.{IndexedTermsState, StoresTokens}
-use Rattle.ii_indexing.specs.IndexingContext.{AllEndBy}
+use Rattle.ii_postings_writer.specs.IndexingContext.{AllEndBy}
 use Rattle.ii_indexing.specs.OpenDocuments.{OpenDocumentsState, ReachTo, TellsAll, with_norms}
 use Rattle.ii_indexing.specs.OpenPaths.{OpenPathsState, PathsReachTo, TellAllPaths}
 

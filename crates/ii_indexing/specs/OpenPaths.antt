@@ -3,7 +3,7 @@ use Rattle.std.specs.Prelude.{◌≡◌, ℕ, ◌≤◌, ◌==◌, false, if◌t
 use Rattle.std.specs.Map.{lookup}
 use Rattle.ii_index.specs.Tokens.{Piece, begin_after, text_at}
 use Rattle.ii_indexing.specs.Refusals.{group_count}
-use Rattle.ii_indexing.specs.declared.indexing_position.IndexingPosition.{IndexingPosition}
+use Rattle.ii_postings_writer.specs.declared.indexing_position.IndexingPosition.{IndexingPosition}
 
 -- By what the keys of a text's words begin with, how many tokens such texts have, and where the next one begins.
 abbrev pub PathPositions : Type 0

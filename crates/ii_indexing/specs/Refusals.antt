@@ -1,44 +1,20 @@
 -- Which index calls are refused, memory aside.
-use Rattle.std.specs.Prelude.{◌≡◌, ◌⊎◌, ℕ, ◌+◌, ◌-◌, ◌^◌, Bool, true, false, ◌||◌, ◌==◌, if◌then◌else◌, List, [], ◌∷◌, ◌++◌, length, nat_lt, nat_le, Option, None, Some, MatchResult, Result, unwrap_or}
-use Rattle.std.specs.List.{filter, find, flat_map}
+use Rattle.std.specs.Prelude.{ℕ, Bool, true, false, if◌then◌else◌, List, [], ◌∷◌, ◌++◌, length, nat_le, Option, None, Some}
+use Rattle.std.specs.List.{filter, flat_map}
 use Rattle.ii_io.specs.declared.faults.Fault.{Fault}
-use Rattle.ii_io.specs.declared.faults.Fault.TheVariants.{Limit, OutOfMemory, UnsupportedLeaf}
+use Rattle.ii_io.specs.declared.faults.Fault.TheVariants.{Limit, UnsupportedLeaf}
 use Rattle.ii_io.specs.declared.faults.LimitName.TheVariants as limit
 use Rattle.ii_base.specs.declared.schema.index_record_option.IndexRecordOption.{IndexRecordOption}
 use Rattle.ii_base.specs.Json.{Leaf, text_leaf, unsupported, value_leaf}
 use Rattle.ii_base.specs.Words.{Word}
-use Rattle.ii_json.specs.LeafVisit.{IsRefusedBy, first_fault, leaves_fault}
-use Rattle.ii_docset.specs.Entries.{Entry}
-use Rattle.ii_recorder.specs.Recorded.{begun, position_fault, u32_max}
-use Rattle.ii_index.specs.Tokens.{Call, Content, IndexToken, Piece, begin_after, content_pieces, end_after, is_same_group, kept_words, leaf_pieces, leaves, pieces_of, text, tokens_after, value, word_token, words}
-use Rattle.ii_index.specs.Postings.{field_count, key_postings}
-
-abbrev pub u64_max : ℕ
-u64_max = 2 ^ 64 - 1
+use Rattle.ii_json.specs.LeafVisit.{first_fault, leaves_fault}
+use Rattle.ii_index.specs.Tokens.{Call, Content, IndexToken, Piece, begin_after, content_pieces, is_same_group, kept_words, leaf_pieces, leaves, pieces_of, text, tokens_after, value, words}
+use Rattle.ii_index.specs.Postings.{field_count}
+use Rattle.ii_postings_writer.specs.WordRefusals.{gap_fault, u64_max, words_fault}
 
 -- how many kept words the earlier texts of a group have
 abbrev pub group_count : List Piece → Piece → ℕ
 group_count earlier p = length (flat_map (λ (q : Piece). kept_words q.words) (filter (is_same_group p) earlier))
-
--- what the postings of a token's key have of its document so far
-abbrev pub open_entry : IndexRecordOption → IndexToken → List IndexToken → Entry
-open_entry option t ts = unwrap_or (find (λ (e : Entry). e.doc == t.doc) (key_postings option t.field t.key option ts)) (begun option t.doc)
-
--- why a word can't be a token after these ones, of which so many are of its group: where it starts or ends, how many tokens there are, or why its position can't be recorded
-abbrev pub word_fault : IndexRecordOption → Piece → ℕ → ℕ → List IndexToken → Word → Option Fault
-word_fault option p begin in_group ts w =
-    if nat_lt u32_max (begin + w.position + w.position_length) then Some (Limit limit.Position)
-    else if nat_le u32_max in_group || nat_le u64_max (field_count p.field ts) then Some (Limit limit.Tokens)
-    else let t = word_token p begin w in position_fault option t.position (open_entry option t ts)
-
--- the first fault of kept words, one after the other
-abbrev pub words_fault : IndexRecordOption → Piece → ℕ → ℕ → List IndexToken → List Word → Option Fault
-words_fault option p begin in_group ts [] = None
-words_fault option p begin in_group ts (w ∷ ws) = first_fault (word_fault option p begin in_group ts w) (words_fault option p begin (in_group + 1) (ts ++ word_token p begin w ∷ []) ws)
-
--- the gap after a text is looked at last
-abbrev pub gap_fault : ℕ → List Word → Option Fault
-gap_fault begin ws = if nat_lt u32_max (end_after begin ws) then Some (Limit limit.Position) else None
 
 abbrev pub piece_fault_from : Bool → IndexRecordOption → List Piece → List IndexToken → Piece → Option Fault
 piece_fault_from true option earlier ts p =

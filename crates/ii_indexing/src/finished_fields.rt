@@ -1,11 +1,11 @@
 ghost use Rattle.std.specs.Prelude.{◌≡◌, ◌<◌, ◌^◌, List, length, OnOk, IfErr};
 ghost use Rattle.ii_io.specs.CountingWriter.{Writes};
 ghost use Rattle.ii_index.specs.Tokens.{IndexToken};
-ghost use Rattle.ii_indexing.specs.FieldParts.{AreShortNorms};
-ghost use Rattle.ii_indexing.specs.HeldBodies.{HaveTokens};
+ghost use Rattle.ii_postings_writer.specs.FieldParts.{AreShortNorms};
+ghost use Rattle.ii_postings_writer.specs.HeldBodies.{HaveTokens};
 ghost use Rattle.ii_indexing.specs.IndexFiles.{CountsIndexFailures, FilesGrow, IsIndexFault, WroteIndex};
 ghost use Rattle.ii_indexing.specs.Norms.{HoldNorms};
-ghost use Rattle.ii_indexing.specs.SortedTerms.{AllMayBeWritten};
+ghost use Rattle.ii_postings_writer.specs.SortedTerms.{AllMayBeWritten};
 
 use crate::index_writers::IndexWriters;
 use crate::indexed_terms::IndexedTerms;

@@ -5,25 +5,23 @@ ghost use Rattle.ii_docset.specs.declared.docset.TheConstants.{TERMINATED};
 ghost use Rattle.ii_index.specs.Fields.{option_of};
 ghost use Rattle.ii_index.specs.Tokens.{IndexToken, end_after, kept_words, piece_tokens_from, text_at, value_at, value_token};
 ghost use Rattle.ii_indexing.specs.IndexedTerms.{StoresTokens, TakesTexts, TakesValue, value_fault};
-ghost use Rattle.ii_indexing.specs.FieldParts.{AreShortNorms, HasFields};
-ghost use Rattle.ii_indexing.specs.HeldBodies.{HaveTokens};
+ghost use Rattle.ii_postings_writer.specs.FieldParts.{AreShortNorms, HasFields};
+ghost use Rattle.ii_postings_writer.specs.HeldBodies.{HaveTokens};
 ghost use Rattle.ii_indexing.specs.IndexFiles.{ClosedFiles, CountsIndexFailures, CountsThreeFailures, FilesGrow, FillTables, PassLimits, WroteTermFiles};
-ghost use Rattle.ii_indexing.specs.IndexingContext.{AllEndBy};
-ghost use Rattle.ii_indexing.specs.PostingsWriter.{text_fault, writers_of};
+ghost use Rattle.ii_postings_writer.specs.IndexingContext.{AllEndBy};
+ghost use Rattle.ii_postings_writer.specs.PostingsWriter.{text_fault, writers_of};
 ghost use Rattle.ii_json.specs.LeafVisit.{IsRefusedBy};
-ghost use Rattle.ii_indexing.specs.SortedTerms.{AllMayBeWritten};
-ghost use Rattle.ii_indexing.specs.WriteFaults.{IsContextFault};
+ghost use Rattle.ii_postings_writer.specs.SortedTerms.{AllMayBeWritten};
+ghost use Rattle.ii_postings_writer.specs.WriteFaults.{IsContextFault};
 
 use crate::index_writers::IndexWriters;
-use crate::indexing_context::IndexingContext;
-use crate::indexing_position::IndexingPosition;
-use crate::indexing_term::IndexingTerm;
-use crate::per_field_postings_writer::PerFieldPostingsWriter;
-use crate::postings_writer::PostingsWriter;
-use crate::serialize_postings::serialize_postings;
 use ii_base::{CountingWriter, Fault, Field, LimitName, Schema, TokenStream};
 use ii_docset::DocId;
 use ii_fieldnorm::FieldNormReaders;
+use ii_postings_writer::serialize_postings::serialize_postings;
+use ii_postings_writer::{
+    IndexingContext, IndexingPosition, IndexingTerm, PerFieldPostingsWriter, PostingsWriter,
+};
 use ii_recorder::InvertedIndexSerializer;
 use std::alloc::Global;
 use std::io::Write;

@@ -1,8 +1,8 @@
 ghost use Rattle.std.specs.Prelude.{◌≡◌, [], List, ℕ, bytes_eq, if◌then◌else◌, IfErr, OnOk};
 ghost use Rattle.ii_indexing.specs.OpenPaths.{position_under};
 
-use crate::indexing_position::IndexingPosition;
 use ii_base::Fault;
+use ii_postings_writer::IndexingPosition;
 use indexmap::IndexMap;
 use std::alloc::Global;
 use std::marker::Model;

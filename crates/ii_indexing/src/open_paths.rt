@@ -2,10 +2,10 @@ ghost use Rattle.std.specs.Prelude.{◌≡◌, ◌<◌, List, ℕ, bytes_eq, if�
 ghost use Rattle.ii_base.specs.Schema.{Entry};
 ghost use Rattle.ii_indexing.specs.OpenPaths.{OpenPathsState, PutsPosition, no_paths, opened_path, position_under};
 
-use crate::indexing_position::IndexingPosition;
 use crate::indexing_positions_per_path::IndexingPositionsPerPath;
 use ii_base::{Fault, Field, Schema};
 use ii_docset::DocId;
+use ii_postings_writer::IndexingPosition;
 use std::alloc::Global;
 use std::marker::Model;
 

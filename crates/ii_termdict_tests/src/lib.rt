@@ -1,5 +1,7 @@
-//! Tests of `ii_termdict`, by its public calls.
+//! Tests of `ii_termstore` and `ii_termdict`, by their public calls.
 #![tactic(auto)]
 
+#[cfg(test)]
+mod store_tests;
 #[cfg(test)]
 mod tests;

@@ -1,16 +1,14 @@
-use Rattle.std.proofs.Common.{rules, ◌≡◌, ◌∙◌, ◌++◌, [], List, ℕ, ap, sym, subst}
-use Rattle.std.specs.Prelude.{OnOk}
+use Rattle.std.proofs.Common.{rules, ◌≡◌, ◌∙◌, ◌++◌, [], ap, subst}
 use Rattle.std.specs.List.{flat_map}
-use Rattle.ii_base.specs.Json.{Leaf, json_leaves, json_of}
+use Rattle.ii_base.specs.Json.{json_leaves, json_of}
 use Rattle.ii_base.specs.Paths.{PathState}
-use Rattle.ii_base.specs.Words.{Word}
 use Rattle.ii_index.specs.Fields.{option_of}
 use Rattle.ii_index.specs.Tokens.{leaf_pieces}
 use Rattle.ii_json.specs.LeafVisit.{IsRefusedBy, leaves_at, leaves_fault}
 use Rattle.ii_indexing.specs.Indexer.{IndexedFieldsState, LeafConstant, StoresPieces}
 use Rattle.ii_indexing.specs.Refusals.{next_leaf_fault}
 use Rattle.ii_indexing.proofs.LeafLaws.{first_held}
-use Rattle.ii_indexing.proofs.TermIndexLemmas.{on_both}
+use Rattle.ii_postings_writer.proofs.TermIndexLemmas.{on_both}
 use Rattle.ii_indexing.proofs.json_utils.index_json_value.Goals as goal
 
 pub returns-clause-stored : goal.returns-clause-stored

@@ -2,7 +2,7 @@ use Rattle.std.proofs.Common.{inl, inr, List, ℕ, refl, sym, subst, ◌∙◌, 
 use Rattle.std.proofs.lemmas.Result.{IfErr-weaker}
 use Rattle.ii_io.specs.CountingWriter.{CountingWriterState, Writes, Wrote}
 use Rattle.ii_io.specs.CountingWriterLemmas.{Grows-trans, grows_not, writes_grows, writes_went}
-use Rattle.ii_indexing.proofs.TermIndexLemmas.{on_ok}
+use Rattle.ii_postings_writer.proofs.TermIndexLemmas.{on_ok}
 use Rattle.ii_indexing.proofs.finished_fields.FinishedFields.write.Goals as goal
 
 pub returns-clause-fault : goal.returns-clause-fault

@@ -2,7 +2,7 @@ use Rattle.std.proofs.Common.{◌∙◌, List, ℕ, subst}
 use Rattle.std.specs.Prelude.{OnOk}
 use Rattle.ii_indexing.proofs.CallLaws.{ValueRefused, ValueStored}
 use Rattle.ii_indexing.proofs.FieldLists.{takes_number_at}
-use Rattle.ii_indexing.proofs.TermIndexLemmas.{on_ok}
+use Rattle.ii_postings_writer.proofs.TermIndexLemmas.{on_ok}
 use Rattle.ii_indexing.proofs.indexed_fields.IndexedFields.index_number_at.Goals as goal
 
 pub returns-clause-stored : goal.returns-clause-stored

@@ -1,12 +1,8 @@
-use Rattle.std.proofs.Common.{◌≡◌, ◌∙◌, List, ℕ, Result, subst, sym}
+use Rattle.std.proofs.Common.{◌∙◌, List, ℕ, subst}
 use Rattle.std.specs.Prelude.{OnOk}
-use Rattle.ii_io.specs.declared.faults.Fault.{Fault}
-use Rattle.ii_base.specs.Schema.{Entry}
-use Rattle.ii_base.specs.Values.{json_key, text_key}
-use Rattle.ii_index.specs.Tokens.{Piece}
 use Rattle.ii_indexing.proofs.CallLaws.{TextRefused, TextStored}
 use Rattle.ii_indexing.proofs.FieldLists.{takes_text_at}
-use Rattle.ii_indexing.proofs.TermIndexLemmas.{on_ok}
+use Rattle.ii_postings_writer.proofs.TermIndexLemmas.{on_ok}
 use Rattle.ii_indexing.proofs.indexed_fields.IndexedFields.index_text_at.Goals as goal
 
 pub returns-clause-stored : goal.returns-clause-stored

@@ -8,7 +8,7 @@ use Rattle.ii_indexing.specs.Refusals.{piece_fault}
 use Rattle.ii_json.specs.LeafVisit.{IsRefusedBy}
 use Rattle.ii_indexing.specs.Indexer.{EndsAt, IndexedFieldsState, StoresPieces}
 use Rattle.ii_indexing.specs.declared.open_documents.OpenDocument.{OpenDocument}
-use Rattle.ii_indexing.specs.declared.indexing_position.IndexingPosition.{IndexingPosition}
+use Rattle.ii_postings_writer.specs.declared.indexing_position.IndexingPosition.{IndexingPosition}
 use Rattle.ii_indexing.proofs.PathLaws.{paths_kept, text_has_none}
 use Rattle.ii_indexing.proofs.PieceLaws.{reach_put, text_refused, words_stored}
 use Rattle.ii_indexing.proofs.indexed_fields.IndexedFields.index_words.Goals as goal

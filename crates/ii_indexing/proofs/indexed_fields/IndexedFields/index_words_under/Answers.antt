@@ -1,5 +1,4 @@
-use Rattle.std.proofs.Common.{◌≡◌, ◌+◌, ◌-◌, ◌++◌, ◌<◌, [], List, ℕ, length, sym, ap, ◌∙◌, subst, arith, min, refl, None, true}
-use Rattle.std.specs.Prelude.{slice_get, slice_set, Some}
+use Rattle.std.proofs.Common.{◌≡◌, ◌+◌, ◌-◌, ◌++◌, ◌<◌, [], ℕ, length, sym, ap, ◌∙◌, subst, arith, min, refl, None, true}
 use Rattle.std.proofs.lemmas.List.{length-set}
 use Rattle.std.proofs.lemmas.Result.{err_from_is_err_and}
 use Rattle.ii_recorder.specs.Recorded.{u32_max}
@@ -9,14 +8,14 @@ use Rattle.ii_json.specs.LeafVisit.{IsRefusedBy}
 use Rattle.ii_indexing.specs.IndexedTerms.{StoresTokens}
 use Rattle.ii_indexing.specs.Indexer.{EndsAt, IndexedFieldsState, StoresPieces}
 use Rattle.ii_indexing.specs.OpenPaths.{opened_path}
-use Rattle.ii_indexing.specs.PostingsWriter.{text_fault}
+use Rattle.ii_postings_writer.specs.PostingsWriter.{text_fault}
 use Rattle.ii_indexing.specs.Refusals.{piece_fault}
-use Rattle.ii_indexing.specs.declared.indexing_position.IndexingPosition.{IndexingPosition}
+use Rattle.ii_postings_writer.specs.declared.indexing_position.IndexingPosition.{IndexingPosition}
 use Rattle.ii_indexing.specs.declared.open_documents.OpenDocument.{OpenDocument}
 use Rattle.ii_indexing.proofs.CallLaws.{refused_for_memory}
 use Rattle.ii_indexing.proofs.PathLaws.{has_path, position_told, text_length, text_reach, text_told}
 use Rattle.ii_indexing.proofs.PieceLaws.{reach_put, words_under_stored}
-use Rattle.ii_indexing.proofs.TermIndexLemmas.{on_ok}
+use Rattle.ii_postings_writer.proofs.TermIndexLemmas.{on_ok}
 use Rattle.ii_indexing.proofs.indexed_fields.IndexedFields.index_words_under.Goals as goal
 
 pub put-requires-2 : goal.put-requires-2

@@ -1,12 +1,12 @@
 use Rattle.std.proofs.Common.{◌≡◌, ◌++◌, ◌∙◌, sym, ap, subst, map}
 use Rattle.ii_index.specs.Tokens.{kept_words, text_at, word_token}
 use Rattle.ii_indexing.specs.IndexedTerms.{IndexedTermsState, StoresTokens, kept_at}
-use Rattle.ii_indexing.specs.IndexingContext.{AllEndBy}
-use Rattle.ii_indexing.specs.IndexingTerm.{IndexingTermState}
-use Rattle.ii_indexing.specs.PostingsWriter.{HasTokens, text_fault, text_piece}
+use Rattle.ii_postings_writer.specs.IndexingContext.{AllEndBy}
+use Rattle.ii_postings_writer.specs.IndexingTerm.{IndexingTermState}
+use Rattle.ii_postings_writer.specs.PostingsWriter.{HasTokens, text_fault, text_piece}
 use Rattle.ii_json.specs.LeafVisit.{IsRefusedBy}
 use Rattle.ii_indexing.proofs.StoreLaws.{text_known, text_stored}
-use Rattle.ii_indexing.proofs.TermIndexLemmas.{on_both}
+use Rattle.ii_postings_writer.proofs.TermIndexLemmas.{on_both}
 use Rattle.ii_indexing.proofs.indexed_terms.IndexedTerms.index_text.Goals as goal
 
 pub index_text-requires-clause-ends : goal.index_text-requires-clause-ends

@@ -1,13 +1,13 @@
 use Rattle.std.proofs.Common.{◌≡◌, ◌++◌, ◌∷◌, ◌∙◌, [], false, sym, ap, subst}
 use Rattle.ii_index.specs.Tokens.{value_at}
 use Rattle.ii_indexing.specs.IndexedTerms.{IndexedTermsState, StoresTokens, kept_at}
-use Rattle.ii_indexing.specs.IndexingContext.{AllEndBy}
-use Rattle.ii_indexing.specs.IndexingTerm.{IndexingTermState, term_bytes}
-use Rattle.ii_indexing.specs.PostingsWriter.{subscribe_fault, term_token}
-use Rattle.ii_indexing.specs.Records.{Records}
+use Rattle.ii_postings_writer.specs.IndexingContext.{AllEndBy}
+use Rattle.ii_postings_writer.specs.IndexingTerm.{IndexingTermState, term_bytes}
+use Rattle.ii_postings_writer.specs.PostingsWriter.{subscribe_fault, term_token}
+use Rattle.ii_postings_writer.specs.Records.{Records}
 use Rattle.ii_json.specs.LeafVisit.{IsRefusedBy}
 use Rattle.ii_indexing.proofs.StoreLaws.{value_refused, value_stored}
-use Rattle.ii_indexing.proofs.TermIndexLemmas.{on_both}
+use Rattle.ii_postings_writer.proofs.TermIndexLemmas.{on_both}
 use Rattle.ii_indexing.proofs.indexed_terms.IndexedTerms.index_value.Goals as goal
 
 pub subscribe-requires-clause-ends : goal.subscribe-requires-clause-ends

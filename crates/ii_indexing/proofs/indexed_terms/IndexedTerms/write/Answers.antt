@@ -1,7 +1,7 @@
 use Rattle.std.proofs.Common.{inl, inr, [], ◌∙◌, refl, sym, subst, ⊎_elim}
 use Rattle.std.proofs.lemmas.Result.{IfErr-weaker}
 use Rattle.ii_recorder.specs.IndexBodies.{IndexBodiesState}
-use Rattle.ii_indexing.specs.FieldParts.{HasFields}
+use Rattle.ii_postings_writer.specs.FieldParts.{HasFields}
 use Rattle.ii_indexing.specs.IndexedTerms.{IndexedTermsState}
 use Rattle.ii_indexing.specs.IndexFiles.{PassLimits}
 use Rattle.ii_indexing.proofs.WrittenFiles.{begun_fields}

@@ -1,11 +1,11 @@
 use Rattle.std.proofs.Common.{[], length, sym, subst}
 use Rattle.std.specs.Prelude.{IfErr, OnOk}
 use Rattle.ii_index.specs.Tokens.{pieces_of, tokens_after}
-use Rattle.ii_indexing.specs.HeldBodies.{HaveTokens}
+use Rattle.ii_postings_writer.specs.HeldBodies.{HaveTokens}
 use Rattle.ii_indexing.specs.IndexFiles.{IsIndexFault, WroteIndex}
 use Rattle.ii_indexing.specs.IndexedTerms.{IndexedTermsState}
 use Rattle.ii_indexing.specs.Indexer.{IndexerState, StoresPieces}
-use Rattle.ii_indexing.specs.SortedTerms.{AllMayBeWritten}
+use Rattle.ii_postings_writer.specs.SortedTerms.{AllMayBeWritten}
 use Rattle.ii_indexing.proofs.StoredLaws.{have_tokens, may_be_written}
 use Rattle.ii_indexing.proofs.indexer.Indexer.finish.Goals as goal
 

@@ -1,4 +1,4 @@
-use Rattle.std.proofs.Common.{◌++◌, ◌∷◌, [], List, ℕ, Some, sym, subst}
+use Rattle.std.proofs.Common.{◌++◌, ◌∷◌, [], List, sym, subst}
 use Rattle.std.specs.Prelude.{OnOk}
 use Rattle.ii_base.specs.Json.{leaf_of, text_leaf, value_leaf}
 use Rattle.ii_base.specs.Schema.{Entry}
@@ -10,7 +10,7 @@ use Rattle.ii_index.specs.Tokens.{Piece, text_at}
 use Rattle.ii_indexing.specs.IndexCalls.{Takes}
 use Rattle.ii_indexing.specs.Indexer.{StoresPieces}
 use Rattle.ii_indexing.proofs.LeafLaws.{LeafRefused, LeafTaken, PieceRefused, leaf_held, text_leaf_refused, value_leaf_refused}
-use Rattle.ii_indexing.proofs.TermIndexLemmas.{on_ok}
+use Rattle.ii_postings_writer.proofs.TermIndexLemmas.{on_ok}
 use Rattle.ii_indexing.proofs.json_utils.LeafIndexerLeafSink.take_leaf.Goals as goal
 
 pub returns-in_ok-tokens-in-Text-clause-refused : goal.returns-in_ok-tokens-in-Text-clause-refused

@@ -1,7 +1,8 @@
 use Rattle.std.proofs.Common.{refl}
 use Rattle.ii_base.specs.Schema.{Entry}
 use Rattle.ii_indexing.specs.OpenDocuments.{empty_document}
-use Rattle.ii_indexing.proofs.FieldLists.{all_made, short_norms}
+use Rattle.ii_indexing.proofs.FieldLists.{short_norms}
+use Rattle.ii_postings_writer.proofs.SchemaItems.{all_made}
 use Rattle.ii_indexing.proofs.open_documents.OpenDocuments.new.Goals as goal
 
 pub invariant_of-result : goal.invariant_of-result

@@ -1,6 +1,6 @@
 use Rattle.ii_base.specs.Schema.{Entry}
 use Rattle.ii_indexing.specs.OpenPaths.{no_paths}
-use Rattle.ii_indexing.proofs.FieldLists.{all_made}
+use Rattle.ii_postings_writer.proofs.SchemaItems.{all_made}
 use Rattle.ii_indexing.proofs.open_paths.OpenPaths.new.Goals as goal
 
 pub returns-clause-ok : goal.returns-clause-ok

@@ -1,0 +1,49 @@
+use ii_codes::{BitPacker, compute_num_bits, extract_bits};
+use ii_io::CountingWriter;
+use std::test::Fail;
+
+#[test]
+fn packs_and_extracts(rt: HostRuntime) -> Result<(), Fail> {
+    let mut output = CountingWriter::wrap(Vec::new(rt.alloc()));
+    let mut packer = BitPacker::default();
+    packer.write(321, compute_num_bits(321), &mut output)?;
+    packer.write(2, compute_num_bits(2), &mut output)?;
+    packer.write(51, compute_num_bits(51), &mut output)?;
+    packer.close(&mut output)?;
+    let bytes = output.finish();
+    assert!(rt; bytes.as_slice() == [0x41, 0x9D, 0x01].as_slice());
+    assert!(rt; bytes.len() == 3);
+    assert!(rt; extract_bits(&bytes, 0, 9) == 321);
+    assert!(rt; extract_bits(&bytes, 9, 2) == 2);
+    assert!(rt; extract_bits(&bytes, 11, 6) == 51);
+    Ok(())
+}
+
+#[test]
+fn packs_all_64_bits(rt: HostRuntime) -> Result<(), Fail> {
+    let mut output = CountingWriter::wrap(Vec::new(rt.alloc()));
+    let mut packer = BitPacker::new();
+    packer.write(1, 1, &mut output)?;
+    packer.write(u64::MAX, 64, &mut output)?;
+    packer.write(0, 0, &mut output)?;
+    packer.flush(&mut output)?;
+    packer.flush(&mut output)?;
+    let bytes = output.finish();
+    assert!(rt; bytes.as_slice() == [255, 255, 255, 255, 255, 255, 255, 255, 1].as_slice());
+    Ok(())
+}
+
+#[test]
+fn extracts_up_to_56_bits(rt: HostRuntime) {
+    let bytes = [0xFFu8; 8];
+    assert!(rt; extract_bits(&bytes, 7, 56) == 72_057_594_037_927_935);
+    assert!(rt; extract_bits(&bytes, 8, 56) == 72_057_594_037_927_935);
+    assert!(rt; extract_bits(&bytes, 64, 0) == 0);
+    assert!(rt;
+        (
+            compute_num_bits(0),
+            compute_num_bits(1),
+            compute_num_bits(u64::MAX)
+        ) == (0, 1, 64)
+    );
+}

@@ -1,6 +1,0 @@
-use Rattle.ii_indexing.proofs.FieldLists.{all_made}
-use Rattle.ii_indexing.specs.PostingsWriter.{writer_of}
-use Rattle.ii_indexing.proofs.per_field_postings_writer.PerFieldPostingsWriter.for_schema.Goals as goal
-
-pub returns-clause-ok : goal.returns-clause-ok
-returns-clause-ok c = all_made writer_of c.loop-field.writers.items c.loop-field._field-iterator c.args.schema.now c.in-None.ensures.steps.0 c.loop-field.invariant

@@ -1,0 +1,89 @@
+-- Terms that are put to their fields one after the other.
+use Rattle.std.proofs.Common.{add-one, eq-eqb, append-nil, zero-add, cond, ◌≡◌, ℕ, zero, suc, ◌+◌, ◌<◌, Bool, true, false, List, [], ◌∷◌, ◌++◌, length, map, take, drop, replicate, slice_index_or, slice_set, nat_eq, refl, sym, ap, ◌∙◌, subst, arith, Some}
+use Rattle.std.specs.Prelude.{slice_get, filter, Vec}
+use Rattle.std.specs.List.{AllByRecursion, range_with_len}
+use Rattle.std.proofs.lemmas.Bool.{ne_eqb}
+use Rattle.std.proofs.lemmas.List.{map-append}
+use Rattle.std.proofs.lemmas.List.Elements.{filter-append}
+use Rattle.std.proofs.lemmas.List.FromFn.{get_or-map-range_with_len, length-map-range_with_len}
+use Rattle.std.proofs.lemmas.Option.{slice_get-map}
+use Rattle.ii_recorder.specs.AnyRecorder.{any_state}
+use Rattle.std.specs.Option.{option_map}
+use Rattle.ii_recorder.specs.declared.recorder.any_recorder.AnyRecorder.{AnyRecorder}
+use Rattle.ii_recorder.specs.Recorded.{RecorderState}
+use Rattle.ii_postings_writer.specs.IndexingContext.{TermIndex}
+use Rattle.ii_postings_writer.specs.IndexingTerm.{field_in}
+use Rattle.ii_postings_writer.specs.SortedTerms.{IsTermBelow, TermState, seen, term_of, terms_in}
+
+module _ {X : Type 0} (f g : ℕ → X) where
+  same_above : (at first n : ℕ) → at < first → ((k : ℕ) → (k ≡ at → ⊥) → g k ≡ f k) → map f (range_with_len first n) ≡ map g (range_with_len first n)
+  same_above at first zero below others = refl
+  same_above at first (suc n) below others =
+      rw (← others first (λ e. absurd (omega (arith, e, below)))) (ap (λ (xs : List X). g first ∷ xs) (same_above at (first + 1) n (omega (arith, below)) others))
+
+  -- the values of one function with another's at one place
+  set_at : (first n k at : ℕ) (x : X) → k < n → first + k ≡ at → g at ≡ x → ((j : ℕ) → (j ≡ at → ⊥) → g j ≡ f j) → slice_set (map f (range_with_len first n)) k x ≡ map g (range_with_len first n)
+  set_at first zero k at x inside is here others = absurd (omega (arith, inside))
+  set_at first (suc n) zero at x inside is here others =
+      let same : first ≡ at = omega (arith, is) in
+      rw (← here, same) (ap (λ (xs : List X). g at ∷ xs) (same_above at (at + 1) n (omega (arith)) others))
+  set_at first (suc n) (suc k) at x inside is here others =
+      rw (← others first (λ e. absurd (omega (arith, e, is)))) (ap (λ (xs : List X). g first ∷ xs) (set_at (first + 1) n k at x (omega (arith, inside)) (omega (arith, is)) here others))
+
+filter_push : {X : Type 0} (p : X → Bool) (xs : List X) (x : X) (b : Bool) → p x ≡ b → filter p (xs ++ x ∷ []) ≡ filter p xs ++ cond b (x ∷ []) []
+filter_push p xs x true is = filter-append p xs (x ∷ []) ∙ ap (λ (ys : List _). filter p xs ++ ys) (rw is refl)
+filter_push p xs x false is = filter-append p xs (x ∷ []) ∙ ap (λ (ys : List _). filter p xs ++ ys) (rw is refl)
+
+abbrev lies_in : ℕ → List ℕ × RecorderState → Bool
+lies_in field t = nat_eq (field_in t.0) field
+
+-- one more term belongs to its field
+term_here : (terms : TermIndex) (t : List ℕ × RecorderState) → terms_in (field_in t.0) (terms ++ t ∷ []) ≡ terms_in (field_in t.0) terms ++ term_of t ∷ []
+term_here terms t =
+    ap (map term_of) (filter_push (lies_in (field_in t.0)) terms t true (eq-eqb (field_in t.0) (field_in t.0) refl))
+    ∙ map-append term_of (filter (lies_in (field_in t.0)) terms) (t ∷ [])
+
+-- and to no other
+term_elsewhere : (terms : TermIndex) (t : List ℕ × RecorderState) (field : ℕ) → (field ≡ field_in t.0 → ⊥) → terms_in field (terms ++ t ∷ []) ≡ terms_in field terms
+term_elsewhere terms t field apart =
+    ap (map term_of) (filter_push (lies_in field) terms t false (ne_eqb (field_in t.0) field (λ e. apart (sym e))) ∙ append-nil (filter (lies_in field) terms))
+
+abbrev lists_of : ℕ → TermIndex → List (List TermState)
+lists_of n terms = map (λ (field : ℕ). terms_in field terms) (range_with_len 0 n)
+
+pub one_more : (n : ℕ) (terms : TermIndex) (t : List ℕ × RecorderState) → field_in t.0 < n
+    → slice_set (lists_of n terms) (field_in t.0) (slice_index_or (lists_of n terms) (field_in t.0) [] ++ term_of t ∷ []) ≡ lists_of n (terms ++ t ∷ [])
+one_more n terms t inside =
+    let here = get_or-map-range_with_len (λ (field : ℕ). terms_in field terms) 0 n (field_in t.0) (field_in t.0) [] inside (zero-add (field_in t.0)) in
+    rw here (set_at (λ (field : ℕ). terms_in field terms) (λ (field : ℕ). terms_in field (terms ++ t ∷ [])) 0 n (field_in t.0) (field_in t.0) (terms_in (field_in t.0) terms ++ term_of t ∷ []) inside
+    (zero-add (field_in t.0)) (term_here terms t) (term_elsewhere terms t))
+
+pub none_at_first : (first n : ℕ) → replicate n [] ≡ map (λ (field : ℕ). terms_in field []) (range_with_len first n)
+none_at_first first zero = refl
+none_at_first first (suc n) = ap (λ (xs : List (List TermState)). [] ∷ xs) (none_at_first (first + 1) n)
+
+pub all_at : {X : Type 0} (P : X → Type 0) (xs : List X) (k : ℕ) (x : X) → AllByRecursion P xs → slice_get xs k ≡ Some x → P x
+all_at P [] k x all at = absurd (cc)
+all_at P (y ∷ ys) zero x all at = let same : y ≡ x = cc in subst P same all.0
+all_at P (y ∷ ys) (suc k) x all at = all_at P ys k x all.1 at
+
+pub take_one_more : {X : Type 0} (xs : List X) (k : ℕ) (x : X) → slice_get xs k ≡ Some x → take (suc k) xs ≡ take k xs ++ x ∷ []
+take_one_more [] k x at = absurd (cc)
+take_one_more (y ∷ ys) zero x at = let same : y ≡ x = cc in ap (λ z. z ∷ []) same
+take_one_more (y ∷ ys) (suc k) x at = ap (λ zs. y ∷ zs) (take_one_more ys k x at)
+
+-- each entry of a term map lies in one of the fields
+pub seen_at : {A : Type 0} (n : ℕ) (es : List (Vec ℕ A × AnyRecorder)) (k : ℕ) (e : Vec ℕ A × AnyRecorder) → AllByRecursion (IsTermBelow n) (map seen es) → slice_get es k ≡ Some e → IsTermBelow n (seen e)
+seen_at n es k e all at = all_at (IsTermBelow n) (map seen es) k (seen e) all (slice_get-map seen es k ∙ ap (option_map seen) at)
+
+-- the lists of the fields once a term was added to its own
+pub added : {A : Type 0} (n : ℕ) (es : List (Vec ℕ A × AnyRecorder)) (k : ℕ) (e : Vec ℕ A × AnyRecorder) (fields new : List (List TermState)) (bytes : List ℕ) → slice_get es k ≡ Some e
+    → AllByRecursion (IsTermBelow n) (map seen es) → bytes ≡ e.0.items → fields ≡ lists_of n (map seen (take k es))
+    → new ≡ slice_set fields (field_in bytes) (slice_index_or fields (field_in bytes) [] ++ record { key = drop 4 bytes; recorder = any_state e.1 } ∷ [])
+    → new ≡ lists_of n (map seen (take (k + 1) es))
+added n es k e fields new bytes at all same known put =
+    let more : map seen (take (k + 1) es) ≡ map seen (take k es) ++ seen e ∷ [] = ap (map seen) (ap (λ (m : ℕ). take m es) (add-one k) ∙ take_one_more es k e at) ∙ map-append seen (take k es) (e ∷ []) in
+    rw (put, same, known, more) (one_more n (map seen (take k es)) (seen e) (seen_at n es k e all at).known)
+
+pub known_at : (n : ℕ) (t : List ℕ × RecorderState) (terms : TermIndex) (fields : List (List TermState)) (bytes : List ℕ) → IsTermBelow n t → bytes ≡ t.0 → fields ≡ lists_of n terms → field_in bytes < length fields
+known_at n t terms fields bytes below same known = rw (same, known, length-map-range_with_len (λ (field : ℕ). terms_in field terms) 0 n) below.known

@@ -1,0 +1,120 @@
+-- Terms of a field that are written one after the other.
+use Rattle.std.proofs.Common.{Result, Ok, Err, OnOk, zero, suc, ◌+◌, ◌<◌, arith, append-nil, take, map, length, Ordering, Less, get_or, ◌≡◌, ℕ, Bool, List, [], ◌∷◌, ◌++◌, refl, sym, ap, ◌∙◌, subst}
+use Rattle.std.specs.Prelude.{if◌then◌else◌, IsTrue, ◌^◌}
+use Rattle.std.specs.List.{AllByRecursion}
+use Rattle.std.specs.List.Sorted.{IsStrictlySortedBy}
+use Rattle.std.specs.Cmp.Lexicographic.{slice_cmp}
+use Rattle.std.specs.Ordering.{nat_cmp}
+use Rattle.std.proofs.lemmas.List.{map-append, take_more}
+use Rattle.std.specs.List.{take-map}
+use Rattle.ii_termdict.specs.ReadBack.{AreAscending}
+use Rattle.ii_base.specs.Schema.{Entry as SchemaEntry}
+use Rattle.ii_index.specs.Fields.{option_of}
+use Rattle.ii_postings_writer.specs.declared.sorted_terms.TermOfField.{TermOfField}
+use Rattle.ii_base.specs.declared.schema.index_record_option.IndexRecordOption.TheVariants.{Basic}
+use Rattle.ii_base.specs.declared.schema.index_record_option.IndexRecordOption.{IndexRecordOption}
+use Rattle.ii_base.specs.Options.{has_freq, has_positions}
+use Rattle.ii_docset.specs.Entries.{Entry}
+use Rattle.ii_recorder.specs.FieldTerms.{term_under}
+use Rattle.ii_recorder.specs.OpenTerm.{OpenTermState}
+use Rattle.ii_recorder.specs.IndexBodies.{IndexBodiesState}
+use Rattle.ii_recorder.specs.IndexSerializer.{IndexSerializerState, IsWriting}
+use Rattle.ii_recorder.specs.Pushed.{FillTooLarge, HaveDeltas, pushed_freqs, with_entries}
+use Rattle.ii_recorder.specs.Recorded.{RecorderState, entries_in}
+use Rattle.ii_recorder.specs.Terms.{WrittenTerm}
+use Rattle.ii_postings_writer.specs.SortedTerms.{IsTold, IsWritable, state_of, written_of}
+
+-- documents that are pushed change nothing of what is written
+pub pushed_writing : (option : IndexRecordOption) (es : List Entry) (initial : IndexBodiesState) (s new : IndexSerializerState) (field tokens : ℕ) (ts : List WrittenTerm) (pending : List (List ℕ))
+    → new ≡ with_entries option s es → IsWriting initial s field tokens ts pending → IsWriting initial new field tokens ts pending
+pushed_writing option es initial s new field tokens ts pending is w =
+    let same : IsWriting initial (with_entries option s es) field tokens ts pending = record { mode = w.mode; counted = w.counted; bodies = w.bodies; terms = w.terms } in
+    subst (λ (n : IndexSerializerState). IsWriting initial n field tokens ts pending) (sym is) same
+
+-- a term that was begun
+abbrev pub begun_term : Bool → OpenTermState → OpenTermState
+begun_term counted t = record t { skip_info = if counted then t.mode else Basic; docs = []; freqs = []; deltas = [] }
+
+pub term_written : (key : List ℕ) (t : OpenTermState) (r : RecorderState) (s new : IndexSerializerState) (counted : Bool) → counted ≡ has_freq r.option → s.field.term ≡ begun_term counted t
+    → new ≡ with_entries r.option s (entries_in r) → term_under key new.field.term ≡ written_of t.mode (record { key = key; recorder = r })
+term_written key t r s new counted same begun is =
+    ap (λ (n : IndexSerializerState). term_under key n.field.term) is ∙ rw (begun, same) refl
+
+pub all_pushed : {X : Type 0} (P : X → Type 0) (xs : List X) (x : X) → AllByRecursion P xs → P x → AllByRecursion P (xs ++ x ∷ [])
+all_pushed P [] x all is = (is, tt)
+all_pushed P (y ∷ ys) x all is = (all.0, all_pushed P ys x all.1 is)
+
+all_taken : {X : Type 0} (P : X → Type 0) (n : ℕ) (xs : List X) → AllByRecursion P xs → AllByRecursion P (take n xs)
+all_taken P zero xs all = tt
+all_taken P (suc n) [] all = tt
+all_taken P (suc n) (x ∷ xs) all = (all.0, all_taken P n xs all.1)
+
+-- the first of keys that ascend
+ascend_taken : {K : Type 0} (c : K → K → Ordering) (n : ℕ) (ks : List K) → IsStrictlySortedBy c ks → IsStrictlySortedBy c (take n ks)
+unfolding IsStrictlySortedBy
+ascend_taken c zero ks sorted = tt
+ascend_taken c (suc n) [] sorted = tt
+ascend_taken c (suc n) (k ∷ ks) sorted = (all_taken (λ y. c k y ≡ Less) n ks sorted.0, ascend_taken c n ks sorted.1)
+
+module _ (mode : IndexRecordOption) where
+  -- terms as they are written
+  abbrev pub all_written : List TermOfField → List WrittenTerm
+  all_written terms = map (written_of mode) (map state_of terms)
+
+  abbrev key_of : TermOfField → List ℕ
+  key_of t = t.key.now
+
+  written_keys : (terms : List TermOfField) → map (λ (t : WrittenTerm). t.key) (all_written terms) ≡ map key_of terms
+  written_keys [] = refl
+  written_keys (t ∷ ts) = ap (λ (ks : List (List ℕ)). key_of t ∷ ks) (written_keys ts)
+
+  pub one_more_written : (terms : List TermOfField) (k : ℕ) (d : TermOfField) → k < length terms → all_written (take (k + 1) terms) ≡ all_written (take k terms) ++ written_of mode (state_of (get_or terms k d)) ∷ []
+  one_more_written terms k d inside =
+      ap all_written (take_more terms k d inside)
+      ∙ ap (map (written_of mode)) (map-append state_of (take k terms) (get_or terms k d ∷ []))
+      ∙ map-append (written_of mode) (map state_of (take k terms)) (state_of (get_or terms k d) ∷ [])
+
+  -- the next key is above the ones before it
+  pub next_above : (terms : List TermOfField) (k : ℕ) (d : TermOfField) (keys : List (List ℕ)) → k < length terms → AreAscending (map key_of terms)
+      → keys ≡ map (λ (t : WrittenTerm). t.key) (all_written (take k terms)) ++ [] → AreAscending (keys ++ key_of (get_or terms k d) ∷ [])
+  next_above terms k d keys inside ascending known =
+      let before : keys ≡ map key_of (take k terms) = known ∙ append-nil (map (λ (t : WrittenTerm). t.key) (all_written (take k terms))) ∙ written_keys (take k terms) in
+      let all : map key_of (take (k + 1) terms) ≡ keys ++ key_of (get_or terms k d) ∷ [] =
+      ap (map key_of) (take_more terms k d inside) ∙ map-append key_of (take k terms) (get_or terms k d ∷ []) ∙ ap (λ (ks : List (List ℕ)). ks ++ key_of (get_or terms k d) ∷ []) (sym before) in
+      subst AreAscending (take-map key_of (k + 1) terms ∙ all) (ascend_taken (slice_cmp nat_cmp) (k + 1) (map key_of terms) ascending)
+
+pub writable_at : (terms : List TermOfField) (k : ℕ) (d : TermOfField) → k < length terms → AllByRecursion IsWritable (map state_of terms) → IsWritable (state_of (get_or terms k d))
+writable_at [] k d inside all = absurd (omega (arith, inside))
+writable_at (t ∷ ts) zero d inside all = all.0
+writable_at (t ∷ ts) (suc k) d inside all = writable_at ts k d (omega (arith, inside)) all.1
+
+-- and one more is written as its field records it
+pub next_written : (first entries : List SchemaEntry) (field : ℕ) (terms : List TermOfField) (k : ℕ) (t : TermOfField) → k < length terms → t ≡ get_or terms k t → entries ≡ first
+    → all_written (option_of first field) (take k terms) ++ written_of (option_of entries field) (state_of t) ∷ [] ≡ all_written (option_of first field) (take (k + 1) terms)
+next_written first entries field terms k t inside is same =
+    let here : written_of (option_of entries field) (state_of t) ≡ written_of (option_of first field) (state_of (get_or terms k t)) =
+    ap (λ (es : List SchemaEntry). written_of (option_of es field) (state_of t)) same ∙ ap (λ (u : TermOfField). written_of (option_of first field) (state_of u)) is in
+    ap (λ (u : WrittenTerm). all_written (option_of first field) (take k terms) ++ u ∷ []) here ∙ sym (one_more_written (option_of first field) terms k t inside)
+
+pub one_more_told : (mode : IndexRecordOption) (terms : List TermOfField) (k : ℕ) (t : TermOfField) → k < length terms → t ≡ get_or terms k t → IsTold mode (state_of t) → AllByRecursion (IsTold mode) (map state_of (take k terms))
+    → AllByRecursion (IsTold mode) (map state_of (take (k + 1) terms))
+one_more_told mode terms k t inside is told all =
+    let more : map state_of (take (k + 1) terms) ≡ map state_of (take k terms) ++ state_of t ∷ [] =
+    ap (map state_of) (take_more terms k t inside) ∙ map-append state_of (take k terms) (get_or terms k t ∷ []) ∙ ap (λ (u : TermOfField). map state_of (take k terms) ++ state_of u ∷ []) (sym is) in
+    subst (AllByRecursion (IsTold mode)) (sym more) (all_pushed (IsTold mode) (map state_of (take k terms)) (state_of t) all told)
+
+-- what was told of the entries of a term that was begun
+pub was_told : (t : OpenTermState) (key : List ℕ) (r : RecorderState) (begun : OpenTermState) (counted : Bool) → counted ≡ has_freq r.option → begun ≡ begun_term counted t
+    → ¬ FillTooLarge begun.skip_info begun.freqs (pushed_freqs r.option (entries_in r)) → AllByRecursion (λ n. n < 2 ^ 32) (pushed_freqs r.option (entries_in r)) → (IsTrue (has_positions r.option) → HaveDeltas (entries_in r))
+    → IsTold t.mode (record { key = key; recorder = r })
+was_told t key r begun counted same is small fit located =
+    let here = subst (λ (u : OpenTermState). ¬ FillTooLarge u.skip_info u.freqs (pushed_freqs r.option (entries_in r))) is small in
+    record {
+      small = subst (λ (c : Bool). ¬ FillTooLarge (if c then t.mode else Basic) [] (pushed_freqs r.option (entries_in r))) same here;
+      fit = fit;
+      located = located;
+    }
+
+pub always_on_ok : {X E : Type 0} (r : Result X E) (P : Type 0) → P → OnOk r P
+always_on_ok (Ok x) P p = p
+always_on_ok (Err e) P p = tt

@@ -1,0 +1,79 @@
+-- The fields of an index as they are written, one after the other.
+use Rattle.std.specs.Prelude.{◌≡◌, ℕ, ◌<◌, ◌^◌, List, [], ◌∷◌, length, map, MatchOption, ⊤, slice_get, slice_index_or, unwrap_or}
+use Rattle.std.specs.List.{AllByRecursion, flat_map, range_with_len}
+use Rattle.std.specs.Option.{option_map}
+use Rattle.ii_io.specs.Composite.{Body, body_of}
+use Rattle.ii_io.specs.CompositeWrite.{HasBodies}
+use Rattle.ii_base.specs.Schema.{Entry}
+use Rattle.ii_index.specs.Fields.{option_of}
+use Rattle.ii_recorder.specs.HeldTerms.{HoldsTerms}
+use Rattle.ii_recorder.specs.IndexBodies.{IndexBodiesState}
+use Rattle.ii_recorder.specs.Terms.{FieldBodies, WrittenTerm, field_bodies}
+use Rattle.ii_termdict.specs.ReadBack.{AreAscending}
+use Rattle.ii_recorder.specs.IndexSerializer.{IndexSerializerState}
+use Rattle.ii_recorder.specs.Recorded.{RecorderState}
+use Rattle.ii_postings_writer.specs.IndexingContext.{TermIndex, recorder_of}
+use Rattle.ii_postings_writer.specs.PostingsWriter.{PostingsWriterState}
+use Rattle.ii_postings_writer.specs.SortedTerms.{IsTold, TermState, terms_in, written_of}
+
+-- A field that is written: how many tokens it has, and its terms.
+pub record FieldPart : Type 0 where
+  pub field : ℕ
+  pub tokens : ℕ
+  pub terms : List TermState
+
+abbrev pub written_terms : List Entry → FieldPart → List WrittenTerm
+written_terms entries p = map (written_of (option_of entries p.field)) p.terms
+
+abbrev pub bodies_of : List Entry → FieldPart → FieldBodies
+bodies_of entries p = field_bodies (option_of entries p.field) p.tokens (written_terms entries p)
+
+-- its bodies in the three files
+abbrev pub terms_body : List Entry → FieldPart → Body
+terms_body entries p = record { field = p.field; bytes = (bodies_of entries p).terms }
+
+abbrev pub postings_body : List Entry → FieldPart → Body
+postings_body entries p = record { field = p.field; bytes = (bodies_of entries p).postings }
+
+abbrev pub positions_body : List Entry → FieldPart → Body
+positions_body entries p = record { field = p.field; bytes = (bodies_of entries p).positions }
+
+-- They hold its terms, of which is known what was told.
+pub record HoldsPart (entries : List Entry) (p : FieldPart) : Type 0 where
+  pub terms : HoldsTerms (option_of entries p.field) p.tokens (bodies_of entries p) (written_terms entries p)
+  pub told : AllByRecursion (IsTold (option_of entries p.field)) p.terms
+
+-- Since three files were begun, these fields and nothing else were written to them.
+pub record HasFields (entries : List Entry) (initial now : IndexBodiesState) (fs : List FieldPart) : Type 0 where
+  pub terms : HasBodies initial.terms.writer now.terms (map (terms_body entries) fs)
+  pub postings : HasBodies initial.postings.writer now.postings (map (postings_body entries) fs)
+  pub positions : HasBodies initial.positions.writer now.positions (map (positions_body entries) fs)
+  pub held : AllByRecursion (HoldsPart entries) fs
+
+-- a field is written where it has terms
+abbrev pub parts_of : List Entry → ℕ → ℕ → List TermState → List FieldPart
+parts_of entries field tokens [] = []
+parts_of entries field tokens (t ∷ ts) = record { field = field; tokens = tokens; terms = t ∷ ts } ∷ []
+
+-- how many tokens the writer of a field had
+abbrev pub tokens_in : List PostingsWriterState → ℕ → ℕ
+tokens_in writers field = unwrap_or (option_map (λ (w : PostingsWriterState). w.total_num_tokens) (slice_get writers field)) 0
+
+-- the first so many fields as they are written
+abbrev pub first_parts : List Entry → List PostingsWriterState → List (List TermState) → ℕ → List FieldPart
+first_parts entries writers terms n = flat_map (λ (field : ℕ). parts_of entries field (tokens_in writers field) (slice_index_or terms field [])) (range_with_len 0 n)
+
+-- Norms for which each count of documents has 32 bits.
+abbrev pub AreShortNorms : List Body → Type 0
+AreShortNorms norms = (field : ℕ) → MatchOption (body_of field norms) ⊤ (λ ids. length ids < 2 ^ 32)
+
+-- The terms of a context were written in this order, those of each field in the order of their keys.
+pub record WroteTerms (old new : IndexSerializerState) (writers : List PostingsWriterState) (terms sorted : TermIndex) : Type 0 where
+  pub same : (bytes : List ℕ) → recorder_of sorted bytes ≡ recorder_of terms bytes
+  pub ascending : AreAscending (map (λ (t : List ℕ × RecorderState). t.0) sorted)
+  pub fields : HasFields old.entries old.bodies new.bodies (first_parts old.entries writers (map (λ (field : ℕ). terms_in field sorted) (range_with_len 0 (length old.entries))) (length old.entries))
+
+-- So they were in some order.
+pub record WroteContext (old new : IndexSerializerState) (writers : List PostingsWriterState) (terms : TermIndex) : Type 0 where
+  pub sorted : TermIndex
+  pub wrote : WroteTerms old new writers terms sorted

@@ -1,0 +1,33 @@
+-- The bodies of an index's fields, and the tokens that they hold.
+use Rattle.std.specs.Prelude.{◌≡◌, ℕ, ◌<◌, List, length, map, Some}
+use Rattle.std.specs.List.{AllByRecursion}
+use Rattle.ii_io.specs.Composite.{Body, body_of}
+use Rattle.ii_base.specs.Schema.{Entry}
+use Rattle.ii_base.specs.declared.schema.index_record_option.IndexRecordOption.{IndexRecordOption}
+use Rattle.ii_index.specs.Fields.{option_of}
+use Rattle.ii_index.specs.Files.{HasField, HoldsField}
+use Rattle.ii_index.specs.Postings.{field_count, kind_of, tokens_at}
+use Rattle.ii_index.specs.Tokens.{IndexToken}
+use Rattle.ii_recorder.specs.IndexSerializer.{IndexSerializerState}
+use Rattle.ii_postings_writer.specs.FieldParts.{FieldPart, HasFields, positions_body, postings_body, terms_body, tokens_in}
+use Rattle.ii_postings_writer.specs.IndexingContext.{TermIndex}
+use Rattle.ii_postings_writer.specs.PostingsWriter.{PostingsWriterState}
+use Rattle.ii_postings_writer.specs.Records.{Records}
+
+-- Bodies hold tokens, those of each field by its option.
+pub record BodiesHold (option : ℕ → IndexRecordOption) (terms postings positions : List Body) (ts : List IndexToken) : Type 0 where
+  pub present : (field : ℕ) → HasField field terms ts × HasField field postings ts × HasField field positions ts
+  pub fields : (field : ℕ) (t p q : List ℕ) → body_of field terms ≡ Some t → body_of field postings ≡ Some p → body_of field positions ≡ Some q → HoldsField (option field) field t p q ts
+
+-- A context and the writers of a schema have tokens: the postings of each key as its field and its tokens have them, and the number of tokens of each field.
+pub record HaveTokens (entries : List Entry) (terms : TermIndex) (writers : List PostingsWriterState) (ts : List IndexToken) : Type 0 where
+  pub records : Records (λ field key. kind_of (option_of entries field) (tokens_at field key ts)) terms ts
+  pub counted : (field : ℕ) → field < length entries → tokens_in writers field ≡ field_count field ts
+  pub known : AllByRecursion (λ (t : IndexToken). t.field < length entries) ts
+
+-- Tokens were written: the bodies that stand in the files hold them.
+pub record WroteTokens (old new : IndexSerializerState) (ts : List IndexToken) : Type 0 where
+  pub fs : List FieldPart
+  pub known : AllByRecursion (λ (p : FieldPart). p.field < length old.entries) fs
+  pub fields : HasFields old.entries old.bodies new.bodies fs
+  pub held : BodiesHold (option_of old.entries) (map (terms_body old.entries) fs) (map (postings_body old.entries) fs) (map (positions_body old.entries) fs) ts

@@ -1,0 +1,11 @@
+pub mod FieldParts
+pub mod HeldBodies
+pub mod IndexingContext
+pub mod IndexingTerm
+pub mod Lending
+pub mod LendingWriters
+pub mod PostingsWriter
+pub mod Records
+pub mod SortedTerms
+pub mod WordRefusals
+pub mod WriteFaults

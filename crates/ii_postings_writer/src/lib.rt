@@ -1,0 +1,17 @@
+//! The terms of documents while they are indexed: what is kept of each, how the words of texts come to
+//! it, and how the terms of all fields go out.
+#![tactic(auto)]
+
+pub mod indexing_context;
+pub mod indexing_position;
+pub mod indexing_term;
+pub mod per_field_postings_writer;
+pub mod postings_writer;
+pub mod serialize_postings;
+pub mod sorted_terms;
+
+pub use indexing_context::IndexingContext;
+pub use indexing_position::IndexingPosition;
+pub use indexing_term::{IndexingTerm, IndexingTermRef};
+pub use per_field_postings_writer::PerFieldPostingsWriter;
+pub use postings_writer::{PostingsWriter, SpecializedPostingsWriter};

@@ -1,0 +1,333 @@
+ghost use Rattle.std.specs.Prelude.{◌≡◌, ◌≤◌, ◌<◌, ◌+◌, ◌++◌, ◌∷◌, ◌^◌, [], ℕ, List, Bool, length, max, map, nat_le, nat_lt, if◌then◌else◌, true, Err, Ok, Some, None, IfErr, IfOk, OnErr, OnOk};
+ghost use Rattle.ii_io.specs.declared.faults.LimitName.TheVariants as limit;
+ghost use Rattle.ii_base.specs.Words.{Word, word_of};
+ghost use Rattle.ii_base.specs.declared.schema.index_record_option.IndexRecordOption.TheVariants.{Basic};
+ghost use Rattle.ii_docset.specs.declared.docset.TheConstants.{TERMINATED};
+ghost use Rattle.ii_recorder.specs.Recorded.{u32_max};
+ghost use Rattle.ii_index.specs.Tokens.{IndexToken, end_after, kept_words, piece_tokens_from};
+ghost use Rattle.ii_postings_writer.specs.IndexingContext.{AllEndBy, IsRecorded};
+ghost use Rattle.ii_postings_writer.specs.IndexingTerm.{field_bytes, term_bytes};
+ghost use Rattle.ii_postings_writer.specs.PostingsWriter.{HasTokens, IndexesKept, IndexesWords, PostingsWriterState, RefusesWords, TextState, kept_fault, subscribe_fault, term_token, text_fault, text_piece, text_state, tokens_counted};
+ghost use Rattle.ii_postings_writer.specs.Records.{Records};
+ghost use Rattle.ii_postings_writer.specs.WordRefusals.{gap_fault, words_fault};
+ghost use Rattle.ii_json.specs.LeafVisit.{IsRefusedBy, first_fault};
+
+use crate::indexing_context::IndexingContext;
+use crate::indexing_position::IndexingPosition;
+use crate::indexing_term::IndexingTerm;
+use ii_base::{Fault, IndexRecordOption, LimitName, Token, TokenStream};
+use ii_docset::DocId;
+use std::marker::Model;
+
+// How far the next text of a field lies behind the last one.
+const POSITION_GAP: u32 = 1;
+
+/// A longer token is left out, in bytes.
+pub const MAX_TOKEN_LEN: usize = 65530;
+
+/// Puts the terms of documents into an indexing context, and counts them.
+///
+/// Its meaning is what it keeps of a text's terms and of a value's, and how many tokens it had.
+pub trait PostingsWriter: Drop {
+    ghost state: { Self → PostingsWriterState };
+
+    /// Adds a position of a value's term in a document, which isn't below those that were added to the
+    /// context before.
+    ///
+    /// `Limit(Tokens)` for more than `u64::MAX` tokens, and then what the term's recorder says.
+    /// `OutOfMemory` where there is no room for it. After a fault no token was counted, and nothing is
+    /// said of the context.
+    fn subscribe(
+        &mut self,
+        doc: DocId,
+        pos: u32,
+        term: &IndexingTerm,
+        ctx: &mut IndexingContext,
+    ) -> Result<(), Fault>
+        requires low { doc < TERMINATED }
+        requires ends { AllEndBy doc ctx.old }
+        ensures recorded { OnOk result (IsRecorded (state self.old).value_option doc pos (term_bytes term.now) ctx.old ctx.new) }
+        ensures ends { OnOk result (AllEndBy doc ctx.new) }
+        ensures tokens { OnOk result ((kind : ℕ → List ℕ → IndexRecordOption) (ts : List IndexToken) (of_text : Bool)
+            → kind term.now.field term.now.value ≡ (state self.old).value_option → Records kind ctx.old ts → Records kind ctx.new (ts ++ term_token doc pos of_text term.now ∷ [])) }
+        ensures counted { OnOk result (state self.new ≡ tokens_counted 1 (state self.old)) }
+        ensures uncounted { OnErr result (state self.new ≡ state self.old) }
+        ensures refused { IsRefusedBy (subscribe_fault (state self.old).value_option (state self.old).total_num_tokens doc pos (term_bytes term.now) ctx.old) result };
+
+    /// Indexes the tokens of a text that are still to come, under the terms that the buffer's value and
+    /// their own bytes make, in a document that isn't below those before. They stand behind the texts
+    /// of `indexing_position`, which then has this one too, with a gap of 1 after it. A token of more
+    /// than `MAX_TOKEN_LEN` bytes is left out.
+    ///
+    /// Token by token, `Limit(Position)` where it starts or ends above `u32::MAX`, `Limit(Tokens)` for
+    /// more than `u32::MAX` tokens of these texts or more than `u64::MAX` of the writer, and then what
+    /// the term's recorder says; in the end `Limit(Position)` where the gap ends above `u32::MAX`; the
+    /// first of these alone. `OutOfMemory` where there is no room. Nothing is said of the context after a
+    /// fault.
+    fn index_text<S: TokenStream>(
+        &mut self,
+        doc_id: DocId,
+        token_stream: &mut S,
+        term_buffer: &mut IndexingTerm,
+        ctx: &mut IndexingContext,
+        indexing_position: &mut IndexingPosition,
+    ) -> Result<(), Fault>
+        requires low { doc_id < TERMINATED }
+        requires ends { AllEndBy doc_id ctx.old }
+        ensures tokens { OnOk result ((kind : ℕ → List ℕ → IndexRecordOption) (ts : List IndexToken)
+            → let p = text_piece doc_id term_buffer.old (S.to_come token_stream.old) in HasTokens kind p ctx.old (state self.old) ts
+            → HasTokens kind p ctx.new (state self.new) (ts ++ piece_tokens_from true indexing_position.old.end_position p)) }
+        ensures ends { OnOk result (AllEndBy doc_id ctx.new) }
+        ensures counted { OnOk result (state self.new ≡ tokens_counted (length (kept_words (S.to_come token_stream.old))) (state self.old)) }
+        ensures num_tokens { OnOk result (indexing_position.new.num_tokens ≡ indexing_position.old.num_tokens + length (kept_words (S.to_come token_stream.old))) }
+        ensures end_position { OnOk result (indexing_position.new.end_position ≡ end_after indexing_position.old.end_position (S.to_come token_stream.old)) }
+        ensures same_term { OnOk result (term_buffer.new ≡ term_buffer.old) }
+        ensures ended { OnOk result (S.to_come token_stream.new ≡ []) }
+        ensures refused { (kind : ℕ → List ℕ → IndexRecordOption) (ts : List IndexToken)
+            → let p = text_piece doc_id term_buffer.old (S.to_come token_stream.old) in HasTokens kind p ctx.old (state self.old) ts
+            → IsRefusedBy (text_fault (state self.old).option p indexing_position.old ts) result };
+
+    /// How many tokens it had.
+    fn total_num_tokens(&self) -> u64
+        ensures { result ≡ (state self.now).total_num_tokens };
+}
+
+/// Keeps the same of each term of a text, and the same of each term of a value.
+#[derive(Drop)]
+pub struct SpecializedPostingsWriter {
+    option: IndexRecordOption,
+    value_option: IndexRecordOption,
+    total_num_tokens: u64,
+}
+
+impl Model for SpecializedPostingsWriter {
+    ghost use Rattle.ii_postings_writer.specs.PostingsWriter.{PostingsWriterState};
+
+    ghost Value = { PostingsWriterState };
+
+    ghost view = { λ w. record { option = w.option; value_option = w.value_option; total_num_tokens = w.total_num_tokens } };
+}
+
+impl SpecializedPostingsWriter {
+    /// A writer of no tokens, which keeps of each term what `option` says.
+    pub fn new(option: IndexRecordOption) -> SpecializedPostingsWriter
+        ensures { result ≡ record { option = option; value_option = option; total_num_tokens = 0 } }
+    {
+        SpecializedPostingsWriter {
+            option,
+            value_option: option,
+            total_num_tokens: 0,
+        }
+    }
+
+    /// A writer of no tokens for a JSON field, which keeps of each term of a text what `option` says, and
+    /// of a value's that it occurs.
+    pub fn for_json(option: IndexRecordOption) -> SpecializedPostingsWriter
+        ensures { result ≡ record { option = option; value_option = Basic; total_num_tokens = 0 } }
+    {
+        SpecializedPostingsWriter {
+            option,
+            value_option: IndexRecordOption::Basic,
+            total_num_tokens: 0,
+        }
+    }
+
+    // Adds a position of a term of which so much is kept.
+    #[tactic(auto, using(crate::proofs::TermLemmas::long_term))]
+    fn record(
+        &mut self,
+        option: IndexRecordOption,
+        doc: DocId,
+        pos: u32,
+        term: &IndexingTerm,
+        ctx: &mut IndexingContext,
+    ) -> Result<(), Fault>
+        requires low { doc < TERMINATED }
+        requires ends { AllEndBy doc ctx.old }
+        ensures recorded { OnOk result (IsRecorded option doc pos (term_bytes term.now) ctx.old ctx.new) }
+        ensures ends { OnOk result (AllEndBy doc ctx.new) }
+        ensures counted { OnOk result (self.new ≡ tokens_counted 1 self.old) }
+        ensures uncounted { OnErr result (self.new ≡ self.old) }
+        ensures refused { IsRefusedBy (subscribe_fault option self.old.total_num_tokens doc pos (term_bytes term.now) ctx.old) result }
+    {
+        if self.total_num_tokens == u64::MAX {
+            return Err(Fault::Limit(LimitName::Tokens));
+        }
+        ctx.record(option, term.serialized_term(), doc, pos)?;
+        self.total_num_tokens += 1;
+        Ok(())
+    }
+
+    // Adds a position of a word, whose bytes stand behind the term's.
+    fn subscribe_word(
+        &mut self,
+        doc: DocId,
+        pos: u32,
+        word: &[u8],
+        term: &mut IndexingTerm,
+        ctx: &mut IndexingContext,
+    ) -> Result<(), Fault>
+        requires low { doc < TERMINATED }
+        requires ends { AllEndBy doc ctx.old }
+        ensures recorded { OnOk result (IsRecorded self.old.option doc pos (field_bytes term.old.field ++ (term.old.value ++ word.now)) ctx.old ctx.new) }
+        ensures ends { OnOk result (AllEndBy doc ctx.new) }
+        ensures counted { OnOk result (self.new ≡ tokens_counted 1 self.old) }
+        ensures uncounted { OnErr result (self.new ≡ self.old) }
+        ensures refused { IsRefusedBy (subscribe_fault self.old.option self.old.total_num_tokens doc pos (field_bytes term.old.field ++ (term.old.value ++ word.now)) ctx.old) result }
+        ensures same_term { OnOk result (term.new ≡ term.old) }
+    {
+        let len = term.len_bytes();
+        term.add_bytes(word)?;
+        self.record(self.option, doc, pos, term, ctx)?;
+        term.truncate_value_bytes(len);
+        Ok(())
+    }
+
+    // Indexes a word that isn't too long.
+    fn index_kept(
+        &mut self,
+        doc: DocId,
+        token: &Token,
+        begin: u32,
+        term: &mut IndexingTerm,
+        ctx: &mut IndexingContext,
+        at: &mut IndexingPosition,
+    ) -> Result<(), Fault>
+        requires low { doc < TERMINATED }
+        requires ends { AllEndBy doc ctx.old }
+        ensures indexed { OnOk result (IndexesKept (text_piece doc term.old []) begin (word_of token.now) (text_state ctx.old self.old at.old) (text_state ctx.new self.new at.new)) }
+        ensures same_term { OnOk result (term.new ≡ term.old) }
+        ensures refused { IsRefusedBy (kept_fault (text_piece doc term.old []) begin (word_of token.now) (text_state ctx.old self.old at.old)) result }
+    {
+        let (position, end) = token_place(begin, token.position, token.position_length)?;
+        let num_tokens = one_more(at.num_tokens)?;
+        self.subscribe_word(doc, position, token.text.as_bytes(), term, ctx)?;
+        at.num_tokens = num_tokens;
+        at.end_position = at.end_position.max(end);
+        Ok(())
+    }
+
+    // Indexes a word, unless it is too long.
+    fn index_word(
+        &mut self,
+        doc: DocId,
+        token: &Token,
+        begin: u32,
+        term: &mut IndexingTerm,
+        ctx: &mut IndexingContext,
+        at: &mut IndexingPosition,
+    ) -> Result<(), Fault>
+        requires low { doc < TERMINATED }
+        requires ends { AllEndBy doc ctx.old }
+        ensures indexed { OnOk result ((words : List Word) → IndexesWords (text_piece doc term.old words) begin (kept_words (word_of token.now ∷ [])) (text_state ctx.old self.old at.old) (text_state ctx.new self.new at.new)) }
+        ensures same_term { OnOk result (term.new ≡ term.old) }
+        ensures refused { IfErr result (λ e. (words : List Word) → RefusesWords (text_piece doc term.old words) begin (kept_words (word_of token.now ∷ [])) (text_state ctx.old self.old at.old) e) }
+    {
+        let _field = term.field().field_id();
+        if token.text.len() > MAX_TOKEN_LEN {
+            return Ok(());
+        }
+        self.index_kept(doc, token, begin, term, ctx, at)
+    }
+
+    // Indexes the words that are still to come of a text.
+    fn index_words<S: TokenStream>(
+        &mut self,
+        doc: DocId,
+        token_stream: &mut S,
+        begin: u32,
+        term: &mut IndexingTerm,
+        ctx: &mut IndexingContext,
+        at: &mut IndexingPosition,
+    ) -> Result<(), Fault>
+        requires low { doc < TERMINATED }
+        requires ends { AllEndBy doc ctx.old }
+        ensures indexed { OnOk result (IndexesWords (text_piece doc term.old (S.to_come token_stream.old)) begin (kept_words (S.to_come token_stream.old)) (text_state ctx.old self.old at.old) (text_state ctx.new self.new at.new)) }
+        ensures same_term { OnOk result (term.new ≡ term.old) }
+        ensures ended { OnOk result (S.to_come token_stream.new ≡ []) }
+        ensures refused { IfErr result (λ e. RefusesWords (text_piece doc term.old (S.to_come token_stream.old)) begin (kept_words (S.to_come token_stream.old)) (text_state ctx.old self.old at.old) e) }
+    {
+        while token_stream.advance() {
+            self.index_word(doc, token_stream.token(), begin, term, ctx, at)?;
+        }
+        Ok(())
+    }
+}
+
+impl PostingsWriter for SpecializedPostingsWriter {
+    ghost state = { λ w. w };
+
+    fn subscribe(
+        &mut self,
+        doc: DocId,
+        pos: u32,
+        term: &IndexingTerm,
+        ctx: &mut IndexingContext,
+    ) -> Result<(), Fault> {
+        let _field = term.field().field_id();
+        self.record(self.value_option, doc, pos, term, ctx)
+    }
+
+    fn index_text<S: TokenStream>(
+        &mut self,
+        doc_id: DocId,
+        token_stream: &mut S,
+        term_buffer: &mut IndexingTerm,
+        ctx: &mut IndexingContext,
+        indexing_position: &mut IndexingPosition,
+    ) -> Result<(), Fault> {
+        let begin = indexing_position.end_position;
+        self.index_words(
+            doc_id,
+            token_stream,
+            begin,
+            term_buffer,
+            ctx,
+            indexing_position,
+        )?;
+        indexing_position.end_position = next_text(indexing_position.end_position)?;
+        Ok(())
+    }
+
+    fn total_num_tokens(&self) -> u64 {
+        self.total_num_tokens
+    }
+}
+
+// Where a token stands in the texts of a field, from and to.
+fn token_place(begin: u32, position: usize, position_length: usize) -> Result<(u32, u32), Fault>
+    ensures ok { IfOk result (λ place. (place.0 ≡ begin + position) × (place.1 ≡ begin + position + position_length)) }
+    ensures refused { result ≡ (if nat_lt u32_max (begin + position + position_length) then Err (Fault.Limit limit.Position) else Ok (begin + position, begin + position + position_length)) }
+{
+    let limit = Fault::Limit(LimitName::Position);
+    let Some(position) = u64::from(begin).checked_add(position as u64) else {
+        return Err(limit);
+    };
+    let Some(end) = position.checked_add(position_length as u64) else {
+        return Err(limit);
+    };
+    if end > u64::from(u32::MAX) {
+        return Err(limit);
+    }
+    Ok((position as u32, end as u32))
+}
+
+// One more token.
+fn one_more(num_tokens: u32) -> Result<u32, Fault>
+    ensures { result ≡ (if nat_le u32_max num_tokens then Err (Fault.Limit limit.Tokens) else Ok (num_tokens + 1)) }
+{
+    if num_tokens == u32::MAX {
+        return Err(Fault::Limit(LimitName::Tokens));
+    }
+    Ok(num_tokens + 1)
+}
+
+// Where the next text begins, after one that ends here.
+fn next_text(end: u32) -> Result<u32, Fault>
+    ensures { result ≡ (if nat_lt u32_max (end + 1) then Err (Fault.Limit limit.Position) else Ok (end + 1)) }
+{
+    if end > u32::MAX - POSITION_GAP {
+        return Err(Fault::Limit(LimitName::Position));
+    }
+    Ok(end + POSITION_GAP)
+}

@@ -1,0 +1,232 @@
+ghost use Rattle.std.specs.Prelude.{◌≡◌, ◌≤◌, ◌<◌, ◌++◌, ◌∷◌, ◌^◌, ◌⊎◌, ◌↔◌, ℕ, List, [], false, length, map, IsTrue, IfErr, IfOk, IsErrOf, OnErr, OnOk};
+ghost use Rattle.std.specs.List.{AllByRecursion};
+ghost use Rattle.ii_io.specs.CountingWriter.{Closes};
+ghost use Rattle.ii_termdict.specs.ReadBack.{AreAscending};
+ghost use Rattle.ii_index.specs.Fields.{option_of};
+ghost use Rattle.ii_recorder.specs.AnyRecorder.{any_state};
+ghost use Rattle.ii_recorder.specs.IndexBodies.{AddsBodies, AllGrow, IndexBodiesState, LacksField};
+ghost use Rattle.ii_recorder.specs.IndexSerializer.{IsWriting};
+ghost use Rattle.ii_recorder.specs.Terms.{WrittenTerm, field_bodies};
+ghost use Rattle.ii_recorder.specs.HeldTerms.{HoldsTerms};
+ghost use Rattle.ii_postings_writer.specs.FieldParts.{AreShortNorms, FieldPart, HasFields, WroteContext, first_parts, parts_of, tokens_in};
+ghost use Rattle.ii_index.specs.Tokens.{IndexToken};
+ghost use Rattle.ii_postings_writer.specs.HeldBodies.{HaveTokens, WroteTokens};
+ghost use Rattle.ii_postings_writer.specs.SortedTerms.{AllMayBeWritten, IsTold, IsWritable, TermState, state_of, written_of};
+ghost use Rattle.ii_postings_writer.specs.WriteFaults.{ClosesOrStays, CountsFailures, IsContextFault, IsPartFault, IsPartsFault, IsTermFaultAfter, StaysClosed};
+
+use crate::indexing_context::IndexingContext;
+use crate::per_field_postings_writer::PerFieldPostingsWriter;
+use crate::postings_writer::PostingsWriter;
+use crate::sorted_terms::{FieldTerms, TermOfField};
+use ii_base::{Fault, Field, Schema};
+use ii_fieldnorm::{FieldNormReader, FieldNormReaders};
+use ii_layout::written::reads_uncounted_term_back;
+use ii_recorder::held_terms::reads_entries_back;
+use ii_recorder::{AnyRecorder, BufferLender, FieldSerializer, InvertedIndexSerializer, Recorder};
+use std::alloc::Global;
+use std::io::Write;
+
+// Writes a term of the field.
+fn serialize_one_term<W: Write>(
+    key: &[u8],
+    recorder: &AnyRecorder,
+    buffer_lender: &mut BufferLender,
+    serializer: &mut FieldSerializer<'_, W>,
+) -> Result<(), Fault>
+    requires open { serializer.old.index.now.closed ≡ false }
+    requires between { serializer.old.index.now.field.term_open ≡ false }
+    requires ascending { AreAscending (serializer.old.index.now.field.places.keys ++ key.now ∷ []) }
+    requires writable { IsWritable (record { key = key.now; recorder = any_state recorder.now }) }
+    ensures same_reference { serializer.new.index.ghost_name ≡ serializer.old.index.ghost_name }
+    ensures writing { (initial : IndexBodiesState) (field tokens : ℕ) (ts : List WrittenTerm) → IsWriting initial serializer.old.index.now field tokens ts []
+        → OnOk result (IsWriting initial serializer.new.index.now field tokens (ts ++ written_of (option_of serializer.old.index.now.entries field) (record { key = key.now; recorder = any_state recorder.now }) ∷ []) []) }
+    ensures told { OnOk result (IsTold serializer.old.index.now.field.term.mode (record { key = key.now; recorder = any_state recorder.now })) }
+    ensures between { OnOk result (serializer.new.index.now.field.term_open ≡ false) }
+    ensures closes { Closes result serializer.new.index.now.closed }
+    ensures entries { serializer.new.index.now.entries ≡ serializer.old.index.now.entries }
+    // where it is refused
+    ensures failures { CountsFailures serializer.old.index.now.bodies serializer.new.index.now.bodies result }
+    ensures grow { AllGrow serializer.old.index.now.bodies serializer.new.index.now.bodies }
+    ensures fault { (initial : IndexBodiesState) (field tokens : ℕ) (ts : List WrittenTerm) → IsWriting initial serializer.old.index.now field tokens ts []
+        → IfErr result (IsTermFaultAfter initial (option_of serializer.old.index.now.entries field) tokens ts
+        (written_of (option_of serializer.old.index.now.entries field) (record { key = key.now; recorder = any_state recorder.now }))) }
+    ensures none { ¬ IsErrOf result Fault.SerializerClosed }
+{
+    let doc_freq = recorder.term_doc_freq().unwrap_or(0);
+    serializer.new_term(key, doc_freq, recorder.has_term_freq())?;
+    recorder.serialize(buffer_lender, serializer)?;
+    serializer.close_term()
+}
+
+// Writes a field with so many tokens, whose terms ascend.
+fn serialize_field<W: Write>(
+    field: Field,
+    total_num_tokens: u64,
+    fieldnorm_reader: Option<FieldNormReader>,
+    terms: &[TermOfField<'_>],
+    buffer_lender: &mut BufferLender,
+    serializer: &mut InvertedIndexSerializer<W>,
+) -> Result<(), Fault>
+    requires known { field < length serializer.old.entries }
+    requires lacks { serializer.old.closed ≡ false → LacksField field serializer.old.bodies }
+    requires ascending { AreAscending (map (λ t. t.key.now) terms.now) }
+    requires writable { AllByRecursion IsWritable (map state_of terms.now) }
+    ensures entries { serializer.new.entries ≡ serializer.old.entries }
+    ensures closes { Closes result serializer.new.closed }
+    ensures closed { IsErrOf result Fault.SerializerClosed ↔ IsTrue serializer.old.closed }
+    ensures wrote { OnOk result (AddsBodies serializer.old.bodies serializer.new.bodies field
+        (field_bodies (option_of serializer.old.entries field) total_num_tokens (map (written_of (option_of serializer.old.entries field)) (map state_of terms.now)))) }
+    ensures holds { OnOk result (HoldsTerms (option_of serializer.old.entries field) total_num_tokens
+        (field_bodies (option_of serializer.old.entries field) total_num_tokens (map (written_of (option_of serializer.old.entries field)) (map state_of terms.now)))
+        (map (written_of (option_of serializer.old.entries field)) (map state_of terms.now))) }
+    ensures told { OnOk result (AllByRecursion (IsTold (option_of serializer.old.entries field)) (map state_of terms.now)) }
+    // where it is refused
+    ensures failures { CountsFailures serializer.old.bodies serializer.new.bodies result }
+    ensures grow { AllGrow serializer.old.bodies serializer.new.bodies }
+    ensures fault { IfErr result (λ e. (e ≡ Fault.SerializerClosed)
+        ⊎ IsPartFault serializer.old.entries serializer.old.bodies (record { field = field; tokens = total_num_tokens; terms = map state_of terms.now }) e) }
+    ensures refused { IsTrue serializer.old.closed → serializer.new ≡ serializer.old }
+{
+    let mut serializer = serializer.new_field(field, total_num_tokens, fieldnorm_reader)?;
+    for place in 0..terms.len() {
+        let term = terms[place];
+        serialize_one_term(term.key, term.recorder, buffer_lender, &mut serializer)?;
+    }
+    serializer.close()
+}
+
+// Writes a field, if it has terms.
+fn serialize_if_any<W: Write>(
+    field: Field,
+    writers: &PerFieldPostingsWriter,
+    norms: &FieldNormReaders,
+    terms: &FieldTerms<'_>,
+    buffer_lender: &mut BufferLender,
+    serializer: &mut InvertedIndexSerializer<W>,
+) -> Result<(), Fault>
+    requires known { field < length serializer.old.entries }
+    requires writer { field < length writers.now }
+    requires lacks { serializer.old.closed ≡ false → LacksField field serializer.old.bodies }
+    requires norms { AreShortNorms norms.now }
+    requires ascending { AreAscending (map (λ t. t.key) terms.now) }
+    requires writable { AllByRecursion IsWritable terms.now }
+    ensures entries { serializer.new.entries ≡ serializer.old.entries }
+    ensures closes { OnOk result (serializer.new.closed ≡ serializer.old.closed) }
+    ensures wrote { (initial : IndexBodiesState) (fs : List FieldPart) → HasFields serializer.old.entries initial serializer.old.bodies fs
+        → OnOk result (HasFields serializer.old.entries initial serializer.new.bodies (fs ++ parts_of serializer.old.entries field (tokens_in writers.now field) terms.now)) }
+    // where it is refused
+    ensures failures { CountsFailures serializer.old.bodies serializer.new.bodies result }
+    ensures grow { AllGrow serializer.old.bodies serializer.new.bodies }
+    ensures fault { IfErr result (λ e. (e ≡ Fault.SerializerClosed)
+        ⊎ IsPartFault serializer.old.entries serializer.old.bodies (record { field = field; tokens = tokens_in writers.now field; terms = terms.now }) e) }
+    ensures some { OnErr result (0 < length terms.now) }
+    ensures closed { IsErrOf result Fault.SerializerClosed → IsTrue serializer.old.closed }
+    ensures refused { IsTrue serializer.old.closed → StaysClosed (terms.now ≡ []) serializer.old serializer.new result }
+    ensures err { IfErr result (λ e. IsTrue serializer.new.closed ⊎ ((e ≡ Fault.OutOfMemory) × (serializer.new ≡ serializer.old))) }
+{
+    let terms = terms.as_slice();
+    if terms.is_empty() {
+        return Ok(());
+    }
+    let total_num_tokens = writers.get_for_field(field).total_num_tokens();
+    let fieldnorm_reader = norms.get_field(field)?;
+    serialize_field(
+        field,
+        total_num_tokens,
+        fieldnorm_reader,
+        terms,
+        buffer_lender,
+        serializer,
+    )
+}
+
+// Writes the fields that have terms, in order.
+fn serialize_fields<W: Write>(
+    alloc: Global,
+    writers: &PerFieldPostingsWriter,
+    norms: &FieldNormReaders,
+    terms: &Vec<FieldTerms<'_>>,
+    serializer: &mut InvertedIndexSerializer<W>,
+) -> Result<(), Fault>
+    requires known { length terms.now.items ≤ length serializer.old.entries }
+    requires few { length terms.now.items < 2 ^ 32 }
+    requires writers { length terms.now.items ≤ length writers.now }
+    requires fresh { HasFields serializer.old.entries serializer.old.bodies serializer.old.bodies [] }
+    requires norms { AreShortNorms norms.now }
+    requires ascending { AllByRecursion (λ ts. AreAscending (map (λ t. t.key) ts)) terms.now.items }
+    requires writable { AllByRecursion (λ ts. AllByRecursion IsWritable ts) terms.now.items }
+    ensures entries { serializer.new.entries ≡ serializer.old.entries }
+    ensures wrote { OnOk result (HasFields serializer.old.entries serializer.old.bodies serializer.new.bodies (first_parts serializer.old.entries writers.now terms.now.items (length terms.now.items))) }
+    ensures closes { OnOk result (serializer.new.closed ≡ serializer.old.closed) }
+    // where it is refused
+    ensures failures { CountsFailures serializer.old.bodies serializer.new.bodies result }
+    ensures grow { AllGrow serializer.old.bodies serializer.new.bodies }
+    ensures fault { IfErr result (λ e. (e ≡ Fault.SerializerClosed)
+        ⊎ IsPartsFault serializer.old.entries serializer.old.bodies (first_parts serializer.old.entries writers.now terms.now.items (length terms.now.items)) e) }
+    ensures closed { IsErrOf result Fault.SerializerClosed → IsTrue serializer.old.closed × (0 < length (first_parts serializer.old.entries writers.now terms.now.items (length terms.now.items))) }
+    ensures refused { IsTrue serializer.old.closed → StaysClosed (first_parts serializer.old.entries writers.now terms.now.items (length terms.now.items) ≡ []) serializer.old serializer.new result }
+    ensures err { IfErr result (ClosesOrStays serializer.old serializer.new) }
+{
+    let mut buffer_lender = BufferLender::new(alloc);
+    for place in 0..terms.len() {
+        let field = Field::from_field_id(place as u32);
+        serialize_if_any(
+            field,
+            writers,
+            norms,
+            &terms[place],
+            &mut buffer_lender,
+            serializer,
+        )?;
+    }
+    Ok(())
+}
+
+/// Writes the terms of a context, the fields that have some in ascending order, with the numbers of
+/// tokens that their writers had. The schema is that of the serializer and of the writers; no field was written yet; each term lies in a field of it, and its documents may be
+/// written.
+///
+/// `Write` where a writer fails, `Limit(Offset)` where a count of a writer would pass `u64::MAX` or the
+/// bytes of all terms of a field pass 2^56, `Limit(TermBytes)` where the postings or the positions of a
+/// term have more than `u32::MAX` bytes, `Limit(BlockFrequencySum)` where the counts of a block of a term
+/// with positions sum up above `u32::MAX`, `OutOfMemory` where a growth was refused;
+/// `SerializerClosed` after an earlier refusal, if there is a term. A refusal closes the serializer, except
+/// for `OutOfMemory` between two fields, which leaves it as it is there.
+pub fn serialize_postings<W: Write>(
+    alloc: Global,
+    ctx: IndexingContext,
+    schema: &Schema,
+    per_field_postings_writers: &PerFieldPostingsWriter,
+    fieldnorm_readers: &FieldNormReaders,
+    serializer: &mut InvertedIndexSerializer<W>,
+) -> Result<(), Fault>
+    requires schema { schema.now ≡ serializer.old.entries }
+    requires writers { length per_field_postings_writers.now ≡ length schema.now }
+    requires fresh { HasFields serializer.old.entries serializer.old.bodies serializer.old.bodies [] }
+    requires norms { AreShortNorms fieldnorm_readers.now }
+    requires terms { AllMayBeWritten (length schema.now) ctx }
+    ensures entries { serializer.new.entries ≡ serializer.old.entries }
+    ensures wrote { OnOk result (WroteContext serializer.old serializer.new per_field_postings_writers.now ctx) }
+    ensures holds { (ts : List IndexToken) → HaveTokens serializer.old.entries ctx per_field_postings_writers.now ts → OnOk result (WroteTokens serializer.old serializer.new ts) }
+    ensures closes { OnOk result (serializer.new.closed ≡ serializer.old.closed) }
+    // where it is refused
+    ensures failures { CountsFailures serializer.old.bodies serializer.new.bodies result }
+    ensures grow { AllGrow serializer.old.bodies serializer.new.bodies }
+    ensures fault { IfErr result (λ e. (e ≡ Fault.OutOfMemory) ⊎ (e ≡ Fault.SerializerClosed) ⊎ IsContextFault serializer.old per_field_postings_writers.now ctx e) }
+    ensures closed { IsErrOf result Fault.SerializerClosed → IsTrue serializer.old.closed × (0 < length ctx) }
+    ensures refused { IsTrue serializer.old.closed → StaysClosed (ctx ≡ []) serializer.old serializer.new result }
+    ensures err { IfErr result (ClosesOrStays serializer.old serializer.new) }
+{
+    reads_entries_back();
+    reads_uncounted_term_back();
+    let mut ctx = ctx;
+    ctx.sort()?;
+    let terms = ctx.terms_by_field(alloc, schema.num_fields())?;
+    serialize_fields(
+        alloc,
+        per_field_postings_writers,
+        fieldnorm_readers,
+        &terms,
+        serializer,
+    )
+}
