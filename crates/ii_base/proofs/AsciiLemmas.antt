@@ -4,7 +4,7 @@ use Rattle.std.specs.List.{enumerate_from, prefix_len, range_with_len, slice_ind
 use Rattle.std.specs.Str.{IsUtf8, IsCharBoundary}
 use Rattle.std.proofs.lemmas.List.{get_or-drop, length-map, map-append}
 use Rattle.std.proofs.lemmas.List.Sums.{prefix_len-le-length}
-use Rattle.std.proofs.lemmas.Bool.{and_parts, ne_eqb, or_parts, leb-false}
+use Rattle.std.proofs.lemmas.Bool.{and_parts, ne_eqb, or_parts, leb-false, not-true}
 use Rattle.std.proofs.lemmas.List.FromFn.{length-enumerate_from}
 use Rattle.std.proofs.lemmas.Str.{IsCharBoundary-after_ascii, IsCharBoundary-start}
 use Rattle.std.proofs.lemmas.List.Elements.{filter-append}
@@ -26,10 +26,6 @@ pub run_within : (text : List ℕ) (i : ℕ) → begins_run text i ≡ true → 
 run_within text i begins = word_within text i (and_parts (is_word_at text i) (nat_eq i 0 || not (is_word_at text (i - 1))) begins).0
 
 -- a text may be cut where a run begins
-not_true : (b : Bool) → not b ≡ true → b ≡ false
-not_true true e = absurd (cc)
-not_true false e = refl
-
 pub cut_before_run : (text : List ℕ) (i : ℕ) → IsUtf8 text → begins_run text i ≡ true → IsCharBoundary text i
 cut_before_run text zero utf8 begins = IsCharBoundary-start text utf8
 cut_before_run text (suc i) utf8 begins =
@@ -38,7 +34,7 @@ cut_before_run text (suc i) utf8 begins =
     let parts = and_parts (is_word_at text (suc i)) (nat_eq (suc i) 0 || not (is_word_at text (suc i - 1))) begins in
     let out : not (is_word_at text (suc i - 1)) ≡ true = rw (ne_eqb (suc i) 0 (λ e. omega (arith, e))) at parts.1 in
     let within = run_within text (suc i) begins in
-    let low = ascii_between (slice_index text i) (not_true (is_word_at text i) (rw before at out)) in
+    let low = ascii_between (slice_index text i) (not-true (is_word_at text i) (rw before at out)) in
     rw one at (IsCharBoundary-after_ascii text i utf8 (omega (arith, within)) low)
 
 prefix_ends_by : (p : ℕ → Bool) (x : ℕ) (xs : List ℕ) (b : Bool) → p x ≡ b → prefix_len p (x ∷ xs) < length (x ∷ xs) → (prefix_len p xs < length xs → p (get_or xs (prefix_len p xs) 0) ≡ false) → p (get_or (x ∷ xs) (prefix_len p (x ∷ xs)) 0) ≡ false
@@ -74,7 +70,7 @@ starts_below text n = filter (begins_run text) (range_with_len 0 n)
 abbrev pub words_below : List ℕ → ℕ → List Word
 words_below text n = map (λ (run : ℕ × ℕ). run_word text run.0 run.1) (enumerate_from 0 (filter (begins_run text) (range_with_len 0 n)))
 
-range_more : (a n : ℕ) → range_with_len a (suc n) ≡ range_with_len a n ++ (a + n) ∷ []
+pub range_more : (a n : ℕ) → range_with_len a (suc n) ≡ range_with_len a n ++ (a + n) ∷ []
 range_more a zero = ap (λ (k : ℕ). k ∷ []) (omega arith)
 range_more a (suc n) = ap (λ (l : List ℕ). a ∷ l) (range_more (a + 1) n) ∙ ap (λ (k : ℕ). a ∷ (range_with_len (a + 1) n ++ k ∷ [])) (omega arith)
 

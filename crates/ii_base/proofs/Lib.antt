@@ -1,5 +1,5 @@
 mod AliveLemmas
-mod AsciiLemmas
+pub mod AsciiLemmas
 mod CharLemmas
 mod JsonRows
 mod PathLemmas

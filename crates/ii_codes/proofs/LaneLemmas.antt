@@ -19,6 +19,7 @@ use Rattle.ii_codes.proofs.PackedLemmas.{bits_in-lt}
 use Rattle.ii_codes.proofs.PrefixLemmas.{wrapped_from, on_true, fit_wrapped, last_fits, last_value}
 use Rattle.ii_codes.proofs.PackedLaws.{length-unpacked, get_or-unpacked}
 use Rattle.ii_codes.proofs.WindowLemmas.{bits_in-split, little_bits}
+use Rattle.ii_codes.proofs.LengthLemmas.{length-values_from}
 
 cut_core : (l m h p a q : ℕ) → l < p → m < q → 0 < a → (l + p * (m + q * h)) * a % (q * (p * a)) / (p * a) ≡ m
 cut_core l m h p a q small narrow some =
@@ -243,16 +244,12 @@ lanes-all gap least k next es out h done many room =
     let values = rw (drop_all k es (omega arith), take_all k out (omega arith), append-nil out) at h in
     values
 
-length-values : (gap least : ℕ) (es : List ℕ) → length (values_from gap least es) ≡ length es
-length-values gap least [] = refl
-length-values gap least (e ∷ es) = ap suc (length-values gap (least + e + gap) es)
-
 pub lanes-fits : (gap least k next : ℕ) (es out : List ℕ) → take k out ++ wrapped_from gap next (drop k es) ≡ wrapped_from gap least es → k ≡ 128 → length es ≡ 128 → length out ≡ 128 → gap ≤ 1 → ((k : ℕ) → k < length es → get_or es k 0 ≤ 33554431)
     → nat_le least (get_or out 127 0) ≡ fit_u32 (values_from gap least es)
 lanes-fits gap least k next es out h done many room g entries =
     let all = lanes-all gap least k next es out h done many room in
     let total = rw many at (sum_small 33554431 es entries) in
-    let last = get_or-map (λ v. v % 4294967296) (values_from gap least es) 127 0 0 (omega (arith, length-values gap least es)) in
+    let last = get_or-map (λ v. v % 4294967296) (values_from gap least es) 127 0 0 (omega (arith, length-values_from gap least es)) in
     let place : least + sum es + 127 * gap ≡ least + (sum es + 127 * gap) = omega arith in
     let value : get_or out 127 0 ≡ (least + (sum es + 127 * gap)) % 4294967296 = ap (λ (xs : List ℕ). get_or xs 127 0) all ∙ last ∙ ap (λ (x : ℕ). x % 4294967296) (last_value gap least es many ∙ place) in
     let bound : sum es + 127 * gap < 4294967296 = omega (arith, total) in

@@ -10,7 +10,7 @@ use Rattle.ii_codes.specs.SortedVints.{sorted_vints_at}
 use Rattle.ii_codes.proofs.PackedLemmas.{length-entries_in}
 
 -- a block has 128 values
-length-values_from : (gap least : ℕ) (es : List ℕ) → length (values_from gap least es) ≡ length es
+pub length-values_from : (gap least : ℕ) (es : List ℕ) → length (values_from gap least es) ≡ length es
 length-values_from gap least [] = refl
 length-values_from gap least (e ∷ es) = ap suc (length-values_from gap (least + e + gap) es)
 

@@ -108,16 +108,6 @@ entries_in-entries_in w v m n row many whole some fits =
     in
     get_or_default (entries_in v w m (entries_in w v n row)) k d 0 h ∙ get_or-entries_in v w m (entries_in w v n row) k within ∙ bits ∙ get_or_default row k 0 d there)
 
--- A reader of bytes goes from the byte of its first bit.
-pub bit_of_bytes : (row : List ℕ) (place i s b : ℕ) → s ≡ i → b ≡ get_or row (place / 8 + (place % 8 + s) / 8) 0 / 2 ^ ((place % 8 + s) % 8) % 2 → b ≡ bit_in 8 row (place + i)
-bit_of_bytes row place i s b same read =
-    let byte : place / 8 + (place % 8 + s) / 8 ≡ (place + i) / 8 = omega arith in
-    let bit : (place % 8 + s) % 8 ≡ (place + i) % 8 = omega arith in
-    read ∙ ap (λ (x : ℕ). get_or row x 0 / 2 ^ ((place % 8 + s) % 8) % 2) byte ∙ ap (λ (x : ℕ). get_or row ((place + i) / 8) 0 / 2 ^ x % 2) bit
-
-pub bit_of_entries : (row : List ℕ) (place i s w : ℕ) → s ≡ i → get_or row ((place + s) / w) 0 / 2 ^ ((place + s) % w) % 2 ≡ bit_in w row (place + i)
-bit_of_entries row place i s w same = rw same refl
-
 -- What a reader has after one more bit, and that it fits.
 pub read_more : (most w : ℕ) (row : List ℕ) (place i value bit : ℕ) → i < most → value ≡ bits_in w row place i → bit ≡ bit_in w row (place + i)
     → (value + bit * 2 ^ i % 2 ^ most ≡ bits_in w row place (i + 1)) × (value + bit * 2 ^ i % 2 ^ most < 2 ^ most)
@@ -146,10 +136,6 @@ pub entries_written : (w v k x : ℕ) (row out : List ℕ) → take k out ≡ en
     → take (k + 1) (set out k x) ≡ entries_in w v (k + 1) row
 entries_written w v k x row out before e within =
     rw (take_more_set out k x within, before, e) (sym (entries_in-more w v k row))
-
-pub all_unpacked : (w : ℕ) (bytes out : List ℕ) → take 128 out ≡ entries_in 8 w 128 bytes → length out ≡ 128 → out ≡ unpacked w bytes
-unfolding unpacked
-all_unpacked w bytes out e many = sym (take_all 128 out (omega arith)) ∙ e
 
 -- the same, each raised
 pub raised_written : (w v k x more : ℕ) (row out : List ℕ) → take k out ≡ raised more (entries_in w v k row) → x ≡ bits_in w row (k * v) v → k < length out

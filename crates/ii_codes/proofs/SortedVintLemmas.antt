@@ -31,7 +31,7 @@ reads_unsorted_back (v ∷ vs) rest h =
     let first = u32_at-vint_u32 v (flat_map vint_u32 vs ++ rest) h.0 in
     rw (append_assoc, first, reads_unsorted_back vs rest h.1) refl
 
-length-differences : (before : ℕ) (vs : List ℕ) → length (differences before vs) ≡ length vs
+pub length-differences : (before : ℕ) (vs : List ℕ) → length (differences before vs) ≡ length vs
 length-differences before [] = refl
 length-differences before (v ∷ vs) = ap suc (length-differences v vs)
 

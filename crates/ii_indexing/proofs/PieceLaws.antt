@@ -28,6 +28,7 @@ use Rattle.ii_indexing.specs.declared.open_documents.OpenDocument.{OpenDocument}
 use Rattle.ii_indexing.proofs.DocumentLaws.{at_other, at_same, set_value}
 use Rattle.ii_postings_writer.proofs.PostingsLaws.{tokens_after-append}
 use Rattle.ii_indexing.proofs.StoreLaws.{set_other}
+use Rattle.std.proofs.Math.Bool.{and-false}
 
 -- Tokens of one document and field alone.
 pub record OnlyAt (doc field : ℕ) (us : List IndexToken) : Type 0 where
@@ -38,15 +39,11 @@ pub record OnlyAt (doc field : ℕ) (us : List IndexToken) : Type 0 where
 none_at : (doc field : ℕ) → OnlyAt doc field []
 none_at doc field = record { here = refl; other_doc = λ x other. refl; other_field = λ x f other. refl }
 
-and_last : (a : Bool) → (a && false) ≡ false
-and_last true = refl
-and_last false = refl
-
 more_at : (doc field : ℕ) (t : IndexToken) (us : List IndexToken) → t.doc ≡ doc → t.field ≡ field → OnlyAt doc field us → OnlyAt doc field (t ∷ us)
 more_at doc field t us d f h = record {
   here = sum_by-cons (λ (u : IndexToken). cond ((u.doc == doc) && (u.field == field)) 1 0) t us ∙ rw (eq-eqb t.doc doc d, eq-eqb t.field field f) (omega (arith, h.here));
   other_doc = λ x other. sum_by-cons (λ (u : IndexToken). cond ((u.doc == x) && (u.field == field)) 1 0) t us ∙ rw (d, other) (ap (λ (n : ℕ). 0 + n) (h.other_doc x other));
-  other_field = λ x g other. sum_by-cons (λ (u : IndexToken). cond ((u.doc == x) && (u.field == g)) 1 0) t us ∙ rw (f, other, and_last (t.doc == x)) (ap (λ (n : ℕ). 0 + n) (h.other_field x g other));
+  other_field = λ x g other. sum_by-cons (λ (u : IndexToken). cond ((u.doc == x) && (u.field == g)) 1 0) t us ∙ rw (f, other, and-false (t.doc == x)) (ap (λ (n : ℕ). 0 + n) (h.other_field x g other));
 }
 
 words_at : (p : Piece) (begin : ℕ) (ws : List Word) → OnlyAt p.doc p.field (map (word_token p begin) ws)
@@ -203,7 +200,7 @@ same_text : (doc field : ℕ) (words : List Word) → is_same_group (text_at doc
 same_text doc field words = rw (eq-eqb doc doc refl, eq-eqb field field refl) refl
 
 other_text : (doc field : ℕ) (prefix : List ℕ) (words : List Word) → bytes_eq prefix [] ≡ false → is_same_group (text_at doc field [] []) (text_at doc field prefix words) ≡ false
-other_text doc field prefix words some = rw some (and_last ((doc == doc) && (field == field)))
+other_text doc field prefix words some = rw some (and-false ((doc == doc) && (field == field)))
 
 -- One more text or value of a field was indexed.
 module _ (entries : List Entry) (ps : List Piece) (indexed : IndexedTermsState) (s : OpenDocumentsState) (d new : OpenDocument) (paths : List OpenPathsState) where

@@ -1,5 +1,5 @@
 -- What is stored of a field once tokens of it are added.
-use Rattle.std.proofs.Common.{◌≡◌, ℕ, zero, suc, ◌+◌, ◌<◌, ◌==◌, Bool, true, false, List, [], ◌∷◌, ◌++◌, map, length, cond, Some, Option, Result, refl, sym, ap, ◌∙◌, subst, arith, append-nil}
+use Rattle.std.proofs.Common.{◌≡◌, ℕ, zero, suc, ◌+◌, ◌<◌, ◌==◌, Bool, true, false, List, [], ◌∷◌, ◌++◌, map, length, cond, Some, Option, Result, refl, sym, ap, ◌∙◌, subst, arith}
 use Rattle.std.specs.Prelude.{slice_get, slice_set, if◌then◌else◌, nat_le, bytes_eq, filter}
 use Rattle.std.specs.List.{AllByRecursion}
 use Rattle.std.proofs.lemmas.Bool.{and_parts, eqb-true, eqb-false}
@@ -23,7 +23,6 @@ use Rattle.ii_postings_writer.specs.PostingsWriter.{HasTokens, PostingsWriterSta
 use Rattle.ii_postings_writer.specs.Records.{Records}
 use Rattle.ii_postings_writer.specs.WordRefusals.{u64_max}
 use Rattle.ii_json.specs.LeafVisit.{IsRefusedBy}
-use Rattle.ii_postings_writer.proofs.PostingsLaws.{tokens_at-append}
 use Rattle.ii_postings_writer.proofs.RecordsLaws.{HasKey}
 use Rattle.ii_postings_writer.proofs.TextLaws.{field_count_more, key_recorder}
 
@@ -47,9 +46,6 @@ words_only p begin (w ∷ ws) = one_token p.field (word_token p begin w) (map (w
 
 other_count : (field f : ℕ) (ts us : List IndexToken) → OnlyIn field us → (field == f) ≡ false → field_count f (ts ++ us) ≡ field_count f ts
 other_count field f ts us only other = sum_by-append (λ (u : IndexToken). cond (u.field == f) 1 0) ts us ∙ omega (arith, only.counts f other)
-
-other_tokens : (field f : ℕ) (key : List ℕ) (ts us : List IndexToken) → OnlyIn field us → (field == f) ≡ false → tokens_at f key (ts ++ us) ≡ tokens_at f key ts
-other_tokens field f key ts us only other = tokens_at-append f key ts us ∙ rw (only.keys f key other) (append-nil (tokens_at f key ts))
 
 pub set_same : {A : Type 0} (xs : List A) (i : ℕ) (x w : A) → slice_get xs i ≡ Some x → slice_get (slice_set xs i w) i ≡ Some w
 set_same [] i x w is = absurd (cc)

@@ -31,7 +31,7 @@ distinct_bodies : (start : ℕ) (bodies : List Body) → are_distinct (map open_
 distinct_bodies start [] = refl
 distinct_bodies start (b ∷ bs) = rw (has_place-bodies b.field (start + length b.bytes) bs, distinct_bodies (start + length b.bytes) bs) refl
 
-length-starts_from : (start : ℕ) (bodies : List Body) → length (starts_from start bodies) ≡ length bodies
+pub length-starts_from : (start : ℕ) (bodies : List Body) → length (starts_from start bodies) ≡ length bodies
 length-starts_from start [] = refl
 length-starts_from start (b ∷ bs) = ap suc (length-starts_from (start + length b.bytes) bs)
 

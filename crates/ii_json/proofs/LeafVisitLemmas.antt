@@ -14,15 +14,15 @@ AtPath = List ℕ × Leaf
 abbrev pub LeafFault : Type 0
 LeafFault = List AtPath → AtPath → Option Fault
 
-later_fault : (a b c : Option Fault) → first_fault a (first_fault b c) ≡ first_fault (first_fault a b) c
-later_fault None b c = refl
-later_fault (Some f) b c = refl
+pub first_fault-assoc : (a b c : Option Fault) → first_fault a (first_fault b c) ≡ first_fault (first_fault a b) c
+first_fault-assoc None b c = refl
+first_fault-assoc (Some f) b c = refl
 
 pub leaves_fault-append : (fault : LeafFault) (before one rest : List AtPath) → leaves_fault fault before (one ++ rest) ≡ first_fault (leaves_fault fault before one) (leaves_fault fault (before ++ one) rest)
 leaves_fault-append fault before [] rest = ap (λ (l : List AtPath). leaves_fault fault l rest) (sym (append-nil before))
 leaves_fault-append fault before (l ∷ one) rest =
     ap (first_fault (fault before l)) (leaves_fault-append fault (before ++ l ∷ []) one rest ∙ ap (λ (k : List AtPath). first_fault (leaves_fault fault (before ++ l ∷ []) one) (leaves_fault fault k rest)) (append_assoc before (l ∷ []) one))
-    ∙ later_fault (fault before l) (leaves_fault fault (before ++ l ∷ []) one) (leaves_fault fault (before ++ (l ∷ one)) rest)
+    ∙ first_fault-assoc (fault before l) (leaves_fault fault (before ++ l ∷ []) one) (leaves_fault fault (before ++ (l ∷ one)) rest)
 
 -- the fault of a first part is that of the whole
 cause_first : (cause later : Option Fault) (e : Fault) → (e ≡ OutOfMemory) ⊎ (cause ≡ Some e) → (e ≡ OutOfMemory) ⊎ (first_fault cause later ≡ Some e)

@@ -1,7 +1,7 @@
 mod CleanPaths
 mod DottedLemmas
 mod KnownPaths
-mod LeafVisitLemmas
+pub mod LeafVisitLemmas
 mod NumberLeaves
 mod ParseLemmas
 mod RankLemmas

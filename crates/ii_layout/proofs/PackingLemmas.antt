@@ -25,6 +25,7 @@ use Rattle.ii_layout.specs.SkipList.{entry_size}
 use Rattle.ii_layout.specs.Written.{block_of, last_before, code_of_width, entry_of_block, freq_part, packed_freqs, rest_bytes, entry_bytes, block_bytes, skip_bytes}
 use Rattle.ii_layout.specs.PostingsSerializer.{CountedDocs, joined, written_of, KeptBlocks, kept_of, kept_more, AreWhole, ArePacked, IsOpenBlock, IsFullBlock, sized}
 use Rattle.ii_layout.proofs.BlockDocs.{full_block, rest_falls, block_of-append, last_before-append}
+use Rattle.ii_base.proofs.AsciiLemmas.{range_more}
 
 -- documents need fewer than 32 bits
 pub narrow : (last : ℕ) (block : List ℕ) → IsFullBlock last block → sorted_width last block < 32
@@ -33,13 +34,6 @@ narrow last block b =
     let size = length-entries_from 1 (least_first true last) block in
     let least = least_width-least (sorted_entries true last block) 31 (λ k within. let low = b.low k (omega arith) in let below = entries_from-le 1 (least_first true last) block k in omega arith) in
     omega arith
-
--- a row of blocks, one block on
-pub range-push : (a n : ℕ) → range_with_len a (suc n) ≡ range_with_len a n ++ (a + n) ∷ []
-range-push a zero = let first : a ≡ a + 0 = omega arith in ap (λ (k : ℕ). k ∷ []) first
-range-push a (suc n) =
-    let last : a + 1 + n ≡ a + suc n = omega arith in
-    ap (λ (ks : List ℕ). a ∷ ks) (range-push (a + 1) n ∙ ap (λ (k : ℕ). range_with_len (a + 1) n ++ k ∷ []) last)
 
 pub flat_map-same : (f g : ℕ → List ℕ) (a n : ℕ) → ((k : ℕ) → k < a + n → g k ≡ f k) → flat_map g (range_with_len a n) ≡ flat_map f (range_with_len a n)
 flat_map-same f g a zero same = refl
@@ -51,7 +45,7 @@ flat_map-same f g a (suc n) same =
 pub flat_map-range : (f : ℕ → List ℕ) (n : ℕ) → flat_map f (range_with_len 0 (suc n)) ≡ flat_map f (range_with_len 0 n) ++ f n
 flat_map-range f n =
     let last : 0 + n ≡ n = omega arith in
-    ap (flat_map f) (range-push 0 n ∙ ap (λ (k : ℕ). range_with_len 0 n ++ k ∷ []) last) ∙ sym (flat_map_more f [] (range_with_len 0 n) n)
+    ap (flat_map f) (range_more 0 n ∙ ap (λ (k : ℕ). range_with_len 0 n ++ k ∷ []) last) ∙ sym (flat_map_more f [] (range_with_len 0 n) n)
 
 pub entry_bytes-append : (skip_info : IndexRecordOption) (term more : CountedDocs) (i : ℕ) → 128 * i + 128 ≤ length term.docs → length term.freqs ≡ length term.docs
     → entry_bytes skip_info (term.docs ++ more.docs) (term.freqs ++ more.freqs) i ≡ entry_bytes skip_info term.docs term.freqs i

@@ -2,7 +2,7 @@
 use Rattle.std.proofs.Common.{ℕ, ◌-◌, ◌<◌, ◌≤◌, List, [], ◌∷◌, ◌++◌, length, get_or, arith, ap}
 use Rattle.std.specs.List.{AllByRecursion}
 use Rattle.std.proofs.lemmas.List.{get_or_push, length_push}
-use Rattle.std.proofs.lemmas.List.Sorted.{IsNonDecreasingBy-push, IsNonDecreasingBy-short}
+use Rattle.std.proofs.lemmas.List.Sorted.{IsNonDecreasingBy-push}
 use Rattle.ii_base.specs.Schema.{Entry}
 use Rattle.ii_indexing.specs.IndexCalls.{MayAllBeIndexed, MayBeIndexed, doc_of}
 use Rattle.ii_indexing.specs.declared.index_call.IndexCall.{IndexCall}
@@ -15,12 +15,6 @@ pub record AreChecked (entries : List Entry) (num_docs last : ℕ) (calls : List
 each_push : (P : IndexCall → Type 0) (cs : List IndexCall) (c : IndexCall) → AllByRecursion P cs → P c → AllByRecursion P (cs ++ c ∷ [])
 each_push P [] c h p = (p, tt)
 each_push P (x ∷ cs) c h p = (h.0, each_push P cs c h.1 p)
-
-pub none_checked : (entries : List Entry) (num_docs : ℕ) → AreChecked entries num_docs 0 []
-none_checked entries num_docs = record {
-  all = record { each = tt; ordered = IsNonDecreasingBy-short doc_of [] (omega arith) };
-  below = λ d some. omega (arith, some);
-}
 
 pub more_checked : (entries : List Entry) (num_docs last : ℕ) (cs : List IndexCall) (c : IndexCall) → AreChecked entries num_docs last cs → last ≤ doc_of c → MayBeIndexed entries num_docs c → AreChecked entries num_docs (doc_of c) (cs ++ c ∷ [])
 more_checked entries num_docs last cs c h low may = record {

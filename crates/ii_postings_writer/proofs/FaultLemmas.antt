@@ -1,5 +1,5 @@
 -- Why terms, fields and contexts can't be written.
-use Rattle.std.proofs.Common.{◌≡◌, ℕ, zero, suc, ◌+◌, ◌-◌, ◌<◌, ◌≤◌, ◌⊎◌, inl, inr, Bool, false, List, [], ◌∷◌, ◌++◌, length, map, take, drop, get_or, Result, Ok, Err, refl, sym, ap, ◌∙◌, subst, arith, length-append, append-nil, append_assoc, add-zero, true≢false}
+use Rattle.std.proofs.Common.{◌≡◌, ℕ, zero, suc, ◌+◌, ◌-◌, ◌<◌, ◌⊎◌, inl, inr, Bool, false, List, [], ◌∷◌, ◌++◌, length, map, take, drop, get_or, Result, Ok, Err, refl, sym, ap, ◌∙◌, subst, arith, length-append, append-nil, append_assoc, add-zero, true≢false}
 use Rattle.std.specs.Prelude.{◌↔◌, IsTrue, slice_index_or, IsErrOf, IfErr}
 use Rattle.std.specs.List.{Any, flat_map}
 use Rattle.std.proofs.lemmas.Grind.{flat_map-append}
@@ -9,7 +9,7 @@ use Rattle.ii_io.specs.declared.faults.Fault.TheVariants.{Limit, OutOfMemory, Se
 use Rattle.ii_io.specs.declared.faults.LimitName.TheVariants as limit
 use Rattle.ii_io.specs.Composite.{Body, bodies_bytes}
 use Rattle.ii_io.specs.CompositeWrite.{CompositeWriteState, HasBodies}
-use Rattle.ii_io.specs.CountingWriter.{CountingWriterState, IsFull, Wrote}
+use Rattle.ii_io.specs.CountingWriter.{CountingWriterState, IsFull}
 use Rattle.ii_io.specs.NumberLemmas.{length_le_bytes}
 use Rattle.ii_io.specs.Numbers.{le_bytes}
 use Rattle.ii_base.specs.Schema.{Entry}
@@ -26,6 +26,7 @@ use Rattle.ii_postings_writer.specs.declared.sorted_terms.TermOfField.{TermOfFie
 use Rattle.ii_postings_writer.specs.WriteFaults.{HasLargeSum, HasLargeTerm, HasLongTerm, IsFaultBy, IsLong, IsPartFault, IsPartsFault, IsTermFaultAfter, PassEnds, PassesEnds, all_bodies}
 use Rattle.ii_postings_writer.proofs.PartLemmas.{one_more_part, part_of, some_part}
 use Rattle.ii_postings_writer.proofs.SerializeLemmas.{all_written}
+use Rattle.ii_io.specs.CountingWriterLemmas.{full_before, full_more}
 
 module _ {X : Type 0} (P : X → Type 0) where
   any_later : (x : X) (xs : List X) → Any P xs → Any P (x ∷ xs)
@@ -60,15 +61,6 @@ fault_more e f g h (inr (inl write)) = inr (inl write)
 fault_more e f g h (inr (inr (inl sum))) = inr (inr (inl (sum.0, f sum.1)))
 fault_more e f g h (inr (inr (inr (inl long)))) = inr (inr (inr (inl (long.0, g long.1))))
 fault_more e f g h (inr (inr (inr (inr full)))) = inr (inr (inr (inr (full.0, h full.1))))
-
--- a count that passes its type by fewer bytes, or after some were written
-full_more : (w : CountingWriterState) (few many : ℕ) → few ≤ many → IsFull w few → IsFull w many
-full_more w few many more (inl full) = inl (omega (arith, more, full))
-full_more w few many more (inr failed) = inr failed
-
-full_before : (old new : CountingWriterState) (bytes : List ℕ) (few many : ℕ) → Wrote old new bytes → length bytes + few ≤ many → IsFull new few → IsFull old many
-full_before old new bytes few many wrote more (inl full) = inl (omega (arith, wrote.written_bytes, more, full))
-full_before old new bytes few many wrote more (inr failed) = inr (sym wrote.failed_calls ∙ failed)
 
 module _ (mode : IndexRecordOption) (tokens : ℕ) where
   length-postings : (ts us : List WrittenTerm) → length (le_bytes 8 tokens ++ flat_map postings_bytes (ts ++ us)) ≡ length (le_bytes 8 tokens ++ flat_map postings_bytes ts) + length (flat_map postings_bytes us)

@@ -6,7 +6,7 @@ use Rattle.ii_io.specs.declared.faults.Part.{Part}
 use Rattle.ii_base.specs.declared.schema.index_record_option.IndexRecordOption.{IndexRecordOption}
 use Rattle.ii_base.specs.declared.schema.index_record_option.IndexRecordOption.TheVariants.{Basic, WithFreqs, WithFreqsAndPositions}
 use Rattle.ii_base.specs.Options.{downgrade, has_freq, has_positions}
-use Rattle.ii_docset.specs.Entries.{Entry, docs_of, document}
+use Rattle.ii_docset.specs.Entries.{Entry, docs_of}
 use Rattle.ii_layout.specs.TermList.{ReadsUncountedTermBack, term_list}
 use Rattle.ii_layout.specs.Written.{written_postings}
 use Rattle.ii_index.specs.Cut.{cut_entry}
@@ -22,6 +22,7 @@ use Rattle.ii_recorder.specs.Pushed.{AreReadable, FillTooLarge, ReadsEntriesBack
 use Rattle.ii_recorder.specs.Recorded.{RecorderState, entries_in}
 use Rattle.ii_recorder.specs.Terms.{WrittenTerm, positions_bytes, postings_bytes}
 use Rattle.ii_postings_writer.specs.SortedTerms.{IsTold, IsWritable, TermState, written_of}
+use Rattle.ii_recorder.proofs.PushedEntries.{documents_read}
 
 -- what is cut to what is kept, and then to what is read of it
 cut_twice : (kept requested : IndexRecordOption) (e : Entry) → cut_entry (downgrade kept requested) (cut_entry kept e) ≡ cut_entry (downgrade kept requested) e
@@ -34,10 +35,6 @@ cut_twice WithFreqsAndPositions requested e = refl
 all_cut_twice : (kept requested : IndexRecordOption) (es : List Entry) → map (cut_entry (downgrade kept requested)) (map (cut_entry kept) es) ≡ map (cut_entry (downgrade kept requested)) es
 all_cut_twice kept requested [] = refl
 all_cut_twice kept requested (e ∷ es) = rw (cut_twice kept requested e, all_cut_twice kept requested es) refl
-
-documents_cut : (es : List Entry) → map document (docs_of es) ≡ map (cut_entry Basic) es
-documents_cut [] = refl
-documents_cut (e ∷ es) = ap (λ (fs : List Entry). document e.doc ∷ fs) (documents_cut es)
 
 -- as which option a term of its field's option is written
 skip_is : (mode : IndexRecordOption) → (if has_freq mode then mode else Basic) ≡ mode
@@ -77,15 +74,15 @@ whole_read law requested s told writable some =
     ∙ law mode requested es (readable s told writable some)
 
 -- one that keeps documents alone
-documents_read : ReadsUncountedTermBack → (mode requested : IndexRecordOption) (s : TermState) → s.recorder.option ≡ Basic → IsWritable s → length (entries_in s.recorder) < 2 ^ 32
+kept_documents_read : ReadsUncountedTermBack → (mode requested : IndexRecordOption) (s : TermState) → s.recorder.option ≡ Basic → IsWritable s → length (entries_in s.recorder) < 2 ^ 32
     → list_read mode requested (written_of mode s) ≡ Ok (map (cut_entry Basic) (entries_in s.recorder))
-documents_read law mode requested s alone writable few =
+kept_documents_read law mode requested s alone writable few =
     let es = entries_in s.recorder in
     let t = written_of mode s in
     let few_docs = subst (λ (n : ℕ). n < 2 ^ 32) (sym (length-map es (λ (e : Entry). e.doc))) few in
     ap (λ (o : IndexRecordOption). term_list mode requested (length t.docs) (written_postings (if has_freq o then mode else Basic) t.docs t.freqs) (Some (positions_bytes mode t.deltas))) alone
     ∙ law mode requested (docs_of es) t.freqs (Some (positions_bytes mode t.deltas)) writable.ascending few_docs
-    ∙ ap Ok (documents_cut es)
+    ∙ ap Ok (documents_read es)
 
 -- a key with an entry occurred
 some_occurred : (field : ℕ) (key : List ℕ) (ts : List IndexToken) → 0 < length (grouped (tokens_at field key ts)) → IsTrue (occurs field key ts)
@@ -122,7 +119,7 @@ module _ (law : ReadsEntriesBack) (uncounted : ReadsUncountedTermBack) where
       → list_read mode requested (written_of mode s) ≡ Ok (map (cut_entry Basic) es)
   documents_kind mode requested es s alone are writable few =
       let few_kept : length (entries_in s.recorder) < 2 ^ 32 = subst (λ (fs : List Entry). length fs < 2 ^ 32) (sym are) (subst (λ (n : ℕ). n < 2 ^ 32) (sym (length-map es (cut_entry Basic))) few) in
-      documents_read uncounted mode requested s alone writable few_kept
+      kept_documents_read uncounted mode requested s alone writable few_kept
       ∙ ap (λ (fs : List Entry). Ok (map (cut_entry Basic) fs)) are
       ∙ ap Ok (all_cut_twice Basic requested es)
 

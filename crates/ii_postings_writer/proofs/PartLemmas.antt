@@ -13,7 +13,6 @@ use Rattle.ii_io.specs.CountingWriter.{CountingWriterState}
 use Rattle.ii_base.specs.Schema.{Entry}
 use Rattle.ii_index.specs.Fields.{option_of}
 use Rattle.ii_recorder.specs.IndexBodies.{AddsBodies, IndexBodiesState, LacksField}
-use Rattle.ii_postings_writer.proofs.SerializeLemmas.{all_pushed}
 use Rattle.ii_postings_writer.specs.FieldParts.{FieldPart, HasFields, HoldsPart, WroteContext, WroteTerms, bodies_of, first_parts, parts_of, positions_body, postings_body, terms_body, tokens_in, written_terms}
 use Rattle.std.proofs.lemmas.List.FromFn.{length-map-range_with_len}
 use Rattle.ii_termdict.specs.ReadBack.{AreAscending}
@@ -24,6 +23,8 @@ use Rattle.ii_postings_writer.specs.PostingsWriter.{PostingsWriterState}
 use Rattle.ii_postings_writer.specs.SortedTerms.{IsTold, TermState, state_of, terms_in}
 use Rattle.ii_recorder.specs.HeldTerms.{HoldsTerms}
 use Rattle.ii_postings_writer.specs.declared.sorted_terms.TermOfField.{TermOfField}
+use Rattle.ii_recorder.proofs.DeltaLemmas.{all_push}
+use Rattle.ii_io.proofs.CompositeStartLemmas.{length-starts_from}
 
 pushed_body : (body : FieldPart → Body) (initial : CountingWriterState) (c : CompositeWriteState) (fs : List FieldPart) (p : FieldPart) → HasBodies initial c (map body fs ++ body p ∷ []) → HasBodies initial c (map body (fs ++ p ∷ []))
 pushed_body body initial c fs p has = subst (HasBodies initial c) (sym (map-append body fs (p ∷ []))) has
@@ -35,7 +36,7 @@ part_added entries initial old new fs p has adds holds = record {
   terms = pushed_body (terms_body entries) initial.terms.writer new.terms fs p (HasBodies-more initial.terms.writer old.terms new.terms (map (terms_body entries) fs) p.field (bodies_of entries p).terms has.terms adds.terms);
   postings = pushed_body (postings_body entries) initial.postings.writer new.postings fs p (HasBodies-more initial.postings.writer old.postings new.postings (map (postings_body entries) fs) p.field (bodies_of entries p).postings has.postings adds.postings);
   positions = pushed_body (positions_body entries) initial.positions.writer new.positions fs p (HasBodies-more initial.positions.writer old.positions new.positions (map (positions_body entries) fs) p.field (bodies_of entries p).positions has.positions adds.positions);
-  held = all_pushed (HoldsPart entries) fs p has.held holds;
+  held = all_push (HoldsPart entries) fs p has.held holds;
 }
 
 -- the part of a field that has terms
@@ -70,12 +71,8 @@ no_start body same n start (p ∷ ps) below =
     let other : nat_eq (body p).field n ≡ false = ne_eqb (body p).field n (λ is. absurd (omega (arith, is, same p, below.0))) in
     rw other (no_start body same n (start + length (body p).bytes) ps below.1)
 
-length-starts : (start : ℕ) (bodies : List Body) → length (starts_from start bodies) ≡ length bodies
-length-starts start [] = refl
-length-starts start (b ∷ bs) = ap suc (length-starts (start + length b.bytes) bs)
-
 few_starts : (body : FieldPart → Body) (n : ℕ) (fs : List FieldPart) → length fs ≤ n → n < 2 ^ 32 - 1 → length (starts_from 0 (map body fs)) < 2 ^ 32 - 1
-few_starts body n fs few low = omega (arith, length-starts 0 (map body fs), length-map fs body, few, low)
+few_starts body n fs few low = omega (arith, length-starts_from 0 (map body fs), length-map fs body, few, low)
 
 module _ (entries : List Entry) (writers : List PostingsWriterState) (terms : List (List TermState)) where
   abbrev parts_at : ℕ → List FieldPart

@@ -12,13 +12,10 @@ use Rattle.ii_io.specs.declared.faults.Fault.{Fault}
 use Rattle.ii_io.specs.declared.faults.Fault.TheVariants.{OutOfMemory}
 use Rattle.ii_json.specs.LeafVisit.{IsRefusedBy}
 use Rattle.ii_postings_writer.specs.IndexingContext.{EndsBy, entry_at, is_open, new_recorder, opened_at, recorded_at}
+use Rattle.ii_recorder.proofs.RecorderLemmas.{last_of_push}
 
 pub docs_of_push : (es : List Entry) (e : Entry) → docs_of (es ++ e ∷ []) ≡ docs_of es ++ e.doc ∷ []
 docs_of_push es e = map-append (λ (f : Entry). f.doc) es (e ∷ [])
-
-last_of_push : (xs : List ℕ) (x : ℕ) → slice_get (xs ++ x ∷ []) (length xs) ≡ Some x
-last_of_push [] x = refl
-last_of_push (y ∷ xs) x = last_of_push xs x
 
 pub last_doc_of_push : (es : List Entry) (e : Entry) → last_doc (es ++ e ∷ []) ≡ Some e.doc
 last_doc_of_push es e =

@@ -23,6 +23,7 @@ use Rattle.ii_recorder.specs.Pushed.{FillTooLarge, HaveDeltas, pushed_freqs, wit
 use Rattle.ii_recorder.specs.Recorded.{RecorderState, entries_in}
 use Rattle.ii_recorder.specs.Terms.{WrittenTerm}
 use Rattle.ii_postings_writer.specs.SortedTerms.{IsTold, IsWritable, state_of, written_of}
+use Rattle.ii_recorder.proofs.DeltaLemmas.{all_push}
 
 -- documents that are pushed change nothing of what is written
 pub pushed_writing : (option : IndexRecordOption) (es : List Entry) (initial : IndexBodiesState) (s new : IndexSerializerState) (field tokens : ℕ) (ts : List WrittenTerm) (pending : List (List ℕ))
@@ -39,10 +40,6 @@ pub term_written : (key : List ℕ) (t : OpenTermState) (r : RecorderState) (s n
     → new ≡ with_entries r.option s (entries_in r) → term_under key new.field.term ≡ written_of t.mode (record { key = key; recorder = r })
 term_written key t r s new counted same begun is =
     ap (λ (n : IndexSerializerState). term_under key n.field.term) is ∙ rw (begun, same) refl
-
-pub all_pushed : {X : Type 0} (P : X → Type 0) (xs : List X) (x : X) → AllByRecursion P xs → P x → AllByRecursion P (xs ++ x ∷ [])
-all_pushed P [] x all is = (is, tt)
-all_pushed P (y ∷ ys) x all is = (all.0, all_pushed P ys x all.1 is)
 
 all_taken : {X : Type 0} (P : X → Type 0) (n : ℕ) (xs : List X) → AllByRecursion P xs → AllByRecursion P (take n xs)
 all_taken P zero xs all = tt
@@ -101,7 +98,7 @@ pub one_more_told : (mode : IndexRecordOption) (terms : List TermOfField) (k : �
 one_more_told mode terms k t inside is told all =
     let more : map state_of (take (k + 1) terms) ≡ map state_of (take k terms) ++ state_of t ∷ [] =
     ap (map state_of) (take_more terms k t inside) ∙ map-append state_of (take k terms) (get_or terms k t ∷ []) ∙ ap (λ (u : TermOfField). map state_of (take k terms) ++ state_of u ∷ []) (sym is) in
-    subst (AllByRecursion (IsTold mode)) (sym more) (all_pushed (IsTold mode) (map state_of (take k terms)) (state_of t) all told)
+    subst (AllByRecursion (IsTold mode)) (sym more) (all_push (IsTold mode) (map state_of (take k terms)) (state_of t) all told)
 
 -- what was told of the entries of a term that was begun
 pub was_told : (t : OpenTermState) (key : List ℕ) (r : RecorderState) (begun : OpenTermState) (counted : Bool) → counted ≡ has_freq r.option → begun ≡ begun_term counted t

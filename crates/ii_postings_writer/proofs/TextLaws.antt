@@ -26,6 +26,7 @@ use Rattle.ii_postings_writer.specs.WordRefusals.{gap_fault, open_entry, u64_max
 use Rattle.ii_json.specs.LeafVisit.{IsRefusedBy, first_fault}
 use Rattle.ii_postings_writer.proofs.RecordsLaws.{HasKey, records_more, tokens_at_last}
 use Rattle.ii_postings_writer.proofs.RecorderSteps.{open_in}
+use Rattle.ii_json.proofs.LeafVisitLemmas.{first_fault-assoc}
 
 pub records_subscribed : (option : IndexRecordOption) (doc position : ℕ) (term : IndexingTermState) (old new : TermIndex) → term.field < 2 ^ 32 → IsRecorded option doc position (term_bytes term) old new
     → (kind : ℕ → List ℕ → IndexRecordOption) (ts : List IndexToken) (of_text : Bool) → kind term.field term.value ≡ option → Records kind old ts → Records kind new (ts ++ term_token doc position of_text term ∷ [])
@@ -144,10 +145,6 @@ tokens_more kind p begin w old new ts text low h known =
       counted = total ∙ ap (λ (n : ℕ). n + 1) known.counted ∙ sym (field_count_more p.field ts t refl);
     }
 
-first_fault-assoc : (a b c : Option Fault) → first_fault a (first_fault b c) ≡ first_fault (first_fault a b) c
-first_fault-assoc None b c = refl
-first_fault-assoc (Some a) b c = refl
-
 -- the first fault of words in two parts
 words_fault-append : (option : IndexRecordOption) (p : Piece) (begin n : ℕ) (ts : List IndexToken) (xs ys : List Word)
     → words_fault option p begin n ts (xs ++ ys) ≡ first_fault (words_fault option p begin n ts xs) (words_fault option p begin (n + length xs) (ts ++ map (word_token p begin) xs) ys)
@@ -164,16 +161,6 @@ words_fault-append option p begin n ts (x ∷ xs) ys =
     ap (first_fault first) (rest ∙ ap (λ (m : ℕ). first_fault others (words_fault option p begin m ((ts ++ t ∷ []) ++ map (word_token p begin) xs) ys)) count
     ∙ ap (λ (us : List IndexToken). first_fault others (words_fault option p begin (n + length (x ∷ xs)) us ys)) tokens)
     ∙ first_fault-assoc first others (words_fault option p begin (n + length (x ∷ xs)) (ts ++ map (word_token p begin) (x ∷ xs)) ys)
-
--- no word
-pub no_words : (p : Piece) (begin : ℕ) (s : TextState) → AllEndBy p.doc s.terms → IndexesWords p begin [] s s
-no_words p begin s ends = record {
-  tokens = λ kind ts h. (subst (HasTokens kind p s.terms s.writer) (sym (append-nil ts)) h, refl);
-  ends = ends;
-  writer = ap (λ (n : ℕ). record s.writer { total_num_tokens = n }) (omega arith);
-  num_tokens = omega arith;
-  end_position = refl;
-}
 
 -- one word that is kept
 pub one_word : (doc : ℕ) (term : IndexingTermState) (words : List Word) (begin : ℕ) (w : Word) (old new : TextState) → term.field < 2 ^ 32 → AllEndBy doc old.terms
@@ -240,17 +227,11 @@ pub err_with : {T : Type 0} (cause : Option Fault) (result : Result T Fault) (Q 
 err_with cause (Ok x) Q refused f = tt
 err_with cause (Err e) Q refused f = f e refused
 
-pub kept_one : (w : Word) → nat_le (length w.text) max_token_len ≡ true → kept_words (w ∷ []) ≡ w ∷ []
-kept_one w keep = rw keep refl
-
 -- What is known while the words of a text are gone over: some of them were indexed, and the others are still to come.
 pub record IsIndexing (p : Piece) (begin : ℕ) (all rest : List Word) (old now : TextState) : Type 0 where
   pub past : List Word
   pub parts : all ≡ past ++ rest
   pub indexed : IndexesWords p begin (kept_words past) old now
-
-pub first_words : (p : Piece) (begin : ℕ) (all : List Word) (s : TextState) → AllEndBy p.doc s.terms → IsIndexing p begin all all s s
-first_words p begin all s ends = record { past = []; parts = refl; indexed = no_words p begin s ends }
 
 kept_append : (xs ys : List Word) → kept_words (xs ++ ys) ≡ kept_words xs ++ kept_words ys
 kept_append xs ys = filter-append (λ (w : Word). nat_le (length w.text) max_token_len) xs ys
@@ -262,11 +243,6 @@ next_word p begin all rest after w old mid now h is one = record {
   parts = h.parts ∙ ap (λ (ws : List Word). h.past ++ ws) is ∙ sym (append_assoc h.past (w ∷ []) after);
   indexed = subst (λ (ws : List Word). IndexesWords p begin ws old now) (sym (kept_append h.past (w ∷ []))) (more_words p begin (kept_words h.past) (kept_words (w ∷ [])) old mid now h.indexed one);
 }
-
-pub all_words : (p : Piece) (begin : ℕ) (all rest : List Word) (old now : TextState) → IsIndexing p begin all rest old now → rest ≡ [] → IndexesWords p begin (kept_words all) old now
-all_words p begin all rest old now h is =
-    let whole : all ≡ h.past = h.parts ∙ ap (λ (ws : List Word). h.past ++ ws) is ∙ append-nil h.past in
-    subst (λ (ws : List Word). IndexesWords p begin (kept_words ws) old now) (sym whole) h.indexed
 
 pub word_refused : (p : Piece) (begin : ℕ) (all rest after : List Word) (w : Word) (old mid : TextState) (fault : Fault) → IsIndexing p begin all rest old mid → rest ≡ w ∷ after
     → RefusesWords p begin (kept_words (w ∷ [])) mid fault → RefusesWords p begin (kept_words all) old fault

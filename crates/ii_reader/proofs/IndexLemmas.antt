@@ -1,10 +1,9 @@
 -- Opening the fields of an index.
-use Rattle.std.proofs.Common.{◌≡◌, ◌∙◌, ◌+◌, ◌<◌, ◌++◌, ◌∷◌, [], ℕ, zero, suc, inl, inr, Bool, true, false, List, Option, None, Some, Ok, Err, length, map, nat_lt, is_some, refl, sym, ap, subst, arith}
-use Rattle.std.specs.Prelude.{Result, cond, ◌==◌, IsOkAnd, IsSomeAnd, slice_get}
+use Rattle.std.proofs.Common.{◌≡◌, ◌∙◌, ◌+◌, ◌<◌, ◌++◌, ◌∷◌, [], ℕ, zero, suc, inl, inr, false, List, Option, None, Some, Ok, Err, length, map, nat_lt, is_some, refl, sym, ap, subst, arith}
+use Rattle.std.specs.Prelude.{Result, IsOkAnd, IsSomeAnd, slice_get}
 use Rattle.std.specs.List.{enumerate_from}
-use Rattle.std.proofs.lemmas.List.{append-nil, append_assoc}
+use Rattle.std.proofs.lemmas.List.{append_assoc}
 use Rattle.std.proofs.lemmas.Bool.{ltb-false}
-use Rattle.std.proofs.lemmas.List.Sums.{sum_by-cons}
 use Rattle.ii_io.specs.declared.faults.Fault.{Fault}
 use Rattle.ii_io.specs.declared.faults.Fault.TheVariants.{OutOfMemory}
 use Rattle.ii_io.specs.declared.faults.Part.{Part}
@@ -14,10 +13,11 @@ use Rattle.ii_base.specs.Schema.{Entry}
 use Rattle.ii_base.specs.declared.schema.index_record_option.IndexRecordOption.{IndexRecordOption}
 use Rattle.ii_index.specs.Tokens.{IndexToken}
 use Rattle.ii_index.specs.Fields.{option_of}
-use Rattle.ii_index.specs.Postings.{field_count, occurs}
+use Rattle.ii_index.specs.Postings.{field_count}
 use Rattle.ii_index.specs.Files.{HoldTokens, HoldsField}
 use Rattle.ii_reader.specs.InvertedIndexReader.{InvertedIndexReaderState, IsRefusal, ReaderHolds, reader_of_none}
 use Rattle.ii_reader.specs.OpenIndex.{FieldReaderHolds, IndexBodies, ReadersHold, all_or_first, field_readers, index_bodies, index_readers, reader_if, reader_of_field}
+use Rattle.ii_index.proofs.GroupedLaws.{no_field}
 
 -- what stands before what others give
 abbrev pub in_front : {A : Type 0} → List A → Result (List A) Part → Result (List A) Part
@@ -32,14 +32,6 @@ in_front_of done x (Err part) = refl
 pub one_more : {A : Type 0} (all : Result (List A) Part) (done : List A) (found : Result A Part) (others : List (Result A Part)) (x : A) → all ≡ in_front done (all_or_first (found ∷ others)) → found ≡ Ok x
     → all ≡ in_front (done ++ x ∷ []) (all_or_first others)
 one_more all done found others x is given = is ∙ (rw given (in_front_of done x (all_or_first others)))
-
--- the first that fails
-pub one_fails : {A : Type 0} (all : Result (List A) Part) (done : List A) (found : Result A Part) (others : List (Result A Part)) (fault : Fault) → all ≡ in_front done (all_or_first (found ∷ others)) → IsRefusal found fault → IsRefusal all fault
-one_fails all done found others fault is (inl memory) = inl memory
-one_fails all done found others fault is (inr (part, damaged, failed)) = inr (part, damaged, is ∙ (rw failed refl))
-
-pub all_done : {A : Type 0} (all : Result (List A) Part) (done : List A) → all ≡ in_front done (Ok []) → all ≡ Ok done
-all_done all done is = is ∙ ap Ok (append-nil done)
 
 length_more : {A : Type 0} (found : Result A Part) (others : Result (List A) Part) (n : ℕ) (xs : List A) → ((ys : List A) → others ≡ Ok ys → length ys ≡ n)
     → (found >>= λ (x : A). others >>= λ (ys : List A). Ok (x ∷ ys)) ≡ Ok xs → length xs ≡ suc n
@@ -63,20 +55,6 @@ many_after (Err part) entries readers is = absurd (cc)
 pub many_readers : (terms postings positions : List ℕ) (entries : List Entry) (readers : List InvertedIndexReaderState) → index_readers terms postings positions entries ≡ Ok readers → length readers ≡ length entries
 many_readers terms postings positions entries readers is = many_after (index_bodies terms postings positions) entries readers is
 
-none_counted : (field : ℕ) (key : List ℕ) (t : IndexToken) (ts : List IndexToken) (b : Bool) → (t.field == field) ≡ b → (field_count field ts ≡ 0 → occurs field key ts ≡ false)
-    → field_count field (t ∷ ts) ≡ 0 → occurs field key (t ∷ ts) ≡ false
-none_counted field key t ts true e others none =
-    let split = sum_by-cons (λ (x : IndexToken). cond (x.field == field) 1 0) t ts in
-    absurd (let h = rw e at (sym split ∙ none) in omega (arith, h))
-none_counted field key t ts false e others none =
-    let split = sum_by-cons (λ (x : IndexToken). cond (x.field == field) 1 0) t ts in
-    let h : field_count field ts ≡ 0 = omega (arith, rw e at (sym split ∙ none)) in
-    rw e (others h)
-
-no_tokens : (field : ℕ) (key : List ℕ) (ts : List IndexToken) → field_count field ts ≡ 0 → occurs field key ts ≡ false
-no_tokens field key [] none = refl
-no_tokens field key (t ∷ ts) none = none_counted field key t ts (t.field == field) refl (no_tokens field key ts) none
-
 no_body : (n : ℕ) → false ≡ nat_lt 0 n → n ≡ 0
 no_body n e = let none = ltb-false 0 n (sym e) in omega (arith, none)
 
@@ -86,7 +64,7 @@ HasTokens field option ts reader = (reader.option ≡ option) × ReaderHolds fie
 
 -- a field without tokens
 none_held : (field : ℕ) (option : IndexRecordOption) (ts : List IndexToken) → field_count field ts ≡ 0 → ReaderHolds field (reader_of_none option) ts
-none_held field option ts none = record { counted = sym none; exact = λ key. no_tokens field key ts none }
+none_held field option ts none = record { counted = sym none; exact = λ key. no_field field key ts none }
 
 bodies_held : (field : ℕ) (option : IndexRecordOption) (ts : List IndexToken) (terms postings positions : List ℕ) → HoldsField option field terms postings positions ts
     → IsOkAnd (reader_if option (Some terms) (Some postings) (Some positions)) (HasTokens field option ts)

@@ -1,5 +1,5 @@
 -- Laws of lists that are loaded into memory.
-use Rattle.std.proofs.Common.{◌≡◌, ℕ, zero, suc, ◌+◌, ◌-◌, ◌<◌, ◌≤◌, ◌^◌, Bool, true, false, List, [], ◌∷◌, ◌++◌, length, take, drop, map, get_or, set, nat_lt, refl, sym, ap, ◌∙◌, arith, length-drop, length-append, append-nil, append_assoc, zero-add}
+use Rattle.std.proofs.Common.{◌≡◌, ℕ, zero, suc, ◌+◌, ◌-◌, ◌<◌, ◌≤◌, ◌^◌, Bool, true, false, List, [], ◌∷◌, ◌++◌, length, take, drop, map, get_or, set, nat_lt, refl, sym, ap, ◌∙◌, arith, length-drop, length-append, append-nil, append_assoc}
 use Rattle.std.specs.List.{All}
 use Rattle.std.proofs.Math.Seq.{drop-cons, drop-append_seam, drop-length}
 use Rattle.std.proofs.lemmas.Bool.{ltb-true, ltb-false}
@@ -111,9 +111,6 @@ pub record IsLoading (all rest : List Entry) (docs offsets positions : List ℕ)
   pub total : length positions + num_positions rest ≡ num_positions all
   pub few : length positions < 2 ^ 32
 
-pub none_loaded : (all : List Entry) → IsLoading all all [] (0 ∷ []) []
-none_loaded all = record { offsets_are = record { many = refl; order = λ i none. absurd (omega arith); within = λ i none. absurd (omega arith) }; last = refl; parts = refl; passed = refl; total = zero-add (num_positions all); few = omega arith }
-
 -- one more entry was loaded
 more_loaded : (all rest : List Entry) (e : Entry) (docs offsets positions : List ℕ) → IsLoading all (e ∷ rest) docs offsets positions → length (positions ++ e.positions) < 2 ^ 32
     → IsLoading all rest (docs ++ e.doc ∷ []) (offsets ++ length (positions ++ e.positions) ∷ []) (positions ++ e.positions)
@@ -139,14 +136,6 @@ pub loaded_more : (all rest rest' : List Entry) (docs offsets positions : List �
 loaded_more all [] rest' docs offsets positions doc here low l next few = absurd (omega arith)
 loaded_more all (e ∷ rest) rest' docs offsets positions doc here low l next few = rw (here, next) (more_loaded all rest e docs offsets positions l few)
 
--- how many positions were met
-pub met_positions : (all rest : List Entry) (docs offsets positions : List ℕ) → IsLoading all rest docs offsets positions → length positions + length (positions_at rest) ≤ num_positions all
-met_positions all [] docs offsets positions l = let total = l.total in omega arith
-met_positions all (e ∷ rest) docs offsets positions l =
-    let total = l.total in
-    let first = sum_by-cons (λ (x : Entry). length x.positions) e rest in
-    omega arith
-
 -- an end of a list, by how many entries come before it
 end_cases : (all : List Entry) (n : ℕ) (t : Bool) → nat_lt n (length all) ≡ t → IsEndOf all (drop n all)
 end_cases all n true test =
@@ -160,9 +149,6 @@ end_cases all n false test =
     let none : length (drop n all) ≡ 0 = omega arith in
     let place : length all ≡ length all - length (drop n all) = omega arith in
     nil_from_length (drop n all) none ∙ sym (drop-length all) ∙ ap (λ (k : ℕ). drop k all) place
-
-pub end_by : (all : List Entry) (n : ℕ) → IsEndOf all (drop n all)
-end_by all n = end_cases all n (nat_lt n (length all)) refl
 
 -- what is loaded of a sound list is sound
 loaded_ascending : (es : List Entry) → IsAscending es → (doc_at (loaded es) ≡ doc_at es) × IsAscending (loaded es)

@@ -1,5 +1,5 @@
 -- Reading a term of a file.
-use Rattle.std.proofs.Common.{◌||◌, not, inl, ◌∙◌, ◌/◌, ◌%◌, ◌&&◌, ◌≡◌, ◌≤◌, ℕ, inr, Bool, true, false, List, Option, None, Some, nat_le, Ok, Err, length, drop, refl, sym, ap, [], ◌∷◌}
+use Rattle.std.proofs.Common.{not, inl, ◌∙◌, ◌/◌, ◌%◌, ◌&&◌, ◌≡◌, ◌≤◌, ℕ, inr, Bool, true, false, List, Option, None, Some, nat_le, Ok, Err, length, drop, refl, sym, ap, [], ◌∷◌}
 use Rattle.std.specs.Prelude.{Result, ok_or, unwrap_or, filter}
 use Rattle.ii_io.specs.declared.faults.Fault.{Fault}
 use Rattle.ii_io.specs.declared.faults.LayoutFault.{LayoutFault}
@@ -28,6 +28,7 @@ use Rattle.ii_index.specs.Files.{HoldsTerm, bytes_in}
 use Rattle.ii_io.specs.declared.faults.Fault.TheVariants.{OutOfMemory}
 use Rattle.std.proofs.lemmas.Bool.{le-leb}
 use Rattle.ii_reader.specs.InvertedIndexReader.{InvertedIndexReaderState, IsRefusal, given_if, ranges_lie, reads_positions, term_of_file}
+use Rattle.std.proofs.Math.Bool.{or-true}
 
 front : (bytes : List ℕ) (n : ℕ) (rest : List ℕ) (b : Bool) → nat_le 8 (length bytes) ≡ b → number_at 8 bytes ≡ Some (n, rest) → (rest ≡ drop 8 bytes) × (8 ≤ length bytes)
 unfolding number_at
@@ -113,16 +114,12 @@ file_list reader requested info found lie is =
 lies_from : (bytes : List ℕ) (start end : ℕ) → start ≤ end → end ≤ length bytes → (nat_le start end && nat_le end (length bytes)) ≡ true
 lies_from bytes start end forward within = rw (le-leb start end forward, le-leb end (length bytes) within) refl
 
-or_true : (b : Bool) → (b || true) ≡ true
-or_true true = refl
-or_true false = refl
-
 pub ranges_held : (reader : InvertedIndexReaderState) (field : ℕ) (key : List ℕ) (requested : IndexRecordOption) (ts : List IndexToken) (info : TermInfo)
     → HoldsTerm reader.option field key reader.postings reader.positions ts info → ranges_lie reader requested info ≡ true
 ranges_held reader field key requested ts info holds =
     let postings = lies_from reader.postings info.postings_range.start info.postings_range.end holds.postings_range.0 holds.postings_range.1 in
     let positions = lies_from reader.positions info.positions_range.start info.positions_range.end holds.positions_range.0 holds.positions_range.1 in
-    rw (postings, positions) (or_true (not (reads_positions reader requested)))
+    rw (postings, positions) (or-true (not (reads_positions reader requested)))
 
 -- a term that is held gives the postings of its key
 pub list_held : (reader : InvertedIndexReaderState) (field : ℕ) (key : List ℕ) (requested : IndexRecordOption) (ts : List IndexToken) (info : TermInfo)

@@ -6,7 +6,7 @@ use Rattle.std.proofs.Math.Seq.{drop-append_seam, take-append_seam}
 use Rattle.std.proofs.lemmas.List.{drop-append-le, drop_all, length-take, map-append}
 use Rattle.std.proofs.lemmas.List.Sums.{sum_by-append, sum_by-cons}
 use Rattle.ii_codes.specs.Sums.{DoNotFall, differences, fit_u32}
-use Rattle.ii_codes.proofs.SortedVintLemmas.{fit_u32-all, running_sums-differences}
+use Rattle.ii_codes.proofs.SortedVintLemmas.{fit_u32-all, running_sums-differences, length-differences}
 use Rattle.ii_docset.specs.Entries.{Entry}
 use Rattle.ii_layout.specs.Positions.{positions_of}
 use Rattle.ii_recorder.specs.declared.recorder.term_frequency_recorder.DocFreq.{DocFreq}
@@ -45,7 +45,7 @@ fall_not_recorded ds d ps p count h last =
     let low : last_from 0 (drop (position_count ds) ps) ≤ p = rw (last_of_all (drop (position_count ds) ps), ← open_positions ds d ps count) last in
     (omega (arith, count, length-append ps (p ∷ [])), rw (entries_before ds ps p within) h.0, rw (drop-append-le (position_count ds) ps (p ∷ []) within) (fall_not_more 0 (drop (position_count ds) ps) p h.1 low))
 
-all_push : {A : Type 0} (P : A → Type 0) (xs : List A) (x : A) → AllByRecursion P xs → P x → AllByRecursion P (xs ++ x ∷ [])
+pub all_push : {A : Type 0} (P : A → Type 0) (xs : List A) (x : A) → AllByRecursion P xs → P x → AllByRecursion P (xs ++ x ∷ [])
 all_push P [] x h last = (last, tt)
 all_push P (y ∷ ys) x h last = (h.0, all_push P ys x h.1 last)
 
@@ -91,10 +91,6 @@ located_all ds (Some d) ps count h fit =
     let many : length (drop (position_count ds) ps) ≡ d.term_freq = omega (arith, count, length-drop (position_count ds) ps) in
     all_push IsLocated (entries_of ds ps) (located d (drop (position_count ds) ps)) (located_closed ds ps (omega (arith, count)) h.0 fit) (many, h.1, fit_drop (position_count ds) ps fit)
 
-length_differences : (before : ℕ) (vs : List ℕ) → length (differences before vs) ≡ length vs
-length_differences before [] = refl
-length_differences before (v ∷ vs) = ap suc (length_differences v vs)
-
 fit_differences : (before : ℕ) (vs : List ℕ) → Fit vs → Fit (differences before vs)
 fit_differences before [] h = tt
 fit_differences before (v ∷ vs) h = let fits = h.0 in (omega arith, fit_differences v vs h.1)
@@ -103,7 +99,7 @@ many_deltas : (es : List Entry) → AllByRecursion IsLocated es → length (push
 many_deltas [] h = refl
 many_deltas (e ∷ es) h =
     let here = h.0.0 in
-    let len = length_differences 0 e.positions in
+    let len = length-differences 0 e.positions in
     let total : sum (counts_of (e ∷ es)) ≡ e.term_freq + sum (counts_of es) = sum_by-cons (λ (n : ℕ). n) e.term_freq (counts_of es) in
     let more = length-append (differences 0 e.positions) (pushed_deltas es) in
     let rest = many_deltas es h.1 in
@@ -120,7 +116,7 @@ fit_positions (e ∷ es) h = rw (fit_u32-all e.positions h.0.2, fit_positions es
 give_positions : (es : List Entry) → AllByRecursion IsLocated es → positions_of (counts_of es) (pushed_deltas es) ≡ map (λ (e : Entry). e.positions) es
 give_positions [] h = refl
 give_positions (e ∷ es) h =
-    let len : length (differences 0 e.positions) ≡ e.term_freq = length_differences 0 e.positions ∙ h.0.0 in
+    let len : length (differences 0 e.positions) ≡ e.term_freq = length-differences 0 e.positions ∙ h.0.0 in
     rw (← len, take-append_seam (differences 0 e.positions) (pushed_deltas es), drop-append_seam (differences 0 e.positions) (pushed_deltas es), running_sums-differences 0 e.positions h.0.1, give_positions es h.1) refl
 
 count_closed : (ds : List DocFreq) (ps : List ℕ) → sum (counts_of (entries_of ds ps)) ≡ position_count ds

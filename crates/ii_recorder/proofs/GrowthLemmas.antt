@@ -1,15 +1,8 @@
 -- What the writers of an index have after calls that went well or were refused.
-use Rattle.std.proofs.Common.{◌≡◌, ℕ, ap}
-use Rattle.ii_io.specs.CountingWriterLemmas.{Grows-trans, grows_not, wrote_grows}
+use Rattle.std.proofs.Common.{ℕ}
+use Rattle.ii_io.specs.CountingWriterLemmas.{Grows-trans, wrote_grows}
 use Rattle.ii_recorder.specs.IndexBodies.{AddsBodies, AllGrow, IndexBodiesState}
 use Rattle.ii_recorder.specs.Terms.{FieldBodies}
-
-pub all_grow_not : (a b : IndexBodiesState) → b ≡ a → AllGrow a b
-all_grow_not a b same = record {
-  terms = grows_not a.terms.writer b.terms.writer (ap (λ (s : IndexBodiesState). s.terms.writer) same);
-  postings = grows_not a.postings.writer b.postings.writer (ap (λ (s : IndexBodiesState). s.postings.writer) same);
-  positions = grows_not a.positions.writer b.positions.writer (ap (λ (s : IndexBodiesState). s.positions.writer) same);
-}
 
 pub AllGrow-trans : (a b c : IndexBodiesState) → AllGrow a b → AllGrow b c → AllGrow a c
 AllGrow-trans a b c h k = record {

@@ -25,6 +25,7 @@ use Rattle.ii_recorder.specs.Terms.{IsShort, WrittenTerm, field_bodies, infos_fr
 use Rattle.ii_recorder.specs.FieldTerms.{HasTerms}
 use Rattle.ii_recorder.specs.HeldTerms.{AreHoldable, HoldsEachTerm, HoldsKey, HoldsTerm, HoldsTerms, HoldsWhatIsWritten, HoldsWritten, has_key, written_keys}
 use Rattle.ii_recorder.specs.TermPlaces.{TermPlacesState}
+use Rattle.std.proofs.Math.Bool.{or-true}
 
 -- The bytes of terms stand one after the other from these places to the ends.
 record StandFrom (mode : IndexRecordOption) (postings positions : List ℕ) (a p : ℕ) (ts : List WrittenTerm) : Type 0 where
@@ -133,14 +134,10 @@ one_term (v ∷ vs) t u zero (suc k) h a b same = absurd (apart v.key vs u k h.0
 one_term (v ∷ vs) t u (suc j) zero h a b same = absurd (apart v.key vs t j h.0 (omega (arith, a.0)) a.1 (same ∙ ap (λ (w : WrittenTerm). w.key) (sym b.1)))
 one_term (v ∷ vs) t u (suc j) (suc k) h a b same = one_term vs t u j k h.1 (omega (arith, a.0), a.1) (omega (arith, b.0), b.1) same
 
-or_true : (b : Bool) → (b || true) ≡ true
-or_true true = refl
-or_true false = refl
-
 has_its_key : (ts : List WrittenTerm) (t : WrittenTerm) (k : ℕ) → k < length ts → slice_index_or ts k t ≡ t → has_key t.key ts ≡ true
 has_its_key [] t k below is = absurd (omega arith)
 has_its_key (v ∷ vs) t zero below is = let same : bytes_eq t.key v.key ≡ true = (bytes_decides t.key v.key).1 (ap (λ (w : WrittenTerm). w.key) (sym is)) in rw same refl
-has_its_key (v ∷ vs) t (suc k) below is = rw (has_its_key vs t k (omega arith) is) (or_true (bytes_eq t.key v.key))
+has_its_key (v ∷ vs) t (suc k) below is = rw (has_its_key vs t k (omega arith) is) (or-true (bytes_eq t.key v.key))
 
 held_under : (mode : IndexRecordOption) (entries : List Entry) (postings positions : List ℕ) (ts : List WrittenTerm) (t : WrittenTerm) (o : Option TermInfo) → AreAscending (written_keys ts) → Contains ts t
     → info_under t.key entries ≡ o → MatchOption o (has_key t.key ts ≡ false) (HoldsKey mode postings positions ts t.key) → HoldsTerm mode entries postings positions t

@@ -4,7 +4,7 @@ use Rattle.std.specs.Prelude.{OnOk}
 use Rattle.ii_io.specs.declared.faults.Fault.{Fault}
 use Rattle.std.proofs.lemmas.List.{append-nil}
 use Rattle.std.proofs.lemmas.Grind.{flat_map-append}
-use Rattle.std.specs.List.{flat_map, AllByRecursion}
+use Rattle.std.specs.List.{flat_map}
 use Rattle.ii_base.specs.declared.schema.index_record_option.IndexRecordOption.{IndexRecordOption}
 use Rattle.ii_io.specs.CompositeWrite.{CompositeWriteState, AddsBody}
 use Rattle.ii_io.specs.CountingWriterLemmas.{Wrote-trans}
@@ -17,6 +17,7 @@ use Rattle.ii_recorder.specs.TermPlaces.{TermPlacesState, with_term}
 use Rattle.ii_recorder.specs.FieldTerms.{EndsTerm, HasTerms, bytes_of, term_under}
 use Rattle.ii_recorder.specs.IndexSerializer.{IndexSerializerState, IsWriting}
 use Rattle.ii_recorder.specs.IndexBodies.{IndexBodiesState, AddsBodies, AddsBytes, AddsMore}
+use Rattle.ii_recorder.proofs.DeltaLemmas.{all_push}
 
 -- a body with more bytes
 body_more : (initial old new : CompositeWriteState) (field : ℕ) (xs ys : List ℕ) → AddsBody initial old field xs → AddsBytes old new ys → AddsBody initial new field (xs ++ ys)
@@ -63,10 +64,6 @@ infos_at_start mode ts t =
     let there : 0 + length (positions_body mode ts) ≡ length (positions_body mode ts) = omega arith in
     let law = infos_more mode 0 0 ts t in
     rw (here, there) at law
-
-all_push : {A : Type 0} (P : A → Type 0) (xs : List A) (x : A) → AllByRecursion P xs → P x → AllByRecursion P (xs ++ x ∷ [])
-all_push P [] x h last = (last, tt)
-all_push P (y ∷ ys) x h last = (h.0, all_push P ys x h.1 last)
 
 -- one term more
 has_terms_more : (mode : IndexRecordOption) (old new : TermPlacesState) (ts : List WrittenTerm) (t : WrittenTerm) → HasTerms mode old ts (t.key ∷ [])

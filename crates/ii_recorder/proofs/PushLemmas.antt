@@ -1,18 +1,16 @@
 -- Entries that are pushed one after the other.
-use Rattle.std.proofs.Common.{◌^◌, drop-cons, get_or, take-append-drop, take-suc, ◌≡◌, ℕ, suc, ◌+◌, ◌-◌, ◌<◌, ◌≤◌, Bool, true, false, if◌then◌else◌, List, [], ◌∷◌, ◌++◌, length, map, take, drop, Result, Ok, Err, is_err, refl, sym, ap, ◌∙◌, arith, append-nil, append_assoc, length-append, ⊎_elim, inl, inr}
+use Rattle.std.proofs.Common.{◌^◌, drop-cons, get_or, take-append-drop, take-suc, ◌≡◌, ℕ, suc, ◌+◌, ◌-◌, ◌<◌, ◌≤◌, Bool, true, false, if◌then◌else◌, List, [], ◌∷◌, ◌++◌, length, map, take, drop, Result, Ok, Err, is_err, refl, sym, ap, ◌∙◌, arith, append-nil, append_assoc, length-append, ⊎_elim}
 use Rattle.std.proofs.lemmas.Bool.{and_parts, cases_lt}
-use Rattle.std.specs.Prelude.{◌&&◌, nat_le, nat_lt, IsTrue}
+use Rattle.std.specs.Prelude.{◌&&◌, nat_le, nat_lt}
 use Rattle.std.specs.List.{AllByRecursion}
 use Rattle.std.proofs.lemmas.Grind.{flat_map-append}
 use Rattle.std.proofs.lemmas.List.{map-append, take-append-le}
 use Rattle.std.proofs.Math.Seq.{take-append-add}
 use Rattle.ii_io.specs.declared.faults.Fault.{Fault}
-use Rattle.ii_io.specs.declared.faults.Fault.TheVariants.{SerializerClosed}
 use Rattle.ii_base.specs.declared.schema.index_record_option.IndexRecordOption.{IndexRecordOption}
 use Rattle.ii_base.specs.Options.{has_freq, has_positions}
 use Rattle.ii_codes.specs.Sums.{differences}
 use Rattle.ii_docset.specs.Entries.{Entry, ascend_from, docs_of}
-use Rattle.ii_layout.specs.PostingsSerializer.{IsSumTooLarge}
 use Rattle.ii_recorder.specs.IndexBodies.{IndexBodiesState}
 use Rattle.ii_recorder.specs.IndexSerializer.{IndexSerializerState, IsWriting}
 use Rattle.ii_recorder.specs.Terms.{WrittenTerm}
@@ -119,21 +117,6 @@ all_back : (P : ℕ → Type 0) (xs ys : List ℕ) → AllByRecursion P (xs ++ y
 all_back P [] ys h = h
 all_back P (x ∷ xs) ys h = all_back P xs ys h.1
 
--- a call of a closed serializer
-pub pushes_nothing : (option : IndexRecordOption) (a : IndexSerializerState) (es : List Entry) → IsTrue a.closed → Pushes option a a es (Err SerializerClosed)
-pushes_nothing option a es closed = record {
-  ok = tt;
-  small = tt;
-  fit = tt;
-  bodies = refl;
-  entries = refl;
-  closes = record { ok = tt; err = closed };
-  refused = λ h. refl;
-  limit = λ e. absurd (cc);
-  closed = (λ e. closed, λ h. refl);
-  only = inr (inl refl);
-}
-
 -- no entries
 pub pushes_none : (option : IndexRecordOption) (a : IndexSerializerState) → a.closed ≡ false → Pushes option a a [] (Ok tt)
 pushes_none option a open_still = record {
@@ -173,14 +156,6 @@ may_push_then option s b xs ys h k =
       ascending = λ e. rw (append_assoc s.field.term.docs (docs_of xs) (docs_of ys), ← map-append (λ (e : Entry). e.doc) xs ys) (h.ascending e);
       counted = λ e has. all_back (λ n. 0 < n) (pushed_freqs option xs) (pushed_freqs option ys) (rw (map-append (λ (e : Entry). if has_freq option then e.term_freq else 0) xs ys) at (h.counted e has));
     })
-
-one_large : (skip_info : IndexRecordOption) (old : List ℕ) (n : ℕ) → IsSumTooLarge skip_info (old ++ n ∷ []) → FillTooLarge skip_info old (n ∷ [])
-one_large skip_info old n h = (0, omega arith, h)
-
-large_one : (skip_info : IndexRecordOption) (old : List ℕ) (n : ℕ) → FillTooLarge skip_info old (n ∷ []) → IsSumTooLarge skip_info (old ++ n ∷ [])
-large_one skip_info old n h =
-    let first : h.0 ≡ 0 = omega (arith, h.1) in
-    rw first at h.2
 
 -- the next entry may be pushed
 pub may_next : (option : IndexRecordOption) (s b : IndexSerializerState) (xs : List Entry) (e : Entry) (ys es : List Entry) → es ≡ xs ++ e ∷ ys → MayPush option s es → Pushes option s b xs (Ok tt) → MayPush option b (e ∷ [])

@@ -40,7 +40,7 @@ pushed_are_freqs skip_info docs freqs many some fit small = record {
   sums = λ kept i within. ⊎_elim (λ (low : sum (block_of freqs i) < 2 ^ 32). low) (λ (large : 2 ^ 32 ≤ sum (block_of freqs i)). absurd (small (large_block skip_info freqs i kept within large))) (cases_lt (sum (block_of freqs i)) (2 ^ 32));
 }
 
-documents_read : (es : List Entry) → map document (docs_of es) ≡ map (cut_entry Basic) es
+pub documents_read : (es : List Entry) → map document (docs_of es) ≡ map (cut_entry Basic) es
 documents_read [] = refl
 documents_read (e ∷ es) = ap (λ (fs : List Entry). document e.doc ∷ fs) (documents_read es)
 

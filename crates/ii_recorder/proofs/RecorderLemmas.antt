@@ -11,7 +11,7 @@ use Rattle.ii_recorder.specs.DocFreqs.{entries_of, located, position_count}
 use Rattle.ii_recorder.specs.Recorded.{RecorderState, entries_in, last_doc, last_position, u32_max, with_position}
 use Rattle.ii_base.specs.declared.schema.index_record_option.IndexRecordOption.TheVariants.{WithFreqsAndPositions}
 
-last_of_push : (xs : List ℕ) (x : ℕ) → slice_get (xs ++ x ∷ []) (length xs) ≡ Some x
+pub last_of_push : (xs : List ℕ) (x : ℕ) → slice_get (xs ++ x ∷ []) (length xs) ≡ Some x
 last_of_push [] x = refl
 last_of_push (y ∷ xs) x = last_of_push xs x
 

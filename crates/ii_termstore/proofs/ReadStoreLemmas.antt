@@ -1,5 +1,5 @@
 -- What is written of a store is read back.
-use Rattle.std.proofs.Common.{◌≡◌, ℕ, zero, suc, ◌+◌, ◌-◌, ◌*◌, ◌/◌, ◌%◌, ◌^◌, ◌<◌, ◌≤◌, Bool, true, false, ◌||◌, List, [], ◌∷◌, ◌++◌, length, drop, map, get_or, max, nat_le, eqb, Some, refl, sym, ap, ◌∙◌, arith, length-append, length-drop}
+use Rattle.std.proofs.Common.{◌≡◌, ℕ, zero, suc, ◌+◌, ◌-◌, ◌*◌, ◌/◌, ◌%◌, ◌^◌, ◌<◌, ◌≤◌, true, false, ◌||◌, List, [], ◌∷◌, ◌++◌, length, drop, map, get_or, max, nat_le, eqb, Some, refl, sym, ap, ◌∙◌, arith, length-append, length-drop}
 use Rattle.std.specs.List.{range_with_len}
 use Rattle.std.proofs.lemmas.Bool.{le-leb, lt-ltb, eq-eqb, ne_eqb}
 use Rattle.std.proofs.lemmas.List.{drop_at, length-take, get_or-take, get_or-drop}
@@ -22,6 +22,7 @@ use Rattle.ii_termstore.proofs.WriterLemmas.{first_is, terms_fit, ends_fit}
 use Rattle.ii_termstore.proofs.PieceLemmas.{piece_at, length-pieces, pieces_le}
 use Rattle.ii_termstore.specs.ListLemmas.{append_assoc-five, all_pass}
 use Rattle.ii_termstore.proofs.RowLemmas.{Follow, later_is}
+use Rattle.std.proofs.Math.Bool.{or-true}
 
 -- A number has as many bits as it takes.
 bits_fit : (law : HoldsFromLeastWidth) (n : ℕ) → n < 2 ^ 64 → n < 2 ^ num_bits n
@@ -288,10 +289,6 @@ term_read law infos rest h joined b m start known (suc j) within =
     let read = later_is law m (others_of infos b) (bits_and infos rest) piece.0 j there seen (terms_fit m (others_of infos b) known.fits) (ends_fit m (others_of infos b) known.fits) follow in
     rw later (read ∙ other_is infos b j start there)
 
-or_true : (a : Bool) → (a || true) ≡ true
-or_true true = refl
-or_true false = refl
-
 -- block b is valid
 block_read : (law : ReadsFromItsPlace) (infos : List TermInfo) (rest : List ℕ) → AreStorable infos → AreJoined infos → (b : ℕ) (m : Meta) → 256 * b < length infos → IsMetaOf infos b m
     → is_block m (block_terms (length infos) b) (bits_and infos rest) ≡ true
@@ -315,7 +312,7 @@ block_read law infos rest h joined b m start known =
       le-leb m.postings_offset_nbits 56 p,
       le-leb m.positions_offset_nbits 56 q,
       lie,
-      or_true (nat_le (block_terms (length infos) b) 1 || eqb (block_bits m (block_terms (length infos) b)) 0),
+      or-true (nat_le (block_terms (length infos) b) 1 || eqb (block_bits m (block_terms (length infos) b)) 0),
       all,
     ) refl
 

@@ -13,6 +13,7 @@ use Rattle.iiq.specs.declared.session.Session.{Session as SessionKept}
 use Rattle.iiq.specs.Known.{IsReply}
 use Rattle.iiq.specs.Output.{with_ends, Prints, has_no_error, PrintsAll, PrintsBeginning, PutsBeginning}
 use Rattle.iiq.specs.Session.{Session, gathering}
+use Rattle.std.proofs.Math.Bool.{and-false}
 
 -- parts are never none
 some_part_cases : (c x : ℕ) (xs : List ℕ) (t : Bool) → (q : List ℕ) × (qs : List (List ℕ)) × (parts c xs ≡ q ∷ qs)
@@ -51,10 +52,6 @@ and_assoc false b c = refl
 and_true : (a : Bool) → (a && true) ≡ a
 and_true true = refl
 and_true false = refl
-
-and_false : (a : Bool) → (a && false) ≡ false
-and_false true = refl
-and_false false = refl
 
 -- what stands after whole lines is looked at by itself
 no_error_ends : (texts : List (List ℕ)) (more : List ℕ) → has_no_error (with_ends texts ++ more) ≡ (has_no_error (with_ends texts) && has_no_error more)
@@ -113,7 +110,7 @@ module _ (old now new : Option (List ℕ)) (text : List ℕ) (left : List (List 
         out = a.written ++ codes "error 1\n";
         appends = Appends-trans old now new a.written (codes "error 1\n") a.appends appends;
         prints = prints (codes "error 1\n") (rw e (inr refl));
-        fine_is = sym (known (codes "error 1\n") ∙ and_false fine);
+        fine_is = sym (known (codes "error 1\n") ∙ and-false fine);
       }
 
   -- the writer failed within these bytes, after which the rest of the run would have been written

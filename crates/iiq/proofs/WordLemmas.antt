@@ -1,7 +1,7 @@
 -- Laws of parts and numbers.
 use Rattle.std.proofs.Common.{◌≡◌, ◌≢◌, ℕ, zero, suc, ◌+◌, ◌*◌, ◌-◌, ◌^◌, ◌<◌, Bool, true, false, ◌&&◌, List, [], ◌∷◌, length, take, drop, get_or, Some, None, Result, Ok, Err, nat_lt, nat_le, refl, sym, ap, arith, cond, eqb, not, subst}
 use Rattle.std.proofs.lemmas.List.Sums.{passes_at_first, prefix_len_passes}
-use Rattle.std.proofs.lemmas.Bool.{eqb-true, ltb-true, ltb-false, leb-true}
+use Rattle.std.proofs.lemmas.Bool.{eqb-true, ltb-true, ltb-false, leb-true, not-true}
 use Rattle.std.proofs.lemmas.List.Splits.{slice_split_first, slice_split_none}
 use Rattle.std.proofs.lemmas.Str.{IsUtf8-from_ascii, IsUtf8-drop, IsCharBoundary-after_ascii}
 use Rattle.std.proofs.lemmas.Str.Parse.{IsNumeralModel, numerals_by_fold, tells_all_ascii_digits, parse_plain}
@@ -36,16 +36,12 @@ utf8_behind c text i e ascii whole =
     let here : get_or text i 0 ≡ c = eqb-true (get_or text i 0) c (rw found.1 at (passes_at_first (λ b. eqb b c) text 0 (ltb-true (position_or_len (λ b. eqb b c) text) (length text) found.0))) in
     IsUtf8-drop text (i + 1) whole (IsCharBoundary-after_ascii text i whole within (omega (arith, here, ascii)))
 
-not_true : (b : Bool) → not b ≡ true → b ≡ false
-not_true true e = absurd (cc)
-not_true false e = refl
-
 -- a text with none
 none_before : (c : ℕ) (text : List ℕ) → None ≡ position (λ b. eqb b c) text → All (λ b. eqb b c ≡ false) text
 none_before c text e k d h =
     let none = none_if (nat_lt (position_or_len (λ b. eqb b c) text) (length text)) (position_or_len (λ b. eqb b c) text) (sym e) in
     let all = ltb-false (position_or_len (λ b. eqb b c) text) (length text) none in
-    not_true (eqb (get_or text k d) c) (prefix_len_passes (λ b. not (eqb b c)) text k d (omega arith))
+    not-true (eqb (get_or text k d) c) (prefix_len_passes (λ b. not (eqb b c)) text k d (omega arith))
 
 pub parts_whole : (c : ℕ) (text : List ℕ) → None ≡ position (λ b. eqb b c) text → parts c text ≡ text ∷ []
 parts_whole c text e = slice_split_none (λ b. eqb b c) text (none_before c text e)
