@@ -1,36 +1,14 @@
 """Runs built programs with an allocation, a read or a write refused."""
 import os
 import subprocess
+import sys
 
 HERE = os.path.dirname(os.path.abspath(__file__))
 TOP = os.path.dirname(HERE)
+sys.path.insert(0, os.path.join(TOP, 'tools'))
+import programs
 
-
-def program_of(crate):
-    """Where the crate's program is built."""
-    return os.path.join(TOP, 'crates', crate, 'out', crate)
-
-
-def is_built(crate):
-    """Whether the program is there, and is newer than all sources."""
-    program = program_of(crate)
-    if not os.access(program, os.X_OK):
-        return False
-    built = os.path.getmtime(program)
-    sources = [os.path.join(TOP, 'crates.txt')]
-    for folder, folders, files in os.walk(os.path.join(TOP, 'crates')):
-        folders[:] = [name for name in folders if name != 'out']
-        sources += [os.path.join(folder, name) for name in files if name.endswith(('.rt', '.antt'))]
-    return all(os.path.getmtime(source) <= built for source in sources)
-
-
-def build(crate):
-    """Proves and builds the crate's program where it isn't built, and answers whether it is then."""
-    if is_built(crate):
-        return True
-    folder = os.path.join(TOP, 'crates', crate)
-    ran = subprocess.run(['rt', 'run'], cwd=folder, stdin=subprocess.DEVNULL, stdout=subprocess.DEVNULL)
-    return ran.returncode == 0
+build = programs.build
 
 
 def shim(folder, source='memory/refuse.c'):
@@ -48,6 +26,6 @@ def run(crate, text, library, refused, folder, variable='REFUSE'):
     told = os.path.join(folder, 'told')
     with open(told, 'wb') as sink:
         os.dup2(sink.fileno(), 3)
-        done = subprocess.run([program_of(crate)], input=text, stdout=subprocess.PIPE, stderr=subprocess.PIPE,
+        done = subprocess.run([programs.program_of(crate)], input=text, stdout=subprocess.PIPE, stderr=subprocess.PIPE,
                               timeout=60, pass_fds=(3,), env={'LD_PRELOAD': library, variable: str(refused)})
     return done, os.path.getsize(told) > 0

@@ -1,16 +1,14 @@
 -- Where the runs of a text lie.
-use Rattle.std.proofs.Common.{◌≡◌, ℕ, zero, suc, ◌+◌, ◌-◌, ◌<◌, ◌≤◌, Bool, true, false, not, ◌&&◌, ◌||◌, List, [], ◌∷◌, ◌++◌, length, length-drop, map, drop, get_or, nat_eq, nat_le, filter, refl, ap, arith, ◌∙◌, append-nil}
-use Rattle.std.specs.List.{enumerate_from, prefix_len, range_with_len, slice_index}
+use Rattle.std.proofs.Common.{◌≡◌, ℕ, zero, suc, ◌+◌, ◌-◌, ◌<◌, ◌≤◌, Bool, true, false, not, ◌&&◌, ◌||◌, List, [], ◌∷◌, ◌++◌, length, length-drop, drop, get_or, nat_eq, nat_le, refl, ap, arith, ◌∙◌, Some, None, rules}
+use Rattle.std.specs.List.{prefix_len, range_with_len, slice_index}
+use Rattle.std.specs.Prelude.{IsSome, if◌then◌else◌}
 use Rattle.std.specs.Str.{IsUtf8, IsCharBoundary}
-use Rattle.std.proofs.lemmas.List.{get_or-drop, length-map, map-append}
-use Rattle.std.proofs.lemmas.List.Sums.{prefix_len-le-length}
+use Rattle.std.proofs.lemmas.List.{get_or-drop}
+use Rattle.std.proofs.lemmas.List.Sums.{prefix_len-le-length, prefix_len_passes, prefix_len_stops}
 use Rattle.std.proofs.lemmas.Bool.{and_parts, ne_eqb, or_parts, leb-false, not-true}
-use Rattle.std.proofs.lemmas.List.FromFn.{length-enumerate_from}
 use Rattle.std.proofs.lemmas.Str.{IsCharBoundary-after_ascii, IsCharBoundary-start}
-use Rattle.std.proofs.lemmas.List.Elements.{filter-append}
 use Rattle.std.proofs.lemmas.List.Folds.{length-prefix_len}
-use Rattle.ii_base.specs.AsciiWords.{begins_run, is_word_at, is_word_byte, run_at, run_word}
-use Rattle.ii_base.specs.Words.{Word}
+use Rattle.ii_base.specs.AsciiWords.{begins_run, is_run, is_word_at, is_word_byte, run_at, run_word, words_from}
 
 -- a byte of no word is ASCII
 pub ascii_between : (b : ℕ) → is_word_byte b ≡ false → b < 128
@@ -63,38 +61,76 @@ cut_after_run text i within =
           absurd (omega (arith, low, high)),
     )
 
--- the runs that begin below a place
-abbrev starts_below : List ℕ → ℕ → List ℕ
-starts_below text n = filter (begins_run text) (range_with_len 0 n)
-
-abbrev pub words_below : List ℕ → ℕ → List Word
-words_below text n = map (λ (run : ℕ × ℕ). run_word text run.0 run.1) (enumerate_from 0 (filter (begins_run text) (range_with_len 0 n)))
-
 pub range_more : (a n : ℕ) → range_with_len a (suc n) ≡ range_with_len a n ++ (a + n) ∷ []
 range_more a zero = ap (λ (k : ℕ). k ∷ []) (omega arith)
 range_more a (suc n) = ap (λ (l : List ℕ). a ∷ l) (range_more (a + 1) n) ∙ ap (λ (k : ℕ). a ∷ (range_with_len (a + 1) n ++ k ∷ [])) (omega arith)
 
-enumerate_more : {X : Type 0} (n : ℕ) (xs : List X) (x : X) → enumerate_from n (xs ++ x ∷ []) ≡ enumerate_from n xs ++ (n + length xs, x) ∷ []
-enumerate_more n [] x = ap (λ (k : ℕ). (k, x) ∷ []) (omega arith)
-enumerate_more n (y ∷ ys) x = ap (λ l. (n, y) ∷ l) (enumerate_more (n + 1) ys x ∙ ap (λ (k : ℕ). enumerate_from (n + 1) ys ++ (k, x) ∷ []) (omega arith))
+range_step : (text : List ℕ) (i : ℕ) → i < length text → range_with_len i (length text - i) ≡ i ∷ range_with_len (i + 1) (length text - (i + 1))
+range_step text i within =
+    let left : length text - i ≡ suc (length text - (i + 1)) = omega (arith, within) in
+    rw left refl
 
-starts_more : (text : List ℕ) (n : ℕ) → starts_below text (n + 1) ≡ starts_below text n ++ filter (begins_run text) (n ∷ [])
-starts_more text n =
-    let one : n + 1 ≡ suc n = omega arith in
-    let here : 0 + n ≡ n = omega arith in
-    ap (λ (l : List ℕ). filter (begins_run text) l) (ap (range_with_len 0) one ∙ range_more 0 n ∙ ap (λ (k : ℕ). range_with_len 0 n ++ k ∷ []) here)
-    ∙ filter-append (begins_run text) (range_with_len 0 n) (n ∷ [])
+-- where no run begins, the words go on
+pub words_skip : (text : List ℕ) (p i : ℕ) → i < length text → begins_run text i ≡ false → words_from text p (i + 1) ≡ words_from text p i
+words_skip text p i within out =
+    let step = range_step text i within in
+    rw step (rw out refl)
 
-pub word_more : (text : List ℕ) (n : ℕ) (words : List Word) (w : Word) → words ≡ words_below text n → begins_run text n ≡ true → w ≡ run_word text (length words) n → words ++ w ∷ [] ≡ words_below text (n + 1)
-word_more text n words w known begins is =
-    let step = starts_more text n in
-    let more : starts_below text (n + 1) ≡ starts_below text n ++ n ∷ [] = rw begins at step in
-    let len : length words ≡ length (starts_below text n) = ap length known ∙ length-map (enumerate_from 0 (starts_below text n)) _ ∙ length-enumerate_from 0 (starts_below text n) in
-    let place : 0 + length (starts_below text n) ≡ length words = omega (arith, len) in
-    rw (more, enumerate_more 0 (starts_below text n) n, place, map-append) (rw (is, ← known) refl)
+-- where one begins, it is the first of them
+pub words_take : (text : List ℕ) (p i : ℕ) → begins_run text i ≡ true → words_from text p i ≡ run_word text p i ∷ words_from text (p + 1) (i + 1)
+words_take text p i begins =
+    let step = range_step text i (run_within text i begins) in
+    rw step (rw begins refl)
 
-pub no_word_more : (text : List ℕ) (n : ℕ) (words : List Word) → words ≡ words_below text n → begins_run text n ≡ false → words ≡ words_below text (n + 1)
-no_word_more text n words known begins =
-    let step = starts_more text n in
-    let more : starts_below text (n + 1) ≡ starts_below text n = (rw begins at step) ∙ append-nil (starts_below text n) in
-    rw more known
+skip_run : (text : List ℕ) (p i n : ℕ) → i + n ≤ length text → ((j : ℕ) → i ≤ j → j < i + n → begins_run text j ≡ false) → words_from text p (i + n) ≡ words_from text p i
+skip_run text p i zero within out = ap (words_from text p) (omega arith)
+skip_run text p i (suc n) within out =
+    let last : i + suc n ≡ (i + n) + 1 = omega arith in
+    let known = skip_run text p i n (omega (arith, within)) (λ j low high. out j low (omega (arith, high))) in
+    let less : i + n < length text = omega (arith, within) in
+    ap (words_from text p) last ∙ words_skip text p (i + n) less (out (i + n) (omega arith) (omega arith)) ∙ known
+
+and_false : (b : Bool) → (b && false) ≡ false
+and_false true = refl
+and_false false = refl
+
+-- no run begins inside another
+inside_run : (text : List ℕ) (i j : ℕ) → i < j → j < i + length (run_at text i) → begins_run text j ≡ false
+inside_run text i j low high =
+    let k = (j - 1) - i in
+    let len = length-prefix_len is_word_byte (drop i text) in
+    let word = prefix_len_passes is_word_byte (drop i text) k 0 (omega (arith, len, low, high)) in
+    let place : i + k ≡ j - 1 = omega (arith, low) in
+    let here : is_word_at text (j - 1) ≡ true = rw (← place) (rw (get_or-drop i text k 0) at word) in
+    rw (here, ne_eqb j 0 (λ e. omega (arith, e, low))) (and_false (is_word_at text j))
+
+some_by : (text : List ℕ) (i n : ℕ) → prefix_len is_word_byte (drop i text) ≡ n → i < length text → is_word_at text i ≡ true → 0 < n
+some_by text i zero e within word =
+    let left = length-drop i text in
+    let stops = prefix_len_stops is_word_byte (drop i text) 0 (omega (e, arith, left, within)) in
+    let none : i + 0 ≡ i = omega arith in
+    let out : is_word_at text i ≡ false = rw none at (rw (get_or-drop i text 0 0) at (rw e at stops)) in
+    absurd (cc (word, out))
+some_by text i (suc n) e within word = omega arith
+
+run_some : (text : List ℕ) (i : ℕ) → begins_run text i ≡ true → 0 < length (run_at text i)
+run_some text i begins =
+    let len = length-prefix_len is_word_byte (drop i text) in
+    let word = (and_parts (is_word_at text i) (nat_eq i 0 || not (is_word_at text (i - 1))) begins).0 in
+    let some = some_by text i (prefix_len is_word_byte (drop i text)) refl (run_within text i begins) word in
+    omega (arith, len, some)
+
+-- the words after a run are those from its second byte on
+pub words_after_run : (text : List ℕ) (p i : ℕ) → begins_run text i ≡ true → i + length (run_at text i) ≤ length text → words_from text p (i + length (run_at text i)) ≡ words_from text p (i + 1)
+words_after_run text p i begins within =
+    let some = run_some text i begins in
+    let n = length (run_at text i) - 1 in
+    let end : i + length (run_at text i) ≡ (i + 1) + n = omega (arith, some) in
+    ap (words_from text p) end ∙ skip_run text p (i + 1) n (omega (arith, some, within)) (λ j low high. inside_run text i j (omega (arith, low)) (omega (arith, high, some)))
+
+by_some : {X : Type 0} (b : Bool) (x : X) → IsSome (if b then Some x else None) → b ≡ true
+by_some true x some = refl
+by_some false x some = absurd (search rules)
+
+pub some_run : {X : Type 0} (text : List ℕ) (start end : ℕ) (x : X) → IsSome (if is_run text start end then Some x else None) → is_run text start end ≡ true
+some_run text start end x some = by_some (is_run text start end) x some

@@ -7,6 +7,7 @@ use Rattle.ii_base.specs.Words.{Word}
 abbrev pub is_word_byte : ℕ → Bool
 is_word_byte b = (nat_le 48 b && nat_le b 57) || (nat_le 65 b && nat_le b 90) || (nat_le 97 b && nat_le b 122) || nat_le 128 b
 
+-- whether a byte of a word stands at a place
 abbrev pub is_word_at : List ℕ → ℕ → Bool
 is_word_at text i = is_word_byte (slice_index text i)
 
@@ -35,3 +36,11 @@ run_word text position i = record {
 -- the runs of a text at positions 0, 1, 2 and so on
 abbrev pub ascii_words : List ℕ → List Word
 ascii_words text = map (λ (run : ℕ × ℕ). run_word text run.0 run.1) (enumerate_from 0 (run_starts text))
+
+-- the words that begin at a place or after it, the first at a position
+abbrev pub words_from : List ℕ → ℕ → ℕ → List Word
+words_from text position i = map (λ (run : ℕ × ℕ). run_word text run.0 run.1) (enumerate_from position (filter (begins_run text) (range_with_len i (length text - i))))
+
+-- whether a run stands between two places
+abbrev pub is_run : List ℕ → ℕ → ℕ → Bool
+is_run text start end = begins_run text start && end == start + length (run_at text start)

@@ -63,10 +63,12 @@ abbrev pub items_from : List Json → Items
 items_from [] = no_items
 items_from (j ∷ js) = item j (items_from js)
 
+-- the members of an object, each name with what its value stands for
 abbrev pub members_from : List (String Global × Json) → Members
 members_from [] = no_members
 members_from (m ∷ ms) = member (string_bytes m.0) m.1 (members_from ms)
 
+-- one layer of a program's value, what is in it being done
 abbrev pub json_step : JsonValue-F Json → Json
 json_step JsonValue-F.Null = null
 json_step (JsonValue-F.Str s) = leaf (text_leaf (string_bytes s))
@@ -82,6 +84,7 @@ json_step JsonValue-F.Ip = leaf (unsupported kinds.Ip)
 json_step (JsonValue-F.Array v) = array (items_from v.items)
 json_step (JsonValue-F.Object v) = object (members_from v.items)
 
+-- what a program's value stands for
 abbrev pub json_of : JsonValue → Json
 json_of = fold-JsonValue Json json_step
 

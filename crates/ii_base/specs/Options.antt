@@ -3,11 +3,13 @@ use Rattle.std.specs.Prelude.{Bool, true, false}
 use Rattle.ii_base.specs.declared.schema.index_record_option.IndexRecordOption.{IndexRecordOption}
 use Rattle.ii_base.specs.declared.schema.index_record_option.IndexRecordOption.TheVariants.{Basic, WithFreqs, WithFreqsAndPositions}
 
+-- whether an option keeps counts
 abbrev pub has_freq : IndexRecordOption → Bool
 has_freq Basic = false
 has_freq WithFreqs = true
 has_freq WithFreqsAndPositions = true
 
+-- whether an option keeps positions
 abbrev pub has_positions : IndexRecordOption → Bool
 has_positions Basic = false
 has_positions WithFreqs = false

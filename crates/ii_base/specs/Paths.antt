@@ -28,6 +28,7 @@ segment_bytes true segment = map (λ c. if c == 46 then 1 else c) segment
 abbrev pub joined_segments : List (List ℕ) → List ℕ
 joined_segments segments = join_with_byte 1 segments
 
+-- the bytes of a path by its segments
 abbrev pub path_bytes : Bool → List (List ℕ) → List ℕ
 path_bytes expand_dots segments = joined_segments (map (segment_bytes expand_dots) segments)
 

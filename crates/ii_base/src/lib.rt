@@ -14,7 +14,7 @@ pub mod tokenizer;
 pub use alive_bitset::AliveBitSet;
 pub use datetime::DateTime;
 pub use fast_value::FastValue;
-pub use ii_io::vint::VInt;
+pub use ii_io::vint::{VInt, read_u32_vint, write_u32_vint};
 pub use ii_io::{
     BinarySerializable, CompositeFile, CompositeWrite, CountingWriter, FailingReader,
     FailingWriter, Fault, Field, FixedSize, HasLen, LayoutFault, LeafKind, LimitName, Part,
@@ -28,8 +28,11 @@ pub use schema::index_record_option::IndexRecordOption;
 pub use schema::schema_fields::SchemaFields;
 pub use schema::term::Term;
 pub use schema::value_type::ValueType;
-pub use tokenizer::ascii_tokenizer::AsciiTokenizer;
+pub use tokenizer::ascii_tokenizer::{AsciiPlaces, AsciiTokenizer};
 pub use tokenizer::text_analyzer::TextAnalyzer;
+pub use tokenizer::text_tokens::TextTokens;
 pub use tokenizer::token::Token;
 pub use tokenizer::token_list::TokenList;
+pub use tokenizer::token_places::TokenPlaces;
 pub use tokenizer::token_stream::TokenStream;
+pub use tokenizer::token_view::TokenView;

@@ -137,18 +137,29 @@ fn documents_are_alive(rt: HostRuntime) -> Result<(), Fail> {
     Ok(())
 }
 
-// The tokens of a text, cut by any analyzer.
-fn spell<T: TextAnalyzer>(alloc: Global, analyzer: &T, text: &str) -> Result<String, Fault> {
-    let mut tokens = analyzer.token_list(alloc, text)?;
+// The tokens that are still to come.
+fn spell_stream<S: TokenStream>(alloc: Global, tokens: &mut S) -> Result<String, Fault> {
     let mut spelled = String::new(alloc);
     while tokens.advance() {
         let token = tokens.token();
-        spelled.push_str(token.text.as_str())?;
+        spelled.push_str(token.text)?;
         write!(spelled, "@{}", token.position)?;
         write!(spelled, "+{}", token.position_length)?;
         write!(spelled, " {}..{}, ", token.offset_from, token.offset_to)?;
     }
     Ok(spelled)
+}
+
+// The tokens of a text, cut by any analyzer into a list.
+fn spell<T: TextAnalyzer>(alloc: Global, analyzer: &T, text: &str) -> Result<String, Fault> {
+    let mut tokens = analyzer.token_list(alloc, text)?;
+    spell_stream(alloc, &mut tokens)
+}
+
+// The same, lent one by one.
+fn spell_lent<T: TextAnalyzer>(alloc: Global, analyzer: &T, text: &str) -> Result<String, Fault> {
+    let mut tokens = analyzer.token_stream(text);
+    spell_stream(alloc, &mut tokens)
 }
 
 #[test]
@@ -169,6 +180,8 @@ fn texts_are_cut(rt: HostRuntime) -> Result<(), Fail> {
     for (text, spelled) in rows {
         let found = spell(rt.alloc(), &AsciiTokenizer, text)?;
         assert!(rt; found.as_str() == spelled);
+        let lent = spell_lent(rt.alloc(), &AsciiTokenizer, text)?;
+        assert!(rt; lent.as_str() == spelled);
     }
     Ok(())
 }
@@ -176,15 +189,21 @@ fn texts_are_cut(rt: HostRuntime) -> Result<(), Fail> {
 #[test]
 fn tokens_are_gone_over(rt: HostRuntime) -> Result<(), Fail> {
     let mut tokens = AsciiTokenizer.token_list(rt.alloc(), "x y")?;
-    assert!(rt;
-        tokens
-            .next()
-            .is_some_and(|token| token.text.as_str() == "x")
-    );
+    assert!(rt; tokens.next().is_some_and(|token| token.text == "x"));
     assert!(rt; tokens.advance());
     assert!(rt; tokens.token().position == 1);
     assert!(rt; !tokens.advance());
+    assert!(rt; !tokens.advance());
     Ok(())
+}
+
+#[test]
+fn tokens_are_lent(rt: HostRuntime) {
+    let mut tokens = AsciiTokenizer.token_stream("x y");
+    assert!(rt; tokens.next().is_some_and(|token| token.text == "x"));
+    assert!(rt; tokens.next().is_some_and(|token| token.offset_from == 2));
+    assert!(rt; tokens.next().is_none());
+    assert!(rt; !tokens.advance());
 }
 
 fn appended<T: FastValue>(alloc: Global, val: T) -> Result<Term, Fault> {

@@ -177,21 +177,21 @@ fn indexed(alloc: Global, texts: Vec<String>) -> Result<Indexer, Fault> {
 }
 
 fn opened(alloc: Global, files: Files) -> Result<OpenIndex, Fault>
-    ensures { IfOk result (λ index. 0 < length index) }
+    ensures { IfOk result (λ index. 0 < length index.readers) }
 {
     let schema = schema(alloc)?;
     let Files {
         terms,
         postings,
         positions,
-        fieldnorms: _,
+        fieldnorms,
     } = files;
-    open_index(alloc, terms, postings, positions, &schema)
+    open_index(alloc, terms, postings, positions, fieldnorms, &schema)
 }
 
 // What it takes to look words up.
 fn look_up(rt: &HostRuntime, index: &OpenIndex) -> Result<Duration>
-    requires { 0 < length index.now }
+    requires { 0 < length index.now.readers }
 {
     let reader = index.reader(Field::from_field_id(0));
     let terms = terms(rt.alloc())?;

@@ -1,7 +1,7 @@
 -- Laws of the check of a term's positions.
-use Rattle.std.proofs.Common.{◌≡◌, ℕ, ◌+◌, ◌-◌, ◌*◌, ◌^◌, ◌<◌, ◌≤◌, Bool, true, false, ◌&&◌, List, [], ◌∷◌, ◌++◌, length, take, drop, get_or, nat_lt, nat_le, eqb, Option, Some, None, if◌then◌else◌, refl, sym, ap, ◌∙◌, arith, length-append, length-take, length-drop}
+use Rattle.std.proofs.Common.{◌≡◌, ℕ, ◌+◌, ◌-◌, ◌*◌, ◌^◌, ◌<◌, ◌≤◌, ◌/◌, ◌≢◌, Bool, true, false, ◌&&◌, List, [], ◌∷◌, ◌++◌, length, take, drop, get_or, nat_lt, nat_le, eqb, Option, Some, None, is_some, if◌then◌else◌, refl, sym, ap, ◌∙◌, arith, length-append, length-take, length-drop}
 use Rattle.std.specs.List.{sum, list_all}
-use Rattle.std.specs.Option.{IsSome}
+use Rattle.std.specs.Option.{IsSome, IfSome}
 use Rattle.std.proofs.Math.Bool.{and-true, and-false}
 use Rattle.std.proofs.Math.Seq.{take-add}
 use Rattle.std.proofs.lemmas.Bool.{and_parts, ltb-true, ltb-false, leb-true, leb-false, lt-ltb, le-ltb, le-leb, lt-leb, eqb-true, eq-eqb, ne_eqb}
@@ -9,11 +9,16 @@ use Rattle.std.proofs.lemmas.List.{drop-drop, take_more, take_all, take-append-d
 use Rattle.std.proofs.lemmas.List.Folds.{list_all-append}
 use Rattle.std.proofs.lemmas.List.Sums.{sum_by-append, sum_by-cons, sum_by_more}
 use Rattle.ii_codes.specs.Sums.{running_sums, fit_u32}
-use Rattle.ii_layout.specs.Positions.{positions_of}
+use Rattle.ii_layout.specs.Positions.{positions_of, position_deltas}
+use Rattle.ii_layout.specs.TermList.{deltas_if}
+use Rattle.ii_layout.specs.SkipReader.{SkipReaderState}
+use Rattle.ii_base.specs.declared.schema.index_record_option.IndexRecordOption.{IndexRecordOption}
+use Rattle.ii_base.specs.declared.schema.index_record_option.IndexRecordOption.TheVariants.{Basic, WithFreqs, WithFreqsAndPositions}
+use Rattle.ii_base.specs.Options.{downgrade, has_positions}
 use Rattle.ii_layout.specs.Written.{block_of}
 use Rattle.ii_io.specs.StepLemmas.{some-same}
 use Rattle.ii_codes.specs.BlockDecoder.{BlockDecoderState}
-use Rattle.ii_check.specs.CheckedPostings.{AreFreqs, LoadsFreqs}
+use Rattle.ii_check.specs.CheckedPostings.{AreFreqs, AreLastFreqs, CheckedPostingsState, HasDocuments, IsAtBlock, LoadsFreqs}
 use Rattle.ii_check.specs.Positions.{suffice}
 
 sum_cons : (n : ℕ) (ns : List ℕ) → sum (n ∷ ns) ≡ n + sum ns
@@ -251,3 +256,70 @@ pub goes_on : (freqs : Option (List ℕ)) (block end next block' : ℕ) (deltas 
 goes_on freqs block end next block' deltas row s e h next_is block_is =
     let more = suffices_next freqs block end deltas s (ap (λ (ns : List ℕ). suffice ns (drop end deltas)) (sym e) ∙ h) in
     rw (block_is, next_is, e) more
+
+-- where the sum of all deltas has 32 bits, each position has
+pub small_fits : (counts deltas : List ℕ) → sum deltas < 2 ^ 32 → list_all fit_u32 (positions_of counts deltas) ≡ true
+small_fits [] deltas small = refl
+small_fits (n ∷ ns) deltas small =
+    let parted = ap sum (sym (take-append-drop n deltas)) ∙ sum_append (take n deltas) (drop n deltas) in
+    let first = sums_fit (take n deltas) ∙ lt-ltb (sum (take n deltas)) (2 ^ 32) (omega arith) in
+    rw first (small_fits ns (drop n deltas) (omega arith))
+
+-- What bytes give whose deltas are as many as the counts say, or not.
+pub small_given : (freqs : Option (List ℕ)) (bytes deltas : List ℕ) (n : ℕ) → is_some freqs ≡ true → position_deltas bytes ≡ Some deltas → IfSome freqs (λ fs. n ≡ sum fs) → length deltas ≡ n → sum deltas < 2 ^ 32 → deltas_if true freqs (Some bytes) ≡ Some (Some deltas)
+small_given None bytes deltas n some read count many small = absurd (cc)
+small_given (Some fs) bytes deltas n some read count many small =
+    let same = eq-eqb (length deltas) (sum fs) (many ∙ count) in
+    let fit = small_fits fs deltas small in
+    rw (read, same, fit) refl
+
+pub too_many : (freqs : Option (List ℕ)) (bytes deltas : List ℕ) (n : ℕ) → is_some freqs ≡ true → position_deltas bytes ≡ Some deltas → IfSome freqs (λ fs. n ≡ sum fs) → length deltas ≢ n → deltas_if true freqs (Some bytes) ≡ None
+too_many None bytes deltas n some read count other = absurd (cc)
+too_many (Some fs) bytes deltas n some read count other =
+    let differ = ne_eqb (length deltas) (sum fs) (λ same. other (same ∙ sym count)) in
+    rw (read, differ) refl
+
+pub downgraded : (recorded requested : IndexRecordOption) → has_positions (downgrade recorded requested) ≡ true → has_positions recorded ≡ true
+downgraded Basic other e = e
+downgraded WithFreqs Basic e = e
+downgraded WithFreqs WithFreqs e = e
+downgraded WithFreqs WithFreqsAndPositions e = e
+downgraded WithFreqsAndPositions other e = refl
+
+-- how many positions the counts say, by what the skip entries tell of the full blocks and by the counts of the last one
+pub counted_all : (p : CheckedPostingsState) (skip : SkipReaderState) (fs row : List ℕ) (offset n : ℕ) → HasDocuments p → IsAtBlock p skip → skip.block ≡ p.doc_freq / 128 → has_positions p.recorded ≡ true → p.postings.freqs ≡ Some fs → row ≡ block_of fs (p.doc_freq / 128)
+    → offset ≡ skip.position_offset → n ≡ sum row → offset + n ≡ sum fs
+counted_all p skip fs row offset n has at end recorded e row_is offset_is n_is =
+    let many = (has.freqs fs e).many in
+    let told = ap (λ (r : SkipReaderState). r.position_offset) at.reader in
+    let before = has.sums fs e recorded skip.block (omega arith) in
+    let last = n_is ∙ ap sum (row_is ∙ ap (block_of fs) (sym end)) in
+    let whole = ap sum (block_parted fs skip.block) ∙ sum_append (take (128 * skip.block) fs) (block_of fs skip.block) in
+    let all = ap sum (take_all (128 * (skip.block + 1)) fs (omega arith)) in
+    omega arith
+
+-- the counts of the last block
+pub last_row : (o : Option (List ℕ)) (block : ℕ) (fs row : List ℕ) → o ≡ Some fs → AreLastFreqs o block row → row ≡ block_of fs block
+last_row None block fs row e last = absurd (cc)
+last_row (Some freqs) block fs row e last = last.0 ∙ ap (λ (ns : List ℕ). block_of ns block) (some-same e)
+
+pub last_few : (o : Option (List ℕ)) (block : ℕ) (row : List ℕ) → AreLastFreqs o block row → length row < 128
+last_few None block row last = last
+last_few (Some freqs) block row last = last.1
+
+pub last_loaded : (o : Option (List ℕ)) (n block : ℕ) (row : List ℕ) (old new : BlockDecoderState) → is_some o ≡ true → ((fs : List ℕ) → o ≡ Some fs → AreFreqs n fs) → block ≡ n / 128 → LoadsFreqs o block old new → row ≡ take new.output_len new.output → AreLastFreqs o (n / 128) row
+last_loaded None n block row old new some are end loads row_is = absurd (cc)
+last_loaded (Some fs) n block row old new some are end loads row_is =
+    let many = (are fs refl).many in
+    let here = row_is ∙ loads.holds.held ∙ ap (block_of fs) end in
+    let size = ap length here ∙ length-take 128 (drop (128 * (n / 128)) fs) in
+    let left = length-drop (128 * (n / 128)) fs in
+    (here, omega arith)
+
+pub where_some : (o : Option (List ℕ)) (n : ℕ) → ((fs : List ℕ) → o ≡ Some fs → n ≡ sum fs) → IfSome o (λ fs. n ≡ sum fs)
+where_some None n h = tt
+where_some (Some fs) n h = h fs refl
+
+pub some_counts : (o : Option (List ℕ)) → is_some o ≡ true → (fs : List ℕ) × (o ≡ Some fs)
+some_counts None e = absurd (cc)
+some_counts (Some fs) e = (fs, refl)

@@ -27,6 +27,7 @@ pub record CheckedPostingsState : Type 0 where
   pub postings : Postings
   pub freq_reading : FreqReadingOption
 
+-- the postings of a term in no documents
 abbrev pub no_postings : Postings
 no_postings = record { skip = record { skip_info = Basic; entries = []; body = [] }; docs = []; after = []; freqs = None }
 
@@ -40,6 +41,7 @@ pub record IsChecked (recorded requested : IndexRecordOption) (doc_freq : ℕ) (
   pub there : postings recorded requested doc_freq bytes ≡ Ok (given recorded requested doc_freq bytes)
   pub reading_is : reading ≡ freq_reading_of requested (given recorded requested doc_freq bytes)
 
+-- whether counts are read
 abbrev pub is_read : FreqReadingOption → Bool
 is_read NoFreq = false
 is_read SkipFreq = false
@@ -105,6 +107,11 @@ pub record LoadsBlock (p : Postings) (block : ℕ) (docs docs' freqs freqs' : Bl
 pub record IsSkipData (p : CheckedPostingsState) (bytes : List ℕ) : Type 0 where
   pub enough : entry_size p.postings.skip.skip_info * (p.doc_freq / 128) ≤ length bytes
   pub entries : p.postings.skip.entries ≡ entries_at p.postings.skip.skip_info (p.doc_freq / 128) bytes
+
+-- Counts are those of a last block, which is not full, where they are read.
+abbrev pub AreLastFreqs : Option (List ℕ) → ℕ → List ℕ → Type 0
+AreLastFreqs None block last = length last < 128
+AreLastFreqs (Some freqs) block last = (last ≡ block_of freqs block) × (length last < 128)
 
 -- A seek went from block i of a list to block k: forward, past blocks that end below the target, to the first one that doesn't or to the documents after the full blocks. From there on it stays.
 pub record SeeksBlock (target : ℕ) (docs : List ℕ) (i k : ℕ) : Type 0 where

@@ -21,7 +21,9 @@ use super::load::NO_FREQ;
 use ii_base::{IndexRecordOption, LayoutFault, Part};
 use ii_codes::{BlockDecoder, COMPRESSION_BLOCK_SIZE, compressed_block_size, last_of_sorted_block};
 use ii_docset::{DocId, TERMINATED};
-use ii_layout::{BlockInfo, SkipPlaces, SkipReader, bytes_from, split_into_skips_and_postings};
+use ii_layout::{
+    BlockInfo, SkipPlaces, SkipReader, bytes_from, split_into_skips_and_postings, sum_of,
+};
 
 /// Where the postings of a term lie in its bytes, and whether its counts are read; or the first part
 /// that is damaged. All documents are looked at before any counts. Those of a short list are then
@@ -291,17 +293,4 @@ fn are_rest_freqs(decoder: &mut BlockDecoder, num_docs: u32, bytes: &[u8]) -> bo
         return false;
     };
     true
-}
-
-/// The sum of at most 128 values.
-pub(crate) fn sum_of(values: &[u32]) -> u64
-    requires { length values.now ≤ 128 }
-    ensures sum { result ≡ sum values.now }
-    ensures small { result < 2 ^ 39 }
-{
-    let mut sum = 0;
-    for value in values {
-        sum += u64::from(*value);
-    }
-    sum
 }

@@ -1,4 +1,4 @@
-ghost use Rattle.std.specs.Prelude.{◌≡◌, ◌+◌, ◌/◌, ◌<◌, ◌≤◌, ◌&&◌, ◌==◌, ⊤, [], length, min, nat_lt, is_some, None, Some, Ok, Err, IfOk, IfErr, OnErr, IfSome, IsSome, MatchOption};
+ghost use Rattle.std.specs.Prelude.{◌≡◌, ◌+◌, ◌/◌, ◌<◌, ◌≤◌, ◌&&◌, ◌==◌, ⊤, [], length, min, nat_lt, true, is_some, None, Some, Ok, Err, IfOk, IfErr, OnErr, IfSome, IsSome, MatchOption};
 ghost use Rattle.std.specs.List.{sum, list_all};
 ghost use Rattle.ii_io.specs.Parts.{part_of};
 ghost use Rattle.ii_docset.specs.declared.docset.TheConstants.{TERMINATED};
@@ -8,7 +8,7 @@ ghost use Rattle.ii_layout.specs.Positions.{positions_of};
 ghost use Rattle.ii_layout.specs.Postings.{postings};
 ghost use Rattle.ii_layout.specs.TermList.{deltas_if};
 ghost use Rattle.ii_check.specs.Positions.{deltas_read};
-ghost use Rattle.ii_check.specs.CheckedPostings.{AreGiven, HasDocuments, IsAtBlock, IsSkipData, LoadsBlock, SeeksBlock, new_decoder};
+ghost use Rattle.ii_check.specs.CheckedPostings.{AreGiven, AreLastFreqs, HasDocuments, IsAtBlock, IsSkipData, LoadsBlock, SeeksBlock, new_decoder};
 ghost use Rattle.ii_check.specs.FreqReading.{freq_reading_of, reading_of_none};
 
 use super::check::{check_postings, freq_reading_option};
@@ -19,7 +19,7 @@ use bytes::Bytes;
 use ii_base::{Fault, IndexRecordOption, LayoutFault, Part};
 use ii_codes::{BlockDecoder, COMPRESSION_BLOCK_SIZE};
 use ii_docset::{DocId, TERMINATED};
-use ii_layout::{PositionReader, SkipPlaces, SkipReader, bytes_from};
+use ii_layout::{PositionReader, SkipPlaces, SkipReader, bytes_from, sum_of};
 use std::marker::Model;
 
 /// The bytes of a term that were found to hold its postings, so that each block can be read at its
@@ -53,33 +53,35 @@ impl Model for CheckedPostings {
 
 impl CheckedPostings {
     /// The postings of a term in `doc_freq` documents that `bytes` begin with, by the option that
-    /// its field records and the one that is requested, and two new decoders that hold the documents
-    /// and the counts of their first block; or the first part that is damaged. The whole list is
-    /// looked at, counts where they are read, and memory is never taken. Bytes after what is read
-    /// aren't looked at.
+    /// its field records and the one that is requested; or the first part that is damaged. Two new
+    /// decoders are lent: they then hold the documents and the counts of the first block, and after a
+    /// refusal anything. The whole list is looked at, counts where they are read, and memory is never
+    /// taken. Bytes after what is read aren't looked at.
     pub fn open(
         doc_freq: u32,
         bytes: Bytes,
         record_option: IndexRecordOption,
         requested_option: IndexRecordOption,
-    ) -> Result<(CheckedPostings, BlockDecoder, BlockDecoder), LayoutFault>
-        ensures ok { IfOk result (λ opened. postings record_option requested_option doc_freq bytes ≡ Ok opened.0.postings) }
-        ensures options { IfOk result (λ opened. (opened.0.recorded ≡ record_option) × (opened.0.requested ≡ requested_option)) }
-        ensures doc_freq { IfOk result (λ opened. opened.0.doc_freq ≡ doc_freq) }
-        ensures reading { IfOk result (λ opened. opened.0.freq_reading ≡ freq_reading_of requested_option opened.0.postings) }
-        ensures documents { IfOk result (λ opened. HasDocuments opened.0) }
-        ensures first { IfOk result (λ opened. LoadsBlock opened.0.postings 0 (new_decoder TERMINATED) opened.1 (new_decoder 1) opened.2) }
+        doc_decoder: &mut BlockDecoder,
+        freq_decoder: &mut BlockDecoder,
+    ) -> Result<CheckedPostings, LayoutFault>
+        requires new_docs { doc_decoder.old ≡ new_decoder TERMINATED }
+        requires new_freqs { freq_decoder.old ≡ new_decoder 1 }
+        ensures ok { IfOk result (λ checked. postings record_option requested_option doc_freq bytes ≡ Ok checked.postings) }
+        ensures options { IfOk result (λ checked. (checked.recorded ≡ record_option) × (checked.requested ≡ requested_option)) }
+        ensures doc_freq { IfOk result (λ checked. checked.doc_freq ≡ doc_freq) }
+        ensures reading { IfOk result (λ checked. checked.freq_reading ≡ freq_reading_of requested_option checked.postings) }
+        ensures documents { IfOk result (λ checked. HasDocuments checked) }
+        ensures first { IfOk result (λ checked. LoadsBlock checked.postings 0 (new_decoder TERMINATED) doc_decoder.new (new_decoder 1) freq_decoder.new) }
         ensures err { IfErr result (λ fault. postings record_option requested_option doc_freq bytes ≡ Err (part_of fault)) }
     {
-        let mut doc_decoder = BlockDecoder::with_val(TERMINATED);
-        let mut freq_decoder = BlockDecoder::with_val(NO_FREQ);
         let (places, freq_reading_option) = match check_postings(
             doc_freq,
             bytes.as_slice(),
             record_option,
             requested_option,
-            &mut doc_decoder,
-            &mut freq_decoder,
+            doc_decoder,
+            freq_decoder,
         ) {
             Ok(found) => found,
             Err(fault) => return Err(fault),
@@ -92,8 +94,8 @@ impl CheckedPostings {
             places,
             freq_reading_option,
         };
-        let (doc_decoder, freq_decoder) = checked.first_block(doc_decoder, freq_decoder);
-        Ok((checked, doc_decoder, freq_decoder))
+        checked.first_block(doc_decoder, freq_decoder);
+        Ok(checked)
     }
 
     /// The postings of a term in no documents, by the option that its field records and the one that
@@ -123,19 +125,18 @@ impl CheckedPostings {
         }
     }
 
-    // The decoders that are left of the check of a short list, since they hold all of it; else new
-    // ones that hold the first block.
-    fn first_block(&self, docs: BlockDecoder, freqs: BlockDecoder) -> (BlockDecoder, BlockDecoder)
-        requires { self.now.doc_freq < 128 → LoadsBlock self.now.postings 0 (new_decoder TERMINATED) docs (new_decoder 1) freqs }
-        ensures { LoadsBlock self.now.postings 0 (new_decoder TERMINATED) result.0 (new_decoder 1) result.1 }
+    // Leaves the decoders of a check of a short list, since they hold all of it; else makes them hold
+    // the first block, as new ones.
+    fn first_block(&self, doc_decoder: &mut BlockDecoder, freq_decoder: &mut BlockDecoder)
+        requires { self.now.doc_freq < 128 → LoadsBlock self.now.postings 0 (new_decoder TERMINATED) doc_decoder.old (new_decoder 1) freq_decoder.old }
+        ensures { LoadsBlock self.now.postings 0 (new_decoder TERMINATED) doc_decoder.new (new_decoder 1) freq_decoder.new }
     {
         if self.doc_freq < COMPRESSION_BLOCK_SIZE as u32 {
-            return (docs, freqs);
+            return;
         }
-        let mut doc_decoder = BlockDecoder::with_val(TERMINATED);
-        let mut freq_decoder = BlockDecoder::with_val(NO_FREQ);
-        self.load_block(&self.skip_reader(), &mut doc_decoder, &mut freq_decoder);
-        (doc_decoder, freq_decoder)
+        *doc_decoder = BlockDecoder::with_val(TERMINATED);
+        *freq_decoder = BlockDecoder::with_val(NO_FREQ);
+        self.load_block(&self.skip_reader(), doc_decoder, freq_decoder);
     }
 
     /// The same postings over the same bytes, which are shared. `OutOfMemory` where a growth was
@@ -226,6 +227,33 @@ impl CheckedPostings {
         ensures refused { OnErr result (deltas_if (has_positions (downgrade self.now.recorded self.now.requested)) self.now.postings.freqs bytes ≡ None) }
         ensures err { IfErr result (λ fault. fault ≡ LayoutFault.Damaged Part.Positions) }
     {
+        if !self.reads_positions() {
+            return Ok(None);
+        }
+        let mut skip = self.skip_reader();
+        for _block in 0..self.doc_freq / COMPRESSION_BLOCK_SIZE as u32 {
+            self.advance(&mut skip);
+        }
+        let mut doc_decoder = BlockDecoder::with_val(TERMINATED);
+        let mut freq_decoder = BlockDecoder::with_val(NO_FREQ);
+        self.load_block(&skip, &mut doc_decoder, &mut freq_decoder);
+        self.open_counted_positions(bytes, freq_decoder.output_array())
+    }
+
+    /// A reader of the positions that `bytes` hold, as `open_positions` gives it, by the counts of the
+    /// last block, which has fewer than 128.
+    pub fn open_counted_positions(
+        &self,
+        bytes: Option<Bytes>,
+        last_freqs: &[u32],
+    ) -> Result<Option<PositionReader>, LayoutFault>
+        requires { AreLastFreqs self.now.postings.freqs (self.now.doc_freq / 128) last_freqs.now }
+        ensures ok { IfOk result (λ opened. deltas_if (has_positions (downgrade self.now.recorded self.now.requested)) self.now.postings.freqs bytes
+            ≡ Some (deltas_read opened)) }
+        ensures decodes { IfOk result (λ opened. MatchOption opened ⊤ (λ reader. reader.decodes ≤ 1)) }
+        ensures refused { OnErr result (deltas_if (has_positions (downgrade self.now.recorded self.now.requested)) self.now.postings.freqs bytes ≡ None) }
+        ensures err { IfErr result (λ fault. fault ≡ LayoutFault.Damaged Part.Positions) }
+    {
         let Some(bytes) = bytes else {
             return Ok(None);
         };
@@ -236,10 +264,32 @@ impl CheckedPostings {
             Ok(reader) => reader,
             Err(fault) => return Err(fault),
         };
+        if reader.len() != u128::from(self.num_positions(last_freqs)) {
+            return Err(LayoutFault::Damaged(Part::Positions));
+        }
+        // no position passes the sum of all deltas
+        if reader.has_small_sum() {
+            return Ok(Some(reader));
+        }
         if !self.are_positions(&mut reader) {
             return Err(LayoutFault::Damaged(Part::Positions));
         }
         Ok(Some(reader.anew()))
+    }
+
+    // How many positions the counts say: the skip entries tell it of the full blocks, to which come
+    // the counts of the last one.
+    fn num_positions(&self, last_freqs: &[u32]) -> u64
+        requires recorded { has_positions self.now.recorded ≡ true }
+        requires read { IsSome self.now.postings.freqs }
+        requires last { AreLastFreqs self.now.postings.freqs (self.now.doc_freq / 128) last_freqs.now }
+        ensures { IfSome self.now.postings.freqs (λ freqs. result ≡ sum freqs) }
+    {
+        let mut skip = self.skip_reader();
+        for _block in 0..self.doc_freq / COMPRESSION_BLOCK_SIZE as u32 {
+            self.advance(&mut skip);
+        }
+        skip.position_offset() + sum_of(last_freqs)
     }
 
     // Whether positions are read where they are given.

@@ -3,9 +3,8 @@ ghost use Rattle.std.specs.List.{sum};
 ghost use Rattle.ii_codes.specs.Sums.{fit_u32, running_sums};
 ghost use Rattle.ii_check.specs.Positions.{suffice};
 
-use super::check::sum_of;
 use ii_codes::COMPRESSION_BLOCK_SIZE;
-use ii_layout::PositionReader;
+use ii_layout::{PositionReader, sum_of};
 
 /// Where the positions of documents with these counts end, which begin at a place, or `None` where
 /// there are too few or one passes `u32::MAX`.

@@ -11,6 +11,7 @@ low_bits (suc w) n = n % 2 ∷ low_bits w (n / 2)
 unfoldable pub whole_bytes : List ℕ → List ℕ
 whole_bytes bits = entries_in 1 8 (length bits / 8) bits
 
+-- the bits that make no whole byte
 abbrev pub bits_left : List ℕ → List ℕ
 bits_left bits = drop (length bits / 8 * 8) bits
 

@@ -24,9 +24,11 @@ abbrev pub entries_from : ℕ → ℕ → List ℕ → List ℕ
 entries_from gap least [] = []
 entries_from gap least (v ∷ vs) = (v - least) ∷ entries_from gap (v + gap) vs
 
+-- the values of entries, each after the one before it
 abbrev pub sorted_values : Bool → ℕ → List ℕ → List ℕ
 sorted_values strict offset es = values_from (gap_of strict) (least_first strict offset) es
 
+-- the entries of values, each counted from the one before it
 abbrev pub sorted_entries : Bool → ℕ → List ℕ → List ℕ
 sorted_entries strict offset vs = entries_from (gap_of strict) (least_first strict offset) vs
 
@@ -39,6 +41,7 @@ abbrev pub unsorted_values : Bool → List ℕ → List ℕ
 unsorted_values true es = map (λ e. e + 1) es
 unsorted_values false es = es
 
+-- the entries of values, lowered by one or as they are
 abbrev pub unsorted_entries : Bool → List ℕ → List ℕ
 unsorted_entries true vs = map (λ v. v - 1) vs
 unsorted_entries false vs = vs
@@ -51,9 +54,11 @@ block_at values w bytes = do
   _ ← needs (fit_u32 (values (unpacked w bytes)))
   Some (values (unpacked w bytes), drop (16 * w) bytes)
 
+-- a sorted block at the front of bytes
 unfoldable pub sorted_block_at : Bool → ℕ → ℕ → List ℕ → Option (List ℕ × List ℕ)
 sorted_block_at strict offset w bytes = block_at (sorted_values strict offset) w bytes
 
+-- an unsorted block at the front of bytes
 unfoldable pub unsorted_block_at : Bool → ℕ → List ℕ → Option (List ℕ × List ℕ)
 unsorted_block_at minus_one w bytes = block_at (unsorted_values minus_one) w bytes
 
@@ -61,12 +66,15 @@ unsorted_block_at minus_one w bytes = block_at (unsorted_values minus_one) w byt
 abbrev pub sorted_width : ℕ → List ℕ → ℕ
 sorted_width offset vs = least_width (sorted_entries true offset vs)
 
+-- the bytes of a sorted block that is written
 abbrev pub sorted_bytes : ℕ → List ℕ → List ℕ
 sorted_bytes offset vs = packed (sorted_width offset vs) (sorted_entries true offset vs)
 
+-- the width of an unsorted block that is written
 abbrev pub unsorted_width : Bool → List ℕ → ℕ
 unsorted_width minus_one vs = least_width (unsorted_entries minus_one vs)
 
+-- the bytes of an unsorted block that is written
 abbrev pub unsorted_bytes : Bool → List ℕ → List ℕ
 unsorted_bytes minus_one vs = packed (unsorted_width minus_one vs) (unsorted_entries minus_one vs)
 

@@ -3,7 +3,9 @@ ghost use Rattle.ii_codes.specs.Sums.{DoNotFall};
 ghost use Rattle.ii_codes.specs.UnsortedVints.{u32s_until_end};
 ghost use Rattle.ii_io.specs.Vints.{u32s_at};
 
-use ii_codes::vint::compress_sorted;
+use ii_codes::vint::{
+    compress_sorted, uncompress_sorted, uncompress_unsorted, uncompress_unsorted_until_end,
+};
 use ii_codes::{BlockDecoder, BlockEncoder, VIntDecoder, VIntEncoder};
 use ii_io::{LayoutFault, Part};
 use std::test::Fail;
@@ -125,6 +127,50 @@ fn read_all_by<D: VIntDecoder>(decoder: &mut D, bytes: &[u8])
     ensures { Some (take (D.state decoder.new).output_len (D.state decoder.new).output) ≡ u32s_until_end 128 bytes.now }
 {
     decoder.uncompress_vint_unsorted_until_end(bytes);
+}
+
+// Reads sorted vints to fill an array, which some decoder could do too.
+fn sorted_of(bytes: &[u8], offset: u32) -> Option<(usize, [u32; 2])> {
+    let mut decoder = BlockDecoder::default();
+    let Ok(_) = decoder.try_uncompress_vint_sorted(bytes, offset, 2, 0) else {
+        return None;
+    };
+    let mut output = [0; 2];
+    let used = uncompress_sorted(bytes, &mut output, offset);
+    Some((used, output))
+}
+
+// Reads unsorted ones.
+fn unsorted_of(bytes: &[u8]) -> Option<(usize, [u32; 2])> {
+    let mut decoder = BlockDecoder::default();
+    let Ok(_) = decoder.try_uncompress_vint_unsorted(bytes, 2, 0) else {
+        return None;
+    };
+    let mut output = [0; 2];
+    let used = uncompress_unsorted(bytes, &mut output);
+    Some((used, output))
+}
+
+// Reads as many as there are, at most 128.
+fn all_of(bytes: &[u8]) -> Option<(usize, [u32; 128])> {
+    let mut decoder = BlockDecoder::default();
+    let Ok(()) = decoder.try_uncompress_vint_unsorted_until_end(bytes) else {
+        return None;
+    };
+    let mut output = [9; 128];
+    let many = uncompress_unsorted_until_end(bytes, &mut output);
+    Some((many, output))
+}
+
+#[test]
+fn arrays_are_filled_with_vints(rt: HostRuntime) -> Result<(), Fail> {
+    let bytes = three_vints();
+    assert!(rt; sorted_of(&bytes, 5) == Some((3, [6, 306])));
+    assert!(rt; unsorted_of(&bytes) == Some((3, [1, 300])));
+    let (many, values) = all_of(&bytes).ok_or("all vints")?;
+    assert!(rt; many == 3);
+    assert!(rt; values.starts_with(&[1, 300, 16384, 9]));
+    Ok(())
 }
 
 // 1, 300 and 16384: 300 is 2 * 128 + 44, and 16384 is 128 * 128.

@@ -4,3 +4,4 @@ pub mod BoxLemmas
 pub mod BufferLemmas
 pub mod CursorLemmas
 pub mod IntersectionLemmas
+pub mod WalkLemmas

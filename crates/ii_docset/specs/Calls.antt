@@ -15,11 +15,13 @@ pub data Answer : Type 0 where
   FreqIs : ℕ → Answer
   PositionsAre : List ℕ → Answer
 
+-- what a program's answer tells
 abbrev pub answer_of : CursorAnswer → Answer
 answer_of (answer.Doc doc) = DocIs doc
 answer_of (answer.Freq freq) = FreqIs freq
 answer_of (answer.Positions positions) = PositionsAre positions.items
 
+-- what the answers of a walk tell
 abbrev pub answers_in : Walk → List Answer
 answers_in walk = map answer_of walk.answers.items
 

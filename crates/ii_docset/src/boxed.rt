@@ -8,6 +8,8 @@ impl<T: DocSet> DocSet for Box<T> {
 
     ghost always_one = { λ s. T.always_one s.value };
 
+    ghost hints = { λ s n. T.hints s.value n };
+
     ghost went = { λ a b. T.went a.value b.value };
 
     ghost went_nowhere = { λ s. T.went_nowhere s.value };
@@ -79,6 +81,8 @@ impl DocSet for Box<dyn DocSet> {
 
     ghost always_one = { λ s. (DocSet-box s).always_one s.value };
 
+    ghost hints = { λ s n. (DocSet-box s).hints s.value n };
+
     ghost went_nowhere = { λ s. tt };
 
     ghost went_on = { λ a b c first second. tt };
@@ -125,6 +129,8 @@ impl DocSet for Box<dyn Postings> {
     ghost rest = { λ s. (Postings-box s).DocSet.rest s.value };
 
     ghost always_one = { λ s. (Postings-box s).DocSet.always_one s.value };
+
+    ghost hints = { λ s n. (Postings-box s).DocSet.hints s.value n };
 
     ghost went_nowhere = { λ s. tt };
 

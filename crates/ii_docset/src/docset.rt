@@ -1,4 +1,4 @@
-ghost use Rattle.std.specs.Prelude.{◌≡◌, ◌≤◌, ◌<◌, ◌++◌, Bool, false, ⊤, List, [], drop, length, take, min};
+ghost use Rattle.std.specs.Prelude.{◌≡◌, ◌≤◌, ◌<◌, ◌++◌, ℕ, Bool, false, ⊤, List, [], drop, length, take, min};
 ghost use Rattle.ii_docset.specs.Entries.{Entry, docs_of};
 ghost use Rattle.ii_docset.specs.Cursor.{doc_at, from_doc, IsDangerAnswer, IsSound, IsTarget};
 ghost use Rattle.ii_docset.specs.Alive.{IsCovered, alive_in};
@@ -37,6 +37,9 @@ pub trait DocSet: Drop {
     // was decoded. It holds where nothing moved, and of one move after another, by the laws below.
     ghost went: { Self → Self → Type 0 } = { λ _ _. ⊤ };
 
+    // What `size_hint` and `cost` may answer.
+    ghost hints: { Self → ℕ → Type 0 } = { λ _ _. ⊤ };
+
     /// Drops the current document, and answers the next one, or `TERMINATED` after the last.
     fn advance(&mut self) -> DocId
         ensures doc { result ≡ doc_at (rest self.new) }
@@ -51,7 +54,8 @@ pub trait DocSet: Drop {
         ensures sound { IsSound (rest self.now) };
 
     /// A hint of how many documents the cursor goes over.
-    fn size_hint(&self) -> u32;
+    fn size_hint(&self) -> u32
+        ensures { hints self.now result };
 
     /// Drops the documents below `target`, and answers the first that is left, or `TERMINATED`. The
     /// target is at most `TERMINATED`, and not below a current document.
@@ -119,7 +123,9 @@ pub trait DocSet: Drop {
     }
 
     /// A hint of what going over all documents costs.
-    fn cost(&self) -> u64 {
+    fn cost(&self) -> u64
+        ensures { hints self.now result }
+    {
         u64::from(self.size_hint())
     }
 

@@ -14,6 +14,8 @@ impl<T: DocSet> DocSet for Lent<'_, T> {
 
     ghost always_one = { λ s. T.always_one s.inner.now };
 
+    ghost hints = { λ s n. T.hints s.inner.now n };
+
     ghost went = { λ a b. T.went a.inner.now b.inner.now };
 
     ghost went_nowhere = { λ s. T.went_nowhere s.inner.now };

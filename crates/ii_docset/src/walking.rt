@@ -1,4 +1,5 @@
-ghost use Rattle.std.specs.Prelude.{◌≡◌, ◌↔◌, take, length, IfOk, IfErr, IsTrue, OnOk};
+ghost use Rattle.std.specs.Prelude.{◌≡◌, ◌↔◌, ◌<◌, ◌++◌, [], ◌∷◌, take, length, IfOk, IfErr, IsTrue, OnErr, OnOk};
+ghost use Rattle.std.specs.Vec.{vec_capacity, vec_len};
 ghost use Rattle.ii_docset.specs.Calls.{IsAllowed, IsLawful, answer_of, answer_to, answers_in, answers_to, rest_after_call, rest_after};
 
 use crate::calls::{CursorAnswer, CursorCall, Walk};
@@ -9,35 +10,50 @@ use std::alloc::Global;
 /// Makes calls of a cursor, one after the other, and keeps what each answers.
 ///
 /// Each call has to be one that may be made where the calls before it leave the cursor. Where memory
-/// is refused the walk ends: what was answered so far is kept, and the cursor stands where the last
-/// call left it.
+/// is refused the walk ends: each call that was made before has its answer, and the cursor stands where
+/// these calls left it.
+#[tactic(auto, using(crate::proofs::WalkLemmas::may_walk, crate::proofs::WalkLemmas::walks_on))]
 pub fn walk<P: Postings>(alloc: Global, cursor: &mut P, calls: &[CursorCall]) -> Walk
     requires { IsLawful calls.now (P.always_one cursor.old) (P.rest cursor.old) }
     ensures answers { IsTrue result.complete → answers_in result ≡ answers_to calls.now (P.always_one cursor.old) (P.rest cursor.old) }
     ensures complete { IsTrue result.complete ↔ (length (answers_in result) ≡ length calls.now) }
     ensures beginning { answers_in result ≡ take (length (answers_in result)) (answers_to calls.now (P.always_one cursor.old) (P.rest cursor.old)) }
     ensures rest { IsTrue result.complete → P.rest cursor.new ≡ rest_after calls.now (P.rest cursor.old) }
+    ensures left { P.rest cursor.new ≡ rest_after (take (length (answers_in result)) calls.now) (P.rest cursor.old) }
     ensures kind { P.always_one cursor.new ≡ P.always_one cursor.old }
     ensures work { P.went cursor.old cursor.new }
 {
     let mut answers = Vec::new(alloc);
     for call in calls {
+        // Room comes first, so that no call is made whose answer is lost.
+        let Ok(()) = answers.reserve(1) else {
+            return Walk {
+                answers,
+                complete: false,
+            };
+        };
         let Ok(answer) = make_call(alloc, cursor, *call) else {
             return Walk {
                 answers,
                 complete: false,
             };
         };
-        if answers.push(answer).is_err() {
-            return Walk {
-                answers,
-                complete: false,
-            };
-        }
+        keep(&mut answers, answer);
     }
     Walk {
         answers,
         complete: true,
+    }
+}
+
+// Adds an answer for which there is room.
+fn keep(answers: &mut Vec<CursorAnswer>, answer: CursorAnswer)
+    requires { vec_len answers.old < vec_capacity answers.old }
+    ensures { answers.new.items ≡ answers.old.items ++ answer ∷ [] }
+{
+    match answers.push(answer) {
+        Ok(()) => (),
+        Err(_) => unreachable!(),
     }
 }
 
@@ -51,6 +67,7 @@ fn make_call<P: Postings>(
     ensures ok { IfOk result (λ answer. answer_of answer ≡ answer_to call (P.always_one cursor.old) (P.rest cursor.old)) }
     ensures only { IfErr result (λ e. e ≡ Fault.OutOfMemory) }
     ensures rest { OnOk result (P.rest cursor.new ≡ rest_after_call call (P.rest cursor.old)) }
+    ensures stays { OnErr result (P.rest cursor.new ≡ P.rest cursor.old) }
     ensures kind { P.always_one cursor.new ≡ P.always_one cursor.old }
     ensures work { P.went cursor.old cursor.new }
 {

@@ -106,6 +106,19 @@ fn default_bodies_are_called(rt: HostRuntime) -> Result<(), Fail> {
     Ok(())
 }
 
+// Goes on by a cursor of any kind that is lent.
+fn next_of(cursor: &mut dyn DocSet) -> DocId {
+    cursor.advance()
+}
+
+#[test]
+fn a_lent_cursor_of_any_kind_goes_on(rt: HostRuntime) {
+    let mut cursor = Below { next: 0, end: 2 };
+    assert!(rt; next_of(&mut cursor) == 1);
+    assert!(rt; next_of(&mut cursor) == TERMINATED);
+    assert!(rt; cursor.doc() == TERMINATED);
+}
+
 #[test]
 fn buffers_are_filled(rt: HostRuntime) -> Result<(), Fail> {
     let mut cursor: Box<dyn DocSet> = Box::new(rt.alloc(), Below { next: 0, end: 100 })?;

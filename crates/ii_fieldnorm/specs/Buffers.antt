@@ -10,6 +10,7 @@ use Rattle.ii_io.specs.declared.faults.Fault.TheVariants.{SerializerClosed}
 use Rattle.ii_base.specs.Schema.{Entry, keeps_norms}
 use Rattle.ii_fieldnorm.specs.Norms.{id_of_norm}
 
+-- for each field of a schema the bytes of its documents, if it keeps norms
 abbrev pub Buffers : Type 0
 Buffers = List (Option (List ℕ))
 
@@ -21,6 +22,7 @@ norm_fields entries = map (λ (f : ℕ × Entry). f.0) (filter (λ (f : ℕ × E
 abbrev pub empty_buffer : Entry → Option (List ℕ)
 empty_buffer e = if keeps_norms e then Some [] else None
 
+-- the buffers of a schema, without documents
 abbrev pub empty_buffers : List Entry → Buffers
 empty_buffers entries = map empty_buffer entries
 
@@ -28,6 +30,7 @@ empty_buffers entries = map empty_buffer entries
 abbrev pub filled : ℕ → List ℕ → List ℕ
 filled docs ids = take docs ids ++ replicate (docs - length ids) 0
 
+-- each buffer filled up to so many documents
 abbrev pub filled_buffers : ℕ → Buffers → Buffers
 filled_buffers docs buffers = map (option_map (filled docs)) buffers
 
@@ -39,6 +42,7 @@ buffer_of field buffers = option_flatten (slice_get buffers field)
 abbrev pub recorded : ℕ → ℕ → List ℕ → List ℕ
 recorded doc fieldnorm ids = ids ++ replicate (doc - length ids) 0 ++ id_of_norm fieldnorm ∷ []
 
+-- a number recorded for a document in the buffer of a field
 abbrev pub recorded_buffers : ℕ → ℕ → ℕ → Buffers → Buffers
 recorded_buffers field doc fieldnorm buffers = slice_set buffers field (option_map (recorded doc fieldnorm) (buffer_of field buffers))
 
@@ -52,6 +56,7 @@ norm_bodies_from field [] = []
 norm_bodies_from field (None ∷ bs) = norm_bodies_from (field + 1) bs
 norm_bodies_from field (Some ids ∷ bs) = record { field = field; bytes = ids } ∷ norm_bodies_from (field + 1) bs
 
+-- the bodies of all buffers
 abbrev pub norm_bodies : Buffers → List Body
 norm_bodies buffers = norm_bodies_from 0 buffers
 

@@ -6,6 +6,7 @@ use Rattle.std.specs.List.{range_with_len}
 unfoldable pub norm_of_id : ℕ → ℕ
 norm_of_id b = if nat_lt b 32 then b else 24 + ((b - 24) % 8 + 8) * 2 ^ ((b - 24) / 8 - 1)
 
+-- the table: the number of each byte
 abbrev pub norms : List ℕ
 norms = map norm_of_id (range_with_len 0 256)
 

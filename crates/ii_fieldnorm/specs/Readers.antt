@@ -12,6 +12,7 @@ pub record Norms : Type 0 where
 abbrev pub norms_of_ids : List ℕ → Norms
 norms_of_ids ids = record { num_docs = length ids; ids = ids; constant = None }
 
+-- what a reader over bytes, or of one constant, answers from
 abbrev pub read_norms : ReaderImplEnum → Norms
 read_norms (FromData bytes) = norms_of_ids bytes
 read_norms (Const num_docs id) = record { num_docs = num_docs; ids = []; constant = Some id }

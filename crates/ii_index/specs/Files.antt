@@ -15,6 +15,7 @@ use Rattle.ii_index.specs.Postings.{field_count, grouped, key_postings, occurs, 
 abbrev pub LiesIn : List ℕ → Range ℕ → Type 0
 LiesIn bytes range = (range.start ≤ range.end) × (range.end ≤ length bytes)
 
+-- the bytes in a range
 abbrev pub bytes_in : List ℕ → Range ℕ → List ℕ
 bytes_in bytes range = slice_range bytes range.start range.end
 

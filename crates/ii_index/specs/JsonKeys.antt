@@ -6,6 +6,7 @@ use Rattle.ii_base.specs.ValueTypes.{code_of}
 use Rattle.ii_base.specs.declared.schema.value_type.ValueType.{ValueType}
 use Rattle.ii_base.specs.declared.schema.value_type.ValueType.TheVariants.{Str, U64, I64, Bool as Truth, Date, Bytes, Json, IpAddr}
 
+-- whether a byte may stand in a path
 abbrev pub is_path_byte : ℕ → Bool
 is_path_byte b = not (b == 0)
 

@@ -2,5 +2,6 @@ pub mod Cut
 pub mod Fields
 pub mod Files
 pub mod JsonKeys
+pub mod Norms
 pub mod Postings
 pub mod Tokens

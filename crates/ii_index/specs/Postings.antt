@@ -8,6 +8,7 @@ use Rattle.ii_docset.specs.Entries.{Entry}
 use Rattle.ii_index.specs.Cut.{cut_entry}
 use Rattle.ii_index.specs.Tokens.{IndexToken}
 
+-- whether a token has this field and key
 abbrev pub is_at : ℕ → List ℕ → IndexToken → Bool
 is_at field key t = (t.field == field) && bytes_eq t.key key
 
@@ -15,6 +16,7 @@ is_at field key t = (t.field == field) && bytes_eq t.key key
 abbrev pub tokens_at : ℕ → List ℕ → List IndexToken → List IndexToken
 tokens_at field key ts = filter (is_at field key) ts
 
+-- a token as an entry of its own
 abbrev pub entry_of : IndexToken → Entry
 entry_of t = record { doc = t.doc; term_freq = 1; positions = t.position ∷ [] }
 
@@ -40,6 +42,7 @@ abbrev pub kind_of : IndexRecordOption → List IndexToken → IndexRecordOption
 kind_of option [] = option
 kind_of option (t ∷ ts) = if t.of_text then option else Basic
 
+-- the tokens of one key, as its postings
 abbrev pub postings_from : IndexRecordOption → IndexRecordOption → List IndexToken → List Entry
 postings_from option requested ts = map (cut_entry (downgrade (kind_of option ts) requested)) (grouped ts)
 
@@ -55,5 +58,6 @@ occurs field key ts = list_any (is_at field key) ts
 abbrev pub field_count : ℕ → List IndexToken → ℕ
 field_count field ts = count_by (λ (t : IndexToken). t.field == field) ts
 
+-- how many tokens a document has in a field
 abbrev pub doc_count : ℕ → ℕ → List IndexToken → ℕ
 doc_count doc field ts = count_by (λ (t : IndexToken). (t.doc == doc) && (t.field == field)) ts

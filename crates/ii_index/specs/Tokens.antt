@@ -37,6 +37,7 @@ pub record Piece : Type 0 where
 abbrev pub max_token_len : ℕ
 max_token_len = 65530
 
+-- the words that aren't too long
 abbrev pub kept_words : List Word → List Word
 kept_words ws = filter (λ (w : Word). nat_le (length w.text) max_token_len) ws
 
@@ -52,12 +53,15 @@ is_same_group p q = q.is_text && (q.doc == p.doc) && (q.field == p.field) && byt
 abbrev pub begin_after : List Piece → Piece → ℕ
 begin_after earlier p = fold (λ (end : ℕ) (q : Piece). end_after end q.words) 0 (filter (is_same_group p) earlier)
 
+-- a word of a text that begins at a place
 abbrev pub word_token : Piece → ℕ → Word → IndexToken
 word_token p begin w = record { doc = p.doc; field = p.field; key = p.prefix ++ w.text; position = begin + w.position; of_text = true }
 
+-- the token of a value
 abbrev pub value_token : Piece → IndexToken
 value_token p = record { doc = p.doc; field = p.field; key = p.prefix; position = 0; of_text = false }
 
+-- the tokens of a piece whose text begins at a place
 abbrev pub piece_tokens_from : Bool → ℕ → Piece → List IndexToken
 piece_tokens_from true begin p = map (word_token p begin) (kept_words p.words)
 piece_tokens_from false begin p = value_token p ∷ []
@@ -66,6 +70,7 @@ piece_tokens_from false begin p = value_token p ∷ []
 abbrev pub piece_tokens : List Piece → Piece → List IndexToken
 piece_tokens earlier p = piece_tokens_from p.is_text (begin_after earlier p) p
 
+-- the tokens of pieces after earlier ones
 abbrev pub tokens_after : List Piece → List Piece → List IndexToken
 tokens_after earlier [] = []
 tokens_after earlier (p ∷ ps) = piece_tokens earlier p ++ tokens_after (earlier ++ p ∷ []) ps
@@ -74,6 +79,7 @@ tokens_after earlier (p ∷ ps) = piece_tokens earlier p ++ tokens_after (earlie
 abbrev pub text_at : ℕ → ℕ → List ℕ → List Word → Piece
 text_at doc field prefix ws = record { doc = doc; field = field; prefix = prefix; is_text = true; words = ws }
 
+-- a value under its key
 abbrev pub value_at : ℕ → ℕ → List ℕ → Piece
 value_at doc field key = record { doc = doc; field = field; prefix = key; is_text = false; words = [] }
 
@@ -90,9 +96,11 @@ content_pieces analyze c (words ws) = text_at c.doc c.field [] ws ∷ []
 content_pieces analyze c (value key) = value_at c.doc c.field key ∷ []
 content_pieces analyze c (leaves ls) = flat_map (leaf_pieces analyze c.doc c.field) ls
 
+-- what a call gives: texts and values, each under its prefix
 abbrev pub call_pieces : (List ℕ → List Word) → Call → List Piece
 call_pieces analyze c = content_pieces analyze c c.content
 
+-- what calls give, one after the other
 abbrev pub pieces_of : (List ℕ → List Word) → List Call → List Piece
 pieces_of analyze calls = flat_map (call_pieces analyze) calls
 

@@ -9,7 +9,7 @@ use Rattle.ii_fieldnorm.specs.Norms.{id_of_norm}
 use Rattle.ii_index.specs.Postings.{doc_count}
 use Rattle.ii_index.specs.Tokens.{IndexToken}
 use Rattle.ii_postings_writer.specs.FieldParts.{AreShortNorms}
-use Rattle.ii_indexing.specs.Norms.{HoldNorms, has_norms, norm_file, norm_ids}
+use Rattle.ii_index.specs.Norms.{HoldNorms, has_norms, norm_file, norm_ids}
 use Rattle.ii_indexing.specs.OpenDocuments.{with_norms}
 
 -- the fields with norms are those of the schema

@@ -13,3 +13,4 @@ pub mod StoreLaws
 pub mod StoredLaws
 mod WorkedRows
 pub mod WrittenFiles
+mod FaultLaws

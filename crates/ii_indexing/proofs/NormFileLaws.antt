@@ -24,7 +24,7 @@ use Rattle.ii_fieldnorm.proofs.WrittenNorms.{body_of-norm_bodies}
 use Rattle.ii_index.specs.Postings.{doc_count}
 use Rattle.ii_index.specs.Tokens.{IndexToken, Piece}
 use Rattle.ii_indexing.specs.IndexFiles.{begun_file}
-use Rattle.ii_indexing.specs.Norms.{HoldNorms, has_norms, norm_body, norm_file, norm_ids}
+use Rattle.ii_index.specs.Norms.{HoldNorms, has_norms, norm_body, norm_file, norm_ids}
 use Rattle.ii_indexing.specs.OpenDocuments.{AreBehind, AreClosed, OpenDocumentsState, Tells, TellsAll, closed_norms, with_norms}
 use Rattle.ii_indexing.specs.declared.open_documents.OpenDocument.{OpenDocument}
 use Rattle.ii_indexing.proofs.FinishLaws.{with_length}

@@ -12,7 +12,7 @@ use Rattle.ii_base.specs.Values.{u64_bytes}
 use Rattle.ii_base.specs.Words.{Word}
 use Rattle.ii_docset.specs.Entries.{Entry, document}
 use Rattle.ii_fieldnorm.specs.Norms.{id_of_norm, norm_of_id}
-use Rattle.ii_indexing.specs.Norms.{norm_file, norm_ids}
+use Rattle.ii_index.specs.Norms.{norm_file, norm_ids}
 use Rattle.ii_index.specs.Tokens.{Call, IndexToken, text, words, value, tokens_of}
 use Rattle.ii_index.specs.Postings.{doc_count, field_count, key_postings}
 use Rattle.ii_indexing.specs.Refusals.{call_fault}

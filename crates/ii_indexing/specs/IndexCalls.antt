@@ -35,6 +35,7 @@ doc_of (Bytes doc field bytes) = doc
 doc_of (Ip doc field address) = doc
 doc_of (Json doc field v) = doc
 
+-- the field of a call
 abbrev pub field_of : IndexCall → ℕ
 field_of (Text doc field t) = field
 field_of (Tokens doc field tokens) = field
@@ -64,6 +65,7 @@ expands_dots_in entries field = unwrap_or (option_map (λ (e : Entry). e.expands
 abbrev pub call_with : Bool → IndexCall → Call
 call_with expand_dots c = record { doc = doc_of c; field = field_of c; content = content_of expand_dots c }
 
+-- what a call means by a schema
 abbrev pub call_of : List Entry → IndexCall → Call
 call_of entries c = call_with (expands_dots_in entries (field_of c)) c
 

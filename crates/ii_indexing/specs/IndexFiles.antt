@@ -13,7 +13,7 @@ use Rattle.ii_recorder.specs.IndexBodies.{AreFull, IndexBodiesState, failed_call
 use Rattle.ii_recorder.specs.IndexSerializer.{IndexSerializerState}
 use Rattle.ii_postings_writer.specs.FieldParts.{WroteContext}
 use Rattle.ii_indexing.specs.IndexedTerms.{IndexedTermsState, StoresTokens}
-use Rattle.ii_indexing.specs.Norms.{HoldNorms}
+use Rattle.ii_index.specs.Norms.{HoldNorms}
 use Rattle.ii_postings_writer.specs.WriteFaults.{IsContextFault}
 use Rattle.ii_indexing.specs.declared.index_writers.IndexWriters.{IndexWriters}
 
@@ -80,6 +80,7 @@ pub record CountsThreeFailures (old : IndexBodiesState) (new_terms new_postings 
 abbrev pub begun_file : CountingWriterState → CompositeWriteState
 begun_file w = record { writer = w; base = w.written_bytes; starts = []; closed = false }
 
+-- three files as they are before any field is written
 abbrev pub begun_files : {W : Type 0} → IndexWriters W → IndexBodiesState
 begun_files w = record { terms = begun_file w.terms; postings = begun_file w.postings; positions = begun_file w.positions }
 

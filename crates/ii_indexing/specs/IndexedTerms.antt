@@ -26,6 +26,7 @@ pub record IndexedTermsState : Type 0 where
 abbrev pub kept_in : List Entry → ℕ → IndexRecordOption
 kept_in entries field = unwrap_or (option_map kept_of (slice_get entries field)) Basic
 
+-- what is kept of values in a field
 abbrev pub values_kept_in : List Entry → ℕ → IndexRecordOption
 values_kept_in entries field = unwrap_or (option_map value_kept_of (slice_get entries field)) Basic
 
@@ -37,6 +38,7 @@ writer_in entries field num_tokens = record { option = kept_in entries field; va
 abbrev pub kept_under : List ℕ → Entry → IndexRecordOption
 kept_under key e = kept_as (type_under e.value_type key) e.option
 
+-- what is kept of what stands under a key in a field
 abbrev pub kept_at : List Entry → ℕ → List ℕ → IndexRecordOption
 kept_at entries field key = unwrap_or (option_map (kept_under key) (slice_get entries field)) Basic
 

@@ -3,7 +3,6 @@ pub mod IndexCalls
 pub mod IndexFiles
 pub mod IndexedTerms
 pub mod Indexer
-pub mod Norms
 pub mod OpenDocuments
 pub mod OpenPaths
 pub mod Refusals

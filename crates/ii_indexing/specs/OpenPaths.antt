@@ -9,9 +9,11 @@ use Rattle.ii_postings_writer.specs.declared.indexing_position.IndexingPosition.
 abbrev pub PathPositions : Type 0
 PathPositions = List (List ℕ × IndexingPosition)
 
+-- nothing is known of a document's texts
 abbrev pub no_texts : IndexingPosition
 no_texts = record { num_tokens = 0; end_position = 0 }
 
+-- what is known of the texts under a prefix
 abbrev pub position_under : List ℕ → PathPositions → IndexingPosition
 position_under prefix positions = unwrap_or (lookup (bytes_eq prefix) positions) no_texts
 
@@ -24,6 +26,7 @@ pub record OpenPathsState : Type 0 where
 abbrev pub positions_at : ℕ → OpenPathsState → PathPositions
 positions_at doc o = if o.doc == doc then o.positions else []
 
+-- the document that is open from now on
 abbrev pub opened_path : ℕ → OpenPathsState → OpenPathsState
 opened_path doc o = record { doc = doc; positions = positions_at doc o }
 

@@ -16,6 +16,7 @@ use Rattle.ii_postings_writer.specs.WordRefusals.{gap_fault, u64_max, words_faul
 abbrev pub group_count : List Piece → Piece → ℕ
 group_count earlier p = length (flat_map (λ (q : Piece). kept_words q.words) (filter (is_same_group p) earlier))
 
+-- why a text or a value is refused after earlier pieces and tokens
 abbrev pub piece_fault_from : Bool → IndexRecordOption → List Piece → List IndexToken → Piece → Option Fault
 piece_fault_from true option earlier ts p =
     let begin = begin_after earlier p in
@@ -26,6 +27,7 @@ piece_fault_from false option earlier ts p = if nat_le u64_max (field_count p.fi
 abbrev pub piece_fault : IndexRecordOption → List Piece → Piece → Option Fault
 piece_fault option earlier p = piece_fault_from p.is_text option earlier (tokens_after [] earlier) p
 
+-- why pieces are refused, one after the other
 abbrev pub pieces_fault : IndexRecordOption → List Piece → List Piece → Option Fault
 pieces_fault option earlier [] = None
 pieces_fault option earlier (p ∷ ps) = first_fault (piece_fault option earlier p) (pieces_fault option (earlier ++ p ∷ []) ps)

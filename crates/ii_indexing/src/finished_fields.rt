@@ -4,7 +4,7 @@ ghost use Rattle.ii_index.specs.Tokens.{IndexToken};
 ghost use Rattle.ii_postings_writer.specs.FieldParts.{AreShortNorms};
 ghost use Rattle.ii_postings_writer.specs.HeldBodies.{HaveTokens};
 ghost use Rattle.ii_indexing.specs.IndexFiles.{CountsIndexFailures, FilesGrow, IsIndexFault, WroteIndex};
-ghost use Rattle.ii_indexing.specs.Norms.{HoldNorms};
+ghost use Rattle.ii_index.specs.Norms.{HoldNorms};
 ghost use Rattle.ii_postings_writer.specs.SortedTerms.{AllMayBeWritten};
 
 use crate::index_writers::IndexWriters;

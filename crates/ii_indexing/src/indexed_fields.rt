@@ -12,7 +12,7 @@ ghost use Rattle.ii_indexing.specs.FieldValues.{key_of};
 ghost use Rattle.ii_indexing.specs.IndexedTerms.{TakesTexts, TakesValue};
 ghost use Rattle.ii_postings_writer.specs.FieldParts.{AreShortNorms};
 ghost use Rattle.ii_indexing.specs.Indexer.{EndsAt, StoresPieces, StoresSome};
-ghost use Rattle.ii_indexing.specs.Norms.{HoldNorms};
+ghost use Rattle.ii_index.specs.Norms.{HoldNorms};
 ghost use Rattle.ii_indexing.specs.OpenDocuments.{TellsAll, with_norms};
 ghost use Rattle.ii_indexing.specs.Refusals.{content_fault, piece_fault};
 ghost use Rattle.ii_json.specs.LeafVisit.{IsRefusedBy};
@@ -23,7 +23,7 @@ use crate::indexed_terms::IndexedTerms;
 use crate::json_utils::{index_json_value, text_prefix, value_key};
 use crate::open_documents::{OpenDocument, OpenDocuments};
 use crate::open_paths::OpenPaths;
-use ii_base::{Fault, Field, JsonValue, Schema, TextAnalyzer, TokenList, ValueType};
+use ii_base::{Fault, Field, JsonValue, Schema, TextAnalyzer, TokenStream, ValueType};
 use ii_docset::DocId;
 use ii_fieldnorm::FieldNormReaders;
 use ii_postings_writer::IndexingPosition;
@@ -93,10 +93,13 @@ impl IndexedFields {
         let number = call.number();
         match call {
             IndexCall::Text(doc, field, text) => {
-                let tokens = analyzer.token_list(alloc, text.as_str())?;
-                self.index_words(doc, field, tokens)
+                let mut tokens = analyzer.token_stream(text.as_str());
+                self.index_words(doc, field, &mut tokens)
             }
-            IndexCall::Tokens(doc, field, tokens) => self.index_words(doc, field, tokens),
+            IndexCall::Tokens(doc, field, tokens) => {
+                let mut tokens = tokens;
+                self.index_words(doc, field, &mut tokens)
+            }
             IndexCall::U64(doc, field, _) => {
                 self.index_field_value(doc, field, FieldValue::Number(number))
             }
@@ -151,25 +154,29 @@ impl IndexedFields {
         })
     }
 
-    // Indexes the words of a list that are still to come.
-    fn index_words(&mut self, doc: DocId, field: Field, tokens: TokenList) -> Result<(), Fault>
+    // Indexes the words of a stream that are still to come.
+    fn index_words<S: TokenStream>(
+        &mut self,
+        doc: DocId,
+        field: Field,
+        tokens: &mut S,
+    ) -> Result<(), Fault>
         requires low { doc < TERMINATED }
         requires known { field < length self.old.indexed.writers }
         requires ends { EndsAt doc self.old }
-        ensures stored { OnOk result ((entries : List Entry) (ps : List Piece) → TakesTexts entries field [] → StoresPieces entries self.old ps → StoresPieces entries self.new (ps ++ text_at doc field [] tokens.to_come ∷ [])) }
+        ensures stored { OnOk result ((entries : List Entry) (ps : List Piece) → TakesTexts entries field [] → StoresPieces entries self.old ps → StoresPieces entries self.new (ps ++ text_at doc field [] (S.to_come tokens.old) ∷ [])) }
         ensures ends { OnOk result (EndsAt doc self.new) }
         ensures fields { OnOk result (length self.new.indexed.writers ≡ length self.old.indexed.writers) }
         ensures norms { OnOk result (with_norms self.new.opened.norms ≡ with_norms self.old.opened.norms) }
-        ensures refused { (entries : List Entry) (ps : List Piece) → TakesTexts entries field [] → StoresPieces entries self.old ps → IsRefusedBy (piece_fault (option_of entries field) ps (text_at doc field [] tokens.to_come)) result }
+        ensures refused { (entries : List Entry) (ps : List Piece) → TakesTexts entries field [] → StoresPieces entries self.old ps → IsRefusedBy (piece_fault (option_of entries field) ps (text_at doc field [] (S.to_come tokens.old))) result }
     {
-        let mut tokens = tokens;
         let open = self.documents.open(doc, field)?;
         let mut position = IndexingPosition {
             num_tokens: open.num_tokens,
             end_position: open.end_position,
         };
         self.terms
-            .index_text(doc, field, &[], &mut tokens, &mut position)?;
+            .index_text(doc, field, &[], tokens, &mut position)?;
         let document = OpenDocument {
             doc,
             num_tokens: position.num_tokens,
@@ -182,33 +189,32 @@ impl IndexedFields {
         Ok(())
     }
 
-    // Indexes the words of a list that are still to come, under keys with a prefix.
-    fn index_words_under(
+    // Indexes the words of a stream that are still to come, under keys with a prefix.
+    fn index_words_under<S: TokenStream>(
         &mut self,
         alloc: Global,
         doc: DocId,
         field: Field,
         prefix: &[u8],
-        tokens: TokenList,
+        tokens: &mut S,
     ) -> Result<(), Fault>
         requires low { doc < TERMINATED }
         requires known { field < length self.old.indexed.writers }
         requires ends { EndsAt doc self.old }
         requires some { bytes_eq prefix.now [] ≡ false }
         ensures stored { OnOk result ((entries : List Entry) (ps : List Piece) → TakesTexts entries field prefix.now → StoresPieces entries self.old ps
-            → StoresPieces entries self.new (ps ++ text_at doc field prefix.now tokens.to_come ∷ [])) }
+            → StoresPieces entries self.new (ps ++ text_at doc field prefix.now (S.to_come tokens.old) ∷ [])) }
         ensures ends { OnOk result (EndsAt doc self.new) }
         ensures fields { OnOk result (length self.new.indexed.writers ≡ length self.old.indexed.writers) }
         ensures norms { OnOk result (with_norms self.new.opened.norms ≡ with_norms self.old.opened.norms) }
         ensures refused { (entries : List Entry) (ps : List Piece) → TakesTexts entries field prefix.now → StoresPieces entries self.old ps
-            → IsRefusedBy (piece_fault (option_of entries field) ps (text_at doc field prefix.now tokens.to_come)) result }
+            → IsRefusedBy (piece_fault (option_of entries field) ps (text_at doc field prefix.now (S.to_come tokens.old))) result }
     {
-        let mut tokens = tokens;
         let open = self.documents.open(doc, field)?;
         let mut position = self.paths.open(doc, field, prefix);
         let num_tokens = position.num_tokens;
         self.terms
-            .index_text(doc, field, prefix, &mut tokens, &mut position)?;
+            .index_text(doc, field, prefix, tokens, &mut position)?;
         let document = OpenDocument {
             doc,
             num_tokens: open.num_tokens,
@@ -220,25 +226,25 @@ impl IndexedFields {
     }
 
     // Indexes the words of a text at a path of a JSON field, which holds no byte 0.
-    pub(crate) fn index_text_at(
+    pub(crate) fn index_text_at<S: TokenStream>(
         &mut self,
         alloc: Global,
         doc: DocId,
         field: Field,
         path: &str,
-        tokens: TokenList,
+        tokens: &mut S,
     ) -> Result<(), Fault>
         requires low { doc < TERMINATED }
         requires known { field < length self.old.indexed.writers }
         requires ends { EndsAt doc self.old }
         requires path { has_zero path.now ≡ false }
         ensures stored { OnOk result ((entries : List Entry) (ps : List Piece) → Takes entries field Json → StoresPieces entries self.old ps
-            → StoresPieces entries self.new (ps ++ text_at doc field (json_key path.now (text_key [])) tokens.to_come ∷ [])) }
+            → StoresPieces entries self.new (ps ++ text_at doc field (json_key path.now (text_key [])) (S.to_come tokens.old) ∷ [])) }
         ensures ends { OnOk result (EndsAt doc self.new) }
         ensures fields { OnOk result (length self.new.indexed.writers ≡ length self.old.indexed.writers) }
         ensures norms { OnOk result (with_norms self.new.opened.norms ≡ with_norms self.old.opened.norms) }
         ensures refused { (entries : List Entry) (ps : List Piece) → Takes entries field Json → StoresPieces entries self.old ps
-            → IsRefusedBy (piece_fault (option_of entries field) ps (text_at doc field (json_key path.now (text_key [])) tokens.to_come)) result }
+            → IsRefusedBy (piece_fault (option_of entries field) ps (text_at doc field (json_key path.now (text_key [])) (S.to_come tokens.old))) result }
     {
         let prefix = text_prefix(alloc, path)?;
         self.index_words_under(alloc, doc, field, &prefix, tokens)

@@ -96,9 +96,9 @@ impl<A: TextAnalyzer> LeafSink for LeafIndexer<'_, A> {
     fn take_leaf(&mut self, path: &str, leaf: JsonLeaf<'_>) -> Result<(), Fault> {
         match leaf {
             JsonLeaf::Text(text) => {
-                let tokens = self.analyzer.token_list(self.alloc, text)?;
+                let mut tokens = self.analyzer.token_stream(text);
                 self.fields
-                    .index_text_at(self.alloc, self.doc, self.field, path, tokens)
+                    .index_text_at(self.alloc, self.doc, self.field, path, &mut tokens)
             }
             JsonLeaf::Value(value_type, number) => self
                 .fields

@@ -1,6 +1,6 @@
 //! From index calls to index files: what is known of a document's texts, the indexer, and the writing
-//! of its files. It hands on `ii_postings_writer` and `ii_json`, and of `ii_base` what splits and names
-//! JSON paths.
+//! of its files. It hands on `ii_postings_writer`, `ii_recorder` and `ii_json`, and of `ii_base` what
+//! splits and names JSON paths.
 #![tactic(auto)]
 
 mod finished_fields;
@@ -19,9 +19,14 @@ pub use ii_json::{
     JsonTermSerializer, OrderedPathId, PathToUnorderedId,
     convert_to_fast_value_and_append_to_json_term, json_path_sep_to_dot,
 };
+pub use ii_postings_writer::serialize_postings::serialize_postings;
 pub use ii_postings_writer::{
     IndexingContext, IndexingPosition, IndexingTerm, IndexingTermRef, PerFieldPostingsWriter,
     PostingsWriter, SpecializedPostingsWriter,
+};
+pub use ii_recorder::{
+    AnyRecorder, BufferLender, DocIdRecorder, FieldSerializer, InvertedIndexSerializer, Recorder,
+    TermFrequencyRecorder, TfAndPositionRecorder,
 };
 pub use index_call::IndexCall;
 pub use index_writers::{IndexWriters, write_index};

@@ -3,7 +3,7 @@ ghost use Rattle.ii_base.specs.Schema.{Entry, keeps_norms};
 ghost use Rattle.ii_io.specs.Composite.{composite, written_composite};
 ghost use Rattle.ii_docset.specs.declared.docset.TheConstants.{TERMINATED};
 ghost use Rattle.ii_fieldnorm.specs.Buffers.{empty_buffers, norm_bodies};
-ghost use Rattle.ii_indexing.specs.Norms.{HoldNorms};
+ghost use Rattle.ii_index.specs.Norms.{HoldNorms};
 ghost use Rattle.ii_index.specs.Tokens.{IndexToken, Piece};
 ghost use Rattle.ii_indexing.specs.declared.open_documents.OpenDocument.{OpenDocument};
 ghost use Rattle.ii_indexing.specs.OpenDocuments.{AreBehind, AreClosed, ReachTo, TellsAll, empty_document, document_at, with_norms};

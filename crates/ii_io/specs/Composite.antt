@@ -11,6 +11,7 @@ pub record Body : Type 0 where
   pub field : ℕ
   pub bytes : List ℕ
 
+-- a place as it stands in the table
 unfoldable pub place_bytes : Place → List ℕ
 place_bytes p = le_bytes 4 p.field ++ le_bytes 8 p.start ++ le_bytes 8 p.end
 
@@ -30,6 +31,7 @@ places_at (suc n) bytes = do
   others ← places_at n first.1
   Some (first.0 ∷ others)
 
+-- whether a field has a place
 abbrev pub has_place : ℕ → List Place → Bool
 has_place field places = list_any (λ (p : Place). p.field == field) places
 
@@ -64,6 +66,7 @@ table_of bytes = do
 abbrev pub HasTable : List ℕ → Type 0
 HasTable bytes = IsSomeAnd (number_at 4 (drop (length bytes - 4) bytes)) (λ count. table_size count.0 ≤ length bytes)
 
+-- the body at a place
 abbrev pub body_at : List ℕ → Place → Body
 body_at bytes p = record { field = p.field; bytes = slice_range bytes p.start p.end }
 
@@ -80,6 +83,7 @@ abbrev pub places_from : ℕ → List Body → List Place
 places_from start [] = []
 places_from start (b ∷ bs) = record { field = b.field; start = start; end = start + length b.bytes } ∷ places_from (start + length b.bytes) bs
 
+-- the bytes of bodies, one after the other
 abbrev pub bodies_bytes : List Body → List ℕ
 bodies_bytes bodies = flat_map (λ (b : Body). b.bytes) bodies
 

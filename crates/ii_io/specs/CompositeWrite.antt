@@ -13,6 +13,7 @@ pub record CompositeWriteState : Type 0 where
   pub starts : List BodyStart
   pub closed : Bool
 
+-- whether a field's body was begun
 abbrev pub has_start : ℕ → List BodyStart → Bool
 has_start field starts = list_any (λ (s : BodyStart). s.field == field) starts
 

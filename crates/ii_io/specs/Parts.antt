@@ -5,6 +5,7 @@ use Rattle.ii_io.specs.declared.faults.LayoutFault.{LayoutFault}
 use Rattle.ii_io.specs.declared.faults.LayoutFault.TheVariants.{Damaged}
 
 infixl 10 ◌>>=◌
+-- a step after another, unless a part failed
 abbrev pub ◌>>=◌ : {A B : Type 0} → Result A Part → (A → Result B Part) → Result B Part
 (Ok x) >>= f = f x
 (Err part) >>= f = Err part

@@ -30,9 +30,11 @@ vint_at most limit bytes = do
   _ ← needs (nat_lt found.0 limit)
   Some found
 
+-- the number of 32 bits that is spelled at the front, and the bytes after it
 unfoldable pub u32_at : List ℕ → Option (ℕ × List ℕ)
 u32_at bytes = vint_at 5 (2 ^ 32) bytes
 
+-- the number of 64 bits that is spelled at the front, and the bytes after it
 unfoldable pub u64_at : List ℕ → Option (ℕ × List ℕ)
 u64_at bytes = vint_at 10 (2 ^ 64) bytes
 
@@ -53,6 +55,7 @@ fewest_groups (suc more) n = if nat_lt n 128 then (n + 128) ∷ [] else n % 128 
 unfoldable pub vint_u32 : ℕ → List ℕ
 vint_u32 n = fewest_groups 4 n
 
+-- the shortest spelling of a number of 64 bits
 unfoldable pub vint_u64 : ℕ → List ℕ
 vint_u64 n = fewest_groups 9 n
 

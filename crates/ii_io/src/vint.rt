@@ -1,4 +1,4 @@
-ghost use Rattle.std.specs.Prelude.{◌≡◌, ◌+◌, ◌^◌, ◌<◌, ◌≤◌, ◌++◌, length, take, drop, IfSome};
+ghost use Rattle.std.specs.Prelude.{◌≡◌, ◌+◌, ◌^◌, ◌<◌, ◌≤◌, ◌++◌, length, take, drop, IfErr, IfSome, IsSome, OnErr, OnOk, Some};
 ghost use Rattle.std.specs.Option.{option_map};
 ghost use Rattle.ii_io.specs.Vints.{u32_at, u64_at, vint_at, vint_u32, vint_u64, ReadsWhatIsSpelled, SpellsInFewest};
 
@@ -102,6 +102,38 @@ pub fn write_u64(value: u64, output: &mut [u8], start: usize) -> usize
     }
     output[end] = left as u8 + 128;
     end + 1
+}
+
+/// Adds the shortest spelling of `value`, 1 to 5 bytes, to `output`.
+///
+/// `OutOfMemory` where there is no room for it: `output` then stays.
+pub fn write_u32_vint(value: u32, output: &mut Vec<u8>) -> Result<(), Fault>
+    ensures ok { OnOk result (output.new.items ≡ output.old.items ++ vint_u32 value) }
+    ensures err { OnErr result (output.new.items ≡ output.old.items) }
+    ensures only { IfErr result (λ e. e ≡ Fault.OutOfMemory) }
+{
+    if value < 128 {
+        output.push(value as u8 + 128)?;
+        return Ok(());
+    }
+    let mut bytes = [0; MAX_VINT_SIZE];
+    let end = write_u32(value, &mut bytes, 0);
+    output.extend_from_slice(&bytes[..end])?;
+    Ok(())
+}
+
+/// Reads the number of 32 bits that is spelled at the front of `bytes`, which goes on behind it. It
+/// asks for such a spelling there.
+pub fn read_u32_vint(bytes: &mut &[u8]) -> u32
+    requires { IsSome (u32_at bytes.old.now) }
+    ensures { u32_at bytes.old.now ≡ Some (result, bytes.new.now) }
+{
+    let all = *bytes;
+    let Some((number, used)) = read_u32(all) else {
+        unreachable!();
+    };
+    *bytes = &all[used..];
+    number
 }
 
 /// A number of 64 bits with the bytes of its shortest spelling, 1 to 10. Any spelling of at most 10

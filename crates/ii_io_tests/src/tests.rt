@@ -343,3 +343,35 @@ fn vints_of_64_bits_are_written(rt: HostRuntime) {
             ]
     );
 }
+
+#[test]
+fn vints_of_32_bits_are_added(rt: HostRuntime) -> Result<(), Fail> {
+    let spelled = [
+        0x80, 0x81, 0x7A, 0x57, 0x4D, 0x1A, 0x81, 0x7F, 0x7F, 0x7F, 0x7F, 0x8F,
+    ];
+    let mut bytes = Vec::new(rt.alloc());
+    for number in [0, 1, 324_234_234, u32::MAX] {
+        vint::write_u32_vint(number, &mut bytes)?;
+    }
+    assert!(rt; bytes.as_slice() == spelled.as_slice());
+    Ok(())
+}
+
+// The number of 32 bits at the front, and how many bytes stand behind it.
+fn first_u32(bytes: &[u8]) -> Option<(u32, usize)> {
+    let Some(_) = vint::read_u32(bytes) else {
+        return None;
+    };
+    let mut rest = bytes;
+    let number = vint::read_u32_vint(&mut rest);
+    Some((number, rest.len()))
+}
+
+#[test]
+fn vints_of_32_bits_are_taken_off(rt: HostRuntime) {
+    assert!(rt; first_u32(&[0x80]) == Some((0, 0)));
+    assert!(rt; first_u32(&[0x7A, 0x57, 0x4D, 0x1A, 0x81, 0x82]) == Some((324_234_234, 1)));
+    assert!(rt; first_u32(&[0x7F, 0x7F, 0x7F, 0x7F, 0x8F]) == Some((u32::MAX, 0)));
+    assert!(rt; first_u32(&[0x00, 0x80, 0x80, 0x80]) == Some((0, 2)));
+    assert!(rt; first_u32(&[0x00]) == None);
+}

@@ -27,6 +27,7 @@ i64_in text = if is_numeral (without_leading_sign text) && is_i64 (signed_digits
 abbrev pub u64_in : List ℕ → Option ℕ
 u64_in text = let digits = without_leading_plus text in if is_numeral digits && nat_lt (digits_value 10 digits) (2 ^ 64) then Some (digits_value 10 digits) else None
 
+-- the truth value that a text spells
 abbrev pub bool_in : List ℕ → Option Bool
 bool_in text = if bytes_eq text (codes "true") then Some true else if bytes_eq text (codes "false") then Some false else None
 

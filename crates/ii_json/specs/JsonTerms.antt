@@ -5,6 +5,7 @@ use Rattle.std.specs.Prelude.{ℕ, List, [], ◌∷◌, ◌++◌, map, ◌==◌,
 abbrev pub end_of_path : ℕ
 end_of_path = 0x00
 
+-- a byte of a path as it stands in a term
 abbrev pub written_byte : ℕ → ℕ
 written_byte byte = if byte == end_of_path then 0x30 else byte
 

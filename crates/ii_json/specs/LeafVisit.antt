@@ -37,9 +37,11 @@ may_be_leaf (unsupported kind) = true
 abbrev pub leaves_at : PathState → JsonValue → List (List ℕ × Leaf)
 leaves_at at value = leaves_below at.expand_dots at.segments (json_of value)
 
+-- the leaves of an array's elements at a path
 abbrev pub items_leaves_at : PathState → List JsonValue → List (List ℕ × Leaf)
 items_leaves_at at values = items_leaves at.expand_dots at.segments (items_from (map json_of values))
 
+-- the leaves of an object's members below a path
 abbrev pub members_leaves_at : PathState → List (String Global × JsonValue) → List (List ℕ × Leaf)
 members_leaves_at at members = members_leaves at.expand_dots at.segments (members_from (map (λ m. (m.0, json_of m.1)) members))
 

@@ -6,6 +6,7 @@ use Rattle.ii_io.specs.declared.faults.Fault.{Fault}
 use Rattle.ii_io.specs.declared.faults.Fault.TheVariants.{Limit}
 use Rattle.ii_io.specs.declared.faults.LimitName.TheVariants as limit
 
+-- whether a path is known
 abbrev pub is_known : List (List ℕ) → List ℕ → Bool
 is_known known path = list_any (bytes_eq path) known
 

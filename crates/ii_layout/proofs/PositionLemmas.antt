@@ -275,7 +275,7 @@ pub record AreCut (bytes : List ℕ) (widths body : ℕ) (ws bs : List ℕ) : Ty
   pub ws_are : ws ≡ take (body - widths) (drop widths bytes)
   pub bs_are : bs ≡ drop body bytes
 
-length-cut : (bytes : List ℕ) (widths body : ℕ) → widths ≤ body → body ≤ length bytes → length (take (body - widths) (drop widths bytes)) ≡ body - widths
+pub length-cut : (bytes : List ℕ) (widths body : ℕ) → widths ≤ body → body ≤ length bytes → length (take (body - widths) (drop widths bytes)) ≡ body - widths
 length-cut bytes widths body order within = length-take-le (body - widths) (drop widths bytes) (omega (arith, length-drop widths bytes))
 
 -- What opening has found of the blocks.
@@ -347,7 +347,7 @@ lies_at list deltas rest block false l test h =
     let end : length list.widths ≡ block = omega arith in
     rw test (l.rest_is ∙ ap (λ (i : ℕ). Some (block_of deltas i)) end)
 
-kept_at : (bytes ws bs anchors held : List ℕ) (widths body stride block place rest other : ℕ) → KeepsBlock bytes widths body stride anchors block place held rest
+pub kept_at : (bytes ws bs anchors held : List ℕ) (widths body stride block place rest other : ℕ) → KeepsBlock bytes widths body stride anchors block place held rest
     → ws ≡ take (body - widths) (drop widths bytes) → bs ≡ drop body bytes → other ≤ body - widths → deltas_at_block (record { widths = ws; body = bs }) other ≡ Some (block_of (deltas_of bytes) other)
 kept_at bytes ws bs anchors held widths body stride block place rest other k ws_are bs_are h =
     let lies = lie (list_at bytes widths body) (deltas_of bytes) (cut_all bytes widths body k.there.list k.there.deltas) in

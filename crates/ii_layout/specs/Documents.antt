@@ -8,6 +8,7 @@ use Rattle.ii_codes.specs.SortedVints.{sorted_vints_at}
 use Rattle.ii_layout.specs.Each.{each}
 use Rattle.ii_layout.specs.SkipList.{SkipEntry, SkipList, no_entry, block_place}
 
+-- the skip entry of block i
 abbrev pub entry_of : List SkipEntry → ℕ → SkipEntry
 entry_of entries i = slice_index_or entries i no_entry
 

@@ -23,6 +23,7 @@ pub record PositionSerializerState : Type 0 where
 abbrev pub widths_of : List ℕ → List ℕ
 widths_of deltas = map (λ i. unsorted_width false (block_of deltas i)) (range_with_len 0 (length deltas / 128))
 
+-- the full blocks of deltas, as they are written
 abbrev pub blocks_of : List ℕ → List ℕ
 blocks_of deltas = flat_map (λ i. unsorted_bytes false (block_of deltas i)) (range_with_len 0 (length deltas / 128))
 

@@ -14,6 +14,7 @@ pub record PositionList : Type 0 where
   pub widths : List ℕ
   pub body : List ℕ
 
+-- how many blocks position bytes have, their widths, and what stands after these
 abbrev pub position_list : List ℕ → Option PositionList
 position_list bytes = do
   blocks ← u64_at bytes

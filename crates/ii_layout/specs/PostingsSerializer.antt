@@ -30,12 +30,15 @@ pub record CountedDocs : Type 0 where
   pub docs : List ℕ
   pub freqs : List ℕ
 
+-- no documents
 abbrev pub no_docs : CountedDocs
 no_docs = record { docs = []; freqs = [] }
 
+-- one document with its count
 abbrev pub one_doc : ℕ → ℕ → CountedDocs
 one_doc doc term_freq = record { docs = doc ∷ []; freqs = term_freq ∷ [] }
 
+-- documents, and more after them
 abbrev pub joined : CountedDocs → CountedDocs → CountedDocs
 joined a b = record { docs = a.docs ++ b.docs; freqs = a.freqs ++ b.freqs }
 
@@ -55,6 +58,7 @@ pub record KeptBlocks : Type 0 where
   pub skip : List ℕ
   pub postings : List ℕ
 
+-- what a serializer keeps of documents: the full blocks as bytes, and the others
 abbrev pub kept_of : IndexRecordOption → CountedDocs → KeptBlocks
 kept_of skip_info term =
     let blocks = length term.docs / 128 in

@@ -31,6 +31,7 @@ number_from place size bytes = little_endian (take size (drop place bytes))
 abbrev pub width_of_code : ℕ → ℕ
 width_of_code code = code % 32
 
+-- whether a code says strict deltas
 abbrev pub strict_of_code : ℕ → Bool
 strict_of_code code = code / 64 % 2 == 1
 

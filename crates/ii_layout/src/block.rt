@@ -1,4 +1,4 @@
-ghost use Rattle.std.specs.Prelude.{◌≡◌, ◌<◌, ◌≤◌, ◌==◌, length, slice_index};
+ghost use Rattle.std.specs.Prelude.{◌≡◌, ◌^◌, ◌<◌, ◌≤◌, ◌==◌, length, slice_index};
 ghost use Rattle.std.specs.List.{sum};
 ghost use Rattle.ii_layout.specs.PostingsSerializer.{no_docs, one_doc, joined};
 
@@ -94,4 +94,17 @@ impl Block {
     {
         self.len = 0;
     }
+}
+
+/// The sum of at most 128 values.
+pub fn sum_of(values: &[u32]) -> u64
+    requires { length values.now ≤ 128 }
+    ensures sum { result ≡ sum values.now }
+    ensures small { result < 2 ^ 39 }
+{
+    let mut sum = 0;
+    for value in values {
+        sum += u64::from(*value);
+    }
+    sum
 }

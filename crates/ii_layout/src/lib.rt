@@ -9,6 +9,7 @@ pub mod skip;
 pub mod split;
 pub mod written;
 
+pub use block::sum_of;
 pub use positions::{PositionReader, PositionSerializer, PositionWriter};
 pub use serializer::PostingsSerializer;
 pub use skip::{BlockInfo, SkipReader, SkipSerializer};

@@ -255,6 +255,8 @@ fn skip_entries_are_written(rt: HostRuntime) -> Result<(), Fail> {
 fn widths_and_bounds_have_bytes(rt: HostRuntime) {
     assert!(rt; encode_block_wand_max_tf(254) == 254);
     assert!(rt; encode_bitwidth(5, false) == 5);
+    assert!(rt; (encode_bitwidth(2, true), encode_bitwidth(2, false)) == (0x42, 2));
+    assert!(rt; decode_block_wand_max_tf(255) == u32::MAX);
     assert!(rt; decode_bitwidth(0x45) == (5, true));
     assert!(rt; decode_bitwidth(0x9F) == (31, false));
 }
@@ -282,6 +284,15 @@ fn skip_entries_are_read(rt: HostRuntime) {
     skip.reset(&[], 7);
     assert!(rt; skip.block_info() == BlockInfo::VInt { num_docs: 7 });
     assert!(rt; decode_block_wand_max_tf(254) == 254);
+}
+
+#[test]
+fn no_documents_follow_one_full_block(rt: HostRuntime) {
+    let bytes = [1, 0, 0, 0, 0x42];
+    let mut skip = SkipReader::new(&bytes, 128, IndexRecordOption::Basic);
+    assert!(rt; skip.last_doc_in_block() == 1);
+    skip.advance(&bytes);
+    assert!(rt; skip.block_info() == BlockInfo::VInt { num_docs: 0 });
 }
 
 #[test]

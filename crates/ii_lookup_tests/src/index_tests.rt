@@ -51,14 +51,15 @@ fn numbers(alloc: Global) -> Result<Schema, Fault>
     Ok(Schema::new(entries))
 }
 
-// The index of a field of numbers in three files.
-fn opened(
+// The index of a field of numbers in four files.
+fn opened_with_norms(
     alloc: Global,
     terms: &'static [u8],
     postings: &'static [u8],
     positions: &'static [u8],
+    fieldnorms: &'static [u8],
 ) -> Result<OpenIndex, Fault>
-    ensures { IfOk result (λ index. 0 < length index) }
+    ensures { IfOk result (λ index. 0 < length index.readers) }
 {
     let schema = numbers(alloc)?;
     open_index(
@@ -66,8 +67,21 @@ fn opened(
         Bytes::from_static(terms),
         Bytes::from_static(postings),
         Bytes::from_static(positions),
+        Bytes::from_static(fieldnorms),
         &schema,
     )
+}
+
+// The same in three, without norms.
+fn opened(
+    alloc: Global,
+    terms: &'static [u8],
+    postings: &'static [u8],
+    positions: &'static [u8],
+) -> Result<OpenIndex, Fault>
+    ensures { IfOk result (λ index. 0 < length index.readers) }
+{
+    opened_with_norms(alloc, terms, postings, positions, &NONE)
 }
 
 // The fault of files that aren't an index.
@@ -80,6 +94,23 @@ fn refused(
     match opened(alloc, terms, postings, positions) {
         Ok(_) => None,
         Err(fault) => Some(fault),
+    }
+}
+
+// The fault of a file of norms, beside three files that are an index, or the first of which isn't.
+fn norms_refused(alloc: Global, terms: &'static [u8], fieldnorms: &'static [u8]) -> Option<Fault> {
+    match opened_with_norms(alloc, terms, &POSTINGS, &POSITIONS, fieldnorms) {
+        Ok(_) => None,
+        Err(fault) => Some(fault),
+    }
+}
+
+// How many norms a field of the number 5 has in a file of norms, if it has any.
+fn num_norms(alloc: Global, fieldnorms: &'static [u8], field: u32) -> Result<Option<u32>, Fault> {
+    let index = opened_with_norms(alloc, &TERMS, &POSTINGS, &POSITIONS, fieldnorms)?;
+    match index.get_fieldnorms_reader(Field::from_field_id(field))? {
+        Some(norms) => Ok(Some(norms.num_docs())),
+        None => Ok(None),
     }
 }
 
@@ -266,6 +297,19 @@ fn damaged_files_are_told(rt: HostRuntime) {
     assert!(rt; refused(rt.alloc(), &SHORT, &SHORT, &NONE) == composite);
 }
 
+#[test]
+fn files_of_norms_are_opened(rt: HostRuntime) -> Result<(), Fail> {
+    let composite = Some(Fault::Damaged(Part::Composite));
+    assert!(rt; norms_refused(rt.alloc(), &TERMS, &NONE[..3]) == composite);
+    // their table comes before a dictionary
+    assert!(rt; norms_refused(rt.alloc(), &SHORT, &NONE[..3]) == composite);
+    assert!(rt; norms_refused(rt.alloc(), &TERMS, &NONE) == None);
+    assert!(rt; num_norms(rt.alloc(), &SHORT, 0)? == Some(7));
+    assert!(rt; num_norms(rt.alloc(), &SHORT, 1)? == None);
+    assert!(rt; num_norms(rt.alloc(), &NONE, 0)? == None);
+    Ok(())
+}
+
 // The number of tokens of a body of postings.
 fn tokens_in(body: &'static [u8]) -> Result<u64, Fault> {
     let body = Bytes::from_static(body);
@@ -287,6 +331,7 @@ fn fields_that_the_schema_lacks_are_left(rt: HostRuntime) -> Result<(), Fail> {
         rt.alloc(),
         terms,
         Bytes::from_static(&SHORT),
+        Bytes::from_static(&NONE),
         Bytes::from_static(&NONE),
         &schema,
     );

@@ -13,6 +13,9 @@ use std::test::Fail;
 
 const FULL: IndexRecordOption = IndexRecordOption::WithFreqsAndPositions;
 
+// A file of norms without bodies.
+static NO_NORMS: [u8; 4] = [0, 0, 0, 0];
+
 // A field of texts with positions.
 fn texts(alloc: Global) -> Result<Schema, Fault>
     ensures { IfOk result (λ schema. 0 < length schema) }
@@ -74,11 +77,12 @@ fn files(index: InvertedIndexSerializer<Vec<u8>>) -> Result<(Bytes, Bytes, Bytes
 
 // Ends an index and opens what was written.
 fn reopened(alloc: Global, index: InvertedIndexSerializer<Vec<u8>>) -> Result<OpenIndex, Fault>
-    ensures { IfOk result (λ index. 0 < length index) }
+    ensures { IfOk result (λ index. 0 < length index.readers) }
 {
     let (terms, postings, positions) = files(index)?;
     let schema = texts(alloc)?;
-    open_index(alloc, terms, postings, positions, &schema)
+    let fieldnorms = Bytes::from_static(&NO_NORMS);
+    open_index(alloc, terms, postings, positions, fieldnorms, &schema)
 }
 
 // An index of a field of texts, in which nothing is written.
@@ -98,7 +102,7 @@ fn begun(alloc: Global) -> Result<InvertedIndexSerializer<Vec<u8>>, Fault>
 
 // The index of the text.
 fn counted_index(alloc: Global) -> Result<OpenIndex, Fault>
-    ensures { IfOk result (λ index. 0 < length index) }
+    ensures { IfOk result (λ index. 0 < length index.readers) }
 {
     let mut index = begun(alloc)?;
     write_text(&mut index)?;
@@ -107,7 +111,7 @@ fn counted_index(alloc: Global) -> Result<OpenIndex, Fault>
 
 // The index of the documents without counts.
 fn uncounted_index(alloc: Global) -> Result<OpenIndex, Fault>
-    ensures { IfOk result (λ index. 0 < length index) }
+    ensures { IfOk result (λ index. 0 < length index.readers) }
 {
     let mut index = begun(alloc)?;
     write_uncounted(&mut index)?;

@@ -232,12 +232,13 @@ pub fn written_texts(
 
 /// An index opened.
 pub fn opened(alloc: Global, index: &Index) -> Result<OpenIndex, Fault>
-    ensures { IfOk result (λ opened. length opened ≡ length index.now.schema) }
+    ensures { IfOk result (λ opened. length opened.readers ≡ length index.now.schema) }
 {
     let terms = index.terms.clone()?;
     let postings = index.postings.clone()?;
     let positions = index.positions.clone()?;
-    open_index(alloc, terms, postings, positions, &index.schema)
+    let fieldnorms = index.fieldnorms.clone()?;
+    open_index(alloc, terms, postings, positions, fieldnorms, &index.schema)
 }
 
 // A cursor over the postings of a term, if its field has it.

@@ -22,9 +22,11 @@ pub record FieldPart : Type 0 where
   pub tokens : ℕ
   pub terms : List TermState
 
+-- the terms of a field, as they are written
 abbrev pub written_terms : List Entry → FieldPart → List WrittenTerm
 written_terms entries p = map (written_of (option_of entries p.field)) p.terms
 
+-- the three bodies of a field
 abbrev pub bodies_of : List Entry → FieldPart → FieldBodies
 bodies_of entries p = field_bodies (option_of entries p.field) p.tokens (written_terms entries p)
 
@@ -32,9 +34,11 @@ bodies_of entries p = field_bodies (option_of entries p.field) p.tokens (written
 abbrev pub terms_body : List Entry → FieldPart → Body
 terms_body entries p = record { field = p.field; bytes = (bodies_of entries p).terms }
 
+-- its body in the file of postings
 abbrev pub postings_body : List Entry → FieldPart → Body
 postings_body entries p = record { field = p.field; bytes = (bodies_of entries p).postings }
 
+-- its body in the file of positions
 abbrev pub positions_body : List Entry → FieldPart → Body
 positions_body entries p = record { field = p.field; bytes = (bodies_of entries p).positions }
 

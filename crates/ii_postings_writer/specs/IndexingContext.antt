@@ -7,6 +7,7 @@ use Rattle.ii_base.specs.declared.schema.index_record_option.IndexRecordOption.{
 use Rattle.ii_docset.specs.Entries.{Entry, are_documents, docs_of}
 use Rattle.ii_recorder.specs.Recorded.{RecorderState, begun, entries_in, position_fault, with_position}
 
+-- each term's bytes with its recorder
 abbrev pub TermIndex : Type 0
 TermIndex = List (List ℕ × RecorderState)
 

@@ -38,6 +38,7 @@ kept_as Bytes option = Basic
 kept_as Json option = option
 kept_as IpAddr option = Basic
 
+-- what is kept of a text's term in a field
 abbrev pub kept_of : Entry → IndexRecordOption
 kept_of e = kept_as e.value_type e.option
 
@@ -49,6 +50,7 @@ value_kept_of e = if is_json e.value_type then Basic else kept_of e
 abbrev pub writer_of : Entry → PostingsWriterState
 writer_of e = record { option = kept_of e; value_option = value_kept_of e; total_num_tokens = 0 }
 
+-- the writers of a schema, before any token
 abbrev pub writers_of : List Entry → List PostingsWriterState
 writers_of entries = map writer_of entries
 
@@ -73,6 +75,7 @@ pub record TextState : Type 0 where
   pub num_tokens : ℕ
   pub end_position : ℕ
 
+-- what is known while a text is indexed
 abbrev pub text_state : TermIndex → PostingsWriterState → IndexingPosition → TextState
 text_state terms w at = record { terms = terms; writer = w; num_tokens = at.num_tokens; end_position = at.end_position }
 

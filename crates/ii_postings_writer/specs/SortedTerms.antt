@@ -19,9 +19,11 @@ pub record TermState : Type 0 where
   pub key : List ℕ
   pub recorder : RecorderState
 
+-- a term that is lent, as what it stands for
 abbrev pub state_of : TermOfField → TermState
 state_of t = record { key = t.key.now; recorder = any_state t.recorder.now }
 
+-- a term of the context, as a term of its field
 abbrev pub term_of : List ℕ × RecorderState → TermState
 term_of t = record { key = drop 4 t.0; recorder = t.1 }
 
@@ -66,5 +68,6 @@ pub record MayBeWritten (num_fields : ℕ) (bytes : List ℕ) (r : RecorderState
   pub known : field_in bytes < num_fields
   pub writable : IsWritable (record { key = drop 4 bytes; recorder = r })
 
+-- Each term of the context may be written.
 abbrev pub AllMayBeWritten : ℕ → TermIndex → Type 0
 AllMayBeWritten num_fields terms = (field : ℕ) (key : List ℕ) → field < 2 ^ 32 → MatchOption (recorder_of terms (field_bytes field ++ key)) ⊤ (MayBeWritten num_fields (field_bytes field ++ key))

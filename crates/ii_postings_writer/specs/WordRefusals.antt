@@ -12,6 +12,7 @@ use Rattle.ii_recorder.specs.Recorded.{begun, position_fault, u32_max}
 use Rattle.ii_index.specs.Tokens.{IndexToken, Piece, end_after, word_token}
 use Rattle.ii_index.specs.Postings.{field_count, key_postings}
 
+-- the greatest number of 64 bits
 abbrev pub u64_max : ℕ
 u64_max = 2 ^ 64 - 1
 

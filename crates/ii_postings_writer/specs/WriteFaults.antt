@@ -51,9 +51,11 @@ IsTermFaultAfter initial mode tokens before t fault =
 abbrev pub HasLargeTerm : List Entry → FieldPart → Type 0
 HasLargeTerm entries p = Any HasLargeSum (written_terms entries p)
 
+-- A term of the field takes too many bytes.
 abbrev pub HasLongTerm : List Entry → FieldPart → Type 0
 HasLongTerm entries p = Any (IsLong (option_of entries p.field)) (written_terms entries p)
 
+-- The ends of the field's terms pass what may be kept.
 abbrev pub PassesEnds : List Entry → FieldPart → Type 0
 PassesEnds entries p = PassEnds (option_of entries p.field) (written_terms entries p)
 

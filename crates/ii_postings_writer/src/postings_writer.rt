@@ -1,6 +1,6 @@
 ghost use Rattle.std.specs.Prelude.{◌≡◌, ◌≤◌, ◌<◌, ◌+◌, ◌++◌, ◌∷◌, ◌^◌, [], ℕ, List, Bool, length, max, map, nat_le, nat_lt, if◌then◌else◌, true, Err, Ok, Some, None, IfErr, IfOk, OnErr, OnOk};
 ghost use Rattle.ii_io.specs.declared.faults.LimitName.TheVariants as limit;
-ghost use Rattle.ii_base.specs.Words.{Word, word_of};
+ghost use Rattle.ii_base.specs.Words.{Word, seen_word};
 ghost use Rattle.ii_base.specs.declared.schema.index_record_option.IndexRecordOption.TheVariants.{Basic};
 ghost use Rattle.ii_docset.specs.declared.docset.TheConstants.{TERMINATED};
 ghost use Rattle.ii_recorder.specs.Recorded.{u32_max};
@@ -15,7 +15,7 @@ ghost use Rattle.ii_json.specs.LeafVisit.{IsRefusedBy, first_fault};
 use crate::indexing_context::IndexingContext;
 use crate::indexing_position::IndexingPosition;
 use crate::indexing_term::IndexingTerm;
-use ii_base::{Fault, IndexRecordOption, LimitName, Token, TokenStream};
+use ii_base::{Fault, IndexRecordOption, LimitName, TokenStream, TokenView};
 use ii_docset::DocId;
 use std::marker::Model;
 
@@ -187,7 +187,7 @@ impl SpecializedPostingsWriter {
     fn index_kept(
         &mut self,
         doc: DocId,
-        token: &Token,
+        token: &TokenView<'_>,
         begin: u32,
         term: &mut IndexingTerm,
         ctx: &mut IndexingContext,
@@ -195,9 +195,9 @@ impl SpecializedPostingsWriter {
     ) -> Result<(), Fault>
         requires low { doc < TERMINATED }
         requires ends { AllEndBy doc ctx.old }
-        ensures indexed { OnOk result (IndexesKept (text_piece doc term.old []) begin (word_of token.now) (text_state ctx.old self.old at.old) (text_state ctx.new self.new at.new)) }
+        ensures indexed { OnOk result (IndexesKept (text_piece doc term.old []) begin (seen_word token.now) (text_state ctx.old self.old at.old) (text_state ctx.new self.new at.new)) }
         ensures same_term { OnOk result (term.new ≡ term.old) }
-        ensures refused { IsRefusedBy (kept_fault (text_piece doc term.old []) begin (word_of token.now) (text_state ctx.old self.old at.old)) result }
+        ensures refused { IsRefusedBy (kept_fault (text_piece doc term.old []) begin (seen_word token.now) (text_state ctx.old self.old at.old)) result }
     {
         let (position, end) = token_place(begin, token.position, token.position_length)?;
         let num_tokens = one_more(at.num_tokens)?;
@@ -211,7 +211,7 @@ impl SpecializedPostingsWriter {
     fn index_word(
         &mut self,
         doc: DocId,
-        token: &Token,
+        token: &TokenView<'_>,
         begin: u32,
         term: &mut IndexingTerm,
         ctx: &mut IndexingContext,
@@ -219,9 +219,9 @@ impl SpecializedPostingsWriter {
     ) -> Result<(), Fault>
         requires low { doc < TERMINATED }
         requires ends { AllEndBy doc ctx.old }
-        ensures indexed { OnOk result ((words : List Word) → IndexesWords (text_piece doc term.old words) begin (kept_words (word_of token.now ∷ [])) (text_state ctx.old self.old at.old) (text_state ctx.new self.new at.new)) }
+        ensures indexed { OnOk result ((words : List Word) → IndexesWords (text_piece doc term.old words) begin (kept_words (seen_word token.now ∷ [])) (text_state ctx.old self.old at.old) (text_state ctx.new self.new at.new)) }
         ensures same_term { OnOk result (term.new ≡ term.old) }
-        ensures refused { IfErr result (λ e. (words : List Word) → RefusesWords (text_piece doc term.old words) begin (kept_words (word_of token.now ∷ [])) (text_state ctx.old self.old at.old) e) }
+        ensures refused { IfErr result (λ e. (words : List Word) → RefusesWords (text_piece doc term.old words) begin (kept_words (seen_word token.now ∷ [])) (text_state ctx.old self.old at.old) e) }
     {
         let _field = term.field().field_id();
         if token.text.len() > MAX_TOKEN_LEN {
@@ -248,7 +248,8 @@ impl SpecializedPostingsWriter {
         ensures refused { IfErr result (λ e. RefusesWords (text_piece doc term.old (S.to_come token_stream.old)) begin (kept_words (S.to_come token_stream.old)) (text_state ctx.old self.old at.old) e) }
     {
         while token_stream.advance() {
-            self.index_word(doc, token_stream.token(), begin, term, ctx, at)?;
+            let token = token_stream.token();
+            self.index_word(doc, &token, begin, term, ctx, at)?;
         }
         Ok(())
     }

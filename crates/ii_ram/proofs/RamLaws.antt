@@ -9,29 +9,33 @@ use Rattle.ii_base.specs.Schema.{Entry}
 use Rattle.ii_index.specs.Tokens.{IndexToken}
 use Rattle.ii_indexing.specs.IndexFiles.{IsWriteFault, PassLimits, WroteIndex}
 use Rattle.ii_indexing.specs.declared.index_writers.IndexWriters.{IndexWriters}
-use Rattle.ii_reader.specs.InvertedIndexReader.{InvertedIndexReaderState}
-use Rattle.ii_reader.specs.OpenIndex.{GivesReaders, ReadersHold}
+use Rattle.ii_reader.specs.OpenIndex.{GivesReaders, IndexHolds, NormsHold, OpenIndexState}
 use Rattle.ii_ram.specs.Ram.{IsRamFault, empty_files}
 
 pub appended : (bytes : List ℕ) (o : Option (List ℕ)) → Appends (Some []) o bytes → o ≡ Some bytes
 appended bytes None h = absurd h
 appended bytes (Some ys) h = ap (λ (xs : List ℕ). Some xs) h
 
--- the three files as they stand in memory
+-- the four files as they stand in memory
 pub in_ram : {W : Type 0} (entries : List Entry) (n : ℕ) (old new : IndexWriters W) (ts : List IndexToken) → old ≡ empty_files → (w : WroteIndex entries n old new ts)
-    → (new.terms.contents ≡ Some w.terms.terms) × (new.postings.contents ≡ Some w.terms.postings) × (new.positions.contents ≡ Some w.terms.positions)
+    → (new.terms.contents ≡ Some w.terms.terms) × (new.postings.contents ≡ Some w.terms.postings) × (new.positions.contents ≡ Some w.terms.positions) × (new.fieldnorms.contents ≡ Some w.norms.fieldnorms)
 in_ram {W} entries n old new ts empty w = (
   appended w.terms.terms new.terms.contents (subst (λ (o : Option (List ℕ)). Appends o new.terms.contents w.terms.terms) (ap (λ (f : IndexWriters W). f.terms.contents) empty) w.terms.wrote_terms.appends),
   appended w.terms.postings new.postings.contents (subst (λ (o : Option (List ℕ)). Appends o new.postings.contents w.terms.postings) (ap (λ (f : IndexWriters W). f.postings.contents) empty) w.terms.wrote_postings.appends),
   appended w.terms.positions new.positions.contents (subst (λ (o : Option (List ℕ)). Appends o new.positions.contents w.terms.positions) (ap (λ (f : IndexWriters W). f.positions.contents) empty) w.terms.wrote_positions.appends),
+  appended w.norms.fieldnorms new.fieldnorms.contents (subst (λ (o : Option (List ℕ)). Appends o new.fieldnorms.contents w.norms.fieldnorms) (ap (λ (f : IndexWriters W). f.fieldnorms.contents) empty) w.norms.wrote.appends),
 )
 
-pub readers_hold : (entries : List Entry) (ts : List IndexToken) (r : Result (List InvertedIndexReaderState) Fault) → GivesReaders entries ts r → IfOk r (λ readers. ReadersHold entries readers ts)
-readers_hold entries ts (Ok readers) h = h
-readers_hold entries ts (Err e) h = tt
+-- what opening them gives: the readers, with the norms
+abbrev pub GivesAll : List Entry → ℕ → List IndexToken → Result OpenIndexState Fault → Type 0
+GivesAll entries n ts r = GivesReaders entries ts r × IfOk r (λ index. NormsHold entries n index.fieldnorms ts)
 
-pub readers_fault : (entries : List Entry) (ts : List IndexToken) (P : Fault → Type 0) (r : Result (List InvertedIndexReaderState) Fault) → GivesReaders entries ts r → IfErr r (λ e. (e ≡ OutOfMemory) ⊎ P e)
-readers_fault entries ts P (Ok readers) h = tt
+pub index_holds : (entries : List Entry) (n : ℕ) (ts : List IndexToken) (r : Result OpenIndexState Fault) → GivesAll entries n ts r → IfOk r (λ index. IndexHolds entries n index ts)
+index_holds entries n ts (Ok index) h = record { readers = h.0; norms = h.1 }
+index_holds entries n ts (Err e) h = tt
+
+pub readers_fault : (entries : List Entry) (ts : List IndexToken) (P : Fault → Type 0) (r : Result OpenIndexState Fault) → GivesReaders entries ts r → IfErr r (λ e. (e ≡ OutOfMemory) ⊎ P e)
+readers_fault entries ts P (Ok index) h = tt
 readers_fault entries ts P (Err e) h = inl h
 
 pub memory_or : (f : Fault) → (memory_fault f ≡ f) ⊎ (memory_fault f ≡ OutOfMemory)

@@ -8,13 +8,14 @@ use Rattle.ii_base.specs.Schema.{Entry}
 use Rattle.ii_index.specs.Tokens.{IndexToken}
 use Rattle.ii_indexing.specs.IndexFiles.{PassLimits}
 use Rattle.ii_indexing.specs.IndexedTerms.{IndexedTermsState, StoresTokens}
-use Rattle.ii_indexing.specs.Norms.{HoldNorms}
+use Rattle.ii_index.specs.Norms.{HoldNorms}
 use Rattle.ii_indexing.specs.declared.index_writers.IndexWriters.{IndexWriters}
 
 -- a file in memory that has no bytes yet
 abbrev pub empty_file : CountingWriterState
 empty_file = record { contents = Some []; written_bytes = 0; failed_calls = 0 }
 
+-- four files in memory that have no bytes yet
 abbrev pub empty_files : {W : Type 0} → IndexWriters W
 empty_files = record { terms = empty_file; postings = empty_file; positions = empty_file; fieldnorms = empty_file }
 

@@ -5,11 +5,12 @@ ghost use Rattle.std.specs.Prelude.{◌≡◌, ◌≤◌, ◌⊎◌, [], ℕ, Li
 ghost use Rattle.ii_docset.specs.declared.docset.TheConstants.{TERMINATED};
 ghost use Rattle.ii_index.specs.Fields.{option_of};
 ghost use Rattle.ii_index.specs.Files.{HoldTokens};
+ghost use Rattle.ii_index.specs.Norms.{HoldNorms};
 ghost use Rattle.ii_index.specs.Tokens.{IndexToken, tokens_of};
 ghost use Rattle.ii_indexing.specs.IndexCalls.{MayAllBeIndexed, call_of};
 ghost use Rattle.ii_indexing.specs.Refusals.{calls_fault};
 ghost use Rattle.ii_ram.specs.Ram.{IsRamFault, empty_files};
-ghost use Rattle.ii_reader.specs.OpenIndex.{GivesReaders, ReadersHold};
+ghost use Rattle.ii_reader.specs.OpenIndex.{GivesReaders, IndexHolds, NormsHold};
 
 use bytes::Bytes;
 use ii_base::{CountingWriter, Fault, Schema, TextAnalyzer};
@@ -19,7 +20,8 @@ use ii_reader::{OpenIndex, open_index};
 use std::alloc::Global;
 
 /// Indexes calls, writes the files of the index that they give to memory, and opens them: the readers of
-/// the fields hold exactly the tokens of the calls. No call has a document below that of the one before,
+/// the fields hold exactly the tokens of the calls, and the norms how many of them each document has of
+/// each field that keeps norms. No call has a document below that of the one before,
 /// each one's is below `num_docs`, at most `TERMINATED`, and each one's field is indexed and has values
 /// of its type.
 ///
@@ -34,8 +36,8 @@ pub fn index_in_ram<A: TextAnalyzer>(
 ) -> Result<OpenIndex, Fault>
     requires docs { num_docs ≤ TERMINATED }
     requires calls { MayAllBeIndexed schema num_docs calls.items }
-    ensures holds { IfOk result (λ index. ReadersHold schema index (tokens_of (A.words analyzer.now) (map (call_of schema) calls.items))) }
-    ensures many { IfOk result (λ index. length index ≡ length schema) }
+    ensures holds { IfOk result (λ index. IndexHolds schema num_docs index (tokens_of (A.words analyzer.now) (map (call_of schema) calls.items))) }
+    ensures many { IfOk result (λ index. length index.readers ≡ length schema) }
     ensures refused { IfSome (calls_fault (A.words analyzer.now) (option_of schema) [] (map (call_of schema) calls.items)) (λ fault. (result ≡ Err fault) ⊎ (result ≡ Err Fault.OutOfMemory)) }
     ensures fault { calls_fault (A.words analyzer.now) (option_of schema) [] (map (call_of schema) calls.items) ≡ None
         → IfErr result (λ e. (e ≡ Fault.OutOfMemory) ⊎ IsRamFault schema num_docs (tokens_of (A.words analyzer.now) (map (call_of schema) calls.items)) e) }
@@ -61,28 +63,30 @@ fn files_in_ram(alloc: Global) -> IndexWriters<Vec<u8>>
     }
 }
 
-// The readers of the fields of a schema.
+// The readers of the fields of a schema, and their norms.
 fn open_files(
     alloc: Global,
     files: IndexWriters<Vec<u8>>,
     schema: &Schema,
 ) -> Result<OpenIndex, Fault>
-    ensures holds { (terms : List ℕ) (postings : List ℕ) (positions : List ℕ) (tokens : List IndexToken)
-        → files.terms.contents ≡ Some terms → files.postings.contents ≡ Some postings → files.positions.contents ≡ Some positions
-        → HoldTokens (option_of schema.now) terms postings positions tokens → GivesReaders schema.now tokens result }
-    ensures many { IfOk result (λ index. length index ≡ length schema.now) }
+    ensures holds { (terms : List ℕ) (postings : List ℕ) (positions : List ℕ) (fieldnorms : List ℕ) (num_docs : ℕ) (tokens : List IndexToken)
+        → files.terms.contents ≡ Some terms → files.postings.contents ≡ Some postings → files.positions.contents ≡ Some positions → files.fieldnorms.contents ≡ Some fieldnorms
+        → HoldTokens (option_of schema.now) terms postings positions tokens → HoldNorms schema.now num_docs fieldnorms tokens
+        → GivesReaders schema.now tokens result × IfOk result (λ index. NormsHold schema.now num_docs index.fieldnorms tokens) }
+    ensures many { IfOk result (λ index. length index.readers ≡ length schema.now) }
 {
     let IndexWriters {
         terms,
         postings,
         positions,
-        fieldnorms: _,
+        fieldnorms,
     } = files;
     open_index(
         alloc,
         Bytes::from_vec(terms.finish())?,
         Bytes::from_vec(postings.finish())?,
         Bytes::from_vec(positions.finish())?,
+        Bytes::from_vec(fieldnorms.finish())?,
         schema,
     )
 }

@@ -2,11 +2,11 @@
 use Rattle.std.proofs.Common.{◌≡◌, ℕ, zero, suc, ◌+◌, ◌-◌, ◌*◌, ◌/◌, ◌<◌, ◌≤◌, Bool, true, false, List, length, take, drop, get_or, min, nat_lt, Option, Some, None, is_some, refl, sym, ap, ◌∙◌, arith, length-take, length-drop}
 use Rattle.std.specs.Option.{IsSome}
 use Rattle.std.proofs.lemmas.Bool.{ltb-true, ltb-false}
-use Rattle.std.proofs.lemmas.List.{get_or-take, get_or-drop, get_or-replicate, get_or_past, get_or_default}
+use Rattle.std.proofs.lemmas.List.{nil_from_length, get_or-take, get_or-drop, get_or-replicate, get_or_past, get_or_default}
 use Rattle.ii_codes.specs.BlockDecoder.{BlockDecoderState, decodes_of}
 use Rattle.ii_layout.specs.Written.{block_of}
 use Rattle.ii_layout.specs.SkipReader.{SkipReaderState}
-use Rattle.ii_check.specs.CheckedPostings.{AreFreqs, CheckedPostingsState, HasDocuments, HoldsBlock, HoldsFreqs, IsAtBlock, LoadsBlock, LoadsFreqs, new_decoder}
+use Rattle.ii_check.specs.CheckedPostings.{AreFreqs, AreLastFreqs, CheckedPostingsState, HasDocuments, HoldsBlock, HoldsFreqs, IsAtBlock, LoadsBlock, LoadsFreqs, new_decoder}
 use Rattle.ii_reader.specs.BlockSegmentPostings.{BlockSegmentPostingsState, GoesTo, IsLazy, IsLoaded, doc_in_block, first_decodes, freqs_of_block, freq_in_block}
 
 -- an entry of a block that a decoder holds, and what stands after the block
@@ -176,6 +176,62 @@ moved_goes p skip skip' docs docs' freqs freqs' m =
     let counts = freq_count p skip skip' docs docs' freqs freqs' m in
     record { recorded = refl; requested = refl; docs = refl; freqs = refl; freq_reading = refl; block = omega arith; doc_decodes = omega arith; freq_decodes = omega arith }
 
+-- a cursor that went on to a later block
+pub record GoesOn (p : CheckedPostingsState) (skip skip' : SkipReaderState) (docs docs' freqs freqs' : BlockDecoderState) : Type 0 where
+  pub was : IsLoaded p skip docs freqs
+  pub at : IsAtBlock p skip'
+  pub later : skip.block < skip'.block
+  pub loads : LoadsBlock p.postings skip'.block docs docs' freqs freqs'
+
+docs_later : (p : CheckedPostingsState) (skip skip' : SkipReaderState) (docs docs' freqs freqs' : BlockDecoderState) → GoesOn p skip skip' docs docs' freqs freqs' → docs'.decodes ≤ docs.decodes + min 1 (skip'.block - skip.block)
+docs_later p skip skip' docs docs' freqs freqs' g =
+    let most = decodes_most (length (block_of p.postings.docs skip'.block)) in
+    let count = g.loads.docs_are.decodes in
+    let later = g.later in
+    omega arith
+
+freqs_by : (o : Option (List ℕ)) (block : ℕ) (old new : BlockDecoderState) → LoadsFreqs o block old new → new.decodes ≤ old.decodes + 1
+freqs_by None block old new loads = let same : new.decodes ≡ old.decodes = ap (λ (d : BlockDecoderState). d.decodes) loads in omega arith
+freqs_by (Some freqs) block old new loads =
+    let most = decodes_most (length (block_of freqs block)) in
+    let count = loads.decodes in
+    omega arith
+
+freqs_later : (p : CheckedPostingsState) (skip skip' : SkipReaderState) (docs docs' freqs freqs' : BlockDecoderState) → GoesOn p skip skip' docs docs' freqs freqs' → freqs'.decodes ≤ freqs.decodes + min 1 (skip'.block - skip.block)
+freqs_later p skip skip' docs docs' freqs freqs' g =
+    let most = freqs_by p.postings.freqs skip'.block freqs freqs' g.loads.freqs_are in
+    let later = g.later in
+    omega arith
+
+pub on_loaded : (p : CheckedPostingsState) (skip skip' : SkipReaderState) (docs docs' freqs freqs' : BlockDecoderState) → GoesOn p skip skip' docs docs' freqs freqs' → IsLoaded p skip' docs' freqs'
+on_loaded p skip skip' docs docs' freqs freqs' g =
+    let had = g.was.doc_decodes in
+    let freq_had = g.was.freq_decodes in
+    let count = docs_later p skip skip' docs docs' freqs freqs' g in
+    let counts = freqs_later p skip skip' docs docs' freqs freqs' g in
+    let later = g.later in
+    record {
+      has = g.was.has;
+      at = g.at;
+      docs_held = g.loads.docs_are.holds;
+      freqs_held = freqs_loaded p.postings.freqs skip.block skip'.block freqs freqs' g.was.freqs_held g.loads.freqs_are;
+      doc_decodes = omega arith;
+      freq_decodes = omega arith;
+    }
+
+pub on_goes : (p : CheckedPostingsState) (skip skip' : SkipReaderState) (docs docs' freqs freqs' : BlockDecoderState) → GoesOn p skip skip' docs docs' freqs freqs' → GoesTo (state_of p skip docs freqs) (state_of p skip' docs' freqs') skip'.block
+on_goes p skip skip' docs docs' freqs freqs' g =
+    record {
+      recorded = refl;
+      requested = refl;
+      docs = refl;
+      freqs = refl;
+      freq_reading = refl;
+      block = refl;
+      doc_decodes = docs_later p skip skip' docs docs' freqs freqs' g;
+      freq_decodes = freqs_later p skip skip' docs docs' freqs freqs' g;
+    }
+
 pub loaded_lazy : (p : CheckedPostingsState) (skip : SkipReaderState) (docs freqs : BlockDecoderState) → IsLoaded p skip docs freqs → IsLazy (state_of p skip docs freqs)
 loaded_lazy p skip docs freqs l =
     let many = l.has.many in
@@ -184,3 +240,18 @@ loaded_lazy p skip docs freqs l =
     let freq_had = l.freq_decodes in
     let entries = ap (λ (r : SkipReaderState). r.entries_read) l.at.reader in
     record { within = omega arith; doc_decodes = omega arith; freq_decodes = omega arith; entries_read = omega arith }
+
+-- A block that has as many counts as the term has documents, fewer than a full one has, is the last.
+last_at : (fs : List ℕ) (n block : ℕ) (row : List ℕ) → length fs ≡ n → row ≡ block_of fs block → length row < 128 → length row ≡ n → row ≡ block_of fs (n / 128)
+last_at fs n zero row many here few all = let first : 0 ≡ n / 128 = omega arith in here ∙ ap (block_of fs) first
+last_at fs n (suc block) row many here few all =
+    let size = ap length here ∙ length-take 128 (drop (128 * suc block) fs) in
+    let left = length-drop (128 * suc block) fs in
+    let whole = length-take 128 (drop (128 * (n / 128)) fs) in
+    let behind = length-drop (128 * (n / 128)) fs in
+    nil_from_length row (omega arith) ∙ sym (nil_from_length (block_of fs (n / 128)) (omega arith))
+
+pub last_held : (o : Option (List ℕ)) (n block : ℕ) (row : List ℕ) (decoder : BlockDecoderState) → HoldsFreqs o block decoder → ((fs : List ℕ) → o ≡ Some fs → AreFreqs n fs) → row ≡ take decoder.output_len decoder.output → length row < 128 → length row ≡ n
+    → AreLastFreqs o (n / 128) row
+last_held None n block row decoder h are row_is few all = few
+last_held (Some fs) n block row decoder h are row_is few all = (last_at fs n block row (are fs refl).many (row_is ∙ h.held) few all, few)

@@ -1,22 +1,28 @@
 -- Opening the fields of an index.
-use Rattle.std.proofs.Common.{◌≡◌, ◌∙◌, ◌+◌, ◌<◌, ◌++◌, ◌∷◌, [], ℕ, zero, suc, inl, inr, false, List, Option, None, Some, Ok, Err, length, map, nat_lt, is_some, refl, sym, ap, subst, arith}
-use Rattle.std.specs.Prelude.{Result, IsOkAnd, IsSomeAnd, slice_get}
+use Rattle.std.proofs.Common.{◌≡◌, ◌∙◌, ◌+◌, ◌^◌, ◌<◌, ◌≤◌, ◌++◌, ◌∷◌, [], ℕ, zero, suc, inl, inr, Bool, true, false, List, get_or, Option, None, Some, Ok, Err, length, map, nat_lt, is_some, refl, sym, ap, subst, arith}
+use Rattle.std.specs.Prelude.{◌⊎◌, ◌↔◌, Result, IfErr, IfOk, IsErrOf, IsOkAnd, IsSome, IsSomeAnd, if◌then◌else◌, ok_or, slice_get, slice_index}
+use Rattle.std.specs.Option.{option_map}
 use Rattle.std.specs.List.{enumerate_from}
 use Rattle.std.proofs.lemmas.List.{append_assoc}
+use Rattle.std.proofs.lemmas.List.FromFn.{get_or-map-range_with_len, length-map-range_with_len}
 use Rattle.std.proofs.lemmas.Bool.{ltb-false}
 use Rattle.ii_io.specs.declared.faults.Fault.{Fault}
-use Rattle.ii_io.specs.declared.faults.Fault.TheVariants.{OutOfMemory}
+use Rattle.ii_io.specs.declared.faults.Fault.TheVariants.{Damaged, OutOfMemory}
 use Rattle.ii_io.specs.declared.faults.Part.{Part}
+use Rattle.ii_io.specs.declared.faults.Part.TheVariants.{Composite, FieldNorms}
 use Rattle.ii_io.specs.Parts.{◌>>=◌}
-use Rattle.ii_io.specs.Composite.{body_of}
+use Rattle.ii_io.specs.Composite.{Body, body_of, composite}
 use Rattle.ii_base.specs.Schema.{Entry}
 use Rattle.ii_base.specs.declared.schema.index_record_option.IndexRecordOption.{IndexRecordOption}
 use Rattle.ii_index.specs.Tokens.{IndexToken}
 use Rattle.ii_index.specs.Fields.{option_of}
-use Rattle.ii_index.specs.Postings.{field_count}
+use Rattle.ii_index.specs.Postings.{doc_count, field_count}
 use Rattle.ii_index.specs.Files.{HoldTokens, HoldsField}
+use Rattle.ii_index.specs.Norms.{HoldNorms, has_norms, norm_file, norm_ids}
+use Rattle.ii_fieldnorm.specs.Norms.{id_of_norm}
+use Rattle.ii_fieldnorm.specs.Readers.{Norms, norms_of_ids}
 use Rattle.ii_reader.specs.InvertedIndexReader.{InvertedIndexReaderState, IsRefusal, ReaderHolds, reader_of_none}
-use Rattle.ii_reader.specs.OpenIndex.{FieldReaderHolds, IndexBodies, ReadersHold, all_or_first, field_readers, index_bodies, index_readers, reader_if, reader_of_field}
+use Rattle.ii_reader.specs.OpenIndex.{AnswersNorms, FieldReaderHolds, GivesNorms, IndexBodies, NormsHold, ReadersHold, all_or_first, field_readers, OpenIndexState, index_bodies, index_of_files, reader_if, reader_of_field}
 use Rattle.ii_index.proofs.GroupedLaws.{no_field}
 
 -- what stands before what others give
@@ -48,12 +54,56 @@ readers_length give n (e ∷ es) xs is =
 many_fields : (bodies : IndexBodies) (entries : List Entry) (readers : List InvertedIndexReaderState) → field_readers bodies entries ≡ Ok readers → length readers ≡ length entries
 many_fields bodies entries readers is = readers_length (λ (f : ℕ × Entry). reader_of_field bodies f.0 f.1.option) 0 entries readers is
 
+-- the readers of three files, or the first part that fails
+abbrev three_files : List ℕ → List ℕ → List ℕ → List Entry → Result (List InvertedIndexReaderState) Part
+three_files terms postings positions entries = index_bodies terms postings positions >>= λ (bodies : IndexBodies). field_readers bodies entries
+
+-- what is well
+abbrev fine : {A : Type 0} → A → Result A Part
+fine x = Ok x
+
+-- the index of bodies, norms and readers
+abbrev with_parts : Result IndexBodies Part → Result (List Body) Part → (IndexBodies → Result (List InvertedIndexReaderState) Part) → Result OpenIndexState Part
+with_parts tables norms read = tables >>= λ (bodies : IndexBodies). norms >>= λ (fieldnorms : List Body). read bodies >>= λ (readers : List InvertedIndexReaderState). Ok (record { readers = readers; fieldnorms = fieldnorms })
+
+abbrev with_readers : List Body → Result (List InvertedIndexReaderState) Part → Result OpenIndexState Part
+with_readers fieldnorms found = found >>= λ (readers : List InvertedIndexReaderState). Ok (record { readers = readers; fieldnorms = fieldnorms })
+
+-- what stands in an index that was opened
+opened_parts : (tables : Result IndexBodies Part) (norms : Result (List Body) Part) (read : IndexBodies → Result (List InvertedIndexReaderState) Part) (index : OpenIndexState)
+    → with_parts tables norms read ≡ Ok index → ((tables >>= read) ≡ Ok index.readers) × (norms ≡ Ok index.fieldnorms)
+opened_parts (Err part) norms read index is = absurd (cc)
+opened_parts (Ok bodies) (Err part) read index is = absurd (cc)
+opened_parts (Ok bodies) (Ok fieldnorms) read index is = by (read bodies) is
+  where
+    inside : (i : OpenIndexState) → fine i ≡ Ok index → i ≡ index
+    inside i e = cc
+
+    by : (found : Result (List InvertedIndexReaderState) Part) → with_readers fieldnorms found ≡ Ok index → (found ≡ Ok index.readers) × (fine fieldnorms ≡ Ok index.fieldnorms)
+    by (Err part) is = absurd (cc)
+    by (Ok readers) is =
+        let same = inside (record { readers = readers; fieldnorms = fieldnorms }) is in
+        (ap (λ (i : OpenIndexState). fine i.readers) same, ap (λ (i : OpenIndexState). fine i.fieldnorms) same)
+
+parts_of : (terms postings positions fieldnorms : List ℕ) (entries : List Entry) (index : OpenIndexState) → index_of_files terms postings positions fieldnorms entries ≡ Ok index
+    → (three_files terms postings positions entries ≡ Ok index.readers) × (ok_or (composite fieldnorms) Composite ≡ Ok index.fieldnorms)
+parts_of terms postings positions fieldnorms entries index is =
+    opened_parts (index_bodies terms postings positions) (ok_or (composite fieldnorms) Composite) (λ bodies. field_readers bodies entries) index is
+
+norms_of : (norms : Option (List Body)) (bodies : List Body) → ok_or norms Composite ≡ Ok bodies → norms ≡ Some bodies
+norms_of None bodies is = absurd (cc)
+norms_of (Some found) bodies is = ap Some (inside is)
+  where
+    inside : fine found ≡ Ok bodies → found ≡ bodies
+    inside e = cc
+
 many_after : (tables : Result IndexBodies Part) (entries : List Entry) (readers : List InvertedIndexReaderState) → (tables >>= λ (bodies : IndexBodies). field_readers bodies entries) ≡ Ok readers → length readers ≡ length entries
 many_after (Ok bodies) entries readers is = many_fields bodies entries readers is
 many_after (Err part) entries readers is = absurd (cc)
 
-pub many_readers : (terms postings positions : List ℕ) (entries : List Entry) (readers : List InvertedIndexReaderState) → index_readers terms postings positions entries ≡ Ok readers → length readers ≡ length entries
-many_readers terms postings positions entries readers is = many_after (index_bodies terms postings positions) entries readers is
+pub many_readers : (terms postings positions fieldnorms : List ℕ) (entries : List Entry) (index : OpenIndexState) → index_of_files terms postings positions fieldnorms entries ≡ Ok index → length index.readers ≡ length entries
+many_readers terms postings positions fieldnorms entries index is =
+    many_after (index_bodies terms postings positions) entries index.readers (parts_of terms postings positions fieldnorms entries index is).0
 
 no_body : (n : ℕ) → false ≡ nat_lt 0 n → n ≡ 0
 no_body n e = let none = ltb-false 0 n (sym e) in omega (arith, none)
@@ -124,8 +174,8 @@ field_in entries terms postings positions ts h i e at =
     (λ reader has. record { option_is = has.0 ∙ sym option; holds = has.1 })
 
 -- files that hold tokens are opened
-pub index_held : (entries : List Entry) (terms postings positions : List ℕ) (ts : List IndexToken) → HoldTokens (option_of entries) terms postings positions ts
-    → IsOkAnd (index_readers terms postings positions entries) (λ readers. ReadersHold entries readers ts)
+index_held : (entries : List Entry) (terms postings positions : List ℕ) (ts : List IndexToken) → HoldTokens (option_of entries) terms postings positions ts
+    → IsOkAnd (three_files terms postings positions entries) (λ readers. ReadersHold entries readers ts)
 index_held entries terms postings positions ts h =
     let bodies : IndexBodies = record { terms = h.term_bodies; postings = h.postings_bodies; positions = h.positions_bodies } in
     let each : (i : ℕ) (e : Entry) → slice_get entries i ≡ Some e → IsOkAnd (reader_of_field bodies (0 + i) e.option) (λ reader. FieldReaderHolds entries (0 + i) reader ts) =
@@ -142,24 +192,96 @@ index_held entries terms postings positions ts h =
 gives_ok : (found : Result (List InvertedIndexReaderState) Part) (entries : List Entry) (ts : List IndexToken) (readers : List InvertedIndexReaderState) → found ≡ Ok readers → IsOkAnd found (λ rs. ReadersHold entries rs ts) → ReadersHold entries readers ts
 gives_ok found entries ts readers is held = rw is at held
 
-gives_err : (found : Result (List InvertedIndexReaderState) Part) (P : List InvertedIndexReaderState → Type 0) (fault : Fault) → IsRefusal found fault → IsOkAnd found P → fault ≡ OutOfMemory
-gives_err found P fault (inl memory) held = memory
-gives_err found P fault (inr (part, damaged, failed)) held = absurd (rw failed at held)
-
 -- what opening them answers
-pub opened_holds : (entries : List Entry) (terms postings positions : List ℕ) (ts : List IndexToken) (readers : List InvertedIndexReaderState) → HoldTokens (option_of entries) terms postings positions ts
-    → index_readers terms postings positions entries ≡ Ok readers → ReadersHold entries readers ts
-opened_holds entries terms postings positions ts readers holds is = gives_ok _ entries ts readers is (index_held entries terms postings positions ts holds)
+pub opened_holds : (entries : List Entry) (terms postings positions fieldnorms : List ℕ) (ts : List IndexToken) (index : OpenIndexState) → HoldTokens (option_of entries) terms postings positions ts
+    → index_of_files terms postings positions fieldnorms entries ≡ Ok index → ReadersHold entries index.readers ts
+opened_holds entries terms postings positions fieldnorms ts index holds is =
+    gives_ok _ entries ts index.readers (parts_of terms postings positions fieldnorms entries index is).0 (index_held entries terms postings positions ts holds)
 
-pub refused_holds : (entries : List Entry) (terms postings positions : List ℕ) (ts : List IndexToken) (fault : Fault) → HoldTokens (option_of entries) terms postings positions ts
-    → IsRefusal (index_readers terms postings positions entries) fault → fault ≡ OutOfMemory
-refused_holds entries terms postings positions ts fault holds refused = gives_err _ (λ rs. ReadersHold entries rs ts) fault refused (index_held entries terms postings positions ts holds)
+gives_err : (tables : Result IndexBodies Part) (norms : Option (List Body)) (read : IndexBodies → Result (List InvertedIndexReaderState) Part) (P : List InvertedIndexReaderState → Type 0) (fault : Fault)
+    → IsRefusal (with_parts tables (ok_or norms Composite) read) fault → IsOkAnd (tables >>= read) P → IsSome norms → fault ≡ OutOfMemory
+gives_err tables norms read P fault (inl memory) held some = memory
+gives_err (Err part) norms read P fault (inr failed) held some = absurd held
+gives_err (Ok bodies) None read P fault (inr failed) held some = absurd (cc)
+gives_err (Ok bodies) (Some fieldnorms) read P fault (inr (part, damaged, failed)) held some = by (read bodies) failed held
+  where
+    by : (found : Result (List InvertedIndexReaderState) Part) → with_readers fieldnorms found ≡ Err part → IsOkAnd found P → fault ≡ OutOfMemory
+    by (Ok readers) failed held = absurd (cc)
+    by (Err other) failed held = absurd held
 
--- from the three tables to the readers
-pub index_then : (terms postings positions : List ℕ) (entries : List Entry) (bodies : IndexBodies) (found : Result (List InvertedIndexReaderState) Part) → index_bodies terms postings positions ≡ Ok bodies → field_readers bodies entries ≡ found
-    → index_readers terms postings positions entries ≡ found
-index_then terms postings positions entries bodies found tables is = rw tables is
+pub refused_holds : (entries : List Entry) (terms postings positions fieldnorms : List ℕ) (ts : List IndexToken) (fault : Fault) → HoldTokens (option_of entries) terms postings positions ts → IsSome (composite fieldnorms)
+    → IsRefusal (index_of_files terms postings positions fieldnorms entries) fault → fault ≡ OutOfMemory
+refused_holds entries terms postings positions fieldnorms ts fault holds some refused =
+    gives_err (index_bodies terms postings positions) (composite fieldnorms) (λ bodies. field_readers bodies entries) (λ readers. ReadersHold entries readers ts) fault refused (index_held entries terms postings positions ts holds) some
 
-pub index_refused : (terms postings positions : List ℕ) (entries : List Entry) (fault : Fault) → IsRefusal (index_bodies terms postings positions) fault → IsRefusal (index_readers terms postings positions entries) fault
-index_refused terms postings positions entries fault (inl memory) = inl memory
-index_refused terms postings positions entries fault (inr (part, damaged, failed)) = inr (part, damaged, rw failed refl)
+-- the norms of an index that was opened
+pub opened_norms : (entries : List Entry) (terms postings positions fieldnorms : List ℕ) (num_docs : ℕ) (ts : List IndexToken) (index : OpenIndexState) → HoldNorms entries num_docs fieldnorms ts
+    → index_of_files terms postings positions fieldnorms entries ≡ Ok index → NormsHold entries num_docs index.fieldnorms ts
+opened_norms entries terms postings positions fieldnorms num_docs ts index holds is =
+    let found = norms_of (composite fieldnorms) index.fieldnorms (parts_of terms postings positions fieldnorms entries index is).1 in
+    let same : norm_file entries num_docs ts ≡ index.fieldnorms = inside (sym holds.opened ∙ found) in
+    λ field. ap (body_of field) (sym same) ∙ holds.exact field
+  where
+    inside : Some (norm_file entries num_docs ts) ≡ Some index.fieldnorms → norm_file entries num_docs ts ≡ index.fieldnorms
+    inside e = cc
+
+-- a byte of norms is that of its document
+norm_at : (xs : List ℕ) (doc : ℕ) → doc < length xs → slice_index xs doc ≡ get_or xs doc 0
+norm_at [] doc within = absurd (omega (arith, within))
+norm_at (x ∷ xs) zero within = refl
+norm_at (x ∷ xs) (suc doc) within = norm_at xs doc (omega (arith, within))
+
+answers : (num_docs field : ℕ) (ts : List IndexToken) → AnswersNorms num_docs field ts (norms_of_ids (norm_ids num_docs field ts))
+answers num_docs field ts =
+    let many = length-map-range_with_len (λ (doc : ℕ). id_of_norm (doc_count doc field ts)) 0 num_docs in
+    record {
+      num_docs_is = many;
+      each = λ doc within. norm_at (norm_ids num_docs field ts) doc (omega (arith, within, many)) ∙ get_or-map-range_with_len (λ (doc : ℕ). id_of_norm (doc_count doc field ts)) 0 num_docs doc doc 0 within (omega arith);
+    }
+
+-- what is read of the norms of a field
+norms_found : (entries : List Entry) (num_docs field : ℕ) (bodies : List Body) (ts : List IndexToken) (found : Option Norms) → NormsHold entries num_docs bodies ts → found ≡ option_map norms_of_ids (body_of field bodies)
+    → GivesNorms entries num_docs field ts (Ok found)
+norms_found entries num_docs field bodies ts found holds is = by (has_norms entries field) refl (is ∙ ap (option_map norms_of_ids) (holds field))
+  where
+    by : (has : Bool) → has_norms entries field ≡ has → found ≡ option_map norms_of_ids (if has then Some (norm_ids num_docs field ts) else None) → GivesNorms entries num_docs field ts (Ok found)
+    by false none is = rw is none
+    by true some is = rw is (some, answers num_docs field ts)
+
+norms_refused_by : (entries : List Entry) (num_docs field : ℕ) (bodies : List Body) (ts : List IndexToken) (fault : Fault) → num_docs < 2 ^ 32 → NormsHold entries num_docs bodies ts
+    → (fault ≡ Damaged FieldNorms → IsSomeAnd (body_of field bodies) (λ ids. 2 ^ 32 ≤ length ids)) → (fault ≡ OutOfMemory) ⊎ (fault ≡ Damaged FieldNorms) → fault ≡ OutOfMemory
+norms_refused_by entries num_docs field bodies ts fault few holds long (inl memory) = memory
+norms_refused_by entries num_docs field bodies ts fault few holds long (inr damaged) =
+    absurd (by (has_norms entries field) (subst (λ (o : Option (List ℕ)). IsSomeAnd o (λ ids. 2 ^ 32 ≤ length ids)) (holds field) (long damaged)))
+  where
+    by : (has : Bool) → IsSomeAnd (if has then Some (norm_ids num_docs field ts) else None) (λ ids. 2 ^ 32 ≤ length ids) → ⊥
+    by false h = h
+    by true h = omega (arith, few, h, length-map-range_with_len (λ (doc : ℕ). id_of_norm (doc_count doc field ts)) 0 num_docs)
+
+-- what a field of them answers
+pub norms_answered : (entries : List Entry) (num_docs field : ℕ) (bodies : List Body) (ts : List IndexToken) (answer : Result (Option Norms) Fault) → num_docs < 2 ^ 32 → NormsHold entries num_docs bodies ts
+    → IfOk answer (λ norms. norms ≡ option_map norms_of_ids (body_of field bodies)) → (IsErrOf answer (Damaged FieldNorms) ↔ IsSomeAnd (body_of field bodies) (λ ids. 2 ^ 32 ≤ length ids))
+    → IfErr answer (λ e. (e ≡ OutOfMemory) ⊎ (e ≡ Damaged FieldNorms)) → GivesNorms entries num_docs field ts answer
+norms_answered entries num_docs field bodies ts (Ok found) few holds is long only = norms_found entries num_docs field bodies ts found holds is
+norms_answered entries num_docs field bodies ts (Err fault) few holds is long only =
+    norms_refused_by entries num_docs field bodies ts fault few holds (λ damaged. long.0 (ap (λ (f : Fault). Err f) damaged)) only
+
+-- from the four tables to the readers
+pub index_then : (terms postings positions fieldnorms : List ℕ) (entries : List Entry) (bodies : IndexBodies) (norms : List Body) (readers : List InvertedIndexReaderState)
+    → index_bodies terms postings positions ≡ Ok bodies → composite fieldnorms ≡ Some norms → field_readers bodies entries ≡ Ok readers
+    → index_of_files terms postings positions fieldnorms entries ≡ Ok (record { readers = readers; fieldnorms = norms })
+index_then terms postings positions fieldnorms entries bodies norms readers tables opened is = rw (tables, opened, is) refl
+
+pub tables_refused : (terms postings positions fieldnorms : List ℕ) (entries : List Entry) (fault : Fault) → IsRefusal (index_bodies terms postings positions) fault → IsRefusal (index_of_files terms postings positions fieldnorms entries) fault
+tables_refused terms postings positions fieldnorms entries fault (inl memory) = inl memory
+tables_refused terms postings positions fieldnorms entries fault (inr (part, damaged, failed)) = inr (part, damaged, rw failed refl)
+
+pub norms_refused : (terms postings positions fieldnorms : List ℕ) (entries : List Entry) (bodies : IndexBodies) (fault : Fault) → index_bodies terms postings positions ≡ Ok bodies
+    → IsRefusal (ok_or (composite fieldnorms) Composite) fault → IsRefusal (index_of_files terms postings positions fieldnorms entries) fault
+norms_refused terms postings positions fieldnorms entries bodies fault tables (inl memory) = inl memory
+norms_refused terms postings positions fieldnorms entries bodies fault tables (inr (part, damaged, failed)) = inr (part, damaged, rw (tables, failed) refl)
+
+pub fields_refused : (terms postings positions fieldnorms : List ℕ) (entries : List Entry) (bodies : IndexBodies) (norms : List Body) (fault : Fault) → index_bodies terms postings positions ≡ Ok bodies
+    → composite fieldnorms ≡ Some norms → IsRefusal (field_readers bodies entries) fault → IsRefusal (index_of_files terms postings positions fieldnorms entries) fault
+fields_refused terms postings positions fieldnorms entries bodies norms fault tables opened (inl memory) = inl memory
+fields_refused terms postings positions fieldnorms entries bodies norms fault tables opened (inr (part, damaged, failed)) = inr (part, damaged, rw (tables, opened, failed) refl)

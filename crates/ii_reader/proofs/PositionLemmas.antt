@@ -1,5 +1,5 @@
 -- Laws of the positions of a cursor.
-use Rattle.std.proofs.Common.{◌≡◌, ℕ, zero, suc, ◌+◌, ◌*◌, ◌/◌, ◌^◌, ◌<◌, ◌≤◌, Bool, true, false, List, [], ◌∷◌, length, take, drop, map, get_or, eqb, Option, Some, None, Ok, subst, refl, sym, ap, ◌∙◌, arith, length-take, length-drop}
+use Rattle.std.proofs.Common.{◌≡◌, ℕ, zero, suc, ◌+◌, ◌*◌, ◌/◌, ◌^◌, ◌<◌, ◌≤◌, Bool, true, false, List, [], ◌∷◌, length, take, drop, map, get_or, eqb, Option, Some, None, is_some, Ok, subst, refl, sym, ap, ◌∙◌, arith, length-take, length-drop}
 use Rattle.std.specs.List.{All, sum, list_all}
 use Rattle.std.specs.Option.{IsSome, option_map}
 use Rattle.std.proofs.lemmas.Bool.{lt-ltb, eqb-true}
@@ -10,7 +10,7 @@ use Rattle.ii_io.specs.StepLemmas.{needs-some, step-some, some-same}
 use Rattle.ii_base.specs.declared.schema.index_record_option.IndexRecordOption.{IndexRecordOption}
 use Rattle.ii_base.specs.Options.{downgrade, has_positions}
 use Rattle.ii_codes.specs.Sums.{fit_u32, running_sums}
-use Rattle.ii_docset.specs.Entries.{Entry, document}
+use Rattle.ii_docset.specs.Entries.{document}
 use Rattle.ii_docset.specs.Cursor.{positions_at}
 use Rattle.ii_layout.specs.Postings.{entries_of}
 use Rattle.ii_layout.specs.Positions.{position_deltas, positions_of, deltas_at}
@@ -244,7 +244,14 @@ asked_positions cursor reader r cur start count e a =
     (λ j. positions_at (drop (128 * cursor.block + cur) (list_of cursor.docs (a.are j) (deltas_read (e j))))) ∙ asks_positions cursor.docs a.counts r.deltas (128 * cursor.block + cur) start count a.asks a.many
 
 -- the list that was opened
-pub list_opened : (recorded requested : IndexRecordOption) (doc_freq block : ℕ) (bytes docs : List ℕ) (freqs positions deltas : Option (List ℕ)) (rest : List Entry) → docs_and_freqs recorded requested doc_freq bytes ≡ Ok (docs, freqs)
-    → deltas_if (has_positions (downgrade recorded requested)) freqs positions ≡ Some deltas → block ≡ 0 → rest ≡ drop (128 * block) (list_of docs freqs deltas) → term_list recorded requested doc_freq bytes positions ≡ Ok rest
-list_opened recorded requested doc_freq block bytes docs freqs positions deltas rest read found first rest_is =
-    rw (read, found) (ap Ok (sym (rest_is ∙ ap (λ (n : ℕ). drop (128 * n) (list_of docs freqs deltas)) first)))
+pub list_opened : (recorded requested : IndexRecordOption) (doc_freq block : ℕ) (bytes docs : List ℕ) (freqs positions deltas : Option (List ℕ)) → docs_and_freqs recorded requested doc_freq bytes ≡ Ok (docs, freqs)
+    → deltas_if (has_positions (downgrade recorded requested)) freqs positions ≡ Some deltas → block ≡ 0 → term_list recorded requested doc_freq bytes positions ≡ Ok (drop (128 * block + 0) (list_of docs freqs deltas))
+list_opened recorded requested doc_freq block bytes docs freqs positions deltas read found first =
+    rw (read, found) (ap Ok (sym (ap (λ (n : ℕ). drop (128 * n + 0) (list_of docs freqs deltas)) first)))
+
+-- no deltas are read where no bytes are given
+pub none_given : (t : Bool) (freqs positions : Option (List ℕ)) → is_some positions ≡ false → deltas_if t freqs positions ≡ Some None
+none_given false freqs positions none = refl
+none_given true None positions none = refl
+none_given true (Some fs) None none = refl
+none_given true (Some fs) (Some bytes) none = absurd (cc)

@@ -1,5 +1,5 @@
 -- Laws of seeks.
-use Rattle.std.proofs.Common.{◌≡◌, ℕ, zero, suc, ◌+◌, ◌-◌, ◌*◌, ◌/◌, ◌<◌, ◌≤◌, Bool, true, false, List, length, drop, map, get_or, nat_lt, refl, sym, ap, ◌∙◌, arith, length-take, length-drop}
+use Rattle.std.proofs.Common.{◌≡◌, ℕ, zero, suc, ◌+◌, ◌-◌, ◌*◌, ◌/◌, ◌<◌, ◌≤◌, Bool, true, false, List, length, drop, map, get_or, min, nat_lt, refl, sym, ap, ◌∙◌, arith, length-take, length-drop}
 use Rattle.std.proofs.lemmas.Bool.{ltb-true, ltb-false}
 use Rattle.std.proofs.lemmas.List.{get_or_past, get_or_default}
 use Rattle.ii_docset.specs.Entries.{Entry, are_documents}
@@ -8,8 +8,8 @@ use Rattle.ii_docset.proofs.CursorLemmas.{advanced, from_doc_step, from_doc_here
 use Rattle.ii_layout.specs.Written.{block_of}
 use Rattle.ii_layout.proofs.BlockDocs.{document_more, get_or-block_of}
 use Rattle.ii_check.specs.CheckedPostings.{CheckedPostingsState, HasDocuments, SeeksBlock}
-use Rattle.ii_reader.specs.BlockSegmentPostings.{AreEntries, IsBelow, IsSought}
-use Rattle.ii_reader.proofs.CursorLemmas.{doc_at_drop}
+use Rattle.ii_reader.specs.BlockSegmentPostings.{AreEntries, IsBelow, IsSought, doc_in_block}
+use Rattle.ii_reader.proofs.CursorLemmas.{doc_at_drop, next_place}
 
 -- documents in order
 rises_by : (docs : List ℕ) (i n : ℕ) → are_documents docs ≡ true → i + n < length docs → get_or docs i 0 ≤ get_or docs (i + n) 0
@@ -180,3 +180,59 @@ below_block target docs i k below false s test =
     let size = length-take 128 (drop (128 * k) docs) in
     let left = length-drop (128 * k) docs in
     omega arith
+
+-- the block that is held, where the target isn't above its last entry
+pub seeks_here : (target : ℕ) (docs : List ℕ) (i : ℕ) → target ≤ doc_in_block docs i 127 → SeeksBlock target docs i i
+seeks_here target docs i low =
+    record {
+      forward = omega arith;
+      within = omega arith;
+      passed = λ j from below. absurd (omega arith);
+      found = λ full.
+          let size = length-take 128 (drop (128 * i) docs) in
+          let left = length-drop (128 * i) docs in
+          let here = sym (get_or_default (block_of docs i) 127 0 2147483647 (omega arith)) ∙ get_or-block_of docs i 127 (omega arith) in
+          omega arith;
+    }
+
+full_cases : (docs : List ℕ) (i : ℕ) (t : Bool) → nat_lt 127 (length (block_of docs i)) ≡ t → doc_in_block docs i 127 < 2147483647 → 127 < length (block_of docs i)
+full_cases docs i true test below = ltb-true 127 (length (block_of docs i)) test
+full_cases docs i false test below =
+    let past = get_or_past (block_of docs i) 127 2147483647 (ltb-false 127 (length (block_of docs i)) test) in
+    absurd (omega arith)
+
+on_cases : (target : ℕ) (docs : List ℕ) (i k : ℕ) (t : Bool) → doc_in_block docs i 127 < target → target ≤ 2147483647 → SeeksBlock target docs i k → nat_lt i k ≡ t → i < k
+on_cases target docs i k true high up s test = ltb-true i k test
+on_cases target docs i k false high up s test =
+    let past = ltb-false i k test in
+    let forward = s.forward in
+    let same : k ≡ i = omega arith in
+    let inside = full_cases docs i (nat_lt 127 (length (block_of docs i))) refl (omega arith) in
+    let size = length-take 128 (drop (128 * i) docs) in
+    let left = length-drop (128 * i) docs in
+    let here = sym (get_or_default (block_of docs i) 127 0 2147483647 inside) ∙ get_or-block_of docs i 127 (omega arith) in
+    let there = ap (λ (n : ℕ). get_or docs (128 * n + 127) 0) same in
+    let enough = s.found (omega arith) in
+    absurd (omega arith)
+
+-- a target above the last entry lies in a later block
+pub goes_on : (target : ℕ) (docs : List ℕ) (i k : ℕ) → doc_in_block docs i 127 < target → target ≤ 2147483647 → SeeksBlock target docs i k → i < k
+goes_on target docs i k high up s = on_cases target docs i k (nat_lt i k) high up s refl
+
+near_cases : (target : ℕ) (es : List Entry) (b cur next : ℕ) (t : Bool) → next ≡ min (cur + 1) 127 → cur < 128 → nat_lt cur 127 ≡ t → doc_at (drop (128 * b + cur) es) < target → target ≤ 2147483647 → IsAscending (drop (128 * b + next) es)
+    → target ≤ doc_at (drop (128 * b + next) es) → drop (128 * b + next) es ≡ from_doc target (drop (128 * b + cur) es)
+near_cases target es b cur next true e within test low up ascending high =
+    let below = ltb-true cur 127 test in
+    let place : next ≡ cur + 1 = omega arith in
+    let on : drop (128 * b + next) es ≡ drop 1 (drop (128 * b + cur) es) = ap (λ (n : ℕ). drop (128 * b + n) es) place ∙ next_place es b cur in
+    sym (from_doc_here target (drop (128 * b + next) es) ascending high) ∙ ap (from_doc target) on ∙ from_doc_step target (drop (128 * b + cur) es) low up
+near_cases target es b cur next false e within test low up ascending high =
+    let past = ltb-false cur 127 test in
+    let place : next ≡ cur = omega arith in
+    let same = ap (λ (n : ℕ). doc_at (drop (128 * b + n) es)) place in
+    absurd (omega arith)
+
+-- what is left from the next document of the block on, where that isn't below the target
+pub rest_near : (target : ℕ) (es : List Entry) (b cur next : ℕ) → next ≡ min (cur + 1) 127 → cur < 128 → doc_at (drop (128 * b + cur) es) < target → target ≤ 2147483647 → IsAscending (drop (128 * b + next) es)
+    → target ≤ doc_at (drop (128 * b + next) es) → drop (128 * b + next) es ≡ from_doc target (drop (128 * b + cur) es)
+rest_near target es b cur next e within low up ascending high = near_cases target es b cur next (nat_lt cur 127) e within refl low up ascending high

@@ -11,7 +11,7 @@ use Rattle.ii_termstore.specs.TermInfos.{term_info_from}
 use Rattle.ii_termstore.specs.TermStore.{store_parts, term_store}
 use Rattle.ii_termdict.specs.Dictionary.{dictionary, end_of, key_parts, keys_at}
 use Rattle.ii_reader.specs.InvertedIndexReader.{InvertedIndexReaderState, docs_of_file, reader_of_none, reader_over, term_of_file}
-use Rattle.ii_reader.specs.OpenIndex.{all_or_first, index_readers, reader_if, reader_of_bodies}
+use Rattle.ii_reader.specs.OpenIndex.{all_or_first, index_of_files, reader_if, reader_of_bodies}
 use Rattle.ii_docset.specs.Entries.{document}
 use Rattle.ii_layout.specs.TermList.{docs_and_freqs, term_list}
 use Rattle.ii_check.specs.declared.freq_reading_option.FreqReadingOption.TheVariants.{NoFreq}
@@ -105,15 +105,19 @@ row_no_terms = refl
 pub row_first : all_or_first {A = InvertedIndexReaderState} (Ok plain_reader ∷ Err Composite ∷ Err TokenCount ∷ []) ≡ Err Composite
 row_first = refl
 
--- three files without bodies
+-- four files without bodies
 abbrev one_field : List Schema.Entry
 one_field = record { name = []; value_type = U64; option = Basic; is_indexed = true; has_fieldnorms = false; expands_dots = false } ∷ []
 
-pub row_no_files : index_readers (replicate 4 0) (replicate 4 0) (replicate 4 0) one_field ≡ Ok (reader_of_none Basic ∷ [])
+pub row_no_files : index_of_files (replicate 4 0) (replicate 4 0) (replicate 4 0) (replicate 4 0) one_field ≡ Ok (record { readers = reader_of_none Basic ∷ []; fieldnorms = [] })
 unfolding number_at
 row_no_files = refl
 
--- a table that is cut
-pub row_cut : index_readers (replicate 4 0) (replicate 3 0) (replicate 4 0) one_field ≡ Err Composite
+-- a table that is cut, of postings or of norms
+pub row_cut : index_of_files (replicate 4 0) (replicate 3 0) (replicate 4 0) (replicate 4 0) one_field ≡ Err Composite
 unfolding number_at
 row_cut = refl
+
+pub row_norms_cut : index_of_files (replicate 4 0) (replicate 4 0) (replicate 4 0) (replicate 3 0) one_field ≡ Err Composite
+unfolding number_at
+row_norms_cut = refl

@@ -45,6 +45,7 @@ lies_in bytes range = nat_le range.start range.end && nat_le range.end (length b
 abbrev pub reads_positions : InvertedIndexReaderState → IndexRecordOption → Bool
 reads_positions reader requested = has_positions (downgrade reader.option requested)
 
+-- bytes that are given, or none
 abbrev pub given_if : Bool → List ℕ → Option (List ℕ)
 given_if false bytes = None
 given_if true bytes = Some bytes

@@ -16,6 +16,7 @@ pub record FieldSpaceState : Type 0 where
   pub positions_size : ℕ
   pub num_terms : ℕ
 
+-- what one term takes, under its path and type
 abbrev pub space_of_term : List ℕ → TermInfo → ValueType → FieldSpaceState
 space_of_term key info value_type = record {
   field_name = path_in key;
@@ -33,9 +34,11 @@ space_of e = option_map (space_of_term e.0 e.1) (type_in e.0)
 abbrev pub label_of : FieldSpaceState → List ℕ
 label_of s = s.field_name ++ 0 ∷ code_of s.field_type ∷ []
 
+-- whether two have the same path and type
 abbrev pub is_same_label : FieldSpaceState → FieldSpaceState → Bool
 is_same_label s t = bytes_eq s.field_name t.field_name && (code_of s.field_type == code_of t.field_type)
 
+-- what two terms under one path and type take together
 abbrev pub sum_of : FieldSpaceState → FieldSpaceState → FieldSpaceState
 sum_of s t = record s {
   postings_size = s.postings_size + t.postings_size;

@@ -1,5 +1,5 @@
--- The readers of an index's fields, from its three files.
-use Rattle.std.specs.Prelude.{◌≡◌, ℕ, ◌<◌, List, [], ◌∷◌, IsSomeAnd, length, map, slice_get, Option, None, Some, Result, Ok, Err, ok_or}
+-- The readers of an index's fields and its norms, from its four files.
+use Rattle.std.specs.Prelude.{◌≡◌, ℕ, ◌<◌, false, List, [], ◌∷◌, IsSomeAnd, IsTrue, if◌then◌else◌, length, map, slice_get, Option, None, Some, Result, Ok, Err, ok_or}
 use Rattle.std.specs.List.{enumerate_from}
 use Rattle.ii_io.specs.declared.faults.Fault.{Fault}
 use Rattle.ii_io.specs.declared.faults.Fault.TheVariants.{OutOfMemory}
@@ -10,7 +10,11 @@ use Rattle.ii_io.specs.Composite.{Body, body_of, composite}
 use Rattle.ii_base.specs.Schema.{Entry}
 use Rattle.ii_base.specs.declared.schema.index_record_option.IndexRecordOption.{IndexRecordOption}
 use Rattle.ii_termdict.specs.Dictionary.{dictionary}
+use Rattle.ii_fieldnorm.specs.Norms.{id_of_norm}
+use Rattle.ii_fieldnorm.specs.Readers.{Norms, id_of_doc}
 use Rattle.ii_index.specs.Fields.{option_of}
+use Rattle.ii_index.specs.Norms.{has_norms, norm_ids}
+use Rattle.ii_index.specs.Postings.{doc_count}
 use Rattle.ii_index.specs.Tokens.{IndexToken}
 use Rattle.ii_reader.specs.InvertedIndexReader.{InvertedIndexReaderState, ReaderHolds, reader_of_none, reader_over}
 
@@ -41,6 +45,7 @@ reader_if option (Some terms) None positions = Err Composite
 reader_if option (Some terms) (Some postings) None = Err Composite
 reader_if option (Some terms) (Some postings) (Some positions) = reader_of_bodies option terms postings positions
 
+-- the reader of a field, by its bodies
 abbrev pub reader_of_field : IndexBodies → ℕ → IndexRecordOption → Result InvertedIndexReaderState Part
 reader_of_field bodies field option = reader_if option (body_of field bodies.terms) (body_of field bodies.postings) (body_of field bodies.positions)
 
@@ -56,11 +61,18 @@ all_or_first (found ∷ others) = do
 abbrev pub field_readers : IndexBodies → List Entry → Result (List InvertedIndexReaderState) Part
 field_readers bodies entries = all_or_first (map (λ (f : ℕ × Entry). reader_of_field bodies f.0 f.1.option) (enumerate_from 0 entries))
 
--- those of three files, or the first part that fails
-abbrev pub index_readers : List ℕ → List ℕ → List ℕ → List Entry → Result (List InvertedIndexReaderState) Part
-index_readers terms postings positions entries = do
+-- an index that is open: the readers of the fields of its schema, and the bodies of its file of norms
+pub record OpenIndexState : Type 0 where
+  pub readers : List InvertedIndexReaderState
+  pub fieldnorms : List Body
+
+-- that of four files, or the first part that fails: the tables come before the fields
+abbrev pub index_of_files : List ℕ → List ℕ → List ℕ → List ℕ → List Entry → Result OpenIndexState Part
+index_of_files terms postings positions fieldnorms entries = do
   bodies ← index_bodies terms postings positions
-  field_readers bodies entries
+  norms ← ok_or (composite fieldnorms) Composite
+  readers ← field_readers bodies entries
+  Ok (record { readers = readers; fieldnorms = norms })
 
 -- A reader has what a field of the schema records, and its tokens.
 pub record FieldReaderHolds (entries : List Entry) (field : ℕ) (reader : InvertedIndexReaderState) (ts : List IndexToken) : Type 0 where
@@ -72,6 +84,26 @@ abbrev pub ReadersHold : List Entry → List InvertedIndexReaderState → List I
 ReadersHold entries readers ts = (field : ℕ) → field < length entries → IsSomeAnd (slice_get readers field) (λ reader. FieldReaderHolds entries field reader ts)
 
 -- So they do where an index is opened, which is refused for memory alone.
-abbrev pub GivesReaders : List Entry → List IndexToken → Result (List InvertedIndexReaderState) Fault → Type 0
-GivesReaders entries ts (Ok readers) = ReadersHold entries readers ts
+abbrev pub GivesReaders : List Entry → List IndexToken → Result OpenIndexState Fault → Type 0
+GivesReaders entries ts (Ok index) = ReadersHold entries index.readers ts
 GivesReaders entries ts (Err fault) = fault ≡ OutOfMemory
+
+-- Bodies have the norms of exactly the fields with norms: for each of so many documents the byte of its number of tokens.
+abbrev pub NormsHold : List Entry → ℕ → List Body → List IndexToken → Type 0
+NormsHold entries num_docs bodies ts = (field : ℕ) → body_of field bodies ≡ (if has_norms entries field then Some (norm_ids num_docs field ts) else None)
+
+-- An open index has tokens: its readers those of each field, and its norms how many a document has of each field with norms.
+pub record IndexHolds (entries : List Entry) (num_docs : ℕ) (index : OpenIndexState) (ts : List IndexToken) : Type 0 where
+  pub readers : ReadersHold entries index.readers ts
+  pub norms : NormsHold entries num_docs index.fieldnorms ts
+
+-- A reader of norms answers for each of so many documents the byte of its number of tokens in a field.
+pub record AnswersNorms (num_docs field : ℕ) (ts : List IndexToken) (norms : Norms) : Type 0 where
+  pub num_docs_is : norms.num_docs ≡ num_docs
+  pub each : (doc : ℕ) → doc < num_docs → id_of_doc norms doc ≡ id_of_norm (doc_count doc field ts)
+
+-- A field gives no reader of norms exactly where it keeps none, and is refused for memory alone.
+abbrev pub GivesNorms : List Entry → ℕ → ℕ → List IndexToken → Result (Option Norms) Fault → Type 0
+GivesNorms entries num_docs field ts (Ok None) = has_norms entries field ≡ false
+GivesNorms entries num_docs field ts (Ok (Some norms)) = IsTrue (has_norms entries field) × AnswersNorms num_docs field ts norms
+GivesNorms entries num_docs field ts (Err fault) = fault ≡ OutOfMemory

@@ -13,7 +13,7 @@ ghost use Rattle.ii_reader.specs.BlockSegmentPostings.{AreEntries, ComeBefore, G
 use bytes::Bytes;
 use ii_base::{Fault, IndexRecordOption, LayoutFault, Part};
 use ii_check::{CheckedPostings, FreqReadingOption, NO_FREQ};
-use ii_codes::BlockDecoder;
+use ii_codes::{BlockDecoder, COMPRESSION_BLOCK_SIZE};
 use ii_docset::{DocId, TERMINATED};
 use ii_layout::{PositionReader, SkipReader};
 use std::marker::Model;
@@ -71,18 +71,11 @@ impl BlockSegmentPostings {
         ensures entries_read { IfOk result (λ cursor. cursor.entries_read ≡ min 1 (doc_freq / 128)) }
         ensures err { IfErr result (λ fault. docs_and_freqs record_option requested_option doc_freq bytes ≡ Err (part_of fault)) }
     {
-        let opened = CheckedPostings::open(doc_freq, bytes, record_option, requested_option);
-        let (checked, doc_decoder, freq_decoder) = match opened {
-            Ok(opened) => opened,
-            Err(fault) => return Err(fault),
-        };
-        let skip = checked.skip_reader();
-        Ok(BlockSegmentPostings {
-            checked,
-            skip,
-            doc_decoder,
-            freq_decoder,
-        })
+        let mut cursor = BlockSegmentPostings::empty_by(record_option, requested_option);
+        if let Err(fault) = cursor.fill(doc_freq, bytes) {
+            return Err(fault);
+        }
+        Ok(cursor)
     }
 
     /// A cursor over no documents, whose counts aren't read. Its options are both `Basic`.
@@ -93,7 +86,8 @@ impl BlockSegmentPostings {
     }
 
     // A cursor over no documents, by the option that a field records and the one that is requested.
-    fn empty_by(
+    #[inline(always)]
+    pub(crate) fn empty_by(
         record_option: IndexRecordOption,
         requested_option: IndexRecordOption,
     ) -> BlockSegmentPostings
@@ -127,15 +121,43 @@ impl BlockSegmentPostings {
         ensures err { IfErr result (λ fault. docs_and_freqs self.old.recorded self.old.requested doc_freq bytes ≡ Err (part_of fault)) }
         ensures emptied { OnErr result (self.new ≡ cursor_of_none self.old.recorded self.old.requested) }
     {
-        let record_option = self.checked.record_option();
-        let requested_option = self.checked.requested_option();
-        match BlockSegmentPostings::open(doc_freq, bytes, record_option, requested_option) {
-            Ok(opened) => {
-                *self = opened;
+        self.clear();
+        self.fill(doc_freq, bytes)
+    }
+
+    // Puts a list in place of no documents, as `reset` does.
+    pub(crate) fn fill(&mut self, doc_freq: u32, bytes: Bytes) -> Result<(), LayoutFault>
+        requires { self.old ≡ cursor_of_none self.old.recorded self.old.requested }
+        ensures ok { OnOk result (docs_and_freqs self.old.recorded self.old.requested doc_freq bytes ≡ Ok (self.new.docs, self.new.freqs)) }
+        ensures options { (self.new.recorded ≡ self.old.recorded) × (self.new.requested ≡ self.old.requested) }
+        ensures reading { OnOk result (freq_reading self.old.recorded self.old.requested doc_freq bytes ≡ Ok self.new.freq_reading) }
+        ensures entries { OnOk result (AreEntries doc_freq self.new.docs self.new.freqs) }
+        ensures first { self.new.block ≡ 0 }
+        // what was decoded and read for it
+        ensures doc_decodes { OnOk result (self.new.doc_decodes ≡ min 1 doc_freq) }
+        ensures freq_decodes { OnOk result (self.new.freq_decodes ≡ first_decodes self.new.freqs doc_freq) }
+        ensures entries_read { OnOk result (self.new.entries_read ≡ min 1 (doc_freq / 128)) }
+        // a refusal, and what it leaves
+        ensures err { IfErr result (λ fault. docs_and_freqs self.old.recorded self.old.requested doc_freq bytes ≡ Err (part_of fault)) }
+        ensures emptied { OnErr result (self.new ≡ cursor_of_none self.old.recorded self.old.requested) }
+    {
+        let opened = CheckedPostings::open(
+            doc_freq,
+            bytes,
+            self.checked.record_option(),
+            self.checked.requested_option(),
+            &mut self.doc_decoder,
+            &mut self.freq_decoder,
+        );
+        match opened {
+            Ok(checked) => {
+                self.skip = checked.skip_reader();
+                self.checked = checked;
                 Ok(())
             }
             Err(fault) => {
-                self.clear();
+                self.doc_decoder = BlockDecoder::with_val(TERMINATED);
+                self.freq_decoder = BlockDecoder::with_val(NO_FREQ);
                 Err(fault)
             }
         }
@@ -147,7 +169,10 @@ impl BlockSegmentPostings {
     {
         let record_option = self.checked.record_option();
         let requested_option = self.checked.requested_option();
-        *self = BlockSegmentPostings::empty_by(record_option, requested_option);
+        self.checked = CheckedPostings::empty(record_option, requested_option);
+        self.skip = self.checked.skip_reader();
+        self.doc_decoder = BlockDecoder::with_val(TERMINATED);
+        self.freq_decoder = BlockDecoder::with_val(NO_FREQ);
     }
 
     /// A cursor over the same bytes, which are shared, at the same block. It has decoded and read as
@@ -254,6 +279,12 @@ impl BlockSegmentPostings {
         ensures refused { OnErr result (deltas_if (has_positions (downgrade self.now.recorded self.now.requested)) self.now.freqs bytes ≡ None) }
         ensures err { IfErr result (λ fault. fault ≡ LayoutFault.Damaged Part.Positions) }
     {
+        let freqs = self.freq_decoder.output_array();
+        if freqs.len() < COMPRESSION_BLOCK_SIZE {
+            if freqs.len() == self.checked.doc_freq() as usize {
+                return self.checked.open_counted_positions(bytes, freqs);
+            }
+        }
         self.checked.open_positions(bytes)
     }
 
@@ -261,6 +292,7 @@ impl BlockSegmentPostings {
     /// or else to the last block; from there on it stays. Blocks in between aren't decoded, and the
     /// one that it comes to is, once. Answers how many documents of the block lie below the target,
     /// which is at most `TERMINATED`.
+    #[inline(never)]
     pub fn seek(&mut self, target: DocId) -> usize
         requires { target ≤ TERMINATED }
         ensures sought { IsSought target self.old.docs self.old.block self.new.block result }
@@ -289,9 +321,10 @@ impl BlockSegmentPostings {
         ensures goes { GoesTo self.old self.new self.new.block }
         ensures entries { AreEntries (length self.new.docs) self.new.docs self.new.freqs }
     {
-        if !self.checked.seek(&mut self.skip, target) {
+        if target <= self.doc(COMPRESSION_BLOCK_SIZE - 1) {
             return;
         }
+        self.checked.seek(&mut self.skip, target);
         self.checked
             .load_block(&self.skip, &mut self.doc_decoder, &mut self.freq_decoder);
     }

@@ -1,6 +1,5 @@
 ghost use Rattle.std.specs.Prelude.{◌≡◌, ℕ, ◌⊎◌, ◌+◌, ◌-◌, ◌^◌, if◌then◌else◌, length, drop, map, None, Some, IfErr, IfOk};
 ghost use Rattle.std.specs.Option.{option_map};
-ghost use Rattle.ii_termdict.specs.Dictionary.{entry_keys};
 ghost use Rattle.ii_termdict.specs.ReadBack.{AreAscending};
 ghost use Rattle.ii_index.specs.JsonKeys.{is_path_byte, path_in, type_in};
 ghost use Rattle.ii_reader.specs.JsonFields.{IsWithin, is_same_label, label_of, space_of_term, spaces_of, sum_of, with_space};
@@ -92,7 +91,7 @@ impl InvertedIndexReader {
         alloc: Global,
     ) -> Result<Vec<InvertedIndexFieldSpace>, Fault>
         ensures ok { IfOk result (λ fields. spaces_of self.now.terms ≡ Some fields.items) }
-        ensures ascending { IfOk result (λ fields. AreAscending (entry_keys self.now.terms) → AreAscending (map label_of fields.items)) }
+        ensures ascending { IfOk result (λ fields. AreAscending (map label_of fields.items)) }
         ensures err { IfErr result (λ e. (e ≡ Fault.OutOfMemory) ⊎ ((e ≡ Fault.Damaged Part.JsonKey) × (spaces_of self.now.terms ≡ None))) }
     {
         let mut terms = self.terms().stream();

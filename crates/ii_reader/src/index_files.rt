@@ -1,86 +1,125 @@
-ghost use Rattle.std.specs.Prelude.{◌≡◌, ◌<◌, List, length, Some, IfOk, IfErr, IsErrOf, IsOkAnd, slice_get};
+ghost use Rattle.std.specs.Prelude.{◌≡◌, ◌↔◌, ◌⊎◌, ◌<◌, ◌≤◌, ◌^◌, ℕ, List, length, Some, IfOk, IfErr, IsErrOf, IsOkAnd, IsSome, IsSomeAnd, ok_or, slice_get};
+ghost use Rattle.std.specs.Option.{option_map};
+ghost use Rattle.ii_io.specs.Composite.{body_of, composite};
 ghost use Rattle.ii_io.specs.declared.faults.Part.{Part};
+ghost use Rattle.ii_base.specs.Schema.{Entry};
+ghost use Rattle.ii_fieldnorm.specs.Readers.{norms_of_ids};
 ghost use Rattle.ii_index.specs.Tokens.{IndexToken};
 ghost use Rattle.ii_index.specs.Fields.{option_of};
 ghost use Rattle.ii_index.specs.Files.{HoldTokens};
+ghost use Rattle.ii_index.specs.Norms.{HoldNorms};
 ghost use Rattle.ii_reader.specs.InvertedIndexReader.{IsRefusal};
-ghost use Rattle.ii_reader.specs.OpenIndex.{GivesReaders, field_readers, index_bodies, index_readers, reader_of_bodies, reader_of_field};
+ghost use Rattle.ii_reader.specs.OpenIndex.{GivesNorms, GivesReaders, NormsHold, field_readers, index_bodies, index_of_files, reader_of_bodies, reader_of_field};
 
 use super::inverted_index_reader::InvertedIndexReader;
 use bytes::Bytes;
 use ii_base::{CompositeFile, Fault, Field, IndexRecordOption, Part, Schema};
+use ii_fieldnorm::{FieldNormReader, FieldNormReaders};
 use ii_termdict::TermDictionary;
 use std::alloc::Global;
 use std::marker::Model;
 
-/// The readers of the fields of a schema, over the files of an index. Clauses see them in the order of
-/// the fields.
+/// The readers of the fields of a schema and their norms, over the files of an index. Clauses see the
+/// readers in the order of the fields.
 #[derive(Drop)]
 pub struct OpenIndex {
     readers: Vec<InvertedIndexReader>,
+    fieldnorms: FieldNormReaders,
 }
 
 impl Model for OpenIndex {
-    ghost use Rattle.std.specs.Prelude.{List};
-    ghost use Rattle.ii_reader.specs.InvertedIndexReader.{InvertedIndexReaderState};
+    ghost use Rattle.ii_reader.specs.OpenIndex.{OpenIndexState};
 
-    ghost Value = { List InvertedIndexReaderState };
+    ghost Value = { OpenIndexState };
 
-    ghost view = { λ index. index.readers.items };
+    ghost view = { λ index. record { readers = index.readers.items; fieldnorms = index.fieldnorms } };
 }
 
 impl OpenIndex {
     /// The reader of a field of the schema.
     pub fn reader(&self, field: Field) -> &InvertedIndexReader
-        requires { field < length self.now }
-        ensures { slice_get self.now field ≡ Some result.now }
+        requires { field < length self.now.readers }
+        ensures { slice_get self.now.readers field ≡ Some result.now }
     {
         &self.readers[field.field_id() as usize]
+    }
+
+    /// The norms of a field, or nothing where the file of norms has none of it.
+    ///
+    /// `Damaged(FieldNorms)` where it has more than `u32::MAX` of them; `OutOfMemory` where the file's
+    /// buffer can't be shared once more.
+    pub fn get_fieldnorms_reader(&self, field: Field) -> Result<Option<FieldNormReader>, Fault>
+        ensures found { IfOk result (λ norms. norms ≡ option_map norms_of_ids (body_of field self.now.fieldnorms)) }
+        ensures damaged { IsErrOf result (Fault.Damaged Part.FieldNorms)
+            ↔ IsSomeAnd (body_of field self.now.fieldnorms) (λ ids. 2 ^ 32 ≤ length ids) }
+        ensures only { IfErr result (λ e. (e ≡ Fault.OutOfMemory) ⊎ (e ≡ Fault.Damaged Part.FieldNorms)) }
+        // where the file has the norms of tokens
+        ensures holds { (schema : List Entry) (num_docs : ℕ) (tokens : List IndexToken) → num_docs < 2 ^ 32
+            → NormsHold schema num_docs self.now.fieldnorms tokens → GivesNorms schema num_docs field tokens result }
+    {
+        self.fieldnorms.get_field(field)
     }
 }
 
 /// Opens an index: its files of terms, postings and positions, each of which has a body for each field
-/// that has tokens. A field that the file of terms lacks has a reader over no terms; bodies of fields
-/// that the schema hasn't aren't looked at.
+/// that has tokens, and its file of norms, which has one for each field that keeps norms. A field that
+/// the file of terms lacks has a reader over no terms; bodies of fields that the schema hasn't aren't
+/// looked at, and bodies of norms only where they are asked for.
 ///
 /// The first fault is answered, memory aside, in this order: `Damaged(Composite)` for the tables of the
-/// three files; then, for one field after the other, `Damaged(Composite)` where only another file lacks
-/// its body, `Damaged(Dictionary)` or `Damaged(TermStore)` for its dictionary, and
-/// `Damaged(TokenCount)` where its postings don't begin with the number of its tokens. `OutOfMemory`
+/// four files; then, for one field after the other, `Damaged(Composite)` where only the file of postings
+/// or that of positions lacks its body, `Damaged(Dictionary)` or `Damaged(TermStore)` for its dictionary,
+/// and `Damaged(TokenCount)` where its postings don't begin with the number of its tokens. `OutOfMemory`
 /// where the tables or the readers find no room, or a file's buffer can't be shared once more.
 pub fn open_index(
     alloc: Global,
     terms: Bytes,
     postings: Bytes,
     positions: Bytes,
+    fieldnorms: Bytes,
     schema: &Schema,
 ) -> Result<OpenIndex, Fault>
-    ensures ok { IfOk result (λ index. index_readers terms postings positions schema.now ≡ Ok index) }
-    ensures many { IfOk result (λ index. length index ≡ length schema.now) }
-    ensures err { IfErr result (IsRefusal (index_readers terms postings positions schema.now)) }
+    ensures ok { IfOk result (λ index. index_of_files terms postings positions fieldnorms schema.now ≡ Ok index) }
+    ensures many { IfOk result (λ index. length index.readers ≡ length schema.now) }
+    ensures err { IfErr result (IsRefusal (index_of_files terms postings positions fieldnorms schema.now)) }
     // where the files hold tokens
-    ensures holds { (tokens : List IndexToken) → HoldTokens (option_of schema.now) terms postings positions tokens → GivesReaders schema.now tokens result }
+    ensures holds { (tokens : List IndexToken) → HoldTokens (option_of schema.now) terms postings positions tokens → IsSome (composite fieldnorms) → GivesReaders schema.now tokens result }
+    ensures norms { (num_docs : ℕ) (tokens : List IndexToken) → HoldNorms schema.now num_docs fieldnorms tokens → IfOk result (λ index. NormsHold schema.now num_docs index.fieldnorms tokens) }
 {
-    match open_readers(alloc, terms, postings, positions, schema) {
-        Ok(readers) => Ok(OpenIndex { readers }),
+    match open_files(alloc, terms, postings, positions, fieldnorms, schema) {
+        Ok(index) => Ok(index),
         Err(fault) => Err(fault),
     }
 }
 
-// The readers of all fields of an index.
-#[tactic(auto, using(crate::proofs::IndexLemmas::index_refused, crate::proofs::IndexLemmas::index_then))]
-fn open_readers(
+// The tables of all files come before the fields.
+#[tactic(auto, using(crate::proofs::IndexLemmas::tables_refused, crate::proofs::IndexLemmas::norms_refused, crate::proofs::IndexLemmas::fields_refused, crate::proofs::IndexLemmas::index_then))]
+fn open_files(
     alloc: Global,
     terms: Bytes,
     postings: Bytes,
     positions: Bytes,
+    fieldnorms: Bytes,
     schema: &Schema,
-) -> Result<Vec<InvertedIndexReader>, Fault>
-    ensures ok { IfOk result (λ readers. index_readers terms postings positions schema.now ≡ Ok readers.items) }
-    ensures err { IfErr result (IsRefusal (index_readers terms postings positions schema.now)) }
+) -> Result<OpenIndex, Fault>
+    ensures ok { IfOk result (λ index. index_of_files terms postings positions fieldnorms schema.now ≡ Ok index) }
+    ensures err { IfErr result (IsRefusal (index_of_files terms postings positions fieldnorms schema.now)) }
 {
     let files = IndexFiles::open(alloc, terms, postings, positions)?;
-    files.open_fields(alloc, schema)
+    let fieldnorms = open_norms(alloc, fieldnorms)?;
+    let readers = files.open_fields(alloc, schema)?;
+    Ok(OpenIndex {
+        readers,
+        fieldnorms,
+    })
+}
+
+// The norms of all fields.
+fn open_norms(alloc: Global, fieldnorms: Bytes) -> Result<FieldNormReaders, Fault>
+    ensures ok { IfOk result (λ readers. composite fieldnorms ≡ Some readers) }
+    ensures err { IfErr result (IsRefusal (ok_or (composite fieldnorms) Part.Composite)) }
+{
+    FieldNormReaders::open(alloc, fieldnorms)
 }
 
 // The three files of an index, whose tables were read.

@@ -89,6 +89,13 @@ impl InvertedIndexReader {
         &self.terms
     }
 
+    /// What the field records.
+    pub fn record_option(&self) -> IndexRecordOption
+        ensures { result ≡ self.now.option }
+    {
+        self.option
+    }
+
     /// How many tokens the field has.
     pub fn total_num_tokens(&self) -> u64
         ensures value { result ≡ self.now.num_tokens }
@@ -267,13 +274,6 @@ impl InvertedIndexReader {
         ensures { result ≡ reads_positions self.now option }
     {
         self.option.downgrade(option).has_positions()
-    }
-
-    // What the field records.
-    fn record_option(&self) -> IndexRecordOption
-        ensures { result ≡ self.now.option }
-    {
-        self.option
     }
 
     // The bytes of a term's postings.

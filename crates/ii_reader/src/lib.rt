@@ -10,6 +10,7 @@ pub mod segment_postings;
 
 pub use block_segment_postings::BlockSegmentPostings;
 pub use field_space::InvertedIndexFieldSpace;
+pub use ii_check::FreqReadingOption;
 pub use index_files::{OpenIndex, open_index};
 pub use inverted_index_reader::InvertedIndexReader;
 pub use loaded_postings::LoadedPostings;

@@ -78,23 +78,29 @@ impl SegmentPostings {
         ensures position_decodes { IfOk result (λ cursor. cursor.position_decodes ≤ 1) }
         ensures err { IfErr result (λ fault. term_list record_option requested_option doc_freq postings positions ≡ Err (part_of fault)) }
     {
-        let opened = BlockSegmentPostings::open(
-            doc_freq,
-            postings,
-            record_option,
-            requested_option,
-        );
-        let block_cursor = match opened {
-            Ok(block_cursor) => block_cursor,
+        let mut block_cursor = BlockSegmentPostings::empty_by(record_option, requested_option);
+        if let Err(fault) = block_cursor.fill(doc_freq, postings) {
+            return Err(fault);
+        }
+        // what the cursor tells of its list and of its block
+        let _docs = block_cursor.docs();
+        let _reading = block_cursor.freq_reading_option();
+        if positions.is_none() {
+            return Ok(SegmentPostings {
+                block_cursor,
+                cur: 0,
+                position_reader: None,
+            });
+        }
+        let position_reader = match block_cursor.open_positions(positions) {
+            Ok(position_reader) => position_reader,
             Err(fault) => return Err(fault),
         };
-        match block_cursor.open_positions(positions) {
-            Ok(position_reader) => Ok(SegmentPostings::from_block_postings(
-                block_cursor,
-                position_reader,
-            )),
-            Err(fault) => Err(fault),
-        }
+        Ok(SegmentPostings {
+            block_cursor,
+            cur: 0,
+            position_reader,
+        })
     }
 
     /// A cursor over no documents.
@@ -107,6 +113,7 @@ impl SegmentPostings {
     /// A cursor over the documents of a block cursor from its block on, with the positions of a
     /// reader. Where one is given, both options of the block cursor have positions, its counts are
     /// read, the reader has as many deltas as they say, and each position has 32 bits.
+    #[inline(always)]
     pub fn from_block_postings(
         segment_block_postings: BlockSegmentPostings,
         position_reader: Option<PositionReader>,
@@ -217,7 +224,9 @@ impl DocSet for SegmentPostings {
     }
 
     /// Drops the documents below `target`, and answers the first that is left, or `TERMINATED`. One
-    /// block is decoded at most, and none that the cursor passes.
+    /// block is decoded at most, and none that the cursor passes. The next document is looked at
+    /// before any search.
+    #[inline(always)]
     fn seek(&mut self, target: DocId) -> DocId
         requires { IsTarget target self.old.rest }
         ensures doc { result ≡ doc_at self.new.rest }
@@ -232,6 +241,11 @@ impl DocSet for SegmentPostings {
         let doc = self.doc();
         if doc >= target {
             return doc;
+        }
+        self.cur = (self.cur + 1).min(COMPRESSION_BLOCK_SIZE - 1);
+        let next = self.doc();
+        if next >= target {
+            return next;
         }
         self.cur = self.block_cursor.seek(target);
         self.doc()

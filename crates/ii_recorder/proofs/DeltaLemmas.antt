@@ -1,20 +1,18 @@
 -- Positions that don't fall, and their deltas.
-use Rattle.std.proofs.Common.{append-nil, unwrap_or, zero, ◌≡◌, ℕ, suc, ◌+◌, ◌-◌, ◌^◌, ◌<◌, ◌≤◌, true, List, [], ◌∷◌, ◌++◌, length, map, take, drop, Option, Some, None, refl, sym, ap, ◌∙◌, arith, get_or, length-append, length-drop}
-use Rattle.std.specs.Option.{option_map}
+use Rattle.std.proofs.Common.{append-nil, zero, ◌≡◌, ℕ, suc, ◌+◌, ◌-◌, ◌^◌, ◌<◌, ◌≤◌, true, List, [], ◌∷◌, ◌++◌, length, map, Option, Some, None, refl, sym, ap, ◌∙◌, arith, get_or, length-append}
+use Rattle.std.specs.Option.{option_to_list}
 use Rattle.std.specs.List.{AllByRecursion, list_all, sum}
 use Rattle.std.proofs.Math.Seq.{drop-append_seam, take-append_seam}
-use Rattle.std.proofs.lemmas.List.{drop-append-le, drop_all, length-take, map-append}
+use Rattle.std.proofs.lemmas.List.{map-append}
 use Rattle.std.proofs.lemmas.List.Sums.{sum_by-append, sum_by-cons}
 use Rattle.ii_codes.specs.Sums.{DoNotFall, differences, fit_u32}
 use Rattle.ii_codes.proofs.SortedVintLemmas.{fit_u32-all, running_sums-differences, length-differences}
-use Rattle.ii_docset.specs.Entries.{Entry}
+use Rattle.ii_docset.specs.Entries.{Entry, counted}
 use Rattle.ii_layout.specs.Positions.{positions_of}
-use Rattle.ii_recorder.specs.declared.recorder.term_frequency_recorder.DocFreq.{DocFreq}
-use Rattle.ii_recorder.specs.DocFreqs.{PositionsDoNotFall, entries_of, located, position_count}
+use Rattle.ii_recorder.specs.Gathered.{Gathered, all_of, gathered, more_positions, none_after, position_read, positions_in, with_number}
+use Rattle.ii_recorder.specs.Kept.{IsLocated}
 use Rattle.ii_recorder.specs.Pushed.{HaveDeltas, counts_of, pushed_deltas}
-use Rattle.ii_recorder.specs.Recorded.{entries_in, last_position}
-use Rattle.ii_recorder.proofs.PushLocated.{open_positions}
-use Rattle.ii_recorder.proofs.RecorderLemmas.{entries_before, entries_more, state_of}
+use Rattle.ii_recorder.specs.Recorded.{last_position}
 
 -- the last of numbers, or what stands before them
 abbrev last_from : ℕ → List ℕ → ℕ
@@ -37,59 +35,16 @@ last_of_all : (ps : List ℕ) → last_from 0 ps ≡ last_position ps
 last_of_all [] = refl
 last_of_all (q ∷ qs) = sym (last_is q qs)
 
--- after a position
-pub fall_not_recorded : (ds : List DocFreq) (d : DocFreq) (ps : List ℕ) (p : ℕ) → length ps ≡ position_count ds + d.term_freq → PositionsDoNotFall (entries_of ds ps) × DoNotFall 0 (drop (position_count ds) ps)
-    → last_position (drop (length ps - d.term_freq) ps) ≤ p → (length (ps ++ p ∷ []) ≡ position_count ds + (d.term_freq + 1)) × PositionsDoNotFall (entries_of ds (ps ++ p ∷ [])) × DoNotFall 0 (drop (position_count ds) (ps ++ p ∷ []))
-fall_not_recorded ds d ps p count h last =
-    let within : position_count ds ≤ length ps = omega (arith, count) in
-    let low : last_from 0 (drop (position_count ds) ps) ≤ p = rw (last_of_all (drop (position_count ds) ps), ← open_positions ds d ps count) last in
-    (omega (arith, count, length-append ps (p ∷ [])), rw (entries_before ds ps p within) h.0, rw (drop-append-le (position_count ds) ps (p ∷ []) within) (fall_not_more 0 (drop (position_count ds) ps) p h.1 low))
-
 pub all_push : {A : Type 0} (P : A → Type 0) (xs : List A) (x : A) → AllByRecursion P xs → P x → AllByRecursion P (xs ++ x ∷ [])
 all_push P [] x h last = (last, tt)
 all_push P (y ∷ ys) x h last = (h.0, all_push P ys x h.1 last)
 
--- after a document is closed
-pub fall_not_closed : (ds : List DocFreq) (d : DocFreq) (ps : List ℕ) → length ps ≡ position_count ds + d.term_freq → PositionsDoNotFall (entries_of ds ps) × DoNotFall 0 (drop (position_count ds) ps)
-    → (length ps ≡ position_count (ds ++ d ∷ []) + 0) × PositionsDoNotFall (entries_of (ds ++ d ∷ []) ps) × DoNotFall 0 (drop (position_count (ds ++ d ∷ [])) ps)
-fall_not_closed ds d ps count h =
-    let one : position_count (d ∷ []) ≡ d.term_freq + position_count [] = sum_by-cons (λ (e : DocFreq). e.term_freq) d [] in
-    let none : drop (position_count (ds ++ d ∷ [])) ps ≡ [] = drop_all (position_count (ds ++ d ∷ [])) ps (omega (arith, count, one, sum_by-append (λ (e : DocFreq). e.term_freq) ds (d ∷ []))) in
-    (omega (arith, count, one, sum_by-append (λ (e : DocFreq). e.term_freq) ds (d ∷ [])), rw (entries_more ds d ps count) (all_push (λ (e : Entry). DoNotFall 0 e.positions) (entries_of ds ps) (located d (drop (position_count ds) ps)) h.0 h.1), rw none tt)
-
 abbrev Fit : List ℕ → Type 0
 Fit ps = AllByRecursion (λ p. p < 2 ^ 32) ps
-
-abbrev IsLocated : Entry → Type 0
-IsLocated e = (length e.positions ≡ e.term_freq) × DoNotFall 0 e.positions × Fit e.positions
-
-fit_take : (n : ℕ) (ps : List ℕ) → Fit ps → Fit (take n ps)
-fit_take zero ps h = tt
-fit_take (suc n) [] h = tt
-fit_take (suc n) (p ∷ ps) h = (h.0, fit_take n ps h.1)
-
-fit_drop : (n : ℕ) (ps : List ℕ) → Fit ps → Fit (drop n ps)
-fit_drop zero ps h = h
-fit_drop (suc n) [] h = tt
-fit_drop (suc n) (p ∷ ps) h = fit_drop n ps h.1
 
 fit_both : (xs ys : List ℕ) → Fit xs → Fit ys → Fit (xs ++ ys)
 fit_both [] ys h k = k
 fit_both (x ∷ xs) ys h k = (h.0, fit_both xs ys h.1 k)
-
-located_closed : (ds : List DocFreq) (ps : List ℕ) → position_count ds ≤ length ps → PositionsDoNotFall (entries_of ds ps) → Fit ps → AllByRecursion IsLocated (entries_of ds ps)
-located_closed [] ps within h fit = tt
-located_closed (d ∷ ds) ps within h fit =
-    let count : position_count (d ∷ ds) ≡ d.term_freq + position_count ds = sum_by-cons (λ (e : DocFreq). e.term_freq) d ds in
-    let many : length (take d.term_freq ps) ≡ d.term_freq = omega (arith, count, length-take d.term_freq ps) in
-    ((many, h.0, fit_take d.term_freq ps fit), located_closed ds (drop d.term_freq ps) (omega (arith, count, length-drop d.term_freq ps)) h.1 (fit_drop d.term_freq ps fit))
-
-located_all : (ds : List DocFreq) (pending : Option DocFreq) (ps : List ℕ) → length ps ≡ position_count ds + unwrap_or (option_map (λ (d : DocFreq). d.term_freq) pending) 0
-    → PositionsDoNotFall (entries_of ds ps) × DoNotFall 0 (drop (position_count ds) ps) → Fit ps → AllByRecursion IsLocated (entries_in (state_of ds pending ps))
-located_all ds None ps count h fit = rw (append-nil (entries_of ds ps)) (located_closed ds ps (omega (arith, count)) h.0 fit)
-located_all ds (Some d) ps count h fit =
-    let many : length (drop (position_count ds) ps) ≡ d.term_freq = omega (arith, count, length-drop (position_count ds) ps) in
-    all_push IsLocated (entries_of ds ps) (located d (drop (position_count ds) ps)) (located_closed ds ps (omega (arith, count)) h.0 fit) (many, h.1, fit_drop (position_count ds) ps fit)
 
 fit_differences : (before : ℕ) (vs : List ℕ) → Fit vs → Fit (differences before vs)
 fit_differences before [] h = tt
@@ -119,27 +74,62 @@ give_positions (e ∷ es) h =
     let len : length (differences 0 e.positions) ≡ e.term_freq = length-differences 0 e.positions ∙ h.0.0 in
     rw (← len, take-append_seam (differences 0 e.positions) (pushed_deltas es), drop-append_seam (differences 0 e.positions) (pushed_deltas es), running_sums-differences 0 e.positions h.0.1, give_positions es h.1) refl
 
-count_closed : (ds : List DocFreq) (ps : List ℕ) → sum (counts_of (entries_of ds ps)) ≡ position_count ds
-count_closed [] ps = refl
-count_closed (d ∷ ds) ps =
-    let total : sum (counts_of (entries_of (d ∷ ds) ps)) ≡ d.term_freq + sum (counts_of (entries_of ds (drop d.term_freq ps))) = sum_by-cons (λ (n : ℕ). n) d.term_freq (counts_of (entries_of ds (drop d.term_freq ps))) in
-    let count : position_count (d ∷ ds) ≡ d.term_freq + position_count ds = sum_by-cons (λ (e : DocFreq). e.term_freq) d ds in
-    let rest = count_closed ds (drop d.term_freq ps) in
-    omega arith
-
-count_all : (ds : List DocFreq) (pending : Option DocFreq) (ps : List ℕ) → sum (counts_of (entries_in (state_of ds pending ps))) ≡ position_count ds + unwrap_or (option_map (λ (d : DocFreq). d.term_freq) pending) 0
-count_all ds None ps = rw (append-nil (entries_of ds ps)) (omega (arith, count_closed ds ps))
-count_all ds (Some d) ps =
-    let one : sum (d.term_freq ∷ []) ≡ d.term_freq + sum [] = sum_by-cons (λ (n : ℕ). n) d.term_freq [] in
-    rw (map-append (λ (e : Entry). e.term_freq) (entries_of ds ps) (located d (drop (position_count ds) ps) ∷ []), sum_by-append (λ (n : ℕ). n) (counts_of (entries_of ds ps)) (d.term_freq ∷ []), count_closed ds ps) (omega (arith, one))
-
-pub have_deltas : (ds : List DocFreq) (pending : Option DocFreq) (ps : List ℕ) → (length ps ≡ position_count ds + unwrap_or (option_map (λ (d : DocFreq). d.term_freq) pending) 0) × PositionsDoNotFall (entries_of ds ps) × DoNotFall 0 (drop (position_count ds) ps)
-    → Fit ps → length ps < 2 ^ 64 → HaveDeltas (entries_in (state_of ds pending ps))
-have_deltas ds pending ps h fit few =
-    let es = entries_in (state_of ds pending ps) in
-    let all = located_all ds pending ps h.0 (h.1, h.2) fit in
+-- the deltas of documents whose positions are as many as they count, and don't fall
+pub have_deltas : (es : List Entry) → AllByRecursion IsLocated es → sum (counts_of es) < 2 ^ 64 → HaveDeltas es
+have_deltas es all few =
     let give = give_positions es all in
     record {
-      deltas = record { many = many_deltas es all; small = fit_deltas es all; few = omega (arith, h.0, many_deltas es all, count_all ds pending ps); fit = rw give (fit_positions es all) };
+      deltas = record { many = many_deltas es all; small = fit_deltas es all; few = omega (arith, few, many_deltas es all); fit = rw give (fit_positions es all) };
       give = give;
     }
+
+-- a document with one more position, which isn't below the last
+pub located_more : (e : Entry) (p : ℕ) → IsLocated e → last_position e.positions ≤ p → p < 2 ^ 32 → IsLocated (more_positions e (p ∷ []))
+located_more e p h low fits =
+    let len = length-append e.positions (p ∷ []) in
+    let last : last_from 0 e.positions ≤ p = rw (last_of_all e.positions) low in
+    (omega (arith, len, h.0), fall_not_more 0 e.positions p h.1 last, fit_both e.positions (p ∷ []) h.2 (fits, tt))
+
+last_at : (qs : List ℕ) (p : ℕ) → get_or (qs ++ p ∷ []) (length qs) 0 ≡ p
+last_at [] p = refl
+last_at (q ∷ qs) p = last_at qs p
+
+pub last_position_more : (ps : List ℕ) (p : ℕ) → last_position (ps ++ p ∷ []) ≡ p
+last_position_more [] p = refl
+last_position_more (q ∷ qs) p =
+    let place : length ((q ∷ qs) ++ p ∷ []) - 1 ≡ length (q ∷ qs) = omega (arith, length-append (q ∷ qs) (p ∷ [])) in
+    ap (λ (n : ℕ). get_or ((q ∷ qs) ++ p ∷ []) n 0) place ∙ last_at (q ∷ qs) p
+
+-- how many positions entries have together
+abbrev weight : List Entry → ℕ
+weight es = sum (counts_of es)
+
+weight_push : (es : List Entry) (e : Entry) → weight (es ++ e ∷ []) ≡ weight es + e.term_freq
+weight_push es e =
+    let one : sum (e.term_freq ∷ []) ≡ e.term_freq + sum [] = sum_by-cons (λ (n : ℕ). n) e.term_freq [] in
+    ap sum (map-append (λ (f : Entry). f.term_freq) es (e ∷ [])) ∙ sum_by-append (λ (n : ℕ). n) (counts_of es) (e.term_freq ∷ []) ∙ omega (arith, one)
+
+-- a number adds one position at most
+weight_step : (closed : List Entry) (pending : Option Entry) (last n : ℕ) → weight (all_of (position_read closed pending last n)) ≤ weight (closed ++ option_to_list pending) + 1
+weight_step closed None last n =
+    let none = ap weight (append-nil closed) in
+    let one = weight_push closed (counted (last + n) 0) in
+    omega (arith, none, one)
+weight_step closed (Some e) last zero =
+    let none = ap weight (append-nil (closed ++ e ∷ [])) in
+    omega (arith, none)
+weight_step closed (Some e) last (suc p) =
+    let before = weight_push closed e in
+    let now = weight_push closed (more_positions e (p ∷ [])) in
+    omega (arith, before, now)
+
+weight_read : (g : Gathered) (ns : List ℕ) → weight (all_of (gathered with_number g ns)) ≤ weight (all_of g) + length ns
+weight_read g [] = omega arith
+weight_read g (n ∷ ns) =
+    let first = weight_step g.closed g.pending g.last n in
+    let others = weight_read (with_number g n) ns in
+    omega (arith, first, others)
+
+-- there are no more positions than numbers
+pub few_positions : (ns : List ℕ) → sum (counts_of (all_of (positions_in ns))) ≤ length ns
+few_positions ns = let all = weight_read (none_after 0) ns in omega (arith, all)

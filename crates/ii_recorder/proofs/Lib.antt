@@ -5,7 +5,9 @@ pub mod HeldTermLemmas
 pub mod GrowthLemmas
 pub mod RecorderLemmas
 pub mod PushLemmas
-pub mod PushLocated
 pub mod DeltaLemmas
 pub mod PushedEntries
 pub mod WorkedRows
+mod VintRowLemmas
+mod GatheredLemmas
+mod StateLemmas

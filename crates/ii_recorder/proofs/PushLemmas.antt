@@ -1,12 +1,13 @@
 -- Entries that are pushed one after the other.
-use Rattle.std.proofs.Common.{◌^◌, drop-cons, get_or, take-append-drop, take-suc, ◌≡◌, ℕ, suc, ◌+◌, ◌-◌, ◌<◌, ◌≤◌, Bool, true, false, if◌then◌else◌, List, [], ◌∷◌, ◌++◌, length, map, take, drop, Result, Ok, Err, is_err, refl, sym, ap, ◌∙◌, arith, append-nil, append_assoc, length-append, ⊎_elim}
-use Rattle.std.proofs.lemmas.Bool.{and_parts, cases_lt}
-use Rattle.std.specs.Prelude.{◌&&◌, nat_le, nat_lt}
+use Rattle.std.proofs.Common.{◌^◌, ◌≡◌, ℕ, ◌+◌, ◌-◌, ◌<◌, ◌≤◌, Bool, true, false, if◌then◌else◌, List, [], ◌∷◌, ◌++◌, length, take, Result, Ok, Err, is_err, refl, sym, ap, subst, ◌∙◌, arith, append-nil, append_assoc, length-append, ⊎_elim}
+use Rattle.std.proofs.lemmas.Bool.{and_parts, cases_lt, ltb-true}
+use Rattle.std.specs.Prelude.{◌&&◌, nat_le, nat_lt, IsTrue, IsErrOf, OnOk}
 use Rattle.std.specs.List.{AllByRecursion}
 use Rattle.std.proofs.lemmas.Grind.{flat_map-append}
 use Rattle.std.proofs.lemmas.List.{map-append, take-append-le}
 use Rattle.std.proofs.Math.Seq.{take-append-add}
 use Rattle.ii_io.specs.declared.faults.Fault.{Fault}
+use Rattle.ii_io.specs.declared.faults.Fault.TheVariants.{SerializerClosed}
 use Rattle.ii_base.specs.declared.schema.index_record_option.IndexRecordOption.{IndexRecordOption}
 use Rattle.ii_base.specs.Options.{has_freq, has_positions}
 use Rattle.ii_codes.specs.Sums.{differences}
@@ -169,15 +170,63 @@ pub refused_next : (option : IndexRecordOption) (s b c : IndexSerializerState) (
     → Pushes option b c (e ∷ []) result → Pushes option s c es result
 refused_next option s b c xs e ys es result parts refused h k = rw parts (pushes_then option s b c xs (e ∷ ys) result h (pushes_refused_by option b c (e ∷ []) ys result refused k))
 
-pub mapped_parts : {A : Type 0} (f : A → Entry) (xs : List A) (k : ℕ) (d : A) → k < length xs → map f xs ≡ map f (take k xs) ++ f (get_or xs k d) ∷ map f (drop (suc k) xs)
-mapped_parts f xs k d below =
-    let parts = sym (take-append-drop k xs) ∙ ap (λ (ys : List _). take k xs ++ ys) (drop-cons xs k d below) in
-    ap (map f) parts ∙ map-append f (take k xs) (get_or xs k d ∷ drop (suc k) xs)
+-- Entries of which some were pushed, and the rest is left.
+pub record IsPushing (option : IndexRecordOption) (s b : IndexSerializerState) (es rest : List Entry) : Type 0 where
+  pub done : List Entry
+  pub parts : es ≡ done ++ rest
+  pub pushed : Pushes option s b done (Ok tt)
 
-pub mapped_next : {A : Type 0} (f : A → Entry) (xs : List A) (k : ℕ) (d : A) → k < length xs → map f (take (k + 1) xs) ≡ map f (take k xs) ++ f (get_or xs k d) ∷ []
-mapped_next f xs k d below =
-    let place : k + 1 ≡ suc k = omega arith in
-    rw (place, take-suc xs k d below) (map-append f (take k xs) (get_or xs k d ∷ []))
+pub pushing_first : (option : IndexRecordOption) (s : IndexSerializerState) (es : List Entry) → s.closed ≡ false → IsPushing option s s es es
+pushing_first option s es open_still = record { done = []; parts = refl; pushed = pushes_none option s open_still }
+
+pub pushing_may : (option : IndexRecordOption) (s b : IndexSerializerState) (es rest : List Entry) (e : Entry) (more : List Entry) → IsPushing option s b es rest → rest ≡ e ∷ more → MayPush option s es → MayPush option b (e ∷ [])
+pushing_may option s b es rest e more h is may = may_next option s b h.done e more es (h.parts ∙ ap (λ (xs : List Entry). h.done ++ xs) is) may h.pushed
+
+pub pushing_next : (option : IndexRecordOption) (s b c : IndexSerializerState) (es rest : List Entry) (e : Entry) (more : List Entry) (result : Result (Unit {0}) Fault) → IsPushing option s b es rest → rest ≡ e ∷ more → false ≡ is_err result
+    → Pushes option b c (e ∷ []) result → IsPushing option s c es more
+pushing_next option s b c es rest e more result h is went k = record {
+  done = h.done ++ e ∷ [];
+  parts = h.parts ∙ ap (λ (xs : List Entry). h.done ++ xs) is ∙ sym (append_assoc h.done (e ∷ []) more);
+  pushed = pushed_next option s b c h.done e (h.done ++ e ∷ []) result refl went h.pushed k;
+}
+
+pub pushing_refused : (option : IndexRecordOption) (s b c : IndexSerializerState) (es rest : List Entry) (e : Entry) (more : List Entry) (result : Result (Unit {0}) Fault) → IsPushing option s b es rest → rest ≡ e ∷ more → true ≡ is_err result
+    → Pushes option b c (e ∷ []) result → Pushes option s c es result
+pushing_refused option s b c es rest e more result h is refused k = refused_next option s b c h.done e more es result (h.parts ∙ ap (λ (xs : List Entry). h.done ++ xs) is) refused h.pushed k
+
+pub pushing_all : (option : IndexRecordOption) (s b : IndexSerializerState) (es rest : List Entry) → IsPushing option s b es rest → rest ≡ [] → Pushes option s b es (Ok tt)
+pushing_all option s b es rest h is = rw (h.parts ∙ ap (λ (xs : List Entry). h.done ++ xs) is ∙ append-nil h.done) h.pushed
+
+open_before : (b : Bool) → (IsTrue b → IsErrOf {T = Unit {0}} {E = Fault} (Ok tt) SerializerClosed) → b ≡ false
+open_before false h = refl
+open_before true h = absurd (let e = h refl in cc)
+
+ascend_one : (least : ℕ) (xs : List ℕ) (d : ℕ) (ys : List ℕ) → ascend_from least (xs ++ d ∷ ys) ≡ true → d < 2147483647
+ascend_one least [] d ys h =
+    let both = (and_parts (nat_le least d && nat_lt d 2147483647) (ascend_from (d + 1) ys) h).0 in
+    ltb-true d 2147483647 (and_parts (nat_le least d) (nat_lt d 2147483647) both).1
+ascend_one least (x ∷ xs) d ys h = ascend_one (x + 1) xs d ys (and_parts (nat_le least x && nat_lt x 2147483647) (ascend_from (x + 1) (xs ++ d ∷ ys)) h).1
+
+-- a document that is left lies below the end
+pub pushing_below : (option : IndexRecordOption) (s b : IndexSerializerState) (es rest : List Entry) (e : Entry) (more : List Entry) → IsPushing option s b es rest → rest ≡ e ∷ more → MayPush option s es → e.doc < 2147483647
+pushing_below option s b es rest e more h is may =
+    let still_open : s.closed ≡ false = open_before s.closed h.pushed.closed.1 in
+    let parts = h.parts ∙ ap (λ (xs : List Entry). h.done ++ xs) is in
+    let docs : docs_of es ≡ docs_of h.done ++ e.doc ∷ docs_of more = ap docs_of parts ∙ map-append (λ (f : Entry). f.doc) h.done (e ∷ more) in
+    let all : s.field.term.docs ++ docs_of es ≡ (s.field.term.docs ++ docs_of h.done) ++ e.doc ∷ docs_of more = ap (λ (ds : List ℕ). s.field.term.docs ++ ds) docs ∙ sym (append_assoc s.field.term.docs (docs_of h.done) (e.doc ∷ docs_of more)) in
+    ascend_one 0 (s.field.term.docs ++ docs_of h.done) e.doc (docs_of more) (sym (ap (ascend_from 0) all) ∙ may.ascending still_open)
+
+all_at : (P : Entry → Type 0) (done : List Entry) (e : Entry) (more : List Entry) → AllByRecursion P (done ++ e ∷ more) → P e
+all_at P [] e more h = h.0
+all_at P (x ∷ xs) e more h = all_at P xs e more h.1
+
+-- what holds of all entries holds of the next one
+pub pushing_each : (P : Entry → Type 0) (option : IndexRecordOption) (s b : IndexSerializerState) (es rest : List Entry) (e : Entry) (more : List Entry) → IsPushing option s b es rest → rest ≡ e ∷ more → AllByRecursion P es → P e
+pushing_each P option s b es rest e more h is all = all_at P h.done e more (subst (AllByRecursion P) (h.parts ∙ ap (λ (xs : List Entry). h.done ++ xs) is) all)
+
+pub went_ok : {A : Type 0} (result : Result (Unit {0}) Fault) → false ≡ is_err result → OnOk result A → A
+went_ok (Ok u) went h = h
+went_ok (Err e) went h = absurd (cc)
 
 -- what was written of a field stays as it is
 pub writing_pushed : (option : IndexRecordOption) (initial : IndexBodiesState) (s : IndexSerializerState) (es : List Entry) (field tokens : ℕ) (ts : List WrittenTerm) (pending : List (List ℕ)) → IsWriting initial s field tokens ts pending

@@ -1,91 +1,109 @@
--- What a recorder has after a position and after a document.
-use Rattle.std.proofs.Common.{◌≡◌, ℕ, suc, ◌+◌, ◌-◌, ◌<◌, ◌≤◌, List, [], ◌∷◌, ◌++◌, length, map, take, drop, get_or, refl, sym, ap, arith, ◌∙◌, Some, None, Option, append-nil, length-append, length-drop}
-use Rattle.std.specs.Prelude.{slice_get, unwrap_or}
-use Rattle.std.specs.Option.{option_map, option_to_list}
-use Rattle.std.proofs.lemmas.List.{drop-append-le, drop-drop, get_or-drop, length-map, map-append, take-append-le, take_all}
-use Rattle.std.proofs.lemmas.List.Sums.{sum_by-cons}
-use Rattle.std.proofs.lemmas.Option.{slice_get-map}
+-- What a recorder has after a document was begun, had a position, or was closed.
+use Rattle.std.proofs.Common.{◌≡◌, ℕ, ◌+◌, ◌-◌, ◌<◌, ◌≤◌, List, [], ◌∷◌, ◌++◌, length, Option, Some, None, refl, sym, ap, ◌∙◌, arith, append-nil, length-append}
+use Rattle.std.specs.Prelude.{slice_get, unwrap_or, min, IfSome}
+use Rattle.std.specs.Option.{option_to_list}
+use Rattle.std.proofs.lemmas.List.{length-map, map-append}
 use Rattle.ii_docset.specs.Entries.{Entry, docs_of}
-use Rattle.ii_recorder.specs.declared.recorder.term_frequency_recorder.DocFreq.{DocFreq}
-use Rattle.ii_recorder.specs.DocFreqs.{entries_of, located, position_count}
-use Rattle.ii_recorder.specs.Recorded.{RecorderState, entries_in, last_doc, last_position, u32_max, with_position}
-use Rattle.ii_base.specs.declared.schema.index_record_option.IndexRecordOption.TheVariants.{WithFreqsAndPositions}
+use Rattle.ii_recorder.specs.Kept.{IsCount, IsLastDoc}
+use Rattle.ii_recorder.specs.Recorded.{RecorderState, current_doc, entries_in, last_doc, u32_max}
 
 pub last_of_push : (xs : List ℕ) (x : ℕ) → slice_get (xs ++ x ∷ []) (length xs) ≡ Some x
 last_of_push [] x = refl
 last_of_push (y ∷ xs) x = last_of_push xs x
 
--- the last document is the open one
-pub doc_of_open : (es : List Entry) (e : Entry) → unwrap_or (last_doc (es ++ e ∷ [])) u32_max ≡ e.doc
-doc_of_open es e =
+-- the last document of entries is that of the last one
+pub last_doc_push : (es : List Entry) (e : Entry) → last_doc (es ++ e ∷ []) ≡ Some e.doc
+last_doc_push es e =
     let docs = map-append (λ (f : Entry). f.doc) es (e ∷ []) in
     let count : length (es ++ e ∷ []) - 1 ≡ length (docs_of es) = omega (arith, length-append es (e ∷ []), length-map es (λ (f : Entry). f.doc)) in
-    ap (λ (o : Option ℕ). unwrap_or o u32_max) (ap (λ (ds : List ℕ). slice_get ds (length (es ++ e ∷ []) - 1)) docs ∙ ap (slice_get (docs_of es ++ e.doc ∷ [])) count ∙ last_of_push (docs_of es) e.doc)
+    ap (λ (ds : List ℕ). slice_get ds (length (es ++ e ∷ []) - 1)) docs ∙ ap (slice_get (docs_of es ++ e.doc ∷ [])) count ∙ last_of_push (docs_of es) e.doc
 
--- or else that of the last closed one
-pub doc_of_last : {A : Type 0} (f : A → Entry) (xs : List A) (x : A) → slice_get xs (length xs - 1) ≡ Some x → unwrap_or (last_doc (map f xs ++ [])) u32_max ≡ (f x).doc
-doc_of_last f xs x last =
-    rw (append-nil (map f xs), length-map xs f, slice_get-map (λ (e : Entry). e.doc) (map f xs) (length xs - 1), slice_get-map f xs (length xs - 1), last) refl
+-- Entries with a last one.
+pub record HasLast (es : List Entry) : Type 0 where
+  pub front : List Entry
+  pub one : Entry
+  pub parts : es ≡ front ++ one ∷ []
 
-pub docs_of_entries : (ds : List DocFreq) (positions : List ℕ) → docs_of (entries_of ds positions) ≡ map (λ (d : DocFreq). d.doc) ds
-docs_of_entries [] positions = refl
-docs_of_entries (d ∷ ds) positions = ap (λ (docs : List ℕ). d.doc ∷ docs) (docs_of_entries ds (drop d.term_freq positions))
+pub has_last : (e : Entry) (es : List Entry) → HasLast (e ∷ es)
+has_last e [] = record { front = []; one = e; parts = refl }
+has_last e (f ∷ es) =
+    let others = has_last f es in
+    record { front = e ∷ others.front; one = others.one; parts = ap (λ (xs : List Entry). e ∷ xs) others.parts }
 
-pub length_entries_of : (ds : List DocFreq) (positions : List ℕ) → length (entries_of ds positions) ≡ length ds
-length_entries_of [] positions = refl
-length_entries_of (d ∷ ds) positions = ap suc (length_entries_of ds (drop d.term_freq positions))
+last_or : (es : List Entry) (e : Entry) (fs : List Entry) (other : ℕ) → fs ≡ es ++ e ∷ [] → unwrap_or (last_doc fs) other ≡ e.doc
+last_or es e fs other parts = ap (λ (xs : List Entry). unwrap_or (last_doc xs) other) parts ∙ ap (λ (o : Option ℕ). unwrap_or o other) (last_doc_push es e)
 
-pub doc_of_last_entry : (ds : List DocFreq) (positions : List ℕ) (d : DocFreq) → slice_get ds (length ds - 1) ≡ Some d → unwrap_or (last_doc (entries_of ds positions ++ [])) u32_max ≡ d.doc
-doc_of_last_entry ds positions d last =
-    rw (append-nil (entries_of ds positions), docs_of_entries ds positions, length_entries_of ds positions, slice_get-map (λ (f : DocFreq). f.doc) ds (length ds - 1), last) refl
+last_default : (es : List Entry) (a b : ℕ) → 0 < length es → unwrap_or (last_doc es) a ≡ unwrap_or (last_doc es) b
+last_default [] a b some = absurd (omega arith)
+last_default (e ∷ es) a b some =
+    let one = has_last e es in
+    last_or one.front one.one (e ∷ es) a one.parts ∙ sym (last_or one.front one.one (e ∷ es) b one.parts)
 
--- the last number of a row is the last of so many at its end
-pub last_of_row : (positions : List ℕ) (count : ℕ) → 0 < count → count ≤ length positions → last_position (drop (length positions - count) positions) ≡ get_or positions (length positions - 1) 0
-last_of_row positions count some within =
-    let len = length-drop (length positions - count) positions in
-    get_or-drop (length positions - count) positions (length (drop (length positions - count) positions) - 1) 0
-    ∙ ap (λ (i : ℕ). get_or positions i 0) (omega arith)
+none_counted : (n : ℕ) → 0 ≡ min n u32_max → n ≡ 0
+none_counted n e = omega (arith, e)
 
--- one more number at the end of the row changes no closed document
-pub entries_before : (ds : List DocFreq) (positions : List ℕ) (p : ℕ) → position_count ds ≤ length positions → entries_of ds (positions ++ p ∷ []) ≡ entries_of ds positions
-entries_before [] positions p within = refl
-entries_before (d ∷ ds) positions p within =
-    let sum : position_count (d ∷ ds) ≡ d.term_freq + position_count ds = sum_by-cons (λ (e : DocFreq). e.term_freq) d ds in
-    let len = length-drop d.term_freq positions in
-    let first = take-append-le d.term_freq positions (p ∷ []) (omega (arith, within)) in
-    let rest = drop-append-le d.term_freq positions (p ∷ []) (omega (arith, within)) in
-    rw (first, rest, entries_before ds (drop d.term_freq positions) p (omega (arith, within, len))) refl
+some_counted : (n count : ℕ) → count ≡ min n u32_max → 0 < count → 0 < n
+some_counted n count e some = omega (arith, e, some)
 
--- one more document has the rest of the row
-pub entries_more : (ds : List DocFreq) (d : DocFreq) (positions : List ℕ) → length positions ≡ position_count ds + d.term_freq → entries_of (ds ++ d ∷ []) positions ≡ entries_of ds positions ++ located d (drop (position_count ds) positions) ∷ []
-entries_more [] d positions count = ap (λ (ps : List ℕ). located d ps ∷ []) (take_all d.term_freq positions (omega (arith, count)))
-entries_more (f ∷ ds) d positions count =
-    let sum : position_count (f ∷ ds) ≡ f.term_freq + position_count ds = sum_by-cons (λ (e : DocFreq). e.term_freq) f ds in
-    let len = length-drop f.term_freq positions in
-    let ih = entries_more ds d (drop f.term_freq positions) (omega (arith, len, count)) in
-    ap (λ (es : List Entry). located f (take f.term_freq positions) ∷ es) (ih ∙ ap (λ (ps : List ℕ). entries_of ds (drop f.term_freq positions) ++ located d ps ∷ []) (drop-drop (position_count ds) f.term_freq positions ∙ ap (λ (n : ℕ). drop n positions) (sym sum)))
+no_last : (es : List Entry) (other : ℕ) → length es ≡ 0 → unwrap_or (last_doc es) other ≡ other
+no_last [] other none = refl
+no_last (e ∷ es) other none = absurd (omega (arith, none))
 
--- what a recorder of positions has
-abbrev pub state_of : List DocFreq → Option DocFreq → List ℕ → RecorderState
-state_of ds pending positions = record {
-  option = WithFreqsAndPositions;
-  closed = entries_of ds positions;
-  pending = option_map (λ (d : DocFreq). located d (drop (position_count ds) positions)) pending;
-}
+-- the current document, where there is none
+pub current_none : (s : RecorderState) (count : ℕ) → IsCount count s → count ≡ 0 → u32_max ≡ current_doc s
+current_none s count counted none = sym (no_last (entries_in s) u32_max (none_counted (length (entries_in s)) (sym none ∙ counted)))
 
-pub closes_one : (ds : List DocFreq) (d : DocFreq) (positions : List ℕ) → length positions ≡ position_count ds + d.term_freq → state_of (ds ++ d ∷ []) None positions ≡ record { option = WithFreqsAndPositions; closed = entries_in (state_of ds (Some d) positions); pending = None }
-closes_one ds d positions count = ap (λ (es : List Entry). record { option = WithFreqsAndPositions; closed = es; pending = None }) (entries_more ds d positions count)
+pub current_last : (s : RecorderState) (last : ℕ) → IsLastDoc last s → 0 < length (entries_in s) → last ≡ current_doc s
+current_last s last is some = sym is ∙ last_default (entries_in s) 0 u32_max some
 
--- one more position
-abbrev pub one_more : DocFreq → DocFreq
-one_more d = record { doc = d.doc; term_freq = d.term_freq + 1 }
+-- and where there is one
+pub current_some : (s : RecorderState) (last count : ℕ) → IsCount count s → IsLastDoc last s → 0 < count → last ≡ current_doc s
+current_some s last count counted is some = current_last s last is (some_counted (length (entries_in s)) count counted some)
 
-pub records_one : (ds : List DocFreq) (d : DocFreq) (positions : List ℕ) (p : ℕ) → position_count ds ≤ length positions
-    → state_of ds (Some (one_more d)) (positions ++ p ∷ []) ≡ record (state_of ds (Some d) positions) { pending = option_map (with_position WithFreqsAndPositions p) (state_of ds (Some d) positions).pending }
-records_one ds d positions p within =
-    ap (λ (es : List Entry). record { option = WithFreqsAndPositions; closed = es; pending = Some (located (one_more d) (drop (position_count ds) (positions ++ p ∷ []))) }) (entries_before ds positions p within)
-    ∙ ap (λ (ps : List ℕ). record { option = WithFreqsAndPositions; closed = entries_of ds positions; pending = Some (located (one_more d) ps) }) (drop-append-le (position_count ds) positions (p ∷ []) within)
+above_by : (o : Option ℕ) (last doc : ℕ) → IfSome o (λ l. l < doc) → unwrap_or o 0 ≡ last → last ≤ doc
+above_by None last doc h e = omega (arith, e)
+above_by (Some l) last doc h e = omega (arith, h, e)
 
-pub length_state : (ds : List DocFreq) (pending : Option DocFreq) (positions : List ℕ) → length (entries_in (state_of ds pending positions)) ≡ length ds + length (option_to_list pending)
-length_state ds None positions = rw (append-nil (entries_of ds positions), length_entries_of ds positions) (omega arith)
-length_state ds (Some d) positions = length-append (entries_of ds positions) (located d (drop (position_count ds) positions) ∷ []) ∙ ap (λ (n : ℕ). n + 1) (length_entries_of ds positions)
+-- entries where no document is open
+pub closed_alone : (s : RecorderState) → s.pending ≡ None → entries_in s ≡ s.closed
+closed_alone s none = ap (λ (p : Option Entry). s.closed ++ option_to_list p) none ∙ append-nil s.closed
+
+-- a document that is begun lies above the last one
+pub above_last : (s : RecorderState) (last doc : ℕ) → s.pending ≡ None → IfSome (last_doc s.closed) (λ l. l < doc) → IsLastDoc last s → last ≤ doc
+above_last s last doc none above is = above_by (last_doc s.closed) last doc above (sym (ap (λ (es : List Entry). unwrap_or (last_doc es) 0) (closed_alone s none)) ∙ is)
+
+pub last_begun : (s : RecorderState) (e : Entry) → IsLastDoc e.doc (record s { pending = Some e })
+last_begun s e = ap (λ (o : Option ℕ). unwrap_or o 0) (last_doc_push s.closed e)
+
+one_more : (count new n : ℕ) → count ≡ min n u32_max → new ≡ min (count + 1) u32_max → new ≡ min (n + 1) u32_max
+one_more count new n e is = omega (arith, e, is)
+
+pub count_begun : (s : RecorderState) (e : Entry) (count new : ℕ) → s.pending ≡ None → IsCount count s → new ≡ min (count + 1) u32_max → IsCount new (record s { pending = Some e })
+count_begun s e count new none counted is =
+    let len = length-append s.closed (e ∷ []) in
+    one_more count new (length s.closed) (counted ∙ ap (λ (es : List Entry). min (length es) u32_max) (closed_alone s none)) is ∙ ap (λ (n : ℕ). min n u32_max) (sym len)
+
+-- the open document changes, and stays the same document
+pub last_moved : (s : RecorderState) (e f : Entry) (last : ℕ) → s.pending ≡ Some e → f.doc ≡ e.doc → IsLastDoc last s → IsLastDoc last (record s { pending = Some f })
+last_moved s e f last now_open same is =
+    last_begun s f ∙ same ∙ sym (last_begun s e) ∙ ap (λ (p : Option Entry). unwrap_or (last_doc (s.closed ++ option_to_list p)) 0) (sym now_open) ∙ is
+
+pub count_moved : (s : RecorderState) (e f : Entry) (count : ℕ) → s.pending ≡ Some e → IsCount count s → IsCount count (record s { pending = Some f })
+count_moved s e f count now_open counted =
+    let before = length-append s.closed (e ∷ []) in
+    let now = length-append s.closed (f ∷ []) in
+    let same : length (s.closed ++ e ∷ []) ≡ length (s.closed ++ f ∷ []) = omega (arith, before, now) in
+    counted ∙ ap (λ (p : Option Entry). min (length (s.closed ++ option_to_list p)) u32_max) now_open ∙ ap (λ (n : ℕ). min n u32_max) same
+
+-- all documents are closed
+abbrev pub all_closed : RecorderState → RecorderState
+all_closed s = record { option = s.option; closed = entries_in s; pending = None }
+
+pub same_closed : (s : RecorderState) → entries_in (all_closed s) ≡ entries_in s
+same_closed s = append-nil (entries_in s)
+
+pub last_closed : (s : RecorderState) (last : ℕ) → IsLastDoc last s → IsLastDoc last (all_closed s)
+last_closed s last is = ap (λ (es : List Entry). unwrap_or (last_doc es) 0) (same_closed s) ∙ is
+
+pub count_closed : (s : RecorderState) (count : ℕ) → IsCount count s → IsCount count (all_closed s)
+count_closed s count counted = counted ∙ ap (λ (es : List Entry). min (length es) u32_max) (sym (same_closed s))

@@ -1,10 +1,13 @@
--- What recorders push of document 0 at 0 and 4 and of document 3 at 1, and a term that is found by its key.
-use Rattle.std.proofs.Common.{◌≡◌, List, [], ◌∷◌, true, false, refl}
+-- What recorders hold and push of document 0 at 0 and 4 and of document 3 at 1, and a term that is found by its key.
+use Rattle.std.proofs.Common.{◌≡◌, List, [], ◌∷◌, true, false, Some, refl}
 use Rattle.ii_base.specs.declared.schema.index_record_option.IndexRecordOption.TheVariants.{Basic, WithFreqs, WithFreqsAndPositions}
-use Rattle.ii_docset.specs.Entries.{Entry, docs_of}
+use Rattle.ii_docset.specs.Entries.{Entry, counted, docs_of, document}
 use Rattle.ii_recorder.specs.HeldTerms.{has_key}
 use Rattle.ii_recorder.specs.Pushed.{pushed_deltas, pushed_freqs}
 use Rattle.ii_recorder.specs.Terms.{WrittenTerm}
+use Rattle.ii_io.specs.Vints.{vint_u32}
+use Rattle.std.specs.List.{flat_map}
+use Rattle.ii_recorder.specs.Gathered.{counts_state, docs_state, positions_state}
 
 abbrev two_documents : List Entry
 two_documents = record { doc = 0; term_freq = 2; positions = 0 ∷ 4 ∷ [] } ∷ record { doc = 3; term_freq = 1; positions = 1 ∷ [] } ∷ []
@@ -32,3 +35,25 @@ is_there = refl
 
 pub is_not_there : has_key (98 ∷ []) one_term ≡ false
 is_not_there = refl
+
+-- the bytes of recorders, the second document open
+pub positions_bytes_are : flat_map vint_u32 (0 ∷ 1 ∷ 5 ∷ 0 ∷ 3 ∷ 2 ∷ []) ≡ 128 ∷ 129 ∷ 133 ∷ 128 ∷ 131 ∷ 130 ∷ []
+unfolding vint_u32
+positions_bytes_are = refl
+
+pub positions_are : positions_state (128 ∷ 129 ∷ 133 ∷ 128 ∷ 131 ∷ 130 ∷ []) ≡ record { option = WithFreqsAndPositions; closed = record { doc = 0; term_freq = 2; positions = 0 ∷ 4 ∷ [] } ∷ []; pending = Some (record { doc = 3; term_freq = 1; positions = 1 ∷ [] }) }
+positions_are = refl
+
+pub counts_bytes_are : flat_map vint_u32 (0 ∷ 2 ∷ 3 ∷ []) ≡ 128 ∷ 130 ∷ 131 ∷ []
+unfolding vint_u32
+counts_bytes_are = refl
+
+pub counts_read : counts_state (128 ∷ 130 ∷ 131 ∷ []) 1 ≡ record { option = WithFreqs; closed = counted 0 2 ∷ []; pending = Some (counted 3 1) }
+counts_read = refl
+
+pub docs_bytes_are : flat_map vint_u32 (0 ∷ 3 ∷ []) ≡ 128 ∷ 131 ∷ []
+unfolding vint_u32
+docs_bytes_are = refl
+
+pub docs_read : docs_state (128 ∷ 131 ∷ []) true ≡ record { option = Basic; closed = document 0 ∷ []; pending = Some (document 3) }
+docs_read = refl

@@ -26,6 +26,7 @@ pub record HoldsKey (mode : IndexRecordOption) (postings positions : List ℕ) (
   pub key_is : term.key ≡ key
   pub held : HoldsWritten mode postings positions term info
 
+-- the keys of terms
 abbrev pub written_keys : List WrittenTerm → List (List ℕ)
 written_keys ts = map (λ (t : WrittenTerm). t.key) ts
 
@@ -63,6 +64,7 @@ pub record AreHoldable (mode : IndexRecordOption) (ts : List WrittenTerm) : Type
 abbrev pub HoldsWhatIsWritten : Type 0
 HoldsWhatIsWritten = (mode : IndexRecordOption) (tokens : ℕ) (ts : List WrittenTerm) → tokens < 2 ^ 64 → AreHoldable mode ts → HoldsTerms mode tokens (field_bodies mode tokens ts) ts
 
+-- The law: what holds terms holds each of them.
 abbrev pub HoldsEachTerm : Type 0
 HoldsEachTerm =
     (mode : IndexRecordOption) (tokens : ℕ) (bodies : FieldBodies) (ts : List WrittenTerm) (h : HoldsTerms mode tokens bodies ts) (t : WrittenTerm) → Contains ts t

@@ -6,6 +6,8 @@ pub mod FieldTerms
 pub mod IndexBodies
 pub mod IndexSerializer
 pub mod AnyRecorder
-pub mod DocFreqs
 pub mod Recorded
 pub mod Pushed
+pub mod VintRows
+pub mod Gathered
+pub mod Kept

@@ -39,6 +39,7 @@ with_entries option s es =
       };
     }
 
+-- the counts of entries
 abbrev pub counts_of : List Entry → List ℕ
 counts_of es = map (λ (e : Entry). e.term_freq) es
 

@@ -44,6 +44,7 @@ pub record FieldBodies : Type 0 where
   pub postings : List ℕ
   pub positions : List ℕ
 
+-- the positions of all terms, one after the other
 abbrev pub positions_body : IndexRecordOption → List WrittenTerm → List ℕ
 positions_body mode ts = flat_map (λ (t : WrittenTerm). positions_bytes mode t.deltas) ts
 

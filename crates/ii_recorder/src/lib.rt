@@ -19,4 +19,5 @@ pub use recorder::any_recorder::AnyRecorder;
 pub use recorder::doc_id_recorder::DocIdRecorder;
 pub use recorder::term_frequency_recorder::TermFrequencyRecorder;
 pub use recorder::tf_and_position_recorder::TfAndPositionRecorder;
+pub use recorder::vint32_reader::VInt32Reader;
 pub use serializer::InvertedIndexSerializer;

@@ -12,8 +12,10 @@ use std::io::Write;
 
 pub mod any_recorder;
 pub mod doc_id_recorder;
+mod sum_reader;
 pub mod term_frequency_recorder;
 pub mod tf_and_position_recorder;
+pub mod vint32_reader;
 
 /// Gathers what the index keeps of one term: the documents in which it is, in ascending order, and as
 /// far as its option has these, how often the term is there, and where.

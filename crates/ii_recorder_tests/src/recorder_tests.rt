@@ -14,7 +14,7 @@ use crate::tests::texts;
 use ii_base::{CountingWriter, Fault, Field};
 use ii_recorder::{
     BufferLender, DocIdRecorder, InvertedIndexSerializer, Recorder, TermFrequencyRecorder,
-    TfAndPositionRecorder,
+    TfAndPositionRecorder, VInt32Reader,
 };
 use std::alloc::Global;
 use std::io::Write;
@@ -145,4 +145,25 @@ fn recorders_are_serialized(rt: HostRuntime) -> Result<(), Fail> {
     assert!(rt; told_of_counts(rt.alloc())? == (true, 12 + 24, 1 + 24));
     assert!(rt; told_of_ids(rt.alloc())? == (true, 10 + 24, 1 + 24));
     Ok(())
+}
+
+static SPELLED: [u8; 12] = [
+    0x80, 0x81, 0x7A, 0x57, 0x4D, 0x1A, 0x81, 0x7F, 0x7F, 0x7F, 0x7F, 0x8F,
+];
+
+// The next five numbers of a reader.
+fn first_numbers(numbers: &mut VInt32Reader<'_>) -> [Option<u32>; 5] {
+    [
+        numbers.next(),
+        numbers.next(),
+        numbers.next(),
+        numbers.next(),
+        numbers.next(),
+    ]
+}
+
+#[test]
+fn vints_are_read_one_by_one(rt: HostRuntime) {
+    let numbers = [Some(0), Some(1), Some(324_234_234), Some(u32::MAX), None];
+    assert!(rt; first_numbers(&mut VInt32Reader::new(&SPELLED)) == numbers);
 }

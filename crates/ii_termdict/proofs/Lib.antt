@@ -3,3 +3,4 @@ pub mod DictionaryLemmas
 pub mod SearchLemmas
 pub mod WriterLemmas
 pub mod ReadDictionaryLemmas
+pub mod OrderLemmas

@@ -139,7 +139,7 @@ info_miss n ends body key h =
     sym (lookup_miss (keys_of n ends body) (unwrap_or (term_store (store_after n ends body)) []) key
     (λ j below equal. let within : j < n = omega arith in h j within (sym (keys_at_place n ends body j within) ∙ equal)))
 
-zip_keys : (ks : List (List ℕ)) (vs : List TermInfo) → length ks ≡ length vs → entry_keys (zip ks vs) ≡ ks
+pub zip_keys : (ks : List (List ℕ)) (vs : List TermInfo) → length ks ≡ length vs → entry_keys (zip ks vs) ≡ ks
 zip_keys [] vs h = refl
 zip_keys (k ∷ ks) [] h = absurd (omega arith)
 zip_keys (k ∷ ks) (v ∷ vs) h = ap (λ (xs : List (List ℕ)). k ∷ xs) (zip_keys ks vs (omega arith))

@@ -16,6 +16,7 @@ use Rattle.ii_termstore.specs.TermStore.{term_store}
 abbrev pub Entry : Type 0
 Entry = List ℕ × TermInfo
 
+-- whether a key lies below another by its bytes
 abbrev pub is_below : List ℕ → List ℕ → Bool
 is_below k l = is_lt (slice_cmp nat_cmp k l)
 
@@ -27,9 +28,11 @@ end_size = 8
 unfoldable pub end_of : List ℕ → ℕ → ℕ
 end_of ends i = unwrap_or (option_map (λ found. found.0) (number_at end_size (drop (end_size * i) ends))) 0
 
+-- where key i begins
 abbrev pub start_of : List ℕ → ℕ → ℕ
 start_of ends i = if i == 0 then 0 else end_of ends (i - 1)
 
+-- key i
 abbrev pub key_of : List ℕ → List ℕ → ℕ → List ℕ
 key_of ends body i = slice_range body (start_of ends i) (end_of ends i)
 
@@ -41,6 +44,7 @@ ends_rise n ends body = list_all (λ i. nat_le (start_of ends i) (end_of ends i)
 abbrev pub keys_ascend : ℕ → List ℕ → List ℕ → Bool
 keys_ascend n ends body = list_all (λ i. is_below (key_of ends body i) (key_of ends body (i + 1))) (range_with_len 0 (n - 1))
 
+-- all keys
 abbrev pub keys_of : ℕ → List ℕ → List ℕ → List (List ℕ)
 keys_of n ends body = map (key_of ends body) (range_with_len 0 n)
 
@@ -59,10 +63,12 @@ keys_at bytes = do
   _ ← needs (keys_ascend parts.0 parts.1 parts.2)
   Some (keys_of parts.0 parts.1 parts.2, drop (start_of parts.1 parts.0) parts.2)
 
+-- the keys, each with its term, if there are as many
 abbrev pub with_infos : List (List ℕ) → Option (List TermInfo) → Result (List Entry) Part
 with_infos keys None = Err TermStore
 with_infos keys (Some infos) = if length infos == length keys then Ok (zip keys infos) else Err Dictionary
 
+-- the keys and the store behind them, as entries
 abbrev pub with_keys : Option (List (List ℕ) × List ℕ) → Result (List Entry) Part
 with_keys None = Err Dictionary
 with_keys (Some found) = with_infos found.0 (term_store found.1)
@@ -83,6 +89,7 @@ entry_keys entries = map (λ (e : Entry). e.0) entries
 abbrev pub store_after : ℕ → List ℕ → List ℕ → List ℕ
 store_after n ends body = drop (start_of ends n) body
 
+-- the entries of an opened dictionary, by its parts
 unfoldable pub entries_of : ℕ → List ℕ → List ℕ → List Entry
 entries_of n ends body = zip (keys_of n ends body) (unwrap_or (term_store (store_after n ends body)) [])
 
@@ -93,5 +100,6 @@ pub record AreOpened (n : ℕ) (ends body : List ℕ) : Type 0 where
   pub ascend : keys_ascend n ends body ≡ true
   pub store : IsSomeAnd (term_store (store_after n ends body)) (λ infos. length infos ≡ n)
 
+-- the terms of entries
 abbrev pub entry_infos : List Entry → List TermInfo
 entry_infos entries = map (λ (e : Entry). e.1) entries

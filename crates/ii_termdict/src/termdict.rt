@@ -1,6 +1,7 @@
 ghost use Rattle.std.specs.Prelude.{◌≡◌, ◌<◌, [], length, Err, Ok, Some, IfOk, IfErr, OnErr, nat_lt, slice_get, unwrap_or};
 ghost use Rattle.ii_io.specs.declared.faults.Part.{Part};
 ghost use Rattle.ii_termdict.specs.Dictionary.{dictionary, info_under, entry_keys};
+ghost use Rattle.ii_termdict.specs.ReadBack.{AreAscending};
 
 use crate::key_parts::{count_terms, first_damaged_part, get, key_at};
 use crate::streamer::TermStreamer;
@@ -100,9 +101,11 @@ impl TermDictionary {
         Ok(true)
     }
 
-    /// The terms in order.
+    /// The terms in order: each key is below all later ones by its bytes.
+    #[tactic(auto, using(crate::proofs::OrderLemmas::keys_are_ascending))]
     pub fn stream(&self) -> TermStreamer<'_>
-        ensures { result ≡ record { entries = self.now; passed = 0 } }
+        ensures terms { result ≡ record { entries = self.now; passed = 0 } }
+        ensures ascending { AreAscending (entry_keys self.now) }
     {
         TermStreamer::new(self.bytes.as_slice())
     }

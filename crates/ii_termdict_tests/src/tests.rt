@@ -73,6 +73,20 @@ fn writes_one_key(rt: HostRuntime) {
     assert!(rt; 0 < failed && failed < 19);
 }
 
+// What is written of a dictionary without keys.
+fn built_of_none(alloc: Global) -> (Vec<u8>, Result<(), Fault>) {
+    let builder = AscendingTerms::new(alloc, CountingWriter::wrap(Vec::new(alloc)));
+    let (writer, finished) = builder.finish();
+    (writer.finish(), finished)
+}
+
+#[test]
+fn writes_no_keys(rt: HostRuntime) {
+    let (bytes, finished) = built_of_none(rt.alloc());
+    assert!(rt; finished == Ok(()));
+    assert!(rt; bytes.as_slice() == [0; 24].as_slice());
+}
+
 // Key `i` of keys that ascend.
 fn numbered(i: u32) -> [u8; 4] {
     i.to_be_bytes()
@@ -148,6 +162,15 @@ fn has_one_place(alloc: Global, terms: &TermDictionary) -> Result<bool, Fault> {
     Ok(all)
 }
 
+// The key at a place, if there is one.
+fn key_of(terms: &TermDictionary, ord: u64) -> Option<&[u8]> {
+    if ord < terms.num_terms() as u64 {
+        Some(terms.key(ord))
+    } else {
+        None
+    }
+}
+
 // Whether a stream has one term.
 fn streams_one(terms: &TermDictionary) -> bool {
     let mut stream = terms.stream();
@@ -166,6 +189,8 @@ fn looks_keys_up(rt: HostRuntime) -> Result<(), Fail> {
     let info = terms.get(b"a").ok_or("lost")?;
     assert!(rt; (info.doc_freq, info.postings_range) == (3, 0..3));
     assert!(rt; has_one_place(rt.alloc(), &terms)?);
+    assert!(rt; key_of(&terms, 0) == Some(b"a".as_slice()));
+    assert!(rt; key_of(&terms, 1) == None);
     assert!(rt; streams_one(&terms));
     assert!(rt; TermDictionary::empty().num_terms() == 0);
     reads_dictionary_back();

@@ -30,6 +30,7 @@ abbrev pub open_meta : ℕ → List TermInfo → List ℕ
 open_meta offset [] = []
 open_meta offset (first ∷ others) = meta_bytes (meta_for offset first others)
 
+-- the bits of the block that isn't full
 abbrev pub open_bits : List TermInfo → List ℕ
 open_bits [] = []
 open_bits (first ∷ others) = bits_bytes (block_row (meta_for 0 first others) others)

@@ -9,9 +9,11 @@ use Rattle.ii_termstore.specs.declared.term_info.TermInfo.{TermInfo}
 abbrev pub term_info_from : ℕ → ℕ → ℕ → ℕ → ℕ → TermInfo
 term_info_from doc_freq a b p q = record { doc_freq = doc_freq; postings_range = record { start = a; end = b }; positions_range = record { start = p; end = q } }
 
+-- how many bytes the postings of a term take
 abbrev pub postings_len : TermInfo → ℕ
 postings_len i = i.postings_range.end - i.postings_range.start
 
+-- how many bytes its positions take
 abbrev pub positions_len : TermInfo → ℕ
 positions_len i = i.positions_range.end - i.positions_range.start
 
@@ -54,5 +56,6 @@ pub record IsInRange (i : TermInfo) : Type 0 where
 abbrev pub is_short : Range ℕ → Bool
 is_short r = nat_le r.start r.end && nat_lt (r.end - r.start) (2 ^ 32) && nat_lt r.end (2 ^ 64)
 
+-- whether both ranges of a term are short enough
 abbrev pub is_sound : TermInfo → Bool
 is_sound i = is_short i.postings_range && is_short i.positions_range

@@ -33,6 +33,7 @@ meta_at bytes = do
 abbrev pub term_bits : Meta → ℕ
 term_bits m = m.postings_offset_nbits + m.positions_offset_nbits + m.doc_freq_nbits
 
+-- how many bits a block of so many terms takes
 abbrev pub block_bits : Meta → ℕ → ℕ
 block_bits m terms = (terms - 1) * term_bits m + m.postings_offset_nbits + m.positions_offset_nbits
 
@@ -40,6 +41,7 @@ block_bits m terms = (terms - 1) * term_bits m + m.postings_offset_nbits + m.pos
 abbrev pub postings_number : Meta → List ℕ → ℕ → ℕ
 postings_number m bits k = bits_in 8 (drop m.offset bits) ((k - 1) * term_bits m) m.postings_offset_nbits
 
+-- the same of positions
 abbrev pub positions_number : Meta → List ℕ → ℕ → ℕ
 positions_number m bits k = bits_in 8 (drop m.offset bits) ((k - 1) * term_bits m + m.postings_offset_nbits) m.positions_offset_nbits
 
@@ -47,9 +49,11 @@ positions_number m bits k = bits_in 8 (drop m.offset bits) ((k - 1) * term_bits 
 abbrev pub postings_at : Meta → List ℕ → ℕ → ℕ
 postings_at m bits k = m.ref_term_info.postings_range.start + postings_number m bits k
 
+-- where the positions of term k begin
 abbrev pub positions_at : Meta → List ℕ → ℕ → ℕ
 positions_at m bits k = m.ref_term_info.positions_range.start + positions_number m bits k
 
+-- in how many documents term k is
 abbrev pub doc_freq_at : Meta → List ℕ → ℕ → ℕ
 doc_freq_at m bits k = bits_in 8 (drop m.offset bits) ((k - 1) * term_bits m + m.postings_offset_nbits + m.positions_offset_nbits) m.doc_freq_nbits
 
@@ -65,6 +69,7 @@ block_info m bits k = if k == 0 then m.ref_term_info else later_info m bits k
 abbrev pub block_count : ℕ → ℕ
 block_count terms = (terms + (BLOCK_LEN - 1)) / BLOCK_LEN
 
+-- how many terms block b has
 abbrev pub block_terms : ℕ → ℕ → ℕ
 block_terms terms b = min BLOCK_LEN (terms - BLOCK_LEN * b)
 
@@ -84,6 +89,7 @@ is_block m terms bits = widths_fit m && bits_lie m terms (length bits) && list_a
 unfoldable pub block_meta_at : List ℕ → ℕ → Option Meta
 block_meta_at metas b = option_map (λ found. found.0) (meta_at (drop (meta_size * b) metas))
 
+-- whether block b is valid
 abbrev pub has_block : List ℕ → List ℕ → ℕ → ℕ → Bool
 has_block metas bits terms b = unwrap_or (option_map (λ m. is_block m (block_terms terms b) bits) (block_meta_at metas b)) false
 
@@ -100,6 +106,7 @@ store_parts bytes = do
   _ ← needs (nat_le metas_len.0 (length terms.1))
   Some (terms.0, terms.1, drop metas_len.0 terms.1)
 
+-- whether all blocks are valid
 abbrev pub are_blocks : ℕ → List ℕ → List ℕ → Bool
 are_blocks terms metas bits = list_all (has_block metas bits terms) (range_with_len 0 (block_count terms))
 

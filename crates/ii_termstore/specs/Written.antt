@@ -16,14 +16,17 @@ pub record IsPacking (buffer : List ℕ) (count : ℕ) (pending row : List ℕ) 
   pub size : count ≡ length row / 8
   pub left : pending ≡ bits_left row
 
+-- the first term of a block
 abbrev pub first_of : List TermInfo → TermInfo
 first_of [] = term_info_from 0 0 0 0 0
 first_of (i ∷ is) = i
 
+-- the last term of a block, by its first and the others
 abbrev pub last_of : TermInfo → List TermInfo → TermInfo
 last_of first [] = first
 last_of first (i ∷ is) = last_of i is
 
+-- the largest of some numbers
 abbrev pub largest : List ℕ → ℕ
 largest [] = 0
 largest (n ∷ ns) = max n (largest ns)
@@ -32,6 +35,7 @@ largest (n ∷ ns) = max n (largest ns)
 abbrev pub postings_after : TermInfo → TermInfo → ℕ
 postings_after first i = i.postings_range.start - first.postings_range.start
 
+-- how far the positions of a term begin behind those of the first
 abbrev pub positions_after : TermInfo → TermInfo → ℕ
 positions_after first i = i.positions_range.start - first.positions_range.start
 
@@ -39,6 +43,7 @@ positions_after first i = i.positions_range.start - first.positions_range.start
 abbrev pub postings_end : TermInfo → List TermInfo → ℕ
 postings_end first others = (last_of first others).postings_range.end - first.postings_range.start
 
+-- where the positions of a block end, counted from the first term's
 abbrev pub positions_end : TermInfo → List TermInfo → ℕ
 positions_end first others = (last_of first others).positions_range.end - first.positions_range.start
 
@@ -58,6 +63,7 @@ term_row m i =
     low_bits m.postings_offset_nbits (postings_after m.ref_term_info i) ++ low_bits m.positions_offset_nbits (positions_after m.ref_term_info i)
     ++ low_bits m.doc_freq_nbits i.doc_freq
 
+-- the bits of a block, as numbers of chosen widths
 abbrev pub block_row : Meta → List TermInfo → List ℕ
 block_row m others =
     flat_map (term_row m) others ++ low_bits m.postings_offset_nbits (postings_end m.ref_term_info others)
@@ -71,15 +77,19 @@ block_of infos b = take BLOCK_LEN (drop (BLOCK_LEN * b) infos)
 unfoldable pub block_bytes : List TermInfo → ℕ → List ℕ
 block_bytes infos b = bits_bytes (block_row (meta_for 0 (first_of (block_of infos b)) (drop 1 (block_of infos b))) (drop 1 (block_of infos b)))
 
+-- where the bits of block b begin
 abbrev pub offset_of : List TermInfo → ℕ → ℕ
 offset_of infos b = sum_by (λ a. length (block_bytes infos a)) (range_with_len 0 b)
 
+-- the meta of block b
 unfoldable pub meta_at_block : List TermInfo → ℕ → Meta
 meta_at_block infos b = meta_for (offset_of infos b) (first_of (block_of infos b)) (drop 1 (block_of infos b))
 
+-- the metas of the first n blocks
 abbrev pub metas_bytes : List TermInfo → ℕ → List ℕ
 metas_bytes infos n = flat_map (λ b. meta_bytes (meta_at_block infos b)) (range_with_len 0 n)
 
+-- the bits of the first n blocks
 abbrev pub blocks_bytes : List TermInfo → ℕ → List ℕ
 blocks_bytes infos n = flat_map (block_bytes infos) (range_with_len 0 n)
 
@@ -105,6 +115,7 @@ pub record EndsFit (m : Meta) (others : List TermInfo) : Type 0 where
   pub postings : postings_end m.ref_term_info others < 2 ^ m.postings_offset_nbits
   pub positions : positions_end m.ref_term_info others < 2 ^ m.positions_offset_nbits
 
+-- term k
 abbrev pub info_in : List TermInfo → ℕ → TermInfo
 info_in infos k = slice_index_or infos k (term_info_from 0 0 0 0 0)
 

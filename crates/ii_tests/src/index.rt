@@ -37,7 +37,7 @@ pub fn read_back(alloc: Global) -> Result<String, Fault> {
 
 // The index of all calls.
 fn opened(alloc: Global) -> Result<OpenIndex, Fault>
-    ensures { IfOk result (λ index. length index ≡ 3) }
+    ensures { IfOk result (λ index. length index.readers ≡ 3) }
 {
     let (schema, calls) = (fields(alloc)?, calls(alloc)?);
     index_in_ram(alloc, schema, 2, calls, &AsciiTokenizer)

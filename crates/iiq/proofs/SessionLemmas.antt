@@ -22,7 +22,7 @@ use Rattle.ii_indexing.specs.IndexCalls.{MayBeIndexed, call_of, doc_of}
 use Rattle.ii_indexing.specs.Refusals.{calls_fault}
 use Rattle.ii_ram.specs.Ram.{IsRamFault}
 use Rattle.ii_reader.specs.InvertedIndexReader.{GivesPostings, InvertedIndexReaderState, ReaderHolds}
-use Rattle.ii_reader.specs.OpenIndex.{FieldReaderHolds, ReadersHold}
+use Rattle.ii_reader.specs.OpenIndex.{FieldReaderHolds, IndexHolds, OpenIndexState}
 use Rattle.ii_reader.specs.SegmentPostings.{SegmentPostingsState}
 use Rattle.iiq.specs.declared.session.Session.{Session as SessionKept}
 use Rattle.iiq.specs.Known.{AreGathered, GivesIndex, IsCall, IsOpen, Keeps, Knows, KnowsIndex}
@@ -79,7 +79,7 @@ gathered_more kept n calls call g may low =
     }
 
 -- a call that follows is kept
-pub kept_then : (kept : List IndexCall) (n : ℕ) (index : Option (Result (List InvertedIndexReaderState) Fault)) (s : Session) (call : IndexCall) → is_some index ≡ false → KnowsIndex kept n index s → IsCall call → n ≤ doc_of call + 1
+pub kept_then : (kept : List IndexCall) (n : ℕ) (index : Option (Result OpenIndexState Fault)) (s : Session) (call : IndexCall) → is_some index ≡ false → KnowsIndex kept n index s → IsCall call → n ≤ doc_of call + 1
     → (calls : List Call) × (kept_with s (call_of fields call) ≡ Some (gathering calls)) × KnowsIndex (kept ++ call ∷ []) (doc_of call + 1) index (gathering calls)
 kept_then kept n None s call none knows may low =
     let is = knows.2.num_docs_is in
@@ -88,7 +88,7 @@ kept_then kept n None s call none knows may low =
 kept_then kept n (Some found) s call none knows may low = absurd (cc)
 
 -- an index that is asked for now
-pub indexed_now : (kept more : List IndexCall) (n : ℕ) (index : Option (Result (List InvertedIndexReaderState) Fault)) (s : Session) (found : Result (List InvertedIndexReaderState) Fault) → is_some index ≡ false → KnowsIndex kept n index s → GivesIndex (map (call_of fields) kept) found
+pub indexed_now : (kept more : List IndexCall) (n : ℕ) (index : Option (Result OpenIndexState Fault)) (s : Session) (found : Result OpenIndexState Fault) → is_some index ≡ false → KnowsIndex kept n index s → GivesIndex (map (call_of fields) kept) found
     → (t : Session) × Indexes s t × KnowsIndex more n (Some found) t
 indexed_now kept more n None s (Ok readers) none knows gives =
     let indexed = subst (λ (calls : List Call). IsIndexed calls (opened gives.0)) knows.2.calls_are gives.1 in
@@ -110,48 +110,49 @@ text_is_call doc field t limit field_is limit_is below =
     (record { below = rw limit_is at below; takes = record { entry = _; found = refl; indexed = refl; typed = refl } })
 
 -- what keeping a call answers
-pub keeps_one_more : (kept more : List IndexCall) (n doc : ℕ) (index : Option (Result (List InvertedIndexReaderState) Fault)) (s : Session) (call : IndexCall) (items : Vec IndexCall Global) → doc ≡ doc_of call → is_some index ≡ false → KnowsIndex kept n index s → IsCall call → n ≤ doc + 1 → items.items ≡ kept ++ call ∷ []
+pub keeps_one_more : (kept more : List IndexCall) (n doc : ℕ) (index : Option (Result OpenIndexState Fault)) (s : Session) (call : IndexCall) (items : Vec IndexCall Global) → doc ≡ doc_of call → is_some index ≡ false → KnowsIndex kept n index s → IsCall call → n ≤ doc + 1 → items.items ≡ kept ++ call ∷ []
     → Keeps s (call_of fields call) (record { calls = items; num_docs = doc + 1; index = index }) true
 keeps_one_more kept more n doc index s call items doc_is none knows may low pushed =
     let then = kept_then kept n index s call none knows may (rw doc_is at low) in
     rw then.1 (refl, rw (pushed, doc_is) then.2)
 
 -- the list of a term, as text
-pub listed_text : (requested : IndexRecordOption) (field : ℕ) (key : List ℕ) (readers : List InvertedIndexReaderState) (ts : List IndexToken) (reader : InvertedIndexReaderState) (cursor : SegmentPostingsState) (text : List ℕ)
-    → field < length fields → IsOpen readers ts → slice_get readers field ≡ Some reader
+pub listed_text : (requested : IndexRecordOption) (field : ℕ) (key : List ℕ) (index : OpenIndexState) (ts : List IndexToken) (reader : InvertedIndexReaderState) (cursor : SegmentPostingsState) (text : List ℕ)
+    → field < length fields → IsOpen index ts → slice_get index.readers field ≡ Some reader
     → ((f : ℕ) (tokens : List IndexToken) → ReaderHolds f reader tokens → GivesPostings reader.option f key requested tokens (Ok (Some cursor)))
-    → text ≡ list_text (downgrade (option_of fields field) requested) cursor.rest → text ≡ key_text requested field key ts
-listed_text requested field key readers ts reader cursor text below o found holds is =
+    → text ≡ list_text (downgrade reader.option requested) cursor.rest → text ≡ key_text requested field key ts
+listed_text requested field key index ts reader cursor text below o found holds is =
     let held : FieldReaderHolds fields field reader ts = rw found at (o.hold field below) in
     let gives = holds field ts held.holds in
     let option_is = held.option_is in
-    rw gives.0 (is ∙ ap (list_text (downgrade (option_of fields field) requested)) (gives.1 ∙ ap (λ (o : IndexRecordOption). key_postings o field key requested ts) option_is))
+    rw gives.0 (is ∙ ap (λ (o : IndexRecordOption). list_text (downgrade o requested) cursor.rest) option_is
+    ∙ ap (list_text (downgrade (option_of fields field) requested)) (gives.1 ∙ ap (λ (o : IndexRecordOption). key_postings o field key requested ts) option_is))
 
 -- the index of calls, by what indexing them in memory answers
-pub gives_index : (schema : List Entry) (n : ℕ) (kept : List IndexCall) (found : Result (List InvertedIndexReaderState) Fault) → schema ≡ fields → n ≡ num_docs_of (map (call_of fields) kept)
-    → IfOk found (λ index. ReadersHold schema index (tokens_of ascii_words (map (call_of schema) kept))) → IfOk found (λ index. length index ≡ length schema)
+pub gives_index : (schema : List Entry) (n : ℕ) (kept : List IndexCall) (found : Result OpenIndexState Fault) → schema ≡ fields → n ≡ num_docs_of (map (call_of fields) kept)
+    → IfOk found (λ index. IndexHolds schema n index (tokens_of ascii_words (map (call_of schema) kept))) → IfOk found (λ index. length index.readers ≡ length schema)
     → IfSome (calls_fault ascii_words (option_of schema) [] (map (call_of schema) kept)) (λ fault. (found ≡ Err fault) ⊎ (found ≡ Err OutOfMemory))
     → (calls_fault ascii_words (option_of schema) [] (map (call_of schema) kept) ≡ None → IfErr found (λ e. (e ≡ OutOfMemory) ⊎ IsRamFault schema n (tokens_of ascii_words (map (call_of schema) kept)) e))
     → GivesIndex (map (call_of fields) kept) found
 gives_index schema n kept found schema_is n_is holds many known fault =
     gives_cases n (map (call_of fields) kept) found (refusal_of (map (call_of fields) kept)) n_is refl (rw schema_is at holds) (rw schema_is at many) (rw schema_is at known) (rw schema_is at fault)
   where
-    gives_cases : (n : ℕ) (calls : List Call) (found : Result (List InvertedIndexReaderState) Fault) (why : Option Fault) → n ≡ num_docs_of calls → refusal_of calls ≡ why
-        → IfOk found (λ index. ReadersHold fields index (tokens_of ascii_words calls)) → IfOk found (λ index. length index ≡ length fields)
+    gives_cases : (n : ℕ) (calls : List Call) (found : Result OpenIndexState Fault) (why : Option Fault) → n ≡ num_docs_of calls → refusal_of calls ≡ why
+        → IfOk found (λ index. IndexHolds fields n index (tokens_of ascii_words calls)) → IfOk found (λ index. length index.readers ≡ length fields)
         → IfSome why (λ fault. (found ≡ Err fault) ⊎ (found ≡ Err OutOfMemory))
         → (why ≡ None → IfErr found (λ e. (e ≡ OutOfMemory) ⊎ IsRamFault fields n (tokens_of ascii_words calls) e))
         → GivesIndex calls found
-    gives_cases n calls (Ok readers) None n_is why holds many known fault = (tokens_of ascii_words calls, (why, refl), record { many = many; hold = holds })
-    gives_cases n calls (Ok readers) (Some f) n_is why holds many known fault = absurd (⊎_elim (λ e. ok_no_err (Ok readers) readers f refl e) (λ e. ok_no_err (Ok readers) readers OutOfMemory refl e) known)
+    gives_cases n calls (Ok index) None n_is why holds many known fault = (tokens_of ascii_words calls, (why, refl), record { many = many; hold = holds.readers })
+    gives_cases n calls (Ok index) (Some f) n_is why holds many known fault = absurd (⊎_elim (λ e. ok_no_err (Ok index) index f refl e) (λ e. ok_no_err (Ok index) index OutOfMemory refl e) known)
     gives_cases n calls (Err e) None n_is why holds many known fault =
         ⊎_elim inl (λ limit. inr (inr (why, subst (λ (m : ℕ). IsRamFault fields m (tokens_of ascii_words calls) e) n_is limit))) (fault refl)
     gives_cases n calls (Err e) (Some f) n_is why holds many known fault =
         ⊎_elim (λ same. inr (inl (why ∙ ap Some (sym (err_is (Err e) e f refl same))))) (λ memory. inl (err_is (Err e) e OutOfMemory refl memory)) known
 
 -- what a look-up in an open index answers
-pub looked_up : {E : Type 0} (kept : SessionKept) (t : Session) (readers : List InvertedIndexReaderState) (requested : IndexRecordOption) (field : ℕ) (key : List ℕ) (r : Result (String Global) E) → kept.index ≡ Some (Ok readers) → Knows kept t
-    → ((ts : List IndexToken) → IsOpen readers ts → IfOk r (λ text. string_bytes text ≡ key_text requested field key ts))
+pub looked_up : {E : Type 0} (kept : SessionKept) (t : Session) (index : OpenIndexState) (requested : IndexRecordOption) (field : ℕ) (key : List ℕ) (r : Result (String Global) E) → kept.index ≡ Some (Ok index) → Knows kept t
+    → ((ts : List IndexToken) → IsOpen index ts → IfOk r (λ text. string_bytes text ≡ key_text requested field key ts))
     → IfOk r (λ text. string_bytes text ≡ look_up_text t requested field key)
-looked_up kept t readers requested field key r is knows text =
-    let o : (ts : List IndexToken) × (t ≡ opened ts) × IsOpen readers ts = rw is at knows in
+looked_up kept t index requested field key r is knows text =
+    let o : (ts : List IndexToken) × (t ≡ opened ts) × IsOpen index ts = rw is at knows in
     rw o.1 (text o.0 o.2)

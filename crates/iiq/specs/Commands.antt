@@ -22,9 +22,11 @@ pub data Command : Type 0 where
 abbrev pub text_field : ℕ
 text_field = 0
 
+-- the field of numbers
 abbrev pub num_field : ℕ
 num_field = 1
 
+-- the option that a word names
 abbrev pub option_of_word : List ℕ → Option IndexRecordOption
 option_of_word word =
     if bytes_eq word (codes "b") then Some Basic
@@ -39,6 +41,7 @@ documents_of_words words = do
   _ ← needs (are_documents docs)
   Some docs
 
+-- what the words after `ids` ask for
 abbrev pub ids_command : List (List ℕ) → Option Command
 ids_command words = option_map (λ docs. show_ids docs) (documents_of_words words)
 
@@ -59,6 +62,7 @@ positions_of_words [] = Some None
 positions_of_words (word ∷ []) = option_map (λ bytes. Some bytes) (bytes_of_word word)
 positions_of_words (word ∷ more ∷ words) = None
 
+-- what the words after `open` ask for
 abbrev pub open_command : List (List ℕ) → Option Command
 open_command words = do
   recorded ← next_by option_of_word words
@@ -74,6 +78,7 @@ text_command words = do
   doc ← next_by (number_below TERMINATED) words
   Some (index_call (record { doc = doc.0; field = text_field; content = text (join_with_byte 32 doc.1) }))
 
+-- what the words after `num` ask for
 abbrev pub num_command : List (List ℕ) → Option Command
 num_command words = do
   doc ← next_by (number_below TERMINATED) words
@@ -84,12 +89,14 @@ num_command words = do
 abbrev pub key_of_word : List ℕ → Option (List ℕ)
 key_of_word word = needs (nat_lt 0 (length word)) >>= λ _. Some word
 
+-- what the words after `? text` ask for
 abbrev pub text_query : List (List ℕ) → Option Command
 text_query words = do
   option ← next_by option_of_word words
   key ← last_by key_of_word option.1
   Some (look_up option.0 text_field key)
 
+-- what the words after `? num` ask for
 abbrev pub num_query : List (List ℕ) → Option Command
 num_query words = option_map (λ number. look_up Basic num_field (u64_bytes number)) (last_by (number_below (2 ^ 64)) words)
 

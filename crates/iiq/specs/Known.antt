@@ -8,8 +8,7 @@ use Rattle.ii_layout.specs.TermList.{term_list}
 use Rattle.ii_index.specs.Tokens.{Call, IndexToken}
 use Rattle.ii_indexing.specs.declared.index_call.IndexCall.{IndexCall}
 use Rattle.ii_indexing.specs.IndexCalls.{MayAllBeIndexed, Takes, call_of, doc_of, field_of, type_of}
-use Rattle.ii_reader.specs.InvertedIndexReader.{InvertedIndexReaderState}
-use Rattle.ii_reader.specs.OpenIndex.{ReadersHold}
+use Rattle.ii_reader.specs.OpenIndex.{OpenIndexState, ReadersHold}
 use Rattle.iiq.specs.declared.commands.Opening.{Opening}
 use Rattle.iiq.specs.declared.commands.Query.{Query}
 use Rattle.iiq.specs.declared.session.Session.{Session as SessionKept}
@@ -17,12 +16,15 @@ use Rattle.iiq.specs.Commands.{Command, index_call, look_up, open_list}
 use Rattle.iiq.specs.Output.{AnswersLine, AnswersMaybe, opened_text, with_ends}
 use Rattle.iiq.specs.Session.{Session, gathering, opened, refused, IsIndexed, fields, kept_with, num_docs_of}
 
+-- what an opening asks for
 abbrev pub opening_command : Opening → Command
 opening_command o = open_list o.record_option o.requested_option o.doc_freq o.postings o.positions
 
+-- what an index call asks for
 abbrev pub call_command : IndexCall → Command
 call_command call = index_call (call_of fields call)
 
+-- what a query asks for
 abbrev pub query_look_up : Query → Command
 query_look_up q = look_up q.requested q.term.field q.term.value
 
@@ -39,20 +41,21 @@ pub record AreGathered (kept : List IndexCall) (num_docs : ℕ) (calls : List Ca
   pub may : MayAllBeIndexed fields num_docs kept
 
 -- The readers of an open index have these tokens.
-pub record IsOpen (readers : List InvertedIndexReaderState) (ts : List IndexToken) : Type 0 where
-  pub many : length readers ≡ length fields
-  pub hold : ReadersHold fields readers ts
+pub record IsOpen (index : OpenIndexState) (ts : List IndexToken) : Type 0 where
+  pub many : length index.readers ≡ length fields
+  pub hold : ReadersHold fields index.readers ts
 
 -- What is known where no index was asked for, or it is open, or was refused.
-abbrev pub KnowsIndex : List IndexCall → ℕ → Option (Result (List InvertedIndexReaderState) Fault) → Session → Type 0
+abbrev pub KnowsIndex : List IndexCall → ℕ → Option (Result OpenIndexState Fault) → Session → Type 0
 KnowsIndex kept num_docs None s = (calls : List Call) × (s ≡ gathering calls) × AreGathered kept num_docs calls
-KnowsIndex kept num_docs (Some (Ok readers)) s = (ts : List IndexToken) × (s ≡ opened ts) × IsOpen readers ts
+KnowsIndex kept num_docs (Some (Ok index)) s = (ts : List IndexToken) × (s ≡ opened ts) × IsOpen index ts
 KnowsIndex kept num_docs (Some (Err fault)) s = s ≡ refused fault
 
 -- The program's session is this one.
 abbrev pub Knows : SessionKept → Session → Type 0
 Knows kept s = KnowsIndex kept.calls.items kept.num_docs kept.index s
 
+-- The program's record is that of some session.
 abbrev pub IsSession : SessionKept → Type 0
 IsSession kept = (s : Session) × Knows kept s
 
@@ -61,8 +64,8 @@ abbrev pub Keeps : Session → Call → SessionKept → Bool → Type 0
 Keeps s c new taken = MatchOption (kept_with s c) ((taken ≡ false) × Knows new s) (λ t. (taken ≡ true) × Knows new t)
 
 -- The index of calls is open, or was refused.
-abbrev pub GivesIndex : List Call → Result (List InvertedIndexReaderState) Fault → Type 0
-GivesIndex calls (Ok readers) = (ts : List IndexToken) × IsIndexed calls (opened ts) × IsOpen readers ts
+abbrev pub GivesIndex : List Call → Result OpenIndexState Fault → Type 0
+GivesIndex calls (Ok index) = (ts : List IndexToken) × IsIndexed calls (opened ts) × IsOpen index ts
 GivesIndex calls (Err fault) = IsIndexed calls (refused fault)
 
 -- what a line that opens a list is answered with

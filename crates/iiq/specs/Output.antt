@@ -39,6 +39,7 @@ abbrev pub list_text : IndexRecordOption → List Entry → List ℕ
 list_text option [] = nothing
 list_text option (e ∷ es) = join_with_byte 32 (map (item option) (e ∷ es))
 
+-- the name of a damaged part
 abbrev pub part_name : Part → List ℕ
 part_name Skip = codes "skip"
 part_name Documents = codes "documents"
@@ -46,6 +47,7 @@ part_name Frequencies = codes "frequencies"
 part_name Positions = codes "positions"
 part_name _ = []
 
+-- a list that was opened, or the part that is damaged
 abbrev pub opened_text : IndexRecordOption → Result (List Entry) Part → List ℕ
 opened_text option (Ok entries) = list_text option entries
 opened_text option (Err part) = codes "damaged " ++ part_name part
@@ -62,6 +64,7 @@ look_up_text (gathering calls) requested field key = []
 look_up_text (opened ts) requested field key = key_text requested field key ts
 look_up_text (refused fault) requested field key = codes "error " ++ decimal (number_of fault)
 
+-- what documents are answered with: their bytes, and the list of them
 abbrev pub ids_texts : List ℕ → List (List ℕ)
 ids_texts docs = written_hex (written_documents docs) ∷ list_text Basic (map document docs) ∷ []
 

@@ -19,6 +19,7 @@ parts_left c (Some text) = parts c text
 abbrev pub lines_of : List ℕ → List (List ℕ)
 lines_of text = parts 10 text
 
+-- the words of a line
 abbrev pub words_of : List ℕ → List (List ℕ)
 words_of line = parts 32 line
 
@@ -33,6 +34,7 @@ number_below limit word = do
   _ ← needs (nat_lt 0 (length word) && all_ascii_digits word && nat_lt (number_on 0 word) limit)
   Some (number_on 0 word)
 
+-- the numbers that words write, each below a limit
 abbrev pub numbers_below : ℕ → List (List ℕ) → Option (List ℕ)
 numbers_below limit [] = Some []
 numbers_below limit (w ∷ ws) = do

@@ -1,7 +1,6 @@
 ghost use Rattle.std.specs.Prelude.{◌≡◌, ◌++◌, ◌<◌, ◌≤◌, [], List, length, map, codes, decimal, string_bytes, IfErr, IfOk};
 ghost use Rattle.ii_io.specs.Faults.{number_of};
 ghost use Rattle.ii_docset.specs.declared.docset.TheConstants.{TERMINATED};
-ghost use Rattle.ii_index.specs.Fields.{option_of as option_of_field};
 ghost use Rattle.ii_index.specs.Tokens.{IndexToken};
 ghost use Rattle.ii_indexing.specs.IndexCalls.{MayAllBeIndexed, call_of};
 ghost use Rattle.iiq.specs.Known.{GivesIndex, IsCall, IsOpen, IsSession, Keeps, Knows};
@@ -10,9 +9,7 @@ ghost use Rattle.iiq.specs.Session.{Session as SessionState, gathering, Indexes,
 
 use crate::commands::Query;
 use crate::output::push_list;
-use ii_base::{
-    AsciiTokenizer, Fault, Field, FieldEntry, IndexRecordOption, Schema, Term, ValueType,
-};
+use ii_base::{AsciiTokenizer, Fault, FieldEntry, IndexRecordOption, Schema, ValueType};
 use ii_docset::DocId;
 use ii_indexing::IndexCall;
 use ii_ram::index_in_ram;
@@ -114,32 +111,19 @@ fn schema(alloc: Global) -> Result<Schema, Fault>
     Ok(Schema::new(entries))
 }
 
-// What a field records.
-fn option_of(field: Field) -> IndexRecordOption
-    requires { field < length fields }
-    ensures { result ≡ option_of_field fields field }
-{
-    if field == Field::from_field_id(0) {
-        IndexRecordOption::WithFreqsAndPositions
-    } else {
-        IndexRecordOption::Basic
-    }
-}
-
 // The list of a term in an index, or `none`.
 fn list_text(alloc: Global, index: &OpenIndex, query: &Query) -> Result<String, AllocError>
-    requires many { length index.now ≡ length fields }
+    requires many { length index.now.readers ≡ length fields }
     requires field { query.now.term.field < length fields }
     ensures { (ts : List IndexToken) → IsOpen index.now ts
         → IfOk result (λ text. string_bytes text ≡ key_text query.now.requested query.now.term.field query.now.term.value ts) }
 {
-    let field = query.term.field();
-    let reader = index.reader(field);
+    let reader = index.reader(query.term.field());
     match reader.read_postings(&query.term, query.requested) {
         Ok(None) => String::from_str(alloc, "none"),
         Ok(Some(mut cursor)) => {
             let mut text = String::new(alloc);
-            let option = option_of(field).downgrade(query.requested);
+            let option = reader.record_option().downgrade(query.requested);
             push_list(alloc, &mut text, &mut cursor, option)?;
             Ok(text)
         }

@@ -1,32 +1,69 @@
-ghost use Rattle.std.specs.Prelude.{◌≡◌, ◌<◌, true, length, IfErr, IfOk};
+ghost use Rattle.std.specs.Prelude.{◌≡◌, ◌≤◌, ◌<◌, ◌-◌, length, if◌then◌else◌, Some, None};
 ghost use Rattle.std.specs.List.{take_while};
-ghost use Rattle.ii_base.specs.AsciiWords.{ascii_words, begins_run, is_word_byte, run_word};
-ghost use Rattle.ii_base.specs.Words.{word_of};
+ghost use Rattle.ii_base.specs.AsciiWords.{ascii_words, begins_run, is_run, is_word_byte, run_word, words_from};
 
 use super::text_analyzer::TextAnalyzer;
-use super::token::Token;
-use super::token_list::TokenList;
-use ii_io::Fault;
-use std::alloc::Global;
+use super::token_places::TokenPlaces;
+use super::token_view::TokenView;
 
 /// Cuts a text into the maximal runs of ASCII letters, ASCII digits and characters past ASCII, which
 /// it doesn't change. They stand at positions 0, 1, 2 and so on, and take one position each.
 #[derive(Clone, Copy, Debug, Default, PartialEq, Eq)]
 pub struct AsciiTokenizer;
 
+/// Where a run of a text stands, and how many runs were passed with it.
+#[derive(Drop)]
+pub struct AsciiPlaces {
+    start: usize,
+    end: usize,
+    passed: usize,
+    ghost apart: { passed ≤ end },
+}
+
 impl TextAnalyzer for AsciiTokenizer {
+    type Places = AsciiPlaces;
+
     ghost words = { λ tokenizer text. ascii_words text };
 
-    fn token_list(&self, alloc: Global, text: &str) -> Result<TokenList, Fault> {
-        let mut tokens = Vec::new(alloc);
-        for start in 0..text.len() {
-            if !begins_run(text.as_bytes(), start) {
-                continue;
-            }
-            let position = tokens.len();
-            tokens.push(run_token(alloc, text, start, position)?)?;
+    fn places(&self, _text: &str) -> AsciiPlaces {
+        AsciiPlaces {
+            start: 0,
+            end: 0,
+            passed: 0,
         }
-        Ok(TokenList::new(tokens))
+    }
+}
+
+impl TokenPlaces for AsciiPlaces {
+    ghost to_come = { λ s text. words_from text s.passed s.end };
+
+    ghost current = { λ s text. if is_run text s.start s.end then Some (run_word text (s.passed - 1) s.start) else None };
+
+    fn advance(&mut self, text: &str) -> bool {
+        let mut at = self.end;
+        while at < text.len() && !begins_run(text.as_bytes(), at) {
+            at += 1;
+        }
+        if at >= text.len() {
+            return false;
+        }
+        let end = at + run_len(&text.as_bytes()[at..]);
+        *self = AsciiPlaces {
+            start: at,
+            end,
+            passed: self.passed + 1,
+        };
+        true
+    }
+
+    fn token<'t>(&'t self, text: &'t str) -> TokenView<'t> {
+        TokenView {
+            offset_from: self.start,
+            offset_to: self.end,
+            position: self.passed.saturating_sub(1),
+            text: &text[self.start..self.end],
+            position_length: 1,
+        }
     }
 }
 
@@ -55,20 +92,4 @@ fn run_len(bytes: &[u8]) -> usize
     ensures { result ≡ length (take_while is_word_byte bytes.now) }
 {
     bytes.iter().take_while(|b| is_word_byte(**b)).count()
-}
-
-// The token of the run that begins at a place.
-fn run_token(alloc: Global, text: &str, start: usize, position: usize) -> Result<Token, Fault>
-    requires { begins_run text.now start ≡ true }
-    ensures ok { IfOk result (λ t. word_of t ≡ run_word text.now position start) }
-    ensures only { IfErr result (λ e. e ≡ Fault.OutOfMemory) }
-{
-    let end = start + run_len(&text.as_bytes()[start..]);
-    Ok(Token {
-        offset_from: start,
-        offset_to: end,
-        position,
-        text: String::from_str(alloc, &text[start..end])?,
-        position_length: 1,
-    })
 }

@@ -1,7 +1,12 @@
 ghost use Rattle.std.specs.Prelude.{◌≡◌, None, IfErr, IfOk};
-ghost use Rattle.ii_base.specs.Words.{Word};
+ghost use Rattle.ii_base.specs.Words.{Word, seen_word, word_of, words_of};
 
+use super::text_tokens::TextTokens;
+use super::token::Token;
 use super::token_list::TokenList;
+use super::token_places::TokenPlaces;
+use super::token_stream::TokenStream;
+use super::token_view::TokenView;
 use ii_io::Fault;
 use std::alloc::Global;
 
@@ -9,10 +14,56 @@ use std::alloc::Global;
 pub trait TextAnalyzer {
     ghost use Rattle.std.specs.Prelude.{ℕ, List};
 
+    /// Where the tokens of a text stand.
+    type Places: TokenPlaces;
+
     ghost words: { Self → List ℕ → List Word };
+
+    /// Where the tokens of a text stand, all of them still to come.
+    fn places(&self, text: &str) -> Self::Places
+        ensures { Self.Places.to_come result text.now ≡ words self.now text.now };
+
+    /// The tokens of a text, all of them still to come, each lent from it.
+    fn token_stream<'t>(&self, text: &'t str) -> TextTokens<'t, Self::Places>
+        ensures { ⟦<TextTokens<'t, Self::Places> as TokenStream>⟧.to_come result ≡ words self.now text.now }
+    {
+        let places = self.places(text);
+        TextTokens::new(text, places)
+    }
 
     /// The tokens of a text, all of them still to come. `OutOfMemory` where there is no room for them.
     fn token_list(&self, alloc: Global, text: &str) -> Result<TokenList, Fault>
         ensures ok { IfOk result (λ tokens. tokens ≡ record { current = None; to_come = words self.now text.now }) }
-        ensures only { IfErr result (λ e. e ≡ Fault.OutOfMemory) };
+        ensures only { IfErr result (λ e. e ≡ Fault.OutOfMemory) }
+    {
+        let mut stream = self.token_stream(text);
+        let tokens = gather(alloc, &mut stream)?;
+        Ok(TokenList::new(tokens))
+    }
+}
+
+// The tokens that are still to come of a stream.
+fn gather<S: TokenStream>(alloc: Global, stream: &mut S) -> Result<Vec<Token>, Fault>
+    ensures ok { IfOk result (λ tokens. words_of tokens.items ≡ S.to_come stream.old) }
+    ensures only { IfErr result (λ e. e ≡ Fault.OutOfMemory) }
+{
+    let mut tokens = Vec::new(alloc);
+    while stream.advance() {
+        tokens.push(owned(alloc, stream.token())?)?;
+    }
+    Ok(tokens)
+}
+
+// A token with letters of its own.
+fn owned(alloc: Global, token: TokenView<'_>) -> Result<Token, Fault>
+    ensures ok { IfOk result (λ t. word_of t ≡ seen_word token.entry) }
+    ensures only { IfErr result (λ e. e ≡ Fault.OutOfMemory) }
+{
+    Ok(Token {
+        offset_from: token.offset_from,
+        offset_to: token.offset_to,
+        position: token.position,
+        text: String::from_str(alloc, token.text)?,
+        position_length: token.position_length,
+    })
 }

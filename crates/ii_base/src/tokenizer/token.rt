@@ -1,3 +1,8 @@
+ghost use Rattle.std.specs.Prelude.{◌≡◌};
+ghost use Rattle.ii_base.specs.Words.{seen_word, word_of};
+
+use super::token_view::TokenView;
+
 /// A token of a text.
 #[derive(Drop)]
 pub struct Token {
@@ -11,4 +16,19 @@ pub struct Token {
     pub text: String,
     /// How many positions it covers.
     pub position_length: usize,
+}
+
+impl Token {
+    /// The token, lent.
+    pub fn view(&self) -> TokenView<'_>
+        ensures { seen_word result ≡ word_of self.now }
+    {
+        TokenView {
+            offset_from: self.offset_from,
+            offset_to: self.offset_to,
+            position: self.position,
+            text: self.text.as_str(),
+            position_length: self.position_length,
+        }
+    }
 }

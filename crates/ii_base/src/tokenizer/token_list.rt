@@ -3,6 +3,7 @@ ghost use Rattle.ii_base.specs.Words.{words_of};
 
 use super::token::Token;
 use super::token_stream::TokenStream;
+use super::token_view::TokenView;
 use std::marker::Model;
 
 /// Tokens in a list, gone over one by one.
@@ -48,7 +49,7 @@ impl TokenStream for TokenList {
         true
     }
 
-    fn token(&self) -> &Token {
-        &self.tokens[self.passed - 1]
+    fn token(&self) -> TokenView<'_> {
+        self.tokens[self.passed - 1].view()
     }
 }

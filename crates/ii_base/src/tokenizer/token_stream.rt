@@ -2,9 +2,9 @@ ghost use Rattle.std.specs.Prelude.{◌≡◌, true, drop, length, nat_lt, slice
 ghost use Rattle.std.specs.Borrow.{sem, follows_so};
 ghost use mathlib.Core.Option.{none};
 ghost use Rattle.std.specs.Option.{option_map};
-ghost use Rattle.ii_base.specs.Words.{Word, word_of};
+ghost use Rattle.ii_base.specs.Words.{Word, seen_word};
 
-use super::token::Token;
+use super::token_view::TokenView;
 
 /// Goes over the tokens of a text. Its meaning is the list of tokens still to come.
 pub trait TokenStream: Drop {
@@ -22,14 +22,14 @@ pub trait TokenStream: Drop {
         ensures rest { to_come self.new ≡ drop 1 (to_come self.old) };
 
     /// The current token. It asks for an `advance` that answered true.
-    fn token(&self) -> &Token
+    fn token(&self) -> TokenView<'_>
         requires { IsSome (current self.now) }
-        ensures { current self.now ≡ Some (word_of result.now) };
+        ensures { current self.now ≡ Some (seen_word result) };
 
     /// Goes on to the next token, and answers it, if there is one.
-    fn next(&mut self) -> Option<&Token>
+    fn next(&mut self) -> Option<TokenView<'_>>
         ensures* rest { sem 𝓛 (follows_so Self.row Self.row self.entry.ghost_name none (λ _ _. ⊤) (λ after. to_come after ≡ drop 1 (to_come self.old))) }
-        ensures found { option_map (λ t. word_of t.now) result ≡ slice_get (to_come self.old) 0 }
+        ensures found { option_map seen_word result ≡ slice_get (to_come self.old) 0 }
     {
         if self.advance() {
             return Some(self.token());

@@ -1,9 +1,11 @@
-ghost use Rattle.std.specs.Prelude.{◌≡◌, ◌+◌, ◌-◌, ◌*◌, ◌/◌, ◌^◌, ◌<◌, ◌≤◌, length, take, drop, Some, None, IsSome, IfOk, IfErr, OnOk, OnErr, MatchOption, MatchBool, IsTrue, is_some, IfSome, slice_index, ◌⊎◌};
+ghost use Rattle.std.specs.Prelude.{◌≡◌, ◌+◌, ◌-◌, ◌*◌, ◌/◌, ◌^◌, ◌<◌, ◌≤◌, length, take, drop, Some, None, IsSome, IfOk, IfErr, OnOk, OnErr, MatchOption, MatchBool, IsTrue, is_some, IfSome, slice_index, nat_lt, ◌⊎◌};
+ghost use Rattle.std.specs.List.{sum};
 ghost use Rattle.ii_layout.specs.Each.{each};
 ghost use Rattle.ii_layout.specs.Positions.{position_list, place_by_widths, block_deltas, rest_deltas, position_deltas};
 ghost use Rattle.ii_layout.specs.PositionReader.{AreAnchors, anchored, list_at, rest_at, deltas_at_block};
 ghost use Rattle.ii_layout.specs.Written.{block_of};
 
+use crate::block::sum_of;
 use crate::split::bytes_from;
 use bytes::Bytes;
 use ii_codes::{BlockDecoder, COMPRESSION_BLOCK_SIZE, VIntDecoder, compressed_block_size};
@@ -85,6 +87,31 @@ impl PositionBlocks {
     {
         let num_blocks = self.body - self.widths;
         num_blocks as u128 * COMPRESSION_BLOCK_SIZE as u128 + self.rest_len as u128
+    }
+
+    /// Whether the sum of all deltas has 32 bits. Each block is decoded, and none of it is kept.
+    pub(crate) fn has_small_sum(&self) -> bool
+        ensures { result ≡ nat_lt (sum self.now.deltas) (2 ^ 32) }
+    {
+        let bytes = self.bytes.as_slice();
+        let widths = &bytes[self.widths..self.body];
+        let body = bytes_from(bytes, self.body);
+        let mut block_decoder = BlockDecoder::with_val(0);
+        let mut place = 0;
+        let mut sum = 0;
+        for block in 0..widths.len() {
+            decode(widths, body, block, place, &mut block_decoder);
+            sum += sum_of(block_decoder.output_array());
+            if sum > u64::from(u32::MAX) {
+                return false;
+            }
+            place += compressed_block_size(widths[block]);
+        }
+        if self.block == widths.len() {
+            return sum + sum_of(self.block_decoder.output_array()) <= u64::from(u32::MAX);
+        }
+        decode(widths, body, widths.len(), place, &mut block_decoder);
+        sum + sum_of(block_decoder.output_array()) <= u64::from(u32::MAX)
     }
 
     /// Decodes a block that has deltas, if it isn't the one that is decoded.

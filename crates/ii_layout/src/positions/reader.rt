@@ -1,4 +1,5 @@
-ghost use Rattle.std.specs.Prelude.{◌≡◌, ◌+◌, ◌/◌, ◌≤◌, length, take, drop, Some, None, IfOk, IfErr, OnErr};
+ghost use Rattle.std.specs.Prelude.{◌≡◌, ◌+◌, ◌/◌, ◌^◌, ◌≤◌, length, take, drop, nat_lt, Some, None, IfOk, IfErr, OnErr};
+ghost use Rattle.std.specs.List.{sum};
 ghost use Rattle.ii_layout.specs.Positions.{position_deltas};
 
 use super::blocks::PositionBlocks;
@@ -38,10 +39,11 @@ impl PositionReader {
         ensures refused { OnErr result (position_deltas bytes ≡ None) }
         ensures err { IfErr result (λ fault. fault ≡ LayoutFault.Damaged Part.Positions) }
     {
-        match PositionBlocks::open(bytes) {
-            Ok(blocks) => Ok(PositionReader { blocks }),
-            Err(fault) => Err(fault),
-        }
+        let blocks = match PositionBlocks::open(bytes) {
+            Ok(blocks) => blocks,
+            Err(fault) => return Err(fault),
+        };
+        Ok(PositionReader { blocks })
     }
 
     /// How many deltas there are.
@@ -49,6 +51,14 @@ impl PositionReader {
         ensures { result ≡ length self.now.deltas }
     {
         self.blocks.len()
+    }
+
+    /// Whether the sum of all deltas has 32 bits. So has each position then, however they are shared
+    /// out among documents. Each block is decoded once, and the reader stays as it is.
+    pub fn has_small_sum(&self) -> bool
+        ensures { result ≡ nat_lt (sum self.now.deltas) (2 ^ 32) }
+    {
+        self.blocks.has_small_sum()
     }
 
     /// Reads as many deltas as `output` has room for, from `offset` on; all of them are there. Only

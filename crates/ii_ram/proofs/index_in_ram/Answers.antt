@@ -5,12 +5,12 @@ use Rattle.ii_io.specs.declared.faults.Fault.TheVariants.{OutOfMemory}
 use Rattle.ii_base.specs.Schema.{Entry}
 use Rattle.ii_index.specs.Fields.{option_of}
 use Rattle.ii_index.specs.Files.{HoldTokens}
+use Rattle.ii_index.specs.Norms.{HoldNorms}
 use Rattle.ii_index.specs.Tokens.{tokens_of}
 use Rattle.ii_indexing.specs.IndexCalls.{call_of}
 use Rattle.ii_indexing.specs.IndexFiles.{IsWriteFault, WroteIndex}
-use Rattle.ii_reader.specs.OpenIndex.{GivesReaders}
 use Rattle.ii_ram.specs.Ram.{IsRamFault}
-use Rattle.ii_ram.proofs.RamLaws.{fault_in_ram, in_ram, readers_fault, readers_hold}
+use Rattle.ii_ram.proofs.RamLaws.{GivesAll, fault_in_ram, in_ram, index_holds, readers_fault}
 use Rattle.ii_ram.proofs.index_in_ram.Goals as goal
 
 pub returns-in-Ok-clause-holds : goal.returns-in-Ok-clause-holds
@@ -20,9 +20,12 @@ returns-in-Ok-clause-holds g c =
     let new = c.write_index-files.result.0 in
     let wrote : WroteIndex c.args.schema c.args.num_docs files new ts = subst (λ (r : Result (Unit {0}) Fault). OnOk r (WroteIndex c.args.schema c.args.num_docs files new ts)) c.in-Ok.is c.write_index-files.ensures.wrote in
     let ram = in_ram c.args.schema c.args.num_docs files new ts c.files_in_ram-files.ensures wrote in
-    let hold = subst (λ (es : List Entry). HoldTokens (option_of es) wrote.terms.terms wrote.terms.postings wrote.terms.positions ts) (sym c.in_ok-copy.ensures.same) wrote.terms.hold in
-    readers_hold c.args.schema ts c.open_files.result
-    (subst (λ (es : List Entry). GivesReaders es ts c.open_files.result) c.in_ok-copy.ensures.same (c.open_files.ensures.holds wrote.terms.terms wrote.terms.postings wrote.terms.positions ts ram.0 ram.1 ram.2 hold))
+    let same = sym c.in_ok-copy.ensures.same in
+    let hold = subst (λ (es : List Entry). HoldTokens (option_of es) wrote.terms.terms wrote.terms.postings wrote.terms.positions ts) same wrote.terms.hold in
+    let norms = subst (λ (es : List Entry). HoldNorms es c.args.num_docs wrote.norms.fieldnorms ts) same wrote.norms.hold in
+    let gives = c.open_files.ensures.holds wrote.terms.terms wrote.terms.postings wrote.terms.positions wrote.norms.fieldnorms c.args.num_docs ts ram.0 ram.1 ram.2 ram.3 hold norms in
+    index_holds c.args.schema c.args.num_docs ts c.open_files.result
+    (subst (λ (es : List Entry). GivesAll es c.args.num_docs ts c.open_files.result) c.in_ok-copy.ensures.same gives)
 
 pub returns-in-Ok-clause-fault : goal.returns-in-Ok-clause-fault
 returns-in-Ok-clause-fault g c none =
@@ -31,8 +34,11 @@ returns-in-Ok-clause-fault g c none =
     let new = c.write_index-files.result.0 in
     let wrote : WroteIndex c.args.schema c.args.num_docs files new ts = subst (λ (r : Result (Unit {0}) Fault). OnOk r (WroteIndex c.args.schema c.args.num_docs files new ts)) c.in-Ok.is c.write_index-files.ensures.wrote in
     let ram = in_ram c.args.schema c.args.num_docs files new ts c.files_in_ram-files.ensures wrote in
-    let hold = subst (λ (es : List Entry). HoldTokens (option_of es) wrote.terms.terms wrote.terms.postings wrote.terms.positions ts) (sym c.in_ok-copy.ensures.same) wrote.terms.hold in
-    readers_fault c.in_ok-copy.copy ts (IsRamFault c.args.schema c.args.num_docs ts) c.open_files.result (c.open_files.ensures.holds wrote.terms.terms wrote.terms.postings wrote.terms.positions ts ram.0 ram.1 ram.2 hold)
+    let same = sym c.in_ok-copy.ensures.same in
+    let hold = subst (λ (es : List Entry). HoldTokens (option_of es) wrote.terms.terms wrote.terms.postings wrote.terms.positions ts) same wrote.terms.hold in
+    let norms = subst (λ (es : List Entry). HoldNorms es c.args.num_docs wrote.norms.fieldnorms ts) same wrote.norms.hold in
+    let gives = c.open_files.ensures.holds wrote.terms.terms wrote.terms.postings wrote.terms.positions wrote.norms.fieldnorms c.args.num_docs ts ram.0 ram.1 ram.2 ram.3 hold norms in
+    readers_fault c.in_ok-copy.copy ts (IsRamFault c.args.schema c.args.num_docs ts) c.open_files.result gives.0
 
 pub returns-clause-fault : goal.returns-clause-fault
 returns-clause-fault g c none =

@@ -1,13 +1,14 @@
 ghost use Rattle.std.specs.Prelude.{◌≡◌, [], ◌∷◌, None, false, map};
-ghost use Rattle.std.specs.Option.{option_map, option_to_list};
 ghost use Rattle.ii_docset.specs.Entries.{document};
 ghost use Rattle.ii_recorder.specs.Pushed.{MayPush, Pushes};
 ghost use Rattle.ii_base.specs.declared.schema.index_record_option.IndexRecordOption.TheVariants.{Basic};
 
 use super::Recorder;
+use super::sum_reader::SumReader;
+use super::vint32_reader::VInt32Reader;
 use crate::buffer_lender::BufferLender;
 use crate::field_serializer::FieldSerializer;
-use ii_base::Fault;
+use ii_base::{Fault, write_u32_vint};
 use ii_docset::DocId;
 use std::alloc::Global;
 use std::io::Write;
@@ -16,24 +17,24 @@ use std::marker::Model;
 /// Keeps documents alone.
 #[derive(Drop)]
 pub struct DocIdRecorder {
-    closed: Vec<DocId>,
-    pending: Option<DocId>,
+    // How far each document lies after the one before it, the first one from 0, as vints.
+    deltas: Vec<u8>,
+    // The last document, 0 where there is none.
+    last: DocId,
+    // Whether it is open.
+    is_open: bool,
 }
 
 impl Model for DocIdRecorder {
-    ghost use Rattle.std.specs.Prelude.{map};
-    ghost use Rattle.std.specs.Option.{option_map};
-    ghost use Rattle.ii_base.specs.declared.schema.index_record_option.IndexRecordOption.TheVariants.{Basic};
-    ghost use Rattle.ii_docset.specs.Entries.{document};
+    ghost use Rattle.ii_recorder.specs.Gathered.{docs_state};
+    ghost use Rattle.ii_recorder.specs.Kept.{KeepsDocs};
     ghost use Rattle.ii_recorder.specs.Recorded.{RecorderState};
 
     ghost Value = { RecorderState };
 
-    ghost view = { λ r. record {
-      option = Basic;
-      closed = map document r.closed.items;
-      pending = option_map document r.pending;
-    } };
+    ghost view = { λ r. docs_state r.deltas.items r.is_open };
+
+    ghost invariant = { λ r. KeepsDocs r.deltas.items r.last r.is_open };
 }
 
 impl DocIdRecorder {
@@ -42,8 +43,9 @@ impl DocIdRecorder {
         ensures { result ≡ record { option = Basic; closed = []; pending = None } }
     {
         DocIdRecorder {
-            closed: Vec::new(alloc),
-            pending: None,
+            deltas: Vec::new(alloc),
+            last: 0,
+            is_open: false,
         }
     }
 }
@@ -58,17 +60,20 @@ fn push_doc<W: Write>(doc: DocId, serializer: &mut FieldSerializer<'_, W>) -> Re
 }
 
 // Pushes documents.
-fn push_docs<W: Write>(docs: &[DocId], serializer: &mut FieldSerializer<'_, W>) -> Result<(), Fault>
-    requires { MayPush Basic serializer.old.index.now (map document docs.now) }
+fn push_docs<W: Write>(
+    docs: &mut SumReader<'_>,
+    serializer: &mut FieldSerializer<'_, W>,
+) -> Result<(), Fault>
+    requires { MayPush Basic serializer.old.index.now (map document docs.old) }
     ensures same_reference { serializer.new.index.ghost_name ≡ serializer.old.index.ghost_name }
-    ensures pushes { Pushes Basic serializer.old.index.now serializer.new.index.now (map document docs.now) result }
+    ensures pushes { Pushes Basic serializer.old.index.now serializer.new.index.now (map document docs.old) result }
 {
     let checked = serializer.check_open();
     if checked.is_err() {
         return checked;
     }
-    for doc in docs {
-        let pushed = push_doc(*doc, serializer);
+    while let Some(doc) = docs.next() {
+        let pushed = push_doc(doc, serializer);
         if pushed.is_err() {
             return pushed;
         }
@@ -76,51 +81,30 @@ fn push_docs<W: Write>(docs: &[DocId], serializer: &mut FieldSerializer<'_, W>) 
     Ok(())
 }
 
-// Pushes the open document, if there is one.
-#[tactic(auto, using(crate::proofs::PushLemmas::pushes_none))]
-fn push_open_doc<W: Write>(
-    pending: Option<DocId>,
-    serializer: &mut FieldSerializer<'_, W>,
-) -> Result<(), Fault>
-    requires unclosed { serializer.old.index.now.closed ≡ false }
-    requires may { MayPush Basic serializer.old.index.now (option_to_list (option_map document pending)) }
-    ensures same_reference { serializer.new.index.ghost_name ≡ serializer.old.index.ghost_name }
-    ensures pushes { Pushes Basic serializer.old.index.now serializer.new.index.now (option_to_list (option_map document pending)) result }
-{
-    match pending {
-        Some(doc) => push_doc(doc, serializer),
-        None => Ok(()),
-    }
-}
-
 impl Recorder for DocIdRecorder {
     ghost state = { λ r. r };
 
     fn current_doc(&self) -> DocId {
-        match self.pending {
-            Some(doc) => doc,
-            None => match self.closed.last() {
-                Some(last) => *last,
-                None => u32::MAX,
-            },
+        if self.deltas.as_slice().is_empty() {
+            return u32::MAX;
         }
+        self.last
     }
 
     fn new_doc(&mut self, doc: DocId) -> Result<(), Fault> {
-        self.pending = Some(doc);
+        write_u32_vint(doc.saturating_sub(self.last), &mut self.deltas)?;
+        self.last = doc;
+        self.is_open = true;
         Ok(())
     }
 
     fn record_position(&mut self, _position: u32) -> Result<(), Fault> {
-        let _pending = &self.pending;
+        let _deltas = &self.deltas;
         Ok(())
     }
 
     fn close_doc(&mut self) -> Result<(), Fault> {
-        if let Some(doc) = self.pending {
-            self.closed.push(doc)?;
-            self.pending = None;
-        }
+        self.is_open = false;
         Ok(())
     }
 
@@ -129,20 +113,17 @@ impl Recorder for DocIdRecorder {
         _buffer_lender: &mut BufferLender,
         serializer: &mut FieldSerializer<'_, W>,
     ) -> Result<(), Fault> {
-        let pushed = push_docs(&self.closed, serializer);
-        if pushed.is_err() {
-            return pushed;
-        }
-        push_open_doc(self.pending, serializer)
+        let mut docs = SumReader::new(VInt32Reader::new(&self.deltas));
+        push_docs(&mut docs, serializer)
     }
 
     fn term_doc_freq(&self) -> Option<u32> {
-        let _closed = &self.closed;
+        let _deltas = &self.deltas;
         None
     }
 
     fn has_term_freq(&self) -> bool {
-        let _closed = &self.closed;
+        let _deltas = &self.deltas;
         false
     }
 }

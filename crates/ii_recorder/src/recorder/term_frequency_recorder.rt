@@ -1,55 +1,43 @@
-ghost use Rattle.std.specs.Prelude.{◌≡◌, ◌+◌, [], ◌∷◌, None, false, length, map, min};
-ghost use Rattle.std.specs.Option.{option_map, option_to_list};
-ghost use Rattle.ii_recorder.specs.DocFreqs.{entry_of};
+ghost use Rattle.std.specs.Prelude.{◌≡◌, [], ◌∷◌, None, drop, slice_get, unwrap_or};
+ghost use Rattle.ii_docset.specs.Entries.{counted};
+ghost use Rattle.ii_recorder.specs.Gathered.{counted_all, counts_in};
 ghost use Rattle.ii_recorder.specs.Pushed.{MayPush, Pushes};
-ghost use Rattle.ii_recorder.specs.Recorded.{u32_max};
 ghost use Rattle.ii_base.specs.declared.schema.index_record_option.IndexRecordOption.TheVariants.{WithFreqs};
 
 use super::Recorder;
+use super::vint32_reader::VInt32Reader;
 use crate::buffer_lender::BufferLender;
 use crate::field_serializer::FieldSerializer;
-use ii_base::{Fault, LimitName};
+use ii_base::{Fault, LimitName, write_u32_vint};
 use ii_docset::DocId;
 use std::alloc::Global;
 use std::io::Write;
 use std::marker::Model;
 
-// A document and how often the term is in it.
-#[derive(Clone, Copy)]
-pub(crate) struct DocFreq {
-    pub(crate) doc: DocId,
-    pub(crate) term_freq: u32,
-}
-
-// How many documents there are, the open one included, or `u32::MAX` if there are more.
-pub(crate) fn count_docs(closed: &[DocFreq], pending: Option<DocFreq>) -> u32
-    ensures { result ≡ min (length closed.now + length (option_to_list pending)) u32_max }
-{
-    let open = usize::from(pending.is_some());
-    u32::try_from(closed.len().saturating_add(open)).unwrap_or(u32::MAX)
-}
-
 /// Keeps documents with their counts.
 #[derive(Drop)]
 pub struct TermFrequencyRecorder {
-    closed: Vec<DocFreq>,
-    pending: Option<DocFreq>,
+    // Of each document how far it lies after the one before it, the first one from 0, and its count,
+    // which the open one lacks, as vints.
+    counts: Vec<u8>,
+    // The last document, 0 where there is none.
+    last: DocId,
+    // How often the term is in the open document.
+    term_freq: u32,
+    // How many documents there are, or `u32::MAX` if there are more.
+    doc_freq: u32,
 }
 
 impl Model for TermFrequencyRecorder {
-    ghost use Rattle.std.specs.Prelude.{map};
-    ghost use Rattle.std.specs.Option.{option_map};
-    ghost use Rattle.ii_base.specs.declared.schema.index_record_option.IndexRecordOption.TheVariants.{WithFreqs};
-    ghost use Rattle.ii_recorder.specs.DocFreqs.{entry_of};
+    ghost use Rattle.ii_recorder.specs.Gathered.{counts_state};
+    ghost use Rattle.ii_recorder.specs.Kept.{KeepsCounts};
     ghost use Rattle.ii_recorder.specs.Recorded.{RecorderState};
 
     ghost Value = { RecorderState };
 
-    ghost view = { λ r. record {
-      option = WithFreqs;
-      closed = map entry_of r.closed.items;
-      pending = option_map entry_of r.pending;
-    } };
+    ghost view = { λ r. counts_state r.counts.items r.term_freq };
+
+    ghost invariant = { λ r. KeepsCounts r.counts.items r.last r.term_freq r.doc_freq };
 }
 
 impl TermFrequencyRecorder {
@@ -58,99 +46,94 @@ impl TermFrequencyRecorder {
         ensures { result ≡ record { option = WithFreqs; closed = []; pending = None } }
     {
         TermFrequencyRecorder {
-            closed: Vec::new(alloc),
-            pending: None,
+            counts: Vec::new(alloc),
+            last: 0,
+            term_freq: 0,
+            doc_freq: 0,
         }
+    }
+}
+
+// The next number, or another one where the numbers are at their end.
+fn next_or(numbers: &mut VInt32Reader<'_>, other: u32) -> u32
+    ensures number { result ≡ unwrap_or (slice_get numbers.old 0) other }
+    ensures rest { numbers.new ≡ drop 1 numbers.old }
+{
+    match numbers.next() {
+        Some(number) => number,
+        None => other,
     }
 }
 
 // Pushes a document with its count.
 fn push_counted_doc<W: Write>(
-    entry: DocFreq,
+    doc: DocId,
+    term_freq: u32,
     serializer: &mut FieldSerializer<'_, W>,
 ) -> Result<(), Fault>
-    requires { MayPush WithFreqs serializer.old.index.now (entry_of entry ∷ []) }
+    requires { MayPush WithFreqs serializer.old.index.now (counted doc term_freq ∷ []) }
     ensures same_reference { serializer.new.index.ghost_name ≡ serializer.old.index.ghost_name }
-    ensures pushes { Pushes WithFreqs serializer.old.index.now serializer.new.index.now (entry_of entry ∷ []) result }
+    ensures pushes { Pushes WithFreqs serializer.old.index.now serializer.new.index.now (counted doc term_freq ∷ []) result }
 {
-    serializer.write_doc(entry.doc, entry.term_freq, &[])
+    serializer.write_doc(doc, term_freq, &[])
 }
 
-// Pushes documents with their counts.
+// Pushes documents with their counts, that of the last one being given where it isn't among the
+// numbers.
 fn push_counted_docs<W: Write>(
-    docs: &[DocFreq],
+    numbers: &mut VInt32Reader<'_>,
+    open_freq: u32,
     serializer: &mut FieldSerializer<'_, W>,
 ) -> Result<(), Fault>
-    requires { MayPush WithFreqs serializer.old.index.now (map entry_of docs.now) }
+    requires { MayPush WithFreqs serializer.old.index.now (counted_all open_freq (counts_in numbers.old)) }
     ensures same_reference { serializer.new.index.ghost_name ≡ serializer.old.index.ghost_name }
-    ensures pushes { Pushes WithFreqs serializer.old.index.now serializer.new.index.now (map entry_of docs.now) result }
+    ensures pushes { Pushes WithFreqs serializer.old.index.now serializer.new.index.now (counted_all open_freq (counts_in numbers.old)) result }
 {
     let checked = serializer.check_open();
     if checked.is_err() {
         return checked;
     }
-    for entry in docs {
-        let pushed = push_counted_doc(*entry, serializer);
+    let mut last = 0;
+    while let Some(delta) = numbers.next() {
+        let term_freq = next_or(numbers, open_freq);
+        let doc = last + delta;
+        let pushed = push_counted_doc(doc, term_freq, serializer);
         if pushed.is_err() {
             return pushed;
         }
+        last = doc;
     }
     Ok(())
-}
-
-// Pushes the open document, if there is one.
-#[tactic(auto, using(crate::proofs::PushLemmas::pushes_none))]
-fn push_open_counted_doc<W: Write>(
-    pending: Option<DocFreq>,
-    serializer: &mut FieldSerializer<'_, W>,
-) -> Result<(), Fault>
-    requires unclosed { serializer.old.index.now.closed ≡ false }
-    requires may { MayPush WithFreqs serializer.old.index.now (option_to_list (option_map entry_of pending)) }
-    ensures same_reference { serializer.new.index.ghost_name ≡ serializer.old.index.ghost_name }
-    ensures pushes { Pushes WithFreqs serializer.old.index.now serializer.new.index.now (option_to_list (option_map entry_of pending)) result }
-{
-    match pending {
-        Some(open) => push_counted_doc(open, serializer),
-        None => Ok(()),
-    }
 }
 
 impl Recorder for TermFrequencyRecorder {
     ghost state = { λ r. r };
 
     fn current_doc(&self) -> DocId {
-        match self.pending {
-            Some(open) => open.doc,
-            None => match self.closed.last() {
-                Some(last) => last.doc,
-                None => u32::MAX,
-            },
+        if self.doc_freq == 0 {
+            return u32::MAX;
         }
+        self.last
     }
 
     fn new_doc(&mut self, doc: DocId) -> Result<(), Fault> {
-        self.pending = Some(DocFreq { doc, term_freq: 0 });
+        write_u32_vint(doc.saturating_sub(self.last), &mut self.counts)?;
+        self.last = doc;
+        self.term_freq = 0;
+        self.doc_freq = self.doc_freq.saturating_add(1);
         Ok(())
     }
 
     fn record_position(&mut self, _position: u32) -> Result<(), Fault> {
-        if let Some(open) = self.pending {
-            if open.term_freq == u32::MAX {
-                return Err(Fault::Limit(LimitName::Count));
-            }
-            self.pending = Some(DocFreq {
-                doc: open.doc,
-                term_freq: open.term_freq + 1,
-            });
+        if self.term_freq == u32::MAX {
+            return Err(Fault::Limit(LimitName::Count));
         }
+        self.term_freq += 1;
         Ok(())
     }
 
     fn close_doc(&mut self) -> Result<(), Fault> {
-        if let Some(open) = self.pending {
-            self.closed.push(open)?;
-            self.pending = None;
-        }
+        write_u32_vint(self.term_freq, &mut self.counts)?;
         Ok(())
     }
 
@@ -159,19 +142,16 @@ impl Recorder for TermFrequencyRecorder {
         _buffer_lender: &mut BufferLender,
         serializer: &mut FieldSerializer<'_, W>,
     ) -> Result<(), Fault> {
-        let pushed = push_counted_docs(&self.closed, serializer);
-        if pushed.is_err() {
-            return pushed;
-        }
-        push_open_counted_doc(self.pending, serializer)
+        let mut numbers = VInt32Reader::new(&self.counts);
+        push_counted_docs(&mut numbers, self.term_freq, serializer)
     }
 
     fn term_doc_freq(&self) -> Option<u32> {
-        Some(count_docs(&self.closed, self.pending))
+        Some(self.doc_freq)
     }
 
     fn has_term_freq(&self) -> bool {
-        let _closed = &self.closed;
+        let _counts = &self.counts;
         true
     }
 }

@@ -1,48 +1,49 @@
-ghost use Rattle.std.specs.Prelude.{◌≡◌, ◌^◌, ◌<◌, ◌≤◌, ◌-◌, [], ◌∷◌, None, false, drop, length, OnOk, IfErr, IfSome};
+ghost use Rattle.std.specs.Prelude.{◌≡◌, ◌^◌, ◌<◌, [], ◌∷◌, None, length, OnOk, IfErr, IfOk};
 ghost use Rattle.std.specs.List.{AllByRecursion};
 ghost use Rattle.ii_codes.specs.Sums.{differences};
-ghost use Rattle.ii_recorder.specs.DocFreqs.{entries_of, located, open_entry, position_count};
+ghost use Rattle.ii_recorder.specs.Gathered.{all_of, behind_positions, first_positions, located, positions_in};
 ghost use Rattle.ii_recorder.specs.Pushed.{MayPush, Pushes};
-ghost use Rattle.ii_recorder.specs.Recorded.{last_position};
 ghost use Rattle.ii_base.specs.declared.schema.index_record_option.IndexRecordOption.TheVariants.{WithFreqsAndPositions};
 
 use super::Recorder;
-use super::term_frequency_recorder::{DocFreq, count_docs};
+use super::vint32_reader::VInt32Reader;
 use crate::buffer_lender::BufferLender;
 use crate::field_serializer::FieldSerializer;
-use ii_base::{Fault, LimitName};
+use ii_base::{Fault, LimitName, write_u32_vint};
 use ii_docset::DocId;
 use std::alloc::Global;
 use std::io::Write;
 use std::marker::Model;
 
+// What stands behind the last position of a document.
+const END_OF_POSITIONS: u32 = 0;
+
 /// Keeps documents with their counts and positions.
 #[derive(Drop)]
 pub struct TfAndPositionRecorder {
-    closed: Vec<DocFreq>,
-    pending: Option<DocFreq>,
-    // Those of all documents, one after the other.
-    positions: Vec<u32>,
+    // Of each document how far it lies after the one before it, the first one from 0, each of its
+    // positions plus 1, and 0, which the open one lacks, as vints.
+    positions: Vec<u8>,
+    // The last document, 0 where there is none.
+    last: DocId,
+    // How often the term is in the open document.
+    term_freq: u32,
+    // The last position in the open document, 0 where there is none.
+    last_position: u32,
+    // How many documents there are, or `u32::MAX` if there are more.
+    doc_freq: u32,
 }
 
 impl Model for TfAndPositionRecorder {
-    ghost use Rattle.std.specs.Prelude.{◌≡◌, ◌+◌, drop, length, map, unwrap_or};
-    ghost use Rattle.std.specs.Option.{option_map};
-    ghost use Rattle.ii_base.specs.declared.schema.index_record_option.IndexRecordOption.TheVariants.{WithFreqsAndPositions};
-    ghost use Rattle.ii_codes.specs.Sums.{DoNotFall};
-    ghost use Rattle.ii_recorder.specs.DocFreqs.{PositionsDoNotFall, entries_of, located, position_count};
+    ghost use Rattle.ii_recorder.specs.Gathered.{positions_state};
+    ghost use Rattle.ii_recorder.specs.Kept.{KeepsPositions};
     ghost use Rattle.ii_recorder.specs.Recorded.{RecorderState};
 
     ghost Value = { RecorderState };
 
-    ghost view = { λ r. record {
-      option = WithFreqsAndPositions;
-      closed = entries_of r.closed.items r.positions.items;
-      pending = option_map (λ d. located d (drop (position_count r.closed.items) r.positions.items)) r.pending;
-    } };
+    ghost view = { λ r. positions_state r.positions.items };
 
-    ghost invariant = { λ r. (length r.positions.items ≡ position_count r.closed.items + unwrap_or (option_map (λ d. d.term_freq) r.pending) 0)
-        × PositionsDoNotFall (entries_of r.closed.items r.positions.items) × DoNotFall 0 (drop (position_count r.closed.items) r.positions.items) };
+    ghost invariant = { λ r. KeepsPositions r.positions.items r.last r.term_freq r.last_position r.doc_freq };
 }
 
 impl TfAndPositionRecorder {
@@ -51,176 +52,138 @@ impl TfAndPositionRecorder {
         ensures { result ≡ record { option = WithFreqsAndPositions; closed = []; pending = None } }
     {
         TfAndPositionRecorder {
-            closed: Vec::new(alloc),
-            pending: None,
             positions: Vec::new(alloc),
+            last: 0,
+            term_freq: 0,
+            last_position: 0,
+            doc_freq: 0,
         }
     }
 }
 
-// The last of so many positions at the end of a row, or 0 where they are none.
-#[tactic(auto, using(crate::proofs::RecorderLemmas::last_of_row))]
-fn last_position(positions: &[u32], count: u32) -> u32
-    requires { count ≤ length positions.now }
-    ensures { result ≡ last_position (drop (length positions.now - count) positions.now) }
-{
-    if count == 0 {
-        return 0;
-    }
-    positions[positions.len() - 1]
-}
-
-// Sets a buffer to how far each position lies after the one before it, the first one from 0.
-fn set_deltas(deltas: &mut Vec<u32>, positions: &[u32]) -> Result<(), Fault>
-    ensures ok { OnOk result (deltas.new.items ≡ differences 0 positions.now) }
+// Sets a buffer to how far each position of a document lies after the one before it, the first one
+// from 0, and answers how many they are. The numbers then go on behind its positions.
+fn take_deltas(numbers: &mut VInt32Reader<'_>, deltas: &mut Vec<u32>) -> Result<u32, Fault>
+    requires few { length (first_positions numbers.old) < 2 ^ 32 }
+    ensures ok { OnOk result (deltas.new.items ≡ differences 0 (first_positions numbers.old)) }
+    ensures count { IfOk result (λ n. n ≡ length (first_positions numbers.old)) }
+    ensures rest { OnOk result (numbers.new ≡ behind_positions numbers.old) }
     ensures only { IfErr result (λ e. e ≡ Fault.OutOfMemory) }
 {
     deltas.clear();
     let mut last = 0;
-    for position in positions {
+    let mut count = 0;
+    while let Some(number) = numbers.next() {
+        if number == END_OF_POSITIONS {
+            return Ok(count);
+        }
+        let position = number - 1;
         deltas.push(position.saturating_sub(last))?;
-        last = *position;
+        last = position;
+        count += 1;
     }
-    Ok(())
+    Ok(count)
 }
 
-// Pushes a document with its count and its positions.
+// Pushes the document whose positions come next among the numbers.
 fn push_located_doc<W: Write>(
-    entry: DocFreq,
-    positions: &[u32],
+    doc: DocId,
+    numbers: &mut VInt32Reader<'_>,
     deltas: &mut Vec<u32>,
     serializer: &mut FieldSerializer<'_, W>,
 ) -> Result<(), Fault>
-    requires { MayPush WithFreqsAndPositions serializer.old.index.now (located entry positions.now ∷ []) }
+    requires few { length (first_positions numbers.old) < 2 ^ 32 }
+    requires may { MayPush WithFreqsAndPositions serializer.old.index.now (located doc (first_positions numbers.old) ∷ []) }
     ensures same_reference { serializer.new.index.ghost_name ≡ serializer.old.index.ghost_name }
-    ensures pushes { Pushes WithFreqsAndPositions serializer.old.index.now serializer.new.index.now (located entry positions.now ∷ []) result }
+    ensures rest { OnOk result (numbers.new ≡ behind_positions numbers.old) }
+    ensures pushes { Pushes WithFreqsAndPositions serializer.old.index.now serializer.new.index.now (located doc (first_positions numbers.old) ∷ []) result }
 {
     let checked = serializer.check_open();
     if checked.is_err() {
         return checked;
     }
-    let set = set_deltas(deltas, positions);
-    if set.is_err() {
-        serializer.shut();
-        return set;
+    match take_deltas(numbers, deltas) {
+        Ok(count) => serializer.write_doc(doc, count, deltas),
+        Err(refused) => {
+            serializer.shut();
+            Err(refused)
+        }
     }
-    serializer.write_doc(entry.doc, entry.term_freq, deltas)
 }
 
-// Pushes documents with their counts and positions, which stand in a row.
+// Pushes documents with their counts and positions.
 fn push_located_docs<W: Write>(
-    docs: &[DocFreq],
-    positions: &[u32],
+    numbers: &mut VInt32Reader<'_>,
     deltas: &mut Vec<u32>,
     serializer: &mut FieldSerializer<'_, W>,
 ) -> Result<(), Fault>
-    requires within { position_count docs.now ≤ length positions.now }
-    requires may { MayPush WithFreqsAndPositions serializer.old.index.now (entries_of docs.now positions.now) }
+    requires counted { AllByRecursion (λ e. e.term_freq < 2 ^ 32) (all_of (positions_in numbers.old)) }
+    requires may { MayPush WithFreqsAndPositions serializer.old.index.now (all_of (positions_in numbers.old)) }
     ensures same_reference { serializer.new.index.ghost_name ≡ serializer.old.index.ghost_name }
-    ensures pushes { Pushes WithFreqsAndPositions serializer.old.index.now serializer.new.index.now (entries_of docs.now positions.now) result }
+    ensures pushes { Pushes WithFreqsAndPositions serializer.old.index.now serializer.new.index.now (all_of (positions_in numbers.old)) result }
 {
     let checked = serializer.check_open();
     if checked.is_err() {
         return checked;
     }
-    let mut rest = positions;
-    for entry in docs {
-        let (first, others) = rest.split_at(entry.term_freq as usize);
-        let pushed = push_located_doc(*entry, first, deltas, serializer);
+    let mut last = 0;
+    while let Some(delta) = numbers.next() {
+        let doc = last + delta;
+        let pushed = push_located_doc(doc, numbers, deltas, serializer);
         if pushed.is_err() {
             return pushed;
         }
-        rest = others;
+        last = doc;
     }
     Ok(())
 }
 
-// Pushes the open document, if there is one, whose positions are the last of a row.
-#[tactic(auto, using(crate::proofs::PushLemmas::pushes_none))]
-fn push_open_located_doc<W: Write>(
-    pending: Option<DocFreq>,
-    positions: &[u32],
-    deltas: &mut Vec<u32>,
-    serializer: &mut FieldSerializer<'_, W>,
-) -> Result<(), Fault>
-    requires unclosed { serializer.old.index.now.closed ≡ false }
-    requires within { IfSome pending (λ d. d.term_freq ≤ length positions.now) }
-    requires may { MayPush WithFreqsAndPositions serializer.old.index.now (open_entry pending positions.now) }
-    ensures same_reference { serializer.new.index.ghost_name ≡ serializer.old.index.ghost_name }
-    ensures pushes { Pushes WithFreqsAndPositions serializer.old.index.now serializer.new.index.now (open_entry pending positions.now) result }
+// All bytes.
+fn all_bytes(bytes: &[u8]) -> &[u8]
+    ensures value { result.now ≡ bytes.now }
+    ensures few { length bytes.now < 2 ^ 64 }
 {
-    match pending {
-        Some(open) => {
-            let last = last_positions(positions, open.term_freq);
-            push_located_doc(open, last, deltas, serializer)
-        }
-        None => Ok(()),
-    }
-}
-
-// All positions.
-#[tactic(auto, using(ii_layout::proofs::ReadBackLemmas::fit_by))]
-fn row_of(positions: &[u32]) -> &[u32]
-    ensures value { result.now ≡ positions.now }
-    ensures fit { AllByRecursion (λ p. p < 2 ^ 32) positions.now }
-    ensures few { length positions.now < 2 ^ 64 }
-{
-    positions
-}
-
-// So many positions at the end of a row.
-fn last_positions(positions: &[u32], count: u32) -> &[u32]
-    requires { count ≤ length positions.now }
-    ensures { result.now ≡ drop (length positions.now - count) positions.now }
-{
-    let (_, last) = positions.split_at(positions.len() - count as usize);
-    last
+    bytes
 }
 
 impl Recorder for TfAndPositionRecorder {
     ghost state = { λ r. r };
 
     fn current_doc(&self) -> DocId {
-        match self.pending {
-            Some(open) => open.doc,
-            None => match self.closed.last() {
-                Some(last) => last.doc,
-                None => u32::MAX,
-            },
+        if self.doc_freq == 0 {
+            return u32::MAX;
         }
+        self.last
     }
 
     fn new_doc(&mut self, doc: DocId) -> Result<(), Fault> {
-        self.pending = Some(DocFreq { doc, term_freq: 0 });
+        write_u32_vint(doc.saturating_sub(self.last), &mut self.positions)?;
+        self.last = doc;
+        self.term_freq = 0;
+        self.last_position = 0;
+        self.doc_freq = self.doc_freq.saturating_add(1);
         Ok(())
     }
 
     fn record_position(&mut self, position: u32) -> Result<(), Fault> {
-        let Some(open) = self.pending else {
-            return Ok(());
-        };
+        let last_position = self.last_position;
         if position == u32::MAX {
             return Err(Fault::Limit(LimitName::Position));
         }
-        if position < last_position(&self.positions, open.term_freq) {
+        if position < last_position {
             return Err(Fault::DecreasingPosition);
         }
-        if open.term_freq == u32::MAX {
+        if self.term_freq == u32::MAX {
             return Err(Fault::Limit(LimitName::Count));
         }
-        self.positions.push(position)?;
-        self.pending = Some(DocFreq {
-            doc: open.doc,
-            term_freq: open.term_freq + 1,
-        });
+        write_u32_vint(position + 1, &mut self.positions)?;
+        self.last_position = position;
+        self.term_freq += 1;
         Ok(())
     }
 
     fn close_doc(&mut self) -> Result<(), Fault> {
-        if let Some(open) = self.pending {
-            self.closed.push(open)?;
-            self.pending = None;
-        }
+        write_u32_vint(END_OF_POSITIONS, &mut self.positions)?;
         Ok(())
     }
 
@@ -230,20 +193,16 @@ impl Recorder for TfAndPositionRecorder {
         serializer: &mut FieldSerializer<'_, W>,
     ) -> Result<(), Fault> {
         let (_, deltas) = buffer_lender.lend_all();
-        let positions = row_of(&self.positions);
-        let pushed = push_located_docs(&self.closed, positions, deltas, serializer);
-        if pushed.is_err() {
-            return pushed;
-        }
-        push_open_located_doc(self.pending, positions, deltas, serializer)
+        let mut numbers = VInt32Reader::new(all_bytes(&self.positions));
+        push_located_docs(&mut numbers, deltas, serializer)
     }
 
     fn term_doc_freq(&self) -> Option<u32> {
-        Some(count_docs(&self.closed, self.pending))
+        Some(self.doc_freq)
     }
 
     fn has_term_freq(&self) -> bool {
-        let _closed = &self.closed;
+        let _positions = &self.positions;
         true
     }
 }

@@ -14,21 +14,21 @@ use Rattle.ii_indexing.proofs.PieceLaws.{reach_put, text_refused, words_stored}
 use Rattle.ii_indexing.proofs.indexed_fields.IndexedFields.index_words.Goals as goal
 
 pub returns-in_err-index_text-clause-refused : goal.returns-in_err-index_text-clause-refused
-returns-in_err-index_text-clause-refused c entries ps takes stored =
+returns-in_err-index_text-clause-refused g c entries ps takes stored =
     let st = subst (λ (s : IndexedFieldsState). StoresPieces entries s ps) (sym c.self.view_is) stored in
     let d = c.in_ok-open.open in
     let told = c.in_ok-open.ensures.told ps (tokens_after [] ps) st.documents in
     let p = err_from_is_err_and c.from_residual-in_err-index_text.result c.from_residual-in_err-index_text.ensures.1 in
     let at : IndexingPosition = record { num_tokens = d.num_tokens; end_position = d.end_position } in
-    let refused = text_refused (option_of entries c.args.field) ps c.open.new.self c.args.doc c.args.field c.args.tokens.to_come d at c.index_text.result told c.in_ok-open.ensures.found c.in_ok-open.ensures.at refl
+    let refused = text_refused (option_of entries c.args.field) ps c.open.new.self c.args.doc c.args.field (g.S.TokenStream.to_come c.args.tokens.now) d at c.index_text.result told c.in_ok-open.ensures.found c.in_ok-open.ensures.at refl
     (c.index_text.ensures.refused entries (tokens_after [] ps) takes st.tokens) in
-    rw (p.1, p.2) (subst (IsRefusedBy (piece_fault (option_of entries c.args.field) ps (text_at c.args.doc c.args.field [] c.args.tokens.to_come))) c.in_err-index_text.was refused)
+    rw (p.1, p.2) (subst (IsRefusedBy (piece_fault (option_of entries c.args.field) ps (text_at c.args.doc c.args.field [] (g.S.TokenStream.to_come c.args.tokens.now)))) c.in_err-index_text.was refused)
 
 pub returns-clause-stored : goal.returns-clause-stored
-returns-clause-stored c entries ps takes stored =
+returns-clause-stored g c entries ps takes stored =
     let st = subst (λ (s : IndexedFieldsState). StoresPieces entries s ps) (sym c.self.view_is) stored in
     let d = c.in_ok-open.open in
-    let words = c.args.tokens.to_come in
+    let words = g.S.TokenStream.to_come c.args.tokens.now in
     let told = c.in_ok-open.ensures.told ps (tokens_after [] ps) st.documents in
     let num = c.in_ok-index_text.ensures.num_tokens in
     let more : c.index_text.new.position.num_tokens - d.num_tokens ≡ length (kept_words words) = omega (arith, num) in
@@ -38,7 +38,7 @@ returns-clause-stored c entries ps takes stored =
     (c.saturating_add.ensures ∙ ap (λ (n : ℕ). min (d.norm + n) u32_max) more) (c.in_ok-index_text.ensures.stored entries (tokens_after [] ps) takes st.tokens))
 
 pub returns-clause-ends : goal.returns-clause-ends
-returns-clause-ends c =
+returns-clause-ends g c =
     let ends = subst (EndsAt c.args.doc) (sym c.self.view_is) c.requires.ends in
     let new : OpenDocument = record { doc = c.args.doc; num_tokens = c.index_text.new.position.num_tokens; end_position = c.index_text.new.position.end_position; norm = c.saturating_add.result } in
     record {
@@ -50,10 +50,10 @@ returns-clause-ends c =
     }
 
 pub returns-clause-refused : goal.returns-clause-refused
-returns-clause-refused c entries ps takes stored =
+returns-clause-refused g c entries ps takes stored =
     let st = subst (λ (s : IndexedFieldsState). StoresPieces entries s ps) (sym c.self.view_is) stored in
     let d = c.in_ok-open.open in
     let told = c.in_ok-open.ensures.told ps (tokens_after [] ps) st.documents in
     let at : IndexingPosition = record { num_tokens = d.num_tokens; end_position = d.end_position } in
-    text_refused (option_of entries c.args.field) ps c.open.new.self c.args.doc c.args.field c.args.tokens.to_come d at (Ok c.in_ok-index_text.field-0) told c.in_ok-open.ensures.found c.in_ok-open.ensures.at refl
+    text_refused (option_of entries c.args.field) ps c.open.new.self c.args.doc c.args.field (g.S.TokenStream.to_come c.args.tokens.now) d at (Ok c.in_ok-index_text.field-0) told c.in_ok-open.ensures.found c.in_ok-open.ensures.at refl
     (c.in_ok-index_text.ensures.refused entries (tokens_after [] ps) takes st.tokens)

@@ -19,31 +19,31 @@ use Rattle.ii_postings_writer.proofs.TermIndexLemmas.{on_ok}
 use Rattle.ii_indexing.proofs.indexed_fields.IndexedFields.index_words_under.Goals as goal
 
 pub put-requires-2 : goal.put-requires-2
-put-requires-2 c =
+put-requires-2 g c =
     let ends = subst (EndsAt c.args.doc) (sym c.self.view_is) c.requires.ends in
     let known = subst (λ (s : IndexedFieldsState). c.args.field < length s.indexed.writers) (sym c.self.view_is) c.requires.known in
     let h = has_path c.self.inside.paths c.args.doc c.args.field (omega (arith, known, ends.paths)) ends.paths_reach in
     record { known = omega (arith, known, ends.paths, ap length (c.open-position.ensures.opened h.old h.found), length-set c.self.inside.paths c.args.field (opened_path c.args.doc h.old)) }
 
 pub returns-in_err-index_text-clause-refused : goal.returns-in_err-index_text-clause-refused
-returns-in_err-index_text-clause-refused c entries ps takes stored =
+returns-in_err-index_text-clause-refused g c entries ps takes stored =
     let st = subst (λ (s : IndexedFieldsState). StoresPieces entries s ps) (sym c.self.view_is) stored in
     let ends = subst (EndsAt c.args.doc) (sym c.self.view_is) c.requires.ends in
     let known = subst (λ (s : IndexedFieldsState). c.args.field < length s.indexed.writers) (sym c.self.view_is) c.requires.known in
     let h = has_path c.self.inside.paths c.args.doc c.args.field (omega (arith, known, ends.paths)) ends.paths_reach in
     let first = c.open-position.ensures.position h.old h.found ∙ sym (position_told ps c.self.inside.paths c.args.doc c.args.field h.old h.found h.reach c.args.prefix.now c.requires.some st.paths) in
-    let p = text_at c.args.doc c.args.field c.args.prefix.now c.args.tokens.to_come in
+    let p = text_at c.args.doc c.args.field c.args.prefix.now (g.S.TokenStream.to_come c.args.tokens.now) in
     let r = err_from_is_err_and c.from_residual-in_err-index_text.result c.from_residual-in_err-index_text.ensures.1 in
     let refused = subst (λ (at : IndexingPosition). IsRefusedBy (text_fault (option_of entries c.args.field) p at (tokens_after [] ps)) c.index_text.result) first (c.index_text.ensures.refused entries (tokens_after [] ps) takes st.tokens) in
     rw (r.1, r.2) (subst (IsRefusedBy (piece_fault (option_of entries c.args.field) ps p)) c.in_err-index_text.was refused)
 
 pub returns-clause-stored : goal.returns-clause-stored
-returns-clause-stored c =
+returns-clause-stored g c =
     let ends = subst (EndsAt c.args.doc) (sym c.self.view_is) c.requires.ends in
     let known = subst (λ (s : IndexedFieldsState). c.args.field < length s.indexed.writers) (sym c.self.view_is) c.requires.known in
     let h = has_path c.self.inside.paths c.args.doc c.args.field (omega (arith, known, ends.paths)) ends.paths_reach in
     let d = c.in_ok-open.open in
-    let words = c.args.tokens.to_come in
+    let words = g.S.TokenStream.to_come c.args.tokens.now in
     let prefix = c.args.prefix.now in
     let last = c.index_text.new.position in
     let num = c.in_ok-index_text.ensures.num_tokens in
@@ -66,7 +66,7 @@ returns-clause-stored c =
     c.put-2.ensures.ok
 
 pub returns-clause-ends : goal.returns-clause-ends
-returns-clause-ends c =
+returns-clause-ends g c =
     let ends = subst (EndsAt c.args.doc) (sym c.self.view_is) c.requires.ends in
     let known = subst (λ (s : IndexedFieldsState). c.args.field < length s.indexed.writers) (sym c.self.view_is) c.requires.known in
     let h = has_path c.self.inside.paths c.args.doc c.args.field (omega (arith, known, ends.paths)) ends.paths_reach in
@@ -84,12 +84,12 @@ returns-clause-ends c =
     c.put-2.ensures.ok
 
 pub returns-clause-refused : goal.returns-clause-refused
-returns-clause-refused c entries ps takes stored =
+returns-clause-refused g c entries ps takes stored =
     let st = subst (λ (s : IndexedFieldsState). StoresPieces entries s ps) (sym c.self.view_is) stored in
     let ends = subst (EndsAt c.args.doc) (sym c.self.view_is) c.requires.ends in
     let known = subst (λ (s : IndexedFieldsState). c.args.field < length s.indexed.writers) (sym c.self.view_is) c.requires.known in
     let h = has_path c.self.inside.paths c.args.doc c.args.field (omega (arith, known, ends.paths)) ends.paths_reach in
     let first = c.open-position.ensures.position h.old h.found ∙ sym (position_told ps c.self.inside.paths c.args.doc c.args.field h.old h.found h.reach c.args.prefix.now c.requires.some st.paths) in
-    let p = text_at c.args.doc c.args.field c.args.prefix.now c.args.tokens.to_come in
+    let p = text_at c.args.doc c.args.field c.args.prefix.now (g.S.TokenStream.to_come c.args.tokens.now) in
     let none = subst (λ (at : IndexingPosition). text_fault (option_of entries c.args.field) p at (tokens_after [] ps) ≡ None) first (c.in_ok-index_text.ensures.refused entries (tokens_after [] ps) takes st.tokens) in
     refused_for_memory (piece_fault (option_of entries c.args.field) ps p) c.put-2.result none c.put-2.ensures.only

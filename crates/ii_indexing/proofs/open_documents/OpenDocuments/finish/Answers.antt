@@ -7,7 +7,7 @@ use Rattle.ii_index.specs.Tokens.{IndexToken, Piece}
 use Rattle.ii_indexing.specs.OpenDocuments.{AreClosed, OpenDocumentsState, TellsAll, with_norms}
 use Rattle.ii_indexing.specs.declared.open_documents.OpenDocument.{OpenDocument}
 use Rattle.ii_postings_writer.proofs.SortedLemmas.{if_both}
-use Rattle.ii_indexing.specs.Norms.{HoldNorms, norm_ids}
+use Rattle.ii_index.specs.Norms.{HoldNorms, norm_ids}
 use Rattle.ii_indexing.proofs.FinishLaws.{norm_at}
 use Rattle.ii_indexing.proofs.NormFileLaws.{closed_buffers, few_filled, file_small, holds_norms, with_filled}
 use Rattle.ii_indexing.proofs.open_documents.OpenDocuments.finish.Goals as goal

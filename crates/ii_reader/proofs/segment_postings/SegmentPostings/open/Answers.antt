@@ -1,8 +1,27 @@
-use Rattle.ii_reader.proofs.PositionLemmas.{list_opened}
+use Rattle.std.proofs.Common.{None, refl, ap, ◌∙◌, arith}
+use Rattle.ii_base.specs.Options.{downgrade, has_positions}
+use Rattle.ii_check.specs.Positions.{deltas_read}
+use Rattle.ii_reader.proofs.PositionLemmas.{fits_found, list_opened, none_given}
 use Rattle.ii_reader.proofs.segment_postings.SegmentPostings.open.Goals as goal
 
-pub returns-in-Ok-open_positions-clause-ok : goal.returns-in-Ok-open_positions-clause-ok
-returns-in-Ok-open_positions-clause-ok c =
-    let b = c.in-Ok.block_cursor in
-    let found = (rw (c.in-Ok.ensures.options.0, c.in-Ok.ensures.options.1) at c.in-Ok-open_positions.ensures.ok) in
-    list_opened c.args.record_option c.args.requested_option c.args.doc_freq b.block c.args.postings b.docs b.freqs c.args.positions _ c.from_block_postings.result.rest c.in-Ok.ensures.ok found c.in-Ok.ensures.first c.from_block_postings.ensures.rest
+pub returns-then-is_none-clause-ok : goal.returns-then-is_none-clause-ok
+returns-then-is_none-clause-ok c =
+    let b = c.fill.new.self in
+    let read = (rw c.empty_by-block_cursor.ensures at c.in_default.ensures.ok) in
+    let none = none_given (has_positions (downgrade c.args.record_option c.args.requested_option)) b.freqs c.args.positions c.if-is_none.ensures in
+    list_opened c.args.record_option c.args.requested_option c.args.doc_freq b.block c.args.postings b.docs b.freqs c.args.positions None read none c.in_default.ensures.first
+
+pub invariant_of-result-2 : goal.invariant_of-result-2
+invariant_of-result-2 c =
+    let b = c.fill.new.self in
+    let read = c.freq_reading_option-reading.ensures.read in
+    (omega arith, c.docs-docs.ensures.entries, rw c.freq_reading_option-reading.ensures.option at read, c.docs-docs.ensures.lazy.within, fits_found b c.args.positions (deltas_read c.in-Ok.position_reader) (has_positions (downgrade b.recorded b.requested)) refl c.in-Ok.ensures.ok)
+
+pub returns-clause-ok : goal.returns-clause-ok
+returns-clause-ok c =
+    let b = c.fill.new.self in
+    let recorded = c.in_default.ensures.options.0 ∙ ap (λ s. s.recorded) c.empty_by-block_cursor.ensures in
+    let requested = c.in_default.ensures.options.1 ∙ ap (λ s. s.requested) c.empty_by-block_cursor.ensures in
+    let found = (rw (recorded, requested) at c.in-Ok.ensures.ok) in
+    let read = (rw c.empty_by-block_cursor.ensures at c.in_default.ensures.ok) in
+    list_opened c.args.record_option c.args.requested_option c.args.doc_freq b.block c.args.postings b.docs b.freqs c.args.positions (deltas_read c.in-Ok.position_reader) read found c.in_default.ensures.first

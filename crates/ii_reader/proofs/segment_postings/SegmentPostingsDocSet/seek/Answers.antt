@@ -5,7 +5,7 @@ use Rattle.ii_layout.specs.TermList.{list_of}
 use Rattle.ii_check.specs.Positions.{deltas_read}
 use Rattle.ii_reader.proofs.CursorLemmas.{list_docs, rest_sound}
 use Rattle.ii_reader.proofs.PositionLemmas.{are_deltas, fits_on}
-use Rattle.ii_reader.proofs.SeekLemmas.{Moved, below_block, rest_sought}
+use Rattle.ii_reader.proofs.SeekLemmas.{Moved, below_block, rest_near, rest_sought}
 use Rattle.ii_reader.proofs.segment_postings.SegmentPostingsDocSet.seek.Goals as goal
 
 pub returns-then-doc-target-clause-rest : goal.returns-then-doc-target-clause-rest
@@ -17,8 +17,8 @@ returns-then-doc-target-clause-rest c =
 pub seek-self-inside-requires : goal.seek-self-inside-requires
 seek-self-inside-requires c = c.requires.up_to
 
-pub invariant_of-self : goal.invariant_of-self
-invariant_of-self c =
+pub invariant_of-self-2 : goal.invariant_of-self-2
+invariant_of-self-2 c =
     let goes = c.seek-self-inside.ensures.goes in
     let s = c.self.inside in
     let b = s.block_cursor in
@@ -41,3 +41,15 @@ returns-clause-rest c =
     record { are = list_docs (length b.docs) b.docs b.freqs deltas c.self.invariant.1; ascending = sound.ascending; up = c.requires.up_to; within = c.self.invariant.0; current = current; sought = c.seek-self-inside.ensures.sought }
     in
     rw (← c.self.view_is, goes.docs, goes.freqs) (rest_sought c.args.target b.docs es b.block s.cur c.seek-self-inside.new.self.block c.seek-self-inside.result moved)
+
+pub returns-then-next-target-clause-rest : goal.returns-then-next-target-clause-rest
+returns-then-next-target-clause-rest c =
+    let s = c.self.inside in
+    let b = s.block_cursor in
+    let es = list_of b.docs b.freqs (deltas_read s.position_reader) in
+    let here = rw (← c.self.view_is) at c.doc-doc.ensures.doc in
+    let low = c.if-doc-target.false in
+    let next = c.doc-next.ensures.doc in
+    let high = c.if-next-target.true in
+    rw (← c.self.view_is)
+    (rest_near c.args.target es b.block s.cur c.min-self-inside.result c.min-self-inside.ensures c.self.invariant.0 (omega arith) c.requires.up_to c.doc-next.ensures.sound.ascending (omega arith))

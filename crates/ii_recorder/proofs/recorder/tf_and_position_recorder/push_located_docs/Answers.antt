@@ -1,41 +1,74 @@
-use Rattle.std.proofs.Common.{◌∙◌, ℕ, ap, drop, get_or, sym, take}
-use Rattle.std.proofs.lemmas.List.{drop-drop}
+use Rattle.std.proofs.Common.{◌+◌, ◌<◌, ◌^◌, arith, sym, ◌∙◌}
+use Rattle.ii_docset.specs.Entries.{Entry}
 use Rattle.ii_base.specs.declared.schema.index_record_option.IndexRecordOption.TheVariants.{WithFreqsAndPositions}
-use Rattle.ii_recorder.specs.DocFreqs.{entries_of, position_count}
-use Rattle.ii_recorder.proofs.PushLemmas.{may_next, pushed_next, refused_next}
-use Rattle.ii_recorder.proofs.PushLocated.{count_next, located_next, located_parts}
+use Rattle.ii_recorder.specs.Gathered.{all_of, behind_positions, first_positions, gathered, located, none_after, positions_in, with_number}
+use Rattle.ii_recorder.proofs.GatheredLemmas.{fewer_behind, positions_left}
+use Rattle.ii_recorder.proofs.PushLemmas.{pushing_below, pushing_each, pushing_may, pushing_next, pushing_refused, went_ok}
 use Rattle.ii_recorder.proofs.recorder.tf_and_position_recorder.push_located_docs.Goals as goal
 
-pub push_located_doc-pushed-requires : goal.push_located_doc-pushed-requires
-push_located_doc-pushed-requires g c =
-    let k = c.loop-entry.entry-index in
-    let docs = c.args.docs.now in
-    let positions = c.args.positions.now in
-    rw (c.split_at.ensures.front, c.loop-entry.invariant.rest) (may_next WithFreqsAndPositions c.args.serializer.now.index.now c.loop-entry.serializer.index.now (entries_of (take k docs) positions) _ _ (entries_of docs positions)
-    (located_parts docs positions k (record { doc = 0; term_freq = 0 }) c.loop-entry-test.true) c.requires.may c.loop-entry.invariant.pushed)
+pub overflow_add-doc : goal.overflow_add-doc
+overflow_add-doc g c =
+    let last = c.loop-delta.last in
+    let delta = c.in-Some.delta in
+    let rest = c.next.new.self in
+    let all = all_of (positions_in c.args.numbers.now) in
+    let left = positions_left last delta c.loop-delta.numbers rest c.in-Some.ensures.steps in
+    let below = pushing_below WithFreqsAndPositions c.args.serializer.now.index.now c.loop-delta.serializer.index.now
+    all (all_of (gathered with_number (none_after last) c.loop-delta.numbers)) (located (last + delta) (first_positions rest)) (all_of (gathered with_number (none_after (last + delta)) (behind_positions rest)))
+    c.loop-delta.invariant.3 left c.requires.may in
+    omega (arith, below)
+
+pub push_located_doc-pushed-requires-clause-few : goal.push_located_doc-pushed-requires-clause-few
+push_located_doc-pushed-requires-clause-few g c =
+    let last = c.loop-delta.last in
+    let delta = c.in-Some.delta in
+    let rest = c.next.new.self in
+    let all = all_of (positions_in c.args.numbers.now) in
+    let left = positions_left last delta c.loop-delta.numbers rest c.in-Some.ensures.steps in
+    pushing_each (λ (e : Entry). e.term_freq < 2 ^ 32) WithFreqsAndPositions c.args.serializer.now.index.now c.loop-delta.serializer.index.now
+    all (all_of (gathered with_number (none_after last) c.loop-delta.numbers)) (located (last + delta) (first_positions rest)) (all_of (gathered with_number (none_after (last + delta)) (behind_positions rest)))
+    c.loop-delta.invariant.3 left c.requires.counted
+
+pub push_located_doc-pushed-requires-clause-may : goal.push_located_doc-pushed-requires-clause-may
+push_located_doc-pushed-requires-clause-may g c =
+    let last = c.loop-delta.last in
+    let delta = c.in-Some.delta in
+    let rest = c.next.new.self in
+    let all = all_of (positions_in c.args.numbers.now) in
+    let left = positions_left last delta c.loop-delta.numbers rest c.in-Some.ensures.steps in
+    pushing_may WithFreqsAndPositions c.args.serializer.now.index.now c.loop-delta.serializer.index.now
+    all (all_of (gathered with_number (none_after last) c.loop-delta.numbers)) (located (last + delta) (first_positions rest)) (all_of (gathered with_number (none_after (last + delta)) (behind_positions rest)))
+    c.loop-delta.invariant.3 left c.requires.may
 
 pub returns-then-is_err-2-clause-pushes : goal.returns-then-is_err-2-clause-pushes
 returns-then-is_err-2-clause-pushes g c =
-    let k = c.loop-entry.entry-index in
-    let docs = c.args.docs.now in
-    let positions = c.args.positions.now in
-    let refused = sym c.if-is_err-2.true ∙ c.is_err-in-loop-entry.ensures.value in
-    let pushes = rw (c.split_at.ensures.front, c.loop-entry.invariant.rest) at c.push_located_doc-pushed.ensures.pushes in
-    refused_next WithFreqsAndPositions c.args.serializer.now.index.now c.loop-entry.serializer.index.now c.push_located_doc-pushed.new.serializer.index.now (entries_of (take k docs) positions) _ _ (entries_of docs positions)
-    c.push_located_doc-pushed.result (located_parts docs positions k (record { doc = 0; term_freq = 0 }) c.loop-entry-test.true) refused c.loop-entry.invariant.pushed pushes
+    let last = c.loop-delta.last in
+    let delta = c.in-Some.delta in
+    let rest = c.next.new.self in
+    let all = all_of (positions_in c.args.numbers.now) in
+    let left = positions_left last delta c.loop-delta.numbers rest c.in-Some.ensures.steps in
+    let refused = sym c.if-is_err-2.true ∙ c.is_err-in-Some.ensures.value in
+    pushing_refused WithFreqsAndPositions c.args.serializer.now.index.now c.loop-delta.serializer.index.now c.push_located_doc-pushed.new.serializer.index.now
+    all (all_of (gathered with_number (none_after last) c.loop-delta.numbers)) (located (last + delta) (first_positions rest)) (all_of (gathered with_number (none_after (last + delta)) (behind_positions rest)))
+    c.push_located_doc-pushed.result c.loop-delta.invariant.3 left refused c.push_located_doc-pushed.ensures.pushes
 
-pub loop-entry-preserved : goal.loop-entry-preserved
-loop-entry-preserved g c =
-    let k = c.loop-entry.entry-index in
-    let docs = c.args.docs.now in
-    let positions = c.args.positions.now in
-    let d = get_or docs k (record { doc = 0; term_freq = 0 }) in
-    let went = sym c.if-is_err-2.false ∙ c.is_err-in-loop-entry.ensures.value in
-    let pushes = rw (c.split_at.ensures.front, c.loop-entry.invariant.rest) at c.push_located_doc-pushed.ensures.pushes in
-    let count = count_next docs k (record { doc = 0; term_freq = 0 }) c.loop-entry-test.true in
-    record {
-      same = c.push_located_doc-pushed.ensures.same_reference ∙ c.loop-entry.invariant.same;
-      rest = c.split_at.ensures.back ∙ ap (drop d.term_freq) c.loop-entry.invariant.rest ∙ drop-drop d.term_freq (position_count (take k docs)) positions ∙ ap (λ (n : ℕ). drop n positions) (sym count);
-      pushed = pushed_next WithFreqsAndPositions c.args.serializer.now.index.now c.loop-entry.serializer.index.now c.push_located_doc-pushed.new.serializer.index.now (entries_of (take k docs) positions) _ _ c.push_located_doc-pushed.result
-          (located_next docs positions k (record { doc = 0; term_freq = 0 }) c.loop-entry-test.true) went c.loop-entry.invariant.pushed pushes;
-    }
+pub loop-delta-smaller : goal.loop-delta-smaller
+loop-delta-smaller g c =
+    let went = sym c.if-is_err-2.false ∙ c.is_err-in-Some.ensures.value in
+    let behind = went_ok c.push_located_doc-pushed.result went c.push_located_doc-pushed.ensures.rest in
+    let fewer = fewer_behind c.next.new.self in
+    rw (behind, c.in-Some.ensures.steps) (omega (arith, fewer))
+
+pub loop-delta-preserved : goal.loop-delta-preserved
+loop-delta-preserved g c =
+    let last = c.loop-delta.last in
+    let delta = c.in-Some.delta in
+    let rest = c.next.new.self in
+    let all = all_of (positions_in c.args.numbers.now) in
+    let left = positions_left last delta c.loop-delta.numbers rest c.in-Some.ensures.steps in
+    let went = sym c.if-is_err-2.false ∙ c.is_err-in-Some.ensures.value in
+    let behind = went_ok c.push_located_doc-pushed.result went c.push_located_doc-pushed.ensures.rest in
+    let next = pushing_next WithFreqsAndPositions c.args.serializer.now.index.now c.loop-delta.serializer.index.now c.push_located_doc-pushed.new.serializer.index.now
+    all (all_of (gathered with_number (none_after last) c.loop-delta.numbers)) (located (last + delta) (first_positions rest)) (all_of (gathered with_number (none_after (last + delta)) (behind_positions rest)))
+    c.push_located_doc-pushed.result c.loop-delta.invariant.3 left went c.push_located_doc-pushed.ensures.pushes in
+    (tt, tt, c.push_located_doc-pushed.ensures.same_reference ∙ c.loop-delta.invariant.2, rw behind next)

@@ -1,21 +1,12 @@
-use Rattle.std.proofs.Common.{◌≡◌, ℕ, ◌-◌, Option, Some, map, length, sym, ap, ◌∙◌}
-use Rattle.std.specs.Prelude.{slice_get}
-use Rattle.std.specs.Option.{option_map}
-use Rattle.ii_base.specs.declared.schema.index_record_option.IndexRecordOption.TheVariants.{Basic}
-use Rattle.ii_docset.specs.Entries.{document}
+use Rattle.std.proofs.Common.{◌<◌, ◌==◌, length, sym, ap, ◌∙◌}
+use Rattle.std.specs.Prelude.{List, ℕ}
 use Rattle.ii_recorder.specs.Recorded.{current_doc}
-use Rattle.ii_recorder.proofs.RecorderLemmas.{doc_of_last, doc_of_open}
+use Rattle.ii_recorder.proofs.StateLemmas.{docs_current}
+use Rattle.ii_recorder.proofs.VintRowLemmas.{some_bytes}
 use Rattle.ii_recorder.proofs.recorder.doc_id_recorder.DocIdRecorderRecorder.current_doc.Goals as goal
 
-pub returns-in-Some : goal.returns-in-Some
-returns-in-Some c =
-    sym (doc_of_open (map document c.self.inside.closed.items) (document c.in-Some.doc))
-    ∙ ap (λ (p : Option ℕ). current_doc (record { option = Basic; closed = map document c.self.inside.closed.items; pending = option_map document p })) (sym c.in-Some.is)
-    ∙ ap current_doc c.self.view_is
-
-pub returns-in-Some-last : goal.returns-in-Some-last
-returns-in-Some-last c =
-    let last : slice_get c.self.inside.closed.items (length c.self.inside.closed.items - 1) ≡ Some c.in-Some-last.last.now = cc (c.in-Some-last.ensures.value, c.deref.ensures.value) in
-    sym (doc_of_last document c.self.inside.closed.items c.in-Some-last.last.now last)
-    ∙ ap (λ (p : Option ℕ). current_doc (record { option = Basic; closed = map document c.self.inside.closed.items; pending = option_map document p })) (sym c.in-None.is)
-    ∙ ap current_doc c.self.view_is
+pub returns : goal.returns
+returns c =
+    let bytes = c.self.inside.deltas.items in
+    let some : 0 < length bytes = some_bytes (length bytes) (sym c.if-is_empty.false ∙ c.is_empty.ensures ∙ ap (λ (bs : List ℕ). length bs == 0) c.as_slice.ensures.value) in
+    docs_current bytes c.self.inside.last c.self.inside.is_open c.self.invariant some ∙ ap current_doc c.self.view_is

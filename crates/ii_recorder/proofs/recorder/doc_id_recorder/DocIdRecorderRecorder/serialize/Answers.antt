@@ -1,31 +1,22 @@
-use Rattle.std.proofs.Common.{◌∙◌, map, sym}
-use Rattle.std.specs.Option.{option_map, option_to_list}
+use Rattle.std.proofs.Common.{◌≡◌, map, sym, ap, ◌∙◌}
+use Rattle.ii_codes.specs.Sums.{running_sums}
 use Rattle.ii_docset.specs.Entries.{document}
-use Rattle.ii_base.specs.declared.schema.index_record_option.IndexRecordOption.TheVariants.{Basic}
-use Rattle.ii_recorder.proofs.PushLemmas.{may_push_first, may_push_then, pushes_refused_by, pushes_then, pushes_went}
+use Rattle.ii_recorder.specs.Gathered.{docs_state}
+use Rattle.ii_recorder.specs.Recorded.{entries_in}
+use Rattle.ii_recorder.specs.VintRows.{numbers}
+use Rattle.ii_recorder.proofs.StateLemmas.{docs_are}
 use Rattle.ii_recorder.proofs.recorder.doc_id_recorder.DocIdRecorderRecorder.serialize.Goals as goal
 
-pub push_docs-pushed-requires : goal.push_docs-pushed-requires
-push_docs-pushed-requires g c =
-    rw c.deref.ensures.value (may_push_first Basic c.args.serializer.now.index.now (map document c.self.inside.closed.items) (option_to_list (option_map document c.self.inside.pending)) (rw (← c.self.view_is) at c.requires))
-
-pub returns-then-is_err-clause-pushes : goal.returns-then-is_err-clause-pushes
-returns-then-is_err-clause-pushes g c =
-    let refused = sym c.if-is_err.true ∙ c.is_err.ensures.value in
-    let pushes = rw c.deref.ensures.value at c.push_docs-pushed.ensures.pushes in
-    rw (← c.self.view_is) (pushes_refused_by Basic c.args.serializer.now.index.now c.push_docs-pushed.new.serializer.index.now (map document c.self.inside.closed.items) (option_to_list (option_map document c.self.inside.pending)) c.push_docs-pushed.result refused pushes)
-
-pub push_open_doc-requires-clause-may : goal.push_open_doc-requires-clause-may
-push_open_doc-requires-clause-may g c =
-    let went = sym c.if-is_err.false ∙ c.is_err.ensures.value in
-    let pushes = rw c.deref.ensures.value at c.push_docs-pushed.ensures.pushes in
-    let may = rw (← c.self.view_is) at c.requires in
-    may_push_then Basic c.args.serializer.now.index.now c.push_docs-pushed.new.serializer.index.now (map document c.self.inside.closed.items) _ may
-    (pushes_went Basic c.args.serializer.now.index.now c.push_docs-pushed.new.serializer.index.now (map document c.self.inside.closed.items) c.push_docs-pushed.result went pushes)
+pub push_docs-requires : goal.push_docs-requires
+push_docs-requires g c =
+    let docs : map document c.new-docs.result ≡ entries_in (docs_state c.self.inside.deltas.items c.self.inside.is_open) = ap (map document) (c.new-docs.ensures ∙ ap (running_sums 0) (c.new.ensures ∙ ap numbers c.deref.ensures.value))
+    ∙ sym (docs_are c.self.inside.deltas.items c.self.inside.last c.self.inside.is_open c.self.invariant)
+    in
+    rw docs (rw (← c.self.view_is) at c.requires)
 
 pub returns-clause-pushes : goal.returns-clause-pushes
 returns-clause-pushes g c =
-    let went = sym c.if-is_err.false ∙ c.is_err.ensures.value in
-    let pushes = rw c.deref.ensures.value at c.push_docs-pushed.ensures.pushes in
-    rw (← c.self.view_is) (pushes_then Basic c.args.serializer.now.index.now c.push_docs-pushed.new.serializer.index.now c.push_open_doc.new.serializer.index.now (map document c.self.inside.closed.items) _ c.push_open_doc.result
-    (pushes_went Basic c.args.serializer.now.index.now c.push_docs-pushed.new.serializer.index.now (map document c.self.inside.closed.items) c.push_docs-pushed.result went pushes) c.push_open_doc.ensures.pushes)
+    let docs : map document c.new-docs.result ≡ entries_in (docs_state c.self.inside.deltas.items c.self.inside.is_open) = ap (map document) (c.new-docs.ensures ∙ ap (running_sums 0) (c.new.ensures ∙ ap numbers c.deref.ensures.value))
+    ∙ sym (docs_are c.self.inside.deltas.items c.self.inside.last c.self.inside.is_open c.self.invariant)
+    in
+    rw (← c.self.view_is) (rw docs at c.push_docs.ensures.pushes)

@@ -1,0 +1,21 @@
+use Rattle.std.proofs.Common.{◌≡◌, ℕ, ◌+◌, ◌-◌, List, true, drop, length, length-drop, take, take_all, arith, rules, sym, ap, ◌∙◌}
+use Rattle.std.specs.List.{take_while}
+use Rattle.ii_base.specs.AsciiWords.{begins_run, is_word_byte, run_at, words_from}
+use Rattle.ii_base.proofs.AsciiLemmas.{cut_after_run, run_within, words_after_run, words_take}
+use Rattle.ii_base.proofs.tokenizer.ascii_tokenizer.AsciiPlacesTokenPlaces.advance.Goals as goal
+use Rattle.ii_base.proofs.tokenizer.ascii_tokenizer.AsciiPlacesTokenPlaces.advance.Goals.{then-loop-at-test+else-not-begins_run, else-loop-at-test}
+
+pub returns-clause-rest : goal.returns-clause-rest
+returns-clause-rest c =
+    let text = c.args.text.now in
+    let at = c.loop-at.at in
+    let bytes = c.as_bytes-2.ensures.value in
+    let begins : begins_run text at ≡ true = elim c.loop-at-test.branch [ then-loop-at-test+else-not-begins_run w ↦ search rules | else-loop-at-test w ↦ search rules ] in
+    let within = run_within text at begins in
+    let left = length-drop at text in
+    let all = take_all (length text - at) (drop at text) (omega (arith, left)) in
+    let len : c.run_len.result ≡ length (run_at text at) = c.run_len.ensures ∙ ap (λ (t : List ℕ). length (take_while is_word_byte (take (length t - at) (drop at t)))) bytes ∙ ap (λ (t : List ℕ). length (take_while is_word_byte t)) all in
+    let ends = (cut_after_run text at (omega (arith, within))).0 in
+    ap (λ (n : ℕ). words_from text (c.args.self.now.passed + 1) (at + n)) len
+    ∙ words_after_run text (c.args.self.now.passed + 1) at begins ends
+    ∙ ap (drop 1) (sym (words_take text c.args.self.now.passed at begins) ∙ c.loop-at.invariant.1)

@@ -1,0 +1,49 @@
+-- Laws of calls that are made one after the other.
+use Rattle.std.proofs.Common.{◌≡◌, ℕ, ◌+◌, ◌<◌, Bool, List, [], ◌∷◌, ◌++◌, length, take, drop, map, get_or, refl, sym, ap, ◌∙◌}
+use Rattle.std.proofs.lemmas.List.{append_assoc, drop_more, length-append, map-append, take_more}
+use Rattle.ii_docset.specs.declared.calls.CursorAnswer.{CursorAnswer}
+use Rattle.ii_docset.specs.declared.calls.CursorCall.{CursorCall}
+use Rattle.ii_docset.specs.Calls.{IsLawful, answer_of, answer_to, answers_to, rest_after, rest_after_call}
+use Rattle.ii_docset.specs.Entries.{Entry}
+
+-- So many calls were made of a cursor, and answered so; it stands here.
+pub record IsWalking (calls : List CursorCall) (one : Bool) (es : List Entry) (i : ℕ) (answers : List CursorAnswer) (here : List Entry) : Type 0 where
+  pub lawful : IsLawful (drop i calls) one here
+  pub told : map answer_of answers ++ answers_to (drop i calls) one here ≡ answers_to calls one es
+  pub left : rest_after (drop i calls) here ≡ rest_after calls es
+  pub rest_is : here ≡ rest_after (take i calls) es
+  pub many : length answers ≡ i
+
+-- the rest after one call more
+rest_after_push : (calls : List CursorCall) (call : CursorCall) (es : List Entry) → rest_after (calls ++ call ∷ []) es ≡ rest_after_call call (rest_after calls es)
+rest_after_push [] call es = refl
+rest_after_push (c ∷ cs) call es = rest_after_push cs call (rest_after_call c es)
+
+-- what a list's next call is told by
+next_told : (calls : List CursorCall) (one : Bool) (es here : List Entry) (i : ℕ) (d : CursorCall) (answers : List CursorAnswer) (answer : CursorAnswer) → i < length calls
+    → map answer_of answers ++ answers_to (drop i calls) one here ≡ answers_to calls one es → answer_of answer ≡ answer_to (get_or calls i d) one here
+    → map answer_of (answers ++ answer ∷ []) ++ answers_to (drop (i + 1) calls) one (rest_after_call (get_or calls i d) here) ≡ answers_to calls one es
+next_told calls one es here i d answers answer within told is =
+    let split = map-append answer_of answers (answer ∷ []) in
+    let joined = append_assoc (map answer_of answers) (answer_of answer ∷ []) (answers_to (drop (i + 1) calls) one (rest_after_call (get_or calls i d) here)) in
+    let old = rw (drop_more calls i d within) at told in
+    rw split (joined ∙ (rw is old))
+
+pub walks_on : (calls : List CursorCall) (one : Bool) (es : List Entry) (i : ℕ) (d : CursorCall) (answers : List CursorAnswer) (answer : CursorAnswer) (here next : List Entry)
+    → IsWalking calls one es i answers here → i < length calls → answer_of answer ≡ answer_to (get_or calls i d) one here → next ≡ rest_after_call (get_or calls i d) here
+    → IsWalking calls one es (i + 1) (answers ++ answer ∷ []) next
+walks_on calls one es i d answers answer here next w within is goes =
+    let lawful = rw (drop_more calls i d within) at w.lawful in
+    let left = rw (drop_more calls i d within) at w.left in
+    record {
+      lawful = rw goes lawful.1;
+      told = rw goes (next_told calls one es here i d answers answer within w.told is);
+      left = rw goes left;
+      rest_is = goes ∙ ap (rest_after_call (get_or calls i d)) w.rest_is ∙ sym (rw (take_more calls i d within) (rest_after_push (take i calls) (get_or calls i d) es));
+      many = length-append answers (answer ∷ []) ∙ ap (λ (n : ℕ). n + 1) w.many;
+    }
+
+-- The next call may be made.
+pub may_walk : (calls : List CursorCall) (one : Bool) (es : List Entry) (i : ℕ) (d : CursorCall) (answers : List CursorAnswer) (here : List Entry)
+    → IsWalking calls one es i answers here → i < length calls → IsLawful (get_or calls i d ∷ drop (i + 1) calls) one here
+may_walk calls one es i d answers here w within = rw (drop_more calls i d within) at w.lawful

@@ -1,0 +1,5 @@
+use Rattle.std.proofs.Common.{subst}
+use Rattle.ii_docset.proofs.boxed.BoxDynDocSetDocSet.cost.Goals as goal
+
+pub returns : goal.returns
+returns g c = subst (λ x. (g.dyn-1.0.entry x.0).1.hints x.1 c.cost.result) c.deref_box-1.ensures.1 c.cost.ensures

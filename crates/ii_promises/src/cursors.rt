@@ -1,0 +1,118 @@
+// A cursor over a term: what it answers, and how often it decodes.
+ghost use Rattle.std.specs.Prelude.{◌≡◌, ◌+◌, ◌/◌, ◌^◌, ◌<◌, ◌≤◌, ◌++◌, ◌↔◌, drop, length, map, min, not, take, Ok, Err, IfOk, IfErr, IsTrue, OnOk, OnErr};
+ghost use Rattle.std.specs.List.{All};
+ghost use Rattle.ii_io.specs.Parts.{part_of};
+ghost use Rattle.ii_docset.specs.Calls.{IsLawful, answers_in, answers_to, rest_after};
+ghost use Rattle.ii_docset.specs.Cursor.{IsTarget, doc_at, from_doc, positions_at, term_freq_at};
+ghost use Rattle.ii_layout.specs.TermList.{term_list};
+ghost use Rattle.ii_check.specs.CheckedPostings.{is_read};
+
+use bytes::Bytes;
+use nequllpa::{
+    CursorCall, DocId, DocSet, Fault, IndexRecordOption, LayoutFault, Postings, SegmentPostings,
+    Walk, walk,
+};
+use std::alloc::Global;
+
+/// Any bytes open exactly where the layout relation gives a list, as that list; else the first part that
+/// fails is named. At most one block was decoded of documents, of counts and of positions, and one skip
+/// entry was read.
+pub fn any_bytes_open_as_their_list(
+    doc_freq: u32,
+    postings: Bytes,
+    positions: Option<Bytes>,
+    recorded: IndexRecordOption,
+    requested: IndexRecordOption,
+) -> Result<SegmentPostings, LayoutFault>
+    ensures list { IfOk result (λ cursor. term_list recorded requested doc_freq postings positions ≡ Ok cursor.rest) }
+    ensures fault { IfErr result (λ fault. term_list recorded requested doc_freq postings positions ≡ Err (part_of fault)) }
+    ensures at_front { IfOk result (λ cursor. (cursor.doc_freq ≡ doc_freq) × (cursor.block ≡ 0)) }
+    ensures decodes { IfOk result (λ cursor. (cursor.doc_decodes ≤ 1) × (cursor.freq_decodes ≤ 1) × (cursor.position_decodes ≤ 1)) }
+    ensures entries { IfOk result (λ cursor. cursor.entries_read ≤ 1) }
+{
+    SegmentPostings::open(doc_freq, postings, positions, recorded, requested)
+}
+
+/// At every moment documents and counts were decoded at most once for each block up to the current one,
+/// and skip entries read at most once for each full one of these.
+pub fn decodes_are_few(cursor: &SegmentPostings) -> DocId
+    ensures docs { cursor.now.doc_decodes ≤ cursor.now.block + 1 }
+    ensures counts { cursor.now.freq_decodes ≤ cursor.now.block + 1 }
+    ensures entries { cursor.now.entries_read ≤ cursor.now.block + 1 }
+    ensures full { cursor.now.entries_read ≤ cursor.now.doc_freq / 128 }
+    ensures block { cursor.now.block ≤ cursor.now.doc_freq / 128 + 1 }
+    ensures doc { result ≡ doc_at cursor.now.rest }
+{
+    cursor.doc()
+}
+
+/// `advance` drops one document, goes on by one block at most, and decodes at most one block of documents
+/// and one of counts, and no positions.
+pub fn advance_decodes_one_block(cursor: &mut SegmentPostings) -> DocId
+    ensures doc { result ≡ doc_at cursor.new.rest }
+    ensures rest { cursor.new.rest ≡ drop 1 cursor.old.rest }
+    ensures block { cursor.new.block ≤ cursor.old.block + 1 }
+    ensures docs { cursor.new.doc_decodes ≤ cursor.old.doc_decodes + 1 }
+    ensures counts { cursor.new.freq_decodes ≤ cursor.old.freq_decodes + 1 }
+    ensures positions { cursor.new.position_decodes ≡ cursor.old.position_decodes }
+    // where it is then
+    ensures all_docs { cursor.new.doc_decodes ≤ cursor.new.block + 1 }
+    ensures all_counts { cursor.new.freq_decodes ≤ cursor.new.block + 1 }
+    ensures all_entries { cursor.new.entries_read ≤ min (cursor.new.block + 1) (cursor.new.doc_freq / 128) }
+{
+    cursor.advance()
+}
+
+/// `seek` drops the documents below the target, and decodes at most one block of documents and one of
+/// counts, and no positions, however many blocks it passes.
+pub fn seek_decodes_one_block(cursor: &mut SegmentPostings, target: DocId) -> DocId
+    requires { IsTarget target cursor.old.rest }
+    ensures doc { result ≡ doc_at cursor.new.rest }
+    ensures rest { cursor.new.rest ≡ from_doc target cursor.old.rest }
+    ensures docs { cursor.new.doc_decodes ≤ cursor.old.doc_decodes + 1 }
+    ensures counts { cursor.new.freq_decodes ≤ cursor.old.freq_decodes + 1 }
+    ensures positions { cursor.new.position_decodes ≡ cursor.old.position_decodes }
+    // where it is then
+    ensures all_docs { cursor.new.doc_decodes ≤ cursor.new.block + 1 }
+    ensures all_counts { cursor.new.freq_decodes ≤ cursor.new.block + 1 }
+    ensures all_entries { cursor.new.entries_read ≤ min (cursor.new.block + 1) (cursor.new.doc_freq / 128) }
+{
+    cursor.seek(target)
+}
+
+/// The positions of a document with count m cost at most m / 128 + 2 decoded blocks of positions, and no
+/// other; where memory is refused the output and the list are as they were.
+pub fn positions_decode_few_blocks(
+    cursor: &mut SegmentPostings,
+    offset: u32,
+    output: &mut Vec<u32>,
+) -> Result<(), Fault>
+    requires current { doc_at cursor.old.rest < 2147483647 }
+    requires fits { All (λ p. p + offset < 2 ^ 32) (positions_at cursor.old.rest) }
+    ensures told { OnOk result (output.new.items ≡ output.old.items ++ map (λ p. p + offset) (positions_at cursor.old.rest)) }
+    ensures refused { OnErr result ((output.new.items ≡ output.old.items) × (result ≡ Err Fault.OutOfMemory)) }
+    ensures stays { cursor.new.rest ≡ cursor.old.rest }
+    ensures positions { cursor.new.position_decodes ≤ cursor.old.position_decodes + term_freq_at (not (is_read cursor.old.freq_reading)) cursor.old.rest / 128 + 2 }
+    ensures others { (cursor.new.doc_decodes ≡ cursor.old.doc_decodes) × (cursor.new.freq_decodes ≡ cursor.old.freq_decodes) × (cursor.new.entries_read ≡ cursor.old.entries_read) }
+{
+    cursor.append_positions_with_offset(offset, output)
+}
+
+/// A lawful run of calls is answered as over the list; it goes forward, and decodes documents and counts
+/// at most once for each block that it goes on by.
+pub fn calls_are_answered_as_over_the_list(
+    alloc: Global,
+    cursor: &mut SegmentPostings,
+    calls: &[CursorCall],
+) -> Walk
+    requires { IsLawful calls.now (not (is_read cursor.old.freq_reading)) cursor.old.rest }
+    ensures answers { IsTrue result.complete → answers_in result ≡ answers_to calls.now (not (is_read cursor.old.freq_reading)) cursor.old.rest }
+    ensures beginning { answers_in result ≡ take (length (answers_in result)) (answers_to calls.now (not (is_read cursor.old.freq_reading)) cursor.old.rest) }
+    ensures complete { IsTrue result.complete ↔ (length (answers_in result) ≡ length calls.now) }
+    ensures rest { IsTrue result.complete → cursor.new.rest ≡ rest_after calls.now cursor.old.rest }
+    ensures forward { cursor.old.block ≤ cursor.new.block }
+    ensures docs { cursor.new.doc_decodes + cursor.old.block ≤ cursor.old.doc_decodes + cursor.new.block }
+    ensures counts { cursor.new.freq_decodes + cursor.old.block ≤ cursor.old.freq_decodes + cursor.new.block }
+{
+    walk(alloc, cursor, calls)
+}

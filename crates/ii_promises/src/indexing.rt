@@ -1,0 +1,99 @@
+// What is indexed, written and opened.
+ghost use Rattle.std.specs.Prelude.{◌≡◌, ◌<◌, ◌≤◌, ◌⊎◌, [], false, length, map, None, Err, IfErr, IfOk, IfSome, IsTrue, MatchOption};
+ghost use Rattle.ii_fieldnorm.specs.Norms.{id_of_norm};
+ghost use Rattle.ii_index.specs.Fields.{option_of};
+ghost use Rattle.ii_index.specs.Norms.{has_norms};
+ghost use Rattle.ii_index.specs.Postings.{doc_count, field_count, key_postings, occurs};
+ghost use Rattle.ii_index.specs.Tokens.{tokens_of};
+ghost use Rattle.ii_indexing.specs.IndexCalls.{MayAllBeIndexed, call_of};
+ghost use Rattle.ii_indexing.specs.Refusals.{calls_fault};
+
+use nequllpa::{
+    DocId, Fault, Field, IndexCall, IndexRecordOption, Schema, SegmentPostings, Term, TextAnalyzer,
+    index_in_ram,
+};
+use std::alloc::Global;
+
+/// What is indexed, written and opened is found: a key of any field gives nothing exactly where it didn't
+/// occur, and else a cursor over its postings among the tokens of the calls, as far as they are asked for.
+pub fn what_is_indexed_is_found<A: TextAnalyzer>(
+    alloc: Global,
+    schema: Schema,
+    num_docs: DocId,
+    calls: Vec<IndexCall>,
+    analyzer: &A,
+    term: &Term,
+    requested: IndexRecordOption,
+) -> Result<Option<SegmentPostings>, Fault>
+    requires docs { num_docs ≤ 2147483647 }
+    requires calls { MayAllBeIndexed schema num_docs calls.items }
+    requires field { term.now.field < length schema }
+    ensures { IfOk result (λ found. MatchOption found (occurs term.now.field term.now.value (tokens_of (A.words analyzer.now) (map (call_of schema) calls.items)) ≡ false)
+        (λ cursor. IsTrue (occurs term.now.field term.now.value (tokens_of (A.words analyzer.now) (map (call_of schema) calls.items)))
+        × (cursor.rest ≡ key_postings (option_of schema term.now.field) term.now.field term.now.value requested (tokens_of (A.words analyzer.now) (map (call_of schema) calls.items))))) }
+{
+    let index = index_in_ram(alloc, schema, num_docs, calls, analyzer)?;
+    index.reader(term.field()).read_postings(term, requested)
+}
+
+/// The number of a field's tokens, and in how many documents a key is.
+pub fn what_is_indexed_is_counted<A: TextAnalyzer>(
+    alloc: Global,
+    schema: Schema,
+    num_docs: DocId,
+    calls: Vec<IndexCall>,
+    analyzer: &A,
+    term: &Term,
+) -> Result<(u64, u32), Fault>
+    requires docs { num_docs ≤ 2147483647 }
+    requires calls { MayAllBeIndexed schema num_docs calls.items }
+    requires field { term.now.field < length schema }
+    ensures tokens { IfOk result (λ counts. counts.0 ≡ field_count term.now.field (tokens_of (A.words analyzer.now) (map (call_of schema) calls.items))) }
+    ensures docs { IfOk result (λ counts. counts.1 ≡ length (key_postings (option_of schema term.now.field) term.now.field term.now.value IndexRecordOption.Basic (tokens_of (A.words analyzer.now) (map (call_of schema) calls.items)))) }
+{
+    let index = index_in_ram(alloc, schema, num_docs, calls, analyzer)?;
+    let reader = index.reader(term.field());
+    Ok((reader.total_num_tokens(), reader.doc_freq(term)))
+}
+
+/// The norm of a document in a field is the byte of its number of tokens there; a field without norms has
+/// none.
+pub fn norms_count_the_tokens<A: TextAnalyzer>(
+    alloc: Global,
+    schema: Schema,
+    num_docs: DocId,
+    calls: Vec<IndexCall>,
+    analyzer: &A,
+    field: Field,
+    doc: DocId,
+) -> Result<Option<u8>, Fault>
+    requires docs { num_docs ≤ 2147483647 }
+    requires calls { MayAllBeIndexed schema num_docs calls.items }
+    requires doc { doc < num_docs }
+    ensures { IfOk result (λ norm. MatchOption norm (has_norms schema field ≡ false)
+        (λ id. IsTrue (has_norms schema field) × (id ≡ id_of_norm (doc_count doc field (tokens_of (A.words analyzer.now) (map (call_of schema) calls.items)))))) }
+{
+    let index = index_in_ram(alloc, schema, num_docs, calls, analyzer)?;
+    match index.get_fieldnorms_reader(field)? {
+        Some(norms) => Ok(Some(norms.fieldnorm_id(doc))),
+        None => Ok(None),
+    }
+}
+
+/// Where a call is refused its fault is answered, the first of them, unless memory was refused before.
+pub fn first_refused_call_is_told<A: TextAnalyzer>(
+    alloc: Global,
+    schema: Schema,
+    num_docs: DocId,
+    calls: Vec<IndexCall>,
+    analyzer: &A,
+) -> Option<Fault>
+    requires docs { num_docs ≤ 2147483647 }
+    requires calls { MayAllBeIndexed schema num_docs calls.items }
+    ensures { IfSome (calls_fault (A.words analyzer.now) (option_of schema) [] (map (call_of schema) calls.items)) (λ fault. (result ≡ Some fault) ⊎ (result ≡ Some Fault.OutOfMemory)) }
+{
+    match index_in_ram(alloc, schema, num_docs, calls, analyzer) {
+        Ok(_) => None,
+        Err(fault) => Some(fault),
+    }
+}

@@ -1,0 +1,111 @@
+// What is written, and what is told where it can't be.
+ghost use Rattle.std.specs.Prelude.{◌≡◌, ◌+◌, ◌≤◌, ◌<◌, ◌⊎◌, ◌↔◌, ◌∷◌, ◌++◌, List, [], true, false, map, Err, IfSome, IsErrOf, OnErr, OnOk};
+ghost use Rattle.ii_index.specs.Fields.{option_of};
+ghost use Rattle.ii_index.specs.Tokens.{Call, tokens_of};
+ghost use Rattle.ii_indexing.specs.IndexCalls.{MayAllBeIndexed, Takes, call_of, doc_of, field_of, type_of};
+ghost use Rattle.ii_indexing.specs.IndexFiles.{FilesGrow, WroteIndex};
+ghost use Rattle.ii_indexing.specs.Indexer.{Stores};
+ghost use Rattle.ii_indexing.specs.Refusals.{calls_fault};
+
+use nequllpa::{DocId, Fault, IndexCall, IndexWriters, Indexer, Schema, TextAnalyzer, write_index};
+use std::alloc::Global;
+use std::io::Write;
+
+/// Calls in document order are written: with Ok the four files have the tokens of the calls and their
+/// norms behind what they had.
+pub fn calls_are_written<A: TextAnalyzer, W: Write>(
+    alloc: Global,
+    schema: Schema,
+    num_docs: DocId,
+    calls: Vec<IndexCall>,
+    analyzer: &A,
+    writers: IndexWriters<W>,
+) -> (IndexWriters<W>, Result<(), Fault>)
+    requires docs { num_docs ≤ 2147483647 }
+    requires calls { MayAllBeIndexed schema num_docs calls.items }
+    ensures wrote { OnOk result.1 (WroteIndex schema num_docs writers result.0 (tokens_of (A.words analyzer.now) (map (call_of schema) calls.items))) }
+    ensures grow { FilesGrow writers result.0 }
+{
+    write_index(alloc, schema, num_docs, calls, analyzer, writers)
+}
+
+/// The first refused call is told, unless memory was refused, and nothing is written then.
+pub fn refused_calls_write_nothing<A: TextAnalyzer, W: Write>(
+    alloc: Global,
+    schema: Schema,
+    num_docs: DocId,
+    calls: Vec<IndexCall>,
+    analyzer: &A,
+    writers: IndexWriters<W>,
+) -> (IndexWriters<W>, Result<(), Fault>)
+    requires docs { num_docs ≤ 2147483647 }
+    requires calls { MayAllBeIndexed schema num_docs calls.items }
+    ensures { IfSome (calls_fault (A.words analyzer.now) (option_of schema) [] (map (call_of schema) calls.items))
+        (λ fault. ((result.1 ≡ Err fault) ⊎ (result.1 ≡ Err Fault.OutOfMemory)) × (result.0 ≡ writers)) }
+{
+    write_index(alloc, schema, num_docs, calls, analyzer, writers)
+}
+
+/// `Write` is answered exactly where the number of failed calls of the four writers rose, and it rose by
+/// one then.
+pub fn failed_writes_are_told_once<A: TextAnalyzer, W: Write>(
+    alloc: Global,
+    schema: Schema,
+    num_docs: DocId,
+    calls: Vec<IndexCall>,
+    analyzer: &A,
+    writers: IndexWriters<W>,
+) -> (IndexWriters<W>, Result<(), Fault>)
+    requires docs { num_docs ≤ 2147483647 }
+    requires calls { MayAllBeIndexed schema num_docs calls.items }
+    ensures told { IsErrOf result.1 Fault.Write
+        ↔ (writers.terms.failed_calls + writers.postings.failed_calls + writers.positions.failed_calls + writers.fieldnorms.failed_calls
+        < result.0.terms.failed_calls + result.0.postings.failed_calls + result.0.positions.failed_calls + result.0.fieldnorms.failed_calls) }
+    ensures once { IsErrOf result.1 Fault.Write → result.0.terms.failed_calls + result.0.postings.failed_calls + result.0.positions.failed_calls + result.0.fieldnorms.failed_calls
+        ≡ writers.terms.failed_calls + writers.postings.failed_calls + writers.positions.failed_calls + writers.fieldnorms.failed_calls + 1 }
+{
+    write_index(alloc, schema, num_docs, calls, analyzer, writers)
+}
+
+/// An indexer that took a call has its tokens beside those of the calls before; one that refused it has
+/// failed.
+pub fn calls_are_taken_or_fail<A: TextAnalyzer>(
+    indexer: &mut Indexer,
+    call: IndexCall,
+    analyzer: &A,
+) -> Result<(), Fault>
+    requires running { indexer.old.failed ≡ false }
+    requires order { indexer.old.last_doc ≤ doc_of call }
+    requires below { doc_of call < indexer.old.num_docs }
+    requires takes { Takes indexer.old.schema (field_of call) (type_of call) }
+    ensures stored { OnOk result ((calls : List Call) → Stores (A.words analyzer.now) indexer.old calls → Stores (A.words analyzer.now) indexer.new (calls ++ call_of indexer.old.schema call ∷ [])) }
+    ensures order { OnOk result ((indexer.new.last_doc ≡ doc_of call) × (indexer.new.failed ≡ false)) }
+    ensures fails { OnErr result (indexer.new.failed ≡ true) }
+{
+    indexer.index(call, analyzer)
+}
+
+/// A failed indexer refuses each call, and changes nothing.
+pub fn failed_indexers_stay<A: TextAnalyzer>(
+    indexer: &mut Indexer,
+    call: IndexCall,
+    analyzer: &A,
+) -> Result<(), Fault>
+    requires { indexer.old.failed ≡ true }
+    ensures refused { result ≡ Err Fault.IndexerFailed }
+    ensures stays { indexer.new ≡ indexer.old }
+{
+    indexer.index(call, analyzer)
+}
+
+/// And it writes nothing.
+pub fn failed_indexers_write_nothing<W: Write>(
+    indexer: Indexer,
+    writers: IndexWriters<W>,
+) -> (IndexWriters<W>, Result<(), Fault>)
+    requires { indexer.failed ≡ true }
+    ensures refused { result.1 ≡ Err Fault.IndexerFailed }
+    ensures stays { result.0 ≡ writers }
+{
+    indexer.finish(writers)
+}

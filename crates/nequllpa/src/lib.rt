@@ -1,0 +1,35 @@
+//! Nequllpa, an inverted index: from index calls to files, and from files to cursors over the postings
+//! of a term. Each item stands here once; the crates below say how it is kept.
+#![tactic(auto)]
+
+// what a field has, and what is indexed of it
+pub use ii_base::{
+    DateTime, Field, FieldEntry, IndexRecordOption, JsonValue, Schema, SchemaFields, Term,
+    ValueType,
+};
+pub use ii_indexing::IndexCall;
+
+// how texts become tokens
+pub use ii_base::{
+    AsciiTokenizer, TextAnalyzer, TextTokens, Token, TokenList, TokenPlaces, TokenStream, TokenView,
+};
+
+// how an index is written and opened
+pub use ii_base::{CountingWriter, HasLen};
+pub use ii_indexing::{IndexWriters, Indexer, write_index};
+pub use ii_ram::index_in_ram;
+pub use ii_reader::{InvertedIndexFieldSpace, InvertedIndexReader, OpenIndex, open_index};
+
+// how postings are walked
+pub use ii_base::AliveBitSet;
+pub use ii_docset::{
+    COLLECT_BLOCK_BUFFER_LEN, CursorAnswer, CursorCall, DocId, DocSet, Lent, Postings,
+    SeekDangerResult, TERMINATED, Walk, intersect, walk,
+};
+pub use ii_reader::{BlockSegmentPostings, FreqReadingOption, LoadedPostings, SegmentPostings};
+
+// the norms of documents
+pub use ii_fieldnorm::{FieldNormReader, FieldNormReaders, fieldnorm_to_id, id_to_fieldnorm};
+
+// why a call is refused
+pub use ii_base::{Fault, LayoutFault, LeafKind, LimitName, Part};
