@@ -1,5 +1,5 @@
 #!/usr/bin/env python3
-"""Runs the parts that `ii_tests` puts together with each allocation refused in turn: each line has to be the right
+"""Runs the parts that `ii_exercise` puts together with each allocation refused in turn: each line has to be the right
 one, but for the one that says that memory was refused, or its writer, which is over memory."""
 import os
 import sys
@@ -30,16 +30,16 @@ def refusals(got, right):
 
 
 def main():
-    if not refusing.build('ii_tests'):
+    if not refusing.build('ii_exercise'):
         print('tests/memory: the parts were not built')
         return 1
-    with open(os.path.join(refusing.TOP, 'crates', 'ii_tests', 'stdout'), 'rb') as f:
+    with open(os.path.join(refusing.TOP, 'crates', 'ii_exercise', 'stdout'), 'rb') as f:
         right = f.read()
     os.dup2(2, 3)
     with tempfile.TemporaryDirectory() as folder:
         library = refusing.shim(folder)
         for refused in range(1, 100000):
-            done, was_refused = refusing.run('ii_tests', b'', library, refused, folder)
+            done, was_refused = refusing.run('ii_exercise', b'', library, refused, folder)
             count = refusals(done.stdout, right)
             if done.stderr or done.returncode != 0 or count != (1 if was_refused else 0):
                 print(f'tests/memory: allocation {refused} of the parts refused: status {done.returncode}, {done.stdout!r}')

@@ -5,7 +5,7 @@ use Rattle.std.specs.List.{slice_index, slice_range}
 use Rattle.std.proofs.Math.Seq.{take-append_seam, drop-append_seam}
 use Rattle.std.proofs.lemmas.Bool.{ne_eqb}
 use Rattle.std.proofs.lemmas.List.{take_more, take_all, same_from_push, get_or-append-add}
-use Rattle.ii_base.specs.Paths.{IsPathOf, behind_separator, cut_at, joined_segments, starts_from}
+use Rattle.ii_base.specs.Paths.{IsPathOf, behind_separator, cut_at, joined_segments, segment_starts}
 
 -- a segment behind these
 abbrev pub separated : List (List ℕ) → List ℕ → List ℕ
@@ -23,13 +23,13 @@ joined-more (x ∷ []) s = refl
 joined-more (x ∷ y ∷ ss) s =
     ap (λ (l : List ℕ). x ++ (1 ∷ l)) (joined-more (y ∷ ss) s) ∙ sym (append_assoc x (1 ∷ joined_segments (y ∷ ss)) (1 ∷ s))
 
-pub starts-more : (n : ℕ) (ss : List (List ℕ)) (s : List ℕ) → starts_from n (ss ++ s ∷ []) ≡ starts_from n ss ++ (n + place_after ss) ∷ []
+pub starts-more : (n : ℕ) (ss : List (List ℕ)) (s : List ℕ) → segment_starts n (ss ++ s ∷ []) ≡ segment_starts n ss ++ (n + place_after ss) ∷ []
 starts-more n [] s = ap (λ (k : ℕ). k ∷ []) (omega arith)
 starts-more n (x ∷ []) s = ap (λ (k : ℕ). n ∷ k ∷ []) (omega arith)
 starts-more n (x ∷ y ∷ ss) s =
     let len = length-append x (1 ∷ joined_segments (y ∷ ss)) in
     ap (λ (l : List ℕ). n ∷ l) (starts-more (n + length x + 1) (y ∷ ss) s)
-    ∙ ap (λ (k : ℕ). n ∷ (starts_from (n + length x + 1) (y ∷ ss) ++ k ∷ [])) (omega (arith, len))
+    ∙ ap (λ (k : ℕ). n ∷ (segment_starts (n + length x + 1) (y ∷ ss) ++ k ∷ [])) (omega (arith, len))
 
 first_cut : (front s rest : List ℕ) (start end : ℕ) → start ≡ length front → end ≡ start + length s → slice_range (front ++ (s ++ rest)) start end ≡ s
 first_cut front s rest start end from to =
@@ -40,7 +40,7 @@ two_equal : {x y : List ℕ} → {xs ys : List (List ℕ)} → x ≡ y → xs �
 two_equal p q = cc
 
 -- the segments are found again
-cut_behind : (front : List ℕ) (ss : List (List ℕ)) (n : ℕ) → n ≡ length front → cut_at (front ++ joined_segments ss) (starts_from n ss) ≡ ss
+cut_behind : (front : List ℕ) (ss : List (List ℕ)) (n : ℕ) → n ≡ length front → cut_at (front ++ joined_segments ss) (segment_starts n ss) ≡ ss
 cut_behind front [] n place = refl
 cut_behind front (s ∷ []) n place = rw place (ap (λ (l : List ℕ). l ∷ []) (drop-append_seam front s))
 cut_behind front (s ∷ t ∷ ss) n place =
@@ -50,7 +50,7 @@ cut_behind front (s ∷ t ∷ ss) n place =
     append_assoc front (s ++ 1 ∷ []) (joined_segments (t ∷ ss)) ∙ ap (λ (l : List ℕ). front ++ l) (append_assoc s (1 ∷ []) (joined_segments (t ∷ ss)))
     in
     let first : slice_range (front ++ (s ++ 1 ∷ joined_segments (t ∷ ss))) n (n + length s + 1 - 1) ≡ s = first_cut front s (1 ∷ joined_segments (t ∷ ss)) n (n + length s + 1 - 1) place (omega arith) in
-    two_equal first (ap (λ (p : List ℕ). cut_at p (starts_from (n + length s + 1) (t ∷ ss))) (sym whole) ∙ more)
+    two_equal first (ap (λ (p : List ℕ). cut_at p (segment_starts (n + length s + 1) (t ∷ ss))) (sym whole) ∙ more)
 
 pub cut_is : (segments : List (List ℕ)) (path starts : List ℕ) → IsPathOf segments path starts → cut_at path starts ≡ segments
 cut_is segments path starts is = rw (is.bytes, is.places) (cut_behind [] segments 0 refl)
@@ -65,16 +65,16 @@ pushed segments path starts s is_first start is first at =
     let here : start ≡ 0 + place_after segments = at ∙ ap (λ (l : List ℕ). length l + bool_byte (not is_first)) is.bytes ∙ ap (λ (b : Bool). length (joined_segments segments) + bool_byte (not b)) none ∙ place_is segments in
     record {
       bytes = rw is.bytes (ap (λ (b : Bool). joined_segments segments ++ behind_separator b s) none ∙ ap (λ (l : List ℕ). joined_segments segments ++ l) (separator_is segments s) ∙ sym (joined-more segments s));
-      places = rw is.places (ap (λ (k : ℕ). starts_from 0 segments ++ k ∷ []) here ∙ sym (starts-more 0 segments s));
+      places = rw is.places (ap (λ (k : ℕ). segment_starts 0 segments ++ k ∷ []) here ∙ sym (starts-more 0 segments s));
     }
   where
-    separator_is : (segments : List (List ℕ)) (s : List ℕ) → behind_separator (length (starts_from 0 segments) == 0) s ≡ separated segments s
+    separator_is : (segments : List (List ℕ)) (s : List ℕ) → behind_separator (length (segment_starts 0 segments) == 0) s ≡ separated segments s
     separator_is [] s = refl
-    separator_is (x ∷ xs) s = rw (ne_eqb (suc (length (starts_from (0 + length x + 1) xs))) 0 (λ e. omega (arith, e))) refl
+    separator_is (x ∷ xs) s = rw (ne_eqb (suc (length (segment_starts (0 + length x + 1) xs))) 0 (λ e. omega (arith, e))) refl
 
-    place_is : (segments : List (List ℕ)) → length (joined_segments segments) + bool_byte (not (length (starts_from 0 segments) == 0)) ≡ 0 + place_after segments
+    place_is : (segments : List (List ℕ)) → length (joined_segments segments) + bool_byte (not (length (segment_starts 0 segments) == 0)) ≡ 0 + place_after segments
     place_is [] = refl
-    place_is (x ∷ xs) = rw (ne_eqb (suc (length (starts_from (0 + length x + 1) xs))) 0 (λ e. omega (arith, e))) (omega arith)
+    place_is (x ∷ xs) = rw (ne_eqb (suc (length (segment_starts (0 + length x + 1) xs))) 0 (λ e. omega (arith, e))) (omega arith)
 
 -- a list but for its last, and that
 all_but_last : {X : Type 0} (xs : List X) (d : X) → 0 < length xs → xs ≡ take (length xs - 1) xs ++ get_or xs (length xs - 1) d ∷ []
@@ -83,14 +83,14 @@ all_but_last xs d some =
     let more = take_more xs (length xs - 1) d (omega (arith, some)) in
     sym (take_all (length xs) xs (omega arith)) ∙ ap (λ (k : ℕ). take k xs) (sym here) ∙ more
 
-some_segments : (segments : List (List ℕ)) (starts : List ℕ) (start : ℕ) → starts ++ start ∷ [] ≡ starts_from 0 segments → 0 < length segments
+some_segments : (segments : List (List ℕ)) (starts : List ℕ) (start : ℕ) → starts ++ start ∷ [] ≡ segment_starts 0 segments → 0 < length segments
 some_segments [] starts start e = absurd (omega (arith, ap length e, length-append starts (start ∷ [])))
 some_segments (s ∷ ss) starts start e = omega arith
 
 -- what is known of a path whose last segment begins at a place
 pub record EndsAt (segments : List (List ℕ)) (path starts : List ℕ) (start : ℕ) (s : List ℕ) : Type 0 where
   pub bytes : path ≡ joined_segments segments ++ separated segments s
-  pub starts_are : starts ≡ starts_from 0 segments
+  pub starts_are : starts ≡ segment_starts 0 segments
   pub start_is : start ≡ place_after segments
 
 pub ends_at : (segments : List (List ℕ)) (path all starts : List ℕ) (start : ℕ) → IsPathOf segments path all → all ≡ starts ++ start ∷ [] → EndsAt (take (length segments - 1) segments) path starts start (get_or segments (length segments - 1) [])
@@ -99,8 +99,8 @@ ends_at segments path all starts start is e =
     let parts = all_but_last segments [] (some_segments segments starts start found) in
     let before = take (length segments - 1) segments in
     let s = get_or segments (length segments - 1) [] in
-    let places : starts ++ start ∷ [] ≡ starts_from 0 before ++ (0 + place_after before) ∷ [] = found ∙ ap (starts_from 0) parts ∙ starts-more 0 before s in
-    let same = same_from_push starts (starts_from 0 before) start (0 + place_after before) places in
+    let places : starts ++ start ∷ [] ≡ segment_starts 0 before ++ (0 + place_after before) ∷ [] = found ∙ ap (segment_starts 0) parts ∙ starts-more 0 before s in
+    let same = same_from_push starts (segment_starts 0 before) start (0 + place_after before) places in
     let last : start ≡ 0 + place_after before = same.1 in
     record {
       bytes = is.bytes ∙ ap joined_segments parts ∙ joined-more before s;

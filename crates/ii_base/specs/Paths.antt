@@ -37,9 +37,9 @@ abbrev pub has_zero : List ℕ → Bool
 has_zero bytes = list_any (λ b. b == 0) bytes
 
 -- where the segments of a path begin, the first of them at a place
-abbrev pub starts_from : ℕ → List (List ℕ) → List ℕ
-starts_from place [] = []
-starts_from place (s ∷ ss) = place ∷ starts_from (place + length s + 1) ss
+abbrev pub segment_starts : ℕ → List (List ℕ) → List ℕ
+segment_starts place [] = []
+segment_starts place (s ∷ ss) = place ∷ segment_starts (place + length s + 1) ss
 
 -- the segments of a path that begin at these places
 abbrev pub cut_at : List ℕ → List ℕ → List (List ℕ)
@@ -50,7 +50,7 @@ cut_at path (start ∷ next ∷ starts) = slice_range path start (next - 1) ∷ 
 -- the bytes of a path of segments, and where these begin
 pub record IsPathOf (segments : List (List ℕ)) (path starts : List ℕ) : Type 0 where
   pub bytes : path ≡ joined_segments segments
-  pub places : starts ≡ starts_from 0 segments
+  pub places : starts ≡ segment_starts 0 segments
 
 -- A path that is written: its segments as they stand there, and whether dots in a further one are expanded.
 pub record PathState : Type 0 where

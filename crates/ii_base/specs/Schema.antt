@@ -3,7 +3,7 @@ use Rattle.std.specs.Prelude.{ℕ, Bool, ◌&&◌, List}
 use Rattle.ii_base.specs.declared.schema.value_type.ValueType.{ValueType}
 use Rattle.ii_base.specs.declared.schema.index_record_option.IndexRecordOption.{IndexRecordOption}
 
-pub record Entry : Type 0 where
+pub record SchemaEntry : Type 0 where
   pub name : List ℕ
   pub value_type : ValueType
   pub option : IndexRecordOption
@@ -12,5 +12,5 @@ pub record Entry : Type 0 where
   pub expands_dots : Bool
 
 -- whether a norm is kept for each document
-abbrev pub keeps_norms : Entry → Bool
+abbrev pub keeps_norms : SchemaEntry → Bool
 keeps_norms e = e.is_indexed && e.has_fieldnorms

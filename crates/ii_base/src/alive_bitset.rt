@@ -1,5 +1,6 @@
-ghost use Rattle.std.specs.Prelude.{◌≡◌, ◌<◌, true, false, length, replicate, slice_index_or, IfErr, IfOk};
+ghost use Rattle.std.specs.Prelude.{◌≡◌, ◌<◌, true, false, length, replicate, slice_index_or, IfOk};
 ghost use Rattle.std.specs.List.{All};
+ghost use Rattle.ii_io.specs.Faults.{OnlyMemory};
 ghost use Rattle.ii_base.specs.AliveBitSet.{alive_but};
 
 use ii_io::Fault;
@@ -26,7 +27,7 @@ impl AliveBitSet {
     /// All documents below `num_docs` are alive. `OutOfMemory` where there is no room for them.
     pub fn full(alloc: Global, num_docs: u32) -> Result<AliveBitSet, Fault>
         ensures ok { IfOk result (λ alive. alive ≡ replicate num_docs true) }
-        ensures only { IfErr result (λ e. e ≡ Fault.OutOfMemory) }
+        ensures only { OnlyMemory result }
     {
         let flags = vec![in alloc; true; num_docs as usize]?;
         Ok(AliveBitSet { flags })
@@ -41,7 +42,7 @@ impl AliveBitSet {
     ) -> Result<AliveBitSet, Fault>
         requires { All (λ doc. doc < num_docs) docs.now }
         ensures ok { IfOk result (λ alive. alive ≡ alive_but docs.now num_docs) }
-        ensures only { IfErr result (λ e. e ≡ Fault.OutOfMemory) }
+        ensures only { OnlyMemory result }
     {
         let mut flags = vec![in alloc; true; num_docs as usize]?;
         for doc in docs {

@@ -1,4 +1,5 @@
-ghost use Rattle.std.specs.Prelude.{◌≡◌, ◌∷◌, ◌++◌, ◌-◌, [], false, length, take, string_bytes, string_len, IfErr, OnErr, OnOk};
+ghost use Rattle.std.specs.Prelude.{◌≡◌, ◌∷◌, ◌++◌, ◌-◌, [], false, length, take, string_bytes, string_len, OnErr, OnOk};
+ghost use Rattle.ii_io.specs.Faults.{OnlyMemory};
 ghost use Rattle.ii_base.specs.Paths.{behind_separator, joined_segments, segment_bytes};
 
 use ii_io::Fault;
@@ -48,7 +49,7 @@ impl JsonPathWriter {
     pub fn push(&mut self, segment: &str) -> Result<(), Fault>
         ensures ok { OnOk result (self.new ≡ record self.old { segments = self.old.segments ++ segment_bytes self.old.expand_dots segment.now ∷ [] }) }
         ensures err { OnErr result (self.new ≡ self.old) }
-        ensures only { IfErr result (λ e. e ≡ Fault.OutOfMemory) }
+        ensures only { OnlyMemory result }
     {
         let len = self.path.len();
         let is_first = self.starts.is_empty();
@@ -98,7 +99,7 @@ impl JsonPathWriter {
 fn append(path: &mut String, is_first: bool, expand_dots: bool, segment: &str) -> Result<(), Fault>
     ensures ok { OnOk result (string_bytes path.new ≡ string_bytes path.old ++ behind_separator is_first (segment_bytes expand_dots segment.now)) }
     ensures err { OnErr result (take (string_len path.old) (string_bytes path.new) ≡ string_bytes path.old) }
-    ensures only { IfErr result (λ e. e ≡ Fault.OutOfMemory) }
+    ensures only { OnlyMemory result }
 {
     if is_first {
         return append_segment(path, expand_dots, segment);
@@ -111,7 +112,7 @@ fn append(path: &mut String, is_first: bool, expand_dots: bool, segment: &str) -
 fn append_segment(path: &mut String, expand_dots: bool, segment: &str) -> Result<(), Fault>
     ensures ok { OnOk result (string_bytes path.new ≡ string_bytes path.old ++ segment_bytes expand_dots segment.now) }
     ensures err { OnErr result (take (string_len path.old) (string_bytes path.new) ≡ string_bytes path.old) }
-    ensures only { IfErr result (λ e. e ≡ Fault.OutOfMemory) }
+    ensures only { OnlyMemory result }
 {
     if !expand_dots {
         path.push_str(segment)?;

@@ -1,4 +1,5 @@
-ghost use Rattle.std.specs.Prelude.{◌≡◌, ◌∷◌, ◌++◌, map, string_bytes, IfErr, IfOk, OnOk};
+ghost use Rattle.std.specs.Prelude.{◌≡◌, ◌∷◌, ◌++◌, map, string_bytes, IfOk, OnOk};
+ghost use Rattle.ii_io.specs.Faults.{OnlyMemory};
 ghost use Rattle.ii_base.specs.Paths.{joined_segments, segment_bytes, segments_of};
 
 use crate::json_path_writer::JsonPathWriter;
@@ -11,7 +12,7 @@ use std::mem;
 /// them.
 pub fn split_json_path(alloc: Global, path: &str) -> Result<Vec<String>, Fault>
     ensures ok { IfOk result (λ segments. map string_bytes segments.items ≡ segments_of path.now) }
-    ensures only { IfErr result (λ e. e ≡ Fault.OutOfMemory) }
+    ensures only { OnlyMemory result }
 {
     let mut segments = Vec::new(alloc);
     let mut segment = String::new(alloc);
@@ -37,7 +38,7 @@ pub fn split_json_path(alloc: Global, path: &str) -> Result<Vec<String>, Fault>
 // Adds the segments of a path's text.
 pub(crate) fn push_path(alloc: Global, writer: &mut JsonPathWriter, path: &str) -> Result<(), Fault>
     ensures ok { OnOk result (writer.new ≡ record writer.old { segments = writer.old.segments ++ map (segment_bytes writer.old.expand_dots) (segments_of path.now) }) }
-    ensures only { IfErr result (λ e. e ≡ Fault.OutOfMemory) }
+    ensures only { OnlyMemory result }
 {
     let segments = split_json_path(alloc, path)?;
     for segment in &segments {
@@ -56,7 +57,7 @@ pub fn encode_column_name(
     expand_dots: bool,
 ) -> Result<String, Fault>
     ensures ok { IfOk result (λ name. string_bytes name ≡ joined_segments (field_name.now ∷ map (segment_bytes expand_dots) (segments_of json_path.now))) }
-    ensures only { IfErr result (λ e. e ≡ Fault.OutOfMemory) }
+    ensures only { OnlyMemory result }
 {
     let mut writer = JsonPathWriter::new(alloc);
     writer.push(field_name)?;

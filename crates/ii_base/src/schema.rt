@@ -1,5 +1,6 @@
-ghost use Rattle.std.specs.Prelude.{◌≡◌, ◌^◌, ◌<◌, length, Some, vec_len, slice_get, IfErr, IfOk};
+ghost use Rattle.std.specs.Prelude.{◌≡◌, ◌^◌, ◌<◌, length, Some, vec_len, slice_get, IfOk};
 ghost use Rattle.std.specs.List.{enumerate_from};
+ghost use Rattle.ii_io.specs.Faults.{OnlyMemory};
 
 use field_entry::FieldEntry;
 use ii_io::{Fault, Field};
@@ -20,9 +21,9 @@ pub struct Schema {
 
 impl Model for Schema {
     ghost use Rattle.std.specs.Prelude.{List, ◌^◌, ◌<◌, length};
-    ghost use Rattle.ii_base.specs.Schema.{Entry};
+    ghost use Rattle.ii_base.specs.Schema.{SchemaEntry};
 
-    ghost Value = { List Entry };
+    ghost Value = { List SchemaEntry };
 
     ghost view = { λ s. s.entries.items };
 
@@ -41,7 +42,7 @@ impl Schema {
     /// The same schema. `OutOfMemory` where there is no room for it.
     pub fn clone(&self) -> Result<Schema, Fault>
         ensures same { IfOk result (λ copy. copy ≡ self.now) }
-        ensures only { IfErr result (λ e. e ≡ Fault.OutOfMemory) }
+        ensures only { OnlyMemory result }
     {
         let entries = self.entries.clone()?;
         Ok(Schema { entries })

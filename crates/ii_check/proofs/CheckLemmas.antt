@@ -8,6 +8,7 @@ use Rattle.std.proofs.lemmas.List.Folds.{concat-append}
 use Rattle.std.proofs.lemmas.List.FromFn.{length-map-range_with_len}
 use Rattle.ii_base.specs.declared.schema.index_record_option.IndexRecordOption.{IndexRecordOption}
 use Rattle.ii_io.specs.Steps.{◌>>=◌, needs}
+use Rattle.ii_docset.specs.declared.docset.TheConstants.{TERMINATED}
 use Rattle.ii_docset.specs.Entries.{ascend_from, are_documents}
 use Rattle.ii_docset.proofs.AscentLemmas.{least_after, ascend-append, least_after-append, least_after-last}
 use Rattle.ii_codes.specs.Blocks.{sorted_block_at}
@@ -19,7 +20,7 @@ use Rattle.ii_layout.specs.declared.skip.BlockInfo.{BlockInfo}
 use Rattle.ii_layout.specs.declared.skip.BlockInfo.TheVariants.{BitPacked}
 use Rattle.ii_layout.specs.SkipList.{SkipList, entries_at, entry_at, entry_size, block_place}
 use Rattle.ii_layout.specs.SkipReader.{SkipReaderState, reader_at, block_info_of}
-use Rattle.ii_layout.specs.Documents.{entry_of, last_doc_before, block_docs, rest_docs, documents_at}
+use Rattle.ii_layout.specs.Documents.{skip_entry, last_doc_before, block_docs, rest_docs, documents_at}
 use Rattle.ii_layout.proofs.SkipReaderLemmas.{at_full_block, at_vints}
 use Rattle.ii_layout.proofs.DocumentLemmas.{least_at, block_ascends, block_stands, least_of, least_of_all, stands, stands_block, each_gives}
 use Rattle.ii_check.specs.Check.{skip_list_of, fits_by, block_fits, after_rest}
@@ -49,28 +50,28 @@ fits_cases strict before width last_doc least bytes (Some found) e h =
 
 -- whether the block of an entry fits, at its place in a body
 abbrev pub entry_fits : SkipList → ℕ → ℕ → Bool
-entry_fits skip i least = block_fits (block_info_of (entry_of skip.entries i)) (last_doc_before skip.entries i) (entry_of skip.entries i).last_doc least (drop (block_place skip.entries i) skip.body)
+entry_fits skip i least = block_fits (block_info_of (skip_entry skip.entries i)) (last_doc_before skip.entries i) (skip_entry skip.entries i).last_doc least (drop (block_place skip.entries i) skip.body)
 
 fits : (skip : SkipList) (i least : ℕ) → entry_fits skip i least ≡ true
-    → FitsBlock (entry_of skip.entries i).strict_delta (last_doc_before skip.entries i) (entry_of skip.entries i).doc_num_bits (entry_of skip.entries i).last_doc least (drop (block_place skip.entries i) skip.body)
-fits skip i least h = fits_cases _ _ _ _ least _ (sorted_block_at (entry_of skip.entries i).strict_delta (last_doc_before skip.entries i) (entry_of skip.entries i).doc_num_bits (drop (block_place skip.entries i) skip.body)) refl h
+    → FitsBlock (skip_entry skip.entries i).strict_delta (last_doc_before skip.entries i) (skip_entry skip.entries i).doc_num_bits (skip_entry skip.entries i).last_doc least (drop (block_place skip.entries i) skip.body)
+fits skip i least h = fits_cases _ _ _ _ least _ (sorted_block_at (skip_entry skip.entries i).strict_delta (last_doc_before skip.entries i) (skip_entry skip.entries i).doc_num_bits (drop (block_place skip.entries i) skip.body)) refl h
 
 -- the last document of an ascending block is below the end
-last_below : (least n : ℕ) (xs : List ℕ) → ascend_from least xs ≡ true → n < length xs → get_or xs n 0 < 2147483647
+last_below : (least n : ℕ) (xs : List ℕ) → ascend_from least xs ≡ true → n < length xs → get_or xs n 0 < TERMINATED
 last_below least n [] up h = absurd (omega arith)
 last_below least zero (x ∷ xs) up h =
-    let parts = and_parts (nat_le least x && nat_lt x 2147483647) (ascend_from (x + 1) xs) up in
-    ltb-true x 2147483647 (and_parts (nat_le least x) (nat_lt x 2147483647) parts.0).1
-last_below least (suc n) (x ∷ xs) up h = last_below (x + 1) n xs (and_parts (nat_le least x && nat_lt x 2147483647) (ascend_from (x + 1) xs) up).1 (omega arith)
+    let parts = and_parts (nat_le least x && nat_lt x TERMINATED) (ascend_from (x + 1) xs) up in
+    ltb-true x TERMINATED (and_parts (nat_le least x) (nat_lt x TERMINATED) parts.0).1
+last_below least (suc n) (x ∷ xs) up h = last_below (x + 1) n xs (and_parts (nat_le least x && nat_lt x TERMINATED) (ascend_from (x + 1) xs) up).1 (omega arith)
 
-pub entry_below : (skip : SkipList) (i least : ℕ) → entry_fits skip i least ≡ true → (entry_of skip.entries i).last_doc < 2147483647
+pub entry_below : (skip : SkipList) (i least : ℕ) → entry_fits skip i least ≡ true → (skip_entry skip.entries i).last_doc < TERMINATED
 entry_below skip i least h =
     let f = fits skip i least h in
     let whole = length-sorted_block_at _ _ _ _ f.docs f.after f.read in
     rw (← f.last) (last_below least 127 f.docs f.up (omega arith))
 
 -- one more block that fits
-pub checked_next : (skip : SkipList) (i least : ℕ) → IsCheckedTo skip i least → entry_fits skip i least ≡ true → IsCheckedTo skip (i + 1) ((entry_of skip.entries i).last_doc + 1)
+pub checked_next : (skip : SkipList) (i least : ℕ) → IsCheckedTo skip i least → entry_fits skip i least ≡ true → IsCheckedTo skip (i + 1) ((skip_entry skip.entries i).last_doc + 1)
 checked_next skip i least c h =
     let f = fits skip i least h in
     let stands_here = block_stands skip i f.docs f.after f.read f.last in
@@ -97,7 +98,7 @@ fail_cases skip i least n (Some (docs, after)) h c fails found =
     let up = block_ascends 0 i s.blocks s.rest s.up (omega arith) in
     let least_is : least_at 0 s.blocks i ≡ least = least_of_all skip (length skip.entries) i s.blocks s.read h ∙ sym c.least_is in
     let up_here : ascend_from least (get_or s.blocks i []) ≡ true = ap (λ (l : ℕ). ascend_from l (get_or s.blocks i [])) (sym least_is) ∙ up in
-    let does : entry_fits skip i least ≡ true = rw (block.read, eq-eqb (get_or (get_or s.blocks i []) 127 0) (entry_of skip.entries i).last_doc block.last, up_here) refl in
+    let does : entry_fits skip i least ≡ true = rw (block.read, eq-eqb (get_or (get_or s.blocks i []) 127 0) (skip_entry skip.entries i).last_doc block.last, up_here) refl in
     absurd (cc)
 
 none_of : {A : Type 0} (o : Option A) → is_some o ≡ false → o ≡ None
@@ -187,5 +188,5 @@ looked_at skip_info doc_freq i least offset skip_data body here reader r t e h t
 
 -- the last document that the reader told of it is its entry's
 pub told_last : (skip_info : IndexRecordOption) (doc_freq i last : ℕ) (skip_data : List ℕ) (reader : SkipReaderState) → reader ≡ reader_at skip_info doc_freq (entries_at skip_info (doc_freq / 128) skip_data) i → i < doc_freq / 128 → last ≡ reader.last_doc_in_block
-    → last ≡ (entry_of (entries_at skip_info (doc_freq / 128) skip_data) i).last_doc
+    → last ≡ (skip_entry (entries_at skip_info (doc_freq / 128) skip_data) i).last_doc
 told_last skip_info doc_freq i last skip_data reader e h last_is = last_is ∙ (at_full_block reader skip_info doc_freq i (entries_at skip_info (doc_freq / 128) skip_data) e h).last

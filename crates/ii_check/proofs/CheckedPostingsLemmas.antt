@@ -11,6 +11,7 @@ use Rattle.ii_io.specs.StepLemmas.{step-some, needs-some, some-same}
 use Rattle.ii_io.specs.Vints.{u32s_at, u64_at}
 use Rattle.ii_io.specs.declared.faults.Part.{Part}
 use Rattle.ii_io.specs.declared.faults.Part.TheVariants.{Documents, Frequencies}
+use Rattle.ii_docset.specs.declared.docset.TheConstants.{TERMINATED}
 use Rattle.ii_codes.specs.SortedVints.{sorted_vints_at}
 use Rattle.ii_codes.specs.BlockDecoder.{BlockDecoderState}
 use Rattle.ii_layout.specs.SkipList.{SkipEntry, SkipList, IsSplit, skip_list, skip_list_at, skip_info_of, block_place, entry_size, entries_at}
@@ -250,7 +251,7 @@ has_documents p g =
     }
 
 -- the decoders that are left of the check of a short list
-short_docs : (p : CheckedPostingsState) (docs docs' : BlockDecoderState) → AreGiven p → p.doc_freq < 128 → HoldsRow (sorted_vints_at 0 p.doc_freq p.postings.skip.body) 2147483647 docs docs' → Loads p.postings.docs 0 2147483647 docs docs'
+short_docs : (p : CheckedPostingsState) (docs docs' : BlockDecoderState) → AreGiven p → p.doc_freq < 128 → HoldsRow (sorted_vints_at 0 p.doc_freq p.postings.skip.body) TERMINATED docs docs' → Loads p.postings.docs 0 TERMINATED docs docs'
 short_docs p docs docs' g few row =
     let skip = p.postings.skip in
     let n = p.doc_freq % 128 in
@@ -261,7 +262,7 @@ short_docs p docs docs' g few row =
     let here : sorted_vints_at 0 p.doc_freq skip.body ≡ Some (block_of p.postings.docs 0, p.postings.after) =
     ap (λ (k : ℕ). sorted_vints_at 0 k skip.body) number ∙ ap (λ (k : ℕ). sorted_vints_at (last_doc_before skip.entries k) n (drop (block_place skip.entries k) skip.body)) end ∙ rest
     in
-    loads (sorted_vints_at 0 p.doc_freq skip.body) p.postings.docs p.postings.after 0 2147483647 docs docs' row here
+    loads (sorted_vints_at 0 p.doc_freq skip.body) p.postings.docs p.postings.after 0 TERMINATED docs docs' row here
 
 short_freqs : (p : CheckedPostingsState) (freqs freqs' : BlockDecoderState) (t : Bool) → AreGiven p → p.doc_freq < 128 → is_read p.freq_reading ≡ t
     → (t ≡ true → HoldsRow (u32s_at p.doc_freq p.postings.after) 1 freqs freqs') → (t ≡ false → freqs' ≡ freqs) → LoadsFreqs p.postings.freqs 0 freqs freqs'
@@ -277,7 +278,7 @@ short_freqs p freqs freqs' true g few read counts none =
     loads (u32s_at p.doc_freq p.postings.after) fs rest.0 0 1 freqs freqs' (counts refl) (ap (λ (k : ℕ). u32s_at k p.postings.after) number ∙ rest.1))
 short_freqs p freqs freqs' false g few read counts none = keeps_freqs p.postings.freqs 0 freqs freqs' (g.read ∙ read) (none refl)
 
-pub short_loads : (p : CheckedPostingsState) (docs docs' freqs freqs' : BlockDecoderState) (t : Bool) → AreGiven p → p.doc_freq < 128 → HoldsRow (sorted_vints_at 0 p.doc_freq p.postings.skip.body) 2147483647 docs docs' → is_read p.freq_reading ≡ t
+pub short_loads : (p : CheckedPostingsState) (docs docs' freqs freqs' : BlockDecoderState) (t : Bool) → AreGiven p → p.doc_freq < 128 → HoldsRow (sorted_vints_at 0 p.doc_freq p.postings.skip.body) TERMINATED docs docs' → is_read p.freq_reading ≡ t
     → (t ≡ true → HoldsRow (u32s_at p.doc_freq p.postings.after) 1 freqs freqs') → (t ≡ false → freqs' ≡ freqs) → LoadsBlock p.postings 0 docs docs' freqs freqs'
 short_loads p docs docs' freqs freqs' t g few row read counts none =
     record { docs_are = short_docs p docs docs' g few row; freqs_are = short_freqs p freqs freqs' t g few read counts none }

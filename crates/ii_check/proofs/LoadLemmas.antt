@@ -13,7 +13,7 @@ use Rattle.ii_layout.specs.declared.skip.BlockInfo.{BlockInfo}
 use Rattle.ii_layout.specs.declared.skip.BlockInfo.TheVariants.{VInt}
 use Rattle.ii_layout.specs.SkipList.{block_place}
 use Rattle.ii_layout.specs.SkipReader.{SkipReaderState, block_info_of}
-use Rattle.ii_layout.specs.Documents.{entry_of, last_doc_before}
+use Rattle.ii_layout.specs.Documents.{skip_entry, last_doc_before}
 use Rattle.ii_layout.specs.Written.{block_of}
 use Rattle.ii_layout.proofs.SkipReaderLemmas.{at_full_block, at_vints, at_end}
 use Rattle.ii_layout.proofs.DocumentLemmas.{length-documents_at, block_of_documents, rest_of_documents}
@@ -48,7 +48,7 @@ full_there p reader here g at here_is below =
     let tells = at_full_block reader skip.skip_info p.doc_freq i skip.entries at.reader below in
     let entries = g.entries in
     let block = block_of_documents skip (p.doc_freq % 128) i p.postings.docs p.postings.after g.documents (omega arith) in
-    let e = entry_of skip.entries i in
+    let e = skip_entry skip.entries i in
     let bytes : here ≡ drop (block_place skip.entries i) skip.body = here_is ∙ ap (λ (k : ℕ). drop k skip.body) tells.offset in
     let after = sorted_after e.strict_delta (last_doc_before skip.entries i) e.doc_num_bits (drop (block_place skip.entries i) skip.body) (block_of p.postings.docs i) block.after block.read in
     let none : num_vints (block_info_of e) ≤ 128 = omega arith in

@@ -3,6 +3,7 @@ use Rattle.std.proofs.Common.{◌≡◌, ℕ, ◌/◌, ◌%◌, ◌<◌, true, f
 use Rattle.ii_base.specs.Options.{has_freq}
 use Rattle.ii_io.specs.Vints.{u32s_at}
 use Rattle.ii_io.specs.StepLemmas.{some-same}
+use Rattle.ii_docset.specs.declared.docset.TheConstants.{TERMINATED}
 use Rattle.ii_codes.specs.SortedVints.{sorted_vints_at}
 use Rattle.ii_codes.specs.BlockDecoder.{BlockDecoderState}
 use Rattle.ii_layout.specs.SkipList.{SkipList, IsSplit}
@@ -65,7 +66,7 @@ checked a skip after reading freqs l f = is_checked a l.docs after freqs reading
 pub record HoldShort (a : Asked) (body after : List ℕ) (reading : FreqReadingOption) (docs docs' freqs freqs' : BlockDecoderState) : Type 0 where
   pub few : a.doc_freq < 128
   pub body_is : body ≡ drop a.body a.bytes
-  pub row : HoldsRow (sorted_vints_at 0 a.doc_freq body) 2147483647 docs docs'
+  pub row : HoldsRow (sorted_vints_at 0 a.doc_freq body) TERMINATED docs docs'
   pub read : is_read reading ≡ true → HoldsRow (u32s_at a.doc_freq after) 1 freqs freqs'
   pub unread : is_read reading ≡ false → freqs' ≡ freqs
 

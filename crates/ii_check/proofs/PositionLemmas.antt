@@ -18,7 +18,7 @@ use Rattle.ii_base.specs.Options.{downgrade, has_positions}
 use Rattle.ii_layout.specs.Written.{block_of}
 use Rattle.ii_io.specs.StepLemmas.{some-same}
 use Rattle.ii_codes.specs.BlockDecoder.{BlockDecoderState}
-use Rattle.ii_check.specs.CheckedPostings.{AreFreqs, AreLastFreqs, CheckedPostingsState, HasDocuments, IsAtBlock, LoadsFreqs}
+use Rattle.ii_check.specs.CheckedPostings.{AreReadFreqs, AreLastFreqs, CheckedPostingsState, HasDocuments, IsAtBlock, LoadsFreqs}
 use Rattle.ii_check.specs.Positions.{suffice}
 
 sum_cons : (n : ℕ) (ns : List ℕ) → sum (n ∷ ns) ≡ n + sum ns
@@ -226,7 +226,7 @@ row_cases (Some fs) counts row block old new e loads row_is = row_is ∙ loads.h
 pub row_is : (freqs : Option (List ℕ)) (block end : ℕ) (deltas row : List ℕ) (old new : BlockDecoderState) (s : SufficesTo freqs block end deltas) → LoadsFreqs freqs block old new → row ≡ take new.output_len new.output → row ≡ block_of s.counts block
 row_is freqs block end deltas row old new s loads e = row_cases freqs s.counts row block old new s.are loads e
 
-pub end_low : (freqs : Option (List ℕ)) (n block end : ℕ) (deltas row : List ℕ) (s : SufficesTo freqs block end deltas) → row ≡ block_of s.counts block → ((fs : List ℕ) → freqs ≡ Some fs → AreFreqs n fs) → n < 2 ^ 32 → end + sum row < 2 ^ 64
+pub end_low : (freqs : Option (List ℕ)) (n block end : ℕ) (deltas row : List ℕ) (s : SufficesTo freqs block end deltas) → row ≡ block_of s.counts block → ((fs : List ℕ) → freqs ≡ Some fs → AreReadFreqs n fs) → n < 2 ^ 32 → end + sum row < 2 ^ 64
 end_low freqs n block end deltas row s e all few =
     let are = all s.counts s.are in
     let low = sum_low s.counts are.low in
@@ -307,7 +307,7 @@ pub last_few : (o : Option (List ℕ)) (block : ℕ) (row : List ℕ) → AreLas
 last_few None block row last = last
 last_few (Some freqs) block row last = last.1
 
-pub last_loaded : (o : Option (List ℕ)) (n block : ℕ) (row : List ℕ) (old new : BlockDecoderState) → is_some o ≡ true → ((fs : List ℕ) → o ≡ Some fs → AreFreqs n fs) → block ≡ n / 128 → LoadsFreqs o block old new → row ≡ take new.output_len new.output → AreLastFreqs o (n / 128) row
+pub last_loaded : (o : Option (List ℕ)) (n block : ℕ) (row : List ℕ) (old new : BlockDecoderState) → is_some o ≡ true → ((fs : List ℕ) → o ≡ Some fs → AreReadFreqs n fs) → block ≡ n / 128 → LoadsFreqs o block old new → row ≡ take new.output_len new.output → AreLastFreqs o (n / 128) row
 last_loaded None n block row old new some are end loads row_is = absurd (cc)
 last_loaded (Some fs) n block row old new some are end loads row_is =
     let many = (are fs refl).many in

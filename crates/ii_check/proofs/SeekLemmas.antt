@@ -2,7 +2,7 @@
 use Rattle.std.proofs.Common.{◌≡◌, ℕ, ◌+◌, ◌*◌, ◌/◌, ◌%◌, ◌<◌, ◌≤◌, List, length, get_or, sym, ap, ◌∙◌, arith}
 use Rattle.ii_layout.specs.SkipList.{SkipEntry, entry_size, entries_at}
 use Rattle.ii_layout.specs.SkipReader.{SkipReaderState, Seeks, reader_at}
-use Rattle.ii_layout.specs.Documents.{entry_of}
+use Rattle.ii_layout.specs.Documents.{skip_entry}
 use Rattle.ii_layout.proofs.BlockDocs.{get_or-block_of}
 use Rattle.ii_layout.proofs.DocumentLemmas.{block_of_documents}
 use Rattle.ii_check.specs.CheckedPostings.{CheckedPostingsState, AreGiven, IsAtBlock, IsSkipData, SeeksBlock}
@@ -20,7 +20,7 @@ lent p skip bytes at d =
     )
 
 -- the last document of a full block is its entry's
-last_is : (p : CheckedPostingsState) (j : ℕ) → AreGiven p → j < p.doc_freq / 128 → (entry_of p.postings.skip.entries j).last_doc ≡ get_or p.postings.docs (128 * j + 127) 0
+last_is : (p : CheckedPostingsState) (j : ℕ) → AreGiven p → j < p.doc_freq / 128 → (skip_entry p.postings.skip.entries j).last_doc ≡ get_or p.postings.docs (128 * j + 127) 0
 last_is p j g below =
     let entries = g.entries in
     let block = block_of_documents p.postings.skip (p.doc_freq % 128) j p.postings.docs p.postings.after g.documents (omega arith) in

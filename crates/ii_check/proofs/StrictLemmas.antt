@@ -5,6 +5,7 @@ use Rattle.std.proofs.lemmas.Bool.{cases_lt, le-leb, lt-ltb, le-ltb}
 use Rattle.std.specs.Option.{option_map}
 use Rattle.ii_io.specs.Steps.{needs}
 use Rattle.ii_io.specs.StepLemmas.{step-some, some-same}
+use Rattle.ii_docset.specs.declared.docset.TheConstants.{TERMINATED}
 use Rattle.ii_docset.specs.Entries.{ascend_from}
 use Rattle.ii_codes.specs.Packed.{unpacked}
 use Rattle.ii_codes.specs.Blocks.{least_first, values_from, sorted_values, sorted_block_at}
@@ -16,21 +17,21 @@ last_ge : (first e : ℕ) (es : List ℕ) → first + e ≤ get_or (values_from 
 last_ge first e [] = omega arith
 last_ge first e (f ∷ fs) = let ih = last_ge (first + e + 1) f fs in omega arith
 
-ascend_one : (least d : ℕ) (t : Bool) → least ≤ d → (nat_le least d && nat_lt d 2147483647 && t) ≡ (nat_lt d 2147483647 && t)
+ascend_one : (least d : ℕ) (t : Bool) → least ≤ d → (nat_le least d && nat_lt d TERMINATED && t) ≡ (nat_lt d TERMINATED && t)
 ascend_one least d t up = rw (le-leb least d up) refl
 
-ascend_last : (least first e : ℕ) (es : List ℕ) → least ≤ first → ascend_from least (values_from 1 first (e ∷ es)) ≡ nat_lt (get_or (values_from 1 first (e ∷ es)) (length es) 0) 2147483647
-ascend_last least first e [] up = ascend_one least (first + e) (ascend_from (first + e + 1) []) (omega arith) ∙ and-true (nat_lt (first + e) 2147483647)
+ascend_last : (least first e : ℕ) (es : List ℕ) → least ≤ first → ascend_from least (values_from 1 first (e ∷ es)) ≡ nat_lt (get_or (values_from 1 first (e ∷ es)) (length es) 0) TERMINATED
+ascend_last least first e [] up = ascend_one least (first + e) (ascend_from (first + e + 1) []) (omega arith) ∙ and-true (nat_lt (first + e) TERMINATED)
 ascend_last least first e (f ∷ fs) up =
     let ih = ascend_last (first + e + 1) (first + e + 1) f fs (omega arith) in
     let more = last_ge (first + e + 1) f fs in
     ascend_one least (first + e) (ascend_from (first + e + 1) (values_from 1 (first + e + 1) (f ∷ fs))) (omega arith)
     ∙ ⊎_elim
-    (λ below. rw (lt-ltb (first + e) 2147483647 (omega arith)) ih)
-    (λ above. rw (ih, le-ltb (get_or (values_from 1 (first + e + 1) (f ∷ fs)) (length fs) 0) 2147483647 above) (and-false (nat_lt (first + e) 2147483647)))
-    (cases_lt (get_or (values_from 1 (first + e + 1) (f ∷ fs)) (length fs) 0) 2147483647)
+    (λ below. rw (lt-ltb (first + e) TERMINATED (omega arith)) ih)
+    (λ above. rw (ih, le-ltb (get_or (values_from 1 (first + e + 1) (f ∷ fs)) (length fs) 0) TERMINATED above) (and-false (nat_lt (first + e) TERMINATED)))
+    (cases_lt (get_or (values_from 1 (first + e + 1) (f ∷ fs)) (length fs) 0) TERMINATED)
 
-block_ascends : (least first : ℕ) (es : List ℕ) → length es ≡ 128 → least ≤ first → ascend_from least (values_from 1 first es) ≡ nat_lt (get_or (values_from 1 first es) 127 0) 2147483647
+block_ascends : (least first : ℕ) (es : List ℕ) → length es ≡ 128 → least ≤ first → ascend_from least (values_from 1 first es) ≡ nat_lt (get_or (values_from 1 first es) 127 0) TERMINATED
 block_ascends least first [] many up = absurd (omega arith)
 block_ascends least first (e ∷ es) many up =
     let others : length es ≡ 127 = omega arith in
@@ -52,7 +53,7 @@ abbrev ends_in : ℕ → ℕ → List ℕ → Bool
 ends_in last_doc least docs = eqb (get_or docs 127 0) last_doc && ascend_from least docs
 
 some_fits : (before w last last_doc least : ℕ) (bytes : List ℕ) (o : Option (List ℕ × List ℕ)) → sorted_block_at true before w bytes ≡ o → least ≤ least_first true before → Some last ≡ last_in o
-    → (eqb last last_doc && nat_lt last 2147483647) ≡ fits_by (ends_in last_doc least) o
+    → (eqb last last_doc && nat_lt last TERMINATED) ≡ fits_by (ends_in last_doc least) o
 some_fits before w last last_doc least bytes None e up h = absurd (cc)
 some_fits before w last last_doc least bytes (Some (docs, rest)) e up h =
     let values = strict_values before w bytes docs rest e in
@@ -61,5 +62,5 @@ some_fits before w last last_doc least bytes (Some (docs, rest)) e up h =
     rw (is, ascends) refl
 
 pub strict_some : (before w last last_doc least : ℕ) (bytes : List ℕ) → least ≤ least_first true before → Some last ≡ last_in (sorted_block_at true before w bytes)
-    → (eqb last last_doc && nat_lt last 2147483647) ≡ fits_by (ends_in last_doc least) (sorted_block_at true before w bytes)
+    → (eqb last last_doc && nat_lt last TERMINATED) ≡ fits_by (ends_in last_doc least) (sorted_block_at true before w bytes)
 strict_some before w last last_doc least bytes up h = some_fits before w last last_doc least bytes (sorted_block_at true before w bytes) refl up h

@@ -56,7 +56,7 @@ pub record AreGiven (p : CheckedPostingsState) : Type 0 where
   pub shape : is_some p.postings.freqs ≡ true → p.postings.skip.skip_info ≡ p.recorded
 
 -- Counts are as many as the term's documents, and have 32 bits.
-pub record AreFreqs (doc_freq : ℕ) (freqs : List ℕ) : Type 0 where
+pub record AreReadFreqs (doc_freq : ℕ) (freqs : List ℕ) : Type 0 where
   pub many : length freqs ≡ doc_freq
   pub low : fit_u32 freqs ≡ true
 
@@ -64,7 +64,7 @@ pub record AreFreqs (doc_freq : ℕ) (freqs : List ℕ) : Type 0 where
 pub record HasDocuments (p : CheckedPostingsState) : Type 0 where
   pub ascending : are_documents p.postings.docs ≡ true
   pub many : length p.postings.docs ≡ p.doc_freq
-  pub freqs : (fs : List ℕ) → p.postings.freqs ≡ Some fs → AreFreqs p.doc_freq fs
+  pub freqs : (fs : List ℕ) → p.postings.freqs ≡ Some fs → AreReadFreqs p.doc_freq fs
   pub read : is_some p.postings.freqs ≡ is_read p.freq_reading
   pub sums : (fs : List ℕ) → p.postings.freqs ≡ Some fs → has_positions p.recorded ≡ true → (i : ℕ) → i ≤ p.doc_freq / 128 → tf_sum_before p.postings.skip.entries i ≡ sum (take (128 * i) fs)
 

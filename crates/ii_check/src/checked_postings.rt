@@ -1,5 +1,6 @@
 ghost use Rattle.std.specs.Prelude.{◌≡◌, ◌+◌, ◌/◌, ◌<◌, ◌≤◌, ◌&&◌, ◌==◌, ⊤, [], length, min, nat_lt, true, is_some, None, Some, Ok, Err, IfOk, IfErr, OnErr, IfSome, IsSome, MatchOption};
 ghost use Rattle.std.specs.List.{sum, list_all};
+ghost use Rattle.ii_io.specs.Faults.{OnlyMemory};
 ghost use Rattle.ii_io.specs.Parts.{part_of};
 ghost use Rattle.ii_docset.specs.declared.docset.TheConstants.{TERMINATED};
 ghost use Rattle.ii_base.specs.Options.{downgrade, has_positions};
@@ -143,7 +144,7 @@ impl CheckedPostings {
     /// refused.
     pub fn clone(&self) -> Result<CheckedPostings, Fault>
         ensures same { IfOk result (λ checked. checked ≡ self.now) }
-        ensures only { IfErr result (λ e. e ≡ Fault.OutOfMemory) }
+        ensures only { OnlyMemory result }
     {
         let bytes = self.bytes.clone()?;
         Ok(CheckedPostings {

@@ -1,5 +1,6 @@
 -- Laws of documents that ascend, in parts.
 use Rattle.std.proofs.Common.{◌≡◌, ℕ, zero, suc, ◌+◌, Bool, true, false, ◌&&◌, List, [], ◌∷◌, ◌++◌, length, get_or, nat_le, nat_lt, refl, ap, ◌∙◌, arith}
+use Rattle.ii_docset.specs.declared.docset.TheConstants.{TERMINATED}
 use Rattle.ii_docset.specs.Entries.{ascend_from}
 
 -- the least document after documents
@@ -15,8 +16,8 @@ and_cases false b c d = refl
 pub ascend-append : (least : ℕ) (xs ys : List ℕ) → ascend_from least (xs ++ ys) ≡ (ascend_from least xs && ascend_from (least_after least xs) ys)
 ascend-append least [] ys = refl
 ascend-append least (x ∷ xs) ys =
-    ap (λ (b : Bool). nat_le least x && nat_lt x 2147483647 && b) (ascend-append (x + 1) xs ys)
-    ∙ and_cases (nat_le least x) (nat_lt x 2147483647) (ascend_from (x + 1) xs) (ascend_from (least_after (x + 1) xs) ys)
+    ap (λ (b : Bool). nat_le least x && nat_lt x TERMINATED && b) (ascend-append (x + 1) xs ys)
+    ∙ and_cases (nat_le least x) (nat_lt x TERMINATED) (ascend_from (x + 1) xs) (ascend_from (least_after (x + 1) xs) ys)
 
 pub least_after-append : (least : ℕ) (xs ys : List ℕ) → least_after least (xs ++ ys) ≡ least_after (least_after least xs) ys
 least_after-append least [] ys = refl

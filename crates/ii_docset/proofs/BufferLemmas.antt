@@ -1,6 +1,7 @@
 -- A buffer takes the documents of entries, one after the other.
 use Rattle.std.proofs.Common.{◌≡◌, ◌≢◌, ℕ, zero, suc, ◌+◌, ◌<◌, ◌≤◌, List, [], ◌∷◌, ◌++◌, length, take, drop, slice_set, refl, ap, arith, add-one}
 use Rattle.std.proofs.lemmas.List.{drop-drop, length-drop, drop_all, take_all}
+use Rattle.ii_docset.specs.declared.docset.TheConstants.{TERMINATED}
 use Rattle.ii_docset.specs.Entries.{Entry, docs_of}
 use Rattle.ii_docset.specs.Cursor.{doc_at, IsSound}
 use Rattle.ii_docset.proofs.CursorLemmas.{nothing_left}
@@ -18,21 +19,21 @@ filled_more all now before buffer i d left here within room filled = rw (filled,
 pub left_more : (all now after : List Entry) (i : ℕ) → now ≡ drop i all → after ≡ drop 1 now → after ≡ drop (i + 1) all
 left_more all now after i left next = rw (next, left) (drop-drop 1 i all)
 
-not_ended : (es : List Entry) → doc_at es ≢ 2147483647 → 0 < length es
+not_ended : (es : List Entry) → doc_at es ≢ TERMINATED → 0 < length es
 not_ended [] h = absurd (h refl)
 not_ended (e ∷ es) h = omega arith
 
 -- where a document is left, the list is longer
-pub more_left : (all now after : List Entry) (i d : ℕ) → now ≡ drop i all → after ≡ drop 1 now → d ≡ doc_at after → d ≢ 2147483647 → i + 1 < length all
+pub more_left : (all now after : List Entry) (i d : ℕ) → now ≡ drop i all → after ≡ drop 1 now → d ≡ doc_at after → d ≢ TERMINATED → i + 1 < length all
 more_left all now after i d left next here not_end =
     let some : 0 < length after = not_ended after (rw (← here) not_end) in
     let many : 0 < length (drop 1 (drop i all)) = rw (← left, ← next) some in
     omega (arith, many, length-drop 1 (drop i all), length-drop i all)
 
 -- where none is left, the list ends there
-pub none_left : (all now after : List Entry) (i d : ℕ) → now ≡ drop i all → after ≡ drop 1 now → d ≡ doc_at after → d ≡ 2147483647 → IsSound after → i < length all → length all ≡ i + 1
+pub none_left : (all now after : List Entry) (i d : ℕ) → now ≡ drop i all → after ≡ drop 1 now → d ≡ doc_at after → d ≡ TERMINATED → IsSound after → i < length all → length all ≡ i + 1
 none_left all now after i d left next here end sound within =
-    let bound : 2147483647 ≤ doc_at after = rw (← here, end) (omega arith) in
+    let bound : TERMINATED ≤ doc_at after = rw (← here, end) (omega arith) in
     let none = nothing_left after sound.ascending bound in
     let zero_left : length (drop 1 (drop i all)) ≡ 0 = rw (← left, ← next, ← none) refl in
     omega (arith, zero_left, length-drop 1 (drop i all), length-drop i all)

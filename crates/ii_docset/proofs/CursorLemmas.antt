@@ -4,6 +4,7 @@ use Rattle.std.proofs.lemmas.Bool.{lt-ltb, ltb-true, le-leb, lt-leb, leb-true}
 use Rattle.std.proofs.lemmas.List.{drop-drop, take_more}
 use Rattle.std.proofs.lemmas.List.Elements.{All-drop, All-map}
 use Rattle.std.specs.List.{All, range_with_len}
+use Rattle.ii_docset.specs.declared.docset.TheConstants.{TERMINATED}
 use Rattle.ii_docset.specs.Entries.{Entry, document, ascend_from, are_documents}
 use Rattle.ii_docset.specs.Cursor.{doc_at, IsAscending, FitsU32, IsSound, from_doc, positions_at}
 
@@ -17,7 +18,7 @@ IsAscending_drop (suc n) [] h = tt
 IsAscending_drop (suc n) (e ∷ es) h = IsAscending_drop n es h.1
 
 -- a document below the target is dropped by both
-pub from_doc_step : (target : ℕ) (es : List Entry) → doc_at es < target → target ≤ 2147483647 → from_doc target (drop 1 es) ≡ from_doc target es
+pub from_doc_step : (target : ℕ) (es : List Entry) → doc_at es < target → target ≤ TERMINATED → from_doc target (drop 1 es) ≡ from_doc target es
 from_doc_step target [] h up = refl
 from_doc_step target (e ∷ es) h up = rw (lt-leb target e.doc h) refl
 
@@ -28,19 +29,19 @@ from_doc_here target (e ∷ es) h at_least =
     let first = h.0 in
     rw (le-leb target e.doc at_least) (ap (λ (later : List Entry). e ∷ later) (from_doc_here target es h.1 (omega arith)))
 
-pub length_below : (es : List Entry) → IsAscending es → length es + doc_at es ≤ 2147483647
+pub length_below : (es : List Entry) → IsAscending es → length es + doc_at es ≤ TERMINATED
 length_below [] h = omega arith
 length_below (e ∷ es) h = let ih = length_below es h.1 in let first = h.0 in omega arith
 
-pub nothing_left : (es : List Entry) → IsAscending es → 2147483647 ≤ doc_at es → [] ≡ es
+pub nothing_left : (es : List Entry) → IsAscending es → TERMINATED ≤ doc_at es → [] ≡ es
 nothing_left [] h end = refl
 nothing_left (e ∷ es) h end = absurd (let ih = length_below (e ∷ es) h in omega arith)
 
-pub length_step : (es : List Entry) → doc_at es < 2147483647 → suc (length (drop 1 es)) ≡ length es
+pub length_step : (es : List Entry) → doc_at es < TERMINATED → suc (length (drop 1 es)) ≡ length es
 length_step [] h = absurd (omega arith)
 length_step (e ∷ es) h = refl
 
-pub doc_below : (es : List Entry) → IsAscending es → doc_at es ≤ 2147483647
+pub doc_below : (es : List Entry) → IsAscending es → doc_at es ≤ TERMINATED
 doc_below es h = let below = length_below es h in omega arith
 
 -- the current document of documents from a place on
@@ -65,12 +66,12 @@ and_parts true true c h = (refl, refl, h)
 and_parts true false c h = absurd (cc)
 and_parts false b c h = absurd (cc)
 
-ascending_from : (least : ℕ) (docs : List ℕ) → ascend_from least docs ≡ true → IsAscending (map document docs) × (least ≤ 2147483647 → least ≤ doc_at (map document docs))
+ascending_from : (least : ℕ) (docs : List ℕ) → ascend_from least docs ≡ true → IsAscending (map document docs) × (least ≤ TERMINATED → least ≤ doc_at (map document docs))
 ascending_from least [] h = (tt, λ up. up)
 ascending_from least (d ∷ ds) h =
-    let parts = and_parts (nat_le least d) (nat_lt d 2147483647) (ascend_from (d + 1) ds) h in
+    let parts = and_parts (nat_le least d) (nat_lt d TERMINATED) (ascend_from (d + 1) ds) h in
     let low = leb-true least d parts.0 in
-    let high = ltb-true d 2147483647 parts.1 in
+    let high = ltb-true d TERMINATED parts.1 in
     let later = ascending_from (d + 1) ds parts.2 in
     let next = later.1 (omega arith) in
     ((omega arith, later.0), λ up. low)
@@ -89,11 +90,11 @@ pub IsSound_drop : (n : ℕ) (es : List Entry) → IsSound es → IsSound (drop 
 IsSound_drop n es h = record { ascending = IsAscending_drop n es h.ascending; fits = All-drop FitsU32 n es h.fits }
 
 -- all numbers from one to another
-range_ascends : (least first n : ℕ) → least ≤ first → first + n ≤ 2147483647 → ascend_from least (range_with_len first n) ≡ true
+range_ascends : (least first n : ℕ) → least ≤ first → first + n ≤ TERMINATED → ascend_from least (range_with_len first n) ≡ true
 range_ascends least first zero low high = refl
-range_ascends least first (suc n) low high = rw (le-leb least first low, lt-ltb first 2147483647 (omega arith)) (range_ascends (first + 1) (first + 1) n (omega arith) (omega arith))
+range_ascends least first (suc n) low high = rw (le-leb least first low, lt-ltb first TERMINATED (omega arith)) (range_ascends (first + 1) (first + 1) n (omega arith) (omega arith))
 
-pub range_sound : (first end : ℕ) → first ≤ end → end ≤ 2147483647 → IsSound (map document (range_with_len first (end - first)))
+pub range_sound : (first end : ℕ) → first ≤ end → end ≤ TERMINATED → IsSound (map document (range_with_len first (end - first)))
 range_sound first end within low = documents_sound (range_with_len first (end - first)) (range_ascends 0 first (end - first) (omega arith) (omega arith))
 
 pub ruleset cursor_steps = (IsAscending_drop_1, from_doc_step, from_doc_here, length_below, nothing_left, length_step, doc_below)
@@ -103,7 +104,7 @@ ascend_take : (n least : ℕ) (docs : List ℕ) → ascend_from least docs ≡ t
 ascend_take zero least docs h = refl
 ascend_take (suc n) least [] h = refl
 ascend_take (suc n) least (d ∷ ds) h =
-    let parts = and_parts (nat_le least d) (nat_lt d 2147483647) (ascend_from (d + 1) ds) h in
+    let parts = and_parts (nat_le least d) (nat_lt d TERMINATED) (ascend_from (d + 1) ds) h in
     rw (parts.0, parts.1) (ascend_take n (d + 1) ds parts.2)
 
 pub documents_take : (i : ℕ) (docs : List ℕ) → i < length docs → are_documents docs ≡ true → are_documents (take i docs ++ get_or docs i 0 ∷ []) ≡ true

@@ -3,6 +3,7 @@ use Rattle.std.proofs.Common.{◌≡◌, ◌≢◌, ℕ, ◌-◌, ◌<◌, ◌�
 use Rattle.std.proofs.lemmas.Bool.{eq-eqb, ne_eqb}
 use Rattle.std.proofs.lemmas.List.{append-nil}
 use Rattle.std.proofs.lemmas.Bool.Decides.{leb_tells}
+use Rattle.ii_docset.specs.declared.docset.TheConstants.{TERMINATED}
 use Rattle.ii_docset.specs.Entries.{Entry}
 use Rattle.ii_docset.specs.Cursor.{doc_at, IsAscending, IsSound, IsTarget, from_doc}
 use Rattle.ii_docset.specs.Intersection.{common_docs, has_doc}
@@ -41,12 +42,12 @@ common-from_doc_first target (e ∷ es) fs ascend here =
       | inr h ↦ rw (h.0, has_doc_below e.doc fs ascend (omega (arith, h.1, here))) later
     ]
 
-common-found : (es fs : List Entry) → doc_at es < 2147483647 → doc_at fs ≡ doc_at es → common_docs es fs ≡ doc_at es ∷ common_docs (drop 1 es) fs
+common-found : (es fs : List Entry) → doc_at es < TERMINATED → doc_at fs ≡ doc_at es → common_docs es fs ≡ doc_at es ∷ common_docs (drop 1 es) fs
 common-found [] fs low same = absurd (omega (arith, low))
 common-found (e ∷ es) [] low same = absurd (omega (arith, low, same))
 common-found (e ∷ es) (f ∷ fs) low same = rw (eq-eqb f.doc e.doc same) refl
 
-doc_at-from_doc : (target : ℕ) (es : List Entry) → target ≤ 2147483647 → target ≤ doc_at (from_doc target es)
+doc_at-from_doc : (target : ℕ) (es : List Entry) → target ≤ TERMINATED → target ≤ doc_at (from_doc target es)
 doc_at-from_doc target [] up = up
 doc_at-from_doc target (e ∷ es) up =
     elim (leb_tells target e.doc) [
@@ -58,11 +59,11 @@ doc_at-from_doc target (e ∷ es) up =
 pub record Asked (es asked told : List Entry) (doc : ℕ) : Type 0 where
   pub here : doc ≡ doc_at es
   pub ascending : IsAscending es
-  pub low : doc < 2147483647
+  pub low : doc < TERMINATED
   pub left : told ≡ from_doc doc asked
   pub other : IsAscending told
 
-pub asked_for : (es asked told : List Entry) (doc : ℕ) → doc ≡ doc_at es → IsSound es → doc < 2147483647 → (doc < 2147483647 → told ≡ from_doc doc asked) → (doc < 2147483647 → IsSound told) → Asked es asked told doc
+pub asked_for : (es asked told : List Entry) (doc : ℕ) → doc ≡ doc_at es → IsSound es → doc < TERMINATED → (doc < TERMINATED → told ≡ from_doc doc asked) → (doc < TERMINATED → IsSound told) → Asked es asked told doc
 asked_for es asked told doc here sound low left other = record {
   here = here;
   ascending = sound.ascending;
@@ -93,7 +94,7 @@ bound_target es asked told doc bound h first =
     let below = doc_below told h.other in
     record { up_to = omega (arith, first, below); forward = λ current. omega (arith, first, up, here) }
 
-pub bound_above : (es asked told later : List Entry) (doc bound next : ℕ) → Asked es asked told doc → bound ≡ doc_at told → doc_at told ≢ doc → later ≡ from_doc bound es → next ≡ doc_at later → 2147483647 - next < 2147483647 - doc
+pub bound_above : (es asked told later : List Entry) (doc bound next : ℕ) → Asked es asked told doc → bound ≡ doc_at told → doc_at told ≢ doc → later ≡ from_doc bound es → next ≡ doc_at later → TERMINATED - next < TERMINATED - doc
 bound_above es asked told later doc bound next h first other left here =
     let low = h.low in
     let up : doc ≤ doc_at told = rw (h.left) (doc_at-from_doc doc asked (omega (arith, low))) in
@@ -103,10 +104,10 @@ bound_above es asked told later doc bound next h first other left here =
     omega (arith, low, up, reached, first, other, here)
 
 -- the first cursor has ended
-pub at_end : (es : List Entry) (doc : ℕ) → doc ≡ doc_at es → IsSound es → 2147483647 ≤ doc → es ≡ []
+pub at_end : (es : List Entry) (doc : ℕ) → doc ≡ doc_at es → IsSound es → TERMINATED ≤ doc → es ≡ []
 at_end es doc here sound end = sym (nothing_left es sound.ascending (rw (← here) end))
 
-pub met_all : (docs all : List ℕ) (es asked : List Entry) (doc : ℕ) → doc ≡ doc_at es → IsSound es → 2147483647 ≤ doc → docs ++ common_docs es asked ≡ all → docs ≡ all
+pub met_all : (docs all : List ℕ) (es asked : List Entry) (doc : ℕ) → doc ≡ doc_at es → IsSound es → TERMINATED ≤ doc → docs ++ common_docs es asked ≡ all → docs ≡ all
 met_all docs all es asked doc here sound end met =
     let none : docs ++ common_docs es asked ≡ docs = rw (at_end es doc here sound end) (append-nil docs) in
     sym none ∙ met

@@ -1,4 +1,5 @@
-ghost use Rattle.std.specs.Prelude.{◌≡◌, [], IfErr, IfOk, OnOk};
+ghost use Rattle.std.specs.Prelude.{◌≡◌, [], IfOk, OnOk};
+ghost use Rattle.ii_io.specs.Faults.{OnlyMemory};
 ghost use Rattle.ii_docset.specs.Intersection.{common_docs};
 
 use crate::docset::{DocId, DocSet, SeekDangerResult, TERMINATED};
@@ -16,7 +17,7 @@ pub fn intersect<A: DocSet, B: DocSet>(
     other: &mut B,
 ) -> Result<Vec<DocId>, Fault>
     ensures ok { IfOk result (λ docs. docs.items ≡ common_docs (A.rest first.old) (B.rest other.old)) }
-    ensures only { IfErr result (λ e. e ≡ Fault.OutOfMemory) }
+    ensures only { OnlyMemory result }
     ensures rest { OnOk result (A.rest first.new ≡ []) }
     ensures first_kind { A.always_one first.new ≡ A.always_one first.old }
     ensures other_kind { B.always_one other.new ≡ B.always_one other.old }

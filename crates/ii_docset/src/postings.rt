@@ -1,5 +1,6 @@
-ghost use Rattle.std.specs.Prelude.{◌≡◌, ◌+◌, ◌<◌, ◌^◌, ◌⊎◌, ◌++◌, [], map, IfErr, IsTrue, OnOk, OnErr};
+ghost use Rattle.std.specs.Prelude.{◌≡◌, ◌+◌, ◌<◌, ◌^◌, ◌⊎◌, ◌++◌, [], map, IsTrue, OnOk, OnErr};
 ghost use Rattle.std.specs.List.{All};
+ghost use Rattle.ii_io.specs.Faults.{OnlyMemory};
 ghost use Rattle.ii_docset.specs.Cursor.{IsCurrent, positions_at, term_freq_at};
 
 use crate::docset::DocSet;
@@ -29,7 +30,7 @@ pub trait Postings: DocSet {
         requires fits { All (λ p. p + offset < 2 ^ 32) (positions_at (Self.rest self.old)) }
         ensures ok { OnOk result (output.new.items ≡ output.old.items ++ map (λ p. p + offset) (positions_at (Self.rest self.old))) }
         ensures err { OnErr result (output.new.items ≡ output.old.items) }
-        ensures only { IfErr result (λ e. e ≡ Fault.OutOfMemory) }
+        ensures only { OnlyMemory result }
         ensures rest { Self.rest self.new ≡ Self.rest self.old }
         ensures kind { Self.always_one self.new ≡ Self.always_one self.old }
         ensures work { Self.went self.old self.new };
@@ -44,7 +45,7 @@ pub trait Postings: DocSet {
         requires fits { All (λ p. p + offset < 2 ^ 32) (positions_at (Self.rest self.old)) }
         ensures ok { OnOk result (output.new.items ≡ map (λ p. p + offset) (positions_at (Self.rest self.old))) }
         ensures err { OnErr result (output.new.items ≡ []) }
-        ensures only { IfErr result (λ e. e ≡ Fault.OutOfMemory) }
+        ensures only { OnlyMemory result }
         ensures rest { Self.rest self.new ≡ Self.rest self.old }
         ensures kind { Self.always_one self.new ≡ Self.always_one self.old }
         ensures work { Self.went self.old self.new }
@@ -61,7 +62,7 @@ pub trait Postings: DocSet {
         requires { IsCurrent (Self.rest self.old) }
         ensures ok { OnOk result (output.new.items ≡ positions_at (Self.rest self.old)) }
         ensures err { OnErr result (output.new.items ≡ []) }
-        ensures only { IfErr result (λ e. e ≡ Fault.OutOfMemory) }
+        ensures only { OnlyMemory result }
         ensures rest { Self.rest self.new ≡ Self.rest self.old }
         ensures kind { Self.always_one self.new ≡ Self.always_one self.old }
         ensures work { Self.went self.old self.new }

@@ -1,5 +1,6 @@
-ghost use Rattle.std.specs.Prelude.{◌≡◌, ◌↔◌, ◌<◌, ◌++◌, [], ◌∷◌, take, length, IfOk, IfErr, IsTrue, OnErr, OnOk};
+ghost use Rattle.std.specs.Prelude.{◌≡◌, ◌↔◌, ◌<◌, ◌++◌, [], ◌∷◌, take, length, IfOk, IsTrue, OnErr, OnOk};
 ghost use Rattle.std.specs.Vec.{vec_capacity, vec_len};
+ghost use Rattle.ii_io.specs.Faults.{OnlyMemory};
 ghost use Rattle.ii_docset.specs.Calls.{IsAllowed, IsLawful, answer_of, answer_to, answers_in, answers_to, rest_after_call, rest_after};
 
 use crate::calls::{CursorAnswer, CursorCall, Walk};
@@ -65,7 +66,7 @@ fn make_call<P: Postings>(
 ) -> Result<CursorAnswer, Fault>
     requires { IsAllowed call (P.always_one cursor.old) (P.rest cursor.old) }
     ensures ok { IfOk result (λ answer. answer_of answer ≡ answer_to call (P.always_one cursor.old) (P.rest cursor.old)) }
-    ensures only { IfErr result (λ e. e ≡ Fault.OutOfMemory) }
+    ensures only { OnlyMemory result }
     ensures rest { OnOk result (P.rest cursor.new ≡ rest_after_call call (P.rest cursor.old)) }
     ensures stays { OnErr result (P.rest cursor.new ≡ P.rest cursor.old) }
     ensures kind { P.always_one cursor.new ≡ P.always_one cursor.old }

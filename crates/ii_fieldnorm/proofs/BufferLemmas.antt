@@ -15,7 +15,7 @@ use Rattle.ii_io.specs.CountingWriterLemmas.{wrote_nothing, Wrote-trans, memory_
 use Rattle.ii_io.specs.Composite.{Body, bodies_bytes}
 use Rattle.ii_io.specs.CompositeWrite.{CompositeWriteState, has_start, next_start}
 use Rattle.ii_io.specs.CompositeWriteLemmas.{HasBodies-more}
-use Rattle.ii_base.specs.Schema.{Entry}
+use Rattle.ii_base.specs.Schema.{SchemaEntry}
 use Rattle.ii_fieldnorm.specs.Buffers.{Buffers, filled, filled_buffers, buffer_of, IsFilledFront, norm_bodies, norm_bodies_from, AreUnwritten, AddsBuffer, AddsNorms, WritesNorms, empty_buffer, buffer_bytes}
 
 norm_bodies_from-more : (field : ℕ) (bs : Buffers) (b : Option (List ℕ)) → norm_bodies_from field (bs ++ b ∷ []) ≡ norm_bodies_from field bs ++ norm_bodies_from (field + length bs) (b ∷ [])
@@ -82,12 +82,12 @@ filled_front (Err f) docs init now i old e here = (i, ap (set now i) here ∙ se
 pub fill_step : (docs : ℕ) (init now : Buffers) (i : ℕ) (old new : Option (List ℕ)) → i < length init → now ≡ filled_buffers docs (take i init) ++ drop i init → old ≡ get_or now i old → new ≡ option_map (filled docs) old → set now i new ≡ filled_buffers docs (take (i + 1) init) ++ drop (i + 1) init
 fill_step docs init now i old new within e here filling = ap (set now i) filling ∙ map_over_more (option_map (filled docs)) init now i old within e here
 
-empty_entries : (i : ℕ) (es : List Entry) → map (λ (f : ℕ × Entry). empty_buffer f.1) (enumerate_from i es) ≡ map empty_buffer es
+empty_entries : (i : ℕ) (es : List SchemaEntry) → map (λ (f : ℕ × SchemaEntry). empty_buffer f.1) (enumerate_from i es) ≡ map empty_buffer es
 empty_entries i [] = refl
 empty_entries i (e ∷ es) = ap (λ (bs : Buffers). empty_buffer e ∷ bs) (empty_entries (i + 1) es)
 
 -- a buffer was made for each entry
-pub all_made : (bs : Buffers) (rest : List (ℕ × Entry)) (es : List Entry) → rest ≡ [] → bs ++ map (λ (f : ℕ × Entry). empty_buffer f.1) rest ≡ map (λ (f : ℕ × Entry). empty_buffer f.1) (enumerate_from 0 es) → bs ≡ map empty_buffer es
+pub all_made : (bs : Buffers) (rest : List (ℕ × SchemaEntry)) (es : List SchemaEntry) → rest ≡ [] → bs ++ map (λ (f : ℕ × SchemaEntry). empty_buffer f.1) rest ≡ map (λ (f : ℕ × SchemaEntry). empty_buffer f.1) (enumerate_from 0 es) → bs ≡ map empty_buffer es
 all_made bs rest es none made =
     let whole = rw none at made in
     sym (append-nil bs) ∙ whole ∙ empty_entries 0 es

@@ -7,7 +7,7 @@ use Rattle.ii_io.specs.CompositeWrite.{CompositeWriteState, has_start, AddsBody,
 use Rattle.ii_io.specs.CountingWriter.{CountingWriterState, Wrote, WritesInMemory, Closes}
 use Rattle.ii_io.specs.declared.faults.Fault.{Fault}
 use Rattle.ii_io.specs.declared.faults.Fault.TheVariants.{SerializerClosed}
-use Rattle.ii_base.specs.Schema.{Entry, keeps_norms}
+use Rattle.ii_base.specs.Schema.{SchemaEntry, keeps_norms}
 use Rattle.ii_fieldnorm.specs.Norms.{id_of_norm}
 
 -- for each field of a schema the bytes of its documents, if it keeps norms
@@ -15,15 +15,15 @@ abbrev pub Buffers : Type 0
 Buffers = List (Option (List ℕ))
 
 -- the fields that keep norms
-abbrev pub norm_fields : List Entry → List ℕ
-norm_fields entries = map (λ (f : ℕ × Entry). f.0) (filter (λ (f : ℕ × Entry). keeps_norms f.1) (enumerate_from 0 entries))
+abbrev pub norm_fields : List SchemaEntry → List ℕ
+norm_fields entries = map (λ (f : ℕ × SchemaEntry). f.0) (filter (λ (f : ℕ × SchemaEntry). keeps_norms f.1) (enumerate_from 0 entries))
 
 -- a buffer of no document, for a field that keeps norms
-abbrev pub empty_buffer : Entry → Option (List ℕ)
+abbrev pub empty_buffer : SchemaEntry → Option (List ℕ)
 empty_buffer e = if keeps_norms e then Some [] else None
 
 -- the buffers of a schema, without documents
-abbrev pub empty_buffers : List Entry → Buffers
+abbrev pub empty_buffers : List SchemaEntry → Buffers
 empty_buffers entries = map empty_buffer entries
 
 -- so many documents: the later ones are cut off, and missing ones get the byte 0

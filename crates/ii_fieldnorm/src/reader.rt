@@ -1,6 +1,7 @@
 ghost use Rattle.std.specs.Prelude.{◌≡◌, ◌<◌, ◌≤◌, ◌^◌, ◌⊎◌, ◌↔◌, [], length, Some, None, IfOk, IfErr, IsOk, IsErrOf, IsSomeAnd};
 ghost use Rattle.std.specs.Option.{option_map};
 ghost use Rattle.ii_io.specs.Composite.{composite, body_of, HasTable};
+ghost use Rattle.ii_io.specs.Faults.{OnlyMemory};
 ghost use Rattle.ii_fieldnorm.specs.Norms.{norm_of_id, id_of_norm};
 ghost use Rattle.ii_fieldnorm.specs.Readers.{norms_of_ids, CoversDoc, id_of_doc};
 
@@ -64,7 +65,7 @@ impl FieldNormReaders {
     /// Readers over the same bytes.
     pub fn clone(&self) -> Result<FieldNormReaders, Fault>
         ensures same { IfOk result (λ copy. copy ≡ self.now) }
-        ensures only { IfErr result (λ e. e ≡ Fault.OutOfMemory) }
+        ensures only { OnlyMemory result }
     {
         let composite = self.composite.clone()?;
         Ok(FieldNormReaders { composite })
@@ -170,7 +171,7 @@ impl FieldNormReader {
     /// A reader over the same bytes.
     pub fn clone(&self) -> Result<FieldNormReader, Fault>
         ensures same { IfOk result (λ copy. copy ≡ self.now) }
-        ensures only { IfErr result (λ e. e ≡ Fault.OutOfMemory) }
+        ensures only { OnlyMemory result }
     {
         let norms = match &self.norms {
             ReaderImplEnum::FromData(ids) => ReaderImplEnum::FromData(ids.clone()?),

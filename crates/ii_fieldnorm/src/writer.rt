@@ -1,8 +1,9 @@
-ghost use Rattle.std.specs.Prelude.{◌≡◌, ◌<◌, ◌≤◌, ◌+◌, ◌-◌, ◌^◌, [], ◌∷◌, ◌++◌, List, length, replicate, vec_len, Some, None, true, false, if◌then◌else◌, IfSome, IfOk, OnOk, OnErr, IfErr};
+ghost use Rattle.std.specs.Prelude.{◌≡◌, ◌<◌, ◌≤◌, ◌+◌, ◌-◌, ◌^◌, [], ◌∷◌, ◌++◌, List, length, replicate, vec_len, Some, None, true, false, if◌then◌else◌, IfSome, IfOk, OnOk, OnErr};
 ghost use Rattle.std.specs.Option.{option_map, option_copied};
 ghost use Rattle.ii_io.specs.CountingWriter.{CountingWriterState, WritesInMemory};
 ghost use Rattle.ii_io.specs.Composite.{Body, bodies_bytes, fit_fields};
 ghost use Rattle.ii_io.specs.CompositeWrite.{HasBodies, has_start};
+ghost use Rattle.ii_io.specs.Faults.{OnlyMemory};
 ghost use Rattle.ii_fieldnorm.specs.Buffers.{norm_fields, empty_buffers, filled, filled_buffers, buffer_of, recorded, recorded_buffers, IsFilledFront, norm_bodies, AreUnwritten, AddsBuffer, AddsNorms, WritesNorms, WroteNorms, rest_of_file, buffer_bytes};
 
 use super::code::fieldnorm_to_id;
@@ -35,7 +36,7 @@ impl FieldNormsWriter {
     /// The fields of a schema that are indexed and have norms, in order.
     pub fn fields_with_fieldnorm(alloc: Global, schema: &Schema) -> Result<Vec<Field>, Fault>
         ensures fields { IfOk result (λ fields. fields.items ≡ norm_fields schema.now) }
-        ensures only { IfErr result (λ e. e ≡ Fault.OutOfMemory) }
+        ensures only { OnlyMemory result }
     {
         let mut fields = Vec::new(alloc);
         for (field, entry) in schema.fields() {
@@ -49,7 +50,7 @@ impl FieldNormsWriter {
     /// A writer with no document yet.
     pub fn for_schema(alloc: Global, schema: &Schema) -> Result<FieldNormsWriter, Fault>
         ensures empty { IfOk result (λ writer. writer ≡ empty_buffers schema.now) }
-        ensures only { IfErr result (λ e. e ≡ Fault.OutOfMemory) }
+        ensures only { OnlyMemory result }
     {
         let mut buffers = Vec::with_capacity(alloc, schema.num_fields())?;
         for (_field, entry) in schema.fields() {
@@ -67,7 +68,7 @@ impl FieldNormsWriter {
     pub fn fill_up_to_max_doc(&mut self, max_doc: DocId) -> Result<(), Fault>
         ensures ok { OnOk result (self.new ≡ filled_buffers max_doc self.old) }
         ensures err { OnErr result (IsFilledFront max_doc self.old self.new) }
-        ensures only { IfErr result (λ e. e ≡ Fault.OutOfMemory) }
+        ensures only { OnlyMemory result }
     {
         for i in 0..self.buffers.len() {
             self.buffers[i].fill_up(max_doc)?;
@@ -83,7 +84,7 @@ impl FieldNormsWriter {
         requires { IfSome (buffer_of field self.old) (λ ids. length ids ≤ doc) }
         ensures ok { OnOk result (self.new ≡ recorded_buffers field doc fieldnorm self.old) }
         ensures err { OnErr result (self.new ≡ self.old) }
-        ensures only { IfErr result (λ e. e ≡ Fault.OutOfMemory) }
+        ensures only { OnlyMemory result }
     {
         let index = field.field_id() as usize;
         if index < self.buffers.len() {

@@ -2,17 +2,17 @@
 use Rattle.std.proofs.Common.{◌≡◌, ℕ, List, [], ◌∷◌, ◌++◌, ◌≤◌, ◌∙◌, Some, None, Ok, Err, inl, arith, append-nil, Option, Result, ap, subst}
 use Rattle.std.specs.Prelude.{IfErr, MatchOption, ⊤}
 use Rattle.std.proofs.lemmas.Grind.{flat_map-append}
-use Rattle.ii_docset.specs.Entries.{Entry as DocEntry}
+use Rattle.ii_docset.specs.Entries.{SchemaEntry as DocEntry}
 use Rattle.ii_recorder.specs.Recorded.{RecorderState}
 use Rattle.ii_postings_writer.specs.IndexingContext.{EndsBy, recorder_of}
 use Rattle.ii_io.specs.declared.faults.Fault.{Fault}
 use Rattle.ii_io.specs.declared.faults.Fault.TheVariants.{OutOfMemory}
-use Rattle.ii_base.specs.Schema.{Entry}
+use Rattle.ii_base.specs.Schema.{SchemaEntry}
 use Rattle.ii_base.specs.Words.{Word}
 use Rattle.ii_base.specs.declared.schema.value_type.ValueType.{ValueType}
 use Rattle.ii_base.specs.declared.schema.value_type.ValueType.TheVariants.{Str}
-use Rattle.ii_index.specs.Fields.{option_of}
-use Rattle.ii_index.specs.Tokens.{Call, Piece, call_pieces, pieces_of, text, text_at, value, value_at, words}
+use Rattle.ii_definitions.specs.Fields.{option_of}
+use Rattle.ii_definitions.specs.Tokens.{Call, Piece, call_pieces, pieces_of, text, text_at, value, value_at, words}
 use Rattle.ii_indexing.specs.IndexCalls.{Takes}
 use Rattle.ii_indexing.specs.IndexedTerms.{TakesTexts, TakesValue}
 use Rattle.ii_indexing.specs.Indexer.{EndsAt, IndexedFieldsState, StoresPieces}
@@ -22,29 +22,29 @@ use Rattle.ii_indexing.proofs.FieldLists.{IsPlain, one_fault, takes_text, takes_
 
 -- A call to a field of a type is stored.
 abbrev pub CallStored : (List ℕ → List Word) → IndexedFieldsState → IndexedFieldsState → Call → ValueType → Type 0
-CallStored analyze old new c t = (entries : List Entry) (ps : List Piece) → Takes entries c.field t → StoresPieces entries old ps → StoresPieces entries new (ps ++ call_pieces analyze c)
+CallStored analyze old new c t = (entries : List SchemaEntry) (ps : List Piece) → Takes entries c.field t → StoresPieces entries old ps → StoresPieces entries new (ps ++ call_pieces analyze c)
 
 -- It is refused by the cause that the definitions give.
 abbrev pub CallRefused : {T : Type 0} → (List ℕ → List Word) → IndexedFieldsState → Result T Fault → Call → ValueType → Type 0
 CallRefused analyze old result c t =
-    (entries : List Entry) (ps : List Piece) → Takes entries c.field t → StoresPieces entries old ps → IsRefusedBy (content_fault analyze (option_of entries c.field) ps c c.content) result
+    (entries : List SchemaEntry) (ps : List Piece) → Takes entries c.field t → StoresPieces entries old ps → IsRefusedBy (content_fault analyze (option_of entries c.field) ps c c.content) result
 
 -- What is known of a text, and of a value.
 abbrev pub TextStored : IndexedFieldsState → IndexedFieldsState → ℕ → ℕ → List ℕ → List Word → Type 0
 TextStored old new doc field prefix ws =
-    (entries : List Entry) (ps : List Piece) → TakesTexts entries field prefix → StoresPieces entries old ps → StoresPieces entries new (ps ++ text_at doc field prefix ws ∷ [])
+    (entries : List SchemaEntry) (ps : List Piece) → TakesTexts entries field prefix → StoresPieces entries old ps → StoresPieces entries new (ps ++ text_at doc field prefix ws ∷ [])
 
 abbrev pub ValueStored : IndexedFieldsState → IndexedFieldsState → ℕ → ℕ → List ℕ → Type 0
 ValueStored old new doc field key =
-    (entries : List Entry) (ps : List Piece) → TakesValue entries field key → StoresPieces entries old ps → StoresPieces entries new (ps ++ value_at doc field key ∷ [])
+    (entries : List SchemaEntry) (ps : List Piece) → TakesValue entries field key → StoresPieces entries old ps → StoresPieces entries new (ps ++ value_at doc field key ∷ [])
 
 abbrev pub TextRefused : {T : Type 0} → IndexedFieldsState → Result T Fault → ℕ → ℕ → List ℕ → List Word → Type 0
 TextRefused old result doc field prefix ws =
-    (entries : List Entry) (ps : List Piece) → TakesTexts entries field prefix → StoresPieces entries old ps → IsRefusedBy (piece_fault (option_of entries field) ps (text_at doc field prefix ws)) result
+    (entries : List SchemaEntry) (ps : List Piece) → TakesTexts entries field prefix → StoresPieces entries old ps → IsRefusedBy (piece_fault (option_of entries field) ps (text_at doc field prefix ws)) result
 
 abbrev pub ValueRefused : {T : Type 0} → IndexedFieldsState → Result T Fault → ℕ → ℕ → List ℕ → Type 0
 ValueRefused old result doc field key =
-    (entries : List Entry) (ps : List Piece) → TakesValue entries field key → StoresPieces entries old ps → IsRefusedBy (piece_fault (option_of entries field) ps (value_at doc field key)) result
+    (entries : List SchemaEntry) (ps : List Piece) → TakesValue entries field key → StoresPieces entries old ps → IsRefusedBy (piece_fault (option_of entries field) ps (value_at doc field key)) result
 
 module _ (analyze : List ℕ → List Word) (old new : IndexedFieldsState) (doc field : ℕ) where
   pub text_call : (t : List ℕ) → TextStored old new doc field [] (analyze t) → CallStored analyze old new (record { doc = doc; field = field; content = text t }) Str
@@ -57,7 +57,7 @@ module _ (analyze : List ℕ → List Word) (old new : IndexedFieldsState) (doc 
   value_call key t plain h entries ps takes stored = h entries ps (takes_value entries field t takes plain key) stored
 
 module _ {T : Type 0} (analyze : List ℕ → List Word) (old : IndexedFieldsState) (result : Result T Fault) (doc field : ℕ) where
-  of_text : (entries : List Entry) (ps : List Piece) (ws : List Word) → Takes entries field Str → TextRefused old result doc field [] ws → StoresPieces entries old ps
+  of_text : (entries : List SchemaEntry) (ps : List Piece) (ws : List Word) → Takes entries field Str → TextRefused old result doc field [] ws → StoresPieces entries old ps
       → IsRefusedBy (pieces_fault (option_of entries field) ps (text_at doc field [] ws ∷ [])) result
   of_text entries ps ws takes h stored = subst (λ (f : Option Fault). IsRefusedBy f result) (one_fault (option_of entries field) ps (text_at doc field [] ws)) (h entries ps (takes_text entries field takes) stored)
 

@@ -6,10 +6,10 @@ use Rattle.std.specs.List.Sorted.{IsNonDecreasingBy}
 use Rattle.std.proofs.lemmas.List.{map-append}
 use Rattle.ii_io.specs.declared.faults.Fault.{Fault}
 use Rattle.ii_io.specs.declared.faults.Fault.TheVariants.{OutOfMemory}
-use Rattle.ii_base.specs.Schema.{Entry}
+use Rattle.ii_base.specs.Schema.{SchemaEntry}
 use Rattle.ii_base.specs.Words.{Word}
-use Rattle.ii_index.specs.Fields.{option_of}
-use Rattle.ii_index.specs.Tokens.{Call}
+use Rattle.ii_definitions.specs.Fields.{option_of}
+use Rattle.ii_definitions.specs.Tokens.{Call}
 use Rattle.ii_indexing.specs.IndexCalls.{MayAllBeIndexed, MayBeIndexed, call_of, doc_of, field_of}
 use Rattle.ii_indexing.specs.Indexer.{IndexerState, Stores}
 use Rattle.ii_indexing.specs.Refusals.{call_fault, calls_fault}
@@ -32,7 +32,7 @@ follow least (c ∷ cs) first h = (first c cs refl, follow (doc_of c) cs next (r
     next d rest is = subst (λ (xs : List IndexCall). doc_of c ≤ doc_of (slice_index_or xs 0 c)) is (h 0 1 c (omega arith) (omega (arith, ap length is)))
 
 -- An indexer has taken some calls of a list, and these are left.
-pub record IsTaking (analyze : List ℕ → List Word) (entries : List Entry) (num_docs : ℕ) (all done rest : List IndexCall) (i : IndexerState) : Type 0 where
+pub record IsTaking (analyze : List ℕ → List Word) (entries : List SchemaEntry) (num_docs : ℕ) (all done rest : List IndexCall) (i : IndexerState) : Type 0 where
   pub running : i.failed ≡ false
   pub schema : i.schema ≡ entries
   pub docs : i.num_docs ≡ num_docs
@@ -43,10 +43,10 @@ pub record IsTaking (analyze : List ℕ → List Word) (entries : List Entry) (n
   pub faults : calls_fault analyze (option_of entries) [] (map (call_of entries) all) ≡ calls_fault analyze (option_of entries) (map (call_of entries) done) (map (call_of entries) rest)
 
 -- What a new one knows.
-pub record IsNew (entries : List Entry) (num_docs : ℕ) (i : IndexerState) : Type 0 where
+pub record IsNew (entries : List SchemaEntry) (num_docs : ℕ) (i : IndexerState) : Type 0 where
   pub made : (i.schema ≡ entries) × (i.num_docs ≡ num_docs) × (i.last_doc ≡ 0) × (i.failed ≡ false)
 
-pub begins : (analyze : List ℕ → List Word) (entries : List Entry) (num_docs : ℕ) (all : List IndexCall) (i : IndexerState) → IsNew entries num_docs i → Stores analyze i [] → MayAllBeIndexed entries num_docs all
+pub begins : (analyze : List ℕ → List Word) (entries : List SchemaEntry) (num_docs : ℕ) (all : List IndexCall) (i : IndexerState) → IsNew entries num_docs i → Stores analyze i [] → MayAllBeIndexed entries num_docs all
     → IsTaking analyze entries num_docs all [] all i
 begins analyze entries num_docs all i new stored may = record {
   running = new.made.3;
@@ -59,7 +59,7 @@ begins analyze entries num_docs all i new stored may = record {
   faults = refl;
 }
 
-module _ (analyze : List ℕ → List Word) (entries : List Entry) (num_docs : ℕ) (all done rest : List IndexCall) (c : IndexCall) (old : IndexerState) (t : IsTaking analyze entries num_docs all done (c ∷ rest) old) where
+module _ (analyze : List ℕ → List Word) (entries : List SchemaEntry) (num_docs : ℕ) (all done rest : List IndexCall) (c : IndexCall) (old : IndexerState) (t : IsTaking analyze entries num_docs all done (c ∷ rest) old) where
   abbrev cause : Option Fault
   cause = call_fault analyze (option_of old.schema (field_of c)) (map (call_of entries) done) (call_of old.schema c)
 
@@ -67,7 +67,7 @@ module _ (analyze : List ℕ → List Word) (entries : List Entry) (num_docs : �
   later = calls_fault analyze (option_of entries) (map (call_of entries) done ++ call_of entries c ∷ []) (map (call_of entries) rest)
 
   faults_are : calls_fault analyze (option_of entries) [] (map (call_of entries) all) ≡ first_fault cause later
-  faults_are = t.faults ∙ ap (λ (es : List Entry). first_fault (call_fault analyze (option_of es (field_of c)) (map (call_of entries) done) (call_of es c)) later) (sym t.schema)
+  faults_are = t.faults ∙ ap (λ (es : List SchemaEntry). first_fault (call_fault analyze (option_of es (field_of c)) (map (call_of entries) done) (call_of es c)) later) (sym t.schema)
 
   -- the call was taken
   pub takes_more : (new : IndexerState) → (new.schema ≡ old.schema) × (new.num_docs ≡ old.num_docs) × (new.last_doc ≡ doc_of c) × (new.failed ≡ false) → Stores analyze new (map (call_of entries) done ++ call_of old.schema c ∷ []) → cause ≡ None
@@ -79,7 +79,7 @@ module _ (analyze : List ℕ → List Word) (entries : List Entry) (num_docs : �
         schema = keeps.0 ∙ t.schema;
         docs = keeps.1 ∙ t.docs;
         whole = append_assoc done (c ∷ []) rest ∙ t.whole;
-        stored = subst (Stores analyze new) (sym more) (subst (λ (es : List Entry). Stores analyze new (map (call_of entries) done ++ call_of es c ∷ [])) t.schema stored);
+        stored = subst (Stores analyze new) (sym more) (subst (λ (es : List SchemaEntry). Stores analyze new (map (call_of entries) done ++ call_of es c ∷ [])) t.schema stored);
         each = t.each.1;
         ordered = subst (λ (doc : ℕ). FollowFrom doc rest) (sym keeps.2) t.ordered.1;
         faults = faults_are ∙ ap (λ (f : Option Fault). first_fault f later) none ∙ ap (λ (cs : List Call). calls_fault analyze (option_of entries) cs (map (call_of entries) rest)) (sym more);
@@ -90,7 +90,7 @@ module _ (analyze : List ℕ → List Word) (entries : List Entry) (num_docs : �
   takes_none fault why = ⊎_elim inl (λ by_cause. inr (faults_are ∙ ap (λ (f : Option Fault). first_fault f later) by_cause)) why
 
 -- all were taken
-pub takes_all : (analyze : List ℕ → List Word) (entries : List Entry) (num_docs : ℕ) (all done rest : List IndexCall) (i : IndexerState) → rest ≡ [] → IsTaking analyze entries num_docs all done rest i
+pub takes_all : (analyze : List ℕ → List Word) (entries : List SchemaEntry) (num_docs : ℕ) (all done rest : List IndexCall) (i : IndexerState) → rest ≡ [] → IsTaking analyze entries num_docs all done rest i
     → (calls_fault analyze (option_of entries) [] (map (call_of entries) all) ≡ None) × Stores analyze i (map (call_of entries) all)
 takes_all analyze entries num_docs all done rest i is t =
     let same : done ≡ all = sym (append-nil done) ∙ ap (λ (cs : List IndexCall). done ++ cs) (sym is) ∙ t.whole in (

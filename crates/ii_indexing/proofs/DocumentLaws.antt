@@ -8,8 +8,8 @@ use Rattle.std.proofs.Math.Seq.{get_or-append_seam}
 use Rattle.ii_fieldnorm.specs.Buffers.{Buffers, buffer_of, recorded, recorded_buffers}
 use Rattle.ii_fieldnorm.specs.Norms.{id_of_norm, norm_of_id}
 use Rattle.ii_fieldnorm.proofs.NormLemmas.{id_of_norm-found}
-use Rattle.ii_index.specs.Tokens.{IndexToken, Piece}
-use Rattle.ii_index.specs.Postings.{doc_count}
+use Rattle.ii_definitions.specs.Tokens.{IndexToken, Piece}
+use Rattle.ii_definitions.specs.Postings.{doc_count}
 use Rattle.ii_recorder.specs.Recorded.{u32_max}
 use Rattle.ii_indexing.specs.OpenDocuments.{AreBehind, HasNorms, OpenDocumentsState, ReachTo, Tells, TellsAll, document_at, empty_document}
 use Rattle.ii_indexing.specs.declared.open_documents.OpenDocument.{OpenDocument}

@@ -11,38 +11,38 @@ use Rattle.ii_base.specs.declared.schema.index_record_option.IndexRecordOption.T
 use Rattle.ii_base.specs.declared.schema.value_type.ValueType.{ValueType}
 use Rattle.ii_base.specs.declared.schema.value_type.ValueType.TheVariants.{Str, U64, I64, Bool as Truth, Date, Bytes, Json, IpAddr}
 use Rattle.ii_fieldnorm.specs.Buffers.{Buffers, buffer_of, empty_buffers}
-use Rattle.ii_index.specs.Fields.{option_of}
-use Rattle.ii_index.specs.Tokens.{Piece}
+use Rattle.ii_definitions.specs.Fields.{option_of}
+use Rattle.ii_definitions.specs.Tokens.{Piece}
 use Rattle.ii_indexing.specs.IndexCalls.{Takes}
 use Rattle.ii_base.specs.Paths.{has_zero}
 use Rattle.ii_base.specs.ValueTypes.{code_of}
 use Rattle.ii_base.specs.Values.{json_key, text_key, typed_key, u64_bytes}
 use Rattle.ii_json.specs.LeafVisit.{is_number_type}
-use Rattle.ii_index.specs.JsonKeys.{is_json, type_of_code, type_under}
-use Rattle.ii_index.proofs.KeyLaws.{type_in_key}
+use Rattle.ii_definitions.specs.JsonKeys.{is_json, type_of_code, type_under}
+use Rattle.ii_definitions.proofs.KeyLaws.{type_in_key}
 use Rattle.ii_indexing.specs.OpenPaths.{OpenPathsState, TellsPaths, no_paths, position_under}
 use Rattle.ii_indexing.specs.IndexedTerms.{TakesTexts, TakesValue, kept_at, kept_in, kept_under, values_kept_in, writer_in}
 use Rattle.ii_indexing.specs.Indexer.{EndsAt, StoresPieces}
 use Rattle.ii_indexing.specs.OpenDocuments.{HasNorms, Tells, empty_document}
-use Rattle.ii_postings_writer.specs.PostingsWriter.{kept_as, kept_of, value_kept_of, writer_of, writers_of}
+use Rattle.ii_postings_writer.specs.PostingsWriter.{kept_as, text_kept_of, value_kept_of, writer_of, writers_of}
 use Rattle.ii_indexing.specs.Refusals.{piece_fault, pieces_fault}
 use Rattle.ii_json.specs.LeafVisit.{first_fault}
 use Rattle.ii_indexing.specs.declared.open_documents.OpenDocument.{OpenDocument}
 use Rattle.ii_indexing.proofs.DocumentLaws.{at_empty}
-use Rattle.ii_base.specs.Schema.{Entry}
+use Rattle.ii_base.specs.Schema.{SchemaEntry}
 
 -- an item of a list that was made alike
-pub made_alike : {A : Type 0} (x : A) (entries : List Entry) (i : ℕ) (d : A) → slice_get (map (λ (e : Entry). x) entries) i ≡ Some d → d ≡ x
+pub made_alike : {A : Type 0} (x : A) (entries : List SchemaEntry) (i : ℕ) (d : A) → slice_get (map (λ (e : SchemaEntry). x) entries) i ≡ Some d → d ≡ x
 made_alike x [] i d is = absurd (cc)
 made_alike x (e ∷ es) zero d is = cc
 made_alike x (e ∷ es) (suc i) d is = made_alike x es i d is
 
-pub made_for : (entries : List Entry) (field : ℕ) → field < length entries → slice_get (writers_of entries) field ≡ Some (writer_in entries field 0)
+pub made_for : (entries : List SchemaEntry) (field : ℕ) → field < length entries → slice_get (writers_of entries) field ≡ Some (writer_in entries field 0)
 made_for [] field inside = absurd (omega (arith, inside))
 made_for (e ∷ es) zero inside = refl
 made_for (e ∷ es) (suc field) inside = made_for es field (omega (arith, inside))
 
-pub empty_norms : (entries : List Entry) (field : ℕ) → IfSome (buffer_of field (empty_buffers entries)) (λ ids. ids ≡ [])
+pub empty_norms : (entries : List SchemaEntry) (field : ℕ) → IfSome (buffer_of field (empty_buffers entries)) (λ ids. ids ≡ [])
 empty_norms [] field = tt
 empty_norms (e ∷ es) zero = by (keeps_norms e)
   where
@@ -52,35 +52,35 @@ empty_norms (e ∷ es) zero = by (keeps_norms e)
 empty_norms (e ∷ es) (suc field) = empty_norms es field
 
 -- a field of a schema
-pub takes_inside : (entries : List Entry) (field : ℕ) (t : ValueType) → Takes entries field t → field < length entries
+pub takes_inside : (entries : List SchemaEntry) (field : ℕ) (t : ValueType) → Takes entries field t → field < length entries
 takes_inside entries field t h = slice_get_within entries field h.entry h.found
 
-takes_kept : (entries : List Entry) (field : ℕ) (t : ValueType) (h : Takes entries field t) → kept_in entries field ≡ kept_as t h.entry.option
-takes_kept entries field t h = ap (λ (o : Option Entry). unwrap_or (option_map kept_of o) Basic) h.found ∙ ap (λ (v : ValueType). kept_as v h.entry.option) h.typed
+takes_kept : (entries : List SchemaEntry) (field : ℕ) (t : ValueType) (h : Takes entries field t) → kept_in entries field ≡ kept_as t h.entry.option
+takes_kept entries field t h = ap (λ (o : Option SchemaEntry). unwrap_or (option_map text_kept_of o) Basic) h.found ∙ ap (λ (v : ValueType). kept_as v h.entry.option) h.typed
 
-takes_kept_at : (entries : List Entry) (field : ℕ) (t : ValueType) (h : Takes entries field t) (key : List ℕ) → kept_at entries field key ≡ kept_as (type_under t key) h.entry.option
-takes_kept_at entries field t h key = ap (λ (o : Option Entry). unwrap_or (option_map (kept_under key) o) Basic) h.found ∙ ap (λ (v : ValueType). kept_as (type_under v key) h.entry.option) h.typed
+takes_kept_at : (entries : List SchemaEntry) (field : ℕ) (t : ValueType) (h : Takes entries field t) (key : List ℕ) → kept_at entries field key ≡ kept_as (type_under t key) h.entry.option
+takes_kept_at entries field t h key = ap (λ (o : Option SchemaEntry). unwrap_or (option_map (kept_under key) o) Basic) h.found ∙ ap (λ (v : ValueType). kept_as (type_under v key) h.entry.option) h.typed
 
-takes_values_kept : (entries : List Entry) (field : ℕ) (t : ValueType) (h : Takes entries field t) → values_kept_in entries field ≡ (if is_json t then Basic else kept_as t h.entry.option)
+takes_values_kept : (entries : List SchemaEntry) (field : ℕ) (t : ValueType) (h : Takes entries field t) → values_kept_in entries field ≡ (if is_json t then Basic else kept_as t h.entry.option)
 takes_values_kept entries field t h =
-    ap (λ (o : Option Entry). unwrap_or (option_map value_kept_of o) Basic) h.found ∙ ap (λ (v : ValueType). if is_json v then Basic else kept_as v h.entry.option) h.typed
+    ap (λ (o : Option SchemaEntry). unwrap_or (option_map value_kept_of o) Basic) h.found ∙ ap (λ (v : ValueType). if is_json v then Basic else kept_as v h.entry.option) h.typed
 
-takes_option : (entries : List Entry) (field : ℕ) (t : ValueType) (h : Takes entries field t) → option_of entries field ≡ h.entry.option
-takes_option entries field t h = ap (λ (o : Option Entry). unwrap_or (option_map (λ (e : Entry). e.option) o) Basic) h.found
+takes_option : (entries : List SchemaEntry) (field : ℕ) (t : ValueType) (h : Takes entries field t) → option_of entries field ≡ h.entry.option
+takes_option entries field t h = ap (λ (o : Option SchemaEntry). unwrap_or (option_map (λ (e : SchemaEntry). e.option) o) Basic) h.found
 
 -- Values of a type aren't JSON, and of them is kept that they occur.
 pub record IsPlain (t : ValueType) : Type 0 where
   pub typed : is_json t ≡ false
   pub basic : (o : IndexRecordOption) → kept_as t o ≡ Basic
 
-pub takes_value : (entries : List Entry) (field : ℕ) (t : ValueType) → Takes entries field t → IsPlain t → (key : List ℕ) → TakesValue entries field key
+pub takes_value : (entries : List SchemaEntry) (field : ℕ) (t : ValueType) → Takes entries field t → IsPlain t → (key : List ℕ) → TakesValue entries field key
 takes_value entries field t h plain key = record {
   known = takes_inside entries field t h;
   option = takes_values_kept entries field t h ∙ rw plain.typed (plain.basic h.entry.option);
   kept = takes_kept_at entries field t h key ∙ rw plain.typed (plain.basic h.entry.option);
 }
 
-pub takes_text : (entries : List Entry) (field : ℕ) → Takes entries field Str → TakesTexts entries field []
+pub takes_text : (entries : List SchemaEntry) (field : ℕ) → Takes entries field Str → TakesTexts entries field []
 takes_text entries field h = record {
   known = takes_inside entries field Str h;
   option = takes_kept entries field Str h ∙ sym (takes_option entries field Str h);
@@ -88,12 +88,12 @@ takes_text entries field h = record {
 }
 
 -- in a JSON field the key tells the type
-under_path : (entries : List Entry) (field : ℕ) (h : Takes entries field Json) (path : List ℕ) (t : ValueType) (key : List ℕ) → has_zero path ≡ false → type_of_code (code_of t) ≡ Some t
+under_path : (entries : List SchemaEntry) (field : ℕ) (h : Takes entries field Json) (path : List ℕ) (t : ValueType) (key : List ℕ) → has_zero path ≡ false → type_of_code (code_of t) ≡ Some t
     → kept_at entries field (json_key path (code_of t ∷ key)) ≡ kept_as t h.entry.option
 under_path entries field h path t key clean is =
     takes_kept_at entries field Json h (json_key path (code_of t ∷ key)) ∙ ap (λ (o : Option ValueType). kept_as (unwrap_or o Json) h.entry.option) (type_in_key path (code_of t) key clean ∙ is)
 
-pub takes_text_at : (entries : List Entry) (field : ℕ) → Takes entries field Json → (path : List ℕ) → has_zero path ≡ false → TakesTexts entries field (json_key path (text_key []))
+pub takes_text_at : (entries : List SchemaEntry) (field : ℕ) → Takes entries field Json → (path : List ℕ) → has_zero path ≡ false → TakesTexts entries field (json_key path (text_key []))
 takes_text_at entries field h path clean = record {
   known = takes_inside entries field Json h;
   option = takes_kept entries field Json h ∙ sym (takes_option entries field Json h);
@@ -120,7 +120,7 @@ number_kept Bytes o is = refl
 number_kept Json o is = absurd (cc)
 number_kept IpAddr o is = refl
 
-pub takes_number_at : (entries : List Entry) (field : ℕ) → Takes entries field Json → (path : List ℕ) (t : ValueType) (n : ℕ) → has_zero path ≡ false → is_number_type t ≡ true → TakesValue entries field (json_key path (typed_key t n))
+pub takes_number_at : (entries : List SchemaEntry) (field : ℕ) → Takes entries field Json → (path : List ℕ) (t : ValueType) (n : ℕ) → has_zero path ≡ false → is_number_type t ≡ true → TakesValue entries field (json_key path (typed_key t n))
 takes_number_at entries field h path t n clean is = record {
   known = takes_inside entries field Json h;
   option = takes_values_kept entries field Json h;
@@ -136,7 +136,7 @@ one_fault option ps p = by (piece_fault option ps p)
     by (Some e) = refl
 
 -- an indexer of no calls stores none
-pub nothing_stored : (entries : List Entry) → StoresPieces entries (record { indexed = record { terms = []; writers = writers_of entries }; opened = record { documents = map (λ (e : Entry). empty_document 0) entries; norms = empty_buffers entries }; paths = map (λ (e : Entry). no_paths) entries }) []
+pub nothing_stored : (entries : List SchemaEntry) → StoresPieces entries (record { indexed = record { terms = []; writers = writers_of entries }; opened = record { documents = map (λ (e : SchemaEntry). empty_document 0) entries; norms = empty_buffers entries }; paths = map (λ (e : SchemaEntry). no_paths) entries }) []
 nothing_stored entries = record {
   tokens = record { records = λ field key low. refl; counted = λ field inside. made_for entries field inside; of_fields = tt };
   documents = λ field d is. subst (λ (e : OpenDocument). Tells field [] [] e (buffer_of field (empty_buffers entries))) (sym (made_alike (empty_document 0) entries field d is)) (record {
@@ -156,16 +156,16 @@ nothing_stored entries = record {
     by field None = tt
     by field (Some ids) = λ x low. absurd (omega (arith, low))
 
-pub nothing_above : (entries : List Entry) → EndsAt 0 (record { indexed = record { terms = []; writers = writers_of entries }; opened = record { documents = map (λ (e : Entry). empty_document 0) entries; norms = empty_buffers entries }; paths = map (λ (e : Entry). no_paths) entries })
+pub nothing_above : (entries : List SchemaEntry) → EndsAt 0 (record { indexed = record { terms = []; writers = writers_of entries }; opened = record { documents = map (λ (e : SchemaEntry). empty_document 0) entries; norms = empty_buffers entries }; paths = map (λ (e : SchemaEntry). no_paths) entries })
 nothing_above entries = record {
-  documents = length-map entries (λ (e : Entry). empty_document 0) ∙ sym (length-map entries writer_of);
+  documents = length-map entries (λ (e : SchemaEntry). empty_document 0) ∙ sym (length-map entries writer_of);
   terms = λ bytes. tt;
   reach = λ field d is. omega (arith, ap (λ (e : OpenDocument). e.doc) (made_alike (empty_document 0) entries field d is));
-  paths = length-map entries (λ (e : Entry). no_paths) ∙ sym (length-map entries writer_of);
+  paths = length-map entries (λ (e : SchemaEntry). no_paths) ∙ sym (length-map entries writer_of);
   paths_reach = λ field o is. omega (arith, ap (λ (e : OpenPathsState). e.doc) (made_alike no_paths entries field o is));
 }
 
-pub short_norms : (entries : List Entry) (buffers : Buffers) (field before : ℕ) → buffers ≡ empty_buffers entries → IfSome (buffer_of field buffers) (λ ids. length ids ≤ before)
+pub short_norms : (entries : List SchemaEntry) (buffers : Buffers) (field before : ℕ) → buffers ≡ empty_buffers entries → IfSome (buffer_of field buffers) (λ ids. length ids ≤ before)
 short_norms entries buffers field before is = subst (λ (b : Buffers). IfSome (buffer_of field b) (λ ids. length ids ≤ before)) (sym is) (by (buffer_of field (empty_buffers entries)) (empty_norms entries field))
   where
     by : (o : Option (List ℕ)) → IfSome o (λ ids. ids ≡ []) → IfSome o (λ ids. length ids ≤ before)

@@ -3,17 +3,18 @@ use Rattle.std.proofs.Common.{◌≡◌, ℕ, zero, suc, ◌<◌, ◌≤◌, ◌
 use Rattle.std.specs.Prelude.{MatchOption, is_some, ⊤, if◌then◌else◌}
 use Rattle.std.proofs.lemmas.List.FromFn.{length-map-range_with_len}
 use Rattle.ii_io.specs.Composite.{Body, body_of, composite}
-use Rattle.ii_base.specs.Schema.{Entry, keeps_norms}
+use Rattle.ii_base.specs.Schema.{SchemaEntry, keeps_norms}
+use Rattle.ii_docset.specs.declared.docset.TheConstants.{TERMINATED}
 use Rattle.ii_fieldnorm.specs.Buffers.{Buffers, buffer_of}
 use Rattle.ii_fieldnorm.specs.Norms.{id_of_norm}
-use Rattle.ii_index.specs.Postings.{doc_count}
-use Rattle.ii_index.specs.Tokens.{IndexToken}
+use Rattle.ii_definitions.specs.Postings.{doc_count}
+use Rattle.ii_definitions.specs.Tokens.{IndexToken}
 use Rattle.ii_postings_writer.specs.FieldParts.{AreShortNorms}
-use Rattle.ii_index.specs.Norms.{HoldNorms, has_norms, norm_file, norm_ids}
+use Rattle.ii_definitions.specs.Norms.{HoldNorms, has_norms, norm_file, norm_ids}
 use Rattle.ii_indexing.specs.OpenDocuments.{with_norms}
 
 -- the fields with norms are those of the schema
-pub norm_at : (bs : Buffers) (entries : List Entry) (field : ℕ) → with_norms bs ≡ map keeps_norms entries → is_some (buffer_of field bs) ≡ has_norms entries field
+pub norm_at : (bs : Buffers) (entries : List SchemaEntry) (field : ℕ) → with_norms bs ≡ map keeps_norms entries → is_some (buffer_of field bs) ≡ has_norms entries field
 norm_at [] [] field same = refl
 norm_at [] (e ∷ es) field same = absurd (cc)
 norm_at (b ∷ bs) [] field same = absurd (cc)
@@ -24,7 +25,7 @@ norm_at (b ∷ bs) (e ∷ es) (suc field) same = norm_at bs es field (rest same)
     rest is = cc
 
 -- their numbers fit
-pub short_bodies : (entries : List Entry) (n : ℕ) (bytes : List ℕ) (ts : List IndexToken) (readers : List Body) → n ≤ 2147483647 → HoldNorms entries n bytes ts → composite bytes ≡ Some readers → AreShortNorms readers
+pub short_bodies : (entries : List SchemaEntry) (n : ℕ) (bytes : List ℕ) (ts : List IndexToken) (readers : List Body) → n ≤ TERMINATED → HoldNorms entries n bytes ts → composite bytes ≡ Some readers → AreShortNorms readers
 short_bodies entries n bytes ts readers low h opened field = by (has_norms entries field) (ap (body_of field) same ∙ h.exact field)
   where
     inside : Some readers ≡ Some (norm_file entries n ts) → readers ≡ norm_file entries n ts
@@ -39,7 +40,7 @@ short_bodies entries n bytes ts readers low h opened field = by (has_norms entri
         rw is (omega (arith, low, len))
     by false is = rw is tt
 
-pub with_length : (bs : Buffers) (entries : List Entry) → with_norms bs ≡ map keeps_norms entries → length bs ≡ length entries
+pub with_length : (bs : Buffers) (entries : List SchemaEntry) → with_norms bs ≡ map keeps_norms entries → length bs ≡ length entries
 with_length [] [] same = refl
 with_length [] (e ∷ es) same = absurd (cc)
 with_length (b ∷ bs) [] same = absurd (cc)

@@ -4,13 +4,13 @@ use Rattle.std.specs.List.{flat_map}
 use Rattle.std.proofs.lemmas.Grind.{flat_map-append}
 use Rattle.ii_io.specs.declared.faults.Fault.{Fault}
 use Rattle.ii_base.specs.Json.{Leaf, text_leaf, value_leaf}
-use Rattle.ii_base.specs.Schema.{Entry}
+use Rattle.ii_base.specs.Schema.{SchemaEntry}
 use Rattle.ii_base.specs.Values.{json_key, text_key, typed_key}
 use Rattle.ii_base.specs.Words.{Word}
 use Rattle.ii_base.specs.declared.schema.value_type.ValueType.{ValueType}
 use Rattle.ii_base.specs.declared.schema.value_type.ValueType.TheVariants.{Json}
-use Rattle.ii_index.specs.Fields.{option_of}
-use Rattle.ii_index.specs.Tokens.{Piece, leaf_pieces, text_at, value_at}
+use Rattle.ii_definitions.specs.Fields.{option_of}
+use Rattle.ii_definitions.specs.Tokens.{Piece, leaf_pieces, text_at, value_at}
 use Rattle.ii_json.specs.LeafVisit.{IsRefusedBy}
 use Rattle.ii_indexing.specs.IndexCalls.{Takes}
 use Rattle.ii_indexing.specs.Indexer.{IndexedFieldsState, LeafGiven, StoresPieces}
@@ -28,11 +28,11 @@ module _ (words : List ℕ → List Word) (doc field : ℕ) where
 
   -- A leaf is stored after pieces.
   abbrev pub LeafStored : IndexedFieldsState → IndexedFieldsState → List ℕ × Leaf → Type 0
-  LeafStored old new l = (entries : List Entry) (ps : List Piece) → Takes entries field Json → StoresPieces entries old ps → StoresPieces entries new (ps ++ leaf_pieces words doc field l)
+  LeafStored old new l = (entries : List SchemaEntry) (ps : List Piece) → Takes entries field Json → StoresPieces entries old ps → StoresPieces entries new (ps ++ leaf_pieces words doc field l)
 
   -- It is refused by the cause of the one text or value that it gives.
   abbrev pub PieceRefused : {T : Type 0} → IndexedFieldsState → Result T Fault → Piece → Type 0
-  PieceRefused old result p = (entries : List Entry) (ps : List Piece) → Takes entries field Json → StoresPieces entries old ps → IsRefusedBy (piece_fault (option_of entries field) ps p) result
+  PieceRefused old result p = (entries : List SchemaEntry) (ps : List Piece) → Takes entries field Json → StoresPieces entries old ps → IsRefusedBy (piece_fault (option_of entries field) ps p) result
 
   -- What leaves of a JSON value have stored.
   abbrev pub LeavesHeld : IndexedFieldsState → LeafGiven → List (List ℕ × Leaf) → Type 0
@@ -60,5 +60,5 @@ module _ (words : List ℕ → List Word) (doc field : ℕ) where
       subst (λ (f : Option Fault). IsRefusedBy f result) (one_fault (option_of given.entries field) ps (value_at doc field (json_key path (typed_key t n)))) (h given.entries ps held.0 held.1)
 
 -- a value's first leaf stands behind the pieces themselves
-pub first_held : (entries : List Entry) (s : IndexedFieldsState) (ps : List Piece) → StoresPieces entries s ps → StoresPieces entries s (ps ++ [])
+pub first_held : (entries : List SchemaEntry) (s : IndexedFieldsState) (ps : List Piece) → StoresPieces entries s ps → StoresPieces entries s (ps ++ [])
 first_held entries s ps stored = subst (StoresPieces entries s) (sym (append-nil ps)) stored

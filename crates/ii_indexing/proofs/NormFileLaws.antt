@@ -17,14 +17,15 @@ use Rattle.ii_io.specs.Faults.{memory_fault}
 use Rattle.ii_io.specs.declared.faults.Fault.{Fault}
 use Rattle.ii_io.specs.declared.faults.Fault.TheVariants.{OutOfMemory, Write, SerializerClosed, IndexerFailed, UnsupportedLeaf, DecreasingPosition, Limit, Damaged}
 use Rattle.ii_io.specs.declared.faults.LimitName.TheVariants.{Offset}
-use Rattle.ii_base.specs.Schema.{Entry, keeps_norms}
+use Rattle.ii_base.specs.Schema.{SchemaEntry, keeps_norms}
+use Rattle.ii_docset.specs.declared.docset.TheConstants.{TERMINATED}
 use Rattle.ii_fieldnorm.specs.Buffers.{Buffers, buffer_of, filled, filled_buffers, norm_bodies, norm_bodies_from, recorded, recorded_buffers, WroteNorms}
 use Rattle.ii_fieldnorm.specs.Norms.{id_of_norm}
 use Rattle.ii_fieldnorm.proofs.WrittenNorms.{body_of-norm_bodies}
-use Rattle.ii_index.specs.Postings.{doc_count}
-use Rattle.ii_index.specs.Tokens.{IndexToken, Piece}
+use Rattle.ii_definitions.specs.Postings.{doc_count}
+use Rattle.ii_definitions.specs.Tokens.{IndexToken, Piece}
 use Rattle.ii_indexing.specs.IndexFiles.{begun_file}
-use Rattle.ii_index.specs.Norms.{HoldNorms, has_norms, norm_body, norm_file, norm_ids}
+use Rattle.ii_definitions.specs.Norms.{HoldNorms, has_norms, norm_body, norm_file, norm_ids}
 use Rattle.ii_indexing.specs.OpenDocuments.{AreBehind, AreClosed, OpenDocumentsState, Tells, TellsAll, closed_norms, with_norms}
 use Rattle.ii_indexing.specs.declared.open_documents.OpenDocument.{OpenDocument}
 use Rattle.ii_indexing.proofs.FinishLaws.{with_length}
@@ -142,11 +143,11 @@ with_filled n (None ∷ bs) = ap (λ (rest : List Bool). false ∷ rest) (with_f
 with_filled n (Some ids ∷ bs) = ap (λ (rest : List Bool). true ∷ rest) (with_filled n bs)
 
 -- the bodies of fields from one on
-abbrev norm_file_from : ℕ → List Entry → ℕ → List IndexToken → List Body
-norm_file_from first entries n ts = map (norm_body n ts) (map (λ (f : ℕ × Entry). f.0) (filter (λ (f : ℕ × Entry). keeps_norms f.1) (enumerate_from first entries)))
+abbrev norm_file_from : ℕ → List SchemaEntry → ℕ → List IndexToken → List Body
+norm_file_from first entries n ts = map (norm_body n ts) (map (λ (f : ℕ × SchemaEntry). f.0) (filter (λ (f : ℕ × SchemaEntry). keeps_norms f.1) (enumerate_from first entries)))
 
 -- they are written for buffers of which each is that of its field
-norms_from : (first n : ℕ) (ts : List IndexToken) (bs : Buffers) (entries : List Entry) → length bs ≡ length entries
+norms_from : (first n : ℕ) (ts : List IndexToken) (bs : Buffers) (entries : List SchemaEntry) → length bs ≡ length entries
     → ((k : ℕ) → buffer_of k bs ≡ (if has_norms entries k then Some (norm_ids n (first + k) ts) else None))
     → norm_bodies_from first bs ≡ norm_file_from first entries n ts
 norms_from first n ts [] [] same h = refl
@@ -169,7 +170,7 @@ norms_from first n ts (b ∷ bs) (e ∷ es) same h =
         inside e = cc
 
 -- so the file has the norms of each field that has some
-pub holds_norms : (bs : Buffers) (entries : List Entry) (n : ℕ) (bytes : List ℕ) (ts : List IndexToken) → with_norms bs ≡ map keeps_norms entries
+pub holds_norms : (bs : Buffers) (entries : List SchemaEntry) (n : ℕ) (bytes : List ℕ) (ts : List IndexToken) → with_norms bs ≡ map keeps_norms entries
     → ((field : ℕ) → buffer_of field bs ≡ (if has_norms entries field then Some (norm_ids n field ts) else None))
     → bytes ≡ written_composite (norm_bodies bs) → composite bytes ≡ Some (norm_bodies bs) → HoldNorms entries n bytes ts
 holds_norms bs entries n bytes ts same each written reads =
@@ -186,8 +187,8 @@ length_filled (suc n) [] = ap length (filled_none n) ∙ ap (λ (m : ℕ). suc m
 length_filled (suc n) (id ∷ ids) = ap length (filled_more n id ids) ∙ ap (λ (m : ℕ). suc m) (length_filled n ids)
 
 -- how many bytes norms have
-norms_small : (n first : ℕ) (bs : Buffers) → n ≤ 2147483647
-    → (length (norm_bodies_from first (filled_buffers n bs)) ≤ length bs) × (length (bodies_bytes (norm_bodies_from first (filled_buffers n bs))) ≤ length bs * 2147483647)
+norms_small : (n first : ℕ) (bs : Buffers) → n ≤ TERMINATED
+    → (length (norm_bodies_from first (filled_buffers n bs)) ≤ length bs) × (length (bodies_bytes (norm_bodies_from first (filled_buffers n bs))) ≤ length bs * TERMINATED)
 norms_small n first [] low = (omega arith, omega arith)
 norms_small n first (None ∷ bs) low =
     let rest = norms_small n (first + 1) bs low in
@@ -199,7 +200,7 @@ norms_small n first (Some ids ∷ bs) low =
 same_length : (xs ys : Buffers) → with_norms xs ≡ with_norms ys → length xs ≡ length ys
 same_length xs ys same = sym (length-map xs is_some) ∙ ap length same ∙ length-map ys is_some
 
-pub file_small : (n : ℕ) (bs : Buffers) → n ≤ 2147483647 → length bs < 2 ^ 32 → length (written_composite (norm_bodies (filled_buffers n bs))) < 2 ^ 64
+pub file_small : (n : ℕ) (bs : Buffers) → n ≤ TERMINATED → length bs < 2 ^ 32 → length (written_composite (norm_bodies (filled_buffers n bs))) < 2 ^ 64
 file_small n bs low few =
     let bodies = norm_bodies (filled_buffers n bs) in
     let small = norms_small n 0 bs low in

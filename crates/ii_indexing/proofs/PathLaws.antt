@@ -6,8 +6,8 @@ use Rattle.std.proofs.lemmas.Bool.{eqb-true, eq-eqb}
 use Rattle.std.proofs.lemmas.Cmp.{nat_list_eq_equiv}
 use Rattle.std.proofs.lemmas.Slice.Eq.{bytes_eq-Decides}
 use Rattle.ii_base.specs.Words.{Word}
-use Rattle.ii_index.specs.Tokens.{Piece, begin_after, end_after, is_same_group, kept_words, text_at, value_at}
-use Rattle.ii_indexing.specs.OpenPaths.{OpenPathsState, PathsReachTo, PutsPosition, TellAllPaths, TellsPaths, opened_path, position_under, positions_at, texts_under}
+use Rattle.ii_definitions.specs.Tokens.{Piece, begin_after, end_after, is_same_group, kept_words, text_at, value_at}
+use Rattle.ii_indexing.specs.OpenPaths.{OpenPathsState, PathsReachTo, PutsPosition, TellAllPaths, TellsPaths, opened_path, position_under, path_positions_at, texts_under}
 use Rattle.ii_indexing.specs.Refusals.{group_count}
 use Rattle.ii_postings_writer.specs.declared.indexing_position.IndexingPosition.{IndexingPosition}
 use Rattle.ii_indexing.proofs.DocumentLaws.{set_value}
@@ -69,10 +69,10 @@ module _ (ps : List Piece) (paths : List OpenPathsState) (doc field : ℕ) (pref
   abbrev p : Piece
   p = text_at doc field prefix ws
 
-  positions_same : (o : OpenPathsState) → o.doc ≡ doc → positions_at doc o ≡ o.positions
+  positions_same : (o : OpenPathsState) → o.doc ≡ doc → path_positions_at doc o ≡ o.positions
   positions_same o at = rw (eq-eqb o.doc doc at) refl
 
-  positions_other : (o : OpenPathsState) (x : ℕ) → o.doc ≡ doc → (doc == x) ≡ false → positions_at x o ≡ []
+  positions_other : (o : OpenPathsState) (x : ℕ) → o.doc ≡ doc → (doc == x) ≡ false → path_positions_at x o ≡ []
   positions_other o x at other = rw (at, other) refl
 
   here : (pre : List ℕ) → bytes_eq pre [] ≡ false → (b : Bool) → bytes_eq prefix pre ≡ b → texts_under doc field pre (ps ++ p ∷ []) ≡ position_under pre new.positions
@@ -88,10 +88,10 @@ module _ (ps : List Piece) (paths : List OpenPathsState) (doc field : ℕ) (pref
       let after : position_under pre new.positions ≡ position_under pre old.positions = h.put pre ∙ rw other refl in
       texts_after doc field pre ps p false apart ∙ told field old h.found doc pre (omega (arith, h.old_doc)) some ∙ ap (position_under pre) (positions_same old h.old_doc) ∙ sym after
 
-  at_doc : (x : ℕ) (pre : List ℕ) → old.doc ≤ x → bytes_eq pre [] ≡ false → (b : Bool) → (doc == x) ≡ b → texts_under x field pre (ps ++ p ∷ []) ≡ position_under pre (positions_at x new)
+  at_doc : (x : ℕ) (pre : List ℕ) → old.doc ≤ x → bytes_eq pre [] ≡ false → (b : Bool) → (doc == x) ≡ b → texts_under x field pre (ps ++ p ∷ []) ≡ position_under pre (path_positions_at x new)
   at_doc x pre from some true same =
       let is : doc ≡ x = eqb-true doc x same in
-      subst (λ (y : ℕ). texts_under y field pre (ps ++ p ∷ []) ≡ position_under pre (positions_at y new)) is
+      subst (λ (y : ℕ). texts_under y field pre (ps ++ p ∷ []) ≡ position_under pre (path_positions_at y new)) is
       (here pre some (bytes_eq prefix pre) refl ∙ ap (position_under pre) (sym (positions_same new h.new_doc)))
   at_doc x pre from some false other =
       let apart : is_same_group (text_at x field pre []) p ≡ false = not_second true (doc == x) (field == field) (bytes_eq prefix pre) other in
@@ -125,11 +125,11 @@ reach_paths paths field doc new at h f o is = by (field == f) refl
 
 -- a document was opened that isn't below the open one
 module _ (ps : List Piece) (paths : List OpenPathsState) (doc field : ℕ) (old : OpenPathsState) (found : slice_get paths field ≡ Some old) (reach : old.doc ≤ doc) where
-  positions_later : (x : ℕ) → doc ≤ x → positions_at x (opened_path doc old) ≡ positions_at x old
+  positions_later : (x : ℕ) → doc ≤ x → path_positions_at x (opened_path doc old) ≡ path_positions_at x old
   positions_later x from = by (doc == x) refl
     where
-      by : (b : Bool) → (doc == x) ≡ b → (if b then positions_at doc old else []) ≡ positions_at x old
-      by true same = ap (λ (y : ℕ). positions_at y old) (eqb-true doc x same)
+      by : (b : Bool) → (doc == x) ≡ b → (if b then path_positions_at doc old else []) ≡ path_positions_at x old
+      by true same = ap (λ (y : ℕ). path_positions_at y old) (eqb-true doc x same)
       by false other =
           let above : (old.doc == x) ≡ false = grind (arith, other, from, reach) in
           rw above refl

@@ -8,13 +8,13 @@ use Rattle.std.proofs.lemmas.List.{length-map}
 use Rattle.std.proofs.lemmas.List.Elements.{filter-append}
 use Rattle.std.proofs.lemmas.List.Sums.{fold-append, sum_by-append, sum_by-cons}
 use Rattle.ii_io.specs.declared.faults.Fault.{Fault}
-use Rattle.ii_base.specs.Schema.{Entry}
+use Rattle.ii_base.specs.Schema.{SchemaEntry}
 use Rattle.ii_base.specs.Words.{Word}
 use Rattle.ii_base.specs.declared.schema.index_record_option.IndexRecordOption.{IndexRecordOption}
 use Rattle.ii_fieldnorm.specs.Buffers.{buffer_of}
 use Rattle.ii_fieldnorm.specs.Norms.{id_of_norm}
-use Rattle.ii_index.specs.Tokens.{IndexToken, Piece, begin_after, end_after, is_same_group, kept_words, piece_tokens, piece_tokens_from, tokens_after, value_token, word_token, text_at, value_at}
-use Rattle.ii_index.specs.Postings.{doc_count}
+use Rattle.ii_definitions.specs.Tokens.{IndexToken, Piece, begin_after, end_after, is_same_group, kept_words, piece_tokens, piece_tokens_from, tokens_after, value_token, word_token, text_at, value_at}
+use Rattle.ii_definitions.specs.Postings.{doc_count}
 use Rattle.ii_recorder.specs.Recorded.{u32_max}
 use Rattle.ii_indexing.specs.IndexedTerms.{IndexedTermsState, StoresTokens}
 use Rattle.ii_indexing.specs.Indexer.{StoresPieces}
@@ -177,7 +177,7 @@ all_tell ps ts us p s field new at only h here f d is = by (field == f) refl
         tells_other field f ps ts us p d (buffer_of f s.norms) (ap (λ (n : ℕ). n == f) at ∙ other) only (h f d found)
 
 -- A piece of a field was indexed.
-pub record IndexesPiece (entries : List Entry) (ps : List Piece) (p : Piece) (us : List IndexToken) (indexed : IndexedTermsState) (s : OpenDocumentsState) (d new : OpenDocument) : Type 0 where
+pub record IndexesPiece (entries : List SchemaEntry) (ps : List Piece) (p : Piece) (us : List IndexToken) (indexed : IndexedTermsState) (s : OpenDocumentsState) (d new : OpenDocument) : Type 0 where
   pub told : TellsAll ps (tokens_after [] ps) s
   pub found : slice_get s.documents p.field ≡ Some d
   pub old_doc : d.doc ≡ p.doc
@@ -203,7 +203,7 @@ other_text : (doc field : ℕ) (prefix : List ℕ) (words : List Word) → bytes
 other_text doc field prefix words some = rw some (and-false ((doc == doc) && (field == field)))
 
 -- One more text or value of a field was indexed.
-module _ (entries : List Entry) (ps : List Piece) (indexed : IndexedTermsState) (s : OpenDocumentsState) (d new : OpenDocument) (paths : List OpenPathsState) where
+module _ (entries : List SchemaEntry) (ps : List Piece) (indexed : IndexedTermsState) (s : OpenDocumentsState) (d new : OpenDocument) (paths : List OpenPathsState) where
   piece_stored : (p : Piece) (us : List IndexToken) → IndexesPiece entries ps p us indexed s d new
       → TellAllPaths (ps ++ p ∷ []) paths → StoresPieces entries (record { indexed = indexed; opened = record s { documents = slice_set s.documents p.field new }; paths = paths }) (ps ++ p ∷ [])
   piece_stored p us h by_path =

@@ -10,8 +10,8 @@ use Rattle.ii_base.specs.Words.{Word}
 use Rattle.ii_base.specs.Options.{has_freq, has_positions}
 use Rattle.ii_base.specs.declared.schema.index_record_option.IndexRecordOption.{IndexRecordOption}
 use Rattle.ii_docset.specs.Entries.{Entry}
-use Rattle.ii_index.specs.Postings.{field_count}
-use Rattle.ii_index.specs.Tokens.{Call, Content, IndexToken, Piece, begin_after, content_pieces, end_after, kept_words, leaf_pieces, leaves, pieces_of, text, tokens_after, value, word_token, words}
+use Rattle.ii_definitions.specs.Postings.{field_count}
+use Rattle.ii_definitions.specs.Tokens.{Call, Content, IndexToken, Piece, begin_after, content_pieces, end_after, kept_words, leaf_pieces, leaves, pieces_of, text, tokens_after, value, word_token, words}
 use Rattle.ii_recorder.specs.Recorded.{last_position, position_fault, u32_max}
 use Rattle.ii_indexing.specs.IndexFiles.{CountsIndexFailures}
 use Rattle.ii_indexing.specs.Refusals.{call_fault, calls_fault, content_fault, leaf_fault, next_leaf_fault, group_count, piece_fault, piece_fault_from, pieces_fault}

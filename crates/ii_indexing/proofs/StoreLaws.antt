@@ -8,16 +8,16 @@ use Rattle.std.proofs.lemmas.Slice.Eq.{bytes_eq-Decides}
 use Rattle.ii_io.specs.declared.faults.Fault.{Fault}
 use Rattle.ii_io.specs.declared.faults.Fault.TheVariants.{Limit}
 use Rattle.ii_io.specs.declared.faults.LimitName.TheVariants as limit
-use Rattle.ii_base.specs.Schema.{Entry}
+use Rattle.ii_base.specs.Schema.{SchemaEntry}
 use Rattle.ii_base.specs.Words.{Word}
 use Rattle.ii_base.specs.declared.schema.index_record_option.IndexRecordOption.{IndexRecordOption}
 use Rattle.ii_base.specs.declared.schema.index_record_option.IndexRecordOption.TheVariants.{Basic}
-use Rattle.ii_index.specs.Tokens.{IndexToken, Piece, kept_words, value_token, word_token}
-use Rattle.ii_index.specs.Fields.{option_of}
-use Rattle.ii_index.specs.Postings.{field_count, is_at, kind_of, tokens_at}
+use Rattle.ii_definitions.specs.Tokens.{IndexToken, Piece, kept_words, value_token, word_token}
+use Rattle.ii_definitions.specs.Fields.{option_of}
+use Rattle.ii_definitions.specs.Postings.{field_count, is_at, kind_of, tokens_at}
 use Rattle.ii_indexing.specs.IndexedTerms.{IndexedTermsState, IsOfField, StoresTokens, TakesTexts, TakesValue, kept_at, kept_in, value_fault, writer_in}
 use Rattle.ii_recorder.specs.Recorded.{position_fault}
-use Rattle.ii_postings_writer.specs.IndexingContext.{entry_at, recorder_or_new, TermIndex, recorder_of}
+use Rattle.ii_postings_writer.specs.IndexingContext.{entry_for_doc, recorder_or_new, TermIndex, recorder_of}
 use Rattle.ii_postings_writer.specs.IndexingTerm.{field_bytes}
 use Rattle.ii_postings_writer.specs.PostingsWriter.{HasTokens, PostingsWriterState, subscribe_fault, tokens_counted}
 use Rattle.ii_postings_writer.specs.Records.{Records}
@@ -60,7 +60,7 @@ set_other (y ∷ xs) (suc i) zero w other = refl
 set_other (y ∷ xs) (suc i) (suc j) w other = set_other xs i j w (grind (arith, other))
 
 -- What a field has with more tokens of it.
-pub record AddsTokens (entries : List Entry) (field : ℕ) (old : IndexedTermsState) (terms : TermIndex) (writer : PostingsWriterState) (ts us : List IndexToken) : Type 0 where
+pub record AddsTokens (entries : List SchemaEntry) (field : ℕ) (old : IndexedTermsState) (terms : TermIndex) (writer : PostingsWriterState) (ts us : List IndexToken) : Type 0 where
   pub records : Records (kept_at entries) terms (ts ++ us)
   pub writer_is : writer ≡ writer_in entries field (field_count field (ts ++ us))
   pub of_field : AllByRecursion (IsOfField entries) us
@@ -85,7 +85,7 @@ first_kept {A} p P (x ∷ xs) y ys is all = by (p x) refl (λ rest. first_kept p
         rest kept
 
 -- what is kept of a key that occurred
-pub kept_kind : (entries : List Entry) (ts : List IndexToken) (field : ℕ) (key : List ℕ) (t : IndexToken) (us : List IndexToken) → tokens_at field key ts ≡ t ∷ us → AllByRecursion (IsOfField entries) ts
+pub kept_kind : (entries : List SchemaEntry) (ts : List IndexToken) (field : ℕ) (key : List ℕ) (t : IndexToken) (us : List IndexToken) → tokens_at field key ts ≡ t ∷ us → AllByRecursion (IsOfField entries) ts
     → kind_of (option_of entries field) (t ∷ us) ≡ kept_at entries field key
 kept_kind entries ts field key t us is all =
     let first = first_kept (is_at field key) (IsOfField entries) ts t us is all in
@@ -95,7 +95,7 @@ kept_kind entries ts field key t us is all =
     subst (λ (k : List ℕ). kind_of (option_of entries field) (t ∷ []) ≡ kept_at entries field k) same (subst (λ (f : ℕ). kind_of (option_of entries f) (t ∷ []) ≡ kept_at entries f t.key) at first.0.kind)
 
 -- and its field is one of the schema
-pub token_field : (entries : List Entry) (ts : List IndexToken) (field : ℕ) (key : List ℕ) (t : IndexToken) (us : List IndexToken) → tokens_at field key ts ≡ t ∷ us → AllByRecursion (IsOfField entries) ts → field < length entries
+pub token_field : (entries : List SchemaEntry) (ts : List IndexToken) (field : ℕ) (key : List ℕ) (t : IndexToken) (us : List IndexToken) → tokens_at field key ts ≡ t ∷ us → AllByRecursion (IsOfField entries) ts → field < length entries
 token_field entries ts field key t us is all =
     let first = first_kept (is_at field key) (IsOfField entries) ts t us is all in
     let at : t.field ≡ field = eqb-true t.field field (and_parts (t.field == field) (bytes_eq t.key key) first.1).0 in
@@ -106,14 +106,14 @@ basic_if o true kept is = refl
 basic_if o false kept is = is
 
 -- so it is kept of all its tokens
-one_kind : (entries : List Entry) (ts : List IndexToken) (field : ℕ) (key : List ℕ) → AllByRecursion (IsOfField entries) ts → kind_of (kept_at entries field key) (tokens_at field key ts) ≡ kept_at entries field key
+one_kind : (entries : List SchemaEntry) (ts : List IndexToken) (field : ℕ) (key : List ℕ) → AllByRecursion (IsOfField entries) ts → kind_of (kept_at entries field key) (tokens_at field key ts) ≡ kept_at entries field key
 one_kind entries ts field key all = by (tokens_at field key ts) refl
   where
     by : (us : List IndexToken) → tokens_at field key ts ≡ us → kind_of (kept_at entries field key) us ≡ kept_at entries field key
     by [] is = refl
     by (t ∷ us) is = basic_if (option_of entries field) t.of_text (kept_at entries field key) (kept_kind entries ts field key t us is all)
 
-pub tokens_stored : (entries : List Entry) (field : ℕ) (old : IndexedTermsState) (terms : TermIndex) (writer : PostingsWriterState) (ts us : List IndexToken) → field < length entries
+pub tokens_stored : (entries : List SchemaEntry) (field : ℕ) (old : IndexedTermsState) (terms : TermIndex) (writer : PostingsWriterState) (ts us : List IndexToken) → field < length entries
     → StoresTokens entries old ts → AddsTokens entries field old terms writer ts us → StoresTokens entries (record { terms = terms; writers = slice_set old.writers field writer }) (ts ++ us)
 tokens_stored entries field old terms writer ts us low h adds = record {
   records = adds.records;
@@ -134,7 +134,7 @@ some_inside : {A : Type 0} (x y : A) → Some x ≡ Some y → x ≡ y
 some_inside x y is = cc
 
 -- what a writer of a text knows
-pub text_known : (entries : List Entry) (ts : List IndexToken) (s : IndexedTermsState) (p : Piece) (w : PostingsWriterState) → TakesTexts entries p.field p.prefix
+pub text_known : (entries : List SchemaEntry) (ts : List IndexToken) (s : IndexedTermsState) (p : Piece) (w : PostingsWriterState) → TakesTexts entries p.field p.prefix
     → StoresTokens entries s ts → slice_get s.writers p.field ≡ Some w → (w.option ≡ option_of entries p.field) × HasTokens (kept_at entries) p s.terms w ts
 text_known entries ts s p w takes h found =
     let is : w ≡ writer_in entries p.field (field_count p.field ts) = some_inside _ _ (sym found ∙ h.counted p.field takes.known) in
@@ -150,12 +150,12 @@ text_known entries ts s p w takes h found =
       },
     )
 
-words_of_field : (entries : List Entry) (p : Piece) (begin : ℕ) (ws : List Word) → TakesTexts entries p.field p.prefix → AllByRecursion (IsOfField entries) (map (word_token p begin) ws)
+words_of_field : (entries : List SchemaEntry) (p : Piece) (begin : ℕ) (ws : List Word) → TakesTexts entries p.field p.prefix → AllByRecursion (IsOfField entries) (map (word_token p begin) ws)
 words_of_field entries p begin [] takes = tt
 words_of_field entries p begin (w ∷ ws) takes = (record { known = takes.known; kind = sym (takes.kept w.text ∙ takes.option) }, words_of_field entries p begin ws takes)
 
 -- a text was indexed
-pub text_stored : (entries : List Entry) (ts : List IndexToken) (s : IndexedTermsState) (p : Piece) (begin : ℕ) (w : PostingsWriterState) (terms : TermIndex) (after : PostingsWriterState)
+pub text_stored : (entries : List SchemaEntry) (ts : List IndexToken) (s : IndexedTermsState) (p : Piece) (begin : ℕ) (w : PostingsWriterState) (terms : TermIndex) (after : PostingsWriterState)
     → TakesTexts entries p.field p.prefix → StoresTokens entries s ts → slice_get s.writers p.field ≡ Some w → after ≡ tokens_counted (length (kept_words p.words)) w
     → (HasTokens (kept_at entries) p s.terms w ts → HasTokens (kept_at entries) p terms after (ts ++ map (word_token p begin) (kept_words p.words)))
     → StoresTokens entries (record { terms = terms; writers = slice_set s.writers p.field after }) (ts ++ map (word_token p begin) (kept_words p.words))
@@ -173,7 +173,7 @@ text_stored entries ts s p begin w terms after takes h found counted f =
     })
 
 -- a value was indexed
-pub value_stored : (entries : List Entry) (ts : List IndexToken) (s : IndexedTermsState) (p : Piece) (w : PostingsWriterState) (terms : TermIndex) (after : PostingsWriterState)
+pub value_stored : (entries : List SchemaEntry) (ts : List IndexToken) (s : IndexedTermsState) (p : Piece) (w : PostingsWriterState) (terms : TermIndex) (after : PostingsWriterState)
     → TakesValue entries p.field p.prefix → StoresTokens entries s ts → slice_get s.writers p.field ≡ Some w → after ≡ tokens_counted 1 w
     → (kept_at entries p.field p.prefix ≡ w.value_option → Records (kept_at entries) s.terms ts → Records (kept_at entries) terms (ts ++ value_token p ∷ []))
     → StoresTokens entries (record { terms = terms; writers = slice_set s.writers p.field after }) (ts ++ value_token p ∷ [])
@@ -189,7 +189,7 @@ value_stored entries ts s p w terms after takes h found counted f =
     })
 
 -- why it is refused
-pub value_refused : {T : Type 0} (entries : List Entry) (ts : List IndexToken) (s : IndexedTermsState) (doc field : ℕ) (key : List ℕ) (w : PostingsWriterState) (result : Result T Fault)
+pub value_refused : {T : Type 0} (entries : List SchemaEntry) (ts : List IndexToken) (s : IndexedTermsState) (doc field : ℕ) (key : List ℕ) (w : PostingsWriterState) (result : Result T Fault)
     → field < 4294967296 → TakesValue entries field key → StoresTokens entries s ts → slice_get s.writers field ≡ Some w
     → IsRefusedBy (subscribe_fault w.value_option w.total_num_tokens doc 0 (field_bytes field ++ key) s.terms) result → IsRefusedBy (value_fault field ts) result
 value_refused {T} entries ts s doc field key w result low takes h found refused =
@@ -204,5 +204,5 @@ value_refused {T} entries ts s doc field key w result low takes h found refused 
     let cause : subscribe_fault w.value_option w.total_num_tokens doc 0 bytes s.terms ≡ value_fault field ts =
     ap (λ (o : IndexRecordOption). subscribe_fault o w.total_num_tokens doc 0 bytes s.terms) option
     ∙ ap (λ (n : ℕ). subscribe_fault Basic n doc 0 bytes s.terms) many
-    ∙ ap (λ (o : IndexRecordOption). if nat_le u64_max (field_count field ts) then Some (Limit limit.Tokens) else position_fault o 0 (entry_at doc r)) kept in
+    ∙ ap (λ (o : IndexRecordOption). if nat_le u64_max (field_count field ts) then Some (Limit limit.Tokens) else position_fault o 0 (entry_for_doc doc r)) kept in
     subst (λ (c : Option Fault). IsRefusedBy c result) cause refused

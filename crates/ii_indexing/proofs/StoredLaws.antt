@@ -3,17 +3,17 @@ use Rattle.std.proofs.Common.{◌≡◌, ℕ, zero, suc, ◌<◌, Bool, true, fa
 use Rattle.std.specs.Prelude.{IsTrue, IsSome, MatchOption, is_some, slice_set, unwrap_or, ⊤, if◌then◌else◌}
 use Rattle.std.specs.List.{AllByRecursion}
 use Rattle.std.specs.Option.{option_map, option_to_list}
-use Rattle.ii_base.specs.Schema.{Entry, keeps_norms}
+use Rattle.ii_base.specs.Schema.{SchemaEntry, keeps_norms}
 use Rattle.ii_base.specs.Options.{has_freq}
 use Rattle.ii_base.specs.declared.schema.index_record_option.IndexRecordOption.{IndexRecordOption}
 use Rattle.ii_base.specs.declared.schema.index_record_option.IndexRecordOption.TheVariants.{Basic, WithFreqs, WithFreqsAndPositions}
-use Rattle.ii_docset.specs.Entries.{Entry as DocEntry}
+use Rattle.ii_docset.specs.Entries.{SchemaEntry as DocEntry}
 use Rattle.ii_fieldnorm.specs.Buffers.{Buffers, buffer_of, empty_buffers}
-use Rattle.ii_index.specs.Cut.{cut_entry}
-use Rattle.ii_index.specs.Fields.{option_of}
-use Rattle.ii_index.specs.Postings.{IsCounted, grouped, kind_of, tokens_at}
-use Rattle.ii_index.specs.Tokens.{IndexToken}
-use Rattle.ii_index.proofs.GroupedLaws.{grouped_counted}
+use Rattle.ii_definitions.specs.Cut.{cut_entry}
+use Rattle.ii_definitions.specs.Fields.{option_of}
+use Rattle.ii_definitions.specs.Postings.{IsCounted, grouped, kind_of, tokens_at}
+use Rattle.ii_definitions.specs.Tokens.{IndexToken}
+use Rattle.ii_definitions.proofs.GroupedLaws.{grouped_counted}
 use Rattle.ii_recorder.specs.Pushed.{pushed_freqs}
 use Rattle.ii_recorder.specs.Recorded.{RecorderState}
 use Rattle.ii_postings_writer.specs.HeldBodies.{HaveTokens}
@@ -44,7 +44,7 @@ has_some option ts r has none = by r.pending refl has.opened
         let entries : r.closed ++ e ∷ [] ≡ [] = ap (λ (o : Option DocEntry). r.closed ++ option_to_list o) (sym is) ∙ has.entries ∙ ap (λ (us : List IndexToken). map (cut_entry option) (grouped us)) none in
         omega (arith, length-append r.closed (e ∷ []), ap length entries)
 
-module _ (entries : List Entry) (s : IndexedTermsState) (ts : List IndexToken) (h : StoresTokens entries s ts) where
+module _ (entries : List SchemaEntry) (s : IndexedTermsState) (ts : List IndexToken) (h : StoresTokens entries s ts) where
   -- the field of a key that occurred
   known_field : (field : ℕ) (key : List ℕ) (r : RecorderState) → HasPostings (kept_at entries field key) (tokens_at field key ts) r → field < length entries
   known_field field key r has = by (tokens_at field key ts) refl
@@ -96,6 +96,6 @@ one_norm : (b : Bool) → is_some {T = List ℕ} (if b then Some [] else None) �
 one_norm true = refl
 one_norm false = refl
 
-pub norms_of_schema : (entries : List Entry) → with_norms (empty_buffers entries) ≡ map keeps_norms entries
+pub norms_of_schema : (entries : List SchemaEntry) → with_norms (empty_buffers entries) ≡ map keeps_norms entries
 norms_of_schema [] = refl
 norms_of_schema (e ∷ es) = ap (λ (b : Bool). b ∷ with_norms (empty_buffers es)) (one_norm (keeps_norms e)) ∙ ap (λ (xs : List Bool). keeps_norms e ∷ xs) (norms_of_schema es)

@@ -4,7 +4,7 @@ use Rattle.ii_io.specs.declared.faults.Fault.TheVariants.{DecreasingPosition, Li
 use Rattle.ii_io.specs.declared.faults.LimitName.TheVariants as limit
 use Rattle.ii_io.specs.Composite.{place_bytes, written_composite}
 use Rattle.ii_io.specs.Numbers.{le_bytes}
-use Rattle.ii_base.specs.Schema.{Entry as SchemaEntry}
+use Rattle.ii_base.specs.Schema.{SchemaEntry}
 use Rattle.ii_base.specs.declared.schema.value_type.ValueType.TheVariants.{Str}
 use Rattle.ii_base.specs.declared.schema.index_record_option.IndexRecordOption.TheVariants.{WithFreqs, WithFreqsAndPositions}
 use Rattle.ii_base.specs.AsciiWords.{ascii_words}
@@ -12,9 +12,9 @@ use Rattle.ii_base.specs.Values.{u64_bytes}
 use Rattle.ii_base.specs.Words.{Word}
 use Rattle.ii_docset.specs.Entries.{Entry, document}
 use Rattle.ii_fieldnorm.specs.Norms.{id_of_norm, norm_of_id}
-use Rattle.ii_index.specs.Norms.{norm_file, norm_ids}
-use Rattle.ii_index.specs.Tokens.{Call, IndexToken, text, words, value, tokens_of}
-use Rattle.ii_index.specs.Postings.{doc_count, field_count, key_postings}
+use Rattle.ii_definitions.specs.Norms.{norm_file, norm_ids}
+use Rattle.ii_definitions.specs.Tokens.{Call, IndexToken, text, words, value, tokens_of}
+use Rattle.ii_definitions.specs.Postings.{doc_count, field_count, key_postings}
 use Rattle.ii_indexing.specs.Refusals.{call_fault}
 
 abbrev text_of : ℕ → List ℕ → Call

@@ -9,11 +9,11 @@ use Rattle.ii_io.specs.declared.faults.LimitName.TheVariants as limit
 use Rattle.ii_io.specs.Composite.{Body, fit_fields, written_composite}
 use Rattle.ii_io.specs.CompositeWrite.{CompositeWriteState, HasBodies, WroteComposite}
 use Rattle.ii_io.specs.CountingWriter.{CountingWriterState}
-use Rattle.ii_base.specs.Schema.{Entry}
-use Rattle.ii_index.specs.Tokens.{IndexToken}
+use Rattle.ii_base.specs.Schema.{SchemaEntry}
+use Rattle.ii_definitions.specs.Tokens.{IndexToken}
 use Rattle.ii_recorder.specs.IndexBodies.{AreFull, IndexBodiesState, failed_calls, tables_of}
 use Rattle.ii_recorder.specs.IndexSerializer.{IndexSerializerState}
-use Rattle.ii_postings_writer.specs.FieldParts.{FieldPart, HasFields, WroteContext, positions_body, postings_body, terms_body}
+use Rattle.ii_postings_writer.specs.FieldParts.{FieldPart, HasFields, WroteContext, positions_of_part, postings_body, terms_body}
 use Rattle.ii_postings_writer.specs.HeldBodies.{WroteTokens}
 use Rattle.ii_indexing.specs.IndexFiles.{ClosedFiles, CountsThreeFailures, FillTables, begun_file}
 use Rattle.ii_postings_writer.specs.IndexingContext.{TermIndex}
@@ -22,7 +22,7 @@ use Rattle.ii_postings_writer.specs.WriteFaults.{CountsFailures, IsContextFault}
 use Rattle.ii_indexing.proofs.NormFileLaws.{begun_bodies}
 
 -- three files in which nothing was written yet
-pub begun_fields : (entries : List Entry) (t p q : CountingWriterState)
+pub begun_fields : (entries : List SchemaEntry) (t p q : CountingWriterState)
     → HasFields entries (record { terms = begun_file t; postings = begun_file p; positions = begun_file q }) (record { terms = begun_file t; postings = begun_file p; positions = begun_file q }) []
 begun_fields entries t p q = record { terms = begun_bodies t; postings = begun_bodies p; positions = begun_bodies q; held = tt }
 
@@ -44,23 +44,23 @@ closed_files old now t p q result ts few wrote terms postings positions =
     let n = length old.entries in
     let a = terms old.bodies.terms.writer (map (terms_body old.entries) wrote.fs) wrote.fields.terms (fit_parts (terms_body old.entries) (λ f. refl) n wrote.fs few wrote.known) in
     let b = postings old.bodies.postings.writer (map (postings_body old.entries) wrote.fs) wrote.fields.postings (fit_parts (postings_body old.entries) (λ f. refl) n wrote.fs few wrote.known) in
-    let c = positions old.bodies.positions.writer (map (positions_body old.entries) wrote.fs) wrote.fields.positions (fit_parts (positions_body old.entries) (λ f. refl) n wrote.fs few wrote.known) in
+    let c = positions old.bodies.positions.writer (map (positions_of_part old.entries) wrote.fs) wrote.fields.positions (fit_parts (positions_of_part old.entries) (λ f. refl) n wrote.fs few wrote.known) in
     by result a b c
   where
     by : (r : Result (Unit {0}) Fault) → OnOk r (WroteComposite old.bodies.terms.writer t (map (terms_body old.entries) wrote.fs)) → OnOk r (WroteComposite old.bodies.postings.writer p (map (postings_body old.entries) wrote.fs))
-        → OnOk r (WroteComposite old.bodies.positions.writer q (map (positions_body old.entries) wrote.fs)) → OnOk r (ClosedFiles old t p q ts)
+        → OnOk r (WroteComposite old.bodies.positions.writer q (map (positions_of_part old.entries) wrote.fs)) → OnOk r (ClosedFiles old t p q ts)
     by (Err e) a b c = tt
     by (Ok x) a b c = record {
       terms = written_composite (map (terms_body old.entries) wrote.fs);
       postings = written_composite (map (postings_body old.entries) wrote.fs);
-      positions = written_composite (map (positions_body old.entries) wrote.fs);
+      positions = written_composite (map (positions_of_part old.entries) wrote.fs);
       wrote_terms = a.wrote;
       wrote_postings = b.wrote;
       wrote_positions = c.wrote;
       hold = record {
         term_bodies = map (terms_body old.entries) wrote.fs;
         postings_bodies = map (postings_body old.entries) wrote.fs;
-        positions_bodies = map (positions_body old.entries) wrote.fs;
+        positions_bodies = map (positions_of_part old.entries) wrote.fs;
         opened_terms = a.reads_back;
         opened_postings = b.reads_back;
         opened_positions = c.reads_back;

@@ -6,7 +6,7 @@ use Rattle.ii_indexing.specs.declared.indexed_fields.FieldValue.{FieldValue}
 use Rattle.ii_indexing.specs.declared.indexed_fields.FieldValue.TheVariants.{Number, Bytes, Ip}
 
 -- its bytes
-abbrev pub key_of : FieldValue → List ℕ
-key_of (Number n) = u64_bytes n
-key_of (Bytes bytes) = bytes.items
-key_of (Ip address) = bytes_high_first 16 address
+abbrev pub key_of_value : FieldValue → List ℕ
+key_of_value (Number n) = u64_bytes n
+key_of_value (Bytes bytes) = bytes.items
+key_of_value (Ip address) = bytes_high_first 16 address

@@ -4,12 +4,12 @@ use Rattle.std.specs.Option.{option_map}
 use Rattle.std.specs.List.{AllByRecursion}
 use Rattle.std.specs.List.Sorted.{IsNonDecreasingBy}
 use Rattle.std.specs.Int.{bytes_high_first}
-use Rattle.ii_base.specs.Schema.{Entry}
+use Rattle.ii_base.specs.Schema.{SchemaEntry}
 use Rattle.ii_base.specs.Values.{flipped, number_of_bool, u64_bytes}
 use Rattle.ii_base.specs.declared.schema.value_type.ValueType.{ValueType}
 use Rattle.ii_base.specs.declared.schema.value_type.ValueType.TheVariants as types
 use Rattle.ii_base.specs.Json.{json_leaves, json_of}
-use Rattle.ii_index.specs.Tokens.{Call, Content, leaves, text, words, value}
+use Rattle.ii_definitions.specs.Tokens.{Call, Content, leaves, text, words, value}
 use Rattle.ii_indexing.specs.declared.index_call.IndexCall.{IndexCall}
 use Rattle.ii_indexing.specs.declared.index_call.IndexCall.TheVariants.{Text, Tokens, U64, I64, Bool as Truth, Bytes, Ip, Json}
 
@@ -58,15 +58,15 @@ content_of expand_dots (Ip doc field address) = value (bytes_high_first 16 addre
 content_of expand_dots (Json doc field v) = leaves (json_leaves expand_dots (json_of v))
 
 -- whether dots of keys are expanded in a field of a schema
-abbrev pub expands_dots_in : List Entry → ℕ → Bool
-expands_dots_in entries field = unwrap_or (option_map (λ (e : Entry). e.expands_dots) (slice_get entries field)) false
+abbrev pub expands_dots_in : List SchemaEntry → ℕ → Bool
+expands_dots_in entries field = unwrap_or (option_map (λ (e : SchemaEntry). e.expands_dots) (slice_get entries field)) false
 
 -- a call to a field where dots are expanded or not, and one to a field of a schema
 abbrev pub call_with : Bool → IndexCall → Call
 call_with expand_dots c = record { doc = doc_of c; field = field_of c; content = content_of expand_dots c }
 
 -- what a call means by a schema
-abbrev pub call_of : List Entry → IndexCall → Call
+abbrev pub call_of : List SchemaEntry → IndexCall → Call
 call_of entries c = call_with (expands_dots_in entries (field_of c)) c
 
 -- the type of its value
@@ -81,18 +81,18 @@ type_of (Ip doc field address) = types.IpAddr
 type_of (Json doc field v) = types.Json
 
 -- A field of a schema is indexed and has values of this type.
-pub record Takes (entries : List Entry) (field : ℕ) (value_type : ValueType) : Type 0 where
-  pub entry : Entry
+pub record Takes (entries : List SchemaEntry) (field : ℕ) (value_type : ValueType) : Type 0 where
+  pub entry : SchemaEntry
   pub found : slice_get entries field ≡ Some entry
   pub indexed : entry.is_indexed ≡ true
   pub typed : entry.value_type ≡ value_type
 
 -- A call may be made: its document is one of so many, and its field takes its value.
-pub record MayBeIndexed (entries : List Entry) (num_docs : ℕ) (c : IndexCall) : Type 0 where
+pub record MayBeIndexed (entries : List SchemaEntry) (num_docs : ℕ) (c : IndexCall) : Type 0 where
   pub below : doc_of c < num_docs
   pub takes : Takes entries (field_of c) (type_of c)
 
 -- Calls may be made one after the other: no document lies below the one before.
-pub record MayAllBeIndexed (entries : List Entry) (num_docs : ℕ) (calls : List IndexCall) : Type 0 where
+pub record MayAllBeIndexed (entries : List SchemaEntry) (num_docs : ℕ) (calls : List IndexCall) : Type 0 where
   pub each : AllByRecursion (MayBeIndexed entries num_docs) calls
   pub ordered : IsNonDecreasingBy doc_of calls

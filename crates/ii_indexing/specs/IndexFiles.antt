@@ -5,20 +5,20 @@ use Rattle.ii_io.specs.declared.faults.Fault.TheVariants.{Limit, OutOfMemory, Wr
 use Rattle.ii_io.specs.declared.faults.LimitName.TheVariants as limit
 use Rattle.ii_io.specs.CompositeWrite.{CompositeWriteState}
 use Rattle.ii_io.specs.CountingWriter.{CountingWriterState, Grows, IsFull, Wrote}
-use Rattle.ii_base.specs.Schema.{Entry}
-use Rattle.ii_index.specs.Fields.{option_of}
-use Rattle.ii_index.specs.Files.{HoldTokens}
-use Rattle.ii_index.specs.Tokens.{IndexToken}
+use Rattle.ii_base.specs.Schema.{SchemaEntry}
+use Rattle.ii_definitions.specs.Fields.{option_of}
+use Rattle.ii_definitions.specs.Files.{HoldTokens}
+use Rattle.ii_definitions.specs.Tokens.{IndexToken}
 use Rattle.ii_recorder.specs.IndexBodies.{AreFull, IndexBodiesState, failed_calls, tables_of}
 use Rattle.ii_recorder.specs.IndexSerializer.{IndexSerializerState}
 use Rattle.ii_postings_writer.specs.FieldParts.{WroteContext}
 use Rattle.ii_indexing.specs.IndexedTerms.{IndexedTermsState, StoresTokens}
-use Rattle.ii_index.specs.Norms.{HoldNorms}
+use Rattle.ii_definitions.specs.Norms.{HoldNorms}
 use Rattle.ii_postings_writer.specs.WriteFaults.{IsContextFault}
 use Rattle.ii_indexing.specs.declared.index_writers.IndexWriters.{IndexWriters}
 
 -- The files of terms, postings and positions were written, and hold tokens.
-pub record WroteTermFiles {W : Type 0} (entries : List Entry) (old new : IndexWriters W) (ts : List IndexToken) : Type 0 where
+pub record WroteTermFiles {W : Type 0} (entries : List SchemaEntry) (old new : IndexWriters W) (ts : List IndexToken) : Type 0 where
   pub terms : List ℕ
   pub postings : List ℕ
   pub positions : List ℕ
@@ -38,13 +38,13 @@ pub record ClosedFiles (begun : IndexSerializerState) (new_terms new_postings ne
   pub hold : HoldTokens (option_of begun.entries) terms postings positions ts
 
 -- The file of norms was written, so many for each field that has some.
-pub record WroteNormFile {W : Type 0} (entries : List Entry) (num_docs : ℕ) (old new : IndexWriters W) (ts : List IndexToken) : Type 0 where
+pub record WroteNormFile {W : Type 0} (entries : List SchemaEntry) (num_docs : ℕ) (old new : IndexWriters W) (ts : List IndexToken) : Type 0 where
   pub fieldnorms : List ℕ
   pub wrote : Wrote old.fieldnorms new.fieldnorms fieldnorms
   pub hold : HoldNorms entries num_docs fieldnorms ts
 
 -- An index of tokens was written.
-pub record WroteIndex {W : Type 0} (entries : List Entry) (num_docs : ℕ) (old new : IndexWriters W) (ts : List IndexToken) : Type 0 where
+pub record WroteIndex {W : Type 0} (entries : List SchemaEntry) (num_docs : ℕ) (old new : IndexWriters W) (ts : List IndexToken) : Type 0 where
   pub terms : WroteTermFiles entries old new ts
   pub norms : WroteNormFile entries num_docs old new ts
 
@@ -91,20 +91,20 @@ pub record FillTables (begun : IndexSerializerState) (s : IndexedTermsState) : T
   pub full : AreFull now.bodies (tables_of now.bodies)
 
 -- Why the files of terms can't be written behind what three writers hold, by a limit.
-pub record PassLimits {W : Type 0} (entries : List Entry) (writers : IndexWriters W) (s : IndexedTermsState) (fault : Fault) : Type 0 where
+pub record PassLimits {W : Type 0} (entries : List SchemaEntry) (writers : IndexWriters W) (s : IndexedTermsState) (fault : Fault) : Type 0 where
   pub begun : IndexSerializerState
   pub entries_are : begun.entries ≡ entries
   pub bodies_are : begun.bodies ≡ begun_files writers
   pub cause : IsContextFault begun s.writers s.terms fault ⊎ ((fault ≡ Limit limit.Offset) × FillTables begun s)
 
 -- Why what was indexed can't be written: want of memory, a writer, a limit of its terms, or a file of norms that is too long.
-abbrev pub IsIndexFault : {W : Type 0} → List Entry → ℕ → IndexWriters W → IndexedTermsState → List IndexToken → Fault → Type 0
+abbrev pub IsIndexFault : {W : Type 0} → List SchemaEntry → ℕ → IndexWriters W → IndexedTermsState → List IndexToken → Fault → Type 0
 IsIndexFault entries num_docs writers s ts fault =
     (fault ≡ OutOfMemory) ⊎ (fault ≡ Write) ⊎ PassLimits entries writers s fault
     ⊎ ((fault ≡ Limit limit.Offset) × (bytes : List ℕ) × HoldNorms entries num_docs bytes ts × IsFull writers.fieldnorms (length bytes))
 
 -- And so it is for an index of tokens, by what is stored of them.
-pub record IsWriteFault {W : Type 0} (entries : List Entry) (num_docs : ℕ) (writers : IndexWriters W) (ts : List IndexToken) (fault : Fault) : Type 0 where
+pub record IsWriteFault {W : Type 0} (entries : List SchemaEntry) (num_docs : ℕ) (writers : IndexWriters W) (ts : List IndexToken) (fault : Fault) : Type 0 where
   pub stored : IndexedTermsState
   pub stores : StoresTokens entries stored ts
   pub cause : IsIndexFault entries num_docs writers stored ts fault

@@ -5,15 +5,15 @@ use Rattle.std.specs.Option.{option_map}
 use Rattle.ii_io.specs.declared.faults.Fault.{Fault}
 use Rattle.ii_io.specs.declared.faults.Fault.TheVariants.{Limit}
 use Rattle.ii_io.specs.declared.faults.LimitName.TheVariants as limit
-use Rattle.ii_base.specs.Schema.{Entry}
+use Rattle.ii_base.specs.Schema.{SchemaEntry}
 use Rattle.ii_base.specs.declared.schema.index_record_option.IndexRecordOption.{IndexRecordOption}
 use Rattle.ii_base.specs.declared.schema.index_record_option.IndexRecordOption.TheVariants.{Basic}
-use Rattle.ii_index.specs.JsonKeys.{type_under}
-use Rattle.ii_index.specs.Tokens.{IndexToken}
-use Rattle.ii_index.specs.Fields.{option_of}
-use Rattle.ii_index.specs.Postings.{field_count, kind_of}
+use Rattle.ii_definitions.specs.JsonKeys.{type_under}
+use Rattle.ii_definitions.specs.Tokens.{IndexToken}
+use Rattle.ii_definitions.specs.Fields.{option_of}
+use Rattle.ii_definitions.specs.Postings.{field_count, kind_of}
 use Rattle.ii_postings_writer.specs.IndexingContext.{TermIndex}
-use Rattle.ii_postings_writer.specs.PostingsWriter.{PostingsWriterState, kept_as, kept_of, value_kept_of}
+use Rattle.ii_postings_writer.specs.PostingsWriter.{PostingsWriterState, kept_as, text_kept_of, value_kept_of}
 use Rattle.ii_postings_writer.specs.Records.{Records}
 use Rattle.ii_postings_writer.specs.WordRefusals.{u64_max}
 
@@ -23,44 +23,44 @@ pub record IndexedTermsState : Type 0 where
   pub writers : List PostingsWriterState
 
 -- what the writer of a field keeps of the terms of texts, and of values
-abbrev pub kept_in : List Entry → ℕ → IndexRecordOption
-kept_in entries field = unwrap_or (option_map kept_of (slice_get entries field)) Basic
+abbrev pub kept_in : List SchemaEntry → ℕ → IndexRecordOption
+kept_in entries field = unwrap_or (option_map text_kept_of (slice_get entries field)) Basic
 
 -- what is kept of values in a field
-abbrev pub values_kept_in : List Entry → ℕ → IndexRecordOption
+abbrev pub values_kept_in : List SchemaEntry → ℕ → IndexRecordOption
 values_kept_in entries field = unwrap_or (option_map value_kept_of (slice_get entries field)) Basic
 
 -- the writer of a field that had so many tokens
-abbrev pub writer_in : List Entry → ℕ → ℕ → PostingsWriterState
+abbrev pub writer_in : List SchemaEntry → ℕ → ℕ → PostingsWriterState
 writer_in entries field num_tokens = record { option = kept_in entries field; value_option = values_kept_in entries field; total_num_tokens = num_tokens }
 
 -- what is kept of a key of a field: of a value that isn't text that it occurs, whatever the field records
-abbrev pub kept_under : List ℕ → Entry → IndexRecordOption
+abbrev pub kept_under : List ℕ → SchemaEntry → IndexRecordOption
 kept_under key e = kept_as (type_under e.value_type key) e.option
 
 -- what is kept of what stands under a key in a field
-abbrev pub kept_at : List Entry → ℕ → List ℕ → IndexRecordOption
+abbrev pub kept_at : List SchemaEntry → ℕ → List ℕ → IndexRecordOption
 kept_at entries field key = unwrap_or (option_map (kept_under key) (slice_get entries field)) Basic
 
 -- A field of a schema takes texts whose words stand under keys with a prefix.
-pub record TakesTexts (entries : List Entry) (field : ℕ) (prefix : List ℕ) : Type 0 where
+pub record TakesTexts (entries : List SchemaEntry) (field : ℕ) (prefix : List ℕ) : Type 0 where
   pub known : field < length entries
   pub option : kept_in entries field ≡ option_of entries field
   pub kept : (key : List ℕ) → kept_at entries field (prefix ++ key) ≡ kept_in entries field
 
 -- It takes a value under a key.
-pub record TakesValue (entries : List Entry) (field : ℕ) (key : List ℕ) : Type 0 where
+pub record TakesValue (entries : List SchemaEntry) (field : ℕ) (key : List ℕ) : Type 0 where
   pub known : field < length entries
   pub option : values_kept_in entries field ≡ Basic
   pub kept : kept_at entries field key ≡ Basic
 
 -- A token stands in a field of a schema, which keeps of its key what the definitions keep of such a token's.
-pub record IsOfField (entries : List Entry) (t : IndexToken) : Type 0 where
+pub record IsOfField (entries : List SchemaEntry) (t : IndexToken) : Type 0 where
   pub known : t.field < length entries
   pub kind : kind_of (option_of entries t.field) (t ∷ []) ≡ kept_at entries t.field t.key
 
 -- Tokens of the fields of a schema are stored: the postings of each key, and how many there are of each field.
-pub record StoresTokens (entries : List Entry) (s : IndexedTermsState) (ts : List IndexToken) : Type 0 where
+pub record StoresTokens (entries : List SchemaEntry) (s : IndexedTermsState) (ts : List IndexToken) : Type 0 where
   pub records : Records (kept_at entries) s.terms ts
   pub counted : (field : ℕ) → field < length entries → slice_get s.writers field ≡ Some (writer_in entries field (field_count field ts))
   pub of_fields : AllByRecursion (IsOfField entries) ts

@@ -1,9 +1,9 @@
 -- What an indexer has stored of the calls that it took.
 use Rattle.std.specs.Prelude.{◌≡◌, ℕ, ◌<◌, ◌^◌, Bool, List, [], length, map}
 use Rattle.std.specs.Borrow.{GName}
-use Rattle.ii_base.specs.Schema.{Entry, keeps_norms}
+use Rattle.ii_base.specs.Schema.{SchemaEntry, keeps_norms}
 use Rattle.ii_base.specs.Words.{Word}
-use Rattle.ii_index.specs.Tokens.{Call, Piece, pieces_of, tokens_after}
+use Rattle.ii_definitions.specs.Tokens.{Call, Piece, pieces_of, tokens_after}
 use Rattle.ii_indexing.specs.IndexedTerms.{IndexedTermsState, StoresTokens}
 use Rattle.ii_postings_writer.specs.IndexingContext.{AllEndBy}
 use Rattle.ii_indexing.specs.OpenDocuments.{OpenDocumentsState, ReachTo, TellsAll, with_norms}
@@ -16,7 +16,7 @@ pub record IndexedFieldsState : Type 0 where
   pub paths : List OpenPathsState
 
 -- Texts and values are stored: the tokens that they give, and of each field what is known of its open document and the norms before it.
-pub record StoresPieces (entries : List Entry) (s : IndexedFieldsState) (ps : List Piece) : Type 0 where
+pub record StoresPieces (entries : List SchemaEntry) (s : IndexedFieldsState) (ps : List Piece) : Type 0 where
   pub tokens : StoresTokens entries s.indexed (tokens_after [] ps)
   pub documents : TellsAll ps (tokens_after [] ps) s.opened
   pub paths : TellAllPaths ps s.paths
@@ -31,19 +31,19 @@ pub record EndsAt (doc : ℕ) (s : IndexedFieldsState) : Type 0 where
 
 -- An indexer: its schema, how many documents there are, the document of the last call, what it has stored, and whether a call was refused.
 pub record IndexerState : Type 0 where
-  pub schema : List Entry
+  pub schema : List SchemaEntry
   pub num_docs : ℕ
   pub last_doc : ℕ
   pub fields : IndexedFieldsState
   pub failed : Bool
 
 -- Some pieces are stored.
-pub record StoresSome (entries : List Entry) (s : IndexedFieldsState) : Type 0 where
+pub record StoresSome (entries : List SchemaEntry) (s : IndexedFieldsState) : Type 0 where
   pub pieces : List Piece
   pub stored : StoresPieces entries s pieces
 
 -- What holds of an indexer's fields while no call was refused.
-pub record AreRunning (entries : List Entry) (last_doc : ℕ) (s : IndexedFieldsState) : Type 0 where
+pub record AreRunning (entries : List SchemaEntry) (last_doc : ℕ) (s : IndexedFieldsState) : Type 0 where
   pub few : length entries < 2 ^ 32
   pub ends : EndsAt last_doc s
   pub writers : length s.indexed.writers ≡ length entries
@@ -52,7 +52,7 @@ pub record AreRunning (entries : List Entry) (last_doc : ℕ) (s : IndexedFields
 
 -- What was indexed before the leaves of a JSON value: pieces, in fields of a schema.
 pub record LeafGiven : Type 0 where
-  pub entries : List Entry
+  pub entries : List SchemaEntry
   pub pieces : List Piece
 
 -- What stays while they are indexed: the document and the field, what an analyzer makes of a text, by which reference the fields are lent, how many fields there are and which have norms.

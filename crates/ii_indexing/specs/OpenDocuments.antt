@@ -3,8 +3,8 @@ use Rattle.std.specs.Prelude.{◌≡◌, ℕ, ◌<◌, ◌≤◌, Bool, ◌==◌
 use Rattle.std.specs.Option.{option_map}
 use Rattle.ii_fieldnorm.specs.Buffers.{Buffers, buffer_of, recorded}
 use Rattle.ii_fieldnorm.specs.Norms.{id_of_norm}
-use Rattle.ii_index.specs.Tokens.{IndexToken, Piece, begin_after, text_at}
-use Rattle.ii_index.specs.Postings.{doc_count}
+use Rattle.ii_definitions.specs.Tokens.{IndexToken, Piece, begin_after, text_at}
+use Rattle.ii_definitions.specs.Postings.{doc_count}
 use Rattle.ii_recorder.specs.Recorded.{u32_max}
 use Rattle.ii_indexing.specs.Refusals.{group_count}
 use Rattle.ii_indexing.specs.declared.open_documents.OpenDocument.{OpenDocument}

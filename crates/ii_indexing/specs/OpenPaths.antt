@@ -1,7 +1,7 @@
 -- What is known of a JSON field in the document that was opened last in it, path by path.
 use Rattle.std.specs.Prelude.{◌≡◌, ℕ, ◌≤◌, ◌==◌, false, if◌then◌else◌, List, [], bytes_eq, slice_get, slice_set, Some, unwrap_or}
 use Rattle.std.specs.Map.{lookup}
-use Rattle.ii_index.specs.Tokens.{Piece, begin_after, text_at}
+use Rattle.ii_definitions.specs.Tokens.{Piece, begin_after, text_at}
 use Rattle.ii_indexing.specs.Refusals.{group_count}
 use Rattle.ii_postings_writer.specs.declared.indexing_position.IndexingPosition.{IndexingPosition}
 
@@ -23,12 +23,12 @@ pub record OpenPathsState : Type 0 where
   pub positions : PathPositions
 
 -- what is known of a document that isn't below the open one
-abbrev pub positions_at : ℕ → OpenPathsState → PathPositions
-positions_at doc o = if o.doc == doc then o.positions else []
+abbrev pub path_positions_at : ℕ → OpenPathsState → PathPositions
+path_positions_at doc o = if o.doc == doc then o.positions else []
 
 -- the document that is open from now on
 abbrev pub opened_path : ℕ → OpenPathsState → OpenPathsState
-opened_path doc o = record { doc = doc; positions = positions_at doc o }
+opened_path doc o = record { doc = doc; positions = path_positions_at doc o }
 
 -- document 0, with no texts
 abbrev pub no_paths : OpenPathsState
@@ -40,7 +40,7 @@ texts_under doc field prefix ps = record { num_tokens = group_count ps (text_at 
 
 -- The open document of a field after pieces: the texts under each prefix, where there is one.
 abbrev pub TellsPaths : ℕ → List Piece → OpenPathsState → Type 0
-TellsPaths field ps o = (doc : ℕ) (prefix : List ℕ) → o.doc ≤ doc → bytes_eq prefix [] ≡ false → texts_under doc field prefix ps ≡ position_under prefix (positions_at doc o)
+TellsPaths field ps o = (doc : ℕ) (prefix : List ℕ) → o.doc ≤ doc → bytes_eq prefix [] ≡ false → texts_under doc field prefix ps ≡ position_under prefix (path_positions_at doc o)
 
 -- What is known of the texts under a prefix was put in place of what was known, in a field.
 pub record PutsPosition (field : ℕ) (prefix : List ℕ) (position : IndexingPosition) (paths after : List OpenPathsState) (old : OpenPathsState) : Type 0 where

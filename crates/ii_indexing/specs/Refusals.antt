@@ -8,8 +8,8 @@ use Rattle.ii_base.specs.declared.schema.index_record_option.IndexRecordOption.{
 use Rattle.ii_base.specs.Json.{Leaf, text_leaf, unsupported, value_leaf}
 use Rattle.ii_base.specs.Words.{Word}
 use Rattle.ii_json.specs.LeafVisit.{first_fault, leaves_fault}
-use Rattle.ii_index.specs.Tokens.{Call, Content, IndexToken, Piece, begin_after, content_pieces, is_same_group, kept_words, leaf_pieces, leaves, pieces_of, text, tokens_after, value, words}
-use Rattle.ii_index.specs.Postings.{field_count}
+use Rattle.ii_definitions.specs.Tokens.{Call, Content, IndexToken, Piece, begin_after, content_pieces, is_same_group, kept_words, leaf_pieces, leaves, pieces_of, text, tokens_after, value, words}
+use Rattle.ii_definitions.specs.Postings.{field_count}
 use Rattle.ii_postings_writer.specs.WordRefusals.{gap_fault, u64_max, words_fault}
 
 -- how many kept words the earlier texts of a group have

@@ -1,10 +1,10 @@
 ghost use Rattle.std.specs.Prelude.{◌≡◌, ◌<◌, ◌^◌, List, length, OnOk, IfErr};
 ghost use Rattle.ii_io.specs.CountingWriter.{Writes};
-ghost use Rattle.ii_index.specs.Tokens.{IndexToken};
+ghost use Rattle.ii_definitions.specs.Tokens.{IndexToken};
 ghost use Rattle.ii_postings_writer.specs.FieldParts.{AreShortNorms};
 ghost use Rattle.ii_postings_writer.specs.HeldBodies.{HaveTokens};
 ghost use Rattle.ii_indexing.specs.IndexFiles.{CountsIndexFailures, FilesGrow, IsIndexFault, WroteIndex};
-ghost use Rattle.ii_index.specs.Norms.{HoldNorms};
+ghost use Rattle.ii_definitions.specs.Norms.{HoldNorms};
 ghost use Rattle.ii_postings_writer.specs.SortedTerms.{AllMayBeWritten};
 
 use crate::index_writers::IndexWriters;

@@ -1,18 +1,19 @@
-ghost use Rattle.std.specs.Prelude.{◌≡◌, ◌<◌, ◌≤◌, ◌^◌, ◌∷◌, ◌++◌, [], List, ℕ, true, false, bytes_eq, length, map, IfErr, IfOk, OnErr, OnOk};
-ghost use Rattle.ii_base.specs.Schema.{Entry, keeps_norms};
+ghost use Rattle.std.specs.Prelude.{◌≡◌, ◌<◌, ◌≤◌, ◌^◌, ◌∷◌, ◌++◌, [], List, ℕ, true, false, bytes_eq, length, map, IfOk, OnErr, OnOk};
+ghost use Rattle.ii_io.specs.Faults.{OnlyMemory};
+ghost use Rattle.ii_base.specs.Schema.{SchemaEntry, keeps_norms};
 ghost use Rattle.ii_docset.specs.declared.docset.TheConstants.{TERMINATED};
-ghost use Rattle.ii_index.specs.Tokens.{IndexToken, Piece, call_pieces, text_at, value_at};
-ghost use Rattle.ii_index.specs.Fields.{option_of};
+ghost use Rattle.ii_definitions.specs.Tokens.{IndexToken, Piece, call_pieces, text_at, value_at};
+ghost use Rattle.ii_definitions.specs.Fields.{option_of};
 ghost use Rattle.ii_base.specs.Paths.{has_zero};
 ghost use Rattle.ii_base.specs.Values.{json_key, text_key, typed_key};
 ghost use Rattle.ii_base.specs.declared.schema.value_type.ValueType.TheVariants.{Json};
 ghost use Rattle.ii_json.specs.LeafVisit.{is_number_type};
 ghost use Rattle.ii_indexing.specs.IndexCalls.{Takes, call_with, content_of, doc_of, field_of, type_of};
-ghost use Rattle.ii_indexing.specs.FieldValues.{key_of};
+ghost use Rattle.ii_indexing.specs.FieldValues.{key_of_value};
 ghost use Rattle.ii_indexing.specs.IndexedTerms.{TakesTexts, TakesValue};
 ghost use Rattle.ii_postings_writer.specs.FieldParts.{AreShortNorms};
 ghost use Rattle.ii_indexing.specs.Indexer.{EndsAt, StoresPieces, StoresSome};
-ghost use Rattle.ii_index.specs.Norms.{HoldNorms};
+ghost use Rattle.ii_definitions.specs.Norms.{HoldNorms};
 ghost use Rattle.ii_indexing.specs.OpenDocuments.{TellsAll, with_norms};
 ghost use Rattle.ii_indexing.specs.Refusals.{content_fault, piece_fault};
 ghost use Rattle.ii_json.specs.LeafVisit.{IsRefusedBy};
@@ -62,7 +63,7 @@ impl IndexedFields {
         ensures fields { IfOk result (λ f. length f.indexed.writers ≡ length schema.now) }
         ensures norms { IfOk result (λ f. with_norms f.opened.norms ≡ map keeps_norms schema.now) }
         ensures few { IfOk result (λ f. length schema.now < 2 ^ 32) }
-        ensures only { IfErr result (λ e. e ≡ Fault.OutOfMemory) }
+        ensures only { OnlyMemory result }
     {
         Ok(IndexedFields {
             terms: IndexedTerms::new(alloc, schema)?,
@@ -82,12 +83,12 @@ impl IndexedFields {
         requires low { doc_of call < TERMINATED }
         requires known { field_of call < length self.old.indexed.writers }
         requires ends { EndsAt (doc_of call) self.old }
-        ensures stored { OnOk result ((entries : List Entry) (ps : List Piece) → Takes entries (field_of call) (type_of call) → StoresPieces entries self.old ps
+        ensures stored { OnOk result ((entries : List SchemaEntry) (ps : List Piece) → Takes entries (field_of call) (type_of call) → StoresPieces entries self.old ps
             → StoresPieces entries self.new (ps ++ call_pieces (A.words analyzer.now) (call_with expand_dots call))) }
         ensures ends { OnOk result (EndsAt (doc_of call) self.new) }
         ensures fields { OnOk result (length self.new.indexed.writers ≡ length self.old.indexed.writers) }
         ensures norms { OnOk result (with_norms self.new.opened.norms ≡ with_norms self.old.opened.norms) }
-        ensures refused { (entries : List Entry) (ps : List Piece) → Takes entries (field_of call) (type_of call) → StoresPieces entries self.old ps
+        ensures refused { (entries : List SchemaEntry) (ps : List Piece) → Takes entries (field_of call) (type_of call) → StoresPieces entries self.old ps
             → IsRefusedBy (content_fault (A.words analyzer.now) (option_of entries (field_of call)) ps (call_with expand_dots call) (content_of expand_dots call)) result }
     {
         let number = call.number();
@@ -137,7 +138,7 @@ impl IndexedFields {
         ensures terms { IfOk result (λ f. f.terms ≡ self.indexed) }
         ensures norms { IfOk result (λ f. (ps : List Piece) (ts : List IndexToken) → TellsAll ps ts self.opened → HoldNorms schema.now num_docs f.norms ts) }
         ensures short { IfOk result (λ f. AreShortNorms f.readers) }
-        ensures only { IfErr result (λ e. e ≡ Fault.OutOfMemory) }
+        ensures only { OnlyMemory result }
     {
         let IndexedFields {
             terms,
@@ -164,11 +165,11 @@ impl IndexedFields {
         requires low { doc < TERMINATED }
         requires known { field < length self.old.indexed.writers }
         requires ends { EndsAt doc self.old }
-        ensures stored { OnOk result ((entries : List Entry) (ps : List Piece) → TakesTexts entries field [] → StoresPieces entries self.old ps → StoresPieces entries self.new (ps ++ text_at doc field [] (S.to_come tokens.old) ∷ [])) }
+        ensures stored { OnOk result ((entries : List SchemaEntry) (ps : List Piece) → TakesTexts entries field [] → StoresPieces entries self.old ps → StoresPieces entries self.new (ps ++ text_at doc field [] (S.to_come tokens.old) ∷ [])) }
         ensures ends { OnOk result (EndsAt doc self.new) }
         ensures fields { OnOk result (length self.new.indexed.writers ≡ length self.old.indexed.writers) }
         ensures norms { OnOk result (with_norms self.new.opened.norms ≡ with_norms self.old.opened.norms) }
-        ensures refused { (entries : List Entry) (ps : List Piece) → TakesTexts entries field [] → StoresPieces entries self.old ps → IsRefusedBy (piece_fault (option_of entries field) ps (text_at doc field [] (S.to_come tokens.old))) result }
+        ensures refused { (entries : List SchemaEntry) (ps : List Piece) → TakesTexts entries field [] → StoresPieces entries self.old ps → IsRefusedBy (piece_fault (option_of entries field) ps (text_at doc field [] (S.to_come tokens.old))) result }
     {
         let open = self.documents.open(doc, field)?;
         let mut position = IndexingPosition {
@@ -202,12 +203,12 @@ impl IndexedFields {
         requires known { field < length self.old.indexed.writers }
         requires ends { EndsAt doc self.old }
         requires some { bytes_eq prefix.now [] ≡ false }
-        ensures stored { OnOk result ((entries : List Entry) (ps : List Piece) → TakesTexts entries field prefix.now → StoresPieces entries self.old ps
+        ensures stored { OnOk result ((entries : List SchemaEntry) (ps : List Piece) → TakesTexts entries field prefix.now → StoresPieces entries self.old ps
             → StoresPieces entries self.new (ps ++ text_at doc field prefix.now (S.to_come tokens.old) ∷ [])) }
         ensures ends { OnOk result (EndsAt doc self.new) }
         ensures fields { OnOk result (length self.new.indexed.writers ≡ length self.old.indexed.writers) }
         ensures norms { OnOk result (with_norms self.new.opened.norms ≡ with_norms self.old.opened.norms) }
-        ensures refused { (entries : List Entry) (ps : List Piece) → TakesTexts entries field prefix.now → StoresPieces entries self.old ps
+        ensures refused { (entries : List SchemaEntry) (ps : List Piece) → TakesTexts entries field prefix.now → StoresPieces entries self.old ps
             → IsRefusedBy (piece_fault (option_of entries field) ps (text_at doc field prefix.now (S.to_come tokens.old))) result }
     {
         let open = self.documents.open(doc, field)?;
@@ -238,12 +239,12 @@ impl IndexedFields {
         requires known { field < length self.old.indexed.writers }
         requires ends { EndsAt doc self.old }
         requires path { has_zero path.now ≡ false }
-        ensures stored { OnOk result ((entries : List Entry) (ps : List Piece) → Takes entries field Json → StoresPieces entries self.old ps
+        ensures stored { OnOk result ((entries : List SchemaEntry) (ps : List Piece) → Takes entries field Json → StoresPieces entries self.old ps
             → StoresPieces entries self.new (ps ++ text_at doc field (json_key path.now (text_key [])) (S.to_come tokens.old) ∷ [])) }
         ensures ends { OnOk result (EndsAt doc self.new) }
         ensures fields { OnOk result (length self.new.indexed.writers ≡ length self.old.indexed.writers) }
         ensures norms { OnOk result (with_norms self.new.opened.norms ≡ with_norms self.old.opened.norms) }
-        ensures refused { (entries : List Entry) (ps : List Piece) → Takes entries field Json → StoresPieces entries self.old ps
+        ensures refused { (entries : List SchemaEntry) (ps : List Piece) → Takes entries field Json → StoresPieces entries self.old ps
             → IsRefusedBy (piece_fault (option_of entries field) ps (text_at doc field (json_key path.now (text_key [])) (S.to_come tokens.old))) result }
     {
         let prefix = text_prefix(alloc, path)?;
@@ -265,12 +266,12 @@ impl IndexedFields {
         requires ends { EndsAt doc self.old }
         requires path { has_zero path.now ≡ false }
         requires number { is_number_type value_type ≡ true }
-        ensures stored { OnOk result ((entries : List Entry) (ps : List Piece) → Takes entries field Json → StoresPieces entries self.old ps
+        ensures stored { OnOk result ((entries : List SchemaEntry) (ps : List Piece) → Takes entries field Json → StoresPieces entries self.old ps
             → StoresPieces entries self.new (ps ++ value_at doc field (json_key path.now (typed_key value_type number)) ∷ [])) }
         ensures ends { OnOk result (EndsAt doc self.new) }
         ensures fields { OnOk result (length self.new.indexed.writers ≡ length self.old.indexed.writers) }
         ensures norms { OnOk result (with_norms self.new.opened.norms ≡ with_norms self.old.opened.norms) }
-        ensures refused { (entries : List Entry) (ps : List Piece) → Takes entries field Json → StoresPieces entries self.old ps
+        ensures refused { (entries : List SchemaEntry) (ps : List Piece) → Takes entries field Json → StoresPieces entries self.old ps
             → IsRefusedBy (piece_fault (option_of entries field) ps (value_at doc field (json_key path.now (typed_key value_type number)))) result }
     {
         let key = value_key(alloc, path, value_type, number)?;
@@ -287,13 +288,13 @@ impl IndexedFields {
         requires low { doc < TERMINATED }
         requires known { field < length self.old.indexed.writers }
         requires ends { EndsAt doc self.old }
-        ensures stored { OnOk result ((entries : List Entry) (ps : List Piece) → TakesValue entries field (key_of value) → StoresPieces entries self.old ps
-            → StoresPieces entries self.new (ps ++ value_at doc field (key_of value) ∷ [])) }
+        ensures stored { OnOk result ((entries : List SchemaEntry) (ps : List Piece) → TakesValue entries field (key_of_value value) → StoresPieces entries self.old ps
+            → StoresPieces entries self.new (ps ++ value_at doc field (key_of_value value) ∷ [])) }
         ensures ends { OnOk result (EndsAt doc self.new) }
         ensures fields { OnOk result (length self.new.indexed.writers ≡ length self.old.indexed.writers) }
         ensures norms { OnOk result (with_norms self.new.opened.norms ≡ with_norms self.old.opened.norms) }
-        ensures refused { (entries : List Entry) (ps : List Piece) → TakesValue entries field (key_of value) → StoresPieces entries self.old ps
-            → IsRefusedBy (piece_fault (option_of entries field) ps (value_at doc field (key_of value))) result }
+        ensures refused { (entries : List SchemaEntry) (ps : List Piece) → TakesValue entries field (key_of_value value) → StoresPieces entries self.old ps
+            → IsRefusedBy (piece_fault (option_of entries field) ps (value_at doc field (key_of_value value))) result }
     {
         match value {
             FieldValue::Number(number) => self.index_value(doc, field, &number.to_be_bytes()),
@@ -307,12 +308,12 @@ impl IndexedFields {
         requires low { doc < TERMINATED }
         requires known { field < length self.old.indexed.writers }
         requires ends { EndsAt doc self.old }
-        ensures stored { OnOk result ((entries : List Entry) (ps : List Piece) → TakesValue entries field key.now → StoresPieces entries self.old ps
+        ensures stored { OnOk result ((entries : List SchemaEntry) (ps : List Piece) → TakesValue entries field key.now → StoresPieces entries self.old ps
             → StoresPieces entries self.new (ps ++ value_at doc field key.now ∷ [])) }
         ensures ends { OnOk result (EndsAt doc self.new) }
         ensures fields { OnOk result (length self.new.indexed.writers ≡ length self.old.indexed.writers) }
         ensures norms { OnOk result (with_norms self.new.opened.norms ≡ with_norms self.old.opened.norms) }
-        ensures refused { (entries : List Entry) (ps : List Piece) → TakesValue entries field key.now → StoresPieces entries self.old ps
+        ensures refused { (entries : List SchemaEntry) (ps : List Piece) → TakesValue entries field key.now → StoresPieces entries self.old ps
             → IsRefusedBy (piece_fault (option_of entries field) ps (value_at doc field key.now)) result }
     {
         let open = self.documents.open(doc, field)?;

@@ -1,9 +1,10 @@
 ghost use Rattle.std.specs.Prelude.{◌≡◌, ◌<◌, ◌+◌, ◌∷◌, ◌++◌, ◌⊎◌, ◌^◌, [], List, ℕ, true, false, length, IfErr, IfOk, OnErr, OnOk};
 ghost use Rattle.ii_io.specs.CountingWriter.{Grows};
-ghost use Rattle.ii_base.specs.Schema.{Entry};
+ghost use Rattle.ii_io.specs.Faults.{OnlyMemory};
+ghost use Rattle.ii_base.specs.Schema.{SchemaEntry};
 ghost use Rattle.ii_docset.specs.declared.docset.TheConstants.{TERMINATED};
-ghost use Rattle.ii_index.specs.Fields.{option_of};
-ghost use Rattle.ii_index.specs.Tokens.{IndexToken, end_after, kept_words, piece_tokens_from, text_at, value_at, value_token};
+ghost use Rattle.ii_definitions.specs.Fields.{option_of};
+ghost use Rattle.ii_definitions.specs.Tokens.{IndexToken, end_after, kept_words, piece_tokens_from, text_at, value_at, value_token};
 ghost use Rattle.ii_indexing.specs.IndexedTerms.{StoresTokens, TakesTexts, TakesValue, value_fault};
 ghost use Rattle.ii_postings_writer.specs.FieldParts.{AreShortNorms, HasFields};
 ghost use Rattle.ii_postings_writer.specs.HeldBodies.{HaveTokens};
@@ -47,7 +48,7 @@ impl IndexedTerms {
     // No terms.
     pub(crate) fn new(alloc: Global, schema: &Schema) -> Result<IndexedTerms, Fault>
         ensures ok { IfOk result (λ terms. terms ≡ record { terms = []; writers = writers_of schema.now }) }
-        ensures only { IfErr result (λ e. e ≡ Fault.OutOfMemory) }
+        ensures only { OnlyMemory result }
     {
         Ok(IndexedTerms {
             ctx: IndexingContext::new(alloc),
@@ -68,13 +69,13 @@ impl IndexedTerms {
         requires low { doc < TERMINATED }
         requires known { field < length self.old.writers }
         requires ends { AllEndBy doc self.old.terms }
-        ensures stored { OnOk result ((entries : List Entry) (ts : List IndexToken) → TakesTexts entries field prefix.now → StoresTokens entries self.old ts
+        ensures stored { OnOk result ((entries : List SchemaEntry) (ts : List IndexToken) → TakesTexts entries field prefix.now → StoresTokens entries self.old ts
             → StoresTokens entries self.new (ts ++ piece_tokens_from true position.old.end_position (text_at doc field prefix.now (S.to_come token_stream.old)))) }
         ensures ends { OnOk result (AllEndBy doc self.new.terms) }
         ensures fields { length self.new.writers ≡ length self.old.writers }
         ensures num_tokens { OnOk result (position.new.num_tokens ≡ position.old.num_tokens + length (kept_words (S.to_come token_stream.old))) }
         ensures end_position { OnOk result (position.new.end_position ≡ end_after position.old.end_position (S.to_come token_stream.old)) }
-        ensures refused { (entries : List Entry) (ts : List IndexToken) → TakesTexts entries field prefix.now → StoresTokens entries self.old ts
+        ensures refused { (entries : List SchemaEntry) (ts : List IndexToken) → TakesTexts entries field prefix.now → StoresTokens entries self.old ts
             → IsRefusedBy (text_fault (option_of entries field) (text_at doc field prefix.now (S.to_come token_stream.old)) position.old ts) result }
     {
         self.term.clear_with_field(field);
@@ -88,11 +89,11 @@ impl IndexedTerms {
         requires low { doc < TERMINATED }
         requires known { field < length self.old.writers }
         requires ends { AllEndBy doc self.old.terms }
-        ensures stored { OnOk result ((entries : List Entry) (ts : List IndexToken) → TakesValue entries field key.now → StoresTokens entries self.old ts
+        ensures stored { OnOk result ((entries : List SchemaEntry) (ts : List IndexToken) → TakesValue entries field key.now → StoresTokens entries self.old ts
             → StoresTokens entries self.new (ts ++ value_token (value_at doc field key.now) ∷ [])) }
         ensures ends { OnOk result (AllEndBy doc self.new.terms) }
         ensures fields { length self.new.writers ≡ length self.old.writers }
-        ensures refused { (entries : List Entry) (ts : List IndexToken) → TakesValue entries field key.now → StoresTokens entries self.old ts
+        ensures refused { (entries : List SchemaEntry) (ts : List IndexToken) → TakesValue entries field key.now → StoresTokens entries self.old ts
             → IsRefusedBy (value_fault field ts) result }
     {
         let _field = field.field_id();

@@ -1,8 +1,9 @@
 ghost use Rattle.std.specs.Prelude.{◌≡◌, ◌<◌, ◌≤◌, ◌∷◌, ◌++◌, [], ℕ, List, length, true, false, Err, IfErr, IfOk, OnErr, OnOk};
+ghost use Rattle.ii_io.specs.Faults.{OnlyMemory};
 ghost use Rattle.ii_docset.specs.declared.docset.TheConstants.{TERMINATED};
-ghost use Rattle.ii_index.specs.Fields.{option_of};
+ghost use Rattle.ii_definitions.specs.Fields.{option_of};
 ghost use Rattle.ii_base.specs.Words.{Word};
-ghost use Rattle.ii_index.specs.Tokens.{Call, tokens_of};
+ghost use Rattle.ii_definitions.specs.Tokens.{Call, tokens_of};
 ghost use Rattle.ii_indexing.specs.IndexFiles.{CountsIndexFailures, FilesGrow, IsIndexFault, WroteIndex};
 ghost use Rattle.ii_indexing.specs.IndexCalls.{Takes, call_of, doc_of, expands_dots_in, field_of, type_of};
 ghost use Rattle.ii_indexing.specs.Indexer.{IndexerState, StoresPieces, Stores};
@@ -57,7 +58,7 @@ impl Indexer {
         requires { num_docs ≤ TERMINATED }
         ensures made { IfOk result (λ i. (i.schema ≡ schema) × (i.num_docs ≡ num_docs) × (i.last_doc ≡ 0) × (i.failed ≡ false)) }
         ensures stored { IfOk result (λ i. StoresPieces i.schema i.fields []) }
-        ensures only { IfErr result (λ e. e ≡ Fault.OutOfMemory) }
+        ensures only { OnlyMemory result }
     {
         let fields = IndexedFields::new(alloc, &schema)?;
         Ok(Indexer {

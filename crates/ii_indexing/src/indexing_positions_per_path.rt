@@ -1,4 +1,5 @@
-ghost use Rattle.std.specs.Prelude.{◌≡◌, [], List, ℕ, bytes_eq, if◌then◌else◌, IfErr, OnOk};
+ghost use Rattle.std.specs.Prelude.{◌≡◌, [], List, ℕ, bytes_eq, if◌then◌else◌, OnOk};
+ghost use Rattle.ii_io.specs.Faults.{OnlyMemory};
 ghost use Rattle.ii_indexing.specs.OpenPaths.{position_under};
 
 use ii_base::Fault;
@@ -64,7 +65,7 @@ impl IndexingPositionsPerPath {
         position: IndexingPosition,
     ) -> Result<(), Fault>
         ensures ok { OnOk result ((other : List ℕ) → position_under other self.new ≡ (if bytes_eq prefix.now other then position else position_under other self.old)) }
-        ensures only { IfErr result (λ e. e ≡ Fault.OutOfMemory) }
+        ensures only { OnlyMemory result }
     {
         let bytes = Vec::from_slice(alloc, prefix)?;
         self.positions.insert(bytes, position)?;

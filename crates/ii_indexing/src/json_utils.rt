@@ -1,12 +1,13 @@
-ghost use Rattle.std.specs.Prelude.{◌≡◌, ◌<◌, ◌++◌, ◌∷◌, [], List, ℕ, true, false, length, IfErr, IfOk, OnOk};
+ghost use Rattle.std.specs.Prelude.{◌≡◌, ◌<◌, ◌++◌, ◌∷◌, [], List, ℕ, true, false, length, IfOk, OnOk};
 ghost use Rattle.std.specs.List.{flat_map};
+ghost use Rattle.ii_io.specs.Faults.{OnlyMemory};
 ghost use Rattle.ii_base.specs.Json.{json_leaves, json_of};
-ghost use Rattle.ii_base.specs.Schema.{Entry};
+ghost use Rattle.ii_base.specs.Schema.{SchemaEntry};
 ghost use Rattle.ii_base.specs.Values.{json_key, text_key, typed_key};
 ghost use Rattle.ii_base.specs.declared.schema.value_type.ValueType.TheVariants.{Json};
 ghost use Rattle.ii_docset.specs.declared.docset.TheConstants.{TERMINATED};
-ghost use Rattle.ii_index.specs.Fields.{option_of};
-ghost use Rattle.ii_index.specs.Tokens.{Piece, leaf_pieces};
+ghost use Rattle.ii_definitions.specs.Fields.{option_of};
+ghost use Rattle.ii_definitions.specs.Tokens.{Piece, leaf_pieces};
 ghost use Rattle.ii_json.specs.LeafVisit.{IsRefusedBy, leaves_fault};
 ghost use Rattle.ii_indexing.specs.IndexCalls.{Takes};
 ghost use Rattle.ii_indexing.specs.Indexer.{EndsAt, StoresPieces};
@@ -25,7 +26,7 @@ const JSON_END_OF_PATH: u8 = 0;
 // The first bytes of the keys of a text's words at a path: the path, byte 0, and the letter of texts.
 pub(crate) fn text_prefix(alloc: Global, path: &str) -> Result<Vec<u8>, Fault>
     ensures ok { IfOk result (λ prefix. prefix.items ≡ json_key path.now (text_key [])) }
-    ensures only { IfErr result (λ e. e ≡ Fault.OutOfMemory) }
+    ensures only { OnlyMemory result }
 {
     let mut prefix = Vec::from_slice(alloc, path.as_bytes())?;
     prefix.push(JSON_END_OF_PATH)?;
@@ -42,7 +43,7 @@ pub(crate) fn value_key(
     number: u64,
 ) -> Result<Vec<u8>, Fault>
     ensures ok { IfOk result (λ key. key.items ≡ json_key path.now (typed_key value_type number)) }
-    ensures only { IfErr result (λ e. e ≡ Fault.OutOfMemory) }
+    ensures only { OnlyMemory result }
 {
     let mut key = Vec::from_slice(alloc, path.as_bytes())?;
     key.push(JSON_END_OF_PATH)?;
@@ -66,8 +67,8 @@ impl<A: TextAnalyzer> LeafSink for LeafIndexer<'_, A> {
     ghost use Rattle.std.specs.List.{flat_map};
     ghost use Rattle.ii_base.specs.declared.schema.value_type.ValueType.TheVariants.{Json};
     ghost use Rattle.ii_docset.specs.declared.docset.TheConstants.{TERMINATED};
-    ghost use Rattle.ii_index.specs.Fields.{option_of};
-    ghost use Rattle.ii_index.specs.Tokens.{leaf_pieces};
+    ghost use Rattle.ii_definitions.specs.Fields.{option_of};
+    ghost use Rattle.ii_definitions.specs.Tokens.{leaf_pieces};
     ghost use Rattle.ii_indexing.specs.IndexCalls.{Takes};
     ghost use Rattle.ii_indexing.specs.Indexer.{EndsAt, LeafConstant, LeafGiven, StoresPieces};
     ghost use Rattle.ii_indexing.specs.OpenDocuments.{with_norms};
@@ -121,12 +122,12 @@ pub(crate) fn index_json_value<A: TextAnalyzer>(
     requires low { doc < TERMINATED }
     requires known { field < length fields.old.indexed.writers }
     requires ends { EndsAt doc fields.old }
-    ensures stored { OnOk result ((entries : List Entry) (ps : List Piece) → Takes entries field Json → StoresPieces entries fields.old ps
+    ensures stored { OnOk result ((entries : List SchemaEntry) (ps : List Piece) → Takes entries field Json → StoresPieces entries fields.old ps
         → StoresPieces entries fields.new (ps ++ flat_map (leaf_pieces (A.words analyzer.now) doc field) (json_leaves expand_dots (json_of value.now)))) }
     ensures ends { OnOk result (EndsAt doc fields.new) }
     ensures fields { OnOk result (length fields.new.indexed.writers ≡ length fields.old.indexed.writers) }
     ensures norms { OnOk result (with_norms fields.new.opened.norms ≡ with_norms fields.old.opened.norms) }
-    ensures refused { (entries : List Entry) (ps : List Piece) → Takes entries field Json → StoresPieces entries fields.old ps
+    ensures refused { (entries : List SchemaEntry) (ps : List Piece) → Takes entries field Json → StoresPieces entries fields.old ps
         → IsRefusedBy (leaves_fault (next_leaf_fault (A.words analyzer.now) (option_of entries field) ps doc field) [] (json_leaves expand_dots (json_of value.now))) result }
 {
     let mut writer = JsonPathWriter::new(alloc);

@@ -1,10 +1,11 @@
-ghost use Rattle.std.specs.Prelude.{◌≡◌, ◌<◌, ◌≤◌, ◌^◌, [], List, length, map, slice_get, slice_set, Some, IfErr, IfOk, OnErr, OnOk};
-ghost use Rattle.ii_base.specs.Schema.{Entry, keeps_norms};
+ghost use Rattle.std.specs.Prelude.{◌≡◌, ◌<◌, ◌≤◌, ◌^◌, [], List, length, map, slice_get, slice_set, Some, IfOk, OnErr, OnOk};
+ghost use Rattle.ii_base.specs.Schema.{SchemaEntry, keeps_norms};
 ghost use Rattle.ii_io.specs.Composite.{composite, written_composite};
+ghost use Rattle.ii_io.specs.Faults.{OnlyMemory};
 ghost use Rattle.ii_docset.specs.declared.docset.TheConstants.{TERMINATED};
 ghost use Rattle.ii_fieldnorm.specs.Buffers.{empty_buffers, norm_bodies};
-ghost use Rattle.ii_index.specs.Norms.{HoldNorms};
-ghost use Rattle.ii_index.specs.Tokens.{IndexToken, Piece};
+ghost use Rattle.ii_definitions.specs.Norms.{HoldNorms};
+ghost use Rattle.ii_definitions.specs.Tokens.{IndexToken, Piece};
 ghost use Rattle.ii_indexing.specs.declared.open_documents.OpenDocument.{OpenDocument};
 ghost use Rattle.ii_indexing.specs.OpenDocuments.{AreBehind, AreClosed, ReachTo, TellsAll, empty_document, document_at, with_norms};
 
@@ -45,9 +46,9 @@ impl Model for OpenDocuments {
 impl OpenDocuments {
     // Document 0 of each field, with no tokens.
     pub(crate) fn new(alloc: Global, schema: &Schema) -> Result<OpenDocuments, Fault>
-        ensures ok { IfOk result (λ d. d ≡ record { documents = map (λ (e : Entry). empty_document 0) schema.now; norms = empty_buffers schema.now }) }
+        ensures ok { IfOk result (λ d. d ≡ record { documents = map (λ (e : SchemaEntry). empty_document 0) schema.now; norms = empty_buffers schema.now }) }
         ensures few { IfOk result (λ d. length schema.now < 2 ^ 32) }
-        ensures only { IfErr result (λ e. e ≡ Fault.OutOfMemory) }
+        ensures only { OnlyMemory result }
     {
         let mut documents = Vec::with_capacity(alloc, schema.num_fields())?;
         for (_field, _entry) in schema.fields() {
@@ -74,7 +75,7 @@ impl OpenDocuments {
         ensures reach { OnOk result (ReachTo doc self.new) }
         ensures fields { OnOk result (length self.new.documents ≡ length self.old.documents) }
         ensures norms { OnOk result (with_norms self.new.norms ≡ with_norms self.old.norms) }
-        ensures only { IfErr result (λ e. e ≡ Fault.OutOfMemory) }
+        ensures only { OnlyMemory result }
     {
         let index = field.field_id() as usize;
         let last = self.documents[index];
@@ -106,9 +107,9 @@ impl OpenDocuments {
         requires docs { num_docs ≤ TERMINATED }
         requires few { length self.norms < 2 ^ 32 }
         requires fields { length self.documents ≡ length self.norms }
-        ensures holds { IfOk result (λ bytes. (entries : List Entry) (ps : List Piece) (ts : List IndexToken) → with_norms self.norms ≡ map keeps_norms entries → TellsAll ps ts self
+        ensures holds { IfOk result (λ bytes. (entries : List SchemaEntry) (ps : List Piece) (ts : List IndexToken) → with_norms self.norms ≡ map keeps_norms entries → TellsAll ps ts self
             → HoldNorms entries num_docs bytes ts) }
-        ensures only { IfErr result (λ e. e ≡ Fault.OutOfMemory) }
+        ensures only { OnlyMemory result }
     {
         let OpenDocuments { documents, norms } = self;
         let mut norms = norms;
@@ -124,7 +125,7 @@ fn close_documents(documents: &[OpenDocument], norms: &mut FieldNormsWriter) -> 
     requires few { length documents.now < 2 ^ 32 }
     ensures ok { OnOk result (AreClosed documents.now norms.old norms.new) }
     ensures norms { OnOk result (with_norms norms.new ≡ with_norms norms.old) }
-    ensures only { IfErr result (λ e. e ≡ Fault.OutOfMemory) }
+    ensures only { OnlyMemory result }
 {
     for place in 0..documents.len() {
         let document = documents[place];
@@ -140,7 +141,7 @@ fn norms_file(alloc: Global, norms: &FieldNormsWriter) -> Result<Bytes, Fault>
     requires small { length (written_composite (norm_bodies norms.now)) < 2 ^ 64 }
     ensures written { IfOk result (λ bytes. bytes ≡ written_composite (norm_bodies norms.now)) }
     ensures reads { IfOk result (λ bytes. composite bytes ≡ Some (norm_bodies norms.now)) }
-    ensures only { IfErr result (λ e. e ≡ Fault.OutOfMemory) }
+    ensures only { OnlyMemory result }
 {
     let writer = CountingWriter::wrap(Vec::new(alloc));
     let (writer, written) = norms.serialize(FieldNormsSerializer::from_write(alloc, writer));

@@ -1,5 +1,6 @@
-ghost use Rattle.std.specs.Prelude.{◌≡◌, ◌<◌, List, ℕ, bytes_eq, if◌then◌else◌, length, map, slice_get, slice_set, Some, IfErr, IfOk, OnOk};
-ghost use Rattle.ii_base.specs.Schema.{Entry};
+ghost use Rattle.std.specs.Prelude.{◌≡◌, ◌<◌, List, ℕ, bytes_eq, if◌then◌else◌, length, map, slice_get, slice_set, Some, IfOk, OnOk};
+ghost use Rattle.ii_io.specs.Faults.{OnlyMemory};
+ghost use Rattle.ii_base.specs.Schema.{SchemaEntry};
 ghost use Rattle.ii_indexing.specs.OpenPaths.{OpenPathsState, PutsPosition, no_paths, opened_path, position_under};
 
 use crate::indexing_positions_per_path::IndexingPositionsPerPath;
@@ -61,7 +62,7 @@ impl FieldPaths {
     ) -> Result<(), Fault>
         ensures doc { OnOk result (self.new.doc ≡ self.old.doc) }
         ensures ok { OnOk result ((other : List ℕ) → position_under other self.new.positions ≡ (if bytes_eq prefix.now other then position else position_under other self.old.positions)) }
-        ensures only { IfErr result (λ e. e ≡ Fault.OutOfMemory) }
+        ensures only { OnlyMemory result }
     {
         self.positions.put(alloc, prefix, position)
     }
@@ -85,8 +86,8 @@ impl Model for OpenPaths {
 impl OpenPaths {
     // Document 0 of each field, with no texts.
     pub(crate) fn new(alloc: Global, schema: &Schema) -> Result<OpenPaths, Fault>
-        ensures ok { IfOk result (λ paths. paths ≡ map (λ (e : Entry). no_paths) schema.now) }
-        ensures only { IfErr result (λ e. e ≡ Fault.OutOfMemory) }
+        ensures ok { IfOk result (λ paths. paths ≡ map (λ (e : SchemaEntry). no_paths) schema.now) }
+        ensures only { OnlyMemory result }
     {
         let mut fields = Vec::with_capacity(alloc, schema.num_fields())?;
         for (_field, _entry) in schema.fields() {
@@ -116,7 +117,7 @@ impl OpenPaths {
     ) -> Result<(), Fault>
         requires known { field < length self.old }
         ensures ok { OnOk result ((o : OpenPathsState) → slice_get self.old field ≡ Some o → PutsPosition field prefix.now position self.old self.new o) }
-        ensures only { IfErr result (λ e. e ≡ Fault.OutOfMemory) }
+        ensures only { OnlyMemory result }
     {
         self.fields[field.field_id() as usize].put(alloc, prefix, position)
     }

@@ -1,5 +1,5 @@
 -- Faults and their numbers.
-use Rattle.std.specs.Prelude.{ℕ}
+use Rattle.std.specs.Prelude.{◌≡◌, ℕ, IfErr, Result}
 use Rattle.ii_io.specs.declared.faults.Fault.{Fault}
 use Rattle.ii_io.specs.declared.faults.Fault.TheVariants.{OutOfMemory, Write, SerializerClosed, IndexerFailed, UnsupportedLeaf, DecreasingPosition, Limit}
 use Rattle.ii_io.specs.declared.faults.Fault as fault
@@ -31,3 +31,7 @@ memory_fault (UnsupportedLeaf kind) = UnsupportedLeaf kind
 memory_fault DecreasingPosition = DecreasingPosition
 memory_fault (Limit name) = Limit name
 memory_fault (fault.TheVariants.Damaged part) = fault.TheVariants.Damaged part
+
+-- A call is refused for want of memory alone.
+abbrev pub OnlyMemory : {A : Type 0} → Result A Fault → Type 0
+OnlyMemory result = IfErr result (λ e. e ≡ OutOfMemory)

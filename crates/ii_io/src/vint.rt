@@ -1,5 +1,6 @@
-ghost use Rattle.std.specs.Prelude.{◌≡◌, ◌+◌, ◌^◌, ◌<◌, ◌≤◌, ◌++◌, length, take, drop, IfErr, IfSome, IsSome, OnErr, OnOk, Some};
+ghost use Rattle.std.specs.Prelude.{◌≡◌, ◌+◌, ◌^◌, ◌<◌, ◌≤◌, ◌++◌, length, take, drop, IfSome, IsSome, OnErr, OnOk, Some};
 ghost use Rattle.std.specs.Option.{option_map};
+ghost use Rattle.ii_io.specs.Faults.{OnlyMemory};
 ghost use Rattle.ii_io.specs.Vints.{u32_at, u64_at, vint_at, vint_u32, vint_u64, ReadsWhatIsSpelled, SpellsInFewest};
 
 use super::counting_writer::CountingWriter;
@@ -110,7 +111,7 @@ pub fn write_u64(value: u64, output: &mut [u8], start: usize) -> usize
 pub fn write_u32_vint(value: u32, output: &mut Vec<u8>) -> Result<(), Fault>
     ensures ok { OnOk result (output.new.items ≡ output.old.items ++ vint_u32 value) }
     ensures err { OnErr result (output.new.items ≡ output.old.items) }
-    ensures only { IfErr result (λ e. e ≡ Fault.OutOfMemory) }
+    ensures only { OnlyMemory result }
 {
     if value < 128 {
         output.push(value as u8 + 128)?;

@@ -17,7 +17,7 @@ use Rattle.std.proofs.lemmas.Map.Keys.{IsDistinct-IsPermutation, IsDistinct-head
 use Rattle.std.proofs.lemmas.Map.Text.{is_eq-slice_cmp}
 use Rattle.std.proofs.lemmas.Simd.{map-map}
 use Rattle.std.proofs.Math.Seq.{take-suc}
-use Rattle.ii_json.specs.PathRank.{AreAscending, StandAtRanks, is_smaller, path_rank, path_ranks}
+use Rattle.ii_json.specs.PathRank.{AreAscendingPaths, StandAtRanks, is_smaller, path_rank, path_ranks}
 use Rattle.ii_json.specs.Paths.{AreDistinct}
 
 count_more : {X : Type 0} (p : X → Bool) (x : X) (xs : List X) → count_by p (x ∷ xs) ≡ cond (p x) 1 0 + count_by p xs
@@ -59,7 +59,7 @@ module _ {K L : Type 0} (e : L → L → Bool) (f : K → L) where
   distinct_parts (k ∷ ks) distinct = (apart_each k ks distinct.0, distinct_parts ks distinct.1)
 
 pub sorted_ascends : {K : Type 0} (f : K → List ℕ) (known : List (List ℕ)) (ks ls : List K) → map f ks ≡ known → AreDistinct known → IsPermutation ks ls
-    → IsSorted (λ (x y : K). order (f x) (f y)) ls → AreAscending (map f ls)
+    → IsSorted (λ (x y : K). order (f x) (f y)) ls → AreAscendingPaths (map f ls)
 sorted_ascends {K} f known ks ls are distinct moved sorted =
     let parts = distinct_parts bytes_eq f ks (subst AreDistinct (sym are) distinct) in
     let flips : (x y : K) → bytes_eq (f x) (f y) ≡ bytes_eq (f y) (f x) = λ x y. nat_list_eq_equiv.symm (f x) (f y) in
@@ -101,7 +101,7 @@ at_place P [] all i d within = absurd (omega (arith, within))
 at_place P (x ∷ xs) all zero d within = all.0
 at_place P (x ∷ xs) all (suc i) d within = at_place P xs all.1 i d (omega (arith, within))
 
-rank_at : (paths : List (List ℕ)) → AreAscending paths → (i : ℕ) (d : List ℕ) → i < length paths → path_rank paths (get_or paths i d) ≡ i
+rank_at : (paths : List (List ℕ)) → AreAscendingPaths paths → (i : ℕ) (d : List ℕ) → i < length paths → path_rank paths (get_or paths i d) ≡ i
 unfolding IsStrictlySortedBy
 rank_at [] sorted i d within = absurd (omega (arith, within))
 rank_at (path ∷ paths) sorted zero d within = rw (not_below_itself path) (none_smaller path paths sorted.0)
@@ -115,7 +115,7 @@ pub rank_moved : (known paths : List (List ℕ)) (path : List ℕ) → IsPermuta
 rank_moved known paths path moved = sum_by-IsPermutation (λ (other : List ℕ). cond (is_smaller other path) 1 0) known paths moved
 
 -- a path among ascending ones stands at its rank
-module _ (paths : List (List ℕ)) (sorted : AreAscending paths) (path : List ℕ) (among : Contains paths path) where
+module _ (paths : List (List ℕ)) (sorted : AreAscendingPaths paths) (path : List ℕ) (among : Contains paths path) where
   rank_is : path_rank paths path ≡ among.0
   rank_is = ap (path_rank paths) (sym among.2) ∙ rank_at paths sorted among.0 path among.1
 
@@ -135,7 +135,7 @@ kept_by g [] same = refl
 kept_by g (x ∷ xs) same =
     ap (λ (y : _). y ∷ map g xs) (same x (0, omega (arith), refl)) ∙ ap (λ (ys : List _). x ∷ ys) (kept_by g xs (λ y among. same y (suc among.0, omega (arith, among.1), among.2)))
 
-pub stand_at_ranks : (known paths : List (List ℕ)) → IsPermutation known paths → AreAscending paths → StandAtRanks known paths
+pub stand_at_ranks : (known paths : List (List ℕ)) → IsPermutation known paths → AreAscendingPaths paths → StandAtRanks known paths
 stand_at_ranks known paths moved sorted = kept_by (λ (path : List ℕ). get_or paths (path_rank known path) []) known each
   where
     each : (path : List ℕ) → Contains known path → get_or paths (path_rank known path) [] ≡ path
@@ -146,7 +146,7 @@ stand_at_ranks known paths moved sorted = kept_by (λ (path : List ℕ). get_or 
         ∙ stands paths sorted path there
 
 -- the ranks of known paths are the numbers below their number, in some order
-in_order : (paths : List (List ℕ)) → AreAscending paths → path_ranks paths ≡ range_with_len 0 (length paths)
+in_order : (paths : List (List ℕ)) → AreAscendingPaths paths → path_ranks paths ≡ range_with_len 0 (length paths)
 in_order paths sorted =
     ext_get_or 0 (path_ranks paths) (range_with_len 0 (length paths)) (length-map paths (path_rank paths) ∙ sym (length-range_with_len 0 (length paths)))
     (λ i within. let inside : i < length paths = omega (arith, within, length-map paths (path_rank paths)) in
@@ -156,7 +156,7 @@ same_ranks : (known paths qs : List (List ℕ)) → IsPermutation known paths �
 same_ranks known paths [] moved = refl
 same_ranks known paths (q ∷ qs) moved = ap (λ (n : ℕ). n ∷ map (path_rank known) qs) (sym (rank_moved known paths q moved)) ∙ ap (λ (ns : List ℕ). path_rank paths q ∷ ns) (same_ranks known paths qs moved)
 
-pub ranks_permute : (known paths : List (List ℕ)) → IsPermutation known paths → AreAscending paths → IsPermutation (range_with_len 0 (length known)) (path_ranks known)
+pub ranks_permute : (known paths : List (List ℕ)) → IsPermutation known paths → AreAscendingPaths paths → IsPermutation (range_with_len 0 (length known)) (path_ranks known)
 ranks_permute known paths moved sorted =
     let ranks = IsPermutation-map (path_rank known) known paths moved in
     let numbers : map (path_rank known) paths ≡ range_with_len 0 (length known) = same_ranks known paths paths moved ∙ in_order paths sorted ∙ ap (range_with_len 0) (length_permutation known paths moved) in
@@ -180,7 +180,7 @@ pub rank_at_point : {X : Type 0} (f : X → List ℕ) (path : List ℕ) (xs : Li
     → IsPartitionPoint (λ (x : X). is_smaller (f x) path ≡ true) (λ (x : X). is_smaller (f x) path ≡ false) xs i → i ≡ path_rank (map f xs) path
 rank_at_point {X} f path xs i within parted = sym (count_at (λ (x : X). is_smaller (f x) path) xs i within parted) ∙ count_mapped f path xs
 
-pub parted_by : {X : Type 0} (f : X → List ℕ) (path : List ℕ) (xs : List X) → AreAscending (map f xs) → IsPartitionedBy (λ (x : X). is_smaller (f x) path) xs
+pub parted_by : {X : Type 0} (f : X → List ℕ) (path : List ℕ) (xs : List X) → AreAscendingPaths (map f xs) → IsPartitionedBy (λ (x : X). is_smaller (f x) path) xs
 parted_by f path xs sorted i j d low within later = by_case (cases_eq i j)
   where
     by_case : (i ≡ j) ⊎ (i ≡ j → ⊥) → is_smaller (f (get_or xs i d)) path ≡ true
@@ -192,7 +192,7 @@ parted_by f path xs sorted i j d low within later = by_case (cases_eq i j)
         smaller (f (get_or xs i d)) path (nat_list_cmp_total.trans (f (get_or xs i d)) (f (get_or xs j d)) path first (less_from (order (f (get_or xs j d)) path) later))
 
 -- a path that is known has an id of 32 bits
-pub rank_fits : (paths : List (List ℕ)) (path : List ℕ) (place : ℕ) → AreAscending paths → Contains paths path → length paths ≤ 2 ^ 32 → place ≡ path_rank paths path → place < 2 ^ 32
+pub rank_fits : (paths : List (List ℕ)) (path : List ℕ) (place : ℕ) → AreAscendingPaths paths → Contains paths path → length paths ≤ 2 ^ 32 → place ≡ path_rank paths path → place < 2 ^ 32
 rank_fits paths path place sorted among few is = omega (arith, rank_within paths sorted path among, few, is)
 
 pub among_sorted : {K : Type 0} (f : K → List ℕ) (keys : List K) (known paths : List (List ℕ)) (i : ℕ) (k : K) → map f keys ≡ known → IsPermutation known paths → i < length keys → k ≡ get_or keys i k → Contains paths (f k)

@@ -18,8 +18,8 @@ abbrev pub path_ranks : List (List ℕ) → List ℕ
 path_ranks known = map (path_rank known) known
 
 -- Each path is smaller than all that follow.
-abbrev pub AreAscending : List (List ℕ) → Type 0
-AreAscending paths = IsStrictlySortedBy (slice_cmp nat_cmp) paths
+abbrev pub AreAscendingPaths : List (List ℕ) → Type 0
+AreAscendingPaths paths = IsStrictlySortedBy (slice_cmp nat_cmp) paths
 
 -- Each known path stands at the place of its rank.
 abbrev pub StandAtRanks : List (List ℕ) → List (List ℕ) → Type 0

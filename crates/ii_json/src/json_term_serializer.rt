@@ -1,5 +1,6 @@
-ghost use Rattle.std.specs.Prelude.{◌≡◌, ◌++◌, [], length, take, IfErr, IfOk, OnErr, OnOk};
+ghost use Rattle.std.specs.Prelude.{◌≡◌, ◌++◌, [], length, take, IfOk, OnErr, OnOk};
 ghost use Rattle.std.specs.Borrow.{sem};
+ghost use Rattle.ii_io.specs.Faults.{OnlyMemory};
 ghost use Rattle.ii_json.specs.JsonTerms.{written_byte, written_path};
 ghost use Rattle.ii_json.specs.Lending.{RestsWith};
 
@@ -42,7 +43,7 @@ impl JsonTermSerializer {
     pub fn append_json_path(&mut self, path: &str) -> Result<(), Fault>
         ensures ok { OnOk result (self.new ≡ self.old ++ written_path path.now) }
         ensures err { OnErr result (self.new ≡ self.old) }
-        ensures only { IfErr result (λ e. e ≡ Fault.OutOfMemory) }
+        ensures only { OnlyMemory result }
     {
         let len = self.bytes.len();
         if let Err(refused) = push_path(&mut self.bytes, path.as_bytes()) {
@@ -57,7 +58,7 @@ impl JsonTermSerializer {
     pub fn append_bytes(&mut self, bytes: &[u8]) -> Result<&[u8], Fault>
         ensures* rests { sem 𝓛 (RestsWith self.entry bytes.entry.now result) }
         ensures ok { IfOk result (λ added. added.now ≡ bytes.entry.now) }
-        ensures only { IfErr result (λ e. e ≡ Fault.OutOfMemory) }
+        ensures only { OnlyMemory result }
     {
         let len = self.bytes.len();
         self.bytes.extend_from_slice(bytes)?;
@@ -97,7 +98,7 @@ impl JsonTermSerializer {
 fn push_path(bytes: &mut Vec<u8>, path: &[u8]) -> Result<(), Fault>
     ensures ok { OnOk result (bytes.new.items ≡ bytes.old.items ++ written_path path.now) }
     ensures err { OnErr result (take (length bytes.old.items) bytes.new.items ≡ bytes.old.items) }
-    ensures only { IfErr result (λ e. e ≡ Fault.OutOfMemory) }
+    ensures only { OnlyMemory result }
 {
     for byte in path {
         bytes.push(written_byte(*byte))?;

@@ -1,5 +1,6 @@
-ghost use Rattle.std.specs.Prelude.{◌≡◌, string_bytes, IfErr, IfOk, None, Ok, OnErr, OnOk, Some};
+ghost use Rattle.std.specs.Prelude.{◌≡◌, string_bytes, IfOk, None, Ok, OnErr, OnOk, Some};
 ghost use Rattle.std.specs.Option.{option_map};
+ghost use Rattle.ii_io.specs.Faults.{OnlyMemory};
 ghost use Rattle.ii_json.specs.DottedPaths.{dot_between, with_dots};
 ghost use Rattle.ii_json.specs.FastValues.{IsPathAlone, bool_in, fast_value_in, i64_in, typed_value, u64_in, with_value};
 
@@ -16,7 +17,7 @@ const DOT: char = '.';
 pub fn json_path_sep_to_dot(path: &mut String) -> Result<(), Fault>
     ensures ok { OnOk result (string_bytes path.new ≡ with_dots (string_bytes path.old)) }
     ensures err { OnErr result (string_bytes path.new ≡ string_bytes path.old) }
-    ensures only { IfErr result (λ e. e ≡ Fault.OutOfMemory) }
+    ensures only { OnlyMemory result }
 {
     let mut dotted = String::with_capacity(*path.allocator(), path.len())?;
     for character in path.chars() {
@@ -48,7 +49,7 @@ pub fn convert_to_fast_value_and_append_to_json_term(
     requires { IsPathAlone term.now.value }
     ensures ok { IfOk result (λ converted. converted ≡ option_map (with_value term.now) (fast_value_in phrase.now)) }
     ensures none { fast_value_in phrase.now ≡ None → result ≡ Ok None }
-    ensures only { IfErr result (λ e. e ≡ Fault.OutOfMemory) }
+    ensures only { OnlyMemory result }
 {
     if let Some(number) = i64_in(phrase) {
         return Ok(Some(with_fast_value(alloc, term, number)?));
@@ -84,7 +85,7 @@ fn bool_in(text: &str) -> Option<bool>
 // The term with a value behind its bytes.
 fn with_fast_value<T: FastValue>(alloc: Global, term: &Term, value: T) -> Result<Term, Fault>
     ensures ok { IfOk result (λ more. more ≡ with_value term.now (typed_value T.type_of_values (T.number value))) }
-    ensures only { IfErr result (λ e. e ≡ Fault.OutOfMemory) }
+    ensures only { OnlyMemory result }
 {
     let mut more = Term::from_field_bytes(alloc, term.field(), term.serialized_value_bytes())?;
     more.append_type_and_fast_value(value)?;

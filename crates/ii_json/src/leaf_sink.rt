@@ -1,4 +1,5 @@
-ghost use Rattle.std.specs.Prelude.{◌≡◌, ◌++◌, ◌∷◌, [], List, ℕ, true, false, Option, IfErr, OnErr, OnOk};
+ghost use Rattle.std.specs.Prelude.{◌≡◌, ◌++◌, ◌∷◌, [], List, ℕ, true, false, Option, OnErr, OnOk};
+ghost use Rattle.ii_io.specs.Faults.{OnlyMemory};
 ghost use Rattle.ii_io.specs.declared.faults.Fault.{Fault};
 ghost use Rattle.ii_base.specs.Json.{json_of, Leaf, leaf_of};
 ghost use Rattle.ii_base.specs.Paths.{has_zero, joined_segments, segment_bytes};
@@ -120,7 +121,7 @@ fn push_key(writer: &mut JsonPathWriter, key: &str) -> Result<(), Fault>
     ensures path { OnOk result (has_zero (joined_segments writer.new.segments) ≡ false) }
     ensures ok { OnOk result (writer.new ≡ record writer.old { segments = writer.old.segments ++ segment_bytes writer.old.expand_dots key.now ∷ [] }) }
     ensures err { OnErr result (writer.new ≡ writer.old) }
-    ensures only { IfErr result (λ e. e ≡ Fault.OutOfMemory) }
+    ensures only { OnlyMemory result }
 {
     writer.push(key)
 }

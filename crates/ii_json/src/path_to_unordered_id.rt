@@ -1,7 +1,8 @@
-ghost use Rattle.std.specs.Prelude.{length, Contains, ◌≡◌, ◌⊎◌, ◌≤◌, ◌^◌, [], IsOk, IsTrue, IfErr, IfOk, MatchResult, None, false, OnErr, OnOk, Some};
+ghost use Rattle.std.specs.Prelude.{length, Contains, ◌≡◌, ◌⊎◌, ◌≤◌, ◌^◌, [], IsOk, IsTrue, IfOk, MatchResult, None, false, OnErr, OnOk, Some};
 ghost use Rattle.std.specs.List.{range_with_len};
 ghost use Rattle.std.specs.List.Sorted.{IsPermutation};
-ghost use Rattle.ii_json.specs.PathRank.{AreAscending, StandAtRanks, is_smaller, path_rank, path_ranks};
+ghost use Rattle.ii_io.specs.Faults.{OnlyMemory};
+ghost use Rattle.ii_json.specs.PathRank.{AreAscendingPaths, StandAtRanks, is_smaller, path_rank, path_ranks};
 ghost use Rattle.ii_json.specs.Paths.{AreDistinct, is_known, path_fault, path_id, texts_of, with_path};
 
 use ii_base::{Fault, LimitName};
@@ -120,7 +121,7 @@ impl PathToUnorderedId {
     pub fn unordered_id_to_ordered_id(&self, alloc: Global) -> Result<Vec<OrderedPathId>, Fault>
         ensures ranks { IfOk result (λ ids. ids.items ≡ path_ranks self.now) }
         ensures permutation { IfOk result (λ ids. IsPermutation (range_with_len 0 (length self.now)) ids.items) }
-        ensures only { IfErr result (λ e. e ≡ Fault.OutOfMemory) }
+        ensures only { OnlyMemory result }
     {
         let sorted = self.ordered_id_to_path(alloc)?;
         let mut ids = Vec::new(alloc);
@@ -133,10 +134,10 @@ impl PathToUnorderedId {
     /// The known paths in the order of their bytes: an ordered id is a place in it. `OutOfMemory` where
     /// there is no room for them.
     pub fn ordered_id_to_path(&self, alloc: Global) -> Result<Vec<&str>, Fault>
-        ensures ascending { IfOk result (λ paths. AreAscending (texts_of paths.items)) }
+        ensures ascending { IfOk result (λ paths. AreAscendingPaths (texts_of paths.items)) }
         ensures permutation { IfOk result (λ paths. IsPermutation self.entry.now (texts_of paths.items)) }
         ensures places { IfOk result (λ paths. StandAtRanks self.entry.now (texts_of paths.items)) }
-        ensures only { IfErr result (λ e. e ≡ Fault.OutOfMemory) }
+        ensures only { OnlyMemory result }
     {
         let mut paths = self.known_paths(alloc)?;
         paths.sort_unstable();
@@ -147,7 +148,7 @@ impl PathToUnorderedId {
     fn known_paths(&self, alloc: Global) -> Result<Vec<&str>, Fault>
         ensures ok { IfOk result (λ paths. texts_of paths.items ≡ self.entry.now) }
         ensures distinct { AreDistinct self.entry.now }
-        ensures only { IfErr result (λ e. e ≡ Fault.OutOfMemory) }
+        ensures only { OnlyMemory result }
     {
         let mut paths = Vec::new(alloc);
         for path in self.paths.as_slice() {
@@ -159,7 +160,7 @@ impl PathToUnorderedId {
 
 // The ordered id of one of some paths, which ascend.
 fn ordered_id_in(sorted: &[&str], path: &str) -> OrderedPathId
-    requires ascending { AreAscending (texts_of sorted.now) }
+    requires ascending { AreAscendingPaths (texts_of sorted.now) }
     requires known { Contains (texts_of sorted.now) path.now }
     requires few { length sorted.now ≤ 2 ^ 32 }
     ensures { result ≡ path_rank (texts_of sorted.now) path.now }

@@ -2,6 +2,7 @@
 use Rattle.std.proofs.Common.{◌≡◌, ℕ, zero, suc, ◌+◌, ◌*◌, ◌<◌, ◌≤◌, true, List, [], ◌∷◌, ◌++◌, length, take, drop, get_or, nat_le, nat_lt, refl, ap, ◌∙◌, arith}
 use Rattle.std.proofs.lemmas.Bool.{ltb-true, leb-true}
 use Rattle.std.proofs.lemmas.List.{get_or-take, get_or-drop, get_or_append_left, drop-append-le, take-append-le, length-take-le, length-drop}
+use Rattle.ii_docset.specs.declared.docset.TheConstants.{TERMINATED}
 use Rattle.ii_docset.specs.Entries.{ascend_from, are_documents}
 use Rattle.ii_docset.proofs.CursorLemmas.{and_parts}
 use Rattle.ii_codes.proofs.SortedVintLemmas.{falls_by}
@@ -9,12 +10,12 @@ use Rattle.ii_codes.specs.Sums.{DoNotFall}
 use Rattle.ii_layout.specs.Written.{block_of, last_before}
 use Rattle.ii_layout.specs.PostingsSerializer.{IsFullBlock}
 
-ascend_parts : (least d : ℕ) (ds : List ℕ) → ascend_from least (d ∷ ds) ≡ true → (least ≤ d) × (d < 2147483647) × (ascend_from (d + 1) ds ≡ true)
+ascend_parts : (least d : ℕ) (ds : List ℕ) → ascend_from least (d ∷ ds) ≡ true → (least ≤ d) × (d < TERMINATED) × (ascend_from (d + 1) ds ≡ true)
 ascend_parts least d ds h =
-    let parts = and_parts (nat_le least d) (nat_lt d 2147483647) (ascend_from (d + 1) ds) h in
-    (leb-true least d parts.0, ltb-true d 2147483647 parts.1, parts.2)
+    let parts = and_parts (nat_le least d) (nat_lt d TERMINATED) (ascend_from (d + 1) ds) h in
+    (leb-true least d parts.0, ltb-true d TERMINATED parts.1, parts.2)
 
-ascend_low : (least : ℕ) (docs : List ℕ) (k : ℕ) → ascend_from least docs ≡ true → k < length docs → get_or docs k 0 < 2147483647
+ascend_low : (least : ℕ) (docs : List ℕ) (k : ℕ) → ascend_from least docs ≡ true → k < length docs → get_or docs k 0 < TERMINATED
 ascend_low least [] k h within = absurd (omega arith)
 ascend_low least (d ∷ ds) zero h within = (ascend_parts least d ds h).1
 ascend_low least (d ∷ ds) (suc k) h within = ascend_low (d + 1) ds k (ascend_parts least d ds h).2 (omega arith)
@@ -28,7 +29,7 @@ ascend_more least (d ∷ e ∷ ds) zero h within =
 ascend_more least (d ∷ e ∷ ds) (suc k) h within = ascend_more (d + 1) (e ∷ ds) k (ascend_parts least d (e ∷ ds) h).2 (omega arith)
 
 -- each document is below the end, and below the next one
-pub document_low : (docs : List ℕ) (k : ℕ) → are_documents docs ≡ true → k < length docs → get_or docs k 0 < 2147483647
+pub document_low : (docs : List ℕ) (k : ℕ) → are_documents docs ≡ true → k < length docs → get_or docs k 0 < TERMINATED
 document_low docs k h within = ascend_low 0 docs k h within
 
 pub document_more : (docs : List ℕ) (j k : ℕ) → k ≡ j + 1 → are_documents docs ≡ true → k < length docs → get_or docs j 0 < get_or docs k 0

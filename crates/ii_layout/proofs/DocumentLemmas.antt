@@ -11,7 +11,7 @@ use Rattle.ii_codes.specs.Blocks.{sorted_block_at}
 use Rattle.ii_codes.proofs.LengthLemmas.{length-sorted_block_at, length-sorted_vints_at}
 use Rattle.ii_layout.specs.Each.{each}
 use Rattle.ii_layout.specs.SkipList.{SkipEntry, SkipList, block_place}
-use Rattle.ii_layout.specs.Documents.{entry_of, last_doc_before, block_docs, rest_docs, documents_at}
+use Rattle.ii_layout.specs.Documents.{skip_entry, last_doc_before, block_docs, rest_docs, documents_at}
 use Rattle.ii_layout.specs.Written.{block_of}
 
 -- What a row gives, each index of it gives.
@@ -106,24 +106,24 @@ last_block i blocks rest whole end few =
 -- What is known of a block that stands.
 pub record StandsBlock (skip : SkipList) (i : ℕ) (docs : List ℕ) : Type 0 where
   pub after : List ℕ
-  pub read : sorted_block_at (entry_of skip.entries i).strict_delta (last_doc_before skip.entries i) (entry_of skip.entries i).doc_num_bits (drop (block_place skip.entries i) skip.body) ≡ Some (docs, after)
-  pub last : get_or docs 127 0 ≡ (entry_of skip.entries i).last_doc
+  pub read : sorted_block_at (skip_entry skip.entries i).strict_delta (last_doc_before skip.entries i) (skip_entry skip.entries i).doc_num_bits (drop (block_place skip.entries i) skip.body) ≡ Some (docs, after)
+  pub last : get_or docs 127 0 ≡ (skip_entry skip.entries i).last_doc
 
 pub stands_block : (skip : SkipList) (i : ℕ) (docs : List ℕ) → block_docs skip i ≡ Some docs → StandsBlock skip i docs
 stands_block skip i docs e =
-    let found = step-some (sorted_block_at (entry_of skip.entries i).strict_delta (last_doc_before skip.entries i) (entry_of skip.entries i).doc_num_bits (drop (block_place skip.entries i) skip.body)) _ docs e in
-    let last = needs-some (eqb (get_or found.0.0 127 0) (entry_of skip.entries i).last_doc) _ docs found.2 in
+    let found = step-some (sorted_block_at (skip_entry skip.entries i).strict_delta (last_doc_before skip.entries i) (skip_entry skip.entries i).doc_num_bits (drop (block_place skip.entries i) skip.body)) _ docs e in
+    let last = needs-some (eqb (get_or found.0.0 127 0) (skip_entry skip.entries i).last_doc) _ docs found.2 in
     let same = some-same last.1 in
     record {
       after = found.0.1;
       read = found.1 ∙ ap (λ (d : List ℕ). Some (d, found.0.1)) same;
-      last = rw same at (eqb-true (get_or found.0.0 127 0) (entry_of skip.entries i).last_doc last.0);
+      last = rw same at (eqb-true (get_or found.0.0 127 0) (skip_entry skip.entries i).last_doc last.0);
     }
 
 pub block_stands : (skip : SkipList) (i : ℕ) (docs after : List ℕ)
-    → sorted_block_at (entry_of skip.entries i).strict_delta (last_doc_before skip.entries i) (entry_of skip.entries i).doc_num_bits (drop (block_place skip.entries i) skip.body) ≡ Some (docs, after)
-    → get_or docs 127 0 ≡ (entry_of skip.entries i).last_doc → block_docs skip i ≡ Some docs
-block_stands skip i docs after read last = rw (read, eq-eqb (get_or docs 127 0) (entry_of skip.entries i).last_doc last) refl
+    → sorted_block_at (skip_entry skip.entries i).strict_delta (last_doc_before skip.entries i) (skip_entry skip.entries i).doc_num_bits (drop (block_place skip.entries i) skip.body) ≡ Some (docs, after)
+    → get_or docs 127 0 ≡ (skip_entry skip.entries i).last_doc → block_docs skip i ≡ Some docs
+block_stands skip i docs after read last = rw (read, eq-eqb (get_or docs 127 0) (skip_entry skip.entries i).last_doc last) refl
 
 pub are_whole : (skip : SkipList) (n : ℕ) (blocks : List (List ℕ)) → each (block_docs skip) n ≡ Some blocks → AreWhole blocks
 are_whole skip n blocks e i h =

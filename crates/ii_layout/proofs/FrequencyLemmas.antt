@@ -17,7 +17,7 @@ use Rattle.ii_codes.specs.Blocks.{unsorted_block_at, unsorted_values}
 use Rattle.ii_codes.proofs.PackedLemmas.{length-entries_in}
 use Rattle.ii_layout.specs.Each.{each}
 use Rattle.ii_layout.specs.SkipList.{SkipEntry, SkipList, no_entry, block_place, tf_sum_before}
-use Rattle.ii_layout.specs.Documents.{entry_of}
+use Rattle.ii_layout.specs.Documents.{skip_entry}
 use Rattle.ii_layout.specs.Frequencies.{has_sum, block_freqs, freqs_at}
 use Rattle.ii_layout.specs.Written.{block_of}
 use Rattle.ii_layout.proofs.DocumentLemmas.{each_gives, AreWhole, length-concat, concat_block, last_block}
@@ -67,14 +67,14 @@ row_fits (suc n) bytes vs rest e =
 -- What is known of the counts of a block that stand.
 pub record StandFreqs (skip : SkipList) (i : ℕ) (freqs : List ℕ) : Type 0 where
   pub after : List ℕ
-  pub read : unsorted_block_at (entry_of skip.entries i).strict_delta (entry_of skip.entries i).tf_num_bits (drop (16 * (entry_of skip.entries i).doc_num_bits) (drop (block_place skip.entries i) skip.body)) ≡ Some (freqs, after)
-  pub sum_is : has_sum skip.skip_info (entry_of skip.entries i).tf_sum freqs ≡ true
+  pub read : unsorted_block_at (skip_entry skip.entries i).strict_delta (skip_entry skip.entries i).tf_num_bits (drop (16 * (skip_entry skip.entries i).doc_num_bits) (drop (block_place skip.entries i) skip.body)) ≡ Some (freqs, after)
+  pub sum_is : has_sum skip.skip_info (skip_entry skip.entries i).tf_sum freqs ≡ true
 
 stand_freqs : (skip : SkipList) (i : ℕ) (freqs : List ℕ) → block_freqs skip i ≡ Some freqs → StandFreqs skip i freqs
 stand_freqs skip i freqs e =
-    let found = step-some (unsorted_block_at (entry_of skip.entries i).strict_delta (entry_of skip.entries i).tf_num_bits (drop (16 * (entry_of skip.entries i).doc_num_bits) (drop (block_place skip.entries i) skip.body))) _ freqs e in
-    let sum = needs-some (has_sum skip.skip_info (entry_of skip.entries i).tf_sum found.0.0) _ freqs found.2 in
-    record { after = found.0.1; read = found.1 ∙ ap (λ (vs : List ℕ). Some (vs, found.0.1)) (some-same sum.1); sum_is = ap (has_sum skip.skip_info (entry_of skip.entries i).tf_sum) (sym (some-same sum.1)) ∙ sum.0 }
+    let found = step-some (unsorted_block_at (skip_entry skip.entries i).strict_delta (skip_entry skip.entries i).tf_num_bits (drop (16 * (skip_entry skip.entries i).doc_num_bits) (drop (block_place skip.entries i) skip.body))) _ freqs e in
+    let sum = needs-some (has_sum skip.skip_info (skip_entry skip.entries i).tf_sum found.0.0) _ freqs found.2 in
+    record { after = found.0.1; read = found.1 ∙ ap (λ (vs : List ℕ). Some (vs, found.0.1)) (some-same sum.1); sum_is = ap (has_sum skip.skip_info (skip_entry skip.entries i).tf_sum) (sym (some-same sum.1)) ∙ sum.0 }
 
 -- all rows have so many values of 32 bits
 abbrev AllFit : List (List ℕ) → Type 0
@@ -153,7 +153,7 @@ pub freqs_before : (skip : SkipList) (n i : ℕ) (after freqs : List ℕ) → fr
 freqs_before skip n zero after freqs e has within = refl
 freqs_before skip n (suc i) after freqs e has within =
     let earlier = freqs_before skip n i after freqs e has (omega arith) in
-    let here = told_sum skip.skip_info (entry_of skip.entries i).tf_sum (block_of freqs i) has (block_of_freqs skip n i after freqs e (omega arith)).sum_is in
+    let here = told_sum skip.skip_info (skip_entry skip.entries i).tf_sum (block_of freqs i) has (block_of_freqs skip n i after freqs e (omega arith)).sum_is in
     let next : suc i ≡ i + 1 = omega arith in
     let more = ap (tf_sum_before skip.entries) next ∙ sum_by_more (λ (e : SkipEntry). e.tf_sum) skip.entries i no_entry (omega arith) in
     let place : 128 * suc i ≡ 128 * i + 128 = omega arith in

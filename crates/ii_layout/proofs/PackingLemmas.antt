@@ -23,7 +23,7 @@ use Rattle.ii_codes.proofs.BlockLaws.{entries_from-le, length-entries_from}
 use Rattle.ii_codes.proofs.WidthLemmas.{least_width-least}
 use Rattle.ii_layout.specs.SkipList.{entry_size}
 use Rattle.ii_layout.specs.Written.{block_of, last_before, code_of_width, entry_of_block, freq_part, packed_freqs, rest_bytes, entry_bytes, block_bytes, skip_bytes}
-use Rattle.ii_layout.specs.PostingsSerializer.{CountedDocs, joined, written_of, KeptBlocks, kept_of, kept_more, AreWhole, ArePacked, IsOpenBlock, IsFullBlock, sized}
+use Rattle.ii_layout.specs.PostingsSerializer.{CountedDocs, joined, written_docs, KeptBlocks, kept_of, kept_more, AreWhole, ArePacked, IsOpenBlock, IsFullBlock, sized}
 use Rattle.ii_layout.proofs.BlockDocs.{full_block, rest_falls, block_of-append, last_before-append}
 use Rattle.ii_base.proofs.AsciiLemmas.{range_more}
 
@@ -204,7 +204,7 @@ in_parts skip_info term m =
     ++ rest_bytes skip_info (last_before term.docs m) (drop (128 * m) term.docs) (drop (128 * m) term.freqs)
 
 pub written_is : (skip_info : IndexRecordOption) (term rest : CountedDocs) (kept : KeptBlocks) → ArePacked skip_info term kept → IsOpenBlock skip_info rest
-    → written_of skip_info (joined term rest) ≡ sized kept.skip ++ kept.postings ++ rest_bytes skip_info kept.last_doc rest.docs rest.freqs
+    → written_docs skip_info (joined term rest) ≡ sized kept.skip ++ kept.postings ++ rest_bytes skip_info kept.last_doc rest.docs rest.freqs
 written_is skip_info term rest kept p r =
     let few = r.few in
     let even = p.whole.even in
@@ -223,7 +223,7 @@ written_is skip_info term rest kept p r =
 
 -- the parts that are written, by the bytes that calls lent
 pub written_lent : (skip_info : IndexRecordOption) (term rest : CountedDocs) (kept : KeptBlocks) (entries middle : List ℕ) → ArePacked skip_info term kept → IsOpenBlock skip_info rest
-    → entries ≡ kept.skip → middle ≡ kept.postings → written_of skip_info (joined term rest) ≡ sized entries ++ middle ++ rest_bytes skip_info kept.last_doc rest.docs rest.freqs
+    → entries ≡ kept.skip → middle ≡ kept.postings → written_docs skip_info (joined term rest) ≡ sized entries ++ middle ++ rest_bytes skip_info kept.last_doc rest.docs rest.freqs
 written_lent skip_info term rest kept entries middle p r entries_are middle_is =
     written_is skip_info term rest kept p r ∙ sym (λ j. sized (entries_are j) ++ middle_is j ++ rest_bytes skip_info kept.last_doc rest.docs rest.freqs)
 

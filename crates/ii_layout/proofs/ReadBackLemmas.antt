@@ -24,7 +24,7 @@ use Rattle.ii_codes.proofs.SortedVintLemmas.{reads_back, reads_unsorted_back}
 use Rattle.ii_codes.proofs.WidthLemmas.{least_width-least}
 use Rattle.ii_layout.specs.Each.{each}
 use Rattle.ii_layout.specs.SkipList.{SkipEntry, SkipList, no_entry, entry_at, entry_size, entries_at, skip_info_of, skip_list, block_size, block_place}
-use Rattle.ii_layout.specs.Documents.{entry_of, last_doc_before, block_docs, rest_docs, documents_at}
+use Rattle.ii_layout.specs.Documents.{skip_entry, last_doc_before, block_docs, rest_docs, documents_at}
 use Rattle.ii_layout.specs.Frequencies.{has_sum, block_freqs, freqs_at}
 use Rattle.ii_layout.specs.Written.{block_of, last_before, code_of_width, freq_part, packed_freqs, rest_freqs, entry_bytes, block_bytes, skip_bytes, AreFreqs}
 use Rattle.ii_layout.specs.PostingsSerializer.{IsFullBlock}
@@ -258,7 +258,7 @@ module _ (skip_info : IndexRecordOption) (docs freqs : List ℕ) where
   block_place-is : (n i : ℕ) → i ≤ n → block_place (entries n) i ≡ length (blocks i)
   block_place-is n i h = ap (sum_by block_size) (take-map-range_with_len (entry_for skip_info docs freqs) 0 n i h) ∙ place_is i
 
-  entry_of-is : (n i : ℕ) → i < n → entry_of (entries n) i ≡ entry_for skip_info docs freqs i
+  entry_of-is : (n i : ℕ) → i < n → skip_entry (entries n) i ≡ entry_for skip_info docs freqs i
   entry_of-is n i h = get_or-map-range_with_len (entry_for skip_info docs freqs) 0 n i i no_entry h (omega arith)
 
   last_doc_before-is : (n i : ℕ) → i ≤ n → last_doc_before (entries n) i ≡ last_before docs i

@@ -9,12 +9,13 @@ use Rattle.ii_base.specs.declared.schema.index_record_option.IndexRecordOption.{
 use Rattle.ii_layout.specs.declared.skip.BlockInfo.{BlockInfo}
 use Rattle.ii_layout.specs.declared.skip.BlockInfo.TheVariants.{VInt}
 use Rattle.ii_layout.specs.SkipList.{SkipEntry, no_entry, entry_at, entry_size, entries_at, block_size, block_place, tf_sum_before}
-use Rattle.ii_layout.specs.Documents.{entry_of, last_doc_before}
+use Rattle.ii_layout.specs.Documents.{skip_entry, last_doc_before}
 use Rattle.ii_layout.specs.SkipReader.{SkipReaderState, block_info_of, packed_size_of, tf_sum_of, reader_at}
 use Rattle.byteorder.specs.Endian.{little_number}
 use Rattle.ii_io.specs.Numbers.{little_endian, number_at}
 use Rattle.ii_io.specs.NumberLemmas.{number_at-some}
 use Rattle.ii_io.specs.StepLemmas.{some-same}
+use Rattle.ii_docset.specs.declared.docset.TheConstants.{TERMINATED}
 
 -- the number in the four bytes at the front
 pub number_front : (n : ℕ) (bytes : List ℕ) → n ≡ little_number 4 bytes → 4 ≤ length bytes → n ≡ little_endian (take 4 bytes)
@@ -26,12 +27,12 @@ number_front n bytes e h =
 
 -- what is summed up over the entries before a block, and with it
 sum_next : (size : SkipEntry → ℕ) (shape : IndexRecordOption) (blocks i : ℕ) (bytes : List ℕ) → i < blocks
-    → sum_by size (take (i + 1) (entries_at shape blocks bytes)) ≡ sum_by size (take i (entries_at shape blocks bytes)) + size (entry_of (entries_at shape blocks bytes) i)
+    → sum_by size (take (i + 1) (entries_at shape blocks bytes)) ≡ sum_by size (take i (entries_at shape blocks bytes)) + size (skip_entry (entries_at shape blocks bytes) i)
 sum_next size shape blocks i bytes h =
     let many = length-map-range_with_len (λ k. entry_at shape (drop (entry_size shape * k) bytes)) 0 blocks in
     sum_by_more size (entries_at shape blocks bytes) i no_entry (omega arith)
 
-before_next : (entries : List SkipEntry) (i : ℕ) → last_doc_before entries (i + 1) ≡ (entry_of entries i).last_doc
+before_next : (entries : List SkipEntry) (i : ℕ) → last_doc_before entries (i + 1) ≡ (skip_entry entries i).last_doc
 before_next entries i = let next : i + 1 ≡ suc i = omega arith in rw next refl
 
 -- What a reader knows at a full block, as it goes on past a block of that size and that sum of counts.
@@ -71,7 +72,7 @@ gone_on old size tf_sum last info read =
 
 -- to the documents after the full blocks
 pub advanced_rest : (old : SkipReaderState) (size tf_sum : ℕ) (entries : List SkipEntry) → Advances old size tf_sum entries → old.block + 1 ≡ old.doc_freq / 128
-    → gone_on old size tf_sum 2147483647 (VInt (old.doc_freq % 128)) old.entries_read ≡ reader_at old.skip_info old.doc_freq entries (min (old.block + 1) (old.doc_freq / 128 + 1))
+    → gone_on old size tf_sum TERMINATED (VInt (old.doc_freq % 128)) old.entries_read ≡ reader_at old.skip_info old.doc_freq entries (min (old.block + 1) (old.doc_freq / 128 + 1))
 advanced_rest old size tf_sum entries a e =
     let here : min (old.block + 1) (old.doc_freq / 128 + 1) ≡ old.block + 1 = omega arith in
     let none = le-ltb (old.block + 1) (old.doc_freq / 128) (omega arith) in
@@ -102,7 +103,7 @@ sum_of_all shape blocks i j bytes h k =
 
 pub advanced_end : (old : SkipReaderState) (bytes : List ℕ) → old ≡ reader_at old.skip_info old.doc_freq (entries_at old.skip_info (old.doc_freq / 128) bytes) old.block
     → old.doc_freq / 128 ≤ old.block → old.block ≤ old.doc_freq / 128 + 1
-    → record { skip_info = old.skip_info; doc_freq = old.doc_freq; block = old.doc_freq / 128 + 1; last_doc_in_block = 2147483647; last_doc_in_previous_block = old.last_doc_in_block; byte_offset = 18446744073709551615; position_offset = old.position_offset; block_info = VInt 0; entries_read = old.entries_read }
+    → record { skip_info = old.skip_info; doc_freq = old.doc_freq; block = old.doc_freq / 128 + 1; last_doc_in_block = TERMINATED; last_doc_in_previous_block = old.last_doc_in_block; byte_offset = 18446744073709551615; position_offset = old.position_offset; block_info = VInt 0; entries_read = old.entries_read }
     ≡ reader_at old.skip_info old.doc_freq (entries_at old.skip_info (old.doc_freq / 128) bytes) (min (old.block + 1) (old.doc_freq / 128 + 1))
 advanced_end old bytes same past within =
     let here : min (old.block + 1) (old.doc_freq / 128 + 1) ≡ old.doc_freq / 128 + 1 = omega arith in
@@ -118,8 +119,8 @@ advanced_end old bytes same past within =
 
 -- What a reader tells at a full block, at the block of vints, and after it.
 pub record AtFullBlock (reader : SkipReaderState) (entries : List SkipEntry) (i : ℕ) : Type 0 where
-  pub info : reader.block_info ≡ block_info_of (entry_of entries i)
-  pub last : reader.last_doc_in_block ≡ (entry_of entries i).last_doc
+  pub info : reader.block_info ≡ block_info_of (skip_entry entries i)
+  pub last : reader.last_doc_in_block ≡ (skip_entry entries i).last_doc
   pub before : reader.last_doc_in_previous_block ≡ last_doc_before entries i
   pub offset : reader.byte_offset ≡ block_place entries i
 
@@ -169,5 +170,5 @@ pub record IsSeeking (target : ℕ) (old now : SkipReaderState) (entries : List 
   pub at : now ≡ reader_at old.skip_info old.doc_freq entries now.block
   pub forward : old.block ≤ now.block
   pub within : now.block ≤ max old.block (old.doc_freq / 128)
-  pub passed : (j : ℕ) → old.block ≤ j → j < now.block → (entry_of entries j).last_doc < target
+  pub passed : (j : ℕ) → old.block ≤ j → j < now.block → (skip_entry entries j).last_doc < target
   pub moved_is : moved ≡ nat_lt old.block now.block

@@ -5,6 +5,7 @@ use Rattle.ii_base.specs.declared.schema.index_record_option.IndexRecordOption.T
 use Rattle.ii_io.specs.declared.faults.Part.TheVariants.{Skip, Documents, Frequencies}
 use Rattle.ii_io.specs.Numbers.{le_bytes}
 use Rattle.ii_io.specs.Vints.{vint_u32, vint_u64, u32_at, u64_at}
+use Rattle.ii_docset.specs.declared.docset.TheConstants.{TERMINATED}
 use Rattle.ii_codes.specs.Packed.{bits_in, entries_in, packed, unpacked, num_bits}
 use Rattle.ii_codes.specs.Blocks.{sorted_block_at, unsorted_block_at}
 use Rattle.ii_docset.specs.Entries.{document, counted}
@@ -97,13 +98,13 @@ unfolding entry_at
 row_walk = refl
 
 pub row_walk_end : reader_at WithFreqs 259 (entries_at WithFreqs 2 (1 ∷ 0 ∷ 0 ∷ 0 ∷ 0x42 ∷ 3 ∷ 0x0D ∷ 3 ∷ 5 ∷ 0 ∷ 0 ∷ 0 ∷ 0x45 ∷ 2 ∷ 8 ∷ 2 ∷ [])) 2
-    ≡ record { skip_info = WithFreqs; doc_freq = 259; block = 2; last_doc_in_block = 2147483647; last_doc_in_previous_block = 5; byte_offset = 192; position_offset = 0; block_info = VInt 3; entries_read = 2 }
+    ≡ record { skip_info = WithFreqs; doc_freq = 259; block = 2; last_doc_in_block = TERMINATED; last_doc_in_previous_block = 5; byte_offset = 192; position_offset = 0; block_info = VInt 3; entries_read = 2 }
 unfolding entry_at
 row_walk_end = refl
 
 -- after a block with 384 positions
 pub row_walk_positions : reader_at WithFreqsAndPositions 130 (entries_at WithFreqsAndPositions 1 (0x7F ∷ 0 ∷ 0 ∷ 0 ∷ 0x40 ∷ 2 ∷ 0x80 ∷ 1 ∷ 0 ∷ 0 ∷ 0 ∷ 0 ∷ [])) 1
-    ≡ record { skip_info = WithFreqsAndPositions; doc_freq = 130; block = 1; last_doc_in_block = 2147483647; last_doc_in_previous_block = 127; byte_offset = 32; position_offset = 384; block_info = VInt 2; entries_read = 1 }
+    ≡ record { skip_info = WithFreqsAndPositions; doc_freq = 130; block = 1; last_doc_in_block = TERMINATED; last_doc_in_previous_block = 127; byte_offset = 32; position_offset = 384; block_info = VInt 2; entries_read = 1 }
 unfolding entry_at
 row_walk_positions = refl
 

@@ -9,18 +9,18 @@ use Rattle.ii_layout.specs.Each.{each}
 use Rattle.ii_layout.specs.SkipList.{SkipEntry, SkipList, no_entry, block_place}
 
 -- the skip entry of block i
-abbrev pub entry_of : List SkipEntry → ℕ → SkipEntry
-entry_of entries i = slice_index_or entries i no_entry
+abbrev pub skip_entry : List SkipEntry → ℕ → SkipEntry
+skip_entry entries i = slice_index_or entries i no_entry
 
 -- the last document before block i, which is 0 where there is none
 abbrev pub last_doc_before : List SkipEntry → ℕ → ℕ
 last_doc_before entries zero = 0
-last_doc_before entries (suc i) = (entry_of entries i).last_doc
+last_doc_before entries (suc i) = (skip_entry entries i).last_doc
 
 -- the documents of block i, the last of which its entry names
 abbrev pub block_docs : SkipList → ℕ → Option (List ℕ)
 block_docs skip i = do
-  let e = entry_of skip.entries i
+  let e = skip_entry skip.entries i
   found ← sorted_block_at e.strict_delta (last_doc_before skip.entries i) e.doc_num_bits (drop (block_place skip.entries i) skip.body)
   _ ← needs (slice_index found.0 127 == e.last_doc)
   Some found.0

@@ -9,7 +9,7 @@ use Rattle.ii_base.specs.Options.{has_freq}
 use Rattle.ii_codes.specs.Blocks.{unsorted_block_at}
 use Rattle.ii_layout.specs.Each.{each}
 use Rattle.ii_layout.specs.SkipList.{SkipList, block_place}
-use Rattle.ii_layout.specs.Documents.{entry_of}
+use Rattle.ii_layout.specs.Documents.{skip_entry}
 
 -- where entries have the sum of a block's counts, it is this one
 abbrev pub has_sum : IndexRecordOption → ℕ → List ℕ → Bool
@@ -20,7 +20,7 @@ has_sum WithFreqsAndPositions tf_sum freqs = sum freqs == tf_sum
 -- the counts of block i, after its documents
 abbrev pub block_freqs : SkipList → ℕ → Option (List ℕ)
 block_freqs skip i = do
-  let e = entry_of skip.entries i
+  let e = skip_entry skip.entries i
   found ← unsorted_block_at e.strict_delta e.tf_num_bits (drop (16 * e.doc_num_bits) (drop (block_place skip.entries i) skip.body))
   _ ← needs (has_sum skip.skip_info e.tf_sum found.0)
   Some found.0

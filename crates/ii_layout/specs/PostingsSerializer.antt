@@ -43,8 +43,8 @@ abbrev pub joined : CountedDocs → CountedDocs → CountedDocs
 joined a b = record { docs = a.docs ++ b.docs; freqs = a.freqs ++ b.freqs }
 
 -- what is written of them
-abbrev pub written_of : IndexRecordOption → CountedDocs → List ℕ
-written_of skip_info term = written_postings skip_info term.docs term.freqs
+abbrev pub written_docs : IndexRecordOption → CountedDocs → List ℕ
+written_docs skip_info term = written_postings skip_info term.docs term.freqs
 
 -- As which option the entries of the packed blocks stand, the documents of the blocks, and whether memory was refused.
 pub record PackedBlocksState : Type 0 where

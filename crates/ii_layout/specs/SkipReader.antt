@@ -5,7 +5,7 @@ use Rattle.ii_docset.specs.declared.docset.TheConstants.{TERMINATED}
 use Rattle.ii_layout.specs.declared.skip.BlockInfo.{BlockInfo}
 use Rattle.ii_layout.specs.declared.skip.BlockInfo.TheVariants.{BitPacked, VInt}
 use Rattle.ii_layout.specs.SkipList.{SkipEntry, block_place, tf_sum_before}
-use Rattle.ii_layout.specs.Documents.{entry_of, last_doc_before}
+use Rattle.ii_layout.specs.Documents.{skip_entry, last_doc_before}
 
 -- the count that a byte of a bound codes: the largest byte is any count
 abbrev pub max_tf_of_code : ℕ → ℕ
@@ -53,11 +53,11 @@ reader_at skip_info doc_freq entries i =
       skip_info = skip_info;
       doc_freq = doc_freq;
       block = i;
-      last_doc_in_block = if nat_lt i blocks then (entry_of entries i).last_doc else TERMINATED;
+      last_doc_in_block = if nat_lt i blocks then (skip_entry entries i).last_doc else TERMINATED;
       last_doc_in_previous_block = if nat_le i blocks then last_doc_before entries i else TERMINATED;
       byte_offset = if nat_le i blocks then block_place entries i else 2 ^ 64 - 1;
       position_offset = tf_sum_before entries i;
-      block_info = if nat_lt i blocks then block_info_of (entry_of entries i) else VInt (if i == blocks then doc_freq % 128 else 0);
+      block_info = if nat_lt i blocks then block_info_of (skip_entry entries i) else VInt (if i == blocks then doc_freq % 128 else 0);
       entries_read = min (i + 1) blocks;
     }
 
@@ -65,5 +65,5 @@ reader_at skip_info doc_freq entries i =
 pub record Seeks (target blocks : ℕ) (entries : List SkipEntry) (i k : ℕ) : Type 0 where
   pub forward : i ≤ k
   pub within : k ≤ max i blocks
-  pub passed : (j : ℕ) → i ≤ j → j < k → (entry_of entries j).last_doc < target
-  pub found : k < blocks → target ≤ (entry_of entries k).last_doc
+  pub passed : (j : ℕ) → i ≤ j → j < k → (skip_entry entries j).last_doc < target
+  pub found : k < blocks → target ≤ (skip_entry entries k).last_doc

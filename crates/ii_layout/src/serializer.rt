@@ -3,10 +3,11 @@ ghost use Rattle.std.specs.List.{sum};
 ghost use Rattle.ii_base.specs.declared.schema.index_record_option.IndexRecordOption.TheVariants.{Basic};
 ghost use Rattle.ii_base.specs.Options.{has_freq, has_positions};
 ghost use Rattle.ii_io.specs.CountingWriter.{Writes, WritesUnlessClosed, IsFull};
+ghost use Rattle.ii_io.specs.Faults.{OnlyMemory};
 ghost use Rattle.ii_codes.specs.Blocks.{sorted_bytes, unsorted_width};
 ghost use Rattle.ii_codes.specs.Sums.{DoNotFall};
 ghost use Rattle.ii_docset.specs.Entries.{are_documents};
-ghost use Rattle.ii_layout.specs.PostingsSerializer.{AreWhole, AreBlockFreqs, IsFullBlock, IsOpenBlock, IsSumTooLarge, AddsDocs, no_docs, one_doc, joined, sized, written_of};
+ghost use Rattle.ii_layout.specs.PostingsSerializer.{AreWhole, AreBlockFreqs, IsFullBlock, IsOpenBlock, IsSumTooLarge, AddsDocs, no_docs, one_doc, joined, sized, written_docs};
 ghost use Rattle.ii_layout.specs.Written.{entry_of_block, freq_part, packed_freqs, rest_bytes, written_postings};
 
 use super::block::Block;
@@ -84,7 +85,7 @@ impl PackedBlocks {
         ensures same { self.new.skip_info ≡ self.old.skip_info }
         ensures ok { OnOk result (self.new ≡ record self.old { term = joined self.old.term block.now }) }
         ensures err { OnErr result (self.new.term ≡ no_docs) }
-        ensures only { IfErr result (λ e. e ≡ Fault.OutOfMemory) }
+        ensures only { OnlyMemory result }
     {
         let packed = write_block(
             self.skip_info,
@@ -119,8 +120,8 @@ impl PackedBlocks {
         requires rest { IsOpenBlock self.old.skip_info rest.now }
         requires ascending { IsTrue (are_documents (self.old.term.docs ++ rest.now.docs)) }
         ensures same { self.new ≡ self.old }
-        ensures written { Writes output_write.old output_write.new (written_of self.old.skip_info (joined self.old.term rest.now)) result }
-        ensures fits { OnOk result (¬ IsFull output_write.old (length (written_of self.old.skip_info (joined self.old.term rest.now)))) }
+        ensures written { Writes output_write.old output_write.new (written_docs self.old.skip_info (joined self.old.term rest.now)) result }
+        ensures fits { OnOk result (¬ IsFull output_write.old (length (written_docs self.old.skip_info (joined self.old.term rest.now)))) }
     {
         let skip_list = write_skip_list(self.skip_write.data(), output_write);
         if skip_list.is_err() {
@@ -158,7 +159,7 @@ fn write_block(
     }) }
     ensures postings { OnOk result (postings_write.new.items
         ≡ postings_write.old.items ++ (sorted_bytes last_doc block.now.docs ++ packed_freqs skip_info block.now.freqs)) }
-    ensures only { IfErr result (λ e. e ≡ Fault.OutOfMemory) }
+    ensures only { OnlyMemory result }
 {
     write_block_docs(block, last_doc, block_encoder, skip_write, postings_write)?;
     write_block_freqs(skip_info, block, block_encoder, skip_write, postings_write)
@@ -176,7 +177,7 @@ fn write_block_docs(
     requires open { skip_write.old.closed ≡ false }
     ensures skip { OnOk result (skip_write.new ≡ record { bytes = skip_write.old.bytes ++ entry_of_block last_doc block.now.docs; closed = false }) }
     ensures postings { OnOk result (postings_write.new.items ≡ postings_write.old.items ++ sorted_bytes last_doc block.now.docs) }
-    ensures only { IfErr result (λ e. e ≡ Fault.OutOfMemory) }
+    ensures only { OnlyMemory result }
 {
     let (num_bits, bytes) = block_encoder.compress_block_sorted(block.doc_ids(), last_doc);
     skip_write.write_doc(block.last_doc(), num_bits)?;
@@ -196,7 +197,7 @@ fn write_block_freqs(
     requires open { skip_write.old.closed ≡ false }
     ensures skip { OnOk result (skip_write.new ≡ record { bytes = skip_write.old.bytes ++ freq_part skip_info block.now.freqs; closed = false }) }
     ensures postings { OnOk result (postings_write.new.items ≡ postings_write.old.items ++ packed_freqs skip_info block.now.freqs) }
-    ensures only { IfErr result (λ e. e ≡ Fault.OutOfMemory) }
+    ensures only { OnlyMemory result }
 {
     if !skip_info.has_freq() {
         return Ok(());
@@ -219,7 +220,7 @@ fn write_freq_part(
     requires small { IsTrue (has_positions skip_info) → sum block.now.freqs < 2 ^ 32 }
     requires open { skip_write.old.closed ≡ false }
     ensures skip { OnOk result (skip_write.new ≡ record { bytes = skip_write.old.bytes ++ freq_part skip_info block.now.freqs; closed = false }) }
-    ensures only { IfErr result (λ e. e ≡ Fault.OutOfMemory) }
+    ensures only { OnlyMemory result }
 {
     match skip_info {
         IndexRecordOption::Basic => Ok(()),

@@ -13,7 +13,7 @@ use Rattle.ii_recorder.specs.declared.recorder.any_recorder.AnyRecorder.{AnyReco
 use Rattle.ii_recorder.specs.Recorded.{RecorderState}
 use Rattle.ii_postings_writer.specs.IndexingContext.{TermIndex}
 use Rattle.ii_postings_writer.specs.IndexingTerm.{field_in}
-use Rattle.ii_postings_writer.specs.SortedTerms.{IsTermBelow, TermState, seen, term_of, terms_in}
+use Rattle.ii_postings_writer.specs.SortedTerms.{IsTermBelow, SortedTerm, seen, term_of, terms_in}
 
 module _ {X : Type 0} (f g : ℕ → X) where
   same_above : (at first n : ℕ) → at < first → ((k : ℕ) → (k ≡ at → ⊥) → g k ≡ f k) → map f (range_with_len first n) ≡ map g (range_with_len first n)
@@ -48,7 +48,7 @@ term_elsewhere : (terms : TermIndex) (t : List ℕ × RecorderState) (field : �
 term_elsewhere terms t field apart =
     ap (map term_of) (filter_push (lies_in field) terms t false (ne_eqb (field_in t.0) field (λ e. apart (sym e))) ∙ append-nil (filter (lies_in field) terms))
 
-abbrev lists_of : ℕ → TermIndex → List (List TermState)
+abbrev lists_of : ℕ → TermIndex → List (List SortedTerm)
 lists_of n terms = map (λ (field : ℕ). terms_in field terms) (range_with_len 0 n)
 
 pub one_more : (n : ℕ) (terms : TermIndex) (t : List ℕ × RecorderState) → field_in t.0 < n
@@ -60,7 +60,7 @@ one_more n terms t inside =
 
 pub none_at_first : (first n : ℕ) → replicate n [] ≡ map (λ (field : ℕ). terms_in field []) (range_with_len first n)
 none_at_first first zero = refl
-none_at_first first (suc n) = ap (λ (xs : List (List TermState)). [] ∷ xs) (none_at_first (first + 1) n)
+none_at_first first (suc n) = ap (λ (xs : List (List SortedTerm)). [] ∷ xs) (none_at_first (first + 1) n)
 
 pub all_at : {X : Type 0} (P : X → Type 0) (xs : List X) (k : ℕ) (x : X) → AllByRecursion P xs → slice_get xs k ≡ Some x → P x
 all_at P [] k x all at = absurd (cc)
@@ -77,7 +77,7 @@ pub seen_at : {A : Type 0} (n : ℕ) (es : List (Vec ℕ A × AnyRecorder)) (k :
 seen_at n es k e all at = all_at (IsTermBelow n) (map seen es) k (seen e) all (slice_get-map seen es k ∙ ap (option_map seen) at)
 
 -- the lists of the fields once a term was added to its own
-pub added : {A : Type 0} (n : ℕ) (es : List (Vec ℕ A × AnyRecorder)) (k : ℕ) (e : Vec ℕ A × AnyRecorder) (fields new : List (List TermState)) (bytes : List ℕ) → slice_get es k ≡ Some e
+pub added : {A : Type 0} (n : ℕ) (es : List (Vec ℕ A × AnyRecorder)) (k : ℕ) (e : Vec ℕ A × AnyRecorder) (fields new : List (List SortedTerm)) (bytes : List ℕ) → slice_get es k ≡ Some e
     → AllByRecursion (IsTermBelow n) (map seen es) → bytes ≡ e.0.items → fields ≡ lists_of n (map seen (take k es))
     → new ≡ slice_set fields (field_in bytes) (slice_index_or fields (field_in bytes) [] ++ record { key = drop 4 bytes; recorder = any_state e.1 } ∷ [])
     → new ≡ lists_of n (map seen (take (k + 1) es))
@@ -85,5 +85,5 @@ added n es k e fields new bytes at all same known put =
     let more : map seen (take (k + 1) es) ≡ map seen (take k es) ++ seen e ∷ [] = ap (map seen) (ap (λ (m : ℕ). take m es) (add-one k) ∙ take_one_more es k e at) ∙ map-append seen (take k es) (e ∷ []) in
     rw (put, same, known, more) (one_more n (map seen (take k es)) (seen e) (seen_at n es k e all at).known)
 
-pub known_at : (n : ℕ) (t : List ℕ × RecorderState) (terms : TermIndex) (fields : List (List TermState)) (bytes : List ℕ) → IsTermBelow n t → bytes ≡ t.0 → fields ≡ lists_of n terms → field_in bytes < length fields
+pub known_at : (n : ℕ) (t : List ℕ × RecorderState) (terms : TermIndex) (fields : List (List SortedTerm)) (bytes : List ℕ) → IsTermBelow n t → bytes ≡ t.0 → fields ≡ lists_of n terms → field_in bytes < length fields
 known_at n t terms fields bytes below same known = rw (same, known, length-map-range_with_len (λ (field : ℕ). terms_in field terms) 0 n) below.known

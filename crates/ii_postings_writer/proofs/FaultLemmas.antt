@@ -12,16 +12,16 @@ use Rattle.ii_io.specs.CompositeWrite.{CompositeWriteState, HasBodies}
 use Rattle.ii_io.specs.CountingWriter.{CountingWriterState, IsFull}
 use Rattle.ii_io.specs.NumberLemmas.{length_le_bytes}
 use Rattle.ii_io.specs.Numbers.{le_bytes}
-use Rattle.ii_base.specs.Schema.{Entry}
+use Rattle.ii_base.specs.Schema.{SchemaEntry}
 use Rattle.ii_base.specs.declared.schema.index_record_option.IndexRecordOption.{IndexRecordOption}
 use Rattle.ii_termdict.specs.Written.{written_dictionary}
 use Rattle.ii_recorder.specs.FieldTerms.{FieldTermsState, HasNoRoom, closing_bytes, dictionary_of, term_under}
 use Rattle.ii_recorder.specs.IndexBodies.{AreFull, IndexBodiesState}
 use Rattle.ii_recorder.specs.IndexSerializer.{IndexSerializerState, IsFieldFault, IsTermFault, IsWriting}
 use Rattle.ii_recorder.specs.Terms.{WrittenTerm, field_bodies, open_bodies, positions_body, positions_bytes, postings_bytes}
-use Rattle.ii_postings_writer.specs.FieldParts.{FieldPart, HasFields, bodies_of, first_parts, parts_of, positions_body as positions_of_part, postings_body, terms_body, tokens_in}
+use Rattle.ii_postings_writer.specs.FieldParts.{FieldPart, HasFields, bodies_of, first_parts, parts_of, positions_of_part, postings_body, terms_body, tokens_in}
 use Rattle.ii_postings_writer.specs.PostingsWriter.{PostingsWriterState}
-use Rattle.ii_postings_writer.specs.SortedTerms.{TermState, state_of, written_of}
+use Rattle.ii_postings_writer.specs.SortedTerms.{SortedTerm, state_of, written_term}
 use Rattle.ii_postings_writer.specs.declared.sorted_terms.TermOfField.{TermOfField}
 use Rattle.ii_postings_writer.specs.WriteFaults.{HasLargeSum, HasLargeTerm, HasLongTerm, IsFaultBy, IsLong, IsPartFault, IsPartsFault, IsTermFaultAfter, PassEnds, PassesEnds, all_bodies}
 use Rattle.ii_postings_writer.proofs.PartLemmas.{one_more_part, part_of, some_part}
@@ -148,7 +148,7 @@ module _ (initial : IndexBodiesState) (s : IndexSerializerState) (field tokens :
       inr (inr (inr (inr (full.0, subst (λ (m : IndexRecordOption). NoRoom m tokens initial ts) same (inl (dictionary_full w (subst (AreFull s.bodies) (closing_is s.field between) full.1)))))))
 
 -- The parts of an index.
-module _ (entries : List Entry) (initial : IndexBodiesState) where
+module _ (entries : List SchemaEntry) (initial : IndexBodiesState) where
   module _ (body : FieldPart → Body) where
     abbrev pub bytes_in : List FieldPart → List ℕ
     bytes_in ps = bodies_bytes (map body ps)
@@ -188,7 +188,7 @@ module _ (entries : List Entry) (initial : IndexBodiesState) where
   parts_fault ps qs e fault = fault_more e (any_before (HasLargeTerm entries) ps qs) (any_before (HasLongTerm entries) ps qs) (parts_room ps qs) fault
 
   -- nor can the first fields, and more of them
-  pub more_fault : (writers : List PostingsWriterState) (terms : List (List TermState)) (k j : ℕ) (e : Fault) → IsPartsFault entries initial (first_parts entries writers terms k) e → IsPartsFault entries initial (first_parts entries writers terms (k + j)) e
+  pub more_fault : (writers : List PostingsWriterState) (terms : List (List SortedTerm)) (k j : ℕ) (e : Fault) → IsPartsFault entries initial (first_parts entries writers terms k) e → IsPartsFault entries initial (first_parts entries writers terms (k + j)) e
   more_fault writers terms k zero e fault = subst (λ (n : ℕ). IsPartsFault entries initial (first_parts entries writers terms n) e) (omega (arith)) fault
   more_fault writers terms k (suc j) e fault =
       let all = more_fault writers terms k j e fault in
@@ -196,15 +196,15 @@ module _ (entries : List Entry) (initial : IndexBodiesState) where
       subst (λ (n : ℕ). IsPartsFault entries initial (first_parts entries writers terms n) e) (omega (arith)) next
 
 -- The next field has terms.
-pub record IsNextField (first entries : List Entry) (lists : List (List TermState)) (n field : ℕ) (terms : List TermState) : Type 0 where
+pub record IsNextField (first entries : List SchemaEntry) (lists : List (List SortedTerm)) (n field : ℕ) (terms : List SortedTerm) : Type 0 where
   pub schema : entries ≡ first
   pub number : field ≡ n
   pub at : terms ≡ slice_index_or lists n []
   pub some : 0 < length terms
   pub low : n < length lists
 
-module _ (first entries : List Entry) (writers : List PostingsWriterState) (lists : List (List TermState)) (n field : ℕ) (terms : List TermState) (is : IsNextField first entries lists n field terms) where
-  abbrev part : List Entry → FieldPart
+module _ (first entries : List SchemaEntry) (writers : List PostingsWriterState) (lists : List (List SortedTerm)) (n field : ℕ) (terms : List SortedTerm) (is : IsNextField first entries lists n field terms) where
+  abbrev part : List SchemaEntry → FieldPart
   part es = part_of es field (tokens_in writers field) terms
 
   with_part : first_parts first writers lists (n + 1) ≡ first_parts first writers lists n ++ part first ∷ []
@@ -230,13 +230,13 @@ module _ (first entries : List Entry) (writers : List PostingsWriterState) (list
       → (e ≡ SerializerClosed) ⊎ IsPartsFault first initial (first_parts first writers lists (length lists)) e
   field_fault initial now e has (inl closed) = inl closed
   field_fault initial now e has (inr fault) =
-      let own = subst (λ (es : List Entry). IsPartFault es now (part es) e) is.schema fault in
+      let own = subst (λ (es : List SchemaEntry). IsPartFault es now (part es) e) is.schema fault in
       let next = subst (λ (ps : List FieldPart). IsPartsFault first initial ps e) (sym with_part) (next_fault first initial now (first_parts first writers lists n) (part first) e has own) in
       let low = is.low in
       inr (subst (λ (m : ℕ). IsPartsFault first initial (first_parts first writers lists m) e) (omega (arith, low)) (more_fault first initial writers lists (n + 1) (length lists - (n + 1)) e next))
 
 -- a field without terms adds no part
-pub no_part : (first : List Entry) (writers : List PostingsWriterState) (lists : List (List TermState)) (n : ℕ) (terms : List TermState) → terms ≡ slice_index_or lists n [] → terms ≡ []
+pub no_part : (first : List SchemaEntry) (writers : List PostingsWriterState) (lists : List (List SortedTerm)) (n : ℕ) (terms : List SortedTerm) → terms ≡ slice_index_or lists n [] → terms ≡ []
     → first_parts first writers lists n ≡ [] → first_parts first writers lists (n + 1) ≡ []
 no_part first writers lists n terms at none before =
     let here : slice_index_or lists n [] ≡ [] = sym at ∙ none in
@@ -244,10 +244,10 @@ no_part first writers lists n terms at none before =
 
 -- a term of a field, between the others
 pub split_written : (mode : IndexRecordOption) (terms : List TermOfField) (k : ℕ) (t : TermOfField) → k < length terms → t ≡ get_or terms k t
-    → all_written mode terms ≡ all_written mode (take k terms) ++ written_of mode (state_of t) ∷ all_written mode (drop (suc k) terms)
+    → all_written mode terms ≡ all_written mode (take k terms) ++ written_term mode (state_of t) ∷ all_written mode (drop (suc k) terms)
 split_written mode [] k t low is = absurd (omega (arith, low))
-split_written mode (u ∷ us) zero t low is = ap (λ (v : TermOfField). written_of mode (state_of v) ∷ all_written mode us) (sym is)
-split_written mode (u ∷ us) (suc k) t low is = ap (λ (ts : List WrittenTerm). written_of mode (state_of u) ∷ ts) (split_written mode us k t (omega (arith, low)) is)
+split_written mode (u ∷ us) zero t low is = ap (λ (v : TermOfField). written_term mode (state_of v) ∷ all_written mode us) (sym is)
+split_written mode (u ∷ us) (suc k) t low is = ap (λ (ts : List WrittenTerm). written_term mode (state_of u) ∷ ts) (split_written mode us k t (omega (arith, low)) is)
 
 -- the field can't be begun
 pub begun_fault : {A B : Type 0} (kept : IndexRecordOption) (tokens : ℕ) (initial : IndexBodiesState) (ts : List WrittenTerm) (e : Fault) → (e ≡ Limit limit.Offset → IsFull initial.postings.writer 8)

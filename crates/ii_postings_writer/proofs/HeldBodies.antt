@@ -10,15 +10,15 @@ use Rattle.std.proofs.lemmas.Bool.{eq-eqb, eqb-true, eqb-false, lt-ltb, ltb-true
 use Rattle.std.proofs.lemmas.List.FromFn.{get_or-map-range_with_len}
 use Rattle.std.proofs.lemmas.List.Sums.{length-filter}
 use Rattle.ii_io.specs.Composite.{Body, body_of}
-use Rattle.ii_base.specs.Schema.{Entry}
+use Rattle.ii_base.specs.Schema.{SchemaEntry}
 use Rattle.ii_layout.specs.TermList.{ReadsUncountedTermBack}
-use Rattle.ii_index.specs.Fields.{option_of}
-use Rattle.ii_index.specs.Files.{HasField, HoldsField}
-use Rattle.ii_index.specs.Postings.{field_count, kind_of, tokens_at}
-use Rattle.ii_index.specs.Tokens.{IndexToken}
+use Rattle.ii_definitions.specs.Fields.{option_of}
+use Rattle.ii_definitions.specs.Files.{HasField, HoldsField}
+use Rattle.ii_definitions.specs.Postings.{field_count, kind_of, tokens_at}
+use Rattle.ii_definitions.specs.Tokens.{IndexToken}
 use Rattle.ii_recorder.specs.Pushed.{ReadsEntriesBack}
 use Rattle.ii_recorder.specs.Recorded.{RecorderState}
-use Rattle.ii_postings_writer.specs.FieldParts.{FieldPart, HoldsPart, WroteTerms, bodies_of, first_parts, parts_of, positions_body, postings_body, terms_body, tokens_in}
+use Rattle.ii_postings_writer.specs.FieldParts.{FieldPart, HoldsPart, WroteTerms, bodies_of, first_parts, parts_of, positions_of_part, postings_body, terms_body, tokens_in}
 use Rattle.std.specs.Prelude.{MatchOption}
 use Rattle.ii_base.specs.declared.schema.index_record_option.IndexRecordOption.{IndexRecordOption}
 use Rattle.ii_postings_writer.specs.HeldBodies.{BodiesHold, HaveTokens, WroteTokens}
@@ -29,11 +29,11 @@ use Rattle.ii_postings_writer.proofs.SortedLemmas.{each_may_be, kept_writable}
 use Rattle.ii_recorder.specs.IndexSerializer.{IndexSerializerState}
 use Rattle.ii_postings_writer.specs.IndexingContext.{TermIndex, recorder_of}
 use Rattle.ii_postings_writer.specs.PostingsWriter.{PostingsWriterState}
-use Rattle.ii_postings_writer.specs.SortedTerms.{AllMayBeWritten, MayBeWritten, TermState, terms_in}
+use Rattle.ii_postings_writer.specs.SortedTerms.{AllMayBeWritten, MayBeWritten, SortedTerm, terms_in}
 use Rattle.ii_postings_writer.proofs.PartLemmas.{part_of}
 
-module _ (entries : List Entry) (writers : List PostingsWriterState) (lists : List (List TermState)) where
-  abbrev pub list_at : ℕ → List TermState
+module _ (entries : List SchemaEntry) (writers : List PostingsWriterState) (lists : List (List SortedTerm)) where
+  abbrev pub list_at : ℕ → List SortedTerm
   list_at field = slice_index_or lists field []
 
   abbrev pub part_list : ℕ → List FieldPart
@@ -44,7 +44,7 @@ module _ (entries : List Entry) (writers : List PostingsWriterState) (lists : Li
   own_part field = part_of entries field (tokens_in writers field) (list_at field)
 
   module _ (body : FieldPart → Body) (same : (p : FieldPart) → (body p).field ≡ p.field) where
-    passed : (field first tokens : ℕ) (l : List TermState) (rest : List FieldPart) → (first ≡ field → ⊥) → body_of field (map body (parts_of entries first tokens l ++ rest)) ≡ body_of field (map body rest)
+    passed : (field first tokens : ℕ) (l : List SortedTerm) (rest : List FieldPart) → (first ≡ field → ⊥) → body_of field (map body (parts_of entries first tokens l ++ rest)) ≡ body_of field (map body rest)
     passed field first tokens [] rest apart = refl
     passed field first tokens (t ∷ ts) rest apart =
         let p = part_of entries first tokens (t ∷ ts) in
@@ -63,11 +63,11 @@ module _ (entries : List Entry) (writers : List PostingsWriterState) (lists : Li
         passed field first (tokens_in writers first) (list_at first) (flat_map part_list (range_with_len (first + 1) k)) (λ e. absurd (omega (arith, e, high))) ∙ none_before field (first + 1) k (omega (arith, high))
 
     -- the body of a field, if it has terms
-    abbrev pub own_body : ℕ → List TermState → Option (List ℕ)
+    abbrev pub own_body : ℕ → List SortedTerm → Option (List ℕ)
     own_body field [] = None
     own_body field (t ∷ ts) = Some (body (part_of entries field (tokens_in writers field) (t ∷ ts))).bytes
 
-    here : (field : ℕ) (l : List TermState) (rest : List FieldPart) → body_of field (map body rest) ≡ None → body_of field (map body (parts_of entries field (tokens_in writers field) l ++ rest)) ≡ own_body field l
+    here : (field : ℕ) (l : List SortedTerm) (rest : List FieldPart) → body_of field (map body rest) ≡ None → body_of field (map body (parts_of entries field (tokens_in writers field) l ++ rest)) ≡ own_body field l
     here field [] rest none = none
     here field (t ∷ ts) rest none =
         let p = part_of entries field (tokens_in writers field) (t ∷ ts) in
@@ -94,11 +94,11 @@ module _ (entries : List Entry) (writers : List PostingsWriterState) (lists : Li
     pub none_found : (field n : ℕ) → n ≤ field → body_of field (map body (first_parts entries writers lists n)) ≡ None
     none_found field n outside = none_before field 0 n (omega (arith, outside))
 
-  held_here : (field : ℕ) (l : List TermState) (rest : List FieldPart) → 0 < length l → AllByRecursion (HoldsPart entries) (parts_of entries field (tokens_in writers field) l ++ rest) → HoldsPart entries (part_of entries field (tokens_in writers field) l)
+  held_here : (field : ℕ) (l : List SortedTerm) (rest : List FieldPart) → 0 < length l → AllByRecursion (HoldsPart entries) (parts_of entries field (tokens_in writers field) l ++ rest) → HoldsPart entries (part_of entries field (tokens_in writers field) l)
   held_here field [] rest some all = absurd (omega (arith, some))
   held_here field (t ∷ ts) rest some all = all.0
 
-  held_later : (field tokens : ℕ) (l : List TermState) (rest : List FieldPart) → AllByRecursion (HoldsPart entries) (parts_of entries field tokens l ++ rest) → AllByRecursion (HoldsPart entries) rest
+  held_later : (field tokens : ℕ) (l : List SortedTerm) (rest : List FieldPart) → AllByRecursion (HoldsPart entries) (parts_of entries field tokens l ++ rest) → AllByRecursion (HoldsPart entries) rest
   held_later field tokens [] rest all = all
   held_later field tokens (t ∷ ts) rest all = all.1
 
@@ -129,18 +129,18 @@ count_none : (field n : ℕ) (ts : List IndexToken) → AllByRecursion (λ (t : 
 count_none field n ts known high = sym (length-filter (λ (t : IndexToken). t.field == field) ts) ∙ none_kept field n ts known high
 
 -- What is known of a sorted context that was written, and of its tokens.
-pub record IsWritten (entries : List Entry) (writers : List PostingsWriterState) (sorted : TermIndex) (ts : List IndexToken) : Type 0 where
+pub record IsWritten (entries : List SchemaEntry) (writers : List PostingsWriterState) (sorted : TermIndex) (ts : List IndexToken) : Type 0 where
   pub few : length entries < 2 ^ 32
   pub whole : AllByRecursion AreTermBytes (keys_of sorted)
   pub ascending : IsStrictlySortedBy (slice_cmp nat_cmp) (keys_of sorted)
   pub may : AllByRecursion (λ (t : List ℕ × RecorderState). MayBeWritten (length entries) t.0 t.1) sorted
   pub tokens : HaveTokens entries sorted writers ts
 
-module _ (law : ReadsEntriesBack) (uncounted : ReadsUncountedTermBack) (entries : List Entry) (writers : List PostingsWriterState) (sorted : TermIndex) (ts : List IndexToken) (w : IsWritten entries writers sorted ts) where
+module _ (law : ReadsEntriesBack) (uncounted : ReadsUncountedTermBack) (entries : List SchemaEntry) (writers : List PostingsWriterState) (sorted : TermIndex) (ts : List IndexToken) (w : IsWritten entries writers sorted ts) where
   abbrev n : ℕ
   n = length entries
 
-  abbrev lists : List (List TermState)
+  abbrev lists : List (List SortedTerm)
   lists = map (λ (field : ℕ). terms_in field sorted) (range_with_len 0 n)
 
   abbrev mode_of : ℕ → IndexRecordOption
@@ -159,22 +159,22 @@ module _ (law : ReadsEntriesBack) (uncounted : ReadsUncountedTermBack) (entries 
     part_is_held : (field : ℕ) → field < n → 0 < length (terms_in field sorted) → HoldsPart entries (part_of entries field (tokens_in writers field) (terms_in field sorted))
     part_is_held field inside some =
         let here = list_is field inside in
-        subst (λ (l : List TermState). HoldsPart entries (part_of entries field (tokens_in writers field) l)) here
-        (part_held entries writers lists field n inside (subst (λ (l : List TermState). 0 < length l) (sym here) some) held)
+        subst (λ (l : List SortedTerm). HoldsPart entries (part_of entries field (tokens_in writers field) l)) here
+        (part_held entries writers lists field n inside (subst (λ (l : List SortedTerm). 0 < length l) (sym here) some) held)
 
     known_in : (field : ℕ) → field < n → AllByRecursion (IsKnown (mode_of field) field sorted) (terms_in field sorted)
     known_in field inside = by_case (terms_in field sorted) refl
       where
-        by_case : (l : List TermState) → terms_in field sorted ≡ l → AllByRecursion (IsKnown (mode_of field) field sorted) (terms_in field sorted)
+        by_case : (l : List SortedTerm) → terms_in field sorted ≡ l → AllByRecursion (IsKnown (mode_of field) field sorted) (terms_in field sorted)
         by_case [] is = subst (AllByRecursion (IsKnown (mode_of field) field sorted)) (sym is) tt
         by_case (t ∷ us) is =
-            let some : 0 < length (terms_in field sorted) = subst (λ (l : List TermState). 0 < length l) (sym is) (omega (arith)) in
+            let some : 0 < length (terms_in field sorted) = subst (λ (l : List SortedTerm). 0 < length l) (sym is) (omega (arith)) in
             all_known (mode_of field) field sorted (terms_in field sorted) (found_in field sorted sorted w.whole (each_found sorted w.ascending)) (kept_writable n field sorted w.may) (part_is_held field inside some).told
 
     present_own : (body : FieldPart → Body) (same : (p : FieldPart) → (body p).field ≡ p.field) (field : ℕ) → field < n → is_some (own_body entries writers lists body same field (terms_in field sorted)) ≡ nat_lt 0 (field_count field ts)
     present_own body same field inside = by_case (terms_in field sorted) refl
       where
-        by_case : (l : List TermState) → terms_in field sorted ≡ l → is_some (own_body entries writers lists body same field (terms_in field sorted)) ≡ nat_lt 0 (field_count field ts)
+        by_case : (l : List SortedTerm) → terms_in field sorted ≡ l → is_some (own_body entries writers lists body same field (terms_in field sorted)) ≡ nat_lt 0 (field_count field ts)
         by_case [] is = rw is (sym (count_zero (field_count field ts) refl))
           where
             count_zero : (m : ℕ) → field_count field ts ≡ m → nat_lt 0 (field_count field ts) ≡ false
@@ -183,7 +183,7 @@ module _ (law : ReadsEntriesBack) (uncounted : ReadsUncountedTermBack) (entries 
                 let terms = some_terms law uncounted (mode_of field) field (fits field inside) sorted ts (records_in field inside) (omega (arith, some)) in
                 absurd (omega (arith, terms, ap length is))
         by_case (t ∷ us) is =
-            let some : 0 < length (terms_in field sorted) = subst (λ (l : List TermState). 0 < length l) (sym is) (omega (arith)) in
+            let some : 0 < length (terms_in field sorted) = subst (λ (l : List SortedTerm). 0 < length l) (sym is) (omega (arith)) in
             let count = some_tokens law uncounted (mode_of field) field (fits field inside) sorted ts (records_in field inside) (known_in field inside) some in
             rw is (sym (lt-ltb 0 (field_count field ts) count))
 
@@ -198,7 +198,7 @@ module _ (law : ReadsEntriesBack) (uncounted : ReadsUncountedTermBack) (entries 
             let outside : n ≤ field = ltb-false field n is in
             ap is_some (none_found entries writers lists body same field n outside) ∙ sym (ap (nat_lt 0) (count_none field n ts w.tokens.known outside))
 
-    own_some : (body : FieldPart → Body) (same : (p : FieldPart) → (body p).field ≡ p.field) (field : ℕ) (l : List TermState) (bytes : List ℕ) → own_body entries writers lists body same field l ≡ Some bytes
+    own_some : (body : FieldPart → Body) (same : (p : FieldPart) → (body p).field ≡ p.field) (field : ℕ) (l : List SortedTerm) (bytes : List ℕ) → own_body entries writers lists body same field l ≡ Some bytes
         → (0 < length l) × ((body (part_of entries field (tokens_in writers field) l)).bytes ≡ bytes)
     own_some body same field [] bytes is = absurd (cc)
     own_some body same field (t ∷ us) bytes is = let found : (body (part_of entries field (tokens_in writers field) (t ∷ us))).bytes ≡ bytes = cc in (omega (arith), found)
@@ -209,14 +209,14 @@ module _ (law : ReadsEntriesBack) (uncounted : ReadsUncountedTermBack) (entries 
         own_some body same field (terms_in field sorted) bytes (sym (ap (own_body entries writers lists body same field) (list_is field inside)) ∙ sym (own_found entries writers lists body same field n inside) ∙ found)
 
     held_fields : (field : ℕ) (t p q : List ℕ) → body_of field (map (terms_body entries) (first_parts entries writers lists n)) ≡ Some t → body_of field (map (postings_body entries) (first_parts entries writers lists n)) ≡ Some p
-        → body_of field (map (positions_body entries) (first_parts entries writers lists n)) ≡ Some q → HoldsField (mode_of field) field t p q ts
+        → body_of field (map (positions_of_part entries) (first_parts entries writers lists n)) ≡ Some q → HoldsField (mode_of field) field t p q ts
     held_fields field t p q at_terms at_postings at_positions = by_case (nat_lt field n) refl
       where
         inside_holds : field < n → HoldsField (mode_of field) field t p q ts
         inside_holds inside =
             let terms = body_is (terms_body entries) (λ f. refl) field t inside at_terms in
             let postings = body_is (postings_body entries) (λ f. refl) field p inside at_postings in
-            let positions = body_is (positions_body entries) (λ f. refl) field q inside at_positions in
+            let positions = body_is (positions_of_part entries) (λ f. refl) field q inside at_positions in
             let own = part_of entries field (tokens_in writers field) (terms_in field sorted) in
             let holds = holds_field law uncounted (mode_of field) field (fits field inside) sorted ts (records_in field inside) (tokens_in writers field) (bodies_of entries own) (w.tokens.counted field inside)
             (part_is_held field inside terms.0).terms (known_in field inside) in
@@ -231,13 +231,13 @@ module _ (law : ReadsEntriesBack) (uncounted : ReadsUncountedTermBack) (entries 
             absurd (cc)
 
     -- the bodies of all fields hold the tokens
-    pub bodies_hold : BodiesHold mode_of (map (terms_body entries) (first_parts entries writers lists n)) (map (postings_body entries) (first_parts entries writers lists n)) (map (positions_body entries) (first_parts entries writers lists n)) ts
+    pub bodies_hold : BodiesHold mode_of (map (terms_body entries) (first_parts entries writers lists n)) (map (postings_body entries) (first_parts entries writers lists n)) (map (positions_of_part entries) (first_parts entries writers lists n)) ts
     bodies_hold = record {
-      present = λ field. (has_field (terms_body entries) (λ f. refl) field, has_field (postings_body entries) (λ f. refl) field, has_field (positions_body entries) (λ f. refl) field);
+      present = λ field. (has_field (terms_body entries) (λ f. refl) field, has_field (postings_body entries) (λ f. refl) field, has_field (positions_of_part entries) (λ f. refl) field);
       fields = held_fields;
     }
 
-sorted_tokens : (entries : List Entry) (terms sorted : TermIndex) (writers : List PostingsWriterState) (ts : List IndexToken) → ((bytes : List ℕ) → recorder_of sorted bytes ≡ recorder_of terms bytes) → HaveTokens entries terms writers ts → HaveTokens entries sorted writers ts
+sorted_tokens : (entries : List SchemaEntry) (terms sorted : TermIndex) (writers : List PostingsWriterState) (ts : List IndexToken) → ((bytes : List ℕ) → recorder_of sorted bytes ≡ recorder_of terms bytes) → HaveTokens entries terms writers ts → HaveTokens entries sorted writers ts
 sorted_tokens entries terms sorted writers ts same has = record {
   records = λ field key small. subst (λ (o : Option RecorderState). MatchOption o (tokens_at field key ts ≡ []) (HasPostings (kind_of (option_of entries field) (tokens_at field key ts)) (tokens_at field key ts))) (sym (same (field_bytes field ++ key))) (has.records field key small);
   counted = has.counted;
@@ -245,20 +245,20 @@ sorted_tokens entries terms sorted writers ts same has = record {
 }
 
 -- the fields of parts
-parts_below : (entries : List Entry) (writers : List PostingsWriterState) (terms : List (List TermState)) (first count limit : ℕ) → first + count ≤ limit
+parts_below : (entries : List SchemaEntry) (writers : List PostingsWriterState) (terms : List (List SortedTerm)) (first count limit : ℕ) → first + count ≤ limit
     → AllByRecursion (λ (p : FieldPart). p.field < limit) (flat_map (λ (field : ℕ). parts_of entries field (tokens_in writers field) (slice_index_or terms field [])) (range_with_len first count))
 parts_below entries writers terms first zero limit low = tt
 parts_below entries writers terms first (suc count) limit low = by (slice_index_or terms first []) (flat_map (λ (field : ℕ). parts_of entries field (tokens_in writers field) (slice_index_or terms field [])) (range_with_len (first + 1) count)) (parts_below entries writers terms (first + 1) count limit (omega (arith, low)))
   where
-    by : (ts : List TermState) (rest : List FieldPart) → AllByRecursion (λ (p : FieldPart). p.field < limit) rest → AllByRecursion (λ (p : FieldPart). p.field < limit) (parts_of entries first (tokens_in writers first) ts ++ rest)
+    by : (ts : List SortedTerm) (rest : List FieldPart) → AllByRecursion (λ (p : FieldPart). p.field < limit) rest → AllByRecursion (λ (p : FieldPart). p.field < limit) (parts_of entries first (tokens_in writers first) ts ++ rest)
     by [] rest h = h
     by (t ∷ us) rest h = (omega (arith, low), h)
 
-parts_known : (entries : List Entry) (writers : List PostingsWriterState) (terms : List (List TermState)) (n : ℕ) → AllByRecursion (λ (p : FieldPart). p.field < n) (first_parts entries writers terms n)
+parts_known : (entries : List SchemaEntry) (writers : List PostingsWriterState) (terms : List (List SortedTerm)) (n : ℕ) → AllByRecursion (λ (p : FieldPart). p.field < n) (first_parts entries writers terms n)
 parts_known entries writers terms n = parts_below entries writers terms 0 n n (omega arith)
 
 -- a sorted context has what the context had
-pub sorted_written : (entries : List Entry) (terms sorted : TermIndex) (writers : List PostingsWriterState) (ts : List IndexToken) → length entries < 2 ^ 32 → ((bytes : List ℕ) → recorder_of sorted bytes ≡ recorder_of terms bytes)
+pub sorted_written : (entries : List SchemaEntry) (terms sorted : TermIndex) (writers : List PostingsWriterState) (ts : List IndexToken) → length entries < 2 ^ 32 → ((bytes : List ℕ) → recorder_of sorted bytes ≡ recorder_of terms bytes)
     → IsStrictlySortedBy (slice_cmp nat_cmp) (keys_of sorted) → AllByRecursion AreTermBytes (keys_of sorted) → AllMayBeWritten (length entries) terms → HaveTokens entries terms writers ts → IsWritten entries writers sorted ts
 sorted_written entries terms sorted writers ts few same ascending whole may has = record { few = few; whole = whole; ascending = ascending; may = each_may_be (length entries) terms sorted same ascending whole may; tokens = sorted_tokens entries terms sorted writers ts same has }
 

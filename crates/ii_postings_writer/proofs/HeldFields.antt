@@ -14,10 +14,10 @@ use Rattle.ii_base.specs.declared.schema.index_record_option.IndexRecordOption.{
 use Rattle.ii_layout.specs.TermList.{ReadsUncountedTermBack}
 use Rattle.ii_termstore.specs.declared.term_info.TermInfo.{TermInfo}
 use Rattle.ii_termdict.specs.Dictionary.{info_under}
-use Rattle.ii_index.specs.Files.{HoldsField, HoldsTerm}
-use Rattle.ii_index.specs.Postings.{field_count, grouped, kind_of, occurs, tokens_at}
-use Rattle.ii_index.specs.Tokens.{IndexToken}
-use Rattle.ii_index.proofs.GroupedLaws.{no_field, some_occurs}
+use Rattle.ii_definitions.specs.Files.{HoldsField, HoldsTerm}
+use Rattle.ii_definitions.specs.Postings.{field_count, grouped, kind_of, occurs, tokens_at}
+use Rattle.ii_definitions.specs.Tokens.{IndexToken}
+use Rattle.ii_definitions.proofs.GroupedLaws.{no_field, some_occurs}
 use Rattle.ii_recorder.specs.HeldTerms.{HoldsKey, HoldsTerms, HoldsWritten, has_key}
 use Rattle.ii_recorder.specs.Pushed.{ReadsEntriesBack}
 use Rattle.ii_recorder.specs.Terms.{FieldBodies, WrittenTerm}
@@ -26,7 +26,7 @@ use Rattle.ii_postings_writer.proofs.HoldLaws.{holds_term, recorder_occurred}
 use Rattle.ii_recorder.specs.Recorded.{RecorderState}
 use Rattle.ii_postings_writer.specs.IndexingContext.{TermIndex, recorder_of}
 use Rattle.ii_postings_writer.specs.IndexingTerm.{AreTermBytes, field_bytes, field_in}
-use Rattle.ii_postings_writer.specs.SortedTerms.{IsTold, IsWritable, TermState, terms_in, written_of}
+use Rattle.ii_postings_writer.specs.SortedTerms.{IsTold, IsWritable, SortedTerm, terms_in, written_term}
 use Rattle.ii_postings_writer.proofs.SortedLemmas.{field_of_bytes, found_first, found_later, lies_in, split_bytes}
 use Rattle.ii_postings_writer.proofs.TermLemmas.{behind_field}
 
@@ -45,12 +45,12 @@ each_found (t ∷ ts) sorted = (found_first t ts, still_found t ts ts sorted.0 (
 
 -- and so is each term of a field under its key
 pub found_in : (field : ℕ) (sorted us : TermIndex) → AllByRecursion AreTermBytes (keys_of us) → AllByRecursion (λ (u : List ℕ × RecorderState). lookup (bytes_eq u.0) sorted ≡ Some u.1) us
-    → AllByRecursion (λ (s : TermState). recorder_of sorted (field_bytes field ++ s.key) ≡ Some s.recorder) (terms_in field us)
+    → AllByRecursion (λ (s : SortedTerm). recorder_of sorted (field_bytes field ++ s.key) ≡ Some s.recorder) (terms_in field us)
 found_in field sorted [] whole found = tt
 found_in field sorted (u ∷ us) whole found = by_case (lies_in field u.0) refl (found_in field sorted us whole.1 found.1)
   where
-    by_case : (b : Bool) → lies_in field u.0 ≡ b → AllByRecursion (λ (s : TermState). recorder_of sorted (field_bytes field ++ s.key) ≡ Some s.recorder) (terms_in field us)
-        → AllByRecursion (λ (s : TermState). recorder_of sorted (field_bytes field ++ s.key) ≡ Some s.recorder) (terms_in field (u ∷ us))
+    by_case : (b : Bool) → lies_in field u.0 ≡ b → AllByRecursion (λ (s : SortedTerm). recorder_of sorted (field_bytes field ++ s.key) ≡ Some s.recorder) (terms_in field us)
+        → AllByRecursion (λ (s : SortedTerm). recorder_of sorted (field_bytes field ++ s.key) ≡ Some s.recorder) (terms_in field (u ∷ us))
     by_case true is rest =
         let bytes : field_bytes field ++ drop 4 u.0 ≡ u.0 = ap (λ (f : ℕ). field_bytes f ++ drop 4 u.0) (sym (eqb-true (field_in u.0) field is)) ∙ sym (split_bytes u.0 whole.0) in
         rw is (ap (recorder_of sorted) bytes ∙ found.0, rest)
@@ -61,15 +61,15 @@ any_more true c is = refl
 any_more false c is = is
 
 -- a term that is found is among those of its field
-pub found_has_key : (mode : IndexRecordOption) (field : ℕ) (key : List ℕ) (r : RecorderState) (terms : TermIndex) → field < 2 ^ 32 → recorder_of terms (field_bytes field ++ key) ≡ Some r → has_key key (map (written_of mode) (terms_in field terms)) ≡ true
+pub found_has_key : (mode : IndexRecordOption) (field : ℕ) (key : List ℕ) (r : RecorderState) (terms : TermIndex) → field < 2 ^ 32 → recorder_of terms (field_bytes field ++ key) ≡ Some r → has_key key (map (written_term mode) (terms_in field terms)) ≡ true
 found_has_key mode field key r [] small found = absurd (cc)
 found_has_key mode field key r (t ∷ ts) small found = by_case (bytes_eq (field_bytes field ++ key) t.0) refl (found_has_key mode field key r ts small)
   where
-    others : (b : Bool) → lies_in field t.0 ≡ b → has_key key (map (written_of mode) (terms_in field ts)) ≡ true → has_key key (map (written_of mode) (terms_in field (t ∷ ts))) ≡ true
-    others true is rest = rw is (any_more (bytes_eq key (drop 4 t.0)) (has_key key (map (written_of mode) (terms_in field ts))) rest)
+    others : (b : Bool) → lies_in field t.0 ≡ b → has_key key (map (written_term mode) (terms_in field ts)) ≡ true → has_key key (map (written_term mode) (terms_in field (t ∷ ts))) ≡ true
+    others true is rest = rw is (any_more (bytes_eq key (drop 4 t.0)) (has_key key (map (written_term mode) (terms_in field ts))) rest)
     others false is rest = rw is rest
 
-    by_case : (b : Bool) → bytes_eq (field_bytes field ++ key) t.0 ≡ b → (recorder_of ts (field_bytes field ++ key) ≡ Some r → has_key key (map (written_of mode) (terms_in field ts)) ≡ true) → has_key key (map (written_of mode) (terms_in field (t ∷ ts))) ≡ true
+    by_case : (b : Bool) → bytes_eq (field_bytes field ++ key) t.0 ≡ b → (recorder_of ts (field_bytes field ++ key) ≡ Some r → has_key key (map (written_term mode) (terms_in field ts)) ≡ true) → has_key key (map (written_term mode) (terms_in field (t ∷ ts))) ≡ true
     by_case true same rest =
         let here : field_bytes field ++ key ≡ t.0 = (bytes_decides (field_bytes field ++ key) t.0).0 same in
         let inside : lies_in field t.0 ≡ true = eq-eqb (field_in t.0) field (ap field_in (sym here) ∙ field_of_bytes field key small) in
@@ -78,23 +78,23 @@ found_has_key mode field key r (t ∷ ts) small found = by_case (bytes_eq (field
     by_case false other rest = others (lies_in field t.0) refl (rest (sym (found_later (field_bytes field ++ key) t ts other) ∙ found))
 
 -- Where a written term comes from.
-record Origin (mode : IndexRecordOption) (P : TermState → Type 0) (t : WrittenTerm) : Type 0 where
-  state : TermState
-  is : written_of mode state ≡ t
+record Origin (mode : IndexRecordOption) (P : SortedTerm → Type 0) (t : WrittenTerm) : Type 0 where
+  state : SortedTerm
+  is : written_term mode state ≡ t
   holds : P state
 
-origin_at : (mode : IndexRecordOption) (P : TermState → Type 0) (states : List TermState) (t : WrittenTerm) (k : ℕ) → AllByRecursion P states → k < length (map (written_of mode) states) → get_or (map (written_of mode) states) k t ≡ t → Origin mode P t
+origin_at : (mode : IndexRecordOption) (P : SortedTerm → Type 0) (states : List SortedTerm) (t : WrittenTerm) (k : ℕ) → AllByRecursion P states → k < length (map (written_term mode) states) → get_or (map (written_term mode) states) k t ≡ t → Origin mode P t
 origin_at mode P [] t k all inside is = absurd (omega (arith, inside))
 origin_at mode P (s ∷ ss) t zero all inside is = record { state = s; is = is; holds = all.0 }
 origin_at mode P (s ∷ ss) t (suc k) all inside is = origin_at mode P ss t k all.1 (omega (arith, inside)) is
 
 -- What is known of each term of a field.
-pub record IsKnown (mode : IndexRecordOption) (field : ℕ) (sorted : TermIndex) (s : TermState) : Type 0 where
+pub record IsKnown (mode : IndexRecordOption) (field : ℕ) (sorted : TermIndex) (s : SortedTerm) : Type 0 where
   pub found : recorder_of sorted (field_bytes field ++ s.key) ≡ Some s.recorder
   pub writable : IsWritable s
   pub told : IsTold mode s
 
-pub all_known : (mode : IndexRecordOption) (field : ℕ) (sorted : TermIndex) (states : List TermState) → AllByRecursion (λ (s : TermState). recorder_of sorted (field_bytes field ++ s.key) ≡ Some s.recorder) states
+pub all_known : (mode : IndexRecordOption) (field : ℕ) (sorted : TermIndex) (states : List SortedTerm) → AllByRecursion (λ (s : SortedTerm). recorder_of sorted (field_bytes field ++ s.key) ≡ Some s.recorder) states
     → AllByRecursion IsWritable states → AllByRecursion (IsTold mode) states → AllByRecursion (IsKnown mode field sorted) states
 all_known mode field sorted [] found writable told = tt
 all_known mode field sorted (s ∷ ss) found writable told = (record { found = found.0; writable = writable.0; told = told.0 }, all_known mode field sorted ss found.1 writable.1 told.1)
@@ -106,7 +106,7 @@ none_occurred field key ts none = by_case (occurs field key ts) refl
     by_case false is = is
     by_case true is = absurd (omega (arith, some_occurs field key ts is, ap (λ (us : List IndexToken). length (grouped us)) none))
 
-keyed_some : (mode : IndexRecordOption) (ss : List TermState) (key : List ℕ) → has_key key (map (written_of mode) ss) ≡ true → 0 < length ss
+keyed_some : (mode : IndexRecordOption) (ss : List SortedTerm) (key : List ℕ) → has_key key (map (written_term mode) ss) ≡ true → 0 < length ss
 keyed_some mode [] key is = absurd (cc)
 keyed_some mode (s ∷ ss) key is = omega (arith)
 
@@ -139,7 +139,7 @@ count_some field key ts occurred = by_case (field_count field ts) refl
 module _ (law : ReadsEntriesBack) (uncounted : ReadsUncountedTermBack) (mode : IndexRecordOption) (field : ℕ) (small : field < 2 ^ 32) (sorted : TermIndex) (ts : List IndexToken)
     (records : (key : List ℕ) → MatchOption (recorder_of sorted (field_bytes field ++ key)) (tokens_at field key ts ≡ []) (HasPostings (kind_of mode (tokens_at field key ts)) (tokens_at field key ts))) where
   abbrev written : List WrittenTerm
-  written = map (written_of mode) (terms_in field sorted)
+  written = map (written_term mode) (terms_in field sorted)
 
   no_key : (key : List ℕ) (o : Option RecorderState) → recorder_of sorted (field_bytes field ++ key) ≡ o → has_key key written ≡ false → occurs field key ts ≡ false
   no_key key None absent none = none_occurred field key ts (subst (λ (o : Option RecorderState). MatchOption o (tokens_at field key ts ≡ []) (HasPostings (kind_of mode (tokens_at field key ts)) (tokens_at field key ts))) absent (records key))
@@ -162,7 +162,7 @@ module _ (law : ReadsEntriesBack) (uncounted : ReadsUncountedTermBack) (mode : I
   pub some_tokens : AllByRecursion (IsKnown mode field sorted) (terms_in field sorted) → 0 < length (terms_in field sorted) → 0 < field_count field ts
   some_tokens known some = from_first (terms_in field sorted) known some
     where
-      from_first : (ss : List TermState) → AllByRecursion (IsKnown mode field sorted) ss → 0 < length ss → 0 < field_count field ts
+      from_first : (ss : List SortedTerm) → AllByRecursion (IsKnown mode field sorted) ss → 0 < length ss → 0 < field_count field ts
       from_first [] all some = absurd (omega (arith, some))
       from_first (s ∷ ss) all some =
           let has = subst (λ (r : Option RecorderState). MatchOption r (tokens_at field s.key ts ≡ []) (HasPostings (kind_of mode (tokens_at field s.key ts)) (tokens_at field s.key ts))) all.0.found (records s.key) in

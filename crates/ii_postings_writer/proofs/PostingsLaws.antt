@@ -5,10 +5,10 @@ use Rattle.std.proofs.lemmas.List.Elements.{filter-append}
 use Rattle.ii_base.specs.declared.schema.index_record_option.IndexRecordOption.{IndexRecordOption}
 use Rattle.ii_base.specs.declared.schema.index_record_option.IndexRecordOption.TheVariants.{Basic, WithFreqs, WithFreqsAndPositions}
 use Rattle.ii_docset.specs.Entries.{Entry}
-use Rattle.ii_index.specs.Cut.{cut_entry}
+use Rattle.ii_definitions.specs.Cut.{cut_entry}
 use Rattle.ii_recorder.specs.Recorded.{begun, with_position}
-use Rattle.ii_index.specs.Tokens.{IndexToken, Piece, piece_tokens, tokens_after}
-use Rattle.ii_index.specs.Postings.{entry_of, grouped, is_at, tokens_at, with_token}
+use Rattle.ii_definitions.specs.Tokens.{IndexToken, Piece, piece_tokens, tokens_after}
+use Rattle.ii_definitions.specs.Postings.{entry_of, grouped, is_at, tokens_at, with_token}
 
 -- the tokens of pieces in two parts
 pub tokens_after-append : (earlier first second : List Piece) → tokens_after earlier (first ++ second) ≡ tokens_after earlier first ++ tokens_after (earlier ++ first) second

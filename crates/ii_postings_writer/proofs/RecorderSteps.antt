@@ -7,11 +7,12 @@ use Rattle.ii_base.specs.declared.schema.index_record_option.IndexRecordOption.{
 use Rattle.ii_docset.specs.Entries.{Entry, are_documents, docs_of}
 use Rattle.ii_docset.proofs.AscentLemmas.{ascend-append, least_after, least_after-append}
 use Rattle.std.proofs.lemmas.Bool.{eqb-false}
-use Rattle.ii_recorder.specs.Recorded.{RecorderState, begun, current_doc, entries_in, last_doc, position_fault, u32_max, with_position}
+use Rattle.ii_recorder.specs.Recorded.{RecorderState, begun, current_doc, entries_of_recorder, last_doc, position_fault, u32_max, with_position}
 use Rattle.ii_io.specs.declared.faults.Fault.{Fault}
 use Rattle.ii_io.specs.declared.faults.Fault.TheVariants.{OutOfMemory}
 use Rattle.ii_json.specs.LeafVisit.{IsRefusedBy}
-use Rattle.ii_postings_writer.specs.IndexingContext.{EndsBy, entry_at, is_open, new_recorder, opened_at, recorded_at}
+use Rattle.ii_docset.specs.declared.docset.TheConstants.{TERMINATED}
+use Rattle.ii_postings_writer.specs.IndexingContext.{EndsBy, entry_for_doc, is_open, new_recorder, opened_at, recorded_at}
 use Rattle.ii_recorder.proofs.RecorderLemmas.{last_of_push}
 
 pub docs_of_push : (es : List Entry) (e : Entry) → docs_of (es ++ e ∷ []) ≡ docs_of es ++ e.doc ∷ []
@@ -27,7 +28,7 @@ pub record IsOpenIn (doc : ℕ) (r : RecorderState) : Type 0 where
   pub entry : Entry
   pub pending : r.pending ≡ Some entry
   pub within : entry.doc ≤ doc
-  pub entries : entries_in r ≡ r.closed ++ entry ∷ []
+  pub entries : entries_of_recorder r ≡ r.closed ++ entry ∷ []
   pub ascending : IsTrue (are_documents (docs_of r.closed ++ entry.doc ∷ []))
 
 pub open_in : (doc : ℕ) (r : RecorderState) → EndsBy doc r → IsOpenIn doc r
@@ -36,7 +37,7 @@ open_in doc r h = by r.pending refl h.last
     by : (p : Option Entry) → r.pending ≡ p → MatchOption p ⊥ (λ (e : Entry). e.doc ≤ doc) → IsOpenIn doc r
     by None is last = absurd last
     by (Some e) is last =
-        let entries : entries_in r ≡ r.closed ++ e ∷ [] = ap (λ (o : Option Entry). r.closed ++ option_to_list o) is in
+        let entries : entries_of_recorder r ≡ r.closed ++ e ∷ [] = ap (λ (o : Option Entry). r.closed ++ option_to_list o) is in
         record {
           entry = e;
           pending = is;
@@ -58,13 +59,13 @@ opened_same doc r h same =
     rw (o.pending, is) refl
 
 -- or a new one comes after it
-pub opened_anew : (doc : ℕ) (r : RecorderState) → EndsBy doc r → current_doc r ≢ doc → opened_at doc r ≡ record { option = r.option; closed = entries_in r; pending = Some (begun r.option doc) }
+pub opened_anew : (doc : ℕ) (r : RecorderState) → EndsBy doc r → current_doc r ≢ doc → opened_at doc r ≡ record { option = r.option; closed = entries_of_recorder r; pending = Some (begun r.option doc) }
 opened_anew doc r h other =
     let o = open_in doc r h in
     let is : (o.entry.doc == doc) ≡ false = grind (arith, current_is doc r h, other) in
     rw (o.pending, is) refl
 
-pub last_below : (doc : ℕ) (r : RecorderState) → EndsBy doc r → current_doc r ≢ doc → IfSome (last_doc (entries_in r)) (λ last. last < doc)
+pub last_below : (doc : ℕ) (r : RecorderState) → EndsBy doc r → current_doc r ≢ doc → IfSome (last_doc (entries_of_recorder r)) (λ last. last < doc)
 last_below doc r h other =
     let o = open_in doc r h in
     let last = last_doc_of_push r.closed o.entry in
@@ -72,14 +73,14 @@ last_below doc r h other =
     rw (o.entries, last) below
 
 -- a document is open then
-pub opened_pending : (doc : ℕ) (r : RecorderState) → (opened_at doc r).pending ≡ Some (entry_at doc r)
+pub opened_pending : (doc : ℕ) (r : RecorderState) → (opened_at doc r).pending ≡ Some (entry_for_doc doc r)
 opened_pending doc r = by r.pending refl
   where
-    by : (p : Option Entry) → r.pending ≡ p → (opened_at doc r).pending ≡ Some (entry_at doc r)
+    by : (p : Option Entry) → r.pending ≡ p → (opened_at doc r).pending ≡ Some (entry_for_doc doc r)
     by None is = rw is refl
     by (Some e) is = cases (e.doc == doc) refl
       where
-        cases : (b : Bool) → (e.doc == doc) ≡ b → (opened_at doc r).pending ≡ Some (entry_at doc r)
+        cases : (b : Bool) → (e.doc == doc) ≡ b → (opened_at doc r).pending ≡ Some (entry_for_doc doc r)
         cases true same = rw (is, same) refl
         cases false other = rw (is, other) refl
 
@@ -102,23 +103,23 @@ abbrev pub AnswersPosition : {T : Type 0} → IndexRecordOption → ℕ → Resu
 AnswersPosition option position result e = MatchOption (position_fault option position e) (IfErr result (λ f. f ≡ OutOfMemory)) (λ f. result ≡ Err f)
 
 pub recorded_refusal : {T : Type 0} (doc position : ℕ) (r s : RecorderState) (result : Result T Fault) → s ≡ opened_at doc r
-    → IfSome s.pending (AnswersPosition s.option position result) → IsRefusedBy (position_fault r.option position (entry_at doc r)) result
+    → IfSome s.pending (AnswersPosition s.option position result) → IsRefusedBy (position_fault r.option position (entry_for_doc doc r)) result
 recorded_refusal {T} doc position r s result is h =
-    let pending : s.pending ≡ Some (entry_at doc r) = ap (λ (q : RecorderState). q.pending) is ∙ opened_pending doc r in
+    let pending : s.pending ≡ Some (entry_for_doc doc r) = ap (λ (q : RecorderState). q.pending) is ∙ opened_pending doc r in
     let kept : s.option ≡ r.option = ap (λ (q : RecorderState). q.option) is ∙ opened_option doc r in
     let at = subst (λ (p : Option Entry). IfSome p (AnswersPosition s.option position result)) pending h in
-    refused_by (position_fault r.option position (entry_at doc r)) result (subst (λ (o : IndexRecordOption). AnswersPosition o position result (entry_at doc r)) kept at)
+    refused_by (position_fault r.option position (entry_for_doc doc r)) result (subst (λ (o : IndexRecordOption). AnswersPosition o position result (entry_for_doc doc r)) kept at)
 
 -- one more document above those of a list
-pub ascend_push : (ds : List ℕ) (last doc : ℕ) → IsTrue (are_documents (ds ++ last ∷ [])) → last < doc → doc < 2147483647 → IsTrue (are_documents ((ds ++ last ∷ []) ++ doc ∷ []))
+pub ascend_push : (ds : List ℕ) (last doc : ℕ) → IsTrue (are_documents (ds ++ last ∷ [])) → last < doc → doc < TERMINATED → IsTrue (are_documents ((ds ++ last ∷ []) ++ doc ∷ []))
 ascend_push ds last doc ascend above low =
     let least : least_after 0 (ds ++ last ∷ []) ≡ last + 1 = least_after-append 0 ds (last ∷ []) in
     let within : nat_le (last + 1) doc ≡ true = grind (arith, above) in
-    let below : nat_lt doc 2147483647 ≡ true = grind (arith, low) in
+    let below : nat_lt doc TERMINATED ≡ true = grind (arith, low) in
     rw (ascend-append 0 (ds ++ last ∷ []) (doc ∷ []), ascend, least, within, below) refl
 
 -- and that document is its last one
-pub recorded_ends : (doc position : ℕ) (r : RecorderState) → EndsBy doc r → doc < 2147483647 → EndsBy doc (recorded_at doc position r)
+pub recorded_ends : (doc position : ℕ) (r : RecorderState) → EndsBy doc r → doc < TERMINATED → EndsBy doc (recorded_at doc position r)
 recorded_ends doc position r h low = by (o.entry.doc == doc) refl
   where
     o : IsOpenIn doc r
@@ -136,8 +137,8 @@ recorded_ends doc position r h low = by (o.entry.doc == doc) refl
           last = rw (o.pending, other) (omega arith);
         }
 
-pub first_ends : (option : IndexRecordOption) (doc position : ℕ) → doc < 2147483647 → EndsBy doc (recorded_at doc position (new_recorder option))
+pub first_ends : (option : IndexRecordOption) (doc position : ℕ) → doc < TERMINATED → EndsBy doc (recorded_at doc position (new_recorder option))
 first_ends option doc position low =
-    let below : nat_lt doc 2147483647 ≡ true = grind (arith, low) in
+    let below : nat_lt doc TERMINATED ≡ true = grind (arith, low) in
     let least : nat_le 0 doc ≡ true = grind arith in
     record { ascending = rw (least, below) refl; last = omega arith }

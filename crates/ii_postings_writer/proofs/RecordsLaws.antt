@@ -9,11 +9,12 @@ use Rattle.std.proofs.lemmas.Bool.{and_parts}
 use Rattle.std.proofs.lemmas.Nat.{from_be_bytes-to_be_bytes_4}
 use Rattle.std.proofs.lemmas.Slice.Eq.{bytes_eq-Decides}
 use Rattle.ii_base.specs.declared.schema.index_record_option.IndexRecordOption.{IndexRecordOption}
+use Rattle.ii_docset.specs.declared.docset.TheConstants.{TERMINATED}
 use Rattle.ii_docset.specs.Entries.{Entry}
-use Rattle.ii_recorder.specs.Recorded.{RecorderState, begun, entries_in, with_position}
-use Rattle.ii_index.specs.Cut.{cut_entry}
-use Rattle.ii_index.specs.Tokens.{IndexToken}
-use Rattle.ii_index.specs.Postings.{grouped, is_at, tokens_at}
+use Rattle.ii_recorder.specs.Recorded.{RecorderState, begun, entries_of_recorder, with_position}
+use Rattle.ii_definitions.specs.Cut.{cut_entry}
+use Rattle.ii_definitions.specs.Tokens.{IndexToken}
+use Rattle.ii_definitions.specs.Postings.{grouped, is_at, tokens_at}
 use Rattle.ii_postings_writer.specs.IndexingTerm.{field_bytes}
 use Rattle.ii_postings_writer.specs.IndexingContext.{AllEndBy, EndsBy, IsRecorded, TermIndex, is_open, new_recorder, recorded_at, recorder_of, recorder_or_new}
 use Rattle.ii_postings_writer.specs.Records.{HasPostings, Records}
@@ -30,7 +31,7 @@ postings_first option t = record {
 }
 
 recorded_entries : (t : IndexToken) (r : RecorderState) (e : Entry) (b : Bool) → r.pending ≡ Some e → nat_eq e.doc t.doc ≡ b
-    → entries_in (recorded_at t.doc t.position r) ≡ r.closed ++ recorded_after r.option e t
+    → entries_of_recorder (recorded_at t.doc t.position r) ≡ r.closed ++ recorded_after r.option e t
 recorded_entries t r e true is same = rw (is, same) refl
 recorded_entries t r e false is other = rw (is, other) (append_assoc r.closed (e ∷ []) (with_position r.option t.position (begun r.option t.doc) ∷ []))
 
@@ -122,7 +123,7 @@ records_more kind old new ts t low recorded known field key high = by (is_at fie
         rw (found, tokens_at_last field key ts t false is, append-nil (tokens_at field key ts)) (known field key high)
 
 -- each recorder ends by the document that was recorded last
-pub all_end : (option : IndexRecordOption) (doc position : ℕ) (term : List ℕ) (old new : TermIndex) → IsRecorded option doc position term old new → AllEndBy doc old → doc < 2147483647 → AllEndBy doc new
+pub all_end : (option : IndexRecordOption) (doc position : ℕ) (term : List ℕ) (old new : TermIndex) → IsRecorded option doc position term old new → AllEndBy doc old → doc < TERMINATED → AllEndBy doc new
 all_end option doc position term old new recorded ends low bytes = subst (λ (found : Option RecorderState). MatchOption found ⊤ (EndsBy doc)) (sym (recorded bytes)) (by (bytes_eq term bytes))
   where
     at_term : (found : Option RecorderState) → MatchOption found ⊤ (EndsBy doc) → EndsBy doc (recorded_at doc position (unwrap_or found (new_recorder option)))

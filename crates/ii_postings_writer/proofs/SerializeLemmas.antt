@@ -8,8 +8,8 @@ use Rattle.std.specs.Ordering.{nat_cmp}
 use Rattle.std.proofs.lemmas.List.{map-append, take_more}
 use Rattle.std.specs.List.{take-map}
 use Rattle.ii_termdict.specs.ReadBack.{AreAscending}
-use Rattle.ii_base.specs.Schema.{Entry as SchemaEntry}
-use Rattle.ii_index.specs.Fields.{option_of}
+use Rattle.ii_base.specs.Schema.{SchemaEntry}
+use Rattle.ii_definitions.specs.Fields.{option_of}
 use Rattle.ii_postings_writer.specs.declared.sorted_terms.TermOfField.{TermOfField}
 use Rattle.ii_base.specs.declared.schema.index_record_option.IndexRecordOption.TheVariants.{Basic}
 use Rattle.ii_base.specs.declared.schema.index_record_option.IndexRecordOption.{IndexRecordOption}
@@ -20,9 +20,9 @@ use Rattle.ii_recorder.specs.OpenTerm.{OpenTermState}
 use Rattle.ii_recorder.specs.IndexBodies.{IndexBodiesState}
 use Rattle.ii_recorder.specs.IndexSerializer.{IndexSerializerState, IsWriting}
 use Rattle.ii_recorder.specs.Pushed.{FillTooLarge, HaveDeltas, pushed_freqs, with_entries}
-use Rattle.ii_recorder.specs.Recorded.{RecorderState, entries_in}
+use Rattle.ii_recorder.specs.Recorded.{RecorderState, entries_of_recorder}
 use Rattle.ii_recorder.specs.Terms.{WrittenTerm}
-use Rattle.ii_postings_writer.specs.SortedTerms.{IsTold, IsWritable, state_of, written_of}
+use Rattle.ii_postings_writer.specs.SortedTerms.{IsTold, IsWritable, state_of, written_term}
 use Rattle.ii_recorder.proofs.DeltaLemmas.{all_push}
 
 -- documents that are pushed change nothing of what is written
@@ -37,7 +37,7 @@ abbrev pub begun_term : Bool → OpenTermState → OpenTermState
 begun_term counted t = record t { skip_info = if counted then t.mode else Basic; docs = []; freqs = []; deltas = [] }
 
 pub term_written : (key : List ℕ) (t : OpenTermState) (r : RecorderState) (s new : IndexSerializerState) (counted : Bool) → counted ≡ has_freq r.option → s.field.term ≡ begun_term counted t
-    → new ≡ with_entries r.option s (entries_in r) → term_under key new.field.term ≡ written_of t.mode (record { key = key; recorder = r })
+    → new ≡ with_entries r.option s (entries_of_recorder r) → term_under key new.field.term ≡ written_term t.mode (record { key = key; recorder = r })
 term_written key t r s new counted same begun is =
     ap (λ (n : IndexSerializerState). term_under key n.field.term) is ∙ rw (begun, same) refl
 
@@ -56,7 +56,7 @@ ascend_taken c (suc n) (k ∷ ks) sorted = (all_taken (λ y. c k y ≡ Less) n k
 module _ (mode : IndexRecordOption) where
   -- terms as they are written
   abbrev pub all_written : List TermOfField → List WrittenTerm
-  all_written terms = map (written_of mode) (map state_of terms)
+  all_written terms = map (written_term mode) (map state_of terms)
 
   abbrev key_of : TermOfField → List ℕ
   key_of t = t.key.now
@@ -65,11 +65,11 @@ module _ (mode : IndexRecordOption) where
   written_keys [] = refl
   written_keys (t ∷ ts) = ap (λ (ks : List (List ℕ)). key_of t ∷ ks) (written_keys ts)
 
-  pub one_more_written : (terms : List TermOfField) (k : ℕ) (d : TermOfField) → k < length terms → all_written (take (k + 1) terms) ≡ all_written (take k terms) ++ written_of mode (state_of (get_or terms k d)) ∷ []
+  pub one_more_written : (terms : List TermOfField) (k : ℕ) (d : TermOfField) → k < length terms → all_written (take (k + 1) terms) ≡ all_written (take k terms) ++ written_term mode (state_of (get_or terms k d)) ∷ []
   one_more_written terms k d inside =
       ap all_written (take_more terms k d inside)
-      ∙ ap (map (written_of mode)) (map-append state_of (take k terms) (get_or terms k d ∷ []))
-      ∙ map-append (written_of mode) (map state_of (take k terms)) (state_of (get_or terms k d) ∷ [])
+      ∙ ap (map (written_term mode)) (map-append state_of (take k terms) (get_or terms k d ∷ []))
+      ∙ map-append (written_term mode) (map state_of (take k terms)) (state_of (get_or terms k d) ∷ [])
 
   -- the next key is above the ones before it
   pub next_above : (terms : List TermOfField) (k : ℕ) (d : TermOfField) (keys : List (List ℕ)) → k < length terms → AreAscending (map key_of terms)
@@ -87,10 +87,10 @@ writable_at (t ∷ ts) (suc k) d inside all = writable_at ts k d (omega (arith, 
 
 -- and one more is written as its field records it
 pub next_written : (first entries : List SchemaEntry) (field : ℕ) (terms : List TermOfField) (k : ℕ) (t : TermOfField) → k < length terms → t ≡ get_or terms k t → entries ≡ first
-    → all_written (option_of first field) (take k terms) ++ written_of (option_of entries field) (state_of t) ∷ [] ≡ all_written (option_of first field) (take (k + 1) terms)
+    → all_written (option_of first field) (take k terms) ++ written_term (option_of entries field) (state_of t) ∷ [] ≡ all_written (option_of first field) (take (k + 1) terms)
 next_written first entries field terms k t inside is same =
-    let here : written_of (option_of entries field) (state_of t) ≡ written_of (option_of first field) (state_of (get_or terms k t)) =
-    ap (λ (es : List SchemaEntry). written_of (option_of es field) (state_of t)) same ∙ ap (λ (u : TermOfField). written_of (option_of first field) (state_of u)) is in
+    let here : written_term (option_of entries field) (state_of t) ≡ written_term (option_of first field) (state_of (get_or terms k t)) =
+    ap (λ (es : List SchemaEntry). written_term (option_of es field) (state_of t)) same ∙ ap (λ (u : TermOfField). written_term (option_of first field) (state_of u)) is in
     ap (λ (u : WrittenTerm). all_written (option_of first field) (take k terms) ++ u ∷ []) here ∙ sym (one_more_written (option_of first field) terms k t inside)
 
 pub one_more_told : (mode : IndexRecordOption) (terms : List TermOfField) (k : ℕ) (t : TermOfField) → k < length terms → t ≡ get_or terms k t → IsTold mode (state_of t) → AllByRecursion (IsTold mode) (map state_of (take k terms))
@@ -102,12 +102,12 @@ one_more_told mode terms k t inside is told all =
 
 -- what was told of the entries of a term that was begun
 pub was_told : (t : OpenTermState) (key : List ℕ) (r : RecorderState) (begun : OpenTermState) (counted : Bool) → counted ≡ has_freq r.option → begun ≡ begun_term counted t
-    → ¬ FillTooLarge begun.skip_info begun.freqs (pushed_freqs r.option (entries_in r)) → AllByRecursion (λ n. n < 2 ^ 32) (pushed_freqs r.option (entries_in r)) → (IsTrue (has_positions r.option) → HaveDeltas (entries_in r))
+    → ¬ FillTooLarge begun.skip_info begun.freqs (pushed_freqs r.option (entries_of_recorder r)) → AllByRecursion (λ n. n < 2 ^ 32) (pushed_freqs r.option (entries_of_recorder r)) → (IsTrue (has_positions r.option) → HaveDeltas (entries_of_recorder r))
     → IsTold t.mode (record { key = key; recorder = r })
 was_told t key r begun counted same is small fit located =
-    let here = subst (λ (u : OpenTermState). ¬ FillTooLarge u.skip_info u.freqs (pushed_freqs r.option (entries_in r))) is small in
+    let here = subst (λ (u : OpenTermState). ¬ FillTooLarge u.skip_info u.freqs (pushed_freqs r.option (entries_of_recorder r))) is small in
     record {
-      small = subst (λ (c : Bool). ¬ FillTooLarge (if c then t.mode else Basic) [] (pushed_freqs r.option (entries_in r))) same here;
+      small = subst (λ (c : Bool). ¬ FillTooLarge (if c then t.mode else Basic) [] (pushed_freqs r.option (entries_of_recorder r))) same here;
       fit = fit;
       located = located;
     }

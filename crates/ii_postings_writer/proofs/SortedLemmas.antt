@@ -15,7 +15,7 @@ use Rattle.std.proofs.lemmas.Cmp.{nat_list_eq_equiv}
 use Rattle.std.specs.Cmp.Lexicographic.{bytes_decides, slice_cmp}
 use Rattle.std.specs.Ordering.{nat_cmp}
 use Rattle.ii_postings_writer.specs.IndexingContext.{TermIndex, recorder_of}
-use Rattle.ii_postings_writer.specs.SortedTerms.{AllMayBeWritten, IsTermBelow, IsWritable, MayBeWritten, TermState, terms_in}
+use Rattle.ii_postings_writer.specs.SortedTerms.{AllMayBeWritten, IsTermBelow, IsWritable, MayBeWritten, SortedTerm, terms_in}
 use Rattle.ii_postings_writer.proofs.TermLemmas.{length_field}
 use Rattle.ii_postings_writer.specs.IndexingTerm.{AreTermBytes, field_bytes, field_in}
 use Rattle.std.specs.Map.{lookup}
@@ -128,12 +128,12 @@ module _ (field : ℕ) where
 abbrev pub lies_in : ℕ → List ℕ → Bool
 lies_in field bytes = nat_eq (field_in bytes) field
 
-keys_in : (field : ℕ) (terms : TermIndex) → map (λ (t : TermState). t.key) (terms_in field terms) ≡ map (drop 4) (filter (lies_in field) (keys_of terms))
+keys_in : (field : ℕ) (terms : TermIndex) → map (λ (t : SortedTerm). t.key) (terms_in field terms) ≡ map (drop 4) (filter (lies_in field) (keys_of terms))
 keys_in field [] = refl
 keys_in field (t ∷ ts) = by_case (lies_in field t.0) refl (keys_in field ts)
   where
-    by_case : (b : Bool) → lies_in field t.0 ≡ b → map (λ (u : TermState). u.key) (terms_in field ts) ≡ map (drop 4) (filter (lies_in field) (keys_of ts))
-        → map (λ (u : TermState). u.key) (terms_in field (t ∷ ts)) ≡ map (drop 4) (filter (lies_in field) (keys_of (t ∷ ts)))
+    by_case : (b : Bool) → lies_in field t.0 ≡ b → map (λ (u : SortedTerm). u.key) (terms_in field ts) ≡ map (drop 4) (filter (lies_in field) (keys_of ts))
+        → map (λ (u : SortedTerm). u.key) (terms_in field (t ∷ ts)) ≡ map (drop 4) (filter (lies_in field) (keys_of (t ∷ ts)))
     by_case true is rest = rw is (ap (λ (ks : List (List ℕ)). drop 4 t.0 ∷ ks) rest)
     by_case false is rest = rw is rest
 
@@ -147,7 +147,7 @@ all_in field (k ∷ ks) all = by_case (lies_in field k) refl (all_in field ks al
 
 -- the keys of a field ascend where all terms do
 pub terms_in_ascend : (field : ℕ) (terms : TermIndex) → AllByRecursion AreTermBytes (keys_of terms) → IsStrictlySortedBy (slice_cmp nat_cmp) (keys_of terms)
-    → IsStrictlySortedBy (slice_cmp nat_cmp) (map (λ (t : TermState). t.key) (terms_in field terms))
+    → IsStrictlySortedBy (slice_cmp nat_cmp) (map (λ (t : SortedTerm). t.key) (terms_in field terms))
 terms_in_ascend field terms all sorted =
     subst (IsStrictlySortedBy (slice_cmp nat_cmp)) (sym (keys_in field terms))
     (dropped_ascends field (filter (lies_in field) (keys_of terms)) (all_in field (keys_of terms) all) (IsStrictlySortedBy-filter (slice_cmp nat_cmp) (lies_in field) (keys_of terms) sorted))
@@ -157,16 +157,16 @@ each_key f [] all = tt
 each_key f (e ∷ es) all = (all 0 e.0 (omega (arith)), each_key f es (All-tail (λ (k : Vec ℕ _). AreTermBytes k.items) e.0 (keys_of es) all))
 
 lists_ascend : (first n : ℕ) (terms : TermIndex) → AllByRecursion AreTermBytes (keys_of terms) → IsStrictlySortedBy (slice_cmp nat_cmp) (keys_of terms)
-    → AllByRecursion (λ (ts : List TermState). IsStrictlySortedBy (slice_cmp nat_cmp) (map (λ (t : TermState). t.key) ts)) (map (λ (field : ℕ). terms_in field terms) (range_with_len first n))
+    → AllByRecursion (λ (ts : List SortedTerm). IsStrictlySortedBy (slice_cmp nat_cmp) (map (λ (t : SortedTerm). t.key) ts)) (map (λ (field : ℕ). terms_in field terms) (range_with_len first n))
 lists_ascend first zero terms all sorted = tt
 lists_ascend first (suc n) terms all sorted = (terms_in_ascend first terms all sorted, lists_ascend (first + 1) n terms all sorted)
 
 -- the lists of terms of a context whose terms ascend
-pub fields_ascend : {A V : Type 0} (f : V → RecorderState) (es : List (Vec ℕ A × V)) (n : ℕ) (terms : TermIndex) (fields : List (List TermState)) → All (λ (k : Vec ℕ A). AreTermBytes k.items) (keys_of es)
+pub fields_ascend : {A V : Type 0} (f : V → RecorderState) (es : List (Vec ℕ A × V)) (n : ℕ) (terms : TermIndex) (fields : List (List SortedTerm)) → All (λ (k : Vec ℕ A). AreTermBytes k.items) (keys_of es)
     → terms ≡ map (λ (e : Vec ℕ A × V). (e.0.items, f e.1)) es → fields ≡ map (λ (field : ℕ). terms_in field terms) (range_with_len 0 n) → IsStrictlySortedBy (slice_cmp nat_cmp) (map (λ (t : List ℕ × RecorderState). t.0) terms)
-    → AllByRecursion (λ (ts : List TermState). IsStrictlySortedBy (slice_cmp nat_cmp) (map (λ (t : TermState). t.key) ts)) fields
+    → AllByRecursion (λ (ts : List SortedTerm). IsStrictlySortedBy (slice_cmp nat_cmp) (map (λ (t : SortedTerm). t.key) ts)) fields
 fields_ascend f es n terms fields all same are sorted =
-    subst (AllByRecursion (λ (ts : List TermState). IsStrictlySortedBy (slice_cmp nat_cmp) (map (λ (t : TermState). t.key) ts))) (sym are)
+    subst (AllByRecursion (λ (ts : List SortedTerm). IsStrictlySortedBy (slice_cmp nat_cmp) (map (λ (t : SortedTerm). t.key) ts))) (sym are)
     (lists_ascend 0 n terms (subst (λ (ts : TermIndex). AllByRecursion AreTermBytes (keys_of ts)) (sym same) (each_key f es all)) sorted)
 
 pub if_ok : {X E : Type 0} (r : Result X E) (P Q : X → Type 0) → ((x : X) → P x → Q x) → IfOk r P → IfOk r Q
@@ -237,7 +237,7 @@ kept_writable n field (t ∷ ts) all = by_case (lies_in field t.0) refl (kept_wr
 
 -- and the terms of each field
 pub all_writable : (n first count : ℕ) (terms : TermIndex) → AllByRecursion (λ (t : List ℕ × RecorderState). MayBeWritten n t.0 t.1) terms
-    → AllByRecursion (λ (ts : List TermState). AllByRecursion IsWritable ts) (map (λ (field : ℕ). terms_in field terms) (range_with_len first count))
+    → AllByRecursion (λ (ts : List SortedTerm). AllByRecursion IsWritable ts) (map (λ (field : ℕ). terms_in field terms) (range_with_len first count))
 all_writable n first zero terms all = tt
 all_writable n first (suc count) terms all = (kept_writable n first terms all, all_writable n (first + 1) count terms all)
 

@@ -14,10 +14,10 @@ use Rattle.ii_base.specs.declared.schema.index_record_option.IndexRecordOption.T
 use Rattle.ii_base.specs.Options.{downgrade}
 use Rattle.ii_docset.specs.Entries.{Entry, ascend_from, docs_of}
 use Rattle.ii_base.specs.Words.{Word}
-use Rattle.ii_recorder.specs.Recorded.{RecorderState, begun, entries_in, position_fault, u32_max}
-use Rattle.ii_index.specs.Tokens.{IndexToken, Piece, kept_words, max_token_len, word_token}
-use Rattle.ii_index.specs.Postings.{field_count, is_at, kind_of, postings_from, tokens_at}
-use Rattle.ii_postings_writer.specs.IndexingContext.{AllEndBy, EndsBy, IsRecorded, TermIndex, entry_at, new_recorder, record_fault, recorder_of, recorder_or_new}
+use Rattle.ii_recorder.specs.Recorded.{RecorderState, begun, entries_of_recorder, position_fault, u32_max}
+use Rattle.ii_definitions.specs.Tokens.{IndexToken, Piece, kept_words, max_token_len, word_token}
+use Rattle.ii_definitions.specs.Postings.{field_count, is_at, kind_of, postings_from, tokens_at}
+use Rattle.ii_postings_writer.specs.IndexingContext.{AllEndBy, EndsBy, IsRecorded, TermIndex, entry_for_doc, new_recorder, record_fault, recorder_of, recorder_or_new}
 use Rattle.ii_postings_writer.specs.declared.indexing_position.IndexingPosition.{IndexingPosition}
 use Rattle.ii_postings_writer.specs.IndexingTerm.{IndexingTermState, term_bytes}
 use Rattle.ii_postings_writer.specs.PostingsWriter.{text_fault, RefusesWords, IndexesWords, text_piece, tokens_counted, HasTokens, IndexesKept, PostingsWriterState, TextState, kept_fault, subscribe_fault, term_token, word_bytes, word_end}
@@ -27,6 +27,7 @@ use Rattle.ii_json.specs.LeafVisit.{IsRefusedBy, first_fault}
 use Rattle.ii_postings_writer.proofs.RecordsLaws.{HasKey, records_more, tokens_at_last}
 use Rattle.ii_postings_writer.proofs.RecorderSteps.{open_in}
 use Rattle.ii_json.proofs.LeafVisitLemmas.{first_fault-assoc}
+use Rattle.ii_docset.specs.declared.docset.TheConstants.{TERMINATED}
 
 pub records_subscribed : (option : IndexRecordOption) (doc position : ℕ) (term : IndexingTermState) (old new : TermIndex) → term.field < 2 ^ 32 → IsRecorded option doc position (term_bytes term) old new
     → (kind : ℕ → List ℕ → IndexRecordOption) (ts : List IndexToken) (of_text : Bool) → kind term.field term.value ≡ option → Records kind old ts → Records kind new (ts ++ term_token doc position of_text term ∷ [])
@@ -51,17 +52,17 @@ fitting_fault p begin w s placed fits = rw (placed, fits) refl
 find_below : (least : ℕ) (es : List Entry) (last doc : ℕ) → IsTrue (ascend_from least (docs_of es ++ last ∷ [])) → last ≤ doc
     → (find (λ (e : Entry). e.doc == doc) es ≡ None) × (least ≤ last)
 find_below least [] last doc h within =
-    let parts = and_parts (nat_le least last && nat_lt last 2147483647) true h in
-    let first = and_parts (nat_le least last) (nat_lt last 2147483647) parts.0 in
+    let parts = and_parts (nat_le least last && nat_lt last TERMINATED) true h in
+    let first = and_parts (nat_le least last) (nat_lt last TERMINATED) parts.0 in
     (refl, leb-true least last first.0)
 find_below least (e ∷ es) last doc h within =
-    let parts = and_parts (nat_le least e.doc && nat_lt e.doc 2147483647) (ascend_from (e.doc + 1) (docs_of es ++ last ∷ [])) h in
-    let first = and_parts (nat_le least e.doc) (nat_lt e.doc 2147483647) parts.0 in
+    let parts = and_parts (nat_le least e.doc && nat_lt e.doc TERMINATED) (ascend_from (e.doc + 1) (docs_of es ++ last ∷ [])) h in
+    let first = and_parts (nat_le least e.doc) (nat_lt e.doc TERMINATED) parts.0 in
     let rest = find_below (e.doc + 1) es last doc parts.1 within in
     let other : (e.doc == doc) ≡ false = grind (arith, rest.1, within) in
     (rw other rest.0, omega (arith, leb-true least e.doc first.0, rest.1))
 
-entry_at_open : (doc : ℕ) (r : RecorderState) (e : Entry) (b : Bool) → r.pending ≡ Some e → (e.doc == doc) ≡ b → entry_at doc r ≡ cond b e (begun r.option doc)
+entry_at_open : (doc : ℕ) (r : RecorderState) (e : Entry) (b : Bool) → r.pending ≡ Some e → (e.doc == doc) ≡ b → entry_for_doc doc r ≡ cond b e (begun r.option doc)
 entry_at_open doc r e true is same = rw (is, same) refl
 entry_at_open doc r e false is other = rw (is, other) refl
 
@@ -70,7 +71,7 @@ found_last doc es e other true before same = rw (find-append (λ (f : Entry). f.
 found_last doc es e other false before is = rw (find-append (λ (f : Entry). f.doc == doc) es (e ∷ []), before, is) refl
 
 -- what a recorder has of a document is what its entries have of it
-entry_found : (doc : ℕ) (r : RecorderState) → EndsBy doc r → entry_at doc r ≡ unwrap_or (find (λ (e : Entry). e.doc == doc) (entries_in r)) (begun r.option doc)
+entry_found : (doc : ℕ) (r : RecorderState) → EndsBy doc r → entry_for_doc doc r ≡ unwrap_or (find (λ (e : Entry). e.doc == doc) (entries_of_recorder r)) (begun r.option doc)
 entry_found doc r h =
     let o = open_in doc r h in
     let before = (find_below 0 r.closed o.entry.doc doc o.ascending o.within).0 in
@@ -89,7 +90,7 @@ key_recorder option ts None none = refl
 key_recorder option ts (Some r) h = h.kept
 
 key_entry : (option : IndexRecordOption) (doc : ℕ) (ts : List IndexToken) (found : Option RecorderState) → HasKey option ts found → MatchOption found ⊤ (EndsBy doc) → kind_of option ts ≡ option
-    → entry_at doc (unwrap_or found (new_recorder option)) ≡ unwrap_or (find (λ (e : Entry). e.doc == doc) (postings_from option option ts)) (begun option doc)
+    → entry_for_doc doc (unwrap_or found (new_recorder option)) ≡ unwrap_or (find (λ (e : Entry). e.doc == doc) (postings_from option option ts)) (begun option doc)
 key_entry option doc ts None none ends kind = rw none refl
 key_entry option doc ts (Some r) h ends kind =
     rw (kind, downgrade_same option, ← h.entries, entry_found doc r ends, h.kept) refl
@@ -113,7 +114,7 @@ kept_is kind p begin w s ts low ends h =
     let r = recorder_or_new s.writer.option s.terms (word_bytes p w) in
     let inner : subscribe_fault s.writer.option s.writer.total_num_tokens p.doc (begin + w.position) (word_bytes p w) s.terms ≡ (if many then Some (Limit limit.Tokens) else fault) =
     ap (λ (n : ℕ). if nat_le u64_max n then Some (Limit limit.Tokens) else record_fault p.doc (begin + w.position) r) h.counted
-    ∙ ap (λ (o : IndexRecordOption). if many then Some (Limit limit.Tokens) else position_fault o (begin + w.position) (entry_at p.doc r)) option
+    ∙ ap (λ (o : IndexRecordOption). if many then Some (Limit limit.Tokens) else position_fault o (begin + w.position) (entry_for_doc p.doc r)) option
     ∙ ap (λ (e : Entry). if many then Some (Limit limit.Tokens) else position_fault s.writer.option (begin + w.position) e) entry in
     three (nat_lt u32_max (word_end begin w)) (nat_le u32_max s.num_tokens) (nat_le u64_max (field_count p.field ts)) (Some (Limit limit.Position)) (Some (Limit limit.Tokens)) fault
     ∙ ap (λ (rest : Option Fault). if nat_lt u32_max (word_end begin w) then Some (Limit limit.Position) else if nat_le u32_max s.num_tokens then Some (Limit limit.Tokens) else rest) (sym inner)

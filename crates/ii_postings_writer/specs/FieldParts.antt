@@ -4,8 +4,8 @@ use Rattle.std.specs.List.{AllByRecursion, flat_map, range_with_len}
 use Rattle.std.specs.Option.{option_map}
 use Rattle.ii_io.specs.Composite.{Body, body_of}
 use Rattle.ii_io.specs.CompositeWrite.{HasBodies}
-use Rattle.ii_base.specs.Schema.{Entry}
-use Rattle.ii_index.specs.Fields.{option_of}
+use Rattle.ii_base.specs.Schema.{SchemaEntry}
+use Rattle.ii_definitions.specs.Fields.{option_of}
 use Rattle.ii_recorder.specs.HeldTerms.{HoldsTerms}
 use Rattle.ii_recorder.specs.IndexBodies.{IndexBodiesState}
 use Rattle.ii_recorder.specs.Terms.{FieldBodies, WrittenTerm, field_bodies}
@@ -14,48 +14,48 @@ use Rattle.ii_recorder.specs.IndexSerializer.{IndexSerializerState}
 use Rattle.ii_recorder.specs.Recorded.{RecorderState}
 use Rattle.ii_postings_writer.specs.IndexingContext.{TermIndex, recorder_of}
 use Rattle.ii_postings_writer.specs.PostingsWriter.{PostingsWriterState}
-use Rattle.ii_postings_writer.specs.SortedTerms.{IsTold, TermState, terms_in, written_of}
+use Rattle.ii_postings_writer.specs.SortedTerms.{IsTold, SortedTerm, terms_in, written_term}
 
 -- A field that is written: how many tokens it has, and its terms.
 pub record FieldPart : Type 0 where
   pub field : ℕ
   pub tokens : ℕ
-  pub terms : List TermState
+  pub terms : List SortedTerm
 
 -- the terms of a field, as they are written
-abbrev pub written_terms : List Entry → FieldPart → List WrittenTerm
-written_terms entries p = map (written_of (option_of entries p.field)) p.terms
+abbrev pub written_terms : List SchemaEntry → FieldPart → List WrittenTerm
+written_terms entries p = map (written_term (option_of entries p.field)) p.terms
 
 -- the three bodies of a field
-abbrev pub bodies_of : List Entry → FieldPart → FieldBodies
+abbrev pub bodies_of : List SchemaEntry → FieldPart → FieldBodies
 bodies_of entries p = field_bodies (option_of entries p.field) p.tokens (written_terms entries p)
 
 -- its bodies in the three files
-abbrev pub terms_body : List Entry → FieldPart → Body
+abbrev pub terms_body : List SchemaEntry → FieldPart → Body
 terms_body entries p = record { field = p.field; bytes = (bodies_of entries p).terms }
 
 -- its body in the file of postings
-abbrev pub postings_body : List Entry → FieldPart → Body
+abbrev pub postings_body : List SchemaEntry → FieldPart → Body
 postings_body entries p = record { field = p.field; bytes = (bodies_of entries p).postings }
 
 -- its body in the file of positions
-abbrev pub positions_body : List Entry → FieldPart → Body
-positions_body entries p = record { field = p.field; bytes = (bodies_of entries p).positions }
+abbrev pub positions_of_part : List SchemaEntry → FieldPart → Body
+positions_of_part entries p = record { field = p.field; bytes = (bodies_of entries p).positions }
 
 -- They hold its terms, of which is known what was told.
-pub record HoldsPart (entries : List Entry) (p : FieldPart) : Type 0 where
+pub record HoldsPart (entries : List SchemaEntry) (p : FieldPart) : Type 0 where
   pub terms : HoldsTerms (option_of entries p.field) p.tokens (bodies_of entries p) (written_terms entries p)
   pub told : AllByRecursion (IsTold (option_of entries p.field)) p.terms
 
 -- Since three files were begun, these fields and nothing else were written to them.
-pub record HasFields (entries : List Entry) (initial now : IndexBodiesState) (fs : List FieldPart) : Type 0 where
+pub record HasFields (entries : List SchemaEntry) (initial now : IndexBodiesState) (fs : List FieldPart) : Type 0 where
   pub terms : HasBodies initial.terms.writer now.terms (map (terms_body entries) fs)
   pub postings : HasBodies initial.postings.writer now.postings (map (postings_body entries) fs)
-  pub positions : HasBodies initial.positions.writer now.positions (map (positions_body entries) fs)
+  pub positions : HasBodies initial.positions.writer now.positions (map (positions_of_part entries) fs)
   pub held : AllByRecursion (HoldsPart entries) fs
 
 -- a field is written where it has terms
-abbrev pub parts_of : List Entry → ℕ → ℕ → List TermState → List FieldPart
+abbrev pub parts_of : List SchemaEntry → ℕ → ℕ → List SortedTerm → List FieldPart
 parts_of entries field tokens [] = []
 parts_of entries field tokens (t ∷ ts) = record { field = field; tokens = tokens; terms = t ∷ ts } ∷ []
 
@@ -64,7 +64,7 @@ abbrev pub tokens_in : List PostingsWriterState → ℕ → ℕ
 tokens_in writers field = unwrap_or (option_map (λ (w : PostingsWriterState). w.total_num_tokens) (slice_get writers field)) 0
 
 -- the first so many fields as they are written
-abbrev pub first_parts : List Entry → List PostingsWriterState → List (List TermState) → ℕ → List FieldPart
+abbrev pub first_parts : List SchemaEntry → List PostingsWriterState → List (List SortedTerm) → ℕ → List FieldPart
 first_parts entries writers terms n = flat_map (λ (field : ℕ). parts_of entries field (tokens_in writers field) (slice_index_or terms field [])) (range_with_len 0 n)
 
 -- Norms for which each count of documents has 32 bits.

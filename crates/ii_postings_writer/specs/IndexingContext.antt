@@ -5,7 +5,7 @@ use Rattle.std.specs.Option.{option_map_or}
 use Rattle.ii_io.specs.declared.faults.Fault.{Fault}
 use Rattle.ii_base.specs.declared.schema.index_record_option.IndexRecordOption.{IndexRecordOption}
 use Rattle.ii_docset.specs.Entries.{Entry, are_documents, docs_of}
-use Rattle.ii_recorder.specs.Recorded.{RecorderState, begun, entries_in, position_fault, with_position}
+use Rattle.ii_recorder.specs.Recorded.{RecorderState, begun, entries_of_recorder, position_fault, with_position}
 
 -- each term's bytes with its recorder
 abbrev pub TermIndex : Type 0
@@ -29,23 +29,23 @@ is_open doc r = option_map_or (λ (e : Entry). e.doc == doc) r.pending false
 
 -- a recorder once a document is open in it
 abbrev pub opened_at : ℕ → RecorderState → RecorderState
-opened_at doc r = if is_open doc r then r else record { option = r.option; closed = entries_in r; pending = Some (begun r.option doc) }
+opened_at doc r = if is_open doc r then r else record { option = r.option; closed = entries_of_recorder r; pending = Some (begun r.option doc) }
 
 -- what it has of that document
-abbrev pub entry_at : ℕ → RecorderState → Entry
-entry_at doc r = unwrap_or (opened_at doc r).pending (begun r.option doc)
+abbrev pub entry_for_doc : ℕ → RecorderState → Entry
+entry_for_doc doc r = unwrap_or (opened_at doc r).pending (begun r.option doc)
 
 -- and with one more position of it
 abbrev pub recorded_at : ℕ → ℕ → RecorderState → RecorderState
-recorded_at doc position r = record (opened_at doc r) { pending = Some (with_position r.option position (entry_at doc r)) }
+recorded_at doc position r = record (opened_at doc r) { pending = Some (with_position r.option position (entry_for_doc doc r)) }
 
 -- why that position can't be recorded
 abbrev pub record_fault : ℕ → ℕ → RecorderState → Option Fault
-record_fault doc position r = position_fault r.option position (entry_at doc r)
+record_fault doc position r = position_fault r.option position (entry_for_doc doc r)
 
 -- The documents of a recorder ascend; the last one is open, and isn't above a document.
 pub record EndsBy (doc : ℕ) (r : RecorderState) : Type 0 where
-  pub ascending : IsTrue (are_documents (docs_of (entries_in r)))
+  pub ascending : IsTrue (are_documents (docs_of (entries_of_recorder r)))
   pub last : MatchOption r.pending ⊥ (λ (e : Entry). e.doc ≤ doc)
 
 -- So it is with each recorder.

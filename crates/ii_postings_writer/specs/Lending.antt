@@ -7,7 +7,7 @@ use Rattle.ii_postings_writer.specs.contracts.indexing_term.IndexingTerm.{the_ro
 use Rattle.ii_postings_writer.specs.IndexingTerm.{IndexingTermState}
 
 -- Bytes were added to its value; nothing changed where that was refused.
-abbrev pub RestsWith : MutBor IndexingTermState → List ℕ → Result (Bor (List ℕ)) Fault → Fml
-RestsWith s bytes r =
+abbrev pub TermRestsWith : MutBor IndexingTermState → List ℕ → Result (Bor (List ℕ)) Fault → Fml
+TermRestsWith s bytes r =
     follows_so the_row the_row s.ghost_name none (λ _ _. ⊤)
     (λ (n : IndexingTermState). OnOk r (n ≡ record s.now { value = s.now.value ++ bytes }) × OnErr r (n ≡ s.now))

@@ -8,12 +8,12 @@ use Rattle.ii_base.specs.declared.schema.index_record_option.IndexRecordOption.{
 use Rattle.ii_base.specs.declared.schema.index_record_option.IndexRecordOption.TheVariants.{Basic}
 use Rattle.ii_base.specs.declared.schema.value_type.ValueType.{ValueType}
 use Rattle.ii_base.specs.declared.schema.value_type.ValueType.TheVariants.{Str, U64, I64, Bool as Truth, Date, Bytes, Json, IpAddr}
-use Rattle.ii_base.specs.Schema.{Entry}
-use Rattle.ii_index.specs.JsonKeys.{is_json}
+use Rattle.ii_base.specs.Schema.{SchemaEntry}
+use Rattle.ii_definitions.specs.JsonKeys.{is_json}
 use Rattle.ii_base.specs.Words.{Word}
 use Rattle.ii_recorder.specs.Recorded.{u32_max}
-use Rattle.ii_index.specs.Tokens.{IndexToken, Piece, kept_words, word_token}
-use Rattle.ii_index.specs.Postings.{field_count, kind_of, tokens_at}
+use Rattle.ii_definitions.specs.Tokens.{IndexToken, Piece, kept_words, word_token}
+use Rattle.ii_definitions.specs.Postings.{field_count, kind_of, tokens_at}
 use Rattle.ii_postings_writer.specs.IndexingContext.{AllEndBy, IsRecorded, TermIndex, record_fault, recorder_or_new}
 use Rattle.ii_postings_writer.specs.declared.indexing_position.IndexingPosition.{IndexingPosition}
 use Rattle.ii_postings_writer.specs.IndexingTerm.{IndexingTermState, field_bytes}
@@ -39,19 +39,19 @@ kept_as Json option = option
 kept_as IpAddr option = Basic
 
 -- what is kept of a text's term in a field
-abbrev pub kept_of : Entry → IndexRecordOption
-kept_of e = kept_as e.value_type e.option
+abbrev pub text_kept_of : SchemaEntry → IndexRecordOption
+text_kept_of e = kept_as e.value_type e.option
 
 -- and of a term of a value there: in a JSON field that it occurs
-abbrev pub value_kept_of : Entry → IndexRecordOption
-value_kept_of e = if is_json e.value_type then Basic else kept_of e
+abbrev pub value_kept_of : SchemaEntry → IndexRecordOption
+value_kept_of e = if is_json e.value_type then Basic else text_kept_of e
 
 -- a writer of no tokens, by what a field keeps
-abbrev pub writer_of : Entry → PostingsWriterState
-writer_of e = record { option = kept_of e; value_option = value_kept_of e; total_num_tokens = 0 }
+abbrev pub writer_of : SchemaEntry → PostingsWriterState
+writer_of e = record { option = text_kept_of e; value_option = value_kept_of e; total_num_tokens = 0 }
 
 -- the writers of a schema, before any token
-abbrev pub writers_of : List Entry → List PostingsWriterState
+abbrev pub writers_of : List SchemaEntry → List PostingsWriterState
 writers_of entries = map writer_of entries
 
 -- so many more tokens

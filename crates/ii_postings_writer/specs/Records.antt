@@ -1,17 +1,17 @@
 -- Which tokens an indexing context has.
 use Rattle.std.specs.Prelude.{◌≡◌, ℕ, ◌<◌, ◌^◌, List, [], ◌++◌, map, IsSome, MatchOption}
 use Rattle.ii_base.specs.declared.schema.index_record_option.IndexRecordOption.{IndexRecordOption}
-use Rattle.ii_recorder.specs.Recorded.{RecorderState, entries_in}
-use Rattle.ii_index.specs.Cut.{cut_entry}
-use Rattle.ii_index.specs.Tokens.{IndexToken}
-use Rattle.ii_index.specs.Postings.{grouped, tokens_at}
+use Rattle.ii_recorder.specs.Recorded.{RecorderState, entries_of_recorder}
+use Rattle.ii_definitions.specs.Cut.{cut_entry}
+use Rattle.ii_definitions.specs.Tokens.{IndexToken}
+use Rattle.ii_definitions.specs.Postings.{grouped, tokens_at}
 use Rattle.ii_postings_writer.specs.IndexingTerm.{field_bytes}
 use Rattle.ii_postings_writer.specs.IndexingContext.{TermIndex, recorder_of}
 
 -- A recorder has the postings of these tokens, by what is kept of their key; its last document is open.
 pub record HasPostings (option : IndexRecordOption) (ts : List IndexToken) (r : RecorderState) : Type 0 where
   pub kept : r.option ≡ option
-  pub entries : entries_in r ≡ map (cut_entry option) (grouped ts)
+  pub entries : entries_of_recorder r ≡ map (cut_entry option) (grouped ts)
   pub opened : IsSome r.pending
 
 -- Exactly the keys that occurred have recorders, each with the postings of its key.

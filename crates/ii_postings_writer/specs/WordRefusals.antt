@@ -9,8 +9,8 @@ use Rattle.ii_base.specs.Words.{Word}
 use Rattle.ii_json.specs.LeafVisit.{first_fault}
 use Rattle.ii_docset.specs.Entries.{Entry}
 use Rattle.ii_recorder.specs.Recorded.{begun, position_fault, u32_max}
-use Rattle.ii_index.specs.Tokens.{IndexToken, Piece, end_after, word_token}
-use Rattle.ii_index.specs.Postings.{field_count, key_postings}
+use Rattle.ii_definitions.specs.Tokens.{IndexToken, Piece, end_after, word_token}
+use Rattle.ii_definitions.specs.Postings.{field_count, key_postings}
 
 -- the greatest number of 64 bits
 abbrev pub u64_max : ℕ

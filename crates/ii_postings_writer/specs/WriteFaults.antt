@@ -5,16 +5,16 @@ use Rattle.ii_io.specs.declared.faults.Fault.{Fault}
 use Rattle.ii_io.specs.declared.faults.Fault.TheVariants.{Limit, OutOfMemory, SerializerClosed, Write}
 use Rattle.ii_io.specs.declared.faults.LimitName.TheVariants as limit
 use Rattle.ii_io.specs.Composite.{bodies_bytes}
-use Rattle.ii_base.specs.Schema.{Entry}
+use Rattle.ii_base.specs.Schema.{SchemaEntry}
 use Rattle.ii_base.specs.declared.schema.index_record_option.IndexRecordOption.{IndexRecordOption}
-use Rattle.ii_index.specs.Fields.{option_of}
+use Rattle.ii_definitions.specs.Fields.{option_of}
 use Rattle.ii_termdict.specs.ReadBack.{AreAscending}
 use Rattle.ii_recorder.specs.IndexBodies.{AreFull, IndexBodiesState, NoneFalls, failed_calls}
 use Rattle.ii_recorder.specs.IndexSerializer.{IndexSerializerState}
 use Rattle.ii_recorder.specs.Pushed.{FillTooLarge}
 use Rattle.ii_recorder.specs.Recorded.{RecorderState}
 use Rattle.ii_recorder.specs.Terms.{FieldBodies, WrittenTerm, open_bodies, positions_body, positions_bytes, postings_bytes}
-use Rattle.ii_postings_writer.specs.FieldParts.{FieldPart, HasFields, bodies_of, first_parts, positions_body as positions_of_part, postings_body, terms_body, written_terms}
+use Rattle.ii_postings_writer.specs.FieldParts.{FieldPart, HasFields, bodies_of, first_parts, positions_of_part, postings_body, terms_body, written_terms}
 use Rattle.ii_postings_writer.specs.IndexingContext.{TermIndex, recorder_of}
 use Rattle.ii_postings_writer.specs.PostingsWriter.{PostingsWriterState}
 use Rattle.ii_postings_writer.specs.SortedTerms.{terms_in}
@@ -48,23 +48,23 @@ IsTermFaultAfter initial mode tokens before t fault =
     let ts = before ++ t ∷ [] in IsFaultBy (HasLargeSum t) (IsLong mode t) (AreFull initial (open_bodies mode tokens ts) ⊎ PassEnds mode ts) fault
 
 -- What of a part may pass a limit.
-abbrev pub HasLargeTerm : List Entry → FieldPart → Type 0
+abbrev pub HasLargeTerm : List SchemaEntry → FieldPart → Type 0
 HasLargeTerm entries p = Any HasLargeSum (written_terms entries p)
 
 -- A term of the field takes too many bytes.
-abbrev pub HasLongTerm : List Entry → FieldPart → Type 0
+abbrev pub HasLongTerm : List SchemaEntry → FieldPart → Type 0
 HasLongTerm entries p = Any (IsLong (option_of entries p.field)) (written_terms entries p)
 
 -- The ends of the field's terms pass what may be kept.
-abbrev pub PassesEnds : List Entry → FieldPart → Type 0
+abbrev pub PassesEnds : List SchemaEntry → FieldPart → Type 0
 PassesEnds entries p = PassEnds (option_of entries p.field) (written_terms entries p)
 
 -- Why the part of a field can't be written after the given bodies.
-abbrev pub IsPartFault : List Entry → IndexBodiesState → FieldPart → Fault → Type 0
+abbrev pub IsPartFault : List SchemaEntry → IndexBodiesState → FieldPart → Fault → Type 0
 IsPartFault entries initial p fault = IsFaultBy (HasLargeTerm entries p) (HasLongTerm entries p) (AreFull initial (bodies_of entries p) ⊎ PassesEnds entries p) fault
 
 -- the bodies of parts, one after the other
-abbrev pub all_bodies : List Entry → List FieldPart → FieldBodies
+abbrev pub all_bodies : List SchemaEntry → List FieldPart → FieldBodies
 all_bodies entries ps = record {
   terms = bodies_bytes (map (terms_body entries) ps);
   postings = bodies_bytes (map (postings_body entries) ps);
@@ -72,7 +72,7 @@ all_bodies entries ps = record {
 }
 
 -- Why parts can't be written after the given bodies: one of them has such a term, or there is no room for all of them.
-abbrev pub IsPartsFault : List Entry → IndexBodiesState → List FieldPart → Fault → Type 0
+abbrev pub IsPartsFault : List SchemaEntry → IndexBodiesState → List FieldPart → Fault → Type 0
 IsPartsFault entries initial ps fault = IsFaultBy (Any (HasLargeTerm entries) ps) (Any (HasLongTerm entries) ps) (AreFull initial (all_bodies entries ps) ⊎ Any (PassesEnds entries) ps) fault
 
 -- Why the terms of a context can't be written: its parts, in the order in which WroteTerms has them, can't be.

@@ -1,4 +1,5 @@
-ghost use Rattle.std.specs.Prelude.{◌≡◌, ◌≤◌, ◌<◌, [], length, IfErr, IfOk, OnOk};
+ghost use Rattle.std.specs.Prelude.{◌≡◌, ◌≤◌, ◌<◌, [], length, IfOk, OnOk};
+ghost use Rattle.ii_io.specs.Faults.{OnlyMemory};
 ghost use Rattle.ii_docset.specs.declared.docset.TheConstants.{TERMINATED};
 ghost use Rattle.ii_recorder.specs.AnyRecorder.{any_state};
 ghost use Rattle.ii_postings_writer.specs.IndexingContext.{AllEndBy, EndsBy, IsRecorded, new_recorder, opened_at, record_fault, recorded_at, recorder_or_new};
@@ -106,7 +107,7 @@ fn open_doc(recorder: &mut AnyRecorder, doc: DocId) -> Result<(), Fault>
     requires low { doc < TERMINATED }
     requires ends { EndsBy doc (any_state recorder.old) }
     ensures ok { OnOk result (any_state recorder.new ≡ opened_at doc (any_state recorder.old)) }
-    ensures only { IfErr result (λ e. e ≡ Fault.OutOfMemory) }
+    ensures only { OnlyMemory result }
 {
     if recorder.current_doc() == doc {
         return Ok(());

@@ -1,10 +1,11 @@
-ghost use Rattle.std.specs.Prelude.{◌≡◌, ◌∷◌, ◌++◌, ◌+◌, ◌==◌, ◌≤◌, ◌<◌, ◌^◌, [], drop, length, take, IfErr, IfOk, OnErr, OnOk};
+ghost use Rattle.std.specs.Prelude.{◌≡◌, ◌∷◌, ◌++◌, ◌+◌, ◌==◌, ◌≤◌, ◌<◌, ◌^◌, [], drop, length, take, IfOk, OnErr, OnOk};
 ghost use Rattle.std.specs.Int.{bytes_high_first};
 ghost use Rattle.ii_base.specs.ValueTypes.{code_of};
 ghost use Rattle.ii_base.specs.Values.{flipped, number_of_bool, u64_bytes};
 ghost use Rattle.std.specs.Borrow.{sem};
+ghost use Rattle.ii_io.specs.Faults.{OnlyMemory};
 ghost use Rattle.ii_postings_writer.specs.IndexingTerm.{AreTermBytes, field_bytes, field_in, term_bytes};
-ghost use Rattle.ii_postings_writer.specs.Lending.{RestsWith};
+ghost use Rattle.ii_postings_writer.specs.Lending.{TermRestsWith};
 
 use ii_base::{FastValue, Fault, Field};
 use std::alloc::Global;
@@ -37,7 +38,7 @@ impl IndexingTerm {
     pub fn with_capacity(alloc: Global, capacity: usize) -> Result<IndexingTerm, Fault>
         requires { 4 + capacity < 2 ^ 64 }
         ensures ok { IfOk result (λ term. term ≡ record { field = 0; value = [] }) }
-        ensures only { IfErr result (λ e. e ≡ Fault.OutOfMemory) }
+        ensures only { OnlyMemory result }
     {
         let mut bytes = Vec::with_capacity(alloc, TERM_METADATA_LENGTH + capacity)?;
         bytes.extend_from_slice(&0u32.to_be_bytes())?;
@@ -83,7 +84,7 @@ impl IndexingTerm {
     pub fn set_u64(&mut self, val: u64) -> Result<(), Fault>
         ensures ok { OnOk result (self.new ≡ record self.old { value = u64_bytes val }) }
         ensures err { OnErr result (self.new ≡ self.old) }
-        ensures only { IfErr result (λ e. e ≡ Fault.OutOfMemory) }
+        ensures only { OnlyMemory result }
     {
         self.set_bytes(&val.to_be_bytes())
     }
@@ -93,7 +94,7 @@ impl IndexingTerm {
     pub fn set_i64(&mut self, val: i64) -> Result<(), Fault>
         ensures ok { OnOk result (self.new ≡ record self.old { value = u64_bytes (flipped val) }) }
         ensures err { OnErr result (self.new ≡ self.old) }
-        ensures only { IfErr result (λ e. e ≡ Fault.OutOfMemory) }
+        ensures only { OnlyMemory result }
     {
         self.set_u64(val.to_u64())
     }
@@ -103,7 +104,7 @@ impl IndexingTerm {
     pub fn set_bool(&mut self, val: bool) -> Result<(), Fault>
         ensures ok { OnOk result (self.new ≡ record self.old { value = u64_bytes (number_of_bool val) }) }
         ensures err { OnErr result (self.new ≡ self.old) }
-        ensures only { IfErr result (λ e. e ≡ Fault.OutOfMemory) }
+        ensures only { OnlyMemory result }
     {
         self.set_u64(u64::from(val))
     }
@@ -113,7 +114,7 @@ impl IndexingTerm {
     pub fn set_ip_addr(&mut self, val: u128) -> Result<(), Fault>
         ensures ok { OnOk result (self.new ≡ record self.old { value = bytes_high_first 16 val }) }
         ensures err { OnErr result (self.new ≡ self.old) }
-        ensures only { IfErr result (λ e. e ≡ Fault.OutOfMemory) }
+        ensures only { OnlyMemory result }
     {
         self.set_bytes(&val.to_be_bytes())
     }
@@ -122,7 +123,7 @@ impl IndexingTerm {
     pub fn set_bytes(&mut self, bytes: &[u8]) -> Result<(), Fault>
         ensures ok { OnOk result (self.new ≡ record self.old { value = bytes.now }) }
         ensures err { OnErr result (self.new ≡ self.old) }
-        ensures only { IfErr result (λ e. e ≡ Fault.OutOfMemory) }
+        ensures only { OnlyMemory result }
     {
         self.bytes.reserve(bytes.len())?;
         self.bytes.truncate(TERM_METADATA_LENGTH);
@@ -135,7 +136,7 @@ impl IndexingTerm {
     pub fn append_type_and_fast_value<T: FastValue>(&mut self, val: T) -> Result<(), Fault>
         ensures ok { OnOk result (self.new ≡ record self.old { value = self.old.value ++ code_of T.type_of_values ∷ u64_bytes (T.number val) }) }
         ensures err { OnErr result (self.new ≡ self.old) }
-        ensures only { IfErr result (λ e. e ≡ Fault.OutOfMemory) }
+        ensures only { OnlyMemory result }
     {
         let len = self.bytes.len();
         self.bytes.push(T::to_type().to_code())?;
@@ -149,9 +150,9 @@ impl IndexingTerm {
     /// Adds bytes to the value, and lends what it added. `OutOfMemory` where there is no room for them: the
     /// term then stays.
     pub fn append_bytes(&mut self, bytes: &[u8]) -> Result<&[u8], Fault>
-        ensures* rests { sem 𝓛 (RestsWith self.entry bytes.entry.now result) }
+        ensures* rests { sem 𝓛 (TermRestsWith self.entry bytes.entry.now result) }
         ensures ok { IfOk result (λ added. added.now ≡ bytes.entry.now) }
-        ensures only { IfErr result (λ e. e ≡ Fault.OutOfMemory) }
+        ensures only { OnlyMemory result }
     {
         let len = self.bytes.len();
         self.bytes.extend_from_slice(bytes)?;
@@ -162,7 +163,7 @@ impl IndexingTerm {
     pub(crate) fn add_bytes(&mut self, bytes: &[u8]) -> Result<(), Fault>
         ensures ok { OnOk result (self.new ≡ record self.old { value = self.old.value ++ bytes.now }) }
         ensures err { OnErr result (self.new ≡ self.old) }
-        ensures only { IfErr result (λ e. e ≡ Fault.OutOfMemory) }
+        ensures only { OnlyMemory result }
     {
         self.bytes.extend_from_slice(bytes)?;
         Ok(())
@@ -196,7 +197,7 @@ impl IndexingTerm {
     /// The same term once more. `OutOfMemory` where there is no room for it.
     pub fn clone(&self) -> Result<IndexingTerm, Fault>
         ensures ok { IfOk result (λ term. term ≡ self.now) }
-        ensures only { IfErr result (λ e. e ≡ Fault.OutOfMemory) }
+        ensures only { OnlyMemory result }
     {
         let bytes = self.bytes.clone()?;
         Ok(IndexingTerm {

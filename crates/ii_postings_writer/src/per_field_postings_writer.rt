@@ -1,5 +1,6 @@
-ghost use Rattle.std.specs.Prelude.{◌≡◌, ◌<◌, length, map, slice_get, Some, IfErr, IfOk};
+ghost use Rattle.std.specs.Prelude.{◌≡◌, ◌<◌, length, map, slice_get, Some, IfOk};
 ghost use Rattle.std.specs.Borrow.{sem};
+ghost use Rattle.ii_io.specs.Faults.{OnlyMemory};
 ghost use Rattle.ii_postings_writer.specs.LendingWriters.{LendsWriter};
 ghost use Rattle.ii_postings_writer.specs.PostingsWriter.{writer_of, writers_of};
 
@@ -28,7 +29,7 @@ impl PerFieldPostingsWriter {
     /// aren't text that they occur. `OutOfMemory` where there is no room for them.
     pub fn for_schema(alloc: Global, schema: &Schema) -> Result<PerFieldPostingsWriter, Fault>
         ensures ok { IfOk result (λ writers. writers ≡ writers_of schema.now) }
-        ensures only { IfErr result (λ e. e ≡ Fault.OutOfMemory) }
+        ensures only { OnlyMemory result }
     {
         let mut writers = Vec::with_capacity(alloc, schema.num_fields())?;
         for (_field, entry) in schema.fields() {

@@ -4,7 +4,7 @@ ghost use Rattle.ii_base.specs.Words.{Word, seen_word};
 ghost use Rattle.ii_base.specs.declared.schema.index_record_option.IndexRecordOption.TheVariants.{Basic};
 ghost use Rattle.ii_docset.specs.declared.docset.TheConstants.{TERMINATED};
 ghost use Rattle.ii_recorder.specs.Recorded.{u32_max};
-ghost use Rattle.ii_index.specs.Tokens.{IndexToken, end_after, kept_words, piece_tokens_from};
+ghost use Rattle.ii_definitions.specs.Tokens.{IndexToken, end_after, kept_words, piece_tokens_from};
 ghost use Rattle.ii_postings_writer.specs.IndexingContext.{AllEndBy, IsRecorded};
 ghost use Rattle.ii_postings_writer.specs.IndexingTerm.{field_bytes, term_bytes};
 ghost use Rattle.ii_postings_writer.specs.PostingsWriter.{HasTokens, IndexesKept, IndexesWords, PostingsWriterState, RefusesWords, TextState, kept_fault, subscribe_fault, term_token, text_fault, text_piece, text_state, tokens_counted};

@@ -2,16 +2,16 @@ ghost use Rattle.std.specs.Prelude.{◌≡◌, ◌≤◌, ◌<◌, ◌++◌, ◌
 ghost use Rattle.std.specs.List.{AllByRecursion};
 ghost use Rattle.ii_io.specs.CountingWriter.{Closes};
 ghost use Rattle.ii_termdict.specs.ReadBack.{AreAscending};
-ghost use Rattle.ii_index.specs.Fields.{option_of};
+ghost use Rattle.ii_definitions.specs.Fields.{option_of};
 ghost use Rattle.ii_recorder.specs.AnyRecorder.{any_state};
 ghost use Rattle.ii_recorder.specs.IndexBodies.{AddsBodies, AllGrow, IndexBodiesState, LacksField};
 ghost use Rattle.ii_recorder.specs.IndexSerializer.{IsWriting};
 ghost use Rattle.ii_recorder.specs.Terms.{WrittenTerm, field_bodies};
 ghost use Rattle.ii_recorder.specs.HeldTerms.{HoldsTerms};
 ghost use Rattle.ii_postings_writer.specs.FieldParts.{AreShortNorms, FieldPart, HasFields, WroteContext, first_parts, parts_of, tokens_in};
-ghost use Rattle.ii_index.specs.Tokens.{IndexToken};
+ghost use Rattle.ii_definitions.specs.Tokens.{IndexToken};
 ghost use Rattle.ii_postings_writer.specs.HeldBodies.{HaveTokens, WroteTokens};
-ghost use Rattle.ii_postings_writer.specs.SortedTerms.{AllMayBeWritten, IsTold, IsWritable, TermState, state_of, written_of};
+ghost use Rattle.ii_postings_writer.specs.SortedTerms.{AllMayBeWritten, IsTold, IsWritable, SortedTerm, state_of, written_term};
 ghost use Rattle.ii_postings_writer.specs.WriteFaults.{ClosesOrStays, CountsFailures, IsContextFault, IsPartFault, IsPartsFault, IsTermFaultAfter, StaysClosed};
 
 use crate::indexing_context::IndexingContext;
@@ -39,7 +39,7 @@ fn serialize_one_term<W: Write>(
     requires writable { IsWritable (record { key = key.now; recorder = any_state recorder.now }) }
     ensures same_reference { serializer.new.index.ghost_name ≡ serializer.old.index.ghost_name }
     ensures writing { (initial : IndexBodiesState) (field tokens : ℕ) (ts : List WrittenTerm) → IsWriting initial serializer.old.index.now field tokens ts []
-        → OnOk result (IsWriting initial serializer.new.index.now field tokens (ts ++ written_of (option_of serializer.old.index.now.entries field) (record { key = key.now; recorder = any_state recorder.now }) ∷ []) []) }
+        → OnOk result (IsWriting initial serializer.new.index.now field tokens (ts ++ written_term (option_of serializer.old.index.now.entries field) (record { key = key.now; recorder = any_state recorder.now }) ∷ []) []) }
     ensures told { OnOk result (IsTold serializer.old.index.now.field.term.mode (record { key = key.now; recorder = any_state recorder.now })) }
     ensures between { OnOk result (serializer.new.index.now.field.term_open ≡ false) }
     ensures closes { Closes result serializer.new.index.now.closed }
@@ -49,7 +49,7 @@ fn serialize_one_term<W: Write>(
     ensures grow { AllGrow serializer.old.index.now.bodies serializer.new.index.now.bodies }
     ensures fault { (initial : IndexBodiesState) (field tokens : ℕ) (ts : List WrittenTerm) → IsWriting initial serializer.old.index.now field tokens ts []
         → IfErr result (IsTermFaultAfter initial (option_of serializer.old.index.now.entries field) tokens ts
-        (written_of (option_of serializer.old.index.now.entries field) (record { key = key.now; recorder = any_state recorder.now }))) }
+        (written_term (option_of serializer.old.index.now.entries field) (record { key = key.now; recorder = any_state recorder.now }))) }
     ensures none { ¬ IsErrOf result Fault.SerializerClosed }
 {
     let doc_freq = recorder.term_doc_freq().unwrap_or(0);
@@ -75,10 +75,10 @@ fn serialize_field<W: Write>(
     ensures closes { Closes result serializer.new.closed }
     ensures closed { IsErrOf result Fault.SerializerClosed ↔ IsTrue serializer.old.closed }
     ensures wrote { OnOk result (AddsBodies serializer.old.bodies serializer.new.bodies field
-        (field_bodies (option_of serializer.old.entries field) total_num_tokens (map (written_of (option_of serializer.old.entries field)) (map state_of terms.now)))) }
+        (field_bodies (option_of serializer.old.entries field) total_num_tokens (map (written_term (option_of serializer.old.entries field)) (map state_of terms.now)))) }
     ensures holds { OnOk result (HoldsTerms (option_of serializer.old.entries field) total_num_tokens
-        (field_bodies (option_of serializer.old.entries field) total_num_tokens (map (written_of (option_of serializer.old.entries field)) (map state_of terms.now)))
-        (map (written_of (option_of serializer.old.entries field)) (map state_of terms.now))) }
+        (field_bodies (option_of serializer.old.entries field) total_num_tokens (map (written_term (option_of serializer.old.entries field)) (map state_of terms.now)))
+        (map (written_term (option_of serializer.old.entries field)) (map state_of terms.now))) }
     ensures told { OnOk result (AllByRecursion (IsTold (option_of serializer.old.entries field)) (map state_of terms.now)) }
     // where it is refused
     ensures failures { CountsFailures serializer.old.bodies serializer.new.bodies result }

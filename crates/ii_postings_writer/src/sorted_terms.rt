@@ -1,10 +1,11 @@
-ghost use Rattle.std.specs.Prelude.{◌≡◌, ◌≤◌, ◌<◌, ◌++◌, ◌∷◌, ℕ, List, [], drop, length, map, replicate, slice_index_or, slice_set, OnOk, IfErr, IfOk};
+ghost use Rattle.std.specs.Prelude.{◌≡◌, ◌≤◌, ◌<◌, ◌++◌, ◌∷◌, ℕ, List, [], drop, length, map, replicate, slice_index_or, slice_set, OnOk, IfOk};
 ghost use Rattle.std.specs.List.{AllByRecursion, range_with_len};
+ghost use Rattle.ii_io.specs.Faults.{OnlyMemory};
 ghost use Rattle.ii_recorder.specs.AnyRecorder.{any_state};
 ghost use Rattle.ii_termdict.specs.ReadBack.{AreAscending};
 ghost use Rattle.ii_postings_writer.specs.IndexingContext.{recorder_of};
 ghost use Rattle.ii_postings_writer.specs.IndexingTerm.{AreTermBytes, field_in};
-ghost use Rattle.ii_postings_writer.specs.SortedTerms.{IsTermBelow, TermState, seen, state_of, terms_in};
+ghost use Rattle.ii_postings_writer.specs.SortedTerms.{IsTermBelow, SortedTerm, seen, state_of, terms_in};
 
 use crate::IndexingTermRef;
 use crate::indexing_context::IndexingContext;
@@ -20,7 +21,7 @@ impl IndexingContext {
         ensures ascending { OnOk result (AreAscending (map (λ t. t.0) self.new)) }
         ensures whole { OnOk result (AllByRecursion AreTermBytes (map (λ t. t.0) self.new)) }
         ensures same { (bytes : List ℕ) → recorder_of self.new bytes ≡ recorder_of self.old bytes }
-        ensures only { IfErr result (λ e. e ≡ Fault.OutOfMemory) }
+        ensures only { OnlyMemory result }
     {
         self.term_index.sort_unstable_keys()?;
         Ok(())
@@ -45,9 +46,9 @@ pub(crate) struct FieldTerms<'a> {
 impl<'a> Model for FieldTerms<'a> {
     ghost use Rattle.std.specs.Prelude.{List, map};
     ghost use Rattle.ii_recorder.specs.AnyRecorder.{any_state};
-    ghost use Rattle.ii_postings_writer.specs.SortedTerms.{TermState};
+    ghost use Rattle.ii_postings_writer.specs.SortedTerms.{SortedTerm};
 
-    ghost Value = { List TermState };
+    ghost Value = { List SortedTerm };
 
     ghost view = { λ f. map (λ t. record { key = t.key.now; recorder = any_state t.recorder.now }) f.terms.items };
 }
@@ -69,7 +70,7 @@ impl<'a> FieldTerms<'a> {
 
     pub(crate) fn push(&mut self, key: &'a [u8], recorder: &'a AnyRecorder) -> Result<(), Fault>
         ensures ok { OnOk result (self.new ≡ self.old ++ record { key = key.now; recorder = any_state recorder.now } ∷ []) }
-        ensures only { IfErr result (λ e. e ≡ Fault.OutOfMemory) }
+        ensures only { OnlyMemory result }
     {
         self.terms.push(TermOfField { key, recorder })?;
         Ok(())
@@ -86,7 +87,7 @@ fn add_term<'a>(
     requires known { field_in term.now < length fields.old.items }
     ensures ok { OnOk result (fields.new.items ≡ slice_set fields.old.items (field_in term.now)
         (slice_index_or fields.old.items (field_in term.now) [] ++ record { key = drop 4 term.now; recorder = any_state recorder.now } ∷ [])) }
-    ensures only { IfErr result (λ e. e ≡ Fault.OutOfMemory) }
+    ensures only { OnlyMemory result }
 {
     let field = IndexingTermRef::wrap(term).field().field_id() as usize;
     fields[field].push(&term[4..], recorder)
@@ -95,7 +96,7 @@ fn add_term<'a>(
 // No terms of so many fields.
 fn no_terms<'a>(alloc: Global, num_fields: usize) -> Result<Vec<FieldTerms<'a>>, Fault>
     ensures ok { IfOk result (λ fields. fields.items ≡ replicate num_fields []) }
-    ensures only { IfErr result (λ e. e ≡ Fault.OutOfMemory) }
+    ensures only { OnlyMemory result }
 {
     let mut fields = Vec::new(alloc);
     for _field in 0..num_fields {
@@ -112,7 +113,7 @@ fn by_field<'a>(
 ) -> Result<Vec<FieldTerms<'a>>, Fault>
     requires known { AllByRecursion (IsTermBelow num_fields) (map seen terms.now.entries) }
     ensures ok { IfOk result (λ fields. fields.items ≡ map (λ field. terms_in field (map seen terms.entry.now.entries)) (range_with_len 0 num_fields)) }
-    ensures only { IfErr result (λ e. e ≡ Fault.OutOfMemory) }
+    ensures only { OnlyMemory result }
 {
     let mut fields = no_terms(alloc, num_fields)?;
     for place in 0..terms.len() {
@@ -134,7 +135,7 @@ impl IndexingContext {
         requires known { AllByRecursion (λ t. field_in t.0 < num_fields) self.now }
         ensures ok { IfOk result (λ fields. fields.items ≡ map (λ field. terms_in field self.entry.now) (range_with_len 0 num_fields)) }
         ensures ascending { AreAscending (map (λ t. t.0) self.entry.now) → IfOk result (λ fields. AllByRecursion (λ ts. AreAscending (map (λ t. t.key) ts)) fields.items) }
-        ensures only { IfErr result (λ e. e ≡ Fault.OutOfMemory) }
+        ensures only { OnlyMemory result }
     {
         by_field(alloc, &self.term_index, num_fields)
     }

@@ -3,20 +3,20 @@ use Rattle.std.proofs.Common.{◌≡◌, ◌∙◌, ◌<◌, ℕ, false, List, O
 use Rattle.std.specs.Prelude.{IfErr, IfOk, IsTrue, MatchOption, slice_get}
 use Rattle.ii_io.specs.declared.faults.Fault.{Fault}
 use Rattle.ii_io.specs.declared.faults.Fault.TheVariants.{OutOfMemory}
-use Rattle.ii_base.specs.Schema.{Entry}
+use Rattle.ii_base.specs.Schema.{SchemaEntry}
 use Rattle.ii_base.specs.declared.schema.index_record_option.IndexRecordOption.{IndexRecordOption}
 use Rattle.ii_fieldnorm.specs.Norms.{id_of_norm}
 use Rattle.ii_fieldnorm.specs.Readers.{Norms, id_of_doc}
-use Rattle.ii_index.specs.Fields.{option_of}
-use Rattle.ii_index.specs.Norms.{has_norms}
-use Rattle.ii_index.specs.Postings.{doc_count, key_postings, occurs}
-use Rattle.ii_index.specs.Tokens.{IndexToken}
+use Rattle.ii_definitions.specs.Fields.{option_of}
+use Rattle.ii_definitions.specs.Norms.{has_norms}
+use Rattle.ii_definitions.specs.Postings.{doc_count, key_postings, occurs}
+use Rattle.ii_definitions.specs.Tokens.{IndexToken}
 use Rattle.ii_reader.specs.InvertedIndexReader.{GivesPostings, InvertedIndexReaderState, ReaderHolds}
 use Rattle.ii_reader.specs.OpenIndex.{FieldReaderHolds, GivesNorms, GivesReaders, IndexHolds, NormsHold, OpenIndexState}
 use Rattle.ii_reader.specs.SegmentPostings.{SegmentPostingsState}
 
 -- the postings of a key
-pub found_is : (entries : List Entry) (n : ℕ) (index : OpenIndexState) (ts : List IndexToken) (field : ℕ) (key : List ℕ) (requested : IndexRecordOption) (reader : InvertedIndexReaderState) (answer : Result (Option SegmentPostingsState) Fault)
+pub found_is : (entries : List SchemaEntry) (n : ℕ) (index : OpenIndexState) (ts : List IndexToken) (field : ℕ) (key : List ℕ) (requested : IndexRecordOption) (reader : InvertedIndexReaderState) (answer : Result (Option SegmentPostingsState) Fault)
     → field < length entries → IndexHolds entries n index ts → slice_get index.readers field ≡ Some reader
     → ((f : ℕ) (tokens : List IndexToken) → ReaderHolds f reader tokens → GivesPostings reader.option f key requested tokens answer)
     → IfOk answer (λ found. MatchOption found (occurs field key ts ≡ false) (λ cursor. IsTrue (occurs field key ts) × (cursor.rest ≡ key_postings (option_of entries field) field key requested ts)))
@@ -31,18 +31,18 @@ found_is entries n index ts field key requested reader answer below holds at giv
     by (Err fault) option g = tt
 
 -- the norm of a document
-pub norm_is : (entries : List Entry) (n field doc id : ℕ) (ts : List IndexToken) (answer : Option Norms) (norms : Norms) → doc < n → answer ≡ Some norms → GivesNorms entries n field ts (Ok answer) → id ≡ id_of_doc norms doc
+pub norm_is : (entries : List SchemaEntry) (n field doc id : ℕ) (ts : List IndexToken) (answer : Option Norms) (norms : Norms) → doc < n → answer ≡ Some norms → GivesNorms entries n field ts (Ok answer) → id ≡ id_of_doc norms doc
     → IsTrue (has_norms entries field) × (id ≡ id_of_norm (doc_count doc field ts))
 norm_is entries n field doc id ts answer norms below is gives id_is =
     let known = subst (λ (o : Option Norms). GivesNorms entries n field ts (Ok o)) is gives in
     (known.0, id_is ∙ known.1.each doc below)
 
 -- what opening files of tokens gives
-pub index_holds : (entries : List Entry) (n : ℕ) (ts : List IndexToken) (answer : Result OpenIndexState Fault) → GivesReaders entries ts answer → IfOk answer (λ index. NormsHold entries n index.fieldnorms ts)
+pub index_holds : (entries : List SchemaEntry) (n : ℕ) (ts : List IndexToken) (answer : Result OpenIndexState Fault) → GivesReaders entries ts answer → IfOk answer (λ index. NormsHold entries n index.fieldnorms ts)
     → IfOk answer (λ index. IndexHolds entries n index ts)
 index_holds entries n ts (Ok index) readers norms = record { readers = readers; norms = norms }
 index_holds entries n ts (Err fault) readers norms = tt
 
-pub memory_alone : (entries : List Entry) (ts : List IndexToken) (answer : Result OpenIndexState Fault) → GivesReaders entries ts answer → IfErr answer (λ fault. fault ≡ OutOfMemory)
+pub memory_alone : (entries : List SchemaEntry) (ts : List IndexToken) (answer : Result OpenIndexState Fault) → GivesReaders entries ts answer → IfErr answer (λ fault. fault ≡ OutOfMemory)
 memory_alone entries ts (Ok index) readers = tt
 memory_alone entries ts (Err fault) readers = readers

@@ -1,10 +1,10 @@
 // What is indexed, written and opened.
 ghost use Rattle.std.specs.Prelude.{◌≡◌, ◌<◌, ◌≤◌, ◌⊎◌, [], false, length, map, None, Err, IfErr, IfOk, IfSome, IsTrue, MatchOption};
 ghost use Rattle.ii_fieldnorm.specs.Norms.{id_of_norm};
-ghost use Rattle.ii_index.specs.Fields.{option_of};
-ghost use Rattle.ii_index.specs.Norms.{has_norms};
-ghost use Rattle.ii_index.specs.Postings.{doc_count, field_count, key_postings, occurs};
-ghost use Rattle.ii_index.specs.Tokens.{tokens_of};
+ghost use Rattle.ii_definitions.specs.Fields.{option_of};
+ghost use Rattle.ii_definitions.specs.Norms.{has_norms};
+ghost use Rattle.ii_definitions.specs.Postings.{doc_count, field_count, key_postings, occurs};
+ghost use Rattle.ii_definitions.specs.Tokens.{tokens_of};
 ghost use Rattle.ii_indexing.specs.IndexCalls.{MayAllBeIndexed, call_of};
 ghost use Rattle.ii_indexing.specs.Refusals.{calls_fault};
 

@@ -1,10 +1,10 @@
 // Any four files are opened, or the first fault is told.
 ghost use Rattle.std.specs.Prelude.{◌≡◌, ◌⊎◌, ℕ, List, Ok, Err, IfErr, IfOk};
 ghost use Rattle.ii_io.specs.declared.faults.Part.{Part};
-ghost use Rattle.ii_index.specs.Fields.{option_of};
-ghost use Rattle.ii_index.specs.Files.{HoldTokens};
-ghost use Rattle.ii_index.specs.Norms.{HoldNorms};
-ghost use Rattle.ii_index.specs.Tokens.{IndexToken};
+ghost use Rattle.ii_definitions.specs.Fields.{option_of};
+ghost use Rattle.ii_definitions.specs.Files.{HoldTokens};
+ghost use Rattle.ii_definitions.specs.Norms.{HoldNorms};
+ghost use Rattle.ii_definitions.specs.Tokens.{IndexToken};
 ghost use Rattle.ii_reader.specs.OpenIndex.{IndexHolds, index_of_files};
 
 use bytes::Bytes;

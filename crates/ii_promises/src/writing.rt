@@ -1,7 +1,7 @@
 // What is written, and what is told where it can't be.
 ghost use Rattle.std.specs.Prelude.{◌≡◌, ◌+◌, ◌≤◌, ◌<◌, ◌⊎◌, ◌↔◌, ◌∷◌, ◌++◌, List, [], true, false, map, Err, IfSome, IsErrOf, OnErr, OnOk};
-ghost use Rattle.ii_index.specs.Fields.{option_of};
-ghost use Rattle.ii_index.specs.Tokens.{Call, tokens_of};
+ghost use Rattle.ii_definitions.specs.Fields.{option_of};
+ghost use Rattle.ii_definitions.specs.Tokens.{Call, tokens_of};
 ghost use Rattle.ii_indexing.specs.IndexCalls.{MayAllBeIndexed, Takes, call_of, doc_of, field_of, type_of};
 ghost use Rattle.ii_indexing.specs.IndexFiles.{FilesGrow, WroteIndex};
 ghost use Rattle.ii_indexing.specs.Indexer.{Stores};

@@ -5,8 +5,8 @@ use Rattle.std.specs.Io.KnownBytes.{Appends}
 use Rattle.ii_io.specs.declared.faults.Fault.{Fault}
 use Rattle.ii_io.specs.declared.faults.Fault.TheVariants.{OutOfMemory, Write, SerializerClosed, IndexerFailed, UnsupportedLeaf, DecreasingPosition, Limit, Damaged}
 use Rattle.ii_io.specs.Faults.{memory_fault}
-use Rattle.ii_base.specs.Schema.{Entry}
-use Rattle.ii_index.specs.Tokens.{IndexToken}
+use Rattle.ii_base.specs.Schema.{SchemaEntry}
+use Rattle.ii_definitions.specs.Tokens.{IndexToken}
 use Rattle.ii_indexing.specs.IndexFiles.{IsWriteFault, PassLimits, WroteIndex}
 use Rattle.ii_indexing.specs.declared.index_writers.IndexWriters.{IndexWriters}
 use Rattle.ii_reader.specs.OpenIndex.{GivesReaders, IndexHolds, NormsHold, OpenIndexState}
@@ -17,7 +17,7 @@ appended bytes None h = absurd h
 appended bytes (Some ys) h = ap (λ (xs : List ℕ). Some xs) h
 
 -- the four files as they stand in memory
-pub in_ram : {W : Type 0} (entries : List Entry) (n : ℕ) (old new : IndexWriters W) (ts : List IndexToken) → old ≡ empty_files → (w : WroteIndex entries n old new ts)
+pub in_ram : {W : Type 0} (entries : List SchemaEntry) (n : ℕ) (old new : IndexWriters W) (ts : List IndexToken) → old ≡ empty_files → (w : WroteIndex entries n old new ts)
     → (new.terms.contents ≡ Some w.terms.terms) × (new.postings.contents ≡ Some w.terms.postings) × (new.positions.contents ≡ Some w.terms.positions) × (new.fieldnorms.contents ≡ Some w.norms.fieldnorms)
 in_ram {W} entries n old new ts empty w = (
   appended w.terms.terms new.terms.contents (subst (λ (o : Option (List ℕ)). Appends o new.terms.contents w.terms.terms) (ap (λ (f : IndexWriters W). f.terms.contents) empty) w.terms.wrote_terms.appends),
@@ -27,14 +27,14 @@ in_ram {W} entries n old new ts empty w = (
 )
 
 -- what opening them gives: the readers, with the norms
-abbrev pub GivesAll : List Entry → ℕ → List IndexToken → Result OpenIndexState Fault → Type 0
+abbrev pub GivesAll : List SchemaEntry → ℕ → List IndexToken → Result OpenIndexState Fault → Type 0
 GivesAll entries n ts r = GivesReaders entries ts r × IfOk r (λ index. NormsHold entries n index.fieldnorms ts)
 
-pub index_holds : (entries : List Entry) (n : ℕ) (ts : List IndexToken) (r : Result OpenIndexState Fault) → GivesAll entries n ts r → IfOk r (λ index. IndexHolds entries n index ts)
+pub index_holds : (entries : List SchemaEntry) (n : ℕ) (ts : List IndexToken) (r : Result OpenIndexState Fault) → GivesAll entries n ts r → IfOk r (λ index. IndexHolds entries n index ts)
 index_holds entries n ts (Ok index) h = record { readers = h.0; norms = h.1 }
 index_holds entries n ts (Err e) h = tt
 
-pub readers_fault : (entries : List Entry) (ts : List IndexToken) (P : Fault → Type 0) (r : Result OpenIndexState Fault) → GivesReaders entries ts r → IfErr r (λ e. (e ≡ OutOfMemory) ⊎ P e)
+pub readers_fault : (entries : List SchemaEntry) (ts : List IndexToken) (P : Fault → Type 0) (r : Result OpenIndexState Fault) → GivesReaders entries ts r → IfErr r (λ e. (e ≡ OutOfMemory) ⊎ P e)
 readers_fault entries ts P (Ok index) h = tt
 readers_fault entries ts P (Err e) h = inl h
 
@@ -48,7 +48,7 @@ memory_or DecreasingPosition = inl refl
 memory_or (Limit name) = inl refl
 memory_or (Damaged part) = inl refl
 
-memory_limits : {W : Type 0} (entries : List Entry) (n : ℕ) (ts : List IndexToken) (fault : Fault) → IsWriteFault {W = W} entries n empty_files ts fault → (memory_fault fault ≡ OutOfMemory) ⊎ IsRamFault entries n ts fault
+memory_limits : {W : Type 0} (entries : List SchemaEntry) (n : ℕ) (ts : List IndexToken) (fault : Fault) → IsWriteFault {W = W} entries n empty_files ts fault → (memory_fault fault ≡ OutOfMemory) ⊎ IsRamFault entries n ts fault
 memory_limits {W} entries n ts fault w =
     ⊎_elim (λ (memory : fault ≡ OutOfMemory). inl (ap memory_fault memory))
     (λ later. ⊎_elim (λ (write : fault ≡ Write). inl (ap memory_fault write))
@@ -60,7 +60,7 @@ memory_limits {W} entries n ts fault w =
     w.cause
 
 -- why they can't be written
-pub fault_in_ram : {W : Type 0} (entries : List Entry) (n : ℕ) (files : IndexWriters W) (ts : List IndexToken) (fault : Fault) → files ≡ empty_files → (fault ≡ OutOfMemory) ⊎ IsWriteFault entries n files ts fault
+pub fault_in_ram : {W : Type 0} (entries : List SchemaEntry) (n : ℕ) (files : IndexWriters W) (ts : List IndexToken) (fault : Fault) → files ≡ empty_files → (fault ≡ OutOfMemory) ⊎ IsWriteFault entries n files ts fault
     → (memory_fault fault ≡ OutOfMemory) ⊎ IsRamFault entries n ts (memory_fault fault)
 fault_in_ram {W} entries n files ts fault empty why =
     ⊎_elim (λ (memory : fault ≡ OutOfMemory). inl (ap memory_fault memory))

@@ -3,10 +3,10 @@
 
 ghost use Rattle.std.specs.Prelude.{◌≡◌, ◌≤◌, ◌⊎◌, [], ℕ, List, length, map, None, Err, IfErr, IfOk, IfSome, OnOk, Some};
 ghost use Rattle.ii_docset.specs.declared.docset.TheConstants.{TERMINATED};
-ghost use Rattle.ii_index.specs.Fields.{option_of};
-ghost use Rattle.ii_index.specs.Files.{HoldTokens};
-ghost use Rattle.ii_index.specs.Norms.{HoldNorms};
-ghost use Rattle.ii_index.specs.Tokens.{IndexToken, tokens_of};
+ghost use Rattle.ii_definitions.specs.Fields.{option_of};
+ghost use Rattle.ii_definitions.specs.Files.{HoldTokens};
+ghost use Rattle.ii_definitions.specs.Norms.{HoldNorms};
+ghost use Rattle.ii_definitions.specs.Tokens.{IndexToken, tokens_of};
 ghost use Rattle.ii_indexing.specs.IndexCalls.{MayAllBeIndexed, call_of};
 ghost use Rattle.ii_indexing.specs.Refusals.{calls_fault};
 ghost use Rattle.ii_ram.specs.Ram.{IsRamFault, empty_files};

@@ -3,10 +3,11 @@ use Rattle.std.proofs.Common.{◌≡◌, ℕ, zero, suc, ◌+◌, ◌-◌, ◌*�
 use Rattle.std.specs.Option.{IsSome}
 use Rattle.std.proofs.lemmas.Bool.{ltb-true, ltb-false}
 use Rattle.std.proofs.lemmas.List.{nil_from_length, get_or-take, get_or-drop, get_or-replicate, get_or_past, get_or_default}
+use Rattle.ii_docset.specs.declared.docset.TheConstants.{TERMINATED}
 use Rattle.ii_codes.specs.BlockDecoder.{BlockDecoderState, decodes_of}
 use Rattle.ii_layout.specs.Written.{block_of}
 use Rattle.ii_layout.specs.SkipReader.{SkipReaderState}
-use Rattle.ii_check.specs.CheckedPostings.{AreFreqs, AreLastFreqs, CheckedPostingsState, HasDocuments, HoldsBlock, HoldsFreqs, IsAtBlock, LoadsBlock, LoadsFreqs, new_decoder}
+use Rattle.ii_check.specs.CheckedPostings.{AreReadFreqs, AreLastFreqs, CheckedPostingsState, HasDocuments, HoldsBlock, HoldsFreqs, IsAtBlock, LoadsBlock, LoadsFreqs, new_decoder}
 use Rattle.ii_reader.specs.BlockSegmentPostings.{BlockSegmentPostingsState, GoesTo, IsLazy, IsLoaded, doc_in_block, first_decodes, freqs_of_block, freq_in_block}
 
 -- an entry of a block that a decoder holds, and what stands after the block
@@ -16,22 +17,22 @@ entry_held values block padding idx decoder h inside =
     let below : idx < decoder.output_len = omega arith in
     sym (get_or-take decoder.output_len decoder.output idx 0 below) ∙ ap (λ (vs : List ℕ). get_or vs idx 0) h.held
 
-held_cases : (docs : List ℕ) (block idx : ℕ) (decoder : BlockDecoderState) (t : Bool) → HoldsBlock docs block 2147483647 decoder → idx < 128 → nat_lt idx decoder.output_len ≡ t → get_or decoder.output idx 0 ≡ doc_in_block docs block idx
+held_cases : (docs : List ℕ) (block idx : ℕ) (decoder : BlockDecoderState) (t : Bool) → HoldsBlock docs block TERMINATED decoder → idx < 128 → nat_lt idx decoder.output_len ≡ t → get_or decoder.output idx 0 ≡ doc_in_block docs block idx
 held_cases docs block idx decoder true h within test =
     let below = ltb-true idx decoder.output_len test in
     let many = h.many in
     let inside : idx < length (block_of docs block) = omega arith in
-    entry_held docs block 2147483647 idx decoder h inside ∙ get_or_default (block_of docs block) idx 0 2147483647 inside
+    entry_held docs block TERMINATED idx decoder h inside ∙ get_or_default (block_of docs block) idx 0 TERMINATED inside
 held_cases docs block idx decoder false h within test =
     let past = ltb-false idx decoder.output_len test in
     let many = h.many in
     let place : decoder.output_len + (idx - decoder.output_len) ≡ idx = omega arith in
     ap (λ (i : ℕ). get_or decoder.output i 0) (sym place) ∙ sym (get_or-drop decoder.output_len decoder.output (idx - decoder.output_len) 0)
-    ∙ ap (λ (ds : List ℕ). get_or ds (idx - decoder.output_len) 0) h.filled ∙ get_or-replicate (128 - decoder.output_len) (idx - decoder.output_len) 2147483647 0 (omega arith)
-    ∙ sym (get_or_past (block_of docs block) idx 2147483647 (omega arith))
+    ∙ ap (λ (ds : List ℕ). get_or ds (idx - decoder.output_len) 0) h.filled ∙ get_or-replicate (128 - decoder.output_len) (idx - decoder.output_len) TERMINATED 0 (omega arith)
+    ∙ sym (get_or_past (block_of docs block) idx TERMINATED (omega arith))
 
 -- the entry of the decoder is the document of the block, or the end
-pub doc_held : (docs : List ℕ) (block idx doc : ℕ) (decoder : BlockDecoderState) → HoldsBlock docs block 2147483647 decoder → idx < 128 → doc ≡ get_or decoder.output idx 0 → doc ≡ doc_in_block docs block idx
+pub doc_held : (docs : List ℕ) (block idx doc : ℕ) (decoder : BlockDecoderState) → HoldsBlock docs block TERMINATED decoder → idx < 128 → doc ≡ get_or decoder.output idx 0 → doc ≡ doc_in_block docs block idx
 doc_held docs block idx doc decoder h within e = e ∙ held_cases docs block idx decoder (nat_lt idx decoder.output_len) h within refl
 
 -- the counts that a decoder holds
@@ -47,7 +48,7 @@ length-block_of xs ys block e =
     let others = length-drop (128 * block) ys in
     omega arith
 
-pub freq_held : (o : Option (List ℕ)) (docs : List ℕ) (n block idx freq : ℕ) (decoder : BlockDecoderState) → HoldsFreqs o block decoder → is_some o ≡ true → length docs ≡ n → ((fs : List ℕ) → o ≡ Some fs → AreFreqs n fs)
+pub freq_held : (o : Option (List ℕ)) (docs : List ℕ) (n block idx freq : ℕ) (decoder : BlockDecoderState) → HoldsFreqs o block decoder → is_some o ≡ true → length docs ≡ n → ((fs : List ℕ) → o ≡ Some fs → AreReadFreqs n fs)
     → (IsSome o → idx < length (block_of docs block)) → freq ≡ get_or decoder.output idx 0 → freq ≡ freq_in_block o block idx
 freq_held None docs n block idx freq decoder h some many all within e = absurd (cc)
 freq_held (Some freqs) docs n block idx freq decoder h some many all within e =
@@ -93,7 +94,7 @@ decodes_cases values n before block count count' false many next within test e =
 pub decodes_next : (values : List ℕ) (n before block count count' : ℕ) → length values ≡ n → block ≡ min (before + 1) (n / 128 + 1) → before ≤ n / 128 + 1 → count' ≡ count + decodes_of (length (block_of values block)) → count' ≤ count + min 1 (block - before)
 decodes_next values n before block count count' many next within e = decodes_cases values n before block count count' (nat_lt before block) many next within refl e
 
-pub freq_decodes_next : (o : Option (List ℕ)) (n before block : ℕ) (old new : BlockDecoderState) → ((fs : List ℕ) → o ≡ Some fs → AreFreqs n fs) → block ≡ min (before + 1) (n / 128 + 1) → before ≤ n / 128 + 1 → LoadsFreqs o block old new
+pub freq_decodes_next : (o : Option (List ℕ)) (n before block : ℕ) (old new : BlockDecoderState) → ((fs : List ℕ) → o ≡ Some fs → AreReadFreqs n fs) → block ≡ min (before + 1) (n / 128 + 1) → before ≤ n / 128 + 1 → LoadsFreqs o block old new
     → new.decodes ≤ old.decodes + min 1 (block - before)
 freq_decodes_next None n before block old new all next within loads =
     let same : new.decodes ≡ old.decodes = ap (λ (d : BlockDecoderState). d.decodes) loads in
@@ -115,7 +116,7 @@ pub freqs_first : (o : Option (List ℕ)) (decoder : BlockDecoderState) → Load
 freqs_first None decoder loads = loads
 freqs_first (Some freqs) decoder loads = loads.holds
 
-pub freq_decodes_first : (o : Option (List ℕ)) (n : ℕ) (decoder : BlockDecoderState) → ((fs : List ℕ) → o ≡ Some fs → AreFreqs n fs) → LoadsFreqs o 0 (new_decoder 1) decoder → decoder.decodes ≡ first_decodes o n
+pub freq_decodes_first : (o : Option (List ℕ)) (n : ℕ) (decoder : BlockDecoderState) → ((fs : List ℕ) → o ≡ Some fs → AreReadFreqs n fs) → LoadsFreqs o 0 (new_decoder 1) decoder → decoder.decodes ≡ first_decodes o n
 freq_decodes_first None n decoder all loads = ap (λ (d : BlockDecoderState). d.decodes) loads
 freq_decodes_first (Some freqs) n decoder all loads = decodes_first freqs n decoder.decodes (all freqs refl).many loads.decodes
 
@@ -124,7 +125,7 @@ first_most None n = omega arith
 first_most (Some freqs) n = omega arith
 
 -- a cursor at the first block
-pub first_loaded : (p : CheckedPostingsState) (skip : SkipReaderState) (docs freqs : BlockDecoderState) → HasDocuments p → IsAtBlock p skip → skip.block ≡ 0 → LoadsBlock p.postings 0 (new_decoder 2147483647) docs (new_decoder 1) freqs
+pub first_loaded : (p : CheckedPostingsState) (skip : SkipReaderState) (docs freqs : BlockDecoderState) → HasDocuments p → IsAtBlock p skip → skip.block ≡ 0 → LoadsBlock p.postings 0 (new_decoder TERMINATED) docs (new_decoder 1) freqs
     → IsLoaded p skip docs freqs
 first_loaded p skip docs freqs has at first loads =
     let most = decodes_most (length (block_of p.postings.docs 0)) in
@@ -251,7 +252,7 @@ last_at fs n (suc block) row many here few all =
     let behind = length-drop (128 * (n / 128)) fs in
     nil_from_length row (omega arith) ∙ sym (nil_from_length (block_of fs (n / 128)) (omega arith))
 
-pub last_held : (o : Option (List ℕ)) (n block : ℕ) (row : List ℕ) (decoder : BlockDecoderState) → HoldsFreqs o block decoder → ((fs : List ℕ) → o ≡ Some fs → AreFreqs n fs) → row ≡ take decoder.output_len decoder.output → length row < 128 → length row ≡ n
+pub last_held : (o : Option (List ℕ)) (n block : ℕ) (row : List ℕ) (decoder : BlockDecoderState) → HoldsFreqs o block decoder → ((fs : List ℕ) → o ≡ Some fs → AreReadFreqs n fs) → row ≡ take decoder.output_len decoder.output → length row < 128 → length row ≡ n
     → AreLastFreqs o (n / 128) row
 last_held None n block row decoder h are row_is few all = few
 last_held (Some fs) n block row decoder h are row_is few all = (last_at fs n block row (are fs refl).many (row_is ∙ h.held) few all, few)

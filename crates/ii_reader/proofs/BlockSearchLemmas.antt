@@ -4,6 +4,7 @@ use Rattle.std.specs.List.Sorted.{IsNonDecreasing}
 use Rattle.std.proofs.lemmas.Bool.{ltb-true, ltb-false}
 use Rattle.std.proofs.lemmas.List.{get_or_past, get_or_default, length-replicate}
 use Rattle.std.proofs.lemmas.List.Filters.{length-filter_both}
+use Rattle.ii_docset.specs.declared.docset.TheConstants.{TERMINATED}
 use Rattle.ii_codes.specs.BlockDecoder.{BlockDecoderState}
 use Rattle.ii_codes.specs.Search.{count_below}
 use Rattle.ii_codes.proofs.SearchLemmas.{low_below, high_above}
@@ -17,31 +18,31 @@ use Rattle.ii_reader.proofs.SeekLemmas.{rises}
 
 -- What is known of the block in which a target is looked for.
 pub record IsSearched (target : ℕ) (docs : List ℕ) (block : ℕ) (decoder : BlockDecoderState) : Type 0 where
-  pub held : HoldsBlock docs block 2147483647 decoder
+  pub held : HoldsBlock docs block TERMINATED decoder
   pub ascending : are_documents docs ≡ true
-  pub up_to : target ≤ 2147483647
+  pub up_to : target ≤ TERMINATED
   pub last : block < length docs / 128 → target ≤ get_or docs (128 * block + 127) 0
 
 -- a decoder that holds a block has 128 entries
-size_held : (docs : List ℕ) (block : ℕ) (decoder : BlockDecoderState) → HoldsBlock docs block 2147483647 decoder → (length decoder.output ≡ 128) × (length (block_of docs block) ≤ 128)
+size_held : (docs : List ℕ) (block : ℕ) (decoder : BlockDecoderState) → HoldsBlock docs block TERMINATED decoder → (length decoder.output ≡ 128) × (length (block_of docs block) ≤ 128)
 size_held docs block decoder h =
     let many = h.many in
     let size = length-take 128 (drop (128 * block) docs) in
     let front = ap length h.held in
     let taken = length-take decoder.output_len decoder.output in
-    let behind : length (drop decoder.output_len decoder.output) ≡ 128 - decoder.output_len = ap length h.filled ∙ length-replicate (128 - decoder.output_len) 2147483647 in
+    let behind : length (drop decoder.output_len decoder.output) ≡ 128 - decoder.output_len = ap length h.filled ∙ length-replicate (128 - decoder.output_len) TERMINATED in
     let dropped = length-drop decoder.output_len decoder.output in
     (omega arith, omega arith)
 
 -- each entry is the document there, or the end
-entry_is : (docs : List ℕ) (block i : ℕ) (decoder : BlockDecoderState) → HoldsBlock docs block 2147483647 decoder → i < 128 → get_or decoder.output i 0 ≡ doc_in_block docs block i
+entry_is : (docs : List ℕ) (block i : ℕ) (decoder : BlockDecoderState) → HoldsBlock docs block TERMINATED decoder → i < 128 → get_or decoder.output i 0 ≡ doc_in_block docs block i
 entry_is docs block i decoder h inside = doc_held docs block i (get_or decoder.output i 0) decoder h inside refl
 
 doc_inside : (docs : List ℕ) (block i : ℕ) → i < length (block_of docs block) → i < 128 → doc_in_block docs block i ≡ get_or docs (128 * block + i) 0
-doc_inside docs block i inside few = sym (get_or_default (block_of docs block) i 0 2147483647 inside) ∙ get_or-block_of docs block i few
+doc_inside docs block i inside few = sym (get_or_default (block_of docs block) i 0 TERMINATED inside) ∙ get_or-block_of docs block i few
 
-doc_past : (docs : List ℕ) (block i : ℕ) → length (block_of docs block) ≤ i → doc_in_block docs block i ≡ 2147483647
-doc_past docs block i past = get_or_past (block_of docs block) i 2147483647 past
+doc_past : (docs : List ℕ) (block i : ℕ) → length (block_of docs block) ≤ i → doc_in_block docs block i ≡ TERMINATED
+doc_past docs block i past = get_or_past (block_of docs block) i TERMINATED past
 
 in_list : (docs : List ℕ) (block i : ℕ) → i < length (block_of docs block) → 128 * block + i < length docs
 in_list docs block i inside =
@@ -68,7 +69,7 @@ order_cases docs block i j false false h order few first second =
     let high = doc_past docs block j (ltb-false j (length (block_of docs block)) second) in
     omega arith
 
-pub entries_rise : (docs : List ℕ) (block : ℕ) (decoder : BlockDecoderState) → HoldsBlock docs block 2147483647 decoder → are_documents docs ≡ true → IsNonDecreasing decoder.output
+pub entries_rise : (docs : List ℕ) (block : ℕ) (decoder : BlockDecoderState) → HoldsBlock docs block TERMINATED decoder → are_documents docs ≡ true → IsNonDecreasing decoder.output
 entries_rise docs block decoder h up =
     λ i j d order inside.
     let size = (size_held docs block decoder h).0 in
@@ -121,11 +122,11 @@ counted_below target docs block decoder s =
     record {
       within = within;
       before = λ n inside.
-          let here = entry_is docs block n decoder s.held (omega arith) ∙ sym (get_or_default (block_of docs block) n 0 2147483647 (omega arith)) in
+          let here = entry_is docs block n decoder s.held (omega arith) ∙ sym (get_or_default (block_of docs block) n 0 TERMINATED (omega arith)) in
           let low = low_below target decoder.output n up inside in
           omega arith;
       there = λ inside.
-          let here = entry_is docs block (count_below target decoder.output) decoder s.held (omega arith) ∙ sym (get_or_default (block_of docs block) (count_below target decoder.output) 0 2147483647 inside) in
+          let here = entry_is docs block (count_below target decoder.output) decoder s.held (omega arith) ∙ sym (get_or_default (block_of docs block) (count_below target decoder.output) 0 TERMINATED inside) in
           let high = high_above target decoder.output (count_below target decoder.output) up (omega arith) (omega arith) in
           omega arith;
     }

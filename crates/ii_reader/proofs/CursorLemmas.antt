@@ -4,6 +4,7 @@ use Rattle.std.specs.List.{All, zip, list_all}
 use Rattle.std.proofs.lemmas.Bool.{ltb-true, ltb-false, leb-true, and_parts}
 use Rattle.std.proofs.lemmas.List.{get_or-take, get_or-drop, get_or_past, drop_all, length-map}
 use Rattle.std.proofs.lemmas.List.Elements.{All-map, All-head, All-tail, All-cons}
+use Rattle.ii_docset.specs.declared.docset.TheConstants.{TERMINATED}
 use Rattle.ii_docset.specs.Entries.{Entry, document, counted, ascend_from, are_documents}
 use Rattle.ii_docset.specs.Cursor.{doc_at, FitsU32, IsAscending, IsSound, term_freq_at}
 use Rattle.ii_docset.proofs.CursorLemmas.{documents_sound, IsSound_drop, advanced}
@@ -12,7 +13,7 @@ use Rattle.ii_layout.specs.Postings.{entries_of}
 use Rattle.ii_layout.specs.Written.{block_of}
 use Rattle.ii_reader.specs.BlockSegmentPostings.{AreEntries, doc_in_block, freq_in_block}
 use Rattle.ii_layout.specs.TermList.{located, positions_if, list_of}
-use Rattle.ii_reader.specs.SegmentPostings.{AreDeltas}
+use Rattle.ii_reader.specs.SegmentPostings.{AreGivenDeltas}
 
 -- the documents of entries, and how many these are
 docs_of : (docs freqs : List ℕ) → length freqs ≡ length docs → map (λ (e : Entry). e.doc) (entries_of docs (Some freqs)) ≡ docs
@@ -44,7 +45,7 @@ pub length-list : (docs : List ℕ) (es : List Entry) → map (λ (e : Entry). e
 length-list docs es are = sym (length-map es (λ (e : Entry). e.doc)) ∙ ap length are
 
 -- the current document of what is left from a place on
-pub doc_at_drop : (es : List Entry) (i : ℕ) → get_or (map (λ (e : Entry). e.doc) es) i 2147483647 ≡ doc_at (drop i es)
+pub doc_at_drop : (es : List Entry) (i : ℕ) → get_or (map (λ (e : Entry). e.doc) es) i TERMINATED ≡ doc_at (drop i es)
 doc_at_drop [] zero = refl
 doc_at_drop [] (suc i) = refl
 doc_at_drop (e ∷ es) zero = refl
@@ -52,8 +53,8 @@ doc_at_drop (e ∷ es) (suc i) = doc_at_drop es i
 
 pub doc_at_place : (docs : List ℕ) (es : List Entry) (block cur : ℕ) → map (λ (e : Entry). e.doc) es ≡ docs → cur < 128 → doc_in_block docs block cur ≡ doc_at (drop (128 * block + cur) es)
 doc_at_place docs es block cur are within =
-    get_or-take 128 (drop (128 * block) docs) cur 2147483647 within ∙ get_or-drop (128 * block) docs cur 2147483647
-    ∙ ap (λ (ds : List ℕ). get_or ds (128 * block + cur) 2147483647) (sym are) ∙ doc_at_drop es (128 * block + cur)
+    get_or-take 128 (drop (128 * block) docs) cur TERMINATED within ∙ get_or-drop (128 * block) docs cur TERMINATED
+    ∙ ap (λ (ds : List ℕ). get_or ds (128 * block + cur) TERMINATED) (sym are) ∙ doc_at_drop es (128 * block + cur)
 
 -- its count
 one_at : (docs : List ℕ) (i : ℕ) → 1 ≡ term_freq_at false (drop i (map document docs))
@@ -70,14 +71,14 @@ freq_at (d ∷ ds) (f ∷ fs) (ps ∷ pss) zero many within = refl
 freq_at (d ∷ ds) (f ∷ fs) [] (suc i) many within = freq_at ds fs [] i (omega arith) (omega arith)
 freq_at (d ∷ ds) (f ∷ fs) (ps ∷ pss) (suc i) many within = freq_at ds fs pss i (omega arith) (omega arith)
 
-inside_cases : (docs : List ℕ) (block cur : ℕ) (t : Bool) → nat_lt cur (length (block_of docs block)) ≡ t → doc_in_block docs block cur < 2147483647 → cur < length (block_of docs block)
+inside_cases : (docs : List ℕ) (block cur : ℕ) (t : Bool) → nat_lt cur (length (block_of docs block)) ≡ t → doc_in_block docs block cur < TERMINATED → cur < length (block_of docs block)
 inside_cases docs block cur true test below = ltb-true cur (length (block_of docs block)) test
 inside_cases docs block cur false test below =
-    let past = get_or_past (block_of docs block) cur 2147483647 (ltb-false cur (length (block_of docs block)) test) in
+    let past = get_or_past (block_of docs block) cur TERMINATED (ltb-false cur (length (block_of docs block)) test) in
     absurd (omega arith)
 
 -- a current document lies in its block
-pub inside : (docs : List ℕ) (es : List Entry) (block cur : ℕ) → map (λ (e : Entry). e.doc) es ≡ docs → cur < 128 → doc_at (drop (128 * block + cur) es) < 2147483647 → cur < length (block_of docs block)
+pub inside : (docs : List ℕ) (es : List Entry) (block cur : ℕ) → map (λ (e : Entry). e.doc) es ≡ docs → cur < 128 → doc_at (drop (128 * block + cur) es) < TERMINATED → cur < length (block_of docs block)
 inside docs es block cur are within below =
     let same = doc_at_place docs es block cur are within in
     inside_cases docs block cur (nat_lt cur (length (block_of docs block))) refl (omega arith)
@@ -89,7 +90,7 @@ current_where true (inr p) e = p
 current_where false (inl none) e = absurd (cc)
 current_where false (inr p) e = p
 
-pub freq_at_place : (n : ℕ) (docs : List ℕ) (freqs deltas : Option (List ℕ)) (block cur : ℕ) → AreEntries n docs freqs → cur < 128 → (is_some freqs ≡ true → doc_at (drop (128 * block + cur) (list_of docs freqs deltas)) < 2147483647)
+pub freq_at_place : (n : ℕ) (docs : List ℕ) (freqs deltas : Option (List ℕ)) (block cur : ℕ) → AreEntries n docs freqs → cur < 128 → (is_some freqs ≡ true → doc_at (drop (128 * block + cur) (list_of docs freqs deltas)) < TERMINATED)
     → freq_in_block freqs block cur ≡ term_freq_at false (drop (128 * block + cur) (list_of docs freqs deltas))
 freq_at_place n docs None deltas block cur a within current = one_at docs (128 * block + cur)
 freq_at_place n docs (Some freqs) deltas block cur a within current =
@@ -106,13 +107,13 @@ freq_by None block cur freq es e is = e
 freq_by (Some fs) block cur freq es e is = is
 
 -- what is left is sound
-ascending_from : (least : ℕ) (es : List Entry) → ascend_from least (map (λ (e : Entry). e.doc) es) ≡ true → IsAscending es × (least ≤ 2147483647 → least ≤ doc_at es)
+ascending_from : (least : ℕ) (es : List Entry) → ascend_from least (map (λ (e : Entry). e.doc) es) ≡ true → IsAscending es × (least ≤ TERMINATED → least ≤ doc_at es)
 ascending_from least [] h = (tt, λ up. up)
 ascending_from least (e ∷ es) h =
-    let parts = and_parts (nat_le least e.doc && nat_lt e.doc 2147483647) (ascend_from (e.doc + 1) (map (λ (e : Entry). e.doc) es)) h in
-    let both = and_parts (nat_le least e.doc) (nat_lt e.doc 2147483647) parts.0 in
+    let parts = and_parts (nat_le least e.doc && nat_lt e.doc TERMINATED) (ascend_from (e.doc + 1) (map (λ (e : Entry). e.doc) es)) h in
+    let both = and_parts (nat_le least e.doc) (nat_lt e.doc TERMINATED) parts.0 in
     let low = leb-true least e.doc both.0 in
-    let high = ltb-true e.doc 2147483647 both.1 in
+    let high = ltb-true e.doc TERMINATED both.1 in
     let later = ascending_from (e.doc + 1) es parts.1 in
     let next = later.1 (omega arith) in
     ((omega arith, later.0), λ up. low)
@@ -150,12 +151,12 @@ located_fits (ps ∷ pss) (e ∷ es) low fits =
     let later = located_fits pss es parts.1 (All-tail FitsU32 e es fits) in
     All-cons FitsU32 _ (located pss es) (first.0, low_all ps parts.0) later
 
-positions_fit : (freqs deltas : Option (List ℕ)) → AreDeltas freqs deltas → list_all fit_u32 (positions_if freqs deltas) ≡ true
+positions_fit : (freqs deltas : Option (List ℕ)) → AreGivenDeltas freqs deltas → list_all fit_u32 (positions_if freqs deltas) ≡ true
 positions_fit None deltas a = refl
 positions_fit (Some fs) None a = refl
 positions_fit (Some fs) (Some ds) a = a.fit
 
-pub rest_sound : (n : ℕ) (docs : List ℕ) (freqs deltas : Option (List ℕ)) (i : ℕ) → AreEntries n docs freqs → AreDeltas freqs deltas → IsSound (drop i (list_of docs freqs deltas))
+pub rest_sound : (n : ℕ) (docs : List ℕ) (freqs deltas : Option (List ℕ)) (i : ℕ) → AreEntries n docs freqs → AreGivenDeltas freqs deltas → IsSound (drop i (list_of docs freqs deltas))
 rest_sound n docs freqs deltas i a d =
     let up = ap are_documents (list_docs n docs freqs deltas a) ∙ a.ascending in
     let fits = located_fits (positions_if freqs deltas) (entries_of docs freqs) (positions_fit freqs deltas d) (entries_sound n docs freqs a).fits in

@@ -12,18 +12,18 @@ use Rattle.ii_io.specs.declared.faults.Part.{Part}
 use Rattle.ii_io.specs.declared.faults.Part.TheVariants.{Composite, FieldNorms}
 use Rattle.ii_io.specs.Parts.{◌>>=◌}
 use Rattle.ii_io.specs.Composite.{Body, body_of, composite}
-use Rattle.ii_base.specs.Schema.{Entry}
+use Rattle.ii_base.specs.Schema.{SchemaEntry}
 use Rattle.ii_base.specs.declared.schema.index_record_option.IndexRecordOption.{IndexRecordOption}
-use Rattle.ii_index.specs.Tokens.{IndexToken}
-use Rattle.ii_index.specs.Fields.{option_of}
-use Rattle.ii_index.specs.Postings.{doc_count, field_count}
-use Rattle.ii_index.specs.Files.{HoldTokens, HoldsField}
-use Rattle.ii_index.specs.Norms.{HoldNorms, has_norms, norm_file, norm_ids}
+use Rattle.ii_definitions.specs.Tokens.{IndexToken}
+use Rattle.ii_definitions.specs.Fields.{option_of}
+use Rattle.ii_definitions.specs.Postings.{doc_count, field_count}
+use Rattle.ii_definitions.specs.Files.{HoldTokens, HoldsField}
+use Rattle.ii_definitions.specs.Norms.{HoldNorms, has_norms, norm_file, norm_ids}
 use Rattle.ii_fieldnorm.specs.Norms.{id_of_norm}
 use Rattle.ii_fieldnorm.specs.Readers.{Norms, norms_of_ids}
 use Rattle.ii_reader.specs.InvertedIndexReader.{InvertedIndexReaderState, IsRefusal, ReaderHolds, reader_of_none}
 use Rattle.ii_reader.specs.OpenIndex.{AnswersNorms, FieldReaderHolds, GivesNorms, IndexBodies, NormsHold, ReadersHold, all_or_first, field_readers, OpenIndexState, index_bodies, index_of_files, reader_if, reader_of_field}
-use Rattle.ii_index.proofs.GroupedLaws.{no_field}
+use Rattle.ii_definitions.proofs.GroupedLaws.{no_field}
 
 -- what stands before what others give
 abbrev pub in_front : {A : Type 0} → List A → Result (List A) Part → Result (List A) Part
@@ -46,16 +46,16 @@ length_more (Ok x) (Err part) n xs more is = absurd (cc)
 length_more (Err part) others n xs more is = absurd (cc)
 
 -- as many readers as fields
-readers_length : {A : Type 0} (give : ℕ × Entry → Result A Part) (n : ℕ) (entries : List Entry) (xs : List A) → all_or_first (map give (enumerate_from n entries)) ≡ Ok xs → length xs ≡ length entries
+readers_length : {A : Type 0} (give : ℕ × SchemaEntry → Result A Part) (n : ℕ) (entries : List SchemaEntry) (xs : List A) → all_or_first (map give (enumerate_from n entries)) ≡ Ok xs → length xs ≡ length entries
 readers_length give n [] xs is = let e : [] ≡ xs = cc in rw (← e) refl
 readers_length give n (e ∷ es) xs is =
     length_more (give (n, e)) (all_or_first (map give (enumerate_from (n + 1) es))) (length es) xs (λ ys. readers_length give (n + 1) es ys) is
 
-many_fields : (bodies : IndexBodies) (entries : List Entry) (readers : List InvertedIndexReaderState) → field_readers bodies entries ≡ Ok readers → length readers ≡ length entries
-many_fields bodies entries readers is = readers_length (λ (f : ℕ × Entry). reader_of_field bodies f.0 f.1.option) 0 entries readers is
+many_fields : (bodies : IndexBodies) (entries : List SchemaEntry) (readers : List InvertedIndexReaderState) → field_readers bodies entries ≡ Ok readers → length readers ≡ length entries
+many_fields bodies entries readers is = readers_length (λ (f : ℕ × SchemaEntry). reader_of_field bodies f.0 f.1.option) 0 entries readers is
 
 -- the readers of three files, or the first part that fails
-abbrev three_files : List ℕ → List ℕ → List ℕ → List Entry → Result (List InvertedIndexReaderState) Part
+abbrev three_files : List ℕ → List ℕ → List ℕ → List SchemaEntry → Result (List InvertedIndexReaderState) Part
 three_files terms postings positions entries = index_bodies terms postings positions >>= λ (bodies : IndexBodies). field_readers bodies entries
 
 -- what is well
@@ -85,7 +85,7 @@ opened_parts (Ok bodies) (Ok fieldnorms) read index is = by (read bodies) is
         let same = inside (record { readers = readers; fieldnorms = fieldnorms }) is in
         (ap (λ (i : OpenIndexState). fine i.readers) same, ap (λ (i : OpenIndexState). fine i.fieldnorms) same)
 
-parts_of : (terms postings positions fieldnorms : List ℕ) (entries : List Entry) (index : OpenIndexState) → index_of_files terms postings positions fieldnorms entries ≡ Ok index
+parts_of : (terms postings positions fieldnorms : List ℕ) (entries : List SchemaEntry) (index : OpenIndexState) → index_of_files terms postings positions fieldnorms entries ≡ Ok index
     → (three_files terms postings positions entries ≡ Ok index.readers) × (ok_or (composite fieldnorms) Composite ≡ Ok index.fieldnorms)
 parts_of terms postings positions fieldnorms entries index is =
     opened_parts (index_bodies terms postings positions) (ok_or (composite fieldnorms) Composite) (λ bodies. field_readers bodies entries) index is
@@ -97,11 +97,11 @@ norms_of (Some found) bodies is = ap Some (inside is)
     inside : fine found ≡ Ok bodies → found ≡ bodies
     inside e = cc
 
-many_after : (tables : Result IndexBodies Part) (entries : List Entry) (readers : List InvertedIndexReaderState) → (tables >>= λ (bodies : IndexBodies). field_readers bodies entries) ≡ Ok readers → length readers ≡ length entries
+many_after : (tables : Result IndexBodies Part) (entries : List SchemaEntry) (readers : List InvertedIndexReaderState) → (tables >>= λ (bodies : IndexBodies). field_readers bodies entries) ≡ Ok readers → length readers ≡ length entries
 many_after (Ok bodies) entries readers is = many_fields bodies entries readers is
 many_after (Err part) entries readers is = absurd (cc)
 
-pub many_readers : (terms postings positions fieldnorms : List ℕ) (entries : List Entry) (index : OpenIndexState) → index_of_files terms postings positions fieldnorms entries ≡ Ok index → length index.readers ≡ length entries
+pub many_readers : (terms postings positions fieldnorms : List ℕ) (entries : List SchemaEntry) (index : OpenIndexState) → index_of_files terms postings positions fieldnorms entries ≡ Ok index → length index.readers ≡ length entries
 many_readers terms postings positions fieldnorms entries index is =
     many_after (index_bodies terms postings positions) entries index.readers (parts_of terms postings positions fieldnorms entries index is).0
 
@@ -145,14 +145,14 @@ one_held P n m reader others first rest (suc i) within =
     subst (λ (k : ℕ). IsSomeAnd (slice_get others i) (P k)) e (rest i less)
 
 -- the fields of a schema, each of which gives a reader of its tokens
-fields_held : (P : ℕ → InvertedIndexReaderState → Type 0) (give : ℕ × Entry → Result InvertedIndexReaderState Part) (n : ℕ) (entries : List Entry)
-    → ((i : ℕ) (e : Entry) → slice_get entries i ≡ Some e → IsOkAnd (give (n + i, e)) (P (n + i)))
+fields_held : (P : ℕ → InvertedIndexReaderState → Type 0) (give : ℕ × SchemaEntry → Result InvertedIndexReaderState Part) (n : ℕ) (entries : List SchemaEntry)
+    → ((i : ℕ) (e : SchemaEntry) → slice_get entries i ≡ Some e → IsOkAnd (give (n + i, e)) (P (n + i)))
     → IsOkAnd (all_or_first (map give (enumerate_from n entries))) (λ readers. (i : ℕ) → i < length entries → IsSomeAnd (slice_get readers i) (P (n + i)))
 fields_held P give n [] each = λ i within. absurd (omega (arith, within))
 fields_held P give n (e ∷ es) each =
     let zero_more : n + 0 ≡ n = omega arith in
     let first : IsOkAnd (give (n, e)) (P n) = subst (λ (k : ℕ). IsOkAnd (give (k, e)) (P k)) zero_more (each 0 e refl) in
-    let later : (i : ℕ) (f : Entry) → slice_get es i ≡ Some f → IsOkAnd (give (n + 1 + i, f)) (P (n + 1 + i)) =
+    let later : (i : ℕ) (f : SchemaEntry) → slice_get es i ≡ Some f → IsOkAnd (give (n + 1 + i, f)) (P (n + 1 + i)) =
     λ i f at.
     let one : n + suc i ≡ n + 1 + i = omega arith in
     subst (λ (k : ℕ). IsOkAnd (give (k, f)) (P k)) one (each (suc i) f at) in
@@ -163,7 +163,7 @@ also_ok : {A : Type 0} (found : Result A Part) (P Q : A → Type 0) → IsOkAnd 
 also_ok (Ok x) P Q held more = more x held
 also_ok (Err part) P Q held more = absurd held
 
-field_in : (entries : List Entry) (terms postings positions : List ℕ) (ts : List IndexToken) (h : HoldTokens (option_of entries) terms postings positions ts) (i : ℕ) (e : Entry) → slice_get entries i ≡ Some e
+field_in : (entries : List SchemaEntry) (terms postings positions : List ℕ) (ts : List IndexToken) (h : HoldTokens (option_of entries) terms postings positions ts) (i : ℕ) (e : SchemaEntry) → slice_get entries i ≡ Some e
     → IsOkAnd (reader_if e.option (body_of i h.term_bodies) (body_of i h.postings_bodies) (body_of i h.positions_bodies)) (λ reader. FieldReaderHolds entries i reader ts)
 field_in entries terms postings positions ts h i e at =
     let option : option_of entries i ≡ e.option = rw at refl in
@@ -174,26 +174,26 @@ field_in entries terms postings positions ts h i e at =
     (λ reader has. record { option_is = has.0 ∙ sym option; holds = has.1 })
 
 -- files that hold tokens are opened
-index_held : (entries : List Entry) (terms postings positions : List ℕ) (ts : List IndexToken) → HoldTokens (option_of entries) terms postings positions ts
+index_held : (entries : List SchemaEntry) (terms postings positions : List ℕ) (ts : List IndexToken) → HoldTokens (option_of entries) terms postings positions ts
     → IsOkAnd (three_files terms postings positions entries) (λ readers. ReadersHold entries readers ts)
 index_held entries terms postings positions ts h =
     let bodies : IndexBodies = record { terms = h.term_bodies; postings = h.postings_bodies; positions = h.positions_bodies } in
-    let each : (i : ℕ) (e : Entry) → slice_get entries i ≡ Some e → IsOkAnd (reader_of_field bodies (0 + i) e.option) (λ reader. FieldReaderHolds entries (0 + i) reader ts) =
+    let each : (i : ℕ) (e : SchemaEntry) → slice_get entries i ≡ Some e → IsOkAnd (reader_of_field bodies (0 + i) e.option) (λ reader. FieldReaderHolds entries (0 + i) reader ts) =
     λ i e at.
     let same : i ≡ 0 + i = omega arith in
     subst (λ (k : ℕ). IsOkAnd (reader_of_field bodies k e.option) (λ reader. FieldReaderHolds entries k reader ts)) same (field_in entries terms postings positions ts h i e at) in
-    let all = fields_held (λ field reader. FieldReaderHolds entries field reader ts) (λ (f : ℕ × Entry). reader_of_field bodies f.0 f.1.option) 0 entries each in
+    let all = fields_held (λ field reader. FieldReaderHolds entries field reader ts) (λ (f : ℕ × SchemaEntry). reader_of_field bodies f.0 f.1.option) 0 entries each in
     rw (h.opened_terms, h.opened_postings, h.opened_positions)
     (also_ok (field_readers bodies entries) (λ readers. (i : ℕ) → i < length entries → IsSomeAnd (slice_get readers i) (λ reader. FieldReaderHolds entries (0 + i) reader ts)) (λ readers. ReadersHold entries readers ts) all
     (λ readers held i within.
     let same : 0 + i ≡ i = omega arith in
     subst (λ (k : ℕ). IsSomeAnd (slice_get readers i) (λ reader. FieldReaderHolds entries k reader ts)) same (held i within)))
 
-gives_ok : (found : Result (List InvertedIndexReaderState) Part) (entries : List Entry) (ts : List IndexToken) (readers : List InvertedIndexReaderState) → found ≡ Ok readers → IsOkAnd found (λ rs. ReadersHold entries rs ts) → ReadersHold entries readers ts
+gives_ok : (found : Result (List InvertedIndexReaderState) Part) (entries : List SchemaEntry) (ts : List IndexToken) (readers : List InvertedIndexReaderState) → found ≡ Ok readers → IsOkAnd found (λ rs. ReadersHold entries rs ts) → ReadersHold entries readers ts
 gives_ok found entries ts readers is held = rw is at held
 
 -- what opening them answers
-pub opened_holds : (entries : List Entry) (terms postings positions fieldnorms : List ℕ) (ts : List IndexToken) (index : OpenIndexState) → HoldTokens (option_of entries) terms postings positions ts
+pub opened_holds : (entries : List SchemaEntry) (terms postings positions fieldnorms : List ℕ) (ts : List IndexToken) (index : OpenIndexState) → HoldTokens (option_of entries) terms postings positions ts
     → index_of_files terms postings positions fieldnorms entries ≡ Ok index → ReadersHold entries index.readers ts
 opened_holds entries terms postings positions fieldnorms ts index holds is =
     gives_ok _ entries ts index.readers (parts_of terms postings positions fieldnorms entries index is).0 (index_held entries terms postings positions ts holds)
@@ -209,13 +209,13 @@ gives_err (Ok bodies) (Some fieldnorms) read P fault (inr (part, damaged, failed
     by (Ok readers) failed held = absurd (cc)
     by (Err other) failed held = absurd held
 
-pub refused_holds : (entries : List Entry) (terms postings positions fieldnorms : List ℕ) (ts : List IndexToken) (fault : Fault) → HoldTokens (option_of entries) terms postings positions ts → IsSome (composite fieldnorms)
+pub refused_holds : (entries : List SchemaEntry) (terms postings positions fieldnorms : List ℕ) (ts : List IndexToken) (fault : Fault) → HoldTokens (option_of entries) terms postings positions ts → IsSome (composite fieldnorms)
     → IsRefusal (index_of_files terms postings positions fieldnorms entries) fault → fault ≡ OutOfMemory
 refused_holds entries terms postings positions fieldnorms ts fault holds some refused =
     gives_err (index_bodies terms postings positions) (composite fieldnorms) (λ bodies. field_readers bodies entries) (λ readers. ReadersHold entries readers ts) fault refused (index_held entries terms postings positions ts holds) some
 
 -- the norms of an index that was opened
-pub opened_norms : (entries : List Entry) (terms postings positions fieldnorms : List ℕ) (num_docs : ℕ) (ts : List IndexToken) (index : OpenIndexState) → HoldNorms entries num_docs fieldnorms ts
+pub opened_norms : (entries : List SchemaEntry) (terms postings positions fieldnorms : List ℕ) (num_docs : ℕ) (ts : List IndexToken) (index : OpenIndexState) → HoldNorms entries num_docs fieldnorms ts
     → index_of_files terms postings positions fieldnorms entries ≡ Ok index → NormsHold entries num_docs index.fieldnorms ts
 opened_norms entries terms postings positions fieldnorms num_docs ts index holds is =
     let found = norms_of (composite fieldnorms) index.fieldnorms (parts_of terms postings positions fieldnorms entries index is).1 in
@@ -240,7 +240,7 @@ answers num_docs field ts =
     }
 
 -- what is read of the norms of a field
-norms_found : (entries : List Entry) (num_docs field : ℕ) (bodies : List Body) (ts : List IndexToken) (found : Option Norms) → NormsHold entries num_docs bodies ts → found ≡ option_map norms_of_ids (body_of field bodies)
+norms_found : (entries : List SchemaEntry) (num_docs field : ℕ) (bodies : List Body) (ts : List IndexToken) (found : Option Norms) → NormsHold entries num_docs bodies ts → found ≡ option_map norms_of_ids (body_of field bodies)
     → GivesNorms entries num_docs field ts (Ok found)
 norms_found entries num_docs field bodies ts found holds is = by (has_norms entries field) refl (is ∙ ap (option_map norms_of_ids) (holds field))
   where
@@ -248,7 +248,7 @@ norms_found entries num_docs field bodies ts found holds is = by (has_norms entr
     by false none is = rw is none
     by true some is = rw is (some, answers num_docs field ts)
 
-norms_refused_by : (entries : List Entry) (num_docs field : ℕ) (bodies : List Body) (ts : List IndexToken) (fault : Fault) → num_docs < 2 ^ 32 → NormsHold entries num_docs bodies ts
+norms_refused_by : (entries : List SchemaEntry) (num_docs field : ℕ) (bodies : List Body) (ts : List IndexToken) (fault : Fault) → num_docs < 2 ^ 32 → NormsHold entries num_docs bodies ts
     → (fault ≡ Damaged FieldNorms → IsSomeAnd (body_of field bodies) (λ ids. 2 ^ 32 ≤ length ids)) → (fault ≡ OutOfMemory) ⊎ (fault ≡ Damaged FieldNorms) → fault ≡ OutOfMemory
 norms_refused_by entries num_docs field bodies ts fault few holds long (inl memory) = memory
 norms_refused_by entries num_docs field bodies ts fault few holds long (inr damaged) =
@@ -259,7 +259,7 @@ norms_refused_by entries num_docs field bodies ts fault few holds long (inr dama
     by true h = omega (arith, few, h, length-map-range_with_len (λ (doc : ℕ). id_of_norm (doc_count doc field ts)) 0 num_docs)
 
 -- what a field of them answers
-pub norms_answered : (entries : List Entry) (num_docs field : ℕ) (bodies : List Body) (ts : List IndexToken) (answer : Result (Option Norms) Fault) → num_docs < 2 ^ 32 → NormsHold entries num_docs bodies ts
+pub norms_answered : (entries : List SchemaEntry) (num_docs field : ℕ) (bodies : List Body) (ts : List IndexToken) (answer : Result (Option Norms) Fault) → num_docs < 2 ^ 32 → NormsHold entries num_docs bodies ts
     → IfOk answer (λ norms. norms ≡ option_map norms_of_ids (body_of field bodies)) → (IsErrOf answer (Damaged FieldNorms) ↔ IsSomeAnd (body_of field bodies) (λ ids. 2 ^ 32 ≤ length ids))
     → IfErr answer (λ e. (e ≡ OutOfMemory) ⊎ (e ≡ Damaged FieldNorms)) → GivesNorms entries num_docs field ts answer
 norms_answered entries num_docs field bodies ts (Ok found) few holds is long only = norms_found entries num_docs field bodies ts found holds is
@@ -267,21 +267,21 @@ norms_answered entries num_docs field bodies ts (Err fault) few holds is long on
     norms_refused_by entries num_docs field bodies ts fault few holds (λ damaged. long.0 (ap (λ (f : Fault). Err f) damaged)) only
 
 -- from the four tables to the readers
-pub index_then : (terms postings positions fieldnorms : List ℕ) (entries : List Entry) (bodies : IndexBodies) (norms : List Body) (readers : List InvertedIndexReaderState)
+pub index_then : (terms postings positions fieldnorms : List ℕ) (entries : List SchemaEntry) (bodies : IndexBodies) (norms : List Body) (readers : List InvertedIndexReaderState)
     → index_bodies terms postings positions ≡ Ok bodies → composite fieldnorms ≡ Some norms → field_readers bodies entries ≡ Ok readers
     → index_of_files terms postings positions fieldnorms entries ≡ Ok (record { readers = readers; fieldnorms = norms })
 index_then terms postings positions fieldnorms entries bodies norms readers tables opened is = rw (tables, opened, is) refl
 
-pub tables_refused : (terms postings positions fieldnorms : List ℕ) (entries : List Entry) (fault : Fault) → IsRefusal (index_bodies terms postings positions) fault → IsRefusal (index_of_files terms postings positions fieldnorms entries) fault
+pub tables_refused : (terms postings positions fieldnorms : List ℕ) (entries : List SchemaEntry) (fault : Fault) → IsRefusal (index_bodies terms postings positions) fault → IsRefusal (index_of_files terms postings positions fieldnorms entries) fault
 tables_refused terms postings positions fieldnorms entries fault (inl memory) = inl memory
 tables_refused terms postings positions fieldnorms entries fault (inr (part, damaged, failed)) = inr (part, damaged, rw failed refl)
 
-pub norms_refused : (terms postings positions fieldnorms : List ℕ) (entries : List Entry) (bodies : IndexBodies) (fault : Fault) → index_bodies terms postings positions ≡ Ok bodies
+pub norms_refused : (terms postings positions fieldnorms : List ℕ) (entries : List SchemaEntry) (bodies : IndexBodies) (fault : Fault) → index_bodies terms postings positions ≡ Ok bodies
     → IsRefusal (ok_or (composite fieldnorms) Composite) fault → IsRefusal (index_of_files terms postings positions fieldnorms entries) fault
 norms_refused terms postings positions fieldnorms entries bodies fault tables (inl memory) = inl memory
 norms_refused terms postings positions fieldnorms entries bodies fault tables (inr (part, damaged, failed)) = inr (part, damaged, rw (tables, failed) refl)
 
-pub fields_refused : (terms postings positions fieldnorms : List ℕ) (entries : List Entry) (bodies : IndexBodies) (norms : List Body) (fault : Fault) → index_bodies terms postings positions ≡ Ok bodies
+pub fields_refused : (terms postings positions fieldnorms : List ℕ) (entries : List SchemaEntry) (bodies : IndexBodies) (norms : List Body) (fault : Fault) → index_bodies terms postings positions ≡ Ok bodies
     → composite fieldnorms ≡ Some norms → IsRefusal (field_readers bodies entries) fault → IsRefusal (index_of_files terms postings positions fieldnorms entries) fault
 fields_refused terms postings positions fieldnorms entries bodies norms fault tables opened (inl memory) = inl memory
 fields_refused terms postings positions fieldnorms entries bodies norms fault tables opened (inr (part, damaged, failed)) = inr (part, damaged, rw (tables, opened, failed) refl)

@@ -9,8 +9,8 @@ use Rattle.ii_base.specs.ValueTypes.{code_of}
 use Rattle.ii_base.specs.declared.schema.value_type.ValueType.{ValueType}
 use Rattle.ii_base.specs.declared.schema.value_type.ValueType.TheVariants.{Str, U64, I64, Bool as Truth, Date, Bytes, Json, IpAddr}
 use Rattle.ii_termstore.specs.declared.term_info.TermInfo.{TermInfo}
-use Rattle.ii_termdict.specs.Dictionary.{Entry}
-use Rattle.ii_index.specs.JsonKeys.{type_in, type_of_code}
+use Rattle.ii_termdict.specs.Dictionary.{TermEntry}
+use Rattle.ii_definitions.specs.JsonKeys.{type_in, type_of_code}
 use Rattle.ii_reader.specs.JsonFields.{FieldSpaceState, IsWithin, is_same_label, space_of_term, spaces_of, sum_of, with_space}
 
 of_letter : (t : ValueType) → Some t ≡ type_of_code (code_of t)
@@ -30,7 +30,7 @@ type_of_letter None code none =
 type_of_letter (Some t) code is = of_letter t ∙ ap type_of_code is
 
 -- the entry at a place
-pub entry_at : (entries : List Entry) (n : ℕ) (key : List ℕ) (info : TermInfo) → slice_get (map (λ (e : Entry). e.0) entries) n ≡ Some key → slice_get (map (λ (e : Entry). e.1) entries) n ≡ Some info
+pub entry_at : (entries : List TermEntry) (n : ℕ) (key : List ℕ) (info : TermInfo) → slice_get (map (λ (e : TermEntry). e.0) entries) n ≡ Some key → slice_get (map (λ (e : TermEntry). e.1) entries) n ≡ Some info
     → drop n entries ≡ (key, info) ∷ drop (suc n) entries
 entry_at [] n key info first second = absurd (cc)
 entry_at ((k, i) ∷ es) zero key info first second = cc
@@ -69,11 +69,11 @@ with_other s t [] other = rw other refl
 with_other s t (u ∷ us) other = other_from s t u us (is_same_label t u) refl other
 
 -- What was listed of the terms after the first one: those of other labels, and the current one.
-pub record IsListing (entries : List Entry) (first : FieldSpaceState) (n : ℕ) (fields : List FieldSpaceState) (current : FieldSpaceState) : Type 0 where
+pub record IsListing (entries : List TermEntry) (first : FieldSpaceState) (n : ℕ) (fields : List FieldSpaceState) (current : FieldSpaceState) : Type 0 where
   pub within : IsWithin n current
   pub listed : option_map (λ rest. fields ++ with_space current rest) (spaces_of (drop n entries)) ≡ option_map (with_space first) (spaces_of (drop 1 entries))
 
-module _ (entries : List Entry) (first : FieldSpaceState) (n : ℕ) (fields : List FieldSpaceState) (current : FieldSpaceState) (listing : IsListing entries first n fields current) (key : List ℕ) (info : TermInfo) where
+module _ (entries : List TermEntry) (first : FieldSpaceState) (n : ℕ) (fields : List FieldSpaceState) (current : FieldSpaceState) (listing : IsListing entries first n fields current) (key : List ℕ) (info : TermInfo) where
   next_listed : (o : Option (List FieldSpaceState)) (f : List FieldSpaceState → List FieldSpaceState) (value_type : ValueType) → type_in key ≡ Some value_type → drop n entries ≡ (key, info) ∷ drop (suc n) entries → spaces_of (drop (suc n) entries) ≡ o
       → ((rest : List FieldSpaceState) → fields ++ with_space current (with_space (space_of_term key info value_type) rest) ≡ f rest)
       → option_map f o ≡ option_map (with_space first) (spaces_of (drop 1 entries))
@@ -111,7 +111,7 @@ module _ (entries : List Entry) (first : FieldSpaceState) (n : ℕ) (fields : Li
   listed_none here typed = none_of (spaces_of (drop 1 entries)) (with_space first) (let l = listing.listed in rw (here, typed) at l)
 
 -- the first term of all
-pub first_listed : (entries : List Entry) (key : List ℕ) (info : TermInfo) (value_type : ValueType) → slice_get (map (λ (e : Entry). e.0) entries) 0 ≡ Some key → slice_get (map (λ (e : Entry). e.1) entries) 0 ≡ Some info → type_in key ≡ Some value_type
+pub first_listed : (entries : List TermEntry) (key : List ℕ) (info : TermInfo) (value_type : ValueType) → slice_get (map (λ (e : TermEntry). e.0) entries) 0 ≡ Some key → slice_get (map (λ (e : TermEntry). e.1) entries) 0 ≡ Some info → type_in key ≡ Some value_type
     → spaces_of entries ≡ option_map (with_space (space_of_term key info value_type)) (spaces_of (drop 1 entries))
 first_listed [] key info value_type first second typed = absurd (cc)
 first_listed ((k, i) ∷ es) key info value_type first second typed =
@@ -123,10 +123,10 @@ first_listed ((k, i) ∷ es) key info value_type first second typed =
     from None = refl
     from (Some spaces) = refl
 
-pub none_first : (entries : List Entry) (key : List ℕ) → slice_get (map (λ (e : Entry). e.0) entries) 0 ≡ Some key → type_in key ≡ None → spaces_of entries ≡ None
+pub none_first : (entries : List TermEntry) (key : List ℕ) → slice_get (map (λ (e : TermEntry). e.0) entries) 0 ≡ Some key → type_in key ≡ None → spaces_of entries ≡ None
 none_first [] key first typed = absurd (cc)
 none_first ((k, i) ∷ es) key first typed = let is : k ≡ key = cc in rw (is, typed) refl
 
-pub no_terms : (entries : List Entry) → slice_get (map (λ (e : Entry). e.0) entries) 0 ≡ None → spaces_of entries ≡ Some []
+pub no_terms : (entries : List TermEntry) → slice_get (map (λ (e : TermEntry). e.0) entries) 0 ≡ None → spaces_of entries ≡ Some []
 no_terms [] none = refl
 no_terms (e ∷ es) none = absurd (cc)

@@ -8,7 +8,7 @@ use Rattle.std.specs.List.Sorted.{IsStrictlySortedBy}
 use Rattle.std.specs.Ordering.{nat_cmp, ordering_then}
 use Rattle.std.proofs.lemmas.Bool.{eq-eqb, eqb-true}
 use Rattle.std.proofs.lemmas.Slice.Eq.{bytes_eq-Decides}
-use Rattle.ii_termdict.specs.Dictionary.{Entry, entry_keys}
+use Rattle.ii_termdict.specs.Dictionary.{TermEntry, entry_keys}
 use Rattle.ii_termdict.specs.ReadBack.{AreAscending}
 use Rattle.ii_termstore.specs.declared.term_info.TermInfo.{TermInfo}
 use Rattle.std.proofs.lemmas.Cmp.{nat_list_cmp_total}
@@ -17,7 +17,7 @@ use Rattle.ii_io.specs.Steps.{◌>>=◌}
 use Rattle.ii_base.specs.ValueTypes.{code_of}
 use Rattle.ii_base.specs.declared.schema.value_type.ValueType.{ValueType}
 use Rattle.ii_base.specs.declared.schema.value_type.ValueType.TheVariants.{Str, U64, I64, Bool as Truth, Date, Bytes, Json, IpAddr}
-use Rattle.ii_index.specs.JsonKeys.{is_path_byte, path_in, type_in, type_of_code}
+use Rattle.ii_definitions.specs.JsonKeys.{is_path_byte, path_in, type_in, type_of_code}
 use Rattle.ii_reader.specs.JsonFields.{FieldSpaceState, is_same_label, label_of, space_of_term, spaces_of, with_space}
 use Rattle.ii_reader.proofs.JsonLemmas.{label_is}
 
@@ -120,7 +120,7 @@ record IsOfKey (key : List ℕ) (s : FieldSpaceState) : Type 0 where
   name : s.field_name ≡ path_in key
   typed : type_in key ≡ Some s.field_type
 
-FirstIs : List Entry → List FieldSpaceState → Type 0
+FirstIs : List TermEntry → List FieldSpaceState → Type 0
 FirstIs [] spaces = spaces ≡ []
 FirstIs (e ∷ es) [] = ⊥
 FirstIs (e ∷ es) (s ∷ ss) = IsOfKey e.0 s
@@ -129,7 +129,7 @@ module _ (key : List ℕ) (info : TermInfo) (t : ValueType) (typed : type_in key
   abbrev one : FieldSpaceState
   one = space_of_term key info t
 
-  put_first : (e : Entry) (es : List Entry) (u : FieldSpaceState) (us : List FieldSpaceState) → slice_cmp nat_cmp key e.0 ≡ Less → IsOfKey e.0 u → AreAscending (map label_of (u ∷ us)) → (b : Bool) → is_same_label one u ≡ b
+  put_first : (e : TermEntry) (es : List TermEntry) (u : FieldSpaceState) (us : List FieldSpaceState) → slice_cmp nat_cmp key e.0 ≡ Less → IsOfKey e.0 u → AreAscending (map label_of (u ∷ us)) → (b : Bool) → is_same_label one u ≡ b
       → AreAscending (map label_of (with_space one (u ∷ us))) × FirstIs ((key, info) ∷ e ∷ es) (with_space one (u ∷ us))
   unfolding IsStrictlySortedBy FirstIs
   put_first e es u us less of h true same =
@@ -141,7 +141,7 @@ module _ (key : List ℕ) (info : TermInfo) (t : ValueType) (typed : type_in key
       rw of.name (same_or_below key e.0 info e.1 t u.field_type typed of.typed less (rw of.name at other)) in
       rw other (((below, all_above (label_of one) (label_of u) (map label_of us) below h.0), h), record { name = refl; typed = typed })
 
-  with_first : (es : List Entry) (spaces : List FieldSpaceState) → AllByRecursion (λ k. slice_cmp nat_cmp key k ≡ Less) (entry_keys es) → AreAscending (map label_of spaces) → FirstIs es spaces
+  with_first : (es : List TermEntry) (spaces : List FieldSpaceState) → AllByRecursion (λ k. slice_cmp nat_cmp key k ≡ Less) (entry_keys es) → AreAscending (map label_of spaces) → FirstIs es spaces
       → AreAscending (map label_of (with_space one spaces)) × FirstIs ((key, info) ∷ es) (with_space one spaces)
   unfolding IsStrictlySortedBy FirstIs
   with_first es [] below h first = ((tt, tt), record { name = refl; typed = typed })
@@ -149,7 +149,7 @@ module _ (key : List ℕ) (info : TermInfo) (t : ValueType) (typed : type_in key
   with_first (e ∷ es) (u ∷ us) below h first = put_first e es u us below.0 first h (is_same_label one u) refl
 
 -- keys in order give paths and types in order
-ascend_all : (entries : List Entry) (spaces : List FieldSpaceState) → spaces_of entries ≡ Some spaces → AreAscending (entry_keys entries) → AreAscending (map label_of spaces) × FirstIs entries spaces
+ascend_all : (entries : List TermEntry) (spaces : List FieldSpaceState) → spaces_of entries ≡ Some spaces → AreAscending (entry_keys entries) → AreAscending (map label_of spaces) × FirstIs entries spaces
 unfolding IsStrictlySortedBy FirstIs
 ascend_all [] spaces is h = let none : spaces ≡ [] = cc in rw none (tt, refl)
 ascend_all ((k, i) ∷ es) spaces is h = by (type_in k) refl (spaces_of es) refl (λ ss rest. ascend_all es ss rest h.1)
@@ -163,7 +163,7 @@ ascend_all ((k, i) ∷ es) spaces is h = by (type_in k) refl (spaces_of es) refl
         let later = more ss refl in
         rw all (with_first k i t typed es ss h.0 later.0 later.1)
 
-pub labels_ascend : (entries : List Entry) (spaces : List FieldSpaceState) → spaces_of entries ≡ Some spaces → AreAscending (entry_keys entries) → AreAscending (map label_of spaces)
+pub labels_ascend : (entries : List TermEntry) (spaces : List FieldSpaceState) → spaces_of entries ≡ Some spaces → AreAscending (entry_keys entries) → AreAscending (map label_of spaces)
 labels_ascend entries spaces is h = (ascend_all entries spaces is h).0
 
 pub none_ascend : AreAscending (map label_of [])

@@ -6,6 +6,7 @@ use Rattle.std.proofs.lemmas.Bool.{ltb-true, ltb-false}
 use Rattle.std.proofs.lemmas.List.{get_or-drop, drop-drop, drop-append-le, take-append-le, get_or_append_left, get_or-append_right, length-map, nil_from_length, length-take-le, take_all, take_more_set, drop-set-lt, get_or_default}
 use Rattle.std.proofs.lemmas.List.Elements.{All-drop, All-map}
 use Rattle.std.proofs.lemmas.List.Sums.{sum_by-cons}
+use Rattle.ii_docset.specs.declared.docset.TheConstants.{TERMINATED}
 use Rattle.ii_docset.specs.Entries.{Entry}
 use Rattle.ii_docset.specs.Cursor.{doc_at, positions_at, term_freq_at, IsAscending, FitsU32, IsSound}
 use Rattle.ii_docset.proofs.CursorLemmas.{IsSound_drop, length_below, nothing_left}
@@ -131,7 +132,7 @@ more_loaded all rest e docs offsets positions l few =
       few = few;
     }
 
-pub loaded_more : (all rest rest' : List Entry) (docs offsets positions : List ℕ) (doc : ℕ) → doc ≡ doc_at rest → doc < 2147483647 → IsLoading all rest docs offsets positions → rest' ≡ drop 1 rest → length (positions ++ positions_at rest) < 2 ^ 32
+pub loaded_more : (all rest rest' : List Entry) (docs offsets positions : List ℕ) (doc : ℕ) → doc ≡ doc_at rest → doc < TERMINATED → IsLoading all rest docs offsets positions → rest' ≡ drop 1 rest → length (positions ++ positions_at rest) < 2 ^ 32
     → IsLoading all rest' (docs ++ doc ∷ []) (offsets ++ length (positions ++ positions_at rest) ∷ []) (positions ++ positions_at rest)
 loaded_more all [] rest' docs offsets positions doc here low l next few = absurd (omega arith)
 loaded_more all (e ∷ rest) rest' docs offsets positions doc here low l next few = rw (here, next) (more_loaded all rest e docs offsets positions l few)
@@ -205,7 +206,7 @@ loaded_to_end all [] docs offsets positions sound none l =
     }
 loaded_to_end all (e ∷ rest) docs offsets positions sound none l = absurd (let lengths = ap length none in omega arith)
 
-pub whole_loaded : (all rest : List Entry) (docs offsets positions : List ℕ) (doc : ℕ) → doc ≡ doc_at rest → 2147483647 ≤ doc → IsSound all → IsSound rest → IsLoading all rest docs offsets positions → IsLoaded all rest docs offsets positions
+pub whole_loaded : (all rest : List Entry) (docs offsets positions : List ℕ) (doc : ℕ) → doc ≡ doc_at rest → TERMINATED ≤ doc → IsSound all → IsSound rest → IsLoading all rest docs offsets positions → IsLoaded all rest docs offsets positions
 whole_loaded all rest docs offsets positions doc here past sound left l = loaded_to_end all rest docs offsets positions sound (nothing_left rest left.ascending (omega arith)) l
 
 -- What holds of a list in memory at a current document, whose positions lie between two places.
@@ -231,7 +232,7 @@ at_inside docs offsets positions c start end h inside start_is end_is =
       count = size ∙ rw (start_is, end_is) (sym (ap (term_freq_at false) here));
     }
 
-at_cases : (docs offsets positions : List ℕ) (c start end : ℕ) (t : Bool) → IsHeld docs offsets positions c → doc_at (entries_held (drop c docs) (drop c offsets) positions) < 2147483647 → nat_lt c (length docs) ≡ t
+at_cases : (docs offsets positions : List ℕ) (c start end : ℕ) (t : Bool) → IsHeld docs offsets positions c → doc_at (entries_held (drop c docs) (drop c offsets) positions) < TERMINATED → nat_lt c (length docs) ≡ t
     → start ≡ get_or offsets c start → end ≡ get_or offsets (c + 1) end → IsAt docs offsets positions c start end
 at_cases docs offsets positions c start end true h current test start_is end_is =
     let inside = ltb-true c (length docs) test in
@@ -242,7 +243,7 @@ at_cases docs offsets positions c start end false h current test start_is end_is
     let end = ap doc_at none in
     absurd (omega arith)
 
-pub at_current : (docs offsets positions : List ℕ) (c start end : ℕ) → IsHeld docs offsets positions c → doc_at (entries_held (drop c docs) (drop c offsets) positions) < 2147483647
+pub at_current : (docs offsets positions : List ℕ) (c start end : ℕ) → IsHeld docs offsets positions c → doc_at (entries_held (drop c docs) (drop c offsets) positions) < TERMINATED
     → start ≡ get_or offsets c start → end ≡ get_or offsets (c + 1) end → IsAt docs offsets positions c start end
 at_current docs offsets positions c start end h current start_is end_is = at_cases docs offsets positions c start end (nat_lt c (length docs)) h current refl start_is end_is
 

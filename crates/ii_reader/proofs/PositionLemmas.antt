@@ -9,6 +9,7 @@ use Rattle.std.proofs.lemmas.List.Sums.{sum_by-cons, sum_by_more, sum_by-take-le
 use Rattle.ii_io.specs.StepLemmas.{needs-some, step-some, some-same}
 use Rattle.ii_base.specs.declared.schema.index_record_option.IndexRecordOption.{IndexRecordOption}
 use Rattle.ii_base.specs.Options.{downgrade, has_positions}
+use Rattle.ii_docset.specs.declared.docset.TheConstants.{TERMINATED}
 use Rattle.ii_codes.specs.Sums.{fit_u32, running_sums}
 use Rattle.ii_docset.specs.Entries.{document}
 use Rattle.ii_docset.specs.Cursor.{positions_at}
@@ -22,15 +23,15 @@ use Rattle.ii_codes.specs.BlockDecoder.{BlockDecoderState}
 use Rattle.ii_layout.specs.PositionReader.{PositionReaderState}
 use Rattle.ii_layout.specs.SkipReader.{SkipReaderState}
 use Rattle.ii_layout.proofs.BlockDocs.{get_or-block_of}
-use Rattle.ii_check.specs.CheckedPostings.{AreFreqs, CheckedPostingsState, HasDocuments, HoldsFreqs, IsAtBlock}
+use Rattle.ii_check.specs.CheckedPostings.{AreReadFreqs, CheckedPostingsState, HasDocuments, HoldsFreqs, IsAtBlock}
 use Rattle.ii_check.specs.Positions.{deltas_read}
 use Rattle.ii_check.proofs.PositionLemmas.{sum_low}
 use Rattle.ii_reader.specs.BlockSegmentPostings.{AreEntries, BlockSegmentPostingsState, ComeBefore, freq_in_block}
 use Rattle.ii_reader.proofs.BlockLemmas.{length-block_of}
-use Rattle.ii_reader.specs.SegmentPostings.{AreDeltas, FitCursor, HasDeltas}
+use Rattle.ii_reader.specs.SegmentPostings.{AreGivenDeltas, FitCursor, HasDeltas}
 
 -- what belongs to a cursor belongs to its counts
-pub are_deltas : (cursor : BlockSegmentPostingsState) (deltas : Option (List ℕ)) → FitCursor cursor deltas → AreDeltas cursor.freqs deltas
+pub are_deltas : (cursor : BlockSegmentPostingsState) (deltas : Option (List ℕ)) → FitCursor cursor deltas → AreGivenDeltas cursor.freqs deltas
 are_deltas cursor None f = tt
 are_deltas cursor (Some ds) f = f.1
 
@@ -48,7 +49,7 @@ found_for fs bytes ds e =
     let same = some-same fit.1 in
     record { many = rw same at (eqb-true (length found.0) (sum fs) many.0); fit = rw same at fit.0 }
 
-some_cases : (fs bytes : List ℕ) (o : Option (List ℕ)) (deltas : Option (List ℕ)) → deltas_at fs bytes ≡ o → option_map Some o ≡ Some deltas → AreDeltas (Some fs) deltas
+some_cases : (fs bytes : List ℕ) (o : Option (List ℕ)) (deltas : Option (List ℕ)) → deltas_at fs bytes ≡ o → option_map Some o ≡ Some deltas → AreGivenDeltas (Some fs) deltas
 some_cases fs bytes None deltas e h = absurd (cc)
 some_cases fs bytes (Some ds) None e h = tt
 some_cases fs bytes (Some ds) (Some ds') e h = found_for fs bytes ds' (e ∙ some-same h)
@@ -58,7 +59,7 @@ fits_found cursor bytes None t both h = tt
 fits_found cursor bytes (Some ds) false both h = absurd (let none = some-same h in cc)
 fits_found cursor bytes (Some ds) true both h = (both, by_freqs cursor.freqs bytes h)
   where
-    by_freqs : (freqs bytes : Option (List ℕ)) → deltas_if true freqs bytes ≡ Some (Some ds) → AreDeltas freqs (Some ds)
+    by_freqs : (freqs bytes : Option (List ℕ)) → deltas_if true freqs bytes ≡ Some (Some ds) → AreGivenDeltas freqs (Some ds)
     by_freqs None bytes h = absurd (let none = some-same h in cc)
     by_freqs (Some fs) None h = absurd (let none = some-same h in cc)
     by_freqs (Some fs) (Some bs) h = some_cases fs bs (deltas_at fs bs) (Some ds) refl h
@@ -145,7 +146,7 @@ pub record HeldRow (freqs : Option (List ℕ)) (docs row : List ℕ) (block : �
   pub low : fit_u32 counts ≡ true
   pub row_is : row ≡ block_of counts block
 
-pub held_row : (freqs : Option (List ℕ)) (docs row : List ℕ) (n block : ℕ) (decoder : BlockDecoderState) → HoldsFreqs freqs block decoder → IsSome freqs → length docs ≡ n → ((fs : List ℕ) → freqs ≡ Some fs → AreFreqs n fs) → row ≡ take decoder.output_len decoder.output
+pub held_row : (freqs : Option (List ℕ)) (docs row : List ℕ) (n block : ℕ) (decoder : BlockDecoderState) → HoldsFreqs freqs block decoder → IsSome freqs → length docs ≡ n → ((fs : List ℕ) → freqs ≡ Some fs → AreReadFreqs n fs) → row ≡ take decoder.output_len decoder.output
     → HeldRow freqs docs row block
 held_row None docs row n block decoder held some many all e = absurd (cc)
 held_row (Some fs) docs row n block decoder held some many all e =
@@ -195,7 +196,7 @@ come_next freqs docs row block idx i offset value h inside within e b =
     let place : 128 * block + i + 1 ≡ 128 * block + (i + 1) = omega arith in
     before_of freqs h.counts (128 * block + (i + 1)) (offset + value) h.are (next_is freqs docs row block idx i offset value h inside within e b ∙ ap (λ (k : ℕ). sum (take k h.counts)) place)
 
-many_documents : (docs : List ℕ) → are_documents docs ≡ true → length docs ≤ 2147483647
+many_documents : (docs : List ℕ) → are_documents docs ≡ true → length docs ≤ TERMINATED
 many_documents docs up =
     let below = length_below (map document docs) (ascending docs up) in
     let many = length-map docs document in
@@ -215,7 +216,7 @@ next_low freqs docs row block idx i offset value h up inside within e b =
 fits_some : (cursor : BlockSegmentPostingsState) (reader : Option PositionReaderState) (r : PositionReaderState) → reader ≡ Some r → FitCursor cursor (deltas_read reader) → FitCursor cursor (Some r.deltas)
 fits_some cursor reader r e f = subst (λ (o : Option PositionReaderState). FitCursor cursor (deltas_read o)) e f
 
-counts_asked : (freqs : Option (List ℕ)) (docs ds : List ℕ) (block cur start count : ℕ) → AreDeltas freqs (Some ds) → AreEntries (length docs) docs freqs → cur < length (block_of docs block) → ComeBefore freqs (128 * block + cur) start → count ≡ freq_in_block freqs block cur
+counts_asked : (freqs : Option (List ℕ)) (docs ds : List ℕ) (block cur start count : ℕ) → AreGivenDeltas freqs (Some ds) → AreEntries (length docs) docs freqs → cur < length (block_of docs block) → ComeBefore freqs (128 * block + cur) start → count ≡ freq_in_block freqs block cur
     → (fs : List ℕ) × (freqs ≡ Some fs) × (length fs ≡ length docs) × AsksFor fs ds (128 * block + cur) start count
 counts_asked None docs ds block cur start count d a inside b e = absurd d
 counts_asked (Some fs) docs ds block cur start count d a inside b e =

@@ -17,14 +17,14 @@ use Rattle.ii_layout.specs.Frequencies.{freqs_if, has_freqs}
 use Rattle.ii_layout.specs.Postings.{Postings}
 use Rattle.ii_layout.specs.TermList.{deltas_if, docs_and_freqs, list_of, term_list}
 use Rattle.std.specs.List.{list_any}
-use Rattle.ii_index.specs.Tokens.{IndexToken}
-use Rattle.ii_index.specs.Postings.{is_at, key_postings, occurs}
+use Rattle.ii_definitions.specs.Tokens.{IndexToken}
+use Rattle.ii_definitions.specs.Postings.{is_at, key_postings, occurs}
 use Rattle.std.proofs.lemmas.Bool.{leb-true}
 use Rattle.std.specs.Option.{option_map}
 use Rattle.std.specs.Result.{result_unwrap_or}
 use Rattle.ii_docset.specs.Entries.{Entry}
 use Rattle.ii_termstore.specs.declared.term_info.TermInfo.{TermInfo}
-use Rattle.ii_index.specs.Files.{HoldsTerm, bytes_in}
+use Rattle.ii_definitions.specs.Files.{HoldsTerm, bytes_in}
 use Rattle.ii_io.specs.declared.faults.Fault.TheVariants.{OutOfMemory}
 use Rattle.std.proofs.lemmas.Bool.{le-leb}
 use Rattle.ii_reader.specs.InvertedIndexReader.{InvertedIndexReaderState, IsRefusal, given_if, ranges_lie, reads_positions, term_of_file}

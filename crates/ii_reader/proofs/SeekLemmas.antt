@@ -2,6 +2,7 @@
 use Rattle.std.proofs.Common.{◌≡◌, ℕ, zero, suc, ◌+◌, ◌-◌, ◌*◌, ◌/◌, ◌<◌, ◌≤◌, Bool, true, false, List, length, drop, map, get_or, min, nat_lt, refl, sym, ap, ◌∙◌, arith, length-take, length-drop}
 use Rattle.std.proofs.lemmas.Bool.{ltb-true, ltb-false}
 use Rattle.std.proofs.lemmas.List.{get_or_past, get_or_default}
+use Rattle.ii_docset.specs.declared.docset.TheConstants.{TERMINATED}
 use Rattle.ii_docset.specs.Entries.{Entry, are_documents}
 use Rattle.ii_docset.specs.Cursor.{doc_at, from_doc, IsAscending}
 use Rattle.ii_docset.proofs.CursorLemmas.{advanced, from_doc_step, from_doc_here}
@@ -102,7 +103,7 @@ entries_are p h =
     record { many = refl; ascending = h.ascending; freqs_are = λ fs e. rw many (h.freqs fs e) }
 
 -- the rest from the target on begins at the place of the answer
-dropped : (target : ℕ) (es : List Entry) (m n : ℕ) → target ≤ 2147483647 → ((k : ℕ) → m ≤ k → k < m + n → doc_at (drop k es) < target) → from_doc target (drop m es) ≡ from_doc target (drop (m + n) es)
+dropped : (target : ℕ) (es : List Entry) (m n : ℕ) → target ≤ TERMINATED → ((k : ℕ) → m ≤ k → k < m + n → doc_at (drop k es) < target) → from_doc target (drop m es) ≡ from_doc target (drop (m + n) es)
 dropped target es m zero up less = let same : m ≡ m + 0 = omega arith in ap (λ (k : ℕ). from_doc target (drop k es)) same
 dropped target es m (suc n) up less =
     let earlier = dropped target es m n up (λ k low high. less k low (omega arith)) in
@@ -113,26 +114,26 @@ dropped target es m (suc n) up less =
 -- where a seek leaves a cursor over entries
 doc_low : (target : ℕ) (docs : List ℕ) (es : List Entry) (i k below m n : ℕ) → IsSought target docs i k below → map (λ (e : Entry). e.doc) es ≡ docs → 128 * i ≤ m → m ≤ n → n < 128 * k + below → n < length docs → doc_at (drop n es) < target
 doc_low target docs es i k below m n s docs_are low order high within =
-    let here = sym (doc_at_drop es n) ∙ ap (λ (ds : List ℕ). get_or ds n 2147483647) docs_are ∙ sym (get_or_default docs n 0 2147483647 within) in
+    let here = sym (doc_at_drop es n) ∙ ap (λ (ds : List ℕ). get_or ds n TERMINATED) docs_are ∙ sym (get_or_default docs n 0 TERMINATED within) in
     let less = s.before n (omega arith) high in
     omega arith
 
-end_cases : (target : ℕ) (docs : List ℕ) (es : List Entry) (i k below : ℕ) (t : Bool) → IsSought target docs i k below → map (λ (e : Entry). e.doc) es ≡ docs → target ≤ 2147483647 → nat_lt (128 * k + below) (length docs) ≡ t → target ≤ doc_at (drop (128 * k + below) es)
+end_cases : (target : ℕ) (docs : List ℕ) (es : List Entry) (i k below : ℕ) (t : Bool) → IsSought target docs i k below → map (λ (e : Entry). e.doc) es ≡ docs → target ≤ TERMINATED → nat_lt (128 * k + below) (length docs) ≡ t → target ≤ doc_at (drop (128 * k + below) es)
 end_cases target docs es i k below true s docs_are up test =
     let within = ltb-true (128 * k + below) (length docs) test in
-    let here = sym (doc_at_drop es (128 * k + below)) ∙ ap (λ (ds : List ℕ). get_or ds (128 * k + below) 2147483647) docs_are ∙ sym (get_or_default docs (128 * k + below) 0 2147483647 within) in
+    let here = sym (doc_at_drop es (128 * k + below)) ∙ ap (λ (ds : List ℕ). get_or ds (128 * k + below) TERMINATED) docs_are ∙ sym (get_or_default docs (128 * k + below) 0 TERMINATED within) in
     let enough = s.after (128 * k + below) (omega arith) within in
     omega arith
 end_cases target docs es i k below false s docs_are up test =
     let past = ltb-false (128 * k + below) (length docs) test in
-    let here = sym (doc_at_drop es (128 * k + below)) ∙ ap (λ (ds : List ℕ). get_or ds (128 * k + below) 2147483647) docs_are ∙ get_or_past docs (128 * k + below) 2147483647 past in
+    let here = sym (doc_at_drop es (128 * k + below)) ∙ ap (λ (ds : List ℕ). get_or ds (128 * k + below) TERMINATED) docs_are ∙ get_or_past docs (128 * k + below) TERMINATED past in
     omega arith
 
 -- Where a cursor over entries stood, and where a seek left it.
 pub record Moved (target : ℕ) (docs : List ℕ) (es : List Entry) (i cur k below : ℕ) : Type 0 where
   pub are : map (λ (e : Entry). e.doc) es ≡ docs
   pub ascending : IsAscending (drop (128 * k + below) es)
-  pub up : target ≤ 2147483647
+  pub up : target ≤ TERMINATED
   pub within : cur < 128
   pub current : doc_at (drop (128 * i + cur) es) < target
   pub sought : IsSought target docs i k below
@@ -141,7 +142,7 @@ current_inside : (target : ℕ) (docs : List ℕ) (es : List Entry) (i cur k bel
 current_inside target docs es i cur k below true m test = ltb-true (128 * i + cur) (length docs) test
 current_inside target docs es i cur k below false m test =
     let past = ltb-false (128 * i + cur) (length docs) test in
-    let here = sym (doc_at_drop es (128 * i + cur)) ∙ ap (λ (ds : List ℕ). get_or ds (128 * i + cur) 2147483647) m.are ∙ get_or_past docs (128 * i + cur) 2147483647 past in
+    let here = sym (doc_at_drop es (128 * i + cur)) ∙ ap (λ (ds : List ℕ). get_or ds (128 * i + cur) TERMINATED) m.are ∙ get_or_past docs (128 * i + cur) TERMINATED past in
     let up = m.up in
     let less = m.current in
     absurd (omega arith)
@@ -151,7 +152,7 @@ order_cases target docs es i cur k below true m test = ltb-true (128 * i + cur) 
 order_cases target docs es i cur k below false m test =
     let past = ltb-false (128 * i + cur) (128 * k + below) test in
     let inside = current_inside target docs es i cur k below (nat_lt (128 * i + cur) (length docs)) m refl in
-    let here = sym (doc_at_drop es (128 * i + cur)) ∙ ap (λ (ds : List ℕ). get_or ds (128 * i + cur) 2147483647) m.are ∙ sym (get_or_default docs (128 * i + cur) 0 2147483647 inside) in
+    let here = sym (doc_at_drop es (128 * i + cur)) ∙ ap (λ (ds : List ℕ). get_or ds (128 * i + cur) TERMINATED) m.are ∙ sym (get_or_default docs (128 * i + cur) 0 TERMINATED inside) in
     let enough = m.sought.after (128 * i + cur) past inside in
     let less = m.current in
     absurd (omega arith)
@@ -191,17 +192,17 @@ seeks_here target docs i low =
       found = λ full.
           let size = length-take 128 (drop (128 * i) docs) in
           let left = length-drop (128 * i) docs in
-          let here = sym (get_or_default (block_of docs i) 127 0 2147483647 (omega arith)) ∙ get_or-block_of docs i 127 (omega arith) in
+          let here = sym (get_or_default (block_of docs i) 127 0 TERMINATED (omega arith)) ∙ get_or-block_of docs i 127 (omega arith) in
           omega arith;
     }
 
-full_cases : (docs : List ℕ) (i : ℕ) (t : Bool) → nat_lt 127 (length (block_of docs i)) ≡ t → doc_in_block docs i 127 < 2147483647 → 127 < length (block_of docs i)
+full_cases : (docs : List ℕ) (i : ℕ) (t : Bool) → nat_lt 127 (length (block_of docs i)) ≡ t → doc_in_block docs i 127 < TERMINATED → 127 < length (block_of docs i)
 full_cases docs i true test below = ltb-true 127 (length (block_of docs i)) test
 full_cases docs i false test below =
-    let past = get_or_past (block_of docs i) 127 2147483647 (ltb-false 127 (length (block_of docs i)) test) in
+    let past = get_or_past (block_of docs i) 127 TERMINATED (ltb-false 127 (length (block_of docs i)) test) in
     absurd (omega arith)
 
-on_cases : (target : ℕ) (docs : List ℕ) (i k : ℕ) (t : Bool) → doc_in_block docs i 127 < target → target ≤ 2147483647 → SeeksBlock target docs i k → nat_lt i k ≡ t → i < k
+on_cases : (target : ℕ) (docs : List ℕ) (i k : ℕ) (t : Bool) → doc_in_block docs i 127 < target → target ≤ TERMINATED → SeeksBlock target docs i k → nat_lt i k ≡ t → i < k
 on_cases target docs i k true high up s test = ltb-true i k test
 on_cases target docs i k false high up s test =
     let past = ltb-false i k test in
@@ -210,16 +211,16 @@ on_cases target docs i k false high up s test =
     let inside = full_cases docs i (nat_lt 127 (length (block_of docs i))) refl (omega arith) in
     let size = length-take 128 (drop (128 * i) docs) in
     let left = length-drop (128 * i) docs in
-    let here = sym (get_or_default (block_of docs i) 127 0 2147483647 inside) ∙ get_or-block_of docs i 127 (omega arith) in
+    let here = sym (get_or_default (block_of docs i) 127 0 TERMINATED inside) ∙ get_or-block_of docs i 127 (omega arith) in
     let there = ap (λ (n : ℕ). get_or docs (128 * n + 127) 0) same in
     let enough = s.found (omega arith) in
     absurd (omega arith)
 
 -- a target above the last entry lies in a later block
-pub goes_on : (target : ℕ) (docs : List ℕ) (i k : ℕ) → doc_in_block docs i 127 < target → target ≤ 2147483647 → SeeksBlock target docs i k → i < k
+pub goes_on : (target : ℕ) (docs : List ℕ) (i k : ℕ) → doc_in_block docs i 127 < target → target ≤ TERMINATED → SeeksBlock target docs i k → i < k
 goes_on target docs i k high up s = on_cases target docs i k (nat_lt i k) high up s refl
 
-near_cases : (target : ℕ) (es : List Entry) (b cur next : ℕ) (t : Bool) → next ≡ min (cur + 1) 127 → cur < 128 → nat_lt cur 127 ≡ t → doc_at (drop (128 * b + cur) es) < target → target ≤ 2147483647 → IsAscending (drop (128 * b + next) es)
+near_cases : (target : ℕ) (es : List Entry) (b cur next : ℕ) (t : Bool) → next ≡ min (cur + 1) 127 → cur < 128 → nat_lt cur 127 ≡ t → doc_at (drop (128 * b + cur) es) < target → target ≤ TERMINATED → IsAscending (drop (128 * b + next) es)
     → target ≤ doc_at (drop (128 * b + next) es) → drop (128 * b + next) es ≡ from_doc target (drop (128 * b + cur) es)
 near_cases target es b cur next true e within test low up ascending high =
     let below = ltb-true cur 127 test in
@@ -233,6 +234,6 @@ near_cases target es b cur next false e within test low up ascending high =
     absurd (omega arith)
 
 -- what is left from the next document of the block on, where that isn't below the target
-pub rest_near : (target : ℕ) (es : List Entry) (b cur next : ℕ) → next ≡ min (cur + 1) 127 → cur < 128 → doc_at (drop (128 * b + cur) es) < target → target ≤ 2147483647 → IsAscending (drop (128 * b + next) es)
+pub rest_near : (target : ℕ) (es : List Entry) (b cur next : ℕ) → next ≡ min (cur + 1) 127 → cur < 128 → doc_at (drop (128 * b + cur) es) < target → target ≤ TERMINATED → IsAscending (drop (128 * b + next) es)
     → target ≤ doc_at (drop (128 * b + next) es) → drop (128 * b + next) es ≡ from_doc target (drop (128 * b + cur) es)
 rest_near target es b cur next e within low up ascending high = near_cases target es b cur next (nat_lt cur 127) e within refl low up ascending high

@@ -9,7 +9,7 @@ use Rattle.ii_layout.specs.SkipReader.{SkipReaderState}
 use Rattle.ii_layout.specs.Written.{block_of}
 use Rattle.ii_check.specs.declared.freq_reading_option.FreqReadingOption.{FreqReadingOption}
 use Rattle.ii_check.specs.FreqReading.{reading_of_none}
-use Rattle.ii_check.specs.CheckedPostings.{AreFreqs, CheckedPostingsState, HasDocuments, HoldsBlock, HoldsFreqs, IsAtBlock}
+use Rattle.ii_check.specs.CheckedPostings.{AreReadFreqs, CheckedPostingsState, HasDocuments, HoldsBlock, HoldsFreqs, IsAtBlock}
 
 -- the option that the field records, and the one that is requested; the documents of the list and, where they are read, their counts; whether these are read; the number of the block; how many decodes of documents and of counts there were, and how many skip entries were read
 pub record BlockSegmentPostingsState : Type 0 where
@@ -50,7 +50,7 @@ first_decodes (Some freqs) n = min 1 n
 pub record AreEntries (n : ℕ) (docs : List ℕ) (freqs : Option (List ℕ)) : Type 0 where
   pub many : length docs ≡ n
   pub ascending : are_documents docs ≡ true
-  pub freqs_are : (fs : List ℕ) → freqs ≡ Some fs → AreFreqs n fs
+  pub freqs_are : (fs : List ℕ) → freqs ≡ Some fs → AreReadFreqs n fs
 
 -- So many positions come before a document of a list, by its place: the sum of all counts before it.
 abbrev pub ComeBefore : Option (List ℕ) → ℕ → ℕ → Type 0

@@ -14,9 +14,9 @@ use Rattle.ii_layout.specs.TermList.{docs_and_freqs, term_list}
 use Rattle.ii_termstore.specs.declared.term_info.TermInfo.{TermInfo}
 use Rattle.ii_termdict.specs.Dictionary.{info_under}
 use Rattle.ii_check.specs.FreqReading.{freq_reading}
-use Rattle.ii_index.specs.Tokens.{IndexToken}
-use Rattle.ii_index.specs.Postings.{field_count, key_postings, occurs}
-use Rattle.ii_index.specs.Files.{HoldsTerm, bytes_in}
+use Rattle.ii_definitions.specs.Tokens.{IndexToken}
+use Rattle.ii_definitions.specs.Postings.{field_count, key_postings, occurs}
+use Rattle.ii_definitions.specs.Files.{HoldsTerm, bytes_in}
 use Rattle.ii_reader.specs.BlockSegmentPostings.{AreEntries, BlockSegmentPostingsState, first_decodes}
 use Rattle.ii_reader.specs.SegmentPostings.{SegmentPostingsState}
 

@@ -4,9 +4,9 @@ use Rattle.std.specs.Option.{option_map}
 use Rattle.ii_io.specs.Steps.{◌>>=◌}
 use Rattle.ii_base.specs.ValueTypes.{code_of}
 use Rattle.ii_base.specs.declared.schema.value_type.ValueType.{ValueType}
-use Rattle.ii_index.specs.JsonKeys.{path_in, type_in}
+use Rattle.ii_definitions.specs.JsonKeys.{path_in, type_in}
 use Rattle.ii_termstore.specs.declared.term_info.TermInfo.{TermInfo}
-use Rattle.ii_termdict.specs.Dictionary.{Entry}
+use Rattle.ii_termdict.specs.Dictionary.{TermEntry}
 
 -- A path with a type, how many bytes its terms take, and how many there are.
 pub record FieldSpaceState : Type 0 where
@@ -27,7 +27,7 @@ space_of_term key info value_type = record {
 }
 
 -- what one term takes, if its key has a type
-abbrev pub space_of : Entry → Option FieldSpaceState
+abbrev pub space_of : TermEntry → Option FieldSpaceState
 space_of e = option_map (space_of_term e.0 e.1) (type_in e.0)
 
 -- what all keys of a path with a type begin with
@@ -52,7 +52,7 @@ with_space s [] = s ∷ []
 with_space s (t ∷ ts) = if is_same_label s t then sum_of s t ∷ ts else s ∷ t ∷ ts
 
 -- the paths and types of all keys in order, with what the terms of each take; nothing where a key has no type
-abbrev pub spaces_of : List Entry → Option (List FieldSpaceState)
+abbrev pub spaces_of : List TermEntry → Option (List FieldSpaceState)
 spaces_of [] = Some []
 spaces_of (e ∷ es) = do
   s ← space_of e

@@ -4,6 +4,7 @@ use Rattle.std.specs.List.{sum_by}
 use Rattle.ii_io.specs.declared.faults.Fault.{Fault}
 use Rattle.ii_io.specs.declared.faults.Fault.TheVariants.{OutOfMemory, Limit}
 use Rattle.ii_io.specs.declared.faults.LimitName.TheVariants.{LoadedPositions}
+use Rattle.ii_docset.specs.declared.docset.TheConstants.{TERMINATED}
 use Rattle.ii_docset.specs.Entries.{Entry}
 use Rattle.ii_docset.specs.Cursor.{IsSound}
 
@@ -50,6 +51,6 @@ pub record AreOffsets (docs offsets positions : List ℕ) : Type 0 where
 -- A list in memory: its documents, the offsets of their positions, these, and the place of the current document.
 pub record IsHeld (docs offsets positions : List ℕ) (cursor : ℕ) : Type 0 where
   pub offsets_are : AreOffsets docs offsets positions
-  pub few : length docs ≤ 2147483647
+  pub few : length docs ≤ TERMINATED
   pub inside : cursor ≤ length docs
   pub sound : IsSound (entries_held (drop cursor docs) (drop cursor offsets) positions)

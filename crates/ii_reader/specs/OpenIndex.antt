@@ -7,15 +7,15 @@ use Rattle.ii_io.specs.declared.faults.Part.{Part}
 use Rattle.ii_io.specs.declared.faults.Part.TheVariants.{Composite, TokenCount}
 use Rattle.ii_io.specs.Parts.{◌>>=◌}
 use Rattle.ii_io.specs.Composite.{Body, body_of, composite}
-use Rattle.ii_base.specs.Schema.{Entry}
+use Rattle.ii_base.specs.Schema.{SchemaEntry}
 use Rattle.ii_base.specs.declared.schema.index_record_option.IndexRecordOption.{IndexRecordOption}
 use Rattle.ii_termdict.specs.Dictionary.{dictionary}
 use Rattle.ii_fieldnorm.specs.Norms.{id_of_norm}
 use Rattle.ii_fieldnorm.specs.Readers.{Norms, id_of_doc}
-use Rattle.ii_index.specs.Fields.{option_of}
-use Rattle.ii_index.specs.Norms.{has_norms, norm_ids}
-use Rattle.ii_index.specs.Postings.{doc_count}
-use Rattle.ii_index.specs.Tokens.{IndexToken}
+use Rattle.ii_definitions.specs.Fields.{option_of}
+use Rattle.ii_definitions.specs.Norms.{has_norms, norm_ids}
+use Rattle.ii_definitions.specs.Postings.{doc_count}
+use Rattle.ii_definitions.specs.Tokens.{IndexToken}
 use Rattle.ii_reader.specs.InvertedIndexReader.{InvertedIndexReaderState, ReaderHolds, reader_of_none, reader_over}
 
 -- the bodies of the three files of an index
@@ -58,8 +58,8 @@ all_or_first (found ∷ others) = do
   Ok (x ∷ xs)
 
 -- the readers of the fields of a schema, one after the other; bodies of other fields aren't looked at
-abbrev pub field_readers : IndexBodies → List Entry → Result (List InvertedIndexReaderState) Part
-field_readers bodies entries = all_or_first (map (λ (f : ℕ × Entry). reader_of_field bodies f.0 f.1.option) (enumerate_from 0 entries))
+abbrev pub field_readers : IndexBodies → List SchemaEntry → Result (List InvertedIndexReaderState) Part
+field_readers bodies entries = all_or_first (map (λ (f : ℕ × SchemaEntry). reader_of_field bodies f.0 f.1.option) (enumerate_from 0 entries))
 
 -- an index that is open: the readers of the fields of its schema, and the bodies of its file of norms
 pub record OpenIndexState : Type 0 where
@@ -67,7 +67,7 @@ pub record OpenIndexState : Type 0 where
   pub fieldnorms : List Body
 
 -- that of four files, or the first part that fails: the tables come before the fields
-abbrev pub index_of_files : List ℕ → List ℕ → List ℕ → List ℕ → List Entry → Result OpenIndexState Part
+abbrev pub index_of_files : List ℕ → List ℕ → List ℕ → List ℕ → List SchemaEntry → Result OpenIndexState Part
 index_of_files terms postings positions fieldnorms entries = do
   bodies ← index_bodies terms postings positions
   norms ← ok_or (composite fieldnorms) Composite
@@ -75,25 +75,25 @@ index_of_files terms postings positions fieldnorms entries = do
   Ok (record { readers = readers; fieldnorms = norms })
 
 -- A reader has what a field of the schema records, and its tokens.
-pub record FieldReaderHolds (entries : List Entry) (field : ℕ) (reader : InvertedIndexReaderState) (ts : List IndexToken) : Type 0 where
+pub record FieldReaderHolds (entries : List SchemaEntry) (field : ℕ) (reader : InvertedIndexReaderState) (ts : List IndexToken) : Type 0 where
   pub option_is : reader.option ≡ option_of entries field
   pub holds : ReaderHolds field reader ts
 
 -- The readers of the fields of a schema have the tokens of each.
-abbrev pub ReadersHold : List Entry → List InvertedIndexReaderState → List IndexToken → Type 0
+abbrev pub ReadersHold : List SchemaEntry → List InvertedIndexReaderState → List IndexToken → Type 0
 ReadersHold entries readers ts = (field : ℕ) → field < length entries → IsSomeAnd (slice_get readers field) (λ reader. FieldReaderHolds entries field reader ts)
 
 -- So they do where an index is opened, which is refused for memory alone.
-abbrev pub GivesReaders : List Entry → List IndexToken → Result OpenIndexState Fault → Type 0
+abbrev pub GivesReaders : List SchemaEntry → List IndexToken → Result OpenIndexState Fault → Type 0
 GivesReaders entries ts (Ok index) = ReadersHold entries index.readers ts
 GivesReaders entries ts (Err fault) = fault ≡ OutOfMemory
 
 -- Bodies have the norms of exactly the fields with norms: for each of so many documents the byte of its number of tokens.
-abbrev pub NormsHold : List Entry → ℕ → List Body → List IndexToken → Type 0
+abbrev pub NormsHold : List SchemaEntry → ℕ → List Body → List IndexToken → Type 0
 NormsHold entries num_docs bodies ts = (field : ℕ) → body_of field bodies ≡ (if has_norms entries field then Some (norm_ids num_docs field ts) else None)
 
 -- An open index has tokens: its readers those of each field, and its norms how many a document has of each field with norms.
-pub record IndexHolds (entries : List Entry) (num_docs : ℕ) (index : OpenIndexState) (ts : List IndexToken) : Type 0 where
+pub record IndexHolds (entries : List SchemaEntry) (num_docs : ℕ) (index : OpenIndexState) (ts : List IndexToken) : Type 0 where
   pub readers : ReadersHold entries index.readers ts
   pub norms : NormsHold entries num_docs index.fieldnorms ts
 
@@ -103,7 +103,7 @@ pub record AnswersNorms (num_docs field : ℕ) (ts : List IndexToken) (norms : N
   pub each : (doc : ℕ) → doc < num_docs → id_of_doc norms doc ≡ id_of_norm (doc_count doc field ts)
 
 -- A field gives no reader of norms exactly where it keeps none, and is refused for memory alone.
-abbrev pub GivesNorms : List Entry → ℕ → ℕ → List IndexToken → Result (Option Norms) Fault → Type 0
+abbrev pub GivesNorms : List SchemaEntry → ℕ → ℕ → List IndexToken → Result (Option Norms) Fault → Type 0
 GivesNorms entries num_docs field ts (Ok None) = has_norms entries field ≡ false
 GivesNorms entries num_docs field ts (Ok (Some norms)) = IsTrue (has_norms entries field) × AnswersNorms num_docs field ts norms
 GivesNorms entries num_docs field ts (Err fault) = fault ≡ OutOfMemory

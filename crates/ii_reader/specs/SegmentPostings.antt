@@ -31,15 +31,15 @@ pub record HasDeltas (freqs deltas : List ℕ) : Type 0 where
   pub fit : list_all fit_u32 (positions_of freqs deltas) ≡ true
 
 -- So it is where there are deltas.
-abbrev pub AreDeltas : Option (List ℕ) → Option (List ℕ) → Type 0
-AreDeltas freqs None = ⊤
-AreDeltas None (Some deltas) = ⊥
-AreDeltas (Some freqs) (Some deltas) = HasDeltas freqs deltas
+abbrev pub AreGivenDeltas : Option (List ℕ) → Option (List ℕ) → Type 0
+AreGivenDeltas freqs None = ⊤
+AreGivenDeltas None (Some deltas) = ⊥
+AreGivenDeltas (Some freqs) (Some deltas) = HasDeltas freqs deltas
 
 -- Deltas belong to a cursor whose field records positions, which are requested.
 abbrev pub FitCursor : BlockSegmentPostingsState → Option (List ℕ) → Type 0
 FitCursor cursor None = ⊤
-FitCursor cursor (Some deltas) = (has_positions (downgrade cursor.recorded cursor.requested) ≡ true) × AreDeltas cursor.freqs (Some deltas)
+FitCursor cursor (Some deltas) = (has_positions (downgrade cursor.recorded cursor.requested) ≡ true) × AreGivenDeltas cursor.freqs (Some deltas)
 
 -- The cursor went forward over its list, and decoded documents and counts no more often than its block number rose.
 pub record WentLazily (old new : SegmentPostingsState) : Type 0 where

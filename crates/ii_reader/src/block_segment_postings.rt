@@ -1,4 +1,5 @@
 ghost use Rattle.std.specs.Prelude.{◌≡◌, ◌+◌, ◌*◌, ◌/◌, ◌<◌, ◌≤◌, ⊤, [], length, min, slice_index, true, is_some, None, Some, Ok, Err, IfOk, IfErr, OnOk, OnErr, IsSome, MatchOption};
+ghost use Rattle.ii_io.specs.Faults.{OnlyMemory};
 ghost use Rattle.ii_docset.specs.declared.docset.TheConstants.{TERMINATED};
 ghost use Rattle.ii_io.specs.Parts.{part_of};
 ghost use Rattle.ii_base.specs.Options.{downgrade, has_positions};
@@ -179,7 +180,7 @@ impl BlockSegmentPostings {
     /// many. `OutOfMemory` where a growth was refused.
     pub fn clone(&self) -> Result<BlockSegmentPostings, Fault>
         ensures same { IfOk result (λ cursor. cursor ≡ self.now) }
-        ensures only { IfErr result (λ e. e ≡ Fault.OutOfMemory) }
+        ensures only { OnlyMemory result }
     {
         let checked = self.checked.clone()?;
         let skip = self.skip.clone()?;

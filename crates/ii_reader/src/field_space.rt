@@ -1,7 +1,8 @@
 ghost use Rattle.std.specs.Prelude.{◌≡◌, ℕ, ◌⊎◌, ◌+◌, ◌-◌, ◌^◌, if◌then◌else◌, length, drop, map, None, Some, IfErr, IfOk};
 ghost use Rattle.std.specs.Option.{option_map};
+ghost use Rattle.ii_io.specs.Faults.{OnlyMemory};
 ghost use Rattle.ii_termdict.specs.ReadBack.{AreAscending};
-ghost use Rattle.ii_index.specs.JsonKeys.{is_path_byte, path_in, type_in};
+ghost use Rattle.ii_definitions.specs.JsonKeys.{is_path_byte, path_in, type_in};
 ghost use Rattle.ii_reader.specs.JsonFields.{IsWithin, is_same_label, label_of, space_of_term, spaces_of, sum_of, with_space};
 
 use super::inverted_index_reader::InvertedIndexReader;
@@ -49,7 +50,7 @@ impl InvertedIndexFieldSpace {
     ) -> Result<InvertedIndexFieldSpace, Fault>
         ensures ok { IfOk result (λ s. s ≡ space_of_term key.now term_info.now field_type) }
         ensures within { IfOk result (λ s. IsWithin 1 s) }
-        ensures only { IfErr result (λ e. e ≡ Fault.OutOfMemory) }
+        ensures only { OnlyMemory result }
     {
         Ok(InvertedIndexFieldSpace {
             field_name: Vec::from_slice(alloc, path_in(key))?,
@@ -160,7 +161,7 @@ fn path_in(key: &[u8]) -> &[u8]
 }
 
 // The type that a key has after its path.
-#[tactic(auto, unfolding(ii_index::specs::JsonKeys::type_in))]
+#[tactic(auto, unfolding(ii_definitions::specs::JsonKeys::type_in))]
 fn type_in(key: &[u8]) -> Option<ValueType>
     ensures { result ≡ type_in key.now }
 {

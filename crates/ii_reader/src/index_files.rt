@@ -2,12 +2,12 @@ ghost use Rattle.std.specs.Prelude.{◌≡◌, ◌↔◌, ◌⊎◌, ◌<◌, �
 ghost use Rattle.std.specs.Option.{option_map};
 ghost use Rattle.ii_io.specs.Composite.{body_of, composite};
 ghost use Rattle.ii_io.specs.declared.faults.Part.{Part};
-ghost use Rattle.ii_base.specs.Schema.{Entry};
+ghost use Rattle.ii_base.specs.Schema.{SchemaEntry};
 ghost use Rattle.ii_fieldnorm.specs.Readers.{norms_of_ids};
-ghost use Rattle.ii_index.specs.Tokens.{IndexToken};
-ghost use Rattle.ii_index.specs.Fields.{option_of};
-ghost use Rattle.ii_index.specs.Files.{HoldTokens};
-ghost use Rattle.ii_index.specs.Norms.{HoldNorms};
+ghost use Rattle.ii_definitions.specs.Tokens.{IndexToken};
+ghost use Rattle.ii_definitions.specs.Fields.{option_of};
+ghost use Rattle.ii_definitions.specs.Files.{HoldTokens};
+ghost use Rattle.ii_definitions.specs.Norms.{HoldNorms};
 ghost use Rattle.ii_reader.specs.InvertedIndexReader.{IsRefusal};
 ghost use Rattle.ii_reader.specs.OpenIndex.{GivesNorms, GivesReaders, NormsHold, field_readers, index_bodies, index_of_files, reader_of_bodies, reader_of_field};
 
@@ -54,7 +54,7 @@ impl OpenIndex {
             ↔ IsSomeAnd (body_of field self.now.fieldnorms) (λ ids. 2 ^ 32 ≤ length ids) }
         ensures only { IfErr result (λ e. (e ≡ Fault.OutOfMemory) ⊎ (e ≡ Fault.Damaged Part.FieldNorms)) }
         // where the file has the norms of tokens
-        ensures holds { (schema : List Entry) (num_docs : ℕ) (tokens : List IndexToken) → num_docs < 2 ^ 32
+        ensures holds { (schema : List SchemaEntry) (num_docs : ℕ) (tokens : List IndexToken) → num_docs < 2 ^ 32
             → NormsHold schema num_docs self.now.fieldnorms tokens → GivesNorms schema num_docs field tokens result }
     {
         self.fieldnorms.get_field(field)

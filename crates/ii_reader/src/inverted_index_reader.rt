@@ -3,9 +3,9 @@ ghost use Rattle.std.specs.Option.{option_map, option_map_or};
 ghost use Rattle.ii_io.specs.Numbers.{number_at};
 ghost use Rattle.ii_base.specs.declared.schema.index_record_option.IndexRecordOption.TheVariants.{Basic};
 ghost use Rattle.ii_termdict.specs.Dictionary.{info_under};
-ghost use Rattle.ii_index.specs.Tokens.{IndexToken};
-ghost use Rattle.ii_index.specs.Postings.{field_count, key_postings, occurs};
-ghost use Rattle.ii_index.specs.Files.{HoldsTerm, bytes_in};
+ghost use Rattle.ii_definitions.specs.Tokens.{IndexToken};
+ghost use Rattle.ii_definitions.specs.Postings.{field_count, key_postings, occurs};
+ghost use Rattle.ii_definitions.specs.Files.{HoldsTerm, bytes_in};
 ghost use Rattle.ii_reader.specs.BlockSegmentPostings.{cursor_of_none};
 ghost use Rattle.ii_reader.specs.InvertedIndexReader.{GivesList, GivesPostings, IsRefusal, OpensBlocks, OpensTerm, ReaderHolds, docs_of_file, given_if, lies_in, ranges_lie, reader_of_none, reader_over, reads_positions, term_of_file};
 

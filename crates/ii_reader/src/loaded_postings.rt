@@ -1,5 +1,6 @@
 ghost use Rattle.std.specs.Prelude.{◌≡◌, ◌+◌, ◌<◌, ◌^◌, ◌++◌, false, [], length, map, IfOk, IfErr, OnOk, OnErr};
 ghost use Rattle.std.specs.List.{All};
+ghost use Rattle.ii_io.specs.Faults.{OnlyMemory};
 ghost use Rattle.ii_docset.specs.Cursor.{IsCurrent, doc_at, positions_at, term_freq_at};
 ghost use Rattle.ii_reader.specs.LoadedPostings.{IsEndOf, IsLoadFault, loaded, num_positions};
 
@@ -159,7 +160,7 @@ fn append_with_offset(positions: &[u32], offset: u32, output: &mut Vec<u32>) -> 
     requires { All (λ p. p + offset < 2 ^ 32) positions.now }
     ensures ok { OnOk result (output.new.items ≡ output.old.items ++ map (λ p. p + offset) positions.now) }
     ensures err { OnErr result (output.new.items ≡ output.old.items) }
-    ensures only { IfErr result (λ e. e ≡ Fault.OutOfMemory) }
+    ensures only { OnlyMemory result }
 {
     let len = output.len();
     output.extend_from_slice(positions)?;

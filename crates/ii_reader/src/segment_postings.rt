@@ -1,5 +1,6 @@
 ghost use Rattle.std.specs.Prelude.{◌≡◌, ◌+◌, ◌*◌, ◌/◌, ◌^◌, ◌<◌, ◌≤◌, ◌⊎◌, ◌++◌, false, not, [], drop, take, length, map, Ok, Err, IfOk, IfErr, OnOk, OnErr, IsTrue};
 ghost use Rattle.std.specs.List.{All};
+ghost use Rattle.ii_io.specs.Faults.{OnlyMemory};
 ghost use Rattle.ii_io.specs.Parts.{part_of};
 ghost use Rattle.ii_codes.specs.Sums.{fit_u32, running_sums};
 ghost use Rattle.ii_docset.specs.Alive.{IsCovered, alive_in};
@@ -143,7 +144,7 @@ impl SegmentPostings {
     /// blocks. `OutOfMemory` where a growth was refused.
     pub fn clone(&self) -> Result<SegmentPostings, Fault>
         ensures same { IfOk result (λ cursor. cursor ≡ self.now) }
-        ensures only { IfErr result (λ e. e ≡ Fault.OutOfMemory) }
+        ensures only { OnlyMemory result }
     {
         let block_cursor = self.block_cursor.clone()?;
         let position_reader = match &self.position_reader {
@@ -169,7 +170,7 @@ impl SegmentPostings {
     pub fn doc_freq_given_deletes(&self, alive_bitset: &AliveBitSet) -> Result<u32, Fault>
         requires { IsCovered alive_bitset.now self.now.rest }
         ensures ok { IfOk result (λ count. count ≡ alive_in alive_bitset.now self.now.rest) }
-        ensures only { IfErr result (λ e. e ≡ Fault.OutOfMemory) }
+        ensures only { OnlyMemory result }
     {
         let mut cursor = self.clone()?;
         Ok(cursor.count(alive_bitset))
@@ -279,7 +280,7 @@ impl Postings for SegmentPostings {
         requires fits { All (λ p. p + offset < 2 ^ 32) (positions_at self.old.rest) }
         ensures ok { OnOk result (output.new.items ≡ output.old.items ++ map (λ p. p + offset) (positions_at self.old.rest)) }
         ensures err { OnErr result (output.new.items ≡ output.old.items) }
-        ensures only { IfErr result (λ e. e ≡ Fault.OutOfMemory) }
+        ensures only { OnlyMemory result }
         ensures rest { self.new.rest ≡ self.old.rest }
         ensures kind { not (is_read self.new.freq_reading) ≡ not (is_read self.old.freq_reading) }
         ensures work { WentLazily self.old self.new }
@@ -307,7 +308,7 @@ fn append_positions(
     requires fits { IsTrue (fit_u32 (running_sums offset (take count (drop start reader.old.deltas)))) }
     ensures ok { OnOk result (output.new.items ≡ output.old.items ++ running_sums offset (take count (drop start reader.old.deltas))) }
     ensures err { OnErr result (output.new.items ≡ output.old.items) }
-    ensures only { IfErr result (λ e. e ≡ Fault.OutOfMemory) }
+    ensures only { OnlyMemory result }
     ensures deltas { reader.new.deltas ≡ reader.old.deltas }
     ensures decodes { reader.new.decodes ≤ reader.old.decodes + count / 128 + 2 }
 {

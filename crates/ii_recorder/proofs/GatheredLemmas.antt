@@ -5,7 +5,7 @@ use Rattle.std.specs.List.{sum}
 use Rattle.std.proofs.lemmas.List.Sums.{sum_by-append, sum_by-cons}
 use Rattle.ii_codes.specs.Sums.{running_sums}
 use Rattle.ii_docset.specs.Entries.{Entry, counted}
-use Rattle.ii_recorder.specs.Gathered.{Gathered, all_of, behind_positions, count_read, counted_all, first_positions, gathered, located, more_positions, none_after, position_read, with_count, with_number}
+use Rattle.ii_recorder.specs.Gathered.{Gathered, all_of, behind_positions, count_read, counted_all, first_positions, gathered, located_at, more_positions, none_after, position_read, with_count, with_number}
 
 pub gathered_more : (step : Gathered → ℕ → Gathered) (g : Gathered) (ns : List ℕ) (n : ℕ) → gathered step g (ns ++ n ∷ []) ≡ step (gathered step g ns) n
 gathered_more step g [] n = refl
@@ -60,25 +60,25 @@ pub counts_step : (count last d : ℕ) (ns : List ℕ)
 counts_step count last d [] = refl
 counts_step count last d (n ∷ ns) = ap (counted_all count) (counts_behind (counted (last + d) n) (last + d) ns)
 
-located_is : (doc : ℕ) (ps : List ℕ) → more_positions (counted doc 0) ps ≡ located doc ps
+located_is : (doc : ℕ) (ps : List ℕ) → more_positions (counted doc 0) ps ≡ located_at doc ps
 located_is doc ps =
     let count : 0 + length ps ≡ length ps = omega arith in
     ap (λ (n : ℕ). record { doc = doc; term_freq = n; positions = ps }) count
 
 -- the first document of numbers with positions, and those behind it
 pub positions_step : (last d : ℕ) (ns : List ℕ)
-    → all_of (gathered with_number (none_after last) (d ∷ ns)) ≡ located (last + d) (first_positions ns) ∷ all_of (gathered with_number (none_after (last + d)) (behind_positions ns))
+    → all_of (gathered with_number (none_after last) (d ∷ ns)) ≡ located_at (last + d) (first_positions ns) ∷ all_of (gathered with_number (none_after (last + d)) (behind_positions ns))
 positions_step last d ns =
     positions_read [] (counted (last + d) 0) (last + d) ns
     ∙ ap (λ (e : Entry). all_of (gathered with_number (record { closed = e ∷ []; pending = None; last = last + d }) (behind_positions ns))) (located_is (last + d) (first_positions ns))
-    ∙ ap all_of (positions_behind (located (last + d) (first_positions ns)) (last + d) (behind_positions ns))
+    ∙ ap all_of (positions_behind (located_at (last + d) (first_positions ns)) (last + d) (behind_positions ns))
 
 pub counts_left : (count last d n : ℕ) (all ns rest : List ℕ) → all ≡ d ∷ ns → n ≡ unwrap_or (slice_get ns 0) count → rest ≡ drop 1 ns
     → counted_all count (gathered with_count (none_after last) all) ≡ counted (last + d) n ∷ counted_all count (gathered with_count (none_after (last + d)) rest)
 counts_left count last d n all ns rest first number others = rw (first, number, others) (counts_step count last d ns)
 
 pub positions_left : (last d : ℕ) (all ns : List ℕ) → all ≡ d ∷ ns
-    → all_of (gathered with_number (none_after last) all) ≡ located (last + d) (first_positions ns) ∷ all_of (gathered with_number (none_after (last + d)) (behind_positions ns))
+    → all_of (gathered with_number (none_after last) all) ≡ located_at (last + d) (first_positions ns) ∷ all_of (gathered with_number (none_after (last + d)) (behind_positions ns))
 positions_left last d all ns first = rw first (positions_step last d ns)
 
 -- numbers behind the positions are no more than before

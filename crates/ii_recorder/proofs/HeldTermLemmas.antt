@@ -17,13 +17,13 @@ use Rattle.ii_termstore.specs.declared.term_info.TermInfo.{TermInfo}
 use Rattle.ii_termstore.specs.ReadBack.{AreStorable}
 use Rattle.ii_termstore.specs.TermInfos.{HasLengths, IsInRange, term_info_from}
 use Rattle.ii_termstore.specs.Written.{info_in}
-use Rattle.ii_termdict.specs.Dictionary.{Entry, dictionary, info_under}
+use Rattle.ii_termdict.specs.Dictionary.{TermEntry, dictionary, info_under}
 use Rattle.ii_termdict.specs.ReadBack.{AreAscending, ReadsDictionaryBack}
 use Rattle.ii_termdict.specs.Written.{written_dictionary}
-use Rattle.ii_index.specs.Files.{LiesIn}
+use Rattle.ii_definitions.specs.Files.{LiesIn}
 use Rattle.ii_recorder.specs.Terms.{IsShort, WrittenTerm, field_bodies, infos_from, postings_bytes, positions_body, positions_bytes}
 use Rattle.ii_recorder.specs.FieldTerms.{HasTerms}
-use Rattle.ii_recorder.specs.HeldTerms.{AreHoldable, HoldsEachTerm, HoldsKey, HoldsTerm, HoldsTerms, HoldsWhatIsWritten, HoldsWritten, has_key, written_keys}
+use Rattle.ii_recorder.specs.HeldTerms.{AreHoldable, HoldsEachTerm, HoldsKey, KeepsTerm, HoldsTerms, HoldsWhatIsWritten, HoldsWritten, has_key, written_keys}
 use Rattle.ii_recorder.specs.TermPlaces.{TermPlacesState}
 use Rattle.std.proofs.Math.Bool.{or-true}
 
@@ -139,8 +139,8 @@ has_its_key [] t k below is = absurd (omega arith)
 has_its_key (v ∷ vs) t zero below is = let same : bytes_eq t.key v.key ≡ true = (bytes_decides t.key v.key).1 (ap (λ (w : WrittenTerm). w.key) (sym is)) in rw same refl
 has_its_key (v ∷ vs) t (suc k) below is = rw (has_its_key vs t k (omega arith) is) (or-true (bytes_eq t.key v.key))
 
-held_under : (mode : IndexRecordOption) (entries : List Entry) (postings positions : List ℕ) (ts : List WrittenTerm) (t : WrittenTerm) (o : Option TermInfo) → AreAscending (written_keys ts) → Contains ts t
-    → info_under t.key entries ≡ o → MatchOption o (has_key t.key ts ≡ false) (HoldsKey mode postings positions ts t.key) → HoldsTerm mode entries postings positions t
+held_under : (mode : IndexRecordOption) (entries : List TermEntry) (postings positions : List ℕ) (ts : List WrittenTerm) (t : WrittenTerm) (o : Option TermInfo) → AreAscending (written_keys ts) → Contains ts t
+    → info_under t.key entries ≡ o → MatchOption o (has_key t.key ts ≡ false) (HoldsKey mode postings positions ts t.key) → KeepsTerm mode entries postings positions t
 held_under mode entries postings positions ts t None ascending there is none = let has = has_its_key ts t there.0 there.1 there.2 in absurd (cc)
 held_under mode entries postings positions ts t (Some info) ascending there is h =
     let same : h.term ≡ t = one_term ts h.term t h.written.0 there.0 ascending (h.written.1, h.written.2) (there.1, there.2) h.key_is in

@@ -10,6 +10,7 @@ use Rattle.ii_io.specs.declared.faults.Fault.{Fault}
 use Rattle.ii_io.specs.declared.faults.Fault.TheVariants.{SerializerClosed}
 use Rattle.ii_base.specs.declared.schema.index_record_option.IndexRecordOption.{IndexRecordOption}
 use Rattle.ii_base.specs.Options.{has_freq, has_positions}
+use Rattle.ii_docset.specs.declared.docset.TheConstants.{TERMINATED}
 use Rattle.ii_codes.specs.Sums.{differences}
 use Rattle.ii_docset.specs.Entries.{Entry, ascend_from, docs_of}
 use Rattle.ii_recorder.specs.IndexBodies.{IndexBodiesState}
@@ -136,7 +137,7 @@ pushes_none option a open_still = record {
 ascend_front : (least : ℕ) (xs ys : List ℕ) → ascend_from least (xs ++ ys) ≡ true → ascend_from least xs ≡ true
 ascend_front least [] ys h = refl
 ascend_front least (x ∷ xs) ys h =
-    let parts = and_parts (nat_le least x && nat_lt x 2147483647) (ascend_from (x + 1) (xs ++ ys)) h in
+    let parts = and_parts (nat_le least x && nat_lt x TERMINATED) (ascend_from (x + 1) (xs ++ ys)) h in
     rw (parts.0, ascend_front (x + 1) xs ys parts.1) refl
 
 -- entries before others may be pushed, and then those
@@ -201,14 +202,14 @@ open_before : (b : Bool) → (IsTrue b → IsErrOf {T = Unit {0}} {E = Fault} (O
 open_before false h = refl
 open_before true h = absurd (let e = h refl in cc)
 
-ascend_one : (least : ℕ) (xs : List ℕ) (d : ℕ) (ys : List ℕ) → ascend_from least (xs ++ d ∷ ys) ≡ true → d < 2147483647
+ascend_one : (least : ℕ) (xs : List ℕ) (d : ℕ) (ys : List ℕ) → ascend_from least (xs ++ d ∷ ys) ≡ true → d < TERMINATED
 ascend_one least [] d ys h =
-    let both = (and_parts (nat_le least d && nat_lt d 2147483647) (ascend_from (d + 1) ys) h).0 in
-    ltb-true d 2147483647 (and_parts (nat_le least d) (nat_lt d 2147483647) both).1
-ascend_one least (x ∷ xs) d ys h = ascend_one (x + 1) xs d ys (and_parts (nat_le least x && nat_lt x 2147483647) (ascend_from (x + 1) (xs ++ d ∷ ys)) h).1
+    let both = (and_parts (nat_le least d && nat_lt d TERMINATED) (ascend_from (d + 1) ys) h).0 in
+    ltb-true d TERMINATED (and_parts (nat_le least d) (nat_lt d TERMINATED) both).1
+ascend_one least (x ∷ xs) d ys h = ascend_one (x + 1) xs d ys (and_parts (nat_le least x && nat_lt x TERMINATED) (ascend_from (x + 1) (xs ++ d ∷ ys)) h).1
 
 -- a document that is left lies below the end
-pub pushing_below : (option : IndexRecordOption) (s b : IndexSerializerState) (es rest : List Entry) (e : Entry) (more : List Entry) → IsPushing option s b es rest → rest ≡ e ∷ more → MayPush option s es → e.doc < 2147483647
+pub pushing_below : (option : IndexRecordOption) (s b : IndexSerializerState) (es rest : List Entry) (e : Entry) (more : List Entry) → IsPushing option s b es rest → rest ≡ e ∷ more → MayPush option s es → e.doc < TERMINATED
 pushing_below option s b es rest e more h is may =
     let still_open : s.closed ≡ false = open_before s.closed h.pushed.closed.1 in
     let parts = h.parts ∙ ap (λ (xs : List Entry). h.done ++ xs) is in

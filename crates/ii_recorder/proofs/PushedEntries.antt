@@ -12,7 +12,7 @@ use Rattle.ii_docset.specs.Entries.{Entry, counted, docs_of, document}
 use Rattle.ii_layout.specs.Positions.{written_positions}
 use Rattle.ii_layout.specs.TermList.{ReadsTermBack, list_of, located, term_list}
 use Rattle.ii_layout.specs.Written.{AreFreqs, block_of, freqs_read, written_postings}
-use Rattle.ii_index.specs.Cut.{cut_entry}
+use Rattle.ii_definitions.specs.Cut.{cut_entry}
 use Rattle.ii_recorder.specs.Pushed.{FillTooLarge, HaveDeltas, ReadsEntriesBack, counts_of, pushed_deltas, pushed_freqs}
 use Rattle.ii_recorder.specs.Terms.{positions_bytes}
 use Rattle.ii_recorder.proofs.Documents.{few_documents}

@@ -5,7 +5,7 @@ use Rattle.std.specs.Option.{option_to_list}
 use Rattle.std.proofs.lemmas.List.{length-map, map-append}
 use Rattle.ii_docset.specs.Entries.{Entry, docs_of}
 use Rattle.ii_recorder.specs.Kept.{IsCount, IsLastDoc}
-use Rattle.ii_recorder.specs.Recorded.{RecorderState, current_doc, entries_in, last_doc, u32_max}
+use Rattle.ii_recorder.specs.Recorded.{RecorderState, current_doc, entries_of_recorder, last_doc, u32_max}
 
 pub last_of_push : (xs : List ℕ) (x : ℕ) → slice_get (xs ++ x ∷ []) (length xs) ≡ Some x
 last_of_push [] x = refl
@@ -51,21 +51,21 @@ no_last (e ∷ es) other none = absurd (omega (arith, none))
 
 -- the current document, where there is none
 pub current_none : (s : RecorderState) (count : ℕ) → IsCount count s → count ≡ 0 → u32_max ≡ current_doc s
-current_none s count counted none = sym (no_last (entries_in s) u32_max (none_counted (length (entries_in s)) (sym none ∙ counted)))
+current_none s count counted none = sym (no_last (entries_of_recorder s) u32_max (none_counted (length (entries_of_recorder s)) (sym none ∙ counted)))
 
-pub current_last : (s : RecorderState) (last : ℕ) → IsLastDoc last s → 0 < length (entries_in s) → last ≡ current_doc s
-current_last s last is some = sym is ∙ last_default (entries_in s) 0 u32_max some
+pub current_last : (s : RecorderState) (last : ℕ) → IsLastDoc last s → 0 < length (entries_of_recorder s) → last ≡ current_doc s
+current_last s last is some = sym is ∙ last_default (entries_of_recorder s) 0 u32_max some
 
 -- and where there is one
 pub current_some : (s : RecorderState) (last count : ℕ) → IsCount count s → IsLastDoc last s → 0 < count → last ≡ current_doc s
-current_some s last count counted is some = current_last s last is (some_counted (length (entries_in s)) count counted some)
+current_some s last count counted is some = current_last s last is (some_counted (length (entries_of_recorder s)) count counted some)
 
 above_by : (o : Option ℕ) (last doc : ℕ) → IfSome o (λ l. l < doc) → unwrap_or o 0 ≡ last → last ≤ doc
 above_by None last doc h e = omega (arith, e)
 above_by (Some l) last doc h e = omega (arith, h, e)
 
 -- entries where no document is open
-pub closed_alone : (s : RecorderState) → s.pending ≡ None → entries_in s ≡ s.closed
+pub closed_alone : (s : RecorderState) → s.pending ≡ None → entries_of_recorder s ≡ s.closed
 closed_alone s none = ap (λ (p : Option Entry). s.closed ++ option_to_list p) none ∙ append-nil s.closed
 
 -- a document that is begun lies above the last one
@@ -97,10 +97,10 @@ count_moved s e f count now_open counted =
 
 -- all documents are closed
 abbrev pub all_closed : RecorderState → RecorderState
-all_closed s = record { option = s.option; closed = entries_in s; pending = None }
+all_closed s = record { option = s.option; closed = entries_of_recorder s; pending = None }
 
-pub same_closed : (s : RecorderState) → entries_in (all_closed s) ≡ entries_in s
-same_closed s = append-nil (entries_in s)
+pub same_closed : (s : RecorderState) → entries_of_recorder (all_closed s) ≡ entries_of_recorder s
+same_closed s = append-nil (entries_of_recorder s)
 
 pub last_closed : (s : RecorderState) (last : ℕ) → IsLastDoc last s → IsLastDoc last (all_closed s)
 last_closed s last is = ap (λ (es : List Entry). unwrap_or (last_doc es) 0) (same_closed s) ∙ is

@@ -9,9 +9,9 @@ use Rattle.ii_io.specs.Vints.{vint_u32}
 use Rattle.ii_base.specs.declared.schema.index_record_option.IndexRecordOption.TheVariants.{Basic, WithFreqs, WithFreqsAndPositions}
 use Rattle.ii_codes.specs.Sums.{running_sums}
 use Rattle.ii_docset.specs.Entries.{Entry, counted, document}
-use Rattle.ii_recorder.specs.Gathered.{Gathered, counts_in, counts_state, docs_in, docs_read, docs_state, more_positions, none_after, positions_in, positions_state, recounted, with_count, with_number}
+use Rattle.ii_recorder.specs.Gathered.{Gathered, counts_in, counts_state, docs_by_deltas, docs_read, docs_state, more_positions, none_after, positions_in, positions_state, recounted, with_count, with_number}
 use Rattle.ii_recorder.specs.Kept.{IsCount, IsLastDoc, IsLocated, KeepsCounts, KeepsDocs, KeepsPositions}
-use Rattle.ii_recorder.specs.Recorded.{RecorderState, begun, current_doc, entries_in, last_doc, last_position, u32_max, with_position}
+use Rattle.ii_recorder.specs.Recorded.{RecorderState, begun, current_doc, entries_of_recorder, last_doc, last_position, u32_max, with_position}
 use Rattle.ii_recorder.specs.VintRows.{numbers}
 use Rattle.ii_recorder.proofs.DeltaLemmas.{all_push, last_position_more, located_more}
 use Rattle.ii_recorder.proofs.GatheredLemmas.{gathered_more, length_sums, sum_more, sums_more, sums_split}
@@ -31,21 +31,21 @@ docs_split (d ∷ ds) some =
     let place : length ds ≡ length (d ∷ ds) - 1 = omega arith in
     sums_split 0 d ds ∙ ap (λ (n : ℕ). take (length ds) (running_sums 0 (d ∷ ds)) ++ n ∷ []) none ∙ ap (λ (k : ℕ). take k (running_sums 0 (d ∷ ds)) ++ sum (d ∷ ds) ∷ []) place
 
-docs_parts : (ns : List ℕ) → 0 < length ns → docs_in ns ≡ map document (take (length ns - 1) (running_sums 0 ns)) ++ document (sum ns) ∷ []
+docs_parts : (ns : List ℕ) → 0 < length ns → docs_by_deltas ns ≡ map document (take (length ns - 1) (running_sums 0 ns)) ++ document (sum ns) ∷ []
 docs_parts ns some = ap (map document) (docs_split ns some) ∙ map-append document (take (length ns - 1) (running_sums 0 ns)) (sum ns ∷ [])
 
 docs_all : (ns : List ℕ) → take (length ns) (running_sums 0 ns) ≡ running_sums 0 ns
 docs_all ns = take_all (length ns) (running_sums 0 ns) (omega (arith, length_sums 0 ns))
 
-docs_by : (ns : List ℕ) (b : Bool) → (b ≡ true → 0 < length ns) → entries_in (docs_read ns b) ≡ docs_in ns
+docs_by : (ns : List ℕ) (b : Bool) → (b ≡ true → 0 < length ns) → entries_of_recorder (docs_read ns b) ≡ docs_by_deltas ns
 docs_by ns false some = append-nil (map document (take (length ns) (running_sums 0 ns))) ∙ ap (map document) (docs_all ns)
 docs_by ns true some = sym (docs_parts ns (some refl))
 
 -- all documents
-pub docs_are : (bytes : List ℕ) (last : ℕ) (b : Bool) → KeepsDocs bytes last b → entries_in (docs_state bytes b) ≡ docs_in (numbers bytes)
+pub docs_are : (bytes : List ℕ) (last : ℕ) (b : Bool) → KeepsDocs bytes last b → entries_of_recorder (docs_state bytes b) ≡ docs_by_deltas (numbers bytes)
 docs_are bytes last b k = docs_by (numbers bytes) b k.some
 
-docs_last : (ns : List ℕ) (other : ℕ) → 0 < length ns → unwrap_or (last_doc (docs_in ns)) other ≡ sum ns
+docs_last : (ns : List ℕ) (other : ℕ) → 0 < length ns → unwrap_or (last_doc (docs_by_deltas ns)) other ≡ sum ns
 docs_last ns other some =
     ap (λ (es : List Entry). unwrap_or (last_doc es) other) (docs_parts ns some) ∙ ap (λ (o : Option ℕ). unwrap_or o other) (last_doc_push (map document (take (length ns - 1) (running_sums 0 ns))) (document (sum ns)))
 
@@ -53,20 +53,20 @@ pub record DocsGo (bytes : List ℕ) (last : ℕ) (b : Bool) (s : RecorderState)
   pub state : docs_state bytes b ≡ s
   pub keeps : KeepsDocs bytes last b
 
-low_by : (ns : List ℕ) (last doc : ℕ) → sum ns ≡ last → IfSome (last_doc (docs_in ns)) (λ l. l < doc) → last ≤ doc
+low_by : (ns : List ℕ) (last doc : ℕ) → sum ns ≡ last → IfSome (last_doc (docs_by_deltas ns)) (λ l. l < doc) → last ≤ doc
 low_by [] last doc is above = omega (arith, is)
 low_by (d ∷ ds) last doc is above =
-    let here : last_doc (docs_in (d ∷ ds)) ≡ Some (sum (d ∷ ds)) = ap last_doc (docs_parts (d ∷ ds) (omega arith)) ∙ last_doc_push (map document (take (length (d ∷ ds) - 1) (running_sums 0 (d ∷ ds)))) (document (sum (d ∷ ds))) in
-    let less = if_some (λ l. l < doc) (last_doc (docs_in (d ∷ ds))) (sum (d ∷ ds)) above here in
+    let here : last_doc (docs_by_deltas (d ∷ ds)) ≡ Some (sum (d ∷ ds)) = ap last_doc (docs_parts (d ∷ ds) (omega arith)) ∙ last_doc_push (map document (take (length (d ∷ ds) - 1) (running_sums 0 (d ∷ ds)))) (document (sum (d ∷ ds))) in
+    let less = if_some (λ l. l < doc) (last_doc (docs_by_deltas (d ∷ ds))) (sum (d ∷ ds)) above here in
     omega (arith, is, less)
 
-docs_opened : (ns : List ℕ) (doc : ℕ) → sum ns ≤ doc → docs_read (ns ++ (doc - sum ns) ∷ []) true ≡ record { option = Basic; closed = docs_in ns; pending = Some (document doc) }
+docs_opened : (ns : List ℕ) (doc : ℕ) → sum ns ≤ doc → docs_read (ns ++ (doc - sum ns) ∷ []) true ≡ record { option = Basic; closed = docs_by_deltas ns; pending = Some (document doc) }
 docs_opened ns doc low =
     let ms = ns ++ (doc - sum ns) ∷ [] in
     let place : length ms - 1 ≡ length (running_sums 0 ns) = omega (arith, length-append ns ((doc - sum ns) ∷ []), length_sums 0 ns) in
     let total : sum ms ≡ doc = omega (arith, low, sum_more ns (doc - sum ns)) in
     let front = ap (take (length ms - 1)) (sums_more 0 ns (doc - sum ns)) ∙ ap (λ (k : ℕ). take k (running_sums 0 ns ++ (0 + sum ns + (doc - sum ns)) ∷ [])) place ∙ take-append_seam (running_sums 0 ns) ((0 + sum ns + (doc - sum ns)) ∷ []) in
-    ap (λ (xs : List ℕ). record { option = Basic; closed = map document xs; pending = Some (document (sum ms)) }) front ∙ ap (λ (n : ℕ). record { option = Basic; closed = docs_in ns; pending = Some (document n) }) total
+    ap (λ (xs : List ℕ). record { option = Basic; closed = map document xs; pending = Some (document (sum ms)) }) front ∙ ap (λ (n : ℕ). record { option = Basic; closed = docs_by_deltas ns; pending = Some (document n) }) total
 
 pub docs_begun : (bytes new : List ℕ) (last : ℕ) (b : Bool) (doc : ℕ) → KeepsDocs bytes last b → (docs_state bytes b).pending ≡ None → IfSome (last_doc (docs_state bytes b).closed) (λ l. l < doc)
     → doc < 2 ^ 32 → new ≡ bytes ++ vint_u32 (doc - last) → DocsGo new doc true (record (docs_state bytes b) { pending = Some (begun Basic doc) })
@@ -188,7 +188,7 @@ counts_ended bytes new last freq count k some fits is =
     let s = counts_state bytes freq in
     let g = counts_in (numbers bytes) in
     let long = longer bytes new freq k.vints fits is in
-    let read : counts_in (numbers new) ≡ record { closed = entries_in s; pending = None; last = g.last } =
+    let read : counts_in (numbers new) ≡ record { closed = entries_of_recorder s; pending = None; last = g.last } =
     ap counts_in long.numbers ∙ gathered_more with_count (none_after 0) (numbers bytes) freq ∙ counts_closed g.closed g.pending g.last freq some
     in
     let state : counts_state new freq ≡ all_closed s = ap (λ (h : Gathered). record { option = WithFreqs; closed = h.closed; pending = option_map (recounted freq) h.pending }) read in
@@ -235,8 +235,8 @@ positions_begun bytes new last freq position count doc more k none above fits is
         read = ap (λ (h : Gathered). h.last) read;
         is_last = subst (IsLastDoc doc) (sym state) (last_begun s e);
         is_count = subst (IsCount more) (sym state) (count_begun s e count more none k.is_count one);
-        located = subst (λ (t : RecorderState). AllByRecursion IsLocated (entries_in t)) (sym state) (all_push IsLocated s.closed e (subst (AllByRecursion IsLocated) alone k.located) (refl, tt, tt));
-        counted = subst (λ (t : RecorderState). AllByRecursion (λ (f : Entry). f.term_freq < 2 ^ 32) (entries_in t)) (sym state)
+        located = subst (λ (t : RecorderState). AllByRecursion IsLocated (entries_of_recorder t)) (sym state) (all_push IsLocated s.closed e (subst (AllByRecursion IsLocated) alone k.located) (refl, tt, tt));
+        counted = subst (λ (t : RecorderState). AllByRecursion (λ (f : Entry). f.term_freq < 2 ^ 32) (entries_of_recorder t)) (sym state)
             (all_push (λ (f : Entry). f.term_freq < 2 ^ 32) s.closed e (subst (AllByRecursion (λ (f : Entry). f.term_freq < 2 ^ 32)) alone k.counted) (omega arith));
         pending = subst (λ (t : RecorderState). IfSome t.pending (λ f. (f.term_freq ≡ 0) × (last_position f.positions ≡ 0))) (sym state) (refl, refl);
       };
@@ -281,9 +281,9 @@ positions_positioned bytes new last freq position count p k some low fits few is
         read = ap (λ (h : Gathered). h.last) read ∙ k.read;
         is_last = subst (IsLastDoc last) (sym there) (last_moved s e f last open_one.1 refl k.is_last);
         is_count = subst (IsCount count) (sym there) (count_moved s e f count open_one.1 k.is_count);
-        located = subst (λ (t : RecorderState). AllByRecursion IsLocated (entries_in t)) (sym there)
+        located = subst (λ (t : RecorderState). AllByRecursion IsLocated (entries_of_recorder t)) (sym there)
             (all_push IsLocated s.closed f (all_front IsLocated s.closed e located) (located_more e p (all_last IsLocated s.closed e located) (omega (arith, held.1, low)) (omega (arith, fits))));
-        counted = subst (λ (t : RecorderState). AllByRecursion (λ (d : Entry). d.term_freq < 2 ^ 32) (entries_in t)) (sym there)
+        counted = subst (λ (t : RecorderState). AllByRecursion (λ (d : Entry). d.term_freq < 2 ^ 32) (entries_of_recorder t)) (sym there)
             (all_push (λ (d : Entry). d.term_freq < 2 ^ 32) s.closed f (all_front (λ (d : Entry). d.term_freq < 2 ^ 32) s.closed e counted) (omega (arith, held.0, few)));
         pending = subst (λ (t : RecorderState). IfSome t.pending (λ d. (d.term_freq ≡ freq + 1) × (last_position d.positions ≡ p))) (sym there) (ap (λ (n : ℕ). n + 1) held.0, last_position_more e.positions p);
       };
@@ -299,7 +299,7 @@ positions_ended bytes new last freq position count k some is =
     let s = positions_state bytes in
     let g = positions_in (numbers bytes) in
     let long = longer bytes new 0 k.vints (omega arith) is in
-    let read : positions_in (numbers new) ≡ record { closed = entries_in s; pending = None; last = g.last } =
+    let read : positions_in (numbers new) ≡ record { closed = entries_of_recorder s; pending = None; last = g.last } =
     ap positions_in long.numbers ∙ gathered_more with_number (none_after 0) (numbers bytes) 0 ∙ positions_closed g.closed g.pending g.last some
     in
     let state : positions_state new ≡ all_closed s = ap (λ (h : Gathered). record { option = WithFreqsAndPositions; closed = h.closed; pending = h.pending }) read in
@@ -311,8 +311,8 @@ positions_ended bytes new last freq position count k some is =
         read = ap (λ (h : Gathered). h.last) read ∙ k.read;
         is_last = subst (IsLastDoc last) (sym state) (last_closed s last k.is_last);
         is_count = subst (IsCount count) (sym state) (count_closed s count k.is_count);
-        located = subst (λ (t : RecorderState). AllByRecursion IsLocated (entries_in t)) (sym state) (subst (AllByRecursion IsLocated) (sym same) k.located);
-        counted = subst (λ (t : RecorderState). AllByRecursion (λ (d : Entry). d.term_freq < 2 ^ 32) (entries_in t)) (sym state) (subst (AllByRecursion (λ (d : Entry). d.term_freq < 2 ^ 32)) (sym same) k.counted);
+        located = subst (λ (t : RecorderState). AllByRecursion IsLocated (entries_of_recorder t)) (sym state) (subst (AllByRecursion IsLocated) (sym same) k.located);
+        counted = subst (λ (t : RecorderState). AllByRecursion (λ (d : Entry). d.term_freq < 2 ^ 32) (entries_of_recorder t)) (sym state) (subst (AllByRecursion (λ (d : Entry). d.term_freq < 2 ^ 32)) (sym same) k.counted);
         pending = subst (λ (t : RecorderState). IfSome t.pending (λ d. (d.term_freq ≡ freq) × (last_position d.positions ≡ position))) (sym state) tt;
       };
     }

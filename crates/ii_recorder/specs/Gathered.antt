@@ -59,12 +59,12 @@ abbrev pub counted_all : ℕ → Gathered → List Entry
 counted_all count g = g.closed ++ option_to_list (option_map (recounted count) g.pending)
 
 -- a document with its positions
-abbrev pub located : ℕ → List ℕ → Entry
-located doc positions = record { doc = doc; term_freq = length positions; positions = positions }
+abbrev pub located_at : ℕ → List ℕ → Entry
+located_at doc positions = record { doc = doc; term_freq = length positions; positions = positions }
 
 -- documents by how far each lies after the one before it
-abbrev pub docs_in : List ℕ → List Entry
-docs_in ns = map document (running_sums 0 ns)
+abbrev pub docs_by_deltas : List ℕ → List Entry
+docs_by_deltas ns = map document (running_sums 0 ns)
 
 -- a recorder of documents, by such numbers and whether the last document is open
 abbrev pub docs_read : List ℕ → Bool → RecorderState

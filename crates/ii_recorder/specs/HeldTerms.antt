@@ -6,9 +6,9 @@ use Rattle.ii_base.specs.declared.schema.index_record_option.IndexRecordOption.{
 use Rattle.ii_termstore.specs.declared.term_info.TermInfo.{TermInfo}
 use Rattle.ii_termstore.specs.declared.term_info_store.TheConstants.{BLOCK_LEN}
 use Rattle.ii_termstore.specs.Written.{blocks_bytes}
-use Rattle.ii_termdict.specs.Dictionary.{Entry, dictionary, entry_keys, info_under}
+use Rattle.ii_termdict.specs.Dictionary.{TermEntry, dictionary, entry_keys, info_under}
 use Rattle.ii_termdict.specs.ReadBack.{AreAscending}
-use Rattle.ii_index.specs.Files.{LiesIn, bytes_in}
+use Rattle.ii_definitions.specs.Files.{LiesIn, bytes_in}
 use Rattle.ii_recorder.specs.Terms.{FieldBodies, IsShort, WrittenTerm, field_bodies, infos_from, postings_bytes, positions_body, positions_bytes}
 
 -- What is kept of a term says how many documents it has and where its bytes stand.
@@ -36,7 +36,7 @@ has_key key ts = list_any (λ (t : WrittenTerm). bytes_eq key t.key) ts
 
 -- The bodies of a field hold the number of its tokens, exactly the keys of its terms, which ascend, and the bytes of each.
 pub record HoldsTerms (mode : IndexRecordOption) (tokens : ℕ) (bodies : FieldBodies) (ts : List WrittenTerm) : Type 0 where
-  pub entries : List Entry
+  pub entries : List TermEntry
   pub postings_body : List ℕ
   pub counted : number_at 8 bodies.postings ≡ Some (tokens, postings_body)
   pub sorted : dictionary bodies.terms ≡ Ok entries
@@ -45,7 +45,7 @@ pub record HoldsTerms (mode : IndexRecordOption) (tokens : ℕ) (bodies : FieldB
   pub exact : (key : List ℕ) → MatchOption (info_under key entries) (has_key key ts ≡ false) (HoldsKey mode postings_body bodies.positions ts key)
 
 -- Under the key of a written term that very term is kept.
-pub record HoldsTerm (mode : IndexRecordOption) (entries : List Entry) (postings positions : List ℕ) (t : WrittenTerm) : Type 0 where
+pub record KeepsTerm (mode : IndexRecordOption) (entries : List TermEntry) (postings positions : List ℕ) (t : WrittenTerm) : Type 0 where
   pub info : TermInfo
   pub found : info_under t.key entries ≡ Some info
   pub held : HoldsWritten mode postings positions t info
@@ -68,4 +68,4 @@ HoldsWhatIsWritten = (mode : IndexRecordOption) (tokens : ℕ) (ts : List Writte
 abbrev pub HoldsEachTerm : Type 0
 HoldsEachTerm =
     (mode : IndexRecordOption) (tokens : ℕ) (bodies : FieldBodies) (ts : List WrittenTerm) (h : HoldsTerms mode tokens bodies ts) (t : WrittenTerm) → Contains ts t
-    → HoldsTerm mode h.entries h.postings_body bodies.positions t
+    → KeepsTerm mode h.entries h.postings_body bodies.positions t

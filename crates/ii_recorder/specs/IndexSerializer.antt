@@ -3,15 +3,15 @@ use Rattle.std.specs.Prelude.{◌≡◌, ℕ, ◌^◌, ◌<◌, ◌⊎◌, Bool,
 use Rattle.ii_io.specs.declared.faults.Fault.{Fault}
 use Rattle.ii_io.specs.declared.faults.Fault.TheVariants.{Limit, Write}
 use Rattle.ii_io.specs.declared.faults.LimitName.TheVariants as limit
-use Rattle.ii_base.specs.Schema.{Entry}
-use Rattle.ii_index.specs.Fields.{option_of}
+use Rattle.ii_base.specs.Schema.{SchemaEntry}
+use Rattle.ii_definitions.specs.Fields.{option_of}
 use Rattle.ii_recorder.specs.Terms.{WrittenTerm, open_bodies}
 use Rattle.ii_recorder.specs.FieldTerms.{FieldTermsState, HasTerms, IsEndFault, closing_bytes}
 use Rattle.ii_recorder.specs.IndexBodies.{IndexBodiesState, AddsBodies, AreFull}
 
 -- The fields of the schema, the three files, the terms of the field that was begun last, and whether a call was refused.
 pub record IndexSerializerState : Type 0 where
-  pub entries : List Entry
+  pub entries : List SchemaEntry
   pub bodies : IndexBodiesState
   pub field : FieldTermsState
   pub closed : Bool

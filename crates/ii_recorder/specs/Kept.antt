@@ -4,7 +4,7 @@ use Rattle.std.specs.List.{AllByRecursion, sum}
 use Rattle.ii_codes.specs.Sums.{DoNotFall}
 use Rattle.ii_docset.specs.Entries.{Entry}
 use Rattle.ii_recorder.specs.Gathered.{counts_in, counts_state, positions_in, positions_state}
-use Rattle.ii_recorder.specs.Recorded.{RecorderState, entries_in, last_doc, last_position, u32_max}
+use Rattle.ii_recorder.specs.Recorded.{RecorderState, entries_of_recorder, last_doc, last_position, u32_max}
 use Rattle.ii_recorder.specs.VintRows.{AreVints, numbers}
 
 -- The bytes are deltas that sum up to the last document, and there is one that may be open.
@@ -16,11 +16,11 @@ pub record KeepsDocs (bytes : List ℕ) (last : ℕ) (is_open : Bool) : Type 0 w
 
 -- It is the last document, or 0 where there is none.
 abbrev pub IsLastDoc : ℕ → RecorderState → Type 0
-IsLastDoc last s = unwrap_or (last_doc (entries_in s)) 0 ≡ last
+IsLastDoc last s = unwrap_or (last_doc (entries_of_recorder s)) 0 ≡ last
 
 -- So many documents there are, or more than 32 bits can say.
 abbrev pub IsCount : ℕ → RecorderState → Type 0
-IsCount count s = count ≡ min (length (entries_in s)) u32_max
+IsCount count s = count ≡ min (length (entries_of_recorder s)) u32_max
 
 -- The bytes are deltas and counts, the last one of the open document beside them.
 pub record KeepsCounts (bytes : List ℕ) (last freq count : ℕ) : Type 0 where
@@ -39,6 +39,6 @@ pub record KeepsPositions (bytes : List ℕ) (last freq position count : ℕ) : 
   pub read : (positions_in (numbers bytes)).last ≡ last
   pub is_last : IsLastDoc last (positions_state bytes)
   pub is_count : IsCount count (positions_state bytes)
-  pub located : AllByRecursion IsLocated (entries_in (positions_state bytes))
-  pub counted : AllByRecursion (λ (e : Entry). e.term_freq < 2 ^ 32) (entries_in (positions_state bytes))
+  pub located : AllByRecursion IsLocated (entries_of_recorder (positions_state bytes))
+  pub counted : AllByRecursion (λ (e : Entry). e.term_freq < 2 ^ 32) (entries_of_recorder (positions_state bytes))
   pub pending : IfSome (positions_state bytes).pending (λ e. (e.term_freq ≡ freq) × (last_position e.positions ≡ position))

@@ -13,7 +13,7 @@ use Rattle.ii_layout.specs.Positions.{positions_of}
 use Rattle.ii_layout.specs.PostingsSerializer.{IsSumTooLarge}
 use Rattle.ii_layout.specs.TermList.{AreDeltas, term_list}
 use Rattle.ii_layout.specs.Written.{written_postings}
-use Rattle.ii_index.specs.Cut.{cut_entry}
+use Rattle.ii_definitions.specs.Cut.{cut_entry}
 use Rattle.ii_recorder.specs.Terms.{positions_bytes}
 use Rattle.ii_recorder.specs.IndexSerializer.{IndexSerializerState}
 

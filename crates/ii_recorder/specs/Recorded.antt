@@ -7,7 +7,7 @@ use Rattle.ii_io.specs.declared.faults.LimitName.TheVariants as limit
 use Rattle.ii_base.specs.declared.schema.index_record_option.IndexRecordOption.{IndexRecordOption}
 use Rattle.ii_base.specs.Options.{has_freq, has_positions}
 use Rattle.ii_docset.specs.Entries.{Entry, docs_of}
-use Rattle.ii_index.specs.Cut.{cut_entry}
+use Rattle.ii_definitions.specs.Cut.{cut_entry}
 
 -- What a recorder has: what it keeps of a document, the documents that were closed, and the one that is open.
 pub record RecorderState : Type 0 where
@@ -16,8 +16,8 @@ pub record RecorderState : Type 0 where
   pub pending : Option Entry
 
 -- all documents of a recorder, the open one last
-abbrev pub entries_in : RecorderState → List Entry
-entries_in r = r.closed ++ option_to_list r.pending
+abbrev pub entries_of_recorder : RecorderState → List Entry
+entries_of_recorder r = r.closed ++ option_to_list r.pending
 
 -- the greatest number of 32 bits
 abbrev pub u32_max : ℕ
@@ -29,7 +29,7 @@ last_doc es = slice_get (docs_of es) (length es - 1)
 
 -- the document that was begun last, or the greatest number of 32 bits
 abbrev pub current_doc : RecorderState → ℕ
-current_doc r = unwrap_or (last_doc (entries_in r)) u32_max
+current_doc r = unwrap_or (last_doc (entries_of_recorder r)) u32_max
 
 -- a document in which nothing was recorded yet
 abbrev pub begun : IndexRecordOption → ℕ → Entry

@@ -3,6 +3,7 @@ ghost use Rattle.std.specs.List.{zip};
 ghost use Rattle.ii_io.specs.CountingWriter.{CountingWriterState, Grows, IsFull};
 ghost use Rattle.ii_io.specs.CompositeWrite.{AddsBody, HasBodies, WroteComposite, has_start};
 ghost use Rattle.ii_io.specs.Composite.{Body, fit_fields};
+ghost use Rattle.ii_io.specs.Faults.{OnlyMemory};
 ghost use Rattle.ii_io.specs.Numbers.{le_bytes};
 ghost use Rattle.ii_recorder.specs.IndexBodies.{AddsBodies, AddsMore, AllGrow, AreBegun, AreFull, AreUnclosed, LacksField, NoneFalls, failed_calls, tables_of};
 ghost use Rattle.ii_recorder.specs.FieldTerms.{EndsTerm, IsEndFault, bytes_of, dictionary_of};
@@ -213,7 +214,7 @@ fn begin_body<W: Write>(composite: &mut CompositeWrite<W>, field: Field) -> Resu
     ensures unclosed { OnOk result (composite.new.closed ≡ false) }
     ensures begun { OnOk result (0 < length composite.new.starts) }
     ensures writer { composite.new.writer ≡ composite.old.writer }
-    ensures only { IfErr result (λ e. e ≡ Fault.OutOfMemory) }
+    ensures only { OnlyMemory result }
 {
     composite.for_field(field)?;
     Ok(())

@@ -1,8 +1,9 @@
 ghost use Rattle.std.specs.Prelude.{◌≡◌, ◌<◌, ◌++◌, length, min, if◌then◌else◌, None, Some, Err, IfErr, IfSome, IsSome, IsTrue, MatchOption, OnErr, OnOk};
 ghost use Rattle.std.specs.Option.{option_map, option_to_list};
+ghost use Rattle.ii_io.specs.Faults.{OnlyMemory};
 ghost use Rattle.ii_base.specs.Options.{has_freq, has_positions};
 ghost use Rattle.ii_recorder.specs.Pushed.{HaveDeltas, MayPush, Pushes};
-ghost use Rattle.ii_recorder.specs.Recorded.{RecorderState, begun, current_doc, entries_in, last_doc, position_fault, u32_max, with_position};
+ghost use Rattle.ii_recorder.specs.Recorded.{RecorderState, begun, current_doc, entries_of_recorder, last_doc, position_fault, u32_max, with_position};
 
 use super::buffer_lender::BufferLender;
 use super::field_serializer::FieldSerializer;
@@ -36,7 +37,7 @@ pub trait Recorder: Drop {
         requires above { IfSome (last_doc (state self.old).closed) (λ last. last < doc) }
         ensures ok { OnOk result (state self.new ≡ record (state self.old) { pending = Some (begun (state self.old).option doc) }) }
         ensures err { OnErr result (state self.new ≡ state self.old) }
-        ensures only { IfErr result (λ e. e ≡ Fault.OutOfMemory) };
+        ensures only { OnlyMemory result };
 
     /// Adds a position of the term in the open document.
     ///
@@ -55,9 +56,9 @@ pub trait Recorder: Drop {
     /// `OutOfMemory` where there is no room for it: the recorder then stays.
     fn close_doc(&mut self) -> Result<(), Fault>
         requires { IsSome (state self.old).pending }
-        ensures ok { OnOk result (state self.new ≡ record (state self.old) { closed = entries_in (state self.old); pending = None }) }
+        ensures ok { OnOk result (state self.new ≡ record (state self.old) { closed = entries_of_recorder (state self.old); pending = None }) }
         ensures err { OnErr result (state self.new ≡ state self.old) }
-        ensures only { IfErr result (λ e. e ≡ Fault.OutOfMemory) };
+        ensures only { OnlyMemory result };
 
     /// Pushes all documents, the open one last, to the open term of a field, each with its count, 0
     /// where counts aren't kept, and with the position deltas that are kept. The documents follow those
@@ -72,15 +73,15 @@ pub trait Recorder: Drop {
         buffer_lender: &mut BufferLender,
         serializer: &mut FieldSerializer<'_, W>,
     ) -> Result<(), Fault>
-        requires { MayPush (state self.now).option serializer.old.index.now (entries_in (state self.now)) }
+        requires { MayPush (state self.now).option serializer.old.index.now (entries_of_recorder (state self.now)) }
         ensures same_reference { serializer.new.index.ghost_name ≡ serializer.old.index.ghost_name }
-        ensures located { IsTrue (has_positions (state self.now).option) → HaveDeltas (entries_in (state self.now)) }
-        ensures pushes { Pushes (state self.now).option serializer.old.index.now serializer.new.index.now (entries_in (state self.now)) result };
+        ensures located { IsTrue (has_positions (state self.now).option) → HaveDeltas (entries_of_recorder (state self.now)) }
+        ensures pushes { Pushes (state self.now).option serializer.old.index.now serializer.new.index.now (entries_of_recorder (state self.now)) result };
 
     /// In how many documents the term is, the open one included, or `u32::MAX` if there are more; nothing
     /// where documents alone are kept.
     fn term_doc_freq(&self) -> Option<u32>
-        ensures { result ≡ (if has_freq (state self.now).option then Some (min (length (entries_in (state self.now))) u32_max) else None) };
+        ensures { result ≡ (if has_freq (state self.now).option then Some (min (length (entries_of_recorder (state self.now))) u32_max) else None) };
 
     /// Whether counts are kept.
     fn has_term_freq(&self) -> bool

@@ -13,14 +13,14 @@ use Rattle.ii_recorder.specs.IndexBodies.{IndexBodiesState}
 use Rattle.ii_recorder.specs.IndexSerializer.{IndexSerializerState, IsWriting}
 use Rattle.ii_recorder.specs.OpenTerm.{OpenTermState}
 use Rattle.ii_recorder.specs.Pushed.{with_entries}
-use Rattle.ii_recorder.specs.Recorded.{RecorderState, entries_in}
+use Rattle.ii_recorder.specs.Recorded.{RecorderState, entries_of_recorder}
 use Rattle.ii_recorder.specs.Terms.{WrittenTerm, field_bodies}
 use Rattle.ii_recorder_tests.specs.RecordedTerm.{recorded_term}
 
 -- the term that was begun, and has the documents
 pub term_is : (before : OpenTermState) (opened pushed : IndexSerializerState) (r : RecorderState) (mode : IndexRecordOption) (b : Bool)
     → opened.field.term ≡ record before { skip_info = if b then before.mode else Basic; docs = []; freqs = []; deltas = [] } → b ≡ has_freq r.option → before.mode ≡ mode
-    → pushed ≡ with_entries r.option opened (entries_in r) → term_under (97 ∷ []) pushed.field.term ≡ recorded_term mode r
+    → pushed ≡ with_entries r.option opened (entries_of_recorder r) → term_under (97 ∷ []) pushed.field.term ≡ recorded_term mode r
 term_is before opened pushed r mode b begun counts is entries = rw (entries, begun, counts, is) refl
 
 pub held_as : (result : Result (Unit {0}) Fault) (m mode : IndexRecordOption) (t u : WrittenTerm) → m ≡ mode → t ≡ u → OnOk result (HoldsTerms m 3 (field_bodies m 3 (t ∷ [])) (t ∷ []))

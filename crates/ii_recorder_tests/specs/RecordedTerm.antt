@@ -5,7 +5,7 @@ use Rattle.ii_base.specs.declared.schema.index_record_option.IndexRecordOption.T
 use Rattle.ii_base.specs.Options.{has_freq, has_positions}
 use Rattle.ii_docset.specs.Entries.{docs_of}
 use Rattle.ii_recorder.specs.Pushed.{pushed_deltas, pushed_freqs}
-use Rattle.ii_recorder.specs.Recorded.{RecorderState, entries_in}
+use Rattle.ii_recorder.specs.Recorded.{RecorderState, entries_of_recorder}
 use Rattle.ii_recorder.specs.Terms.{WrittenTerm}
 
 -- `a`, as the field records it or without counts
@@ -13,7 +13,7 @@ abbrev pub recorded_term : IndexRecordOption → RecorderState → WrittenTerm
 recorded_term mode r = record {
   key = 97 ∷ [];
   skip_info = if has_freq r.option then mode else Basic;
-  docs = docs_of (entries_in r);
-  freqs = pushed_freqs r.option (entries_in r);
-  deltas = if has_positions mode then pushed_deltas (entries_in r) else [];
+  docs = docs_of (entries_of_recorder r);
+  freqs = pushed_freqs r.option (entries_of_recorder r);
+  deltas = if has_positions mode then pushed_deltas (entries_of_recorder r) else [];
 }

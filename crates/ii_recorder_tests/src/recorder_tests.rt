@@ -2,13 +2,13 @@ ghost use Rattle.std.specs.Prelude.{◌<◌, ◌≡◌, [], ◌∷◌, true, fal
 ghost use Rattle.std.specs.List.{AllByRecursion};
 ghost use Rattle.ii_base.specs.Options.{has_freq};
 ghost use Rattle.ii_docset.specs.Entries.{are_documents, docs_of};
-ghost use Rattle.ii_index.specs.Fields.{option_of};
+ghost use Rattle.ii_definitions.specs.Fields.{option_of};
 ghost use Rattle.ii_recorder.specs.HeldTerms.{HoldsTerms};
 ghost use Rattle.ii_recorder.specs.IndexBodies.{LacksField};
 ghost use Rattle.ii_recorder.specs.Terms.{field_bodies};
 ghost use Rattle.ii_recorder_tests.specs.RecordedTerm.{recorded_term};
 ghost use Rattle.ii_recorder.specs.Pushed.{pushed_freqs};
-ghost use Rattle.ii_recorder.specs.Recorded.{entries_in};
+ghost use Rattle.ii_recorder.specs.Recorded.{entries_of_recorder};
 
 use crate::tests::texts;
 use ii_base::{CountingWriter, Fault, Field};
@@ -22,8 +22,8 @@ use std::test::Fail;
 
 // Document 0 at 0 and 4, and document 3 at 1, which stays open.
 fn two_documents(alloc: Global) -> Result<TfAndPositionRecorder, Fault>
-    ensures docs { IfOk result (λ r. IsTrue (are_documents (docs_of (entries_in r)))) }
-    ensures counted { IfOk result (λ r. AllByRecursion (λ n. 0 < n) (pushed_freqs r.option (entries_in r))) }
+    ensures docs { IfOk result (λ r. IsTrue (are_documents (docs_of (entries_of_recorder r)))) }
+    ensures counted { IfOk result (λ r. AllByRecursion (λ n. 0 < n) (pushed_freqs r.option (entries_of_recorder r))) }
 {
     let mut recorder = TfAndPositionRecorder::new(alloc);
     recorder.new_doc(0)?;
@@ -37,8 +37,8 @@ fn two_documents(alloc: Global) -> Result<TfAndPositionRecorder, Fault>
 
 // The same without positions.
 fn two_counts(alloc: Global) -> Result<TermFrequencyRecorder, Fault>
-    ensures docs { IfOk result (λ r. IsTrue (are_documents (docs_of (entries_in r)))) }
-    ensures counted { IfOk result (λ r. AllByRecursion (λ n. 0 < n) (pushed_freqs r.option (entries_in r))) }
+    ensures docs { IfOk result (λ r. IsTrue (are_documents (docs_of (entries_of_recorder r)))) }
+    ensures counted { IfOk result (λ r. AllByRecursion (λ n. 0 < n) (pushed_freqs r.option (entries_of_recorder r))) }
 {
     let mut recorder = TermFrequencyRecorder::new(alloc);
     recorder.new_doc(0)?;
@@ -52,7 +52,7 @@ fn two_counts(alloc: Global) -> Result<TermFrequencyRecorder, Fault>
 
 // And without counts.
 fn two_ids(alloc: Global) -> Result<DocIdRecorder, Fault>
-    ensures docs { IfOk result (λ r. IsTrue (are_documents (docs_of (entries_in r)))) }
+    ensures docs { IfOk result (λ r. IsTrue (are_documents (docs_of (entries_of_recorder r)))) }
     ensures counted { IfOk result (λ r. has_freq r.option ≡ false) }
 {
     let mut recorder = DocIdRecorder::new(alloc);
@@ -70,8 +70,8 @@ fn write_recorder<R: Recorder, W: Write>(
 ) -> Result<(), Fault>
     requires known { 0 < length index.old.entries }
     requires lacks { index.old.closed ≡ false → LacksField 0 index.old.bodies }
-    requires docs { IsTrue (are_documents (docs_of (entries_in (R.state recorder.now)))) }
-    requires counted { IsTrue (has_freq (R.state recorder.now).option) → AllByRecursion (λ n. 0 < n) (pushed_freqs (R.state recorder.now).option (entries_in (R.state recorder.now))) }
+    requires docs { IsTrue (are_documents (docs_of (entries_of_recorder (R.state recorder.now)))) }
+    requires counted { IsTrue (has_freq (R.state recorder.now).option) → AllByRecursion (λ n. 0 < n) (pushed_freqs (R.state recorder.now).option (entries_of_recorder (R.state recorder.now))) }
     ensures { OnOk result (HoldsTerms (option_of index.old.entries 0) 3 (field_bodies (option_of index.old.entries 0) 3 (recorded_term (option_of index.old.entries 0) (R.state recorder.now) ∷ []))
         (recorded_term (option_of index.old.entries 0) (R.state recorder.now) ∷ [])) }
 {
@@ -84,8 +84,8 @@ fn write_recorder<R: Recorder, W: Write>(
 
 // The bodies of postings and of positions of a field with one term.
 fn bodies_of<R: Recorder>(alloc: Global, recorder: &R) -> Result<(Vec<u8>, Vec<u8>), Fault>
-    requires docs { IsTrue (are_documents (docs_of (entries_in (R.state recorder.now)))) }
-    requires counted { IsTrue (has_freq (R.state recorder.now).option) → AllByRecursion (λ n. 0 < n) (pushed_freqs (R.state recorder.now).option (entries_in (R.state recorder.now))) }
+    requires docs { IsTrue (are_documents (docs_of (entries_of_recorder (R.state recorder.now)))) }
+    requires counted { IsTrue (has_freq (R.state recorder.now).option) → AllByRecursion (λ n. 0 < n) (pushed_freqs (R.state recorder.now).option (entries_of_recorder (R.state recorder.now))) }
 {
     let schema = texts(alloc)?;
     let mut index = InvertedIndexSerializer::open(
@@ -115,8 +115,8 @@ fn told_of_recorder<R: Recorder>(
     recorder: &R,
     begins: (&[u8], &[u8]),
 ) -> Result<(bool, usize, usize), Fault>
-    requires docs { IsTrue (are_documents (docs_of (entries_in (R.state recorder.now)))) }
-    requires counted { IsTrue (has_freq (R.state recorder.now).option) → AllByRecursion (λ n. 0 < n) (pushed_freqs (R.state recorder.now).option (entries_in (R.state recorder.now))) }
+    requires docs { IsTrue (are_documents (docs_of (entries_of_recorder (R.state recorder.now)))) }
+    requires counted { IsTrue (has_freq (R.state recorder.now).option) → AllByRecursion (λ n. 0 < n) (pushed_freqs (R.state recorder.now).option (entries_of_recorder (R.state recorder.now))) }
 {
     Ok(told_of(&bodies_of(alloc, recorder)?, begins))
 }

@@ -9,7 +9,7 @@ use Rattle.ii_io.specs.declared.faults.Part.TheVariants.{Dictionary, TermStore}
 use Rattle.ii_io.specs.Steps.{◌>>=◌, needs}
 use Rattle.ii_termstore.specs.declared.term_info.TermInfo.{TermInfo}
 use Rattle.ii_termstore.specs.TermStore.{term_store}
-use Rattle.ii_termdict.specs.Dictionary.{end_of, start_of, key_of, keys_of, ends_rise, keys_ascend, key_parts, keys_at, with_infos, with_keys, dictionary, store_after, entries_of, AreOpened, Entry}
+use Rattle.ii_termdict.specs.Dictionary.{end_of, start_of, key_of, keys_of, ends_rise, keys_ascend, key_parts, keys_at, with_infos, with_keys, dictionary, store_after, opened_entries, AreOpened, TermEntry}
 use Rattle.ii_termstore.specs.ListLemmas.{all_more, all_at, not_all}
 use Rattle.std.proofs.lemmas.Bool.{and_parts}
 
@@ -103,7 +103,7 @@ pub store_count : (o : Option (List TermInfo)) (infos : List TermInfo) (n : ℕ)
 store_count o infos n e h = rw e at h
 
 -- What is known where bytes hold a dictionary.
-abbrev counted_by : Bool → List (List ℕ) → List TermInfo → Result (List Entry) Part
+abbrev counted_by : Bool → List (List ℕ) → List TermInfo → Result (List TermEntry) Part
 counted_by b keys infos = if b then Ok (zip keys infos) else Err Dictionary
 
 counted : (keys : List (List ℕ)) (infos : List TermInfo) (n : ℕ) → length keys ≡ n → (b : Bool) → eqb (length infos) (length keys) ≡ b → IsOk (counted_by b keys infos)
@@ -126,8 +126,8 @@ opened_cases n ends body true false x y there h = absurd (cc)
 opened_cases n ends body false a x y there h = absurd (cc)
 
 pub dictionary-opened : (bytes : List ℕ) (n : ℕ) (ends body : List ℕ) → Some (n, ends, body) ≡ key_parts bytes → 8 * n ≤ length ends → IsOk (dictionary bytes)
-    → AreOpened n ends body × (dictionary bytes ≡ Ok (entries_of n ends body))
-unfolding dictionary keys_at entries_of
+    → AreOpened n ends body × (dictionary bytes ≡ Ok (opened_entries n ends body))
+unfolding dictionary keys_at opened_entries
 dictionary-opened bytes n ends body e there h =
     let known = opened_cases n ends body (ends_rise n ends body) (keys_ascend n ends body) refl refl there (rw (← e) at h) in
     (known.0, rw (← e) known.1)

@@ -13,7 +13,7 @@ use Rattle.ii_io.specs.declared.faults.Part.TheVariants.{Dictionary}
 use Rattle.ii_io.specs.Steps.{◌>>=◌, needs}
 use Rattle.ii_termstore.specs.declared.term_info.TermInfo.{TermInfo}
 use Rattle.ii_termstore.specs.TermStore.{term_store}
-use Rattle.ii_termdict.specs.Dictionary.{Entry, dictionary, ends_rise, entry_keys, key_of, key_parts, keys_ascend, keys_at, keys_of, start_of, with_infos, with_keys}
+use Rattle.ii_termdict.specs.Dictionary.{TermEntry, dictionary, ends_rise, entry_keys, key_of, key_parts, keys_ascend, keys_at, keys_of, start_of, with_infos, with_keys}
 use Rattle.ii_termdict.specs.ReadBack.{AreAscending}
 use Rattle.ii_termdict.proofs.SearchLemmas.{keys_in_order, zip_keys}
 
@@ -29,7 +29,7 @@ in_order_from n ends body first zero h many = tt
 in_order_from n ends body first (suc m) h many =
     (all_later n ends body first (first + 1) m h (omega arith) (omega (arith, many)), in_order_from n ends body (first + 1) m h (omega (arith, many)))
 
-by_infos : (keys : List (List ℕ)) (infos : Option (List TermInfo)) (es : List Entry) → AreAscending keys → with_infos keys infos ≡ Ok es → AreAscending (entry_keys es)
+by_infos : (keys : List (List ℕ)) (infos : Option (List TermInfo)) (es : List TermEntry) → AreAscending keys → with_infos keys infos ≡ Ok es → AreAscending (entry_keys es)
 by_infos keys None es ascend is = absurd (cc)
 by_infos keys (Some infos) es ascend is = by (eqb (length infos) (length keys)) refl is
   where
@@ -37,9 +37,9 @@ by_infos keys (Some infos) es ascend is = by (eqb (length infos) (length keys)) 
     by false other is = absurd (cc)
     by true same is =
         let all : zip keys infos ≡ es = cc in
-        subst (λ (xs : List Entry). AreAscending (entry_keys xs)) all (subst AreAscending (sym (zip_keys keys infos (sym (eqb-true (length infos) (length keys) same)))) ascend)
+        subst (λ (xs : List TermEntry). AreAscending (entry_keys xs)) all (subst AreAscending (sym (zip_keys keys infos (sym (eqb-true (length infos) (length keys) same)))) ascend)
 
-by_parts : (p : Option (ℕ × List ℕ × List ℕ)) (es : List Entry)
+by_parts : (p : Option (ℕ × List ℕ × List ℕ)) (es : List TermEntry)
     → with_keys (p >>= λ (parts : ℕ × List ℕ × List ℕ). needs (ends_rise parts.0 parts.1 parts.2) >>= λ _. needs (keys_ascend parts.0 parts.1 parts.2) >>= λ _. Some (keys_of parts.0 parts.1 parts.2, drop (start_of parts.1 parts.0) parts.2)) ≡ Ok es
     → AreAscending (entry_keys es)
 by_parts None es is = absurd (cc)
@@ -50,7 +50,7 @@ by_parts (Some (n, ends, body)) es is = by (ends_rise n ends body) (keys_ascend 
     by true false ascend is = absurd (cc)
     by true true ascend is = by_infos (keys_of n ends body) (term_store (drop (start_of ends n) body)) es (in_order_from n ends body 0 n ascend (omega arith)) is
 
-held_by : (bytes : List ℕ) (es : List Entry) → dictionary bytes ≡ Ok es → AreAscending (entry_keys es)
+held_by : (bytes : List ℕ) (es : List TermEntry) → dictionary bytes ≡ Ok es → AreAscending (entry_keys es)
 unfolding dictionary keys_at
 held_by bytes es is = by_parts (key_parts bytes) es is
 
@@ -58,6 +58,6 @@ held_by bytes es is = by_parts (key_parts bytes) es is
 pub keys_are_ascending : (bytes : List ℕ) → IsOk (dictionary bytes) → AreAscending (entry_keys (result_unwrap_or (dictionary bytes) []))
 keys_are_ascending bytes there = by (dictionary bytes) refl there
   where
-    by : (found : Result (List Entry) Part) → dictionary bytes ≡ found → IsOk found → AreAscending (entry_keys (result_unwrap_or found []))
+    by : (found : Result (List TermEntry) Part) → dictionary bytes ≡ found → IsOk found → AreAscending (entry_keys (result_unwrap_or found []))
     by (Err part) is there = absurd (cc)
     by (Ok es) is there = held_by bytes es is

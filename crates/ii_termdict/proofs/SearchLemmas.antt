@@ -14,7 +14,7 @@ use Rattle.std.proofs.lemmas.List.FromFn.{get_or-map-range_with_len}
 use Rattle.std.proofs.lemmas.Option.{slice_get-get_or}
 use Rattle.ii_termstore.specs.declared.term_info.TermInfo.{TermInfo}
 use Rattle.ii_termstore.specs.TermStore.{term_store}
-use Rattle.ii_termdict.specs.Dictionary.{key_of, keys_of, keys_ascend, is_below, store_after, entries_of, entry_keys, entry_infos, info_under, AreOpened}
+use Rattle.ii_termdict.specs.Dictionary.{key_of, keys_of, keys_ascend, is_below, store_after, opened_entries, entry_keys, entry_infos, info_under, AreOpened}
 use Rattle.ii_termstore.specs.ListLemmas.{all_at}
 use Rattle.ii_termdict.proofs.DictionaryLemmas.{length-keys_of}
 
@@ -118,8 +118,8 @@ opened_get None n ord x h e = absurd h
 opened_get (Some infos) n ord x h e = e
 
 pub info_hit : (n : ℕ) (ends body key : List ℕ) (ord : ℕ) (x : TermInfo) → AreOpened n ends body → ord < n → key_of ends body ord ≡ key
-    → IfSome (term_store (store_after n ends body)) (λ infos. slice_get infos ord ≡ Some x) → Some x ≡ info_under key (entries_of n ends body)
-unfolding entries_of
+    → IfSome (term_store (store_after n ends body)) (λ infos. slice_get infos ord ≡ Some x) → Some x ≡ info_under key (opened_entries n ends body)
+unfolding opened_entries
 info_hit n ends body key ord x h within same e =
     let many = opened_infos (term_store (store_after n ends body)) n h.store in
     let size = length-keys_of n ends body in
@@ -132,8 +132,8 @@ info_hit n ends body key ord x h within same e =
     cc)
     (opened_get (term_store (store_after n ends body)) n ord x h.store e))
 
-pub info_miss : (n : ℕ) (ends body key : List ℕ) → ((i : ℕ) → i < n → key_of ends body i ≡ key → ⊥) → None ≡ info_under key (entries_of n ends body)
-unfolding entries_of
+pub info_miss : (n : ℕ) (ends body key : List ℕ) → ((i : ℕ) → i < n → key_of ends body i ≡ key → ⊥) → None ≡ info_under key (opened_entries n ends body)
+unfolding opened_entries
 info_miss n ends body key h =
     let size = length-keys_of n ends body in
     sym (lookup_miss (keys_of n ends body) (unwrap_or (term_store (store_after n ends body)) []) key
@@ -155,15 +155,15 @@ zip_size [] vs h = refl
 zip_size (k ∷ ks) [] h = absurd (omega arith)
 zip_size (k ∷ ks) (v ∷ vs) h = ap suc (zip_size ks vs (omega arith))
 
-pub length-entries_of : (n : ℕ) (ends body : List ℕ) → AreOpened n ends body → length (entries_of n ends body) ≡ n
-unfolding entries_of
+pub length-entries_of : (n : ℕ) (ends body : List ℕ) → AreOpened n ends body → length (opened_entries n ends body) ≡ n
+unfolding opened_entries
 length-entries_of n ends body h =
     let many = opened_infos (term_store (store_after n ends body)) n h.store in
     let size = length-keys_of n ends body in
     zip_size (keys_of n ends body) (unwrap_or (term_store (store_after n ends body)) []) (size ∙ sym many) ∙ size
 
-pub key_found : (n : ℕ) (ends body : List ℕ) (ord : ℕ) → AreOpened n ends body → ord < n → slice_get (entry_keys (entries_of n ends body)) ord ≡ Some (key_of ends body ord)
-unfolding entries_of
+pub key_found : (n : ℕ) (ends body : List ℕ) (ord : ℕ) → AreOpened n ends body → ord < n → slice_get (entry_keys (opened_entries n ends body)) ord ≡ Some (key_of ends body ord)
+unfolding opened_entries
 key_found n ends body ord h within =
     let many = opened_infos (term_store (store_after n ends body)) n h.store in
     let size = length-keys_of n ends body in
@@ -171,8 +171,8 @@ key_found n ends body ord h within =
     ap (λ (ks : List (List ℕ)). slice_get ks ord) keys ∙ slice_get-get_or (keys_of n ends body) ord [] (omega arith) ∙ ap (λ (k : List ℕ). Some k) (keys_at_place n ends body ord within)
 
 pub value_found : (n : ℕ) (ends body : List ℕ) (ord : ℕ) (x : TermInfo) → AreOpened n ends body → IfSome (term_store (store_after n ends body)) (λ infos. slice_get infos ord ≡ Some x)
-    → slice_get (entry_infos (entries_of n ends body)) ord ≡ Some x
-unfolding entries_of
+    → slice_get (entry_infos (opened_entries n ends body)) ord ≡ Some x
+unfolding opened_entries
 value_found n ends body ord x h e =
     let many = opened_infos (term_store (store_after n ends body)) n h.store in
     let size = length-keys_of n ends body in

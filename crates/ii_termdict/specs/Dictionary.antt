@@ -13,8 +13,8 @@ use Rattle.ii_termstore.specs.declared.term_info.TermInfo.{TermInfo}
 use Rattle.ii_termstore.specs.TermStore.{term_store}
 
 -- a key and what is kept of its term
-abbrev pub Entry : Type 0
-Entry = List ℕ × TermInfo
+abbrev pub TermEntry : Type 0
+TermEntry = List ℕ × TermInfo
 
 -- whether a key lies below another by its bytes
 abbrev pub is_below : List ℕ → List ℕ → Bool
@@ -64,34 +64,34 @@ keys_at bytes = do
   Some (keys_of parts.0 parts.1 parts.2, drop (start_of parts.1 parts.0) parts.2)
 
 -- the keys, each with its term, if there are as many
-abbrev pub with_infos : List (List ℕ) → Option (List TermInfo) → Result (List Entry) Part
+abbrev pub with_infos : List (List ℕ) → Option (List TermInfo) → Result (List TermEntry) Part
 with_infos keys None = Err TermStore
 with_infos keys (Some infos) = if length infos == length keys then Ok (zip keys infos) else Err Dictionary
 
 -- the keys and the store behind them, as entries
-abbrev pub with_keys : Option (List (List ℕ) × List ℕ) → Result (List Entry) Part
+abbrev pub with_keys : Option (List (List ℕ) × List ℕ) → Result (List TermEntry) Part
 with_keys None = Err Dictionary
 with_keys (Some found) = with_infos found.0 (term_store found.1)
 
 -- the list that a dictionary's bytes hold, or the first part that fails
-unfoldable pub dictionary : List ℕ → Result (List Entry) Part
+unfoldable pub dictionary : List ℕ → Result (List TermEntry) Part
 dictionary bytes = with_keys (keys_at bytes)
 
 -- what is kept under a key
-abbrev pub info_under : List ℕ → List Entry → Option TermInfo
+abbrev pub info_under : List ℕ → List TermEntry → Option TermInfo
 info_under key entries = lookup (bytes_eq key) entries
 
 -- the keys of entries
-abbrev pub entry_keys : List Entry → List (List ℕ)
-entry_keys entries = map (λ (e : Entry). e.0) entries
+abbrev pub entry_keys : List TermEntry → List (List ℕ)
+entry_keys entries = map (λ (e : TermEntry). e.0) entries
 
 -- the bytes of the store after the keys, and the entries of valid parts
 abbrev pub store_after : ℕ → List ℕ → List ℕ → List ℕ
 store_after n ends body = drop (start_of ends n) body
 
 -- the entries of an opened dictionary, by its parts
-unfoldable pub entries_of : ℕ → List ℕ → List ℕ → List Entry
-entries_of n ends body = zip (keys_of n ends body) (unwrap_or (term_store (store_after n ends body)) [])
+unfoldable pub opened_entries : ℕ → List ℕ → List ℕ → List TermEntry
+opened_entries n ends body = zip (keys_of n ends body) (unwrap_or (term_store (store_after n ends body)) [])
 
 -- What the parts of an opened dictionary meet.
 pub record AreOpened (n : ℕ) (ends body : List ℕ) : Type 0 where
@@ -101,5 +101,5 @@ pub record AreOpened (n : ℕ) (ends body : List ℕ) : Type 0 where
   pub store : IsSomeAnd (term_store (store_after n ends body)) (λ infos. length infos ≡ n)
 
 -- the terms of entries
-abbrev pub entry_infos : List Entry → List TermInfo
-entry_infos entries = map (λ (e : Entry). e.1) entries
+abbrev pub entry_infos : List TermEntry → List TermInfo
+entry_infos entries = map (λ (e : TermEntry). e.1) entries

@@ -2,7 +2,7 @@ ghost use Rattle.std.specs.Prelude.{◌≡◌, ℕ, ◌+◌, ◌-◌, ◌*◌, �
 ghost use Rattle.std.specs.List.{slice_range};
 ghost use Rattle.std.specs.Option.{option_map};
 ghost use Rattle.ii_termstore.specs.TermStore.{term_store};
-ghost use Rattle.ii_termdict.specs.Dictionary.{end_size, end_of, start_of, key_of, ends_rise, keys_ascend, key_parts, is_below, store_after, entries_of, AreOpened, info_under, entry_keys, entry_infos, dictionary};
+ghost use Rattle.ii_termdict.specs.Dictionary.{end_size, end_of, start_of, key_of, ends_rise, keys_ascend, key_parts, is_below, store_after, opened_entries, AreOpened, info_under, entry_keys, entry_infos, dictionary};
 
 use ii_io::{BinarySerializable, FixedSize, Part};
 use ii_termstore::{TermInfo, TermInfoStoreView};
@@ -171,7 +171,7 @@ fn view_of<'a>(parts: &KeyParts<'a>) -> TermInfoStoreView<'a>
 pub(crate) fn opened(bytes: &[u8]) -> KeyParts<'_>
     requires { IsOk (dictionary bytes.now) }
     ensures valid { AreOpened result.num_terms result.ends.now result.body.now }
-    ensures entries { dictionary bytes.now ≡ Ok (entries_of result.num_terms result.ends.now result.body.now) }
+    ensures entries { dictionary bytes.now ≡ Ok (opened_entries result.num_terms result.ends.now result.body.now) }
 {
     match parts_of(bytes) {
         Some(parts) => parts,

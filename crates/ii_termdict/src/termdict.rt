@@ -1,4 +1,5 @@
 ghost use Rattle.std.specs.Prelude.{◌≡◌, ◌<◌, [], length, Err, Ok, Some, IfOk, IfErr, OnErr, nat_lt, slice_get, unwrap_or};
+ghost use Rattle.ii_io.specs.Faults.{OnlyMemory};
 ghost use Rattle.ii_io.specs.declared.faults.Part.{Part};
 ghost use Rattle.ii_termdict.specs.Dictionary.{dictionary, info_under, entry_keys};
 ghost use Rattle.ii_termdict.specs.ReadBack.{AreAscending};
@@ -90,7 +91,7 @@ impl TermDictionary {
     pub fn ord_to_term(&self, ord: TermOrdinal, bytes: &mut Vec<u8>) -> Result<bool, Fault>
         ensures found { IfOk result (λ found. found ≡ nat_lt ord (length self.now)) }
         ensures key { IfOk result (λ found. bytes.new.items ≡ unwrap_or (slice_get (entry_keys self.now) ord) []) }
-        ensures only { IfErr result (λ e. e ≡ Fault.OutOfMemory) }
+        ensures only { OnlyMemory result }
         ensures err { OnErr result (bytes.new.items ≡ []) }
     {
         bytes.clear();

@@ -1,6 +1,7 @@
 ghost use Rattle.std.specs.Prelude.{◌≡◌, ◌+◌, ◌<◌, ◌↔◌, ◌⊎◌, ◌^◌, List, [], ◌∷◌, ◌++◌, true, false, length, Some, Ok, OnOk, OnErr, IfErr, IsErrOf, IsTrue};
 ghost use Rattle.std.specs.List.{flat_map, zip};
 ghost use Rattle.ii_io.specs.CountingWriter.{Writes, WritesUnlessClosed, Closes};
+ghost use Rattle.ii_io.specs.Faults.{OnlyMemory};
 ghost use Rattle.ii_io.specs.Numbers.{le_bytes};
 ghost use Rattle.ii_termstore.specs.TermInfos.{HasLengths};
 ghost use Rattle.ii_termstore.specs.TermStore.{term_store};
@@ -125,7 +126,7 @@ fn add_key(key_bytes: &mut Vec<u8>, ends: &mut Vec<u64>, key: &[u8]) -> Result<(
     ensures ends { OnOk result (ends.new.items ≡ ends.old.items ++ length key_bytes.new.items ∷ []) }
     ensures few { OnOk result (length ends.new.items < 2 ^ 64) }
     ensures err { OnErr result ((key_bytes.new.items ≡ key_bytes.old.items) × (ends.new.items ≡ ends.old.items)) }
-    ensures only { IfErr result (λ e. e ≡ Fault.OutOfMemory) }
+    ensures only { OnlyMemory result }
 {
     let len = key_bytes.len();
     key_bytes.extend_from_slice(key)?;

@@ -12,29 +12,29 @@ use Rattle.ii_termstore.specs.declared.term_info.TermInfo.{TermInfo}
 use Rattle.ii_termstore.specs.declared.term_info_store.block_meta.TermInfoBlockMeta.{TermInfoBlockMeta as Meta}
 use Rattle.ii_termstore.specs.TermInfos.{HasLengths, IsInRange}
 use Rattle.ii_termstore.specs.TermStore.{meta_bytes, block_count}
-use Rattle.ii_termstore.specs.Written.{HaveLengths, info_in, first_of, meta_for, block_row, block_of, block_bytes, offset_of, meta_at_block, metas_bytes, blocks_bytes, written_store}
+use Rattle.ii_termstore.specs.Written.{HaveLengths, info_in, first_of, meta_for, block_row, terms_of_block, bits_of_block, offset_of, meta_at_block, metas_bytes, blocks_bytes, written_store}
 use Rattle.ii_termstore.specs.ReadBack.{AreJoined, AreStorable}
 use Rattle.ii_termstore.specs.TermInfoStoreWriter.{AreGathered, AreSound, open_meta, open_bits}
 use Rattle.ii_termstore.proofs.WriterLemmas.{flat_more}
 use Rattle.ii_termstore.proofs.PieceLemmas.{pieces_same}
 
 -- full blocks stay where terms are added
-block_stays : (infos more : List TermInfo) (b : ℕ) → 256 * b + 256 ≤ length infos → block_of (infos ++ more) b ≡ block_of infos b
+block_stays : (infos more : List TermInfo) (b : ℕ) → 256 * b + 256 ≤ length infos → terms_of_block (infos ++ more) b ≡ terms_of_block infos b
 block_stays infos more b full =
     let front = drop-append-le (256 * b) infos more (omega arith) in
     let size = length-drop (256 * b) infos in
     ap (take 256) front ∙ take-append-le 256 (drop (256 * b) infos) more (omega arith)
 
-bits_stay : (infos more : List TermInfo) (b : ℕ) → 256 * b + 256 ≤ length infos → block_bytes (infos ++ more) b ≡ block_bytes infos b
-unfolding block_bytes
+bits_stay : (infos more : List TermInfo) (b : ℕ) → 256 * b + 256 ≤ length infos → bits_of_block (infos ++ more) b ≡ bits_of_block infos b
+unfolding bits_of_block
 bits_stay infos more b full = rw (block_stays infos more b full) refl
 
 blocks_stay : (infos more : List TermInfo) (b : ℕ) → 256 * b ≤ length infos → blocks_bytes (infos ++ more) b ≡ blocks_bytes infos b
-blocks_stay infos more b full = pieces_same (block_bytes (infos ++ more)) (block_bytes infos) b (λ k within. bits_stay infos more k (omega arith))
+blocks_stay infos more b full = pieces_same (bits_of_block (infos ++ more)) (bits_of_block infos) b (λ k within. bits_stay infos more k (omega arith))
 
 -- where the bits of a block begin
 offset_is : (infos : List TermInfo) (b : ℕ) → offset_of infos b ≡ length (blocks_bytes infos b)
-offset_is infos b = sym (length-flat_map (block_bytes infos) (range_with_len 0 b))
+offset_is infos b = sym (length-flat_map (bits_of_block infos) (range_with_len 0 b))
 
 meta_stays : (infos more : List TermInfo) (b : ℕ) → 256 * b + 256 ≤ length infos → meta_at_block (infos ++ more) b ≡ meta_at_block infos b
 unfolding meta_at_block
@@ -55,8 +55,8 @@ open_bits_is : (is : List TermInfo) → 0 < length is → open_bits is ≡ bits_
 open_bits_is [] some = absurd (omega arith)
 open_bits_is (i ∷ is) some = refl
 
-last_bits : (infos : List TermInfo) (b : ℕ) → 256 * b < length infos → length infos ≤ 256 * b + 256 → block_bytes infos b ≡ open_bits (drop (256 * b) infos)
-unfolding block_bytes
+last_bits : (infos : List TermInfo) (b : ℕ) → 256 * b < length infos → length infos ≤ 256 * b + 256 → bits_of_block infos b ≡ open_bits (drop (256 * b) infos)
+unfolding bits_of_block
 last_bits infos b some few =
     let size = length-drop (256 * b) infos in
     let whole = take_all 256 (drop (256 * b) infos) (omega arith) in
@@ -71,7 +71,7 @@ last_meta infos b some few =
 
 -- one block more
 blocks_next : (infos : List TermInfo) (b : ℕ) → 256 * b < length infos → length infos ≤ 256 * b + 256 → blocks_bytes infos (b + 1) ≡ blocks_bytes infos b ++ open_bits (drop (256 * b) infos)
-blocks_next infos b some few = flat_more (block_bytes infos) b ∙ ap (λ (bs : List ℕ). blocks_bytes infos b ++ bs) (last_bits infos b some few)
+blocks_next infos b some few = flat_more (bits_of_block infos) b ∙ ap (λ (bs : List ℕ). blocks_bytes infos b ++ bs) (last_bits infos b some few)
 
 metas_next : (infos : List TermInfo) (b : ℕ) → 256 * b < length infos → length infos ≤ 256 * b + 256
     → metas_bytes infos (b + 1) ≡ metas_bytes infos b ++ open_meta (length (blocks_bytes infos b)) (drop (256 * b) infos)

@@ -14,7 +14,7 @@ use Rattle.ii_termstore.specs.declared.term_info_store.block_meta.TermInfoBlockM
 use Rattle.ii_termstore.specs.TermInfos.{term_info_from, is_sound, postings_len, positions_len, HasLengths, IsInRange}
 use Rattle.ii_termstore.specs.TermStore.{meta_bytes, term_bits, block_bits, block_info, block_count, block_terms, is_block, block_meta_at, has_block, term_info_at, store_parts, are_blocks, term_store}
 use Rattle.ii_termstore.specs.TermStoreLemmas.{length_meta_bytes, reads_meta_back}
-use Rattle.ii_termstore.specs.Written.{first_of, last_of, largest, postings_after, positions_after, postings_end, positions_end, meta_for, block_row, block_of, block_bytes, offset_of, meta_at_block, metas_bytes, blocks_bytes, written_store, info_in, FitsBlock}
+use Rattle.ii_termstore.specs.Written.{first_of, last_of, largest, postings_after, positions_after, postings_end, positions_end, meta_for, block_row, terms_of_block, bits_of_block, offset_of, meta_at_block, metas_bytes, blocks_bytes, written_store, info_in, FitsBlock}
 use Rattle.ii_termstore.specs.ReadBack.{AreJoined, AreStorable, ReadsStoreBack}
 use Rattle.ii_codes.specs.BitsLemmas.{length-bits_bytes}
 use Rattle.ii_termstore.proofs.PackLemmas.{length-block_row}
@@ -131,16 +131,16 @@ near_at infos h joined i m few within =
 
 -- the terms of a block
 abbrev others_of : List TermInfo → ℕ → List TermInfo
-others_of infos b = drop 1 (block_of infos b)
+others_of infos b = drop 1 (terms_of_block infos b)
 
 length-others : (infos : List TermInfo) (b : ℕ) → 256 * b < length infos → length (others_of infos b) ≡ block_terms (length infos) b - 1
-length-others infos b h = omega (arith, length-drop 1 (block_of infos b), length-take 256 (drop (256 * b) infos), length-drop (256 * b) infos)
+length-others infos b h = omega (arith, length-drop 1 (terms_of_block infos b), length-take 256 (drop (256 * b) infos), length-drop (256 * b) infos)
 
 other_is : (infos : List TermInfo) (b j : ℕ) → 256 * b < length infos → j < length (others_of infos b) → info_in (others_of infos b) j ≡ info_in infos (256 * b + suc j)
 other_is infos b j h within =
     let size = length-others infos b h in
     let place : 256 * b + (1 + j) ≡ 256 * b + suc j = omega arith in
-    get_or-drop 1 (block_of infos b) j (term_info_from 0 0 0 0 0) ∙ get_or-take 256 (drop (256 * b) infos) (1 + j) (term_info_from 0 0 0 0 0) (omega arith)
+    get_or-drop 1 (terms_of_block infos b) j (term_info_from 0 0 0 0 0) ∙ get_or-take 256 (drop (256 * b) infos) (1 + j) (term_info_from 0 0 0 0 0) (omega arith)
     ∙ get_or-drop (256 * b) infos (1 + j) (term_info_from 0 0 0 0 0) ∙ ap (info_in infos) place
 
 other_near : (infos : List TermInfo) → AreStorable infos → AreJoined infos → (b : ℕ) → 256 * b < length infos → (k : ℕ) → k < length (others_of infos b)
@@ -176,7 +176,7 @@ record IsMetaOf (infos : List TermInfo) (b : ℕ) (m : Meta) : Type 0 where
   pub postings : m.postings_offset_nbits ≤ 56
   pub positions : m.positions_offset_nbits ≤ 56
   pub fits : FitsBlock m (others_of infos b)
-  pub bits : block_bytes infos b ≡ bits_bytes (block_row m (others_of infos b))
+  pub bits : bits_of_block infos b ≡ bits_bytes (block_row m (others_of infos b))
 
 -- What stands of the largest numbers of a block.
 record AreLow (first : TermInfo) (others : List TermInfo) : Type 0 where
@@ -209,16 +209,16 @@ are_low first others itself each =
       positions = omega arith;
     }
 
-meta_is : (widths : HoldsFromLeastWidth) (infos : List TermInfo) (b : ℕ) → AreLow (first_of (block_of infos b)) (others_of infos b) → IsMetaOf infos b (meta_at_block infos b)
-unfolding meta_at_block meta_for block_bytes
+meta_is : (widths : HoldsFromLeastWidth) (infos : List TermInfo) (b : ℕ) → AreLow (first_of (terms_of_block infos b)) (others_of infos b) → IsMetaOf infos b (meta_at_block infos b)
+unfolding meta_at_block meta_for bits_of_block
 meta_is widths infos b low =
     let a = low.doc_freq in
     let p = low.postings in
     let q = low.positions in
-    let first = first_of (block_of infos b) in
+    let first = first_of (terms_of_block infos b) in
     let counts = largest (map (λ (i : TermInfo). i.doc_freq) (others_of infos b)) in
-    let starts = max (largest (map (postings_after (first_of (block_of infos b))) (others_of infos b))) (postings_end (first_of (block_of infos b)) (others_of infos b)) in
-    let starts_too = max (largest (map (positions_after (first_of (block_of infos b))) (others_of infos b))) (positions_end (first_of (block_of infos b)) (others_of infos b)) in
+    let starts = max (largest (map (postings_after (first_of (terms_of_block infos b))) (others_of infos b))) (postings_end (first_of (terms_of_block infos b)) (others_of infos b)) in
+    let starts_too = max (largest (map (positions_after (first_of (terms_of_block infos b))) (others_of infos b))) (positions_end (first_of (terms_of_block infos b)) (others_of infos b)) in
     record {
       offset = refl;
       first = first_is infos b;
@@ -236,7 +236,7 @@ metas_and infos bits = metas_bytes infos (block_count (length infos)) ++ bits
 abbrev bits_and : List TermInfo → List ℕ → List ℕ
 bits_and infos rest = blocks_bytes infos (block_count (length infos)) ++ rest
 
-first_good : (infos : List TermInfo) → AreStorable infos → (b : ℕ) → 256 * b < length infos → IsGood (first_of (block_of infos b))
+first_good : (infos : List TermInfo) → AreStorable infos → (b : ℕ) → 256 * b < length infos → IsGood (first_of (terms_of_block infos b))
 first_good infos h b start = rw (first_is infos b) (good_at infos h (256 * b) start)
 
 meta_known : (widths : HoldsFromLeastWidth) (infos : List TermInfo) → AreStorable infos → AreJoined infos → (b : ℕ) → 256 * b < length infos → IsMetaOf infos b (meta_at_block infos b)
@@ -249,9 +249,9 @@ meta_known widths infos h joined b start =
 -- Where the bits of block b begin.
 offset_small : (infos : List TermInfo) → AreStorable infos → (b : ℕ) → 256 * b < length infos → offset_of infos b < 256 ^ 8
 offset_small infos h b start =
-    let place = length-flat_map (block_bytes infos) (range_with_len 0 b) in
+    let place = length-flat_map (bits_of_block infos) (range_with_len 0 b) in
     let full : b + (length infos / 256 - b) ≡ length infos / 256 = omega arith in
-    let low = rw full at (pieces_le (block_bytes infos) b (length infos / 256 - b)) in
+    let low = rw full at (pieces_le (bits_of_block infos) b (length infos / 256 - b)) in
     let bits = h.bits in
     omega arith
 
@@ -266,7 +266,7 @@ meta_read widths infos bits h joined b within =
     (let swapped : 39 * b ≡ b * 39 = omega arith in swapped ∙ sym (length-pieces (λ b. meta_bytes (meta_at_block infos b)) 39 b (λ k. length_meta_bytes (meta_at_block infos k)))) in
     let piece = piece_at (λ b. meta_bytes (meta_at_block infos b)) (block_count (length infos)) b (39 * b) bits within place in
     let good = first_good infos h b start in
-    let same : (meta_at_block infos b).ref_term_info ≡ first_of (block_of infos b) = known.first ∙ sym (first_is infos b) in
+    let same : (meta_at_block infos b).ref_term_info ≡ first_of (terms_of_block infos b) = known.first ∙ sym (first_is infos b) in
     let offset = known.offset in
     let small = offset_small infos h b start in
     let back = reads_meta_back (meta_at_block infos b) piece.0 (omega arith) (rw same good.range) (rw same good.lengths) in
@@ -282,8 +282,8 @@ term_read law infos rest h joined b m start known (suc j) within =
     let size = length-others infos b start in
     let there : j < length (others_of infos b) = omega arith in
     let later : eqb (suc j) 0 ≡ false = ne_eqb (suc j) 0 (λ e. absurd (omega arith)) in
-    let place : m.offset ≡ length (blocks_bytes infos b) = known.offset ∙ sym (length-flat_map (block_bytes infos) (range_with_len 0 b)) in
-    let piece = piece_at (block_bytes infos) (block_count (length infos)) b m.offset rest (omega arith) place in
+    let place : m.offset ≡ length (blocks_bytes infos b) = known.offset ∙ sym (length-flat_map (bits_of_block infos) (range_with_len 0 b)) in
+    let piece = piece_at (bits_of_block infos) (block_count (length infos)) b m.offset rest (omega arith) place in
     let seen = piece.1 ∙ ap (λ (xs : List ℕ). xs ++ piece.0) known.bits in
     let follow : Follow m.ref_term_info (others_of infos b) = rw known.first (follows infos h joined b start) in
     let read = later_is law m (others_of infos b) (bits_and infos rest) piece.0 j there seen (terms_fit m (others_of infos b) known.fits) (ends_fit m (others_of infos b) known.fits) follow in
@@ -299,8 +299,8 @@ block_read law infos rest h joined b m start known =
     let p = known.postings in
     let q = known.positions in
     let size = length-others infos b start in
-    let place : m.offset ≡ length (blocks_bytes infos b) = known.offset ∙ sym (length-flat_map (block_bytes infos) (range_with_len 0 b)) in
-    let piece = piece_at (block_bytes infos) (block_count (length infos)) b m.offset rest (omega arith) place in
+    let place : m.offset ≡ length (blocks_bytes infos b) = known.offset ∙ sym (length-flat_map (bits_of_block infos) (range_with_len 0 b)) in
+    let piece = piece_at (bits_of_block infos) (block_count (length infos)) b m.offset rest (omega arith) place in
     let whole = piece.2 in
     let bytes = ap length known.bits ∙ length-bits_bytes (block_row m (others_of infos b)) in
     let row = length-block_row m (others_of infos b) ∙ ap (λ (n : ℕ). n * term_bits m + m.postings_offset_nbits + m.positions_offset_nbits) size in

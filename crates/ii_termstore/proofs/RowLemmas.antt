@@ -8,7 +8,7 @@ use Rattle.ii_codes.specs.Bits.{low_bits, bits_bytes, ReadsFromItsPlace}
 use Rattle.ii_termstore.specs.declared.term_info.TermInfo.{TermInfo}
 use Rattle.ii_termstore.specs.declared.term_info_store.block_meta.TermInfoBlockMeta.{TermInfoBlockMeta as Meta}
 use Rattle.ii_termstore.specs.TermInfos.{term_info_from}
-use Rattle.ii_termstore.specs.TermStore.{term_bits, postings_at, positions_at, doc_freq_at, later_info}
+use Rattle.ii_termstore.specs.TermStore.{term_bits, postings_at, positions_start, doc_freq_at, later_info}
 use Rattle.ii_termstore.specs.Written.{term_row, block_row, info_in, last_of, postings_after, positions_after, postings_end, positions_end, FitsWidths, EndsFit, HaveLengths}
 use Rattle.ii_codes.specs.BitsLemmas.{length-low_bits}
 use Rattle.ii_termstore.proofs.PackLemmas.{length-rows, last_of-get_or}
@@ -140,7 +140,7 @@ next_stands law m others j rest h fits ends follow =
 
 -- what is read of two numbers that stand at a place
 at_place : (m : Meta) (bits seen : List ℕ) (k j p q : ℕ) → drop m.offset bits ≡ seen → k - 1 ≡ j → StandAt m seen (j * term_bits m) p q
-    → (postings_at m bits k ≡ m.ref_term_info.postings_range.start + p) × (positions_at m bits k ≡ m.ref_term_info.positions_range.start + q)
+    → (postings_at m bits k ≡ m.ref_term_info.postings_range.start + p) × (positions_start m bits k ≡ m.ref_term_info.positions_range.start + q)
 at_place m bits seen k j p q e b s = (
   ap (λ (xs : List ℕ). m.ref_term_info.postings_range.start + bits_in 8 xs ((k - 1) * term_bits m) m.postings_offset_nbits) e
       ∙ ap (λ (n : ℕ). m.ref_term_info.postings_range.start + bits_in 8 seen (n * term_bits m) m.postings_offset_nbits) b
@@ -181,7 +181,7 @@ later_is law m others bits rest j h e fits ends follow =
     let lengths = follow.lengths j h in
     let forward = lengths.postings in
     let forward_too = lengths.positions in
-    same_info (info_in others j) (doc_freq_at m bits (suc j)) (postings_at m bits (suc j)) (postings_at m bits (suc j + 1)) (positions_at m bits (suc j)) (positions_at m bits (suc j + 1)) count
+    same_info (info_in others j) (doc_freq_at m bits (suc j)) (postings_at m bits (suc j)) (postings_at m bits (suc j + 1)) (positions_start m bits (suc j)) (positions_start m bits (suc j + 1)) count
     (begin.0 ∙ above m.ref_term_info.postings_range.start (info_in others j).postings_range.start low)
     (end.0 ∙ above m.ref_term_info.postings_range.start (info_in others j).postings_range.end (omega arith))
     (begin.1 ∙ above m.ref_term_info.positions_range.start (info_in others j).positions_range.start low_too)

@@ -5,7 +5,7 @@ use Rattle.std.proofs.lemmas.List.{append-nil, get_or-take, get_or-drop, flat_ma
 use Rattle.ii_termstore.specs.declared.term_info.TermInfo.{TermInfo}
 use Rattle.ii_termstore.specs.declared.term_info_store.block_meta.TermInfoBlockMeta.{TermInfoBlockMeta as Meta}
 use Rattle.ii_termstore.specs.TermInfos.{term_info_from}
-use Rattle.ii_termstore.specs.Written.{info_in, first_of, largest, postings_after, positions_after, block_of, FitsWidths, EndsFit, FitsBlock}
+use Rattle.ii_termstore.specs.Written.{info_in, first_of, largest, postings_after, positions_after, terms_of_block, FitsWidths, EndsFit, FitsBlock}
 use Rattle.ii_termstore.specs.ListLemmas.{range_more}
 
 -- pieces one after the other
@@ -28,11 +28,11 @@ first_of-get_or : (is : List TermInfo) → first_of is ≡ info_in is 0
 first_of-get_or [] = refl
 first_of-get_or (i ∷ is) = refl
 
-pub first_is : (infos : List TermInfo) (b : ℕ) → first_of (block_of infos b) ≡ info_in infos (256 * b)
+pub first_is : (infos : List TermInfo) (b : ℕ) → first_of (terms_of_block infos b) ≡ info_in infos (256 * b)
 first_is infos b =
     let place : 256 * b + 0 ≡ 256 * b = omega arith in
     let front = get_or-take 256 (drop (256 * b) infos) 0 (term_info_from 0 0 0 0 0) (omega arith) in
-    first_of-get_or (block_of infos b) ∙ front ∙ get_or-drop (256 * b) infos 0 (term_info_from 0 0 0 0 0) ∙ ap (info_in infos) place
+    first_of-get_or (terms_of_block infos b) ∙ front ∙ get_or-drop (256 * b) infos 0 (term_info_from 0 0 0 0 0) ∙ ap (info_in infos) place
 
 -- each number is at most the largest
 le_largest : {X : Type 0} (f : X → ℕ) (xs : List X) (k : ℕ) (d : X) → k < length xs → f (get_or xs k d) ≤ largest (map f xs)

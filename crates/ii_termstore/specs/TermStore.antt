@@ -50,8 +50,8 @@ abbrev pub postings_at : Meta → List ℕ → ℕ → ℕ
 postings_at m bits k = m.ref_term_info.postings_range.start + postings_number m bits k
 
 -- where the positions of term k begin
-abbrev pub positions_at : Meta → List ℕ → ℕ → ℕ
-positions_at m bits k = m.ref_term_info.positions_range.start + positions_number m bits k
+abbrev pub positions_start : Meta → List ℕ → ℕ → ℕ
+positions_start m bits k = m.ref_term_info.positions_range.start + positions_number m bits k
 
 -- in how many documents term k is
 abbrev pub doc_freq_at : Meta → List ℕ → ℕ → ℕ
@@ -59,7 +59,7 @@ doc_freq_at m bits k = bits_in 8 (drop m.offset bits) ((k - 1) * term_bits m + m
 
 -- a term after the first, which ends where the next one begins
 unfoldable pub later_info : Meta → List ℕ → ℕ → TermInfo
-later_info m bits k = term_info_from (doc_freq_at m bits k) (postings_at m bits k) (postings_at m bits (k + 1)) (positions_at m bits k) (positions_at m bits (k + 1))
+later_info m bits k = term_info_from (doc_freq_at m bits k) (postings_at m bits k) (postings_at m bits (k + 1)) (positions_start m bits k) (positions_start m bits (k + 1))
 
 -- term k of a block; the first one has its own lengths
 abbrev pub block_info : Meta → List ℕ → ℕ → TermInfo

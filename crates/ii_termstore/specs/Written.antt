@@ -70,20 +70,20 @@ block_row m others =
     ++ low_bits m.positions_offset_nbits (positions_end m.ref_term_info others)
 
 -- the terms of block b
-abbrev pub block_of : List TermInfo → ℕ → List TermInfo
-block_of infos b = take BLOCK_LEN (drop (BLOCK_LEN * b) infos)
+abbrev pub terms_of_block : List TermInfo → ℕ → List TermInfo
+terms_of_block infos b = take BLOCK_LEN (drop (BLOCK_LEN * b) infos)
 
 -- the bits of block b, and where they begin
-unfoldable pub block_bytes : List TermInfo → ℕ → List ℕ
-block_bytes infos b = bits_bytes (block_row (meta_for 0 (first_of (block_of infos b)) (drop 1 (block_of infos b))) (drop 1 (block_of infos b)))
+unfoldable pub bits_of_block : List TermInfo → ℕ → List ℕ
+bits_of_block infos b = bits_bytes (block_row (meta_for 0 (first_of (terms_of_block infos b)) (drop 1 (terms_of_block infos b))) (drop 1 (terms_of_block infos b)))
 
 -- where the bits of block b begin
 abbrev pub offset_of : List TermInfo → ℕ → ℕ
-offset_of infos b = sum_by (λ a. length (block_bytes infos a)) (range_with_len 0 b)
+offset_of infos b = sum_by (λ a. length (bits_of_block infos a)) (range_with_len 0 b)
 
 -- the meta of block b
 unfoldable pub meta_at_block : List TermInfo → ℕ → Meta
-meta_at_block infos b = meta_for (offset_of infos b) (first_of (block_of infos b)) (drop 1 (block_of infos b))
+meta_at_block infos b = meta_for (offset_of infos b) (first_of (terms_of_block infos b)) (drop 1 (terms_of_block infos b))
 
 -- the metas of the first n blocks
 abbrev pub metas_bytes : List TermInfo → ℕ → List ℕ
@@ -91,7 +91,7 @@ metas_bytes infos n = flat_map (λ b. meta_bytes (meta_at_block infos b)) (range
 
 -- the bits of the first n blocks
 abbrev pub blocks_bytes : List TermInfo → ℕ → List ℕ
-blocks_bytes infos n = flat_map (block_bytes infos) (range_with_len 0 n)
+blocks_bytes infos n = flat_map (bits_of_block infos) (range_with_len 0 n)
 
 -- the store of these terms
 unfoldable pub written_store : List TermInfo → List ℕ

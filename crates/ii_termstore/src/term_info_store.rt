@@ -1,4 +1,5 @@
 ghost use Rattle.std.specs.Prelude.{◌≡◌, ◌<◌, length, Some, None, IfOk, IfErr, slice_get};
+ghost use Rattle.ii_io.specs.Faults.{OnlyMemory};
 ghost use Rattle.ii_termstore.specs.TermStore.{term_store};
 
 mod block;
@@ -74,7 +75,7 @@ impl TermInfoStore {
     /// The same store over the same bytes, which are shared.
     pub fn clone(&self) -> Result<TermInfoStore, Fault>
         ensures same { IfOk result (λ store. store ≡ self.now) }
-        ensures only { IfErr result (λ e. e ≡ Fault.OutOfMemory) }
+        ensures only { OnlyMemory result }
     {
         let bytes = self.bytes.clone()?;
         Ok(TermInfoStore { bytes })

@@ -3,6 +3,7 @@ use Rattle.std.proofs.Common.{◌≡◌, ℕ, ◌<◌, List, [], ◌∷◌, ◌+
 use Rattle.std.specs.List.{join_with_byte, flat_map}
 use Rattle.std.proofs.lemmas.List.{append-nil}
 use Rattle.ii_base.specs.declared.schema.index_record_option.IndexRecordOption.{IndexRecordOption}
+use Rattle.ii_docset.specs.declared.docset.TheConstants.{TERMINATED}
 use Rattle.ii_docset.specs.Entries.{Entry}
 use Rattle.ii_docset.specs.Cursor.{doc_at, IsAscending}
 use Rattle.iiq.specs.Output.{item, item_at, list_text, positions_text}
@@ -17,23 +18,23 @@ joined option x [] = sym (append-nil (item option x))
 joined option x (y ∷ ys) = ap (λ (text : List ℕ). item option x ++ 32 ∷ text) (joined option y ys)
 
 -- the first item, and those after it
-pub list_text_first : (option : IndexRecordOption) (es : List Entry) → doc_at es < 2147483647 → list_text option es ≡ item_at option es ++ more_items option (drop 1 es)
+pub list_text_first : (option : IndexRecordOption) (es : List Entry) → doc_at es < TERMINATED → list_text option es ≡ item_at option es ++ more_items option (drop 1 es)
 list_text_first option [] h = absurd (omega arith)
 list_text_first option (e ∷ es) h = joined option e es
 
-pub more_items_next : (option : IndexRecordOption) (es : List Entry) → doc_at es < 2147483647 → more_items option es ≡ (32 ∷ item_at option es) ++ more_items option (drop 1 es)
+pub more_items_next : (option : IndexRecordOption) (es : List Entry) → doc_at es < TERMINATED → more_items option es ≡ (32 ∷ item_at option es) ++ more_items option (drop 1 es)
 more_items_next option [] h = absurd (omega arith)
 more_items_next option (e ∷ es) h = refl
 
-pub list_text_none : (option : IndexRecordOption) (es : List Entry) → IsAscending es → doc_at es ≡ 2147483647 → list_text option es ≡ 45 ∷ []
+pub list_text_none : (option : IndexRecordOption) (es : List Entry) → IsAscending es → doc_at es ≡ TERMINATED → list_text option es ≡ 45 ∷ []
 list_text_none option [] up h = refl
 list_text_none option (e ∷ es) up h = absurd (let none = nothing_left (e ∷ es) up (omega arith) in cc)
 
-pub more_items_none : (option : IndexRecordOption) (es : List Entry) → IsAscending es → doc_at es ≡ 2147483647 → more_items option es ≡ []
+pub more_items_none : (option : IndexRecordOption) (es : List Entry) → IsAscending es → doc_at es ≡ TERMINATED → more_items option es ≡ []
 more_items_none option [] up h = refl
 more_items_none option (e ∷ es) up h = absurd (let none = nothing_left (e ∷ es) up (omega arith) in cc)
 
-pub below_end : (es : List Entry) (doc : ℕ) → IsAscending es → doc ≡ doc_at es → (doc ≡ 2147483647 → ⊥) → doc_at es < 2147483647
+pub below_end : (es : List Entry) (doc : ℕ) → IsAscending es → doc ≡ doc_at es → (doc ≡ TERMINATED → ⊥) → doc_at es < TERMINATED
 below_end es doc up e h = let most = doc_below es up in omega arith
 
 -- the numbers after the first one

@@ -13,7 +13,7 @@ use Rattle.ii_io.specs.CountingWriter.{CountingWriterState, Wrote}
 use Rattle.ii_layout.specs.TermList.{term_list}
 use Rattle.ii_layout.proofs.TermLemmas.{plain_list}
 use Rattle.ii_layout.specs.Written.{written_documents, written_postings, ReadsDocumentsBack}
-use Rattle.ii_index.specs.Tokens.{Call}
+use Rattle.ii_definitions.specs.Tokens.{Call}
 use Rattle.iiq.specs.declared.commands.Opening.{Opening}
 use Rattle.iiq.specs.declared.commands.Query.{Query}
 use Rattle.iiq.specs.declared.session.Session.{Session as SessionKept}

@@ -10,12 +10,12 @@ use Rattle.ii_io.specs.declared.faults.Fault.{Fault}
 use Rattle.ii_io.specs.declared.faults.Fault.TheVariants.{OutOfMemory}
 use Rattle.ii_base.specs.AsciiWords.{ascii_words}
 use Rattle.ii_base.specs.Options.{downgrade}
-use Rattle.ii_base.specs.Schema.{Entry}
+use Rattle.ii_base.specs.Schema.{SchemaEntry}
 use Rattle.ii_base.specs.declared.schema.index_record_option.IndexRecordOption.{IndexRecordOption}
 use Rattle.ii_docset.specs.declared.docset.TheConstants.{TERMINATED}
-use Rattle.ii_index.specs.Fields.{option_of}
-use Rattle.ii_index.specs.Postings.{key_postings}
-use Rattle.ii_index.specs.Tokens.{Call, IndexToken, tokens_of}
+use Rattle.ii_definitions.specs.Fields.{option_of}
+use Rattle.ii_definitions.specs.Postings.{key_postings}
+use Rattle.ii_definitions.specs.Tokens.{Call, IndexToken, tokens_of}
 use Rattle.ii_indexing.specs.declared.index_call.IndexCall.{IndexCall}
 use Rattle.ii_indexing.specs.declared.index_call.IndexCall.TheVariants as calls
 use Rattle.ii_indexing.specs.IndexCalls.{MayBeIndexed, call_of, doc_of}
@@ -25,7 +25,7 @@ use Rattle.ii_reader.specs.InvertedIndexReader.{GivesPostings, InvertedIndexRead
 use Rattle.ii_reader.specs.OpenIndex.{FieldReaderHolds, IndexHolds, OpenIndexState}
 use Rattle.ii_reader.specs.SegmentPostings.{SegmentPostingsState}
 use Rattle.iiq.specs.declared.session.Session.{Session as SessionKept}
-use Rattle.iiq.specs.Known.{AreGathered, GivesIndex, IsCall, IsOpen, Keeps, Knows, KnowsIndex}
+use Rattle.iiq.specs.Known.{GathersCalls, GivesIndex, IsCall, IsOpen, Keeps, Knows, KnowsIndex}
 use Rattle.iiq.specs.Output.{list_text, look_up_text, key_text}
 use Rattle.iiq.proofs.ReplyLemmas.{ok_no_err}
 use Rattle.iiq.specs.Session.{Session, gathering, opened, refused, Indexes, IsIndexed, fields, kept_with, num_docs_of, refusal_of}
@@ -62,8 +62,8 @@ all_weaker P Q [] weaker all = tt
 all_weaker P Q (x ∷ xs) weaker all = (weaker x all.0, all_weaker P Q xs weaker all.1)
 
 -- one more call
-pub gathered_more : (kept : List IndexCall) (n : ℕ) (calls : List Call) (call : IndexCall) → AreGathered kept n calls → IsCall call → n ≤ doc_of call + 1
-    → AreGathered (kept ++ call ∷ []) (doc_of call + 1) (calls ++ call_of fields call ∷ [])
+pub gathered_more : (kept : List IndexCall) (n : ℕ) (calls : List Call) (call : IndexCall) → GathersCalls kept n calls → IsCall call → n ≤ doc_of call + 1
+    → GathersCalls (kept ++ call ∷ []) (doc_of call + 1) (calls ++ call_of fields call ∷ [])
 gathered_more kept n calls call g may low =
     let m = doc_of call + 1 in
     record {
@@ -129,7 +129,7 @@ listed_text requested field key index ts reader cursor text below o found holds 
     ∙ ap (list_text (downgrade (option_of fields field) requested)) (gives.1 ∙ ap (λ (o : IndexRecordOption). key_postings o field key requested ts) option_is))
 
 -- the index of calls, by what indexing them in memory answers
-pub gives_index : (schema : List Entry) (n : ℕ) (kept : List IndexCall) (found : Result OpenIndexState Fault) → schema ≡ fields → n ≡ num_docs_of (map (call_of fields) kept)
+pub gives_index : (schema : List SchemaEntry) (n : ℕ) (kept : List IndexCall) (found : Result OpenIndexState Fault) → schema ≡ fields → n ≡ num_docs_of (map (call_of fields) kept)
     → IfOk found (λ index. IndexHolds schema n index (tokens_of ascii_words (map (call_of schema) kept))) → IfOk found (λ index. length index.readers ≡ length schema)
     → IfSome (calls_fault ascii_words (option_of schema) [] (map (call_of schema) kept)) (λ fault. (found ≡ Err fault) ⊎ (found ≡ Err OutOfMemory))
     → (calls_fault ascii_words (option_of schema) [] (map (call_of schema) kept) ≡ None → IfErr found (λ e. (e ≡ OutOfMemory) ⊎ IsRamFault schema n (tokens_of ascii_words (map (call_of schema) kept)) e))

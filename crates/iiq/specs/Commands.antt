@@ -8,8 +8,8 @@ use Rattle.ii_base.specs.declared.schema.index_record_option.IndexRecordOption.T
 use Rattle.ii_io.specs.Steps.{◌>>=◌, needs}
 use Rattle.ii_docset.specs.declared.docset.TheConstants.{TERMINATED}
 use Rattle.ii_docset.specs.Entries.{are_documents}
-use Rattle.ii_index.specs.Tokens.{Call, text, value}
-use Rattle.iiq.specs.Words.{words_of, number_below, numbers_below, bytes_of_word}
+use Rattle.ii_definitions.specs.Tokens.{Call, text, value}
+use Rattle.iiq.specs.Words.{line_words, number_below, numbers_below, bytes_of_word}
 
 -- A look-up has the option that is asked for, the field, and the key.
 pub data Command : Type 0 where
@@ -121,4 +121,4 @@ words_command (word ∷ words) =
 
 -- what a line asks for, if it is well formed
 abbrev pub command_of : List ℕ → Option Command
-command_of line = words_command (words_of line)
+command_of line = words_command (line_words line)

@@ -5,7 +5,7 @@ use Rattle.ii_io.specs.declared.faults.Fault.{Fault}
 use Rattle.ii_base.specs.Options.{downgrade}
 use Rattle.ii_docset.specs.declared.docset.TheConstants.{TERMINATED}
 use Rattle.ii_layout.specs.TermList.{term_list}
-use Rattle.ii_index.specs.Tokens.{Call, IndexToken}
+use Rattle.ii_definitions.specs.Tokens.{Call, IndexToken}
 use Rattle.ii_indexing.specs.declared.index_call.IndexCall.{IndexCall}
 use Rattle.ii_indexing.specs.IndexCalls.{MayAllBeIndexed, Takes, call_of, doc_of, field_of, type_of}
 use Rattle.ii_reader.specs.OpenIndex.{OpenIndexState, ReadersHold}
@@ -34,7 +34,7 @@ pub record IsCall (call : IndexCall) : Type 0 where
   pub takes : Takes fields (field_of call) (type_of call)
 
 -- Calls were gathered: they may be indexed in this order, and have so many documents.
-pub record AreGathered (kept : List IndexCall) (num_docs : ℕ) (calls : List Call) : Type 0 where
+pub record GathersCalls (kept : List IndexCall) (num_docs : ℕ) (calls : List Call) : Type 0 where
   pub calls_are : map (call_of fields) kept ≡ calls
   pub num_docs_is : num_docs ≡ num_docs_of calls
   pub most : num_docs ≤ TERMINATED
@@ -47,7 +47,7 @@ pub record IsOpen (index : OpenIndexState) (ts : List IndexToken) : Type 0 where
 
 -- What is known where no index was asked for, or it is open, or was refused.
 abbrev pub KnowsIndex : List IndexCall → ℕ → Option (Result OpenIndexState Fault) → Session → Type 0
-KnowsIndex kept num_docs None s = (calls : List Call) × (s ≡ gathering calls) × AreGathered kept num_docs calls
+KnowsIndex kept num_docs None s = (calls : List Call) × (s ≡ gathering calls) × GathersCalls kept num_docs calls
 KnowsIndex kept num_docs (Some (Ok index)) s = (ts : List IndexToken) × (s ≡ opened ts) × IsOpen index ts
 KnowsIndex kept num_docs (Some (Err fault)) s = s ≡ refused fault
 

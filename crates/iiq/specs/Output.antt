@@ -12,9 +12,9 @@ use Rattle.ii_io.specs.declared.faults.Part.TheVariants.{Skip, Documents, Freque
 use Rattle.ii_docset.specs.Entries.{Entry, document}
 use Rattle.ii_layout.specs.TermList.{term_list}
 use Rattle.ii_layout.specs.Written.{written_documents}
-use Rattle.ii_index.specs.Fields.{option_of}
-use Rattle.ii_index.specs.Postings.{key_postings, occurs}
-use Rattle.ii_index.specs.Tokens.{IndexToken}
+use Rattle.ii_definitions.specs.Fields.{option_of}
+use Rattle.ii_definitions.specs.Postings.{key_postings, occurs}
+use Rattle.ii_definitions.specs.Tokens.{IndexToken}
 use Rattle.iiq.specs.Words.{lines_of, nothing, written_hex}
 use Rattle.iiq.specs.Commands.{Command, show_ids, open_list, index_call, look_up, command_of}
 use Rattle.iiq.specs.Session.{Session, gathering, opened, refused, Indexes, fields, kept_with}

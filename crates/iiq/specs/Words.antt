@@ -20,8 +20,8 @@ abbrev pub lines_of : List ℕ → List (List ℕ)
 lines_of text = parts 10 text
 
 -- the words of a line
-abbrev pub words_of : List ℕ → List (List ℕ)
-words_of line = parts 32 line
+abbrev pub line_words : List ℕ → List (List ℕ)
+line_words line = parts 32 line
 
 -- the number that decimal digits write after another
 abbrev pub number_on : ℕ → List ℕ → ℕ

@@ -1,7 +1,7 @@
-ghost use Rattle.std.specs.Prelude.{◌≡◌, ◌++◌, ◌<◌, ◌≤◌, [], List, length, map, codes, decimal, string_bytes, IfErr, IfOk};
-ghost use Rattle.ii_io.specs.Faults.{number_of};
+ghost use Rattle.std.specs.Prelude.{◌≡◌, ◌++◌, ◌<◌, ◌≤◌, [], List, length, map, codes, decimal, string_bytes, IfOk};
+ghost use Rattle.ii_io.specs.Faults.{OnlyMemory, number_of};
 ghost use Rattle.ii_docset.specs.declared.docset.TheConstants.{TERMINATED};
-ghost use Rattle.ii_index.specs.Tokens.{IndexToken};
+ghost use Rattle.ii_definitions.specs.Tokens.{IndexToken};
 ghost use Rattle.ii_indexing.specs.IndexCalls.{MayAllBeIndexed, call_of};
 ghost use Rattle.iiq.specs.Known.{GivesIndex, IsCall, IsOpen, IsSession, Keeps, Knows};
 ghost use Rattle.iiq.specs.Output.{key_text, look_up_text};
@@ -100,7 +100,7 @@ fn index_of(alloc: Global, calls: Vec<IndexCall>, num_docs: DocId) -> Result<Ope
 // A field of texts with positions, and one of numbers.
 fn schema(alloc: Global) -> Result<Schema, Fault>
     ensures ok { IfOk result (λ schema. schema ≡ fields) }
-    ensures only { IfErr result (λ e. e ≡ Fault.OutOfMemory) }
+    ensures only { OnlyMemory result }
 {
     let mut entries = Vec::new(alloc);
     let name = String::from_str(alloc, "text")?;

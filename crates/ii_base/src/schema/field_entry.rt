@@ -21,9 +21,9 @@ pub struct FieldEntry {
 
 impl Model for FieldEntry {
     ghost use Rattle.std.specs.Prelude.{string_bytes};
-    ghost use Rattle.ii_base.specs.Schema.{Entry};
+    ghost use Rattle.ii_base.specs.Schema.{SchemaEntry};
 
-    ghost Value = { Entry };
+    ghost Value = { SchemaEntry };
 
     ghost view = { λ e. record {
       name = string_bytes e.name;

@@ -15,9 +15,9 @@ pub struct SchemaFields<'a> {
 impl<'a> Model for SchemaFields<'a> {
     ghost use Rattle.std.specs.Prelude.{ℕ, List, ◌+◌, ◌^◌, ◌<◌, length};
     ghost use Rattle.std.specs.List.{enumerate_from};
-    ghost use Rattle.ii_base.specs.Schema.{Entry};
+    ghost use Rattle.ii_base.specs.Schema.{SchemaEntry};
 
-    ghost Value = { List (ℕ × Entry) };
+    ghost Value = { List (ℕ × SchemaEntry) };
 
     ghost view = { λ s. enumerate_from s.next_id s.entries.now };
 

@@ -1,4 +1,5 @@
-ghost use Rattle.std.specs.Prelude.{◌≡◌, [], ◌∷◌, ◌++◌, false, pos, IfErr, IfOk, OnErr, OnOk};
+ghost use Rattle.std.specs.Prelude.{◌≡◌, [], ◌∷◌, ◌++◌, false, pos, IfOk, OnErr, OnOk};
+ghost use Rattle.ii_io.specs.Faults.{OnlyMemory};
 ghost use Rattle.ii_base.specs.Paths.{has_zero, path_bytes, segments_of};
 ghost use Rattle.ii_base.specs.ValueTypes.{code_of};
 ghost use Rattle.ii_base.specs.Values.{flipped, number_of_bool, u64_bytes};
@@ -31,7 +32,7 @@ impl Term {
     /// room for them.
     pub fn from_field_u64(alloc: Global, field: Field, val: u64) -> Result<Term, Fault>
         ensures ok { IfOk result (λ term. term ≡ record { field = field; value = u64_bytes val }) }
-        ensures only { IfErr result (λ e. e ≡ Fault.OutOfMemory) }
+        ensures only { OnlyMemory result }
     {
         Term::from_field_bytes(alloc, field, &val.to_be_bytes())
     }
@@ -40,7 +41,7 @@ impl Term {
     /// where there is no room for them.
     pub fn from_field_i64(alloc: Global, field: Field, val: i64) -> Result<Term, Fault>
         ensures ok { IfOk result (λ term. term ≡ record { field = field; value = u64_bytes (flipped val) }) }
-        ensures only { IfErr result (λ e. e ≡ Fault.OutOfMemory) }
+        ensures only { OnlyMemory result }
     {
         Term::from_field_u64(alloc, field, val.to_u64())
     }
@@ -49,7 +50,7 @@ impl Term {
     /// no room for them.
     pub fn from_field_bool(alloc: Global, field: Field, val: bool) -> Result<Term, Fault>
         ensures ok { IfOk result (λ term. term ≡ record { field = field; value = u64_bytes (number_of_bool val) }) }
-        ensures only { IfErr result (λ e. e ≡ Fault.OutOfMemory) }
+        ensures only { OnlyMemory result }
     {
         Term::from_field_u64(alloc, field, val.to_u64())
     }
@@ -57,7 +58,7 @@ impl Term {
     /// The term of a text: its bytes. `OutOfMemory` where there is no room for them.
     pub fn from_field_text(alloc: Global, field: Field, text: &str) -> Result<Term, Fault>
         ensures ok { IfOk result (λ term. term ≡ record { field = field; value = text.now }) }
-        ensures only { IfErr result (λ e. e ≡ Fault.OutOfMemory) }
+        ensures only { OnlyMemory result }
     {
         Term::from_field_bytes(alloc, field, text.as_bytes())
     }
@@ -65,7 +66,7 @@ impl Term {
     /// The term of bytes: these bytes. `OutOfMemory` where there is no room for them.
     pub fn from_field_bytes(alloc: Global, field: Field, bytes: &[u8]) -> Result<Term, Fault>
         ensures ok { IfOk result (λ term. term ≡ record { field = field; value = bytes.now }) }
-        ensures only { IfErr result (λ e. e ≡ Fault.OutOfMemory) }
+        ensures only { OnlyMemory result }
     {
         let value = Vec::from_slice(alloc, bytes)?;
         Ok(Term { field, value })
@@ -83,7 +84,7 @@ impl Term {
     ) -> Result<Term, Fault>
         requires { has_zero path.now ≡ false }
         ensures ok { IfOk result (λ term. term ≡ record { field = field; value = path_bytes expand_dots (segments_of path.now) ++ 0 ∷ [] }) }
-        ensures only { IfErr result (λ e. e ≡ Fault.OutOfMemory) }
+        ensures only { OnlyMemory result }
     {
         let mut writer = JsonPathWriter::new(alloc);
         writer.set_expand_dots(expand_dots);
@@ -98,7 +99,7 @@ impl Term {
     pub fn append_type_and_fast_value<T: FastValue>(&mut self, val: T) -> Result<(), Fault>
         ensures ok { OnOk result (self.new ≡ record self.old { value = self.old.value ++ code_of T.type_of_values ∷ u64_bytes (T.number val) }) }
         ensures err { OnErr result (self.new ≡ self.old) }
-        ensures only { IfErr result (λ e. e ≡ Fault.OutOfMemory) }
+        ensures only { OnlyMemory result }
     {
         self.append_type_and_bytes(T::to_type(), &val.to_u64().to_be_bytes())
     }
@@ -108,7 +109,7 @@ impl Term {
     pub fn append_type_and_str(&mut self, val: &str) -> Result<(), Fault>
         ensures ok { OnOk result (self.new ≡ record self.old { value = self.old.value ++ 0x73 ∷ val.now }) }
         ensures err { OnErr result (self.new ≡ self.old) }
-        ensures only { IfErr result (λ e. e ≡ Fault.OutOfMemory) }
+        ensures only { OnlyMemory result }
     {
         self.append_type_and_bytes(ValueType::Str, val.as_bytes())
     }
@@ -117,7 +118,7 @@ impl Term {
     fn append_type_and_bytes(&mut self, value_type: ValueType, bytes: &[u8]) -> Result<(), Fault>
         ensures ok { OnOk result (self.new ≡ record self.old { value = self.old.value ++ code_of value_type ∷ bytes.now }) }
         ensures err { OnErr result (self.new ≡ self.old) }
-        ensures only { IfErr result (λ e. e ≡ Fault.OutOfMemory) }
+        ensures only { OnlyMemory result }
     {
         let len = self.value.len();
         self.value.push(value_type.to_code())?;

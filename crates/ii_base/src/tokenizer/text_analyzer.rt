@@ -1,4 +1,5 @@
-ghost use Rattle.std.specs.Prelude.{◌≡◌, None, IfErr, IfOk};
+ghost use Rattle.std.specs.Prelude.{◌≡◌, None, IfOk};
+ghost use Rattle.ii_io.specs.Faults.{OnlyMemory};
 ghost use Rattle.ii_base.specs.Words.{Word, seen_word, word_of, words_of};
 
 use super::text_tokens::TextTokens;
@@ -34,7 +35,7 @@ pub trait TextAnalyzer {
     /// The tokens of a text, all of them still to come. `OutOfMemory` where there is no room for them.
     fn token_list(&self, alloc: Global, text: &str) -> Result<TokenList, Fault>
         ensures ok { IfOk result (λ tokens. tokens ≡ record { current = None; to_come = words self.now text.now }) }
-        ensures only { IfErr result (λ e. e ≡ Fault.OutOfMemory) }
+        ensures only { OnlyMemory result }
     {
         let mut stream = self.token_stream(text);
         let tokens = gather(alloc, &mut stream)?;
@@ -45,7 +46,7 @@ pub trait TextAnalyzer {
 // The tokens that are still to come of a stream.
 fn gather<S: TokenStream>(alloc: Global, stream: &mut S) -> Result<Vec<Token>, Fault>
     ensures ok { IfOk result (λ tokens. words_of tokens.items ≡ S.to_come stream.old) }
-    ensures only { IfErr result (λ e. e ≡ Fault.OutOfMemory) }
+    ensures only { OnlyMemory result }
 {
     let mut tokens = Vec::new(alloc);
     while stream.advance() {
@@ -57,7 +58,7 @@ fn gather<S: TokenStream>(alloc: Global, stream: &mut S) -> Result<Vec<Token>, F
 // A token with letters of its own.
 fn owned(alloc: Global, token: TokenView<'_>) -> Result<Token, Fault>
     ensures ok { IfOk result (λ t. word_of t ≡ seen_word token.entry) }
-    ensures only { IfErr result (λ e. e ≡ Fault.OutOfMemory) }
+    ensures only { OnlyMemory result }
 {
     Ok(Token {
         offset_from: token.offset_from,

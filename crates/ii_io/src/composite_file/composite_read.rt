@@ -3,6 +3,7 @@ ghost use Rattle.std.specs.Option.{option_map};
 ghost use Rattle.std.specs.List.{find};
 ghost use Rattle.ii_io.specs.declared.composite_file.place.Place.{Place};
 ghost use Rattle.ii_io.specs.Composite.{composite, body_of, table_of, HasTable, valid_places};
+ghost use Rattle.ii_io.specs.Faults.{OnlyMemory};
 
 use super::place::Place;
 use crate::faults::{Fault, Part};
@@ -65,7 +66,7 @@ impl CompositeFile {
     /// for want of memory only where the buffer can't be shared once more.
     pub fn open_read(&self, field: Field) -> Result<Option<Bytes>, Fault>
         ensures body { IfOk result (λ body. body ≡ body_of field self.now) }
-        ensures only { IfErr result (λ e. e ≡ Fault.OutOfMemory) }
+        ensures only { OnlyMemory result }
     {
         let Some(place) = place_of_field(&self.places, field) else {
             return Ok(None);
@@ -78,7 +79,7 @@ impl CompositeFile {
     /// the table finds no memory.
     pub fn clone(&self) -> Result<CompositeFile, Fault>
         ensures same { IfOk result (λ copy. copy ≡ self.now) }
-        ensures only { IfErr result (λ e. e ≡ Fault.OutOfMemory) }
+        ensures only { OnlyMemory result }
     {
         let bytes = self.bytes.clone()?;
         let places = self.places.clone()?;

@@ -1,5 +1,6 @@
 ghost use Rattle.std.specs.Prelude.{◌≡◌, ◌+◌, ◌-◌, ◌*◌, ◌/◌, ◌^◌, ◌<◌, ◌≤◌, length, take, drop, Some, None, IsSome, IfOk, IfErr, OnOk, OnErr, MatchOption, MatchBool, IsTrue, is_some, IfSome, slice_index, nat_lt, ◌⊎◌};
 ghost use Rattle.std.specs.List.{sum};
+ghost use Rattle.ii_io.specs.Faults.{OnlyMemory};
 ghost use Rattle.ii_layout.specs.Each.{each};
 ghost use Rattle.ii_layout.specs.Positions.{position_list, place_by_widths, block_deltas, rest_deltas, position_deltas};
 ghost use Rattle.ii_layout.specs.PositionReader.{AreAnchors, anchored, list_at, rest_at, deltas_at_block};
@@ -155,7 +156,7 @@ impl PositionBlocks {
     /// The same blocks over the same bytes, which are shared.
     pub(crate) fn clone(&self) -> Result<PositionBlocks, Fault>
         ensures same { IfOk result (λ blocks. blocks ≡ self.now) }
-        ensures only { IfErr result (λ e. e ≡ Fault.OutOfMemory) }
+        ensures only { OnlyMemory result }
     {
         let bytes = self.bytes.clone()?;
         let block_decoder = self.block_decoder.clone()?;

@@ -1,5 +1,6 @@
 ghost use Rattle.std.specs.Prelude.{◌≡◌, ◌+◌, ◌/◌, ◌^◌, ◌≤◌, length, take, drop, nat_lt, Some, None, IfOk, IfErr, OnErr};
 ghost use Rattle.std.specs.List.{sum};
+ghost use Rattle.ii_io.specs.Faults.{OnlyMemory};
 ghost use Rattle.ii_layout.specs.Positions.{position_deltas};
 
 use super::blocks::PositionBlocks;
@@ -96,7 +97,7 @@ impl PositionReader {
     /// many. `OutOfMemory` where a growth was refused.
     pub fn clone(&self) -> Result<PositionReader, Fault>
         ensures same { IfOk result (λ reader. reader ≡ self.now) }
-        ensures only { IfErr result (λ e. e ≡ Fault.OutOfMemory) }
+        ensures only { OnlyMemory result }
     {
         let blocks = self.blocks.clone()?;
         Ok(PositionReader { blocks })

@@ -1,5 +1,6 @@
 ghost use Rattle.std.specs.Prelude.{◌≡◌, ◌-◌, ◌<◌, ◌≤◌, ◌↔◌, ◌⊎◌, ◌==◌, [], ◌∷◌, ◌++◌, length, take, min, false, true, IsTrue, Some, OnOk, OnErr, IfErr, IsErrOf};
 ghost use Rattle.ii_io.specs.CountingWriter.{Writes, WritesUnlessClosed};
+ghost use Rattle.ii_io.specs.Faults.{OnlyMemory};
 ghost use Rattle.ii_io.specs.Vints.{vint_u64};
 ghost use Rattle.ii_codes.specs.Blocks.{unsorted_width, unsorted_bytes};
 ghost use Rattle.ii_layout.specs.Positions.{position_deltas, written_positions};
@@ -104,7 +105,7 @@ impl PackedDeltas {
         requires { length block.now ≡ 128 }
         ensures ok { OnOk result (self.new ≡ self.old ++ block.now) }
         ensures err { OnErr result (self.new ≡ []) }
-        ensures only { IfErr result (λ e. e ≡ Fault.OutOfMemory) }
+        ensures only { OnlyMemory result }
     {
         let packed = pack(
             block,
@@ -165,7 +166,7 @@ fn pack(
     requires { length block.now ≡ 128 }
     ensures widths { OnOk result (bit_widths.new.items ≡ bit_widths.old.items ++ unsorted_width false block.now ∷ []) }
     ensures bytes { OnOk result (positions_buffer.new.items ≡ positions_buffer.old.items ++ unsorted_bytes false block.now) }
-    ensures only { IfErr result (λ e. e ≡ Fault.OutOfMemory) }
+    ensures only { OnlyMemory result }
 {
     let (num_bits, bytes) = block_encoder.compress_block_unsorted(block, false);
     bit_widths.push(num_bits)?;
@@ -216,7 +217,7 @@ fn add_deltas(
     ensures few { length block.new < 128 }
     ensures ok { OnOk result (packed.new ++ block.new ≡ packed.old ++ block.old ++ deltas.now) }
     ensures err { OnErr result (packed.new ++ block.new ≡ []) }
-    ensures only { IfErr result (λ e. e ≡ Fault.OutOfMemory) }
+    ensures only { OnlyMemory result }
 {
     let mut done = 0;
     while done < deltas.len() {
@@ -231,7 +232,7 @@ fn pack_if_full(packed: &mut PackedDeltas, block: &mut DeltaBlock) -> Result<(),
     ensures few { length block.new < 128 }
     ensures ok { OnOk result (packed.new ++ block.new ≡ packed.old ++ block.old) }
     ensures err { OnErr result (packed.new ++ block.new ≡ []) }
-    ensures only { IfErr result (λ e. e ≡ Fault.OutOfMemory) }
+    ensures only { OnlyMemory result }
 {
     if !block.is_full() {
         return Ok(());

@@ -2,11 +2,11 @@ use Rattle.std.proofs.Common.{◌≡◌, List, map, Result, sym, subst}
 use Rattle.std.specs.Prelude.{◌⊎◌, IfErr, OnOk}
 use Rattle.ii_io.specs.declared.faults.Fault.{Fault}
 use Rattle.ii_io.specs.declared.faults.Fault.TheVariants.{OutOfMemory}
-use Rattle.ii_base.specs.Schema.{Entry}
-use Rattle.ii_index.specs.Fields.{option_of}
-use Rattle.ii_index.specs.Files.{HoldTokens}
-use Rattle.ii_index.specs.Norms.{HoldNorms}
-use Rattle.ii_index.specs.Tokens.{tokens_of}
+use Rattle.ii_base.specs.Schema.{SchemaEntry}
+use Rattle.ii_definitions.specs.Fields.{option_of}
+use Rattle.ii_definitions.specs.Files.{HoldTokens}
+use Rattle.ii_definitions.specs.Norms.{HoldNorms}
+use Rattle.ii_definitions.specs.Tokens.{tokens_of}
 use Rattle.ii_indexing.specs.IndexCalls.{call_of}
 use Rattle.ii_indexing.specs.IndexFiles.{IsWriteFault, WroteIndex}
 use Rattle.ii_ram.specs.Ram.{IsRamFault}
@@ -21,11 +21,11 @@ returns-in-Ok-clause-holds g c =
     let wrote : WroteIndex c.args.schema c.args.num_docs files new ts = subst (λ (r : Result (Unit {0}) Fault). OnOk r (WroteIndex c.args.schema c.args.num_docs files new ts)) c.in-Ok.is c.write_index-files.ensures.wrote in
     let ram = in_ram c.args.schema c.args.num_docs files new ts c.files_in_ram-files.ensures wrote in
     let same = sym c.in_ok-copy.ensures.same in
-    let hold = subst (λ (es : List Entry). HoldTokens (option_of es) wrote.terms.terms wrote.terms.postings wrote.terms.positions ts) same wrote.terms.hold in
-    let norms = subst (λ (es : List Entry). HoldNorms es c.args.num_docs wrote.norms.fieldnorms ts) same wrote.norms.hold in
+    let hold = subst (λ (es : List SchemaEntry). HoldTokens (option_of es) wrote.terms.terms wrote.terms.postings wrote.terms.positions ts) same wrote.terms.hold in
+    let norms = subst (λ (es : List SchemaEntry). HoldNorms es c.args.num_docs wrote.norms.fieldnorms ts) same wrote.norms.hold in
     let gives = c.open_files.ensures.holds wrote.terms.terms wrote.terms.postings wrote.terms.positions wrote.norms.fieldnorms c.args.num_docs ts ram.0 ram.1 ram.2 ram.3 hold norms in
     index_holds c.args.schema c.args.num_docs ts c.open_files.result
-    (subst (λ (es : List Entry). GivesAll es c.args.num_docs ts c.open_files.result) c.in_ok-copy.ensures.same gives)
+    (subst (λ (es : List SchemaEntry). GivesAll es c.args.num_docs ts c.open_files.result) c.in_ok-copy.ensures.same gives)
 
 pub returns-in-Ok-clause-fault : goal.returns-in-Ok-clause-fault
 returns-in-Ok-clause-fault g c none =
@@ -35,8 +35,8 @@ returns-in-Ok-clause-fault g c none =
     let wrote : WroteIndex c.args.schema c.args.num_docs files new ts = subst (λ (r : Result (Unit {0}) Fault). OnOk r (WroteIndex c.args.schema c.args.num_docs files new ts)) c.in-Ok.is c.write_index-files.ensures.wrote in
     let ram = in_ram c.args.schema c.args.num_docs files new ts c.files_in_ram-files.ensures wrote in
     let same = sym c.in_ok-copy.ensures.same in
-    let hold = subst (λ (es : List Entry). HoldTokens (option_of es) wrote.terms.terms wrote.terms.postings wrote.terms.positions ts) same wrote.terms.hold in
-    let norms = subst (λ (es : List Entry). HoldNorms es c.args.num_docs wrote.norms.fieldnorms ts) same wrote.norms.hold in
+    let hold = subst (λ (es : List SchemaEntry). HoldTokens (option_of es) wrote.terms.terms wrote.terms.postings wrote.terms.positions ts) same wrote.terms.hold in
+    let norms = subst (λ (es : List SchemaEntry). HoldNorms es c.args.num_docs wrote.norms.fieldnorms ts) same wrote.norms.hold in
     let gives = c.open_files.ensures.holds wrote.terms.terms wrote.terms.postings wrote.terms.positions wrote.norms.fieldnorms c.args.num_docs ts ram.0 ram.1 ram.2 ram.3 hold norms in
     readers_fault c.in_ok-copy.copy ts (IsRamFault c.args.schema c.args.num_docs ts) c.open_files.result gives.0
 

@@ -1,7 +1,7 @@
 use Rattle.std.proofs.Common.{List, ℕ, refl, subst}
-use Rattle.ii_index.specs.Fields.{option_of}
-use Rattle.ii_index.specs.Files.{HoldTokens}
-use Rattle.ii_index.specs.Norms.{HoldNorms}
+use Rattle.ii_definitions.specs.Fields.{option_of}
+use Rattle.ii_definitions.specs.Files.{HoldTokens}
+use Rattle.ii_definitions.specs.Norms.{HoldNorms}
 use Rattle.ii_ram.proofs.RamLaws.{same_file}
 use Rattle.ii_ram.proofs.open_files.Goals as goal
 

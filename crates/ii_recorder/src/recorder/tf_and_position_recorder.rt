@@ -1,7 +1,8 @@
-ghost use Rattle.std.specs.Prelude.{◌≡◌, ◌^◌, ◌<◌, [], ◌∷◌, None, length, OnOk, IfErr, IfOk};
+ghost use Rattle.std.specs.Prelude.{◌≡◌, ◌^◌, ◌<◌, [], ◌∷◌, None, length, OnOk, IfOk};
 ghost use Rattle.std.specs.List.{AllByRecursion};
+ghost use Rattle.ii_io.specs.Faults.{OnlyMemory};
 ghost use Rattle.ii_codes.specs.Sums.{differences};
-ghost use Rattle.ii_recorder.specs.Gathered.{all_of, behind_positions, first_positions, located, positions_in};
+ghost use Rattle.ii_recorder.specs.Gathered.{all_of, behind_positions, first_positions, located_at, positions_in};
 ghost use Rattle.ii_recorder.specs.Pushed.{MayPush, Pushes};
 ghost use Rattle.ii_base.specs.declared.schema.index_record_option.IndexRecordOption.TheVariants.{WithFreqsAndPositions};
 
@@ -68,7 +69,7 @@ fn take_deltas(numbers: &mut VInt32Reader<'_>, deltas: &mut Vec<u32>) -> Result<
     ensures ok { OnOk result (deltas.new.items ≡ differences 0 (first_positions numbers.old)) }
     ensures count { IfOk result (λ n. n ≡ length (first_positions numbers.old)) }
     ensures rest { OnOk result (numbers.new ≡ behind_positions numbers.old) }
-    ensures only { IfErr result (λ e. e ≡ Fault.OutOfMemory) }
+    ensures only { OnlyMemory result }
 {
     deltas.clear();
     let mut last = 0;
@@ -93,10 +94,10 @@ fn push_located_doc<W: Write>(
     serializer: &mut FieldSerializer<'_, W>,
 ) -> Result<(), Fault>
     requires few { length (first_positions numbers.old) < 2 ^ 32 }
-    requires may { MayPush WithFreqsAndPositions serializer.old.index.now (located doc (first_positions numbers.old) ∷ []) }
+    requires may { MayPush WithFreqsAndPositions serializer.old.index.now (located_at doc (first_positions numbers.old) ∷ []) }
     ensures same_reference { serializer.new.index.ghost_name ≡ serializer.old.index.ghost_name }
     ensures rest { OnOk result (numbers.new ≡ behind_positions numbers.old) }
-    ensures pushes { Pushes WithFreqsAndPositions serializer.old.index.now serializer.new.index.now (located doc (first_positions numbers.old) ∷ []) result }
+    ensures pushes { Pushes WithFreqsAndPositions serializer.old.index.now serializer.new.index.now (located_at doc (first_positions numbers.old) ∷ []) result }
 {
     let checked = serializer.check_open();
     if checked.is_err() {

@@ -1,5 +1,6 @@
 ghost use Rattle.std.specs.Prelude.{◌≡◌, ◌+◌, ◌*◌, ◌-◌, ◌^◌, ◌<◌, ◌≤◌, ◌↔◌, ◌⊎◌, List, [], ◌∷◌, ◌++◌, length, drop, OnOk, IfErr, IsErrOf};
 ghost use Rattle.ii_io.specs.CountingWriter.{Writes};
+ghost use Rattle.ii_io.specs.Faults.{OnlyMemory};
 ghost use Rattle.ii_io.specs.Numbers.{le_bytes};
 ghost use Rattle.ii_termstore.specs.declared.term_info.TermInfo.{TermInfo as Info};
 ghost use Rattle.ii_termstore.specs.TermInfos.{HasLengths, IsInRange};
@@ -72,7 +73,7 @@ fn flush_block(blocks: &mut GatheredBlocks) -> Result<(), Fault>
         ≡ blocks.old.block_metas.items ++ open_meta (length blocks.old.block_bits.items) blocks.old.open_block.items) }
     ensures bits { OnOk result (blocks.new.block_bits.items ≡ blocks.old.block_bits.items ++ open_bits blocks.old.open_block.items) }
     ensures terms { OnOk result ((blocks.new.open_block.items ≡ []) × (blocks.new.num_terms ≡ blocks.old.num_terms)) }
-    ensures only { IfErr result (λ e. e ≡ Fault.OutOfMemory) }
+    ensures only { OnlyMemory result }
 {
     let meta = block_meta(&blocks.open_block, blocks.block_bits.len() as u64);
     add_meta(&meta, &mut blocks.block_metas)?;
@@ -97,7 +98,7 @@ fn block_meta(infos: &[TermInfo], offset: u64) -> TermInfoBlockMeta
 fn add_meta(meta: &TermInfoBlockMeta, metas: &mut Vec<u8>) -> Result<(), Fault>
     requires { HasLengths meta.now.ref_term_info }
     ensures ok { OnOk result (metas.new.items ≡ metas.old.items ++ meta_bytes meta.now) }
-    ensures only { IfErr result (λ e. e ≡ Fault.OutOfMemory) }
+    ensures only { OnlyMemory result }
 {
     let mut bytes = [0; TermInfoBlockMeta::SIZE_IN_BYTES];
     put_meta(&mut bytes, meta);
@@ -111,7 +112,7 @@ fn add_bits(meta: &TermInfoBlockMeta, others: &[TermInfo], bits: &mut Vec<u8>) -
     requires fits { FitsBlock meta.now others.now }
     requires few { length others.now < BLOCK_LEN }
     ensures ok { OnOk result (bits.new.items ≡ bits.old.items ++ bits_bytes (block_row meta.now others.now)) }
-    ensures only { IfErr result (λ e. e ≡ Fault.OutOfMemory) }
+    ensures only { OnlyMemory result }
 {
     let mut buffer = [0; MAX_BLOCK_BYTES];
     let count = pack_block(meta, others, &mut buffer);

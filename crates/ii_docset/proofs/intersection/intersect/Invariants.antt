@@ -1,4 +1,5 @@
 use Rattle.std.proofs.Common.{◌≡◌, ◌-◌, ◌++◌}
+use Rattle.ii_docset.specs.declared.docset.TheConstants.{TERMINATED}
 use Rattle.ii_docset.specs.Cursor.{doc_at, IsSound}
 use Rattle.ii_docset.specs.Intersection.{common_docs}
 use Rattle.ii_docset.proofs.intersection.intersect.Given as goal
@@ -15,4 +16,4 @@ invariant-loop-doc g l = record {
 }
 
 abbrev pub decreases-loop-doc : goal.decreases-loop-doc
-decreases-loop-doc g l = 2147483647 - l.doc
+decreases-loop-doc g l = TERMINATED - l.doc

@@ -1,6 +1,6 @@
 use Rattle.std.proofs.Common.{◌≡◌, ◌<◌, [], List, ℕ, map, sym, subst, arith}
 use Rattle.std.proofs.lemmas.List.{nil_from_length}
-use Rattle.ii_base.specs.Schema.{Entry}
+use Rattle.ii_base.specs.Schema.{SchemaEntry}
 use Rattle.std.proofs.lemmas.Result.{err_from_is_err_and}
 use Rattle.ii_indexing.specs.IndexCalls.{Takes, call_of, doc_of, field_of, type_of}
 use Rattle.ii_indexing.specs.declared.index_call.IndexCall.{IndexCall}
@@ -29,7 +29,7 @@ pub index-requires-clause-takes : goal.index-requires-clause-takes
 index-requires-clause-takes g c running =
     let analyze = g.A.TextAnalyzer.words c.args.analyzer.now in
     let taking = subst (λ (rest : List IndexCall). IsTaking analyze c.args.schema c.args.num_docs c.args.calls.items c.loop-call.yielded rest c.loop-call.indexer) c.in-Some.ensures.steps.0 c.loop-call.invariant in
-    subst (λ (es : List Entry). Takes es (field_of c.in-Some.call) (type_of c.in-Some.call)) (sym taking.schema) taking.each.0.takes
+    subst (λ (es : List SchemaEntry). Takes es (field_of c.in-Some.call) (type_of c.in-Some.call)) (sym taking.schema) taking.each.0.takes
 
 pub loop-call-preserved : goal.loop-call-preserved
 loop-call-preserved g c =

@@ -1,5 +1,5 @@
 use Rattle.std.proofs.Common.{map}
-use Rattle.ii_index.specs.Fields.{option_of}
+use Rattle.ii_definitions.specs.Fields.{option_of}
 use Rattle.ii_indexing.specs.IndexCalls.{call_of}
 use Rattle.ii_indexing.proofs.FaultLaws.{written_fault}
 use Rattle.ii_indexing.proofs.RefusalLaws.{none_written}

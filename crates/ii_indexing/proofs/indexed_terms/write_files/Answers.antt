@@ -1,12 +1,12 @@
 use Rattle.std.proofs.Common.{◌<◌, ◌^◌, ◌∙◌, List, length, subst}
-use Rattle.ii_base.specs.Schema.{Entry}
+use Rattle.ii_base.specs.Schema.{SchemaEntry}
 use Rattle.ii_indexing.proofs.WrittenFiles.{closed_files, table_fault, three_counted}
 use Rattle.ii_io.specs.CountingWriterLemmas.{Grows-trans}
 use Rattle.ii_indexing.proofs.indexed_terms.write_files.Goals as goal
 
 pub returns-in-Ok-clause-holds : goal.returns-in-Ok-clause-holds
 returns-in-Ok-clause-holds g c ts has =
-    closed_files c.args.serializer c.serialize_postings.new.serializer c.close.result.0 c.close.result.1 c.close.result.2 c.close.result.3 ts (subst (λ (es : List Entry). length es < 2 ^ 32) c.requires.schema c.requires.few)
+    closed_files c.args.serializer c.serialize_postings.new.serializer c.close.result.0 c.close.result.1 c.close.result.2 c.close.result.3 ts (subst (λ (es : List SchemaEntry). length es < 2 ^ 32) c.requires.schema c.requires.few)
     (c.in-Ok.ensures.holds ts has) c.close.ensures.terms c.close.ensures.postings c.close.ensures.positions
 
 pub returns-in-Ok-clause-failures : goal.returns-in-Ok-clause-failures

@@ -2,8 +2,8 @@ use Rattle.std.proofs.Common.{rules, ◌≡◌, ◌∙◌, ◌++◌, [], ap, sub
 use Rattle.std.specs.List.{flat_map}
 use Rattle.ii_base.specs.Json.{json_leaves, json_of}
 use Rattle.ii_base.specs.Paths.{PathState}
-use Rattle.ii_index.specs.Fields.{option_of}
-use Rattle.ii_index.specs.Tokens.{leaf_pieces}
+use Rattle.ii_definitions.specs.Fields.{option_of}
+use Rattle.ii_definitions.specs.Tokens.{leaf_pieces}
 use Rattle.ii_json.specs.LeafVisit.{IsRefusedBy, leaves_at, leaves_fault}
 use Rattle.ii_indexing.specs.Indexer.{IndexedFieldsState, LeafConstant, StoresPieces}
 use Rattle.ii_indexing.specs.Refusals.{next_leaf_fault}

@@ -1,13 +1,13 @@
 use Rattle.std.proofs.Common.{rules, take, drop, suc, inr, Err, length, List, ◌≤◌, ◌++◌, ◌∷◌, [], ◌∙◌, ap, sym, subst}
 use Rattle.std.proofs.lemmas.List.{take_all}
 use Rattle.std.proofs.lemmas.Result.{err_from_is_err_and}
-use Rattle.ii_index.specs.Fields.{option_of}
+use Rattle.ii_definitions.specs.Fields.{option_of}
 use Rattle.ii_termdict.specs.ReadBack.{AreAscending}
 use Rattle.ii_recorder.specs.IndexSerializer.{IsWriting}
 use Rattle.ii_recorder.specs.Terms.{WrittenTerm}
 use Rattle.ii_postings_writer.proofs.FaultLemmas.{begun_fault, closed_fault, split_written, term_of_part, unless_closed}
 use Rattle.ii_postings_writer.proofs.SerializeLemmas.{all_written, next_above, next_written, one_more_told, writable_at}
-use Rattle.ii_postings_writer.specs.SortedTerms.{IsTold, IsWritable, state_of, written_of}
+use Rattle.ii_postings_writer.specs.SortedTerms.{IsTold, IsWritable, state_of, written_term}
 use Rattle.ii_postings_writer.specs.WriteFaults.{IsTermFaultAfter}
 use Rattle.ii_recorder.proofs.GrowthLemmas.{AllGrow-trans, bodies_grow}
 use Rattle.ii_postings_writer.proofs.serialize_postings.serialize_field.Goals as goal
@@ -58,8 +58,8 @@ returns-in_err-serialize_one_term-clause-fault g c =
     let before = all_written mode (take k terms) in
     let state = state_of c.index-terms-place.result in
     let fault = c.in_err-serialize_one_term.ensures.fault initial c.args.field tokens before w.0 in
-    let own = subst (λ es. IsTermFaultAfter initial (option_of es c.args.field) tokens before (written_of (option_of es c.args.field) state) e) w.3 fault in
-    rw (p.1, p.2) (inr (term_of_part mode tokens initial before (written_of mode state) (all_written mode (drop (suc k) terms)) (all_written mode terms) e
+    let own = subst (λ es. IsTermFaultAfter initial (option_of es c.args.field) tokens before (written_term (option_of es c.args.field) state) e) w.3 fault in
+    rw (p.1, p.2) (inr (term_of_part mode tokens initial before (written_term mode state) (all_written mode (drop (suc k) terms)) (all_written mode terms) e
     (split_written mode terms k c.index-terms-place.result (search rules) c.index-terms-place.is) own))
 
 pub returns-clause-fault : goal.returns-clause-fault

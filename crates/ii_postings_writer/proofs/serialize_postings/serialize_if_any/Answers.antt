@@ -2,7 +2,7 @@ use Rattle.std.proofs.Common.{rules, ◌∙◌, ◌++◌, List, ℕ, OnOk, map, 
 use Rattle.ii_termdict.specs.ReadBack.{AreAscending}
 use Rattle.ii_postings_writer.proofs.PartLemmas.{keys_seen, part_wrote, some_seen, tokens_of_writer}
 use Rattle.ii_postings_writer.specs.FieldParts.{FieldPart, HasFields, parts_of}
-use Rattle.ii_postings_writer.specs.SortedTerms.{TermState, state_of}
+use Rattle.ii_postings_writer.specs.SortedTerms.{SortedTerm, state_of}
 use Rattle.ii_postings_writer.proofs.serialize_postings.serialize_if_any.Goals as goal
 
 pub serialize_field-requires-clause-ascending : goal.serialize_field-requires-clause-ascending
@@ -18,4 +18,4 @@ returns-clause-wrote g c initial fs has =
     part_wrote c.serialize_field.result entries initial c.args.serializer.now.bodies new fs p has (some_seen seen (search rules)) c.serialize_field.ensures.wrote c.serialize_field.ensures.holds c.serialize_field.ensures.told in
     let counted = c.total_num_tokens-total_num_tokens.ensures ∙ tokens_of_writer c.args.writers.now c.args.field c.get_for_field.result.now c.get_for_field.ensures in
     subst (λ (n : ℕ). OnOk c.serialize_field.result (HasFields entries initial new (fs ++ parts_of entries c.args.field n c.args.terms.now))) counted
-    (subst (λ (us : List TermState). OnOk c.serialize_field.result (HasFields entries initial new (fs ++ parts_of entries c.args.field p.tokens us))) c.as_slice-terms.ensures wrote)
+    (subst (λ (us : List SortedTerm). OnOk c.serialize_field.result (HasFields entries initial new (fs ++ parts_of entries c.args.field p.tokens us))) c.as_slice-terms.ensures wrote)

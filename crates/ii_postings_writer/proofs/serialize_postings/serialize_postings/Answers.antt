@@ -4,7 +4,7 @@ use Rattle.std.proofs.lemmas.Result.{IfErr-weaker}
 use Rattle.std.proofs.lemmas.List.FromFn.{length-map-range_with_len}
 use Rattle.ii_recorder.specs.Recorded.{RecorderState}
 use Rattle.ii_postings_writer.specs.IndexingTerm.{field_in}
-use Rattle.ii_postings_writer.specs.SortedTerms.{AllMayBeWritten, IsWritable, TermState, terms_in}
+use Rattle.ii_postings_writer.specs.SortedTerms.{AllMayBeWritten, IsWritable, SortedTerm, terms_in}
 use Rattle.ii_postings_writer.proofs.ContextFaults.{context_fault, no_terms, some_terms}
 use Rattle.ii_postings_writer.proofs.TermIndexLemmas.{on_ok}
 use Rattle.ii_postings_writer.proofs.PartLemmas.{AreLists, wrote_context, wrote_terms}
@@ -35,7 +35,7 @@ serialize_fields-requires-clause-writers g c =
 pub serialize_fields-requires-clause-writable : goal.serialize_fields-requires-clause-writable
 serialize_fields-requires-clause-writable g c =
     let all = each_may_be (length c.args.schema.now) c.args.ctx c.sort.new.self c.in_ok-sort.ensures.same c.in_ok-sort.ensures.ascending c.in_ok-sort.ensures.whole c.requires.terms in
-    subst (AllByRecursion (λ (ts : List TermState). AllByRecursion IsWritable ts)) (sym c.in_ok-terms.ensures.ok) (all_writable (length c.args.schema.now) 0 c.num_fields.result c.sort.new.self all)
+    subst (AllByRecursion (λ (ts : List SortedTerm). AllByRecursion IsWritable ts)) (sym c.in_ok-terms.ensures.ok) (all_writable (length c.args.schema.now) 0 c.num_fields.result c.sort.new.self all)
 
 pub returns-clause-wrote : goal.returns-clause-wrote
 returns-clause-wrote g c =

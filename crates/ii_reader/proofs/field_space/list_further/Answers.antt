@@ -1,6 +1,6 @@
 use Rattle.std.proofs.Common.{◌≡◌, true, List, [], ◌∷◌, ◌++◌, length, nat_lt, inr, refl, sym, ap, ◌∙◌, arith}
 use Rattle.std.proofs.lemmas.Bool.{lt-ltb}
-use Rattle.ii_termdict.specs.Dictionary.{Entry}
+use Rattle.ii_termdict.specs.Dictionary.{TermEntry}
 use Rattle.ii_termdict.specs.TermStreamer.{TermStreamerState}
 use Rattle.ii_reader.specs.JsonFields.{FieldSpaceState}
 use Rattle.ii_reader.proofs.JsonLemmas.{entry_at, listed_more, listed_next, listed_none}
@@ -16,7 +16,7 @@ pub loop-term-preserved-then-record : goal.loop-term-preserved-then-record
 loop-term-preserved-then-record c =
     let l = c.loop-term in
     let here = entry_at c.args.terms.entries l._term c.in-Some.key.now c.in-Some.term_info (sym (rw (l.invariant.passed, l.invariant.entries) at c.in-Some.ensures.key)) (sym (rw (l.invariant.passed, l.invariant.entries) at c.in-Some.ensures.value)) in
-    let found : nat_lt l.terms.passed (length l.terms.entries) ≡ true = lt-ltb _ _ (let at = l.invariant.passed in let same = ap (λ (es : List Entry). length es) l.invariant.entries in let many = c.requires.many in let low = c.loop-term-test.true in omega arith) in
+    let found : nat_lt l.terms.passed (length l.terms.entries) ≡ true = lt-ltb _ _ (let at = l.invariant.passed in let same = ap (λ (es : List TermEntry). length es) l.invariant.entries in let many = c.requires.many in let low = c.loop-term-test.true in omega arith) in
     record {
       passed = ap (λ (t : TermStreamerState). t.passed) c.next.ensures.passed ∙ rw (found, l.invariant.passed) refl;
       entries = ap (λ (t : TermStreamerState). t.entries) c.next.ensures.passed ∙ l.invariant.entries;
@@ -27,7 +27,7 @@ pub loop-term-preserved : goal.loop-term-preserved
 loop-term-preserved c =
     let l = c.loop-term in
     let here = entry_at c.args.terms.entries l._term c.in-Some.key.now c.in-Some.term_info (sym (rw (l.invariant.passed, l.invariant.entries) at c.in-Some.ensures.key)) (sym (rw (l.invariant.passed, l.invariant.entries) at c.in-Some.ensures.value)) in
-    let found : nat_lt l.terms.passed (length l.terms.entries) ≡ true = lt-ltb _ _ (let at = l.invariant.passed in let same = ap (λ (es : List Entry). length es) l.invariant.entries in let many = c.requires.many in let low = c.loop-term-test.true in omega arith) in
+    let found : nat_lt l.terms.passed (length l.terms.entries) ≡ true = lt-ltb _ _ (let at = l.invariant.passed in let same = ap (λ (es : List TermEntry). length es) l.invariant.entries in let many = c.requires.many in let low = c.loop-term-test.true in omega arith) in
     record {
       passed = ap (λ (t : TermStreamerState). t.passed) c.next.ensures.passed ∙ rw (found, l.invariant.passed) refl;
       entries = ap (λ (t : TermStreamerState). t.entries) c.next.ensures.passed ∙ l.invariant.entries;

@@ -1,7 +1,7 @@
 use Rattle.std.proofs.Common.{◌+◌, sym, refl, length}
 use Rattle.std.proofs.lemmas.Bool.{ltb-true}
 use Rattle.std.proofs.lemmas.Option.{slice_get_read}
-use Rattle.ii_index.specs.JsonKeys.{path_in, type_in}
+use Rattle.ii_definitions.specs.JsonKeys.{path_in, type_in}
 use Rattle.ii_reader.proofs.JsonLemmas.{type_of_letter}
 use Rattle.ii_reader.proofs.field_space.type_in.Goals as goal
 

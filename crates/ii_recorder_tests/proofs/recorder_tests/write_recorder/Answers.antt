@@ -1,6 +1,6 @@
 use Rattle.std.proofs.Common.{List, [], ◌∷◌, ap, ◌∙◌}
-use Rattle.ii_base.specs.Schema.{Entry}
-use Rattle.ii_index.specs.Fields.{option_of}
+use Rattle.ii_base.specs.Schema.{SchemaEntry}
+use Rattle.ii_definitions.specs.Fields.{option_of}
 use Rattle.ii_recorder.specs.IndexSerializer.{IndexSerializerState}
 use Rattle.ii_recorder_tests.proofs.FirstKey.{first_ascends}
 use Rattle.ii_recorder_tests.proofs.RecordedTermLemmas.{held_as, still_writing, term_is}
@@ -20,6 +20,6 @@ returns g c =
     let written = c.in_ok-close_term.ensures.writing _ _ _ _ (97 ∷ []) inside pushed in
     let same = c.in_ok-close_term.ensures.entries ∙ c.in_ok-serialize.ensures.pushes.entries ∙ c.in_ok-new_term.ensures.entries ∙ c.in_ok-field.ensures.entries in
     let field = c.from_field_id.ensures in
-    let mode = begun.mode ∙ ap (λ (es : List Entry). option_of es c.from_field_id.result) c.in_ok-field.ensures.entries ∙ ap (option_of c.args.index.now.entries) field in
-    let last = written.mode ∙ ap (λ (es : List Entry). option_of es c.from_field_id.result) same ∙ ap (option_of c.args.index.now.entries) field in
+    let mode = begun.mode ∙ ap (λ (es : List SchemaEntry). option_of es c.from_field_id.result) c.in_ok-field.ensures.entries ∙ ap (option_of c.args.index.now.entries) field in
+    let last = written.mode ∙ ap (λ (es : List SchemaEntry). option_of es c.from_field_id.result) same ∙ ap (option_of c.args.index.now.entries) field in
     held_as c.close.result _ _ _ _ last (term_is c.in_ok-field.field.index.now.field.term _ _ r _ _ c.in_ok-new_term.ensures.term c.has_term_freq.ensures mode entries) (c.close.ensures.holds _ _ _ _ c.in_ok-close_term.ensures.between written)

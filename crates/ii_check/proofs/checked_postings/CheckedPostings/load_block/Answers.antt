@@ -1,4 +1,5 @@
 use Rattle.std.proofs.Common.{drop, refl, sym, ap, ◌∙◌}
+use Rattle.ii_docset.specs.declared.docset.TheConstants.{TERMINATED}
 use Rattle.ii_check.specs.Check.{freqs_in}
 use Rattle.ii_check.proofs.LoadLemmas.{is_told, some_there, loads, loads_freqs, keeps_freqs, told_freqs, after_is}
 use Rattle.ii_check.proofs.checked_postings.CheckedPostings.load_block.Goals as goal
@@ -22,7 +23,7 @@ returns-then-not-is_read c =
     in
     let unread = c.body.ensures.given.read ∙ (rw (← c.self.view_is) (sym c.is_read.ensures)) ∙ c.if-not-is_read.true in
     record {
-      docs_are = loads _ c.args.self.now.postings.docs told.after c.args.skip.now.block 2147483647 c.args.doc_decoder.now c.decode_docs-used.new.decoder c.decode_docs-used.ensures.holds told.docs;
+      docs_are = loads _ c.args.self.now.postings.docs told.after c.args.skip.now.block TERMINATED c.args.doc_decoder.now c.decode_docs-used.new.decoder c.decode_docs-used.ensures.holds told.docs;
       freqs_are = keeps_freqs c.args.self.now.postings.freqs c.args.skip.now.block c.args.freq_decoder.now c.args.freq_decoder.now unread refl;
     }
 
@@ -49,7 +50,7 @@ returns c =
     let read = c.body.ensures.given.read ∙ (rw (← c.self.view_is) (sym c.is_read.ensures)) ∙ c.if-not-is_read.false in
     let after = c.bytes_from.ensures ∙ after_is _ _ told.after _ told.docs c.decode_docs-used.ensures.after in
     record {
-      docs_are = loads _ c.args.self.now.postings.docs told.after c.args.skip.now.block 2147483647 c.args.doc_decoder.now c.decode_docs-used.new.decoder c.decode_docs-used.ensures.holds told.docs;
+      docs_are = loads _ c.args.self.now.postings.docs told.after c.args.skip.now.block TERMINATED c.args.doc_decoder.now c.decode_docs-used.new.decoder c.decode_docs-used.ensures.holds told.docs;
       freqs_are = loads_freqs c.args.self.now.postings.freqs c.args.skip.now.block c.args.freq_decoder.now c.decode_freqs.new.decoder read
           (λ fs e.
           let counts = told.freqs fs e in

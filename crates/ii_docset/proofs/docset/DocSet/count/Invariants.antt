@@ -1,4 +1,5 @@
 use Rattle.std.proofs.Common.{◌≡◌, ◌+◌, ◌≤◌, length}
+use Rattle.ii_docset.specs.declared.docset.TheConstants.{TERMINATED}
 use Rattle.ii_docset.specs.Alive.{IsCovered, alive_in}
 use Rattle.ii_docset.specs.Cursor.{doc_at, IsSound}
 use Rattle.ii_docset.proofs.docset.DocSet.count.Given as goal
@@ -11,7 +12,7 @@ invariant-loop-doc g l = record {
   work : g.Self.DocSet.went l.fn.self l.self;
   kind : g.Self.DocSet.always_one l.self ≡ g.Self.DocSet.always_one l.fn.self;
   counted : l.count + alive_in l.alive_bitset (g.Self.DocSet.rest l.self) ≡ alive_in l.alive_bitset (g.Self.DocSet.rest l.fn.self);
-  few : alive_in l.alive_bitset (g.Self.DocSet.rest l.fn.self) ≤ 2147483647;
+  few : alive_in l.alive_bitset (g.Self.DocSet.rest l.fn.self) ≤ TERMINATED;
 }
 
 abbrev pub decreases-loop-doc : goal.decreases-loop-doc

@@ -1,4 +1,5 @@
 use Rattle.std.proofs.Common.{◌≡◌, ◌+◌, ◌≤◌, length}
+use Rattle.ii_docset.specs.declared.docset.TheConstants.{TERMINATED}
 use Rattle.ii_docset.specs.Cursor.{doc_at, IsSound}
 use Rattle.ii_docset.proofs.docset.DocSet.count_including_deleted.Given as goal
 
@@ -9,7 +10,7 @@ invariant-loop-doc g l = record {
   work : g.Self.DocSet.went l.fn.self l.self;
   kind : g.Self.DocSet.always_one l.self ≡ g.Self.DocSet.always_one l.fn.self;
   counted : l.count + length (g.Self.DocSet.rest l.self) ≡ length (g.Self.DocSet.rest l.fn.self);
-  few : length (g.Self.DocSet.rest l.fn.self) + doc_at (g.Self.DocSet.rest l.fn.self) ≤ 2147483647;
+  few : length (g.Self.DocSet.rest l.fn.self) + doc_at (g.Self.DocSet.rest l.fn.self) ≤ TERMINATED;
 }
 
 abbrev pub decreases-loop-doc : goal.decreases-loop-doc

@@ -3,9 +3,9 @@ use Rattle.std.proofs.lemmas.Result.{err_from_is_err_and}
 use Rattle.ii_io.specs.Composite.{composite}
 use Rattle.ii_io.specs.declared.faults.Fault.{Fault}
 use Rattle.ii_base.specs.Schema.{keeps_norms}
-use Rattle.ii_index.specs.Tokens.{tokens_after}
+use Rattle.ii_definitions.specs.Tokens.{tokens_after}
 use Rattle.ii_indexing.specs.Indexer.{IndexedFieldsState, StoresPieces}
-use Rattle.ii_index.specs.Norms.{norm_file}
+use Rattle.ii_definitions.specs.Norms.{norm_file}
 use Rattle.ii_indexing.specs.OpenDocuments.{TellsAll, with_norms}
 use Rattle.ii_indexing.proofs.FinishLaws.{none_of, short_bodies}
 use Rattle.ii_indexing.proofs.indexed_fields.IndexedFields.finish.Goals as goal

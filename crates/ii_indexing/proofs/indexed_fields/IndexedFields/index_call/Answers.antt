@@ -2,9 +2,9 @@ use Rattle.std.proofs.Common.{[], List, ℕ, refl, sym, subst, ◌∙◌, ap}
 use Rattle.std.specs.Prelude.{OnOk}
 use Rattle.ii_base.specs.declared.schema.value_type.ValueType.TheVariants as types
 use Rattle.ii_base.specs.Values.{u64_bytes}
-use Rattle.ii_index.specs.Tokens.{value}
+use Rattle.ii_definitions.specs.Tokens.{value}
 use Rattle.ii_indexing.specs.IndexCalls.{call_with, number_in, type_of}
-use Rattle.ii_indexing.specs.FieldValues.{key_of}
+use Rattle.ii_indexing.specs.FieldValues.{key_of_value}
 use Rattle.ii_indexing.specs.declared.index_call.IndexCall.{IndexCall}
 use Rattle.ii_indexing.specs.declared.indexed_fields.FieldValue.TheVariants as values
 use Rattle.ii_indexing.proofs.CallLaws.{CallRefused, CallStored, TextRefused, TextStored, text_call, text_call_refused, value_call, value_call_refused, words_call, words_call_refused}
@@ -40,62 +40,62 @@ returns-in-U64-clause-stored g c =
     let number = c.number-number.ensures ∙ ap number_in c.in-U64.is in
     subst (λ (x : IndexCall). OnOk c.index_field_value.result (CallStored (g.A.TextAnalyzer.words c.args.analyzer.now) c.args.self.now c.index_field_value.new.self (call_with c.args.expand_dots x) (type_of x))) (sym c.in-U64.is)
     (subst (λ (n : ℕ). OnOk c.index_field_value.result (CallStored (g.A.TextAnalyzer.words c.args.analyzer.now) c.args.self.now c.index_field_value.new.self (record { doc = c.in-U64.doc; field = c.in-U64.field; content = value (u64_bytes n) }) types.U64)) number
-    (on_ok c.index_field_value.result _ _ (value_call (g.A.TextAnalyzer.words c.args.analyzer.now) c.args.self.now c.index_field_value.new.self c.in-U64.doc c.in-U64.field (key_of (values.Number c.number-number.result)) types.U64 (record { typed = refl; basic = λ o. refl })) c.index_field_value.ensures.stored))
+    (on_ok c.index_field_value.result _ _ (value_call (g.A.TextAnalyzer.words c.args.analyzer.now) c.args.self.now c.index_field_value.new.self c.in-U64.doc c.in-U64.field (key_of_value (values.Number c.number-number.result)) types.U64 (record { typed = refl; basic = λ o. refl })) c.index_field_value.ensures.stored))
 
 pub returns-in-U64-clause-refused : goal.returns-in-U64-clause-refused
 returns-in-U64-clause-refused g c =
     let number = c.number-number.ensures ∙ ap number_in c.in-U64.is in
     subst (λ (x : IndexCall). CallRefused (g.A.TextAnalyzer.words c.args.analyzer.now) c.args.self.now c.index_field_value.result (call_with c.args.expand_dots x) (type_of x)) (sym c.in-U64.is)
     (subst (λ (n : ℕ). CallRefused (g.A.TextAnalyzer.words c.args.analyzer.now) c.args.self.now c.index_field_value.result (record { doc = c.in-U64.doc; field = c.in-U64.field; content = value (u64_bytes n) }) types.U64) number
-    (value_call_refused (g.A.TextAnalyzer.words c.args.analyzer.now) c.args.self.now c.index_field_value.result c.in-U64.doc c.in-U64.field (key_of (values.Number c.number-number.result)) types.U64 (record { typed = refl; basic = λ o. refl }) c.index_field_value.ensures.refused))
+    (value_call_refused (g.A.TextAnalyzer.words c.args.analyzer.now) c.args.self.now c.index_field_value.result c.in-U64.doc c.in-U64.field (key_of_value (values.Number c.number-number.result)) types.U64 (record { typed = refl; basic = λ o. refl }) c.index_field_value.ensures.refused))
 
 pub returns-in-I64-clause-stored : goal.returns-in-I64-clause-stored
 returns-in-I64-clause-stored g c =
     let number = c.number-number.ensures ∙ ap number_in c.in-I64.is in
     subst (λ (x : IndexCall). OnOk c.index_field_value-in-I64.result (CallStored (g.A.TextAnalyzer.words c.args.analyzer.now) c.args.self.now c.index_field_value-in-I64.new.self (call_with c.args.expand_dots x) (type_of x))) (sym c.in-I64.is)
     (subst (λ (n : ℕ). OnOk c.index_field_value-in-I64.result (CallStored (g.A.TextAnalyzer.words c.args.analyzer.now) c.args.self.now c.index_field_value-in-I64.new.self (record { doc = c.in-I64.doc; field = c.in-I64.field; content = value (u64_bytes n) }) types.I64)) number
-    (on_ok c.index_field_value-in-I64.result _ _ (value_call (g.A.TextAnalyzer.words c.args.analyzer.now) c.args.self.now c.index_field_value-in-I64.new.self c.in-I64.doc c.in-I64.field (key_of (values.Number c.number-number.result)) types.I64 (record { typed = refl; basic = λ o. refl })) c.index_field_value-in-I64.ensures.stored))
+    (on_ok c.index_field_value-in-I64.result _ _ (value_call (g.A.TextAnalyzer.words c.args.analyzer.now) c.args.self.now c.index_field_value-in-I64.new.self c.in-I64.doc c.in-I64.field (key_of_value (values.Number c.number-number.result)) types.I64 (record { typed = refl; basic = λ o. refl })) c.index_field_value-in-I64.ensures.stored))
 
 pub returns-in-I64-clause-refused : goal.returns-in-I64-clause-refused
 returns-in-I64-clause-refused g c =
     let number = c.number-number.ensures ∙ ap number_in c.in-I64.is in
     subst (λ (x : IndexCall). CallRefused (g.A.TextAnalyzer.words c.args.analyzer.now) c.args.self.now c.index_field_value-in-I64.result (call_with c.args.expand_dots x) (type_of x)) (sym c.in-I64.is)
     (subst (λ (n : ℕ). CallRefused (g.A.TextAnalyzer.words c.args.analyzer.now) c.args.self.now c.index_field_value-in-I64.result (record { doc = c.in-I64.doc; field = c.in-I64.field; content = value (u64_bytes n) }) types.I64) number
-    (value_call_refused (g.A.TextAnalyzer.words c.args.analyzer.now) c.args.self.now c.index_field_value-in-I64.result c.in-I64.doc c.in-I64.field (key_of (values.Number c.number-number.result)) types.I64 (record { typed = refl; basic = λ o. refl }) c.index_field_value-in-I64.ensures.refused))
+    (value_call_refused (g.A.TextAnalyzer.words c.args.analyzer.now) c.args.self.now c.index_field_value-in-I64.result c.in-I64.doc c.in-I64.field (key_of_value (values.Number c.number-number.result)) types.I64 (record { typed = refl; basic = λ o. refl }) c.index_field_value-in-I64.ensures.refused))
 
 pub returns-in-Bool-clause-stored : goal.returns-in-Bool-clause-stored
 returns-in-Bool-clause-stored g c =
     let number = c.number-number.ensures ∙ ap number_in c.in-Bool.is in
     subst (λ (x : IndexCall). OnOk c.index_field_value-in-Bool.result (CallStored (g.A.TextAnalyzer.words c.args.analyzer.now) c.args.self.now c.index_field_value-in-Bool.new.self (call_with c.args.expand_dots x) (type_of x))) (sym c.in-Bool.is)
     (subst (λ (n : ℕ). OnOk c.index_field_value-in-Bool.result (CallStored (g.A.TextAnalyzer.words c.args.analyzer.now) c.args.self.now c.index_field_value-in-Bool.new.self (record { doc = c.in-Bool.doc; field = c.in-Bool.field; content = value (u64_bytes n) }) types.Bool)) number
-    (on_ok c.index_field_value-in-Bool.result _ _ (value_call (g.A.TextAnalyzer.words c.args.analyzer.now) c.args.self.now c.index_field_value-in-Bool.new.self c.in-Bool.doc c.in-Bool.field (key_of (values.Number c.number-number.result)) types.Bool (record { typed = refl; basic = λ o. refl })) c.index_field_value-in-Bool.ensures.stored))
+    (on_ok c.index_field_value-in-Bool.result _ _ (value_call (g.A.TextAnalyzer.words c.args.analyzer.now) c.args.self.now c.index_field_value-in-Bool.new.self c.in-Bool.doc c.in-Bool.field (key_of_value (values.Number c.number-number.result)) types.Bool (record { typed = refl; basic = λ o. refl })) c.index_field_value-in-Bool.ensures.stored))
 
 pub returns-in-Bool-clause-refused : goal.returns-in-Bool-clause-refused
 returns-in-Bool-clause-refused g c =
     let number = c.number-number.ensures ∙ ap number_in c.in-Bool.is in
     subst (λ (x : IndexCall). CallRefused (g.A.TextAnalyzer.words c.args.analyzer.now) c.args.self.now c.index_field_value-in-Bool.result (call_with c.args.expand_dots x) (type_of x)) (sym c.in-Bool.is)
     (subst (λ (n : ℕ). CallRefused (g.A.TextAnalyzer.words c.args.analyzer.now) c.args.self.now c.index_field_value-in-Bool.result (record { doc = c.in-Bool.doc; field = c.in-Bool.field; content = value (u64_bytes n) }) types.Bool) number
-    (value_call_refused (g.A.TextAnalyzer.words c.args.analyzer.now) c.args.self.now c.index_field_value-in-Bool.result c.in-Bool.doc c.in-Bool.field (key_of (values.Number c.number-number.result)) types.Bool (record { typed = refl; basic = λ o. refl }) c.index_field_value-in-Bool.ensures.refused))
+    (value_call_refused (g.A.TextAnalyzer.words c.args.analyzer.now) c.args.self.now c.index_field_value-in-Bool.result c.in-Bool.doc c.in-Bool.field (key_of_value (values.Number c.number-number.result)) types.Bool (record { typed = refl; basic = λ o. refl }) c.index_field_value-in-Bool.ensures.refused))
 
 pub returns-in-Bytes-clause-stored : goal.returns-in-Bytes-clause-stored
 returns-in-Bytes-clause-stored g c =
     subst (λ (x : IndexCall). OnOk c.index_field_value-in-Bytes.result (CallStored (g.A.TextAnalyzer.words c.args.analyzer.now) c.args.self.now c.index_field_value-in-Bytes.new.self (call_with c.args.expand_dots x) (type_of x))) (sym c.in-Bytes.is)
-    (on_ok c.index_field_value-in-Bytes.result _ _ (value_call (g.A.TextAnalyzer.words c.args.analyzer.now) c.args.self.now c.index_field_value-in-Bytes.new.self c.in-Bytes.doc c.in-Bytes.field (key_of (values.Bytes c.in-Bytes.bytes)) types.Bytes (record { typed = refl; basic = λ o. refl })) c.index_field_value-in-Bytes.ensures.stored)
+    (on_ok c.index_field_value-in-Bytes.result _ _ (value_call (g.A.TextAnalyzer.words c.args.analyzer.now) c.args.self.now c.index_field_value-in-Bytes.new.self c.in-Bytes.doc c.in-Bytes.field (key_of_value (values.Bytes c.in-Bytes.bytes)) types.Bytes (record { typed = refl; basic = λ o. refl })) c.index_field_value-in-Bytes.ensures.stored)
 
 pub returns-in-Bytes-clause-refused : goal.returns-in-Bytes-clause-refused
 returns-in-Bytes-clause-refused g c =
     subst (λ (x : IndexCall). CallRefused (g.A.TextAnalyzer.words c.args.analyzer.now) c.args.self.now c.index_field_value-in-Bytes.result (call_with c.args.expand_dots x) (type_of x)) (sym c.in-Bytes.is)
-    (value_call_refused (g.A.TextAnalyzer.words c.args.analyzer.now) c.args.self.now c.index_field_value-in-Bytes.result c.in-Bytes.doc c.in-Bytes.field (key_of (values.Bytes c.in-Bytes.bytes)) types.Bytes (record { typed = refl; basic = λ o. refl }) c.index_field_value-in-Bytes.ensures.refused)
+    (value_call_refused (g.A.TextAnalyzer.words c.args.analyzer.now) c.args.self.now c.index_field_value-in-Bytes.result c.in-Bytes.doc c.in-Bytes.field (key_of_value (values.Bytes c.in-Bytes.bytes)) types.Bytes (record { typed = refl; basic = λ o. refl }) c.index_field_value-in-Bytes.ensures.refused)
 
 pub returns-in-Ip-clause-stored : goal.returns-in-Ip-clause-stored
 returns-in-Ip-clause-stored g c =
     subst (λ (x : IndexCall). OnOk c.index_field_value-in-Ip.result (CallStored (g.A.TextAnalyzer.words c.args.analyzer.now) c.args.self.now c.index_field_value-in-Ip.new.self (call_with c.args.expand_dots x) (type_of x))) (sym c.in-Ip.is)
-    (on_ok c.index_field_value-in-Ip.result _ _ (value_call (g.A.TextAnalyzer.words c.args.analyzer.now) c.args.self.now c.index_field_value-in-Ip.new.self c.in-Ip.doc c.in-Ip.field (key_of (values.Ip c.in-Ip.address)) types.IpAddr (record { typed = refl; basic = λ o. refl })) c.index_field_value-in-Ip.ensures.stored)
+    (on_ok c.index_field_value-in-Ip.result _ _ (value_call (g.A.TextAnalyzer.words c.args.analyzer.now) c.args.self.now c.index_field_value-in-Ip.new.self c.in-Ip.doc c.in-Ip.field (key_of_value (values.Ip c.in-Ip.address)) types.IpAddr (record { typed = refl; basic = λ o. refl })) c.index_field_value-in-Ip.ensures.stored)
 
 pub returns-in-Ip-clause-refused : goal.returns-in-Ip-clause-refused
 returns-in-Ip-clause-refused g c =
     subst (λ (x : IndexCall). CallRefused (g.A.TextAnalyzer.words c.args.analyzer.now) c.args.self.now c.index_field_value-in-Ip.result (call_with c.args.expand_dots x) (type_of x)) (sym c.in-Ip.is)
-    (value_call_refused (g.A.TextAnalyzer.words c.args.analyzer.now) c.args.self.now c.index_field_value-in-Ip.result c.in-Ip.doc c.in-Ip.field (key_of (values.Ip c.in-Ip.address)) types.IpAddr (record { typed = refl; basic = λ o. refl }) c.index_field_value-in-Ip.ensures.refused)
+    (value_call_refused (g.A.TextAnalyzer.words c.args.analyzer.now) c.args.self.now c.index_field_value-in-Ip.result c.in-Ip.doc c.in-Ip.field (key_of_value (values.Ip c.in-Ip.address)) types.IpAddr (record { typed = refl; basic = λ o. refl }) c.index_field_value-in-Ip.ensures.refused)
 
 pub returns-in-Json-clause-stored : goal.returns-in-Json-clause-stored
 returns-in-Json-clause-stored g c =

@@ -2,8 +2,8 @@ use Rattle.std.proofs.Common.{◌≡◌, ◌+◌, ◌-◌, ◌++◌, ◌<◌, []
 use Rattle.std.proofs.lemmas.List.{length-set}
 use Rattle.std.proofs.lemmas.Result.{err_from_is_err_and}
 use Rattle.ii_recorder.specs.Recorded.{u32_max}
-use Rattle.ii_index.specs.Fields.{option_of}
-use Rattle.ii_index.specs.Tokens.{kept_words, piece_tokens_from, text_at, tokens_after}
+use Rattle.ii_definitions.specs.Fields.{option_of}
+use Rattle.ii_definitions.specs.Tokens.{kept_words, piece_tokens_from, text_at, tokens_after}
 use Rattle.ii_json.specs.LeafVisit.{IsRefusedBy}
 use Rattle.ii_indexing.specs.IndexedTerms.{StoresTokens}
 use Rattle.ii_indexing.specs.Indexer.{EndsAt, IndexedFieldsState, StoresPieces}

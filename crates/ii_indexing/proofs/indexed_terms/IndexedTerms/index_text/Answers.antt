@@ -1,5 +1,5 @@
 use Rattle.std.proofs.Common.{◌≡◌, ◌++◌, ◌∙◌, sym, ap, subst, map}
-use Rattle.ii_index.specs.Tokens.{kept_words, text_at, word_token}
+use Rattle.ii_definitions.specs.Tokens.{kept_words, text_at, word_token}
 use Rattle.ii_indexing.specs.IndexedTerms.{IndexedTermsState, StoresTokens, kept_at}
 use Rattle.ii_postings_writer.specs.IndexingContext.{AllEndBy}
 use Rattle.ii_postings_writer.specs.IndexingTerm.{IndexingTermState}

@@ -1,5 +1,5 @@
 use Rattle.std.proofs.Common.{◌≡◌, ◌++◌, ◌∷◌, ◌∙◌, [], false, sym, ap, subst}
-use Rattle.ii_index.specs.Tokens.{value_at}
+use Rattle.ii_definitions.specs.Tokens.{value_at}
 use Rattle.ii_indexing.specs.IndexedTerms.{IndexedTermsState, StoresTokens, kept_at}
 use Rattle.ii_postings_writer.specs.IndexingContext.{AllEndBy}
 use Rattle.ii_postings_writer.specs.IndexingTerm.{IndexingTermState, term_bytes}

@@ -1,6 +1,6 @@
 use Rattle.std.proofs.Common.{[], length, sym, subst}
 use Rattle.std.specs.Prelude.{IfErr, OnOk}
-use Rattle.ii_index.specs.Tokens.{pieces_of, tokens_after}
+use Rattle.ii_definitions.specs.Tokens.{pieces_of, tokens_after}
 use Rattle.ii_postings_writer.specs.HeldBodies.{HaveTokens}
 use Rattle.ii_indexing.specs.IndexFiles.{IsIndexFault, WroteIndex}
 use Rattle.ii_indexing.specs.IndexedTerms.{IndexedTermsState}

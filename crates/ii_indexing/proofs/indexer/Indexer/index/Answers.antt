@@ -1,9 +1,9 @@
 use Rattle.std.proofs.Common.{◌≡◌, ◌≤◌, ◌++◌, ◌∷◌, [], ℕ, Bool, false, sym, ap, ◌∙◌, subst}
 use Rattle.std.proofs.lemmas.Result.{err_from_is_err_and}
-use Rattle.ii_index.specs.Fields.{option_of}
+use Rattle.ii_definitions.specs.Fields.{option_of}
 use Rattle.ii_json.specs.LeafVisit.{IsRefusedBy}
 use Rattle.ii_indexing.specs.Refusals.{call_fault, content_fault}
-use Rattle.ii_index.specs.Tokens.{call_pieces, pieces_of}
+use Rattle.ii_definitions.specs.Tokens.{call_pieces, pieces_of}
 use Rattle.ii_indexing.specs.IndexCalls.{Takes, call_of, call_with, content_of, doc_of, expands_dots_in, field_of, type_of}
 use Rattle.ii_indexing.specs.Indexer.{EndsAt, IndexerState, StoresPieces}
 use Rattle.ii_indexing.proofs.CallLaws.{ends_later, pieces_with}

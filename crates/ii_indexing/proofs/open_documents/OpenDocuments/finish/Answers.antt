@@ -1,13 +1,13 @@
 use Rattle.std.proofs.Common.{◌≡◌, ◌<◌, ◌^◌, ◌∙◌, Bool, List, ℕ, Some, None, length, map, sym, ap, subst}
 use Rattle.std.specs.Prelude.{if◌then◌else◌}
 use Rattle.ii_io.specs.Composite.{composite, written_composite}
-use Rattle.ii_base.specs.Schema.{Entry, keeps_norms}
+use Rattle.ii_base.specs.Schema.{SchemaEntry, keeps_norms}
 use Rattle.ii_fieldnorm.specs.Buffers.{Buffers, filled_buffers, norm_bodies}
-use Rattle.ii_index.specs.Tokens.{IndexToken, Piece}
+use Rattle.ii_definitions.specs.Tokens.{IndexToken, Piece}
 use Rattle.ii_indexing.specs.OpenDocuments.{AreClosed, OpenDocumentsState, TellsAll, with_norms}
 use Rattle.ii_indexing.specs.declared.open_documents.OpenDocument.{OpenDocument}
 use Rattle.ii_postings_writer.proofs.SortedLemmas.{if_both}
-use Rattle.ii_index.specs.Norms.{HoldNorms, norm_ids}
+use Rattle.ii_definitions.specs.Norms.{HoldNorms, norm_ids}
 use Rattle.ii_indexing.proofs.FinishLaws.{norm_at}
 use Rattle.ii_indexing.proofs.NormFileLaws.{closed_buffers, few_filled, file_small, holds_norms, with_filled}
 use Rattle.ii_indexing.proofs.open_documents.OpenDocuments.finish.Goals as goal
@@ -33,7 +33,7 @@ returns-clause-holds c =
     let closes = subst (λ (ds : List OpenDocument). AreClosed ds s.norms closed) c.deref.ensures.value c.in_ok-close_documents.ensures.ok in
     let now = c.in_ok-fill_up_to_max_doc.ensures.ok in
     if_both c.norms_file.result (λ (bytes : List ℕ). bytes ≡ written_composite (norm_bodies c.fill_up_to_max_doc.new.self)) (λ (bytes : List ℕ). composite bytes ≡ Some (norm_bodies c.fill_up_to_max_doc.new.self))
-    (λ (bytes : List ℕ). (entries : List Entry) (ps : List Piece) (ts : List IndexToken) → with_norms c.args.self.norms ≡ map keeps_norms entries → TellsAll ps ts c.args.self → HoldNorms entries n bytes ts)
+    (λ (bytes : List ℕ). (entries : List SchemaEntry) (ps : List Piece) (ts : List IndexToken) → with_norms c.args.self.norms ≡ map keeps_norms entries → TellsAll ps ts c.args.self → HoldNorms entries n bytes ts)
     (λ bytes written reads entries ps ts keep told.
     let kept = subst (λ (q : OpenDocumentsState). with_norms q.norms ≡ map keeps_norms entries) (sym c.self.view_is) keep in
     let tells = subst (TellsAll ps ts) (sym c.self.view_is) told in

@@ -1,5 +1,5 @@
 use Rattle.std.proofs.Common.{refl}
-use Rattle.ii_base.specs.Schema.{Entry}
+use Rattle.ii_base.specs.Schema.{SchemaEntry}
 use Rattle.ii_indexing.specs.OpenDocuments.{empty_document}
 use Rattle.ii_indexing.proofs.FieldLists.{short_norms}
 use Rattle.ii_postings_writer.proofs.SchemaItems.{all_made}
@@ -10,5 +10,5 @@ invariant_of-result c field d is = short_norms c.args.schema.now c.in_ok-for_sch
 
 pub returns-clause-ok : goal.returns-clause-ok
 returns-clause-ok c =
-    let made = all_made (λ (e : Entry). empty_document 0) c.loop-field.documents.items c.loop-field._field-iterator c.args.schema.now c.in-None.ensures.steps.0 c.loop-field.invariant in
+    let made = all_made (λ (e : SchemaEntry). empty_document 0) c.loop-field.documents.items c.loop-field._field-iterator c.args.schema.now c.in-None.ensures.steps.0 c.loop-field.invariant in
     rw (made, c.in_ok-for_schema.ensures.empty) refl

@@ -1,7 +1,7 @@
 use Rattle.std.proofs.Common.{◌≡◌, ◌<◌, ◌^◌, arith, length, List, true, [], ◌∷◌}
 use Rattle.std.specs.Prelude.{nat_le}
 use Rattle.ii_base.specs.Words.{Word, seen_word}
-use Rattle.ii_index.specs.Tokens.{max_token_len}
+use Rattle.ii_definitions.specs.Tokens.{max_token_len}
 use Rattle.ii_postings_writer.specs.PostingsWriter.{IndexesWords, kept_fault, text_piece, text_state}
 use Rattle.ii_postings_writer.proofs.TextLaws.{err_with, ok_with, one_refused, one_word}
 use Rattle.ii_postings_writer.proofs.postings_writer.SpecializedPostingsWriter.index_word.Goals as goal

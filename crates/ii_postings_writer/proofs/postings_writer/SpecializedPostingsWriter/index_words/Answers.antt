@@ -2,7 +2,7 @@ use Rattle.std.proofs.Common.{◌≡◌, ◌∷◌, drop, sym, ap, ◌∙◌, su
 use Rattle.std.specs.Prelude.{slice_get}
 use Rattle.std.proofs.lemmas.Result.{err_from_is_err_and}
 use Rattle.ii_base.specs.Words.{seen_word}
-use Rattle.ii_index.specs.Tokens.{kept_words}
+use Rattle.ii_definitions.specs.Tokens.{kept_words}
 use Rattle.ii_postings_writer.specs.IndexingTerm.{IndexingTermState}
 use Rattle.ii_postings_writer.specs.PostingsWriter.{IndexesWords, RefusesWords, text_piece, text_state}
 use Rattle.ii_postings_writer.proofs.TextLaws.{first_of, next_word, word_refused}

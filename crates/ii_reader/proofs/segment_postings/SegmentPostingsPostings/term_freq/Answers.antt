@@ -1,4 +1,5 @@
 use Rattle.std.proofs.Common.{◌≡◌, ◌<◌, true, is_some, ◌+◌, ◌*◌, drop, sym, ◌∙◌}
+use Rattle.ii_docset.specs.declared.docset.TheConstants.{TERMINATED}
 use Rattle.ii_docset.specs.Cursor.{doc_at}
 use Rattle.ii_layout.specs.TermList.{list_of}
 use Rattle.ii_check.specs.Positions.{deltas_read}
@@ -18,7 +19,7 @@ returns-clause-entry c =
     let s = c.self.inside in
     let b = s.block_cursor in
     let deltas = deltas_read s.position_reader in
-    let current : is_some b.freqs ≡ true → doc_at (drop (128 * b.block + s.cur) (list_of b.docs b.freqs deltas)) < 2147483647 = λ some. current_where _ (rw (← c.self.view_is) at c.requires) (sym c.self.invariant.2 ∙ some) in
+    let current : is_some b.freqs ≡ true → doc_at (drop (128 * b.block + s.cur) (list_of b.docs b.freqs deltas)) < TERMINATED = λ some. current_where _ (rw (← c.self.view_is) at c.requires) (sym c.self.invariant.2 ∙ some) in
     rw (← c.self.view_is) (c.freq.ensures ∙ freq_at_place _ b.docs b.freqs deltas b.block s.cur c.self.invariant.1 c.self.invariant.0 current)
 
 pub returns-clause-freq : goal.returns-clause-freq
@@ -26,6 +27,6 @@ returns-clause-freq c =
     let s = c.self.inside in
     let b = s.block_cursor in
     let deltas = deltas_read s.position_reader in
-    let current : is_some b.freqs ≡ true → doc_at (drop (128 * b.block + s.cur) (list_of b.docs b.freqs deltas)) < 2147483647 = λ some. current_where _ (rw (← c.self.view_is) at c.requires) (sym c.self.invariant.2 ∙ some) in
+    let current : is_some b.freqs ≡ true → doc_at (drop (128 * b.block + s.cur) (list_of b.docs b.freqs deltas)) < TERMINATED = λ some. current_where _ (rw (← c.self.view_is) at c.requires) (sym c.self.invariant.2 ∙ some) in
     let here = c.freq.ensures ∙ freq_at_place _ b.docs b.freqs deltas b.block s.cur c.self.invariant.1 c.self.invariant.0 current in
     rw (← c.self.view_is, ← c.self.invariant.2) (freq_by b.freqs b.block s.cur c.freq.result (drop (128 * b.block + s.cur) (list_of b.docs b.freqs deltas)) c.freq.ensures here)

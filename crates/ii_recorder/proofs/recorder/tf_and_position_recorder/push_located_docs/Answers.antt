@@ -1,7 +1,7 @@
 use Rattle.std.proofs.Common.{◌+◌, ◌<◌, ◌^◌, arith, sym, ◌∙◌}
 use Rattle.ii_docset.specs.Entries.{Entry}
 use Rattle.ii_base.specs.declared.schema.index_record_option.IndexRecordOption.TheVariants.{WithFreqsAndPositions}
-use Rattle.ii_recorder.specs.Gathered.{all_of, behind_positions, first_positions, gathered, located, none_after, positions_in, with_number}
+use Rattle.ii_recorder.specs.Gathered.{all_of, behind_positions, first_positions, gathered, located_at, none_after, positions_in, with_number}
 use Rattle.ii_recorder.proofs.GatheredLemmas.{fewer_behind, positions_left}
 use Rattle.ii_recorder.proofs.PushLemmas.{pushing_below, pushing_each, pushing_may, pushing_next, pushing_refused, went_ok}
 use Rattle.ii_recorder.proofs.recorder.tf_and_position_recorder.push_located_docs.Goals as goal
@@ -14,7 +14,7 @@ overflow_add-doc g c =
     let all = all_of (positions_in c.args.numbers.now) in
     let left = positions_left last delta c.loop-delta.numbers rest c.in-Some.ensures.steps in
     let below = pushing_below WithFreqsAndPositions c.args.serializer.now.index.now c.loop-delta.serializer.index.now
-    all (all_of (gathered with_number (none_after last) c.loop-delta.numbers)) (located (last + delta) (first_positions rest)) (all_of (gathered with_number (none_after (last + delta)) (behind_positions rest)))
+    all (all_of (gathered with_number (none_after last) c.loop-delta.numbers)) (located_at (last + delta) (first_positions rest)) (all_of (gathered with_number (none_after (last + delta)) (behind_positions rest)))
     c.loop-delta.invariant.3 left c.requires.may in
     omega (arith, below)
 
@@ -26,7 +26,7 @@ push_located_doc-pushed-requires-clause-few g c =
     let all = all_of (positions_in c.args.numbers.now) in
     let left = positions_left last delta c.loop-delta.numbers rest c.in-Some.ensures.steps in
     pushing_each (λ (e : Entry). e.term_freq < 2 ^ 32) WithFreqsAndPositions c.args.serializer.now.index.now c.loop-delta.serializer.index.now
-    all (all_of (gathered with_number (none_after last) c.loop-delta.numbers)) (located (last + delta) (first_positions rest)) (all_of (gathered with_number (none_after (last + delta)) (behind_positions rest)))
+    all (all_of (gathered with_number (none_after last) c.loop-delta.numbers)) (located_at (last + delta) (first_positions rest)) (all_of (gathered with_number (none_after (last + delta)) (behind_positions rest)))
     c.loop-delta.invariant.3 left c.requires.counted
 
 pub push_located_doc-pushed-requires-clause-may : goal.push_located_doc-pushed-requires-clause-may
@@ -37,7 +37,7 @@ push_located_doc-pushed-requires-clause-may g c =
     let all = all_of (positions_in c.args.numbers.now) in
     let left = positions_left last delta c.loop-delta.numbers rest c.in-Some.ensures.steps in
     pushing_may WithFreqsAndPositions c.args.serializer.now.index.now c.loop-delta.serializer.index.now
-    all (all_of (gathered with_number (none_after last) c.loop-delta.numbers)) (located (last + delta) (first_positions rest)) (all_of (gathered with_number (none_after (last + delta)) (behind_positions rest)))
+    all (all_of (gathered with_number (none_after last) c.loop-delta.numbers)) (located_at (last + delta) (first_positions rest)) (all_of (gathered with_number (none_after (last + delta)) (behind_positions rest)))
     c.loop-delta.invariant.3 left c.requires.may
 
 pub returns-then-is_err-2-clause-pushes : goal.returns-then-is_err-2-clause-pushes
@@ -49,7 +49,7 @@ returns-then-is_err-2-clause-pushes g c =
     let left = positions_left last delta c.loop-delta.numbers rest c.in-Some.ensures.steps in
     let refused = sym c.if-is_err-2.true ∙ c.is_err-in-Some.ensures.value in
     pushing_refused WithFreqsAndPositions c.args.serializer.now.index.now c.loop-delta.serializer.index.now c.push_located_doc-pushed.new.serializer.index.now
-    all (all_of (gathered with_number (none_after last) c.loop-delta.numbers)) (located (last + delta) (first_positions rest)) (all_of (gathered with_number (none_after (last + delta)) (behind_positions rest)))
+    all (all_of (gathered with_number (none_after last) c.loop-delta.numbers)) (located_at (last + delta) (first_positions rest)) (all_of (gathered with_number (none_after (last + delta)) (behind_positions rest)))
     c.push_located_doc-pushed.result c.loop-delta.invariant.3 left refused c.push_located_doc-pushed.ensures.pushes
 
 pub loop-delta-smaller : goal.loop-delta-smaller
@@ -69,6 +69,6 @@ loop-delta-preserved g c =
     let went = sym c.if-is_err-2.false ∙ c.is_err-in-Some.ensures.value in
     let behind = went_ok c.push_located_doc-pushed.result went c.push_located_doc-pushed.ensures.rest in
     let next = pushing_next WithFreqsAndPositions c.args.serializer.now.index.now c.loop-delta.serializer.index.now c.push_located_doc-pushed.new.serializer.index.now
-    all (all_of (gathered with_number (none_after last) c.loop-delta.numbers)) (located (last + delta) (first_positions rest)) (all_of (gathered with_number (none_after (last + delta)) (behind_positions rest)))
+    all (all_of (gathered with_number (none_after last) c.loop-delta.numbers)) (located_at (last + delta) (first_positions rest)) (all_of (gathered with_number (none_after (last + delta)) (behind_positions rest)))
     c.push_located_doc-pushed.result c.loop-delta.invariant.3 left went c.push_located_doc-pushed.ensures.pushes in
     (tt, tt, c.push_located_doc-pushed.ensures.same_reference ∙ c.loop-delta.invariant.2, rw behind next)

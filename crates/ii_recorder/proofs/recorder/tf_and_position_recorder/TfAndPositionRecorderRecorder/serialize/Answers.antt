@@ -1,6 +1,6 @@
 use Rattle.std.proofs.Common.{◌<◌, ◌^◌, length, arith}
 use Rattle.ii_recorder.specs.Gathered.{positions_state}
-use Rattle.ii_recorder.specs.Recorded.{entries_in}
+use Rattle.ii_recorder.specs.Recorded.{entries_of_recorder}
 use Rattle.ii_recorder.specs.VintRows.{numbers}
 use Rattle.ii_recorder.proofs.DeltaLemmas.{few_positions, have_deltas}
 use Rattle.ii_recorder.proofs.VintRowLemmas.{length_numbers}
@@ -12,4 +12,4 @@ returns-clause-located g c =
     let few : length bytes < 2 ^ 64 = rw c.deref.ensures.value at c.all_bytes.ensures.few in
     let counts = few_positions (numbers bytes) in
     let count = length_numbers bytes in
-    rw (← c.self.view_is) (λ _. have_deltas (entries_in (positions_state bytes)) c.self.invariant.located (omega (arith, few, counts, count)))
+    rw (← c.self.view_is) (λ _. have_deltas (entries_of_recorder (positions_state bytes)) c.self.invariant.located (omega (arith, few, counts, count)))

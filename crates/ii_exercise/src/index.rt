@@ -1,0 +1,125 @@
+ghost use Rattle.std.specs.Prelude.{◌≡◌, List, length, IfOk};
+ghost use Rattle.ii_base.specs.Schema.{SchemaEntry};
+ghost use Rattle.ii_base.specs.declared.schema.value_type.ValueType.TheVariants as types;
+ghost use Rattle.ii_indexing.specs.IndexCalls.{MayAllBeIndexed, Takes, doc_of, field_of, type_of};
+
+use ii_base::{
+    AsciiTokenizer, Fault, Field, FieldEntry, IndexRecordOption, Schema, Term, ValueType,
+};
+use ii_docset::{DocSet, Postings, TERMINATED};
+use ii_indexing::IndexCall;
+use ii_ram::index_in_ram;
+use ii_reader::{InvertedIndexReader, OpenIndex, SegmentPostings};
+use std::alloc::Global;
+
+const FULL: IndexRecordOption = IndexRecordOption::WithFreqsAndPositions;
+
+/// Texts, numbers and bytes of two documents are indexed and opened; then one of each is looked up,
+/// and a word that isn't there.
+pub fn read_back(alloc: Global) -> Result<String, Fault> {
+    let index = opened(alloc)?;
+    let mut text = String::new(alloc);
+    let (words, numbers) = (Field::from_field_id(0), Field::from_field_id(1));
+    let bytes = Field::from_field_id(2);
+    push_postings(alloc, &mut text, index.reader(words), &word(alloc, "be")?)?;
+    let seven = Term::from_field_u64(alloc, numbers, 7)?;
+    push_postings(alloc, &mut text, index.reader(numbers), &seven)?;
+    let tag = Term::from_field_bytes(alloc, bytes, b"ab")?;
+    push_postings(alloc, &mut text, index.reader(bytes), &tag)?;
+    push_postings(
+        alloc,
+        &mut text,
+        index.reader(words),
+        &word(alloc, "question")?,
+    )?;
+    Ok(text)
+}
+
+// The index of all calls.
+fn opened(alloc: Global) -> Result<OpenIndex, Fault>
+    ensures { IfOk result (λ index. length index.readers ≡ 3) }
+{
+    let (schema, calls) = (fields(alloc)?, calls(alloc)?);
+    index_in_ram(alloc, schema, 2, calls, &AsciiTokenizer)
+}
+
+// Texts with positions and norms, numbers with norms, bytes without.
+fn fields(alloc: Global) -> Result<Schema, Fault>
+    ensures three { IfOk result (λ schema. length schema ≡ 3) }
+    ensures texts { IfOk result (λ schema. Takes schema 0 types.Str) }
+    ensures numbers { IfOk result (λ schema. Takes schema 1 types.U64) }
+    ensures bytes { IfOk result (λ schema. Takes schema 2 types.Bytes) }
+{
+    let mut entries = Vec::new(alloc);
+    let name = String::from_str(alloc, "text")?;
+    entries.push(FieldEntry::text(name, FULL, true))?;
+    let name = String::from_str(alloc, "number")?;
+    entries.push(FieldEntry::value(name, ValueType::U64, true))?;
+    let name = String::from_str(alloc, "bytes")?;
+    entries.push(FieldEntry::value(name, ValueType::Bytes, false))?;
+    Ok(Schema::new(entries))
+}
+
+// The calls, in the order of their documents.
+fn calls(alloc: Global) -> Result<Vec<IndexCall>, Fault>
+    ensures { IfOk result (λ calls. (schema : List SchemaEntry) → Takes schema 0 types.Str → Takes schema 1 types.U64 → Takes schema 2 types.Bytes → MayAllBeIndexed schema 2 calls.items) }
+{
+    let (number, bytes) = (Field::from_field_id(1), Field::from_field_id(2));
+    let mut calls = Vec::new(alloc);
+    calls.push(text(alloc, 0, "to be or not to be")?)?;
+    calls.push(IndexCall::U64(0, number, 7))?;
+    calls.push(text(alloc, 1, "be")?)?;
+    calls.push(IndexCall::U64(1, number, 7))?;
+    calls.push(IndexCall::Bytes(1, bytes, vec![in alloc; 97, 98]?))?;
+    Ok(calls)
+}
+
+// A text of a document.
+fn text(alloc: Global, doc: u32, text: &str) -> Result<IndexCall, Fault>
+    ensures doc { IfOk result (λ call. doc_of call ≡ doc) }
+    ensures field { IfOk result (λ call. (field_of call ≡ 0) × (type_of call ≡ types.Str)) }
+{
+    let text = String::from_str(alloc, text)?;
+    Ok(IndexCall::Text(doc, Field::from_field_id(0), text))
+}
+
+// The term of a word.
+fn word(alloc: Global, word: &str) -> Result<Term, Fault> {
+    Term::from_field_text(alloc, Field::from_field_id(0), word)
+}
+
+// Adds each document of a term with its count and positions.
+fn push_postings(
+    alloc: Global,
+    text: &mut String,
+    reader: &InvertedIndexReader,
+    term: &Term,
+) -> Result<(), Fault> {
+    match reader.read_postings(term, FULL)? {
+        Some(mut cursor) => push_all(alloc, text, &mut cursor),
+        None => Ok(text.push_str(" not there")?),
+    }
+}
+
+fn push_all(alloc: Global, text: &mut String, cursor: &mut SegmentPostings) -> Result<(), Fault> {
+    for _ in 0..cursor.doc_freq() {
+        push_doc(alloc, text, cursor)?;
+        let _next = cursor.advance();
+    }
+    Ok(text.push_str(" ends")?)
+}
+
+fn push_doc(alloc: Global, text: &mut String, cursor: &mut SegmentPostings) -> Result<(), Fault> {
+    let doc = cursor.doc();
+    if doc >= TERMINATED {
+        return Ok(());
+    }
+    let count = cursor.term_freq();
+    write!(text, " {count} in {doc}")?;
+    let mut positions = Vec::new(alloc);
+    cursor.positions(&mut positions)?;
+    for position in positions.as_slice() {
+        write!(text, " at {position}")?;
+    }
+    Ok(())
+}
