@@ -64,7 +64,7 @@ impl<W: Write> InvertedIndexSerializer<W> {
 impl<'a, W: Write> FieldSerializer<'a, W> {
     /// Begins a term, whose key is above the one before it by its bytes, as the field records it or,
     /// where `record_term_freq` is not set, without counts. No term is open. The number of documents that
-    /// the term will have is for bounds, which aren't written yet.
+    /// the term will have isn't looked at.
     ///
     /// `OutOfMemory` where a growth was refused; `SerializerClosed` after an earlier refusal.
     pub fn new_term(

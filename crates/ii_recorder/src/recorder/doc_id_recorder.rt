@@ -99,6 +99,7 @@ impl Recorder for DocIdRecorder {
     }
 
     fn record_position(&mut self, _position: u32) -> Result<(), Fault> {
+        // a field that is read, for the proof: without one it sees nothing of what is held
         let _deltas = &self.deltas;
         Ok(())
     }
@@ -118,11 +119,13 @@ impl Recorder for DocIdRecorder {
     }
 
     fn term_doc_freq(&self) -> Option<u32> {
+        // a field that is read, for the proof: without one it sees nothing of what is held
         let _deltas = &self.deltas;
         None
     }
 
     fn has_term_freq(&self) -> bool {
+        // a field that is read, for the proof: without one it sees nothing of what is held
         let _deltas = &self.deltas;
         false
     }

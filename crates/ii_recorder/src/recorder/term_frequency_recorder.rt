@@ -151,6 +151,7 @@ impl Recorder for TermFrequencyRecorder {
     }
 
     fn has_term_freq(&self) -> bool {
+        // a field that is read, for the proof: without one it sees nothing of what is held
         let _counts = &self.counts;
         true
     }

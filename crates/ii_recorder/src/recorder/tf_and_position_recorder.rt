@@ -203,6 +203,7 @@ impl Recorder for TfAndPositionRecorder {
     }
 
     fn has_term_freq(&self) -> bool {
+        // a field that is read, for the proof: without one it sees nothing of what is held
         let _positions = &self.positions;
         true
     }
