@@ -8,6 +8,7 @@ mod index;
 mod norms;
 mod postings;
 mod schema;
+mod walked;
 
 use ii_io::Fault;
 use std::io;
@@ -34,6 +35,7 @@ fn report_fields(rt: &HostRuntime) -> io::Result<()> {
 
 fn report_terms(rt: &HostRuntime) -> io::Result<()> {
     report(rt, "postings", postings::read_back(rt.alloc()))?;
+    report(rt, "walk", walked::read_back(rt.alloc()))?;
     report(rt, "dictionary", dictionary::read_back(rt.alloc()))?;
     report(rt, "index", index::read_back(rt.alloc()))
 }

@@ -111,6 +111,20 @@ fn a_number_is_of_its_document_alone(rt: HostRuntime) -> Result<(), Fail> {
     Ok(())
 }
 
+// The postings of one term of one token, and no counts: `01` in 8 bytes, and document 0.
+static ONE_TOKEN: [u8; 9] = [1, 0, 0, 0, 0, 0, 0, 0, 0x80];
+
+#[test]
+fn a_number_has_its_bytes(rt: HostRuntime) -> Result<(), Fail> {
+    let value = object(rt.alloc(), "n", JsonValue::U64(5))?;
+    let index = index_of_one(rt.alloc(), false, value)?;
+    let lengths = [index.postings.len(), index.positions.len()];
+    assert!(rt; lengths.as_slice() == [33, 25].as_slice());
+    assert!(rt; index.postings.as_slice().starts_with(&ONE_TOKEN));
+    assert!(rt; index.positions.as_slice().starts_with(b"\x80"));
+    Ok(())
+}
+
 // A word that stands twice, and a number.
 fn word_and_number(alloc: Global) -> Result<Index, Fault> {
     let text = JsonValue::Str(String::from_str(alloc, "x x")?);

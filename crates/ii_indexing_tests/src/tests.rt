@@ -8,8 +8,8 @@ use ii_base::{
     TokenList, ValueType,
 };
 use ii_indexing::{
-    IndexCall, Indexer, IndexingContext, IndexingPosition, IndexingTerm, PostingsWriter,
-    SpecializedPostingsWriter,
+    IndexCall, Indexer, IndexingContext, IndexingPosition, IndexingTerm, PerFieldPostingsWriter,
+    PostingsWriter, SpecializedPostingsWriter,
 };
 use std::alloc::Global;
 use std::test::Fail;
@@ -314,5 +314,40 @@ fn each_call_is_taken(rt: HostRuntime) -> Result<(), Fail> {
     take_address(rt.alloc())?;
     take_bytes(rt.alloc())?;
     take_text(rt.alloc())?;
+    Ok(())
+}
+
+// A field of texts, and one of numbers.
+fn text_and_number(alloc: Global) -> Result<Schema, Fault>
+    ensures { IfOk result (λ schema. length schema ≡ 2) }
+{
+    let mut entries = Vec::new(alloc);
+    let name = String::from_str(alloc, "text")?;
+    entries.push(FieldEntry::text(name, IndexRecordOption::WithFreqs, false))?;
+    let name = String::from_str(alloc, "number")?;
+    entries.push(FieldEntry::value(name, ValueType::U64, false))?;
+    Ok(Schema::new(entries))
+}
+
+// How many tokens the two writers of these fields have once a position of a term was added to the second.
+fn tokens_of_writers(alloc: Global) -> Result<(u64, u64), Fault> {
+    let mut writers = PerFieldPostingsWriter::for_schema(alloc, &text_and_number(alloc)?)?;
+    let (text, number) = (Field::from_field_id(0), Field::from_field_id(1));
+    let mut term = IndexingTerm::with_capacity(alloc, 8)?;
+    term.set_field(number);
+    term.set_u64(7)?;
+    let mut ctx = IndexingContext::new(alloc);
+    writers
+        .get_for_field_mut(number)
+        .subscribe(3, 0, &term, &mut ctx)?;
+    Ok((
+        writers.get_for_field(text).total_num_tokens(),
+        writers.get_for_field(number).total_num_tokens(),
+    ))
+}
+
+#[test]
+fn fields_have_writers(rt: HostRuntime) -> Result<(), Fail> {
+    assert!(rt; tokens_of_writers(rt.alloc())? == (0, 1));
     Ok(())
 }

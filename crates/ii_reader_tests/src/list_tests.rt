@@ -278,11 +278,11 @@ fn two_blocks(alloc: Global) -> Option<SegmentPostings> {
     cursor_over(alloc, docs.as_slice())
 }
 
-// Whether a cursor that begins at 0 and 1 comes to its end.
-fn comes_to_its_end<P: Postings>(alloc: Global, cursor: &mut P) -> bool {
+// Whether a cursor that begins at 0 and this document comes to its end.
+fn comes_to_its_end<P: Postings>(alloc: Global, cursor: &mut P, next: DocId) -> bool {
     let want = [
         CursorAnswer::Doc(0),
-        CursorAnswer::Doc(1),
+        CursorAnswer::Doc(next),
         CursorAnswer::Doc(TERMINATED),
         CursorAnswer::Doc(TERMINATED),
     ];
@@ -294,10 +294,14 @@ fn comes_to_its_end<P: Postings>(alloc: Global, cursor: &mut P) -> bool {
 }
 
 // Whether what a cursor is loaded into does.
-fn loaded_comes_to_its_end(alloc: Global, cursor: &SegmentPostings) -> Result<bool, Fault> {
+fn loaded_comes_to_its_end(
+    alloc: Global,
+    cursor: &SegmentPostings,
+    next: DocId,
+) -> Result<bool, Fault> {
     let mut source = cursor.clone()?;
     let mut loaded = LoadedPostings::load(alloc, &mut source)?;
-    Ok(comes_to_its_end(alloc, &mut loaded))
+    Ok(comes_to_its_end(alloc, &mut loaded, next))
 }
 
 #[test]
@@ -307,7 +311,13 @@ fn walks_come_to_their_end(rt: HostRuntime) -> Result<(), Fail> {
         return Ok(());
     };
     assert!(rt; found_by_copy(&cursor, 131)? == TERMINATED);
-    assert!(rt; loaded_comes_to_its_end(rt.alloc(), &cursor)?);
-    assert!(rt; comes_to_its_end(rt.alloc(), &mut cursor));
+    assert!(rt; loaded_comes_to_its_end(rt.alloc(), &cursor, 1)?);
+    assert!(rt; comes_to_its_end(rt.alloc(), &mut cursor, 1));
+    let Some(mut threes) = threes(rt.alloc()) else {
+        assert!(rt; false, "a list of 1,024");
+        return Ok(());
+    };
+    assert!(rt; loaded_comes_to_its_end(rt.alloc(), &threes, 3)?);
+    assert!(rt; comes_to_its_end(rt.alloc(), &mut threes, 3));
     Ok(())
 }

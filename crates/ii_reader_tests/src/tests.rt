@@ -34,6 +34,26 @@ fn short_lists_are_walked(rt: HostRuntime) {
     assert!(rt; cursor.size_hint() == 3);
 }
 
+// A cursor over the documents of a block cursor, from its second block on.
+fn from_second_block(bytes: &'static [u8]) -> Option<SegmentPostings> {
+    let Ok(mut blocks) = BlockSegmentPostings::open(130, Bytes::from_static(bytes), BASIC, BASIC) else {
+        return None;
+    };
+    blocks.advance();
+    Some(SegmentPostings::from_block_postings(blocks, None))
+}
+
+#[test]
+fn cursors_begin_where_a_block_cursor_is(rt: HostRuntime) {
+    let Some(mut cursor) = from_second_block(&LONG) else {
+        assert!(rt; false, "a list of 130");
+        return;
+    };
+    let docs = [129, 130, TERMINATED, TERMINATED, TERMINATED];
+    assert!(rt; walked(&mut cursor).as_slice() == docs.as_slice());
+    assert!(rt; is_so_long(&cursor, 130));
+}
+
 // How many documents a block has, and what stands at its first places and at its last.
 fn places(blocks: &BlockSegmentPostings) -> (usize, DocId, DocId, DocId, DocId) {
     let (first, second) = (blocks.doc(0), blocks.doc(1));

@@ -1,0 +1,57 @@
+use bytes::Bytes;
+use ii_base::{Fault, IndexRecordOption};
+use ii_docset::{CursorAnswer, CursorCall, DocId, DocSet, TERMINATED, Walk, walk};
+use ii_reader::SegmentPostings;
+use std::alloc::Global;
+
+const BASIC: IndexRecordOption = IndexRecordOption::Basic;
+
+// Documents 0, 2 and 10.
+static THREE: [u8; 3] = [0x80, 0x82, 0x88];
+
+// Where a cursor over them stands after so many of the calls.
+const PLACES: [DocId; 7] = [0, 0, 2, 2, 10, 10, TERMINATED];
+
+/// A walk to the end of three documents. Where memory is refused inside it, its answers have to be those
+/// of the calls before, and the cursor has to stand where these left it.
+pub fn read_back(alloc: Global) -> Result<String, Fault> {
+    let bytes = Bytes::from_static(&THREE);
+    let mut cursor = SegmentPostings::open(3, bytes, None, BASIC, BASIC)?;
+    let calls = [
+        CursorCall::Doc,
+        CursorCall::Advance,
+        CursorCall::Doc,
+        CursorCall::Advance,
+        CursorCall::Doc,
+        CursorCall::Advance,
+    ];
+    let walked = walk(alloc, &mut cursor, &calls);
+    told(alloc, &walked, cursor.doc())
+}
+
+// What a walk tells that left its cursor at a document.
+fn told(alloc: Global, walked: &Walk, doc: DocId) -> Result<String, Fault> {
+    let mut text = String::new(alloc);
+    let count = walked.answers.len();
+    if !are_of_first(walked.answers.as_slice()) || PLACES.get(count) != Some(&doc) {
+        text.push_str(" stands elsewhere")?;
+    } else if walked.complete {
+        write!(text, " {count} calls to the end")?;
+    } else {
+        text.push_str(" out of memory")?;
+    }
+    Ok(text)
+}
+
+// Whether these are the answers to the first of the calls.
+fn are_of_first(answers: &[CursorAnswer]) -> bool {
+    let want = [
+        CursorAnswer::Doc(0),
+        CursorAnswer::Doc(2),
+        CursorAnswer::Doc(2),
+        CursorAnswer::Doc(10),
+        CursorAnswer::Doc(10),
+        CursorAnswer::Doc(TERMINATED),
+    ];
+    want.as_slice().starts_with(answers)
+}
