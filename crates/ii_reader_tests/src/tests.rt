@@ -36,7 +36,8 @@ fn short_lists_are_walked(rt: HostRuntime) {
 
 // A cursor over the documents of a block cursor, from its second block on.
 fn from_second_block(bytes: &'static [u8]) -> Option<SegmentPostings> {
-    let Ok(mut blocks) = BlockSegmentPostings::open(130, Bytes::from_static(bytes), BASIC, BASIC) else {
+    let Ok(mut blocks) = BlockSegmentPostings::open(130, Bytes::from_static(bytes), BASIC, BASIC)
+    else {
         return None;
     };
     blocks.advance();
@@ -165,6 +166,10 @@ fn damage_is_named(rt: HostRuntime) {
     assert!(rt; many == Some(Part::Skip));
     let short = damaged(128, &[0x84, 0x7F, 0, 0, 0, 0x40], BASIC);
     assert!(rt; short == Some(Part::Skip));
+    let cut = damaged(128, &[0x85, 0x7F, 0, 0, 0], BASIC);
+    assert!(rt; cut == Some(Part::Skip));
+    let unpacked = damaged(128, &[0x85, 0x7F, 0, 0, 0, 0x41], BASIC);
+    assert!(rt; unpacked == Some(Part::Documents));
     let other = damaged(128, &[0x85, 0x80, 0, 0, 0, 0x40], BASIC);
     assert!(rt; other == Some(Part::Documents));
     let wide = damaged(128, &[0x88, 0x7F, 0, 0, 0, 0x40, 0x21, 0, 0], with_freqs);

@@ -1,0 +1,292 @@
+use crate::bits::{entry, fixed};
+use crate::positions::read_positions;
+use crate::vints::{vint_32, vint_64};
+use std::alloc::{AllocError, Global};
+
+// Documents lie below it.
+const END: u64 = 2_147_483_647;
+
+/// What a field records, or a reader requests.
+#[derive(Clone, Copy, PartialEq, Eq)]
+pub enum Mode {
+    /// Documents alone.
+    Documents,
+    /// Counts too.
+    Counts,
+    /// Counts and positions too.
+    Positions,
+}
+
+/// The part that bytes fail to hold.
+#[derive(Clone, Copy, PartialEq, Eq)]
+pub enum Damage {
+    /// The skip list.
+    Skip,
+    /// The documents.
+    Documents,
+    /// The counts.
+    Frequencies,
+    /// The positions.
+    Positions,
+}
+
+/// What a list holds: documents, the counts if they are read, and the positions of all documents if they
+/// are read, one document after the other.
+#[derive(Drop)]
+pub struct Listed {
+    /// The documents.
+    pub docs: Vec<u64>,
+    /// A count for each, or nothing.
+    pub counts: Option<Vec<u64>>,
+    /// Positions, or nothing.
+    pub positions: Option<Vec<u64>>,
+}
+
+// What the skip list says of a full block: its last document, the widths, whether deltas are strict, the
+// sum of its counts where that is kept, and at which byte after the skip list it begins.
+#[derive(Drop)]
+struct Block {
+    last: u64,
+    doc_width: u64,
+    count_width: u64,
+    strict: bool,
+    sum: Option<u64>,
+    start: u64,
+}
+
+impl Mode {
+    fn has_counts(self) -> bool {
+        self != Mode::Documents
+    }
+
+    fn has_positions(self) -> bool {
+        self == Mode::Positions
+    }
+}
+
+/// Reads a list of so many documents.
+pub fn read_list(
+    alloc: Global,
+    doc_freq: u32,
+    postings: &[u8],
+    positions: Option<&[u8]>,
+    recorded: Mode,
+    requested: Mode,
+) -> Result<Result<Listed, Damage>, AllocError> {
+    let mut list = Listed {
+        docs: Vec::new(alloc),
+        counts: None,
+        positions: None,
+    };
+    let wanted = recorded.has_counts() && requested.has_counts();
+    let (reads_counts, refused) =
+        read_postings(alloc, u64::from(doc_freq), postings, recorded, wanted, &mut list)?;
+    if let Some(damage) = refused {
+        return Ok(Err(damage));
+    }
+    if let (true, true, Some(bytes)) = (
+        reads_counts && recorded.has_positions(),
+        requested.has_positions(),
+        positions,
+    ) {
+        match read_positions(alloc, bytes, list.counts.as_ref())? {
+            Some(found) => list.positions = Some(found),
+            None => return Ok(Err(Damage::Positions)),
+        }
+    }
+    Ok(Ok(list))
+}
+
+// Reads documents and counts; the answer says whether counts are read, and what is damaged.
+fn read_postings(
+    alloc: Global,
+    doc_freq: u64,
+    postings: &[u8],
+    recorded: Mode,
+    wanted: bool,
+    list: &mut Listed,
+) -> Result<(bool, Option<Damage>), AllocError> {
+    let full = doc_freq / 128;
+    let mut blocks = Vec::new(alloc);
+    let mut start = 0u64;
+    let mut has_counts = recorded.has_counts();
+    if full > 0 {
+        let Some((len, after)) = vint_64(postings, 0) else {
+            return Ok((false, Some(Damage::Skip)));
+        };
+        let left = (postings.len() as u64).saturating_sub(after);
+        if len > left {
+            return Ok((false, Some(Damage::Skip)));
+        }
+        has_counts &= len >= full.saturating_mul(8);
+        start = after.saturating_add(len);
+        if !read_entries(postings, after, len, full, recorded, has_counts, &mut blocks)? {
+            return Ok((false, Some(Damage::Skip)));
+        }
+    }
+    let Some(mut end) = read_documents(postings, start, blocks.as_slice(), doc_freq % 128, &mut list.docs)? else {
+        return Ok((false, Some(Damage::Documents)));
+    };
+    if full == 0 {
+        has_counts &= end < postings.len() as u64;
+    }
+    if !has_counts || !wanted {
+        return Ok((false, None));
+    }
+    let mut counts = Vec::new(alloc);
+    let whole = read_counts(postings, start, blocks.as_slice(), &mut counts)?;
+    for _ in 0..doc_freq % 128 {
+        let Some((count, after)) = vint_32(postings, end) else {
+            return Ok((true, Some(Damage::Frequencies)));
+        };
+        counts.push(count)?;
+        end = after;
+    }
+    if !whole {
+        return Ok((true, Some(Damage::Frequencies)));
+    }
+    list.counts = Some(counts);
+    Ok((true, None))
+}
+
+// Reads the entries of a skip list; false where they aren't there.
+fn read_entries(
+    postings: &[u8],
+    start: u64,
+    len: u64,
+    full: u64,
+    recorded: Mode,
+    has_counts: bool,
+    blocks: &mut Vec<Block>,
+) -> Result<bool, AllocError> {
+    let size = if !has_counts {
+        5
+    } else if recorded.has_positions() {
+        12
+    } else {
+        8
+    };
+    if len < full.saturating_mul(size) {
+        return Ok(false);
+    }
+    let mut place = 0u64;
+    for i in 0..full {
+        let at = start.saturating_add(i.saturating_mul(size));
+        let Some(block) = read_entry(postings, at, size, place) else {
+            return Ok(false);
+        };
+        let bits = block.doc_width.saturating_add(block.count_width);
+        place = place.saturating_add(bits.saturating_mul(16));
+        if block.count_width > 32 {
+            return Ok(false);
+        }
+        blocks.push(block)?;
+    }
+    Ok(true)
+}
+
+// Reads an entry of so many bytes.
+fn read_entry(postings: &[u8], at: u64, size: u64, place: u64) -> Option<Block> {
+    let code = fixed(postings, at.saturating_add(4), 1)?;
+    let count_width = if size > 5 {
+        fixed(postings, at.saturating_add(5), 1)?
+    } else {
+        0
+    };
+    let sum = if size == 12 {
+        Some(fixed(postings, at.saturating_add(6), 4)?)
+    } else {
+        None
+    };
+    Some(Block {
+        last: fixed(postings, at, 4)?,
+        doc_width: code % 32,
+        count_width,
+        strict: code / 64 % 2 == 1,
+        sum,
+        start: place,
+    })
+}
+
+// Reads all documents, and answers the place after them; nothing where they aren't there or don't ascend.
+fn read_documents(
+    postings: &[u8],
+    start: u64,
+    blocks: &[Block],
+    others: u64,
+    docs: &mut Vec<u64>,
+) -> Result<Option<u64>, AllocError> {
+    let mut end = start;
+    let mut before = 0u64;
+    for block in blocks {
+        let at = start.saturating_add(block.start);
+        let mut doc = before;
+        for k in 0..128 {
+            let Some(delta) = entry(postings, at, block.doc_width, k) else {
+                return Ok(None);
+            };
+            doc = doc.saturating_add(delta);
+            if block.strict && !(k == 0 && before == 0) {
+                doc = doc.saturating_add(1);
+            }
+            docs.push(doc)?;
+        }
+        if doc != block.last {
+            return Ok(None);
+        }
+        before = doc;
+        let bits = block.doc_width.saturating_add(block.count_width);
+        end = at.saturating_add(bits.saturating_mul(16));
+    }
+    let mut doc = before;
+    for _ in 0..others {
+        let Some((delta, after)) = vint_32(postings, end) else {
+            return Ok(None);
+        };
+        doc = doc.saturating_add(delta);
+        docs.push(doc)?;
+        end = after;
+    }
+    Ok(if ascend(docs.as_slice()) { Some(end) } else { None })
+}
+
+// Whether documents ascend strictly, below the end.
+fn ascend(docs: &[u64]) -> bool {
+    let mut next = 0;
+    for doc in docs {
+        if *doc < next || *doc >= END {
+            return false;
+        }
+        next = doc.saturating_add(1);
+    }
+    true
+}
+
+// Reads the counts of full blocks; false where they aren't there, don't fit, or have another sum.
+fn read_counts(
+    postings: &[u8],
+    start: u64,
+    blocks: &[Block],
+    counts: &mut Vec<u64>,
+) -> Result<bool, AllocError> {
+    for block in blocks {
+        let docs = block.doc_width.saturating_mul(16);
+        let at = start.saturating_add(block.start).saturating_add(docs);
+        let mut sum = 0u64;
+        for k in 0..128 {
+            let Some(found) = entry(postings, at, block.count_width, k) else {
+                return Ok(false);
+            };
+            let count = found.saturating_add(u64::from(block.strict));
+            if count > u64::from(u32::MAX) {
+                return Ok(false);
+            }
+            sum = sum.saturating_add(count);
+            counts.push(count)?;
+        }
+        if block.sum.is_some_and(|told| told != sum) {
+            return Ok(false);
+        }
+    }
+    Ok(true)
+}
