@@ -1,5 +1,5 @@
 -- The state of a decoder.
-use Rattle.std.specs.Prelude.{◌≡◌, ℕ, zero, suc, List, replicate, Result, OnErr, IfErr}
+use Rattle.std.specs.Prelude.{◌≡◌, ℕ, zero, suc, List, replicate, Option, None, Some, Result, OnErr, IfErr}
 use Rattle.ii_io.specs.declared.faults.LayoutFault.{LayoutFault}
 use Rattle.ii_io.specs.declared.faults.LayoutFault.TheVariants.{Damaged}
 use Rattle.ii_io.specs.declared.faults.Part.{Part}
@@ -14,6 +14,11 @@ pub record BlockDecoderState : Type 0 where
 abbrev pub decodes_of : ℕ → ℕ
 decodes_of zero = 0
 decodes_of (suc n) = 1
+
+-- how many decodes are counted where so many values were read, or refused
+abbrev pub decodes_made : ℕ → Option ℕ → ℕ
+decodes_made n None = 0
+decodes_made n (Some used) = decodes_of n
 
 -- How a decode ends from bytes that hold no such row: that part is damaged, nothing is held, and it isn't counted.
 pub record ClearsOnDamage {A : Type 0} (part : Part) (old new : BlockDecoderState) (result : Result A LayoutFault) : Type 0 where

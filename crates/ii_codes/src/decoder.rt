@@ -1,8 +1,8 @@
-ghost use Rattle.std.specs.Prelude.{◌≡◌, ℕ, ◌+◌, ◌-◌, ◌*◌, ◌<◌, ◌≤◌, length, take, drop, replicate, slice_index, Some, None, IsSome, IfSome, IfOk, IfErr, OnOk, OnErr};
+ghost use Rattle.std.specs.Prelude.{◌≡◌, ℕ, ◌+◌, ◌-◌, ◌*◌, ◌<◌, ◌≤◌, length, take, drop, replicate, slice_index, Some, None, IsSome, IfNone, IfSome, IfOk, IfErr, OnOk, OnErr};
 ghost use Rattle.std.specs.List.Sorted.{IsNonDecreasing};
 ghost use Rattle.std.specs.Option.{option_map};
 ghost use Rattle.ii_codes.specs.Blocks.{sorted_block_at, unsorted_block_at};
-ghost use Rattle.ii_codes.specs.BlockDecoder.{BlockDecoderState, decodes_of, ClearsOnDamage};
+ghost use Rattle.ii_codes.specs.BlockDecoder.{BlockDecoderState, decodes_made, decodes_of, ClearsOnDamage};
 ghost use Rattle.ii_codes.specs.Search.{count_below};
 ghost use Rattle.ii_codes.specs.SortedVints.{sorted_vints_at};
 ghost use Rattle.ii_codes.specs.UnsortedVints.{u32s_until_end};
@@ -99,7 +99,14 @@ impl BlockDecoder {
         ensures refused { OnErr result (sorted_vints_at offset num_els compressed_data.now ≡ None) }
         ensures cleared { ClearsOnDamage Part.Documents self.old self.new result }
     {
-        let read = read_sorted_row(compressed_data, offset, num_els, padding, &mut self.output);
+        let read = read_sorted_row(
+            compressed_data,
+            offset,
+            num_els,
+            padding,
+            &mut self.output,
+            &mut self.decodes,
+        );
         self.finish(read, num_els, Part::Documents)
     }
 
@@ -121,7 +128,13 @@ impl BlockDecoder {
         ensures refused { OnErr result (u32s_at num_els compressed_data.now ≡ None) }
         ensures cleared { ClearsOnDamage Part.Frequencies self.old self.new result }
     {
-        let read = read_unsorted_row(compressed_data, num_els, padding, &mut self.output);
+        let read = read_unsorted_row(
+            compressed_data,
+            num_els,
+            padding,
+            &mut self.output,
+            &mut self.decodes,
+        );
         self.finish(read, num_els, Part::Frequencies)
     }
 
@@ -137,7 +150,7 @@ impl BlockDecoder {
         ensures refused { OnErr result (u32s_until_end 128 compressed_data.now ≡ None) }
         ensures cleared { ClearsOnDamage Part.Positions self.old self.new result }
     {
-        let read = vint::try_uncompress_unsorted_until_end(compressed_data, &mut self.output);
+        let read = read_until_end(compressed_data, &mut self.output, &mut self.decodes);
         let num_els = read.unwrap_or(0);
         self.finish(read, num_els, Part::Positions)?;
         Ok(())
@@ -192,6 +205,7 @@ impl BlockDecoder {
             num_bits,
             strict_delta,
             &mut self.output,
+            &mut self.decodes,
         );
         self.finish(read, COMPRESSION_BLOCK_SIZE, Part::Documents)
     }
@@ -241,12 +255,13 @@ impl BlockDecoder {
             num_bits,
             minus_one_encoded,
             &mut self.output,
+            &mut self.decodes,
         );
         self.finish(read, COMPRESSION_BLOCK_SIZE, Part::Frequencies)
     }
 
-    // Ends a decode of so many values into the output: counts it, or clears what it left where the
-    // part is damaged.
+    // Ends a decode of so many values into the output, or clears what it left where the part is
+    // damaged.
     fn finish(
         &mut self,
         read: Option<usize>,
@@ -258,7 +273,7 @@ impl BlockDecoder {
         ensures none { OnErr result (read ≡ None) }
         ensures output { OnOk result (self.new.output ≡ self.old.output) }
         ensures len { OnOk result (self.new.output_len ≡ num_els) }
-        ensures decodes { OnOk result (self.new.decodes ≡ self.old.decodes + decodes_of num_els) }
+        ensures decodes { OnOk result (self.new.decodes ≡ self.old.decodes) }
         ensures cleared { ClearsOnDamage part self.old self.new result }
     {
         let Some(used) = read else {
@@ -267,20 +282,27 @@ impl BlockDecoder {
             return Err(LayoutFault::Damaged(part));
         };
         self.output_len = num_els;
-        if num_els > 0 {
-            self.decodes = self.decodes.next();
-        }
         Ok(used)
     }
 }
 
-// Puts a row of sorted values in front of the output and the padding after them.
+// Counts a decode of so many values, if there are any.
+fn count(num_els: usize, decodes: &mut Tally)
+    ensures { decodes.new.value ≡ decodes.old.value + decodes_of num_els }
+{
+    if num_els > 0 {
+        *decodes = decodes.next();
+    }
+}
+
+// Puts a row of sorted values in front of the output and the padding after them, and counts it.
 fn read_sorted_row(
     compressed_data: &[u8],
     offset: u32,
     num_els: usize,
     padding: u32,
     output: &mut [u32],
+    decodes: &mut Tally,
 ) -> Option<usize>
     requires few { num_els ≤ 128 }
     requires room { length output.old ≡ 128 }
@@ -288,10 +310,15 @@ fn read_sorted_row(
         ≡ sorted_vints_at offset num_els compressed_data.now }
     ensures within { IfSome result (λ used. used ≤ length compressed_data.now) }
     ensures padded { drop num_els output.new ≡ replicate (128 - num_els) padding }
+    ensures counted { decodes.new.value ≡ decodes.old.value + decodes_made num_els result }
 {
     let (values, others) = output.split_at_mut(num_els);
     others.fill(padding);
-    vint::try_uncompress_sorted(compressed_data, values, offset)
+    let Some(used) = vint::try_uncompress_sorted(compressed_data, values, offset) else {
+        return None;
+    };
+    count(num_els, decodes);
+    Some(used)
 }
 
 // The same for values in any order.
@@ -300,6 +327,7 @@ fn read_unsorted_row(
     num_els: usize,
     padding: u32,
     output: &mut [u32],
+    decodes: &mut Tally,
 ) -> Option<usize>
     requires few { num_els ≤ 128 }
     requires room { length output.old ≡ 128 }
@@ -307,10 +335,30 @@ fn read_unsorted_row(
         ≡ u32s_at num_els compressed_data.now }
     ensures within { IfSome result (λ used. used ≤ length compressed_data.now) }
     ensures padded { drop num_els output.new ≡ replicate (128 - num_els) padding }
+    ensures counted { decodes.new.value ≡ decodes.old.value + decodes_made num_els result }
 {
     let (values, others) = output.split_at_mut(num_els);
     others.fill(padding);
-    vint::try_uncompress_unsorted(compressed_data, values)
+    let Some(used) = vint::try_uncompress_unsorted(compressed_data, values) else {
+        return None;
+    };
+    count(num_els, decodes);
+    Some(used)
+}
+
+// The same for values until the bytes end, at most 128. Answers how many these are.
+fn read_until_end(compressed_data: &[u8], output: &mut [u32], decodes: &mut Tally) -> Option<usize>
+    requires { length output.old ≡ 128 }
+    ensures read { option_map (λ n. take n output.new) result ≡ u32s_until_end 128 compressed_data.now }
+    ensures few { IfSome result (λ n. n ≤ 128) }
+    ensures counted { IfSome result (λ n. decodes.new.value ≡ decodes.old.value + decodes_of n) }
+    ensures refused { IfNone result (decodes.new.value ≡ decodes.old.value) }
+{
+    let Some(num_els) = vint::try_uncompress_unsorted_until_end(compressed_data, output) else {
+        return None;
+    };
+    count(num_els, decodes);
+    Some(num_els)
 }
 
 impl Clone for BlockDecoder {

@@ -6,10 +6,12 @@ ghost use Rattle.std.specs.Option.{option_map};
 ghost use Rattle.std.specs.Int.{bytes_low_first};
 ghost use Rattle.ii_codes.specs.Packed.{bits_in, unpacked, packed, least_width, IsPackedUpTo, HoldsWhatIsUnpacked, HoldsWhatIsPacked, HoldsFromLeastWidth};
 ghost use Rattle.ii_codes.specs.Blocks.{gap_of, least_first, raised, values_from, sorted_entries, unsorted_values, unsorted_entries, sorted_block_at, unsorted_block_at, sorted_width, sorted_bytes, unsorted_width, unsorted_bytes, ReadsSortedBlocks, ReadsUnsortedBlocks};
+ghost use Rattle.ii_codes.specs.BlockDecoder.{decodes_made};
 ghost use Rattle.ii_codes.specs.Sums.{fit_u32};
 
 use super::{COMPRESSION_BLOCK_SIZE, compressed_block_size};
 use byteorder::{ByteOrder, LittleEndian};
+use ii_io::Tally;
 use lanes::{sorted_narrow, sorted_wide, sum_narrow, sum_wide, unpack_narrow, unpack_wide};
 
 mod lanes;
@@ -542,18 +544,20 @@ pub(crate) fn pack_unsorted(block: &[u32], minus_one: bool, output: &mut [u8]) -
 
 /// Puts the values of the sorted block of `width` bits that `bytes` begin with into `output`, and
 /// answers how many bytes it has. `None` where the width is above 32, bytes are missing or a value passes
-/// `u32::MAX`; nothing is then known of `output`.
+/// `u32::MAX`; nothing is then known of `output`. What was unpacked is counted.
 pub(crate) fn unpack_sorted(
     bytes: &[u8],
     offset: u32,
     width: u8,
     strict: bool,
     output: &mut [u32],
+    decodes: &mut Tally,
 ) -> Option<usize>
     requires { length output.old ≡ 128 }
     ensures value { option_map (λ used. (output.new, drop used bytes.now)) result ≡ sorted_block_at strict offset width bytes.now }
     ensures used { IfSome result (λ used. used ≡ 16 * width) }
     ensures within { IfSome result (λ used. used ≤ length bytes.now) }
+    ensures counted { decodes.new.value ≡ decodes.old.value + decodes_made 128 result }
 {
     if width > 32 {
         return None;
@@ -564,6 +568,7 @@ pub(crate) fn unpack_sorted(
     }
     let least = least_first(strict, offset);
     if sorted_values(bytes, width, gap_of(strict), least, output) {
+        *decodes = decodes.next();
         Some(size)
     } else {
         None
@@ -573,17 +578,19 @@ pub(crate) fn unpack_sorted(
 /// Puts the values of the unsorted block of `width` bits that `bytes` begin with into `output`, one
 /// more than each entry where `minus_one` is set, and answers how many bytes it has. `None` where
 /// the width is above 32, bytes are missing or a value passes `u32::MAX`; nothing is then known of
-/// `output`.
+/// `output`. What was unpacked is counted.
 pub(crate) fn unpack_unsorted(
     bytes: &[u8],
     width: u8,
     minus_one: bool,
     output: &mut [u32],
+    decodes: &mut Tally,
 ) -> Option<usize>
     requires { length output.old ≡ 128 }
     ensures value { option_map (λ used. (output.new, drop used bytes.now)) result ≡ unsorted_block_at minus_one width bytes.now }
     ensures used { IfSome result (λ used. used ≡ 16 * width) }
     ensures within { IfSome result (λ used. used ≤ length bytes.now) }
+    ensures counted { decodes.new.value ≡ decodes.old.value + decodes_made 128 result }
 {
     if width > 32 {
         return None;
@@ -594,14 +601,21 @@ pub(crate) fn unpack_unsorted(
     }
     if !minus_one {
         unpack(bytes, width, 0, output);
+        *decodes = decodes.next();
         return Some(size);
     }
     if width < 32 {
         unpack(bytes, width, 1, output);
+        *decodes = decodes.next();
         return Some(size);
     }
     unpack(bytes, width, 0, output);
-    if add_one(output) { Some(size) } else { None }
+    if add_one(output) {
+        *decodes = decodes.next();
+        Some(size)
+    } else {
+        None
+    }
 }
 
 /// The law of packed bytes: bytes hold the entries that are unpacked from them and no others, and

@@ -1,9 +1,9 @@
 -- Laws of calls that are made one after the other.
-use Rattle.std.proofs.Common.{◌≡◌, ℕ, ◌+◌, ◌<◌, Bool, List, [], ◌∷◌, ◌++◌, length, take, drop, map, get_or, refl, sym, ap, ◌∙◌}
+use Rattle.std.proofs.Common.{◌≡◌, ℕ, zero, suc, ◌+◌, ◌<◌, ◌≤◌, Bool, List, [], ◌∷◌, ◌++◌, length, take, drop, map, get_or, refl, sym, ap, ◌∙◌, arith}
 use Rattle.std.proofs.lemmas.List.{append_assoc, drop_more, length-append, map-append, take_more}
 use Rattle.ii_docset.specs.declared.calls.CursorAnswer.{CursorAnswer}
 use Rattle.ii_docset.specs.declared.calls.CursorCall.{CursorCall}
-use Rattle.ii_docset.specs.Calls.{IsLawful, answer_of, answer_to, answers_to, rest_after, rest_after_call}
+use Rattle.ii_docset.specs.Calls.{IsLawful, answer_of, answer_to, answers_to, asked_by, count_asked, counts_asked, num_asked, rest_after, rest_after_call}
 use Rattle.ii_docset.specs.Entries.{Entry}
 
 -- So many calls were made of a cursor, and answered so; it stands here.
@@ -47,3 +47,38 @@ walks_on calls one es i d answers answer here next w within is goes =
 pub may_walk : (calls : List CursorCall) (one : Bool) (es : List Entry) (i : ℕ) (d : CursorCall) (answers : List CursorAnswer) (here : List Entry)
     → IsWalking calls one es i answers here → i < length calls → IsLawful (get_or calls i d ∷ drop (i + 1) calls) one here
 may_walk calls one es i d answers here w within = rw (drop_more calls i d within) at w.lawful
+
+-- what one call more asks for
+asked_push : (calls : List CursorCall) (call : CursorCall) → num_asked (calls ++ call ∷ []) ≡ num_asked calls + asked_by call
+asked_push [] call = omega arith
+asked_push (c ∷ cs) call = let later = asked_push cs call in omega arith
+
+counts_push : (calls : List CursorCall) (call : CursorCall) (one : Bool) (es : List Entry) → counts_asked (calls ++ call ∷ []) one es ≡ counts_asked calls one es + count_asked call one (rest_after calls es)
+counts_push [] call one es = omega arith
+counts_push (c ∷ cs) call one es = let later = counts_push cs call one (rest_after_call c es) in omega arith
+
+next_asked : (calls : List CursorCall) (i : ℕ) (d : CursorCall) → i < length calls → num_asked (take i calls) + asked_by (get_or calls i d) ≡ num_asked (take (i + 1) calls)
+next_asked calls i d within = sym (ap num_asked (take_more calls i d within) ∙ asked_push (take i calls) (get_or calls i d))
+
+next_counts : (calls : List CursorCall) (one other : Bool) (i : ℕ) (d : CursorCall) (es here : List Entry) → i < length calls → other ≡ one → here ≡ rest_after (take i calls) es
+    → counts_asked (take i calls) one es + count_asked (get_or calls i d) other here ≡ counts_asked (take (i + 1) calls) one es
+next_counts calls one other i d es here within same is =
+    (λ j. counts_asked (take i calls) one es + count_asked (get_or calls i d) (same j) (is j))
+    ∙ sym (ap (λ (cs : List CursorCall). counts_asked cs one es) (take_more calls i d within) ∙ counts_push (take i calls) (get_or calls i d) one es)
+
+pub spent_next : (spent : ℕ → ℕ → Type 0) (calls : List CursorCall) (one other : Bool) (i : ℕ) (d : CursorCall) (es here : List Entry) → i < length calls → other ≡ one → here ≡ rest_after (take i calls) es
+    → spent (num_asked (take i calls) + asked_by (get_or calls i d)) (counts_asked (take i calls) one es + count_asked (get_or calls i d) other here)
+    → spent (num_asked (take (i + 1) calls)) (counts_asked (take (i + 1) calls) one es)
+spent_next spent calls one other i d es here within same is did =
+    rw (← next_asked calls i d within, ← next_counts calls one other i d es here within same is) did
+
+-- calls from the front ask for no more than all
+pub asked_part : (i : ℕ) (calls : List CursorCall) → num_asked (take i calls) ≤ num_asked calls
+asked_part zero calls = omega arith
+asked_part (suc i) [] = omega arith
+asked_part (suc i) (c ∷ cs) = let later = asked_part i cs in omega arith
+
+pub counts_part : (i : ℕ) (calls : List CursorCall) (one : Bool) (es : List Entry) → counts_asked (take i calls) one es ≤ counts_asked calls one es
+counts_part zero calls one es = omega arith
+counts_part (suc i) [] one es = omega arith
+counts_part (suc i) (c ∷ cs) one es = let later = counts_part i cs one (rest_after_call c es) in omega arith

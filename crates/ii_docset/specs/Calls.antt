@@ -63,3 +63,29 @@ answers_to (call ∷ calls) one es = answer_to call one es ∷ answers_to calls 
 abbrev pub rest_after : List CursorCall → List Entry → List Entry
 rest_after [] es = es
 rest_after (call ∷ calls) es = rest_after calls (rest_after_call call es)
+
+-- how often a call asks for positions
+abbrev pub asked_by : CursorCall → ℕ
+asked_by call.Doc = 0
+asked_by call.Advance = 0
+asked_by (call.Seek target) = 0
+asked_by call.TermFreq = 0
+asked_by (call.Positions offset) = 1
+
+-- the count of the document whose positions a call asks for
+abbrev pub count_asked : CursorCall → Bool → List Entry → ℕ
+count_asked call.Doc one es = 0
+count_asked call.Advance one es = 0
+count_asked (call.Seek target) one es = 0
+count_asked call.TermFreq one es = 0
+count_asked (call.Positions offset) one es = term_freq_at one es
+
+-- how many of the calls ask for positions
+abbrev pub num_asked : List CursorCall → ℕ
+num_asked [] = 0
+num_asked (call ∷ calls) = asked_by call + num_asked calls
+
+-- the counts of the documents whose positions calls ask for, together
+abbrev pub counts_asked : List CursorCall → Bool → List Entry → ℕ
+counts_asked [] one es = 0
+counts_asked (call ∷ calls) one es = count_asked call one es + counts_asked calls one (rest_after_call call es)

@@ -1,5 +1,5 @@
 -- A cursor is the rest of a list of entries.
-use Rattle.std.specs.Prelude.{◌≡◌, ◌≢◌, ℕ, ◌^◌, ◌<◌, ◌≤◌, Bool, true, false, List, [], ◌∷◌, filter, nat_le, ⊤}
+use Rattle.std.specs.Prelude.{◌≡◌, ◌≢◌, ℕ, ◌+◌, ◌^◌, ◌<◌, ◌≤◌, Bool, true, false, List, [], ◌∷◌, filter, nat_le, ⊤}
 use Rattle.std.specs.List.{All}
 use Rattle.ii_docset.specs.declared.docset.TheConstants.{TERMINATED}
 use Rattle.ii_docset.specs.declared.docset.SeekDangerResult.{SeekDangerResult}
@@ -43,6 +43,11 @@ abbrev pub term_freq_at : Bool → List Entry → ℕ
 term_freq_at true es = 1
 term_freq_at false [] = 1
 term_freq_at false (e ∷ es) = e.term_freq
+
+-- the counts of all documents that are left, together
+abbrev pub counts_of : Bool → List Entry → ℕ
+counts_of one [] = 0
+counts_of one (e ∷ es) = term_freq_at one (e ∷ es) + counts_of one es
 
 -- the positions of the current document
 abbrev pub positions_at : List Entry → List ℕ

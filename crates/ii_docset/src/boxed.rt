@@ -54,6 +54,14 @@ impl<T: DocSet> DocSet for Box<T> {
 }
 
 impl<T: Postings> Postings for Box<T> {
+    ghost spent = { λ k m a b. T.spent k m a.value b.value };
+
+    ghost spent_moving = { λ a b moved. T.spent_moving a.value b.value moved };
+
+    ghost spent_more = { λ k m l n a b few low did. T.spent_more k m l n a.value b.value few low did };
+
+    ghost spent_on = { λ k m l n a b c first second. T.spent_on k m l n a.value b.value c.value first second };
+
     fn term_freq(&self) -> u32 {
         (**self).term_freq()
     }
@@ -174,6 +182,12 @@ impl DocSet for Box<dyn Postings> {
 }
 
 impl Postings for Box<dyn Postings> {
+    ghost spent_moving = { λ a b moved. tt };
+
+    ghost spent_more = { λ k m l n a b few low did. tt };
+
+    ghost spent_on = { λ k m l n a b c first second. tt };
+
     fn term_freq(&self) -> u32 {
         (**self).term_freq()
     }

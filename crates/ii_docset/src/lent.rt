@@ -60,6 +60,14 @@ impl<T: DocSet> DocSet for Lent<'_, T> {
 }
 
 impl<T: Postings> Postings for Lent<'_, T> {
+    ghost spent = { λ k m a b. T.spent k m a.inner.now b.inner.now };
+
+    ghost spent_moving = { λ a b moved. T.spent_moving a.inner.now b.inner.now moved };
+
+    ghost spent_more = { λ k m l n a b few low did. T.spent_more k m l n a.inner.now b.inner.now few low did };
+
+    ghost spent_on = { λ k m l n a b c first second. T.spent_on k m l n a.inner.now b.inner.now c.inner.now first second };
+
     fn term_freq(&self) -> u32 {
         self.inner.term_freq()
     }

@@ -1,4 +1,4 @@
-ghost use Rattle.std.specs.Prelude.{◌≡◌, ◌+◌, ◌<◌, ◌^◌, ◌⊎◌, ◌++◌, [], map, IsTrue, OnOk, OnErr};
+ghost use Rattle.std.specs.Prelude.{◌≡◌, ℕ, ◌+◌, ◌<◌, ◌≤◌, ◌^◌, ◌⊎◌, ◌++◌, ⊤, [], map, IsTrue, OnOk, OnErr};
 ghost use Rattle.std.specs.List.{All};
 ghost use Rattle.ii_io.specs.Faults.{OnlyMemory};
 ghost use Rattle.ii_docset.specs.Cursor.{IsCurrent, positions_at, term_freq_at};
@@ -11,6 +11,11 @@ use ii_base::Fault;
 /// Offsets are added to positions, and the sums have to lie below 2^32.
 #[tactic(auto, using(crate::proofs::CursorLemmas::positions_fit))]
 pub trait Postings: DocSet {
+    // What calls that took the cursor from one state to another may have done, as a bound on what was
+    // decoded: so many of them asked for positions, of documents with these counts together. It holds
+    // of moves, which ask for none, and of calls one after another, by the laws below.
+    ghost spent: { ℕ → ℕ → Self → Self → Type 0 } = { λ _ _ _ _. ⊤ };
+
     /// How often the term occurs in the current document, or 1 where counts aren't read. Where they
     /// are, there has to be a current document.
     fn term_freq(&self) -> u32
@@ -33,7 +38,7 @@ pub trait Postings: DocSet {
         ensures only { OnlyMemory result }
         ensures rest { Self.rest self.new ≡ Self.rest self.old }
         ensures kind { Self.always_one self.new ≡ Self.always_one self.old }
-        ensures work { Self.went self.old self.new };
+        ensures work { spent 1 (term_freq_at (Self.always_one self.old) (Self.rest self.old)) self.old self.new };
 
     /// Puts the positions of the current document, each plus `offset`, in place of what stands in
     /// `output`.
@@ -48,7 +53,7 @@ pub trait Postings: DocSet {
         ensures only { OnlyMemory result }
         ensures rest { Self.rest self.new ≡ Self.rest self.old }
         ensures kind { Self.always_one self.new ≡ Self.always_one self.old }
-        ensures work { Self.went self.old self.new }
+        ensures work { spent 1 (term_freq_at (Self.always_one self.old) (Self.rest self.old)) self.old self.new }
     {
         output.clear();
         self.append_positions_with_offset(offset, output)
@@ -65,10 +70,16 @@ pub trait Postings: DocSet {
         ensures only { OnlyMemory result }
         ensures rest { Self.rest self.new ≡ Self.rest self.old }
         ensures kind { Self.always_one self.new ≡ Self.always_one self.old }
-        ensures work { Self.went self.old self.new }
+        ensures work { spent 1 (term_freq_at (Self.always_one self.old) (Self.rest self.old)) self.old self.new }
     {
         // The current document tells that its positions have 32 bits.
         let _doc = self.doc();
         self.positions_with_offset(0, output)
     }
+
+    ghost spent_moving: { (a b : Self) → Self.went a b → spent 0 0 a b };
+
+    ghost spent_more: { (k m l n : ℕ) (a b : Self) → k ≤ l → m ≤ n → spent k m a b → spent l n a b };
+
+    ghost spent_on: { (k m l n : ℕ) (a b c : Self) → spent k m a b → spent l n b c → spent (k + l) (m + n) a c };
 }

@@ -1,7 +1,7 @@
 ghost use Rattle.std.specs.Prelude.{◌≡◌, ◌↔◌, ◌<◌, ◌++◌, [], ◌∷◌, take, length, IfOk, IsTrue, OnErr, OnOk};
 ghost use Rattle.std.specs.Vec.{vec_capacity, vec_len};
 ghost use Rattle.ii_io.specs.Faults.{OnlyMemory};
-ghost use Rattle.ii_docset.specs.Calls.{IsAllowed, IsLawful, answer_of, answer_to, answers_in, answers_to, rest_after_call, rest_after};
+ghost use Rattle.ii_docset.specs.Calls.{IsAllowed, IsLawful, answer_of, answer_to, answers_in, answers_to, asked_by, count_asked, counts_asked, num_asked, rest_after_call, rest_after};
 
 use crate::calls::{CursorAnswer, CursorCall, Walk};
 use crate::postings::Postings;
@@ -22,7 +22,7 @@ pub fn walk<P: Postings>(alloc: Global, cursor: &mut P, calls: &[CursorCall]) ->
     ensures rest { IsTrue result.complete → P.rest cursor.new ≡ rest_after calls.now (P.rest cursor.old) }
     ensures left { P.rest cursor.new ≡ rest_after (take (length (answers_in result)) calls.now) (P.rest cursor.old) }
     ensures kind { P.always_one cursor.new ≡ P.always_one cursor.old }
-    ensures work { P.went cursor.old cursor.new }
+    ensures work { P.spent (num_asked calls.now) (counts_asked calls.now (P.always_one cursor.old) (P.rest cursor.old)) cursor.old cursor.new }
 {
     let mut answers = Vec::new(alloc);
     for call in calls {
@@ -70,7 +70,7 @@ fn make_call<P: Postings>(
     ensures rest { OnOk result (P.rest cursor.new ≡ rest_after_call call (P.rest cursor.old)) }
     ensures stays { OnErr result (P.rest cursor.new ≡ P.rest cursor.old) }
     ensures kind { P.always_one cursor.new ≡ P.always_one cursor.old }
-    ensures work { P.went cursor.old cursor.new }
+    ensures work { P.spent (asked_by call) (count_asked call (P.always_one cursor.old) (P.rest cursor.old)) cursor.old cursor.new }
 {
     match call {
         CursorCall::Doc => Ok(CursorAnswer::Doc(cursor.doc())),

@@ -14,7 +14,7 @@ use Rattle.ii_codes.specs.UnsortedVints.{u32s_until_end}
 use Rattle.ii_codes.proofs.BlockLemmas.{not_raised, unsorted-wide, unsorted-short, unsorted-plain}
 use Rattle.ii_layout.specs.Each.{each}
 use Rattle.ii_layout.specs.Positions.{PositionList, position_list, place_by_widths, block_deltas, rest_deltas, position_deltas}
-use Rattle.ii_layout.specs.PositionReader.{deltas_of, list_at, AreAnchors, anchored, rest_at, deltas_at_block, KeepsBlock}
+use Rattle.ii_layout.specs.PositionReader.{deltas_of, list_at, AreAnchors, anchored, rest_at, deltas_at_block, KeepsBlock, LieInBlock, block_kept}
 use Rattle.ii_layout.specs.Written.{block_of}
 use Rattle.ii_layout.proofs.DocumentLemmas.{each_gives, AreWhole, length-concat, concat_block, last_block}
 use Rattle.ii_layout.proofs.FrequencyLemmas.{block_fits}
@@ -409,6 +409,9 @@ part_of_block deltas offset block start done n place few =
 length-block : (deltas : List ℕ) (block : ℕ) → length (block_of deltas block) ≡ min 128 (length deltas - 128 * block)
 length-block deltas block = length-take 128 (drop (128 * block) deltas) ∙ ap (min 128) (length-drop (128 * block) deltas)
 
+pub block_few : (deltas held : List ℕ) (block : ℕ) → held ≡ block_of deltas block → length held ≤ 128
+block_few deltas held block held_is = let size = ap length held_is ∙ length-block deltas block in omega arith
+
 -- the next delta is in its block
 pub starts_within : (deltas held output : List ℕ) (before offset count decodes block start done : ℕ) → ReadsPart deltas before offset count output decodes block start done → done < count → held ≡ block_of deltas block → start < length held
 starts_within deltas held output before offset count decodes block start done r h held_is =
@@ -441,3 +444,47 @@ reads_more deltas held output new before offset count decodes more block start d
       spent = omega arith;
       kept = omega arith;
     }
+
+-- What is known of the block that a reader keeps, and of its decodes, while it reads so many deltas from a place on, of which some are done. At first it held a block after other decodes.
+pub record KeepsReading (held before kept decodes offset count done : ℕ) : Type 0 where
+  pub none : done ≡ 0 → kept ≡ held
+  pub from : 0 < done → 128 * kept < offset + done
+  pub to : 0 < done → offset + done ≤ 128 * kept + 128
+  pub same : LieInBlock held offset count → decodes ≡ before
+
+pub keeps_begun : (held before offset count : ℕ) → KeepsReading held before held before offset count 0
+keeps_begun held before offset count = record { none = λ e. refl; from = λ some. absurd (omega arith); to = λ some. absurd (omega arith); same = λ lie. refl }
+
+loads_here : (held before kept decodes offset count block start done : ℕ) → KeepsReading held before kept decodes offset count done → LieInBlock held offset count → 128 * block + start ≡ offset + done → start < 128 → done < count → block ≡ kept
+loads_here held before kept decodes offset count block start zero k lie place low left =
+    let same = k.none refl in
+    let from = lie.from in
+    let to = lie.to in
+    omega arith
+loads_here held before kept decodes offset count block start (suc done) k lie place low left =
+    let begin = k.from (omega arith) in
+    let end = k.to (omega arith) in
+    let from = lie.from in
+    let to = lie.to in
+    omega arith
+
+pub keeps_more : (held before kept decodes offset count block start done next more n size : ℕ) → KeepsReading held before kept decodes offset count done → 128 * block + start ≡ offset + done → start < 128 → done < count
+    → next ≡ block → (kept ≡ block → more ≡ decodes) → n ≡ min (size - start) (count - done) → start < size → size ≤ 128 → KeepsReading held before next more offset count (done + n)
+keeps_more held before kept decodes offset count block start done next more n size k place low left at stays n_is some few = record {
+  none = λ e. absurd (omega arith);
+  from = λ on. omega arith;
+  to = λ on. omega arith;
+  same = λ lie. stays (sym (loads_here held before kept decodes offset count block start done k lie place low left)) ∙ k.same lie;
+}
+
+kept_cases : (held before kept decodes offset count : ℕ) → KeepsReading held before kept decodes offset count count → kept ≡ block_kept held offset count
+kept_cases held before kept decodes offset zero k = k.none refl
+kept_cases held before kept decodes offset (suc n) k =
+    let from = k.from (omega arith) in
+    let to = k.to (omega arith) in
+    omega arith
+
+pub keeps_all : (held before kept decodes offset count done : ℕ) → KeepsReading held before kept decodes offset count done → count ≤ done → done ≤ count → kept ≡ block_kept held offset count
+keeps_all held before kept decodes offset count done k most some =
+    let same : done ≡ count = omega arith in
+    kept_cases held before kept decodes offset count (rw same at k)

@@ -1,21 +1,32 @@
 -- A reader of the positions of a term: the deltas that its bytes hold, and the block of them that it keeps.
-use Rattle.std.specs.Prelude.{◌≡◌, ℕ, ◌+◌, ◌-◌, ◌*◌, ◌<◌, ◌≤◌, if◌then◌else◌, List, [], length, drop, slice_index, slice_set, nat_lt, ◌==◌, ◌%◌, ◌/◌, Option, unwrap_or, Some}
+use Rattle.std.specs.Prelude.{◌≡◌, ℕ, zero, suc, ◌+◌, ◌-◌, ◌*◌, ◌<◌, ◌≤◌, if◌then◌else◌, List, [], length, drop, slice_index, slice_set, nat_lt, ◌==◌, ◌%◌, ◌/◌, Option, unwrap_or, Some}
 use Rattle.std.specs.List.{slice_range}
 use Rattle.ii_io.specs.Steps.{◌>>=◌, needs}
 use Rattle.ii_codes.specs.UnsortedVints.{u32s_until_end}
 use Rattle.ii_layout.specs.Positions.{PositionList, position_list, place_by_widths, block_deltas, rest_deltas, position_deltas}
 use Rattle.ii_layout.specs.Written.{block_of}
 
--- The deltas that the bytes hold, and how many blocks were decoded.
+-- The deltas that the bytes hold, which block of them is kept, and how many blocks were decoded.
 pub record PositionReaderState : Type 0 where
   pub deltas : List ℕ
+  pub block : ℕ
   pub decodes : ℕ
 
--- The same with the block that is kept.
+-- The same of its blocks.
 pub record PositionBlocksState : Type 0 where
   pub deltas : List ℕ
   pub block : ℕ
   pub decodes : ℕ
+
+-- So many deltas from a place on lie in one block.
+pub record LieInBlock (block offset count : ℕ) : Type 0 where
+  pub from : 128 * block ≤ offset
+  pub to : offset + count ≤ 128 * block + 128
+
+-- the block that is kept after so many deltas from a place on were read: that of the last of them
+abbrev pub block_kept : ℕ → ℕ → ℕ → ℕ
+block_kept before offset zero = before
+block_kept before offset (suc n) = (offset + n) / 128
 
 -- the deltas that bytes hold, or none where they hold no such list
 unfoldable pub deltas_of : List ℕ → List ℕ

@@ -189,12 +189,18 @@ pub(crate) fn entry_size(skip_info: IndexRecordOption) -> usize
     }
 }
 
-// The last document of the entry at the front, and what it tells of its block.
-fn read_entry(bytes: &[u8], skip_info: IndexRecordOption) -> (DocId, BlockInfo)
+// The last document of the entry at the front, and what it tells of its block. It is counted.
+fn read_entry(
+    bytes: &[u8],
+    skip_info: IndexRecordOption,
+    entries_read: &mut Tally,
+) -> (DocId, BlockInfo)
     requires { entry_size skip_info ≤ length bytes.now }
     ensures last_doc { result.0 ≡ (entry_at skip_info bytes.now).last_doc }
     ensures info { result.1 ≡ block_info_of (entry_at skip_info bytes.now) }
+    ensures counted { entries_read.new.value ≡ entries_read.old.value + 1 }
 {
+    *entries_read = entries_read.next();
     let last_doc = LittleEndian::read_u32(bytes);
     let (doc_num_bits, strict_delta_encoded) = decode_bitwidth(bytes[4]);
     match skip_info {
@@ -239,13 +245,15 @@ pub(crate) fn read_entry_at(
     skip_data: &[u8],
     skip_info: IndexRecordOption,
     block: u32,
+    entries_read: &mut Tally,
 ) -> (DocId, BlockInfo)
     requires { entry_size skip_info * (block + 1) ≤ length skip_data.now }
     ensures last_doc { result.0 ≡ (entry_at skip_info (drop (entry_size skip_info * block) skip_data.now)).last_doc }
     ensures info { result.1 ≡ block_info_of (entry_at skip_info (drop (entry_size skip_info * block) skip_data.now)) }
+    ensures counted { entries_read.new.value ≡ entries_read.old.value + 1 }
 {
     let start = entry_size(skip_info) * block as usize;
-    read_entry(&skip_data[start..], skip_info)
+    read_entry(&skip_data[start..], skip_info, entries_read)
 }
 
 // How many bytes a full block takes.
@@ -330,10 +338,9 @@ impl SkipReader {
             entries_read: Tally::new(),
         };
         if doc_freq >= 128 {
-            let (last_doc, info) = read_entry(skip_data, skip_info);
+            let (last_doc, info) = read_entry(skip_data, skip_info, &mut reader.entries_read);
             reader.last_doc_in_block = last_doc;
             reader.block_info = info;
-            reader.entries_read = reader.entries_read.next();
         }
         reader
     }
@@ -375,10 +382,14 @@ impl SkipReader {
             };
             return;
         }
-        let (last_doc, info) = read_entry_at(skip_data, self.skip_info, self.block);
+        let (last_doc, info) = read_entry_at(
+            skip_data,
+            self.skip_info,
+            self.block,
+            &mut self.entries_read,
+        );
         self.last_doc_in_block = last_doc;
         self.block_info = info;
-        self.entries_read = self.entries_read.next();
     }
 
     /// Goes on to the first block, from the current one on, whose last document isn't below `target`,

@@ -1,22 +1,22 @@
 // A cursor over a term: what it answers, and how often it decodes.
-ghost use Rattle.std.specs.Prelude.{◌≡◌, ◌+◌, ◌/◌, ◌^◌, ◌<◌, ◌≤◌, ◌++◌, ◌↔◌, drop, length, map, min, not, take, Ok, Err, IfOk, IfErr, IsTrue, OnOk, OnErr};
+ghost use Rattle.std.specs.Prelude.{◌≡◌, ◌+◌, ◌*◌, ◌/◌, ◌^◌, ◌<◌, ◌≤◌, ◌++◌, ◌↔◌, [], drop, length, map, min, not, take, Ok, Err, IfOk, IfErr, IsTrue, OnOk, OnErr};
 ghost use Rattle.std.specs.List.{All};
 ghost use Rattle.ii_io.specs.Parts.{part_of};
-ghost use Rattle.ii_docset.specs.Calls.{IsLawful, answers_in, answers_to, rest_after};
-ghost use Rattle.ii_docset.specs.Cursor.{IsTarget, doc_at, from_doc, positions_at, term_freq_at};
+ghost use Rattle.ii_docset.specs.Calls.{IsLawful, answers_in, answers_to, counts_asked, num_asked, rest_after};
+ghost use Rattle.ii_docset.specs.Cursor.{IsDangerAnswer, IsTarget, doc_at, from_doc, positions_at, term_freq_at};
 ghost use Rattle.ii_layout.specs.TermList.{term_list};
 ghost use Rattle.ii_check.specs.CheckedPostings.{is_read};
 
 use bytes::Bytes;
 use nequllpa::{
-    CursorCall, DocId, DocSet, Fault, IndexRecordOption, LayoutFault, Postings, SegmentPostings,
-    Walk, walk,
+    COLLECT_BLOCK_BUFFER_LEN, CursorCall, DocId, DocSet, Fault, IndexRecordOption, LayoutFault,
+    Lent, LoadedPostings, Postings, SeekDangerResult, SegmentPostings, Walk, walk,
 };
 use std::alloc::Global;
 
 /// Any bytes open exactly where the layout relation gives a list, as that list; else the first part that
-/// fails is named. At most one block was decoded of documents, of counts and of positions, and one skip
-/// entry was read.
+/// fails is named. All its documents are left. At most one block was decoded of documents, of counts and of
+/// positions, and one skip entry was read.
 pub fn any_bytes_open_as_their_list(
     doc_freq: u32,
     postings: Bytes,
@@ -26,6 +26,7 @@ pub fn any_bytes_open_as_their_list(
 ) -> Result<SegmentPostings, LayoutFault>
     ensures list { IfOk result (λ cursor. term_list recorded requested doc_freq postings positions ≡ Ok cursor.rest) }
     ensures fault { IfErr result (λ fault. term_list recorded requested doc_freq postings positions ≡ Err (part_of fault)) }
+    ensures many { IfOk result (λ cursor. length cursor.rest ≡ doc_freq) }
     ensures at_front { IfOk result (λ cursor. (cursor.doc_freq ≡ doc_freq) × (cursor.block ≡ 0)) }
     ensures decodes { IfOk result (λ cursor. (cursor.doc_decodes ≤ 1) × (cursor.freq_decodes ≤ 1) × (cursor.position_decodes ≤ 1)) }
     ensures entries { IfOk result (λ cursor. cursor.entries_read ≤ 1) }
@@ -98,8 +99,111 @@ pub fn positions_decode_few_blocks(
     cursor.append_positions_with_offset(offset, output)
 }
 
+/// So it is where the positions take the place of what stood in the output.
+pub fn positions_alone_decode_few_blocks(
+    cursor: &mut SegmentPostings,
+    output: &mut Vec<u32>,
+) -> Result<(), Fault>
+    requires { doc_at cursor.old.rest < 2147483647 }
+    ensures told { OnOk result (output.new.items ≡ positions_at cursor.old.rest) }
+    ensures refused { OnErr result ((output.new.items ≡ []) × (result ≡ Err Fault.OutOfMemory)) }
+    ensures stays { cursor.new.rest ≡ cursor.old.rest }
+    ensures positions { cursor.new.position_decodes ≤ cursor.old.position_decodes + term_freq_at (not (is_read cursor.old.freq_reading)) cursor.old.rest / 128 + 2 }
+{
+    cursor.positions(output)
+}
+
+/// And so with an offset.
+pub fn positions_with_offset_decode_few_blocks(
+    cursor: &mut SegmentPostings,
+    offset: u32,
+    output: &mut Vec<u32>,
+) -> Result<(), Fault>
+    requires current { doc_at cursor.old.rest < 2147483647 }
+    requires fits { All (λ p. p + offset < 2 ^ 32) (positions_at cursor.old.rest) }
+    ensures told { OnOk result (output.new.items ≡ map (λ p. p + offset) (positions_at cursor.old.rest)) }
+    ensures stays { cursor.new.rest ≡ cursor.old.rest }
+    ensures positions { cursor.new.position_decodes ≤ cursor.old.position_decodes + term_freq_at (not (is_read cursor.old.freq_reading)) cursor.old.rest / 128 + 2 }
+{
+    cursor.positions_with_offset(offset, output)
+}
+
+/// Asking for one document decodes no positions, and documents and counts at most once for each block that
+/// the cursor goes on by.
+pub fn asking_for_a_document_decodes_no_positions(
+    cursor: &mut SegmentPostings,
+    target: DocId,
+) -> SeekDangerResult
+    requires { target ≤ 2147483647 }
+    ensures answer { IsDangerAnswer result target cursor.new.rest }
+    ensures docs { cursor.new.doc_decodes + cursor.old.block ≤ cursor.old.doc_decodes + cursor.new.block }
+    ensures counts { cursor.new.freq_decodes + cursor.old.block ≤ cursor.old.freq_decodes + cursor.new.block }
+    ensures positions { cursor.new.position_decodes ≡ cursor.old.position_decodes }
+{
+    cursor.seek_danger(target)
+}
+
+/// The next 64 documents cost no positions, and so does counting what is left.
+pub fn filling_decodes_no_positions(
+    cursor: &mut SegmentPostings,
+    buffer: &mut [DocId; COLLECT_BLOCK_BUFFER_LEN],
+) -> usize
+    ensures many { result ≡ min 64 (length cursor.old.rest) }
+    ensures rest { cursor.new.rest ≡ drop 64 cursor.old.rest }
+    ensures docs { cursor.new.doc_decodes + cursor.old.block ≤ cursor.old.doc_decodes + cursor.new.block }
+    ensures counts { cursor.new.freq_decodes + cursor.old.block ≤ cursor.old.freq_decodes + cursor.new.block }
+    ensures positions { cursor.new.position_decodes ≡ cursor.old.position_decodes }
+{
+    cursor.fill_buffer(buffer)
+}
+
+/// Counting what is left.
+pub fn counting_decodes_no_positions(cursor: &mut SegmentPostings) -> u32
+    ensures many { result ≡ length cursor.old.rest }
+    ensures docs { cursor.new.doc_decodes + cursor.old.block ≤ cursor.old.doc_decodes + cursor.new.block }
+    ensures counts { cursor.new.freq_decodes + cursor.old.block ≤ cursor.old.freq_decodes + cursor.new.block }
+    ensures positions { cursor.new.position_decodes ≡ cursor.old.position_decodes }
+{
+    cursor.count_including_deleted()
+}
+
+/// A cursor hints at the number of its term's documents.
+pub fn cursors_hint_at_their_documents(cursor: &SegmentPostings) -> (u32, u64)
+    ensures hint { result.0 ≡ cursor.now.doc_freq }
+    ensures cost { result.1 ≡ cursor.now.doc_freq }
+{
+    (cursor.size_hint(), cursor.cost())
+}
+
+/// So does one in memory.
+pub fn loaded_cursors_hint_at_their_documents(cursor: &LoadedPostings) -> (u32, u64)
+    ensures hint { result.0 ≡ cursor.now.num_docs }
+    ensures cost { result.1 ≡ cursor.now.num_docs }
+{
+    (cursor.size_hint(), cursor.cost())
+}
+
+/// A cursor that is lent hints as the one that it borrows.
+pub fn lent_cursors_hint_alike(cursor: &mut SegmentPostings) -> (u32, u64)
+    ensures hint { result.0 ≡ cursor.old.doc_freq }
+    ensures cost { result.1 ≡ cursor.old.doc_freq }
+{
+    let lent = Lent { inner: cursor };
+    (lent.size_hint(), lent.cost())
+}
+
+/// A cursor in a box hints as the one in it.
+pub fn boxed_cursors_hint_alike(cursor: &Box<SegmentPostings>) -> (u32, u64)
+    ensures hint { result.0 ≡ cursor.now.value.doc_freq }
+    ensures cost { result.1 ≡ cursor.now.value.doc_freq }
+{
+    (cursor.size_hint(), cursor.cost())
+}
+
 /// A lawful run of calls is answered as over the list; it goes forward, and decodes documents and counts
-/// at most once for each block that it goes on by.
+/// at most once for each block that it goes on by. Of positions it decodes at most two blocks for each call
+/// that asks for them, and one more for each 128 that the counts of these documents have together; other
+/// calls decode none.
 pub fn calls_are_answered_as_over_the_list(
     alloc: Global,
     cursor: &mut SegmentPostings,
@@ -113,6 +217,7 @@ pub fn calls_are_answered_as_over_the_list(
     ensures forward { cursor.old.block ≤ cursor.new.block }
     ensures docs { cursor.new.doc_decodes + cursor.old.block ≤ cursor.old.doc_decodes + cursor.new.block }
     ensures counts { cursor.new.freq_decodes + cursor.old.block ≤ cursor.old.freq_decodes + cursor.new.block }
+    ensures positions { cursor.new.position_decodes ≤ cursor.old.position_decodes + counts_asked calls.now (not (is_read cursor.old.freq_reading)) cursor.old.rest / 128 + 2 * num_asked calls.now }
 {
     walk(alloc, cursor, calls)
 }

@@ -1,14 +1,18 @@
 // Any four files are opened, or the first fault is told.
-ghost use Rattle.std.specs.Prelude.{◌≡◌, ◌⊎◌, ℕ, List, Ok, Err, IfErr, IfOk};
+ghost use Rattle.std.specs.Prelude.{◌≡◌, ◌⊎◌, ℕ, List, length, Ok, Err, IfErr, IfOk, IfSome, IsSomeAnd};
 ghost use Rattle.ii_io.specs.declared.faults.Part.{Part};
 ghost use Rattle.ii_definitions.specs.Fields.{option_of};
 ghost use Rattle.ii_definitions.specs.Files.{HoldTokens};
 ghost use Rattle.ii_definitions.specs.Norms.{HoldNorms};
 ghost use Rattle.ii_definitions.specs.Tokens.{IndexToken};
+ghost use Rattle.ii_termdict.specs.Dictionary.{info_under};
 ghost use Rattle.ii_reader.specs.OpenIndex.{IndexHolds, index_of_files};
 
 use bytes::Bytes;
-use nequllpa::{Fault, OpenIndex, Schema, open_index};
+use nequllpa::{
+    Fault, IndexRecordOption, InvertedIndexReader, OpenIndex, Schema, SegmentPostings, Term,
+    open_index,
+};
 use std::alloc::Global;
 
 /// Any four files open as the definition gives their index; else the first part that fails is told, unless
@@ -44,4 +48,16 @@ pub fn files_of_tokens_are_opened(
         → IfErr result (λ fault. fault ≡ Fault.OutOfMemory) }
 {
     open_index(alloc, terms, postings, positions, fieldnorms, schema)
+}
+
+/// A term that is looked up is read whole: all its documents are left, as many as its entry in the
+/// dictionary says.
+pub fn terms_are_read_whole(
+    reader: &InvertedIndexReader,
+    term: &Term,
+    requested: IndexRecordOption,
+) -> Result<Option<SegmentPostings>, Fault>
+    ensures { IfSome (info_under term.now.value reader.now.terms) (λ info. IfOk result (λ found. IsSomeAnd found (λ cursor. length cursor.rest ≡ info.doc_freq))) }
+{
+    reader.read_postings(term, requested)
 }

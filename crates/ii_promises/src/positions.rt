@@ -1,14 +1,16 @@
 // The positions of a term.
-ghost use Rattle.std.specs.Prelude.{◌≡◌, ◌+◌, ◌/◌, ◌≤◌, drop, length, take, None, Some, IfErr, IfOk, OnErr};
+ghost use Rattle.std.specs.Prelude.{◌≡◌, ◌+◌, ◌*◌, ◌/◌, ◌<◌, ◌≤◌, drop, length, take, None, Some, IfErr, IfOk, OnErr};
 ghost use Rattle.ii_layout.specs.Positions.{position_deltas};
 
 use bytes::Bytes;
 use ii_layout::PositionReader;
 use nequllpa::{LayoutFault, Part};
 
-/// Any bytes open exactly where they hold deltas of positions, and at most one block is decoded for it.
+/// Any bytes open exactly where they hold deltas of positions, and at most one block is decoded for it,
+/// the last one, which is kept.
 pub fn any_bytes_open_as_their_deltas(bytes: Bytes) -> Result<PositionReader, LayoutFault>
     ensures deltas { IfOk result (λ reader. position_deltas bytes ≡ Some reader.deltas) }
+    ensures block { IfOk result (λ reader. reader.block ≡ length reader.deltas / 128) }
     ensures refused { OnErr result (position_deltas bytes ≡ None) }
     ensures fault { IfErr result (λ fault. fault ≡ LayoutFault.Damaged Part.Positions) }
     ensures decodes { IfOk result (λ reader. reader.decodes ≤ 1) }
@@ -22,6 +24,31 @@ pub fn reading_decodes_few_blocks(reader: &mut PositionReader, offset: u64, outp
     ensures read { output.new ≡ take (length output.old) (drop offset reader.old.deltas) }
     ensures deltas { reader.new.deltas ≡ reader.old.deltas }
     ensures decodes { reader.new.decodes ≤ reader.old.decodes + length output.old / 128 + 2 }
+{
+    reader.read(offset, output);
+}
+
+/// A part that lies in the block that is kept is read without decoding.
+pub fn reading_in_the_kept_block_decodes_nothing(
+    reader: &mut PositionReader,
+    offset: u64,
+    output: &mut [u32],
+)
+    requires there { offset + length output.old ≤ length reader.old.deltas }
+    requires from { 128 * reader.old.block ≤ offset }
+    requires to { offset + length output.old ≤ 128 * reader.old.block + 128 }
+    ensures read { output.new ≡ take (length output.old) (drop offset reader.old.deltas) }
+    ensures decodes { reader.new.decodes ≡ reader.old.decodes }
+{
+    reader.read(offset, output);
+}
+
+/// After a read the block is kept in which it ended.
+pub fn the_last_block_is_kept(reader: &mut PositionReader, offset: u64, output: &mut [u32])
+    requires there { offset + length output.old ≤ length reader.old.deltas }
+    requires some { 0 < length output.old }
+    ensures from { 128 * reader.new.block < offset + length output.old }
+    ensures to { offset + length output.old ≤ 128 * reader.new.block + 128 }
 {
     reader.read(offset, output);
 }

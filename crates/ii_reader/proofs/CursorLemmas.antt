@@ -44,6 +44,14 @@ list_docs n docs freqs deltas a = located_docs (positions_if freqs deltas) (entr
 pub length-list : (docs : List ℕ) (es : List Entry) → map (λ (e : Entry). e.doc) es ≡ docs → length es ≡ length docs
 length-list docs es are = sym (length-map es (λ (e : Entry). e.doc)) ∙ ap length are
 
+-- at its first block all of a list is left
+pub length_opened : (n block : ℕ) (docs : List ℕ) (freqs deltas : Option (List ℕ)) → AreEntries n docs freqs → block ≡ 0 → length (drop (128 * block + 0) (list_of docs freqs deltas)) ≡ n
+length_opened n block docs freqs deltas a first =
+    let whole = length-list docs (list_of docs freqs deltas) (list_docs n docs freqs deltas a) in
+    let left = length-drop (128 * block + 0) (list_of docs freqs deltas) in
+    let many = a.many in
+    omega arith
+
 -- the current document of what is left from a place on
 pub doc_at_drop : (es : List Entry) (i : ℕ) → get_or (map (λ (e : Entry). e.doc) es) i TERMINATED ≡ doc_at (drop i es)
 doc_at_drop [] zero = refl

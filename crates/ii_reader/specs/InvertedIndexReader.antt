@@ -79,6 +79,7 @@ IsRefusal found fault = (fault ≡ OutOfMemory) ⊎ ((part : Part) × (fault ≡
 pub record OpensTerm (reader : InvertedIndexReaderState) (requested : IndexRecordOption) (info : TermInfo) (cursor : SegmentPostingsState) : Type 0 where
   pub list : term_of_file reader requested info ≡ Ok cursor.rest
   pub doc_freq : cursor.doc_freq ≡ info.doc_freq
+  pub many : length cursor.rest ≡ info.doc_freq
   pub reading : freq_reading reader.option requested info.doc_freq (bytes_in reader.postings info.postings_range) ≡ Ok cursor.freq_reading
   pub first : cursor.block ≡ 0
   pub doc_decodes : cursor.doc_decodes ≤ 1

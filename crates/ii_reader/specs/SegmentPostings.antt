@@ -1,5 +1,5 @@
 -- A cursor over the documents of a term, with their counts and positions.
-use Rattle.std.specs.Prelude.{◌≡◌, ℕ, ◌+◌, ◌/◌, ◌≤◌, true, List, Option, None, Some, length, min, ⊤}
+use Rattle.std.specs.Prelude.{◌≡◌, ℕ, ◌+◌, ◌*◌, ◌/◌, ◌≤◌, true, List, Option, None, Some, length, min, ⊤}
 use Rattle.std.specs.List.{sum, list_all}
 use Rattle.ii_base.specs.Options.{downgrade, has_positions}
 use Rattle.ii_codes.specs.Sums.{fit_u32}
@@ -41,13 +41,23 @@ abbrev pub FitCursor : BlockSegmentPostingsState → Option (List ℕ) → Type 
 FitCursor cursor None = ⊤
 FitCursor cursor (Some deltas) = (has_positions (downgrade cursor.recorded cursor.requested) ≡ true) × AreGivenDeltas cursor.freqs (Some deltas)
 
--- The cursor went forward over its list, and decoded documents and counts no more often than its block number rose.
+-- The cursor went forward over its list, and decoded documents and counts no more often than its block number rose, and no positions.
 pub record WentLazily (old new : SegmentPostingsState) : Type 0 where
   pub doc_freq : new.doc_freq ≡ old.doc_freq
   pub freq_reading : new.freq_reading ≡ old.freq_reading
   pub forward : old.block ≤ new.block
   pub doc_decodes : new.doc_decodes + old.block ≤ old.doc_decodes + new.block
   pub freq_decodes : new.freq_decodes + old.block ≤ old.freq_decodes + new.block
+  pub position_decodes : new.position_decodes ≡ old.position_decodes
+
+-- The same where positions were asked for so many times, of documents with these counts together: those blocks were decoded in which they lie.
+pub record SpentLazily (asked counts : ℕ) (old new : SegmentPostingsState) : Type 0 where
+  pub doc_freq : new.doc_freq ≡ old.doc_freq
+  pub freq_reading : new.freq_reading ≡ old.freq_reading
+  pub forward : old.block ≤ new.block
+  pub doc_decodes : new.doc_decodes + old.block ≤ old.doc_decodes + new.block
+  pub freq_decodes : new.freq_decodes + old.block ≤ old.freq_decodes + new.block
+  pub position_decodes : new.position_decodes ≤ old.position_decodes + counts / 128 + 2 * asked
 
 -- Every block up to here was decoded at most once, its documents and its counts, and every skip entry read at most once. The empty block after the last is the end.
 pub record StaysLazy (s : SegmentPostingsState) : Type 0 where

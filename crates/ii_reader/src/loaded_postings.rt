@@ -1,7 +1,7 @@
 ghost use Rattle.std.specs.Prelude.{◌≡◌, ◌+◌, ◌<◌, ◌^◌, ◌++◌, false, [], length, map, IfOk, IfErr, OnOk, OnErr};
 ghost use Rattle.std.specs.List.{All};
 ghost use Rattle.ii_io.specs.Faults.{OnlyMemory};
-ghost use Rattle.ii_docset.specs.Cursor.{IsCurrent, doc_at, positions_at, term_freq_at};
+ghost use Rattle.ii_docset.specs.Cursor.{IsCurrent, counts_of, doc_at, positions_at, term_freq_at};
 ghost use Rattle.ii_reader.specs.LoadedPostings.{IsEndOf, IsLoadFault, loaded, num_positions};
 
 use ii_base::{Fault, LimitName};
@@ -47,7 +47,7 @@ impl LoadedPostings {
         ensures rest { OnOk result (P.rest source.new ≡ []) }
         ensures on_its_way { IsEndOf (P.rest source.old) (P.rest source.new) }
         ensures kind { P.always_one source.new ≡ P.always_one source.old }
-        ensures work { P.went source.old source.new }
+        ensures work { P.spent (length (P.rest source.old)) (counts_of (P.always_one source.old) (P.rest source.old)) source.old source.new }
         ensures err { IfErr result (λ fault. IsLoadFault (num_positions (P.rest source.old)) fault) }
     {
         let mut doc_ids = Vec::new(alloc);
@@ -91,7 +91,7 @@ fn load_positions<P: Postings>(source: &mut P, positions: &mut Vec<u32>) -> Resu
     ensures few { OnOk result (length positions.new.items < 2 ^ 32) }
     ensures rest { P.rest source.new ≡ P.rest source.old }
     ensures kind { P.always_one source.new ≡ P.always_one source.old }
-    ensures work { P.went source.old source.new }
+    ensures work { P.spent 1 (term_freq_at (P.always_one source.old) (P.rest source.old)) source.old source.new }
     ensures err { IfErr result (λ fault. IsLoadFault (length positions.old.items + length (positions_at (P.rest source.old))) fault) }
 {
     // The current document tells that its positions have 32 bits.
@@ -108,6 +108,8 @@ impl DocSet for LoadedPostings {
     ghost use Rattle.std.proofs.Common.{refl, ◌∙◌};
 
     ghost rest = { λ l. l.rest };
+
+    ghost hints = { λ l n. n ≡ l.num_docs };
 
     ghost went = { λ a b. b.num_docs ≡ a.num_docs };
 
@@ -139,6 +141,17 @@ impl DocSet for LoadedPostings {
 }
 
 impl Postings for LoadedPostings {
+    ghost use Rattle.std.specs.Prelude.{◌≡◌};
+    ghost use Rattle.std.proofs.Common.{◌∙◌};
+
+    ghost spent = { λ asked counts a b. b.num_docs ≡ a.num_docs };
+
+    ghost spent_moving = { λ a b moved. moved };
+
+    ghost spent_more = { λ k m l n a b few low did. did };
+
+    ghost spent_on = { λ k m l n a b c first second. second ∙ first };
+
     fn term_freq(&self) -> u32
         requires { IsCurrent self.now.rest }
         ensures { result ≡ term_freq_at false self.now.rest }

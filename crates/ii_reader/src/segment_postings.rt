@@ -9,7 +9,7 @@ ghost use Rattle.ii_layout.specs.TermList.{list_of, term_list};
 ghost use Rattle.ii_check.specs.CheckedPostings.{is_read};
 ghost use Rattle.ii_check.specs.FreqReading.{freq_reading};
 ghost use Rattle.ii_check.specs.Positions.{deltas_read};
-ghost use Rattle.ii_reader.specs.SegmentPostings.{DecodesOnce, DecodesPositions, FitCursor, StaysLazy, WentLazily, decodes_read};
+ghost use Rattle.ii_reader.specs.SegmentPostings.{DecodesOnce, DecodesPositions, FitCursor, SpentLazily, StaysLazy, WentLazily, decodes_read};
 
 use super::block_segment_postings::BlockSegmentPostings;
 use bytes::Bytes;
@@ -71,6 +71,7 @@ impl SegmentPostings {
     ) -> Result<SegmentPostings, LayoutFault>
         ensures ok { IfOk result (λ cursor. term_list record_option requested_option doc_freq postings positions ≡ Ok cursor.rest) }
         ensures doc_freq { IfOk result (λ cursor. cursor.doc_freq ≡ doc_freq) }
+        ensures many { IfOk result (λ cursor. length cursor.rest ≡ doc_freq) }
         ensures reading { IfOk result (λ cursor. freq_reading record_option requested_option doc_freq postings ≡ Ok cursor.freq_reading) }
         ensures first { IfOk result (λ cursor. cursor.block ≡ 0) }
         ensures doc_decodes { IfOk result (λ cursor. cursor.doc_decodes ≤ 1) }
@@ -178,7 +179,7 @@ impl SegmentPostings {
 }
 
 impl DocSet for SegmentPostings {
-    ghost use Rattle.std.specs.Prelude.{not};
+    ghost use Rattle.std.specs.Prelude.{◌≡◌, not};
     ghost use Rattle.ii_check.specs.CheckedPostings.{is_read};
     ghost use Rattle.ii_reader.specs.SegmentPostings.{WentLazily};
     ghost use Rattle.ii_reader.specs.SegmentPostingsLemmas.{went_nowhere, went_on};
@@ -186,6 +187,8 @@ impl DocSet for SegmentPostings {
     ghost rest = { λ s. s.rest };
 
     ghost always_one = { λ s. not (is_read s.freq_reading) };
+
+    ghost hints = { λ s n. n ≡ s.doc_freq };
 
     ghost went = { λ a b. WentLazily a b };
 
@@ -260,6 +263,17 @@ impl DocSet for SegmentPostings {
 }
 
 impl Postings for SegmentPostings {
+    ghost use Rattle.ii_reader.specs.SegmentPostings.{SpentLazily};
+    ghost use Rattle.ii_reader.specs.SegmentPostingsLemmas.{spent_moving, spent_more, spent_on};
+
+    ghost spent = { λ asked counts a b. SpentLazily asked counts a b };
+
+    ghost spent_moving = { λ a b moved. spent_moving a b moved };
+
+    ghost spent_more = { λ k m l n a b few low did. spent_more k m l n a b few low did };
+
+    ghost spent_on = { λ k m l n a b c first second. spent_on k m l n a b c first second };
+
     fn term_freq(&self) -> u32
         requires { IsTrue (not (is_read self.now.freq_reading)) ⊎ IsCurrent self.now.rest }
         ensures freq { result ≡ term_freq_at (not (is_read self.now.freq_reading)) self.now.rest }
@@ -283,7 +297,7 @@ impl Postings for SegmentPostings {
         ensures only { OnlyMemory result }
         ensures rest { self.new.rest ≡ self.old.rest }
         ensures kind { not (is_read self.new.freq_reading) ≡ not (is_read self.old.freq_reading) }
-        ensures work { WentLazily self.old self.new }
+        ensures work { SpentLazily 1 (term_freq_at (not (is_read self.old.freq_reading)) self.old.rest) self.old self.new }
         // what a caller learns beyond the trait
         ensures decodes { DecodesPositions (term_freq_at (not (is_read self.old.freq_reading)) self.old.rest) self.old self.new }
     {
@@ -316,9 +330,20 @@ fn append_positions(
     let len = output.len();
     output.resize(len + count as usize, 0)?;
     let (_, added) = output.as_mut_slice().split_at_mut(len);
-    reader.read(start, added);
-    sum_up(added, offset);
+    read_positions(reader, start, offset, added);
     Ok(())
+}
+
+// Reads as many positions as `output` has room for, whose deltas begin at a place, each plus an offset.
+fn read_positions(reader: &mut PositionReader, start: u64, offset: u32, output: &mut [u32])
+    requires inside { start + length output.old ≤ length reader.old.deltas }
+    requires fits { IsTrue (fit_u32 (running_sums offset (take (length output.old) (drop start reader.old.deltas)))) }
+    ensures read { output.new ≡ running_sums offset (take (length output.old) (drop start reader.old.deltas)) }
+    ensures deltas { reader.new.deltas ≡ reader.old.deltas }
+    ensures decodes { reader.new.decodes ≤ reader.old.decodes + length output.old / 128 + 2 }
+{
+    reader.read(start, output);
+    sum_up(output, offset);
 }
 
 // Puts in place of each value its sum with those before it and an offset.

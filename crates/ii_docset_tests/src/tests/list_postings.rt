@@ -60,6 +60,12 @@ impl DocSet for ListPostings {
 }
 
 impl Postings for ListPostings {
+    ghost spent_moving = { λ a b moved. tt };
+
+    ghost spent_more = { λ k m l n a b few low did. tt };
+
+    ghost spent_on = { λ k m l n a b c first second. tt };
+
     fn term_freq(&self) -> u32 {
         let Some((first, _)) = self.left.split_first() else {
             return 1;

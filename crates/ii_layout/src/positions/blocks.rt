@@ -49,6 +49,7 @@ impl PositionBlocks {
     /// The blocks that `bytes` holds. The deltas after the full blocks are decoded.
     pub(crate) fn open(bytes: Bytes) -> Result<PositionBlocks, LayoutFault>
         ensures ok { IfOk result (λ blocks. position_deltas bytes ≡ Some blocks.deltas) }
+        ensures block { IfOk result (λ blocks. blocks.block ≡ length blocks.deltas / 128) }
         ensures decodes { IfOk result (λ blocks. blocks.decodes ≤ 1) }
         ensures refused { OnErr result (position_deltas bytes ≡ None) }
         ensures err { IfErr result (λ fault. fault ≡ LayoutFault.Damaged Part.Positions) }
@@ -147,6 +148,7 @@ impl PositionBlocks {
     /// The same blocks, of which the last was decoded.
     pub(crate) fn anew(self) -> PositionBlocks
         ensures deltas { result.deltas ≡ self.deltas }
+        ensures block { result.block ≡ length result.deltas / 128 }
         ensures decodes { result.decodes ≤ 1 }
     {
         let PositionBlocks { bytes, .. } = self;
@@ -178,6 +180,7 @@ impl PositionBlocks {
 fn reopened(bytes: Bytes) -> PositionBlocks
     requires { IsSome (position_deltas bytes) }
     ensures deltas { position_deltas bytes ≡ Some result.deltas }
+    ensures block { result.block ≡ length result.deltas / 128 }
     ensures decodes { result.decodes ≤ 1 }
 {
     match PositionBlocks::open(bytes) {

@@ -1,6 +1,7 @@
 ghost use Rattle.std.specs.Prelude.{◌≡◌, ◌+◌, ◌/◌, ◌^◌, ◌≤◌, length, take, drop, nat_lt, Some, None, IfOk, IfErr, OnErr};
 ghost use Rattle.std.specs.List.{sum};
 ghost use Rattle.ii_io.specs.Faults.{OnlyMemory};
+ghost use Rattle.ii_layout.specs.PositionReader.{LieInBlock, block_kept};
 ghost use Rattle.ii_layout.specs.Positions.{position_deltas};
 
 use super::blocks::PositionBlocks;
@@ -25,7 +26,7 @@ impl Model for PositionReader {
 
     ghost Value = { PositionReaderState };
 
-    ghost view = { λ r. record { deltas = r.blocks.deltas; decodes = r.blocks.decodes } };
+    ghost view = { λ r. record { deltas = r.blocks.deltas; block = r.blocks.block; decodes = r.blocks.decodes } };
 }
 
 impl PositionReader {
@@ -33,9 +34,10 @@ impl PositionReader {
     /// bytes, the width of each in one byte, from 0 to 32, the blocks, each of 16 bytes for each bit
     /// of its width, and fewer than 128 further deltas, each a vint of up to 5 bytes, to the end of
     /// the bytes. `Damaged(Positions)` where they hold no such list. Each width is looked at; of the
-    /// blocks only the last deltas are decoded. It takes no memory.
+    /// blocks only the last deltas are decoded, and kept. It takes no memory.
     pub fn open(bytes: Bytes) -> Result<PositionReader, LayoutFault>
         ensures ok { IfOk result (λ reader. position_deltas bytes ≡ Some reader.deltas) }
+        ensures block { IfOk result (λ reader. reader.block ≡ length reader.deltas / 128) }
         ensures decodes { IfOk result (λ reader. reader.decodes ≤ 1) }
         ensures refused { OnErr result (position_deltas bytes ≡ None) }
         ensures err { IfErr result (λ fault. fault ≡ LayoutFault.Damaged Part.Positions) }
@@ -63,13 +65,17 @@ impl PositionReader {
     }
 
     /// Reads as many deltas as `output` has room for, from `offset` on; all of them are there. Only
-    /// blocks in which they lie are decoded, and not the one that is kept.
+    /// blocks in which they lie are decoded, and not the one that is kept; the last of them is kept
+    /// then.
     pub fn read(&mut self, offset: u64, output: &mut [u32])
         requires inside { offset + length output.old ≤ length self.old.deltas }
         ensures read { output.new ≡ take (length output.old) (drop offset self.old.deltas) }
         ensures deltas { self.new.deltas ≡ self.old.deltas }
         ensures decodes { self.new.decodes ≤ self.old.decodes + length output.old / 128 + 2 }
         ensures kept { self.old.decodes ≤ self.new.decodes }
+        // the block that it keeps
+        ensures held { LieInBlock self.old.block offset (length output.old) → self.new.decodes ≡ self.old.decodes }
+        ensures block { self.new.block ≡ block_kept self.old.block offset (length output.old) }
     {
         let mut block = (offset / COMPRESSION_BLOCK_SIZE as u64) as usize;
         let mut start = (offset % COMPRESSION_BLOCK_SIZE as u64) as usize;
@@ -85,6 +91,7 @@ impl PositionReader {
     /// A reader of the same deltas, which has decoded at most one block. It takes no memory.
     pub fn anew(self) -> PositionReader
         ensures deltas { result.deltas ≡ self.deltas }
+        ensures block { result.block ≡ length result.deltas / 128 }
         ensures decodes { result.decodes ≤ 1 }
     {
         let PositionReader { blocks } = self;

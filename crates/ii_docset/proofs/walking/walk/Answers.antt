@@ -1,6 +1,6 @@
-use Rattle.std.proofs.Common.{List, [], ◌∷◌, ◌++◌, ap, ◌∙◌, rules}
+use Rattle.std.proofs.Common.{◌+◌, List, [], ◌∷◌, ◌++◌, ap, ◌∙◌, rules}
 use Rattle.ii_docset.specs.declared.calls.CursorAnswer.{CursorAnswer}
-use Rattle.ii_docset.proofs.WalkLemmas.{walks_on}
+use Rattle.ii_docset.proofs.WalkLemmas.{asked_part, counts_part, spent_next, walks_on}
 use Rattle.ii_docset.proofs.walking.walk.Goals as goal
 
 pub loop-call-preserved : goal.loop-call-preserved
@@ -9,4 +9,17 @@ loop-call-preserved g c =
     let kept = c.keep.ensures ∙ ap (λ (answers : List CursorAnswer). answers ++ c.in-Ok-make_call.answer ∷ []) c.reserve.ensures.items in
     let told = rw walking.1 at c.in-Ok-make_call.ensures.ok in
     let next = walks_on c.args.calls.now _ _ c.loop-call.call-index _ c.loop-call.answers.items _ _ _ walking.0 (search rules) told c.in-Ok-make_call.ensures.rest in
-    (rw kept next, search rules, search rules)
+    (rw kept next, search rules, spent_next (λ k m. g.P.Postings.spent k m c.args.cursor.now c.make_call.new.cursor) c.args.calls.now _ _ c.loop-call.call-index _ _ _ (search rules) walking.1 walking.0.rest_is (g.met.P.Postings.spent_on _ _ _ _ _ _ _ walking.2 c.make_call.ensures.work))
+
+pub returns-in_default-clause-work : goal.returns-in_default-clause-work
+returns-in_default-clause-work g c = g.met.P.Postings.spent_more _ _ _ _ _ _ (asked_part c.loop-call.call-index c.args.calls.now) (counts_part c.loop-call.call-index c.args.calls.now _ _) c.loop-call.invariant.2
+
+pub returns-in_default-make_call-clause-work : goal.returns-in_default-make_call-clause-work
+returns-in_default-make_call-clause-work g c =
+    let walking = c.loop-call.invariant in
+    let i = c.loop-call.call-index in
+    let next = spent_next (λ k m. g.P.Postings.spent k m c.args.cursor.now c.make_call.new.cursor) c.args.calls.now _ _ i _ _ _ (search rules) walking.1 walking.0.rest_is (g.met.P.Postings.spent_on _ _ _ _ _ _ _ walking.2 c.make_call.ensures.work) in
+    g.met.P.Postings.spent_more _ _ _ _ _ _ (asked_part (i + 1) c.args.calls.now) (counts_part (i + 1) c.args.calls.now _ _) next
+
+pub returns-clause-work : goal.returns-clause-work
+returns-clause-work g c = g.met.P.Postings.spent_more _ _ _ _ _ _ (asked_part c.loop-call.call-index c.args.calls.now) (counts_part c.loop-call.call-index c.args.calls.now _ _) c.loop-call.invariant.2

@@ -15,6 +15,6 @@ returns-then-self-blocks-2 c =
 pub returns : goal.returns
 returns c =
     let stands = rw (← c.self.view_is) at c.requires.same in
-    let next = c.next-self-inside.ensures in
+    let next = c.read_entry_at-last_doc.ensures.counted in
     rw (← c.self.view_is) (advanced_full _ _ _ _ _ _ c.args.skip_data.now (advances _ _ _ c.args.skip_data.now stands (omega arith) c.packed_size.ensures.size c.tf_sum.ensures.sum) (omega arith)
     c.read_entry_at-last_doc.ensures.last_doc c.read_entry_at-last_doc.ensures.info (omega arith))

@@ -1,6 +1,7 @@
 use Rattle.std.proofs.Common.{None, refl, ap, ◌∙◌, arith}
 use Rattle.ii_base.specs.Options.{downgrade, has_positions}
 use Rattle.ii_check.specs.Positions.{deltas_read}
+use Rattle.ii_reader.proofs.CursorLemmas.{length_opened}
 use Rattle.ii_reader.proofs.PositionLemmas.{fits_found, list_opened, none_given}
 use Rattle.ii_reader.proofs.segment_postings.SegmentPostings.open.Goals as goal
 
@@ -25,3 +26,13 @@ returns-clause-ok c =
     let found = (rw (recorded, requested) at c.in-Ok.ensures.ok) in
     let read = (rw c.empty_by-block_cursor.ensures at c.in_default.ensures.ok) in
     list_opened c.args.record_option c.args.requested_option c.args.doc_freq b.block c.args.postings b.docs b.freqs c.args.positions (deltas_read c.in-Ok.position_reader) read found c.in_default.ensures.first
+
+pub returns-then-is_none-clause-many : goal.returns-then-is_none-clause-many
+returns-then-is_none-clause-many c =
+    let b = c.fill.new.self in
+    length_opened c.args.doc_freq b.block b.docs b.freqs None c.in_default.ensures.entries c.in_default.ensures.first
+
+pub returns-clause-many : goal.returns-clause-many
+returns-clause-many c =
+    let b = c.fill.new.self in
+    length_opened c.args.doc_freq b.block b.docs b.freqs (deltas_read c.in-Ok.position_reader) c.in_default.ensures.entries c.in_default.ensures.first

@@ -70,3 +70,16 @@ returns-clause-decodes c =
     let before = ap decodes_read c.in-Some.is in
     let more = c.append_positions.ensures.decodes in
     rw (← c.self.view_is, ← count) (record { block = refl; doc_decodes = refl; freq_decodes = refl; entries_read = refl; position_decodes = omega arith })
+
+pub returns-clause-work : goal.returns-clause-work
+returns-clause-work c =
+    let s = c.self.inside in
+    let b = s.block_cursor in
+    let deltas = deltas_read s.position_reader in
+    let current = rw (← c.self.view_is) at c.requires.current in
+    let here = c.freq-count.ensures ∙ freq_at_place _ b.docs b.freqs deltas b.block s.cur c.self.invariant.1 c.self.invariant.0 (λ some. current) in
+    let count = freq_by b.freqs b.block s.cur c.freq-count.result (drop (128 * b.block + s.cur) (list_of b.docs b.freqs deltas)) c.freq-count.ensures here
+    ∙ ap (λ (t : Bool). term_freq_at (not t) (drop (128 * b.block + s.cur) (list_of b.docs b.freqs deltas))) c.self.invariant.2 in
+    let before = ap decodes_read c.in-Some.is in
+    let more = c.append_positions.ensures.decodes in
+    rw (← c.self.view_is, ← count) (record { doc_freq = refl; freq_reading = refl; forward = omega arith; doc_decodes = omega arith; freq_decodes = omega arith; position_decodes = omega arith })

@@ -25,3 +25,10 @@ invariant_of-result c =
 
 pub returns-clause-ok : goal.returns-clause-ok
 returns-clause-ok c = (invariant_of-result c).there.deltas
+
+pub returns-clause-block : goal.returns-clause-block
+returns-clause-block c =
+    let keeps = invariant_of-result c in
+    let len = keeps.len in
+    let few = keeps.few in
+    omega arith
