@@ -4,6 +4,8 @@
 #[cfg(test)]
 mod json_tests;
 #[cfg(test)]
+mod serialize_tests;
+#[cfg(test)]
 mod term_tests;
 #[cfg(test)]
 mod tests;
