@@ -10,17 +10,21 @@ pub struct Lent<'a, T> {
 }
 
 impl<T: DocSet> DocSet for Lent<'_, T> {
+    ghost use Rattle.std.specs.Prelude.{◌≡◌};
+    ghost use Rattle.std.proofs.Common.{refl, ◌∙◌};
+
     ghost rest = { λ s. T.rest s.inner.now };
 
     ghost always_one = { λ s. T.always_one s.inner.now };
 
     ghost hints = { λ s n. T.hints s.inner.now n };
 
-    ghost went = { λ a b. T.went a.inner.now b.inner.now };
+    // It stays the same cursor that is lent.
+    ghost went = { λ a b. (b.inner.ghost_name ≡ a.inner.ghost_name) × T.went a.inner.now b.inner.now };
 
-    ghost went_nowhere = { λ s. T.went_nowhere s.inner.now };
+    ghost went_nowhere = { λ s. (refl, T.went_nowhere s.inner.now) };
 
-    ghost went_on = { λ a b c first second. T.went_on a.inner.now b.inner.now c.inner.now first second };
+    ghost went_on = { λ a b c first second. (second.0 ∙ first.0, T.went_on a.inner.now b.inner.now c.inner.now first.1 second.1) };
 
     fn advance(&mut self) -> DocId {
         self.inner.advance()
@@ -60,13 +64,16 @@ impl<T: DocSet> DocSet for Lent<'_, T> {
 }
 
 impl<T: Postings> Postings for Lent<'_, T> {
-    ghost spent = { λ k m a b. T.spent k m a.inner.now b.inner.now };
+    ghost use Rattle.std.specs.Prelude.{◌≡◌};
+    ghost use Rattle.std.proofs.Common.{◌∙◌};
 
-    ghost spent_moving = { λ a b moved. T.spent_moving a.inner.now b.inner.now moved };
+    ghost spent = { λ k m a b. (b.inner.ghost_name ≡ a.inner.ghost_name) × T.spent k m a.inner.now b.inner.now };
 
-    ghost spent_more = { λ k m l n a b few low did. T.spent_more k m l n a.inner.now b.inner.now few low did };
+    ghost spent_moving = { λ a b moved. (moved.0, T.spent_moving a.inner.now b.inner.now moved.1) };
 
-    ghost spent_on = { λ k m l n a b c first second. T.spent_on k m l n a.inner.now b.inner.now c.inner.now first second };
+    ghost spent_more = { λ k m l n a b few low did. (did.0, T.spent_more k m l n a.inner.now b.inner.now few low did.1) };
+
+    ghost spent_on = { λ k m l n a b c first second. (second.0 ∙ first.0, T.spent_on k m l n a.inner.now b.inner.now c.inner.now first.1 second.1) };
 
     fn term_freq(&self) -> u32 {
         self.inner.term_freq()

@@ -1,6 +1,7 @@
 // A cursor over a term: what it answers, and how often it decodes.
 ghost use Rattle.std.specs.Prelude.{◌≡◌, ◌+◌, ◌*◌, ◌/◌, ◌^◌, ◌<◌, ◌≤◌, ◌++◌, ◌↔◌, [], drop, length, map, min, not, take, Ok, Err, IfOk, IfErr, IsTrue, OnOk, OnErr};
 ghost use Rattle.std.specs.List.{All};
+ghost use Rattle.ii_io.specs.Faults.{OnlyMemory};
 ghost use Rattle.ii_io.specs.Parts.{part_of};
 ghost use Rattle.ii_docset.specs.Calls.{IsLawful, answers_in, answers_to, counts_asked, num_asked, rest_after};
 ghost use Rattle.ii_docset.specs.Cursor.{IsDangerAnswer, IsTarget, doc_at, from_doc, positions_at, term_freq_at};
@@ -192,12 +193,35 @@ pub fn lent_cursors_hint_alike(cursor: &mut SegmentPostings) -> (u32, u64)
     (lent.size_hint(), lent.cost())
 }
 
+/// Through one that is lent, `seek` decodes documents and counts at most once for each block that the cursor
+/// goes on by, and no positions.
+pub fn lent_cursors_seek_as_lazily(cursor: &mut SegmentPostings, target: DocId) -> DocId
+    requires { IsTarget target cursor.old.rest }
+    ensures doc { result ≡ doc_at cursor.new.rest }
+    ensures rest { cursor.new.rest ≡ from_doc target cursor.old.rest }
+    ensures docs { cursor.new.doc_decodes + cursor.old.block ≤ cursor.old.doc_decodes + cursor.new.block }
+    ensures counts { cursor.new.freq_decodes + cursor.old.block ≤ cursor.old.freq_decodes + cursor.new.block }
+    ensures positions { cursor.new.position_decodes ≡ cursor.old.position_decodes }
+{
+    let mut lent = Lent { inner: cursor };
+    lent.seek(target)
+}
+
 /// A cursor in a box hints as the one in it.
 pub fn boxed_cursors_hint_alike(cursor: &Box<SegmentPostings>) -> (u32, u64)
     ensures hint { result.0 ≡ cursor.now.value.doc_freq }
     ensures cost { result.1 ≡ cursor.now.value.doc_freq }
 {
     (cursor.size_hint(), cursor.cost())
+}
+
+/// And so in a box of any cursor.
+pub fn cursors_of_any_kind_hint_alike(alloc: Global, cursor: SegmentPostings) -> Result<u32, Fault>
+    ensures hint { IfOk result (λ n. n ≡ cursor.doc_freq) }
+    ensures only { OnlyMemory result }
+{
+    let any: Box<dyn Postings> = Box::new(alloc, cursor)?;
+    Ok(any.size_hint())
 }
 
 /// A lawful run of calls is answered as over the list; it goes forward, and decodes documents and counts
