@@ -10,7 +10,7 @@ sys.path.insert(0, os.path.dirname(os.path.dirname(os.path.abspath(__file__))))
 import refusing
 
 # So many lines at the end answer look-ups, and an index call that comes after one.
-LOOKED_UP = 5
+LOOKED_UP = 6
 
 
 def is_part(lines, wanted):

@@ -1,7 +1,10 @@
 pub mod DocumentLemmas
+pub mod LeafLemmas
+pub mod LeafRows
 pub mod OutputLemmas
 pub mod ReplyLemmas
 pub mod RunLemmas
 pub mod SessionLemmas
+pub mod TextLemmas
 pub mod WordLemmas
 pub mod WorkedRows

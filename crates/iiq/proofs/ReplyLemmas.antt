@@ -100,10 +100,10 @@ answers_kept s c kept taken keeps e = keeps_cases s c kept (kept_with s c) refl 
 
 -- a look-up
 pub answers_look_up : (s : Session) (q : Query) (kept : SessionKept) (command : Option Command) (text line : List ℕ) (t : Session) → command ≡ Some (query_look_up q) → Indexes s t → Knows kept t
-    → text ≡ look_up_text t q.requested q.term.field q.term.value → line ≡ text ++ 10 ∷ [] → Answers s command kept (Some line)
+    → text ≡ look_up_text t q.requested q.term → line ≡ text ++ 10 ∷ [] → Answers s command kept (Some line)
 answers_look_up s q kept command text line t e indexes knows is whole = record {
   new = t;
-  texts = Some (look_up_text t q.requested q.term.field q.term.value ∷ []);
+  texts = Some (look_up_text t q.requested q.term ∷ []);
   knows = knows;
   answers = rw e (indexes, refl);
   reply_is = ap (λ (bytes : List ℕ). Some bytes) (whole ∙ ap (λ (bytes : List ℕ). bytes ++ 10 ∷ []) is ∙ sym (append-nil _));

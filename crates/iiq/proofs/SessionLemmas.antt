@@ -11,6 +11,7 @@ use Rattle.ii_io.specs.declared.faults.Fault.TheVariants.{OutOfMemory}
 use Rattle.ii_base.specs.AsciiWords.{ascii_words}
 use Rattle.ii_base.specs.Options.{downgrade}
 use Rattle.ii_base.specs.Schema.{SchemaEntry}
+use Rattle.ii_base.specs.Terms.{TermState}
 use Rattle.ii_base.specs.declared.schema.index_record_option.IndexRecordOption.{IndexRecordOption}
 use Rattle.ii_docset.specs.declared.docset.TheConstants.{TERMINATED}
 use Rattle.ii_definitions.specs.Fields.{option_of}
@@ -26,7 +27,7 @@ use Rattle.ii_reader.specs.OpenIndex.{FieldReaderHolds, IndexHolds, OpenIndexSta
 use Rattle.ii_reader.specs.SegmentPostings.{SegmentPostingsState}
 use Rattle.iiq.specs.declared.session.Session.{Session as SessionKept}
 use Rattle.iiq.specs.Known.{GathersCalls, GivesIndex, IsCall, IsOpen, Keeps, Knows, KnowsIndex}
-use Rattle.iiq.specs.Output.{list_text, look_up_text, key_text}
+use Rattle.iiq.specs.Output.{list_text, look_up_text, key_text, term_text}
 use Rattle.iiq.proofs.ReplyLemmas.{ok_no_err}
 use Rattle.iiq.specs.Session.{Session, gathering, opened, refused, Indexes, IsIndexed, fields, kept_with, num_docs_of, refusal_of}
 
@@ -150,9 +151,9 @@ gives_index schema n kept found schema_is n_is holds many known fault =
         ⊎_elim (λ same. inr (inl (why ∙ ap Some (sym (err_is (Err e) e f refl same))))) (λ memory. inl (err_is (Err e) e OutOfMemory refl memory)) known
 
 -- what a look-up in an open index answers
-pub looked_up : {E : Type 0} (kept : SessionKept) (t : Session) (index : OpenIndexState) (requested : IndexRecordOption) (field : ℕ) (key : List ℕ) (r : Result (String Global) E) → kept.index ≡ Some (Ok index) → Knows kept t
-    → ((ts : List IndexToken) → IsOpen index ts → IfOk r (λ text. string_bytes text ≡ key_text requested field key ts))
-    → IfOk r (λ text. string_bytes text ≡ look_up_text t requested field key)
-looked_up kept t index requested field key r is knows text =
+pub looked_up : {E : Type 0} (kept : SessionKept) (t : Session) (index : OpenIndexState) (requested : IndexRecordOption) (term : Option TermState) (r : Result (String Global) E) → kept.index ≡ Some (Ok index) → Knows kept t
+    → ((ts : List IndexToken) → IsOpen index ts → IfOk r (λ text. string_bytes text ≡ term_text requested term ts))
+    → IfOk r (λ text. string_bytes text ≡ look_up_text t requested term)
+looked_up kept t index requested term r is knows text =
     let o : (ts : List IndexToken) × (t ≡ opened ts) × IsOpen index ts = rw is at knows in
     rw o.1 (text o.0 o.2)

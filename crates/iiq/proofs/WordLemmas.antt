@@ -1,19 +1,21 @@
 -- Laws of parts and numbers.
-use Rattle.std.proofs.Common.{◌≡◌, ◌≢◌, ℕ, zero, suc, ◌+◌, ◌*◌, ◌-◌, ◌^◌, ◌<◌, Bool, true, false, ◌&&◌, List, [], ◌∷◌, length, take, drop, get_or, Some, None, Result, Ok, Err, nat_lt, nat_le, refl, sym, ap, arith, cond, eqb, not, subst}
+use Rattle.std.proofs.Common.{◌≡◌, ◌∙◌, ◌≢◌, ℕ, zero, suc, ◌+◌, ◌*◌, ◌-◌, ◌^◌, ◌<◌, Bool, true, false, ◌&&◌, ℤ, pos, neg_ℤ, List, [], ◌∷◌, length, take, drop, get_or, Some, None, Result, Ok, Err, nat_lt, nat_le, refl, sym, ap, arith, cond, eqb, eq-eqb, not, subst, w64}
 use Rattle.std.proofs.lemmas.List.Sums.{passes_at_first, prefix_len_passes}
-use Rattle.std.proofs.lemmas.Bool.{eqb-true, ltb-true, ltb-false, leb-true, not-true}
+use Rattle.std.proofs.lemmas.Bool.{eqb-true, lt-ltb, ltb-true, ltb-false, leb-true, not-true}
 use Rattle.std.proofs.lemmas.List.Splits.{slice_split_first, slice_split_none}
 use Rattle.std.proofs.lemmas.Str.{IsUtf8-from_ascii, IsUtf8-drop, IsCharBoundary-after_ascii}
-use Rattle.std.proofs.lemmas.Str.Parse.{IsNumeralModel, numerals_by_fold, tells_all_ascii_digits, parse_plain}
-use Rattle.std.specs.Str.Parse.{ParsesUnsigned}
+use Rattle.std.proofs.lemmas.Str.Parse.{IsNumeralModel, numerals_by_fold, tells_all_ascii_digits, parse_plain, parse_signed_minus, parse_signed_plain}
+use Rattle.std.specs.Prelude.{if◌then◌else◌}
+use Rattle.std.specs.Option.{option_map}
+use Rattle.std.specs.Str.Parse.{ParsesSigned, ParsesUnsigned}
 use Rattle.std.specs.List.{position, position_or_len, All}
 use Rattle.std.specs.Result.{result_ok, OkIff}
 use Rattle.std.specs.Char.{is_ascii_digit}
 use Rattle.std.specs.Str.{all_ascii_digits, IsUtf8}
 use Rattle.ii_io.specs.Steps.{◌>>=◌, needs}
-use Rattle.iiq.specs.Words.{parts, parts_left, number_on, number_below}
+use Rattle.iiq.specs.Words.{parts, parts_left, number_on, number_below, signed_number}
 
-some_if : (t : Bool) (n i : ℕ) → cond t (Some n) None ≡ Some i → (t ≡ true) × (n ≡ i)
+pub some_if : (t : Bool) (n i : ℕ) → cond t (Some n) None ≡ Some i → (t ≡ true) × (n ≡ i)
 some_if true n i e = (refl, cc)
 some_if false n i e = absurd (cc)
 
@@ -110,3 +112,71 @@ plus_first (c ∷ cs) e =
 -- a word that begins with a plus is no number
 pub number_plus : (word : List ℕ) → get_or word 0 0 ≡ 43 → None ≡ number_below (2 ^ 64) word
 number_plus word e = number_no_digits (2 ^ 64) word (plus_first word e)
+
+-- what std reads of a number, by a condition that means the same
+same_condition : {T E : Type 0} (r : Result T E) (P Q : Type 0) (v : T) → (P → Q) → (Q → P) → OkIff r P v → OkIff r Q v
+same_condition (Ok x) P Q v to from h = (to h.0, h.1)
+same_condition (Err e) P Q v to from h = λ q. h (from q)
+
+needed_by : {A : Type 0} (f : ℕ → A) (n : ℕ) (t : Bool) → option_map f (needs t >>= λ _. Some n) ≡ cond t (Some (f n)) None
+needed_by f n true = refl
+needed_by f n false = refl
+
+ok_by : {A E : Type 0} (r : Result A E) (P : Type 0) (t : Bool) (v : A) → (P → t ≡ true) → (t ≡ true → P) → OkIff r P v → result_ok r ≡ cond t (Some v) None
+ok_by (Ok x) P t v to from h = rw (to h.0, h.1) refl
+ok_by (Err e) P true v to from h = absurd (h (from refl))
+ok_by (Err e) P false v to from h = refl
+
+-- the condition of a number below a limit
+abbrev IsBelow : ℕ → List ℕ → Type 0
+IsBelow limit word = (all_ascii_digits word ≡ true) × (0 < length word) × (number_on 0 word < limit)
+
+below_read : {A E : Type 0} (f : ℕ → A) (limit : ℕ) (word : List ℕ) (r : Result A E) → OkIff r (IsBelow limit word) (f (number_on 0 word)) → result_ok r ≡ option_map f (number_below limit word)
+below_read f limit word r h =
+    let some = nat_lt 0 (length word) in
+    let digits = all_ascii_digits word in
+    let fits = nat_lt (number_on 0 word) limit in
+    ok_by r (IsBelow limit word) (some && digits && fits) (f (number_on 0 word))
+    (λ p. rw (lt-ltb 0 (length word) p.1, p.0, lt-ltb (number_on 0 word) limit p.2) refl)
+    (λ t. (and_right some digits (and_left (some && digits) fits t), ltb-true 0 (length word) (and_left some digits (and_left (some && digits) fits t)), ltb-true (number_on 0 word) limit (and_right (some && digits) fits t))) h
+    ∙ sym (needed_by f (number_on 0 word) (some && digits && fits))
+
+signed_by : {E : Type 0} (c : ℕ) (cs : List ℕ) (r : Result ℤ E) (minus : Bool) → eqb c 45 ≡ minus → ParsesSigned w64 10 (c ∷ cs) r → c ≢ 43
+    → result_ok r ≡ (if minus then option_map (λ n. neg_ℤ (pos n)) (number_below (2 ^ 63 + 1) cs) else option_map (λ n. pos n) (number_below (2 ^ 63) (c ∷ cs)))
+signed_by c cs r true e h plus =
+    below_read (λ n. neg_ℤ (pos n)) (2 ^ 63 + 1) cs r
+    (same_condition r _ (IsBelow (2 ^ 63 + 1) cs) (neg_ℤ (pos (number_on 0 cs)))
+    (λ p. (p.0, p.1, let low = p.2 in omega (arith, low)))
+    (λ q. (q.0, q.1, let low = q.2 in omega (arith, low)))
+    (parse_signed_minus own w64 (c ∷ cs) r h (eqb-true c 45 e)))
+signed_by c cs r false e h plus = below_read (λ n. pos n) (2 ^ 63) (c ∷ cs) r (parse_signed_plain own w64 (c ∷ cs) r h plus (λ same. let not : eqb c 45 ≡ true = eq-eqb c 45 same in cc))
+
+-- what std reads of a word that begins with no plus
+pub signed_read : {E : Type 0} (word text : List ℕ) (r : Result ℤ E) → text ≡ word → ParsesSigned w64 10 text r → get_or word 0 0 ≢ 43 → false ≡ (eqb (length word) 0) → result_ok r ≡ signed_number word
+signed_read [] text r e h plain some = absurd (cc)
+signed_read (c ∷ cs) text r e h plain some = signed_by c cs r (eqb c 45) refl (rw e at h) plain
+
+-- a word that begins with a plus is no signed number
+pub signed_plus : (word : List ℕ) → get_or word 0 0 ≡ 43 → None ≡ signed_number word
+signed_plus [] e = refl
+signed_plus (c ∷ cs) e =
+    let P : ℕ → Type 0 = λ b. None ≡ signed_number (b ∷ cs) in
+    subst P (sym e) (ap (option_map (λ n. pos n)) (number_no_digits (2 ^ 63) (43 ∷ cs) refl))
+
+ascii_after : (c : ℕ) (cs : List ℕ) → c < 128 → all_ascii_digits cs ≡ true → (i : ℕ) → get_or (c ∷ cs) i 0 < 128
+ascii_after c cs low digits zero = low
+ascii_after c cs low digits (suc i) = ascii_at cs digits i
+
+behind_minus : (c : ℕ) (cs : List ℕ) (digits : Bool) → c ≡ 45 → all_ascii_digits cs ≡ digits → ¬ (IsUtf8 (c ∷ cs)) → digits ≡ false
+behind_minus c cs true minus e h = absurd (h (IsUtf8-from_ascii (c ∷ cs) (ascii_after c cs (omega (arith, minus)) e)))
+behind_minus c cs false minus e h = refl
+
+signed_no_text_by : (c : ℕ) (cs : List ℕ) (minus : Bool) → eqb c 45 ≡ minus → ¬ (IsUtf8 (c ∷ cs))
+    → None ≡ (if minus then option_map (λ n. neg_ℤ (pos n)) (number_below (2 ^ 63 + 1) cs) else option_map (λ n. pos n) (number_below (2 ^ 63) (c ∷ cs)))
+signed_no_text_by c cs true e h = ap (option_map (λ n. neg_ℤ (pos n))) (number_no_digits (2 ^ 63 + 1) cs (behind_minus c cs (all_ascii_digits cs) (eqb-true c 45 e) refl h))
+signed_no_text_by c cs false e h = ap (option_map (λ n. pos n)) (number_no_digits (2 ^ 63) (c ∷ cs) (no_text_cases (c ∷ cs) (all_ascii_digits (c ∷ cs)) refl h))
+
+-- a word that is no text is no signed number
+pub signed_no_text : (word : List ℕ) → ¬ (IsUtf8 word) → None ≡ signed_number word
+signed_no_text [] h = refl
+signed_no_text (c ∷ cs) h = signed_no_text_by c cs (eqb c 45) refl h

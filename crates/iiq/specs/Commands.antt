@@ -2,29 +2,37 @@
 use Rattle.std.specs.Prelude.{ℕ, ◌^◌, List, [], ◌∷◌, length, if◌then◌else◌, nat_lt, Option, Some, None, option_map, codes}
 use Rattle.std.specs.List.{join_with_byte}
 use Rattle.std.specs.Str.{bytes_eq}
-use Rattle.ii_base.specs.Values.{u64_bytes}
+use Rattle.ii_base.specs.Json.{Leaf, text_leaf, u64_leaf, unsupported, value_leaf}
+use Rattle.ii_base.specs.Paths.{has_zero, joined_segments, segments_of}
+use Rattle.ii_base.specs.Terms.{TermState}
+use Rattle.ii_base.specs.Values.{flipped, json_key, number_of_bool, text_key, typed_key, u64_bytes}
+use Rattle.ii_base.specs.declared.schema.value_type.ValueType.TheVariants as types
 use Rattle.ii_base.specs.declared.schema.index_record_option.IndexRecordOption.{IndexRecordOption}
 use Rattle.ii_base.specs.declared.schema.index_record_option.IndexRecordOption.TheVariants.{Basic, WithFreqs, WithFreqsAndPositions}
 use Rattle.ii_io.specs.Steps.{◌>>=◌, needs}
 use Rattle.ii_docset.specs.declared.docset.TheConstants.{TERMINATED}
 use Rattle.ii_docset.specs.Entries.{are_documents}
-use Rattle.ii_definitions.specs.Tokens.{Call, text, value}
-use Rattle.iiq.specs.Words.{line_words, number_below, numbers_below, bytes_of_word}
+use Rattle.ii_definitions.specs.Tokens.{Call, leaves, text, value}
+use Rattle.iiq.specs.Words.{line_words, number_below, numbers_below, signed_number, truth_of_word, bytes_of_word}
 
--- A look-up has the option that is asked for, the field, and the key.
+-- A look-up has the option that is asked for, and the term, if there is one.
 pub data Command : Type 0 where
   show_ids : List ℕ → Command
   open_list : IndexRecordOption → IndexRecordOption → ℕ → List ℕ → Option (List ℕ) → Command
   index_call : Call → Command
-  look_up : IndexRecordOption → ℕ → List ℕ → Command
+  look_up : IndexRecordOption → Option TermState → Command
 
--- the field of texts, and the field of numbers
+-- the field of texts
 abbrev pub text_field : ℕ
 text_field = 0
 
 -- the field of numbers
 abbrev pub num_field : ℕ
 num_field = 1
+
+-- the field of JSON values
+abbrev pub leaf_field : ℕ
+leaf_field = 2
 
 -- the option that a word names
 abbrev pub option_of_word : List ℕ → Option IndexRecordOption
@@ -89,16 +97,80 @@ num_command words = do
 abbrev pub key_of_word : List ℕ → Option (List ℕ)
 key_of_word word = needs (nat_lt 0 (length word)) >>= λ _. Some word
 
+-- the leaf that a word is by its kind: a text, a signed or an unsigned number, or a truth value
+abbrev pub leaf_of_word : List ℕ → List ℕ → Option Leaf
+leaf_of_word kind word =
+    if bytes_eq kind (codes "s") then option_map (λ letters. text_leaf letters) (key_of_word word)
+    else if bytes_eq kind (codes "i") then option_map (λ number. value_leaf types.I64 (flipped number)) (signed_number word)
+    else if bytes_eq kind (codes "u") then option_map u64_leaf (number_below (2 ^ 64) word)
+    else if bytes_eq kind (codes "o") then option_map (λ truth. value_leaf types.Bool (number_of_bool truth)) (truth_of_word word)
+    else None
+
+-- a leaf, where there is one
+abbrev pub optional : Leaf → Option Leaf
+optional leaf = Some leaf
+
+-- a null has no word, and is no leaf
+abbrev pub null_of_words : List (List ℕ) → Option (Option Leaf)
+null_of_words [] = Some None
+null_of_words (word ∷ words) = None
+
+-- the leaf that a kind and a word are, or none for a null
+abbrev pub leaf_of_words : List (List ℕ) → Option (Option Leaf)
+leaf_of_words [] = None
+leaf_of_words (kind ∷ words) =
+    if bytes_eq kind (codes "n") then null_of_words words
+    else option_map optional (last_by (leaf_of_word kind) words)
+
+-- the leaves of a JSON value that has a leaf at a path: none for a null, nor where the path holds byte 0
+abbrev pub leaves_at : List ℕ → Option Leaf → List (List ℕ × Leaf)
+leaves_at path None = []
+leaves_at path (Some leaf) = if has_zero path then [] else (joined_segments (segments_of path), leaf) ∷ []
+
+-- the leaves that a path, a kind and a word write
+abbrev pub path_leaves : List (List ℕ) → Option (List (List ℕ × Leaf))
+path_leaves words = do
+  path ← next_by key_of_word words
+  leaf ← leaf_of_words path.1
+  Some (leaves_at path.0 leaf)
+
+-- what the words after `leaf` ask for
+abbrev pub leaf_command : List (List ℕ) → Option Command
+leaf_command words = do
+  doc ← next_by (number_below TERMINATED) words
+  found ← path_leaves doc.1
+  Some (index_call (record { doc = doc.0; field = leaf_field; content = leaves found }))
+
 -- what the words after `? text` ask for
 abbrev pub text_query : List (List ℕ) → Option Command
 text_query words = do
   option ← next_by option_of_word words
   key ← last_by key_of_word option.1
-  Some (look_up option.0 text_field key)
+  Some (look_up option.0 (Some (record { field = text_field; value = key })))
 
 -- what the words after `? num` ask for
 abbrev pub num_query : List (List ℕ) → Option Command
-num_query words = option_map (λ number. look_up Basic num_field (u64_bytes number)) (last_by (number_below (2 ^ 64)) words)
+num_query words = do
+  number ← last_by (number_below (2 ^ 64)) words
+  Some (look_up Basic (Some (record { field = num_field; value = u64_bytes number })))
+
+-- the key of a leaf below its path; no line writes one that is unsupported
+abbrev pub leaf_key : Leaf → List ℕ
+leaf_key (text_leaf letters) = text_key letters
+leaf_key (value_leaf t n) = typed_key t n
+leaf_key (unsupported kind) = []
+
+-- the term of the first of leaves, if there is one
+abbrev pub leaf_term : List (List ℕ × Leaf) → Option TermState
+leaf_term [] = None
+leaf_term (l ∷ ls) = Some (record { field = leaf_field; value = json_key l.0 (leaf_key l.1) })
+
+-- what the words after `? leaf` ask for
+abbrev pub leaf_query : List (List ℕ) → Option Command
+leaf_query words = do
+  option ← next_by option_of_word words
+  found ← path_leaves option.1
+  Some (look_up option.0 (leaf_term found))
 
 -- a look-up, by the word behind the question mark
 abbrev pub query_command : List (List ℕ) → Option Command
@@ -106,6 +178,7 @@ query_command [] = None
 query_command (word ∷ words) =
     if bytes_eq word (codes "text") then text_query words
     else if bytes_eq word (codes "num") then num_query words
+    else if bytes_eq word (codes "leaf") then leaf_query words
     else None
 
 -- a line of words, by its first one
@@ -116,6 +189,7 @@ words_command (word ∷ words) =
     else if bytes_eq word (codes "open") then open_command words
     else if bytes_eq word (codes "text") then text_command words
     else if bytes_eq word (codes "num") then num_command words
+    else if bytes_eq word (codes "leaf") then leaf_command words
     else if bytes_eq word (codes "?") then query_command words
     else None
 

@@ -1,8 +1,11 @@
 -- The program's records, as what they stand for.
-use Rattle.std.specs.Prelude.{◌≡◌, ℕ, ◌<◌, ◌≤◌, false, true, Bool, List, [], ◌∷◌, length, map, Option, None, Some, MatchOption, Result, Ok, Err}
+use Rattle.std.specs.Prelude.{◌≡◌, ℕ, ◌<◌, ◌≤◌, false, true, Bool, List, [], ◌∷◌, length, map, Option, None, Some, MatchOption, Result, Ok, Err, unwrap_or}
 use Rattle.std.specs.Option.{option_map}
 use Rattle.ii_io.specs.declared.faults.Fault.{Fault}
+use Rattle.ii_base.specs.Json.{Json, Leaf, leaf, null, text_leaf, u64_leaf, value_leaf}
 use Rattle.ii_base.specs.Options.{downgrade}
+use Rattle.ii_base.specs.Values.{flipped, number_of_bool}
+use Rattle.ii_base.specs.declared.schema.value_type.ValueType.TheVariants as types
 use Rattle.ii_docset.specs.declared.docset.TheConstants.{TERMINATED}
 use Rattle.ii_layout.specs.TermList.{term_list}
 use Rattle.ii_definitions.specs.Tokens.{Call, IndexToken}
@@ -11,8 +14,11 @@ use Rattle.ii_indexing.specs.IndexCalls.{MayAllBeIndexed, Takes, call_of, doc_of
 use Rattle.ii_reader.specs.OpenIndex.{OpenIndexState, ReadersHold}
 use Rattle.iiq.specs.declared.commands.Opening.{Opening}
 use Rattle.iiq.specs.declared.commands.Query.{Query}
+use Rattle.iiq.specs.declared.leaves.LeafValue.{LeafValue}
+use Rattle.iiq.specs.declared.leaves.LeafValue.TheVariants.{Null, Signed, Text, Truth, Unsigned}
+use Rattle.iiq.specs.declared.leaves.PathValue.{PathValue}
 use Rattle.iiq.specs.declared.session.Session.{Session as SessionKept}
-use Rattle.iiq.specs.Commands.{Command, index_call, look_up, open_list}
+use Rattle.iiq.specs.Commands.{Command, index_call, leaf_key, leaves_at, look_up, open_list}
 use Rattle.iiq.specs.Output.{AnswersLine, AnswersMaybe, opened_text, with_ends}
 use Rattle.iiq.specs.Session.{Session, gathering, opened, refused, IsIndexed, fields, kept_with, num_docs_of}
 
@@ -26,7 +32,28 @@ call_command call = index_call (call_of fields call)
 
 -- what a query asks for
 abbrev pub query_look_up : Query → Command
-query_look_up q = look_up q.requested q.term.field q.term.value
+query_look_up q = look_up q.requested q.term
+
+-- the leaf that a value is: none for a null
+abbrev pub leaf_of : LeafValue → Option Leaf
+leaf_of Null = None
+leaf_of (Text letters) = Some (text_leaf letters.now)
+leaf_of (Signed number) = Some (value_leaf types.I64 (flipped number))
+leaf_of (Unsigned number) = Some (u64_leaf number)
+leaf_of (Truth truth) = Some (value_leaf types.Bool (number_of_bool truth))
+
+-- a value by itself: null, or a leaf
+abbrev pub json_alone : Option Leaf → Json
+json_alone None = null
+json_alone (Some l) = leaf l
+
+-- what a value adds to the key of its path
+abbrev pub key_of : LeafValue → List ℕ
+key_of value = unwrap_or (option_map leaf_key (leaf_of value)) []
+
+-- the leaves of a value at its path
+abbrev pub leaves_of : PathValue → List (List ℕ × Leaf)
+leaves_of at = leaves_at at.path.now (leaf_of at.value)
 
 -- A call is for a field of the schema, and for a document.
 pub record IsCall (call : IndexCall) : Type 0 where

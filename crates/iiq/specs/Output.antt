@@ -6,6 +6,7 @@ use Rattle.std.specs.Io.KnownBytes.{Appends}
 use Rattle.ii_base.specs.declared.schema.index_record_option.IndexRecordOption.{IndexRecordOption}
 use Rattle.ii_base.specs.declared.schema.index_record_option.IndexRecordOption.TheVariants.{Basic, WithFreqs, WithFreqsAndPositions}
 use Rattle.ii_base.specs.Options.{downgrade}
+use Rattle.ii_base.specs.Terms.{TermState}
 use Rattle.ii_io.specs.Faults.{number_of}
 use Rattle.ii_io.specs.declared.faults.Part.{Part}
 use Rattle.ii_io.specs.declared.faults.Part.TheVariants.{Skip, Documents, Frequencies, Positions}
@@ -58,11 +59,16 @@ key_text requested field key ts =
     let option = option_of fields field in
     if occurs field key ts then list_text (downgrade option requested) (key_postings option field key requested ts) else codes "none"
 
+-- so it is for a term; there are none of no term
+abbrev pub term_text : IndexRecordOption → Option TermState → List IndexToken → List ℕ
+term_text requested None ts = codes "none"
+term_text requested (Some term) ts = key_text requested term.field term.value ts
+
 -- what a look-up is answered with, once there is an index
-abbrev pub look_up_text : Session → IndexRecordOption → ℕ → List ℕ → List ℕ
-look_up_text (gathering calls) requested field key = []
-look_up_text (opened ts) requested field key = key_text requested field key ts
-look_up_text (refused fault) requested field key = codes "error " ++ decimal (number_of fault)
+abbrev pub look_up_text : Session → IndexRecordOption → Option TermState → List ℕ
+look_up_text (gathering calls) requested term = []
+look_up_text (opened ts) requested term = term_text requested term ts
+look_up_text (refused fault) requested term = codes "error " ++ decimal (number_of fault)
 
 -- what documents are answered with: their bytes, and the list of them
 abbrev pub ids_texts : List ℕ → List (List ℕ)
@@ -74,7 +80,7 @@ AnswersCommand old (show_ids docs) new texts = (new ≡ old) × (texts ≡ Some 
 AnswersCommand old (open_list recorded requested doc_freq bytes positions) new texts =
     (new ≡ old) × (texts ≡ Some (opened_text (downgrade recorded requested) (term_list recorded requested doc_freq bytes positions) ∷ []))
 AnswersCommand old (index_call c) new texts = MatchOption (kept_with old c) ((new ≡ old) × (texts ≡ None)) (λ kept. (new ≡ kept) × (texts ≡ Some []))
-AnswersCommand old (look_up requested field key) new texts = Indexes old new × (texts ≡ Some (look_up_text new requested field key ∷ []))
+AnswersCommand old (look_up requested term) new texts = Indexes old new × (texts ≡ Some (look_up_text new requested term ∷ []))
 
 -- So it is for a line, if it is well formed.
 abbrev pub AnswersMaybe : Session → Option Command → Session → Option (List (List ℕ)) → Type 0

@@ -6,17 +6,18 @@ use Rattle.ii_io.specs.declared.faults.Fault.TheVariants.{OutOfMemory}
 use Rattle.ii_base.specs.Schema.{SchemaEntry}
 use Rattle.ii_base.specs.AsciiWords.{ascii_words}
 use Rattle.ii_base.specs.declared.schema.index_record_option.IndexRecordOption.TheVariants.{Basic, WithFreqsAndPositions}
-use Rattle.ii_base.specs.declared.schema.value_type.ValueType.TheVariants.{Str, U64}
+use Rattle.ii_base.specs.declared.schema.value_type.ValueType.TheVariants.{Json, Str, U64}
 use Rattle.ii_definitions.specs.Fields.{option_of}
 use Rattle.ii_definitions.specs.Tokens.{Call, IndexToken, tokens_of}
 use Rattle.ii_indexing.specs.Refusals.{calls_fault}
 use Rattle.ii_ram.specs.Ram.{IsRamFault}
 
--- the schema: texts with positions, and numbers
+-- the schema: texts with positions, numbers, and JSON values whose texts have positions
 abbrev pub fields : List SchemaEntry
 fields =
     record { name = codes "text"; value_type = Str; option = WithFreqsAndPositions; is_indexed = true; has_fieldnorms = false; expands_dots = false }
     ∷ record { name = codes "num"; value_type = U64; option = Basic; is_indexed = true; has_fieldnorms = false; expands_dots = false }
+    ∷ record { name = codes "leaf"; value_type = Json; option = WithFreqsAndPositions; is_indexed = true; has_fieldnorms = false; expands_dots = false }
     ∷ []
 
 -- Calls are gathered until the first look-up; from then on there is the index of their tokens, or the fault that refused it.

@@ -1,8 +1,9 @@
 -- Lines, words, numbers and bytes in a text.
-use Rattle.std.specs.Prelude.{ℕ, ◌+◌, ◌-◌, ◌*◌, ◌&&◌, List, [], ◌∷◌, length, nat_lt, ◌==◌, if◌then◌else◌, Option, Some, None}
-use Rattle.std.specs.List.{slice_split}
+use Rattle.std.specs.Prelude.{ℕ, ◌+◌, ◌-◌, ◌*◌, ◌^◌, Bool, true, false, ℤ, pos, neg_ℤ, ◌&&◌, List, [], ◌∷◌, length, nat_lt, ◌==◌, if◌then◌else◌, Option, Some, None, codes}
+use Rattle.std.specs.List.{AllByRecursion, slice_split}
+use Rattle.std.specs.Option.{option_map}
 use Rattle.std.specs.Result.{result_ok}
-use Rattle.std.specs.Str.{all_ascii_digits, bytes_eq}
+use Rattle.std.specs.Str.{IsUtf8, all_ascii_digits, bytes_eq}
 use Rattle.hex.specs.Hex.{encode_lower, decode_of}
 use Rattle.ii_io.specs.Steps.{◌>>=◌, needs}
 
@@ -23,6 +24,10 @@ lines_of text = parts 10 text
 abbrev pub line_words : List ℕ → List (List ℕ)
 line_words line = parts 32 line
 
+-- Each of these is text.
+abbrev pub AreTexts : List (List ℕ) → Type 0
+AreTexts words = AllByRecursion IsUtf8 words
+
 -- the number that decimal digits write after another
 abbrev pub number_on : ℕ → List ℕ → ℕ
 number_on n [] = n
@@ -33,6 +38,20 @@ abbrev pub number_below : ℕ → List ℕ → Option ℕ
 number_below limit word = do
   _ ← needs (nat_lt 0 (length word) && all_ascii_digits word && nat_lt (number_on 0 word) limit)
   Some (number_on 0 word)
+
+-- the signed number of 64 bits that a word of decimal digits writes, behind a minus or not
+abbrev pub signed_number : List ℕ → Option ℤ
+signed_number [] = None
+signed_number (c ∷ cs) =
+    if c == 45 then option_map (λ n. neg_ℤ (pos n)) (number_below (2 ^ 63 + 1) cs)
+    else option_map (λ n. pos n) (number_below (2 ^ 63) (c ∷ cs))
+
+-- the truth value that a word spells
+abbrev pub truth_of_word : List ℕ → Option Bool
+truth_of_word word =
+    if bytes_eq word (codes "true") then Some true
+    else if bytes_eq word (codes "false") then Some false
+    else None
 
 -- the numbers that words write, each below a limit
 abbrev pub numbers_below : ℕ → List (List ℕ) → Option (List ℕ)

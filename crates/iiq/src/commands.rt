@@ -2,11 +2,12 @@ ghost use Rattle.std.specs.Prelude.{◌≡◌, ◌^◌, ◌<◌, ◌≤◌, leng
 ghost use Rattle.std.specs.Option.{option_copied, option_map};
 ghost use Rattle.std.specs.List.{join_with_byte};
 ghost use Rattle.std.specs.Str.{IsUtf8};
-ghost use Rattle.iiq.specs.Words.{number_below, bytes_of_word, parts_left};
-ghost use Rattle.iiq.specs.Commands.{documents_of_words, last_by, next_by, num_command, num_query, open_command, option_of_word, positions_of_words, query_command, text_command, text_query};
+ghost use Rattle.iiq.specs.Words.{AreTexts, number_below, bytes_of_word, parts_left};
+ghost use Rattle.iiq.specs.Commands.{documents_of_words, key_of_word, last_by, leaf_command, leaf_query, next_by, num_command, num_query, open_command, option_of_word, positions_of_words, query_command, text_command, text_query};
 ghost use Rattle.iiq.specs.Known.{IsCall, call_command, opening_command, query_look_up};
 ghost use Rattle.iiq.specs.Session.{fields};
 
+use crate::leaves::path_value;
 use crate::parts::{Parts, cut};
 use crate::words::{bytes_of, number, number_up_to, option_of};
 use bytes::Bytes;
@@ -25,11 +26,11 @@ pub struct Opening {
     pub positions: Option<Bytes>,
 }
 
-/// What a line looks up: a term, and what is asked for of its postings.
+/// What a line looks up: a term, if there is one, and what is asked for of its postings.
 #[derive(Drop)]
 pub struct Query {
     pub requested: IndexRecordOption,
-    pub term: Term,
+    pub term: Option<Term>,
 }
 
 /// The documents that words write: ascending strictly, below `TERMINATED`.
@@ -181,10 +182,27 @@ pub fn num_call(words: &mut Parts<'_>) -> Option<IndexCall>
     Some(IndexCall::U64(doc, Field::from_field_id(1), number))
 }
 
+/// The document and the JSON value that the words after `leaf` name.
+pub fn leaf_call(alloc: Global, words: &mut Parts<'_>) -> Result<Option<IndexCall>, AllocError>
+    requires { AreTexts words.old }
+    ensures call { IfOk result (λ call. option_map call_command call ≡ leaf_command words.old) }
+    ensures lawful { IfOk result (λ call. IfSome call IsCall) }
+{
+    let Some(doc) = next_number(words, u64::from(TERMINATED)) else {
+        return Ok(None);
+    };
+    let Some(found) = path_value(words) else {
+        return Ok(None);
+    };
+    let value = found.json_value(alloc)?;
+    Ok(Some(IndexCall::Json(doc, Field::from_field_id(2), value)))
+}
+
 /// What the words after the question mark look up.
 pub fn term_to_look_up(alloc: Global, words: &mut Parts<'_>) -> Result<Option<Query>, AllocError>
+    requires { AreTexts words.old }
     ensures query { IfOk result (λ query. option_map query_look_up query ≡ query_command words.old) }
-    ensures field { IfOk result (λ query. IfSome query (λ q. q.term.field < length fields)) }
+    ensures field { IfOk result (λ query. IfSome query (λ q. IfSome q.term (λ t. t.field < length fields))) }
 {
     let Some(word) = words.next() else {
         return Ok(None);
@@ -195,13 +213,16 @@ pub fn term_to_look_up(alloc: Global, words: &mut Parts<'_>) -> Result<Option<Qu
     if word == b"num".as_slice() {
         return num_query(alloc, words);
     }
+    if word == b"leaf".as_slice() {
+        return leaf_query(alloc, words);
+    }
     Ok(None)
 }
 
 // An option, and a text as it stands.
 fn text_query(alloc: Global, words: &mut Parts<'_>) -> Result<Option<Query>, AllocError>
     ensures query { IfOk result (λ query. option_map query_look_up query ≡ text_query words.old) }
-    ensures field { IfOk result (λ query. IfSome query (λ q. q.term.field < length fields)) }
+    ensures field { IfOk result (λ query. IfSome query (λ q. IfSome q.term (λ t. t.field < length fields))) }
 {
     let Some(requested) = next_option(words) else {
         return Ok(None);
@@ -216,13 +237,14 @@ fn text_query(alloc: Global, words: &mut Parts<'_>) -> Result<Option<Query>, All
     let Ok(term) = Term::from_field_bytes(alloc, field, word) else {
         return Err(AllocError);
     };
+    let term = Some(term);
     Ok(Some(Query { requested, term }))
 }
 
 // A number.
 fn num_query(alloc: Global, words: &mut Parts<'_>) -> Result<Option<Query>, AllocError>
     ensures query { IfOk result (λ query. option_map query_look_up query ≡ num_query words.old) }
-    ensures field { IfOk result (λ query. IfSome query (λ q. q.term.field < length fields)) }
+    ensures field { IfOk result (λ query. IfSome query (λ q. IfSome q.term (λ t. t.field < length fields))) }
 {
     let Some(number) = last_number(words) else {
         return Ok(None);
@@ -232,11 +254,42 @@ fn num_query(alloc: Global, words: &mut Parts<'_>) -> Result<Option<Query>, Allo
         return Err(AllocError);
     };
     let requested = IndexRecordOption::Basic;
+    let term = Some(term);
     Ok(Some(Query { requested, term }))
 }
 
+// An option, and a value at a path of the JSON field.
+fn leaf_query(alloc: Global, words: &mut Parts<'_>) -> Result<Option<Query>, AllocError>
+    requires { AreTexts words.old }
+    ensures query { IfOk result (λ query. option_map query_look_up query ≡ leaf_query words.old) }
+    ensures field { IfOk result (λ query. IfSome query (λ q. IfSome q.term (λ t. t.field < length fields))) }
+{
+    let Some(requested) = next_option(words) else {
+        return Ok(None);
+    };
+    let Some(found) = path_value(words) else {
+        return Ok(None);
+    };
+    let term = found.term(alloc)?;
+    Ok(Some(Query { requested, term }))
+}
+
+// The next word, if it isn't empty.
+pub fn next_word<'a>(words: &mut Parts<'a>) -> Option<&'a [u8]>
+    ensures word { MatchOption result (next_by key_of_word words.old ≡ None)
+        (λ word. next_by key_of_word words.old ≡ Some (word.now, words.new)) }
+{
+    let Some(word) = words.next() else {
+        return None;
+    };
+    if word.is_empty() {
+        return None;
+    }
+    Some(word)
+}
+
 // The one word that is left.
-fn last_word<'a>(words: &mut Parts<'a>) -> Option<&'a [u8]>
+pub fn last_word<'a>(words: &mut Parts<'a>) -> Option<&'a [u8]>
     ensures { option_copied result ≡ last_by (λ word. Some word) words.old }
 {
     let Some(word) = words.next() else {

@@ -1,8 +1,9 @@
-//! A program that indexes texts and numbers and looks terms up, and that writes, opens and walks lists
+//! A program that indexes texts, numbers and JSON values and looks terms up, and that writes, opens and walks lists
 //! of documents, by lines of commands.
 #![tactic(auto)]
 
 mod commands;
+mod leaves;
 mod output;
 mod parts;
 mod replies;

@@ -1,7 +1,7 @@
 ghost use Rattle.std.specs.Prelude.{◌≡◌, ◌<◌, ◌==◌, [], ◌∷◌, IfNone, IfSome, MatchOption, position};
 ghost use Rattle.std.specs.Str.{IsUtf8};
 ghost use Rattle.std.specs.Option.{option_copied};
-ghost use Rattle.iiq.specs.Words.{parts, parts_left};
+ghost use Rattle.iiq.specs.Words.{AreTexts, parts, parts_left};
 
 use std::marker::Model;
 
@@ -35,7 +35,8 @@ impl<'a> Parts<'a> {
 
     /// The parts of a text that is left, if one is.
     pub fn left(rest: Option<&'a [u8]>, separator: u8) -> Parts<'a>
-        ensures { result ≡ parts_left separator (option_copied rest.entry) }
+        ensures parts { result ≡ parts_left separator (option_copied rest.entry) }
+        ensures texts { separator < 128 → IfSome rest.entry (λ text. IsUtf8 text.now) → AreTexts result }
     {
         Parts { separator, rest }
     }

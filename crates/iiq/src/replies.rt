@@ -7,9 +7,11 @@ ghost use Rattle.iiq.specs.Commands.{Command, ids_command, open_command, query_c
 ghost use Rattle.iiq.specs.Known.{Answers, AnswersAlone, IsCall, IsReply, IsSession, Knows, call_command, open_texts};
 ghost use Rattle.iiq.specs.Output.{ids_texts, with_ends};
 ghost use Rattle.iiq.specs.Session.{Session as SessionState};
-ghost use Rattle.iiq.specs.Words.{parts_left};
+ghost use Rattle.iiq.specs.Words.{AreTexts};
 
-use crate::commands::{Opening, documents, list_to_open, num_call, term_to_look_up, text_call};
+use crate::commands::{
+    Opening, documents, leaf_call, list_to_open, num_call, term_to_look_up, text_call,
+};
 use crate::output::{hex_text, name_of, push_list, written};
 use crate::parts::{Parts, cut};
 use crate::session::Session;
@@ -57,6 +59,10 @@ fn command_reply(
         let call = num_call(&mut words);
         return call_reply(alloc, session, call);
     }
+    if word == b"leaf".as_slice() {
+        let call = leaf_call(alloc, &mut words)?;
+        return call_reply(alloc, session, call);
+    }
     if word == b"?".as_slice() {
         return query_reply(alloc, session, &mut words);
     }
@@ -94,7 +100,8 @@ fn query_reply(
     session: &mut Session,
     words: &mut Parts<'_>,
 ) -> Result<Option<String>, AllocError>
-    requires { IsSession session.old }
+    requires session { IsSession session.old }
+    requires words { AreTexts words.old }
     ensures { (s : SessionState) → Knows session.old s → IfOk result (λ reply. Answers s (query_command words.old) session.new (option_map string_bytes reply)) }
 {
     let Some(query) = term_to_look_up(alloc, words)? else {

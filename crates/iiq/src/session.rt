@@ -1,15 +1,15 @@
-ghost use Rattle.std.specs.Prelude.{◌≡◌, ◌++◌, ◌<◌, ◌≤◌, [], List, length, map, codes, decimal, string_bytes, IfOk};
+ghost use Rattle.std.specs.Prelude.{◌≡◌, ◌++◌, ◌<◌, ◌≤◌, [], List, length, map, codes, decimal, string_bytes, IfOk, IfSome};
 ghost use Rattle.ii_io.specs.Faults.{OnlyMemory, number_of};
 ghost use Rattle.ii_docset.specs.declared.docset.TheConstants.{TERMINATED};
 ghost use Rattle.ii_definitions.specs.Tokens.{IndexToken};
 ghost use Rattle.ii_indexing.specs.IndexCalls.{MayAllBeIndexed, call_of};
 ghost use Rattle.iiq.specs.Known.{GivesIndex, IsCall, IsOpen, IsSession, Keeps, Knows};
-ghost use Rattle.iiq.specs.Output.{key_text, look_up_text};
+ghost use Rattle.iiq.specs.Output.{key_text, look_up_text, term_text};
 ghost use Rattle.iiq.specs.Session.{Session as SessionState, gathering, Indexes, fields, num_docs_of};
 
 use crate::commands::Query;
 use crate::output::push_list;
-use ii_base::{AsciiTokenizer, Fault, FieldEntry, IndexRecordOption, Schema, ValueType};
+use ii_base::{AsciiTokenizer, Fault, FieldEntry, IndexRecordOption, Schema, Term, ValueType};
 use ii_docset::DocId;
 use ii_indexing::IndexCall;
 use ii_ram::index_in_ram;
@@ -61,14 +61,14 @@ impl Session {
     /// occur; `error` and the fault's number where the index of the calls was refused.
     pub fn look_up(&mut self, alloc: Global, query: &Query) -> Result<String, AllocError>
         requires session { IsSession self.old }
-        requires field { query.now.term.field < length fields }
+        requires field { IfSome query.now.term (λ t. t.field < length fields) }
         ensures { (s : SessionState) → Knows self.old s → (t : SessionState) × Indexes s t × Knows self.new t
-            × IfOk result (λ text. string_bytes text ≡ look_up_text t query.now.requested query.now.term.field query.now.term.value) }
+            × IfOk result (λ text. string_bytes text ≡ look_up_text t query.now.requested query.now.term) }
     {
         self.open(alloc);
         match &self.index {
             None => Ok(String::new(alloc)),
-            Some(Ok(index)) => list_text(alloc, index, query),
+            Some(Ok(index)) => query_text(alloc, index, query),
             Some(Err(fault)) => error_text(alloc, *fault),
         }
     }
@@ -97,7 +97,7 @@ fn index_of(alloc: Global, calls: Vec<IndexCall>, num_docs: DocId) -> Result<Ope
     index_in_ram(alloc, schema, num_docs, calls, &AsciiTokenizer)
 }
 
-// A field of texts with positions, and one of numbers.
+// A field of texts with positions, one of numbers, and one of JSON values, whose texts have positions.
 fn schema(alloc: Global) -> Result<Schema, Fault>
     ensures ok { IfOk result (λ schema. schema ≡ fields) }
     ensures only { OnlyMemory result }
@@ -108,22 +108,42 @@ fn schema(alloc: Global) -> Result<Schema, Fault>
     entries.push(FieldEntry::text(name, option, false))?;
     let name = String::from_str(alloc, "num")?;
     entries.push(FieldEntry::value(name, ValueType::U64, false))?;
+    let name = String::from_str(alloc, "leaf")?;
+    entries.push(FieldEntry::json(name, option, false))?;
     Ok(Schema::new(entries))
 }
 
-// The list of a term in an index, or `none`.
-fn list_text(alloc: Global, index: &OpenIndex, query: &Query) -> Result<String, AllocError>
+// What a query finds in an index: nothing where there is no term.
+fn query_text(alloc: Global, index: &OpenIndex, query: &Query) -> Result<String, AllocError>
     requires many { length index.now.readers ≡ length fields }
-    requires field { query.now.term.field < length fields }
+    requires field { IfSome query.now.term (λ t. t.field < length fields) }
     ensures { (ts : List IndexToken) → IsOpen index.now ts
-        → IfOk result (λ text. string_bytes text ≡ key_text query.now.requested query.now.term.field query.now.term.value ts) }
+        → IfOk result (λ text. string_bytes text ≡ term_text query.now.requested query.now.term ts) }
 {
-    let reader = index.reader(query.term.field());
-    match reader.read_postings(&query.term, query.requested) {
+    match &query.term {
+        None => String::from_str(alloc, "none"),
+        Some(term) => list_text(alloc, index, term, query.requested),
+    }
+}
+
+// The list of a term in an index, or `none`.
+fn list_text(
+    alloc: Global,
+    index: &OpenIndex,
+    term: &Term,
+    requested: IndexRecordOption,
+) -> Result<String, AllocError>
+    requires many { length index.now.readers ≡ length fields }
+    requires field { term.now.field < length fields }
+    ensures { (ts : List IndexToken) → IsOpen index.now ts
+        → IfOk result (λ text. string_bytes text ≡ key_text requested term.now.field term.now.value ts) }
+{
+    let reader = index.reader(term.field());
+    match reader.read_postings(term, requested) {
         Ok(None) => String::from_str(alloc, "none"),
         Ok(Some(mut cursor)) => {
             let mut text = String::new(alloc);
-            let option = reader.record_option().downgrade(query.requested);
+            let option = reader.record_option().downgrade(requested);
             push_list(alloc, &mut text, &mut cursor, option)?;
             Ok(text)
         }

@@ -1,12 +1,12 @@
 ghost use Rattle.std.specs.Prelude.{◌≡◌, ◌^◌, ◌<◌, ◌≤◌, IfOk, IfSome};
 ghost use Rattle.std.specs.Option.{option_map};
-ghost use Rattle.iiq.specs.Words.{number_below, bytes_of_word};
+ghost use Rattle.iiq.specs.Words.{number_below, bytes_of_word, signed_number, truth_of_word};
 ghost use Rattle.iiq.specs.Commands.{option_of_word};
 
 use ii_base::IndexRecordOption;
 use std::alloc::{AllocError, Global};
 
-// The sign that `parse` takes in front of digits.
+// The sign that `parse` takes in front of digits, and a line doesn't.
 const PLUS: u8 = b'+';
 
 /// The number of 64 bits that decimal digits write.
@@ -36,6 +36,35 @@ pub fn number_up_to(word: &[u8], limit: u64) -> Option<u32>
     };
     if value < limit {
         Some(value as u32)
+    } else {
+        None
+    }
+}
+
+/// The signed number of 64 bits that decimal digits write, behind a minus or not.
+pub fn signed_number(word: &[u8]) -> Option<i64>
+    ensures { result ≡ signed_number word.now }
+{
+    if word.is_empty() {
+        return None;
+    }
+    if word[0] == PLUS {
+        return None;
+    }
+    let Ok(text) = std::str::from_utf8(word) else {
+        return None;
+    };
+    text.parse().ok()
+}
+
+/// The truth value that a word spells.
+pub fn truth_of(word: &[u8]) -> Option<bool>
+    ensures { result ≡ truth_of_word word.now }
+{
+    if word == b"true".as_slice() {
+        Some(true)
+    } else if word == b"false".as_slice() {
+        Some(false)
     } else {
         None
     }

@@ -6,4 +6,4 @@ pub returns-in-Some-Ok : goal.returns-in-Some-Ok
 returns-in-Some-Ok c = λ s knows.
     let t = c.open.ensures s knows in
     let inner : c.in-Some-Ok.field-0 ≡ Ok c.in-Some-Ok.index = rw c.in-Some-Ok.is at c.in-Some-Ok.field-0-is in
-    (t.0, t.1, t.2, looked_up c.open.new.self t.0 c.in-Some-Ok.index c.args.query.now.requested c.args.query.now.term.field c.args.query.now.term.value c.list_text.result (rw inner at c.in-Some-Ok.is) t.2 c.list_text.ensures)
+    (t.0, t.1, t.2, looked_up c.open.new.self t.0 c.in-Some-Ok.index c.args.query.now.requested c.args.query.now.term c.query_text.result (rw inner at c.in-Some-Ok.is) t.2 c.query_text.ensures)
