@@ -1,24 +1,29 @@
 -- What the files of an index hold once they were closed.
-use Rattle.std.proofs.Common.{inl, inr, Result, Ok, Err, ◌≡◌, ℕ, ◌+◌, ◌<◌, ◌≤◌, ◌^◌, Bool, true, false, List, [], ◌∷◌, map, length, refl, sym, ap, ◌∙◌, subst, arith, ⊎_elim}
+use Rattle.std.proofs.Common.{Bool, Err, List, Ok, Result, [], ap, arith, false, inl, inr, length, length-append, map, refl, subst, sym, true, true≢false, ℕ, ⊎_elim, ◌+◌, ◌<◌, ◌^◌, ◌∙◌, ◌∷◌, ◌≡◌, ◌≤◌}
 use Rattle.std.specs.Prelude.{◌⊎◌, ◌↔◌, IsTrue, IfErr, IsErrOf, OnOk, nat_le}
 use Rattle.std.specs.List.{AllByRecursion}
 use Rattle.std.proofs.lemmas.Bool.{le-leb, leb-true}
 use Rattle.ii_io.specs.declared.faults.Fault.{Fault}
 use Rattle.ii_io.specs.declared.faults.Fault.TheVariants.{Limit, OutOfMemory, SerializerClosed, Write}
 use Rattle.ii_io.specs.declared.faults.LimitName.TheVariants as limit
-use Rattle.ii_io.specs.Composite.{Body, fit_fields, written_composite}
-use Rattle.ii_io.specs.CompositeWrite.{CompositeWriteState, HasBodies, WroteComposite}
-use Rattle.ii_io.specs.CountingWriter.{CountingWriterState}
+use Rattle.ii_io.specs.Composite.{Body, bodies_bytes, fit_fields, places_from, table_bytes, written_composite}
+use Rattle.ii_io.specs.declared.composite_file.place.Place.{Place}
+use Rattle.ii_io.specs.CompositeWrite.{CompositeWriteState, HasBodies, WroteComposite, places_of}
+use Rattle.ii_io.specs.CompositeWriteLemmas.{places_of-bodies}
+use Rattle.ii_io.specs.CountingWriterLemmas.{full_before, full_more}
+use Rattle.ii_io.specs.CountingWriter.{CountingWriterState, IsFull}
 use Rattle.ii_base.specs.Schema.{SchemaEntry}
 use Rattle.ii_definitions.specs.Tokens.{IndexToken}
 use Rattle.ii_recorder.specs.IndexBodies.{AreFull, IndexBodiesState, failed_calls, tables_of}
 use Rattle.ii_recorder.specs.IndexSerializer.{IndexSerializerState}
 use Rattle.ii_postings_writer.specs.FieldParts.{FieldPart, HasFields, WroteContext, positions_of_part, postings_body, terms_body}
-use Rattle.ii_postings_writer.specs.HeldBodies.{WroteTokens}
-use Rattle.ii_indexing.specs.IndexFiles.{ClosedFiles, CountsThreeFailures, FillTables, begun_file}
+use Rattle.ii_postings_writer.specs.HeldBodies.{HaveTokens, WroteTokens}
+use Rattle.ii_indexing.specs.IndexFiles.{ClosedFiles, CountsThreeFailures, HaveNoRoom, PassLimits, begun_file}
 use Rattle.ii_postings_writer.specs.IndexingContext.{TermIndex}
 use Rattle.ii_postings_writer.specs.PostingsWriter.{PostingsWriterState}
-use Rattle.ii_postings_writer.specs.WriteFaults.{CountsFailures, IsContextFault}
+use Rattle.ii_postings_writer.specs.WriteFaults.{CountsFailures, IsContextFault, IsTokensFault}
+use Rattle.ii_postings_writer.specs.TokenFiles.{file_bodies}
+use Rattle.ii_postings_writer.proofs.TokenFaults.{HasFiles, tokens_fault, wrote_files}
 use Rattle.ii_indexing.proofs.NormFileLaws.{begun_bodies}
 
 -- three files in which nothing was written yet
@@ -106,12 +111,52 @@ pub record ClosesBy (s : IndexSerializerState) (result : Result (Unit {0}) Fault
   pub closed : IsErrOf result SerializerClosed ↔ IsTrue s.closed
   pub only : IfErr result (λ e. (e ≡ Write) ⊎ (e ≡ Limit limit.Offset) ⊎ (e ≡ SerializerClosed))
 
-pub table_fault : (old now : IndexSerializerState) (writers : List PostingsWriterState) (ctx : TermIndex) (result : Result (Unit {0}) Fault) → now.closed ≡ false → WroteContext old now writers ctx → ClosesBy now result
-    → IfErr result (λ e. (e ≡ OutOfMemory) ⊎ (e ≡ Write) ⊎ IsContextFault old writers ctx e ⊎ ((e ≡ Limit limit.Offset) × FillTables old (record { terms = ctx; writers = writers })))
-table_fault old now writers ctx (Ok x) running wrote h = tt
-table_fault old now writers ctx (Err e) running wrote h =
+-- a table that has no room behind bodies: the file has none
+table_full : (initial : CountingWriterState) (c : CompositeWriteState) (bodies : List Body) → HasBodies initial c bodies → IsFull c.writer (length (table_bytes (places_of c))) → IsFull initial (length (written_composite bodies))
+table_full initial c bodies has full =
+    full_before initial c.writer (bodies_bytes bodies) (length (table_bytes (places_of c))) (length (written_composite bodies)) has.writer
+    (omega (arith, length-append (bodies_bytes bodies) (table_bytes (places_from 0 bodies)), ap (λ (ps : List Place). length (table_bytes ps)) (places_of-bodies initial c bodies has))) full
+
+-- bodies that have no room: their file has none
+bodies_full : (initial : CountingWriterState) (bodies : List Body) → IsFull initial (length (bodies_bytes bodies)) → IsFull initial (length (written_composite bodies))
+bodies_full initial bodies full = full_more initial (length (bodies_bytes bodies)) (length (written_composite bodies)) (omega (arith, length-append (bodies_bytes bodies) (table_bytes (places_from 0 bodies)))) full
+
+-- the limits of tokens that are written behind what three files have
+abbrev pub PassesBehind : List SchemaEntry → IndexBodiesState → List IndexToken → Fault → Type 0
+PassesBehind entries b ts e = (e ≡ OutOfMemory) ⊎ (e ≡ Write) ⊎ PassLimits entries b.terms.writer b.postings.writer b.positions.writer ts e
+
+pub limits_of : (entries : List SchemaEntry) (b : IndexBodiesState) (ts : List IndexToken) (e : Fault) → IsTokensFault entries b ts e → PassesBehind entries b ts e
+limits_of entries b ts e (inl memory) = inl memory
+limits_of entries b ts e (inr (inl write)) = inr (inl write)
+limits_of entries b ts e (inr (inr (inl sum))) = inr (inr (inl sum))
+limits_of entries b ts e (inr (inr (inr (inl long)))) = inr (inr (inr (inl long)))
+limits_of entries b ts e (inr (inr (inr (inr (offset, inl (inl full)))))) = inr (inr (inr (inr (offset, inl (inl (bodies_full b.terms.writer (file_bodies (λ f. f.terms) entries ts) full))))))
+limits_of entries b ts e (inr (inr (inr (inr (offset, inl (inr (inl full))))))) = inr (inr (inr (inr (offset, inl (inr (inl (bodies_full b.postings.writer (file_bodies (λ f. f.postings) entries ts) full)))))))
+limits_of entries b ts e (inr (inr (inr (inr (offset, inl (inr (inr full))))))) = inr (inr (inr (inr (offset, inl (inr (inr (bodies_full b.positions.writer (file_bodies (λ f. f.positions) entries ts) full)))))))
+limits_of entries b ts e (inr (inr (inr (inr (offset, inr far))))) = inr (inr (inr (inr (offset, inr far))))
+
+-- terms that can't be written
+pub terms_fault : (old : IndexSerializerState) (writers : List PostingsWriterState) (ctx : TermIndex) (ts : List IndexToken) (result : Result (Unit {0}) Fault) → length old.entries < 2 ^ 32 → HaveTokens old.entries ctx writers ts
+    → old.closed ≡ false → (IsErrOf result SerializerClosed → IsTrue old.closed) → IfErr result (λ e. (e ≡ OutOfMemory) ⊎ (e ≡ SerializerClosed) ⊎ IsContextFault old writers ctx e) → IfErr result (PassesBehind old.entries old.bodies ts)
+terms_fault old writers ctx ts (Ok x) few has running closed fault = tt
+terms_fault old writers ctx ts (Err e) few has running closed (inl memory) = inl memory
+terms_fault old writers ctx ts (Err e) few has running closed (inr (inl is)) = absurd (true≢false (sym (closed (ap (λ (f : Fault). Err f) is)) ∙ running))
+terms_fault old writers ctx ts (Err e) few has running closed (inr (inr cause)) = limits_of old.entries old.bodies ts e (tokens_fault old writers ctx ts e few has cause)
+
+pub table_fault : (old now : IndexSerializerState) (writers : List PostingsWriterState) (ctx : TermIndex) (ts : List IndexToken) (result : Result (Unit {0}) Fault) → length old.entries < 2 ^ 32 → HaveTokens old.entries ctx writers ts
+    → now.closed ≡ false → WroteContext old now writers ctx → ClosesBy now result → IfErr result (PassesBehind old.entries old.bodies ts)
+table_fault old now writers ctx ts (Ok x) few has running wrote h = tt
+table_fault old now writers ctx ts (Err e) few has running wrote h =
     ⊎_elim (λ write. inr (inl write))
-    (λ others. ⊎_elim (λ full. inr (inr (inr (full, record { now = now; wrote = wrote; full = h.full (ap (λ (f : Fault). Err f) full) })))) (λ closed. absurd (not_closed (h.closed.0 (ap (λ (f : Fault). Err f) closed)))) others) h.only
+    (λ others. ⊎_elim (λ full. inr (inr (inr (inr (full, inl (no_room (h.full (ap (λ (f : Fault). Err f) full)))))))) (λ closed. absurd (not_closed (h.closed.0 (ap (λ (f : Fault). Err f) closed)))) others) h.only
   where
+    files : HasFiles old.entries old.bodies now.bodies ts
+    files = wrote_files old now writers ctx ts few has wrote
+
+    no_room : AreFull now.bodies (tables_of now.bodies) → HaveNoRoom old.entries old.bodies.terms.writer old.bodies.postings.writer old.bodies.positions.writer ts
+    no_room (inl full) = inl (table_full old.bodies.terms.writer now.bodies.terms (file_bodies (λ f. f.terms) old.entries ts) files.terms full)
+    no_room (inr (inl full)) = inr (inl (table_full old.bodies.postings.writer now.bodies.postings (file_bodies (λ f. f.postings) old.entries ts) files.postings full))
+    no_room (inr (inr full)) = inr (inr (table_full old.bodies.positions.writer now.bodies.positions (file_bodies (λ f. f.positions) old.entries ts) files.positions full))
+
     not_closed : IsTrue now.closed → ⊥
     not_closed is = absurd (cc)

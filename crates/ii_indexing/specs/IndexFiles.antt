@@ -3,18 +3,18 @@ use Rattle.std.specs.Prelude.{◌≡◌, ℕ, ◌+◌, ◌<◌, ◌≤◌, ◌�
 use Rattle.ii_io.specs.declared.faults.Fault.{Fault}
 use Rattle.ii_io.specs.declared.faults.Fault.TheVariants.{Limit, OutOfMemory, Write}
 use Rattle.ii_io.specs.declared.faults.LimitName.TheVariants as limit
+use Rattle.ii_io.specs.Composite.{written_composite}
 use Rattle.ii_io.specs.CompositeWrite.{CompositeWriteState}
 use Rattle.ii_io.specs.CountingWriter.{CountingWriterState, Grows, IsFull, Wrote}
 use Rattle.ii_base.specs.Schema.{SchemaEntry}
 use Rattle.ii_definitions.specs.Fields.{option_of}
 use Rattle.ii_definitions.specs.Files.{HoldTokens}
 use Rattle.ii_definitions.specs.Tokens.{IndexToken}
-use Rattle.ii_recorder.specs.IndexBodies.{AreFull, IndexBodiesState, failed_calls, tables_of}
+use Rattle.ii_recorder.specs.IndexBodies.{IndexBodiesState, failed_calls}
 use Rattle.ii_recorder.specs.IndexSerializer.{IndexSerializerState}
-use Rattle.ii_postings_writer.specs.FieldParts.{WroteContext}
-use Rattle.ii_indexing.specs.IndexedTerms.{IndexedTermsState, StoresTokens}
 use Rattle.ii_definitions.specs.Norms.{HoldNorms}
-use Rattle.ii_postings_writer.specs.WriteFaults.{IsContextFault}
+use Rattle.ii_postings_writer.specs.TermLimits.{HasLargeSum, IsLong}
+use Rattle.ii_postings_writer.specs.TokenFiles.{FirstEnds, FirstTerm, file_bodies}
 use Rattle.ii_indexing.specs.declared.index_writers.IndexWriters.{IndexWriters}
 
 -- The files of terms, postings and positions were written, and hold tokens.
@@ -80,31 +80,22 @@ pub record CountsThreeFailures (old : IndexBodiesState) (new_terms new_postings 
 abbrev pub begun_file : CountingWriterState → CompositeWriteState
 begun_file w = record { writer = w; base = w.written_bytes; starts = []; closed = false }
 
--- three files as they are before any field is written
-abbrev pub begun_files : {W : Type 0} → IndexWriters W → IndexBodiesState
-begun_files w = record { terms = begun_file w.terms; postings = begun_file w.postings; positions = begun_file w.positions }
+-- One of three files has no room for what is written of tokens.
+abbrev pub HaveNoRoom : List SchemaEntry → CountingWriterState → CountingWriterState → CountingWriterState → List IndexToken → Type 0
+HaveNoRoom entries terms postings positions ts =
+    IsFull terms (length (written_composite (file_bodies (λ b. b.terms) entries ts)))
+    ⊎ IsFull postings (length (written_composite (file_bodies (λ b. b.postings) entries ts)))
+    ⊎ IsFull positions (length (written_composite (file_bodies (λ b. b.positions) entries ts)))
 
--- The tables of the three files have no room behind the bodies of all terms.
-pub record FillTables (begun : IndexSerializerState) (s : IndexedTermsState) : Type 0 where
-  pub now : IndexSerializerState
-  pub wrote : WroteContext begun now s.writers s.terms
-  pub full : AreFull now.bodies (tables_of now.bodies)
+-- Why the three files of tokens can't be written behind what the writers hold, by a limit: that of the first term which passes one, an end that lies too far, or no room.
+abbrev pub PassLimits : List SchemaEntry → CountingWriterState → CountingWriterState → CountingWriterState → List IndexToken → Fault → Type 0
+PassLimits entries terms postings positions ts fault =
+    ((fault ≡ Limit limit.BlockFrequencySum) × FirstTerm (λ mode. HasLargeSum) entries ts)
+    ⊎ ((fault ≡ Limit limit.TermBytes) × FirstTerm IsLong entries ts)
+    ⊎ ((fault ≡ Limit limit.Offset) × (HaveNoRoom entries terms postings positions ts ⊎ FirstEnds entries ts))
 
--- Why the files of terms can't be written behind what three writers hold, by a limit.
-pub record PassLimits {W : Type 0} (entries : List SchemaEntry) (writers : IndexWriters W) (s : IndexedTermsState) (fault : Fault) : Type 0 where
-  pub begun : IndexSerializerState
-  pub entries_are : begun.entries ≡ entries
-  pub bodies_are : begun.bodies ≡ begun_files writers
-  pub cause : IsContextFault begun s.writers s.terms fault ⊎ ((fault ≡ Limit limit.Offset) × FillTables begun s)
-
--- Why what was indexed can't be written: want of memory, a writer, a limit of its terms, or a file of norms that is too long.
-abbrev pub IsIndexFault : {W : Type 0} → List SchemaEntry → ℕ → IndexWriters W → IndexedTermsState → List IndexToken → Fault → Type 0
-IsIndexFault entries num_docs writers s ts fault =
-    (fault ≡ OutOfMemory) ⊎ (fault ≡ Write) ⊎ PassLimits entries writers s fault
+-- Why an index of tokens can't be written: want of memory, a writer, a limit of its terms, or a file of norms that is too long.
+abbrev pub IsIndexFault : {W : Type 0} → List SchemaEntry → ℕ → IndexWriters W → List IndexToken → Fault → Type 0
+IsIndexFault entries num_docs writers ts fault =
+    (fault ≡ OutOfMemory) ⊎ (fault ≡ Write) ⊎ PassLimits entries writers.terms writers.postings writers.positions ts fault
     ⊎ ((fault ≡ Limit limit.Offset) × (bytes : List ℕ) × HoldNorms entries num_docs bytes ts × IsFull writers.fieldnorms (length bytes))
-
--- And so it is for an index of tokens, by what is stored of them.
-pub record IsWriteFault {W : Type 0} (entries : List SchemaEntry) (num_docs : ℕ) (writers : IndexWriters W) (ts : List IndexToken) (fault : Fault) : Type 0 where
-  pub stored : IndexedTermsState
-  pub stores : StoresTokens entries stored ts
-  pub cause : IsIndexFault entries num_docs writers stored ts fault

@@ -44,7 +44,8 @@ impl FinishedFields {
             → OnOk result.1 (WroteIndex schema.now num_docs writers result.0 ts) }
         ensures failures { CountsIndexFailures writers result.0 result.1 }
         ensures grow { FilesGrow writers result.0 }
-        ensures fault { (ts : List IndexToken) → HoldNorms schema.now num_docs self.norms ts → IfErr result.1 (IsIndexFault schema.now num_docs writers self.terms ts) }
+        ensures fault { (ts : List IndexToken) → HoldNorms schema.now num_docs self.norms ts → HaveTokens schema.now self.terms.terms self.terms.writers ts
+            → IfErr result.1 (IsIndexFault schema.now num_docs writers ts) }
     {
         let FinishedFields {
             schema: copy,

@@ -3,7 +3,7 @@ ghost use Rattle.ii_docset.specs.declared.docset.TheConstants.{TERMINATED};
 ghost use Rattle.ii_definitions.specs.Fields.{option_of};
 ghost use Rattle.ii_definitions.specs.Tokens.{tokens_of};
 ghost use Rattle.ii_indexing.specs.IndexCalls.{MayAllBeIndexed, call_of};
-ghost use Rattle.ii_indexing.specs.IndexFiles.{CountsIndexFailures, FilesGrow, IsWriteFault, WroteIndex};
+ghost use Rattle.ii_indexing.specs.IndexFiles.{CountsIndexFailures, FilesGrow, IsIndexFault, WroteIndex};
 ghost use Rattle.ii_indexing.specs.Indexer.{Stores};
 ghost use Rattle.ii_indexing.specs.Refusals.{calls_fault};
 ghost use Rattle.ii_json.specs.LeafVisit.{IsRefusedBy};
@@ -51,7 +51,7 @@ pub fn write_index<A: TextAnalyzer, W: Write>(
     ensures refused { IfSome (calls_fault (A.words analyzer.now) (option_of schema) [] (map (call_of schema) calls.items))
         (λ fault. ((result.1 ≡ Err fault) ⊎ (result.1 ≡ Err Fault.OutOfMemory)) × (result.0 ≡ writers)) }
     ensures fault { calls_fault (A.words analyzer.now) (option_of schema) [] (map (call_of schema) calls.items) ≡ None
-        → IfErr result.1 (λ e. (e ≡ Fault.OutOfMemory) ⊎ IsWriteFault schema num_docs writers (tokens_of (A.words analyzer.now) (map (call_of schema) calls.items)) e) }
+        → IfErr result.1 (IsIndexFault schema num_docs writers (tokens_of (A.words analyzer.now) (map (call_of schema) calls.items))) }
 {
     match index_calls(alloc, schema, num_docs, calls, analyzer) {
         Ok(indexer) => indexer.finish(writers),

@@ -8,15 +8,14 @@ ghost use Rattle.ii_definitions.specs.Tokens.{IndexToken, end_after, kept_words,
 ghost use Rattle.ii_indexing.specs.IndexedTerms.{StoresTokens, TakesTexts, TakesValue, value_fault};
 ghost use Rattle.ii_postings_writer.specs.FieldParts.{AreShortNorms, HasFields};
 ghost use Rattle.ii_postings_writer.specs.HeldBodies.{HaveTokens};
-ghost use Rattle.ii_indexing.specs.IndexFiles.{ClosedFiles, CountsIndexFailures, CountsThreeFailures, FilesGrow, FillTables, PassLimits, WroteTermFiles};
+ghost use Rattle.ii_indexing.specs.IndexFiles.{ClosedFiles, CountsIndexFailures, CountsThreeFailures, FilesGrow, PassLimits, WroteTermFiles};
 ghost use Rattle.ii_postings_writer.specs.IndexingContext.{AllEndBy};
 ghost use Rattle.ii_postings_writer.specs.PostingsWriter.{text_fault, writers_of};
 ghost use Rattle.ii_json.specs.LeafVisit.{IsRefusedBy};
 ghost use Rattle.ii_postings_writer.specs.SortedTerms.{AllMayBeWritten};
-ghost use Rattle.ii_postings_writer.specs.WriteFaults.{IsContextFault};
 
 use crate::index_writers::IndexWriters;
-use ii_base::{CountingWriter, Fault, Field, LimitName, Schema, TokenStream};
+use ii_base::{CountingWriter, Fault, Field, Schema, TokenStream};
 use ii_docset::DocId;
 use ii_fieldnorm::FieldNormReaders;
 use ii_postings_writer::serialize_postings::serialize_postings;
@@ -123,7 +122,8 @@ impl IndexedTerms {
         ensures norms { result.0.fieldnorms ≡ writers.fieldnorms }
         ensures failures { CountsIndexFailures writers result.0 result.1 }
         ensures grow { FilesGrow writers result.0 }
-        ensures fault { IfErr result.1 (λ e. (e ≡ Fault.OutOfMemory) ⊎ (e ≡ Fault.Write) ⊎ PassLimits schema.now writers self e) }
+        ensures fault { (ts : List IndexToken) → HaveTokens schema.now self.terms self.writers ts
+            → IfErr result.1 (λ e. (e ≡ Fault.OutOfMemory) ⊎ (e ≡ Fault.Write) ⊎ PassLimits schema.now writers.terms writers.postings writers.positions ts e) }
     {
         let IndexedTerms {
             ctx,
@@ -179,8 +179,8 @@ fn write_files<W: Write>(
         → OnOk result.3 (ClosedFiles serializer result.0 result.1 result.2 ts) }
     ensures failures { CountsThreeFailures serializer.bodies result.0 result.1 result.2 result.3 }
     ensures grow { Grows serializer.bodies.terms.writer result.0 × Grows serializer.bodies.postings.writer result.1 × Grows serializer.bodies.positions.writer result.2 }
-    ensures fault { IfErr result.3 (λ e. (e ≡ Fault.OutOfMemory) ⊎ (e ≡ Fault.Write) ⊎ IsContextFault serializer postings_writers.now ctx e
-        ⊎ ((e ≡ Fault.Limit LimitName.Offset) × FillTables serializer (record { terms = ctx; writers = postings_writers.now }))) }
+    ensures fault { (ts : List IndexToken) → HaveTokens serializer.entries ctx postings_writers.now ts
+        → IfErr result.3 (λ e. (e ≡ Fault.OutOfMemory) ⊎ (e ≡ Fault.Write) ⊎ PassLimits serializer.entries serializer.bodies.terms.writer serializer.bodies.postings.writer serializer.bodies.positions.writer ts e) }
 {
     let mut serializer = serializer;
     match serialize_postings(

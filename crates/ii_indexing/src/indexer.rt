@@ -118,7 +118,7 @@ impl Indexer {
         ensures failures { CountsIndexFailures writers result.0 result.1 }
         ensures grow { FilesGrow writers result.0 }
         ensures fault { self.failed ≡ false → (analyze : List ℕ → List Word) (calls : List Call) → Stores analyze self calls
-            → IfErr result.1 (IsIndexFault self.schema self.num_docs writers self.fields.indexed (tokens_of analyze calls)) }
+            → IfErr result.1 (IsIndexFault self.schema self.num_docs writers (tokens_of analyze calls)) }
         ensures failed { self.failed ≡ true → (result.1 ≡ Err Fault.IndexerFailed) × (result.0 ≡ writers) }
     {
         let Indexer {

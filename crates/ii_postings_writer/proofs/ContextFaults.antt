@@ -29,6 +29,7 @@ context_fault old writers terms sorted lists e h (inr fault) =
       sorted = sorted;
       same = h.same;
       ascending = h.ascending;
+      whole = h.whole;
       cause = subst (λ (ls : List (List SortedTerm)). IsPartsFault old.entries old.bodies (first_parts old.entries writers ls n) e) h.are counted;
     }))
 

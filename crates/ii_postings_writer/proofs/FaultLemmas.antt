@@ -1,7 +1,7 @@
 -- Why terms, fields and contexts can't be written.
 use Rattle.std.proofs.Common.{◌≡◌, ℕ, zero, suc, ◌+◌, ◌-◌, ◌<◌, ◌⊎◌, inl, inr, Bool, false, List, [], ◌∷◌, ◌++◌, length, map, take, drop, get_or, Result, Ok, Err, refl, sym, ap, ◌∙◌, subst, arith, length-append, append-nil, append_assoc, add-zero, true≢false}
 use Rattle.std.specs.Prelude.{◌↔◌, IsTrue, slice_index_or, IsErrOf, IfErr}
-use Rattle.std.specs.List.{Any, flat_map}
+use Rattle.std.specs.List.{AllByRecursion, flat_map}
 use Rattle.std.proofs.lemmas.Grind.{flat_map-append}
 use Rattle.std.proofs.lemmas.List.{map-append}
 use Rattle.ii_io.specs.declared.faults.Fault.{Fault}
@@ -18,31 +18,29 @@ use Rattle.ii_termdict.specs.Written.{written_dictionary}
 use Rattle.ii_recorder.specs.FieldTerms.{FieldTermsState, HasNoRoom, closing_bytes, dictionary_of, term_under}
 use Rattle.ii_recorder.specs.IndexBodies.{AreFull, IndexBodiesState}
 use Rattle.ii_recorder.specs.IndexSerializer.{IndexSerializerState, IsFieldFault, IsTermFault, IsWriting}
-use Rattle.ii_recorder.specs.Terms.{WrittenTerm, field_bodies, open_bodies, positions_body, positions_bytes, postings_bytes}
-use Rattle.ii_postings_writer.specs.FieldParts.{FieldPart, HasFields, bodies_of, first_parts, parts_of, positions_of_part, postings_body, terms_body, tokens_in}
+use Rattle.ii_recorder.specs.Terms.{IsShort, WrittenTerm, field_bodies, open_bodies, positions_body, positions_bytes, postings_bytes}
+use Rattle.ii_postings_writer.specs.FieldParts.{FieldPart, HasFields, HoldsPart, bodies_of, first_parts, parts_of, positions_of_part, postings_body, terms_body, tokens_in, written_terms}
 use Rattle.ii_postings_writer.specs.PostingsWriter.{PostingsWriterState}
-use Rattle.ii_postings_writer.specs.SortedTerms.{SortedTerm, state_of, written_term}
+use Rattle.ii_postings_writer.specs.SortedTerms.{IsTold, SortedTerm, state_of, written_term}
 use Rattle.ii_postings_writer.specs.declared.sorted_terms.TermOfField.{TermOfField}
-use Rattle.ii_postings_writer.specs.WriteFaults.{HasLargeSum, HasLargeTerm, HasLongTerm, IsFaultBy, IsLong, IsPartFault, IsPartsFault, IsTermFaultAfter, PassEnds, PassesEnds, all_bodies}
+use Rattle.ii_definitions.specs.Fields.{option_of}
+use Rattle.ii_postings_writer.specs.TermLimits.{AreWithin, FirstOf, HasLargeSum, IsLong, IsWithin, PassEnds}
+use Rattle.ii_postings_writer.specs.WriteFaults.{FirstPartEnds, IsFaultBy, IsPartFault, IsPartsFault, IsTermFaultAfter, IsWithinPart, all_bodies}
 use Rattle.ii_postings_writer.proofs.PartLemmas.{one_more_part, part_of, some_part}
 use Rattle.ii_postings_writer.proofs.SerializeLemmas.{all_written}
 use Rattle.ii_io.specs.CountingWriterLemmas.{full_before, full_more}
 
-module _ {X : Type 0} (P : X → Type 0) where
-  any_later : (x : X) (xs : List X) → Any P xs → Any P (x ∷ xs)
-  any_later x xs a = (suc a.0, a.1, omega (arith, a.2), a.3, a.4)
+module _ {X : Type 0} (Q P : X → Type 0) where
+  -- the first of some is the first of more
+  first_before : (xs ys : List X) → FirstOf Q P xs → FirstOf Q P (xs ++ ys)
+  first_before [] ys f = absurd f
+  first_before (x ∷ xs) ys (inl p) = inl p
+  first_before (x ∷ xs) ys (inr later) = inr (later.0, first_before xs ys later.1)
 
-  at_front : (xs ys : List X) (k : ℕ) (x : X) → k < length xs → slice_index_or xs k x ≡ x → P x → Any P (xs ++ ys)
-  at_front [] ys k x low at p = absurd (omega (arith, low))
-  at_front (y ∷ xs) ys zero x low at p = (zero, x, omega (arith), at, p)
-  at_front (y ∷ xs) ys (suc k) x low at p = any_later y (xs ++ ys) (at_front xs ys k x (omega (arith, low)) at p)
-
-  any_before : (xs ys : List X) → Any P xs → Any P (xs ++ ys)
-  any_before xs ys a = at_front xs ys a.0 a.1 a.2 a.3 a.4
-
-  any_at : (xs ys : List X) (x : X) → P x → Any P (xs ++ x ∷ ys)
-  any_at [] ys x p = (zero, x, omega (arith), refl, p)
-  any_at (y ∷ xs) ys x p = any_later y (xs ++ x ∷ ys) (any_at xs ys x p)
+  -- the first after others
+  first_at : (xs ys : List X) (x : X) → AllByRecursion Q xs → P x → FirstOf Q P (xs ++ x ∷ ys)
+  first_at [] ys x all p = inl p
+  first_at (y ∷ xs) ys x all p = inr (all.0, first_at xs ys x all.1 p)
 
 module _ {X : Type 0} (f : X → List ℕ) where
   length-more : (xs ys : List X) → length (flat_map f (xs ++ ys)) ≡ length (flat_map f xs) + length (flat_map f ys)
@@ -55,7 +53,7 @@ module _ {X : Type 0} (f : X → List ℕ) where
   length-next xs x = omega (arith, length-more xs (x ∷ []), length-one x)
 
 -- causes that follow from others
-fault_more : {A B C D E F : Type 0} (e : Fault) → (A → D) → (B → E) → (C → F) → IsFaultBy A B C e → IsFaultBy D E F e
+pub fault_more : {A B C D E F : Type 0} (e : Fault) → (A → D) → (B → E) → (C → F) → IsFaultBy A B C e → IsFaultBy D E F e
 fault_more e f g h (inl memory) = inl memory
 fault_more e f g h (inr (inl write)) = inr (inl write)
 fault_more e f g h (inr (inr (inl sum))) = inr (inr (inl (sum.0, f sum.1)))
@@ -84,11 +82,11 @@ module _ (mode : IndexRecordOption) (tokens : ℕ) where
   room_more initial ts us (inr (inr far)) = inr (inr (omega (arith, far, length-more located ts us)))
 
   -- a term of a field that can't be written
-  pub term_of_part : (initial : IndexBodiesState) (before : List WrittenTerm) (t : WrittenTerm) (after all : List WrittenTerm) (e : Fault) → all ≡ before ++ t ∷ after → IsTermFaultAfter initial mode tokens before t e
-      → IsFaultBy (Any HasLargeSum all) (Any (IsLong mode) all) (NoRoom initial all) e
-  term_of_part initial before t after all e is fault =
-      subst (λ (ts : List WrittenTerm). IsFaultBy (Any HasLargeSum ts) (Any (IsLong mode) ts) (NoRoom initial ts) e) (sym is)
-      (fault_more e (any_at HasLargeSum before after t) (any_at (IsLong mode) before after t)
+  pub term_of_part : (initial : IndexBodiesState) (before : List WrittenTerm) (t : WrittenTerm) (after all : List WrittenTerm) (e : Fault) → all ≡ before ++ t ∷ after → AllByRecursion (IsWithin mode) before → IsTermFaultAfter initial mode tokens before t e
+      → IsFaultBy (FirstOf (IsWithin mode) HasLargeSum all) (FirstOf (IsWithin mode) (IsLong mode) all) (NoRoom initial all) e
+  term_of_part initial before t after all e is within fault =
+      subst (λ (ts : List WrittenTerm). IsFaultBy (FirstOf (IsWithin mode) HasLargeSum ts) (FirstOf (IsWithin mode) (IsLong mode) ts) (NoRoom initial ts) e) (sym is)
+      (fault_more e (first_at (IsWithin mode) HasLargeSum before after t within) (first_at (IsWithin mode) (IsLong mode) before after t within)
       (λ room. subst (NoRoom initial) (append_assoc before (t ∷ []) after) (room_more initial (before ++ t ∷ []) after room)) fault)
 
   pub begin_full : (initial : IndexBodiesState) (ts : List WrittenTerm) → IsFull initial.postings.writer 8 → NoRoom initial ts
@@ -116,18 +114,18 @@ module _ (initial : IndexBodiesState) (s : IndexSerializerState) (field tokens :
   no_room key w (inr (inr (inl far))) = inr (inl (omega (arith, far, w.terms.postings, length-next postings_bytes ts (term_under key s.field.term))))
   no_room key w (inr (inr (inr far))) = inr (inr (omega (arith, far, w.terms.positions, length-next (located mode tokens) ts (term_under key s.field.term))))
 
-  own_fault : (key : List ℕ) (e : Fault) → IsWriting initial s field tokens ts (key ∷ []) → IsTermFault s e → IsTermFaultAfter initial mode tokens ts (term_under key s.field.term) e
-  own_fault key e w (inl memory) = inl memory
-  own_fault key e w (inr (inl write)) = inr (inl write)
-  own_fault key e w (inr (inr (inl full))) = inr (inr (inr (inr (full.0, no_room key w full.1))))
-  own_fault key e w (inr (inr (inr long))) = inr (inr (inr (inl long)))
+  own_fault : (key : List ℕ) (e : Fault) → IsWriting initial s field tokens ts (key ∷ []) → ¬ HasLargeSum (term_under key s.field.term) → IsTermFault s e → IsTermFaultAfter initial mode tokens ts (term_under key s.field.term) e
+  own_fault key e w small (inl memory) = inl memory
+  own_fault key e w small (inr (inl write)) = inr (inl write)
+  own_fault key e w small (inr (inr (inl full))) = inr (inr (inr (inr (full.0, no_room key w full.1))))
+  own_fault key e w small (inr (inr (inr long))) = inr (inr (inr (inl (long.0, (small, long.1)))))
 
   -- the next term can't be ended
-  pub ended_fault : (kept : IndexRecordOption) (key : List ℕ) (t : WrittenTerm) (e : Fault) → IsWriting initial s field tokens ts (key ∷ []) → mode ≡ kept → term_under key s.field.term ≡ t → IsTermFault s e
+  pub ended_fault : (kept : IndexRecordOption) (key : List ℕ) (t : WrittenTerm) (e : Fault) → IsWriting initial s field tokens ts (key ∷ []) → mode ≡ kept → term_under key s.field.term ≡ t → ¬ HasLargeSum t → IsTermFault s e
       → IsTermFaultAfter initial kept tokens ts t e
-  ended_fault kept key t e w same is fault =
+  ended_fault kept key t e w same is small fault =
       subst (λ (m : IndexRecordOption). IsTermFaultAfter initial m tokens ts t e) same
-      (subst (λ (u : WrittenTerm). IsTermFaultAfter initial mode tokens ts u e) is (own_fault key e w fault))
+      (subst (λ (u : WrittenTerm). IsTermFaultAfter initial mode tokens ts u e) is (own_fault key e w (subst (λ (u : WrittenTerm). ¬ HasLargeSum u) (sym is) small) fault))
 
   dictionary_full : IsWriting initial s field tokens ts [] → AreFull s.bodies (dictionary_of s.field) → AreFull initial (field_bodies mode tokens ts)
   dictionary_full w (inl full) =
@@ -146,6 +144,22 @@ module _ (initial : IndexBodiesState) (s : IndexSerializerState) (field tokens :
   closed_fault kept e w between same (inr (inl write)) = inr (inl write)
   closed_fault kept e w between same (inr (inr full)) =
       inr (inr (inr (inr (full.0, subst (λ (m : IndexRecordOption). NoRoom m tokens initial ts) same (inl (dictionary_full w (subst (AreFull s.bodies) (closing_is s.field between) full.1)))))))
+
+all_within_limits : (kept : IndexRecordOption) (us : List TermOfField) → AllByRecursion (IsTold kept) (map state_of us) → AllByRecursion (IsShort kept) (all_written kept us) → AllByRecursion (IsWithin kept) (all_written kept us)
+all_within_limits kept [] told short = tt
+all_within_limits kept (u ∷ us) told short = ((told.0.small, short.0), all_within_limits kept us told.1 short.1)
+
+-- terms that were written pass no limit
+pub written_within : (initial : IndexBodiesState) (s : IndexSerializerState) (field tokens : ℕ) (kept : IndexRecordOption) (us : List TermOfField) → s.field.term.mode ≡ kept → IsWriting initial s field tokens (all_written kept us) [] → AllByRecursion (IsTold kept) (map state_of us)
+    → AreWithin kept (all_written kept us)
+written_within initial s field tokens kept us same w told = record {
+  terms = all_within_limits kept us told (subst (λ (m : IndexRecordOption). AllByRecursion (IsShort m) (all_written kept us)) same w.terms.short);
+  ends = none;
+}
+  where
+    none : ¬ PassEnds kept (all_written kept us)
+    none (inl far) = absurd (omega (arith, far, w.terms.postings, w.terms.within.0))
+    none (inr far) = absurd (omega (arith, far, w.terms.positions, ap (λ (m : IndexRecordOption). length (positions_body m (all_written kept us))) same, w.terms.within.1))
 
 -- The parts of an index.
 module _ (entries : List SchemaEntry) (initial : IndexBodiesState) where
@@ -166,26 +180,39 @@ module _ (entries : List SchemaEntry) (initial : IndexBodiesState) where
     parts_full writer ps qs full = full_more writer (length (bytes_in ps)) (length (bytes_in (ps ++ qs))) (omega (arith, length-bodies ps qs)) full
 
   abbrev NoRoomFor : List FieldPart → Type 0
-  NoRoomFor ps = AreFull initial (all_bodies entries ps) ⊎ Any (PassesEnds entries) ps
+  NoRoomFor ps = AreFull initial (all_bodies entries ps) ⊎ FirstPartEnds entries ps
 
-  part_room : (now : IndexBodiesState) (fs : List FieldPart) (p : FieldPart) → HasFields entries initial now fs → AreFull now (bodies_of entries p) ⊎ PassesEnds entries p → NoRoomFor (fs ++ p ∷ [])
+  -- how a part passes a limit of its terms, or their ends
+  abbrev ByTerm : (IndexRecordOption → WrittenTerm → Type 0) → FieldPart → Type 0
+  ByTerm P p = FirstOf (IsWithin (option_of entries p.field)) (P (option_of entries p.field)) (written_terms entries p)
+
+  abbrev ByEnds : FieldPart → Type 0
+  ByEnds p = PassEnds (option_of entries p.field) (written_terms entries p)
+
+  all_within : (fs : List FieldPart) → AllByRecursion (HoldsPart entries) fs → AllByRecursion (IsWithinPart entries) fs
+  all_within [] held = tt
+  all_within (f ∷ fs) held = (held.0.within, all_within fs held.1)
+
+  part_room : (now : IndexBodiesState) (fs : List FieldPart) (p : FieldPart) → HasFields entries initial now fs → AreFull now (bodies_of entries p) ⊎ ByEnds p → NoRoomFor (fs ++ p ∷ [])
   part_room now fs p has (inl (inl full)) = inl (inl (part_full (terms_body entries) initial.terms.writer now.terms fs p has.terms full))
   part_room now fs p has (inl (inr (inl full))) = inl (inr (inl (part_full (postings_body entries) initial.postings.writer now.postings fs p has.postings full)))
   part_room now fs p has (inl (inr (inr full))) = inl (inr (inr (part_full (positions_of_part entries) initial.positions.writer now.positions fs p has.positions full)))
-  part_room now fs p has (inr far) = inr (any_at (PassesEnds entries) fs [] p far)
+  part_room now fs p has (inr far) = inr (first_at (IsWithinPart entries) ByEnds fs [] p (all_within fs has.held) far)
 
   -- the next part can't be written
   pub next_fault : (now : IndexBodiesState) (fs : List FieldPart) (p : FieldPart) (e : Fault) → HasFields entries initial now fs → IsPartFault entries now p e → IsPartsFault entries initial (fs ++ p ∷ []) e
-  next_fault now fs p e has fault = fault_more e (any_at (HasLargeTerm entries) fs [] p) (any_at (HasLongTerm entries) fs [] p) (part_room now fs p has) fault
+  next_fault now fs p e has fault =
+      let within = all_within fs has.held in
+      fault_more e (first_at (IsWithinPart entries) (ByTerm (λ mode. HasLargeSum)) fs [] p within) (first_at (IsWithinPart entries) (ByTerm IsLong) fs [] p within) (part_room now fs p has) fault
 
   parts_room : (ps qs : List FieldPart) → NoRoomFor ps → NoRoomFor (ps ++ qs)
   parts_room ps qs (inl (inl full)) = inl (inl (parts_full (terms_body entries) initial.terms.writer ps qs full))
   parts_room ps qs (inl (inr (inl full))) = inl (inr (inl (parts_full (postings_body entries) initial.postings.writer ps qs full)))
   parts_room ps qs (inl (inr (inr full))) = inl (inr (inr (parts_full (positions_of_part entries) initial.positions.writer ps qs full)))
-  parts_room ps qs (inr far) = inr (any_before (PassesEnds entries) ps qs far)
+  parts_room ps qs (inr far) = inr (first_before (IsWithinPart entries) ByEnds ps qs far)
 
   parts_fault : (ps qs : List FieldPart) (e : Fault) → IsPartsFault entries initial ps e → IsPartsFault entries initial (ps ++ qs) e
-  parts_fault ps qs e fault = fault_more e (any_before (HasLargeTerm entries) ps qs) (any_before (HasLongTerm entries) ps qs) (parts_room ps qs) fault
+  parts_fault ps qs e fault = fault_more e (first_before (IsWithinPart entries) (ByTerm (λ mode. HasLargeSum)) ps qs) (first_before (IsWithinPart entries) (ByTerm IsLong) ps qs) (parts_room ps qs) fault
 
   -- nor can the first fields, and more of them
   pub more_fault : (writers : List PostingsWriterState) (terms : List (List SortedTerm)) (k j : ℕ) (e : Fault) → IsPartsFault entries initial (first_parts entries writers terms k) e → IsPartsFault entries initial (first_parts entries writers terms (k + j)) e

@@ -237,7 +237,7 @@ module _ (law : ReadsEntriesBack) (uncounted : ReadsUncountedTermBack) (entries 
       fields = held_fields;
     }
 
-sorted_tokens : (entries : List SchemaEntry) (terms sorted : TermIndex) (writers : List PostingsWriterState) (ts : List IndexToken) → ((bytes : List ℕ) → recorder_of sorted bytes ≡ recorder_of terms bytes) → HaveTokens entries terms writers ts → HaveTokens entries sorted writers ts
+pub sorted_tokens : (entries : List SchemaEntry) (terms sorted : TermIndex) (writers : List PostingsWriterState) (ts : List IndexToken) → ((bytes : List ℕ) → recorder_of sorted bytes ≡ recorder_of terms bytes) → HaveTokens entries terms writers ts → HaveTokens entries sorted writers ts
 sorted_tokens entries terms sorted writers ts same has = record {
   records = λ field key small. subst (λ (o : Option RecorderState). MatchOption o (tokens_at field key ts ≡ []) (HasPostings (kind_of (option_of entries field) (tokens_at field key ts)) (tokens_at field key ts))) (sym (same (field_bytes field ++ key))) (has.records field key small);
   counted = has.counted;

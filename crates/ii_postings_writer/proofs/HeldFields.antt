@@ -99,7 +99,7 @@ pub all_known : (mode : IndexRecordOption) (field : ℕ) (sorted : TermIndex) (s
 all_known mode field sorted [] found writable told = tt
 all_known mode field sorted (s ∷ ss) found writable told = (record { found = found.0; writable = writable.0; told = told.0 }, all_known mode field sorted ss found.1 writable.1 told.1)
 
-none_occurred : (field : ℕ) (key : List ℕ) (ts : List IndexToken) → tokens_at field key ts ≡ [] → occurs field key ts ≡ false
+pub none_occurred : (field : ℕ) (key : List ℕ) (ts : List IndexToken) → tokens_at field key ts ≡ [] → occurs field key ts ≡ false
 none_occurred field key ts none = by_case (occurs field key ts) refl
   where
     by_case : (b : Bool) → occurs field key ts ≡ b → occurs field key ts ≡ false

@@ -105,6 +105,15 @@ recorder_occurred mode field key ts r has =
     let es = grouped (tokens_at field key ts) in
     some_occurred field key ts (subst (λ (n : ℕ). 0 < n) (ap length has.entries ∙ length-map es (cut_entry (kind_of mode (tokens_at field key ts)))) (some_pending r has.opened))
 
+-- of a key all is kept that its field records, or documents alone
+pub kind_which : (mode : IndexRecordOption) (tokens : List IndexToken) → (kind_of mode tokens ≡ mode) ⊎ (kind_of mode tokens ≡ Basic)
+kind_which mode [] = inl refl
+kind_which mode (t ∷ ts) = by_case t.of_text refl
+  where
+    by_case : (b : Bool) → t.of_text ≡ b → (kind_of mode (t ∷ ts) ≡ mode) ⊎ (kind_of mode (t ∷ ts) ≡ Basic)
+    by_case true is = rw is (inl refl)
+    by_case false is = rw is (inr refl)
+
 module _ (law : ReadsEntriesBack) (uncounted : ReadsUncountedTermBack) where
   same_kind : (requested : IndexRecordOption) (es : List Entry) (s : SortedTerm) → entries_of_recorder s.recorder ≡ map (cut_entry s.recorder.option) es → IsTold s.recorder.option s → IsWritable s → 0 < length es
       → list_read s.recorder.option requested (written_term s.recorder.option s) ≡ Ok (map (cut_entry (downgrade s.recorder.option requested)) es)
@@ -136,14 +145,6 @@ module _ (law : ReadsEntriesBack) (uncounted : ReadsUncountedTermBack) where
       let here = documents_kind mode requested es s (kept ∙ basic) (subst (λ (k : IndexRecordOption). entries_of_recorder s.recorder ≡ map (cut_entry k) es) basic are) writable few in
       subst (λ (k : IndexRecordOption). list_read mode requested (written_term mode s) ≡ Ok (map (cut_entry (downgrade k requested)) es)) (sym basic) here)
       which
-
-  kind_which : (mode : IndexRecordOption) (tokens : List IndexToken) → (kind_of mode tokens ≡ mode) ⊎ (kind_of mode tokens ≡ Basic)
-  kind_which mode [] = inl refl
-  kind_which mode (t ∷ ts) = by_case t.of_text refl
-    where
-      by_case : (b : Bool) → t.of_text ≡ b → (kind_of mode (t ∷ ts) ≡ mode) ⊎ (kind_of mode (t ∷ ts) ≡ Basic)
-      by_case true is = rw is (inl refl)
-      by_case false is = rw is (inr refl)
 
   -- what is kept of a key holds its postings
   pub holds_term : (mode : IndexRecordOption) (field : ℕ) (key postings positions : List ℕ) (ts : List IndexToken) (s : SortedTerm) (info : TermInfo)

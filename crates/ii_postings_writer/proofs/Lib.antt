@@ -16,3 +16,5 @@ pub mod SortedLemmas
 pub mod TermIndexLemmas
 pub mod TermLemmas
 pub mod TextLaws
+pub mod TokenFaults
+pub mod TokenTerms

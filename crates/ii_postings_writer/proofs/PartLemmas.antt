@@ -19,7 +19,9 @@ use Rattle.ii_termdict.specs.ReadBack.{AreAscending}
 use Rattle.ii_recorder.specs.IndexSerializer.{IndexSerializerState}
 use Rattle.ii_recorder.specs.Recorded.{RecorderState}
 use Rattle.ii_postings_writer.specs.IndexingContext.{TermIndex, recorder_of}
+use Rattle.ii_postings_writer.specs.IndexingTerm.{AreTermBytes}
 use Rattle.ii_postings_writer.specs.PostingsWriter.{PostingsWriterState}
+use Rattle.ii_postings_writer.specs.TermLimits.{AreWithin}
 use Rattle.ii_postings_writer.specs.SortedTerms.{IsTold, SortedTerm, state_of, terms_in}
 use Rattle.ii_recorder.specs.HeldTerms.{HoldsTerms}
 use Rattle.ii_postings_writer.specs.declared.sorted_terms.TermOfField.{TermOfField}
@@ -57,9 +59,9 @@ tokens_of_writer writers field w is = rw is refl
 -- how a call ends that writes a field with terms
 pub part_wrote : {A E : Type 0} (result : Result A E) (entries : List SchemaEntry) (initial old new : IndexBodiesState) (fs : List FieldPart) (p : FieldPart) → HasFields entries initial old fs → 0 < length p.terms
     → OnOk result (AddsBodies old new p.field (bodies_of entries p)) → OnOk result (HoldsTerms (option_of entries p.field) p.tokens (bodies_of entries p) (written_terms entries p)) → OnOk result (AllByRecursion (IsTold (option_of entries p.field)) p.terms)
-    → OnOk result (HasFields entries initial new (fs ++ parts_of entries p.field p.tokens p.terms))
-part_wrote (Ok x) entries initial old new fs p has some adds holds told = rw (some_part entries p.field p.tokens p.terms some) (part_added entries initial old new fs p has adds (record { terms = holds; told = told }))
-part_wrote (Err e) entries initial old new fs p has some adds holds told = tt
+    → OnOk result (AreWithin (option_of entries p.field) (written_terms entries p)) → OnOk result (HasFields entries initial new (fs ++ parts_of entries p.field p.tokens p.terms))
+part_wrote (Ok x) entries initial old new fs p has some adds holds told within = rw (some_part entries p.field p.tokens p.terms some) (part_added entries initial old new fs p has adds (record { terms = holds; told = told; within = within }))
+part_wrote (Err e) entries initial old new fs p has some adds holds told within = tt
 
 pub some_seen : (terms : List TermOfField) → 0 < length terms → 0 < length (map state_of terms)
 some_seen terms some = omega (arith, some, length-map terms state_of)
@@ -129,6 +131,7 @@ next_part first entries writers terms n field ts initial new same is at has =
 pub record AreLists (n : ℕ) (terms sorted : TermIndex) (lists : List (List SortedTerm)) : Type 0 where
   pub same : (bytes : List ℕ) → recorder_of sorted bytes ≡ recorder_of terms bytes
   pub ascending : AreAscending (map (λ (t : List ℕ × RecorderState). t.0) sorted)
+  pub whole : AllByRecursion AreTermBytes (map (λ (t : List ℕ × RecorderState). t.0) sorted)
   pub are : lists ≡ map (λ (field : ℕ). terms_in field sorted) (range_with_len 0 n)
 
 -- how a call ends that writes them
@@ -139,6 +142,7 @@ wrote_terms (Ok x) old new writers terms sorted lists h has =
     record {
       same = h.same;
       ascending = h.ascending;
+      whole = h.whole;
       fields = subst (λ (ls : List (List SortedTerm)). HasFields old.entries old.bodies new.bodies (first_parts old.entries writers ls (length old.entries))) h.are
           (subst (λ (m : ℕ). HasFields old.entries old.bodies new.bodies (first_parts old.entries writers lists m)) count has);
     }

@@ -13,8 +13,10 @@ use Rattle.ii_termdict.specs.ReadBack.{AreAscending}
 use Rattle.ii_recorder.specs.IndexSerializer.{IndexSerializerState}
 use Rattle.ii_recorder.specs.Recorded.{RecorderState}
 use Rattle.ii_postings_writer.specs.IndexingContext.{TermIndex, recorder_of}
+use Rattle.ii_postings_writer.specs.IndexingTerm.{AreTermBytes}
 use Rattle.ii_postings_writer.specs.PostingsWriter.{PostingsWriterState}
 use Rattle.ii_postings_writer.specs.SortedTerms.{IsTold, SortedTerm, terms_in, written_term}
+use Rattle.ii_postings_writer.specs.TermLimits.{AreWithin}
 
 -- A field that is written: how many tokens it has, and its terms.
 pub record FieldPart : Type 0 where
@@ -42,10 +44,11 @@ postings_body entries p = record { field = p.field; bytes = (bodies_of entries p
 abbrev pub positions_of_part : List SchemaEntry → FieldPart → Body
 positions_of_part entries p = record { field = p.field; bytes = (bodies_of entries p).positions }
 
--- They hold its terms, of which is known what was told.
+-- They hold its terms, which pass no limit, and of which is known what was told.
 pub record HoldsPart (entries : List SchemaEntry) (p : FieldPart) : Type 0 where
   pub terms : HoldsTerms (option_of entries p.field) p.tokens (bodies_of entries p) (written_terms entries p)
   pub told : AllByRecursion (IsTold (option_of entries p.field)) p.terms
+  pub within : AreWithin (option_of entries p.field) (written_terms entries p)
 
 -- Since three files were begun, these fields and nothing else were written to them.
 pub record HasFields (entries : List SchemaEntry) (initial now : IndexBodiesState) (fs : List FieldPart) : Type 0 where
@@ -75,6 +78,7 @@ AreShortNorms norms = (field : ℕ) → MatchOption (body_of field norms) ⊤ (�
 pub record WroteTerms (old new : IndexSerializerState) (writers : List PostingsWriterState) (terms sorted : TermIndex) : Type 0 where
   pub same : (bytes : List ℕ) → recorder_of sorted bytes ≡ recorder_of terms bytes
   pub ascending : AreAscending (map (λ (t : List ℕ × RecorderState). t.0) sorted)
+  pub whole : AllByRecursion AreTermBytes (map (λ (t : List ℕ × RecorderState). t.0) sorted)
   pub fields : HasFields old.entries old.bodies new.bodies (first_parts old.entries writers (map (λ (field : ℕ). terms_in field sorted) (range_with_len 0 (length old.entries))) (length old.entries))
 
 -- So they were in some order.

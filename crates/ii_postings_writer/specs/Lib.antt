@@ -7,5 +7,7 @@ pub mod LendingWriters
 pub mod PostingsWriter
 pub mod Records
 pub mod SortedTerms
+pub mod TermLimits
+pub mod TokenFiles
 pub mod WordRefusals
 pub mod WriteFaults

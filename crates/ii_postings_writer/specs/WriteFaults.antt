@@ -1,6 +1,6 @@
 -- Why the terms of an index can't be written, and what a refusal leaves.
-use Rattle.std.specs.Prelude.{◌≡◌, ℕ, ◌+◌, ◌^◌, ◌<◌, ◌≤◌, ◌⊎◌, ◌↔◌, IsTrue, List, [], ◌∷◌, ◌++◌, length, map, Result, OnOk, IfErr, IsErrOf}
-use Rattle.std.specs.List.{Any, flat_map, range_with_len}
+use Rattle.std.specs.Prelude.{◌≡◌, ℕ, ◌+◌, ◌<◌, ◌⊎◌, ◌↔◌, IsTrue, List, [], ◌∷◌, ◌++◌, length, map, Result, OnOk, IfErr, IsErrOf}
+use Rattle.std.specs.List.{AllByRecursion, range_with_len}
 use Rattle.ii_io.specs.declared.faults.Fault.{Fault}
 use Rattle.ii_io.specs.declared.faults.Fault.TheVariants.{Limit, OutOfMemory, SerializerClosed, Write}
 use Rattle.ii_io.specs.declared.faults.LimitName.TheVariants as limit
@@ -8,16 +8,19 @@ use Rattle.ii_io.specs.Composite.{bodies_bytes}
 use Rattle.ii_base.specs.Schema.{SchemaEntry}
 use Rattle.ii_base.specs.declared.schema.index_record_option.IndexRecordOption.{IndexRecordOption}
 use Rattle.ii_definitions.specs.Fields.{option_of}
+use Rattle.ii_definitions.specs.Tokens.{IndexToken}
 use Rattle.ii_termdict.specs.ReadBack.{AreAscending}
 use Rattle.ii_recorder.specs.IndexBodies.{AreFull, IndexBodiesState, NoneFalls, failed_calls}
 use Rattle.ii_recorder.specs.IndexSerializer.{IndexSerializerState}
-use Rattle.ii_recorder.specs.Pushed.{FillTooLarge}
 use Rattle.ii_recorder.specs.Recorded.{RecorderState}
-use Rattle.ii_recorder.specs.Terms.{FieldBodies, WrittenTerm, open_bodies, positions_body, positions_bytes, postings_bytes}
+use Rattle.ii_recorder.specs.Terms.{FieldBodies, WrittenTerm, open_bodies}
 use Rattle.ii_postings_writer.specs.FieldParts.{FieldPart, HasFields, bodies_of, first_parts, positions_of_part, postings_body, terms_body, written_terms}
 use Rattle.ii_postings_writer.specs.IndexingContext.{TermIndex, recorder_of}
+use Rattle.ii_postings_writer.specs.IndexingTerm.{AreTermBytes}
 use Rattle.ii_postings_writer.specs.PostingsWriter.{PostingsWriterState}
 use Rattle.ii_postings_writer.specs.SortedTerms.{terms_in}
+use Rattle.ii_postings_writer.specs.TermLimits.{AreWithin, FirstOf, HasLargeSum, IsLong, IsWithin, PassEnds}
+use Rattle.ii_postings_writer.specs.TokenFiles.{FirstEnds, FirstTerm, file_bodies}
 
 -- How a call ends for the three writers: a refusal by one of them is counted once, and nothing else is.
 pub record CountsFailures (old new : IndexBodiesState) (result : Result (Unit {0}) Fault) : Type 0 where
@@ -30,38 +33,29 @@ abbrev pub IsFaultBy : Type 0 → Type 0 → Type 0 → Fault → Type 0
 IsFaultBy sum long full fault =
     (fault ≡ OutOfMemory) ⊎ (fault ≡ Write) ⊎ ((fault ≡ Limit limit.BlockFrequencySum) × sum) ⊎ ((fault ≡ Limit limit.TermBytes) × long) ⊎ ((fault ≡ Limit limit.Offset) × full)
 
--- The counts of a block of a term sum up to too much.
-abbrev pub HasLargeSum : WrittenTerm → Type 0
-HasLargeSum t = FillTooLarge t.skip_info [] t.freqs
-
--- The postings or the positions of a term have more bytes than 32 bits count.
-abbrev pub IsLong : IndexRecordOption → WrittenTerm → Type 0
-IsLong mode t = (2 ^ 32 ≤ length (postings_bytes t)) ⊎ (2 ^ 32 ≤ length (positions_bytes mode t.deltas))
-
--- The postings or the positions of all terms of a field end at 2 ^ 56 or after.
-abbrev pub PassEnds : IndexRecordOption → List WrittenTerm → Type 0
-PassEnds mode ts = (2 ^ 56 ≤ length (flat_map postings_bytes ts)) ⊎ (2 ^ 56 ≤ length (positions_body mode ts))
-
 -- Why a term can't be written after others of its field, which was begun with so many tokens after the given bodies.
 abbrev pub IsTermFaultAfter : IndexBodiesState → IndexRecordOption → ℕ → List WrittenTerm → WrittenTerm → Fault → Type 0
 IsTermFaultAfter initial mode tokens before t fault =
     let ts = before ++ t ∷ [] in IsFaultBy (HasLargeSum t) (IsLong mode t) (AreFull initial (open_bodies mode tokens ts) ⊎ PassEnds mode ts) fault
 
--- What of a part may pass a limit.
-abbrev pub HasLargeTerm : List SchemaEntry → FieldPart → Type 0
-HasLargeTerm entries p = Any HasLargeSum (written_terms entries p)
-
--- A term of the field takes too many bytes.
-abbrev pub HasLongTerm : List SchemaEntry → FieldPart → Type 0
-HasLongTerm entries p = Any (IsLong (option_of entries p.field)) (written_terms entries p)
-
--- The ends of the field's terms pass what may be kept.
-abbrev pub PassesEnds : List SchemaEntry → FieldPart → Type 0
-PassesEnds entries p = PassEnds (option_of entries p.field) (written_terms entries p)
-
--- Why the part of a field can't be written after the given bodies.
+-- Why the part of a field can't be written after the given bodies: by the first of its terms that passes a limit, or there is no room.
 abbrev pub IsPartFault : List SchemaEntry → IndexBodiesState → FieldPart → Fault → Type 0
-IsPartFault entries initial p fault = IsFaultBy (HasLargeTerm entries p) (HasLongTerm entries p) (AreFull initial (bodies_of entries p) ⊎ PassesEnds entries p) fault
+IsPartFault entries initial p fault =
+    let mode = option_of entries p.field in
+    let ts = written_terms entries p in
+    IsFaultBy (FirstOf (IsWithin mode) HasLargeSum ts) (FirstOf (IsWithin mode) (IsLong mode) ts) (AreFull initial (bodies_of entries p) ⊎ PassEnds mode ts) fault
+
+-- The terms of a part pass no limit.
+abbrev pub IsWithinPart : List SchemaEntry → FieldPart → Type 0
+IsWithinPart entries p = AreWithin (option_of entries p.field) (written_terms entries p)
+
+-- The first term of parts that passes a limit passes it in this way.
+abbrev pub FirstInParts : (IndexRecordOption → WrittenTerm → Type 0) → List SchemaEntry → List FieldPart → Type 0
+FirstInParts P entries ps = FirstOf (IsWithinPart entries) (λ (p : FieldPart). let mode = option_of entries p.field in FirstOf (IsWithin mode) (P mode) (written_terms entries p)) ps
+
+-- The terms of a part end too late, and those of the parts before it pass no limit.
+abbrev pub FirstPartEnds : List SchemaEntry → List FieldPart → Type 0
+FirstPartEnds entries ps = FirstOf (IsWithinPart entries) (λ (p : FieldPart). PassEnds (option_of entries p.field) (written_terms entries p)) ps
 
 -- the bodies of parts, one after the other
 abbrev pub all_bodies : List SchemaEntry → List FieldPart → FieldBodies
@@ -71,16 +65,31 @@ all_bodies entries ps = record {
   positions = bodies_bytes (map (positions_of_part entries) ps);
 }
 
--- Why parts can't be written after the given bodies: one of them has such a term, or there is no room for all of them.
+-- Why parts can't be written after the given bodies: by the first term that passes a limit, or there is no room for all of them.
 abbrev pub IsPartsFault : List SchemaEntry → IndexBodiesState → List FieldPart → Fault → Type 0
-IsPartsFault entries initial ps fault = IsFaultBy (Any (HasLargeTerm entries) ps) (Any (HasLongTerm entries) ps) (AreFull initial (all_bodies entries ps) ⊎ Any (PassesEnds entries) ps) fault
+IsPartsFault entries initial ps fault =
+    IsFaultBy (FirstInParts (λ mode. HasLargeSum) entries ps) (FirstInParts IsLong entries ps) (AreFull initial (all_bodies entries ps) ⊎ FirstPartEnds entries ps) fault
 
 -- Why the terms of a context can't be written: its parts, in the order in which WroteTerms has them, can't be.
 pub record IsContextFault (old : IndexSerializerState) (writers : List PostingsWriterState) (terms : TermIndex) (fault : Fault) : Type 0 where
   pub sorted : TermIndex
   pub same : (bytes : List ℕ) → recorder_of sorted bytes ≡ recorder_of terms bytes
   pub ascending : AreAscending (map (λ (t : List ℕ × RecorderState). t.0) sorted)
+  pub whole : AllByRecursion AreTermBytes (map (λ (t : List ℕ × RecorderState). t.0) sorted)
   pub cause : IsPartsFault old.entries old.bodies (first_parts old.entries writers (map (λ (field : ℕ). terms_in field sorted) (range_with_len 0 (length old.entries))) (length old.entries)) fault
+
+-- the bodies that are written of tokens, in each of the three files
+abbrev pub bodies_of_tokens : List SchemaEntry → List IndexToken → FieldBodies
+bodies_of_tokens entries ts = record {
+  terms = bodies_bytes (file_bodies (λ b. b.terms) entries ts);
+  postings = bodies_bytes (file_bodies (λ b. b.postings) entries ts);
+  positions = bodies_bytes (file_bodies (λ b. b.positions) entries ts);
+}
+
+-- Why the terms of tokens can't be written after the given bodies.
+abbrev pub IsTokensFault : List SchemaEntry → IndexBodiesState → List IndexToken → Fault → Type 0
+IsTokensFault entries initial ts fault =
+    IsFaultBy (FirstTerm (λ mode. HasLargeSum) entries ts) (FirstTerm IsLong entries ts) (AreFull initial (bodies_of_tokens entries ts) ⊎ FirstEnds entries ts) fault
 
 -- A serializer that was closed before a call stays as it was, and the call is refused unless there was nothing to write.
 pub record StaysClosed (nothing : Type 0) (old new : IndexSerializerState) (result : Result (Unit {0}) Fault) : Type 0 where

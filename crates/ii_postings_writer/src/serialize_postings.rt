@@ -12,6 +12,7 @@ ghost use Rattle.ii_postings_writer.specs.FieldParts.{AreShortNorms, FieldPart, 
 ghost use Rattle.ii_definitions.specs.Tokens.{IndexToken};
 ghost use Rattle.ii_postings_writer.specs.HeldBodies.{HaveTokens, WroteTokens};
 ghost use Rattle.ii_postings_writer.specs.SortedTerms.{AllMayBeWritten, IsTold, IsWritable, SortedTerm, state_of, written_term};
+ghost use Rattle.ii_postings_writer.specs.TermLimits.{AreWithin};
 ghost use Rattle.ii_postings_writer.specs.WriteFaults.{ClosesOrStays, CountsFailures, IsContextFault, IsPartFault, IsPartsFault, IsTermFaultAfter, StaysClosed};
 
 use crate::indexing_context::IndexingContext;
@@ -80,6 +81,7 @@ fn serialize_field<W: Write>(
         (field_bodies (option_of serializer.old.entries field) total_num_tokens (map (written_term (option_of serializer.old.entries field)) (map state_of terms.now)))
         (map (written_term (option_of serializer.old.entries field)) (map state_of terms.now))) }
     ensures told { OnOk result (AllByRecursion (IsTold (option_of serializer.old.entries field)) (map state_of terms.now)) }
+    ensures within { OnOk result (AreWithin (option_of serializer.old.entries field) (map (written_term (option_of serializer.old.entries field)) (map state_of terms.now))) }
     // where it is refused
     ensures failures { CountsFailures serializer.old.bodies serializer.new.bodies result }
     ensures grow { AllGrow serializer.old.bodies serializer.new.bodies }

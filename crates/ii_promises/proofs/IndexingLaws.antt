@@ -1,16 +1,22 @@
 -- What an open index answers of the tokens that it has.
-use Rattle.std.proofs.Common.{◌≡◌, ◌∙◌, ◌<◌, ℕ, false, List, Option, Some, None, Result, Ok, Err, length, ap, subst}
-use Rattle.std.specs.Prelude.{IfErr, IfOk, IsTrue, MatchOption, slice_get}
+use Rattle.std.proofs.Common.{inl, inr, ◌≡◌, ◌∙◌, ◌<◌, ◌≤◌, ◌^◌, ℕ, false, List, [], Option, Some, None, Result, Ok, Err, length, map, refl, ap, subst}
+use Rattle.std.specs.Prelude.{◌⊎◌, IfErr, IfOk, IsTrue, MatchOption, slice_get}
 use Rattle.ii_io.specs.declared.faults.Fault.{Fault}
 use Rattle.ii_io.specs.declared.faults.Fault.TheVariants.{OutOfMemory}
 use Rattle.ii_base.specs.Schema.{SchemaEntry}
+use Rattle.ii_base.specs.Words.{Word}
 use Rattle.ii_base.specs.declared.schema.index_record_option.IndexRecordOption.{IndexRecordOption}
 use Rattle.ii_fieldnorm.specs.Norms.{id_of_norm}
 use Rattle.ii_fieldnorm.specs.Readers.{Norms, id_of_doc}
 use Rattle.ii_definitions.specs.Fields.{option_of}
 use Rattle.ii_definitions.specs.Norms.{has_norms}
 use Rattle.ii_definitions.specs.Postings.{doc_count, key_postings, occurs}
-use Rattle.ii_definitions.specs.Tokens.{IndexToken}
+use Rattle.ii_definitions.specs.Tokens.{IndexToken, tokens_of}
+use Rattle.ii_indexing.specs.IndexCalls.{call_of}
+use Rattle.ii_indexing.specs.Refusals.{calls_fault}
+use Rattle.ii_indexing.specs.declared.index_call.IndexCall.{IndexCall}
+use Rattle.ii_ram.specs.Ram.{IsRamFault}
+use Rattle.ii_ram.proofs.NoTokens.{no_tokens_no_limit}
 use Rattle.ii_reader.specs.InvertedIndexReader.{GivesPostings, InvertedIndexReaderState, ReaderHolds}
 use Rattle.ii_reader.specs.OpenIndex.{FieldReaderHolds, GivesNorms, GivesReaders, IndexHolds, NormsHold, OpenIndexState}
 use Rattle.ii_reader.specs.SegmentPostings.{SegmentPostingsState}
@@ -46,3 +52,14 @@ index_holds entries n ts (Err fault) readers norms = tt
 pub memory_alone : (entries : List SchemaEntry) (ts : List IndexToken) (answer : Result OpenIndexState Fault) → GivesReaders entries ts answer → IfErr answer (λ fault. fault ≡ OutOfMemory)
 memory_alone entries ts (Ok index) readers = tt
 memory_alone entries ts (Err fault) readers = readers
+
+-- why an index of no calls is refused
+pub memory_of_no_calls : (analyze : List ℕ → List Word) (entries : List SchemaEntry) (n : ℕ) (calls : List IndexCall) (answer : Result OpenIndexState Fault) → calls ≡ [] → length entries < 2 ^ 32 → n ≤ 2147483647
+    → (calls_fault analyze (option_of entries) [] (map (call_of entries) calls) ≡ None → IfErr answer (λ e. (e ≡ OutOfMemory) ⊎ IsRamFault entries n (tokens_of analyze (map (call_of entries) calls)) e)) → IfErr answer (λ e. e ≡ OutOfMemory)
+memory_of_no_calls analyze entries n calls (Ok index) none few low fault = tt
+memory_of_no_calls analyze entries n calls (Err e) none few low fault =
+    by_case (subst (λ (cs : List IndexCall). calls_fault analyze (option_of entries) [] (map (call_of entries) cs) ≡ None → (e ≡ OutOfMemory) ⊎ IsRamFault entries n (tokens_of analyze (map (call_of entries) cs)) e) none fault refl)
+  where
+    by_case : (e ≡ OutOfMemory) ⊎ IsRamFault entries n [] e → e ≡ OutOfMemory
+    by_case (inl memory) = memory
+    by_case (inr limit) = absurd (no_tokens_no_limit entries n e few low limit)

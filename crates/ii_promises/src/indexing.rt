@@ -9,8 +9,8 @@ ghost use Rattle.ii_indexing.specs.IndexCalls.{MayAllBeIndexed, call_of};
 ghost use Rattle.ii_indexing.specs.Refusals.{calls_fault};
 
 use nequllpa::{
-    DocId, Fault, Field, IndexCall, IndexRecordOption, Schema, SegmentPostings, Term, TextAnalyzer,
-    index_in_ram,
+    DocId, Fault, Field, IndexCall, IndexRecordOption, OpenIndex, Schema, SegmentPostings, Term,
+    TextAnalyzer, index_in_ram,
 };
 use std::alloc::Global;
 
@@ -78,6 +78,20 @@ pub fn norms_count_the_tokens<A: TextAnalyzer>(
         Some(norms) => Ok(Some(norms.fieldnorm_id(doc))),
         None => Ok(None),
     }
+}
+
+/// An index of no calls passes no limit: it is refused for memory alone.
+pub fn no_calls_pass_no_limit<A: TextAnalyzer>(
+    alloc: Global,
+    schema: Schema,
+    num_docs: DocId,
+    analyzer: &A,
+) -> Result<OpenIndex, Fault>
+    requires docs { num_docs ≤ 2147483647 }
+    ensures { IfErr result (λ fault. fault ≡ Fault.OutOfMemory) }
+{
+    let _fields = schema.num_fields();
+    index_in_ram(alloc, schema, num_docs, Vec::new(alloc), analyzer)
 }
 
 /// Where a call is refused its fault is answered, the first of them, unless memory was refused before.

@@ -1,1 +1,2 @@
+pub mod NoTokens
 pub mod RamLaws

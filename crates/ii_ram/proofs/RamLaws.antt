@@ -7,7 +7,7 @@ use Rattle.ii_io.specs.declared.faults.Fault.TheVariants.{OutOfMemory, Write, Se
 use Rattle.ii_io.specs.Faults.{memory_fault}
 use Rattle.ii_base.specs.Schema.{SchemaEntry}
 use Rattle.ii_definitions.specs.Tokens.{IndexToken}
-use Rattle.ii_indexing.specs.IndexFiles.{IsWriteFault, PassLimits, WroteIndex}
+use Rattle.ii_indexing.specs.IndexFiles.{IsIndexFault, WroteIndex}
 use Rattle.ii_indexing.specs.declared.index_writers.IndexWriters.{IndexWriters}
 use Rattle.ii_reader.specs.OpenIndex.{GivesReaders, IndexHolds, NormsHold, OpenIndexState}
 use Rattle.ii_ram.specs.Ram.{IsRamFault, empty_files}
@@ -48,28 +48,20 @@ memory_or DecreasingPosition = inl refl
 memory_or (Limit name) = inl refl
 memory_or (Damaged part) = inl refl
 
-memory_limits : {W : Type 0} (entries : List SchemaEntry) (n : ℕ) (ts : List IndexToken) (fault : Fault) → IsWriteFault {W = W} entries n empty_files ts fault → (memory_fault fault ≡ OutOfMemory) ⊎ IsRamFault entries n ts fault
-memory_limits {W} entries n ts fault w =
+memory_limits : (W : Type 0) (entries : List SchemaEntry) (n : ℕ) (ts : List IndexToken) (fault : Fault) → IsIndexFault {W = W} entries n empty_files ts fault → (memory_fault fault ≡ OutOfMemory) ⊎ IsRamFault entries n ts fault
+memory_limits W entries n ts fault cause =
     ⊎_elim (λ (memory : fault ≡ OutOfMemory). inl (ap memory_fault memory))
-    (λ later. ⊎_elim (λ (write : fault ≡ Write). inl (ap memory_fault write))
-    (λ last. inr (record {
-      stored = w.stored;
-      stores = w.stores;
-      cause = ⊎_elim (λ (limits : PassLimits {W = W} entries empty_files w.stored fault). inl (record { begun = limits.begun; entries_are = limits.entries_are; bodies_are = limits.bodies_are; cause = limits.cause })) inr last;
-    })) later)
-    w.cause
+    (λ later. ⊎_elim (λ (write : fault ≡ Write). inl (ap memory_fault write)) (λ last. inr last) later)
+    cause
 
 -- why they can't be written
-pub fault_in_ram : {W : Type 0} (entries : List SchemaEntry) (n : ℕ) (files : IndexWriters W) (ts : List IndexToken) (fault : Fault) → files ≡ empty_files → (fault ≡ OutOfMemory) ⊎ IsWriteFault entries n files ts fault
+pub fault_in_ram : {W : Type 0} (entries : List SchemaEntry) (n : ℕ) (files : IndexWriters W) (ts : List IndexToken) (fault : Fault) → files ≡ empty_files → IsIndexFault entries n files ts fault
     → (memory_fault fault ≡ OutOfMemory) ⊎ IsRamFault entries n ts (memory_fault fault)
-fault_in_ram {W} entries n files ts fault empty why =
-    ⊎_elim (λ (memory : fault ≡ OutOfMemory). inl (ap memory_fault memory))
-    (λ (cause : IsWriteFault entries n files ts fault).
+fault_in_ram {W} entries n files ts fault empty cause =
     ⊎_elim inl
     (λ (limit : IsRamFault entries n ts fault).
     ⊎_elim (λ (same : memory_fault fault ≡ fault). inr (subst (IsRamFault entries n ts) (sym same) limit)) inl (memory_or fault))
-    (memory_limits {W = W} entries n ts fault (subst (λ (f : IndexWriters W). IsWriteFault entries n f ts fault) empty cause)))
-    why
+    (memory_limits W entries n ts fault (subst (λ (f : IndexWriters W). IsIndexFault entries n f ts fault) empty cause))
 
 -- a file that was taken out of its writer
 pub same_file : (bytes items known : List ℕ) (o : Option (List ℕ)) → bytes ≡ items → Some items ≡ o → o ≡ Some known → known ≡ bytes

@@ -7,7 +7,6 @@ use Rattle.ii_io.specs.CountingWriter.{CountingWriterState, IsFull}
 use Rattle.ii_base.specs.Schema.{SchemaEntry}
 use Rattle.ii_definitions.specs.Tokens.{IndexToken}
 use Rattle.ii_indexing.specs.IndexFiles.{PassLimits}
-use Rattle.ii_indexing.specs.IndexedTerms.{IndexedTermsState, StoresTokens}
 use Rattle.ii_definitions.specs.Norms.{HoldNorms}
 use Rattle.ii_indexing.specs.declared.index_writers.IndexWriters.{IndexWriters}
 
@@ -20,8 +19,7 @@ abbrev pub empty_files : {W : Type 0} → IndexWriters W
 empty_files = record { terms = empty_file; postings = empty_file; positions = empty_file; fieldnorms = empty_file }
 
 -- Why the files of an index of tokens can't be written to memory, were there enough of it: a limit of its terms, or a file of norms that is too long.
-pub record IsRamFault (entries : List SchemaEntry) (num_docs : ℕ) (ts : List IndexToken) (fault : Fault) : Type 0 where
-  pub stored : IndexedTermsState
-  pub stores : StoresTokens entries stored ts
-  pub cause : PassLimits {W = ℕ} entries empty_files stored fault
-      ⊎ ((fault ≡ Limit limit.Offset) × (bytes : List ℕ) × HoldNorms entries num_docs bytes ts × IsFull empty_file (length bytes))
+abbrev pub IsRamFault : List SchemaEntry → ℕ → List IndexToken → Fault → Type 0
+IsRamFault entries num_docs ts fault =
+    PassLimits entries empty_file empty_file empty_file ts fault
+    ⊎ ((fault ≡ Limit limit.Offset) × (bytes : List ℕ) × HoldNorms entries num_docs bytes ts × IsFull empty_file (length bytes))

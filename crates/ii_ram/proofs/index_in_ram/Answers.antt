@@ -1,14 +1,13 @@
-use Rattle.std.proofs.Common.{◌≡◌, List, map, Result, sym, subst}
-use Rattle.std.specs.Prelude.{◌⊎◌, IfErr, OnOk}
+use Rattle.std.proofs.Common.{List, map, Result, sym, subst}
+use Rattle.std.specs.Prelude.{IfErr, OnOk}
 use Rattle.ii_io.specs.declared.faults.Fault.{Fault}
-use Rattle.ii_io.specs.declared.faults.Fault.TheVariants.{OutOfMemory}
 use Rattle.ii_base.specs.Schema.{SchemaEntry}
 use Rattle.ii_definitions.specs.Fields.{option_of}
 use Rattle.ii_definitions.specs.Files.{HoldTokens}
 use Rattle.ii_definitions.specs.Norms.{HoldNorms}
 use Rattle.ii_definitions.specs.Tokens.{tokens_of}
 use Rattle.ii_indexing.specs.IndexCalls.{call_of}
-use Rattle.ii_indexing.specs.IndexFiles.{IsWriteFault, WroteIndex}
+use Rattle.ii_indexing.specs.IndexFiles.{IsIndexFault, WroteIndex}
 use Rattle.ii_ram.specs.Ram.{IsRamFault}
 use Rattle.ii_ram.proofs.RamLaws.{GivesAll, fault_in_ram, in_ram, index_holds, readers_fault}
 use Rattle.ii_ram.proofs.index_in_ram.Goals as goal
@@ -46,4 +45,4 @@ returns-clause-fault g c none =
     let files = c.files_in_ram-files.result in
     rw c.in_memory.ensures
     (fault_in_ram c.args.schema c.args.num_docs files ts c.in-Err.fault c.files_in_ram-files.ensures
-    (subst (λ (r : Result (Unit {0}) Fault). IfErr r (λ e. (e ≡ OutOfMemory) ⊎ IsWriteFault c.args.schema c.args.num_docs files ts e)) c.in-Err.is (c.write_index-files.ensures.fault none)))
+    (subst (λ (r : Result (Unit {0}) Fault). IfErr r (IsIndexFault c.args.schema c.args.num_docs files ts)) c.in-Err.is (c.write_index-files.ensures.fault none)))

@@ -5,9 +5,10 @@ use Rattle.ii_definitions.specs.Fields.{option_of}
 use Rattle.ii_termdict.specs.ReadBack.{AreAscending}
 use Rattle.ii_recorder.specs.IndexSerializer.{IsWriting}
 use Rattle.ii_recorder.specs.Terms.{WrittenTerm}
-use Rattle.ii_postings_writer.proofs.FaultLemmas.{begun_fault, closed_fault, split_written, term_of_part, unless_closed}
-use Rattle.ii_postings_writer.proofs.SerializeLemmas.{all_written, next_above, next_written, one_more_told, writable_at}
+use Rattle.ii_postings_writer.proofs.FaultLemmas.{begun_fault, closed_fault, split_written, term_of_part, unless_closed, written_within}
+use Rattle.ii_postings_writer.proofs.SerializeLemmas.{all_written, always_on_ok, next_above, next_written, one_more_told, writable_at}
 use Rattle.ii_postings_writer.specs.SortedTerms.{IsTold, IsWritable, state_of, written_term}
+use Rattle.ii_postings_writer.specs.TermLimits.{AreWithin}
 use Rattle.ii_postings_writer.specs.WriteFaults.{IsTermFaultAfter}
 use Rattle.ii_recorder.proofs.GrowthLemmas.{AllGrow-trans, bodies_grow}
 use Rattle.ii_postings_writer.proofs.serialize_postings.serialize_field.Goals as goal
@@ -59,8 +60,19 @@ returns-in_err-serialize_one_term-clause-fault g c =
     let state = state_of c.index-terms-place.result in
     let fault = c.in_err-serialize_one_term.ensures.fault initial c.args.field tokens before w.0 in
     let own = subst (λ es. IsTermFaultAfter initial (option_of es c.args.field) tokens before (written_term (option_of es c.args.field) state) e) w.3 fault in
+    let within = written_within initial c.loop-place.serializer.index.now c.args.field tokens mode (take k terms) (w.0.mode ∙ ap (λ es. option_of es c.args.field) w.3) w.0 w.5 in
     rw (p.1, p.2) (inr (term_of_part mode tokens initial before (written_term mode state) (all_written mode (drop (suc k) terms)) (all_written mode terms) e
-    (split_written mode terms k c.index-terms-place.result (search rules) c.index-terms-place.is) own))
+    (split_written mode terms k c.index-terms-place.result (search rules) c.index-terms-place.is) within.terms own))
+
+pub returns-clause-within : goal.returns-clause-within
+returns-clause-within g c =
+    let w = c.loop-place.invariant in
+    let terms = c.args.terms.now in
+    let mode = option_of c.args.serializer.now.entries c.args.field in
+    let many : length terms ≤ c.loop-place.place = search rules in
+    let all = take_all c.loop-place.place terms many in
+    let within = written_within c.args.serializer.now.bodies c.loop-place.serializer.index.now c.args.field c.args.total_num_tokens mode (take c.loop-place.place terms) (w.0.mode ∙ ap (λ es. option_of es c.args.field) w.3) w.0 w.5 in
+    always_on_ok c.close.result _ (subst (λ ts. AreWithin mode (all_written mode ts)) all within)
 
 pub returns-clause-fault : goal.returns-clause-fault
 returns-clause-fault g c =

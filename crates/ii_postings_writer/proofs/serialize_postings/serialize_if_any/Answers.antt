@@ -15,7 +15,7 @@ returns-clause-wrote g c initial fs has =
     let p : FieldPart = record { field = c.args.field; tokens = c.total_num_tokens-total_num_tokens.result; terms = map state_of seen } in
     let new = c.serialize_field.new.serializer.bodies in
     let wrote =
-    part_wrote c.serialize_field.result entries initial c.args.serializer.now.bodies new fs p has (some_seen seen (search rules)) c.serialize_field.ensures.wrote c.serialize_field.ensures.holds c.serialize_field.ensures.told in
+    part_wrote c.serialize_field.result entries initial c.args.serializer.now.bodies new fs p has (some_seen seen (search rules)) c.serialize_field.ensures.wrote c.serialize_field.ensures.holds c.serialize_field.ensures.told c.serialize_field.ensures.within in
     let counted = c.total_num_tokens-total_num_tokens.ensures ∙ tokens_of_writer c.args.writers.now c.args.field c.get_for_field.result.now c.get_for_field.ensures in
     subst (λ (n : ℕ). OnOk c.serialize_field.result (HasFields entries initial new (fs ++ parts_of entries c.args.field n c.args.terms.now))) counted
     (subst (λ (us : List SortedTerm). OnOk c.serialize_field.result (HasFields entries initial new (fs ++ parts_of entries c.args.field p.tokens us))) c.as_slice-terms.ensures wrote)

@@ -42,6 +42,7 @@ returns-clause-wrote g c =
     let lists : AreLists (length c.args.serializer.now.entries) c.args.ctx c.sort.new.self c.in_ok-terms.terms.items = record {
       same = c.in_ok-sort.ensures.same;
       ascending = c.in_ok-sort.ensures.ascending;
+      whole = c.in_ok-sort.ensures.whole;
       are = c.in_ok-terms.ensures.ok ∙ ap (λ (m : ℕ). map (λ (field : ℕ). terms_in field c.sort.new.self) (range_with_len 0 m)) (c.num_fields.ensures.value ∙ ap length c.requires.schema);
     } in
     wrote_context c.serialize_fields.result c.args.serializer.now c.serialize_fields.new.serializer c.args.per_field_postings_writers.now c.args.ctx c.sort.new.self
@@ -52,6 +53,7 @@ returns-clause-holds g c ts has =
     let lists : AreLists (length c.args.serializer.now.entries) c.args.ctx c.sort.new.self c.in_ok-terms.terms.items = record {
       same = c.in_ok-sort.ensures.same;
       ascending = c.in_ok-sort.ensures.ascending;
+      whole = c.in_ok-sort.ensures.whole;
       are = c.in_ok-terms.ensures.ok ∙ ap (λ (m : ℕ). map (λ (field : ℕ). terms_in field c.sort.new.self) (range_with_len 0 m)) (c.num_fields.ensures.value ∙ ap length c.requires.schema);
     } in
     let few : length c.args.serializer.now.entries < 2 ^ 32 = omega (arith, c.num_fields.ensures.value, c.num_fields.ensures.bound, ap length c.requires.schema) in
@@ -65,6 +67,7 @@ returns-clause-fault g c =
     let lists : AreLists (length c.args.serializer.now.entries) c.args.ctx c.sort.new.self c.in_ok-terms.terms.items = record {
       same = c.in_ok-sort.ensures.same;
       ascending = c.in_ok-sort.ensures.ascending;
+      whole = c.in_ok-sort.ensures.whole;
       are = c.in_ok-terms.ensures.ok ∙ ap (λ (m : ℕ). map (λ (field : ℕ). terms_in field c.sort.new.self) (range_with_len 0 m)) (c.num_fields.ensures.value ∙ ap length c.requires.schema);
     } in
     IfErr-weaker c.serialize_fields.result _ _ (λ e fault. context_fault c.args.serializer.now c.args.per_field_postings_writers.now c.args.ctx c.sort.new.self c.in_ok-terms.terms.items e lists fault) c.serialize_fields.ensures.fault
@@ -74,6 +77,7 @@ returns-clause-closed g c is =
     let lists : AreLists (length c.args.serializer.now.entries) c.args.ctx c.sort.new.self c.in_ok-terms.terms.items = record {
       same = c.in_ok-sort.ensures.same;
       ascending = c.in_ok-sort.ensures.ascending;
+      whole = c.in_ok-sort.ensures.whole;
       are = c.in_ok-terms.ensures.ok ∙ ap (λ (m : ℕ). map (λ (field : ℕ). terms_in field c.sort.new.self) (range_with_len 0 m)) (c.num_fields.ensures.value ∙ ap length c.requires.schema);
     } in
     let closed = c.serialize_fields.ensures.closed is in
@@ -84,6 +88,7 @@ returns-clause-refused g c closed =
     let lists : AreLists (length c.args.serializer.now.entries) c.args.ctx c.sort.new.self c.in_ok-terms.terms.items = record {
       same = c.in_ok-sort.ensures.same;
       ascending = c.in_ok-sort.ensures.ascending;
+      whole = c.in_ok-sort.ensures.whole;
       are = c.in_ok-terms.ensures.ok ∙ ap (λ (m : ℕ). map (λ (field : ℕ). terms_in field c.sort.new.self) (range_with_len 0 m)) (c.num_fields.ensures.value ∙ ap length c.requires.schema);
     } in
     let all = each_may_be (length c.args.schema.now) c.args.ctx c.sort.new.self c.in_ok-sort.ensures.same c.in_ok-sort.ensures.ascending c.in_ok-sort.ensures.whole c.requires.terms in

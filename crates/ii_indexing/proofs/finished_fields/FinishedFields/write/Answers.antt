@@ -6,9 +6,8 @@ use Rattle.ii_postings_writer.proofs.TermIndexLemmas.{on_ok}
 use Rattle.ii_indexing.proofs.finished_fields.FinishedFields.write.Goals as goal
 
 pub returns-clause-fault : goal.returns-clause-fault
-returns-clause-fault g c ts hold =
-    IfErr-weaker c.write.result.1 _ _
-    (λ e fault. ⊎_elim inl (λ others. inr (⊎_elim inl (λ limits. inr (inl (record { begun = limits.begun; entries_are = limits.entries_are; bodies_are = limits.bodies_are; cause = limits.cause }))) others)) fault) c.write.ensures.fault
+returns-clause-fault g c ts hold have =
+    IfErr-weaker c.write.result.1 _ _ (λ e fault. ⊎_elim inl (λ others. inr (⊎_elim inl (λ limits. inr (inl limits)) others)) fault) (c.write.ensures.fault ts have)
 
 pub returns-then-is_err-clause-grow : goal.returns-then-is_err-clause-grow
 returns-then-is_err-clause-grow g c =

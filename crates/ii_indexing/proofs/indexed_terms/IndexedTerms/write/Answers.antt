@@ -1,10 +1,13 @@
-use Rattle.std.proofs.Common.{inl, inr, [], ◌∙◌, refl, sym, subst, ⊎_elim}
-use Rattle.std.proofs.lemmas.Result.{IfErr-weaker}
+use Rattle.std.proofs.Common.{◌≡◌, [], List, ◌∙◌, refl, sym, subst}
+use Rattle.std.specs.Prelude.{◌⊎◌, IfErr}
+use Rattle.ii_io.specs.declared.faults.Fault.TheVariants.{OutOfMemory, Write}
+use Rattle.ii_base.specs.Schema.{SchemaEntry}
+use Rattle.ii_postings_writer.specs.HeldBodies.{HaveTokens}
 use Rattle.ii_recorder.specs.IndexBodies.{IndexBodiesState}
 use Rattle.ii_postings_writer.specs.FieldParts.{HasFields}
 use Rattle.ii_indexing.specs.IndexedTerms.{IndexedTermsState}
 use Rattle.ii_indexing.specs.IndexFiles.{PassLimits}
-use Rattle.ii_indexing.proofs.WrittenFiles.{begun_fields}
+use Rattle.ii_indexing.proofs.WrittenFiles.{PassesBehind, begun_fields}
 use Rattle.ii_io.specs.CountingWriter.{Grows}
 use Rattle.ii_io.specs.CountingWriterLemmas.{grows_not}
 use Rattle.ii_indexing.proofs.indexed_terms.IndexedTerms.write.Goals as goal
@@ -14,15 +17,12 @@ write_files-terms-requires-clause-fresh g c =
     subst (λ (b : IndexBodiesState). HasFields c.open.result.entries b b []) (sym c.open.ensures.bodies) (begun_fields c.open.result.entries c.args.writers.terms c.args.writers.postings c.args.writers.positions)
 
 pub returns-clause-fault : goal.returns-clause-fault
-returns-clause-fault g c =
-    IfErr-weaker c.write_files-terms.result.3 _ _
-    (λ e fault. ⊎_elim inl (λ others. inr (⊎_elim inl (λ cause. inr (subst (λ (s : IndexedTermsState). PassLimits c.args.schema.now c.args.writers s e) c.self.view_is (record {
-      begun = c.open.result;
-      entries_are = c.open.ensures.entries ∙ c.requires.same;
-      bodies_are = c.open.ensures.bodies;
-      cause = cause;
-    }))) others)) fault)
-    c.write_files-terms.ensures.fault
+returns-clause-fault g c ts has =
+    let entries = c.open.ensures.entries ∙ c.requires.same in
+    let tokens = subst (λ (s : IndexedTermsState). HaveTokens c.args.schema.now s.terms s.writers ts) (sym c.self.view_is) has in
+    let fault = c.write_files-terms.ensures.fault ts (subst (λ (es : List SchemaEntry). HaveTokens es c.self.inside.ctx c.self.inside.writers ts) (sym entries) tokens) in
+    subst (λ (es : List SchemaEntry). IfErr c.write_files-terms.result.3 (λ e. (e ≡ OutOfMemory) ⊎ (e ≡ Write) ⊎ PassLimits es c.args.writers.terms c.args.writers.postings c.args.writers.positions ts e)) entries
+    (subst (λ (b : IndexBodiesState). IfErr c.write_files-terms.result.3 (PassesBehind c.open.result.entries b ts)) c.open.ensures.bodies fault)
 
 pub returns-clause-grow : goal.returns-clause-grow
 returns-clause-grow g c =

@@ -28,5 +28,5 @@ returns-in-Ok-clause-fault g c running analyze calls stored =
     let ts = tokens_after [] (pieces_of analyze calls) in
     let st = subst (λ (s : IndexerState). StoresPieces s.schema s.fields (pieces_of analyze calls)) (sym c.self.view_is) stored in
     let norms = c.in-Ok.ensures.norms (pieces_of analyze calls) ts st.documents in
-    let fault = subst (λ (t : IndexedTermsState). IfErr c.write.result.1 (IsIndexFault c.self.inside.schema c.self.inside.num_docs c.args.writers t ts)) c.in-Ok.ensures.terms (c.write.ensures.fault ts norms) in
-    subst (λ (s : IndexerState). IfErr c.write.result.1 (IsIndexFault s.schema s.num_docs c.args.writers s.fields.indexed ts)) c.self.view_is fault
+    let have = subst (λ (t : IndexedTermsState). HaveTokens c.self.inside.schema t.terms t.writers ts) (sym c.in-Ok.ensures.terms) (have_tokens c.self.inside.schema c.self.inside.fields.indexed ts st.tokens) in
+    subst (λ (s : IndexerState). IfErr c.write.result.1 (IsIndexFault s.schema s.num_docs c.args.writers ts)) c.self.view_is (c.write.ensures.fault ts norms have)

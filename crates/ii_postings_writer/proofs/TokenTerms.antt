@@ -1,0 +1,203 @@
+-- The terms of a field as they are written, by the tokens that a context has.
+use Rattle.std.proofs.Common.{inl, inr, ◌≡◌, ℕ, ◌<◌, ◌^◌, ◌==◌, Bool, true, false, ◌||◌, List, [], ◌∷◌, ◌++◌, map, cond, Option, Some, None, refl, sym, ap, ◌∙◌, subst, nat_eq, Less}
+use Rattle.std.specs.Prelude.{◌⊎◌, T, bytes_eq, filter, if◌then◌else◌, MatchOption}
+use Rattle.std.specs.Ordering.{is_eq, nat_cmp}
+use Rattle.std.specs.Cmp.Lexicographic.{bytes_decides, nat_list_cmp_total, slice_cmp}
+use Rattle.std.specs.FinMap.{FinMap, entries-from_sorted, find, from_entries, from_sorted, get-from_entries, get-from_sorted, is_sorted, keys, nat_cmp-IsAntisymmetric, same_map, slice_cmp-IsAntisymmetric}
+use Rattle.std.specs.FinMap.Entries.{below_all}
+use Rattle.std.specs.List.{AllByRecursion, list_any}
+use Rattle.std.specs.List.Sorted.{IsStrictlySortedBy}
+use Rattle.std.specs.Map.{keys_of}
+use Rattle.std.proofs.lemmas.Cmp.{nat_list_eq_equiv}
+use Rattle.std.proofs.lemmas.Map.Text.{is_eq-slice_cmp}
+use Rattle.ii_base.specs.declared.schema.index_record_option.IndexRecordOption.{IndexRecordOption}
+use Rattle.ii_base.specs.declared.schema.index_record_option.IndexRecordOption.TheVariants.{Basic, WithFreqs, WithFreqsAndPositions}
+use Rattle.ii_base.specs.Options.{has_freq, has_positions}
+use Rattle.ii_docset.specs.Entries.{Entry, docs_of}
+use Rattle.ii_definitions.specs.Cut.{cut_entry}
+use Rattle.ii_definitions.specs.Postings.{grouped, kind_of, occurs, tokens_at}
+use Rattle.ii_definitions.specs.Tokens.{IndexToken}
+use Rattle.ii_recorder.specs.Pushed.{pushed_deltas, pushed_freqs}
+use Rattle.ii_recorder.specs.Recorded.{RecorderState, entries_of_recorder}
+use Rattle.ii_recorder.specs.Terms.{WrittenTerm}
+use Rattle.ii_postings_writer.specs.IndexingContext.{TermIndex, recorder_of}
+use Rattle.ii_postings_writer.specs.IndexingTerm.{AreTermBytes, field_bytes}
+use Rattle.ii_postings_writer.specs.Records.{HasPostings}
+use Rattle.ii_postings_writer.specs.SortedTerms.{SortedTerm, terms_in, written_term}
+use Rattle.ii_postings_writer.specs.TokenFiles.{field_keys, key_term}
+use Rattle.ii_postings_writer.proofs.HeldFields.{each_found, found_has_key, found_in, none_occurred}
+use Rattle.ii_postings_writer.proofs.HoldLaws.{kind_which, recorder_occurred}
+use Rattle.ii_postings_writer.proofs.SortedLemmas.{terms_in_ascend}
+
+-- keys as the entries of a set
+abbrev marked : List (List ℕ) → List (List ℕ × Unit {0})
+marked ks = map (λ (k : List ℕ). (k, tt)) ks
+
+below_marked : (k : List ℕ) (ks : List (List ℕ)) → AllByRecursion (λ (y : List ℕ). slice_cmp nat_cmp k y ≡ Less) ks → below_all (slice_cmp nat_cmp) k (marked ks) ≡ true
+below_marked k [] below = refl
+below_marked k (y ∷ ys) below = rw (below.0, below_marked k ys below.1) refl
+
+sorted_marked : (ks : List (List ℕ)) → IsStrictlySortedBy (slice_cmp nat_cmp) ks → is_sorted (slice_cmp nat_cmp) (marked ks) ≡ true
+unfolding IsStrictlySortedBy
+sorted_marked [] sorted = refl
+sorted_marked (k ∷ ks) sorted = rw (below_marked k ks sorted.0, sorted_marked ks sorted.1) refl
+
+unmarked : (ks : List (List ℕ)) → map (λ (e : List ℕ × Unit {0}). e.0) (marked ks) ≡ ks
+unmarked [] = refl
+unmarked (k ∷ ks) = ap (λ (us : List (List ℕ)). k ∷ us) (unmarked ks)
+
+-- the keys of a map that was made of entries, and of one of keys that ascend
+abbrev map_of : List (List ℕ) → FinMap (slice_cmp nat_cmp) (Unit {0})
+map_of ks = from_entries {R = slice_cmp nat_cmp} (marked ks)
+
+abbrev sorted_map_of : List (List ℕ) → FinMap (slice_cmp nat_cmp) (Unit {0})
+sorted_map_of ks = from_sorted {R = slice_cmp nat_cmp} (marked ks)
+
+keys_of_sorted : (ks : List (List ℕ)) → IsStrictlySortedBy (slice_cmp nat_cmp) ks → keys (sorted_map_of ks) ≡ ks
+keys_of_sorted ks sorted = ap (map (λ (e : List ℕ × Unit {0}). e.0)) (entries-from_sorted (slice_cmp nat_cmp) (marked ks) (subst T (sym (sorted_marked ks sorted)) tt)) ∙ unmarked ks
+
+-- whether a key has an entry
+abbrev flag : Bool → Option (Unit {0})
+flag b = cond b (Some tt) None
+
+found_marked : (q : List ℕ) (ks : List (List ℕ)) → find (slice_cmp nat_cmp) q (marked ks) ≡ flag (list_any (bytes_eq q) ks)
+found_marked q [] = refl
+found_marked q (k ∷ ks) = by_case (bytes_eq q k) (is_eq-slice_cmp q k) (found_marked q ks)
+  where
+    by_case : (b : Bool) → is_eq (slice_cmp nat_cmp q k) ≡ b → find (slice_cmp nat_cmp) q (marked ks) ≡ flag (list_any (bytes_eq q) ks)
+        → cond (is_eq (slice_cmp nat_cmp q k)) (Some tt) (find (slice_cmp nat_cmp) q (marked ks)) ≡ flag (b || list_any (bytes_eq q) ks)
+    by_case true is rest = rw is refl
+    by_case false is rest = rw is rest
+
+-- ascending keys are those of a list with the same keys
+keys_are : (ks us : List (List ℕ)) → IsStrictlySortedBy (slice_cmp nat_cmp) ks → ((q : List ℕ) → list_any (bytes_eq q) ks ≡ list_any (bytes_eq q) us) → ks ≡ keys (map_of us)
+keys_are ks us sorted same =
+    let maps = same_map nat_list_cmp_total (slice_cmp-IsAntisymmetric nat_cmp-IsAntisymmetric) (sorted_map_of ks) (map_of us)
+    (λ q. get-from_sorted (slice_cmp nat_cmp) (marked ks) q (subst T (sym (sorted_marked ks sorted)) tt) ∙ found_marked q ks ∙ ap flag (same q) ∙ sym (found_marked q us) ∙ sym (get-from_entries nat_list_cmp_total (marked us) q)) in
+    sym (keys_of_sorted ks sorted) ∙ ap keys maps
+
+marked_tokens : (ts : List IndexToken) → map (λ (t : IndexToken). (t.key, tt)) ts ≡ marked (map (λ (t : IndexToken). t.key) ts)
+marked_tokens [] = refl
+marked_tokens (t ∷ ts) = ap (λ (es : List (List ℕ × Unit {0})). (t.key, tt) ∷ es) (marked_tokens ts)
+
+-- the keys of a field are those of its tokens
+field_keys_are : (field : ℕ) (ts : List IndexToken) → keys (map_of (map (λ (t : IndexToken). t.key) (filter (λ (t : IndexToken). t.field == field) ts))) ≡ field_keys field ts
+field_keys_are field ts = ap (λ (es : List (List ℕ × Unit {0})). keys (from_entries {R = slice_cmp nat_cmp} es)) (sym (marked_tokens (filter (λ (t : IndexToken). t.field == field) ts)))
+
+-- without tokens there are none
+pub no_keys : (field : ℕ) → field_keys field [] ≡ []
+unfolding IsStrictlySortedBy
+no_keys field = sym (keys_are [] [] tt (λ q. refl))
+
+-- whether a key occurred, by the keys of a field's tokens
+occurs_among : (field : ℕ) (key : List ℕ) (ts : List IndexToken) → occurs field key ts ≡ list_any (bytes_eq key) (map (λ (t : IndexToken). t.key) (filter (λ (t : IndexToken). t.field == field) ts))
+occurs_among field key [] = refl
+occurs_among field key (t ∷ ts) = by_case (nat_eq t.field field) refl (occurs_among field key ts)
+  where
+    by_case : (b : Bool) → nat_eq t.field field ≡ b → occurs field key ts ≡ list_any (bytes_eq key) (map (λ (u : IndexToken). u.key) (filter (λ (u : IndexToken). u.field == field) ts))
+        → occurs field key (t ∷ ts) ≡ list_any (bytes_eq key) (map (λ (u : IndexToken). u.key) (filter (λ (u : IndexToken). u.field == field) (t ∷ ts)))
+    by_case true is rest = rw (is, rest, nat_list_eq_equiv.symm key t.key) refl
+    by_case false is rest = rw (is, rest) refl
+
+-- a term with these deltas
+abbrev with_deltas : List ℕ → IndexRecordOption → List Entry → List ℕ → WrittenTerm
+with_deltas key kept es deltas = record { key = key; skip_info = kept; docs = docs_of es; freqs = pushed_freqs kept es; deltas = deltas }
+
+-- a term of a field, by what its recorder keeps and has
+abbrev made : IndexRecordOption → List ℕ → IndexRecordOption → List Entry → WrittenTerm
+made mode key kept es = record { key = key; skip_info = if has_freq kept then mode else Basic; docs = docs_of es; freqs = pushed_freqs kept es; deltas = if has_positions mode then pushed_deltas es else [] }
+
+documents_alone : (es : List Entry) → pushed_deltas (map (cut_entry Basic) es) ≡ []
+documents_alone [] = refl
+documents_alone (e ∷ es) = documents_alone es
+
+counts_alone : (es : List Entry) → pushed_deltas (map (cut_entry WithFreqs) es) ≡ []
+counts_alone [] = refl
+counts_alone (e ∷ es) = counts_alone es
+
+made_of_field : (mode : IndexRecordOption) (key : List ℕ) (es : List Entry) → made mode key mode (map (cut_entry mode) es) ≡ with_deltas key mode (map (cut_entry mode) es) (pushed_deltas (map (cut_entry mode) es))
+made_of_field Basic key es = ap (with_deltas key Basic (map (cut_entry Basic) es)) (sym (documents_alone es))
+made_of_field WithFreqs key es = ap (with_deltas key WithFreqs (map (cut_entry WithFreqs) es)) (sym (counts_alone es))
+made_of_field WithFreqsAndPositions key es = refl
+
+made_of_documents : (mode : IndexRecordOption) (key : List ℕ) (es : List Entry) → made mode key Basic (map (cut_entry Basic) es) ≡ with_deltas key Basic (map (cut_entry Basic) es) (pushed_deltas (map (cut_entry Basic) es))
+made_of_documents Basic key es = ap (with_deltas key Basic (map (cut_entry Basic) es)) (sym (documents_alone es))
+made_of_documents WithFreqs key es = ap (with_deltas key Basic (map (cut_entry Basic) es)) (sym (documents_alone es))
+made_of_documents WithFreqsAndPositions key es = refl
+
+made_of_kind : (mode kind : IndexRecordOption) (key : List ℕ) (es : List Entry) → (kind ≡ mode) ⊎ (kind ≡ Basic) → made mode key kind (map (cut_entry kind) es) ≡ with_deltas key kind (map (cut_entry kind) es) (pushed_deltas (map (cut_entry kind) es))
+made_of_kind mode kind key es (inl same) =
+    subst (λ (k : IndexRecordOption). made mode key k (map (cut_entry k) es) ≡ with_deltas key k (map (cut_entry k) es) (pushed_deltas (map (cut_entry k) es))) (sym same) (made_of_field mode key es)
+made_of_kind mode kind key es (inr basic) =
+    subst (λ (k : IndexRecordOption). made mode key k (map (cut_entry k) es) ≡ with_deltas key k (map (cut_entry k) es) (pushed_deltas (map (cut_entry k) es))) (sym basic) (made_of_documents mode key es)
+
+-- a recorder with the postings of a key is written as that key
+key_written : (mode : IndexRecordOption) (field : ℕ) (ts : List IndexToken) (s : SortedTerm) → HasPostings (kind_of mode (tokens_at field s.key ts)) (tokens_at field s.key ts) s.recorder → written_term mode s ≡ key_term mode field ts s.key
+key_written mode field ts s has =
+    let tokens = tokens_at field s.key ts in
+    ap (λ (o : IndexRecordOption). made mode s.key o (entries_of_recorder s.recorder)) has.kept
+    ∙ ap (made mode s.key (kind_of mode tokens)) has.entries
+    ∙ made_of_kind mode (kind_of mode tokens) s.key (grouped tokens) (kind_which mode tokens)
+
+-- What a sorted context has of the tokens of a field.
+pub record HasFieldTokens (mode : IndexRecordOption) (field : ℕ) (sorted : TermIndex) (ts : List IndexToken) : Type 0 where
+  pub small : field < 2 ^ 32
+  pub whole : AllByRecursion AreTermBytes (keys_of sorted)
+  pub ascending : IsStrictlySortedBy (slice_cmp nat_cmp) (keys_of sorted)
+  pub records : (key : List ℕ) → MatchOption (recorder_of sorted (field_bytes field ++ key)) (tokens_at field key ts ≡ []) (HasPostings (kind_of mode (tokens_at field key ts)) (tokens_at field key ts))
+
+module _ (mode : IndexRecordOption) (field : ℕ) (sorted : TermIndex) (ts : List IndexToken) (h : HasFieldTokens mode field sorted ts) where
+  abbrev IsFound : SortedTerm → Type 0
+  IsFound s = recorder_of sorted (field_bytes field ++ s.key) ≡ Some s.recorder
+
+  -- what a key has
+  abbrev Has : List ℕ → Option RecorderState → Type 0
+  Has key o = MatchOption o (tokens_at field key ts ≡ []) (HasPostings (kind_of mode (tokens_at field key ts)) (tokens_at field key ts))
+
+  abbrev keys_in : List SortedTerm → List (List ℕ)
+  keys_in ss = map (λ (s : SortedTerm). s.key) ss
+
+  all_found : AllByRecursion IsFound (terms_in field sorted)
+  all_found = found_in field sorted sorted h.whole (each_found sorted h.ascending)
+
+  terms_written : (ss : List SortedTerm) → AllByRecursion IsFound ss → map (written_term mode) ss ≡ map (key_term mode field ts) (keys_in ss)
+  terms_written [] found = refl
+  terms_written (s ∷ ss) found =
+      let here : written_term mode s ≡ key_term mode field ts s.key = key_written mode field ts s (subst (Has s.key) found.0 (h.records s.key)) in
+      rw (here, terms_written ss found.1) refl
+
+  any_key : (key : List ℕ) (ss : List SortedTerm) → list_any (λ (t : WrittenTerm). bytes_eq key t.key) (map (written_term mode) ss) ≡ list_any (bytes_eq key) (keys_in ss)
+  any_key key [] = refl
+  any_key key (s ∷ ss) = ap (λ (b : Bool). bytes_eq key s.key || b) (any_key key ss)
+
+  -- a key that isn't found is none of these
+  no_key : (key : List ℕ) (ss : List SortedTerm) → recorder_of sorted (field_bytes field ++ key) ≡ None → AllByRecursion IsFound ss → list_any (bytes_eq key) (keys_in ss) ≡ false
+  no_key key [] absent found = refl
+  no_key key (s ∷ ss) absent found = by_case (bytes_eq key s.key) refl (no_key key ss absent found.1)
+    where
+      by_case : (b : Bool) → bytes_eq key s.key ≡ b → list_any (bytes_eq key) (keys_in ss) ≡ false → list_any (bytes_eq key) (keys_in (s ∷ ss)) ≡ false
+      by_case true is rest =
+          let same : key ≡ s.key = (bytes_decides key s.key).0 is in
+          let there : Some s.recorder ≡ None = sym found.0 ∙ ap (λ (k : List ℕ). recorder_of sorted (field_bytes field ++ k)) (sym same) ∙ absent in
+          absurd (cc)
+      by_case false is rest = rw (is, rest) refl
+
+  -- the keys of the terms are those that occurred
+  same_keys : (key : List ℕ) → list_any (bytes_eq key) (keys_in (terms_in field sorted)) ≡ occurs field key ts
+  same_keys key = by_case (recorder_of sorted (field_bytes field ++ key)) refl
+    where
+      by_case : (o : Option RecorderState) → recorder_of sorted (field_bytes field ++ key) ≡ o → list_any (bytes_eq key) (keys_in (terms_in field sorted)) ≡ occurs field key ts
+      by_case None absent = no_key key (terms_in field sorted) absent all_found ∙ sym (none_occurred field key ts (subst (Has key) absent (h.records key)))
+      by_case (Some r) found =
+          let occurred : occurs field key ts ≡ true = recorder_occurred mode field key ts r (subst (Has key) found (h.records key)) in
+          sym (any_key key (terms_in field sorted)) ∙ found_has_key mode field key r sorted h.small found ∙ sym occurred
+
+  pub keys_written : keys_in (terms_in field sorted) ≡ field_keys field ts
+  keys_written =
+      keys_are (keys_in (terms_in field sorted)) (map (λ (t : IndexToken). t.key) (filter (λ (t : IndexToken). t.field == field) ts)) (terms_in_ascend field sorted h.whole h.ascending)
+      (λ key. same_keys key ∙ occurs_among field key ts)
+      ∙ field_keys_are field ts
+
+  -- the terms of a field are written as its tokens say
+  pub field_written : map (written_term mode) (terms_in field sorted) ≡ map (key_term mode field ts) (field_keys field ts)
+  field_written = terms_written (terms_in field sorted) all_found ∙ ap (map (key_term mode field ts)) keys_written

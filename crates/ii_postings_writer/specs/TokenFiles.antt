@@ -1,0 +1,60 @@
+-- What is written of tokens, and which limits it passes.
+use Rattle.std.specs.Prelude.{ℕ, ◌==◌, List, filter, length, map, nat_lt}
+use Rattle.std.specs.Cmp.Lexicographic.{slice_cmp}
+use Rattle.std.specs.FinMap.{from_entries, keys}
+use Rattle.std.specs.List.{range_with_len}
+use Rattle.std.specs.Ordering.{nat_cmp}
+use Rattle.ii_io.specs.Composite.{Body}
+use Rattle.ii_base.specs.Schema.{SchemaEntry}
+use Rattle.ii_base.specs.declared.schema.index_record_option.IndexRecordOption.{IndexRecordOption}
+use Rattle.ii_docset.specs.Entries.{docs_of}
+use Rattle.ii_definitions.specs.Cut.{cut_entry}
+use Rattle.ii_definitions.specs.Fields.{option_of}
+use Rattle.ii_definitions.specs.Postings.{field_count, grouped, kind_of, tokens_at}
+use Rattle.ii_definitions.specs.Tokens.{IndexToken}
+use Rattle.ii_recorder.specs.Pushed.{pushed_deltas, pushed_freqs}
+use Rattle.ii_recorder.specs.Terms.{FieldBodies, WrittenTerm, field_bodies}
+use Rattle.ii_postings_writer.specs.TermLimits.{AreWithin, FirstOf, IsWithin, PassEnds}
+
+-- the keys of a field that occurred, each once, in ascending order
+abbrev pub field_keys : ℕ → List IndexToken → List (List ℕ)
+field_keys field ts = keys (from_entries {X = Unit {0}} {R = slice_cmp nat_cmp} (map (λ (t : IndexToken). (t.key, tt)) (filter (λ (t : IndexToken). t.field == field) ts)))
+
+-- a key of a field that records by a mode, as it is written: its postings, as far as they are kept
+abbrev pub key_term : IndexRecordOption → ℕ → List IndexToken → List ℕ → WrittenTerm
+key_term mode field ts key =
+    let tokens = tokens_at field key ts in
+    let kind = kind_of mode tokens in
+    let es = map (cut_entry kind) (grouped tokens) in
+    record { key = key; skip_info = kind; docs = docs_of es; freqs = pushed_freqs kind es; deltas = pushed_deltas es }
+
+-- the terms of a field
+abbrev pub field_terms : List SchemaEntry → List IndexToken → ℕ → List WrittenTerm
+field_terms entries ts field = map (key_term (option_of entries field) field ts) (field_keys field ts)
+
+-- the fields of a schema
+abbrev pub fields_of : List SchemaEntry → List ℕ
+fields_of entries = range_with_len 0 (length entries)
+
+-- those of them that have terms
+abbrev pub fields_with_terms : List SchemaEntry → List IndexToken → List ℕ
+fields_with_terms entries ts = filter (λ (field : ℕ). nat_lt 0 (length (field_keys field ts))) (fields_of entries)
+
+-- the bodies of a field
+abbrev pub token_bodies : List SchemaEntry → List IndexToken → ℕ → FieldBodies
+token_bodies entries ts field = field_bodies (option_of entries field) (field_count field ts) (field_terms entries ts field)
+
+-- the bodies of one of the three files, of each field that has terms
+abbrev pub file_bodies : (FieldBodies → List ℕ) → List SchemaEntry → List IndexToken → List Body
+file_bodies part entries ts = map (λ (field : ℕ). record { field = field; bytes = part (token_bodies entries ts field) }) (fields_with_terms entries ts)
+
+-- The first term that passes a limit passes it in this way: none before it does, in the order of fields and keys.
+abbrev pub FirstTerm : (IndexRecordOption → WrittenTerm → Type 0) → List SchemaEntry → List IndexToken → Type 0
+FirstTerm P entries ts =
+    FirstOf (λ (field : ℕ). AreWithin (option_of entries field) (field_terms entries ts field))
+    (λ (field : ℕ). FirstOf (IsWithin (option_of entries field)) (P (option_of entries field)) (field_terms entries ts field)) (fields_of entries)
+
+-- The terms of a field end too late, and those of the fields before it pass no limit.
+abbrev pub FirstEnds : List SchemaEntry → List IndexToken → Type 0
+FirstEnds entries ts =
+    FirstOf (λ (field : ℕ). AreWithin (option_of entries field) (field_terms entries ts field)) (λ (field : ℕ). PassEnds (option_of entries field) (field_terms entries ts field)) (fields_of entries)
