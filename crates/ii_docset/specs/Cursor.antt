@@ -45,9 +45,9 @@ term_freq_at false [] = 1
 term_freq_at false (e ∷ es) = e.term_freq
 
 -- the counts of all documents that are left, together
-abbrev pub counts_of : Bool → List Entry → ℕ
-counts_of one [] = 0
-counts_of one (e ∷ es) = term_freq_at one (e ∷ es) + counts_of one es
+abbrev pub total_freq : Bool → List Entry → ℕ
+total_freq one [] = 0
+total_freq one (e ∷ es) = term_freq_at one (e ∷ es) + total_freq one es
 
 -- the positions of the current document
 abbrev pub positions_at : List Entry → List ℕ

@@ -8,7 +8,7 @@ use Rattle.std.proofs.lemmas.List.Elements.{All-drop, All-map}
 use Rattle.std.proofs.lemmas.List.Sums.{sum_by-cons}
 use Rattle.ii_docset.specs.declared.docset.TheConstants.{TERMINATED}
 use Rattle.ii_docset.specs.Entries.{Entry}
-use Rattle.ii_docset.specs.Cursor.{counts_of, doc_at, positions_at, term_freq_at, IsAscending, FitsU32, IsSound}
+use Rattle.ii_docset.specs.Cursor.{total_freq, doc_at, positions_at, term_freq_at, IsAscending, FitsU32, IsSound}
 use Rattle.ii_docset.proofs.CursorLemmas.{IsSound_drop, length_below, length_step, nothing_left}
 use Rattle.ii_reader.specs.LoadedPostings.{AreOffsets, IsEndOf, IsHeld, loaded, loaded_entry, num_positions, entry_between, entries_held}
 
@@ -266,12 +266,12 @@ still_fit offset vs i h =
 -- Positions were asked for once for each entry that was passed, with these counts.
 pub record HasLoaded (asked counts : ℕ) (one : Bool) (all rest : List Entry) : Type 0 where
   pub asked_are : asked + length rest ≡ length all
-  pub counts_are : counts + counts_of one rest ≡ counts_of one all
+  pub counts_are : counts + total_freq one rest ≡ total_freq one all
 
 pub loaded_none : (one : Bool) (all : List Entry) → HasLoaded 0 0 one all all
 loaded_none one all = record { asked_are = omega arith; counts_are = omega arith }
 
-counts_step : (one : Bool) (es : List Entry) → doc_at es < TERMINATED → term_freq_at one es + counts_of one (drop 1 es) ≡ counts_of one es
+counts_step : (one : Bool) (es : List Entry) → doc_at es < TERMINATED → term_freq_at one es + total_freq one (drop 1 es) ≡ total_freq one es
 counts_step one [] here = absurd (omega arith)
 counts_step one (e ∷ es) here = refl
 
@@ -286,13 +286,13 @@ loaded_one asked counts one other all rest next h here is same =
 pub at_least_none : (n : ℕ) → 0 ≤ n
 at_least_none n = omega arith
 
-pub loaded_part : (asked counts : ℕ) (one : Bool) (all rest : List Entry) → HasLoaded asked counts one all rest → (asked ≤ length all) × (counts ≤ counts_of one all)
+pub loaded_part : (asked counts : ℕ) (one : Bool) (all rest : List Entry) → HasLoaded asked counts one all rest → (asked ≤ length all) × (counts ≤ total_freq one all)
 loaded_part asked counts one all rest h =
     let asked_are = h.asked_are in
     let counts_are = h.counts_are in
     (omega arith, omega arith)
 
-pub loaded_refused : (asked counts : ℕ) (one other : Bool) (all rest : List Entry) → HasLoaded asked counts one all rest → doc_at rest < TERMINATED → other ≡ one → (asked + 1 ≤ length all) × (counts + term_freq_at other rest ≤ counts_of one all)
+pub loaded_refused : (asked counts : ℕ) (one other : Bool) (all rest : List Entry) → HasLoaded asked counts one all rest → doc_at rest < TERMINATED → other ≡ one → (asked + 1 ≤ length all) × (counts + term_freq_at other rest ≤ total_freq one all)
 loaded_refused asked counts one other all rest h here same =
     let many = length_step rest here in
     let total = counts_step one rest here in

@@ -1,7 +1,7 @@
 ghost use Rattle.std.specs.Prelude.{◌≡◌, ◌+◌, ◌<◌, ◌^◌, ◌++◌, false, [], length, map, IfOk, IfErr, OnOk, OnErr};
 ghost use Rattle.std.specs.List.{All};
 ghost use Rattle.ii_io.specs.Faults.{OnlyMemory};
-ghost use Rattle.ii_docset.specs.Cursor.{IsCurrent, counts_of, doc_at, positions_at, term_freq_at};
+ghost use Rattle.ii_docset.specs.Cursor.{IsCurrent, total_freq, doc_at, positions_at, term_freq_at};
 ghost use Rattle.ii_reader.specs.LoadedPostings.{IsEndOf, IsLoadFault, loaded, num_positions};
 
 use ii_base::{Fault, LimitName};
@@ -47,7 +47,7 @@ impl LoadedPostings {
         ensures rest { OnOk result (P.rest source.new ≡ []) }
         ensures on_its_way { IsEndOf (P.rest source.old) (P.rest source.new) }
         ensures kind { P.always_one source.new ≡ P.always_one source.old }
-        ensures work { P.spent (length (P.rest source.old)) (counts_of (P.always_one source.old) (P.rest source.old)) source.old source.new }
+        ensures work { P.spent (length (P.rest source.old)) (total_freq (P.always_one source.old) (P.rest source.old)) source.old source.new }
         ensures err { IfErr result (λ fault. IsLoadFault (num_positions (P.rest source.old)) fault) }
     {
         let mut doc_ids = Vec::new(alloc);

@@ -16,7 +16,7 @@ use Rattle.ii_base.specs.Terms.{TermState}
 use Rattle.ii_base.specs.Values.{json_key}
 use Rattle.ii_docset.specs.declared.docset.TheConstants.{TERMINATED}
 use Rattle.ii_indexing.specs.declared.index_call.IndexCall.TheVariants as calls
-use Rattle.iiq.specs.Commands.{leaf_key, leaf_term, leaves_at}
+use Rattle.iiq.specs.Commands.{leaf_key, leaf_term, leaf_under}
 use Rattle.iiq.specs.Known.{IsCall, json_alone}
 
 -- a byte that is no zero, by what it is
@@ -76,7 +76,7 @@ abbrev pub term_at : ℕ → List ℕ → TermState
 term_at field value = record { field = field; value = value }
 
 -- an object of one key, the whole path
-object_by : (path bytes : List ℕ) (l : Option Leaf) (zero : Bool) → has_zero path ≡ zero → has_zero bytes ≡ zero → bytes ≡ joined_segments (segments_of path) → json_leaves false (one_member bytes (json_alone l)) ≡ leaves_at path l
+object_by : (path bytes : List ℕ) (l : Option Leaf) (zero : Bool) → has_zero path ≡ zero → has_zero bytes ≡ zero → bytes ≡ joined_segments (segments_of path) → json_leaves false (one_member bytes (json_alone l)) ≡ leaf_under path l
 object_by path bytes None true e same is = rw same refl
 object_by path bytes None false e same is = rw same refl
 object_by path bytes (Some l) true e same is = rw (same, e) refl
@@ -86,7 +86,7 @@ object_json : (members : Vec (String Global × JsonValue) Global) → json_of (v
 object_json members = ap json_of (sym (rolls-Object members)) ∙ fold-roll-JsonValue Json json_step (JsonValue-F.Object members)
 
 pub object_leaves : (key : String Global) (inner : JsonValue) (members : Vec (String Global × JsonValue) Global) (path : List ℕ) (l : Option Leaf) → members.items ≡ (key, inner) ∷ [] → string_bytes key ≡ joined_segments (segments_of path) → json_of inner ≡ json_alone l
-    → json_leaves false (json_of (values.Object members)) ≡ leaves_at path l
+    → json_leaves false (json_of (values.Object members)) ≡ leaf_under path l
 object_leaves key inner members path l one is alone =
     ap (json_leaves false) (object_json members
     ∙ ap (λ (ms : List (String Global × JsonValue)). object (members_from (map (λ (m : String Global × JsonValue). (m.0, json_of m.1)) ms))) one
@@ -100,11 +100,11 @@ leaf_is_call doc field v limit field_is limit_is below =
     (record { below = rw limit_is at below; takes = record { entry = _; found = refl; indexed = refl; typed = refl } })
 
 -- where a path holds byte 0, and where there is no leaf
-pub zero_path : (path : List ℕ) (l : Option Leaf) → has_zero path ≡ true → None ≡ leaf_term (leaves_at path l)
+pub zero_path : (path : List ℕ) (l : Option Leaf) → has_zero path ≡ true → None ≡ leaf_term (leaf_under path l)
 zero_path path None e = refl
 zero_path path (Some l) e = rw e refl
 
-pub no_leaf : (path : List ℕ) (l : Option Leaf) → is_none l ≡ true → None ≡ leaf_term (leaves_at path l)
+pub no_leaf : (path : List ℕ) (l : Option Leaf) → is_none l ≡ true → None ≡ leaf_term (leaf_under path l)
 no_leaf path None e = refl
 no_leaf path (Some l) e = absurd (cc)
 
@@ -114,7 +114,7 @@ plain_segments (s ∷ ss) = ap (λ (more : List (List ℕ)). s ∷ more) (plain_
 
 -- the term of a leaf
 pub leaf_term_is : (path : List ℕ) (l : Option Leaf) (field : ℕ) (begun term : TermState) → has_zero path ≡ false → is_none l ≡ false → field ≡ 2 → begun ≡ term_at field (path_bytes false (segments_of path) ++ 0 ∷ []) → term ≡ term_at begun.field (begun.value ++ unwrap_or (option_map leaf_key l) [])
-    → Some term ≡ leaf_term (leaves_at path l)
+    → Some term ≡ leaf_term (leaf_under path l)
 leaf_term_is path None field begun term zero some field_is begun_is term_is = absurd (cc)
 leaf_term_is path (Some l) field begun term zero some field_is begun_is term_is =
     let bytes : (path_bytes false (segments_of path) ++ 0 ∷ []) ++ leaf_key l ≡ json_key (joined_segments (segments_of path)) (leaf_key l) =
@@ -137,7 +137,7 @@ leaves_under [] front l = ap (λ (path : List (List ℕ)). (joined_segments path
 leaves_under (s ∷ ss) front l = under_by s ss (has_zero s) (list_any has_zero ss) front l refl refl (leaves_under ss (front ++ s ∷ []) l)
 
 -- a leaf at a path is that of the value which has an object for each segment of it
-pub leaves_of_nested : (path : List ℕ) (l : Leaf) → json_leaves false (value_under (segments_of path) (leaf l)) ≡ leaves_at path (Some l)
+pub leaves_of_nested : (path : List ℕ) (l : Leaf) → json_leaves false (value_under (segments_of path) (leaf l)) ≡ leaf_under path (Some l)
 leaves_of_nested path l =
     leaves_under (segments_of path) [] l
     ∙ ap (λ (zero : Bool). if zero then [] else (joined_segments (segments_of path), l) ∷ []) (split_zero false path)

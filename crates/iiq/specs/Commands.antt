@@ -123,16 +123,16 @@ leaf_of_words (kind ∷ words) =
     else option_map optional (last_by (leaf_of_word kind) words)
 
 -- the leaves of a JSON value that has a leaf at a path: none for a null, nor where the path holds byte 0
-abbrev pub leaves_at : List ℕ → Option Leaf → List (List ℕ × Leaf)
-leaves_at path None = []
-leaves_at path (Some leaf) = if has_zero path then [] else (joined_segments (segments_of path), leaf) ∷ []
+abbrev pub leaf_under : List ℕ → Option Leaf → List (List ℕ × Leaf)
+leaf_under path None = []
+leaf_under path (Some leaf) = if has_zero path then [] else (joined_segments (segments_of path), leaf) ∷ []
 
 -- the leaves that a path, a kind and a word write
 abbrev pub path_leaves : List (List ℕ) → Option (List (List ℕ × Leaf))
 path_leaves words = do
   path ← next_by key_of_word words
   leaf ← leaf_of_words path.1
-  Some (leaves_at path.0 leaf)
+  Some (leaf_under path.0 leaf)
 
 -- what the words after `leaf` ask for
 abbrev pub leaf_command : List (List ℕ) → Option Command

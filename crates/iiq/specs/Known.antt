@@ -18,7 +18,7 @@ use Rattle.iiq.specs.declared.leaves.LeafValue.{LeafValue}
 use Rattle.iiq.specs.declared.leaves.LeafValue.TheVariants.{Null, Signed, Text, Truth, Unsigned}
 use Rattle.iiq.specs.declared.leaves.PathValue.{PathValue}
 use Rattle.iiq.specs.declared.session.Session.{Session as SessionKept}
-use Rattle.iiq.specs.Commands.{Command, index_call, leaf_key, leaves_at, look_up, open_list}
+use Rattle.iiq.specs.Commands.{Command, index_call, leaf_key, leaf_under, look_up, open_list}
 use Rattle.iiq.specs.Output.{AnswersLine, AnswersMaybe, opened_text, with_ends}
 use Rattle.iiq.specs.Session.{Session, gathering, opened, refused, IsIndexed, fields, kept_with, num_docs_of}
 
@@ -35,12 +35,12 @@ abbrev pub query_look_up : Query → Command
 query_look_up q = look_up q.requested q.term
 
 -- the leaf that a value is: none for a null
-abbrev pub leaf_of : LeafValue → Option Leaf
-leaf_of Null = None
-leaf_of (Text letters) = Some (text_leaf letters.now)
-leaf_of (Signed number) = Some (value_leaf types.I64 (flipped number))
-leaf_of (Unsigned number) = Some (u64_leaf number)
-leaf_of (Truth truth) = Some (value_leaf types.Bool (number_of_bool truth))
+abbrev pub leaf_or_none : LeafValue → Option Leaf
+leaf_or_none Null = None
+leaf_or_none (Text letters) = Some (text_leaf letters.now)
+leaf_or_none (Signed number) = Some (value_leaf types.I64 (flipped number))
+leaf_or_none (Unsigned number) = Some (u64_leaf number)
+leaf_or_none (Truth truth) = Some (value_leaf types.Bool (number_of_bool truth))
 
 -- a value by itself: null, or a leaf
 abbrev pub json_alone : Option Leaf → Json
@@ -48,12 +48,12 @@ json_alone None = null
 json_alone (Some l) = leaf l
 
 -- what a value adds to the key of its path
-abbrev pub key_of : LeafValue → List ℕ
-key_of value = unwrap_or (option_map leaf_key (leaf_of value)) []
+abbrev pub key_of_leaf : LeafValue → List ℕ
+key_of_leaf value = unwrap_or (option_map leaf_key (leaf_or_none value)) []
 
 -- the leaves of a value at its path
 abbrev pub leaves_of : PathValue → List (List ℕ × Leaf)
-leaves_of at = leaves_at at.path.now (leaf_of at.value)
+leaves_of at = leaf_under at.path.now (leaf_or_none at.value)
 
 -- A call is for a field of the schema, and for a document.
 pub record IsCall (call : IndexCall) : Type 0 where

@@ -5,7 +5,7 @@ ghost use Rattle.ii_io.specs.Faults.{OnlyMemory};
 ghost use Rattle.ii_base.specs.Json.{json_leaves, json_of, u64_leaf};
 ghost use Rattle.ii_base.specs.Paths.{joined_segments, segments_of};
 ghost use Rattle.iiq.specs.Commands.{leaf_key, leaf_of_word, leaf_of_words, leaf_term, null_of_words, optional, path_leaves};
-ghost use Rattle.iiq.specs.Known.{json_alone, key_of, leaf_of, leaves_of};
+ghost use Rattle.iiq.specs.Known.{json_alone, key_of_leaf, leaf_or_none, leaves_of};
 ghost use Rattle.iiq.specs.Words.{AreTexts};
 
 use crate::commands::{last_word, next_word};
@@ -51,7 +51,7 @@ pub fn path_value<'a>(words: &mut Parts<'a>) -> Option<PathValue<'a>>
 // The value that a kind and a word write. A null has no word.
 fn value_of<'a>(words: &mut Parts<'a>) -> Option<LeafValue<'a>>
     requires { AreTexts words.old }
-    ensures { option_map leaf_of result ≡ leaf_of_words words.old }
+    ensures { option_map leaf_or_none result ≡ leaf_of_words words.old }
 {
     let Some(kind) = words.next() else {
         return None;
@@ -67,7 +67,7 @@ fn value_of<'a>(words: &mut Parts<'a>) -> Option<LeafValue<'a>>
 
 // A null, where no word is left.
 fn null_of<'a>(words: &mut Parts<'_>) -> Option<LeafValue<'a>>
-    ensures { option_map leaf_of result ≡ null_of_words words.old }
+    ensures { option_map leaf_or_none result ≡ null_of_words words.old }
 {
     match words.next() {
         Some(_) => None,
@@ -78,7 +78,7 @@ fn null_of<'a>(words: &mut Parts<'_>) -> Option<LeafValue<'a>>
 // The value that a word is by its kind.
 fn leaf_value<'a>(kind: &[u8], word: &'a [u8]) -> Option<LeafValue<'a>>
     requires { IsUtf8 word.now }
-    ensures { option_map leaf_of result ≡ option_map optional (leaf_of_word kind.now word.now) }
+    ensures { option_map leaf_or_none result ≡ option_map optional (leaf_of_word kind.now word.now) }
 {
     if kind == b"s".as_slice() {
         return text_value(word);
@@ -107,7 +107,7 @@ fn leaf_value<'a>(kind: &[u8], word: &'a [u8]) -> Option<LeafValue<'a>>
 // A text that isn't empty.
 fn text_value<'a>(word: &'a [u8]) -> Option<LeafValue<'a>>
     requires { IsUtf8 word.now }
-    ensures { option_map leaf_of result ≡ option_map optional (leaf_of_word (codes "s") word.now) }
+    ensures { option_map leaf_or_none result ≡ option_map optional (leaf_of_word (codes "s") word.now) }
 {
     if word.is_empty() {
         return None;
@@ -155,7 +155,7 @@ impl<'a> PathValue<'a> {
 impl<'a> LeafValue<'a> {
     // The JSON value by itself.
     fn json_value(self, alloc: Global) -> Result<JsonValue, AllocError>
-        ensures { IfOk result (λ value. json_of value ≡ json_alone (leaf_of self.entry)) }
+        ensures { IfOk result (λ value. json_of value ≡ json_alone (leaf_or_none self.entry)) }
     {
         match self {
             LeafValue::Null => Ok(JsonValue::Null),
@@ -167,7 +167,7 @@ impl<'a> LeafValue<'a> {
     }
 
     fn is_null(&self) -> bool
-        ensures { result ≡ is_none (leaf_of self.now) }
+        ensures { result ≡ is_none (leaf_or_none self.now) }
     {
         match self {
             LeafValue::Null => true,
@@ -177,7 +177,7 @@ impl<'a> LeafValue<'a> {
 
     // Adds the value to the term of its path.
     fn append_to(&self, term: &mut Term) -> Result<(), Fault>
-        ensures ok { OnOk result (term.new ≡ record term.old { value = term.old.value ++ key_of self.now }) }
+        ensures ok { OnOk result (term.new ≡ record term.old { value = term.old.value ++ key_of_leaf self.now }) }
         ensures only { OnlyMemory result }
     {
         match self {
