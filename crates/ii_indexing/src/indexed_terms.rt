@@ -95,6 +95,7 @@ impl IndexedTerms {
         ensures refused { (entries : List SchemaEntry) (ts : List IndexToken) → TakesValue entries field key.now → StoresTokens entries self.old ts
             → IsRefusedBy (value_fault field ts) result }
     {
+        // that the field has 32 bits, for the proof
         let _field = field.field_id();
         self.term.clear_with_field(field);
         self.term.set_bytes(key)?;

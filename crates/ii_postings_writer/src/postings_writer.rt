@@ -223,6 +223,7 @@ impl SpecializedPostingsWriter {
         ensures same_term { OnOk result (term.new ≡ term.old) }
         ensures refused { IfErr result (λ e. (words : List Word) → RefusesWords (text_piece doc term.old words) begin (kept_words (seen_word token.now ∷ [])) (text_state ctx.old self.old at.old) e) }
     {
+        // that the field has 32 bits, for the proof
         let _field = term.field().field_id();
         if token.text.len() > MAX_TOKEN_LEN {
             return Ok(());
@@ -265,6 +266,7 @@ impl PostingsWriter for SpecializedPostingsWriter {
         term: &IndexingTerm,
         ctx: &mut IndexingContext,
     ) -> Result<(), Fault> {
+        // that the field has 32 bits, for the proof
         let _field = term.field().field_id();
         self.record(self.value_option, doc, pos, term, ctx)
     }

@@ -90,6 +90,7 @@ pub fn no_calls_pass_no_limit<A: TextAnalyzer>(
     requires docs { num_docs ≤ 2147483647 }
     ensures { IfErr result (λ fault. fault ≡ Fault.OutOfMemory) }
 {
+    // that a schema has fewer than 2^64 fields, for the proof
     let _fields = schema.num_fields();
     index_in_ram(alloc, schema, num_docs, Vec::new(alloc), analyzer)
 }
