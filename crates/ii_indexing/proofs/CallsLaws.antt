@@ -9,11 +9,12 @@ use Rattle.ii_io.specs.declared.faults.Fault.TheVariants.{OutOfMemory}
 use Rattle.ii_base.specs.Schema.{SchemaEntry}
 use Rattle.ii_base.specs.Words.{Word}
 use Rattle.ii_definitions.specs.Fields.{option_of}
-use Rattle.ii_definitions.specs.Tokens.{Call}
+use Rattle.ii_definitions.specs.Tokens.{Call, call_pieces, pieces_of}
 use Rattle.ii_indexing.specs.IndexCalls.{MayAllBeIndexed, MayBeIndexed, call_of, doc_of, field_of}
 use Rattle.ii_indexing.specs.Indexer.{IndexerState, Stores}
 use Rattle.ii_indexing.specs.Refusals.{call_fault, calls_fault}
 use Rattle.ii_json.specs.LeafVisit.{first_fault}
+use Rattle.ii_indexing.proofs.CallLaws.{pieces_with}
 use Rattle.ii_indexing.specs.declared.index_call.IndexCall.{IndexCall}
 
 -- No document lies below the one before, or below a least one.
@@ -37,7 +38,7 @@ pub record IsTaking (analyze : List ℕ → List Word) (entries : List SchemaEnt
   pub schema : i.schema ≡ entries
   pub docs : i.num_docs ≡ num_docs
   pub whole : done ++ rest ≡ all
-  pub stored : Stores analyze i (map (call_of entries) done)
+  pub stored : Stores i (pieces_of analyze (map (call_of entries) done))
   pub each : AllByRecursion (MayBeIndexed entries num_docs) rest
   pub ordered : FollowFrom i.last_doc rest
   pub faults : calls_fault analyze (option_of entries) [] (map (call_of entries) all) ≡ calls_fault analyze (option_of entries) (map (call_of entries) done) (map (call_of entries) rest)
@@ -46,7 +47,7 @@ pub record IsTaking (analyze : List ℕ → List Word) (entries : List SchemaEnt
 pub record IsNew (entries : List SchemaEntry) (num_docs : ℕ) (i : IndexerState) : Type 0 where
   pub made : (i.schema ≡ entries) × (i.num_docs ≡ num_docs) × (i.last_doc ≡ 0) × (i.failed ≡ false)
 
-pub begins : (analyze : List ℕ → List Word) (entries : List SchemaEntry) (num_docs : ℕ) (all : List IndexCall) (i : IndexerState) → IsNew entries num_docs i → Stores analyze i [] → MayAllBeIndexed entries num_docs all
+pub begins : (analyze : List ℕ → List Word) (entries : List SchemaEntry) (num_docs : ℕ) (all : List IndexCall) (i : IndexerState) → IsNew entries num_docs i → Stores i [] → MayAllBeIndexed entries num_docs all
     → IsTaking analyze entries num_docs all [] all i
 begins analyze entries num_docs all i new stored may = record {
   running = new.made.3;
@@ -61,16 +62,16 @@ begins analyze entries num_docs all i new stored may = record {
 
 module _ (analyze : List ℕ → List Word) (entries : List SchemaEntry) (num_docs : ℕ) (all done rest : List IndexCall) (c : IndexCall) (old : IndexerState) (t : IsTaking analyze entries num_docs all done (c ∷ rest) old) where
   abbrev cause : Option Fault
-  cause = call_fault analyze (option_of old.schema (field_of c)) (map (call_of entries) done) (call_of old.schema c)
+  cause = call_fault analyze (option_of old.schema (field_of c)) (pieces_of analyze (map (call_of entries) done)) (call_of old.schema c)
 
   abbrev later : Option Fault
   later = calls_fault analyze (option_of entries) (map (call_of entries) done ++ call_of entries c ∷ []) (map (call_of entries) rest)
 
   faults_are : calls_fault analyze (option_of entries) [] (map (call_of entries) all) ≡ first_fault cause later
-  faults_are = t.faults ∙ ap (λ (es : List SchemaEntry). first_fault (call_fault analyze (option_of es (field_of c)) (map (call_of entries) done) (call_of es c)) later) (sym t.schema)
+  faults_are = t.faults ∙ ap (λ (es : List SchemaEntry). first_fault (call_fault analyze (option_of es (field_of c)) (pieces_of analyze (map (call_of entries) done)) (call_of es c)) later) (sym t.schema)
 
   -- the call was taken
-  pub takes_more : (new : IndexerState) → (new.schema ≡ old.schema) × (new.num_docs ≡ old.num_docs) × (new.last_doc ≡ doc_of c) × (new.failed ≡ false) → Stores analyze new (map (call_of entries) done ++ call_of old.schema c ∷ []) → cause ≡ None
+  pub takes_more : (new : IndexerState) → (new.schema ≡ old.schema) × (new.num_docs ≡ old.num_docs) × (new.last_doc ≡ doc_of c) × (new.failed ≡ false) → Stores new (pieces_of analyze (map (call_of entries) done) ++ call_pieces analyze (call_of old.schema c)) → cause ≡ None
       → IsTaking analyze entries num_docs all (done ++ c ∷ []) rest new
   takes_more new keeps stored none =
       let more : map (call_of entries) (done ++ c ∷ []) ≡ map (call_of entries) done ++ call_of entries c ∷ [] = map-append (call_of entries) done (c ∷ []) in
@@ -79,7 +80,9 @@ module _ (analyze : List ℕ → List Word) (entries : List SchemaEntry) (num_do
         schema = keeps.0 ∙ t.schema;
         docs = keeps.1 ∙ t.docs;
         whole = append_assoc done (c ∷ []) rest ∙ t.whole;
-        stored = subst (Stores analyze new) (sym more) (subst (λ (es : List SchemaEntry). Stores analyze new (map (call_of entries) done ++ call_of es c ∷ [])) t.schema stored);
+        stored = subst (λ (cs : List Call). Stores new (pieces_of analyze cs)) (sym more)
+            (subst (Stores new) (sym (pieces_with analyze (map (call_of entries) done) (call_of entries c)))
+            (subst (λ (es : List SchemaEntry). Stores new (pieces_of analyze (map (call_of entries) done) ++ call_pieces analyze (call_of es c))) t.schema stored));
         each = t.each.1;
         ordered = subst (λ (doc : ℕ). FollowFrom doc rest) (sym keeps.2) t.ordered.1;
         faults = faults_are ∙ ap (λ (f : Option Fault). first_fault f later) none ∙ ap (λ (cs : List Call). calls_fault analyze (option_of entries) cs (map (call_of entries) rest)) (sym more);
@@ -91,9 +94,9 @@ module _ (analyze : List ℕ → List Word) (entries : List SchemaEntry) (num_do
 
 -- all were taken
 pub takes_all : (analyze : List ℕ → List Word) (entries : List SchemaEntry) (num_docs : ℕ) (all done rest : List IndexCall) (i : IndexerState) → rest ≡ [] → IsTaking analyze entries num_docs all done rest i
-    → (calls_fault analyze (option_of entries) [] (map (call_of entries) all) ≡ None) × Stores analyze i (map (call_of entries) all)
+    → (calls_fault analyze (option_of entries) [] (map (call_of entries) all) ≡ None) × Stores i (pieces_of analyze (map (call_of entries) all))
 takes_all analyze entries num_docs all done rest i is t =
     let same : done ≡ all = sym (append-nil done) ∙ ap (λ (cs : List IndexCall). done ++ cs) (sym is) ∙ t.whole in (
       t.faults ∙ ap (λ (cs : List IndexCall). calls_fault analyze (option_of entries) (map (call_of entries) done) (map (call_of entries) cs)) is,
-      subst (λ (cs : List IndexCall). Stores analyze i (map (call_of entries) cs)) same t.stored,
+      subst (λ (cs : List IndexCall). Stores i (pieces_of analyze (map (call_of entries) cs))) same t.stored,
     )

@@ -80,7 +80,7 @@ content_other analyze option earlier c (leaves ls) =
 calls_other : (analyze : List ℕ → List Word) (option : ℕ → IndexRecordOption) (earlier cs : List Call) → IsNotWrite (calls_fault analyze option earlier cs)
 calls_other analyze option earlier [] = tt
 calls_other analyze option earlier (c ∷ cs) =
-    first_or (call_fault analyze (option c.field) earlier c) (calls_fault analyze option (earlier ++ c ∷ []) cs) (content_other analyze (option c.field) (pieces_of analyze earlier) c c.content)
+    first_or (call_fault analyze (option c.field) (pieces_of analyze earlier) c) (calls_fault analyze option (earlier ++ c ∷ []) cs) (content_other analyze (option c.field) (pieces_of analyze earlier) c c.content)
     (calls_other analyze option (earlier ++ c ∷ []) cs)
 
 -- what a refused call leaves of the writers

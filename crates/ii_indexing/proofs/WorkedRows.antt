@@ -13,7 +13,7 @@ use Rattle.ii_base.specs.Words.{Word}
 use Rattle.ii_docset.specs.Entries.{Entry, document}
 use Rattle.ii_fieldnorm.specs.Norms.{id_of_norm, norm_of_id}
 use Rattle.ii_definitions.specs.Norms.{norm_file, norm_ids}
-use Rattle.ii_definitions.specs.Tokens.{Call, IndexToken, text, words, value, tokens_of}
+use Rattle.ii_definitions.specs.Tokens.{Call, IndexToken, pieces_of, text, words, value, tokens_of}
 use Rattle.ii_definitions.specs.Postings.{doc_count, field_count, key_postings}
 use Rattle.ii_indexing.specs.Refusals.{call_fault}
 
@@ -66,7 +66,7 @@ falling_counts = refl
 pub falling_count : key_postings WithFreqs 0 (codes "a") WithFreqsAndPositions (tokens_of ascii_words (words_at 0 (word (codes "a") 5 1 ∷ word (codes "a") 4 1 ∷ []) ∷ [])) ≡ record { doc = 0; term_freq = 2; positions = [] } ∷ []
 falling_count = refl
 
-pub falling_documents : call_fault ascii_words WithFreqsAndPositions (words_at 0 (word (codes "a") 5 1 ∷ []) ∷ []) (words_at 1 (word (codes "a") 0 1 ∷ [])) ≡ None
+pub falling_documents : call_fault ascii_words WithFreqsAndPositions (pieces_of ascii_words (words_at 0 (word (codes "a") 5 1 ∷ []) ∷ [])) (words_at 1 (word (codes "a") 0 1 ∷ [])) ≡ None
 falling_documents = refl
 
 pub falling_positions : call_fault ascii_words WithFreqsAndPositions [] (words_at 0 (word (codes "a") 5 1 ∷ word (codes "a") 4 1 ∷ [])) ≡ Some DecreasingPosition

@@ -3,7 +3,7 @@ use Rattle.std.specs.Prelude.{◌≡◌, ℕ, ◌<◌, ◌^◌, Bool, List, [], 
 use Rattle.std.specs.Borrow.{GName}
 use Rattle.ii_base.specs.Schema.{SchemaEntry, keeps_norms}
 use Rattle.ii_base.specs.Words.{Word}
-use Rattle.ii_definitions.specs.Tokens.{Call, Piece, pieces_of, tokens_after}
+use Rattle.ii_definitions.specs.Tokens.{Piece, tokens_after}
 use Rattle.ii_indexing.specs.IndexedTerms.{IndexedTermsState, StoresTokens}
 use Rattle.ii_postings_writer.specs.IndexingContext.{AllEndBy}
 use Rattle.ii_indexing.specs.OpenDocuments.{OpenDocumentsState, ReachTo, TellsAll, with_norms}
@@ -64,6 +64,6 @@ pub record LeafConstant : Type 0 where
   pub writers : ℕ
   pub norms : List Bool
 
--- The calls are stored, by what an analyzer makes of a text.
-abbrev pub Stores : (List ℕ → List Word) → IndexerState → List Call → Type 0
-Stores analyze s calls = StoresPieces s.schema s.fields (pieces_of analyze calls)
+-- Texts and values are stored, whatever analyzers made the words of the texts.
+abbrev pub Stores : IndexerState → List Piece → Type 0
+Stores s ps = StoresPieces s.schema s.fields ps

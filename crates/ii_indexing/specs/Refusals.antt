@@ -49,11 +49,11 @@ content_fault analyze option earlier c (words ws) = pieces_fault option earlier 
 content_fault analyze option earlier c (value key) = pieces_fault option earlier (content_pieces analyze c (value key))
 content_fault analyze option earlier c (leaves ls) = leaves_fault (next_leaf_fault analyze option earlier c.doc c.field) [] ls
 
--- why a call is refused after earlier ones
-abbrev pub call_fault : (List ℕ → List Word) → IndexRecordOption → List Call → Call → Option Fault
-call_fault analyze option earlier c = content_fault analyze option (pieces_of analyze earlier) c c.content
+-- why a call is refused after pieces
+abbrev pub call_fault : (List ℕ → List Word) → IndexRecordOption → List Piece → Call → Option Fault
+call_fault analyze option earlier c = content_fault analyze option earlier c c.content
 
 -- why calls are refused after earlier ones, the first fault of one after the other, each by what its field records
 abbrev pub calls_fault : (List ℕ → List Word) → (ℕ → IndexRecordOption) → List Call → List Call → Option Fault
 calls_fault analyze option earlier [] = None
-calls_fault analyze option earlier (c ∷ cs) = first_fault (call_fault analyze (option c.field) earlier c) (calls_fault analyze option (earlier ++ c ∷ []) cs)
+calls_fault analyze option earlier (c ∷ cs) = first_fault (call_fault analyze (option c.field) (pieces_of analyze earlier) c) (calls_fault analyze option (earlier ++ c ∷ []) cs)

@@ -1,7 +1,7 @@
 ghost use Rattle.std.specs.Prelude.{◌≡◌, ◌≤◌, ◌⊎◌, [], List, map, false, None, Err, IfErr, IfOk, IfSome, OnOk};
 ghost use Rattle.ii_docset.specs.declared.docset.TheConstants.{TERMINATED};
 ghost use Rattle.ii_definitions.specs.Fields.{option_of};
-ghost use Rattle.ii_definitions.specs.Tokens.{tokens_of};
+ghost use Rattle.ii_definitions.specs.Tokens.{pieces_of, tokens_of};
 ghost use Rattle.ii_indexing.specs.IndexCalls.{MayAllBeIndexed, call_of};
 ghost use Rattle.ii_indexing.specs.IndexFiles.{CountsIndexFailures, FilesGrow, IsIndexFault, WroteIndex};
 ghost use Rattle.ii_indexing.specs.Indexer.{Stores};
@@ -69,7 +69,7 @@ fn index_calls<A: TextAnalyzer>(
 ) -> Result<Indexer, Fault>
     requires docs { num_docs ≤ TERMINATED }
     requires calls { MayAllBeIndexed schema num_docs calls.items }
-    ensures stored { IfOk result (λ i. Stores (A.words analyzer.now) i (map (call_of schema) calls.items)) }
+    ensures stored { IfOk result (λ i. Stores i (pieces_of (A.words analyzer.now) (map (call_of schema) calls.items))) }
     ensures rest { IfOk result (λ i. (i.schema ≡ schema) × (i.num_docs ≡ num_docs) × (i.failed ≡ false)) }
     ensures refused { IsRefusedBy (calls_fault (A.words analyzer.now) (option_of schema) [] (map (call_of schema) calls.items)) result }
 {

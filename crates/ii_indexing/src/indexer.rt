@@ -2,11 +2,10 @@ ghost use Rattle.std.specs.Prelude.{◌≡◌, ◌<◌, ◌≤◌, ◌∷◌, �
 ghost use Rattle.ii_io.specs.Faults.{OnlyMemory};
 ghost use Rattle.ii_docset.specs.declared.docset.TheConstants.{TERMINATED};
 ghost use Rattle.ii_definitions.specs.Fields.{option_of};
-ghost use Rattle.ii_base.specs.Words.{Word};
-ghost use Rattle.ii_definitions.specs.Tokens.{Call, tokens_of};
+ghost use Rattle.ii_definitions.specs.Tokens.{Piece, call_pieces, tokens_after};
 ghost use Rattle.ii_indexing.specs.IndexFiles.{CountsIndexFailures, FilesGrow, IsIndexFault, WroteIndex};
 ghost use Rattle.ii_indexing.specs.IndexCalls.{Takes, call_of, doc_of, expands_dots_in, field_of, type_of};
-ghost use Rattle.ii_indexing.specs.Indexer.{IndexerState, StoresPieces, Stores};
+ghost use Rattle.ii_indexing.specs.Indexer.{Stores};
 ghost use Rattle.ii_indexing.specs.Refusals.{call_fault};
 ghost use Rattle.ii_json.specs.LeafVisit.{IsRefusedBy};
 
@@ -57,7 +56,7 @@ impl Indexer {
     pub fn new(alloc: Global, schema: Schema, num_docs: DocId) -> Result<Indexer, Fault>
         requires { num_docs ≤ TERMINATED }
         ensures made { IfOk result (λ i. (i.schema ≡ schema) × (i.num_docs ≡ num_docs) × (i.last_doc ≡ 0) × (i.failed ≡ false)) }
-        ensures stored { IfOk result (λ i. StoresPieces i.schema i.fields []) }
+        ensures stored { IfOk result (λ i. Stores i []) }
         ensures only { OnlyMemory result }
     {
         let fields = IndexedFields::new(alloc, &schema)?;
@@ -85,10 +84,10 @@ impl Indexer {
         requires order { self.old.failed ≡ false → self.old.last_doc ≤ doc_of call }
         requires below { self.old.failed ≡ false → doc_of call < self.old.num_docs }
         requires takes { self.old.failed ≡ false → Takes self.old.schema (field_of call) (type_of call) }
-        ensures stored { OnOk result ((calls : List Call) → Stores (A.words analyzer.now) self.old calls → Stores (A.words analyzer.now) self.new (calls ++ call_of self.old.schema call ∷ [])) }
+        ensures stored { OnOk result ((ps : List Piece) → Stores self.old ps → Stores self.new (ps ++ call_pieces (A.words analyzer.now) (call_of self.old.schema call))) }
         ensures rest { OnOk result ((self.new.schema ≡ self.old.schema) × (self.new.num_docs ≡ self.old.num_docs) × (self.new.last_doc ≡ doc_of call) × (self.new.failed ≡ false)) }
-        ensures refused { self.old.failed ≡ false → (calls : List Call) → Stores (A.words analyzer.now) self.old calls
-            → IsRefusedBy (call_fault (A.words analyzer.now) (option_of self.old.schema (field_of call)) calls (call_of self.old.schema call)) result }
+        ensures refused { self.old.failed ≡ false → (ps : List Piece) → Stores self.old ps
+            → IsRefusedBy (call_fault (A.words analyzer.now) (option_of self.old.schema (field_of call)) ps (call_of self.old.schema call)) result }
         ensures fails { OnErr result (self.new.failed ≡ true) }
         ensures failed { self.old.failed ≡ true → (result ≡ Err Fault.IndexerFailed) × (self.new ≡ self.old) }
     {
@@ -114,11 +113,11 @@ impl Indexer {
     /// sum up above `u32::MAX`, `OutOfMemory` where a growth was refused. After a fault each file has what
     /// it had, and maybe more behind it.
     pub fn finish<W: Write>(self, writers: IndexWriters<W>) -> (IndexWriters<W>, Result<(), Fault>)
-        ensures wrote { (analyze : List ℕ → List Word) (calls : List Call) → Stores analyze self calls → OnOk result.1 (WroteIndex self.schema self.num_docs writers result.0 (tokens_of analyze calls)) }
+        ensures wrote { (ps : List Piece) → Stores self ps → OnOk result.1 (WroteIndex self.schema self.num_docs writers result.0 (tokens_after [] ps)) }
         ensures failures { CountsIndexFailures writers result.0 result.1 }
         ensures grow { FilesGrow writers result.0 }
-        ensures fault { self.failed ≡ false → (analyze : List ℕ → List Word) (calls : List Call) → Stores analyze self calls
-            → IfErr result.1 (IsIndexFault self.schema self.num_docs writers (tokens_of analyze calls)) }
+        ensures fault { self.failed ≡ false → (ps : List Piece) → Stores self ps
+            → IfErr result.1 (IsIndexFault self.schema self.num_docs writers (tokens_after [] ps)) }
         ensures failed { self.failed ≡ true → (result.1 ≡ Err Fault.IndexerFailed) × (result.0 ≡ writers) }
     {
         let Indexer {

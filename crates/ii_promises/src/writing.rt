@@ -1,7 +1,7 @@
 // What is written, and what is told where it can't be.
 ghost use Rattle.std.specs.Prelude.{◌≡◌, ◌+◌, ◌≤◌, ◌<◌, ◌⊎◌, ◌↔◌, ◌∷◌, ◌++◌, List, [], true, false, map, Err, IfSome, IsErrOf, OnErr, OnOk};
 ghost use Rattle.ii_definitions.specs.Fields.{option_of};
-ghost use Rattle.ii_definitions.specs.Tokens.{Call, tokens_of};
+ghost use Rattle.ii_definitions.specs.Tokens.{Piece, call_pieces, tokens_of};
 ghost use Rattle.ii_indexing.specs.IndexCalls.{MayAllBeIndexed, Takes, call_of, doc_of, field_of, type_of};
 ghost use Rattle.ii_indexing.specs.IndexFiles.{FilesGrow, WroteIndex};
 ghost use Rattle.ii_indexing.specs.Indexer.{Stores};
@@ -78,11 +78,30 @@ pub fn calls_are_taken_or_fail<A: TextAnalyzer>(
     requires order { indexer.old.last_doc ≤ doc_of call }
     requires below { doc_of call < indexer.old.num_docs }
     requires takes { Takes indexer.old.schema (field_of call) (type_of call) }
-    ensures stored { OnOk result ((calls : List Call) → Stores (A.words analyzer.now) indexer.old calls → Stores (A.words analyzer.now) indexer.new (calls ++ call_of indexer.old.schema call ∷ [])) }
+    ensures stored { OnOk result ((ps : List Piece) → Stores indexer.old ps → Stores indexer.new (ps ++ call_pieces (A.words analyzer.now) (call_of indexer.old.schema call))) }
     ensures order { OnOk result ((indexer.new.last_doc ≡ doc_of call) × (indexer.new.failed ≡ false)) }
     ensures fails { OnErr result (indexer.new.failed ≡ true) }
 {
     indexer.index(call, analyzer)
+}
+
+/// Each call may be made with an analyzer of its own: what is stored are the words that each of them made.
+pub fn each_call_has_its_analyzer<A: TextAnalyzer, B: TextAnalyzer>(
+    indexer: &mut Indexer,
+    first: IndexCall,
+    one: &A,
+    second: IndexCall,
+    other: &B,
+) -> Result<(), Fault>
+    requires running { indexer.old.failed ≡ false }
+    requires order { (indexer.old.last_doc ≤ doc_of first) × (doc_of first ≤ doc_of second) }
+    requires below { (doc_of first < indexer.old.num_docs) × (doc_of second < indexer.old.num_docs) }
+    requires takes { Takes indexer.old.schema (field_of first) (type_of first) × Takes indexer.old.schema (field_of second) (type_of second) }
+    ensures { OnOk result ((ps : List Piece) → Stores indexer.old ps
+        → Stores indexer.new ((ps ++ call_pieces (A.words one.now) (call_of indexer.old.schema first)) ++ call_pieces (B.words other.now) (call_of indexer.old.schema second))) }
+{
+    indexer.index(first, one)?;
+    indexer.index(second, other)
 }
 
 /// A failed indexer refuses each call, and changes nothing.

@@ -2,6 +2,7 @@ use Rattle.std.proofs.Common.{◌≡◌, ◌<◌, [], List, ℕ, map, sym, subst
 use Rattle.std.proofs.lemmas.List.{nil_from_length}
 use Rattle.ii_base.specs.Schema.{SchemaEntry}
 use Rattle.std.proofs.lemmas.Result.{err_from_is_err_and}
+use Rattle.ii_definitions.specs.Tokens.{pieces_of}
 use Rattle.ii_indexing.specs.IndexCalls.{Takes, call_of, doc_of, field_of, type_of}
 use Rattle.ii_indexing.specs.declared.index_call.IndexCall.{IndexCall}
 use Rattle.ii_indexing.proofs.CallsLaws.{IsTaking, begins, takes_all, takes_more, takes_none}
@@ -36,7 +37,7 @@ loop-call-preserved g c =
     let analyze = g.A.TextAnalyzer.words c.args.analyzer.now in
     let taking = subst (λ (rest : List IndexCall). IsTaking analyze c.args.schema c.args.num_docs c.args.calls.items c.loop-call.yielded rest c.loop-call.indexer) c.in-Some.ensures.steps.0 c.loop-call.invariant in
     takes_more analyze c.args.schema c.args.num_docs c.args.calls.items c.loop-call.yielded c.next.new.self.rest.items c.in-Some.call c.loop-call.indexer taking c.index.new.self c.in_ok-index.ensures.rest
-    (c.in_ok-index.ensures.stored (map (call_of c.args.schema) c.loop-call.yielded) taking.stored) (c.in_ok-index.ensures.refused taking.running (map (call_of c.args.schema) c.loop-call.yielded) taking.stored)
+    (c.in_ok-index.ensures.stored (pieces_of analyze (map (call_of c.args.schema) c.loop-call.yielded)) taking.stored) (c.in_ok-index.ensures.refused taking.running (pieces_of analyze (map (call_of c.args.schema) c.loop-call.yielded)) taking.stored)
 
 pub returns-in_err-index-clause-refused : goal.returns-in_err-index-clause-refused
 returns-in_err-index-clause-refused g c =
@@ -45,7 +46,7 @@ returns-in_err-index-clause-refused g c =
     let p = err_from_is_err_and c.from_residual-in_err-index.result c.from_residual-in_err-index.ensures.1 in
     rw (p.1, p.2)
     (takes_none analyze c.args.schema c.args.num_docs c.args.calls.items c.loop-call.yielded c.next.new.self.rest.items c.in-Some.call c.loop-call.indexer taking _
-    (c.in_err-index.ensures.refused taking.running (map (call_of c.args.schema) c.loop-call.yielded) taking.stored))
+    (c.in_err-index.ensures.refused taking.running (pieces_of analyze (map (call_of c.args.schema) c.loop-call.yielded)) taking.stored))
 
 pub returns-clause-stored : goal.returns-clause-stored
 returns-clause-stored g c =

@@ -1,6 +1,6 @@
 use Rattle.std.proofs.Common.{map}
 use Rattle.ii_definitions.specs.Fields.{option_of}
-use Rattle.ii_definitions.specs.Tokens.{tokens_of}
+use Rattle.ii_definitions.specs.Tokens.{pieces_of, tokens_of}
 use Rattle.ii_indexing.specs.IndexCalls.{call_of}
 use Rattle.ii_indexing.proofs.FaultLaws.{written_fault}
 use Rattle.ii_indexing.proofs.RefusalLaws.{none_written}
@@ -15,4 +15,4 @@ returns-in-Ok-clause-fault g c none =
     let words = g.A.TextAnalyzer.words c.args.analyzer.now in
     let calls = map (call_of c.args.schema) c.args.calls.items in
     let rest = c.in-Ok.ensures.rest in
-    written_fault c.args.schema c.args.num_docs c.args.writers c.in-Ok.indexer (tokens_of words calls) c.finish.result.1 rest.0 rest.1 (c.finish.ensures.fault rest.2 words calls c.in-Ok.ensures.stored)
+    written_fault c.args.schema c.args.num_docs c.args.writers c.in-Ok.indexer (tokens_of words calls) c.finish.result.1 rest.0 rest.1 (c.finish.ensures.fault rest.2 (pieces_of words calls) c.in-Ok.ensures.stored)

@@ -1,6 +1,6 @@
 use Rattle.std.proofs.Common.{[], length, sym, subst}
 use Rattle.std.specs.Prelude.{IfErr, OnOk}
-use Rattle.ii_definitions.specs.Tokens.{pieces_of, tokens_after}
+use Rattle.ii_definitions.specs.Tokens.{tokens_after}
 use Rattle.ii_postings_writer.specs.HeldBodies.{HaveTokens}
 use Rattle.ii_indexing.specs.IndexFiles.{IsIndexFault, WroteIndex}
 use Rattle.ii_indexing.specs.IndexedTerms.{IndexedTermsState}
@@ -16,17 +16,17 @@ write-requires-clause-terms g c =
     (may_be_written c.self.inside.schema c.self.inside.fields.indexed (tokens_after [] running.some.pieces) running.some.stored.tokens c.self.inside.last_doc running.ends.terms)
 
 pub returns-in-Ok-clause-wrote : goal.returns-in-Ok-clause-wrote
-returns-in-Ok-clause-wrote g c analyze calls stored =
-    let ts = tokens_after [] (pieces_of analyze calls) in
-    let st = subst (λ (s : IndexerState). StoresPieces s.schema s.fields (pieces_of analyze calls)) (sym c.self.view_is) stored in
-    let norms = c.in-Ok.ensures.norms (pieces_of analyze calls) ts st.documents in
+returns-in-Ok-clause-wrote g c ps stored =
+    let ts = tokens_after [] ps in
+    let st = subst (λ (s : IndexerState). StoresPieces s.schema s.fields ps) (sym c.self.view_is) stored in
+    let norms = c.in-Ok.ensures.norms ps ts st.documents in
     let have = subst (λ (t : IndexedTermsState). HaveTokens c.self.inside.schema t.terms t.writers ts) (sym c.in-Ok.ensures.terms) (have_tokens c.self.inside.schema c.self.inside.fields.indexed ts st.tokens) in
     subst (λ (s : IndexerState). OnOk c.write.result.1 (WroteIndex s.schema s.num_docs c.args.writers c.write.result.0 ts)) c.self.view_is (c.write.ensures.holds ts norms have)
 
 pub returns-in-Ok-clause-fault : goal.returns-in-Ok-clause-fault
-returns-in-Ok-clause-fault g c running analyze calls stored =
-    let ts = tokens_after [] (pieces_of analyze calls) in
-    let st = subst (λ (s : IndexerState). StoresPieces s.schema s.fields (pieces_of analyze calls)) (sym c.self.view_is) stored in
-    let norms = c.in-Ok.ensures.norms (pieces_of analyze calls) ts st.documents in
+returns-in-Ok-clause-fault g c running ps stored =
+    let ts = tokens_after [] ps in
+    let st = subst (λ (s : IndexerState). StoresPieces s.schema s.fields ps) (sym c.self.view_is) stored in
+    let norms = c.in-Ok.ensures.norms ps ts st.documents in
     let have = subst (λ (t : IndexedTermsState). HaveTokens c.self.inside.schema t.terms t.writers ts) (sym c.in-Ok.ensures.terms) (have_tokens c.self.inside.schema c.self.inside.fields.indexed ts st.tokens) in
     subst (λ (s : IndexerState). IfErr c.write.result.1 (IsIndexFault s.schema s.num_docs c.args.writers ts)) c.self.view_is (c.write.ensures.fault ts norms have)

@@ -1,12 +1,12 @@
-use Rattle.std.proofs.Common.{◌≡◌, ◌≤◌, ◌++◌, ◌∷◌, [], ℕ, Bool, false, sym, ap, ◌∙◌, subst}
+use Rattle.std.proofs.Common.{◌≡◌, ◌≤◌, ◌++◌, ℕ, Bool, false, sym, ap, ◌∙◌, subst}
 use Rattle.std.proofs.lemmas.Result.{err_from_is_err_and}
 use Rattle.ii_definitions.specs.Fields.{option_of}
 use Rattle.ii_json.specs.LeafVisit.{IsRefusedBy}
 use Rattle.ii_indexing.specs.Refusals.{call_fault, content_fault}
-use Rattle.ii_definitions.specs.Tokens.{call_pieces, pieces_of}
+use Rattle.ii_definitions.specs.Tokens.{call_pieces}
 use Rattle.ii_indexing.specs.IndexCalls.{Takes, call_of, call_with, content_of, doc_of, expands_dots_in, field_of, type_of}
 use Rattle.ii_indexing.specs.Indexer.{EndsAt, IndexerState, StoresPieces}
-use Rattle.ii_indexing.proofs.CallLaws.{ends_later, pieces_with}
+use Rattle.ii_indexing.proofs.CallLaws.{ends_later}
 use Rattle.ii_indexing.proofs.FieldLists.{takes_inside}
 use Rattle.ii_indexing.proofs.indexer.Indexer.index.Goals as goal
 
@@ -25,29 +25,26 @@ index_call-requires-clause-ends g c =
     ends_later c.self.inside.last_doc (doc_of c.args.call) c.self.inside.fields order (c.self.invariant.1 c.if-self.false).ends
 
 pub returns-in_err-index_call-clause-refused : goal.returns-in_err-index_call-clause-refused
-returns-in_err-index_call-clause-refused g c fine calls stored =
+returns-in_err-index_call-clause-refused g c fine ps stored =
     let now = c.self.view_is in
-    let pieces = pieces_of (g.A.TextAnalyzer.words c.args.analyzer.now) calls in
-    let st = subst (λ (s : IndexerState). StoresPieces c.args.self.now.schema s.fields pieces) (sym now) stored in
+    let st = subst (λ (s : IndexerState). StoresPieces c.args.self.now.schema s.fields ps) (sym now) stored in
     let p = err_from_is_err_and c.from_residual.result c.from_residual.ensures.1 in
     let dots = c.expands_dots-expand_dots.ensures ∙ ap (expands_dots_in c.self.inside.schema) c.field.ensures ∙ ap (λ (s : IndexerState). expands_dots_in s.schema (field_of c.args.call)) now in
     let analyze = g.A.TextAnalyzer.words c.args.analyzer.now in
-    let told = subst (λ (b : Bool). IsRefusedBy (content_fault analyze (option_of c.args.self.now.schema (field_of c.args.call)) pieces (call_with b c.args.call) (content_of b c.args.call)) c.index_call.result) dots
-    (c.index_call.ensures.refused c.args.self.now.schema pieces (c.requires.takes fine) st) in
-    rw (p.1, p.2) (subst (IsRefusedBy (call_fault analyze (option_of c.args.self.now.schema (field_of c.args.call)) calls (call_of c.args.self.now.schema c.args.call))) c.in_err-index_call.was told)
+    let told = subst (λ (b : Bool). IsRefusedBy (content_fault analyze (option_of c.args.self.now.schema (field_of c.args.call)) ps (call_with b c.args.call) (content_of b c.args.call)) c.index_call.result) dots
+    (c.index_call.ensures.refused c.args.self.now.schema ps (c.requires.takes fine) st) in
+    rw (p.1, p.2) (subst (IsRefusedBy (call_fault analyze (option_of c.args.self.now.schema (field_of c.args.call)) ps (call_of c.args.self.now.schema c.args.call))) c.in_err-index_call.was told)
 
 pub returns-clause-stored : goal.returns-clause-stored
-returns-clause-stored g c calls stored =
+returns-clause-stored g c ps stored =
     let now = c.self.view_is in
     let analyze = g.A.TextAnalyzer.words c.args.analyzer.now in
-    let pieces = pieces_of analyze calls in
     let running : c.args.self.now.failed ≡ false = sym (ap (λ (s : IndexerState). s.failed) now) ∙ c.if-self.false in
-    let st = subst (λ (s : IndexerState). StoresPieces s.schema s.fields pieces) (sym now) stored in
+    let st = subst (λ (s : IndexerState). StoresPieces s.schema s.fields ps) (sym now) stored in
     let takes = subst (λ (s : IndexerState). Takes s.schema (field_of c.args.call) (type_of c.args.call)) (sym now) (c.requires.takes running) in
     let dots = c.expands_dots-expand_dots.ensures ∙ ap (expands_dots_in c.self.inside.schema) c.field.ensures in
-    let told = subst (λ (b : Bool). StoresPieces c.self.inside.schema c.index_call.new.self (pieces ++ call_pieces analyze (call_with b c.args.call))) dots (c.in_ok-index_call.ensures.stored c.self.inside.schema pieces takes st) in
-    let all = subst (StoresPieces c.self.inside.schema c.index_call.new.self) (sym (pieces_with analyze calls (call_of c.self.inside.schema c.args.call))) told in
-    subst (λ (s : IndexerState). StoresPieces c.self.inside.schema c.index_call.new.self (pieces_of analyze (calls ++ call_of s.schema c.args.call ∷ []))) now all
+    let told = subst (λ (b : Bool). StoresPieces c.self.inside.schema c.index_call.new.self (ps ++ call_pieces analyze (call_with b c.args.call))) dots (c.in_ok-index_call.ensures.stored c.self.inside.schema ps takes st) in
+    subst (λ (s : IndexerState). StoresPieces c.self.inside.schema c.index_call.new.self (ps ++ call_pieces analyze (call_of s.schema c.args.call))) now told
 
 pub invariant_of-self-2 : goal.invariant_of-self-2
 invariant_of-self-2 g c =
