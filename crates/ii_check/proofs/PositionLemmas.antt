@@ -273,19 +273,6 @@ small_given (Some fs) bytes deltas n some read count many small =
     let fit = small_fits fs deltas small in
     rw (read, same, fit) refl
 
-pub too_many : (freqs : Option (List ℕ)) (bytes deltas : List ℕ) (n : ℕ) → is_some freqs ≡ true → position_deltas bytes ≡ Some deltas → IfSome freqs (λ fs. n ≡ sum fs) → length deltas ≢ n → deltas_if true freqs (Some bytes) ≡ None
-too_many None bytes deltas n some read count other = absurd (cc)
-too_many (Some fs) bytes deltas n some read count other =
-    let differ = ne_eqb (length deltas) (sum fs) (λ same. other (same ∙ sym count)) in
-    rw (read, differ) refl
-
-pub downgraded : (recorded requested : IndexRecordOption) → has_positions (downgrade recorded requested) ≡ true → has_positions recorded ≡ true
-downgraded Basic other e = e
-downgraded WithFreqs Basic e = e
-downgraded WithFreqs WithFreqs e = e
-downgraded WithFreqs WithFreqsAndPositions e = e
-downgraded WithFreqsAndPositions other e = refl
-
 -- how many positions the counts say, by what the skip entries tell of the full blocks and by the counts of the last one
 pub counted_all : (p : CheckedPostingsState) (skip : SkipReaderState) (fs row : List ℕ) (offset n : ℕ) → HasDocuments p → IsAtBlock p skip → skip.block ≡ p.doc_freq / 128 → has_positions p.recorded ≡ true → p.postings.freqs ≡ Some fs → row ≡ block_of fs (p.doc_freq / 128)
     → offset ≡ skip.position_offset → n ≡ sum row → offset + n ≡ sum fs

@@ -452,9 +452,6 @@ pub record KeepsReading (held before kept decodes offset count done : ℕ) : Typ
   pub to : 0 < done → offset + done ≤ 128 * kept + 128
   pub same : LieInBlock held offset count → decodes ≡ before
 
-pub keeps_begun : (held before offset count : ℕ) → KeepsReading held before held before offset count 0
-keeps_begun held before offset count = record { none = λ e. refl; from = λ some. absurd (omega arith); to = λ some. absurd (omega arith); same = λ lie. refl }
-
 loads_here : (held before kept decodes offset count block start done : ℕ) → KeepsReading held before kept decodes offset count done → LieInBlock held offset count → 128 * block + start ≡ offset + done → start < 128 → done < count → block ≡ kept
 loads_here held before kept decodes offset count block start zero k lie place low left =
     let same = k.none refl in

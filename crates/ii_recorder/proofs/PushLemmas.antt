@@ -107,10 +107,6 @@ pub pushes_went : (option : IndexRecordOption) (a b : IndexSerializerState) (xs 
 pushes_went option a b xs (Ok tt) e h = h
 pushes_went option a b xs (Err f) e h = absurd (cc)
 
-deltas_stay : (b : Bool) (old : List ℕ) → (if b then old ++ [] else old) ≡ old
-deltas_stay true old = append-nil old
-deltas_stay false old = refl
-
 all_front : (P : ℕ → Type 0) (xs ys : List ℕ) → AllByRecursion P (xs ++ ys) → AllByRecursion P xs
 all_front P [] ys h = tt
 all_front P (x ∷ xs) ys h = (h.0, all_front P xs ys h.1)
@@ -118,21 +114,6 @@ all_front P (x ∷ xs) ys h = (h.0, all_front P xs ys h.1)
 all_back : (P : ℕ → Type 0) (xs ys : List ℕ) → AllByRecursion P (xs ++ ys) → AllByRecursion P ys
 all_back P [] ys h = h
 all_back P (x ∷ xs) ys h = all_back P xs ys h.1
-
--- no entries
-pub pushes_none : (option : IndexRecordOption) (a : IndexSerializerState) → a.closed ≡ false → Pushes option a a [] (Ok tt)
-pushes_none option a open_still = record {
-  ok = rw (append-nil a.field.term.docs, append-nil a.field.term.freqs, deltas_stay (has_positions a.field.term.mode) a.field.term.deltas) refl;
-  small = λ h. omega (arith, h.1);
-  fit = tt;
-  bodies = refl;
-  entries = refl;
-  closes = record { ok = open_still; err = tt };
-  refused = λ h. refl;
-  limit = λ e. absurd (cc);
-  closed = (λ e. absurd (cc), λ h. absurd (cc));
-  only = tt;
-}
 
 ascend_front : (least : ℕ) (xs ys : List ℕ) → ascend_from least (xs ++ ys) ≡ true → ascend_from least xs ≡ true
 ascend_front least [] ys h = refl
@@ -177,9 +158,6 @@ pub record IsPushing (option : IndexRecordOption) (s b : IndexSerializerState) (
   pub parts : es ≡ done ++ rest
   pub pushed : Pushes option s b done (Ok tt)
 
-pub pushing_first : (option : IndexRecordOption) (s : IndexSerializerState) (es : List Entry) → s.closed ≡ false → IsPushing option s s es es
-pushing_first option s es open_still = record { done = []; parts = refl; pushed = pushes_none option s open_still }
-
 pub pushing_may : (option : IndexRecordOption) (s b : IndexSerializerState) (es rest : List Entry) (e : Entry) (more : List Entry) → IsPushing option s b es rest → rest ≡ e ∷ more → MayPush option s es → MayPush option b (e ∷ [])
 pushing_may option s b es rest e more h is may = may_next option s b h.done e more es (h.parts ∙ ap (λ (xs : List Entry). h.done ++ xs) is) may h.pushed
 
@@ -194,9 +172,6 @@ pushing_next option s b c es rest e more result h is went k = record {
 pub pushing_refused : (option : IndexRecordOption) (s b c : IndexSerializerState) (es rest : List Entry) (e : Entry) (more : List Entry) (result : Result (Unit {0}) Fault) → IsPushing option s b es rest → rest ≡ e ∷ more → true ≡ is_err result
     → Pushes option b c (e ∷ []) result → Pushes option s c es result
 pushing_refused option s b c es rest e more result h is refused k = refused_next option s b c h.done e more es result (h.parts ∙ ap (λ (xs : List Entry). h.done ++ xs) is) refused h.pushed k
-
-pub pushing_all : (option : IndexRecordOption) (s b : IndexSerializerState) (es rest : List Entry) → IsPushing option s b es rest → rest ≡ [] → Pushes option s b es (Ok tt)
-pushing_all option s b es rest h is = rw (h.parts ∙ ap (λ (xs : List Entry). h.done ++ xs) is ∙ append-nil h.done) h.pushed
 
 open_before : (b : Bool) → (IsTrue b → IsErrOf {T = Unit {0}} {E = Fault} (Ok tt) SerializerClosed) → b ≡ false
 open_before false h = refl

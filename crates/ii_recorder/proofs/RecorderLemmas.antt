@@ -30,36 +30,6 @@ has_last e (f ∷ es) =
     let others = has_last f es in
     record { front = e ∷ others.front; one = others.one; parts = ap (λ (xs : List Entry). e ∷ xs) others.parts }
 
-last_or : (es : List Entry) (e : Entry) (fs : List Entry) (other : ℕ) → fs ≡ es ++ e ∷ [] → unwrap_or (last_doc fs) other ≡ e.doc
-last_or es e fs other parts = ap (λ (xs : List Entry). unwrap_or (last_doc xs) other) parts ∙ ap (λ (o : Option ℕ). unwrap_or o other) (last_doc_push es e)
-
-last_default : (es : List Entry) (a b : ℕ) → 0 < length es → unwrap_or (last_doc es) a ≡ unwrap_or (last_doc es) b
-last_default [] a b some = absurd (omega arith)
-last_default (e ∷ es) a b some =
-    let one = has_last e es in
-    last_or one.front one.one (e ∷ es) a one.parts ∙ sym (last_or one.front one.one (e ∷ es) b one.parts)
-
-none_counted : (n : ℕ) → 0 ≡ min n u32_max → n ≡ 0
-none_counted n e = omega (arith, e)
-
-some_counted : (n count : ℕ) → count ≡ min n u32_max → 0 < count → 0 < n
-some_counted n count e some = omega (arith, e, some)
-
-no_last : (es : List Entry) (other : ℕ) → length es ≡ 0 → unwrap_or (last_doc es) other ≡ other
-no_last [] other none = refl
-no_last (e ∷ es) other none = absurd (omega (arith, none))
-
--- the current document, where there is none
-pub current_none : (s : RecorderState) (count : ℕ) → IsCount count s → count ≡ 0 → u32_max ≡ current_doc s
-current_none s count counted none = sym (no_last (entries_of_recorder s) u32_max (none_counted (length (entries_of_recorder s)) (sym none ∙ counted)))
-
-pub current_last : (s : RecorderState) (last : ℕ) → IsLastDoc last s → 0 < length (entries_of_recorder s) → last ≡ current_doc s
-current_last s last is some = sym is ∙ last_default (entries_of_recorder s) 0 u32_max some
-
--- and where there is one
-pub current_some : (s : RecorderState) (last count : ℕ) → IsCount count s → IsLastDoc last s → 0 < count → last ≡ current_doc s
-current_some s last count counted is some = current_last s last is (some_counted (length (entries_of_recorder s)) count counted some)
-
 above_by : (o : Option ℕ) (last doc : ℕ) → IfSome o (λ l. l < doc) → unwrap_or o 0 ≡ last → last ≤ doc
 above_by None last doc h e = omega (arith, e)
 above_by (Some l) last doc h e = omega (arith, h, e)

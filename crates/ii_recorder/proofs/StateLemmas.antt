@@ -97,10 +97,6 @@ positioned_by false n position = refl
 pub docs_positioned : (bytes : List ℕ) (b : Bool) (position : ℕ) → docs_state bytes b ≡ record (docs_state bytes b) { pending = option_map (with_position Basic position) (docs_state bytes b).pending }
 docs_positioned bytes b position = ap (λ (p : Option Entry). record (docs_state bytes b) { pending = p }) (positioned_by b (sum (numbers bytes)) position)
 
-pub docs_current_none : (bytes : List ℕ) (last : ℕ) (b : Bool) → KeepsDocs bytes last b → length bytes ≡ 0 → u32_max ≡ current_doc (docs_state bytes b)
-docs_current_none [] last b k none = sym (ap (λ (es : List Entry). unwrap_or (last_doc es) u32_max) (docs_are [] last b k))
-docs_current_none (x ∷ xs) last b k none = absurd (omega (arith, none))
-
 pub docs_current : (bytes : List ℕ) (last : ℕ) (b : Bool) → KeepsDocs bytes last b → 0 < length bytes → last ≡ current_doc (docs_state bytes b)
 docs_current bytes last b k some =
     let first = begins bytes k.vints some in
@@ -153,34 +149,9 @@ counts_begun bytes new last freq count doc more k none above fits is one =
       };
     }
 
-recounted_more : (freq position : ℕ) (p : Option Entry) → option_map (recounted (freq + 1)) p ≡ option_map (with_position WithFreqs position) (option_map (recounted freq) p)
-recounted_more freq position None = refl
-recounted_more freq position (Some e) = refl
-
 some_of : {X : Type 0} (o : Option X) → IsSome o → (x : X) × (o ≡ Some x)
 some_of None h = absurd (search rules)
 some_of (Some x) h = (x, refl)
-
--- the open document has one position more
-pub counts_positioned : (bytes : List ℕ) (last freq count position : ℕ) → KeepsCounts bytes last freq count → IsSome (counts_state bytes freq).pending
-    → CountsGo bytes last (freq + 1) count (record (counts_state bytes freq) { pending = option_map (with_position WithFreqs position) (counts_state bytes freq).pending })
-counts_positioned bytes last freq count position k some =
-    let s = counts_state bytes freq in
-    let g = counts_in (numbers bytes) in
-    let e = some_of s.pending some in
-    let state : counts_state bytes (freq + 1) ≡ record s { pending = option_map (with_position WithFreqs position) s.pending } = ap (λ (p : Option Entry). record { option = WithFreqs; closed = g.closed; pending = p }) (recounted_more freq position g.pending) in
-    let moved : record s { pending = option_map (with_position WithFreqs position) s.pending } ≡ record s { pending = Some (with_position WithFreqs position e.0) } =
-    ap (λ (p : Option Entry). record s { pending = option_map (with_position WithFreqs position) p }) e.1
-    in
-    record {
-      state = state;
-      keeps = record {
-        vints = k.vints;
-        read = k.read;
-        is_last = subst (IsLastDoc last) (sym (state ∙ moved)) (last_moved s e.0 (with_position WithFreqs position e.0) last e.1 refl k.is_last);
-        is_count = subst (IsCount count) (sym (state ∙ moved)) (count_moved s e.0 (with_position WithFreqs position e.0) count e.1 k.is_count);
-      };
-    }
 
 pub counts_ended : (bytes new : List ℕ) (last freq count : ℕ) → KeepsCounts bytes last freq count → IsSome (counts_state bytes freq).pending → freq < 2 ^ 32 → new ≡ bytes ++ vint_u32 freq
     → CountsGo new last freq count (all_closed (counts_state bytes freq))

@@ -104,10 +104,6 @@ pub zero_path : (path : List ℕ) (l : Option Leaf) → has_zero path ≡ true �
 zero_path path None e = refl
 zero_path path (Some l) e = rw e refl
 
-pub no_leaf : (path : List ℕ) (l : Option Leaf) → is_none l ≡ true → None ≡ leaf_term (leaf_under path l)
-no_leaf path None e = refl
-no_leaf path (Some l) e = absurd (cc)
-
 plain_segments : (segments : List (List ℕ)) → map (segment_bytes false) segments ≡ segments
 plain_segments [] = refl
 plain_segments (s ∷ ss) = ap (λ (more : List (List ℕ)). s ∷ more) (plain_segments ss)
