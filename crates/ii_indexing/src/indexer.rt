@@ -110,8 +110,9 @@ impl Indexer {
     /// `Limit(Offset)` where a count of a writer would pass `u64::MAX` or the bytes of all terms of a
     /// field pass 2^56, `Limit(TermBytes)` where the postings or the positions of a term have more than
     /// `u32::MAX` bytes, `Limit(BlockFrequencySum)` where the counts of a block of a term with positions
-    /// sum up above `u32::MAX`, `OutOfMemory` where a growth was refused. After a fault each file has what
-    /// it had, and maybe more behind it.
+    /// sum up above `u32::MAX`, `OutOfMemory` where a growth was refused. Of the last two limits it is
+    /// that of the first term which passes one, fields in order and keys ascending. After a fault each
+    /// file has what it had, and maybe more behind it.
     pub fn finish<W: Write>(self, writers: IndexWriters<W>) -> (IndexWriters<W>, Result<(), Fault>)
         ensures wrote { (ps : List Piece) → Stores self ps → OnOk result.1 (WroteIndex self.schema self.num_docs writers result.0 (tokens_after [] ps)) }
         ensures failures { CountsIndexFailures writers result.0 result.1 }
