@@ -1,12 +1,16 @@
 // What is indexed, written and opened.
-ghost use Rattle.std.specs.Prelude.{◌≡◌, ◌<◌, ◌≤◌, ◌⊎◌, [], false, length, map, None, Err, IfErr, IfOk, IfSome, IsTrue, MatchOption};
+ghost use Rattle.std.specs.Prelude.{◌≡◌, ◌<◌, ◌≤◌, ◌⊎◌, ℕ, [], false, length, map, None, Err, IfErr, IfOk, IfSome, IsTrue, MatchOption};
 ghost use Rattle.ii_fieldnorm.specs.Norms.{id_of_norm};
 ghost use Rattle.ii_definitions.specs.Fields.{option_of};
 ghost use Rattle.ii_definitions.specs.Norms.{has_norms};
 ghost use Rattle.ii_definitions.specs.Postings.{doc_count, field_count, key_postings, occurs};
 ghost use Rattle.ii_definitions.specs.Tokens.{tokens_of};
 ghost use Rattle.ii_indexing.specs.IndexCalls.{MayAllBeIndexed, call_of};
+ghost use Rattle.ii_indexing.specs.IndexFiles.{HaveNoRoom};
 ghost use Rattle.ii_indexing.specs.Refusals.{calls_fault};
+ghost use Rattle.ii_postings_writer.specs.TermLimits.{AreWithin};
+ghost use Rattle.ii_postings_writer.specs.TokenFiles.{field_terms};
+ghost use Rattle.ii_ram.specs.Ram.{empty_file};
 
 use nequllpa::{
     DocId, Fault, Field, IndexCall, IndexRecordOption, OpenIndex, Schema, SegmentPostings, Term,
@@ -93,6 +97,26 @@ pub fn no_calls_pass_no_limit<A: TextAnalyzer>(
     // that a schema has fewer than 2^64 fields, for the proof
     let _fields = schema.num_fields();
     index_in_ram(alloc, schema, num_docs, Vec::new(alloc), analyzer)
+}
+
+/// Calls that are taken, whose terms pass no limit and whose files have room, are refused for memory
+/// alone.
+pub fn terms_within_limits_are_indexed<A: TextAnalyzer>(
+    alloc: Global,
+    schema: Schema,
+    num_docs: DocId,
+    calls: Vec<IndexCall>,
+    analyzer: &A,
+) -> Result<OpenIndex, Fault>
+    requires docs { num_docs ≤ 2147483647 }
+    requires calls { MayAllBeIndexed schema num_docs calls.items }
+    requires taken { calls_fault (A.words analyzer.now) (option_of schema) [] (map (call_of schema) calls.items) ≡ None }
+    requires within { (field : ℕ) → field < length schema → AreWithin (option_of schema field) (field_terms schema (tokens_of (A.words analyzer.now) (map (call_of schema) calls.items)) field) }
+    requires room { ¬ HaveNoRoom schema empty_file empty_file empty_file (tokens_of (A.words analyzer.now) (map (call_of schema) calls.items)) }
+    ensures { IfErr result (λ fault. fault ≡ Fault.OutOfMemory) }
+{
+    let _fields = schema.num_fields();
+    index_in_ram(alloc, schema, num_docs, calls, analyzer)
 }
 
 /// Where a call is refused its fault is answered, the first of them, unless memory was refused before.
