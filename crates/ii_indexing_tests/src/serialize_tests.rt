@@ -37,8 +37,13 @@ fn written(alloc: Global, schema: &Schema, copy: Schema) -> Result<Vec<u8>, Faul
 {
     let writers = PerFieldPostingsWriter::for_schema(alloc, schema)?;
     let norms = no_norms(alloc)?;
-    let mut serializer =
-        InvertedIndexSerializer::open(alloc, writer(alloc), writer(alloc), writer(alloc), copy);
+    let mut serializer = InvertedIndexSerializer::open(
+        alloc,
+        writer(alloc),
+        writer(alloc),
+        writer(alloc),
+        copy,
+    );
     serialize_postings(
         alloc,
         IndexingContext::new(alloc),

@@ -79,8 +79,14 @@ pub fn read_list(
         positions: None,
     };
     let wanted = recorded.has_counts() && requested.has_counts();
-    let (reads_counts, refused) =
-        read_postings(alloc, u64::from(doc_freq), postings, recorded, wanted, &mut list)?;
+    let (reads_counts, refused) = read_postings(
+        alloc,
+        u64::from(doc_freq),
+        postings,
+        recorded,
+        wanted,
+        &mut list,
+    )?;
     if let Some(damage) = refused {
         return Ok(Err(damage));
     }
@@ -120,11 +126,26 @@ fn read_postings(
         }
         has_counts &= len >= full.saturating_mul(8);
         start = after.saturating_add(len);
-        if !read_entries(postings, after, len, full, recorded, has_counts, &mut blocks)? {
+        if !read_entries(
+            postings,
+            after,
+            len,
+            full,
+            recorded,
+            has_counts,
+            &mut blocks,
+        )? {
             return Ok((false, Some(Damage::Skip)));
         }
     }
-    let Some(mut end) = read_documents(postings, start, blocks.as_slice(), doc_freq % 128, &mut list.docs)? else {
+    let Some(mut end) = read_documents(
+        postings,
+        start,
+        blocks.as_slice(),
+        doc_freq % 128,
+        &mut list.docs,
+    )?
+    else {
         return Ok((false, Some(Damage::Documents)));
     };
     if full == 0 {
@@ -247,7 +268,11 @@ fn read_documents(
         docs.push(doc)?;
         end = after;
     }
-    Ok(if ascend(docs.as_slice()) { Some(end) } else { None })
+    Ok(if ascend(docs.as_slice()) {
+        Some(end)
+    } else {
+        None
+    })
 }
 
 // Whether documents ascend strictly, below the end.

@@ -30,7 +30,11 @@ pub(crate) fn read_positions(
             }
         }
     }
-    Ok(if used == deltas.len() { Some(positions) } else { None })
+    Ok(if used == deltas.len() {
+        Some(positions)
+    } else {
+        None
+    })
 }
 
 // Reads all deltas; false where the bytes don't hold them.
