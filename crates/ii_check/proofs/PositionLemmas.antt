@@ -1,5 +1,5 @@
 -- Laws of the check of a term's positions.
-use Rattle.std.proofs.Common.{◌≡◌, ℕ, ◌+◌, ◌-◌, ◌*◌, ◌^◌, ◌<◌, ◌≤◌, ◌/◌, ◌≢◌, Bool, true, false, ◌&&◌, List, [], ◌∷◌, ◌++◌, length, take, drop, get_or, nat_lt, nat_le, eqb, Option, Some, None, is_some, if◌then◌else◌, refl, sym, ap, ◌∙◌, arith, length-append, length-take, length-drop}
+use Rattle.std.proofs.Common.{◌≡◌, ℕ, ◌+◌, ◌-◌, ◌*◌, ◌^◌, ◌<◌, ◌≤◌, ◌/◌, Bool, true, false, ◌&&◌, List, [], ◌∷◌, ◌++◌, length, take, drop, get_or, nat_lt, nat_le, eqb, Option, Some, None, is_some, if◌then◌else◌, refl, sym, ap, ◌∙◌, arith, length-append, length-take, length-drop}
 use Rattle.std.specs.List.{sum, list_all}
 use Rattle.std.specs.Option.{IsSome, IfSome}
 use Rattle.std.proofs.Math.Bool.{and-true, and-false}
@@ -12,9 +12,7 @@ use Rattle.ii_codes.specs.Sums.{running_sums, fit_u32}
 use Rattle.ii_layout.specs.Positions.{positions_of, position_deltas}
 use Rattle.ii_layout.specs.TermList.{deltas_if}
 use Rattle.ii_layout.specs.SkipReader.{SkipReaderState}
-use Rattle.ii_base.specs.declared.schema.index_record_option.IndexRecordOption.{IndexRecordOption}
-use Rattle.ii_base.specs.declared.schema.index_record_option.IndexRecordOption.TheVariants.{Basic, WithFreqs, WithFreqsAndPositions}
-use Rattle.ii_base.specs.Options.{downgrade, has_positions}
+use Rattle.ii_base.specs.Options.{has_positions}
 use Rattle.ii_layout.specs.Written.{block_of}
 use Rattle.ii_io.specs.StepLemmas.{some-same}
 use Rattle.ii_codes.specs.BlockDecoder.{BlockDecoderState}

@@ -1,5 +1,5 @@
 -- Entries that are pushed one after the other.
-use Rattle.std.proofs.Common.{◌^◌, ◌≡◌, ℕ, ◌+◌, ◌-◌, ◌<◌, ◌≤◌, Bool, true, false, if◌then◌else◌, List, [], ◌∷◌, ◌++◌, length, take, Result, Ok, Err, is_err, refl, sym, ap, subst, ◌∙◌, arith, append-nil, append_assoc, length-append, ⊎_elim}
+use Rattle.std.proofs.Common.{◌^◌, ◌≡◌, ℕ, ◌+◌, ◌-◌, ◌<◌, ◌≤◌, Bool, true, false, if◌then◌else◌, List, [], ◌∷◌, ◌++◌, length, take, Result, Ok, Err, is_err, refl, sym, ap, subst, ◌∙◌, arith, append_assoc, length-append, ⊎_elim}
 use Rattle.std.proofs.lemmas.Bool.{and_parts, cases_lt, ltb-true}
 use Rattle.std.specs.Prelude.{◌&&◌, nat_le, nat_lt, IsTrue, IsErrOf, OnOk}
 use Rattle.std.specs.List.{AllByRecursion}

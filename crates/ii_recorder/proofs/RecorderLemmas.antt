@@ -5,7 +5,7 @@ use Rattle.std.specs.Option.{option_to_list}
 use Rattle.std.proofs.lemmas.List.{length-map, map-append}
 use Rattle.ii_docset.specs.Entries.{Entry, docs_of}
 use Rattle.ii_recorder.specs.Kept.{IsCount, IsLastDoc}
-use Rattle.ii_recorder.specs.Recorded.{RecorderState, current_doc, entries_of_recorder, last_doc, u32_max}
+use Rattle.ii_recorder.specs.Recorded.{RecorderState, entries_of_recorder, last_doc, u32_max}
 
 pub last_of_push : (xs : List ℕ) (x : ℕ) → slice_get (xs ++ x ∷ []) (length xs) ≡ Some x
 last_of_push [] x = refl
