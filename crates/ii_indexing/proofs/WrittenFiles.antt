@@ -14,7 +14,7 @@ use Rattle.ii_io.specs.CountingWriterLemmas.{full_before, full_more}
 use Rattle.ii_io.specs.CountingWriter.{CountingWriterState, IsFull}
 use Rattle.ii_base.specs.Schema.{SchemaEntry}
 use Rattle.ii_definitions.specs.Tokens.{IndexToken}
-use Rattle.ii_recorder.specs.IndexBodies.{AreFull, IndexBodiesState, failed_calls, tables_of}
+use Rattle.ii_recorder.specs.IndexBodies.{OneIsFull, IndexBodiesState, failed_calls, tables_of}
 use Rattle.ii_recorder.specs.IndexSerializer.{IndexSerializerState}
 use Rattle.ii_postings_writer.specs.FieldParts.{FieldPart, HasFields, WroteContext, positions_of_part, postings_body, terms_body}
 use Rattle.ii_postings_writer.specs.HeldBodies.{HaveTokens, WroteTokens}
@@ -107,7 +107,7 @@ three_counted old new written x t p q result is first last =
 
 -- Why the tables can't be written.
 pub record ClosesBy (s : IndexSerializerState) (result : Result (Unit {0}) Fault) : Type 0 where
-  pub full : IsErrOf result (Limit limit.Offset) → AreFull s.bodies (tables_of s.bodies)
+  pub full : IsErrOf result (Limit limit.Offset) → OneIsFull s.bodies (tables_of s.bodies)
   pub closed : IsErrOf result SerializerClosed ↔ IsTrue s.closed
   pub only : IfErr result (λ e. (e ≡ Write) ⊎ (e ≡ Limit limit.Offset) ⊎ (e ≡ SerializerClosed))
 
@@ -153,7 +153,7 @@ table_fault old now writers ctx ts (Err e) few has running wrote h =
     files : HasFiles old.entries old.bodies now.bodies ts
     files = wrote_files old now writers ctx ts few has wrote
 
-    no_room : AreFull now.bodies (tables_of now.bodies) → HaveNoRoom old.entries old.bodies.terms.writer old.bodies.postings.writer old.bodies.positions.writer ts
+    no_room : OneIsFull now.bodies (tables_of now.bodies) → HaveNoRoom old.entries old.bodies.terms.writer old.bodies.postings.writer old.bodies.positions.writer ts
     no_room (inl full) = inl (table_full old.bodies.terms.writer now.bodies.terms (file_bodies (λ f. f.terms) old.entries ts) files.terms full)
     no_room (inr (inl full)) = inr (inl (table_full old.bodies.postings.writer now.bodies.postings (file_bodies (λ f. f.postings) old.entries ts) files.postings full))
     no_room (inr (inr full)) = inr (inr (table_full old.bodies.positions.writer now.bodies.positions (file_bodies (λ f. f.positions) old.entries ts) files.positions full))

@@ -16,7 +16,7 @@ use Rattle.ii_base.specs.Schema.{SchemaEntry}
 use Rattle.ii_base.specs.declared.schema.index_record_option.IndexRecordOption.{IndexRecordOption}
 use Rattle.ii_termdict.specs.Written.{written_dictionary}
 use Rattle.ii_recorder.specs.FieldTerms.{FieldTermsState, HasNoRoom, closing_bytes, dictionary_of, term_under}
-use Rattle.ii_recorder.specs.IndexBodies.{AreFull, IndexBodiesState}
+use Rattle.ii_recorder.specs.IndexBodies.{OneIsFull, IndexBodiesState}
 use Rattle.ii_recorder.specs.IndexSerializer.{IndexSerializerState, IsFieldFault, IsTermFault, IsWriting}
 use Rattle.ii_recorder.specs.Terms.{IsShort, WrittenTerm, field_bodies, open_bodies, positions_body, positions_bytes, postings_bytes}
 use Rattle.ii_postings_writer.specs.FieldParts.{FieldPart, HasFields, HoldsPart, bodies_of, first_parts, parts_of, positions_of_part, postings_body, terms_body, tokens_in, written_terms}
@@ -70,9 +70,9 @@ module _ (mode : IndexRecordOption) (tokens : ℕ) where
 
   -- there is no room for terms, and for a field that begins with them
   abbrev NoRoom : IndexBodiesState → List WrittenTerm → Type 0
-  NoRoom initial ts = AreFull initial (field_bodies mode tokens ts) ⊎ PassEnds mode ts
+  NoRoom initial ts = OneIsFull initial (field_bodies mode tokens ts) ⊎ PassEnds mode ts
 
-  room_more : (initial : IndexBodiesState) (ts us : List WrittenTerm) → AreFull initial (open_bodies mode tokens ts) ⊎ PassEnds mode ts → NoRoom initial (ts ++ us)
+  room_more : (initial : IndexBodiesState) (ts us : List WrittenTerm) → OneIsFull initial (open_bodies mode tokens ts) ⊎ PassEnds mode ts → NoRoom initial (ts ++ us)
   room_more initial ts us (inl (inl terms)) = inl (inl (full_more initial.terms.writer 0 (length (field_bodies mode tokens (ts ++ us)).terms) (omega (arith)) terms))
   room_more initial ts us (inl (inr (inl postings))) =
       inl (inr (inl (full_more initial.postings.writer (length (open_bodies mode tokens ts).postings) (length (field_bodies mode tokens (ts ++ us)).postings) (omega (arith, length-postings ts us)) postings)))
@@ -102,7 +102,7 @@ module _ (initial : IndexBodiesState) (s : IndexSerializerState) (field tokens :
   mode = s.field.term.mode
 
   no_room : (key : List ℕ) → IsWriting initial s field tokens ts (key ∷ []) → HasNoRoom s.field.term s.field.places s.bodies.postings.writer s.bodies.positions.writer
-      → let all = ts ++ term_under key s.field.term ∷ [] in AreFull initial (open_bodies mode tokens all) ⊎ PassEnds mode all
+      → let all = ts ++ term_under key s.field.term ∷ [] in OneIsFull initial (open_bodies mode tokens all) ⊎ PassEnds mode all
   no_room key w (inl full) =
       let t = term_under key s.field.term in
       inl (inr (inl (full_before initial.postings.writer s.bodies.postings.writer (open_bodies mode tokens ts).postings (length (postings_bytes t)) (length (open_bodies mode tokens (ts ++ t ∷ [])).postings) w.bodies.postings.writer
@@ -127,7 +127,7 @@ module _ (initial : IndexBodiesState) (s : IndexSerializerState) (field tokens :
       subst (λ (m : IndexRecordOption). IsTermFaultAfter initial m tokens ts t e) same
       (subst (λ (u : WrittenTerm). IsTermFaultAfter initial mode tokens ts u e) is (own_fault key e w (subst (λ (u : WrittenTerm). ¬ HasLargeSum u) (sym is) small) fault))
 
-  dictionary_full : IsWriting initial s field tokens ts [] → AreFull s.bodies (dictionary_of s.field) → AreFull initial (field_bodies mode tokens ts)
+  dictionary_full : IsWriting initial s field tokens ts [] → OneIsFull s.bodies (dictionary_of s.field) → OneIsFull initial (field_bodies mode tokens ts)
   dictionary_full w (inl full) =
       let keys = w.terms.keys ∙ append-nil (map (λ (t : WrittenTerm). t.key) ts) in
       let bytes : written_dictionary s.field.places.keys s.field.places.infos ≡ (field_bodies mode tokens ts).terms = rw (keys, w.terms.infos) refl in
@@ -143,7 +143,7 @@ module _ (initial : IndexBodiesState) (s : IndexSerializerState) (field tokens :
   closed_fault kept e w between same (inl inside) = absurd (true≢false (sym inside.0 ∙ between))
   closed_fault kept e w between same (inr (inl write)) = inr (inl write)
   closed_fault kept e w between same (inr (inr full)) =
-      inr (inr (inr (inr (full.0, subst (λ (m : IndexRecordOption). NoRoom m tokens initial ts) same (inl (dictionary_full w (subst (AreFull s.bodies) (closing_is s.field between) full.1)))))))
+      inr (inr (inr (inr (full.0, subst (λ (m : IndexRecordOption). NoRoom m tokens initial ts) same (inl (dictionary_full w (subst (OneIsFull s.bodies) (closing_is s.field between) full.1)))))))
 
 all_within_limits : (kept : IndexRecordOption) (us : List TermOfField) → AllByRecursion (IsTold kept) (map state_of us) → AllByRecursion (IsShort kept) (all_written kept us) → AllByRecursion (IsWithin kept) (all_written kept us)
 all_within_limits kept [] told short = tt
@@ -180,7 +180,7 @@ module _ (entries : List SchemaEntry) (initial : IndexBodiesState) where
     parts_full writer ps qs full = full_more writer (length (bytes_in ps)) (length (bytes_in (ps ++ qs))) (omega (arith, length-bodies ps qs)) full
 
   abbrev NoRoomFor : List FieldPart → Type 0
-  NoRoomFor ps = AreFull initial (all_bodies entries ps) ⊎ FirstPartEnds entries ps
+  NoRoomFor ps = OneIsFull initial (all_bodies entries ps) ⊎ FirstPartEnds entries ps
 
   -- how a part passes a limit of its terms, or their ends
   abbrev ByTerm : (IndexRecordOption → WrittenTerm → Type 0) → FieldPart → Type 0
@@ -193,7 +193,7 @@ module _ (entries : List SchemaEntry) (initial : IndexBodiesState) where
   all_within [] held = tt
   all_within (f ∷ fs) held = (held.0.within, all_within fs held.1)
 
-  part_room : (now : IndexBodiesState) (fs : List FieldPart) (p : FieldPart) → HasFields entries initial now fs → AreFull now (bodies_of entries p) ⊎ ByEnds p → NoRoomFor (fs ++ p ∷ [])
+  part_room : (now : IndexBodiesState) (fs : List FieldPart) (p : FieldPart) → HasFields entries initial now fs → OneIsFull now (bodies_of entries p) ⊎ ByEnds p → NoRoomFor (fs ++ p ∷ [])
   part_room now fs p has (inl (inl full)) = inl (inl (part_full (terms_body entries) initial.terms.writer now.terms fs p has.terms full))
   part_room now fs p has (inl (inr (inl full))) = inl (inr (inl (part_full (postings_body entries) initial.postings.writer now.postings fs p has.postings full)))
   part_room now fs p has (inl (inr (inr full))) = inl (inr (inr (part_full (positions_of_part entries) initial.positions.writer now.positions fs p has.positions full)))

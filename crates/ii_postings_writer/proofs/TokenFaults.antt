@@ -15,7 +15,7 @@ use Rattle.ii_base.specs.Schema.{SchemaEntry}
 use Rattle.ii_base.specs.declared.schema.index_record_option.IndexRecordOption.{IndexRecordOption}
 use Rattle.ii_definitions.specs.Fields.{option_of}
 use Rattle.ii_definitions.specs.Tokens.{IndexToken}
-use Rattle.ii_recorder.specs.IndexBodies.{AreFull, IndexBodiesState}
+use Rattle.ii_recorder.specs.IndexBodies.{OneIsFull, IndexBodiesState}
 use Rattle.ii_recorder.specs.IndexSerializer.{IndexSerializerState}
 use Rattle.ii_recorder.specs.Terms.{FieldBodies, WrittenTerm, field_bodies}
 use Rattle.ii_postings_writer.specs.FieldParts.{FieldPart, WroteContext, bodies_of, first_parts, parts_of, tokens_in, written_terms}
@@ -161,8 +161,8 @@ module _ (entries : List SchemaEntry) (writers : List PostingsWriterState) (sort
   parts_fault : (initial : IndexBodiesState) (e : Fault) → IsPartsFault entries initial all_parts e → IsTokensFault entries initial ts e
   parts_fault initial e fault = fault_more e (first_term (λ mode. HasLargeSum)) (first_term IsLong) room fault
     where
-      room : AreFull initial (all_bodies entries all_parts) ⊎ FirstPartEnds entries all_parts → AreFull initial (bodies_of_tokens entries ts) ⊎ FirstEnds entries ts
-      room (inl full) = inl (subst (AreFull initial) bodies_same full)
+      room : OneIsFull initial (all_bodies entries all_parts) ⊎ FirstPartEnds entries all_parts → OneIsFull initial (bodies_of_tokens entries ts) ⊎ FirstEnds entries ts
+      room (inl full) = inl (subst (OneIsFull initial) bodies_same full)
       room (inr far) = inr (first_ends far)
 
 -- so a context with tokens can't be written

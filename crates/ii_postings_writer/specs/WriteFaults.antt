@@ -10,7 +10,7 @@ use Rattle.ii_base.specs.declared.schema.index_record_option.IndexRecordOption.{
 use Rattle.ii_definitions.specs.Fields.{option_of}
 use Rattle.ii_definitions.specs.Tokens.{IndexToken}
 use Rattle.ii_termdict.specs.ReadBack.{AreAscending}
-use Rattle.ii_recorder.specs.IndexBodies.{AreFull, IndexBodiesState, NoneFalls, failed_calls}
+use Rattle.ii_recorder.specs.IndexBodies.{OneIsFull, IndexBodiesState, NoneFalls, failed_calls}
 use Rattle.ii_recorder.specs.IndexSerializer.{IndexSerializerState}
 use Rattle.ii_recorder.specs.Recorded.{RecorderState}
 use Rattle.ii_recorder.specs.Terms.{FieldBodies, WrittenTerm, open_bodies}
@@ -36,14 +36,14 @@ IsFaultBy sum long full fault =
 -- Why a term can't be written after others of its field, which was begun with so many tokens after the given bodies.
 abbrev pub IsTermFaultAfter : IndexBodiesState → IndexRecordOption → ℕ → List WrittenTerm → WrittenTerm → Fault → Type 0
 IsTermFaultAfter initial mode tokens before t fault =
-    let ts = before ++ t ∷ [] in IsFaultBy (HasLargeSum t) (IsLong mode t) (AreFull initial (open_bodies mode tokens ts) ⊎ PassEnds mode ts) fault
+    let ts = before ++ t ∷ [] in IsFaultBy (HasLargeSum t) (IsLong mode t) (OneIsFull initial (open_bodies mode tokens ts) ⊎ PassEnds mode ts) fault
 
 -- Why the part of a field can't be written after the given bodies: by the first of its terms that passes a limit, or there is no room.
 abbrev pub IsPartFault : List SchemaEntry → IndexBodiesState → FieldPart → Fault → Type 0
 IsPartFault entries initial p fault =
     let mode = option_of entries p.field in
     let ts = written_terms entries p in
-    IsFaultBy (FirstOf (IsWithin mode) HasLargeSum ts) (FirstOf (IsWithin mode) (IsLong mode) ts) (AreFull initial (bodies_of entries p) ⊎ PassEnds mode ts) fault
+    IsFaultBy (FirstOf (IsWithin mode) HasLargeSum ts) (FirstOf (IsWithin mode) (IsLong mode) ts) (OneIsFull initial (bodies_of entries p) ⊎ PassEnds mode ts) fault
 
 -- The terms of a part pass no limit.
 abbrev pub IsWithinPart : List SchemaEntry → FieldPart → Type 0
@@ -68,7 +68,7 @@ all_bodies entries ps = record {
 -- Why parts can't be written after the given bodies: by the first term that passes a limit, or there is no room for all of them.
 abbrev pub IsPartsFault : List SchemaEntry → IndexBodiesState → List FieldPart → Fault → Type 0
 IsPartsFault entries initial ps fault =
-    IsFaultBy (FirstInParts (λ mode. HasLargeSum) entries ps) (FirstInParts IsLong entries ps) (AreFull initial (all_bodies entries ps) ⊎ FirstPartEnds entries ps) fault
+    IsFaultBy (FirstInParts (λ mode. HasLargeSum) entries ps) (FirstInParts IsLong entries ps) (OneIsFull initial (all_bodies entries ps) ⊎ FirstPartEnds entries ps) fault
 
 -- Why the terms of a context can't be written: its parts, in the order in which WroteTerms has them, can't be.
 pub record IsContextFault (old : IndexSerializerState) (writers : List PostingsWriterState) (terms : TermIndex) (fault : Fault) : Type 0 where
@@ -89,7 +89,7 @@ bodies_of_tokens entries ts = record {
 -- Why the terms of tokens can't be written after the given bodies.
 abbrev pub IsTokensFault : List SchemaEntry → IndexBodiesState → List IndexToken → Fault → Type 0
 IsTokensFault entries initial ts fault =
-    IsFaultBy (FirstTerm (λ mode. HasLargeSum) entries ts) (FirstTerm IsLong entries ts) (AreFull initial (bodies_of_tokens entries ts) ⊎ FirstEnds entries ts) fault
+    IsFaultBy (FirstTerm (λ mode. HasLargeSum) entries ts) (FirstTerm IsLong entries ts) (OneIsFull initial (bodies_of_tokens entries ts) ⊎ FirstEnds entries ts) fault
 
 -- A serializer that was closed before a call stays as it was, and the call is refused unless there was nothing to write.
 pub record StaysClosed (nothing : Type 0) (old new : IndexSerializerState) (result : Result (Unit {0}) Fault) : Type 0 where

@@ -26,9 +26,9 @@ pub record AllGrow (old new : IndexBodiesState) : Type 0 where
   pub postings : Grows old.postings.writer new.postings.writer
   pub positions : Grows old.positions.writer new.positions.writer
 
--- A count of a writer would pass its type by these bytes, or by a failed call.
-abbrev pub AreFull : IndexBodiesState → FieldBodies → Type 0
-AreFull b more = IsFull b.terms.writer (length more.terms) ⊎ IsFull b.postings.writer (length more.postings) ⊎ IsFull b.positions.writer (length more.positions)
+-- The count of one of the writers would pass its type by its bytes, or by a failed call.
+abbrev pub OneIsFull : IndexBodiesState → FieldBodies → Type 0
+OneIsFull b more = IsFull b.terms.writer (length more.terms) ⊎ IsFull b.postings.writer (length more.postings) ⊎ IsFull b.positions.writer (length more.positions)
 
 -- the tables that are written where the three are closed
 abbrev pub tables_of : IndexBodiesState → FieldBodies

@@ -7,7 +7,7 @@ use Rattle.ii_base.specs.Schema.{SchemaEntry}
 use Rattle.ii_definitions.specs.Fields.{option_of}
 use Rattle.ii_recorder.specs.Terms.{WrittenTerm, open_bodies}
 use Rattle.ii_recorder.specs.FieldTerms.{FieldTermsState, HasTerms, IsEndFault, closing_bytes}
-use Rattle.ii_recorder.specs.IndexBodies.{IndexBodiesState, AddsBodies, AreFull}
+use Rattle.ii_recorder.specs.IndexBodies.{IndexBodiesState, AddsBodies, OneIsFull}
 
 -- The fields of the schema, the three files, the terms of the field that was begun last, and whether a call was refused.
 pub record IndexSerializerState : Type 0 where
@@ -29,4 +29,4 @@ IsTermFault s fault = IsEndFault s.field.term s.field.places s.bodies.postings.w
 
 -- Why a field can't be ended.
 abbrev pub IsFieldFault : IndexSerializerState → Fault → Type 0
-IsFieldFault s fault = (IsTrue s.field.term_open × IsTermFault s fault) ⊎ (fault ≡ Write) ⊎ ((fault ≡ Limit limit.Offset) × AreFull s.bodies (closing_bytes s.field))
+IsFieldFault s fault = (IsTrue s.field.term_open × IsTermFault s fault) ⊎ (fault ≡ Write) ⊎ ((fault ≡ Limit limit.Offset) × OneIsFull s.bodies (closing_bytes s.field))

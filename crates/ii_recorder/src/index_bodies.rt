@@ -5,7 +5,7 @@ ghost use Rattle.ii_io.specs.CompositeWrite.{AddsBody, HasBodies, WroteComposite
 ghost use Rattle.ii_io.specs.Composite.{Body, fit_fields};
 ghost use Rattle.ii_io.specs.Faults.{OnlyMemory};
 ghost use Rattle.ii_io.specs.Numbers.{le_bytes};
-ghost use Rattle.ii_recorder.specs.IndexBodies.{AddsBodies, AddsMore, AllGrow, AreBegun, AreFull, AreUnclosed, LacksField, NoneFalls, failed_calls, tables_of};
+ghost use Rattle.ii_recorder.specs.IndexBodies.{AddsBodies, AddsMore, AllGrow, AreBegun, OneIsFull, AreUnclosed, LacksField, NoneFalls, failed_calls, tables_of};
 ghost use Rattle.ii_recorder.specs.FieldTerms.{EndsTerm, IsEndFault, bytes_of, dictionary_of};
 ghost use Rattle.ii_termdict.specs.Dictionary.{dictionary};
 ghost use Rattle.ii_termdict.specs.Written.{written_dictionary};
@@ -106,7 +106,7 @@ impl<W: Write> IndexBodies<W> {
         ensures kept { NoneFalls self.old self.new }
         ensures grow { AllGrow self.old self.new }
         ensures full { IsErrOf result (Fault.Limit LimitName.Offset)
-            → AreFull self.old (dictionary_of terms.old) }
+            → OneIsFull self.old (dictionary_of terms.old) }
         ensures only { IfErr result (λ e. (e ≡ Fault.Write) ⊎ (e ≡ Fault.Limit LimitName.Offset) ⊎ (e ≡ Fault.SerializerClosed)) }
         ensures refused { IsTrue terms.old.closed → (terms.new ≡ terms.old) × (self.new ≡ self.old) }
         ensures unclosed { AreUnclosed self.old → AreUnclosed self.new }
@@ -129,7 +129,7 @@ impl<W: Write> IndexBodies<W> {
         ensures by_one { IsErrOf result Fault.Write → failed_calls self.new ≡ failed_calls self.old + 1 }
         ensures kept { NoneFalls self.old self.new }
         ensures grow { AllGrow self.old self.new }
-        ensures full { IsErrOf result (Fault.Limit LimitName.Offset) → AreFull self.old (record { terms = []; postings = []; positions = [] }) }
+        ensures full { IsErrOf result (Fault.Limit LimitName.Offset) → OneIsFull self.old (record { terms = []; postings = []; positions = [] }) }
         ensures unclosed { AreUnclosed self.old → AreUnclosed self.new }
         ensures begun { AreBegun self.new }
         ensures only { IfErr result (λ e. (e ≡ Fault.Write) ⊎ (e ≡ Fault.Limit LimitName.Offset)) }
@@ -174,7 +174,7 @@ impl<W: Write> IndexBodies<W> {
         ensures by_one { IsErrOf result.3 Fault.Write → result.0.failed_calls + result.1.failed_calls + result.2.failed_calls ≡ failed_calls self + 1 }
         ensures kept { (self.terms.writer.failed_calls ≤ result.0.failed_calls) × (self.postings.writer.failed_calls ≤ result.1.failed_calls) × (self.positions.writer.failed_calls ≤ result.2.failed_calls) }
         ensures grow { Grows self.terms.writer result.0 × Grows self.postings.writer result.1 × Grows self.positions.writer result.2 }
-        ensures full { IsErrOf result.3 (Fault.Limit LimitName.Offset) → AreFull self (tables_of self) }
+        ensures full { IsErrOf result.3 (Fault.Limit LimitName.Offset) → OneIsFull self (tables_of self) }
         ensures only { IfErr result.3 (λ e. (e ≡ Fault.Write) ⊎ (e ≡ Fault.Limit LimitName.Offset)) }
     {
         let IndexBodies {

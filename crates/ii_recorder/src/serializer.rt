@@ -10,7 +10,7 @@ ghost use Rattle.ii_termdict.specs.ReadBack.{AreAscending};
 ghost use Rattle.ii_recorder.specs.Terms.{WrittenTerm, field_bodies};
 ghost use Rattle.ii_recorder.specs.HeldTerms.{HoldsTerms};
 ghost use Rattle.ii_recorder.specs.FieldTerms.{IsWithinLimits, closing_bytes, dictionary_of, term_under};
-ghost use Rattle.ii_recorder.specs.IndexBodies.{IndexBodiesState, AddsBodies, AllGrow, AreBegun, AreFull, LacksField, NoneFalls, failed_calls, tables_of};
+ghost use Rattle.ii_recorder.specs.IndexBodies.{IndexBodiesState, AddsBodies, AllGrow, AreBegun, OneIsFull, LacksField, NoneFalls, failed_calls, tables_of};
 ghost use Rattle.ii_recorder.specs.IndexSerializer.{IsFieldFault, IsTermFault, IsWriting};
 
 use super::field_terms::FieldTerms;
@@ -95,7 +95,7 @@ impl<W: Write> InvertedIndexSerializer<W> {
         ensures by_one { IsErrOf result.3 Fault.Write → result.0.failed_calls + result.1.failed_calls + result.2.failed_calls ≡ failed_calls self.bodies + 1 }
         ensures kept { (self.bodies.terms.writer.failed_calls ≤ result.0.failed_calls) × (self.bodies.postings.writer.failed_calls ≤ result.1.failed_calls) × (self.bodies.positions.writer.failed_calls ≤ result.2.failed_calls) }
         ensures grow { Grows self.bodies.terms.writer result.0 × Grows self.bodies.postings.writer result.1 × Grows self.bodies.positions.writer result.2 }
-        ensures full { IsErrOf result.3 (Fault.Limit LimitName.Offset) → AreFull self.bodies (tables_of self.bodies) }
+        ensures full { IsErrOf result.3 (Fault.Limit LimitName.Offset) → OneIsFull self.bodies (tables_of self.bodies) }
         ensures refused { IsTrue self.closed → (result.0 ≡ self.bodies.terms.writer) × (result.1 ≡ self.bodies.postings.writer) × (result.2 ≡ self.bodies.positions.writer) }
         ensures closed { IsErrOf result.3 Fault.SerializerClosed ↔ IsTrue self.closed }
         ensures only { IfErr result.3 (λ e. (e ≡ Fault.Write) ⊎ (e ≡ Fault.Limit LimitName.Offset) ⊎ (e ≡ Fault.SerializerClosed)) }
@@ -265,7 +265,7 @@ impl<W: Write> InvertedIndexSerializer<W> {
         ensures refused { IsTrue self.old.closed → self.new ≡ self.old }
         ensures limits { IsTrue self.old.field.term_open → OnOk result (IsWithinLimits self.old.field) }
         ensures fault { IfErr result (λ e. (e ≡ Fault.SerializerClosed) ⊎ IsTermFault self.old e) }
-        ensures room { OnOk result (AreFull self.new.bodies (dictionary_of self.new.field) → AreFull self.old.bodies (closing_bytes self.old.field)) }
+        ensures room { OnOk result (OneIsFull self.new.bodies (dictionary_of self.new.field) → OneIsFull self.old.bodies (closing_bytes self.old.field)) }
         ensures closed { IsErrOf result Fault.SerializerClosed ↔ IsTrue self.old.closed }
     {
         if self.is_closed {
@@ -292,7 +292,7 @@ impl<W: Write> InvertedIndexSerializer<W> {
         ensures kept { NoneFalls self.old.bodies self.new.bodies }
         ensures grow { AllGrow self.old.bodies self.new.bodies }
         ensures refused { IsTrue self.old.closed → self.new ≡ self.old }
-        ensures fault { IfErr result (λ e. (e ≡ Fault.SerializerClosed) ⊎ (e ≡ Fault.Write) ⊎ ((e ≡ Fault.Limit LimitName.Offset) × AreFull self.old.bodies (dictionary_of self.old.field))) }
+        ensures fault { IfErr result (λ e. (e ≡ Fault.SerializerClosed) ⊎ (e ≡ Fault.Write) ⊎ ((e ≡ Fault.Limit LimitName.Offset) × OneIsFull self.old.bodies (dictionary_of self.old.field))) }
         ensures closed { IsErrOf result Fault.SerializerClosed ↔ IsTrue self.old.closed }
     {
         if self.is_closed {
