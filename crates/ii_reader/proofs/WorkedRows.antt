@@ -106,7 +106,7 @@ pub row_first : all_or_first {A = InvertedIndexReaderState} (Ok plain_reader ∷
 row_first = refl
 
 -- four files without bodies
-abbrev one_field : List Schema.Entry
+abbrev one_field : List Schema.SchemaEntry
 one_field = record { name = []; value_type = U64; option = Basic; is_indexed = true; has_fieldnorms = false; expands_dots = false } ∷ []
 
 pub row_no_files : index_of_files (replicate 4 0) (replicate 4 0) (replicate 4 0) (replicate 4 0) one_field ≡ Ok (record { readers = reader_of_none Basic ∷ []; fieldnorms = [] })
