@@ -36,6 +36,19 @@ found_is entries n index ts field key requested reader answer below holds at giv
     by (Ok (Some cursor)) option g = (g.0, g.1 ∙ ap (λ (o : IndexRecordOption). key_postings o field key requested ts) option)
     by (Err fault) option g = tt
 
+-- a look-up is refused for memory alone
+pub refused_is : (entries : List SchemaEntry) (n : ℕ) (index : OpenIndexState) (ts : List IndexToken) (field : ℕ) (key : List ℕ) (requested : IndexRecordOption) (reader : InvertedIndexReaderState) (answer : Result (Option SegmentPostingsState) Fault)
+    → field < length entries → IndexHolds entries n index ts → slice_get index.readers field ≡ Some reader
+    → ((f : ℕ) (tokens : List IndexToken) → ReaderHolds f reader tokens → GivesPostings reader.option f key requested tokens answer)
+    → IfErr answer (λ e. (e ≡ OutOfMemory) ⊎ IsRamFault entries n ts e)
+refused_is entries n index ts field key requested reader answer below holds at gives =
+    let held : FieldReaderHolds entries field reader ts = rw at at (holds.readers field below) in
+    by answer (gives field ts held.holds)
+  where
+    by : (a : Result (Option SegmentPostingsState) Fault) → GivesPostings reader.option field key requested ts a → IfErr a (λ e. (e ≡ OutOfMemory) ⊎ IsRamFault entries n ts e)
+    by (Ok found) g = tt
+    by (Err fault) g = inl g
+
 -- the norm of a document
 pub norm_is : (entries : List SchemaEntry) (n field doc id : ℕ) (ts : List IndexToken) (answer : Option Norms) (norms : Norms) → doc < n → answer ≡ Some norms → GivesNorms entries n field ts (Ok answer) → id ≡ id_of_doc norms doc
     → IsTrue (has_norms entries field) × (id ≡ id_of_norm (doc_count doc field ts))

@@ -123,6 +123,7 @@ pub fn positions_with_offset_decode_few_blocks(
     requires current { doc_at cursor.old.rest < 2147483647 }
     requires fits { All (λ p. p + offset < 2 ^ 32) (positions_at cursor.old.rest) }
     ensures told { OnOk result (output.new.items ≡ map (λ p. p + offset) (positions_at cursor.old.rest)) }
+    ensures refused { OnErr result ((output.new.items ≡ []) × (result ≡ Err Fault.OutOfMemory)) }
     ensures stays { cursor.new.rest ≡ cursor.old.rest }
     ensures positions { cursor.new.position_decodes ≤ cursor.old.position_decodes + term_freq_at (not (is_read cursor.old.freq_reading)) cursor.old.rest / 128 + 2 }
 {

@@ -10,7 +10,8 @@ ghost use Rattle.ii_indexing.specs.IndexFiles.{HaveNoRoom};
 ghost use Rattle.ii_indexing.specs.Refusals.{calls_fault};
 ghost use Rattle.ii_postings_writer.specs.TermLimits.{AreWithin};
 ghost use Rattle.ii_postings_writer.specs.TokenFiles.{field_terms};
-ghost use Rattle.ii_ram.specs.Ram.{empty_file};
+ghost use Rattle.ii_ram.specs.Ram.{IsRamFault, empty_file};
+ghost use Rattle.ii_reader.specs.OpenIndex.{IndexHolds};
 
 use nequllpa::{
     DocId, Fault, Field, IndexCall, IndexRecordOption, OpenIndex, Schema, SegmentPostings, Term,
@@ -32,9 +33,11 @@ pub fn what_is_indexed_is_found<A: TextAnalyzer>(
     requires docs { num_docs ≤ 2147483647 }
     requires calls { MayAllBeIndexed schema num_docs calls.items }
     requires field { term.now.field < length schema }
-    ensures { IfOk result (λ found. MatchOption found (occurs term.now.field term.now.value (tokens_of (A.words analyzer.now) (map (call_of schema) calls.items)) ≡ false)
+    ensures found { IfOk result (λ found. MatchOption found (occurs term.now.field term.now.value (tokens_of (A.words analyzer.now) (map (call_of schema) calls.items)) ≡ false)
         (λ cursor. IsTrue (occurs term.now.field term.now.value (tokens_of (A.words analyzer.now) (map (call_of schema) calls.items)))
         × (cursor.rest ≡ key_postings (option_of schema term.now.field) term.now.field term.now.value requested (tokens_of (A.words analyzer.now) (map (call_of schema) calls.items))))) }
+    ensures fault { calls_fault (A.words analyzer.now) (option_of schema) [] (map (call_of schema) calls.items) ≡ None
+        → IfErr result (λ e. (e ≡ Fault.OutOfMemory) ⊎ IsRamFault schema num_docs (tokens_of (A.words analyzer.now) (map (call_of schema) calls.items)) e) }
 {
     let index = index_in_ram(alloc, schema, num_docs, calls, analyzer)?;
     index.reader(term.field()).read_postings(term, requested)
@@ -54,6 +57,8 @@ pub fn what_is_indexed_is_counted<A: TextAnalyzer>(
     requires field { term.now.field < length schema }
     ensures tokens { IfOk result (λ counts. counts.0 ≡ field_count term.now.field (tokens_of (A.words analyzer.now) (map (call_of schema) calls.items))) }
     ensures docs { IfOk result (λ counts. counts.1 ≡ length (key_postings (option_of schema term.now.field) term.now.field term.now.value IndexRecordOption.Basic (tokens_of (A.words analyzer.now) (map (call_of schema) calls.items)))) }
+    ensures fault { calls_fault (A.words analyzer.now) (option_of schema) [] (map (call_of schema) calls.items) ≡ None
+        → IfErr result (λ e. (e ≡ Fault.OutOfMemory) ⊎ IsRamFault schema num_docs (tokens_of (A.words analyzer.now) (map (call_of schema) calls.items)) e) }
 {
     let index = index_in_ram(alloc, schema, num_docs, calls, analyzer)?;
     let reader = index.reader(term.field());
@@ -74,8 +79,10 @@ pub fn norms_count_the_tokens<A: TextAnalyzer>(
     requires docs { num_docs ≤ 2147483647 }
     requires calls { MayAllBeIndexed schema num_docs calls.items }
     requires doc { doc < num_docs }
-    ensures { IfOk result (λ norm. MatchOption norm (has_norms schema field ≡ false)
+    ensures norm { IfOk result (λ norm. MatchOption norm (has_norms schema field ≡ false)
         (λ id. IsTrue (has_norms schema field) × (id ≡ id_of_norm (doc_count doc field (tokens_of (A.words analyzer.now) (map (call_of schema) calls.items)))))) }
+    ensures fault { calls_fault (A.words analyzer.now) (option_of schema) [] (map (call_of schema) calls.items) ≡ None
+        → IfErr result (λ e. (e ≡ Fault.OutOfMemory) ⊎ IsRamFault schema num_docs (tokens_of (A.words analyzer.now) (map (call_of schema) calls.items)) e) }
 {
     let index = index_in_ram(alloc, schema, num_docs, calls, analyzer)?;
     match index.get_fieldnorms_reader(field)? {
@@ -84,7 +91,7 @@ pub fn norms_count_the_tokens<A: TextAnalyzer>(
     }
 }
 
-/// An index of no calls passes no limit: it is refused for memory alone.
+/// An index of no calls passes no limit: it is refused for memory alone, and has no tokens.
 pub fn no_calls_pass_no_limit<A: TextAnalyzer>(
     alloc: Global,
     schema: Schema,
@@ -92,7 +99,8 @@ pub fn no_calls_pass_no_limit<A: TextAnalyzer>(
     analyzer: &A,
 ) -> Result<OpenIndex, Fault>
     requires docs { num_docs ≤ 2147483647 }
-    ensures { IfErr result (λ fault. fault ≡ Fault.OutOfMemory) }
+    ensures holds { IfOk result (λ index. IndexHolds schema num_docs index []) }
+    ensures memory { IfErr result (λ fault. fault ≡ Fault.OutOfMemory) }
 {
     // that a schema has fewer than 2^64 fields, for the proof
     let _fields = schema.num_fields();

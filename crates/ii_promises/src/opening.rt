@@ -6,6 +6,7 @@ ghost use Rattle.ii_definitions.specs.Files.{HoldTokens};
 ghost use Rattle.ii_definitions.specs.Norms.{HoldNorms};
 ghost use Rattle.ii_definitions.specs.Tokens.{IndexToken};
 ghost use Rattle.ii_termdict.specs.Dictionary.{info_under};
+ghost use Rattle.ii_reader.specs.InvertedIndexReader.{term_of_file};
 ghost use Rattle.ii_reader.specs.OpenIndex.{IndexHolds, index_of_files};
 
 use bytes::Bytes;
@@ -57,7 +58,10 @@ pub fn terms_are_read_whole(
     term: &Term,
     requested: IndexRecordOption,
 ) -> Result<Option<SegmentPostings>, Fault>
-    ensures { IfSome (info_under term.now.value reader.now.terms) (λ info. IfOk result (λ found. IsSomeAnd found (λ cursor. length cursor.rest ≡ info.doc_freq))) }
+    ensures whole { IfSome (info_under term.now.value reader.now.terms) (λ info. IfOk result (λ found. IsSomeAnd found (λ cursor. length cursor.rest ≡ info.doc_freq))) }
+    ensures list { IfSome (info_under term.now.value reader.now.terms) (λ info. IfOk result (λ found. IsSomeAnd found (λ cursor. term_of_file reader.now requested info ≡ Ok cursor.rest))) }
+    ensures fault { IfSome (info_under term.now.value reader.now.terms) (λ info. IfErr result (λ fault. (fault ≡ Fault.OutOfMemory)
+        ⊎ ((part : Part) × (fault ≡ Fault.Damaged part) × (term_of_file reader.now requested info ≡ Err part)))) }
 {
     reader.read_postings(term, requested)
 }

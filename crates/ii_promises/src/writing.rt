@@ -1,11 +1,11 @@
 // What is written, and what is told where it can't be.
-ghost use Rattle.std.specs.Prelude.{◌≡◌, ◌+◌, ◌≤◌, ◌<◌, ◌⊎◌, ◌↔◌, ◌∷◌, ◌++◌, List, [], true, false, map, Err, IfSome, IsErrOf, OnErr, OnOk};
+ghost use Rattle.std.specs.Prelude.{◌≡◌, ◌+◌, ◌≤◌, ◌<◌, ◌⊎◌, ◌↔◌, ◌∷◌, ◌++◌, List, [], true, false, map, Err, IfErr, IfSome, IsErrOf, OnErr, OnOk, Some};
 ghost use Rattle.ii_definitions.specs.Fields.{option_of};
 ghost use Rattle.ii_definitions.specs.Tokens.{Piece, call_pieces, tokens_of};
 ghost use Rattle.ii_indexing.specs.IndexCalls.{MayAllBeIndexed, Takes, call_of, doc_of, field_of, type_of};
 ghost use Rattle.ii_indexing.specs.IndexFiles.{FilesGrow, WroteIndex};
 ghost use Rattle.ii_indexing.specs.Indexer.{Stores};
-ghost use Rattle.ii_indexing.specs.Refusals.{calls_fault};
+ghost use Rattle.ii_indexing.specs.Refusals.{call_fault, calls_fault};
 
 use nequllpa::{DocId, Fault, IndexCall, IndexWriters, Indexer, Schema, TextAnalyzer, write_index};
 use std::alloc::Global;
@@ -97,8 +97,11 @@ pub fn each_call_has_its_analyzer<A: TextAnalyzer, B: TextAnalyzer>(
     requires order { (indexer.old.last_doc ≤ doc_of first) × (doc_of first ≤ doc_of second) }
     requires below { (doc_of first < indexer.old.num_docs) × (doc_of second < indexer.old.num_docs) }
     requires takes { Takes indexer.old.schema (field_of first) (type_of first) × Takes indexer.old.schema (field_of second) (type_of second) }
-    ensures { OnOk result ((ps : List Piece) → Stores indexer.old ps
+    ensures stored { OnOk result ((ps : List Piece) → Stores indexer.old ps
         → Stores indexer.new ((ps ++ call_pieces (A.words one.now) (call_of indexer.old.schema first)) ++ call_pieces (B.words other.now) (call_of indexer.old.schema second))) }
+    ensures fault { (ps : List Piece) → Stores indexer.old ps → IfErr result (λ e. (e ≡ Fault.OutOfMemory)
+        ⊎ (call_fault (A.words one.now) (option_of indexer.old.schema (field_of first)) ps (call_of indexer.old.schema first) ≡ Some e)
+        ⊎ (call_fault (B.words other.now) (option_of indexer.old.schema (field_of second)) (ps ++ call_pieces (A.words one.now) (call_of indexer.old.schema first)) (call_of indexer.old.schema second) ≡ Some e)) }
 {
     indexer.index(first, one)?;
     indexer.index(second, other)
