@@ -155,6 +155,19 @@ impl SegmentPostings {
         }
     }
 
+    // Puts no documents in place of the list, by the options of another field or request.
+    pub(crate) fn clear_by(
+        &mut self,
+        record_option: IndexRecordOption,
+        requested_option: IndexRecordOption,
+    )
+        ensures { self.new ≡ postings_of_none record_option requested_option }
+    {
+        self.cur = 0;
+        self.position_reader = None;
+        self.block_cursor.clear_by(record_option, requested_option);
+    }
+
     /// A cursor over no documents.
     pub fn empty() -> SegmentPostings
         ensures { result ≡ record { rest = []; doc_freq = 0; freq_reading = FreqReadingOption.NoFreq; block = 0; doc_decodes = 0; freq_decodes = 0; entries_read = 0; position_decodes = 0 } }
