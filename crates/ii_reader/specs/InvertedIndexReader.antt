@@ -109,6 +109,11 @@ abbrev pub GivesList : List Entry → Result SegmentPostingsState Fault → Type
 GivesList es (Ok cursor) = cursor.rest ≡ es
 GivesList es (Err fault) = fault ≡ OutOfMemory
 
+-- The list of a term was put in place of that of a cursor: this is refused for memory alone.
+abbrev pub PutsList : {A : Type 0} → List Entry → Result A Fault → SegmentPostingsState → Type 0
+PutsList es (Ok done) cursor = cursor.rest ≡ es
+PutsList es (Err fault) cursor = fault ≡ OutOfMemory
+
 -- A key gives nothing exactly where it didn't occur, and else its postings: reading them is refused for memory alone.
 abbrev pub GivesPostings : IndexRecordOption → ℕ → List ℕ → IndexRecordOption → List IndexToken → Result (Option SegmentPostingsState) Fault → Type 0
 GivesPostings option field key requested ts (Ok None) = occurs field key ts ≡ false

@@ -1,11 +1,13 @@
 -- A cursor over the documents of a term, with their counts and positions.
-use Rattle.std.specs.Prelude.{◌≡◌, ℕ, ◌+◌, ◌*◌, ◌/◌, ◌≤◌, true, List, Option, None, Some, length, min, ⊤}
+use Rattle.std.specs.Prelude.{◌≡◌, ℕ, ◌+◌, ◌*◌, ◌/◌, ◌≤◌, true, List, [], Option, None, Some, length, min, ⊤}
 use Rattle.std.specs.List.{sum, list_all}
 use Rattle.ii_base.specs.Options.{downgrade, has_positions}
 use Rattle.ii_codes.specs.Sums.{fit_u32}
 use Rattle.ii_docset.specs.Entries.{Entry}
 use Rattle.ii_layout.specs.Positions.{positions_of}
 use Rattle.ii_layout.specs.PositionReader.{PositionReaderState}
+use Rattle.ii_base.specs.declared.schema.index_record_option.IndexRecordOption.{IndexRecordOption}
+use Rattle.ii_check.specs.FreqReading.{reading_of_none}
 use Rattle.ii_check.specs.declared.freq_reading_option.FreqReadingOption.{FreqReadingOption}
 use Rattle.ii_reader.specs.BlockSegmentPostings.{BlockSegmentPostingsState}
 
@@ -19,6 +21,10 @@ pub record SegmentPostingsState : Type 0 where
   pub freq_decodes : ℕ
   pub entries_read : ℕ
   pub position_decodes : ℕ
+
+-- a cursor over no documents, by the option that a field records and the one that is requested
+abbrev pub postings_of_none : IndexRecordOption → IndexRecordOption → SegmentPostingsState
+postings_of_none recorded requested = record { rest = []; doc_freq = 0; freq_reading = reading_of_none recorded requested; block = 0; doc_decodes = 0; freq_decodes = 0; entries_read = 0; position_decodes = 0 }
 
 -- how many decodes of positions there were
 abbrev pub decodes_read : Option PositionReaderState → ℕ

@@ -170,6 +170,17 @@ impl BlockSegmentPostings {
     {
         let record_option = self.checked.record_option();
         let requested_option = self.checked.requested_option();
+        self.clear_by(record_option, requested_option);
+    }
+
+    // Puts no documents in place of the list, by other options.
+    pub(crate) fn clear_by(
+        &mut self,
+        record_option: IndexRecordOption,
+        requested_option: IndexRecordOption,
+    )
+        ensures { self.new ≡ cursor_of_none record_option requested_option }
+    {
         self.checked = CheckedPostings::empty(record_option, requested_option);
         self.skip = self.checked.skip_reader();
         self.doc_decoder = BlockDecoder::with_val(TERMINATED);

@@ -7,7 +7,8 @@ ghost use Rattle.ii_definitions.specs.Tokens.{IndexToken};
 ghost use Rattle.ii_definitions.specs.Postings.{field_count, key_postings, occurs};
 ghost use Rattle.ii_definitions.specs.Files.{HoldsTerm, bytes_in};
 ghost use Rattle.ii_reader.specs.BlockSegmentPostings.{cursor_of_none};
-ghost use Rattle.ii_reader.specs.InvertedIndexReader.{GivesList, GivesPostings, IsRefusal, OpensBlocks, OpensTerm, ReaderHolds, docs_of_file, given_if, lies_in, ranges_lie, reader_of_none, reader_over, reads_positions, term_of_file};
+ghost use Rattle.ii_reader.specs.SegmentPostings.{postings_of_none};
+ghost use Rattle.ii_reader.specs.InvertedIndexReader.{GivesList, GivesPostings, IsRefusal, OpensBlocks, OpensTerm, PutsList, ReaderHolds, docs_of_file, given_if, lies_in, ranges_lie, reader_of_none, reader_over, reads_positions, term_of_file};
 
 use super::block_segment_postings::BlockSegmentPostings;
 use super::segment_postings::SegmentPostings;
@@ -254,6 +255,59 @@ impl InvertedIndexReader {
                 Err(fault)
             }
         }
+    }
+
+    /// Puts the postings of a term of which this is kept in place of those of a cursor, as far as they
+    /// are requested. See `read_postings` for the faults; the cursor is then over no documents, and can
+    /// be reset again.
+    #[tactic(auto, using(crate::proofs::ReaderLemmas::list_no_range, crate::proofs::ReaderLemmas::refused_by, crate::proofs::ReaderLemmas::file_list))]
+    pub fn reset_postings_from_terminfo(
+        &self,
+        term_info: &TermInfo,
+        option: IndexRecordOption,
+        postings: &mut SegmentPostings,
+    ) -> Result<(), Fault>
+        ensures ok { OnOk result (OpensTerm self.now option term_info.now postings.new) }
+        ensures err { IfErr result (IsRefusal (term_of_file self.now option term_info.now)) }
+        ensures range { IsErrOf result (Fault.Damaged Part.Range) ↔ (ranges_lie self.now option term_info.now ≡ false) }
+        ensures emptied { OnErr result (postings.new ≡ postings_of_none self.now.option option) }
+        // where the files hold tokens
+        ensures holds { (field : ℕ) (key : List ℕ) (tokens : List IndexToken) → HoldsTerm self.now.option field key self.now.postings self.now.positions tokens term_info.now
+            → PutsList (key_postings self.now.option field key option tokens) result postings.new }
+    {
+        let record_option = self.record_option();
+        let (bytes, positions) = match self.checked_bytes_of(term_info, option) {
+            Ok(found) => found,
+            Err(fault) => {
+                postings.clear_by(record_option, option);
+                return Err(fault);
+            }
+        };
+        match postings.reset(term_info.doc_freq, bytes, positions, record_option, option) {
+            Ok(()) => Ok(()),
+            Err(fault) => Err(Fault::from(fault)),
+        }
+    }
+
+    // The bytes of a term's postings, and those of its positions where they are read; or `Range` where
+    // either don't lie in the body.
+    fn checked_bytes_of(
+        &self,
+        term_info: &TermInfo,
+        option: IndexRecordOption,
+    ) -> Result<(Bytes, Option<Bytes>), Fault>
+        ensures postings { IfOk result (λ found. found.0 ≡ bytes_in self.now.postings term_info.now.postings_range) }
+        ensures positions { IfOk result (λ found. found.1 ≡ given_if (reads_positions self.now option) (bytes_in self.now.positions term_info.now.positions_range)) }
+        ensures lie { OnOk result (ranges_lie self.now option term_info.now ≡ true) }
+        ensures only { IfErr result (λ fault. (fault ≡ Fault.OutOfMemory) ⊎ (fault ≡ Fault.Damaged Part.Range)) }
+        ensures range { IsErrOf result (Fault.Damaged Part.Range) ↔ (ranges_lie self.now option term_info.now ≡ false) }
+    {
+        if !self.do_ranges_lie(term_info, option) {
+            return Err(Fault::Damaged(Part::Range));
+        }
+        let postings = self.postings_of(term_info)?;
+        let positions = self.positions_of(term_info, option)?;
+        Ok((postings, positions))
     }
 
     // Whether the ranges of a term lie in the bodies, that of its positions where they are read.

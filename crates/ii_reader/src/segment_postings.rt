@@ -9,7 +9,7 @@ ghost use Rattle.ii_layout.specs.TermList.{list_of, term_list};
 ghost use Rattle.ii_check.specs.CheckedPostings.{is_read};
 ghost use Rattle.ii_check.specs.FreqReading.{freq_reading};
 ghost use Rattle.ii_check.specs.Positions.{deltas_read};
-ghost use Rattle.ii_reader.specs.SegmentPostings.{DecodesOnce, DecodesPositions, FitCursor, SpentLazily, StaysLazy, WentLazily, decodes_read};
+ghost use Rattle.ii_reader.specs.SegmentPostings.{DecodesOnce, DecodesPositions, FitCursor, SpentLazily, StaysLazy, WentLazily, decodes_read, postings_of_none};
 
 use super::block_segment_postings::BlockSegmentPostings;
 use bytes::Bytes;
@@ -103,6 +103,69 @@ impl SegmentPostings {
             cur: 0,
             position_reader,
         })
+    }
+
+    /// Puts another list in place of this one, as `open` does with the same arguments: the list of
+    /// `doc_freq` documents that `postings` begins with, at its first document, or the first part of
+    /// it that is damaged. The cursor is then over no documents, and can be reset again. Memory is
+    /// never taken.
+    pub fn reset(
+        &mut self,
+        doc_freq: u32,
+        postings: Bytes,
+        positions: Option<Bytes>,
+        record_option: IndexRecordOption,
+        requested_option: IndexRecordOption,
+    ) -> Result<(), LayoutFault>
+        ensures ok { OnOk result (term_list record_option requested_option doc_freq postings positions ≡ Ok self.new.rest) }
+        ensures doc_freq { OnOk result (self.new.doc_freq ≡ doc_freq) }
+        ensures many { OnOk result (length self.new.rest ≡ doc_freq) }
+        ensures reading { OnOk result (freq_reading record_option requested_option doc_freq postings ≡ Ok self.new.freq_reading) }
+        ensures first { self.new.block ≡ 0 }
+        // what was decoded and read for it
+        ensures doc_decodes { self.new.doc_decodes ≤ 1 }
+        ensures freq_decodes { self.new.freq_decodes ≤ 1 }
+        ensures entries_read { self.new.entries_read ≤ 1 }
+        ensures position_decodes { self.new.position_decodes ≤ 1 }
+        // a refusal, and what it leaves
+        ensures err { IfErr result (λ fault. term_list record_option requested_option doc_freq postings positions ≡ Err (part_of fault)) }
+        ensures emptied { OnErr result (self.new ≡ postings_of_none record_option requested_option) }
+    {
+        self.cur = 0;
+        self.position_reader = None;
+        self.block_cursor.clear_by(record_option, requested_option);
+        if let Err(fault) = self.block_cursor.fill(doc_freq, postings) {
+            return Err(fault);
+        }
+        // what the cursor tells of its list and of its block
+        let _docs = self.block_cursor.docs();
+        let _reading = self.block_cursor.freq_reading_option();
+        if positions.is_none() {
+            return Ok(());
+        }
+        match self.block_cursor.open_positions(positions) {
+            Ok(position_reader) => {
+                self.position_reader = position_reader;
+                Ok(())
+            }
+            Err(fault) => {
+                self.block_cursor.clear_by(record_option, requested_option);
+                Err(fault)
+            }
+        }
+    }
+
+    // Puts no documents in place of the list, by the options of another field or request.
+    pub(crate) fn clear_by(
+        &mut self,
+        record_option: IndexRecordOption,
+        requested_option: IndexRecordOption,
+    )
+        ensures { self.new ≡ postings_of_none record_option requested_option }
+    {
+        self.cur = 0;
+        self.position_reader = None;
+        self.block_cursor.clear_by(record_option, requested_option);
     }
 
     /// A cursor over no documents.
