@@ -5,7 +5,9 @@ use ii_base::{
     Fault, Field, FieldEntry, IndexRecordOption, LayoutFault, Part, Schema, Term, ValueType,
 };
 use ii_docset::{DocId, DocSet, TERMINATED};
-use ii_reader::{BlockSegmentPostings, InvertedIndexReader, OpenIndex, open_index};
+use ii_reader::{
+    BlockSegmentPostings, InvertedIndexReader, OpenIndex, SegmentPostings, open_index,
+};
 use ii_termdict::{TermDictionary, TermInfo};
 use std::alloc::Global;
 use std::test::Fail;
@@ -471,5 +473,37 @@ fn block_cursors_are_reset_to_other_terms(rt: HostRuntime) -> Result<(), Fail> {
     assert!(rt; shows(&blocks, &[0, 2, 4]));
     reset(&reader, &three_at(3, 6), &mut blocks)?;
     assert!(rt; shows(&blocks, &[1, 3, 5]));
+    Ok(())
+}
+
+// A cursor over postings is put over what is kept of a term.
+fn put_at(
+    reader: &InvertedIndexReader,
+    info: &TermInfo,
+    postings: &mut SegmentPostings,
+) -> Result<(), Fault> {
+    reader.reset_postings_from_terminfo(info, BASIC, postings)
+}
+
+// The next four documents of a cursor.
+fn next_four(postings: &mut SegmentPostings) -> [DocId; 4] {
+    let first = postings.doc();
+    let second = postings.advance();
+    let third = postings.advance();
+    [first, second, third, postings.advance()]
+}
+
+#[test]
+fn cursors_are_reset_in_place(rt: HostRuntime) -> Result<(), Fail> {
+    let reader = even_and_odd()?;
+    let mut postings = SegmentPostings::empty();
+    assert!(rt; put_at(&reader, &three_at(3, 6), &mut postings) == Ok(()));
+    assert!(rt; next_four(&mut postings) == [1, 3, 5, TERMINATED]);
+    assert!(rt;
+        put_at(&reader, &three_at(3, 7), &mut postings) == Err(Fault::Damaged(Part::Range))
+    );
+    assert!(rt; next_four(&mut postings) == [TERMINATED; 4]);
+    assert!(rt; put_at(&reader, &three_at(0, 3), &mut postings) == Ok(()));
+    assert!(rt; next_four(&mut postings) == [0, 2, 4, TERMINATED]);
     Ok(())
 }
