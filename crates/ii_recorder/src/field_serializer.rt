@@ -9,7 +9,7 @@ ghost use Rattle.ii_termdict.specs.ReadBack.{AreAscending};
 ghost use Rattle.ii_recorder.specs.Terms.{WrittenTerm, field_bodies};
 ghost use Rattle.ii_recorder.specs.HeldTerms.{HoldsTerms};
 ghost use Rattle.ii_recorder.specs.FieldTerms.{IsWithinLimits, term_under};
-ghost use Rattle.ii_recorder.specs.IndexBodies.{IndexBodiesState, AddsBodies, AllGrow, AreBegun, LacksField, NoneFalls, failed_calls};
+ghost use Rattle.ii_recorder.specs.IndexBodies.{IndexBodiesState, AddsBodies, AllGrow, AreBegun, LacksField, NoneFalls, failed_calls, CountsFailures};
 ghost use Rattle.ii_recorder.specs.IndexSerializer.{IsFieldFault, IsTermFault, IsWriting};
 ghost use Rattle.ii_recorder.specs.contracts.serializer.InvertedIndexSerializer.{the_row};
 
@@ -193,9 +193,7 @@ impl<'a, W: Write> FieldSerializer<'a, W> {
         ensures entries { self.new.index.now.entries ≡ self.old.index.now.entries }
 
         // How it ends for the writers: a failed call is counted once, and each keeps what it had.
-        ensures write { IsErrOf result Fault.Write ↔ (failed_calls self.old.index.now.bodies < failed_calls self.new.index.now.bodies) }
-        ensures by_one { IsErrOf result Fault.Write → failed_calls self.new.index.now.bodies ≡ failed_calls self.old.index.now.bodies + 1 }
-        ensures kept { NoneFalls self.old.index.now.bodies self.new.index.now.bodies }
+        ensures failures { CountsFailures self.old.index.now.bodies self.new.index.now.bodies result }
         ensures grow { AllGrow self.old.index.now.bodies self.new.index.now.bodies }
 
         // When it is refused, and by which fault.
@@ -227,9 +225,7 @@ impl<'a, W: Write> FieldSerializer<'a, W> {
         ensures closes { Closes result self.exit.0.now.closed }
 
         // How it ends for the writers: a failed call is counted once, and each keeps what it had.
-        ensures write { IsErrOf result Fault.Write ↔ (failed_calls self.entry.index.now.bodies < failed_calls self.exit.0.now.bodies) }
-        ensures by_one { IsErrOf result Fault.Write → failed_calls self.exit.0.now.bodies ≡ failed_calls self.entry.index.now.bodies + 1 }
-        ensures kept { NoneFalls self.entry.index.now.bodies self.exit.0.now.bodies }
+        ensures failures { CountsFailures self.entry.index.now.bodies self.exit.0.now.bodies result }
         ensures grow { AllGrow self.entry.index.now.bodies self.exit.0.now.bodies }
 
         // When it is refused, and by which fault.

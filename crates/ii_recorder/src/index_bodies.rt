@@ -5,7 +5,7 @@ ghost use Rattle.ii_io.specs.CompositeWrite.{AddsBody, HasBodies, WroteComposite
 ghost use Rattle.ii_io.specs.Composite.{Body, fit_fields};
 ghost use Rattle.ii_io.specs.Faults.{OnlyMemory};
 ghost use Rattle.ii_io.specs.Numbers.{le_bytes};
-ghost use Rattle.ii_recorder.specs.IndexBodies.{AddsBodies, AddsMore, AllGrow, AreBegun, OneIsFull, AreUnclosed, LacksField, NoneFalls, failed_calls, tables_of};
+ghost use Rattle.ii_recorder.specs.IndexBodies.{AddsBodies, AddsMore, AllGrow, AreBegun, OneIsFull, AreUnclosed, LacksField, NoneFalls, failed_calls, tables_of, CountsFailures};
 ghost use Rattle.ii_recorder.specs.FieldTerms.{EndsTerm, IsEndFault, bytes_of, dictionary_of};
 ghost use Rattle.ii_termdict.specs.Dictionary.{dictionary};
 ghost use Rattle.ii_termdict.specs.Written.{written_dictionary};
@@ -62,9 +62,7 @@ impl<W: Write> IndexBodies<W> {
         ensures begun { OnOk result (AreBegun self.new) }
 
         // How it ends for the writers: a failed call is counted once, and each keeps what it had.
-        ensures write { IsErrOf result Fault.Write ↔ (failed_calls self.old < failed_calls self.new) }
-        ensures by_one { IsErrOf result Fault.Write → failed_calls self.new ≡ failed_calls self.old + 1 }
-        ensures kept { NoneFalls self.old self.new }
+        ensures failures { CountsFailures self.old self.new result }
         ensures grow { AllGrow self.old self.new }
 
         // When it is refused, and by which fault.
@@ -90,9 +88,7 @@ impl<W: Write> IndexBodies<W> {
         ensures err { OnErr result (IsTrue terms.new.closed) }
 
         // How it ends for the writers: a failed call is counted once, and each keeps what it had.
-        ensures write { IsErrOf result Fault.Write ↔ (failed_calls self.old < failed_calls self.new) }
-        ensures by_one { IsErrOf result Fault.Write → failed_calls self.new ≡ failed_calls self.old + 1 }
-        ensures kept { NoneFalls self.old self.new }
+        ensures failures { CountsFailures self.old self.new result }
         ensures grow { AllGrow self.old self.new }
 
         // When it is refused, and by which fault.
@@ -114,9 +110,7 @@ impl<W: Write> IndexBodies<W> {
         ensures terms { OnOk result (terms.new.closed ≡ false) }
 
         // How it ends for the writers: a failed call is counted once, and each keeps what it had.
-        ensures write { IsErrOf result Fault.Write ↔ (failed_calls self.old < failed_calls self.new) }
-        ensures by_one { IsErrOf result Fault.Write → failed_calls self.new ≡ failed_calls self.old + 1 }
-        ensures kept { NoneFalls self.old self.new }
+        ensures failures { CountsFailures self.old self.new result }
         ensures grow { AllGrow self.old self.new }
 
         // When it is refused, and by which fault.
@@ -141,9 +135,7 @@ impl<W: Write> IndexBodies<W> {
         ensures begun { AreBegun self.new }
 
         // How it ends for the writers: a failed call is counted once, and each keeps what it had.
-        ensures write { IsErrOf result Fault.Write ↔ (failed_calls self.old < failed_calls self.new) }
-        ensures by_one { IsErrOf result Fault.Write → failed_calls self.new ≡ failed_calls self.old + 1 }
-        ensures kept { NoneFalls self.old self.new }
+        ensures failures { CountsFailures self.old self.new result }
         ensures grow { AllGrow self.old self.new }
 
         // When it is refused, and by which fault.

@@ -10,7 +10,7 @@ ghost use Rattle.ii_termdict.specs.ReadBack.{AreAscending};
 ghost use Rattle.ii_recorder.specs.Terms.{WrittenTerm, field_bodies};
 ghost use Rattle.ii_recorder.specs.HeldTerms.{HoldsTerms};
 ghost use Rattle.ii_recorder.specs.FieldTerms.{IsWithinLimits, closing_bytes, dictionary_of, term_under};
-ghost use Rattle.ii_recorder.specs.IndexBodies.{IndexBodiesState, AddsBodies, AllGrow, AreBegun, OneIsFull, LacksField, NoneFalls, failed_calls, tables_of};
+ghost use Rattle.ii_recorder.specs.IndexBodies.{IndexBodiesState, AddsBodies, AllGrow, AreBegun, OneIsFull, LacksField, NoneFalls, failed_calls, tables_of, CountsFailures};
 ghost use Rattle.ii_recorder.specs.IndexSerializer.{IsFieldFault, IsTermFault, IsWriting};
 
 use super::field_terms::FieldTerms;
@@ -149,9 +149,7 @@ impl<W: Write> InvertedIndexSerializer<W> {
         ensures err { OnErr result (IsTrue self.new.closed) }
 
         // How it ends for the writers: a failed call is counted once, and each keeps what it had.
-        ensures write { IsErrOf result Fault.Write ↔ (failed_calls self.old.bodies < failed_calls self.new.bodies) }
-        ensures by_one { IsErrOf result Fault.Write → failed_calls self.new.bodies ≡ failed_calls self.old.bodies + 1 }
-        ensures kept { NoneFalls self.old.bodies self.new.bodies }
+        ensures failures { CountsFailures self.old.bodies self.new.bodies result }
         ensures grow { AllGrow self.old.bodies self.new.bodies }
 
         // When it is refused, and by which fault.
@@ -272,9 +270,7 @@ impl<W: Write> InvertedIndexSerializer<W> {
         ensures closes { Closes result self.new.closed }
 
         // How it ends for the writers: a failed call is counted once, and each keeps what it had.
-        ensures write { IsErrOf result Fault.Write ↔ (failed_calls self.old.bodies < failed_calls self.new.bodies) }
-        ensures by_one { IsErrOf result Fault.Write → failed_calls self.new.bodies ≡ failed_calls self.old.bodies + 1 }
-        ensures kept { NoneFalls self.old.bodies self.new.bodies }
+        ensures failures { CountsFailures self.old.bodies self.new.bodies result }
         ensures grow { AllGrow self.old.bodies self.new.bodies }
 
         // When it is refused, and by which fault.
@@ -305,9 +301,7 @@ impl<W: Write> InvertedIndexSerializer<W> {
         ensures closes { Closes result self.new.closed }
 
         // How it ends for the writers: a failed call is counted once, and each keeps what it had.
-        ensures write { IsErrOf result Fault.Write ↔ (failed_calls self.old.bodies < failed_calls self.new.bodies) }
-        ensures by_one { IsErrOf result Fault.Write → failed_calls self.new.bodies ≡ failed_calls self.old.bodies + 1 }
-        ensures kept { NoneFalls self.old.bodies self.new.bodies }
+        ensures failures { CountsFailures self.old.bodies self.new.bodies result }
         ensures grow { AllGrow self.old.bodies self.new.bodies }
 
         // When it is refused, and by which fault.
@@ -343,9 +337,7 @@ impl<W: Write> InvertedIndexSerializer<W> {
         ensures closes { Closes result self.new.closed }
 
         // How it ends for the writers: a failed call is counted once, and each keeps what it had.
-        ensures write { IsErrOf result Fault.Write ↔ (failed_calls self.old.bodies < failed_calls self.new.bodies) }
-        ensures by_one { IsErrOf result Fault.Write → failed_calls self.new.bodies ≡ failed_calls self.old.bodies + 1 }
-        ensures kept { NoneFalls self.old.bodies self.new.bodies }
+        ensures failures { CountsFailures self.old.bodies self.new.bodies result }
         ensures grow { AllGrow self.old.bodies self.new.bodies }
 
         // When it is refused, and by which fault.
