@@ -14,14 +14,14 @@ use Rattle.ii_io.specs.CountingWriterLemmas.{full_before, full_more}
 use Rattle.ii_io.specs.CountingWriter.{CountingWriterState, IsFull}
 use Rattle.ii_base.specs.Schema.{SchemaEntry}
 use Rattle.ii_definitions.specs.Tokens.{IndexToken}
-use Rattle.ii_recorder.specs.IndexBodies.{OneIsFull, IndexBodiesState, failed_calls, tables_of}
+use Rattle.ii_recorder.specs.IndexBodies.{CountsFailures, OneIsFull, IndexBodiesState, failed_calls, tables_of}
 use Rattle.ii_recorder.specs.IndexSerializer.{IndexSerializerState}
 use Rattle.ii_postings_writer.specs.FieldParts.{FieldPart, HasFields, WroteContext, positions_of_part, postings_body, terms_body}
 use Rattle.ii_postings_writer.specs.HeldBodies.{HaveTokens, WroteTokens}
 use Rattle.ii_indexing.specs.IndexFiles.{ClosedFiles, CountsThreeFailures, HaveNoRoom, PassLimits, begun_file}
 use Rattle.ii_postings_writer.specs.IndexingContext.{TermIndex}
 use Rattle.ii_postings_writer.specs.PostingsWriter.{PostingsWriterState}
-use Rattle.ii_postings_writer.specs.WriteFaults.{CountsFailures, IsContextFault, IsTokensFault}
+use Rattle.ii_postings_writer.specs.WriteFaults.{IsContextFault, IsTokensFault}
 use Rattle.ii_postings_writer.specs.TokenFiles.{file_bodies}
 use Rattle.ii_postings_writer.proofs.TokenFaults.{HasFiles, tokens_fault, wrote_files}
 use Rattle.ii_indexing.proofs.NormFileLaws.{begun_bodies}

@@ -1,5 +1,5 @@
 -- Why the terms of an index can't be written, and what a refusal leaves.
-use Rattle.std.specs.Prelude.{◌≡◌, ℕ, ◌+◌, ◌<◌, ◌⊎◌, ◌↔◌, IsTrue, List, [], ◌∷◌, ◌++◌, length, map, Result, OnOk, IfErr, IsErrOf}
+use Rattle.std.specs.Prelude.{◌≡◌, ℕ, ◌⊎◌, IsTrue, List, [], ◌∷◌, ◌++◌, length, map, Result, OnOk, IfErr}
 use Rattle.std.specs.List.{AllByRecursion, range_with_len}
 use Rattle.ii_io.specs.declared.faults.Fault.{Fault}
 use Rattle.ii_io.specs.declared.faults.Fault.TheVariants.{Limit, OutOfMemory, SerializerClosed, Write}
@@ -10,7 +10,7 @@ use Rattle.ii_base.specs.declared.schema.index_record_option.IndexRecordOption.{
 use Rattle.ii_definitions.specs.Fields.{option_of}
 use Rattle.ii_definitions.specs.Tokens.{IndexToken}
 use Rattle.ii_termdict.specs.ReadBack.{AreAscending}
-use Rattle.ii_recorder.specs.IndexBodies.{OneIsFull, IndexBodiesState, NoneFalls, failed_calls}
+use Rattle.ii_recorder.specs.IndexBodies.{OneIsFull, IndexBodiesState}
 use Rattle.ii_recorder.specs.IndexSerializer.{IndexSerializerState}
 use Rattle.ii_recorder.specs.Recorded.{RecorderState}
 use Rattle.ii_recorder.specs.Terms.{FieldBodies, WrittenTerm, open_bodies}
@@ -21,12 +21,6 @@ use Rattle.ii_postings_writer.specs.PostingsWriter.{PostingsWriterState}
 use Rattle.ii_postings_writer.specs.SortedTerms.{terms_in}
 use Rattle.ii_postings_writer.specs.TermLimits.{AreWithin, FirstOf, HasLargeSum, IsLong, IsWithin, PassEnds}
 use Rattle.ii_postings_writer.specs.TokenFiles.{FirstEnds, FirstTerm, file_bodies}
-
--- How a call ends for the three writers: a refusal by one of them is counted once, and nothing else is.
-pub record CountsFailures (old new : IndexBodiesState) (result : Result (Unit {0}) Fault) : Type 0 where
-  pub write : IsErrOf result Write ↔ (failed_calls old < failed_calls new)
-  pub by_one : IsErrOf result Write → failed_calls new ≡ failed_calls old + 1
-  pub kept : NoneFalls old new
 
 -- A fault is want of memory, a writer's, or a limit for which there is a cause: a sum of counts, the bytes of a term, no room.
 abbrev pub IsFaultBy : Type 0 → Type 0 → Type 0 → Fault → Type 0

@@ -4,7 +4,7 @@ ghost use Rattle.ii_io.specs.CountingWriter.{Closes};
 ghost use Rattle.ii_termdict.specs.ReadBack.{AreAscending};
 ghost use Rattle.ii_definitions.specs.Fields.{option_of};
 ghost use Rattle.ii_recorder.specs.AnyRecorder.{any_state};
-ghost use Rattle.ii_recorder.specs.IndexBodies.{AddsBodies, AllGrow, IndexBodiesState, LacksField};
+ghost use Rattle.ii_recorder.specs.IndexBodies.{AddsBodies, AllGrow, IndexBodiesState, LacksField, CountsFailures};
 ghost use Rattle.ii_recorder.specs.IndexSerializer.{IsWriting};
 ghost use Rattle.ii_recorder.specs.Terms.{WrittenTerm, field_bodies};
 ghost use Rattle.ii_recorder.specs.HeldTerms.{HoldsTerms};
@@ -13,7 +13,7 @@ ghost use Rattle.ii_definitions.specs.Tokens.{IndexToken};
 ghost use Rattle.ii_postings_writer.specs.HeldBodies.{HaveTokens, WroteTokens};
 ghost use Rattle.ii_postings_writer.specs.SortedTerms.{AllMayBeWritten, IsTold, IsWritable, SortedTerm, state_of, written_term};
 ghost use Rattle.ii_postings_writer.specs.TermLimits.{AreWithin};
-ghost use Rattle.ii_postings_writer.specs.WriteFaults.{ClosesOrStays, CountsFailures, IsContextFault, IsPartFault, IsPartsFault, IsTermFaultAfter, StaysClosed};
+ghost use Rattle.ii_postings_writer.specs.WriteFaults.{ClosesOrStays, IsContextFault, IsPartFault, IsPartsFault, IsTermFaultAfter, StaysClosed};
 
 use crate::indexing_context::IndexingContext;
 use crate::per_field_postings_writer::PerFieldPostingsWriter;

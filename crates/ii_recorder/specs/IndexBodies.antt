@@ -1,5 +1,7 @@
 -- The three composites of an index as they are written: terms, postings and positions.
-use Rattle.std.specs.Prelude.{List, ◌≡◌, ℕ, ◌+◌, ◌-◌, ◌^◌, ◌<◌, ◌≤◌, ◌⊎◌, false, length}
+use Rattle.std.specs.Prelude.{List, ◌≡◌, ℕ, ◌+◌, ◌-◌, ◌^◌, ◌<◌, ◌≤◌, ◌⊎◌, ◌↔◌, false, length, Result, IsErrOf}
+use Rattle.ii_io.specs.declared.faults.Fault.{Fault}
+use Rattle.ii_io.specs.declared.faults.Fault.TheVariants.{Write}
 use Rattle.ii_io.specs.Composite.{table_bytes}
 use Rattle.ii_io.specs.CountingWriter.{Grows, IsFull, Wrote}
 use Rattle.ii_io.specs.CompositeWrite.{CompositeWriteState, AddsBody, has_start, places_of}
@@ -19,6 +21,12 @@ pub record NoneFalls (old new : IndexBodiesState) : Type 0 where
   pub terms : old.terms.writer.failed_calls ≤ new.terms.writer.failed_calls
   pub postings : old.postings.writer.failed_calls ≤ new.postings.writer.failed_calls
   pub positions : old.positions.writer.failed_calls ≤ new.positions.writer.failed_calls
+
+-- How a call ends for the three writers: a refusal by one of them is counted once, and nothing else is.
+pub record CountsFailures (old new : IndexBodiesState) (result : Result (Unit {0}) Fault) : Type 0 where
+  pub write : IsErrOf result Write ↔ (failed_calls old < failed_calls new)
+  pub by_one : IsErrOf result Write → failed_calls new ≡ failed_calls old + 1
+  pub kept : NoneFalls old new
 
 -- Each writer has what it had, and maybe more behind it.
 pub record AllGrow (old new : IndexBodiesState) : Type 0 where

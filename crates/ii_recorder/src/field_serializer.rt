@@ -9,7 +9,7 @@ ghost use Rattle.ii_termdict.specs.ReadBack.{AreAscending};
 ghost use Rattle.ii_recorder.specs.Terms.{WrittenTerm, field_bodies};
 ghost use Rattle.ii_recorder.specs.HeldTerms.{HoldsTerms};
 ghost use Rattle.ii_recorder.specs.FieldTerms.{IsWithinLimits, term_under};
-ghost use Rattle.ii_recorder.specs.IndexBodies.{IndexBodiesState, AddsBodies, AllGrow, AreBegun, LacksField, NoneFalls, failed_calls};
+ghost use Rattle.ii_recorder.specs.IndexBodies.{IndexBodiesState, AddsBodies, AllGrow, AreBegun, LacksField, NoneFalls, failed_calls, CountsFailures};
 ghost use Rattle.ii_recorder.specs.IndexSerializer.{IsFieldFault, IsTermFault, IsWriting};
 ghost use Rattle.ii_recorder.specs.contracts.serializer.InvertedIndexSerializer.{the_row};
 
@@ -42,16 +42,18 @@ impl<W: Write> InvertedIndexSerializer<W> {
     ) -> Result<FieldSerializer<'_, W>, Fault>
         requires known { field < length self.old.entries }
         requires lacks { self.old.closed ≡ false → LacksField field self.old.bodies }
-        ensures* refused { sem 𝓛 (RestsIfErr (the_row W.row W.Write) self.entry (λ f. f.index.ghost_name) result
-            (λ n. IsTrue n.closed × (n.entries ≡ self.old.entries) × NoneFalls self.old.bodies n.bodies × AllGrow self.old.bodies n.bodies
-            × (IsErrOf result Fault.Write ↔ (failed_calls self.old.bodies < failed_calls n.bodies))
-            × (IsErrOf result Fault.Write → failed_calls n.bodies ≡ failed_calls self.old.bodies + 1)
-            × (IsTrue self.old.closed → n ≡ self.old))) }
         ensures same_reference { IfOk result (λ f. f.index.ghost_name ≡ self.entry.ghost_name) }
         ensures begins { IfOk result (λ f. IsWriting self.old.bodies f.index.now field total_num_tokens [] []) }
         ensures between { IfOk result (λ f. f.index.now.field.term_open ≡ false) }
         ensures entries { IfOk result (λ f. f.index.now.entries ≡ self.old.entries) }
         ensures open { IfOk result (λ f. f.index.now.closed ≡ false) }
+
+        // When it is refused, and by which fault.
+        ensures* refused { sem 𝓛 (RestsIfErr (the_row W.row W.Write) self.entry (λ f. f.index.ghost_name) result
+            (λ n. IsTrue n.closed × (n.entries ≡ self.old.entries) × NoneFalls self.old.bodies n.bodies × AllGrow self.old.bodies n.bodies
+            × (IsErrOf result Fault.Write ↔ (failed_calls self.old.bodies < failed_calls n.bodies))
+            × (IsErrOf result Fault.Write → failed_calls n.bodies ≡ failed_calls self.old.bodies + 1)
+            × (IsTrue self.old.closed → n ≡ self.old))) }
         ensures full { IsErrOf result (Fault.Limit LimitName.Offset) → IsFull self.old.bodies.postings.writer 8 }
         ensures closed { IsErrOf result Fault.SerializerClosed ↔ IsTrue self.old.closed }
         ensures only { IfErr result (λ e. (e ≡ Fault.OutOfMemory) ⊎ (e ≡ Fault.Write) ⊎ (e ≡ Fault.Limit LimitName.Offset) ⊎ (e ≡ Fault.SerializerClosed)) }
@@ -83,8 +85,10 @@ impl<'a, W: Write> FieldSerializer<'a, W> {
         ensures inside { OnOk result (self.new.index.now.field.term_open ≡ true) }
         ensures entries { self.new.index.now.entries ≡ self.old.index.now.entries }
         ensures bodies { self.new.index.now.bodies ≡ self.old.index.now.bodies }
-        ensures refused { IsTrue self.old.index.now.closed → self.new.index.now ≡ self.old.index.now }
         ensures closes { Closes result self.new.index.now.closed }
+
+        // When it is refused, and by which fault.
+        ensures refused { IsTrue self.old.index.now.closed → self.new.index.now ≡ self.old.index.now }
         ensures closed { IsErrOf result Fault.SerializerClosed ↔ IsTrue self.old.index.now.closed }
         ensures only { IfErr result (λ e. (e ≡ Fault.OutOfMemory) ⊎ (e ≡ Fault.SerializerClosed)) }
     {
@@ -105,8 +109,10 @@ impl<'a, W: Write> FieldSerializer<'a, W> {
         ensures inside { OnOk result (self.new.index.now.field.term_open ≡ true) }
         ensures entries { self.new.index.now.entries ≡ self.old.index.now.entries }
         ensures bodies { self.new.index.now.bodies ≡ self.old.index.now.bodies }
-        ensures refused { IsTrue self.old.index.now.closed → self.new.index.now ≡ self.old.index.now }
         ensures closes { Closes result self.new.index.now.closed }
+
+        // When it is refused, and by which fault.
+        ensures refused { IsTrue self.old.index.now.closed → self.new.index.now ≡ self.old.index.now }
         ensures closed { IsErrOf result Fault.SerializerClosed ↔ IsTrue self.old.index.now.closed }
         ensures only { IfErr result (λ e. (e ≡ Fault.OutOfMemory) ⊎ (e ≡ Fault.SerializerClosed)) }
     {
@@ -141,8 +147,10 @@ impl<'a, W: Write> FieldSerializer<'a, W> {
         }) }
         ensures entries { self.new.index.now.entries ≡ self.old.index.now.entries }
         ensures bodies { self.new.index.now.bodies ≡ self.old.index.now.bodies }
-        ensures refused { IsTrue self.old.index.now.closed → self.new.index.now ≡ self.old.index.now }
         ensures closes { Closes result self.new.index.now.closed }
+
+        // When it is refused, and by which fault.
+        ensures refused { IsTrue self.old.index.now.closed → self.new.index.now ≡ self.old.index.now }
         ensures limit { IsErrOf result (Fault.Limit LimitName.BlockFrequencySum)
             ↔ (self.old.index.now.closed ≡ false) × IsSumTooLarge self.old.index.now.field.term.skip_info (self.old.index.now.field.term.freqs ++ term_freq ∷ []) }
         ensures closed { IsErrOf result Fault.SerializerClosed ↔ IsTrue self.old.index.now.closed }
@@ -183,10 +191,12 @@ impl<'a, W: Write> FieldSerializer<'a, W> {
         ensures between { OnOk result (self.new.index.now.field.term_open ≡ false) }
         ensures closes { Closes result self.new.index.now.closed }
         ensures entries { self.new.index.now.entries ≡ self.old.index.now.entries }
-        ensures write { IsErrOf result Fault.Write ↔ (failed_calls self.old.index.now.bodies < failed_calls self.new.index.now.bodies) }
-        ensures by_one { IsErrOf result Fault.Write → failed_calls self.new.index.now.bodies ≡ failed_calls self.old.index.now.bodies + 1 }
-        ensures kept { NoneFalls self.old.index.now.bodies self.new.index.now.bodies }
+
+        // How it ends for the writers: a failed call is counted once, and each keeps what it had.
+        ensures failures { CountsFailures self.old.index.now.bodies self.new.index.now.bodies result }
         ensures grow { AllGrow self.old.index.now.bodies self.new.index.now.bodies }
+
+        // When it is refused, and by which fault.
         ensures refused { IsTrue self.old.index.now.closed → self.new.index.now ≡ self.old.index.now }
         ensures limits { IsTrue self.old.index.now.field.term_open → OnOk result (IsWithinLimits self.old.index.now.field) }
         ensures fault { IfErr result (λ e. (e ≡ Fault.SerializerClosed) ⊎ IsTermFault self.old.index.now e) }
@@ -213,10 +223,12 @@ impl<'a, W: Write> FieldSerializer<'a, W> {
             → OnOk result (HoldsTerms self.entry.index.now.field.term.mode tokens (field_bodies self.entry.index.now.field.term.mode tokens (ts ++ term_under key self.entry.index.now.field.term ∷ [])) (ts ++ term_under key self.entry.index.now.field.term ∷ [])) }
         ensures entries { self.exit.0.now.entries ≡ self.entry.index.now.entries }
         ensures closes { Closes result self.exit.0.now.closed }
-        ensures write { IsErrOf result Fault.Write ↔ (failed_calls self.entry.index.now.bodies < failed_calls self.exit.0.now.bodies) }
-        ensures by_one { IsErrOf result Fault.Write → failed_calls self.exit.0.now.bodies ≡ failed_calls self.entry.index.now.bodies + 1 }
-        ensures kept { NoneFalls self.entry.index.now.bodies self.exit.0.now.bodies }
+
+        // How it ends for the writers: a failed call is counted once, and each keeps what it had.
+        ensures failures { CountsFailures self.entry.index.now.bodies self.exit.0.now.bodies result }
         ensures grow { AllGrow self.entry.index.now.bodies self.exit.0.now.bodies }
+
+        // When it is refused, and by which fault.
         ensures refused { IsTrue self.entry.index.now.closed → self.exit.0.now ≡ self.entry.index.now }
         ensures limits { IsTrue self.entry.index.now.field.term_open → OnOk result (IsWithinLimits self.entry.index.now.field) }
         ensures fault { IfErr result (λ e. (e ≡ Fault.SerializerClosed) ⊎ IsFieldFault self.entry.index.now e) }

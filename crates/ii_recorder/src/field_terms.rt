@@ -126,6 +126,8 @@ impl FieldTerms {
           };
         }) }
         ensures err { OnErr result (IsTrue self.new.closed) }
+
+        // When it is refused, and by which fault.
         ensures refused { IsTrue self.old.closed → self.new ≡ self.old }
         ensures limit { IsErrOf result (Fault.Limit LimitName.BlockFrequencySum)
             ↔ (self.old.closed ≡ false) × IsSumTooLarge self.old.term.skip_info (self.old.term.freqs ++ term_freq ∷ []) }
@@ -158,12 +160,16 @@ impl FieldTerms {
         ensures none { self.old.closed ≡ false → self.old.term_open ≡ false
             → (result ≡ Ok tt) × (self.new ≡ self.old) × (postings_write.new ≡ postings_write.old) × (positions_write.new ≡ positions_write.old) }
         ensures err { OnErr result (IsTrue self.new.closed) }
+
+        // How it ends for the writers: a failed call is counted once, and each keeps what it had.
         ensures write { IsErrOf result Fault.Write
             ↔ (postings_write.old.failed_calls + positions_write.old.failed_calls < postings_write.new.failed_calls + positions_write.new.failed_calls) }
         ensures by_one { IsErrOf result Fault.Write
             → postings_write.new.failed_calls + positions_write.new.failed_calls ≡ postings_write.old.failed_calls + positions_write.old.failed_calls + 1 }
         ensures kept { (postings_write.old.failed_calls ≤ postings_write.new.failed_calls) × (positions_write.old.failed_calls ≤ positions_write.new.failed_calls) }
         ensures grow { Grows postings_write.old postings_write.new × Grows positions_write.old positions_write.new }
+
+        // When it is refused, and by which fault.
         ensures fault { IfErr result (λ e. (e ≡ Fault.SerializerClosed) ⊎ IsEndFault self.old.term self.old.places postings_write.old positions_write.old e) }
         ensures refused { IsTrue self.old.closed → (self.new ≡ self.old) × (postings_write.new ≡ postings_write.old) × (positions_write.new ≡ positions_write.old) }
         ensures closed { IsErrOf result Fault.SerializerClosed ↔ IsTrue self.old.closed }
@@ -223,12 +229,16 @@ fn put_term<W: Write>(
     ensures short { OnOk result (IsShort term.old.mode (term_under [] term.old)) }
     ensures within { OnOk result ((places.new.postings_end < 2 ^ 56) × (places.new.positions_end < 2 ^ 56)) }
     ensures left { OnOk result (IsLeft term.old term.new) }
+
+    // How it ends for the writers: a failed call is counted once, and each keeps what it had.
     ensures write { IsErrOf result Fault.Write
         ↔ (postings_write.old.failed_calls + positions_write.old.failed_calls < postings_write.new.failed_calls + positions_write.new.failed_calls) }
     ensures by_one { IsErrOf result Fault.Write
         → postings_write.new.failed_calls + positions_write.new.failed_calls ≡ postings_write.old.failed_calls + positions_write.old.failed_calls + 1 }
     ensures kept { (postings_write.old.failed_calls ≤ postings_write.new.failed_calls) × (positions_write.old.failed_calls ≤ positions_write.new.failed_calls) }
     ensures grow { Grows postings_write.old postings_write.new × Grows positions_write.old positions_write.new }
+
+    // When it is refused, and by which fault.
     ensures fault { IfErr result (λ e. IsEndFault term.old places.old postings_write.old positions_write.old e) }
 {
     let doc_freq = term.doc_freq();

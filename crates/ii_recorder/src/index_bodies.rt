@@ -5,7 +5,7 @@ ghost use Rattle.ii_io.specs.CompositeWrite.{AddsBody, HasBodies, WroteComposite
 ghost use Rattle.ii_io.specs.Composite.{Body, fit_fields};
 ghost use Rattle.ii_io.specs.Faults.{OnlyMemory};
 ghost use Rattle.ii_io.specs.Numbers.{le_bytes};
-ghost use Rattle.ii_recorder.specs.IndexBodies.{AddsBodies, AddsMore, AllGrow, AreBegun, OneIsFull, AreUnclosed, LacksField, NoneFalls, failed_calls, tables_of};
+ghost use Rattle.ii_recorder.specs.IndexBodies.{AddsBodies, AddsMore, AllGrow, AreBegun, OneIsFull, AreUnclosed, LacksField, NoneFalls, failed_calls, tables_of, CountsFailures};
 ghost use Rattle.ii_recorder.specs.FieldTerms.{EndsTerm, IsEndFault, bytes_of, dictionary_of};
 ghost use Rattle.ii_termdict.specs.Dictionary.{dictionary};
 ghost use Rattle.ii_termdict.specs.Written.{written_dictionary};
@@ -60,10 +60,12 @@ impl<W: Write> IndexBodies<W> {
         ensures ok { OnOk result (AddsBodies self.old self.new field (record { terms = []; postings = le_bytes 8 total_num_tokens; positions = [] })) }
         ensures unclosed { OnOk result (AreUnclosed self.new) }
         ensures begun { OnOk result (AreBegun self.new) }
-        ensures write { IsErrOf result Fault.Write ↔ (failed_calls self.old < failed_calls self.new) }
-        ensures by_one { IsErrOf result Fault.Write → failed_calls self.new ≡ failed_calls self.old + 1 }
-        ensures kept { NoneFalls self.old self.new }
+
+        // How it ends for the writers: a failed call is counted once, and each keeps what it had.
+        ensures failures { CountsFailures self.old self.new result }
         ensures grow { AllGrow self.old self.new }
+
+        // When it is refused, and by which fault.
         ensures full { IsErrOf result (Fault.Limit LimitName.Offset) → IsFull self.old.postings.writer 8 }
         ensures only { IfErr result (λ e. (e ≡ Fault.OutOfMemory) ⊎ (e ≡ Fault.Write) ⊎ (e ≡ Fault.Limit LimitName.Offset)) }
     {
@@ -84,10 +86,12 @@ impl<W: Write> IndexBodies<W> {
         ensures failed { OnOk result (failed_calls self.new ≡ failed_calls self.old) }
         ensures none { terms.old.closed ≡ false → terms.old.term_open ≡ false → (result ≡ Ok tt) × (terms.new ≡ terms.old) × (self.new ≡ self.old) }
         ensures err { OnErr result (IsTrue terms.new.closed) }
-        ensures write { IsErrOf result Fault.Write ↔ (failed_calls self.old < failed_calls self.new) }
-        ensures by_one { IsErrOf result Fault.Write → failed_calls self.new ≡ failed_calls self.old + 1 }
-        ensures kept { NoneFalls self.old self.new }
+
+        // How it ends for the writers: a failed call is counted once, and each keeps what it had.
+        ensures failures { CountsFailures self.old self.new result }
         ensures grow { AllGrow self.old self.new }
+
+        // When it is refused, and by which fault.
         ensures refused { IsTrue terms.old.closed → (terms.new ≡ terms.old) × (self.new ≡ self.old) }
         ensures fault { IfErr result (λ e. (e ≡ Fault.SerializerClosed) ⊎ IsEndFault terms.old.term terms.old.places self.old.postings.writer self.old.positions.writer e) }
         ensures closed { IsErrOf result Fault.SerializerClosed ↔ IsTrue terms.old.closed }
@@ -101,17 +105,19 @@ impl<W: Write> IndexBodies<W> {
         requires between { terms.old.closed ≡ false → terms.old.term_open ≡ false }
         ensures wrote { OnOk result (AddsMore self.old self.new (dictionary_of terms.old)) }
         ensures holds { OnOk result (dictionary (written_dictionary terms.old.places.keys terms.old.places.infos) ≡ Ok (zip terms.old.places.keys terms.old.places.infos)) }
-        ensures write { IsErrOf result Fault.Write ↔ (failed_calls self.old < failed_calls self.new) }
-        ensures by_one { IsErrOf result Fault.Write → failed_calls self.new ≡ failed_calls self.old + 1 }
-        ensures kept { NoneFalls self.old self.new }
+        ensures unclosed { AreUnclosed self.old → AreUnclosed self.new }
+        ensures begun { AreBegun self.new }
+        ensures terms { OnOk result (terms.new.closed ≡ false) }
+
+        // How it ends for the writers: a failed call is counted once, and each keeps what it had.
+        ensures failures { CountsFailures self.old self.new result }
         ensures grow { AllGrow self.old self.new }
+
+        // When it is refused, and by which fault.
         ensures full { IsErrOf result (Fault.Limit LimitName.Offset)
             → OneIsFull self.old (dictionary_of terms.old) }
         ensures only { IfErr result (λ e. (e ≡ Fault.Write) ⊎ (e ≡ Fault.Limit LimitName.Offset) ⊎ (e ≡ Fault.SerializerClosed)) }
         ensures refused { IsTrue terms.old.closed → (terms.new ≡ terms.old) × (self.new ≡ self.old) }
-        ensures unclosed { AreUnclosed self.old → AreUnclosed self.new }
-        ensures begun { AreBegun self.new }
-        ensures terms { OnOk result (terms.new.closed ≡ false) }
         ensures closed { IsErrOf result Fault.SerializerClosed ↔ IsTrue terms.old.closed }
     {
         let written = terms.finish(self.terms.writer());
@@ -125,13 +131,15 @@ impl<W: Write> IndexBodies<W> {
     fn flush(&mut self) -> Result<(), Fault>
         requires begun { AreBegun self.old }
         ensures wrote { OnOk result (AddsMore self.old self.new (record { terms = []; postings = []; positions = [] })) }
-        ensures write { IsErrOf result Fault.Write ↔ (failed_calls self.old < failed_calls self.new) }
-        ensures by_one { IsErrOf result Fault.Write → failed_calls self.new ≡ failed_calls self.old + 1 }
-        ensures kept { NoneFalls self.old self.new }
-        ensures grow { AllGrow self.old self.new }
-        ensures full { IsErrOf result (Fault.Limit LimitName.Offset) → OneIsFull self.old (record { terms = []; postings = []; positions = [] }) }
         ensures unclosed { AreUnclosed self.old → AreUnclosed self.new }
         ensures begun { AreBegun self.new }
+
+        // How it ends for the writers: a failed call is counted once, and each keeps what it had.
+        ensures failures { CountsFailures self.old self.new result }
+        ensures grow { AllGrow self.old self.new }
+
+        // When it is refused, and by which fault.
+        ensures full { IsErrOf result (Fault.Limit LimitName.Offset) → OneIsFull self.old (record { terms = []; postings = []; positions = [] }) }
         ensures only { IfErr result (λ e. (e ≡ Fault.Write) ⊎ (e ≡ Fault.Limit LimitName.Offset)) }
     {
         self.terms.writer().flush()?;
@@ -170,10 +178,14 @@ impl<W: Write> IndexBodies<W> {
         ensures terms { (initial : CountingWriterState) (bodies : List Body) → HasBodies initial self.terms bodies → fit_fields bodies ≡ true → OnOk result.3 (WroteComposite initial result.0 bodies) }
         ensures postings { (initial : CountingWriterState) (bodies : List Body) → HasBodies initial self.postings bodies → fit_fields bodies ≡ true → OnOk result.3 (WroteComposite initial result.1 bodies) }
         ensures positions { (initial : CountingWriterState) (bodies : List Body) → HasBodies initial self.positions bodies → fit_fields bodies ≡ true → OnOk result.3 (WroteComposite initial result.2 bodies) }
+
+        // How it ends for the writers: a failed call is counted once, and each keeps what it had.
         ensures write { IsErrOf result.3 Fault.Write ↔ (failed_calls self < result.0.failed_calls + result.1.failed_calls + result.2.failed_calls) }
         ensures by_one { IsErrOf result.3 Fault.Write → result.0.failed_calls + result.1.failed_calls + result.2.failed_calls ≡ failed_calls self + 1 }
         ensures kept { (self.terms.writer.failed_calls ≤ result.0.failed_calls) × (self.postings.writer.failed_calls ≤ result.1.failed_calls) × (self.positions.writer.failed_calls ≤ result.2.failed_calls) }
         ensures grow { Grows self.terms.writer result.0 × Grows self.postings.writer result.1 × Grows self.positions.writer result.2 }
+
+        // When it is refused, and by which fault.
         ensures full { IsErrOf result.3 (Fault.Limit LimitName.Offset) → OneIsFull self (tables_of self) }
         ensures only { IfErr result.3 (λ e. (e ≡ Fault.Write) ⊎ (e ≡ Fault.Limit LimitName.Offset)) }
     {
@@ -214,6 +226,8 @@ fn begin_body<W: Write>(composite: &mut CompositeWrite<W>, field: Field) -> Resu
     ensures unclosed { OnOk result (composite.new.closed ≡ false) }
     ensures begun { OnOk result (0 < length composite.new.starts) }
     ensures writer { composite.new.writer ≡ composite.old.writer }
+
+    // When it is refused, and by which fault.
     ensures only { OnlyMemory result }
 {
     composite.for_field(field)?;

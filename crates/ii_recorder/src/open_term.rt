@@ -93,6 +93,8 @@ impl OpenTerm {
         }) }
         ensures err { OnErr result (IsTrue self.new.closed) }
         ensures mode { self.new.mode ≡ self.old.mode }
+
+        // When it is refused, and by which fault.
         ensures limit { IsErrOf result (Fault.Limit LimitName.BlockFrequencySum) ↔ IsSumTooLarge self.old.skip_info (self.old.freqs ++ term_freq ∷ []) }
         ensures only { IfErr result (λ e. (e ≡ Fault.OutOfMemory) ⊎ (e ≡ Fault.Limit LimitName.BlockFrequencySum)) }
     {
@@ -116,10 +118,14 @@ impl OpenTerm {
         ensures rest { OnOk result (self.new ≡ record self.old { docs = []; freqs = [] }) }
         ensures short { OnOk result (length (written_postings self.old.skip_info self.old.docs self.old.freqs) < 2 ^ 32) }
         ensures mode { self.new.mode ≡ self.old.mode }
+
+        // How it ends for the writers: a failed call is counted once, and each keeps what it had.
         ensures write { IsErrOf result Fault.Write ↔ (writer.old.failed_calls < writer.new.failed_calls) }
         ensures by_one { IsErrOf result Fault.Write → writer.new.failed_calls ≡ writer.old.failed_calls + 1 }
         ensures kept { writer.old.failed_calls ≤ writer.new.failed_calls }
         ensures grows { Grows writer.old writer.new }
+
+        // When it is refused, and by which fault.
         ensures full { IsErrOf result (Fault.Limit LimitName.Offset) → IsFull writer.old (length (written_postings self.old.skip_info self.old.docs self.old.freqs)) }
         ensures long { IsErrOf result (Fault.Limit LimitName.TermBytes) → 2 ^ 32 ≤ length (written_postings self.old.skip_info self.old.docs self.old.freqs) }
         ensures only { IfErr result (λ e. (e ≡ Fault.Write) ⊎ (e ≡ Fault.Limit LimitName.Offset) ⊎ (e ≡ Fault.Limit LimitName.TermBytes)) }
@@ -144,10 +150,14 @@ impl OpenTerm {
         ensures rest { OnOk result (self.new ≡ record self.old { deltas = if has_positions self.old.mode then [] else self.old.deltas }) }
         ensures short { OnOk result (length (positions_bytes self.old.mode self.old.deltas) < 2 ^ 32) }
         ensures mode { self.new.mode ≡ self.old.mode }
+
+        // How it ends for the writers: a failed call is counted once, and each keeps what it had.
         ensures write { IsErrOf result Fault.Write ↔ (writer.old.failed_calls < writer.new.failed_calls) }
         ensures by_one { IsErrOf result Fault.Write → writer.new.failed_calls ≡ writer.old.failed_calls + 1 }
         ensures kept { writer.old.failed_calls ≤ writer.new.failed_calls }
         ensures grows { Grows writer.old writer.new }
+
+        // When it is refused, and by which fault.
         ensures full { IsErrOf result (Fault.Limit LimitName.Offset) → IsTrue (has_positions self.old.mode) × IsFull writer.old (length (positions_bytes self.old.mode self.old.deltas)) }
         ensures long { IsErrOf result (Fault.Limit LimitName.TermBytes) → 2 ^ 32 ≤ length (positions_bytes self.old.mode self.old.deltas) }
         ensures only { IfErr result (λ e. (e ≡ Fault.Write) ⊎ (e ≡ Fault.Limit LimitName.Offset) ⊎ (e ≡ Fault.Limit LimitName.TermBytes)) }

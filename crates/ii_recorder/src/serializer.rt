@@ -10,7 +10,7 @@ ghost use Rattle.ii_termdict.specs.ReadBack.{AreAscending};
 ghost use Rattle.ii_recorder.specs.Terms.{WrittenTerm, field_bodies};
 ghost use Rattle.ii_recorder.specs.HeldTerms.{HoldsTerms};
 ghost use Rattle.ii_recorder.specs.FieldTerms.{IsWithinLimits, closing_bytes, dictionary_of, term_under};
-ghost use Rattle.ii_recorder.specs.IndexBodies.{IndexBodiesState, AddsBodies, AllGrow, AreBegun, OneIsFull, LacksField, NoneFalls, failed_calls, tables_of};
+ghost use Rattle.ii_recorder.specs.IndexBodies.{IndexBodiesState, AddsBodies, AllGrow, AreBegun, OneIsFull, LacksField, NoneFalls, failed_calls, tables_of, CountsFailures};
 ghost use Rattle.ii_recorder.specs.IndexSerializer.{IsFieldFault, IsTermFault, IsWriting};
 
 use super::field_terms::FieldTerms;
@@ -91,10 +91,14 @@ impl<W: Write> InvertedIndexSerializer<W> {
         ensures terms { (initial : CountingWriterState) (bodies : List Body) → HasBodies initial self.bodies.terms bodies → fit_fields bodies ≡ true → OnOk result.3 (WroteComposite initial result.0 bodies) }
         ensures postings { (initial : CountingWriterState) (bodies : List Body) → HasBodies initial self.bodies.postings bodies → fit_fields bodies ≡ true → OnOk result.3 (WroteComposite initial result.1 bodies) }
         ensures positions { (initial : CountingWriterState) (bodies : List Body) → HasBodies initial self.bodies.positions bodies → fit_fields bodies ≡ true → OnOk result.3 (WroteComposite initial result.2 bodies) }
+
+        // How it ends for the writers: a failed call is counted once, and each keeps what it had.
         ensures write { IsErrOf result.3 Fault.Write ↔ (failed_calls self.bodies < result.0.failed_calls + result.1.failed_calls + result.2.failed_calls) }
         ensures by_one { IsErrOf result.3 Fault.Write → result.0.failed_calls + result.1.failed_calls + result.2.failed_calls ≡ failed_calls self.bodies + 1 }
         ensures kept { (self.bodies.terms.writer.failed_calls ≤ result.0.failed_calls) × (self.bodies.postings.writer.failed_calls ≤ result.1.failed_calls) × (self.bodies.positions.writer.failed_calls ≤ result.2.failed_calls) }
         ensures grow { Grows self.bodies.terms.writer result.0 × Grows self.bodies.postings.writer result.1 × Grows self.bodies.positions.writer result.2 }
+
+        // When it is refused, and by which fault.
         ensures full { IsErrOf result.3 (Fault.Limit LimitName.Offset) → OneIsFull self.bodies (tables_of self.bodies) }
         ensures refused { IsTrue self.closed → (result.0 ≡ self.bodies.terms.writer) × (result.1 ≡ self.bodies.postings.writer) × (result.2 ≡ self.bodies.positions.writer) }
         ensures closed { IsErrOf result.3 Fault.SerializerClosed ↔ IsTrue self.closed }
@@ -143,11 +147,13 @@ impl<W: Write> InvertedIndexSerializer<W> {
         ensures entries { self.new.entries ≡ self.old.entries }
         ensures closes { OnOk result (self.new.closed ≡ false) }
         ensures err { OnErr result (IsTrue self.new.closed) }
-        ensures full { IsErrOf result (Fault.Limit LimitName.Offset) → IsFull self.old.bodies.postings.writer 8 }
-        ensures write { IsErrOf result Fault.Write ↔ (failed_calls self.old.bodies < failed_calls self.new.bodies) }
-        ensures by_one { IsErrOf result Fault.Write → failed_calls self.new.bodies ≡ failed_calls self.old.bodies + 1 }
-        ensures kept { NoneFalls self.old.bodies self.new.bodies }
+
+        // How it ends for the writers: a failed call is counted once, and each keeps what it had.
+        ensures failures { CountsFailures self.old.bodies self.new.bodies result }
         ensures grow { AllGrow self.old.bodies self.new.bodies }
+
+        // When it is refused, and by which fault.
+        ensures full { IsErrOf result (Fault.Limit LimitName.Offset) → IsFull self.old.bodies.postings.writer 8 }
         ensures refused { IsTrue self.old.closed → self.new ≡ self.old }
         ensures closed { IsErrOf result Fault.SerializerClosed ↔ IsTrue self.old.closed }
         ensures only { IfErr result (λ e. (e ≡ Fault.OutOfMemory) ⊎ (e ≡ Fault.Write) ⊎ (e ≡ Fault.Limit LimitName.Offset) ⊎ (e ≡ Fault.SerializerClosed)) }
@@ -178,8 +184,10 @@ impl<W: Write> InvertedIndexSerializer<W> {
         ensures inside { OnOk result (self.new.field.term_open ≡ true) }
         ensures entries { self.new.entries ≡ self.old.entries }
         ensures bodies { self.new.bodies ≡ self.old.bodies }
-        ensures refused { IsTrue self.old.closed → self.new ≡ self.old }
         ensures closes { Closes result self.new.closed }
+
+        // When it is refused, and by which fault.
+        ensures refused { IsTrue self.old.closed → self.new ≡ self.old }
         ensures closed { IsErrOf result Fault.SerializerClosed ↔ IsTrue self.old.closed }
         ensures only { IfErr result (λ e. (e ≡ Fault.OutOfMemory) ⊎ (e ≡ Fault.SerializerClosed)) }
     {
@@ -212,8 +220,10 @@ impl<W: Write> InvertedIndexSerializer<W> {
         }) }
         ensures entries { self.new.entries ≡ self.old.entries }
         ensures bodies { self.new.bodies ≡ self.old.bodies }
-        ensures refused { IsTrue self.old.closed → self.new ≡ self.old }
         ensures closes { Closes result self.new.closed }
+
+        // When it is refused, and by which fault.
+        ensures refused { IsTrue self.old.closed → self.new ≡ self.old }
         ensures limit { IsErrOf result (Fault.Limit LimitName.BlockFrequencySum)
             ↔ (self.old.closed ≡ false) × IsSumTooLarge self.old.field.term.skip_info (self.old.field.term.freqs ++ term_freq ∷ []) }
         ensures closed { IsErrOf result Fault.SerializerClosed ↔ IsTrue self.old.closed }
@@ -258,10 +268,12 @@ impl<W: Write> InvertedIndexSerializer<W> {
         ensures failed { OnOk result (failed_calls self.new.bodies ≡ failed_calls self.old.bodies) }
         ensures entries { self.new.entries ≡ self.old.entries }
         ensures closes { Closes result self.new.closed }
-        ensures write { IsErrOf result Fault.Write ↔ (failed_calls self.old.bodies < failed_calls self.new.bodies) }
-        ensures by_one { IsErrOf result Fault.Write → failed_calls self.new.bodies ≡ failed_calls self.old.bodies + 1 }
-        ensures kept { NoneFalls self.old.bodies self.new.bodies }
+
+        // How it ends for the writers: a failed call is counted once, and each keeps what it had.
+        ensures failures { CountsFailures self.old.bodies self.new.bodies result }
         ensures grow { AllGrow self.old.bodies self.new.bodies }
+
+        // When it is refused, and by which fault.
         ensures refused { IsTrue self.old.closed → self.new ≡ self.old }
         ensures limits { IsTrue self.old.field.term_open → OnOk result (IsWithinLimits self.old.field) }
         ensures fault { IfErr result (λ e. (e ≡ Fault.SerializerClosed) ⊎ IsTermFault self.old e) }
@@ -287,10 +299,12 @@ impl<W: Write> InvertedIndexSerializer<W> {
         ensures entries { self.new.entries ≡ self.old.entries }
         ensures begun { self.old.closed ≡ false → AreBegun self.new.bodies }
         ensures closes { Closes result self.new.closed }
-        ensures write { IsErrOf result Fault.Write ↔ (failed_calls self.old.bodies < failed_calls self.new.bodies) }
-        ensures by_one { IsErrOf result Fault.Write → failed_calls self.new.bodies ≡ failed_calls self.old.bodies + 1 }
-        ensures kept { NoneFalls self.old.bodies self.new.bodies }
+
+        // How it ends for the writers: a failed call is counted once, and each keeps what it had.
+        ensures failures { CountsFailures self.old.bodies self.new.bodies result }
         ensures grow { AllGrow self.old.bodies self.new.bodies }
+
+        // When it is refused, and by which fault.
         ensures refused { IsTrue self.old.closed → self.new ≡ self.old }
         ensures fault { IfErr result (λ e. (e ≡ Fault.SerializerClosed) ⊎ (e ≡ Fault.Write) ⊎ ((e ≡ Fault.Limit LimitName.Offset) × OneIsFull self.old.bodies (dictionary_of self.old.field))) }
         ensures closed { IsErrOf result Fault.SerializerClosed ↔ IsTrue self.old.closed }
@@ -321,10 +335,12 @@ impl<W: Write> InvertedIndexSerializer<W> {
         ensures entries { self.new.entries ≡ self.old.entries }
         ensures begun { self.new.closed ≡ false → AreBegun self.new.bodies }
         ensures closes { Closes result self.new.closed }
-        ensures write { IsErrOf result Fault.Write ↔ (failed_calls self.old.bodies < failed_calls self.new.bodies) }
-        ensures by_one { IsErrOf result Fault.Write → failed_calls self.new.bodies ≡ failed_calls self.old.bodies + 1 }
-        ensures kept { NoneFalls self.old.bodies self.new.bodies }
+
+        // How it ends for the writers: a failed call is counted once, and each keeps what it had.
+        ensures failures { CountsFailures self.old.bodies self.new.bodies result }
         ensures grow { AllGrow self.old.bodies self.new.bodies }
+
+        // When it is refused, and by which fault.
         ensures refused { IsTrue self.old.closed → self.new ≡ self.old }
         ensures limits { IsTrue self.old.field.term_open → OnOk result (IsWithinLimits self.old.field) }
         ensures fault { IfErr result (λ e. (e ≡ Fault.SerializerClosed) ⊎ IsFieldFault self.old e) }
