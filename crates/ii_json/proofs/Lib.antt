@@ -1,5 +1,6 @@
 mod CleanPaths
 mod DottedLemmas
+pub mod KeyOrder
 mod KnownPaths
 pub mod LeafVisitLemmas
 mod NumberLeaves
