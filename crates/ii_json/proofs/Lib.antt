@@ -6,4 +6,5 @@ pub mod LeafVisitLemmas
 mod NumberLeaves
 mod ParseLemmas
 mod RankLemmas
+pub mod TermLemmas
 mod WorkedRows
