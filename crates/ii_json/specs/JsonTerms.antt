@@ -16,5 +16,5 @@ abbrev pub written_path : List ℕ → List ℕ
 written_path path = map written_byte path ++ end_of_path ∷ []
 
 -- a term as it stands there: a path and its end, the letter of a type, and the bytes of a value
-abbrev pub written_term : List ℕ → ValueType → List ℕ → List ℕ
-written_term path t payload = written_path path ++ code_of t ∷ payload
+abbrev pub written_json_term : List ℕ → ValueType → List ℕ → List ℕ
+written_json_term path t payload = written_path path ++ code_of t ∷ payload

@@ -1,7 +1,7 @@
 ghost use Rattle.std.specs.Prelude.{◌≡◌, ◌++◌, [], length, take, IfOk, OnErr, OnOk};
 ghost use Rattle.std.specs.Borrow.{sem};
 ghost use Rattle.ii_io.specs.Faults.{OnlyMemory};
-ghost use Rattle.ii_json.specs.JsonTerms.{written_byte, written_path, written_term};
+ghost use Rattle.ii_json.specs.JsonTerms.{written_byte, written_path, written_json_term};
 ghost use Rattle.ii_json.specs.Lending.{RestsWith};
 
 use ii_base::{Fault, ValueType};
@@ -61,7 +61,7 @@ impl JsonTermSerializer {
         value_type: ValueType,
         payload: &[u8],
     ) -> Result<(), Fault>
-        ensures ok { OnOk result (self.new ≡ self.old ++ written_term path.now value_type payload.now) }
+        ensures ok { OnOk result (self.new ≡ self.old ++ written_json_term path.now value_type payload.now) }
         ensures err { OnErr result (self.new ≡ self.old) }
         ensures only { OnlyMemory result }
     {
@@ -135,7 +135,7 @@ fn push_term(
     value_type: ValueType,
     payload: &[u8],
 ) -> Result<(), Fault>
-    ensures ok { OnOk result (bytes.new.items ≡ bytes.old.items ++ written_term path.now value_type payload.now) }
+    ensures ok { OnOk result (bytes.new.items ≡ bytes.old.items ++ written_json_term path.now value_type payload.now) }
     ensures err { OnErr result (take (length bytes.old.items) bytes.new.items ≡ bytes.old.items) }
     ensures only { OnlyMemory result }
 {
