@@ -248,7 +248,7 @@ impl IndexedFields {
             → IsRefusedBy (piece_fault (option_of entries field) ps (text_at doc field (json_key path.now (text_key [])) (S.to_come tokens.old))) result }
     {
         let prefix = text_prefix(alloc, path)?;
-        self.index_words_under(alloc, doc, field, &prefix, tokens)
+        self.index_words_under(alloc, doc, field, prefix.as_bytes(), tokens)
     }
 
     // Indexes a number at a path of a JSON field, which holds no byte 0.
@@ -275,7 +275,7 @@ impl IndexedFields {
             → IsRefusedBy (piece_fault (option_of entries field) ps (value_at doc field (json_key path.now (typed_key value_type number)))) result }
     {
         let key = value_key(alloc, path, value_type, number)?;
-        self.index_value(doc, field, &key)
+        self.index_value(doc, field, key.as_bytes())
     }
 
     // Indexes a value that isn't text.

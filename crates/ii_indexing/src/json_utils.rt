@@ -2,6 +2,7 @@ ghost use Rattle.std.specs.Prelude.{◌≡◌, ◌<◌, ◌++◌, ◌∷◌, [],
 ghost use Rattle.std.specs.List.{flat_map};
 ghost use Rattle.ii_io.specs.Faults.{OnlyMemory};
 ghost use Rattle.ii_base.specs.Json.{json_leaves, json_of};
+ghost use Rattle.ii_base.specs.Paths.{has_zero};
 ghost use Rattle.ii_base.specs.Schema.{SchemaEntry};
 ghost use Rattle.ii_base.specs.Values.{json_key, text_key, typed_key};
 ghost use Rattle.ii_base.specs.declared.schema.value_type.ValueType.TheVariants.{Json};
@@ -17,20 +18,17 @@ ghost use Rattle.ii_indexing.specs.Refusals.{next_leaf_fault};
 use crate::indexed_fields::IndexedFields;
 use ii_base::{Fault, Field, JsonLeaf, JsonPathWriter, JsonValue, TextAnalyzer, ValueType};
 use ii_docset::DocId;
-use ii_json::{LeafSink, visit_leaves};
+use ii_json::{JsonTermSerializer, LeafSink, visit_leaves};
 use std::alloc::Global;
 
-// What ends a path in a key.
-const JSON_END_OF_PATH: u8 = 0;
-
 // The first bytes of the keys of a text's words at a path: the path, byte 0, and the letter of texts.
-pub(crate) fn text_prefix(alloc: Global, path: &str) -> Result<Vec<u8>, Fault>
-    ensures ok { IfOk result (λ prefix. prefix.items ≡ json_key path.now (text_key [])) }
+pub(crate) fn text_prefix(alloc: Global, path: &str) -> Result<JsonTermSerializer, Fault>
+    requires path { has_zero path.now ≡ false }
+    ensures ok { IfOk result (λ prefix. prefix ≡ json_key path.now (text_key [])) }
     ensures only { OnlyMemory result }
 {
-    let mut prefix = Vec::from_slice(alloc, path.as_bytes())?;
-    prefix.push(JSON_END_OF_PATH)?;
-    prefix.push(ValueType::Str.to_code())?;
+    let mut prefix = JsonTermSerializer::new(alloc);
+    prefix.append_term(path, ValueType::Str, &[])?;
     Ok(prefix)
 }
 
@@ -41,14 +39,13 @@ pub(crate) fn value_key(
     path: &str,
     value_type: ValueType,
     number: u64,
-) -> Result<Vec<u8>, Fault>
-    ensures ok { IfOk result (λ key. key.items ≡ json_key path.now (typed_key value_type number)) }
+) -> Result<JsonTermSerializer, Fault>
+    requires path { has_zero path.now ≡ false }
+    ensures ok { IfOk result (λ key. key ≡ json_key path.now (typed_key value_type number)) }
     ensures only { OnlyMemory result }
 {
-    let mut key = Vec::from_slice(alloc, path.as_bytes())?;
-    key.push(JSON_END_OF_PATH)?;
-    key.push(value_type.to_code())?;
-    key.extend_from_slice(&number.to_be_bytes())?;
+    let mut key = JsonTermSerializer::new(alloc);
+    key.append_term(path, value_type, &number.to_be_bytes())?;
     Ok(key)
 }
 

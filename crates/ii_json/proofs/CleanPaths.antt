@@ -7,11 +7,11 @@ use Rattle.ii_base.specs.Paths.{PathState, has_zero, joined_segments, segment_by
 neither : (a b : Bool) → a ≡ false → b ≡ false → (a || b) ≡ false
 neither a b none nor = rw (none, nor) refl
 
-or_left : (a b : Bool) → (a || b) ≡ false → a ≡ false
+pub or_left : (a b : Bool) → (a || b) ≡ false → a ≡ false
 or_left false b none = refl
 or_left true b none = absurd (cc)
 
-or_right : (a b : Bool) → (a || b) ≡ false → b ≡ false
+pub or_right : (a b : Bool) → (a || b) ≡ false → b ≡ false
 or_right false b none = none
 or_right true b none = absurd (cc)
 

@@ -1,8 +1,10 @@
 mod CleanPaths
 mod DottedLemmas
+pub mod KeyOrder
 mod KnownPaths
 pub mod LeafVisitLemmas
 mod NumberLeaves
 mod ParseLemmas
 mod RankLemmas
+pub mod TermLemmas
 mod WorkedRows

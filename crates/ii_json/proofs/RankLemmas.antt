@@ -20,7 +20,7 @@ use Rattle.std.proofs.Math.Seq.{take-suc}
 use Rattle.ii_json.specs.PathRank.{AreAscendingPaths, StandAtRanks, is_smaller, path_rank, path_ranks}
 use Rattle.ii_json.specs.Paths.{AreDistinct}
 
-count_more : {X : Type 0} (p : X → Bool) (x : X) (xs : List X) → count_by p (x ∷ xs) ≡ cond (p x) 1 0 + count_by p xs
+pub count_more : {X : Type 0} (p : X → Bool) (x : X) (xs : List X) → count_by p (x ∷ xs) ≡ cond (p x) 1 0 + count_by p xs
 count_more p x xs = sum_by-cons (λ (y : _). cond (p y) 1 0) x xs
 
 abbrev order : List ℕ → List ℕ → Ordering
@@ -77,7 +77,7 @@ not_less Less e = absurd (cc)
 not_less Equal e = refl
 not_less Greater e = refl
 
-not_below_itself : (path : List ℕ) → is_smaller path path ≡ false
+pub not_below_itself : (path : List ℕ) → is_smaller path path ≡ false
 not_below_itself path = not_less (order path path) (nat_list_cmp_total.antisymm path path)
 
 turned : (path other : List ℕ) → order path other ≡ Less → is_smaller other path ≡ false
@@ -86,7 +86,7 @@ turned path other less = rw (nat_list_cmp_total.antisymm other path, less) refl
 smaller : (path other : List ℕ) → order path other ≡ Less → is_smaller path other ≡ true
 smaller path other less = rw less refl
 
-less_from : (o : Ordering) → is_lt o ≡ true → o ≡ Less
+pub less_from : (o : Ordering) → is_lt o ≡ true → o ≡ Less
 less_from Less is = refl
 less_from Equal is = absurd (cc)
 less_from Greater is = absurd (cc)
@@ -125,7 +125,7 @@ module _ (paths : List (List ℕ)) (sorted : AreAscendingPaths paths) (path : Li
   stands : get_or paths (path_rank paths path) path ≡ path
   stands = ap (λ (i : ℕ). get_or paths i path) rank_is ∙ among.2
 
-other_default : {X : Type 0} (xs : List X) (i : ℕ) (d e : X) → i < length xs → get_or xs i d ≡ get_or xs i e
+pub other_default : {X : Type 0} (xs : List X) (i : ℕ) (d e : X) → i < length xs → get_or xs i d ≡ get_or xs i e
 other_default [] i d e within = absurd (omega (arith, within))
 other_default (x ∷ xs) zero d e within = refl
 other_default (x ∷ xs) (suc i) d e within = other_default xs i d e (omega (arith, within))

@@ -1,10 +1,12 @@
 -- Worked rows, each computed.
-use Rattle.std.specs.Prelude.{◌≡◌, ℕ, List, [], ◌∷◌, ◌++◌, codes, replicate, fold, None, Some, refl}
+use Rattle.std.specs.Prelude.{◌≡◌, ℕ, List, [], ◌∷◌, ◌++◌, codes, map, replicate, fold, None, Some, refl}
 use Rattle.ii_json.specs.DottedPaths.{with_dots}
 use Rattle.ii_json.specs.FastValues.{fast_value_in}
 use Rattle.ii_json.specs.JsonTerms.{written_path}
 use Rattle.ii_json.specs.PathRank.{path_rank, path_ranks}
+use Rattle.ii_json.specs.PathTerms.{PathTerm, key_of_term, term_cmp}
 use Rattle.ii_json.specs.Paths.{path_id, with_path}
+use Rattle.std.proofs.Common.{Less}
 
 abbrev a : List ℕ
 a = codes "a"
@@ -77,3 +79,27 @@ text_of_a_sign = refl
 
 pub text_of_nothing : fast_value_in [] ≡ None
 text_of_nothing = refl
+
+-- the terms of {"a": {"b": 1}, "a": 2}: the number 1 at the path a, b with the id 0, and 2 at the path a with the id 1
+abbrev paths_of_value : List (List ℕ)
+paths_of_value = (0x61 ∷ 0x01 ∷ 0x62 ∷ []) ∷ a ∷ []
+
+abbrev one_below : PathTerm
+one_below = record { path_id = 0; code = 0x69; payload = 0x80 ∷ 0x00 ∷ 0x00 ∷ 0x00 ∷ 0x00 ∷ 0x00 ∷ 0x00 ∷ 0x01 ∷ [] }
+
+abbrev two : PathTerm
+two = record { path_id = 1; code = 0x69; payload = 0x80 ∷ 0x00 ∷ 0x00 ∷ 0x00 ∷ 0x00 ∷ 0x00 ∷ 0x00 ∷ 0x02 ∷ [] }
+
+pub ids_of_value : map (path_id paths_of_value) paths_of_value ≡ 0 ∷ 1 ∷ []
+ids_of_value = refl
+
+pub ranks_of_value : path_ranks paths_of_value ≡ 1 ∷ 0 ∷ []
+ranks_of_value = refl
+
+pub later_id_comes_first : term_cmp paths_of_value two one_below ≡ Less
+later_id_comes_first = refl
+
+pub keys_of_value : map (key_of_term paths_of_value) (two ∷ one_below ∷ [])
+    ≡ (0x61 ∷ 0x00 ∷ 0x69 ∷ 0x80 ∷ 0x00 ∷ 0x00 ∷ 0x00 ∷ 0x00 ∷ 0x00 ∷ 0x00 ∷ 0x02 ∷ [])
+    ∷ (0x61 ∷ 0x01 ∷ 0x62 ∷ 0x00 ∷ 0x69 ∷ 0x80 ∷ 0x00 ∷ 0x00 ∷ 0x00 ∷ 0x00 ∷ 0x00 ∷ 0x00 ∷ 0x01 ∷ []) ∷ []
+keys_of_value = refl

@@ -4,4 +4,5 @@ pub mod JsonTerms
 pub mod LeafVisit
 pub mod Lending
 pub mod PathRank
+pub mod PathTerms
 pub mod Paths

@@ -1,10 +1,10 @@
 ghost use Rattle.std.specs.Prelude.{◌≡◌, ◌++◌, [], length, take, IfOk, OnErr, OnOk};
 ghost use Rattle.std.specs.Borrow.{sem};
 ghost use Rattle.ii_io.specs.Faults.{OnlyMemory};
-ghost use Rattle.ii_json.specs.JsonTerms.{written_byte, written_path};
+ghost use Rattle.ii_json.specs.JsonTerms.{written_byte, written_path, written_json_term};
 ghost use Rattle.ii_json.specs.Lending.{RestsWith};
 
-use ii_base::Fault;
+use ii_base::{Fault, ValueType};
 use std::alloc::Global;
 use std::marker::Model;
 
@@ -47,6 +47,26 @@ impl JsonTermSerializer {
     {
         let len = self.bytes.len();
         if let Err(refused) = push_path(&mut self.bytes, path.as_bytes()) {
+            self.bytes.truncate(len);
+            return Err(refused);
+        }
+        Ok(())
+    }
+
+    /// Adds a whole term: a path, each byte 00 in it as `30`, byte 00, the letter of a type, and the bytes of
+    /// a value. `OutOfMemory` where there is no room for them: the bytes then stay.
+    pub fn append_term(
+        &mut self,
+        path: &str,
+        value_type: ValueType,
+        payload: &[u8],
+    ) -> Result<(), Fault>
+        ensures ok { OnOk result (self.new ≡ self.old ++ written_json_term path.now value_type payload.now) }
+        ensures err { OnErr result (self.new ≡ self.old) }
+        ensures only { OnlyMemory result }
+    {
+        let len = self.bytes.len();
+        if let Err(refused) = push_term(&mut self.bytes, path.as_bytes(), value_type, payload) {
             self.bytes.truncate(len);
             return Err(refused);
         }
@@ -104,6 +124,24 @@ fn push_path(bytes: &mut Vec<u8>, path: &[u8]) -> Result<(), Fault>
         bytes.push(written_byte(*byte))?;
     }
     bytes.push(END_OF_PATH)?;
+    Ok(())
+}
+
+// Pushes a term: a path and its end, the letter of a type, and the bytes of a value. What stood before
+// stays.
+fn push_term(
+    bytes: &mut Vec<u8>,
+    path: &[u8],
+    value_type: ValueType,
+    payload: &[u8],
+) -> Result<(), Fault>
+    ensures ok { OnOk result (bytes.new.items ≡ bytes.old.items ++ written_json_term path.now value_type payload.now) }
+    ensures err { OnErr result (take (length bytes.old.items) bytes.new.items ≡ bytes.old.items) }
+    ensures only { OnlyMemory result }
+{
+    push_path(bytes, path)?;
+    bytes.push(value_type.to_code())?;
+    bytes.extend_from_slice(payload)?;
     Ok(())
 }
 

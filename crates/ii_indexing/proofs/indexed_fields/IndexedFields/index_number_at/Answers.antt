@@ -7,12 +7,12 @@ use Rattle.ii_indexing.proofs.indexed_fields.IndexedFields.index_number_at.Goals
 
 pub returns-clause-stored : goal.returns-clause-stored
 returns-clause-stored c =
-    let key = c.deref.ensures.value ∙ c.in_ok-key.ensures.ok in
+    let key = c.as_bytes.ensures ∙ c.in_ok-key.ensures.ok in
     let told = subst (λ (l : List ℕ). OnOk c.index_value.result (ValueStored c.args.self.now c.index_value.new.self c.args.doc c.args.field l)) key c.index_value.ensures.stored in
     on_ok c.index_value.result _ _ (λ h entries ps takes stored. h entries ps (takes_number_at entries c.args.field takes c.args.path.now c.args.value_type c.args.number c.requires.path c.requires.number) stored) told
 
 pub returns-clause-refused : goal.returns-clause-refused
 returns-clause-refused c entries ps takes stored =
-    let key = c.deref.ensures.value ∙ c.in_ok-key.ensures.ok in
+    let key = c.as_bytes.ensures ∙ c.in_ok-key.ensures.ok in
     let told = subst (λ (l : List ℕ). ValueRefused c.args.self.now c.index_value.result c.args.doc c.args.field l) key c.index_value.ensures.refused in
     told entries ps (takes_number_at entries c.args.field takes c.args.path.now c.args.value_type c.args.number c.requires.path c.requires.number) stored
