@@ -1,4 +1,4 @@
-use ii_base::{Fault, Field, Term};
+use ii_base::{Fault, Field, Term, ValueType};
 use ii_json::{
     JsonTermSerializer, OrderedPathId, PathToUnorderedId,
     convert_to_fast_value_and_append_to_json_term, json_path_sep_to_dot,
@@ -87,6 +87,25 @@ fn term_of_red(alloc: Global) -> Result<JsonTermSerializer, Fault> {
 fn terms_have_paths_and_values(rt: HostRuntime) -> Result<(), Fail> {
     let term = term_of_red(rt.alloc())?;
     assert!(rt; term.as_bytes() == b"a0b\x00sred".as_slice());
+    Ok(())
+}
+
+// The number 2 as the value of a term, and its term at the path a.
+static TWO: [u8; 8] = [0x80, 0, 0, 0, 0, 0, 0, 2];
+
+static TERM_OF_TWO: [u8; 11] = [0x61, 0, 0x69, 0x80, 0, 0, 0, 0, 0, 0, 2];
+
+// That term, added whole.
+fn term_of_two(alloc: Global) -> Result<JsonTermSerializer, Fault> {
+    let mut term = JsonTermSerializer::new(alloc);
+    term.append_term("a", ValueType::I64, TWO.as_slice())?;
+    Ok(term)
+}
+
+#[test]
+fn terms_are_added_whole(rt: HostRuntime) -> Result<(), Fail> {
+    let term = term_of_two(rt.alloc())?;
+    assert!(rt; term.as_bytes() == TERM_OF_TWO.as_slice());
     Ok(())
 }
 
