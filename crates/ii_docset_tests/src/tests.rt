@@ -2,6 +2,7 @@ ghost use Rattle.std.specs.Prelude.{◌≡◌, ◌≤◌, ◌∷◌, [], length,
 ghost use Rattle.ii_docset.specs.Calls.{IsLawful};
 ghost use Rattle.ii_docset.specs.Cursor.{doc_at, from_doc, IsDangerAnswer, IsSound, IsTarget};
 
+mod combined;
 mod list_postings;
 
 use ii_base::AliveBitSet;

@@ -26,6 +26,7 @@ pub use ii_docset::{
     COLLECT_BLOCK_BUFFER_LEN, CursorAnswer, CursorCall, DocId, DocSet, Lent, Postings,
     SeekDangerResult, TERMINATED, Walk, intersect, walk,
 };
+pub use ii_query::{Exclude, Intersection, Union};
 pub use ii_reader::{BlockSegmentPostings, FreqReadingOption, LoadedPostings, SegmentPostings};
 
 // the norms of documents

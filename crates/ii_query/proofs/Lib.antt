@@ -1,0 +1,2 @@
+pub mod PickedLemmas
+pub mod UnionLemmas

@@ -1,0 +1,117 @@
+-- Documents that are picked of a list.
+use Rattle.std.proofs.Common.{◌≡◌, ◌≢◌, ℕ, ◌<◌, ◌≤◌, Bool, true, false, List, [], ◌∷◌, drop, lit<, inl, inr, refl, sym, ap, arith}
+use Rattle.std.proofs.lemmas.Bool.{eq-eqb, ne_eqb}
+use Rattle.std.proofs.lemmas.List.Elements.{All-map}
+use Rattle.std.proofs.lemmas.Bool.Decides.{leb_tells}
+use Rattle.std.specs.Prelude.{filter, map, not}
+use Rattle.std.specs.List.{All}
+use Rattle.ii_docset.specs.declared.docset.TheConstants.{TERMINATED}
+use Rattle.ii_docset.specs.Entries.{Entry, docs_of, document}
+use Rattle.ii_docset.specs.Cursor.{doc_at, FitsU32, IsAscending, IsSound, from_doc}
+use Rattle.ii_docset.specs.Intersection.{common_docs, has_doc}
+use Rattle.ii_docset.proofs.CursorLemmas.{from_doc_here}
+use Rattle.ii_docset.proofs.IntersectionLemmas.{Asked, bound_more, bound_target}
+use Rattle.ii_query.specs.Combined.{IsAtFirst, common, picked, without}
+
+-- they ascend, from the first document of the list on
+picked_ascends : (holds : ℕ → Bool) (es : List Entry) → IsAscending es → IsAscending (picked holds es) × (doc_at es ≤ doc_at (picked holds es))
+picked_ascends holds [] h = (tt, omega arith)
+picked_ascends holds (e ∷ es) h = by (picked_ascends holds es h.1) (holds e.doc) refl
+  where
+    by : IsAscending (picked holds es) × (doc_at es ≤ doc_at (picked holds es)) → (b : Bool) → holds e.doc ≡ b → IsAscending (picked holds (e ∷ es)) × (e.doc ≤ doc_at (picked holds (e ∷ es)))
+    by later true is = let low = h.0 in let up = later.1 in rw (is) ((omega (arith, low, up), later.0), omega arith)
+    by later false is = let low = h.0 in let up = later.1 in rw (is) (later.0, omega (arith, low, up))
+
+pub fit : (docs : List ℕ) → All FitsU32 (map document docs)
+fit docs = All-map FitsU32 document docs (λ k d within. (lit< tt, λ j p none. absurd (omega arith)))
+
+pub picked_sound : (holds : ℕ → Bool) (es : List Entry) → IsSound es → IsSound (picked holds es)
+picked_sound holds es sound = record { ascending = (picked_ascends holds es sound.ascending).0; fits = fit (filter holds (docs_of es)) }
+
+-- without the first document, which is picked
+pub picked_drop : (holds : ℕ → Bool) (es : List Entry) → IsAtFirst es (picked holds es) → picked holds (drop 1 es) ≡ drop 1 (picked holds es)
+picked_drop holds [] at = refl
+picked_drop holds (e ∷ es) at = by (holds e.doc) refl at.here
+  where
+    by : (b : Bool) → holds e.doc ≡ b → doc_at (picked holds (e ∷ es)) ≡ e.doc → picked holds es ≡ drop 1 (picked holds (e ∷ es))
+    by true is here = rw (is) refl
+    by false is here =
+        let low = at.sound.ascending.0 in
+        let up = (picked_ascends holds es at.sound.ascending.1).1 in
+        let same : doc_at (picked holds es) ≡ e.doc = rw is at here in
+        absurd (omega (arith, low, up, same))
+
+-- from a document on
+pub picked_from : (holds : ℕ → Bool) (target : ℕ) (es : List Entry) → picked holds (from_doc target es) ≡ from_doc target (picked holds es)
+picked_from holds target [] = refl
+picked_from holds target (e ∷ es) = by (picked_from holds target es) (holds e.doc) refl
+  where
+    by : picked holds (from_doc target es) ≡ from_doc target (picked holds es) → (b : Bool) → holds e.doc ≡ b → picked holds (from_doc target (e ∷ es)) ≡ from_doc target (picked holds (e ∷ es))
+    by later true is = elim (leb_tells target e.doc) [
+      | inl h ↦ rw (h.0, is, h.0, later) refl
+      | inr h ↦ rw (h.0, is, h.0, later) refl
+    ]
+    by later false is = elim (leb_tells target e.doc) [
+      | inl h ↦ rw (h.0, is, later) refl
+      | inr h ↦ rw (h.0, is, later) refl
+    ]
+
+-- the other list is dropped up to a document of both
+pub common_found : (es asked told : List Entry) (doc : ℕ) → Asked es asked told doc → doc_at told ≡ doc → common_docs es told ≡ common_docs es asked
+common_found es asked told doc h found =
+    let here = h.here in
+    bound_more [] (common_docs es asked) es es asked told doc doc h (sym found) (sym (from_doc_here doc es h.ascending (omega (arith, here)))) refl
+
+-- both lists begin with one document
+pub common_at : (es fs : List Entry) → doc_at es < TERMINATED → doc_at fs ≡ doc_at es → doc_at (common es fs) ≡ doc_at es
+common_at [] fs low same = refl
+common_at (e ∷ es) [] low same = absurd (omega (arith, low, same))
+common_at (e ∷ es) (f ∷ fs) low same = rw (eq-eqb f.doc e.doc same) refl
+
+-- what holds of all documents from a least one on is picked alike
+picked_alike : (holds alike : ℕ → Bool) (least : ℕ) (es : List Entry) → IsAscending es → least ≤ doc_at es → ((d : ℕ) → least ≤ d → holds d ≡ alike d) → filter holds (docs_of es) ≡ filter alike (docs_of es)
+picked_alike holds alike least [] ascend low same = refl
+picked_alike holds alike least (e ∷ es) ascend low same =
+    let next = ascend.0 in
+    rw (same e.doc low, picked_alike holds alike least es ascend.1 (omega (arith, low, next)) same) refl
+
+-- dropping documents below a target loses none from it on
+has_from : (target doc : ℕ) (fs : List Entry) → target ≤ doc → has_doc (from_doc target fs) doc ≡ has_doc fs doc
+has_from target doc [] up = refl
+has_from target doc (f ∷ fs) up =
+    let later = has_from target doc fs up in
+    elim (leb_tells target f.doc) [
+      | inl h ↦ rw (h.0, later) refl
+      | inr h ↦ rw (h.0, ne_eqb f.doc doc (λ same. omega (arith, h.1, same))) later
+    ]
+
+-- a document below the first isn't there
+has_below : (doc : ℕ) (fs : List Entry) → IsAscending fs → doc < doc_at fs → has_doc fs doc ≡ false
+has_below doc [] ascend low = refl
+has_below doc (f ∷ fs) ascend low =
+    let first = ascend.0 in
+    rw (ne_eqb f.doc doc (λ same. omega (arith, low, same))) (has_below doc fs ascend.1 (omega (arith, low, first)))
+
+-- the other list is dropped up to a document
+pub without_asked : (es asked told : List Entry) (doc : ℕ) → Asked es asked told doc → without es told ≡ without es asked
+without_asked es asked told doc h =
+    let here = h.here in
+    ap (λ (docs : List ℕ). map document docs) (picked_alike (λ (d : ℕ). not (has_doc told d)) (λ (d : ℕ). not (has_doc asked d)) doc es h.ascending (omega (arith, here)) (λ d low. rw (h.left, has_from doc d asked low) refl))
+
+-- the other list begins with the document: it isn't left
+pub without_found : (es fs : List Entry) → doc_at es < TERMINATED → doc_at fs ≡ doc_at es → without (drop 1 es) fs ≡ without es fs
+without_found [] fs low same = refl
+without_found (e ∷ es) [] low same = absurd (omega (arith, low, same))
+without_found (e ∷ es) (f ∷ fs) low same = rw (eq-eqb f.doc e.doc same) refl
+
+-- the other list begins above the document
+without_below : (es fs : List Entry) → IsAscending fs → doc_at es < doc_at fs → doc_at (without es fs) ≡ doc_at es
+without_below [] fs ascend low = refl
+without_below (e ∷ es) fs ascend low = rw (has_below e.doc fs ascend low) refl
+
+pub without_at : (es asked told : List Entry) (doc bound : ℕ) → Asked es asked told doc → bound ≡ doc_at told → doc_at told ≢ doc → doc_at (without es told) ≡ doc_at es
+without_at es asked told doc bound h first other =
+    let here = h.here in
+    let low = h.low in
+    let up = (bound_target es asked told doc bound h first).forward (omega (arith, here, low)) in
+    without_below es told h.other (omega (arith, here, up, first, other))

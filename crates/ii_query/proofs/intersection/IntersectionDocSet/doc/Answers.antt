@@ -1,0 +1,6 @@
+use Rattle.ii_docset.specs.Intersection.{has_doc}
+use Rattle.ii_query.proofs.PickedLemmas.{picked_sound}
+use Rattle.ii_query.proofs.intersection.IntersectionDocSet.doc.Goals as goal
+
+pub returns-clause-sound : goal.returns-clause-sound
+returns-clause-sound g c = rw (← c.self.view_is) (picked_sound (has_doc (g.B.DocSet.rest c.self.inside.other)) (g.A.DocSet.rest c.self.inside.first) c.doc.ensures.sound)
