@@ -9,4 +9,5 @@ pub mod indexing;
 pub mod json_fields;
 pub mod opening;
 pub mod positions;
+pub mod queries;
 pub mod writing;

@@ -1,2 +1,3 @@
+pub mod MatchLaws
 pub mod PickedLemmas
 pub mod UnionLemmas

@@ -86,7 +86,7 @@ has_from target doc (f ∷ fs) up =
     ]
 
 -- a document below the first isn't there
-has_below : (doc : ℕ) (fs : List Entry) → IsAscending fs → doc < doc_at fs → has_doc fs doc ≡ false
+pub has_below : (doc : ℕ) (fs : List Entry) → IsAscending fs → doc < doc_at fs → has_doc fs doc ≡ false
 has_below doc [] ascend low = refl
 has_below doc (f ∷ fs) ascend low =
     let first = ascend.0 in
