@@ -7,6 +7,7 @@ pub mod docset;
 pub mod intersection;
 pub mod lent;
 pub mod postings;
+pub mod seek_once;
 pub mod walking;
 
 pub use calls::{CursorAnswer, CursorCall, Walk};
@@ -14,4 +15,5 @@ pub use docset::{COLLECT_BLOCK_BUFFER_LEN, DocId, DocSet, SeekDangerResult, TERM
 pub use intersection::intersect;
 pub use lent::Lent;
 pub use postings::Postings;
+pub use seek_once::SeekOnce;
 pub use walking::walk;

@@ -11,7 +11,7 @@ ghost use Rattle.ii_check.specs.CheckedPostings.{is_read};
 use bytes::Bytes;
 use nequllpa::{
     COLLECT_BLOCK_BUFFER_LEN, CursorCall, DocId, DocSet, Fault, IndexRecordOption, LayoutFault,
-    Lent, LoadedPostings, Postings, SeekDangerResult, SegmentPostings, Walk, walk,
+    Lent, LoadedPostings, Postings, SeekDangerResult, SeekOnce, SegmentPostings, Walk, walk,
 };
 use std::alloc::Global;
 
@@ -206,6 +206,32 @@ pub fn lent_cursors_seek_as_lazily(cursor: &mut SegmentPostings, target: DocId) 
 {
     let mut lent = Lent { inner: cursor };
     lent.seek(target)
+}
+
+/// And a seek through one that is lent decodes at most one block of documents and one of counts, however
+/// many it passes.
+pub fn lent_cursors_seek_once(cursor: &mut SegmentPostings, target: DocId) -> DocId
+    requires { IsTarget target cursor.old.rest }
+    ensures doc { result ≡ doc_at cursor.new.rest }
+    ensures rest { cursor.new.rest ≡ from_doc target cursor.old.rest }
+    ensures docs { cursor.new.doc_decodes ≤ cursor.old.doc_decodes + 1 }
+    ensures counts { cursor.new.freq_decodes ≤ cursor.old.freq_decodes + 1 }
+    ensures positions { cursor.new.position_decodes ≡ cursor.old.position_decodes }
+{
+    let mut lent = Lent { inner: cursor };
+    lent.seek_once(target)
+}
+
+/// So does one through a box.
+pub fn boxed_cursors_seek_once(cursor: &mut Box<SegmentPostings>, target: DocId) -> DocId
+    requires { IsTarget target cursor.old.value.rest }
+    ensures doc { result ≡ doc_at cursor.new.value.rest }
+    ensures rest { cursor.new.value.rest ≡ from_doc target cursor.old.value.rest }
+    ensures docs { cursor.new.value.doc_decodes ≤ cursor.old.value.doc_decodes + 1 }
+    ensures counts { cursor.new.value.freq_decodes ≤ cursor.old.value.freq_decodes + 1 }
+    ensures positions { cursor.new.value.position_decodes ≡ cursor.old.value.position_decodes }
+{
+    cursor.seek_once(target)
 }
 
 /// A cursor in a box hints as the one in it.

@@ -16,7 +16,7 @@ use bytes::Bytes;
 use ii_base::{AliveBitSet, Fault, HasLen, IndexRecordOption, LayoutFault};
 use ii_check::FreqReadingOption;
 use ii_codes::COMPRESSION_BLOCK_SIZE;
-use ii_docset::{DocId, DocSet, Postings};
+use ii_docset::{DocId, DocSet, Postings, SeekOnce};
 use ii_layout::PositionReader;
 use std::marker::Model;
 
@@ -322,6 +322,17 @@ impl DocSet for SegmentPostings {
         ensures { result ≡ self.now.doc_freq }
     {
         self.doc_freq()
+    }
+}
+
+impl SeekOnce for SegmentPostings {
+    ghost use Rattle.ii_reader.specs.SegmentPostings.{DecodesOnce};
+
+    ghost sought = { λ a b. DecodesOnce a b };
+
+    #[inline(always)]
+    fn seek_once(&mut self, target: DocId) -> DocId {
+        self.seek(target)
     }
 }
 

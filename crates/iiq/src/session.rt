@@ -12,8 +12,8 @@ use crate::output::push_list;
 use ii_base::{AsciiTokenizer, Fault, FieldEntry, IndexRecordOption, Schema, Term, ValueType};
 use ii_docset::DocId;
 use ii_indexing::IndexCall;
-use ii_ram::index_in_ram;
 use ii_reader::OpenIndex;
+use nequllpa::index_in_ram;
 use std::alloc::{AllocError, Global};
 use std::mem;
 

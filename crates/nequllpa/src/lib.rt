@@ -2,6 +2,8 @@
 //! of a term. Each item stands here once; the crates below say how it is kept.
 #![tactic(auto)]
 
+pub mod ram;
+
 // what a field has, and what is indexed of it
 pub use ii_base::{
     DateTime, Field, FieldEntry, IndexRecordOption, JsonValue, Schema, SchemaFields, Term,
@@ -15,16 +17,16 @@ pub use ii_base::{
 };
 
 // how an index is written and opened
+pub use crate::ram::index_in_ram;
 pub use ii_base::{CountingWriter, HasLen};
 pub use ii_indexing::{IndexWriters, Indexer, write_index};
-pub use ii_ram::index_in_ram;
 pub use ii_reader::{InvertedIndexFieldSpace, InvertedIndexReader, OpenIndex, open_index};
 
 // how postings are walked
 pub use ii_base::AliveBitSet;
 pub use ii_docset::{
     COLLECT_BLOCK_BUFFER_LEN, CursorAnswer, CursorCall, DocId, DocSet, Lent, Postings,
-    SeekDangerResult, TERMINATED, Walk, intersect, walk,
+    SeekDangerResult, SeekOnce, TERMINATED, Walk, intersect, walk,
 };
 pub use ii_query::{Exclude, Intersection, Union};
 pub use ii_reader::{BlockSegmentPostings, FreqReadingOption, LoadedPostings, SegmentPostings};

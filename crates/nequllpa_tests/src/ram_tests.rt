@@ -1,7 +1,7 @@
 use ii_base::{AsciiTokenizer, Fault, Field};
-use ii_ram::index_in_ram;
 use ii_reader::OpenIndex;
 use ii_test_index::{checked, text_calls, two_texts};
+use nequllpa::index_in_ram;
 use std::alloc::Global;
 use std::test::Fail;
 

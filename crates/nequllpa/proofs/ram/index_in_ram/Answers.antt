@@ -8,9 +8,9 @@ use Rattle.ii_definitions.specs.Norms.{HoldNorms}
 use Rattle.ii_definitions.specs.Tokens.{tokens_of}
 use Rattle.ii_indexing.specs.IndexCalls.{call_of}
 use Rattle.ii_indexing.specs.IndexFiles.{IsIndexFault, WroteIndex}
-use Rattle.ii_ram.specs.Ram.{IsRamFault}
-use Rattle.ii_ram.proofs.RamLaws.{GivesAll, fault_in_ram, in_ram, index_holds, readers_fault}
-use Rattle.ii_ram.proofs.index_in_ram.Goals as goal
+use Rattle.nequllpa.specs.Ram.{IsRamFault}
+use Rattle.nequllpa.proofs.RamLaws.{GivesAll, fault_in_ram, in_ram, index_holds, readers_fault}
+use Rattle.nequllpa.proofs.ram.index_in_ram.Goals as goal
 
 pub returns-in-Ok-clause-holds : goal.returns-in-Ok-clause-holds
 returns-in-Ok-clause-holds g c =

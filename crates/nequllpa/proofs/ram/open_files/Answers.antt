@@ -2,8 +2,8 @@ use Rattle.std.proofs.Common.{List, ℕ, refl, subst}
 use Rattle.ii_definitions.specs.Fields.{option_of}
 use Rattle.ii_definitions.specs.Files.{HoldTokens}
 use Rattle.ii_definitions.specs.Norms.{HoldNorms}
-use Rattle.ii_ram.proofs.RamLaws.{same_file}
-use Rattle.ii_ram.proofs.open_files.Goals as goal
+use Rattle.nequllpa.proofs.RamLaws.{same_file}
+use Rattle.nequllpa.proofs.ram.open_files.Goals as goal
 
 pub returns-clause-holds : goal.returns-clause-holds
 returns-clause-holds c t p q f n ts terms postings positions fieldnorms hold norms =

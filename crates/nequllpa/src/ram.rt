@@ -1,6 +1,4 @@
 //! An index in memory: index calls go in, and readers of its fields come out.
-#![tactic(auto)]
-
 ghost use Rattle.std.specs.Prelude.{◌≡◌, ◌≤◌, ◌⊎◌, [], ℕ, List, length, map, None, Err, IfErr, IfOk, IfSome, OnOk, Some};
 ghost use Rattle.ii_docset.specs.declared.docset.TheConstants.{TERMINATED};
 ghost use Rattle.ii_definitions.specs.Fields.{option_of};
@@ -9,7 +7,7 @@ ghost use Rattle.ii_definitions.specs.Norms.{HoldNorms};
 ghost use Rattle.ii_definitions.specs.Tokens.{IndexToken, tokens_of};
 ghost use Rattle.ii_indexing.specs.IndexCalls.{MayAllBeIndexed, call_of};
 ghost use Rattle.ii_indexing.specs.Refusals.{calls_fault};
-ghost use Rattle.ii_ram.specs.Ram.{IsRamFault, empty_files};
+ghost use Rattle.nequllpa.specs.Ram.{IsRamFault, empty_files};
 ghost use Rattle.ii_reader.specs.OpenIndex.{GivesReaders, IndexHolds, NormsHold};
 
 use bytes::Bytes;

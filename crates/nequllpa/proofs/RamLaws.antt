@@ -10,7 +10,7 @@ use Rattle.ii_definitions.specs.Tokens.{IndexToken}
 use Rattle.ii_indexing.specs.IndexFiles.{IsIndexFault, WroteIndex}
 use Rattle.ii_indexing.specs.declared.index_writers.IndexWriters.{IndexWriters}
 use Rattle.ii_reader.specs.OpenIndex.{GivesReaders, IndexHolds, NormsHold, OpenIndexState}
-use Rattle.ii_ram.specs.Ram.{IsRamFault, empty_files}
+use Rattle.nequllpa.specs.Ram.{IsRamFault, empty_files}
 
 pub appended : (bytes : List ℕ) (o : Option (List ℕ)) → Appends (Some []) o bytes → o ≡ Some bytes
 appended bytes None h = absurd h
