@@ -36,3 +36,6 @@ pub use tokenizer::token_list::TokenList;
 pub use tokenizer::token_places::TokenPlaces;
 pub use tokenizer::token_stream::TokenStream;
 pub use tokenizer::token_view::TokenView;
+
+/// The number of a document in its index.
+pub type DocId = u32;

@@ -1,6 +1,6 @@
-use crate::docset::{COLLECT_BLOCK_BUFFER_LEN, DocId, DocSet, SeekDangerResult};
+use crate::docset::{COLLECT_BLOCK_BUFFER_LEN, DocSet, SeekDangerResult};
 use crate::postings::Postings;
-use ii_base::{AliveBitSet, Fault};
+use ii_base::{AliveBitSet, DocId, Fault};
 
 /// A boxed cursor is the cursor in the box.
 impl<T: DocSet> DocSet for Box<T> {

@@ -1,4 +1,4 @@
-use crate::docset::DocId;
+use ii_base::DocId;
 
 /// A call of a cursor.
 #[derive(Clone, Copy, Debug, PartialEq, Eq)]

@@ -3,10 +3,7 @@ ghost use Rattle.ii_docset.specs.Entries.{Entry, docs_of};
 ghost use Rattle.ii_docset.specs.Cursor.{doc_at, from_doc, IsDangerAnswer, IsSound, IsTarget};
 ghost use Rattle.ii_docset.specs.Alive.{IsCovered, alive_in};
 
-use ii_base::AliveBitSet;
-
-/// The number of a document in its index.
-pub type DocId = u32;
+use ii_base::{AliveBitSet, DocId};
 
 /// What a cursor answers after its last document. Documents lie below it.
 pub const TERMINATED: DocId = 2_147_483_647;

@@ -1,6 +1,6 @@
-use crate::docset::{COLLECT_BLOCK_BUFFER_LEN, DocId, DocSet, SeekDangerResult};
+use crate::docset::{COLLECT_BLOCK_BUFFER_LEN, DocSet, SeekDangerResult};
 use crate::postings::Postings;
-use ii_base::{AliveBitSet, Fault};
+use ii_base::{AliveBitSet, DocId, Fault};
 
 /// A cursor that is lent: it is the cursor that it borrows, which goes on where this one stands.
 #[derive(Drop)]

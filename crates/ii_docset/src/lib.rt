@@ -11,7 +11,8 @@ pub mod seek_once;
 pub mod walking;
 
 pub use calls::{CursorAnswer, CursorCall, Walk};
-pub use docset::{COLLECT_BLOCK_BUFFER_LEN, DocId, DocSet, SeekDangerResult, TERMINATED};
+pub use docset::{COLLECT_BLOCK_BUFFER_LEN, DocSet, SeekDangerResult, TERMINATED};
+pub use ii_base::DocId;
 pub use intersection::intersect;
 pub use lent::Lent;
 pub use postings::Postings;

@@ -1,8 +1,9 @@
 ghost use Rattle.std.specs.Prelude.{◌≡◌};
 ghost use Rattle.ii_docset.specs.Cursor.{doc_at, from_doc, IsSound, IsTarget};
 
-use crate::docset::{DocId, DocSet};
+use crate::docset::DocSet;
 use crate::lent::Lent;
+use ii_base::DocId;
 
 /// A cursor that says what one seek costs, however many documents it passes.
 ///

@@ -7,8 +7,7 @@ ghost use Rattle.ii_fieldnorm.specs.Readers.{norms_of_ids, CoversDoc, id_of_doc}
 
 use super::code::{fieldnorm_to_id, id_to_fieldnorm};
 use bytes::Bytes;
-use ii_base::{CompositeFile, Fault, Field, Part};
-use ii_docset::DocId;
+use ii_base::{CompositeFile, DocId, Fault, Field, Part};
 use std::alloc::Global;
 use std::marker::Model;
 

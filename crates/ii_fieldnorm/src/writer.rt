@@ -8,8 +8,7 @@ ghost use Rattle.ii_fieldnorm.specs.Buffers.{norm_fields, empty_buffers, filled,
 
 use super::code::fieldnorm_to_id;
 use super::serializer::FieldNormsSerializer;
-use ii_base::{CountingWriter, Fault, Field, Schema};
-use ii_docset::DocId;
+use ii_base::{CountingWriter, DocId, Fault, Field, Schema};
 use std::alloc::{AllocError, Global};
 use std::io::Write;
 use std::marker::Model;
