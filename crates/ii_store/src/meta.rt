@@ -1,8 +1,8 @@
 //! The guard of an index: the file `meta`, 249 bytes. docs/FORMATS draws it.
-ghost use Rattle.std.specs.Prelude.{◌≡◌, ◌≤◌, ◌==◌, bytes_eq, length, IfOk, OnOk, ◌++◌};
+ghost use Rattle.std.specs.Prelude.{◌≡◌, ◌<◌, ◌^◌, ◌++◌, bytes_eq, length, IfOk, Ok, OnOk, Some};
 ghost use Rattle.std.specs.Int.{w64, to_le_bytes};
 ghost use Rattle.sha2.specs.Sha256.{sha256};
-ghost use Rattle.ii_store.specs.Index.{entry, guard, guarded, head, num_docs_in, slot_in, version_in, view, whole_num_docs_in};
+ghost use Rattle.ii_store.specs.Index.{Index, entry, guard, guarded, head, index_at, num_docs_in, slot_in, version_in, view, whole_num_docs_in};
 
 use crate::faults::{DirectoryFault, IndexFault};
 use crate::name::{Kind, Slot};
@@ -137,4 +137,11 @@ fn push_entry(meta: &mut Vec<u8>, file: &[u8]) -> Result<(), AllocError>
 {
     meta.extend_from_slice(&(file.len() as u64).to_le_bytes())?;
     meta.extend_from_slice(&Sha256::digest(file))
+}
+
+/// A law: a guard of an index and its files are that index, and the guard names its slot.
+pub fn guard_tells_back()
+    ensures slot { (slot : Slot) (i : Index) → slot_in (guard slot i) ≡ slot }
+    ensures index { (slot : Slot) (i : Index) → i.num_docs < 2 ^ 32 → index_at (guard slot i) (Some i.schema) (Some i.terms) (Some i.postings) (Some i.positions) (Some i.fieldnorms) ≡ Ok i }
+{
 }
