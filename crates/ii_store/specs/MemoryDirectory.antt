@@ -40,15 +40,15 @@ WereSince changes t c = (k : ℕ) × (t ≤ k) × (k ≤ length changes) × Same
 abbrev pub MayBePut : Name → List Change → List Change → Type 0
 MayBePut name old new = (new ≡ old) ⊎ ((bytes : Vec ℕ Global) × (new ≡ old ++ Put name bytes ∷ []))
 
-all_taken : (changes : List Change) → take (length changes) changes ≡ changes
+pub all_taken : (changes : List Change) → take (length changes) changes ≡ changes
 all_taken [] = refl
 all_taken (change ∷ changes) = ap (λ more. change ∷ more) (all_taken changes)
 
 -- this moment is one of those since an earlier one
 pub counts_now : (changes : List Change) (t : ℕ) → t ≤ length changes → WereSince changes t (files_after changes)
-counts_now changes t le = (length changes, (le, (le_refl (length changes), λ name. ap (λ all. files_after all name) (sym (all_taken changes)))))
+counts_now changes t le = (length changes, le, le_refl (length changes), λ name. ap (λ all. files_after all name) (sym (all_taken changes)))
 
 -- since this moment there is no other
 pub only_now : (changes : List Change) (c : Files) → WereSince changes (length changes) c → Same (files_after changes) c
 only_now changes c since name =
-    since.2.2.2 name ∙ ap (λ k. files_after (take k changes) name) (le_antisymm since.2.2.1 since.2.1) ∙ ap (λ all. files_after all name) (all_taken changes)
+    since.3 name ∙ ap (λ k. files_after (take k changes) name) (le_antisymm since.2 since.1) ∙ ap (λ all. files_after all name) (all_taken changes)

@@ -1,10 +1,20 @@
-//! x
+//! An index in a folder: the files of an index beside a guard, `meta`, that has the length and the
+//! checksum of each. A save that is stopped anywhere leaves the index that was there or the new one.
 #![tactic(auto)]
 
 pub mod directory;
 pub mod faults;
+pub mod folder;
 pub mod memory_directory;
 pub mod meta;
 pub mod name;
 pub mod save;
 pub mod stored_index;
+
+pub use directory::Directory;
+pub use faults::{DirectoryFault, IndexFault, StoreFault};
+pub use folder::Folder;
+pub use memory_directory::MemoryDirectory;
+pub use name::{Kind, Name, Slot};
+
+pub use stored_index::{StoredIndex, load};

@@ -94,21 +94,23 @@ fn bytes_after(
 ) -> Result<Option<Vec<u8>>, DirectoryFault>
     ensures { IfOk result (λ found. found_bytes found ≡ files_after changes.now name) }
 {
-    match changes {
-        [] => Ok(None),
-        [before @ .., Change::Put(put, bytes)] => {
+    let Some((last, before)) = changes.split_last() else {
+        return Ok(None);
+    };
+    match last {
+        Change::Put(put, bytes) => {
             if put.number() == name.number() {
                 return Ok(Some(bytes.to_vec(alloc)?));
             }
             bytes_after(alloc, before, name)
         }
-        [before @ .., Change::Removed(removed)] => {
+        Change::Removed(removed) => {
             if removed.number() == name.number() {
                 return Ok(None);
             }
             bytes_after(alloc, before, name)
         }
-        [before @ .., Change::Renamed(from, to)] => {
+        Change::Renamed(from, to) => {
             if to.number() == name.number() {
                 return bytes_after(alloc, before, *from);
             }
