@@ -1,20 +1,18 @@
 -- A guard says what it was made of.
-use Rattle.std.proofs.Common.{◌≡◌, ◌<◌, ◌^◌, ℕ, suc, ◌+◌, List, ◌∷◌, ◌++◌, length, take, drop, Option, Some, Result, Ok, true, refl, sym, ap, ◌∙◌, append_assoc, arith}
-use Rattle.std.specs.Prelude.{bytes_eq, nat_lt, ◌==◌, get_or}
-use Rattle.std.specs.Int.{w32, w64, from_le_bytes, to_le_bytes}
+use Rattle.std.proofs.Common.{◌≡◌, ◌<◌, ◌^◌, ℕ, suc, ◌+◌, List, ◌++◌, length, take, drop, Some, Ok, true, refl, sym, ap, ◌∙◌, append_assoc, arith}
+use Rattle.std.specs.Prelude.{bytes_eq}
+use Rattle.std.specs.Int.{w32, w64, to_le_bytes}
 use Rattle.std.proofs.Math.Seq.{drop-append_seam, take-append_seam}
 use Rattle.std.proofs.lemmas.List.{drop-drop, length-append}
 use Rattle.std.proofs.lemmas.Nat.{from_le_bytes-to_le_bytes_4}
 use Rattle.std.proofs.lemmas.Slice.Eq.{bytes_eq-Decides}
 use Rattle.sha2.specs.Sha256.{sha256}
 use Rattle.sha2.proofs.Facts256.{length-sha256}
-use Rattle.ii_store.specs.declared.faults.IndexFault.{IndexFault}
 use Rattle.ii_store.specs.declared.name.Kind.{Kind}
 use Rattle.ii_store.specs.declared.name.Kind.TheVariants.{Schema, Terms, Postings, Positions, FieldNorms}
 use Rattle.ii_store.specs.declared.name.Slot.{Slot}
 use Rattle.ii_store.specs.declared.name.Slot.TheVariants.{First, Second}
 use Rattle.ii_store.specs.Index.{Index, entry, file_in, format, guard, guarded, head, index_at, num_docs_in, slot_in, version_in, whole_num_docs_in}
-use Rattle.ii_store.specs.Names.{slot_number}
 use Rattle.ii_store.proofs.Steps.{reads_all}
 
 drop_seam : (n : ℕ) (a b : List ℕ) → length a ≡ n → drop n (a ++ b) ≡ b
@@ -61,8 +59,19 @@ length_guarded slot i =
     let r2 = entry i.postings ++ r3 in
     let r1 = entry i.terms ++ r2 in
     let r0 = entry i.schema ++ r1 in
-    ap length (regroup_guarded (head slot i.num_docs) (entry i.schema) (entry i.terms) (entry i.postings) (entry i.positions) (entry i.fieldnorms)) ∙ length-append (head slot i.num_docs) r0 ∙ omega (arith, length-append (entry i.schema) r1, length-append (entry i.terms) r2, length-append (entry i.postings) r3, length-append (entry i.positions) r4,
-      length_head slot i.num_docs, length_entry i.schema, length_entry i.terms, length_entry i.postings, length_entry i.positions, length_entry i.fieldnorms)
+    ap length (regroup_guarded (head slot i.num_docs) (entry i.schema) (entry i.terms) (entry i.postings) (entry i.positions) (entry i.fieldnorms)) ∙ length-append (head slot i.num_docs) r0 ∙ omega (
+      arith,
+      length-append (entry i.schema) r1,
+      length-append (entry i.terms) r2,
+      length-append (entry i.postings) r3,
+      length-append (entry i.positions) r4,
+      length_head slot i.num_docs,
+      length_entry i.schema,
+      length_entry i.terms,
+      length_entry i.postings,
+      length_entry i.positions,
+      length_entry i.fieldnorms,
+    )
 
 length_guard : (slot : Slot) (i : Index) → length (guard slot i) ≡ 249
 unfolding guard
@@ -148,5 +157,5 @@ index_of_guard slot i small =
     let at3 : drop 137 meta ≡ r3 = next 97 meta i.postings r3 at2 in
     let at4 : drop 177 meta ≡ r4 = next 137 meta i.positions r4 at3 in
     reads_all meta (Some i.schema) (Some i.terms) (Some i.postings) (Some i.positions) (Some i.fieldnorms) i.num_docs (docs_of_guard slot i small)
-      i.schema (file_at Schema 17 meta i.schema r1 at0) i.terms (file_at Terms 57 meta i.terms r2 at1) i.postings (file_at Postings 97 meta i.postings r3 at2)
-      i.positions (file_at Positions 137 meta i.positions r4 at3) i.fieldnorms (file_at FieldNorms 177 meta i.fieldnorms end at4)
+    i.schema (file_at Schema 17 meta i.schema r1 at0) i.terms (file_at Terms 57 meta i.terms r2 at1) i.postings (file_at Postings 97 meta i.postings r3 at2)
+    i.positions (file_at Positions 137 meta i.positions r4 at3) i.fieldnorms (file_at FieldNorms 177 meta i.fieldnorms end at4)

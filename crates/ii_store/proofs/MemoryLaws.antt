@@ -1,5 +1,5 @@
 -- What one change more makes of a directory in memory.
-use Rattle.std.proofs.Common.{◌≡◌, ◌⊎◌, inl, inr, ⊎_elim, ◌<◌, ◌≤◌, ℕ, ◌+◌, ◌==◌, false, true, List, [], ◌∷◌, ◌++◌, length, take, Option, None, Some, Vec, Result, Ok, Err, OnOk, OnErr, IfOk, refl, subst, sym, ap, ◌∙◌, arith}
+use Rattle.std.proofs.Common.{◌≡◌, ◌⊎◌, inl, inr, ⊎_elim, ℕ, ◌==◌, false, true, List, [], ◌∷◌, ◌++◌, length, take, Option, None, Some, Vec, Result, Ok, Err, OnOk, OnErr, IfOk, refl, sym, ap, ◌∙◌, arith}
 use Rattle.std.proofs.lemmas.Bool.{cases_lt, ne_eqb, eq-eqb}
 use Rattle.std.proofs.lemmas.List.{length-append, take-append-le}
 use Rattle.std.specs.declared.alloc.Global.{Global}
@@ -59,8 +59,8 @@ none_elapses old new P same = rw same (record { later = omega arith; nothing_els
 last_since : (old : List Change) (last : Change) (P : Files → Type 0) (t : ℕ) (c : Files) → ((d : Files) → Same (files_after (old ++ last ∷ [])) d → P d)
     → WereSince (old ++ last ∷ []) t c → WereSince old t c ⊎ P c
 last_since old last P t c implies since = ⊎_elim
-    (λ all. inr (implies c (λ name. since.3 name ∙ ap (λ k. files_after (take k (old ++ last ∷ [])) name) (omega (arith, all, since.2, length-append old (last ∷ [])) )
-        ∙ ap (λ changes. files_after changes name) (all_taken (old ++ last ∷ [])))))
+    (λ all. inr (implies c (λ name. since.3 name ∙ ap (λ k. files_after (take k (old ++ last ∷ [])) name) (omega (arith, all, since.2, length-append old (last ∷ [])))
+    ∙ ap (λ changes. files_after changes name) (all_taken (old ++ last ∷ [])))))
     (λ few. inl (since.0, since.1, few, λ name. since.3 name ∙ ap (λ changes. files_after changes name) (take-append-le since.0 old (last ∷ []) few)))
     (cases_lt (length old) since.0)
 
@@ -69,8 +69,12 @@ pub one_elapses : (old new : List Change) (last : Change) (P : Files → Type 0)
 one_elapses old new last P more implies = rw more (record {
   later = omega (arith, length-append old (last ∷ []));
   nothing_else = λ t c le since. last_since old last P t c implies since;
-  keeps = λ t c le since. (since.0, since.1, omega (arith, since.2, length-append old (last ∷ [])),
-      λ name. since.3 name ∙ ap (λ changes. files_after changes name) (sym (take-append-le since.0 old (last ∷ []) since.2)));
+  keeps = λ t c le since. (
+    since.0,
+    since.1,
+    omega (arith, since.2, length-append old (last ∷ [])),
+    λ name. since.3 name ∙ ap (λ changes. files_after changes name) (sym (take-append-le since.0 old (last ∷ []) since.2)),
+  );
 })
 
 pub put_elapses : (name : Name) (old new : List Change) → MayBePut name old new → Elapses (length old) (length new) (WereSince old) (WereSince new) (Elsewhere name (files_after old))

@@ -1,16 +1,14 @@
 -- What a run of calls of a directory leaves.
-use Rattle.std.proofs.Common.{◌≡◌, ◌⊎◌, inl, inr, ⊎_elim, ◌<◌, ◌≤◌, ◌^◌, ℕ, zero, suc, ◌+◌, List, Option, None, Some, Result, Ok, Err, OnOk, refl, subst, sym, ap, ◌∙◌, arith}
-use Rattle.ii_store.specs.declared.faults.IndexFault.{IndexFault}
+use Rattle.std.proofs.Common.{◌≡◌, inl, inr, ⊎_elim, ◌<◌, ◌≤◌, ◌^◌, ℕ, zero, suc, ◌+◌, List, Option, None, Some, Result, Ok, Err, OnOk, refl, subst, sym, ap, ◌∙◌, arith}
 use Rattle.ii_store.specs.declared.name.Kind.{Kind}
 use Rattle.ii_store.specs.declared.name.Kind.TheVariants.{Schema, Terms, Postings, Positions, FieldNorms}
-use Rattle.ii_store.specs.declared.name.Name.{Name}
 use Rattle.ii_store.specs.declared.name.Name.TheVariants.{Meta, NewMeta, File}
 use Rattle.ii_store.specs.declared.name.Slot.{Slot}
 use Rattle.ii_store.specs.declared.name.Slot.TheVariants.{First, Second}
 use Rattle.ii_store.specs.Directory.{Elapses, Elsewhere, Files, IsOther, IsPut, IsRenamed, MayBeRenamed, Same}
-use Rattle.ii_store.specs.Index.{Index, bytes_of, guard, index_at, index_in, index_of, slot_in, used_slot}
-use Rattle.ii_store.specs.Names.{kind_at, kind_number, name_number, other_slot}
-use Rattle.ii_store.specs.Save.{HoldsFiles, HoldsIndex, IsOldOrNew, IsOutside, LeavesOne, LeavesSame}
+use Rattle.ii_store.specs.Index.{Index, bytes_of, guard, index_in, index_of, slot_in, used_slot}
+use Rattle.ii_store.specs.Names.{kind_at, kind_number, other_slot}
+use Rattle.ii_store.specs.Save.{HoldsFiles, IsOldOrNew, IsOutside, LeavesOne, LeavesSame}
 use Rattle.std.proofs.Math.Nat.{eq-or-lt_of_le}
 use Rattle.ii_store.proofs.GuardLaws.{index_of_guard, slot_of_guard}
 
@@ -104,7 +102,7 @@ unfolding index_of
 index_outside a c outside =
     ap (λ meta. index_in meta (λ kind. c (File (used_slot meta) kind))) outside.meta
     ∙ index_in_same (a Meta) (λ kind. c (File (used_slot (a Meta)) kind)) (λ kind. a (File (used_slot (a Meta)) kind)) (λ kind.
-        subst (λ slot. c (File slot kind) ≡ a (File slot kind)) (other_other (used_slot (a Meta))) (outside.files kind))
+    subst (λ slot. c (File slot kind) ≡ a (File slot kind)) (other_other (used_slot (a Meta))) (outside.files kind))
 
 pub index_of_same : (a c : Files) → Same a c → index_of c ≡ index_of a
 index_of_same a c same = index_outside a c (outside_same (other_slot (used_slot (a Meta))) a c same)
@@ -115,7 +113,7 @@ unfolding index_of
 index_of_new slot i files small holds at =
     ap (λ meta. index_in meta (λ kind. files (File (used_slot meta) kind))) at
     ∙ index_in_same (Some (guard slot i)) (λ kind. files (File (slot_in (guard slot i)) kind)) (λ kind. Some (bytes_of i kind))
-        (λ kind. ap (λ s. files (File s kind)) (slot_of_guard slot i) ∙ holds kind)
+    (λ kind. ap (λ s. files (File s kind)) (slot_of_guard slot i) ∙ holds kind)
     ∙ index_of_guard slot i small
 
 below_next : (n count : ℕ) → n < count + 1 → n ≤ count
@@ -174,9 +172,9 @@ module _ {D : Type 0} (moment : D → ℕ) (left_since : D → ℕ → Files →
     filling_goes_on old now new count lt so_far known put time = record {
       known = known;
       filled = λ kind below. ⊎_elim
-        (λ less. put.elsewhere (File slot kind) (other_kind slot (kind_at count) kind (λ same. omega (arith, less, same, number_of_kind count lt))) ∙ so_far.filled kind less)
-        (λ same. subst (λ k. seen new (File slot k) ≡ content k) (ap kind_at (sym same) ∙ kind_of_number kind) put.there)
-        (⊎_elim (λ same. inr same) (λ less. inl less) (eq-or-lt_of_le (below_next (kind_number kind) count below)));
+          (λ less. put.elsewhere (File slot kind) (other_kind slot (kind_at count) kind (λ same. omega (arith, less, same, number_of_kind count lt))) ∙ so_far.filled kind less)
+          (λ same. subst (λ k. seen new (File slot k) ≡ content k) (ap kind_at (sym same) ∙ kind_of_number kind) put.there)
+          (⊎_elim (λ same. inr same) (λ less. inl less) (eq-or-lt_of_le (below_next (kind_number kind) count below)));
       outside = outside_then slot (seen old) (seen now) (seen new) so_far.outside (outside_file slot (kind_at count) (seen now) (seen new) put.elsewhere);
       time = filling_time old now new count (kind_at count) so_far time;
     }

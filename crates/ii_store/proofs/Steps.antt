@@ -1,10 +1,10 @@
 -- How the parts of an index are read one after the other.
-use Rattle.std.proofs.Common.{◌≡◌, ℕ, List, Option, drop, Result, Ok, Err, refl}
+use Rattle.std.proofs.Common.{◌≡◌, ℕ, List, Option, drop, Result, Ok, refl}
 use Rattle.ii_store.specs.declared.faults.IndexFault.{IndexFault}
 use Rattle.ii_store.specs.declared.faults.StoreFault.{StoreFault}
 use Rattle.ii_store.specs.declared.faults.StoreFault.TheVariants as faults
 use Rattle.ii_store.specs.declared.name.Kind.TheVariants.{Schema, Terms, Postings, Positions, FieldNorms}
-use Rattle.ii_store.specs.Index.{◌>>=◌, Fails, Index, file_in, index_at, num_docs_in}
+use Rattle.ii_store.specs.Index.{◌>>=◌, Fails, file_in, index_at, num_docs_in}
 
 -- a part that was not read
 stops : {A B : Type 0} (fault : StoreFault) (part : Result A IndexFault) (more : A → Result B IndexFault) → Fails fault part → Fails fault (part >>= more)
@@ -12,7 +12,6 @@ stops (faults.Directory fault) part more failed = tt
 stops (faults.Index fault) part more failed = rw failed refl
 
 module _ (meta : List ℕ) (a b c d e : Option (List ℕ)) (n : ℕ) (read : num_docs_in meta ≡ Ok n) where
-
   pub stops_at_terms : (x0 : List ℕ) → file_in Schema (drop 17 meta) a ≡ Ok x0 → (fault : StoreFault) → Fails fault (file_in Terms (drop 57 meta) b) → Fails fault (index_at meta a b c d e)
   unfolding index_at
   stops_at_terms x0 h0 fault failed = rw (read, h0) (stops fault _ _ failed)

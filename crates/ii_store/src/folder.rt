@@ -13,6 +13,7 @@ use std::rt::Files;
 /// No clause can say what a real file holds, so none says anything of this type: that a folder does as
 /// `Directory` says is trusted, and with it the system's `rename`, which has to leave one of two files,
 /// and its flushing.
+#[derive(Drop)]
 pub struct Folder<'a, R: Files + AllocGlobal> {
     rt: &'a R,
     path: &'a str,

@@ -16,5 +16,4 @@ pub use faults::{DirectoryFault, IndexFault, StoreFault};
 pub use folder::Folder;
 pub use memory_directory::MemoryDirectory;
 pub use name::{Kind, Name, Slot};
-
 pub use stored_index::{StoredIndex, load};

@@ -145,5 +145,4 @@ fn push_entry(meta: &mut Vec<u8>, file: &[u8]) -> Result<(), AllocError>
 pub fn guard_tells_back()
     ensures slot { (slot : Slot) (i : Index) → slot_in (guard slot i) ≡ slot }
     ensures index { (slot : Slot) (i : Index) → i.num_docs < 2 ^ 32 → index_at (guard slot i) (Some i.schema) (Some i.terms) (Some i.postings) (Some i.positions) (Some i.fieldnorms) ≡ Ok i }
-{
-}
+{}

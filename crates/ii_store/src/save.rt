@@ -66,17 +66,14 @@ fn write_files<D: Directory>(
 /// Removes the files that the guard doesn't name, which a save or a stop left.
 ///
 /// The index that is there stays, wherever this is stopped.
-pub fn remove_unused<D: Directory>(
-    alloc: Global,
-    directory: &mut D,
-) -> Result<(), DirectoryFault>
+pub fn remove_unused<D: Directory>(alloc: Global, directory: &mut D) -> Result<(), DirectoryFault>
     ensures known { D.is_known directory.old → OnOk result (D.is_known directory.new) }
     ensures removed { D.is_known directory.old → OnOk result ((kind : Kind) → D.seen directory.new (File (other_slot (used_slot (D.seen directory.old Meta))) kind) ≡ None) }
     ensures same { D.is_known directory.old → OnOk result (index_of (D.seen directory.new) ≡ index_of (D.seen directory.old)) }
     ensures leaves_same { D.is_known directory.old → LeavesSame D.moment D.left_since D.seen directory.old directory.new }
 {
-    let slot = slot_in_use(alloc, directory)?.other();
-    remove_files(directory, slot)
+    let unused = slot_in_use(alloc, directory)?.other();
+    remove_files(directory, unused)
 }
 
 // Removes the files of a slot.

@@ -1,5 +1,4 @@
-use Rattle.std.proofs.Common.{None, Some}
-use Rattle.ii_store.specs.Index.{bytes_of, view}
+use Rattle.std.proofs.Common.{None}
 use Rattle.ii_store.proofs.SaveLaws.{IsFilling}
 use Rattle.ii_store.proofs.save.remove_files.Given as goal
 

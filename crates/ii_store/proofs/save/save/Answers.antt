@@ -1,4 +1,4 @@
-use Rattle.std.proofs.Common.{◌≡◌, Some, ap, subst, sym, ◌∙◌}
+use Rattle.std.proofs.Common.{◌≡◌, Some, ap, subst, ◌∙◌}
 use Rattle.ii_store.specs.declared.name.Name.TheVariants.{Meta, NewMeta}
 use Rattle.ii_store.specs.Directory.{IsPut, IsRenamed}
 use Rattle.ii_store.specs.Index.{guard, used_slot, view}
@@ -22,14 +22,14 @@ returns-in_err-write_files-clause-leaves_one g c = λ known.
     let d = g.D.Directory in
     let free : c.other-slot.result ≡ other_slot (used_slot (d.seen c.args.directory.now Meta)) = c.other-slot.ensures ∙ ap other_slot (c.in_ok-slot_in_use.ensures known) in
     files_leave d.moment d.left_since d.seen c.args.directory.now (λ f left. g.met.D.Directory.only_now c.args.directory.now f known left) c.other-slot.result free (view c.args.index.now)
-      c.write_files.new.directory (c.write_files.ensures.time known)
+    c.write_files.new.directory (c.write_files.ensures.time known)
 
 pub returns-in_err-write-clause-leaves_one : goal.returns-in_err-write-clause-leaves_one
 returns-in_err-write-clause-leaves_one g c = λ known.
     let d = g.D.Directory in
     let free : c.other-slot.result ≡ other_slot (used_slot (d.seen c.args.directory.now Meta)) = c.other-slot.ensures ∙ ap other_slot (c.in_ok-slot_in_use.ensures known) in
     meta_leaves d.moment d.left_since d.seen c.args.directory.now (λ f left. g.met.D.Directory.only_now c.args.directory.now f known left) c.other-slot.result free (view c.args.index.now)
-      c.write_files.new.directory (c.write_files.ensures.time known) c.write.new.self (c.in_ok-write_files.ensures.outside known) (c.write.ensures.time (c.in_ok-write_files.ensures.known known))
+    c.write_files.new.directory (c.write_files.ensures.time known) c.write.new.self (c.in_ok-write_files.ensures.outside known) (c.write.ensures.time (c.in_ok-write_files.ensures.known known))
 
 pub returns-clause-saved : goal.returns-clause-saved
 returns-clause-saved g c = λ known.
@@ -42,9 +42,9 @@ returns-clause-saved g c = λ known.
     let bytes : c.as_slice.result.now ≡ guard slot i = c.as_slice.ensures.value ∙ c.in_ok-meta.ensures.bytes in
     let put = subst (λ b. IsPut NewMeta (Some b) (d.seen c.write_files.new.directory) (d.seen c.write.new.self)) bytes (c.in_ok-write.ensures.written known_1) in
     let ready = is_ready slot i (d.seen c.args.directory.now) (d.seen c.write_files.new.directory) (d.seen c.write.new.self) free c.in_ok-meta.ensures.small
-          (c.in_ok-write_files.ensures.outside known) (c.in_ok-write_files.ensures.written known) put in
+    (c.in_ok-write_files.ensures.outside known) (c.in_ok-write_files.ensures.written known) put in
     at_ok (IsRenamed NewMeta Meta (d.seen c.write.new.self) (d.seen c.rename.new.self)) (HoldsIndex i (d.seen c.rename.new.self)) c.rename.result
-      (λ renamed. renamed_is_new slot i (d.seen c.args.directory.now) (d.seen c.write.new.self) (d.seen c.rename.new.self) ready renamed) (c.rename.ensures.renamed known_2)
+    (λ renamed. renamed_is_new slot i (d.seen c.args.directory.now) (d.seen c.write.new.self) (d.seen c.rename.new.self) ready renamed) (c.rename.ensures.renamed known_2)
 
 pub returns-clause-leaves_one : goal.returns-clause-leaves_one
 returns-clause-leaves_one g c = λ known.
@@ -57,7 +57,7 @@ returns-clause-leaves_one g c = λ known.
     let bytes : c.as_slice.result.now ≡ guard slot i = c.as_slice.ensures.value ∙ c.in_ok-meta.ensures.bytes in
     let put = subst (λ b. IsPut NewMeta (Some b) (d.seen c.write_files.new.directory) (d.seen c.write.new.self)) bytes (c.in_ok-write.ensures.written known_1) in
     let ready = is_ready slot i (d.seen c.args.directory.now) (d.seen c.write_files.new.directory) (d.seen c.write.new.self) free c.in_ok-meta.ensures.small
-          (c.in_ok-write_files.ensures.outside known) (c.in_ok-write_files.ensures.written known) put in
+    (c.in_ok-write_files.ensures.outside known) (c.in_ok-write_files.ensures.written known) put in
     rename_leaves d.moment d.left_since d.seen c.args.directory.now (λ f left. g.met.D.Directory.only_now c.args.directory.now f known left) slot free i
-      c.write_files.new.directory (c.write_files.ensures.time known) c.write.new.self (c.in_ok-write_files.ensures.outside known) (c.write.ensures.time known_1)
-      c.rename.new.self ready (c.rename.ensures.time known_2)
+    c.write_files.new.directory (c.write_files.ensures.time known) c.write.new.self (c.in_ok-write_files.ensures.outside known) (c.write.ensures.time known_1)
+    c.rename.new.self ready (c.rename.ensures.time known_2)

@@ -1,4 +1,4 @@
-use Rattle.std.proofs.Common.{None, Some}
+use Rattle.std.proofs.Common.{Some}
 use Rattle.ii_store.specs.Index.{bytes_of, view}
 use Rattle.ii_store.proofs.SaveLaws.{IsFilling}
 use Rattle.ii_store.proofs.save.write_files.Given as goal

@@ -1,4 +1,4 @@
-use Rattle.std.proofs.Common.{◌≡◌, sym}
+use Rattle.std.proofs.Common.{sym}
 use Rattle.std.proofs.lemmas.Result.{err_from_is_err_and}
 use Rattle.ii_store.proofs.Steps.{stops_at_terms, stops_at_postings, stops_at_positions, stops_at_fieldnorms, reads_all}
 use Rattle.ii_store.proofs.stored_index.load_by.Goals as goal

@@ -1,5 +1,4 @@
-use Rattle.std.proofs.Common.{◌≡◌, inr}
-use Rattle.ii_store.proofs.MemoryLaws.{put_elapses}
+use Rattle.std.proofs.Common.{inr}
 use Rattle.ii_store.proofs.memory_directory.MemoryDirectory.stop_in_write.Goals as goal
 
 pub returns : goal.returns
