@@ -16,7 +16,10 @@ ghost use Rattle.ii_indexing.specs.OpenDocuments.{with_norms};
 ghost use Rattle.ii_indexing.specs.Refusals.{next_leaf_fault};
 
 use crate::indexed_fields::IndexedFields;
-use ii_base::{Fault, Field, JsonLeaf, JsonPathWriter, JsonValue, TextAnalyzer, ValueType};
+use ii_base::json_value::is_within;
+use ii_base::{
+    Fault, Field, JsonLeaf, JsonPathWriter, JsonValue, LeafKind, MAX_DEPTH, TextAnalyzer, ValueType,
+};
 use ii_docset::DocId;
 use ii_json::{JsonTermSerializer, LeafSink, visit_leaves};
 use std::alloc::Global;
@@ -127,6 +130,9 @@ pub(crate) fn index_json_value<A: TextAnalyzer>(
     ensures refused { (entries : List SchemaEntry) (ps : List Piece) → Takes entries field Json → StoresPieces entries fields.old ps
         → IsRefusedBy (leaves_fault (next_leaf_fault (A.words analyzer.now) (option_of entries field) ps doc field) [] (json_leaves expand_dots (json_of value.now))) result }
 {
+    if !is_within(value, MAX_DEPTH) {
+        return Err(Fault::UnsupportedLeaf(LeafKind::Deep));
+    }
     let mut writer = JsonPathWriter::new(alloc);
     writer.set_expand_dots(expand_dots);
     let mut sink = LeafIndexer {
