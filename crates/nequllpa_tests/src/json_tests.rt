@@ -1,10 +1,10 @@
 // Indexes of JSON values, whose terms are looked up by the bytes of their keys.
+use crate::memory_index::{
+    FULL, Index, are_untouched, opened, postings_of, push_counts, write_to, writers, written,
+};
 use ii_base::{Fault, Field, FieldEntry, JsonValue, LeafKind, Schema, Term};
 use ii_indexing::IndexCall;
 use ii_reader::{BlockSegmentPostings, InvertedIndexFieldSpace, InvertedIndexReader};
-use ii_test_index::{
-    FULL, Index, are_untouched, opened, postings_of, push_counts, write_to, writers, written,
-};
 use std::alloc::Global;
 use std::test::Fail;
 
