@@ -1,10 +1,10 @@
 // Indexes of JSON values, whose terms are looked up by the bytes of their keys.
+use crate::memory_index::{
+    FULL, Index, are_untouched, opened, postings_of, push_counts, write_to, writers, written,
+};
 use ii_base::{Fault, Field, FieldEntry, JsonValue, LeafKind, Schema, Term};
 use ii_indexing::IndexCall;
 use ii_reader::{BlockSegmentPostings, InvertedIndexFieldSpace, InvertedIndexReader};
-use ii_test_index::{
-    FULL, Index, are_untouched, opened, postings_of, push_counts, write_to, writers, written,
-};
 use std::alloc::Global;
 use std::test::Fail;
 
@@ -317,5 +317,34 @@ fn a_float_is_refused_where_it_is_reached(rt: HostRuntime) -> Result<(), Fail> {
     let refused = Err(Fault::UnsupportedLeaf(LeafKind::Float));
     assert!(rt; end_of_float(rt.alloc(), "b")? == (true, refused));
     assert!(rt; end_of_float(rt.alloc(), "b\0")? == (false, Ok(())));
+    Ok(())
+}
+
+// So many arrays, one in the other.
+fn in_arrays(alloc: Global, number: usize) -> Result<JsonValue, Fault> {
+    let mut value = JsonValue::Null;
+    for _ in 0..number {
+        let mut items = Vec::new(alloc);
+        items.push(value)?;
+        value = JsonValue::Array(items);
+    }
+    Ok(value)
+}
+
+// How the call ends that has a value in so many arrays.
+fn end_of_arrays(alloc: Global, number: usize) -> Result<Result<(), Fault>, Fault> {
+    let mut calls = Vec::new(alloc);
+    calls.push(json_call(0, in_arrays(alloc, number)?))?;
+    let schema = one_json(alloc, false)?;
+    let (_writers, answer) = write_to(alloc, schema, 1, calls, writers(alloc))?;
+    Ok(answer)
+}
+
+#[test]
+fn a_value_of_many_levels_is_refused(rt: HostRuntime) -> Result<(), Fail> {
+    let refused = Err(Fault::UnsupportedLeaf(LeafKind::Deep));
+    assert!(rt; end_of_arrays(rt.alloc(), 128)? == Ok(()));
+    assert!(rt; end_of_arrays(rt.alloc(), 129)? == refused);
+    assert!(rt; end_of_arrays(rt.alloc(), 5_000)? == refused);
     Ok(())
 }
