@@ -1,14 +1,12 @@
 -- What is left of cursors that are nested.
-use Rattle.std.proofs.Common.{◌≡◌, ℕ, ◌+◌, ◌<◌, ◌≤◌, List, [], ◌∷◌, drop, inl, inr, refl, sym, ap, ◌∙◌, arith}
-use Rattle.std.specs.Prelude.{min, not}
+use Rattle.std.proofs.Common.{◌≡◌, ℕ, ◌<◌, List, [], ◌∷◌, drop, inl, inr, ◌∙◌, arith}
+use Rattle.std.specs.Prelude.{min}
 use Rattle.std.proofs.lemmas.Bool.Decides.{leb_tells}
 use Rattle.ii_docset.specs.declared.docset.TheConstants.{TERMINATED}
 use Rattle.ii_docset.specs.Entries.{Entry}
-use Rattle.ii_docset.specs.Cursor.{doc_at, IsAscending, IsSound, from_doc}
-use Rattle.ii_docset.specs.Intersection.{has_doc}
-use Rattle.ii_query.specs.Combined.{IsAtFirst, common, either, without}
-use Rattle.ii_query.proofs.PickedLemmas.{picked_from, picked_sound}
-use Rattle.ii_query.proofs.UnionLemmas.{either_from, either_sound, first_is_least, other_is_least}
+use Rattle.ii_docset.specs.Cursor.{doc_at, IsAscending, IsSound}
+use Rattle.ii_query.specs.Combined.{either}
+use Rattle.ii_query.proofs.UnionLemmas.{first_is_least, other_is_least}
 
 -- the lesser of two first documents is the first that either has
 pub least_of : (es fs : List Entry) (one two : ℕ) → IsSound es → IsSound fs → one ≡ doc_at es → two ≡ doc_at fs → min one two ≡ doc_at (either es fs)

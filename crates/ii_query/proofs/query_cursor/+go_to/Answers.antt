@@ -1,13 +1,13 @@
-use Rattle.std.proofs.Common.{◌≡◌, ℕ, ◌+◌, [], List, drop, map, refl, rules, sym, ap, ◌∙◌, arith}
+use Rattle.std.proofs.Common.{◌≡◌, ℕ, [], List, drop, map, refl, rules, sym, ap, ◌∙◌, arith}
 use Rattle.std.specs.Prelude.{not}
 use Rattle.ii_docset.specs.Entries.{document}
-use Rattle.ii_docset.specs.Cursor.{doc_at, from_doc, IsSound}
+use Rattle.ii_docset.specs.Cursor.{doc_at, from_doc}
 use Rattle.ii_docset.specs.Intersection.{has_doc}
 use Rattle.ii_docset.proofs.CursorLemmas.{doc_below}
 use Rattle.ii_docset.proofs.IntersectionLemmas.{asked_for, at_end, bound_above, bound_more}
-use Rattle.ii_query.specs.Combined.{common, either, without}
-use Rattle.ii_query.proofs.NestedLemmas.{least_of, next_above}
-use Rattle.ii_query.proofs.PickedLemmas.{common_at, common_found, picked_from, picked_sound, without_asked, without_at, without_found}
+use Rattle.ii_query.specs.Combined.{common, without}
+use Rattle.ii_query.proofs.NestedLemmas.{least_of}
+use Rattle.ii_query.proofs.PickedLemmas.{common_found, picked_from, picked_sound, without_asked, without_at, without_found}
 use Rattle.ii_query.proofs.UnionLemmas.{either_from, either_sound, next_from}
 use Rattle.ii_query.proofs.query_cursor.+go_to.Goals as goal
 
