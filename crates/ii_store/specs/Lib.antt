@@ -1,0 +1,5 @@
+pub mod Directory
+pub mod Faults
+pub mod Index
+pub mod Names
+pub mod Save
