@@ -96,7 +96,8 @@ pub(crate) fn guard_of(
     slot: Slot,
     index: &StoredIndex,
 ) -> Result<Vec<u8>, DirectoryFault>
-    ensures { IfOk result (λ v. v.items ≡ guard slot (view index.now)) }
+    ensures bytes { IfOk result (λ v. v.items ≡ guard slot (view index.now)) }
+    ensures small { OnOk result (index.now.num_docs < 2 ^ 32) }
 {
     let mut meta = guarded_of(alloc, slot, index)?;
     let checksum = Sha256::digest(meta.as_slice());
@@ -107,7 +108,8 @@ pub(crate) fn guard_of(
 // A guard without its checksum.
 #[tactic(auto, unfolding(crate::specs::Index::guarded))]
 fn guarded_of(alloc: Global, slot: Slot, index: &StoredIndex) -> Result<Vec<u8>, AllocError>
-    ensures { IfOk result (λ v. v.items ≡ guarded slot (view index.now)) }
+    ensures bytes { IfOk result (λ v. v.items ≡ guarded slot (view index.now)) }
+    ensures small { OnOk result (index.now.num_docs < 2 ^ 32) }
 {
     let mut meta = Vec::new(alloc);
     push_head(&mut meta, slot, index.num_docs)?;
