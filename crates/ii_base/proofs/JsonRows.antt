@@ -1,5 +1,5 @@
 -- Worked rows of JSON values and their keys, each computed.
-use Rattle.std.specs.Prelude.{◌≡◌, ℕ, ◌+◌, ◌++◌, ◌^◌, [], ◌∷◌, List, codes, replicate, negsuc, true, false, refl}
+use Rattle.std.specs.Prelude.{◌≡◌, ℕ, zero, suc, ◌+◌, ◌++◌, ◌^◌, [], ◌∷◌, List, codes, replicate, negsuc, true, false, refl}
 use Rattle.ii_io.specs.declared.faults.LeafKind.TheVariants as kinds
 use Rattle.ii_base.specs.declared.schema.value_type.ValueType.TheVariants as types
 use Rattle.ii_base.specs.Json.{Json, array, item, json_leaves, leaf, member, no_items, no_members, null, object, text_leaf, u64_leaf, unsupported, value_leaf}
@@ -64,3 +64,15 @@ float_is_reached = refl
 
 pub float_is_left_out : json_leaves false (object (member (codes "a") (number 1) (member (codes "b" ++ 0 ∷ []) (leaf (unsupported kinds.Float)) no_members))) ≡ (codes "a", value_leaf types.I64 (2 ^ 63 + 1)) ∷ []
 float_is_left_out = refl
+
+-- nothing in so many arrays, one in the other
+abbrev in_arrays : ℕ → Json
+in_arrays zero = null
+in_arrays (suc n) = array (item (in_arrays n) no_items)
+
+-- the deepest value that is taken, and one that is deeper
+pub deepest : json_leaves false (in_arrays 128) ≡ []
+deepest = refl
+
+pub too_deep : json_leaves false (in_arrays 129) ≡ ([], unsupported kinds.Deep) ∷ []
+too_deep = refl

@@ -17,6 +17,9 @@ pub enum LeafKind {
     Facet,
     #[error("IP address")]
     Ip,
+    /// A value in which more arrays and objects stand in one another than an index takes.
+    #[error("deep value")]
+    Deep,
 }
 
 /// The limit that a number passed.

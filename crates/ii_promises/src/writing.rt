@@ -1,5 +1,6 @@
 // What is written, and what is told where it can't be.
 ghost use Rattle.std.specs.Prelude.{◌≡◌, ◌+◌, ◌≤◌, ◌<◌, ◌⊎◌, ◌↔◌, ◌∷◌, ◌++◌, List, [], true, false, map, Err, IfErr, IfSome, IsErrOf, OnErr, OnOk, Some};
+ghost use Rattle.ii_base.specs.Json.{depth, json_of};
 ghost use Rattle.ii_definitions.specs.Fields.{option_of};
 ghost use Rattle.ii_definitions.specs.Tokens.{Piece, call_pieces, tokens_of};
 ghost use Rattle.ii_indexing.specs.IndexCalls.{MayAllBeIndexed, Takes, call_of, doc_of, field_of, type_of};
@@ -7,7 +8,10 @@ ghost use Rattle.ii_indexing.specs.IndexFiles.{FilesGrow, WroteIndex};
 ghost use Rattle.ii_indexing.specs.Indexer.{Stores};
 ghost use Rattle.ii_indexing.specs.Refusals.{call_fault, calls_fault};
 
-use nequllpa::{DocId, Fault, IndexCall, IndexWriters, Indexer, Schema, TextAnalyzer, write_index};
+use nequllpa::{
+    DocId, Fault, Field, IndexCall, IndexWriters, Indexer, JsonValue, LeafKind, Schema,
+    TextAnalyzer, ValueType, write_index,
+};
 use std::alloc::Global;
 use std::io::Write;
 
@@ -105,6 +109,26 @@ pub fn each_call_has_its_analyzer<A: TextAnalyzer, B: TextAnalyzer>(
 {
     indexer.index(first, one)?;
     indexer.index(second, other)
+}
+
+/// A JSON value in which more than 128 arrays and objects stand in one another is refused by name, unless
+/// memory is.
+pub fn deep_values_are_refused<A: TextAnalyzer>(
+    indexer: &mut Indexer,
+    doc: DocId,
+    field: Field,
+    value: JsonValue,
+    analyzer: &A,
+) -> Result<(), Fault>
+    requires running { indexer.old.failed ≡ false }
+    requires order { indexer.old.last_doc ≤ doc }
+    requires below { doc < indexer.old.num_docs }
+    requires takes { Takes indexer.old.schema field ValueType.Json }
+    requires deep { 128 < depth (json_of value) }
+    ensures refused { (ps : List Piece) → Stores indexer.old ps → (result ≡ Err (Fault.UnsupportedLeaf LeafKind.Deep)) ⊎ (result ≡ Err Fault.OutOfMemory) }
+    ensures fails { OnErr result (indexer.new.failed ≡ true) }
+{
+    indexer.index(IndexCall::Json(doc, field, value), analyzer)
 }
 
 /// A failed indexer refuses each call, and changes nothing.

@@ -1,3 +1,4 @@
 pub mod MatchLaws
+pub mod NestedLemmas
 pub mod PickedLemmas
 pub mod UnionLemmas

@@ -9,6 +9,11 @@ pub record Parts (A B : Type 0) : Type 0 where
   pub first : A
   pub other : B
 
+-- what is left of the documents of a cursor, and how deep it is nested
+pub record QueryCursorState : Type 0 where
+  pub rest : List Entry
+  pub depth : ℕ
+
 -- the documents of a list for which this holds
 abbrev pub picked : (ℕ → Bool) → List Entry → List Entry
 picked holds es = map document (filter holds (docs_of es))

@@ -1,1 +1,3 @@
 pub mod Combined
+pub mod QueryCursor
+pub mod QueryCursorLemmas

@@ -3,8 +3,10 @@
 
 pub mod exclude;
 pub mod intersection;
+pub mod query_cursor;
 pub mod union;
 
 pub use exclude::Exclude;
 pub use intersection::Intersection;
+pub use query_cursor::QueryCursor;
 pub use union::Union;

@@ -1,11 +1,17 @@
-//! Tests of the cursors of `ii_reader`, by its public calls.
+//! Tests of the cursors and the look-ups of `ii_reader`, by its public calls.
 #![tactic(auto)]
 
 #[cfg(test)]
 mod cursor_tests;
+#[cfg(test)]
+mod index_tests;
+#[cfg(test)]
+mod json_tests;
 #[cfg(test)]
 mod list_tests;
 #[cfg(test)]
 mod position_tests;
 #[cfg(test)]
 mod tests;
+#[cfg(test)]
+mod written_tests;

@@ -133,7 +133,7 @@ leaves_under [] front l = ap (λ (path : List (List ℕ)). (joined_segments path
 leaves_under (s ∷ ss) front l = under_by s ss (has_zero s) (list_any has_zero ss) front l refl refl (leaves_under ss (front ++ s ∷ []) l)
 
 -- a leaf at a path is that of the value which has an object for each segment of it
-pub leaves_of_nested : (path : List ℕ) (l : Leaf) → json_leaves false (value_under (segments_of path) (leaf l)) ≡ leaf_under path (Some l)
+pub leaves_of_nested : (path : List ℕ) (l : Leaf) → leaves_below false [] (value_under (segments_of path) (leaf l)) ≡ leaf_under path (Some l)
 leaves_of_nested path l =
     leaves_under (segments_of path) [] l
     ∙ ap (λ (zero : Bool). if zero then [] else (joined_segments (segments_of path), l) ∷ []) (split_zero false path)

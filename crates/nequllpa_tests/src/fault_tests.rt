@@ -1,9 +1,9 @@
 use crate::indexer_tests::last_token;
-use ii_base::{CountingWriter, FailingWriter, Fault, Field, LimitName};
-use ii_indexing::{IndexCall, IndexWriters};
-use ii_test_index::{
+use crate::memory_index::{
     Index, are_untouched, text_and_number, text_calls, texts, write_to, writers, written,
 };
+use ii_base::{CountingWriter, FailingWriter, Fault, Field, LimitName};
+use ii_indexing::{IndexCall, IndexWriters};
 use std::alloc::Global;
 use std::test::Fail;
 

@@ -1,11 +1,11 @@
+use crate::memory_index::{
+    FULL, Index, found, numbers, postings_of, push_counts, text_and_number, text_calls, texts,
+    told, two_texts, written, written_texts,
+};
 use bytes::Bytes;
 use ii_base::{Fault, Field, Schema, Term};
 use ii_fieldnorm::{FieldNormReader, FieldNormReaders};
 use ii_indexing::IndexCall;
-use ii_test_index::{
-    FULL, Index, found, numbers, postings_of, push_counts, text_and_number, text_calls, texts,
-    told, two_texts, written, written_texts,
-};
 use std::alloc::Global;
 use std::test::Fail;
 

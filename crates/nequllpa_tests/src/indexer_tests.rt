@@ -2,9 +2,9 @@ ghost use Rattle.std.specs.Prelude.{◌≡◌, ◌<◌, ◌≤◌, false, IfOk, 
 ghost use Rattle.ii_base.specs.declared.schema.value_type.ValueType.TheVariants as types;
 ghost use Rattle.ii_indexing.specs.IndexCalls.{Takes};
 
+use crate::memory_index::{FULL, Index, are_untouched, index_of, texts, told, writers};
 use ii_base::{AsciiTokenizer, Fault, Field, FieldEntry, LimitName, Schema, Token, TokenList};
 use ii_indexing::{IndexCall, Indexer};
-use ii_test_index::{FULL, Index, are_untouched, index_of, texts, told, writers};
 use std::alloc::Global;
 use std::test::Fail;
 

@@ -1,6 +1,8 @@
-//! Tests of a whole index, from index calls to look-ups, by the public calls.
+//! Tests of whole indexes, from index calls to look-ups, by the public calls.
 #![tactic(auto)]
 
+#[cfg(test)]
+mod call_tests;
 #[cfg(test)]
 mod fault_tests;
 #[cfg(test)]
@@ -8,6 +10,14 @@ mod index_tests;
 #[cfg(test)]
 mod indexer_tests;
 #[cfg(test)]
+mod json_tests;
+#[cfg(test)]
+mod memory_index;
+#[cfg(test)]
 mod ram_tests;
+#[cfg(test)]
+mod serialize_tests;
+#[cfg(test)]
+mod term_tests;
 #[cfg(test)]
 mod text_tests;

@@ -1,6 +1,6 @@
+use crate::memory_index::{checked, text_calls, two_texts};
 use ii_base::{AsciiTokenizer, Fault, Field};
 use ii_reader::OpenIndex;
-use ii_test_index::{checked, text_calls, two_texts};
 use nequllpa::index_in_ram;
 use std::alloc::Global;
 use std::test::Fail;

@@ -1,10 +1,10 @@
-use ii_base::{Fault, Field, IndexRecordOption, Schema, Token, TokenList};
-use ii_docset::DocId;
-use ii_indexing::IndexCall;
-use ii_test_index::{
+use crate::memory_index::{
     FULL, Index, found, found_by_seeks, text_call, text_calls, text_entry, texts, told,
     told_of_calls, told_of_text, two_texts, written, written_texts,
 };
+use ii_base::{Fault, Field, IndexRecordOption, Schema, Token, TokenList};
+use ii_docset::DocId;
+use ii_indexing::IndexCall;
 use std::alloc::Global;
 use std::test::Fail;
 

@@ -1,4 +1,0 @@
-use Rattle.ii_lookup_tests.proofs.written_tests.write_text.Goals as goal
-
-pub put_text-requires-clause-first : goal.put_text-requires-clause-first
-put_text-requires-clause-first c = λ _. c.in_ok-field.ensures.begins.terms.keys

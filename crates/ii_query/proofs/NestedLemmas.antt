@@ -1,0 +1,21 @@
+-- What is left of cursors that are nested.
+use Rattle.std.proofs.Common.{◌≡◌, ℕ, ◌<◌, List, [], ◌∷◌, drop, inl, inr, ◌∙◌, arith}
+use Rattle.std.specs.Prelude.{min}
+use Rattle.std.proofs.lemmas.Bool.Decides.{leb_tells}
+use Rattle.ii_docset.specs.declared.docset.TheConstants.{TERMINATED}
+use Rattle.ii_docset.specs.Entries.{Entry}
+use Rattle.ii_docset.specs.Cursor.{doc_at, IsAscending, IsSound}
+use Rattle.ii_query.specs.Combined.{either}
+use Rattle.ii_query.proofs.UnionLemmas.{first_is_least, other_is_least}
+
+-- the lesser of two first documents is the first that either has
+pub least_of : (es fs : List Entry) (one two : ℕ) → IsSound es → IsSound fs → one ≡ doc_at es → two ≡ doc_at fs → min one two ≡ doc_at (either es fs)
+least_of es fs one two first other here there = elim (leb_tells one two) [
+  | inl h ↦ let low = h.1 in let same : min one two ≡ one = omega (arith, low) in same ∙ first_is_least es fs one two first other here there low
+  | inr h ↦ let low = h.1 in let same : min one two ≡ two = omega (arith, low) in same ∙ other_is_least es fs one two first other here there low
+]
+
+-- what follows the first document lies above it
+pub next_above : (es : List Entry) (doc : ℕ) → IsAscending es → doc ≡ doc_at es → doc < TERMINATED → doc < doc_at (drop 1 es)
+next_above [] doc ascend here low = low
+next_above (e ∷ es) doc ascend here low = let next = ascend.0 in omega (arith, here, next)

@@ -1,0 +1,133 @@
+use Rattle.std.proofs.Common.{◌≡◌, ℕ, [], List, drop, map, refl, rules, sym, ap, ◌∙◌, arith}
+use Rattle.std.specs.Prelude.{not}
+use Rattle.ii_docset.specs.Entries.{document}
+use Rattle.ii_docset.specs.Cursor.{doc_at, from_doc}
+use Rattle.ii_docset.specs.Intersection.{has_doc}
+use Rattle.ii_docset.proofs.CursorLemmas.{doc_below}
+use Rattle.ii_docset.proofs.IntersectionLemmas.{asked_for, at_end, bound_above, bound_more}
+use Rattle.ii_query.specs.Combined.{common, without}
+use Rattle.ii_query.proofs.NestedLemmas.{least_of}
+use Rattle.ii_query.proofs.PickedLemmas.{common_found, picked_from, picked_sound, without_asked, without_at, without_found}
+use Rattle.ii_query.proofs.UnionLemmas.{either_from, either_sound, next_from}
+use Rattle.ii_query.proofs.query_cursor.+go_to.Goals as goal
+
+pub QueryCursor::go_to-returns-in-Both-clause-rest : goal.QueryCursor::go_to-returns-in-Both-clause-rest
+QueryCursor::go_to-returns-in-Both-clause-rest g t c =
+    let es = c.in-Both.first.value.rest in
+    let fs = c.in-Both.other.value.rest in
+    let gone : common c.meet.new.first.rest c.meet.new.other.rest ≡ common (from_doc c.args.target es) fs = search rules in
+    rw (← c.self.view_is, c.in-Both.is) (gone ∙ picked_from (has_doc fs) c.args.target es)
+
+pub QueryCursor::go_to-returns-in-Both-clause-sound : goal.QueryCursor::go_to-returns-in-Both-clause-sound
+QueryCursor::go_to-returns-in-Both-clause-sound g t c = picked_sound (has_doc c.meet.new.other.rest) c.meet.new.first.rest c.meet.ensures.at.sound
+
+pub QueryCursor::go_to-returns-in-Either-clause-doc : goal.QueryCursor::go_to-returns-in-Either-clause-doc
+QueryCursor::go_to-returns-in-Either-clause-doc g t c =
+    c.min.ensures ∙ least_of c.go_to-one.new.self.rest c.go_to-two.new.self.rest c.go_to-one.result c.go_to-two.result c.go_to-one.ensures.sound c.go_to-two.ensures.sound c.go_to-one.ensures.doc c.go_to-two.ensures.doc
+
+pub QueryCursor::go_to-returns-in-Either-clause-rest : goal.QueryCursor::go_to-returns-in-Either-clause-rest
+QueryCursor::go_to-returns-in-Either-clause-rest g t c =
+    let es = c.in-Either.first.value.rest in
+    let fs = c.in-Either.other.value.rest in
+    let one : c.go_to-one.new.self.rest ≡ from_doc c.args.target es = search rules in
+    let two : c.go_to-two.new.self.rest ≡ from_doc c.args.target fs = search rules in
+    rw (← c.self.view_is, c.in-Either.is, one, two) (either_from c.args.target es fs)
+
+pub QueryCursor::go_to-returns-in-Either-clause-sound : goal.QueryCursor::go_to-returns-in-Either-clause-sound
+QueryCursor::go_to-returns-in-Either-clause-sound g t c = either_sound c.go_to-one.new.self.rest c.go_to-two.new.self.rest c.go_to-one.ensures.sound c.go_to-two.ensures.sound
+
+pub QueryCursor::go_to-returns-in-Without-clause-rest : goal.QueryCursor::go_to-returns-in-Without-clause-rest
+QueryCursor::go_to-returns-in-Without-clause-rest g t c =
+    let es = c.in-Without.first.value.rest in
+    let fs = c.in-Without.other.value.rest in
+    let gone : without c.leave_out.new.first.rest c.leave_out.new.other.rest ≡ without (from_doc c.args.target es) fs = search rules in
+    rw (← c.self.view_is, c.in-Without.is) (gone ∙ picked_from (λ (d : ℕ). not (has_doc fs d)) c.args.target es)
+
+pub QueryCursor::go_to-returns-in-Without-clause-sound : goal.QueryCursor::go_to-returns-in-Without-clause-sound
+QueryCursor::go_to-returns-in-Without-clause-sound g t c = picked_sound (λ (d : ℕ). not (has_doc c.leave_out.new.other.rest d)) c.leave_out.new.first.rest c.leave_out.ensures.at.sound
+
+pub leave_out-returns-then-go_to-doc-clause-at : goal.leave_out-returns-then-go_to-doc-clause-at
+leave_out-returns-then-go_to-doc-clause-at g t c =
+    let l = c.loop-doc in
+    let asked = l.other.rest in
+    let told = c.go_to.new.self.rest in
+    let h = asked_for l.first.rest asked told l.doc l.invariant.here l.invariant.sound c.loop-doc-test.true (λ low. c.go_to.ensures.rest) (λ low. c.go_to.ensures.sound) in
+    let here = c.go_to.ensures.doc in
+    let other = c.if-go_to-doc.true in
+    record { sound = l.invariant.sound; here = without_at l.first.rest asked told l.doc c.go_to.result h here (λ same. omega (arith, here, other, same)) }
+
+pub leave_out-returns-then-go_to-doc-clause-rest : goal.leave_out-returns-then-go_to-doc-clause-rest
+leave_out-returns-then-go_to-doc-clause-rest g t c =
+    let l = c.loop-doc in
+    let h = asked_for l.first.rest l.other.rest c.go_to.new.self.rest l.doc l.invariant.here l.invariant.sound c.loop-doc-test.true (λ low. c.go_to.ensures.rest) (λ low. c.go_to.ensures.sound) in
+    without_asked l.first.rest l.other.rest c.go_to.new.self.rest l.doc h ∙ l.invariant.met
+
+pub leave_out-loop-doc-preserved : goal.leave_out-loop-doc-preserved
+leave_out-loop-doc-preserved g t c =
+    let l = c.loop-doc in
+    let es = l.first.rest in
+    let told = c.go_to.new.self.rest in
+    let h = asked_for es l.other.rest told l.doc l.invariant.here l.invariant.sound c.loop-doc-test.true (λ low. c.go_to.ensures.rest) (λ low. c.go_to.ensures.sound) in
+    let here = l.invariant.here in
+    let same : doc_at told ≡ doc_at es = sym c.go_to.ensures.doc ∙ c.if-go_to-doc.false ∙ here in
+    let passed : without (drop 1 es) told ≡ without es told = without_found es told (rw (← here) c.loop-doc-test.true) same in
+    let next : c.go_to-doc.new.self.rest ≡ drop 1 es = c.go_to-doc.ensures.rest ∙ sym (next_from l.doc es l.invariant.sound.ascending here c.loop-doc-test.true) in
+    record {
+      here = c.go_to-doc.ensures.doc;
+      sound = c.go_to-doc.ensures.sound;
+      met = ap (λ (left : List _). without left told) next ∙ passed ∙ without_asked es l.other.rest told l.doc h ∙ l.invariant.met;
+      first_depth = c.go_to-doc.ensures.depth ∙ l.invariant.first_depth;
+      other_depth = c.go_to.ensures.depth ∙ l.invariant.other_depth;
+    }
+
+pub leave_out-returns-clause-at : goal.leave_out-returns-clause-at
+leave_out-returns-clause-at g t c =
+    let l = c.loop-doc in
+    let none = at_end l.first.rest l.doc l.invariant.here l.invariant.sound c.loop-doc-test.false in
+    record { sound = l.invariant.sound; here = rw (none) refl }
+
+pub meet-returns-then-bound-doc-clause-rest : goal.meet-returns-then-bound-doc-clause-rest
+meet-returns-then-bound-doc-clause-rest g t c =
+    let l = c.loop-doc in
+    let h = asked_for l.first.rest l.other.rest c.go_to-bound.new.self.rest l.doc l.invariant.here l.invariant.sound c.loop-doc-test.true (λ low. c.go_to-bound.ensures.rest) (λ low. c.go_to-bound.ensures.sound) in
+    ap (λ (docs : List ℕ). map document docs) (common_found l.first.rest l.other.rest c.go_to-bound.new.self.rest l.doc h (sym c.go_to-bound.ensures.doc ∙ c.if-bound-doc.true) ∙ l.invariant.met)
+
+pub meet-loop-doc-smaller : goal.meet-loop-doc-smaller
+meet-loop-doc-smaller g t c =
+    let l = c.loop-doc in
+    let told = c.go_to-bound.new.self.rest in
+    let h = asked_for l.first.rest l.other.rest told l.doc l.invariant.here l.invariant.sound c.loop-doc-test.true (λ low. c.go_to-bound.ensures.rest) (λ low. c.go_to-bound.ensures.sound) in
+    let here = c.go_to-bound.ensures.doc in
+    let other = c.if-bound-doc.false in
+    bound_above l.first.rest l.other.rest told c.go_to-doc.new.self.rest l.doc c.go_to-bound.result c.go_to-doc.result h here (λ same. omega (arith, here, other, same)) c.go_to-doc.ensures.rest c.go_to-doc.ensures.doc
+
+pub meet-loop-doc-preserved : goal.meet-loop-doc-preserved
+meet-loop-doc-preserved g t c =
+    let l = c.loop-doc in
+    let told = c.go_to-bound.new.self.rest in
+    let h = asked_for l.first.rest l.other.rest told l.doc l.invariant.here l.invariant.sound c.loop-doc-test.true (λ low. c.go_to-bound.ensures.rest) (λ low. c.go_to-bound.ensures.sound) in
+    record {
+      here = c.go_to-doc.ensures.doc;
+      sound = c.go_to-doc.ensures.sound;
+      met = bound_more [] _ l.first.rest c.go_to-doc.new.self.rest l.other.rest told l.doc c.go_to-bound.result h c.go_to-bound.ensures.doc c.go_to-doc.ensures.rest l.invariant.met;
+      first_depth = c.go_to-doc.ensures.depth ∙ l.invariant.first_depth;
+      other_depth = c.go_to-bound.ensures.depth ∙ l.invariant.other_depth;
+    }
+
+pub meet-returns-clause-at : goal.meet-returns-clause-at
+meet-returns-clause-at g t c =
+    let l = c.loop-doc in
+    let none = at_end l.first.rest l.doc l.invariant.here l.invariant.sound c.loop-doc-test.false in
+    record { sound = l.invariant.sound; here = rw (none) refl }
+
+pub leave_out-returns-clause-up_to : goal.leave_out-returns-clause-up_to
+leave_out-returns-clause-up_to g t c =
+    let here = c.loop-doc.invariant.here in
+    let below = doc_below c.loop-doc.first.rest c.loop-doc.invariant.sound.ascending in
+    omega (arith, here, below)
+
+pub meet-returns-clause-up_to : goal.meet-returns-clause-up_to
+meet-returns-clause-up_to g t c =
+    let here = c.loop-doc.invariant.here in
+    let below = doc_below c.loop-doc.first.rest c.loop-doc.invariant.sound.ascending in
+    omega (arith, here, below)

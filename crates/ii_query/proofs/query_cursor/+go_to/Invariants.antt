@@ -1,0 +1,40 @@
+use Rattle.std.proofs.Common.{◌≡◌, ◌-◌, ◌+◌, ◌*◌}
+use Rattle.std.specs.Prelude.{max}
+use Rattle.ii_docset.specs.declared.docset.TheConstants.{TERMINATED}
+use Rattle.ii_docset.specs.Cursor.{doc_at, IsSound}
+use Rattle.ii_docset.specs.Intersection.{common_docs}
+use Rattle.ii_query.specs.Combined.{without}
+use Rattle.ii_query.proofs.query_cursor.+go_to.Given as goal
+
+abbrev pub decreases-QueryCursor::go_to : goal.decreases-QueryCursor::go_to
+decreases-QueryCursor::go_to g l = 2 * l.self.now.depth
+
+abbrev pub decreases-meet : goal.decreases-meet
+decreases-meet g l = 2 * max l.first.now.depth l.other.now.depth + 1
+
+abbrev pub decreases-leave_out : goal.decreases-leave_out
+decreases-leave_out g l = 2 * max l.first.now.depth l.other.now.depth + 1
+
+abbrev pub invariant-meet-loop-doc : goal.invariant-meet-loop-doc
+invariant-meet-loop-doc g l = record {
+  here : l.doc ≡ doc_at l.first.rest;
+  sound : IsSound l.first.rest;
+  met : common_docs l.first.rest l.other.rest ≡ common_docs l.fn.first.rest l.fn.other.rest;
+  first_depth : l.first.depth ≡ l.fn.first.depth;
+  other_depth : l.other.depth ≡ l.fn.other.depth;
+}
+
+abbrev pub decreases-meet-loop-doc : goal.decreases-meet-loop-doc
+decreases-meet-loop-doc g l = TERMINATED - l.doc
+
+abbrev pub invariant-leave_out-loop-doc : goal.invariant-leave_out-loop-doc
+invariant-leave_out-loop-doc g l = record {
+  here : l.doc ≡ doc_at l.first.rest;
+  sound : IsSound l.first.rest;
+  met : without l.first.rest l.other.rest ≡ without l.fn.first.rest l.fn.other.rest;
+  first_depth : l.first.depth ≡ l.fn.first.depth;
+  other_depth : l.other.depth ≡ l.fn.other.depth;
+}
+
+abbrev pub decreases-leave_out-loop-doc : goal.decreases-leave_out-loop-doc
+decreases-leave_out-loop-doc g l = TERMINATED - l.doc

@@ -1,0 +1,262 @@
+ghost use Rattle.std.specs.Prelude.{◌≡◌, ◌≤◌, [], IfOk};
+ghost use Rattle.ii_io.specs.Faults.{OnlyMemory};
+ghost use Rattle.ii_docset.specs.Cursor.{doc_at, from_doc, IsSound};
+ghost use Rattle.ii_query.specs.Combined.{IsAtFirst, common, either, without};
+
+use ii_base::Fault;
+use ii_docset::{DocId, DocSet, TERMINATED};
+use std::alloc::Global;
+use std::marker::Model;
+
+/// A cursor over the documents that a query matches, in ascending order. How it is nested is known when the
+/// program runs: it is over no documents, over those of one cursor, or over those that two such cursors
+/// both have, either has, or the first has and the other one hasn't.
+#[cycle(query_cursor)]
+#[derive(Drop)]
+pub struct QueryCursor<T: DocSet> {
+    parts: QueryParts<T>,
+}
+
+#[cycle(query_cursor)]
+#[derive(Drop)]
+enum QueryParts<T: DocSet> {
+    Nothing,
+    One(T),
+    Both(Box<QueryCursor<T>>, Box<QueryCursor<T>>),
+    Either(Box<QueryCursor<T>>, Box<QueryCursor<T>>),
+    Without(Box<QueryCursor<T>>, Box<QueryCursor<T>>),
+}
+
+impl<T: DocSet> Model for QueryCursor<T> {
+    ghost use Rattle.ii_query.specs.Combined.{QueryCursorState};
+
+    ghost Value = { QueryCursorState };
+
+    ghost use Rattle.ii_query.specs.QueryCursor.{AreParts, depth_of, rest_of};
+
+    ghost view = { λ c. record { rest = rest_of T.rest c.parts; depth = depth_of c.parts } };
+
+    ghost invariant = { λ c. AreParts c.parts };
+
+    ghost size = { λ s. s.depth };
+
+    ghost use Rattle.ii_query.specs.QueryCursorLemmas.{part_depth};
+    ghost use Rattle.std.proofs.Common.{arith};
+
+    ghost size_decreases = { λ c h. Prim.grind (arith) };
+}
+
+impl<T: DocSet> QueryCursor<T> {
+    /// A cursor over no documents.
+    pub fn nothing() -> QueryCursor<T>
+        ensures rest { result.rest ≡ [] }
+    {
+        QueryCursor {
+            parts: QueryParts::Nothing,
+        }
+    }
+
+    /// The documents of one cursor.
+    pub fn one(cursor: T) -> QueryCursor<T>
+        ensures rest { result.rest ≡ T.rest cursor }
+    {
+        QueryCursor {
+            parts: QueryParts::One(cursor),
+        }
+    }
+
+    /// The documents that both have. The first one leads: so let it be the one over fewer documents.
+    /// `OutOfMemory` where there is no room for two boxes.
+    pub fn both(
+        alloc: Global,
+        first: QueryCursor<T>,
+        other: QueryCursor<T>,
+    ) -> Result<QueryCursor<T>, Fault>
+        ensures rest { IfOk result (λ cursor. cursor.rest ≡ common first.rest other.rest) }
+        ensures only { OnlyMemory result }
+    {
+        let mut first = Box::new(alloc, first)?;
+        let mut other = Box::new(alloc, other)?;
+        meet(&mut first, &mut other);
+        Ok(QueryCursor {
+            parts: QueryParts::Both(first, other),
+        })
+    }
+
+    /// The documents that either has, each once. `OutOfMemory` where there is no room for two boxes.
+    pub fn either(
+        alloc: Global,
+        first: QueryCursor<T>,
+        other: QueryCursor<T>,
+    ) -> Result<QueryCursor<T>, Fault>
+        ensures rest { IfOk result (λ cursor. cursor.rest ≡ either first.rest other.rest) }
+        ensures only { OnlyMemory result }
+    {
+        let first = Box::new(alloc, first)?;
+        let other = Box::new(alloc, other)?;
+        Ok(QueryCursor {
+            parts: QueryParts::Either(first, other),
+        })
+    }
+
+    /// The documents that the first has and the other one hasn't. `OutOfMemory` where there is no room
+    /// for two boxes.
+    pub fn without(
+        alloc: Global,
+        first: QueryCursor<T>,
+        other: QueryCursor<T>,
+    ) -> Result<QueryCursor<T>, Fault>
+        ensures rest { IfOk result (λ cursor. cursor.rest ≡ without first.rest other.rest) }
+        ensures only { OnlyMemory result }
+    {
+        let mut first = Box::new(alloc, first)?;
+        let mut other = Box::new(alloc, other)?;
+        leave_out(&mut first, &mut other);
+        Ok(QueryCursor {
+            parts: QueryParts::Without(first, other),
+        })
+    }
+
+    // The current document.
+    #[tactic(auto, using(ii_docset::proofs::CursorLemmas::doc_below))]
+    fn current(&self) -> DocId
+        ensures doc { result ≡ doc_at self.now.rest }
+        ensures sound { IsSound self.now.rest }
+        ensures up_to { result ≤ TERMINATED }
+    {
+        match &self.parts {
+            QueryParts::Nothing => TERMINATED,
+            QueryParts::One(cursor) => cursor.doc(),
+            QueryParts::Both(first, _) => first.current(),
+            QueryParts::Either(first, other) => first.current().min(other.current()),
+            QueryParts::Without(first, _) => first.current(),
+        }
+    }
+
+    // How many documents there may be.
+    fn bound(&self) -> u32 {
+        match &self.parts {
+            QueryParts::Nothing => 0,
+            QueryParts::One(cursor) => cursor.size_hint(),
+            QueryParts::Both(first, _) => first.bound(),
+            QueryParts::Either(first, other) => first.bound().saturating_add(other.bound()),
+            QueryParts::Without(first, _) => first.bound(),
+        }
+    }
+
+    // Drops the documents below a target, which may lie below the current one.
+    #[cycle(go_to)]
+    fn go_to(&mut self, target: DocId) -> DocId
+        requires { target ≤ TERMINATED }
+        ensures doc { result ≡ doc_at self.new.rest }
+        ensures rest { self.new.rest ≡ from_doc target self.old.rest }
+        ensures sound { IsSound self.new.rest }
+        ensures up_to { result ≤ TERMINATED }
+        ensures depth { self.new.depth ≡ self.old.depth }
+    {
+        match &mut self.parts {
+            QueryParts::Nothing => {
+                return TERMINATED;
+            }
+            QueryParts::One(cursor) => {
+                return go_on_to(cursor, target);
+            }
+            QueryParts::Both(first, other) => {
+                first.go_to(target);
+                return meet(first, other);
+            }
+            QueryParts::Either(first, other) => {
+                let one = first.go_to(target);
+                let two = other.go_to(target);
+                return one.min(two);
+            }
+            QueryParts::Without(first, other) => {
+                first.go_to(target);
+                return leave_out(first, other);
+            }
+        }
+    }
+}
+
+// Drops the documents of a cursor below a target, which may lie below the current one.
+#[tactic(auto, using(ii_docset::proofs::CursorLemmas::doc_below))]
+fn go_on_to<T: DocSet>(cursor: &mut T, target: DocId) -> DocId
+    requires { target ≤ TERMINATED }
+    ensures doc { result ≡ doc_at (T.rest cursor.new) }
+    ensures rest { T.rest cursor.new ≡ from_doc target (T.rest cursor.old) }
+    ensures sound { IsSound (T.rest cursor.new) }
+    ensures up_to { result ≤ TERMINATED }
+{
+    let doc = cursor.doc();
+    if doc < target {
+        return cursor.seek(target);
+    }
+    doc
+}
+
+// Goes on to the next document that both have, which may be the current one.
+#[cycle(go_to)]
+fn meet<T: DocSet>(first: &mut QueryCursor<T>, other: &mut QueryCursor<T>) -> DocId
+    ensures doc { result ≡ doc_at first.new.rest }
+    ensures at { IsAtFirst first.new.rest (common first.new.rest other.new.rest) }
+    ensures rest { common first.new.rest other.new.rest ≡ common first.old.rest other.old.rest }
+    ensures up_to { result ≤ TERMINATED }
+    ensures depth { (first.new.depth ≡ first.old.depth) × (other.new.depth ≡ other.old.depth) }
+{
+    let mut doc = first.current();
+    while doc < TERMINATED {
+        let bound = other.go_to(doc);
+        if bound == doc {
+            return doc;
+        }
+        doc = first.go_to(bound);
+    }
+    doc
+}
+
+// Goes on to the next document that the other one hasn't, which may be the current one.
+#[cycle(go_to)]
+fn leave_out<T: DocSet>(first: &mut QueryCursor<T>, other: &mut QueryCursor<T>) -> DocId
+    ensures doc { result ≡ doc_at first.new.rest }
+    ensures at { IsAtFirst first.new.rest (without first.new.rest other.new.rest) }
+    ensures rest { without first.new.rest other.new.rest ≡ without first.old.rest other.old.rest }
+    ensures up_to { result ≤ TERMINATED }
+    ensures depth { (first.new.depth ≡ first.old.depth) × (other.new.depth ≡ other.old.depth) }
+{
+    let mut doc = first.current();
+    while doc < TERMINATED {
+        if other.go_to(doc) != doc {
+            return doc;
+        }
+        doc = first.go_to(doc + 1);
+    }
+    doc
+}
+
+impl<T: DocSet> DocSet for QueryCursor<T> {
+    ghost rest = { λ s. s.rest };
+
+    ghost went_nowhere = { λ s. tt };
+
+    ghost went_on = { λ a b c first second. tt };
+
+    fn advance(&mut self) -> DocId {
+        let doc = self.current();
+        if doc >= TERMINATED {
+            return doc;
+        }
+        self.go_to(doc + 1)
+    }
+
+    fn doc(&self) -> DocId {
+        self.current()
+    }
+
+    fn size_hint(&self) -> u32 {
+        self.bound()
+    }
+
+    fn seek(&mut self, target: DocId) -> DocId {
+        self.go_to(target)
+    }
+}

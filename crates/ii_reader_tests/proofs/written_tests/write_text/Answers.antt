@@ -1,0 +1,4 @@
+use Rattle.ii_reader_tests.proofs.written_tests.write_text.Goals as goal
+
+pub put_text-requires-clause-first : goal.put_text-requires-clause-first
+put_text-requires-clause-first c = λ _. c.in_ok-field.ensures.begins.terms.keys

@@ -1,5 +1,0 @@
-use Rattle.ii_test_index.proofs.CheckedCalls.{AreChecked}
-use Rattle.ii_test_index.proofs.memory_index.checked.Given as goal
-
-abbrev pub invariant-loop-call : goal.invariant-loop-call
-invariant-loop-call l = AreChecked l.schema l.num_docs l.last l.checked.items
