@@ -1,5 +1,5 @@
 -- What a query gives in an index that holds tokens.
-use Rattle.std.proofs.Common.{◌≡◌, ◌∙◌, ℕ, Bool, true, false, ◌&&◌, ◌||◌, ◌==◌, ◌<◌, not, List, [], ◌∷◌, Option, None, Some, Result, Ok, Err, inl, inr, length, map, nat_eq, refl, sym, ap}
+use Rattle.std.proofs.Common.{◌≡◌, ◌∙◌, ℕ, Bool, true, false, ◌&&◌, ◌||◌, ◌==◌, not, List, [], ◌∷◌, Option, None, Some, Result, Ok, Err, inl, inr, length, map, nat_eq, refl, sym, ap}
 use Rattle.std.specs.Prelude.{IsSomeAnd, MatchOption, filter, slice_get}
 use Rattle.std.specs.List.{list_any}
 use Rattle.std.specs.Result.{result_unwrap_or}

@@ -1,5 +1,5 @@
 -- Ascending lists that have the same documents are equally long.
-use Rattle.std.proofs.Common.{◌≡◌, ◌≢◌, ◌∙◌, ℕ, suc, Bool, true, false, true≢false, ◌||◌, ◌<◌, List, [], ◌∷◌, inl, inr, length, nat_eq, refl, sym, ap, arith}
+use Rattle.std.proofs.Common.{◌≡◌, ◌∙◌, ℕ, suc, true, true≢false, ◌<◌, List, [], ◌∷◌, inl, inr, length, refl, sym, ap, arith}
 use Rattle.std.proofs.lemmas.Bool.{eq-eqb, ne_eqb}
 use Rattle.std.proofs.lemmas.Bool.Decides.{eqb_tells, leb_tells}
 use Rattle.ii_docset.specs.Cursor.{IsAscending}
