@@ -10,11 +10,12 @@ sys.path.insert(0, os.path.dirname(os.path.dirname(os.path.abspath(__file__))))
 import refusing
 
 REFUSALS = (b'out of memory', b'the writer failed')
+WITHOUT_WRITER = (b'index', b'walk', b'loaded', b'grown')
 
 
 def may_say(name, line):
-    """Whether a part may say this of a refusal: the index in memory names no writer."""
-    return line in [name + b': ' + refusal for refusal in REFUSALS[:1 if name == b'index' else 2]]
+    """Whether a part may say this of a refusal: those that write no file name no writer."""
+    return line in [name + b': ' + refusal for refusal in REFUSALS[:1 if name in WITHOUT_WRITER else 2]]
 
 
 def refusals(got, right):

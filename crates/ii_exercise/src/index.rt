@@ -4,18 +4,18 @@ ghost use Rattle.ii_base.specs.declared.schema.value_type.ValueType.TheVariants 
 ghost use Rattle.ii_indexing.specs.IndexCalls.{MayAllBeIndexed, Takes, doc_of, field_of, type_of};
 
 use ii_base::{
-    AsciiTokenizer, Fault, Field, FieldEntry, IndexRecordOption, Schema, Term, ValueType,
+    AsciiTokenizer, Fault, Field, FieldEntry, IndexRecordOption, JsonValue, Schema, Term, ValueType,
 };
 use ii_docset::{DocSet, Postings, TERMINATED};
-use ii_indexing::IndexCall;
+use ii_indexing::{IndexCall, JsonTermSerializer};
 use ii_reader::{InvertedIndexReader, OpenIndex, SegmentPostings};
 use nequllpa::index_in_ram;
 use std::alloc::Global;
 
 const FULL: IndexRecordOption = IndexRecordOption::WithFreqsAndPositions;
 
-/// Texts, numbers and bytes of two documents are indexed and opened; then one of each is looked up,
-/// and a word that isn't there.
+/// Texts, numbers, bytes and a JSON value of two documents are indexed and opened; then one of each is looked
+/// up, a word that isn't there, and the paths of the JSON field.
 pub fn read_back(alloc: Global) -> Result<String, Fault> {
     let index = opened(alloc)?;
     let mut text = String::new(alloc);
@@ -32,23 +32,43 @@ pub fn read_back(alloc: Global) -> Result<String, Fault> {
         index.reader(words),
         &word(alloc, "question")?,
     )?;
+    push_json(alloc, &mut text, index.reader(Field::from_field_id(3)))?;
     Ok(text)
+}
+
+// Adds a word at a path, and the paths of a field with how many terms they have.
+fn push_json(alloc: Global, text: &mut String, reader: &InvertedIndexReader) -> Result<(), Fault> {
+    push_postings(alloc, text, reader, &word_at_path(alloc)?)?;
+    let spaces = reader.list_encoded_json_fields(alloc)?;
+    for space in spaces.as_slice() {
+        let (len, number) = (space.field_name.len(), space.num_terms);
+        write!(text, " {number} at a path of {len}")?;
+    }
+    Ok(())
+}
+
+// The word at the path of the value.
+fn word_at_path(alloc: Global) -> Result<Term, Fault> {
+    let mut serializer = JsonTermSerializer::new(alloc);
+    serializer.append_term("a\u{1}b", ValueType::Str, b"be")?;
+    Term::from_field_bytes(alloc, Field::from_field_id(3), serializer.as_bytes())
 }
 
 // The index of all calls.
 fn opened(alloc: Global) -> Result<OpenIndex, Fault>
-    ensures { IfOk result (λ index. length index.readers ≡ 3) }
+    ensures { IfOk result (λ index. length index.readers ≡ 4) }
 {
     let (schema, calls) = (fields(alloc)?, calls(alloc)?);
     index_in_ram(alloc, schema, 2, calls, &AsciiTokenizer)
 }
 
-// Texts with positions and norms, numbers with norms, bytes without.
+// Texts with positions and norms, numbers with norms, bytes without, and JSON values.
 fn fields(alloc: Global) -> Result<Schema, Fault>
-    ensures three { IfOk result (λ schema. length schema ≡ 3) }
+    ensures four { IfOk result (λ schema. length schema ≡ 4) }
     ensures texts { IfOk result (λ schema. Takes schema 0 types.Str) }
     ensures numbers { IfOk result (λ schema. Takes schema 1 types.U64) }
     ensures bytes { IfOk result (λ schema. Takes schema 2 types.Bytes) }
+    ensures values { IfOk result (λ schema. Takes schema 3 types.Json) }
 {
     let mut entries = Vec::new(alloc);
     let name = String::from_str(alloc, "text")?;
@@ -57,12 +77,14 @@ fn fields(alloc: Global) -> Result<Schema, Fault>
     entries.push(FieldEntry::value(name, ValueType::U64, true))?;
     let name = String::from_str(alloc, "bytes")?;
     entries.push(FieldEntry::value(name, ValueType::Bytes, false))?;
+    let name = String::from_str(alloc, "json")?;
+    entries.push(FieldEntry::json(name, FULL, false))?;
     Ok(Schema::new(entries))
 }
 
 // The calls, in the order of their documents.
 fn calls(alloc: Global) -> Result<Vec<IndexCall>, Fault>
-    ensures { IfOk result (λ calls. (schema : List SchemaEntry) → Takes schema 0 types.Str → Takes schema 1 types.U64 → Takes schema 2 types.Bytes → MayAllBeIndexed schema 2 calls.items) }
+    ensures { IfOk result (λ calls. (schema : List SchemaEntry) → Takes schema 0 types.Str → Takes schema 1 types.U64 → Takes schema 2 types.Bytes → Takes schema 3 types.Json → MayAllBeIndexed schema 2 calls.items) }
 {
     let (number, bytes) = (Field::from_field_id(1), Field::from_field_id(2));
     let mut calls = Vec::new(alloc);
@@ -71,7 +93,20 @@ fn calls(alloc: Global) -> Result<Vec<IndexCall>, Fault>
     calls.push(text(alloc, 1, "be")?)?;
     calls.push(IndexCall::U64(1, number, 7))?;
     calls.push(IndexCall::Bytes(1, bytes, vec![in alloc; 97, 98]?))?;
+    let value = nested(alloc)?;
+    calls.push(IndexCall::Json(1, Field::from_field_id(3), value))?;
     Ok(calls)
+}
+
+// A text and a number at two paths.
+fn nested(alloc: Global) -> Result<JsonValue, Fault> {
+    let text = String::from_str(alloc, "to be")?;
+    let mut below = Vec::new(alloc);
+    below.push((String::from_str(alloc, "b")?, JsonValue::Str(text)))?;
+    let mut members = Vec::new(alloc);
+    members.push((String::from_str(alloc, "a")?, JsonValue::Object(below)))?;
+    members.push((String::from_str(alloc, "n")?, JsonValue::U64(5)))?;
+    Ok(JsonValue::Object(members))
 }
 
 // A text of a document.

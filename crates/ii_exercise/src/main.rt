@@ -4,7 +4,9 @@
 
 mod composite;
 mod dictionary;
+mod grown;
 mod index;
+mod loaded;
 mod norms;
 mod postings;
 mod schema;
@@ -36,6 +38,8 @@ fn report_fields(rt: &HostRuntime) -> io::Result<()> {
 fn report_terms(rt: &HostRuntime) -> io::Result<()> {
     report(rt, "postings", postings::read_back(rt.alloc()))?;
     report(rt, "walk", walked::read_back(rt.alloc()))?;
+    report(rt, "loaded", loaded::read_back(rt.alloc()))?;
+    report(rt, "grown", grown::read_back(rt.alloc()))?;
     report(rt, "dictionary", dictionary::read_back(rt.alloc()))?;
     report(rt, "index", index::read_back(rt.alloc()))
 }

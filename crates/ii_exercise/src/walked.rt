@@ -12,11 +12,16 @@ static THREE: [u8; 3] = [0x80, 0x82, 0x88];
 // Where a cursor over them stands after so many of the calls.
 const PLACES: [DocId; 7] = [0, 0, 2, 2, 10, 10, TERMINATED];
 
+/// A cursor over them.
+pub fn three() -> Result<SegmentPostings, Fault> {
+    let bytes = Bytes::from_static(&THREE);
+    Ok(SegmentPostings::open(3, bytes, None, BASIC, BASIC)?)
+}
+
 /// A walk to the end of three documents. Where memory is refused inside it, its answers have to be those
 /// of the calls before, and the cursor has to stand where these left it.
 pub fn read_back(alloc: Global) -> Result<String, Fault> {
-    let bytes = Bytes::from_static(&THREE);
-    let mut cursor = SegmentPostings::open(3, bytes, None, BASIC, BASIC)?;
+    let mut cursor = three()?;
     let calls = [
         CursorCall::Doc,
         CursorCall::Advance,

@@ -14,10 +14,19 @@ pub struct Tally {
     pub differences: u64,
 }
 
-const MODES: [Mode; 3] = [Mode::Documents, Mode::Counts, Mode::Positions];
+impl Tally {
+    /// Counts a case, in which the readers agree or don't.
+    pub fn add(&mut self, agrees: bool) {
+        self.cases = self.cases.saturating_add(1);
+        self.differences = self.differences.saturating_add(u64::from(!agrees));
+    }
+}
 
-// The option that a mode is.
-fn option_of(mode: Mode) -> IndexRecordOption {
+/// What a field may record, and a reader request.
+pub const MODES: [Mode; 3] = [Mode::Documents, Mode::Counts, Mode::Positions];
+
+/// The option that a mode is.
+pub fn option_of(mode: Mode) -> IndexRecordOption {
     match mode {
         Mode::Documents => IndexRecordOption::Basic,
         Mode::Counts => IndexRecordOption::WithFreqs,
@@ -25,20 +34,30 @@ fn option_of(mode: Mode) -> IndexRecordOption {
     }
 }
 
-// Whether a fault names this part.
-fn names(fault: LayoutFault, damage: Damage) -> bool {
-    let LayoutFault::Damaged(part) = fault;
+/// Whether a part is the one that the slow reader names.
+pub fn is_part(part: Part, damage: Damage) -> bool {
     let want = match damage {
         Damage::Skip => Part::Skip,
         Damage::Documents => Part::Documents,
         Damage::Frequencies => Part::Frequencies,
         Damage::Positions => Part::Positions,
+        Damage::Composite => Part::Composite,
+        Damage::Dictionary => Part::Dictionary,
+        Damage::TermStore => Part::TermStore,
+        Damage::TokenCount => Part::TokenCount,
+        Damage::Range => Part::Range,
     };
     part == want
 }
 
+// Whether a fault names this part.
+fn names(fault: LayoutFault, damage: Damage) -> bool {
+    let LayoutFault::Damaged(part) = fault;
+    is_part(part, damage)
+}
+
 /// Opens a list for each pair of options.
-pub fn judge(
+pub fn judge_list(
     alloc: Global,
     doc_freq: u32,
     postings: &[u8],
@@ -47,10 +66,7 @@ pub fn judge(
 ) -> Result<(), Fault> {
     for recorded in MODES {
         for requested in MODES {
-            tally.cases = tally.cases.saturating_add(1);
-            if !agree(alloc, doc_freq, postings, positions, recorded, requested)? {
-                tally.differences = tally.differences.saturating_add(1);
-            }
+            tally.add(agree(alloc, doc_freq, postings, positions, recorded, requested)?);
         }
     }
     Ok(())
@@ -95,8 +111,12 @@ fn same_cursor(
     }
 }
 
-// Whether a cursor has these documents, counts and positions, and then ends.
-fn goes_over(alloc: Global, cursor: &mut SegmentPostings, list: &Listed) -> Result<bool, Fault> {
+/// Whether a cursor has these documents, counts and positions, and then ends.
+pub fn goes_over(
+    alloc: Global,
+    cursor: &mut SegmentPostings,
+    list: &Listed,
+) -> Result<bool, Fault> {
     let mut used = 0usize;
     let mut found = Vec::new(alloc);
     for (place, doc) in list.docs.as_slice().iter().enumerate() {

@@ -1,16 +1,19 @@
-//! Opens damaged lists by the cursors and by the slow reader, and counts where the two differ: each cut of some
-//! lists and each change of one byte, of lists of more than 100 bytes, or of another number that is given,
-//! each change of one bit; or, where two numbers are given, so many lists changed at random from a seed on.
+//! Opens damaged lists, stores, dictionaries, composite files and indexes by the readers and by the slow
+//! reader, and counts where the two differ: each cut of some of them and each change of one byte, where they
+//! have more than 100 bytes, or another number that is given, each change of one bit; or, where two numbers
+//! are given, so many changed at random from a seed on.
 #![tactic(auto)]
 
 mod compare;
+mod files;
 mod mutate;
 mod rows;
+mod subjects;
 
 use anyhow::{Context, Result};
 use std::env;
 
-// Lists of so many bytes are changed in each way.
+// What has no more bytes is changed in each way.
 const LONGEST: u64 = 100;
 
 fn main(rt: HostRuntime) -> Result<()> {

@@ -1,6 +1,8 @@
-use crate::compare::{Tally, judge};
-use crate::rows::{Row, rows};
+use crate::compare::{Tally, judge_list};
+use crate::files::{judge_index, same_composite, same_dictionary, same_store};
+use crate::subjects::{Kind, Subject, subjects};
 use ii_base::Fault;
+use ii_slow_reader::Files;
 use std::alloc::Global;
 
 const NONE: Tally = Tally {
@@ -8,55 +10,93 @@ const NONE: Tally = Tally {
     differences: 0,
 };
 
-/// Each row as it is, with each cut of its bytes, and with each change of one byte; of a row of more than
-/// `longest` bytes with each change of one bit.
+// Reads bytes both ways.
+fn judge(alloc: Global, kind: Kind, parts: [&[u8]; 4], tally: &mut Tally) -> Result<(), Fault> {
+    let [first, second, third, fourth] = parts;
+    match kind {
+        Kind::List(doc_freq) => judge_list(alloc, doc_freq, first, second, tally)?,
+        Kind::Composite => tally.add(same_composite(alloc, first)?),
+        Kind::Store => tally.add(same_store(alloc, first)?),
+        Kind::Dictionary => tally.add(same_dictionary(alloc, first)?),
+        Kind::Index => judge_index(
+            alloc,
+            Files {
+                terms: first,
+                postings: second,
+                positions: third,
+                norms: fourth,
+            },
+            tally,
+        )?,
+    }
+    Ok(())
+}
+
+/// Each subject as it is, with each cut of one of its parts, and with each change of one byte; of a subject of
+/// more than `longest` bytes with each change of one bit.
 pub fn each_change(alloc: Global, longest: u64) -> Result<Tally, Fault> {
     let mut tally = NONE;
-    for row in rows() {
-        let len = (row.postings.len() as u64).saturating_add(row.positions.len() as u64);
-        judge(alloc, row.doc_freq, row.postings, row.positions, &mut tally)?;
-        changed_postings(alloc, &row, len <= longest, &mut tally)?;
-        changed_positions(alloc, &row, len <= longest, &mut tally)?;
+    for subject in subjects(alloc)?.as_slice() {
+        let mut len = 0u64;
+        for part in subject.parts {
+            len = len.saturating_add(part.len() as u64);
+        }
+        judge(alloc, subject.kind, subject.parts, &mut tally)?;
+        for (at, part) in subject.parts.iter().enumerate() {
+            changed(alloc, subject, at, part, len <= longest, &mut tally)?;
+            cut(alloc, subject, at, part, &mut tally)?;
+        }
     }
     Ok(tally)
 }
 
-fn changed_postings(alloc: Global, row: &Row, all: bool, tally: &mut Tally) -> Result<(), Fault> {
-    let mut bytes = Vec::from_slice(alloc, row.postings)?;
-    for place in 0..row.postings.len() {
+// Each change of a byte of one part, or of a bit.
+fn changed(
+    alloc: Global,
+    subject: &Subject,
+    at: usize,
+    part: &[u8],
+    all: bool,
+    tally: &mut Tally,
+) -> Result<(), Fault> {
+    let mut bytes = Vec::from_slice(alloc, part)?;
+    for place in 0..part.len() {
         for change in 1..=u8::MAX {
             if all || change.is_power_of_two() {
                 alter(&mut bytes, place, change);
-                judge(alloc, row.doc_freq, bytes.as_slice(), row.positions, tally)?;
+                let parts = with_part(subject.parts, at, bytes.as_slice());
+                judge(alloc, subject.kind, parts, tally)?;
                 alter(&mut bytes, place, change);
             }
-        }
-    }
-    for len in 0..row.postings.len() {
-        if let Some(cut) = row.postings.get(..len) {
-            judge(alloc, row.doc_freq, cut, row.positions, tally)?;
         }
     }
     Ok(())
 }
 
-fn changed_positions(alloc: Global, row: &Row, all: bool, tally: &mut Tally) -> Result<(), Fault> {
-    let mut bytes = Vec::from_slice(alloc, row.positions)?;
-    for place in 0..row.positions.len() {
-        for change in 1..=u8::MAX {
-            if all || change.is_power_of_two() {
-                alter(&mut bytes, place, change);
-                judge(alloc, row.doc_freq, row.postings, bytes.as_slice(), tally)?;
-                alter(&mut bytes, place, change);
-            }
-        }
-    }
-    for len in 0..row.positions.len() {
-        if let Some(cut) = row.positions.get(..len) {
-            judge(alloc, row.doc_freq, row.postings, cut, tally)?;
+// Each cut of one part.
+fn cut(
+    alloc: Global,
+    subject: &Subject,
+    at: usize,
+    part: &[u8],
+    tally: &mut Tally,
+) -> Result<(), Fault> {
+    for len in 0..part.len() {
+        if let Some(front) = part.get(..len) {
+            let parts = with_part(subject.parts, at, front);
+            judge(alloc, subject.kind, parts, tally)?;
         }
     }
     Ok(())
+}
+
+// The parts with another in one place.
+fn with_part<'a>(parts: [&'a [u8]; 4], at: usize, bytes: &'a [u8]) -> [&'a [u8]; 4] {
+    let mut changed = parts;
+    if let Some(part) = changed.get_mut(at) {
+        *part = bytes;
+    }
+    changed
 }
 
 // Changes the bits of a byte; a second time changes them back.
@@ -66,33 +106,46 @@ fn alter(bytes: &mut Vec<u8>, place: usize, change: u8) {
     }
 }
 
-/// So many lists, each a row that was changed in one to four bytes, cut or prolonged, with another number of
-/// documents at times.
+/// So many subjects, each with parts that were changed in up to four bytes, cut or prolonged, a list with
+/// another number of documents at times.
 pub fn at_random(alloc: Global, count: u64, seed: u64) -> Result<Tally, Fault> {
     let mut tally = NONE;
     let mut state = seed | 1;
-    let rows = rows();
+    let known = subjects(alloc)?;
     for _ in 0..count {
-        let row = rows[(next(&mut state) % 16) as usize];
-        let mut postings = Vec::from_slice(alloc, row.postings)?;
-        let mut positions = Vec::from_slice(alloc, row.positions)?;
-        damage(&mut postings, &mut state)?;
-        if next(&mut state) % 2 == 0 {
-            damage(&mut positions, &mut state)?;
+        let at = next(&mut state)
+            .checked_rem(known.len() as u64)
+            .unwrap_or(0);
+        if let Some(subject) = known.as_slice().get(at as usize) {
+            damaged(alloc, subject, &mut state, &mut tally)?;
         }
-        let doc_freq = match next(&mut state) % 8 {
-            0 => (next(&mut state) % 400) as u32,
-            _ => row.doc_freq,
-        };
-        judge(
-            alloc,
-            doc_freq,
-            postings.as_slice(),
-            positions.as_slice(),
-            &mut tally,
-        )?;
     }
     Ok(tally)
+}
+
+// A subject with damage.
+fn damaged(
+    alloc: Global,
+    subject: &Subject,
+    state: &mut u64,
+    tally: &mut Tally,
+) -> Result<(), Fault> {
+    let [first, second, third, fourth] = subject.parts;
+    let first = damage(alloc, first, state)?;
+    let second = damage(alloc, second, state)?;
+    let third = damage(alloc, third, state)?;
+    let fourth = damage(alloc, fourth, state)?;
+    let kind = match subject.kind {
+        Kind::List(_) if next(state) % 8 == 0 => Kind::List((next(state) % 400) as u32),
+        kind => kind,
+    };
+    let parts = [
+        first.as_slice(),
+        second.as_slice(),
+        third.as_slice(),
+        fourth.as_slice(),
+    ];
+    judge(alloc, kind, parts, tally)
 }
 
 // Another random number.
@@ -103,12 +156,17 @@ fn next(state: &mut u64) -> u64 {
     *state
 }
 
-// Changes up to four bytes, cuts, or adds a byte.
-fn damage(bytes: &mut Vec<u8>, state: &mut u64) -> Result<(), Fault> {
+// A copy of a part: at every second time as it is, else with up to four changed bytes, cut, or with a byte
+// more.
+fn damage(alloc: Global, part: &[u8], state: &mut u64) -> Result<Vec<u8>, Fault> {
+    let mut bytes = Vec::from_slice(alloc, part)?;
+    if next(state) % 2 == 0 {
+        return Ok(bytes);
+    }
     for _ in 0..next(state) % 4 {
         let len = (bytes.len() as u64).saturating_add(1);
         let place = next(state).checked_rem(len).unwrap_or(0) as usize;
-        alter(bytes, place, (next(state) % 256) as u8);
+        alter(&mut bytes, place, (next(state) % 256) as u8);
     }
     match next(state) % 8 {
         0 => {
@@ -119,5 +177,5 @@ fn damage(bytes: &mut Vec<u8>, state: &mut u64) -> Result<(), Fault> {
         1 => bytes.push((next(state) % 256) as u8)?,
         _ => (),
     }
-    Ok(())
+    Ok(bytes)
 }

@@ -6,7 +6,8 @@ use bytes::Bytes;
 use ii_base::{AliveBitSet, Fault, IndexRecordOption, LayoutFault, Part};
 use ii_check::FreqReadingOption;
 use ii_docset::{
-    CursorAnswer, CursorCall, DocId, DocSet, Postings, SeekDangerResult, TERMINATED, Walk, walk,
+    CursorAnswer, CursorCall, DocId, DocSet, Lent, Postings, SeekDangerResult, SeekOnce,
+    TERMINATED, Walk, walk,
 };
 use ii_reader::{BlockSegmentPostings, SegmentPostings};
 use std::alloc::Global;
@@ -164,6 +165,39 @@ fn boxed_cursors_are_walked(rt: HostRuntime) -> Result<(), Fail> {
         sought_at_end(&mut boxed),
     ];
     assert!(rt; found.as_slice() == [2, 10, TERMINATED, TERMINATED].as_slice());
+    Ok(())
+}
+
+// Where a single seek leaves a cursor, if it may be made.
+fn sought_once<C: SeekOnce>(cursor: &mut C, target: DocId) -> DocId {
+    if target <= TERMINATED && cursor.doc() <= target {
+        cursor.seek_once(target)
+    } else {
+        cursor.doc()
+    }
+}
+
+// Where single seeks leave a cursor that is lent, and one in a box.
+fn sought_through(
+    alloc: Global,
+    mut first: SegmentPostings,
+    other: SegmentPostings,
+) -> Result<[DocId; 3], Fault> {
+    let mut boxed = Box::new(alloc, other)?;
+    Ok([
+        sought_once(&mut Lent { inner: &mut first }, 1),
+        sought_once(&mut first, 3),
+        sought_once(&mut boxed, 11),
+    ])
+}
+
+#[test]
+fn cursors_are_sought_once(rt: HostRuntime) -> Result<(), Fail> {
+    let (Some(first), Some(other)) = (three(), three()) else {
+        assert!(rt; false, "three documents");
+        return Ok(());
+    };
+    assert!(rt; sought_through(rt.alloc(), first, other)? == [2, 10, TERMINATED]);
     Ok(())
 }
 

@@ -1,10 +1,19 @@
-//! A second reader of lists, written from docs/FORMATS.md alone: bit by bit, whole lists at once, slow. It
-//! shares no code with the crates that it is compared with.
+//! A second reader of lists, term stores, dictionaries, composite files and whole indexes, written from
+//! docs/FORMATS.md alone: bit by bit, whole lists at once, slow. It shares no code with the crates that it
+//! is compared with.
 #![tactic(auto)]
 
 mod bits;
+mod composites;
+mod dictionaries;
+mod indexes;
 mod lists;
 mod positions;
+mod stores;
 mod vints;
 
+pub use composites::{Body, body_of, bytes_in, read_composite};
+pub use dictionaries::{Entry, read_dictionary};
+pub use indexes::{FieldFiles, Files, read_index, read_term};
 pub use lists::{Damage, Listed, Mode, read_list};
+pub use stores::{Info, read_store};

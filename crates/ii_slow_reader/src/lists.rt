@@ -28,6 +28,16 @@ pub enum Damage {
     Frequencies,
     /// The positions.
     Positions,
+    /// The table of a composite file.
+    Composite,
+    /// The keys of a dictionary.
+    Dictionary,
+    /// The store of a dictionary.
+    TermStore,
+    /// The number of tokens of a field.
+    TokenCount,
+    /// The ranges of a term.
+    Range,
 }
 
 /// What a list holds: documents, the counts if they are read, and the positions of all documents if they

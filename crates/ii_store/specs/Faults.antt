@@ -1,0 +1,13 @@
+-- Faults of directories and of indexes, as one.
+use Rattle.ii_store.specs.declared.faults.DirectoryFault.{DirectoryFault}
+use Rattle.ii_store.specs.declared.faults.IndexFault.{IndexFault}
+use Rattle.ii_store.specs.declared.faults.StoreFault.{StoreFault}
+use Rattle.ii_store.specs.declared.faults.StoreFault.TheVariants as faults
+
+-- the fault of a directory
+abbrev pub of_directory : DirectoryFault → StoreFault
+of_directory fault = faults.Directory fault
+
+-- the fault of files that are no index
+abbrev pub of_index : IndexFault → StoreFault
+of_index fault = faults.Index fault

@@ -1,0 +1,135 @@
+-- What a guard says, and which index the files of a folder are.
+use Rattle.std.specs.Prelude.{◌≡◌, ◌⊎◌, ◌<◌, ℕ, ◌==◌, Bool, ◌||◌, not, List, [], ◌∷◌, ◌++◌, length, take, drop, bytes_eq, get_or, nat_lt, Option, None, Some, Result, Ok, Err, ⊤, if◌then◌else◌}
+use Rattle.std.specs.Int.{w32, w64, from_le_bytes, to_le_bytes}
+use Rattle.sha2.specs.Sha256.{sha256}
+use Rattle.ii_store.specs.declared.name.Slot.{Slot}
+use Rattle.ii_store.specs.declared.name.Slot.TheVariants.{First, Second}
+use Rattle.ii_store.specs.declared.name.Kind.{Kind}
+use Rattle.ii_store.specs.declared.name.Kind.TheVariants.{Schema, Terms, Postings, Positions, FieldNorms}
+use Rattle.ii_store.specs.declared.name.Name.TheVariants.{Meta, NewMeta, File}
+use Rattle.ii_store.specs.declared.faults.IndexFault.{IndexFault}
+use Rattle.ii_store.specs.declared.faults.IndexFault.TheVariants.{NoIndex, OtherVersion, DamagedMeta, Missing, WrongLength, WrongChecksum}
+use Rattle.ii_store.specs.declared.faults.StoreFault.{StoreFault}
+use Rattle.ii_store.specs.declared.faults.StoreFault.TheVariants as faults
+use Rattle.ii_store.specs.declared.stored_index.StoredIndex.{StoredIndex}
+use Rattle.ii_store.specs.Directory.{Files}
+use Rattle.ii_store.specs.Names.{slot_number}
+
+-- an index without where it lies in memory
+pub record Index : Type 0 where
+  pub num_docs : ℕ
+  pub schema : List ℕ
+  pub terms : List ℕ
+  pub postings : List ℕ
+  pub positions : List ℕ
+  pub fieldnorms : List ℕ
+
+-- an index in memory
+abbrev pub view : StoredIndex → Index
+view s = record {
+  num_docs = s.num_docs;
+  schema = s.schema.items;
+  terms = s.terms.items;
+  postings = s.postings.items;
+  positions = s.positions.items;
+  fieldnorms = s.fieldnorms.items;
+}
+
+-- the bytes of one kind
+abbrev pub bytes_of : Index → Kind → List ℕ
+bytes_of i Schema = i.schema
+bytes_of i Terms = i.terms
+bytes_of i Postings = i.postings
+bytes_of i Positions = i.positions
+bytes_of i FieldNorms = i.fieldnorms
+
+-- "nequllpa", and the version
+unfoldable pub format : List ℕ
+format = 110 ∷ 101 ∷ 113 ∷ 117 ∷ 108 ∷ 108 ∷ 112 ∷ 97 ∷ []
+
+-- what a guard says of a file: length and checksum
+unfoldable pub entry : List ℕ → List ℕ
+entry bytes = to_le_bytes w64 (length bytes) ++ sha256 bytes
+
+-- what stands before the entries
+unfoldable pub head : Slot → ℕ → List ℕ
+head slot num_docs = format ++ to_le_bytes w32 1 ++ slot_number slot ∷ to_le_bytes w32 num_docs
+
+-- a guard without its checksum
+unfoldable pub guarded : Slot → Index → List ℕ
+guarded slot i = head slot i.num_docs ++ entry i.schema ++ entry i.terms ++ entry i.postings ++ entry i.positions ++ entry i.fieldnorms
+
+-- a guard
+unfoldable pub guard : Slot → Index → List ℕ
+guard slot i = guarded slot i ++ sha256 (guarded slot i)
+
+-- the slot that a guard names
+unfoldable pub slot_in : List ℕ → Slot
+slot_in meta = if get_or meta 12 0 == 1 then Second else First
+
+-- the slot that is in use; where there is no guard the first one is free
+abbrev pub used_slot : Option (List ℕ) → Slot
+used_slot None = Second
+used_slot (Some meta) = slot_in meta
+
+infixl 10 ◌>>=◌
+abbrev pub ◌>>=◌ : {A B : Type 0} → Result A IndexFault → (A → Result B IndexFault) → Result B IndexFault
+(Ok x) >>= f = f x
+(Err e) >>= f = Err e
+
+-- the version of a guard, of whatever version
+unfoldable pub version_in : List ℕ → Result ℕ IndexFault
+version_in meta =
+    if nat_lt (length meta) 12 then Err DamagedMeta
+    else if not (bytes_eq (take 8 meta) format) then Err DamagedMeta
+    else Ok (from_le_bytes w32 (take 4 (drop 8 meta)))
+
+-- the number of documents of a guard of this version
+unfoldable pub whole_num_docs_in : List ℕ → Result ℕ IndexFault
+whole_num_docs_in meta =
+    if not (length meta == 249) then Err DamagedMeta
+    else if not (bytes_eq (drop 217 meta) (sha256 (take 217 meta))) then Err DamagedMeta
+    else Ok (from_le_bytes w32 (take 4 (drop 13 meta)))
+
+-- the number of documents of a guard that is one
+unfoldable pub num_docs_in : List ℕ → Result ℕ IndexFault
+num_docs_in meta = do
+  version ← version_in meta
+  if not (version == 1) then Err (OtherVersion version) else whole_num_docs_in meta
+
+-- the bytes of a file that is as an entry says
+unfoldable pub file_in : Kind → List ℕ → Option (List ℕ) → Result (List ℕ) IndexFault
+file_in kind entry None = Err (Missing kind)
+file_in kind entry (Some bytes) =
+    if not (bytes_eq (take 8 entry) (to_le_bytes w64 (length bytes))) then Err (WrongLength kind)
+    else if not (bytes_eq (take 32 (drop 8 entry)) (sha256 bytes)) then Err (WrongChecksum kind)
+    else Ok bytes
+
+-- the index whose guard this is, with the files of the slot that it names
+unfoldable pub index_at : List ℕ → Option (List ℕ) → Option (List ℕ) → Option (List ℕ) → Option (List ℕ) → Option (List ℕ) → Result Index IndexFault
+index_at meta a b c d e = do
+  num_docs ← num_docs_in meta
+  schema ← file_in Schema (drop 17 meta) a
+  terms ← file_in Terms (drop 57 meta) b
+  postings ← file_in Postings (drop 97 meta) c
+  positions ← file_in Positions (drop 137 meta) d
+  fieldnorms ← file_in FieldNorms (drop 177 meta) e
+  Ok (record { num_docs = num_docs; schema = schema; terms = terms; postings = postings; positions = positions; fieldnorms = fieldnorms })
+
+-- the index of a guard and of the files of a slot, where there is a guard
+abbrev pub index_in : Option (List ℕ) → (Kind → Option (List ℕ)) → Result Index IndexFault
+index_in None files = Err NoIndex
+index_in (Some meta) files = index_at meta (files Schema) (files Terms) (files Postings) (files Positions) (files FieldNorms)
+
+-- the index that the files of a folder are, or the first fault
+unfoldable pub index_of : Files → Result Index IndexFault
+index_of files = index_in (files Meta) (λ kind. files (File (used_slot (files Meta)) kind))
+
+-- what a call answered, by a view, is this, unless the directory refused or there was no memory
+abbrev pub Fails : {Y : Type 0} → StoreFault → Result Y IndexFault → Type 0
+Fails (faults.Directory fault) wanted = ⊤
+Fails (faults.Index fault) wanted = wanted ≡ Err fault
+
+abbrev pub Gives : {X Y : Type 0} → (X → Y) → Result X StoreFault → Result Y IndexFault → Type 0
+Gives view (Ok x) wanted = wanted ≡ Ok (view x)
+Gives view (Err e) wanted = Fails e wanted

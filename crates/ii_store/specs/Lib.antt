@@ -1,0 +1,6 @@
+pub mod Directory
+pub mod Faults
+pub mod Index
+pub mod MemoryDirectory
+pub mod Names
+pub mod Save

@@ -1,0 +1,40 @@
+-- The names of files, and their numbers.
+use Rattle.std.specs.Prelude.{ℕ, zero, suc, ◌+◌, ◌*◌}
+use Rattle.ii_store.specs.declared.name.Slot.{Slot}
+use Rattle.ii_store.specs.declared.name.Slot.TheVariants.{First, Second}
+use Rattle.ii_store.specs.declared.name.Kind.{Kind}
+use Rattle.ii_store.specs.declared.name.Kind.TheVariants.{Schema, Terms, Postings, Positions, FieldNorms}
+use Rattle.ii_store.specs.declared.name.Name.{Name}
+use Rattle.ii_store.specs.declared.name.Name.TheVariants.{Meta, NewMeta, File}
+
+-- the slot that this one isn't
+abbrev pub other_slot : Slot → Slot
+other_slot First = Second
+other_slot Second = First
+
+-- the byte of a slot
+abbrev pub slot_number : Slot → ℕ
+slot_number First = 0
+slot_number Second = 1
+
+-- the place of a kind among the entries of a guard
+abbrev pub kind_number : Kind → ℕ
+kind_number Schema = 0
+kind_number Terms = 1
+kind_number Postings = 2
+kind_number Positions = 3
+kind_number FieldNorms = 4
+
+-- the kind at a place
+abbrev pub kind_at : ℕ → Kind
+kind_at zero = Schema
+kind_at (suc zero) = Terms
+kind_at (suc (suc zero)) = Postings
+kind_at (suc (suc (suc zero))) = Positions
+kind_at (suc (suc (suc (suc _)))) = FieldNorms
+
+-- a number for each name
+abbrev pub name_number : Name → ℕ
+name_number Meta = 0
+name_number NewMeta = 1
+name_number (File slot kind) = 2 + 5 * slot_number slot + kind_number kind

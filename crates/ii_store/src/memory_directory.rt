@@ -1,0 +1,158 @@
+//! A directory in memory, for tests and for those who want no files.
+ghost use Rattle.std.specs.Prelude.{◌≡◌, ◌++◌, [], ◌∷◌, IfOk, OnErr, OnOk, length};
+ghost use Rattle.ii_store.specs.Directory.{found_bytes};
+ghost use Rattle.ii_store.specs.MemoryDirectory.{MayBePut, files_after, files_of};
+
+use crate::directory::Directory;
+use crate::faults::DirectoryFault;
+use crate::name::Name;
+use std::alloc::Global;
+use std::io;
+
+/// A change of the files of a directory.
+#[derive(Debug, Drop)]
+pub enum Change {
+    /// A file has these bytes, whatever it had.
+    Put(Name, Vec<u8>),
+    /// A file is there no more.
+    Removed(Name),
+    /// A file has the second name, in the place of the one that had it.
+    Renamed(Name, Name),
+}
+
+/// A directory as the list of the changes that were made to it. It keeps each, so that what a stop
+/// might have left can be told.
+///
+/// It can be told to stop: a write then leaves half of its bytes, another call nothing, and each
+/// change after it is refused.
+#[derive(Debug, Drop)]
+pub struct MemoryDirectory {
+    alloc: Global,
+    changes: Vec<Change>,
+    calls_left: u64,
+    is_stopped: bool,
+}
+
+impl MemoryDirectory {
+    /// A directory with no files.
+    pub fn new(alloc: Global) -> MemoryDirectory
+        ensures { files_of result ≡ files_after [] }
+    {
+        MemoryDirectory {
+            alloc,
+            changes: Vec::new(alloc),
+            calls_left: u64::MAX,
+            is_stopped: false,
+        }
+    }
+
+    /// Lets so many changes through from now on, and stops in the next one. Reads go on.
+    pub fn stop_after(&mut self, calls: u64)
+        ensures { files_of self.new ≡ files_of self.old }
+    {
+        self.calls_left = calls;
+        self.is_stopped = false;
+    }
+
+    // Makes a change whole, or stops before it.
+    fn change(&mut self, change: Change) -> Result<(), DirectoryFault>
+        ensures ok { OnOk result (self.new.changes.items ≡ self.old.changes.items ++ change ∷ []) }
+        ensures err { OnErr result (self.new.changes.items ≡ self.old.changes.items) }
+    {
+        if self.calls_left == 0 {
+            self.is_stopped = true;
+            return Err(DirectoryFault::Refused(io::ErrorKind::Other));
+        }
+        self.calls_left -= 1;
+        self.changes.push(change)?;
+        Ok(())
+    }
+
+    // Stops in a write, or is stopped already.
+    fn stop_in_write(&mut self, name: Name, bytes: &[u8]) -> DirectoryFault
+        ensures { MayBePut name self.old.changes.items self.new.changes.items }
+    {
+        if self.is_stopped {
+            return DirectoryFault::Refused(io::ErrorKind::Other);
+        }
+        self.is_stopped = true;
+        let Ok(half) = bytes[..bytes.len() / 2].to_vec(self.alloc) else {
+            return DirectoryFault::OutOfMemory;
+        };
+        let Ok(()) = self.changes.push(Change::Put(name, half)) else {
+            return DirectoryFault::OutOfMemory;
+        };
+        DirectoryFault::Refused(io::ErrorKind::Other)
+    }
+}
+
+// The bytes of a file after some changes.
+fn bytes_after(
+    alloc: Global,
+    changes: &[Change],
+    name: Name,
+) -> Result<Option<Vec<u8>>, DirectoryFault>
+    ensures { IfOk result (λ found. found_bytes found ≡ files_after changes.now name) }
+{
+    match changes {
+        [] => Ok(None),
+        [before @ .., Change::Put(put, bytes)] => {
+            if put.number() == name.number() {
+                return Ok(Some(bytes.to_vec(alloc)?));
+            }
+            bytes_after(alloc, before, name)
+        }
+        [before @ .., Change::Removed(removed)] => {
+            if removed.number() == name.number() {
+                return Ok(None);
+            }
+            bytes_after(alloc, before, name)
+        }
+        [before @ .., Change::Renamed(from, to)] => {
+            if to.number() == name.number() {
+                return bytes_after(alloc, before, *from);
+            }
+            if from.number() == name.number() {
+                return Ok(None);
+            }
+            bytes_after(alloc, before, name)
+        }
+    }
+}
+
+impl Directory for MemoryDirectory {
+    ghost use Rattle.std.specs.Prelude.{⊤};
+    ghost use Rattle.ii_store.specs.MemoryDirectory.{WereSince, counts_now, files_of, only_now};
+
+    ghost is_known = { λ d. ⊤ };
+
+    ghost seen = { λ d. files_of d };
+
+    ghost moment = { λ d. length d.changes.items };
+
+    ghost left_since = { λ d t c. WereSince d.changes.items t c };
+
+    ghost counts_now = { λ d t known le. counts_now d.changes.items t le };
+
+    ghost only_now = { λ d c known left. only_now d.changes.items c left };
+
+    fn read(&self, alloc: Global, name: Name) -> Result<Option<Vec<u8>>, DirectoryFault> {
+        bytes_after(alloc, self.changes.as_slice(), name)
+    }
+
+    fn write(&mut self, name: Name, bytes: &[u8]) -> Result<(), DirectoryFault> {
+        if self.calls_left == 0 {
+            return Err(self.stop_in_write(name, bytes));
+        }
+        let copy = bytes.to_vec(self.alloc)?;
+        self.change(Change::Put(name, copy))
+    }
+
+    fn rename(&mut self, from: Name, to: Name) -> Result<(), DirectoryFault> {
+        self.change(Change::Renamed(from, to))
+    }
+
+    fn remove(&mut self, name: Name) -> Result<(), DirectoryFault> {
+        self.change(Change::Removed(name))
+    }
+}

@@ -1,0 +1,149 @@
+//! The guard of an index: the file `meta`, 249 bytes. docs/FORMATS draws it.
+ghost use Rattle.std.specs.Prelude.{◌≡◌, ◌<◌, ◌^◌, ◌++◌, bytes_eq, length, IfOk, Ok, OnOk, Some};
+ghost use Rattle.std.specs.Int.{w64, to_le_bytes};
+ghost use Rattle.sha2.specs.Sha256.{sha256};
+ghost use Rattle.ii_store.specs.Index.{Index, entry, guard, guarded, head, index_at, num_docs_in, slot_in, version_in, view, whole_num_docs_in};
+
+use crate::faults::{DirectoryFault, IndexFault};
+use crate::name::{Kind, Slot};
+use crate::stored_index::StoredIndex;
+use sha2::{Digest, Sha256};
+use std::alloc::{AllocError, Global};
+
+/// The version of the format that is written, and the one that is read.
+pub const VERSION: u32 = 1;
+
+// What a guard begins with.
+const FORMAT: &[u8] = b"nequllpa";
+
+// Whether bytes are the checksum of a file.
+pub(crate) fn is_checksum(bytes: &[u8], file: &[u8]) -> bool
+    ensures { result ≡ bytes_eq bytes.now (sha256 file.now) }
+{
+    bytes == Sha256::digest(file).as_slice()
+}
+
+// Whether bytes are the length of a file.
+pub(crate) fn is_len(bytes: &[u8], len: usize) -> bool
+    ensures { result ≡ bytes_eq bytes.now (to_le_bytes w64 len) }
+{
+    bytes == (len as u64).to_le_bytes().as_slice()
+}
+
+// The slot that a guard names.
+#[tactic(auto, unfolding(crate::specs::Index::slot_in))]
+pub(crate) fn slot_named(meta: &[u8]) -> Slot
+    ensures { result ≡ slot_in meta.now }
+{
+    if meta.len() <= 12 {
+        return Slot::First;
+    }
+    if meta[12] == 1 {
+        return Slot::Second;
+    }
+    Slot::First
+}
+
+// The number of documents of a guard that is one.
+#[tactic(auto, unfolding(crate::specs::Index::num_docs_in))]
+pub(crate) fn checked_num_docs(meta: &[u8]) -> Result<u32, IndexFault>
+    ensures number { result ≡ num_docs_in meta.now }
+    ensures len { IfOk result (λ _. length meta.now ≡ 249) }
+{
+    let version = version_of(meta)?;
+    if version != VERSION {
+        return Err(IndexFault::OtherVersion(version));
+    }
+    whole_num_docs(meta)
+}
+
+// The version of a guard, of whatever version.
+#[tactic(auto, unfolding(crate::specs::Index::version_in, crate::specs::Index::format))]
+fn version_of(meta: &[u8]) -> Result<u32, IndexFault>
+    ensures { result ≡ version_in meta.now }
+{
+    if meta.len() < 12 {
+        return Err(IndexFault::DamagedMeta);
+    }
+    let (front, rest) = meta.split_at(8);
+    if front != FORMAT {
+        return Err(IndexFault::DamagedMeta);
+    }
+    Ok(u32::from_le_bytes([rest[0], rest[1], rest[2], rest[3]]))
+}
+
+// The number of documents of a guard of this version.
+#[tactic(auto, unfolding(crate::specs::Index::whole_num_docs_in))]
+fn whole_num_docs(meta: &[u8]) -> Result<u32, IndexFault>
+    ensures number { result ≡ whole_num_docs_in meta.now }
+    ensures len { IfOk result (λ _. length meta.now ≡ 249) }
+{
+    if meta.len() != 249 {
+        return Err(IndexFault::DamagedMeta);
+    }
+    let (guarded, checksum) = meta.split_at(217);
+    if !is_checksum(checksum, guarded) {
+        return Err(IndexFault::DamagedMeta);
+    }
+    let (_, rest) = meta.split_at(13);
+    Ok(u32::from_le_bytes([rest[0], rest[1], rest[2], rest[3]]))
+}
+
+// The guard of an index whose files are those of a slot.
+#[tactic(auto, unfolding(crate::specs::Index::guard))]
+pub(crate) fn guard_of(
+    alloc: Global,
+    slot: Slot,
+    index: &StoredIndex,
+) -> Result<Vec<u8>, DirectoryFault>
+    ensures bytes { IfOk result (λ v. v.items ≡ guard slot (view index.now)) }
+    ensures small { OnOk result (index.now.num_docs < 2 ^ 32) }
+{
+    let mut meta = guarded_of(alloc, slot, index)?;
+    let checksum = Sha256::digest(meta.as_slice());
+    meta.extend_from_slice(&checksum)?;
+    Ok(meta)
+}
+
+// A guard without its checksum.
+#[tactic(auto, unfolding(crate::specs::Index::guarded))]
+fn guarded_of(alloc: Global, slot: Slot, index: &StoredIndex) -> Result<Vec<u8>, AllocError>
+    ensures bytes { IfOk result (λ v. v.items ≡ guarded slot (view index.now)) }
+    ensures small { OnOk result (index.now.num_docs < 2 ^ 32) }
+{
+    let mut meta = Vec::new(alloc);
+    push_head(&mut meta, slot, index.num_docs)?;
+    push_entry(&mut meta, &index.schema)?;
+    push_entry(&mut meta, &index.terms)?;
+    push_entry(&mut meta, &index.postings)?;
+    push_entry(&mut meta, &index.positions)?;
+    push_entry(&mut meta, &index.fieldnorms)?;
+    Ok(meta)
+}
+
+// Adds what stands before the entries.
+#[tactic(auto, unfolding(crate::specs::Index::head, crate::specs::Index::format))]
+fn push_head(meta: &mut Vec<u8>, slot: Slot, num_docs: u32) -> Result<(), AllocError>
+    ensures { OnOk result (meta.new.items ≡ meta.old.items ++ head slot num_docs) }
+{
+    meta.extend_from_slice(FORMAT)?;
+    meta.extend_from_slice(&VERSION.to_le_bytes())?;
+    meta.push(slot.to_code())?;
+    meta.extend_from_slice(&num_docs.to_le_bytes())
+}
+
+// Adds what a guard says of a file.
+#[tactic(auto, unfolding(crate::specs::Index::entry))]
+fn push_entry(meta: &mut Vec<u8>, file: &[u8]) -> Result<(), AllocError>
+    ensures { OnOk result (meta.new.items ≡ meta.old.items ++ entry file.now) }
+{
+    meta.extend_from_slice(&(file.len() as u64).to_le_bytes())?;
+    meta.extend_from_slice(&Sha256::digest(file))
+}
+
+/// A law: a guard of an index and its files are that index, and the guard names its slot.
+pub fn guard_tells_back()
+    ensures slot { (slot : Slot) (i : Index) → slot_in (guard slot i) ≡ slot }
+    ensures index { (slot : Slot) (i : Index) → i.num_docs < 2 ^ 32 → index_at (guard slot i) (Some i.schema) (Some i.terms) (Some i.postings) (Some i.positions) (Some i.fieldnorms) ≡ Ok i }
+{
+}

@@ -1,0 +1,133 @@
+//! The files of a folder that holds an index.
+ghost use Rattle.std.specs.Prelude.{◌≡◌, ◌<◌};
+ghost use Rattle.ii_store.specs.Names.{kind_at, kind_number, name_number, other_slot, slot_number};
+
+use thiserror::Error;
+
+/// One of two sets of files. The guard names the one that is in use, and a save writes the other.
+#[derive(Clone, Copy, Debug, PartialEq, Eq)]
+pub enum Slot {
+    First,
+    Second,
+}
+
+/// What a file of an index holds.
+#[derive(Clone, Copy, Debug, PartialEq, Eq, Error)]
+pub enum Kind {
+    /// The schema, as its program spells it.
+    #[error("schema")]
+    Schema,
+    /// The dictionaries of the fields.
+    #[error("terms")]
+    Terms,
+    /// The documents and counts of the terms.
+    #[error("postings")]
+    Postings,
+    /// The positions of the terms.
+    #[error("positions")]
+    Positions,
+    /// The norms of the documents.
+    #[error("field norms")]
+    FieldNorms,
+}
+
+/// A file of a folder.
+#[derive(Clone, Copy, Debug, PartialEq, Eq)]
+pub enum Name {
+    /// The guard.
+    Meta,
+    /// The guard to come, until it takes the place of the other one.
+    NewMeta,
+    /// A file of an index.
+    File(Slot, Kind),
+}
+
+impl Slot {
+    /// The slot that this one isn't.
+    pub fn other(self) -> Slot
+        ensures { result ≡ other_slot self }
+    {
+        match self {
+            Slot::First => Slot::Second,
+            Slot::Second => Slot::First,
+        }
+    }
+
+    /// The byte that names it in a guard, 0 or 1.
+    pub fn to_code(self) -> u8
+        ensures { result ≡ slot_number self }
+    {
+        match self {
+            Slot::First => 0,
+            Slot::Second => 1,
+        }
+    }
+}
+
+impl Kind {
+    /// How many kinds there are.
+    pub const COUNT: u8 = 5;
+
+    /// The kind of a number below 5, in the order of the entries of a guard; any number above stands
+    /// for the last one.
+    pub fn at(number: u8) -> Kind
+        ensures { result ≡ kind_at number }
+    {
+        match number {
+            0 => Kind::Schema,
+            1 => Kind::Terms,
+            2 => Kind::Postings,
+            3 => Kind::Positions,
+            _ => Kind::FieldNorms,
+        }
+    }
+
+    /// Its number, below 5.
+    pub fn number(self) -> u8
+        ensures number { result ≡ kind_number self }
+        ensures bound { result < 5 }
+    {
+        match self {
+            Kind::Schema => 0,
+            Kind::Terms => 1,
+            Kind::Postings => 2,
+            Kind::Positions => 3,
+            Kind::FieldNorms => 4,
+        }
+    }
+}
+
+impl Name {
+    /// Its number, below 12, which no other name has.
+    pub fn number(self) -> u8
+        ensures { result ≡ name_number self }
+    {
+        match self {
+            Name::Meta => 0,
+            Name::NewMeta => 1,
+            Name::File(slot, kind) => 2 + 5 * slot.to_code() + kind.number(),
+        }
+    }
+
+    /// The name of the file in a folder.
+    pub fn as_str(self) -> &'static str {
+        match self {
+            Name::Meta => "meta",
+            Name::NewMeta => "meta.new",
+            Name::File(Slot::First, kind) => match kind {
+                Kind::Schema => "schema.0",
+                Kind::Terms => "term.0",
+                Kind::Postings => "idx.0",
+                Kind::Positions => "pos.0",
+                Kind::FieldNorms => "fieldnorm.0",
+            },
+            Name::File(Slot::Second, kind) => match kind {
+                Kind::Schema => "schema.1",
+                Kind::Terms => "term.1",
+                Kind::Postings => "idx.1",
+                Kind::Positions => "pos.1",
+                Kind::FieldNorms => "fieldnorm.1",
+            },
+        }
+    }
+}

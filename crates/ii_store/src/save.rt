@@ -1,0 +1,93 @@
+//! How an index is saved, so that a stop leaves the old one or the new one.
+ghost use Rattle.std.specs.Prelude.{◌≡◌, ◌<◌, ◌^◌, IfOk, None, OnOk, ℕ};
+ghost use Rattle.ii_store.specs.declared.name.Kind.{Kind};
+ghost use Rattle.ii_store.specs.declared.name.Name.TheVariants.{File, Meta};
+ghost use Rattle.ii_store.specs.Directory.{Elapses};
+ghost use Rattle.ii_store.specs.Index.{index_of, used_slot, view};
+ghost use Rattle.ii_store.specs.Names.{other_slot};
+ghost use Rattle.ii_store.specs.Save.{HoldsFiles, HoldsIndex, IsOutside, LeavesOne, LeavesSame};
+
+use crate::directory::Directory;
+use crate::faults::DirectoryFault;
+use crate::meta::{guard_of, slot_named};
+use crate::name::{Kind, Name, Slot};
+use crate::stored_index::StoredIndex;
+use std::alloc::Global;
+
+/// Saves an index: writes its files beside those of the index that is there, and then puts a guard of
+/// them in the place of the other guard. The old files stay until `remove_unused`.
+///
+/// Wherever it is stopped, and whatever call is refused, the directory holds the index that was there or
+/// the new one; with Ok it holds the new one. After a refusal open the directory anew.
+pub fn save<D: Directory>(
+    alloc: Global,
+    directory: &mut D,
+    index: &StoredIndex,
+) -> Result<(), DirectoryFault>
+    ensures known { D.is_known directory.old → OnOk result (D.is_known directory.new) }
+    ensures saved { D.is_known directory.old → OnOk result (HoldsIndex (view index.now) (D.seen directory.new)) }
+    ensures leaves_one { D.is_known directory.old → LeavesOne D.moment D.left_since D.seen directory.old directory.new (view index.now) }
+{
+    let slot = slot_in_use(alloc, directory)?.other();
+    let meta = guard_of(alloc, slot, index)?;
+    write_files(directory, slot, index)?;
+    directory.write(Name::NewMeta, meta.as_slice())?;
+    directory.rename(Name::NewMeta, Name::Meta)
+}
+
+// The slot that is in use, also where its files are damaged.
+fn slot_in_use<D: Directory>(alloc: Global, directory: &D) -> Result<Slot, DirectoryFault>
+    ensures { D.is_known directory.now → IfOk result (λ slot. slot ≡ used_slot (D.seen directory.now Meta)) }
+{
+    match directory.read(alloc, Name::Meta)? {
+        Some(meta) => Ok(slot_named(meta.as_slice())),
+        None => Ok(Slot::Second),
+    }
+}
+
+// Writes the files of an index into a slot.
+fn write_files<D: Directory>(
+    directory: &mut D,
+    slot: Slot,
+    index: &StoredIndex,
+) -> Result<(), DirectoryFault>
+    ensures known { D.is_known directory.old → OnOk result (D.is_known directory.new) }
+    ensures written { D.is_known directory.old → OnOk result (HoldsFiles slot (view index.now) (D.seen directory.new)) }
+    ensures outside { D.is_known directory.old → OnOk result (IsOutside slot (D.seen directory.old) (D.seen directory.new)) }
+    ensures time { D.is_known directory.old → Elapses (D.moment directory.old) (D.moment directory.new) (D.left_since directory.old) (D.left_since directory.new) (IsOutside slot (D.seen directory.old)) }
+{
+    for number in 0..Kind::COUNT {
+        let kind = Kind::at(number);
+        directory.write(Name::File(slot, kind), index.bytes_of(kind))?;
+    }
+    Ok(())
+}
+
+/// Removes the files that the guard doesn't name, which a save or a stop left.
+///
+/// The index that is there stays, wherever this is stopped.
+pub fn remove_unused<D: Directory>(
+    alloc: Global,
+    directory: &mut D,
+) -> Result<(), DirectoryFault>
+    ensures known { D.is_known directory.old → OnOk result (D.is_known directory.new) }
+    ensures removed { D.is_known directory.old → OnOk result ((kind : Kind) → D.seen directory.new (File (other_slot (used_slot (D.seen directory.old Meta))) kind) ≡ None) }
+    ensures same { D.is_known directory.old → OnOk result (index_of (D.seen directory.new) ≡ index_of (D.seen directory.old)) }
+    ensures leaves_same { D.is_known directory.old → LeavesSame D.moment D.left_since D.seen directory.old directory.new }
+{
+    let slot = slot_in_use(alloc, directory)?.other();
+    remove_files(directory, slot)
+}
+
+// Removes the files of a slot.
+fn remove_files<D: Directory>(directory: &mut D, slot: Slot) -> Result<(), DirectoryFault>
+    ensures known { D.is_known directory.old → OnOk result (D.is_known directory.new) }
+    ensures removed { D.is_known directory.old → OnOk result ((kind : Kind) → D.seen directory.new (File slot kind) ≡ None) }
+    ensures outside { D.is_known directory.old → OnOk result (IsOutside slot (D.seen directory.old) (D.seen directory.new)) }
+    ensures time { D.is_known directory.old → Elapses (D.moment directory.old) (D.moment directory.new) (D.left_since directory.old) (D.left_since directory.new) (IsOutside slot (D.seen directory.old)) }
+{
+    for number in 0..Kind::COUNT {
+        directory.remove(Name::File(slot, Kind::at(number)))?;
+    }
+    Ok(())
+}

@@ -1,0 +1,105 @@
+//! An index as its bytes, and how they are loaded.
+ghost use Rattle.std.specs.Prelude.{◌≡◌, ◌≤◌, ◌+◌, Some, drop, length};
+ghost use Rattle.ii_store.specs.declared.name.Name.TheVariants.{File};
+ghost use Rattle.ii_store.specs.Index.{Gives, bytes_of, file_in, index_in, index_of, slot_in, view};
+
+use crate::directory::Directory;
+use crate::faults::{IndexFault, StoreFault};
+use crate::meta::{checked_num_docs, is_checksum, is_len, slot_named};
+use crate::name::{Kind, Name, Slot};
+use std::alloc::Global;
+
+/// The files of an index, and how many documents there are.
+#[derive(Debug, Drop)]
+pub struct StoredIndex {
+    pub num_docs: u32,
+    /// The schema, in the words of the program that keeps the index; it isn't looked at.
+    pub schema: Vec<u8>,
+    /// What `write_index` wrote as terms, postings, positions and norms.
+    pub terms: Vec<u8>,
+    pub postings: Vec<u8>,
+    pub positions: Vec<u8>,
+    pub fieldnorms: Vec<u8>,
+}
+
+impl StoredIndex {
+    /// The bytes of one kind.
+    pub fn bytes_of(&self, kind: Kind) -> &[u8]
+        ensures { result.now ≡ bytes_of (view self.now) kind }
+    {
+        match kind {
+            Kind::Schema => self.schema.as_slice(),
+            Kind::Terms => self.terms.as_slice(),
+            Kind::Postings => self.postings.as_slice(),
+            Kind::Positions => self.positions.as_slice(),
+            Kind::FieldNorms => self.fieldnorms.as_slice(),
+        }
+    }
+}
+
+/// The index of a directory: the very bytes that were saved.
+///
+/// Refused as `NoIndex` where there is no guard, as `OtherVersion` or `DamagedMeta` where it isn't one of
+/// this version, and else by the first file, in the order of `Kind`, that is missing or isn't as the
+/// guard says, its length before its checksum.
+#[tactic(auto, unfolding(crate::specs::Index::index_of))]
+pub fn load<D: Directory>(alloc: Global, directory: &D) -> Result<StoredIndex, StoreFault>
+    ensures { D.is_known directory.now → Gives view result (index_of (D.seen directory.now)) }
+{
+    let Some(meta) = directory.read(alloc, Name::Meta)? else {
+        return Err(StoreFault::Index(IndexFault::NoIndex));
+    };
+    load_by(alloc, directory, meta.as_slice())
+}
+
+// The index of a guard.
+#[tactic(auto, unfolding(crate::specs::Index::index_at))]
+fn load_by<D: Directory>(
+    alloc: Global,
+    directory: &D,
+    meta: &[u8],
+) -> Result<StoredIndex, StoreFault>
+    ensures { D.is_known directory.now → Gives view result (index_in (Some meta.now) (λ kind. D.seen directory.now (File (slot_in meta.now) kind))) }
+{
+    let num_docs = checked_num_docs(meta)?;
+    let slot = slot_named(meta);
+    let schema = load_file(alloc, directory, slot, Kind::Schema, meta, 17)?;
+    let terms = load_file(alloc, directory, slot, Kind::Terms, meta, 57)?;
+    let postings = load_file(alloc, directory, slot, Kind::Postings, meta, 97)?;
+    let positions = load_file(alloc, directory, slot, Kind::Positions, meta, 137)?;
+    let fieldnorms = load_file(alloc, directory, slot, Kind::FieldNorms, meta, 177)?;
+    Ok(StoredIndex {
+        num_docs,
+        schema,
+        terms,
+        postings,
+        positions,
+        fieldnorms,
+    })
+}
+
+// The bytes of a file that is as its entry says, which stands at a place of the guard.
+#[tactic(auto, unfolding(crate::specs::Index::file_in))]
+fn load_file<D: Directory>(
+    alloc: Global,
+    directory: &D,
+    slot: Slot,
+    kind: Kind,
+    meta: &[u8],
+    place: usize,
+) -> Result<Vec<u8>, StoreFault>
+    requires { place + 40 ≤ length meta.now }
+    ensures { D.is_known directory.now → Gives (λ v. v.items) result (file_in kind (drop place meta.now) (D.seen directory.now (File slot kind))) }
+{
+    let Some(bytes) = directory.read(alloc, Name::File(slot, kind))? else {
+        return Err(StoreFault::Index(IndexFault::Missing(kind)));
+    };
+    let (_, entry) = meta.split_at(place);
+    if !is_len(&entry[..8], bytes.len()) {
+        return Err(StoreFault::Index(IndexFault::WrongLength(kind)));
+    }
+    if !is_checksum(&entry[8..40], bytes.as_slice()) {
+        return Err(StoreFault::Index(IndexFault::WrongChecksum(kind)));
+    }
+    Ok(bytes)
+}
