@@ -1,4 +1,5 @@
 ghost use Rattle.std.specs.Prelude.{◌≡◌, ◌&&◌, ◌||◌, ℕ, List, IfOk, length, not};
+ghost use Rattle.std.specs.List.{list_all, list_any};
 ghost use Rattle.ii_io.specs.Faults.{OnlyMemory};
 ghost use Rattle.ii_definitions.specs.Tokens.{IndexToken};
 ghost use Rattle.ii_search.specs.Queries.{has_fields, matches};
@@ -54,6 +55,40 @@ impl Query {
         let first = Box::new(alloc, first)?;
         let other = Box::new(alloc, other)?;
         Ok(Query::AndNot(first, other))
+    }
+
+    /// What the first wants and all others want too. `OutOfMemory` where there is no room for two boxes
+    /// each.
+    pub fn and_all(alloc: Global, first: Query, others: Vec<Query>) -> Result<Query, Fault>
+        ensures matches { IfOk result (λ query. (ts : List IndexToken) (doc : ℕ) → matches query ts doc ≡ (matches first ts doc && list_all (λ q. matches q ts doc) others.items)) }
+        ensures fields { IfOk result (λ query. (n : ℕ) → has_fields n query ≡ (has_fields n first && list_all (has_fields n) others.items)) }
+        ensures only { OnlyMemory result }
+    {
+        let mut all = first;
+        for query in others {
+            all = match Query::and(alloc, all, query) {
+                Ok(all) => all,
+                Err(fault) => return Err(fault),
+            };
+        }
+        Ok(all)
+    }
+
+    /// What one of them wants; no document where there are none. `OutOfMemory` where there is no room for
+    /// two boxes each.
+    pub fn or_any(alloc: Global, queries: Vec<Query>) -> Result<Query, Fault>
+        ensures matches { IfOk result (λ query. (ts : List IndexToken) (doc : ℕ) → matches query ts doc ≡ list_any (λ q. matches q ts doc) queries.items) }
+        ensures fields { IfOk result (λ query. (n : ℕ) → has_fields n query ≡ list_all (has_fields n) queries.items) }
+        ensures only { OnlyMemory result }
+    {
+        let mut any = Query::Empty;
+        for query in queries {
+            any = match Query::or(alloc, any, query) {
+                Ok(any) => any,
+                Err(fault) => return Err(fault),
+            };
+        }
+        Ok(any)
     }
 
     /// Whether each term's field is one of the schema's.

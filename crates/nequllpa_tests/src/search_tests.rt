@@ -205,6 +205,39 @@ fn no_document_is_put_together(rt: HostRuntime) -> Result<(), Fail> {
     Ok(())
 }
 
+// Words of the first field.
+fn listed(alloc: Global, texts: &[&'static str]) -> Result<Vec<Query>, Fault> {
+    let mut queries = Vec::new(alloc);
+    for text in texts {
+        queries.push(word(alloc, 0, text)?)?;
+    }
+    Ok(queries)
+}
+
+// Whether these documents have one of the words.
+fn any_gives(alloc: Global, texts: &[&'static str], docs: &str) -> Result<bool, Fault> {
+    let query = Query::or_any(alloc, listed(alloc, texts)?)?;
+    let found = found(alloc, &query)?;
+    Ok(found.as_str() == docs)
+}
+
+// Whether these have a word and all the others.
+fn all_give(alloc: Global, first: &str, texts: &[&'static str], docs: &str) -> Result<bool, Fault> {
+    let first = word(alloc, 0, first)?;
+    let query = Query::and_all(alloc, first, listed(alloc, texts)?)?;
+    let found = found(alloc, &query)?;
+    Ok(found.as_str() == docs)
+}
+
+#[test]
+fn lists_of_queries_are_put_together(rt: HostRuntime) -> Result<(), Fail> {
+    assert!(rt; any_gives(rt.alloc(), &["c", "z", "b"], "0,1,2,4,")?);
+    assert!(rt; any_gives(rt.alloc(), &[], "")?);
+    assert!(rt; all_give(rt.alloc(), "a", &["b", "c"], "0,")?);
+    assert!(rt; all_give(rt.alloc(), "a", &[], "0,1,4,")?);
+    Ok(())
+}
+
 // How many documents have one of two words, and how many the second one.
 fn counts(alloc: Global) -> Result<(u32, u32), Fault> {
     let both = words(alloc, Pair::Or, "a", "b")?;
