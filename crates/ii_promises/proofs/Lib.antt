@@ -1,1 +1,2 @@
 mod IndexingLaws
+mod SearchingLaws

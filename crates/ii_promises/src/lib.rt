@@ -10,4 +10,5 @@ pub mod json_fields;
 pub mod opening;
 pub mod positions;
 pub mod queries;
+pub mod searching;
 pub mod writing;

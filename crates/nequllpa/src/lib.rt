@@ -31,6 +31,9 @@ pub use ii_docset::{
 pub use ii_query::{Exclude, Intersection, Union};
 pub use ii_reader::{BlockSegmentPostings, FreqReadingOption, LoadedPostings, SegmentPostings};
 
+// how an index is searched
+pub use ii_search::{Query, QueryCursor, count, search};
+
 // the norms of documents
 pub use ii_fieldnorm::{FieldNormReader, FieldNormReaders, fieldnorm_to_id, id_to_fieldnorm};
 

@@ -16,6 +16,8 @@ mod memory_index;
 #[cfg(test)]
 mod ram_tests;
 #[cfg(test)]
+mod search_tests;
+#[cfg(test)]
 mod serialize_tests;
 #[cfg(test)]
 mod term_tests;

@@ -1,0 +1,29 @@
+-- What a search answers of the tokens that an index has.
+use Rattle.std.proofs.Common.{inl, ◌≡◌, ℕ, List, Result, Ok, Err}
+use Rattle.std.specs.Prelude.{◌⊎◌, IfErr, IfOk}
+use Rattle.ii_io.specs.declared.faults.Fault.{Fault}
+use Rattle.ii_io.specs.declared.faults.Fault.TheVariants.{OutOfMemory}
+use Rattle.ii_base.specs.Schema.{SchemaEntry}
+use Rattle.ii_docset.specs.Cursor.{IsAscending}
+use Rattle.ii_docset.specs.Intersection.{has_doc}
+use Rattle.ii_query.specs.Combined.{QueryCursorState}
+use Rattle.ii_definitions.specs.Tokens.{IndexToken}
+use Rattle.ii_search.specs.declared.query.Query.{Query}
+use Rattle.ii_search.specs.Found.{GivesMatches}
+use Rattle.ii_search.specs.Queries.{matches}
+use Rattle.nequllpa.specs.Ram.{IsRamFault}
+
+-- the documents that match
+pub matches_are_found : (query : Query) (ts : List IndexToken) (answer : Result QueryCursorState Fault) → GivesMatches query ts answer → IfOk answer (λ cursor. (doc : ℕ) → has_doc cursor.rest doc ≡ matches query ts doc)
+matches_are_found query ts (Ok cursor) gives = gives.exact
+matches_are_found query ts (Err fault) gives = tt
+
+-- and nothing but memory is refused
+pub memory_of_search : (query : Query) (ts : List IndexToken) (answer : Result QueryCursorState Fault) → GivesMatches query ts answer → IfErr answer (λ fault. fault ≡ OutOfMemory)
+memory_of_search query ts (Ok cursor) gives = tt
+memory_of_search query ts (Err fault) gives = gives
+
+pub refused_search : (query : Query) (entries : List SchemaEntry) (n : ℕ) (ts : List IndexToken) (answer : Result QueryCursorState Fault) → GivesMatches query ts answer
+    → IfErr answer (λ e. (e ≡ OutOfMemory) ⊎ IsRamFault entries n ts e)
+refused_search query entries n ts (Ok cursor) gives = tt
+refused_search query entries n ts (Err fault) gives = inl gives

@@ -1,0 +1,67 @@
+// What queries find.
+ghost use Rattle.std.specs.Prelude.{◌≡◌, ◌≤◌, ◌⊎◌, ℕ, [], List, true, length, map, None, IfErr, IfOk};
+ghost use Rattle.ii_docset.specs.Cursor.{IsAscending};
+ghost use Rattle.ii_docset.specs.Intersection.{has_doc};
+ghost use Rattle.ii_definitions.specs.Fields.{option_of};
+ghost use Rattle.ii_definitions.specs.Files.{HoldTokens};
+ghost use Rattle.ii_definitions.specs.Norms.{HoldNorms};
+ghost use Rattle.ii_definitions.specs.Tokens.{IndexToken, tokens_of};
+ghost use Rattle.ii_indexing.specs.IndexCalls.{MayAllBeIndexed, call_of};
+ghost use Rattle.ii_indexing.specs.Refusals.{calls_fault};
+ghost use Rattle.ii_search.specs.Queries.{has_fields, matches};
+ghost use Rattle.nequllpa.specs.Ram.{IsRamFault};
+
+use bytes::Bytes;
+use nequllpa::{
+    DocId, Fault, IndexCall, Query, QueryCursor, Schema, SegmentPostings, TextAnalyzer,
+    index_in_ram, open_index, search,
+};
+use std::alloc::Global;
+
+/// Whatever index calls, a query finds exactly the documents whose tokens match it, in ascending order. It is
+/// refused for no other reason than the index is.
+pub fn queries_find_what_matches<A: TextAnalyzer>(
+    alloc: Global,
+    schema: Schema,
+    num_docs: DocId,
+    calls: Vec<IndexCall>,
+    analyzer: &A,
+    query: &Query,
+) -> Result<QueryCursor<SegmentPostings>, Fault>
+    requires docs { num_docs ≤ 2147483647 }
+    requires calls { MayAllBeIndexed schema num_docs calls.items }
+    requires fields { has_fields (length schema) query.now ≡ true }
+    ensures ascending { IfOk result (λ cursor. IsAscending cursor.rest) }
+    ensures found { IfOk result (λ cursor. (doc : ℕ) → has_doc cursor.rest doc ≡ matches query.now (tokens_of (A.words analyzer.now) (map (call_of schema) calls.items)) doc) }
+    ensures fault { calls_fault (A.words analyzer.now) (option_of schema) [] (map (call_of schema) calls.items) ≡ None
+        → IfErr result (λ e. (e ≡ Fault.OutOfMemory) ⊎ IsRamFault schema num_docs (tokens_of (A.words analyzer.now) (map (call_of schema) calls.items)) e) }
+{
+    match index_in_ram(alloc, schema, num_docs, calls, analyzer) {
+        Ok(index) => search(alloc, &index, query),
+        Err(fault) => Err(fault),
+    }
+}
+
+/// So it does where the index is opened from files that hold tokens and their norms, and is then refused
+/// for memory alone.
+pub fn queries_of_files_find_what_matches(
+    alloc: Global,
+    terms: Bytes,
+    postings: Bytes,
+    positions: Bytes,
+    fieldnorms: Bytes,
+    schema: &Schema,
+    query: &Query,
+) -> Result<QueryCursor<SegmentPostings>, Fault>
+    requires fields { has_fields (length schema.now) query.now ≡ true }
+    ensures ascending { IfOk result (λ cursor. IsAscending cursor.rest) }
+    ensures found { (tokens : List IndexToken) → (num_docs : ℕ) → HoldTokens (option_of schema.now) terms postings positions tokens → HoldNorms schema.now num_docs fieldnorms tokens
+        → IfOk result (λ cursor. (doc : ℕ) → has_doc cursor.rest doc ≡ matches query.now tokens doc) }
+    ensures memory { (tokens : List IndexToken) → (num_docs : ℕ) → HoldTokens (option_of schema.now) terms postings positions tokens → HoldNorms schema.now num_docs fieldnorms tokens
+        → IfErr result (λ fault. fault ≡ Fault.OutOfMemory) }
+{
+    match open_index(alloc, terms, postings, positions, fieldnorms, schema) {
+        Ok(index) => search(alloc, &index, query),
+        Err(fault) => Err(fault),
+    }
+}

@@ -1,0 +1,12 @@
+use Rattle.std.proofs.Common.{◌≡◌, ℕ, ◌&&◌, List}
+use Rattle.std.specs.List.{list_all}
+use Rattle.ii_definitions.specs.Tokens.{IndexToken}
+use Rattle.ii_search.specs.declared.query.Query.{Query}
+use Rattle.ii_search.specs.Queries.{has_fields, matches}
+use Rattle.ii_search.proofs.query.Query.and_all.Given as goal
+
+abbrev pub invariant-loop-query : goal.invariant-loop-query
+invariant-loop-query l = record {
+  matches : (ts : List IndexToken) (doc : ℕ) → (matches l.all ts doc && list_all (λ (q : Query). matches q ts doc) l.query-iterator.rest.items) ≡ (matches l.fn.first ts doc && list_all (λ (q : Query). matches q ts doc) l.fn.others.items);
+  fields : (n : ℕ) → (has_fields n l.all && list_all (has_fields n) l.query-iterator.rest.items) ≡ (has_fields n l.fn.first && list_all (has_fields n) l.fn.others.items);
+}

@@ -1,0 +1,56 @@
+-- What a query gives in an index.
+use Rattle.std.specs.Prelude.{◌≡◌, ℕ, List, [], Option, None, Some, Result, Ok, Err, length, slice_get}
+use Rattle.ii_io.specs.declared.faults.Fault.{Fault}
+use Rattle.ii_io.specs.declared.faults.Fault.TheVariants.{OutOfMemory}
+use Rattle.ii_io.specs.declared.faults.Part.{Part}
+use Rattle.ii_base.specs.declared.schema.index_record_option.IndexRecordOption.TheVariants.{Basic}
+use Rattle.ii_docset.specs.Cursor.{IsAscending}
+use Rattle.ii_docset.specs.Entries.{Entry}
+use Rattle.ii_docset.specs.Intersection.{has_doc}
+use Rattle.ii_query.specs.Combined.{QueryCursorState, common, either, without}
+use Rattle.ii_termdict.specs.Dictionary.{info_under}
+use Rattle.ii_termstore.specs.declared.term_info.TermInfo.{TermInfo}
+use Rattle.ii_definitions.specs.Tokens.{IndexToken}
+use Rattle.ii_reader.specs.InvertedIndexReader.{InvertedIndexReaderState, term_of_file}
+use Rattle.ii_reader.specs.OpenIndex.{OpenIndexState}
+use Rattle.ii_search.specs.declared.query.Query.{Query, Empty, Term, And', Or', AndNot'}
+use Rattle.ii_search.specs.Queries.{matches}
+
+-- the documents of a term of which this is kept, or the first part that fails; none where nothing is kept of it
+abbrev pub docs_kept : InvertedIndexReaderState → Option TermInfo → Result (List Entry) Part
+docs_kept reader None = Ok []
+docs_kept reader (Some info) = term_of_file reader Basic info
+
+-- the documents of a key in a field
+abbrev pub docs_under : List ℕ → Option InvertedIndexReaderState → Result (List Entry) Part
+docs_under key None = Ok []
+docs_under key (Some reader) = docs_kept reader (info_under key reader.terms)
+
+-- two lists that are combined, or the first part that fails
+abbrev pub combined : (List Entry → List Entry → List Entry) → Result (List Entry) Part → Result (List Entry) Part → Result (List Entry) Part
+combined by (Err part) other = Err part
+combined by (Ok es) (Err part) = Err part
+combined by (Ok es) (Ok fs) = Ok (by es fs)
+
+-- what a query gives over the lists that an index has, or the first part that fails
+abbrev pub found_in : OpenIndexState → Query → Result (List Entry) Part
+found_in index Empty = Ok []
+found_in index (Term term) = docs_under term.value (slice_get index.readers term.field)
+found_in index (And' p first q other) = combined common (found_in index first) (found_in index other)
+found_in index (Or' p first q other) = combined either (found_in index first) (found_in index other)
+found_in index (AndNot' p first q other) = combined without (found_in index first) (found_in index other)
+
+-- Entries are of exactly the documents that match a query, in ascending order.
+pub record AreMatches (query : Query) (ts : List IndexToken) (es : List Entry) : Type 0 where
+  pub ascending : IsAscending es
+  pub exact : (doc : ℕ) → has_doc es doc ≡ matches query ts doc
+
+-- A cursor has exactly the documents that match; it is refused for memory alone.
+abbrev pub GivesMatches : Query → List IndexToken → Result QueryCursorState Fault → Type 0
+GivesMatches query ts (Ok cursor) = AreMatches query ts cursor.rest
+GivesMatches query ts (Err fault) = fault ≡ OutOfMemory
+
+-- A number is that of the documents that match; it is refused for memory alone.
+abbrev pub GivesCount : Query → List IndexToken → Result ℕ Fault → Type 0
+GivesCount query ts (Ok n) = (es : List Entry) → AreMatches query ts es → n ≡ length es
+GivesCount query ts (Err fault) = fault ≡ OutOfMemory

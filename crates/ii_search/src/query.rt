@@ -1,0 +1,106 @@
+ghost use Rattle.std.specs.Prelude.{◌≡◌, ◌&&◌, ◌||◌, ℕ, List, IfOk, length, not};
+ghost use Rattle.std.specs.List.{list_all, list_any};
+ghost use Rattle.ii_io.specs.Faults.{OnlyMemory};
+ghost use Rattle.ii_definitions.specs.Tokens.{IndexToken};
+ghost use Rattle.ii_search.specs.Queries.{has_fields, matches};
+
+use ii_base::{Fault, Schema, Term};
+use std::alloc::Global;
+
+/// What the documents have that are searched for.
+#[derive(Drop)]
+pub enum Query {
+    /// No document matches.
+    Empty,
+    /// A token of the term's field whose key are the bytes of its value.
+    Term(Term),
+    /// What both queries want.
+    And(Box<Query>, Box<Query>),
+    /// What one of the queries wants, or the other one.
+    Or(Box<Query>, Box<Query>),
+    /// What the first query wants, and not what the other one wants.
+    AndNot(Box<Query>, Box<Query>),
+}
+
+impl Query {
+    /// What both want. `OutOfMemory` where there is no room for two boxes.
+    pub fn and(alloc: Global, first: Query, other: Query) -> Result<Query, Fault>
+        ensures matches { IfOk result (λ query. (ts : List IndexToken) (doc : ℕ) → matches query ts doc ≡ (matches first ts doc && matches other ts doc)) }
+        ensures fields { IfOk result (λ query. (n : ℕ) → has_fields n query ≡ (has_fields n first && has_fields n other)) }
+        ensures only { OnlyMemory result }
+    {
+        let first = Box::new(alloc, first)?;
+        let other = Box::new(alloc, other)?;
+        Ok(Query::And(first, other))
+    }
+
+    /// What one of them wants, or the other one. `OutOfMemory` where there is no room for two boxes.
+    pub fn or(alloc: Global, first: Query, other: Query) -> Result<Query, Fault>
+        ensures matches { IfOk result (λ query. (ts : List IndexToken) (doc : ℕ) → matches query ts doc ≡ (matches first ts doc || matches other ts doc)) }
+        ensures fields { IfOk result (λ query. (n : ℕ) → has_fields n query ≡ (has_fields n first && has_fields n other)) }
+        ensures only { OnlyMemory result }
+    {
+        let first = Box::new(alloc, first)?;
+        let other = Box::new(alloc, other)?;
+        Ok(Query::Or(first, other))
+    }
+
+    /// What the first wants, and not what the other one wants. `OutOfMemory` where there is no room for
+    /// two boxes.
+    pub fn and_not(alloc: Global, first: Query, other: Query) -> Result<Query, Fault>
+        ensures matches { IfOk result (λ query. (ts : List IndexToken) (doc : ℕ) → matches query ts doc ≡ (matches first ts doc && not (matches other ts doc))) }
+        ensures fields { IfOk result (λ query. (n : ℕ) → has_fields n query ≡ (has_fields n first && has_fields n other)) }
+        ensures only { OnlyMemory result }
+    {
+        let first = Box::new(alloc, first)?;
+        let other = Box::new(alloc, other)?;
+        Ok(Query::AndNot(first, other))
+    }
+
+    /// What the first wants and all others want too. `OutOfMemory` where there is no room for two boxes
+    /// each.
+    pub fn and_all(alloc: Global, first: Query, others: Vec<Query>) -> Result<Query, Fault>
+        ensures matches { IfOk result (λ query. (ts : List IndexToken) (doc : ℕ) → matches query ts doc ≡ (matches first ts doc && list_all (λ q. matches q ts doc) others.items)) }
+        ensures fields { IfOk result (λ query. (n : ℕ) → has_fields n query ≡ (has_fields n first && list_all (has_fields n) others.items)) }
+        ensures only { OnlyMemory result }
+    {
+        let mut all = first;
+        for query in others {
+            all = match Query::and(alloc, all, query) {
+                Ok(all) => all,
+                Err(fault) => return Err(fault),
+            };
+        }
+        Ok(all)
+    }
+
+    /// What one of them wants; no document where there are none. `OutOfMemory` where there is no room for
+    /// two boxes each.
+    pub fn or_any(alloc: Global, queries: Vec<Query>) -> Result<Query, Fault>
+        ensures matches { IfOk result (λ query. (ts : List IndexToken) (doc : ℕ) → matches query ts doc ≡ list_any (λ q. matches q ts doc) queries.items) }
+        ensures fields { IfOk result (λ query. (n : ℕ) → has_fields n query ≡ list_all (has_fields n) queries.items) }
+        ensures only { OnlyMemory result }
+    {
+        let mut any = Query::Empty;
+        for query in queries {
+            any = match Query::or(alloc, any, query) {
+                Ok(any) => any,
+                Err(fault) => return Err(fault),
+            };
+        }
+        Ok(any)
+    }
+
+    /// Whether each term's field is one of the schema's.
+    pub fn has_fields(&self, schema: &Schema) -> bool
+        ensures { result ≡ has_fields (length schema.now) self.now }
+    {
+        match self {
+            Query::Empty => true,
+            Query::Term(term) => (term.field().field_id() as usize) < schema.num_fields(),
+            Query::And(first, other) => first.has_fields(schema) && other.has_fields(schema),
+            Query::Or(first, other) => first.has_fields(schema) && other.has_fields(schema),
+            Query::AndNot(first, other) => first.has_fields(schema) && other.has_fields(schema),
+        }
+    }
+}

@@ -1,0 +1,268 @@
+// Queries over an index of two fields.
+ghost use Rattle.std.specs.Prelude.{◌≡◌, IfOk, length, true};
+ghost use Rattle.ii_search.specs.Queries.{has_fields};
+
+use crate::memory_index::{checked, text_calls, two_texts};
+use ii_base::{AsciiTokenizer, Fault, Field, Schema, Term};
+use ii_docset::{DocId, DocSet, TERMINATED};
+use ii_reader::{OpenIndex, SegmentPostings};
+use nequllpa::{Query, QueryCursor, count, index_in_ram, search};
+use std::alloc::Global;
+use std::test::Fail;
+
+// Each a document, a field, and a text: document 5 has none.
+static TEXTS: [(DocId, u32, &str); 7] = [
+    (0, 0, "a b c"),
+    (0, 1, "x"),
+    (1, 0, "a c"),
+    (2, 0, "b"),
+    (3, 1, "a b"),
+    (4, 0, "a b"),
+    (4, 1, "x"),
+];
+
+// How two queries are put together.
+#[derive(Clone, Copy)]
+enum Pair {
+    And,
+    Or,
+    AndNot,
+}
+
+// The index of the texts.
+fn indexed(alloc: Global, schema: Schema) -> Result<OpenIndex, Fault>
+    ensures { IfOk result (λ index. length index.readers ≡ length schema) }
+{
+    let texts = text_calls(alloc, &TEXTS)?;
+    let calls = checked(alloc, &schema, 6, texts)?;
+    index_in_ram(alloc, schema, 6, calls, &AsciiTokenizer)
+}
+
+// The documents of a cursor, each with a comma behind it.
+fn documents(alloc: Global, cursor: &mut QueryCursor<SegmentPostings>) -> Result<String, Fault> {
+    let mut text = String::new(alloc);
+    for _ in 0..cursor.size_hint() {
+        let doc = cursor.doc();
+        if doc >= TERMINATED {
+            return Ok(text);
+        }
+        write!(text, "{doc},")?;
+        cursor.advance();
+    }
+    Ok(text)
+}
+
+// A cursor over what a query gives, where the index has its fields.
+fn cursor_of(alloc: Global, query: &Query) -> Result<QueryCursor<SegmentPostings>, Fault> {
+    let schema = two_texts(alloc)?;
+    if !query.has_fields(&schema) {
+        return Ok(QueryCursor::nothing());
+    }
+    let index = indexed(alloc, schema)?;
+    search(alloc, &index, query)
+}
+
+// The documents that a query gives.
+fn found(alloc: Global, query: &Query) -> Result<String, Fault> {
+    let mut cursor = cursor_of(alloc, query)?;
+    documents(alloc, &mut cursor)
+}
+
+// How many they are.
+fn counted(alloc: Global, query: &Query) -> Result<u32, Fault> {
+    let schema = two_texts(alloc)?;
+    if !query.has_fields(&schema) {
+        return Ok(0);
+    }
+    let index = indexed(alloc, schema)?;
+    count(alloc, &index, query)
+}
+
+// A word in a field.
+fn word(alloc: Global, field: u32, text: &str) -> Result<Query, Fault> {
+    let term = Term::from_field_text(alloc, Field::from_field_id(field), text)?;
+    Ok(Query::Term(term))
+}
+
+fn pair_of(alloc: Global, pair: Pair, first: Query, other: Query) -> Result<Query, Fault> {
+    match pair {
+        Pair::And => Query::and(alloc, first, other),
+        Pair::Or => Query::or(alloc, first, other),
+        Pair::AndNot => Query::and_not(alloc, first, other),
+    }
+}
+
+// Two words of the first field.
+fn words(alloc: Global, pair: Pair, first: &str, other: &str) -> Result<Query, Fault> {
+    let first = word(alloc, 0, first)?;
+    let other = word(alloc, 0, other)?;
+    pair_of(alloc, pair, first, other)
+}
+
+// Whether a word in a field gives these documents.
+fn word_gives(alloc: Global, field: u32, text: &str, docs: &str) -> Result<bool, Fault> {
+    let query = word(alloc, field, text)?;
+    let found = found(alloc, &query)?;
+    Ok(found.as_str() == docs)
+}
+
+// Whether two words of the first field do.
+fn words_give(
+    alloc: Global,
+    pair: Pair,
+    first: &str,
+    other: &str,
+    docs: &str,
+) -> Result<bool, Fault> {
+    let query = words(alloc, pair, first, other)?;
+    let found = found(alloc, &query)?;
+    Ok(found.as_str() == docs)
+}
+
+// Whether two words and a third do, put together from the left.
+fn three_give(
+    alloc: Global,
+    pairs: (Pair, Pair),
+    first: &str,
+    other: &str,
+    last: &str,
+    docs: &str,
+) -> Result<bool, Fault> {
+    let first = words(alloc, pairs.0, first, other)?;
+    let last = word(alloc, 0, last)?;
+    let query = pair_of(alloc, pairs.1, first, last)?;
+    let found = found(alloc, &query)?;
+    Ok(found.as_str() == docs)
+}
+
+// Whether a word of the first field does, put together with no document.
+fn word_and_nothing_give(alloc: Global, pair: Pair, docs: &str) -> Result<bool, Fault> {
+    let first = word(alloc, 0, "a")?;
+    let query = pair_of(alloc, pair, first, Query::Empty)?;
+    let found = found(alloc, &query)?;
+    Ok(found.as_str() == docs)
+}
+
+#[test]
+fn a_word_gives_its_documents(rt: HostRuntime) -> Result<(), Fail> {
+    assert!(rt; word_gives(rt.alloc(), 0, "a", "0,1,4,")?);
+    assert!(rt; word_gives(rt.alloc(), 0, "b", "0,2,4,")?);
+    assert!(rt; word_gives(rt.alloc(), 1, "a", "3,")?);
+    assert!(rt; word_gives(rt.alloc(), 0, "x", "")?);
+    assert!(rt; word_gives(rt.alloc(), 1, "x", "0,4,")?);
+    Ok(())
+}
+
+#[test]
+fn and_gives_the_documents_of_both(rt: HostRuntime) -> Result<(), Fail> {
+    assert!(rt; words_give(rt.alloc(), Pair::And, "a", "b", "0,4,")?);
+    assert!(rt; words_give(rt.alloc(), Pair::And, "c", "a", "0,1,")?);
+    assert!(rt; words_give(rt.alloc(), Pair::And, "a", "z", "")?);
+    assert!(rt; words_give(rt.alloc(), Pair::And, "b", "b", "0,2,4,")?);
+    Ok(())
+}
+
+#[test]
+fn or_gives_each_document_once(rt: HostRuntime) -> Result<(), Fail> {
+    assert!(rt; words_give(rt.alloc(), Pair::Or, "a", "b", "0,1,2,4,")?);
+    assert!(rt; words_give(rt.alloc(), Pair::Or, "z", "c", "0,1,")?);
+    assert!(rt; words_give(rt.alloc(), Pair::Or, "a", "a", "0,1,4,")?);
+    Ok(())
+}
+
+#[test]
+fn and_not_leaves_documents_out(rt: HostRuntime) -> Result<(), Fail> {
+    assert!(rt; words_give(rt.alloc(), Pair::AndNot, "a", "b", "1,")?);
+    assert!(rt; words_give(rt.alloc(), Pair::AndNot, "b", "a", "2,")?);
+    assert!(rt; words_give(rt.alloc(), Pair::AndNot, "a", "z", "0,1,4,")?);
+    assert!(rt; words_give(rt.alloc(), Pair::AndNot, "a", "a", "")?);
+    Ok(())
+}
+
+#[test]
+fn queries_are_nested(rt: HostRuntime) -> Result<(), Fail> {
+    assert!(rt; three_give(rt.alloc(), (Pair::Or, Pair::And), "a", "b", "c", "0,1,")?);
+    assert!(rt; three_give(rt.alloc(), (Pair::Or, Pair::AndNot), "a", "b", "c", "2,4,")?);
+    assert!(rt; three_give(rt.alloc(), (Pair::And, Pair::Or), "a", "b", "c", "0,1,4,")?);
+    assert!(rt;
+        three_give(
+            rt.alloc(),
+            (Pair::AndNot, Pair::Or),
+            "a",
+            "b",
+            "b",
+            "0,1,2,4,"
+        )?
+    );
+    Ok(())
+}
+
+#[test]
+fn no_document_is_put_together(rt: HostRuntime) -> Result<(), Fail> {
+    assert!(rt; word_and_nothing_give(rt.alloc(), Pair::And, "")?);
+    assert!(rt; word_and_nothing_give(rt.alloc(), Pair::Or, "0,1,4,")?);
+    assert!(rt; word_and_nothing_give(rt.alloc(), Pair::AndNot, "0,1,4,")?);
+    Ok(())
+}
+
+// Words of the first field.
+fn listed(alloc: Global, texts: &[&'static str]) -> Result<Vec<Query>, Fault> {
+    let mut queries = Vec::new(alloc);
+    for text in texts {
+        queries.push(word(alloc, 0, text)?)?;
+    }
+    Ok(queries)
+}
+
+// Whether these documents have one of the words.
+fn any_gives(alloc: Global, texts: &[&'static str], docs: &str) -> Result<bool, Fault> {
+    let query = Query::or_any(alloc, listed(alloc, texts)?)?;
+    let found = found(alloc, &query)?;
+    Ok(found.as_str() == docs)
+}
+
+// Whether these have a word and all the others.
+fn all_give(alloc: Global, first: &str, texts: &[&'static str], docs: &str) -> Result<bool, Fault> {
+    let first = word(alloc, 0, first)?;
+    let query = Query::and_all(alloc, first, listed(alloc, texts)?)?;
+    let found = found(alloc, &query)?;
+    Ok(found.as_str() == docs)
+}
+
+#[test]
+fn lists_of_queries_are_put_together(rt: HostRuntime) -> Result<(), Fail> {
+    assert!(rt; any_gives(rt.alloc(), &["c", "z", "b"], "0,1,2,4,")?);
+    assert!(rt; any_gives(rt.alloc(), &[], "")?);
+    assert!(rt; all_give(rt.alloc(), "a", &["b", "c"], "0,")?);
+    assert!(rt; all_give(rt.alloc(), "a", &[], "0,1,4,")?);
+    Ok(())
+}
+
+// How many documents have one of two words, and how many the second one.
+fn counts(alloc: Global) -> Result<(u32, u32), Fault> {
+    let both = words(alloc, Pair::Or, "a", "b")?;
+    let one = word(alloc, 1, "x")?;
+    Ok((counted(alloc, &both)?, counted(alloc, &one)?))
+}
+
+// Whether a schema of two fields has the fields of a query.
+fn asked(alloc: Global, field: u32) -> Result<bool, Fault> {
+    let query = words(alloc, Pair::Or, "a", "b")?;
+    let other = word(alloc, field, "a")?;
+    let query = Query::or(alloc, query, other)?;
+    let schema = two_texts(alloc)?;
+    Ok(query.has_fields(&schema))
+}
+
+#[test]
+fn documents_are_counted(rt: HostRuntime) -> Result<(), Fail> {
+    assert!(rt; counts(rt.alloc())? == (4, 2));
+    Ok(())
+}
+
+#[test]
+fn fields_are_asked_for(rt: HostRuntime) -> Result<(), Fail> {
+    assert!(rt; asked(rt.alloc(), 1)?);
+    assert!(rt; !asked(rt.alloc(), 2)?);
+    Ok(())
+}
