@@ -1,2 +1,2 @@
 mod IndexingLaws
-mod SearchingLaws
+pub mod SearchingLaws

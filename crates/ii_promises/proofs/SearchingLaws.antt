@@ -1,16 +1,16 @@
 -- What a search answers of the tokens that an index has.
-use Rattle.std.proofs.Common.{inl, ◌≡◌, ℕ, List, Result, Ok, Err}
+use Rattle.std.proofs.Common.{inl, ◌≡◌, ◌∙◌, ℕ, true, List, Result, Ok, Err, ap}
 use Rattle.std.specs.Prelude.{◌⊎◌, IfErr, IfOk}
 use Rattle.ii_io.specs.declared.faults.Fault.{Fault}
 use Rattle.ii_io.specs.declared.faults.Fault.TheVariants.{OutOfMemory}
 use Rattle.ii_base.specs.Schema.{SchemaEntry}
-use Rattle.ii_docset.specs.Cursor.{IsAscending}
+use Rattle.ii_docset.specs.Cursor.{IsAscending, IsSound}
 use Rattle.ii_docset.specs.Intersection.{has_doc}
 use Rattle.ii_query.specs.Combined.{QueryCursorState}
 use Rattle.ii_definitions.specs.Tokens.{IndexToken}
 use Rattle.ii_search.specs.declared.query.Query.{Query}
 use Rattle.ii_search.specs.Found.{GivesMatches}
-use Rattle.ii_search.specs.Queries.{matches}
+use Rattle.ii_search.specs.Queries.{has_fields, matches}
 use Rattle.nequllpa.specs.Ram.{IsRamFault}
 
 -- the documents that match
@@ -27,3 +27,12 @@ pub refused_search : (query : Query) (entries : List SchemaEntry) (n : ℕ) (ts 
     → IfErr answer (λ e. (e ≡ OutOfMemory) ⊎ IsRamFault entries n ts e)
 refused_search query entries n ts (Ok cursor) gives = tt
 refused_search query entries n ts (Err fault) gives = inl gives
+
+-- an index has the fields of its schema
+pub same_fields : (m n : ℕ) (query : Query) → m ≡ n → has_fields n query ≡ true → has_fields m query ≡ true
+same_fields m n query same fields = ap (λ (k : ℕ). has_fields k query) same ∙ fields
+
+-- what is sound ascends
+pub found_ascend : (answer : Result QueryCursorState Fault) → IfOk answer (λ cursor. IsSound cursor.rest) → IfOk answer (λ cursor. IsAscending cursor.rest)
+found_ascend (Ok cursor) sound = sound.ascending
+found_ascend (Err fault) sound = tt

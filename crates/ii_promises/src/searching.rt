@@ -20,6 +20,7 @@ use std::alloc::Global;
 
 /// Whatever index calls, a query finds exactly the documents whose tokens match it, in ascending order. It is
 /// refused for no other reason than the index is.
+#[tactic(auto, using(crate::proofs::SearchingLaws::matches_are_found, crate::proofs::SearchingLaws::memory_of_search, crate::proofs::SearchingLaws::refused_search, crate::proofs::SearchingLaws::same_fields, crate::proofs::SearchingLaws::found_ascend))]
 pub fn queries_find_what_matches<A: TextAnalyzer>(
     alloc: Global,
     schema: Schema,
@@ -44,6 +45,7 @@ pub fn queries_find_what_matches<A: TextAnalyzer>(
 
 /// So it does where the index is opened from files that hold tokens and their norms, and is then refused
 /// for memory alone.
+#[tactic(auto, using(crate::proofs::SearchingLaws::matches_are_found, crate::proofs::SearchingLaws::memory_of_search, crate::proofs::SearchingLaws::refused_search, crate::proofs::SearchingLaws::same_fields, crate::proofs::SearchingLaws::found_ascend))]
 pub fn queries_of_files_find_what_matches(
     alloc: Global,
     terms: Bytes,
