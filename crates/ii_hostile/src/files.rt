@@ -219,8 +219,11 @@ fn has_norms(norms: &FieldNormReader, ids: Option<&[u8]>) -> bool {
         return false;
     };
     let mut same = u64::from(norms.num_docs()) == ids.len() as u64;
-    for (doc, id) in (0..norms.num_docs()).zip(ids) {
-        same &= norms.fieldnorm_id(doc) == *id;
+    for doc in 0..norms.num_docs() {
+        same &= match ids.get(doc as usize) {
+            Some(id) => *id == norms.fieldnorm_id(doc),
+            None => false,
+        };
     }
     same
 }

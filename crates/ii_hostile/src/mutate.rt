@@ -10,9 +10,17 @@ const NONE: Tally = Tally {
     differences: 0,
 };
 
+// A part of bytes that are read together, nothing where there is none.
+fn part_of(parts: &[Vec<u8>], at: usize) -> &[u8] {
+    match parts.get(at) {
+        Some(part) => part.as_slice(),
+        None => &[],
+    }
+}
+
 // Reads bytes both ways.
-fn judge(alloc: Global, kind: Kind, parts: [&[u8]; 4], tally: &mut Tally) -> Result<(), Fault> {
-    let [first, second, third, fourth] = parts;
+fn judge(alloc: Global, kind: Kind, parts: &[Vec<u8>], tally: &mut Tally) -> Result<(), Fault> {
+    let (first, second) = (part_of(parts, 0), part_of(parts, 1));
     match kind {
         Kind::List(doc_freq) => judge_list(alloc, doc_freq, first, second, tally)?,
         Kind::Composite => tally.add(same_composite(alloc, first)?),
@@ -23,13 +31,22 @@ fn judge(alloc: Global, kind: Kind, parts: [&[u8]; 4], tally: &mut Tally) -> Res
             Files {
                 terms: first,
                 postings: second,
-                positions: third,
-                norms: fourth,
+                positions: part_of(parts, 2),
+                norms: part_of(parts, 3),
             },
             tally,
         )?,
     }
     Ok(())
+}
+
+// The parts of a subject, to be changed.
+fn copied(alloc: Global, subject: &Subject) -> Result<Vec<Vec<u8>>, Fault> {
+    let mut parts = Vec::new(alloc);
+    for part in subject.parts.as_slice() {
+        parts.push(Vec::from_slice(alloc, part)?)?;
+    }
+    Ok(parts)
 }
 
 /// Each subject as it is, with each cut of one of its parts, and with each change of one byte; of a subject of
@@ -38,13 +55,14 @@ pub fn each_change(alloc: Global, longest: u64) -> Result<Tally, Fault> {
     let mut tally = NONE;
     for subject in subjects(alloc)?.as_slice() {
         let mut len = 0u64;
-        for part in subject.parts {
+        for part in subject.parts.as_slice() {
             len = len.saturating_add(part.len() as u64);
         }
-        judge(alloc, subject.kind, subject.parts, &mut tally)?;
-        for (at, part) in subject.parts.iter().enumerate() {
-            changed(alloc, subject, at, part, len <= longest, &mut tally)?;
-            cut(alloc, subject, at, part, &mut tally)?;
+        let whole = copied(alloc, subject)?;
+        judge(alloc, subject.kind, whole.as_slice(), &mut tally)?;
+        for at in 0..4 {
+            changed(alloc, subject, at, len <= longest, &mut tally)?;
+            cut(alloc, subject, at, &mut tally)?;
         }
     }
     Ok(tally)
@@ -55,18 +73,16 @@ fn changed(
     alloc: Global,
     subject: &Subject,
     at: usize,
-    part: &[u8],
     all: bool,
     tally: &mut Tally,
 ) -> Result<(), Fault> {
-    let mut bytes = Vec::from_slice(alloc, part)?;
-    for place in 0..part.len() {
+    let mut parts = copied(alloc, subject)?;
+    for place in 0..part_of(parts.as_slice(), at).len() {
         for change in 1..=u8::MAX {
             if all || change.is_power_of_two() {
-                alter(&mut bytes, place, change);
-                let parts = with_part(subject.parts, at, bytes.as_slice());
-                judge(alloc, subject.kind, parts, tally)?;
-                alter(&mut bytes, place, change);
+                alter_in(&mut parts, at, place, change);
+                judge(alloc, subject.kind, parts.as_slice(), tally)?;
+                alter_in(&mut parts, at, place, change);
             }
         }
     }
@@ -74,29 +90,22 @@ fn changed(
 }
 
 // Each cut of one part.
-fn cut(
-    alloc: Global,
-    subject: &Subject,
-    at: usize,
-    part: &[u8],
-    tally: &mut Tally,
-) -> Result<(), Fault> {
-    for len in 0..part.len() {
-        if let Some(front) = part.get(..len) {
-            let parts = with_part(subject.parts, at, front);
-            judge(alloc, subject.kind, parts, tally)?;
+fn cut(alloc: Global, subject: &Subject, at: usize, tally: &mut Tally) -> Result<(), Fault> {
+    let mut parts = copied(alloc, subject)?;
+    for _ in 0..part_of(parts.as_slice(), at).len() {
+        if let Some(part) = parts.as_mut_slice().get_mut(at) {
+            let _last = part.pop();
         }
+        judge(alloc, subject.kind, parts.as_slice(), tally)?;
     }
     Ok(())
 }
 
-// The parts with another in one place.
-fn with_part<'a>(parts: [&'a [u8]; 4], at: usize, bytes: &'a [u8]) -> [&'a [u8]; 4] {
-    let mut changed = parts;
-    if let Some(part) = changed.get_mut(at) {
-        *part = bytes;
+// Changes the bits of a byte of a part; a second time changes them back.
+fn alter_in(parts: &mut Vec<Vec<u8>>, at: usize, place: usize, change: u8) {
+    if let Some(part) = parts.as_mut_slice().get_mut(at) {
+        alter(part, place, change);
     }
-    changed
 }
 
 // Changes the bits of a byte; a second time changes them back.
@@ -130,22 +139,15 @@ fn damaged(
     state: &mut u64,
     tally: &mut Tally,
 ) -> Result<(), Fault> {
-    let [first, second, third, fourth] = subject.parts;
-    let first = damage(alloc, first, state)?;
-    let second = damage(alloc, second, state)?;
-    let third = damage(alloc, third, state)?;
-    let fourth = damage(alloc, fourth, state)?;
+    let mut parts = Vec::new(alloc);
+    for part in subject.parts.as_slice() {
+        parts.push(damage(alloc, part, state)?)?;
+    }
     let kind = match subject.kind {
         Kind::List(_) if next(state) % 8 == 0 => Kind::List((next(state) % 400) as u32),
         kind => kind,
     };
-    let parts = [
-        first.as_slice(),
-        second.as_slice(),
-        third.as_slice(),
-        fourth.as_slice(),
-    ];
-    judge(alloc, kind, parts, tally)
+    judge(alloc, kind, parts.as_slice(), tally)
 }
 
 // Another random number.
