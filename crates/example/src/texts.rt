@@ -1,11 +1,10 @@
-// Three texts, in a field with positions and norms, and a query.
-ghost use Rattle.std.specs.Prelude.{◌≡◌, ◌<◌, ℕ, true, length, IfOk};
-ghost use Rattle.ii_search.specs.Queries.{has_fields};
+// Three texts, in a field with positions and norms.
+ghost use Rattle.std.specs.Prelude.{◌<◌, length, IfOk};
 
 use anyhow::Result;
 use nequllpa::{
-    AsciiTokenizer, Field, FieldEntry, IndexCall, IndexRecordOption, OpenIndex, Query, Schema,
-    Term, index_in_ram,
+    AsciiTokenizer, Field, FieldEntry, IndexCall, IndexRecordOption, OpenIndex, Schema,
+    index_in_ram,
 };
 use std::alloc::Global;
 
@@ -27,20 +26,4 @@ pub(crate) fn indexed(alloc: Global) -> Result<OpenIndex>
     calls.push(IndexCall::Text(2, body, text))?;
     let schema = Schema::new(entries);
     Ok(index_in_ram(alloc, schema, 3, calls, &AsciiTokenizer)?)
-}
-
-// The texts with `hand` or `end`, but without `two`.
-pub(crate) fn query(alloc: Global) -> Result<Query>
-    ensures { IfOk result (λ query. (n : ℕ) → 0 < n → has_fields n query ≡ true) }
-{
-    let either = Query::or(alloc, word(alloc, "hand")?, word(alloc, "end")?)?;
-    Ok(Query::and_not(alloc, either, word(alloc, "two")?)?)
-}
-
-// The texts with a word.
-fn word(alloc: Global, text: &str) -> Result<Query>
-    ensures { IfOk result (λ query. (n : ℕ) → 0 < n → has_fields n query ≡ true) }
-{
-    let term = Term::from_field_text(alloc, Field::from_field_id(0), text)?;
-    Ok(Query::Term(term))
 }
