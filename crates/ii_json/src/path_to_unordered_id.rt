@@ -121,6 +121,8 @@ impl PathToUnorderedId {
     pub fn unordered_id_to_ordered_id(&self, alloc: Global) -> Result<Vec<OrderedPathId>, Fault>
         ensures ranks { IfOk result (λ ids. ids.items ≡ path_ranks self.now) }
         ensures permutation { IfOk result (λ ids. IsPermutation (range_with_len 0 (length self.now)) ids.items) }
+        ensures distinct { AreDistinct self.now }
+        ensures few { length self.now ≤ 2 ^ 32 }
         ensures only { OnlyMemory result }
     {
         let sorted = self.ordered_id_to_path(alloc)?;
@@ -137,6 +139,8 @@ impl PathToUnorderedId {
         ensures ascending { IfOk result (λ paths. AreAscendingPaths (texts_of paths.items)) }
         ensures permutation { IfOk result (λ paths. IsPermutation self.entry.now (texts_of paths.items)) }
         ensures places { IfOk result (λ paths. StandAtRanks self.entry.now (texts_of paths.items)) }
+        ensures distinct { AreDistinct self.entry.now }
+        ensures few { length self.entry.now ≤ 2 ^ 32 }
         ensures only { OnlyMemory result }
     {
         let mut paths = self.known_paths(alloc)?;
@@ -148,6 +152,7 @@ impl PathToUnorderedId {
     fn known_paths(&self, alloc: Global) -> Result<Vec<&str>, Fault>
         ensures ok { IfOk result (λ paths. texts_of paths.items ≡ self.entry.now) }
         ensures distinct { AreDistinct self.entry.now }
+        ensures few { length self.entry.now ≤ 2 ^ 32 }
         ensures only { OnlyMemory result }
     {
         let mut paths = Vec::new(alloc);
