@@ -223,9 +223,7 @@ pub fn serialize_postings<W: Write>(
     reads_uncounted_term_back();
     let mut ctx = ctx;
     ctx.term_index.sort()?;
-    let terms = ctx
-        .term_index
-        .terms_by_field(alloc, schema.num_fields())?;
+    let terms = ctx.term_index.terms_by_field(alloc, schema.num_fields())?;
     serialize_fields(
         alloc,
         per_field_postings_writers,
