@@ -40,7 +40,7 @@ impl Model for IndexedTerms {
 
     ghost Value = { IndexedTermsState };
 
-    ghost view = { λ t. record { terms = t.ctx; writers = t.writers } };
+    ghost view = { λ t. record { terms = t.ctx.term_index; writers = t.writers } };
 }
 
 impl IndexedTerms {
@@ -175,12 +175,12 @@ fn write_files<W: Write>(
     requires writers { length postings_writers.now ≡ length schema.now }
     requires fresh { HasFields serializer.entries serializer.bodies serializer.bodies [] }
     requires norms { AreShortNorms fieldnorm_readers.now }
-    requires terms { AllMayBeWritten (length schema.now) ctx }
-    ensures holds { (ts : List IndexToken) → HaveTokens serializer.entries ctx postings_writers.now ts
+    requires terms { AllMayBeWritten (length schema.now) ctx.term_index }
+    ensures holds { (ts : List IndexToken) → HaveTokens serializer.entries ctx.term_index postings_writers.now ts
         → OnOk result.3 (ClosedFiles serializer result.0 result.1 result.2 ts) }
     ensures failures { CountsThreeFailures serializer.bodies result.0 result.1 result.2 result.3 }
     ensures grow { Grows serializer.bodies.terms.writer result.0 × Grows serializer.bodies.postings.writer result.1 × Grows serializer.bodies.positions.writer result.2 }
-    ensures fault { (ts : List IndexToken) → HaveTokens serializer.entries ctx postings_writers.now ts
+    ensures fault { (ts : List IndexToken) → HaveTokens serializer.entries ctx.term_index postings_writers.now ts
         → IfErr result.3 (λ e. (e ≡ Fault.OutOfMemory) ⊎ (e ≡ Fault.Write) ⊎ PassLimits serializer.entries serializer.bodies.terms.writer serializer.bodies.postings.writer serializer.bodies.positions.writer ts e) }
 {
     let mut serializer = serializer;

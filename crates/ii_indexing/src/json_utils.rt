@@ -1,10 +1,7 @@
 ghost use Rattle.std.specs.Prelude.{◌≡◌, ◌<◌, ◌++◌, ◌∷◌, [], List, ℕ, true, false, length, IfOk, OnOk};
 ghost use Rattle.std.specs.List.{flat_map};
-ghost use Rattle.ii_io.specs.Faults.{OnlyMemory};
 ghost use Rattle.ii_base.specs.Json.{json_leaves, json_of, leaves_below};
-ghost use Rattle.ii_base.specs.Paths.{has_zero};
 ghost use Rattle.ii_base.specs.Schema.{SchemaEntry};
-ghost use Rattle.ii_base.specs.Values.{json_key, text_key, typed_key};
 ghost use Rattle.ii_base.specs.declared.schema.value_type.ValueType.TheVariants.{Json};
 ghost use Rattle.ii_docset.specs.declared.docset.TheConstants.{TERMINATED};
 ghost use Rattle.ii_definitions.specs.Fields.{option_of};
@@ -18,39 +15,11 @@ ghost use Rattle.ii_indexing.specs.Refusals.{next_leaf_fault};
 use crate::indexed_fields::IndexedFields;
 use ii_base::json_value::is_within;
 use ii_base::{
-    Fault, Field, JsonLeaf, JsonPathWriter, JsonValue, LeafKind, MAX_DEPTH, TextAnalyzer, ValueType,
+    Fault, Field, JsonLeaf, JsonPathWriter, JsonValue, LeafKind, MAX_DEPTH, TextAnalyzer,
 };
 use ii_docset::DocId;
-use ii_json::{JsonTermSerializer, LeafSink, visit_leaves};
+use ii_json::{LeafSink, visit_leaves};
 use std::alloc::Global;
-
-// The first bytes of the keys of a text's words at a path: the path, byte 0, and the letter of texts.
-pub(crate) fn text_prefix(alloc: Global, path: &str) -> Result<JsonTermSerializer, Fault>
-    requires path { has_zero path.now ≡ false }
-    ensures ok { IfOk result (λ prefix. prefix ≡ json_key path.now (text_key [])) }
-    ensures only { OnlyMemory result }
-{
-    let mut prefix = JsonTermSerializer::new(alloc);
-    prefix.append_term(path, ValueType::Str, &[])?;
-    Ok(prefix)
-}
-
-// The key of a number at a path: the path, byte 0, the letter of its type, and its 8 bytes, the highest
-// first.
-pub(crate) fn value_key(
-    alloc: Global,
-    path: &str,
-    value_type: ValueType,
-    number: u64,
-) -> Result<JsonTermSerializer, Fault>
-    requires path { has_zero path.now ≡ false }
-    ensures ok { IfOk result (λ key. key ≡ json_key path.now (typed_key value_type number)) }
-    ensures only { OnlyMemory result }
-{
-    let mut key = JsonTermSerializer::new(alloc);
-    key.append_term(path, value_type, &number.to_be_bytes())?;
-    Ok(key)
-}
 
 /// Indexes the leaves of a JSON value in a field of a document.
 #[derive(Drop)]

@@ -206,24 +206,24 @@ pub fn serialize_postings<W: Write>(
     requires writers { length per_field_postings_writers.now ≡ length schema.now }
     requires fresh { HasFields serializer.old.entries serializer.old.bodies serializer.old.bodies [] }
     requires norms { AreShortNorms fieldnorm_readers.now }
-    requires terms { AllMayBeWritten (length schema.now) ctx }
+    requires terms { AllMayBeWritten (length schema.now) ctx.term_index }
     ensures entries { serializer.new.entries ≡ serializer.old.entries }
-    ensures wrote { OnOk result (WroteContext serializer.old serializer.new per_field_postings_writers.now ctx) }
-    ensures holds { (ts : List IndexToken) → HaveTokens serializer.old.entries ctx per_field_postings_writers.now ts → OnOk result (WroteTokens serializer.old serializer.new ts) }
+    ensures wrote { OnOk result (WroteContext serializer.old serializer.new per_field_postings_writers.now ctx.term_index) }
+    ensures holds { (ts : List IndexToken) → HaveTokens serializer.old.entries ctx.term_index per_field_postings_writers.now ts → OnOk result (WroteTokens serializer.old serializer.new ts) }
     ensures closes { OnOk result (serializer.new.closed ≡ serializer.old.closed) }
     // where it is refused
     ensures failures { CountsFailures serializer.old.bodies serializer.new.bodies result }
     ensures grow { AllGrow serializer.old.bodies serializer.new.bodies }
-    ensures fault { IfErr result (λ e. (e ≡ Fault.OutOfMemory) ⊎ (e ≡ Fault.SerializerClosed) ⊎ IsContextFault serializer.old per_field_postings_writers.now ctx e) }
-    ensures closed { IsErrOf result Fault.SerializerClosed → IsTrue serializer.old.closed × (0 < length ctx) }
-    ensures refused { IsTrue serializer.old.closed → StaysClosed (ctx ≡ []) serializer.old serializer.new result }
+    ensures fault { IfErr result (λ e. (e ≡ Fault.OutOfMemory) ⊎ (e ≡ Fault.SerializerClosed) ⊎ IsContextFault serializer.old per_field_postings_writers.now ctx.term_index e) }
+    ensures closed { IsErrOf result Fault.SerializerClosed → IsTrue serializer.old.closed × (0 < length ctx.term_index) }
+    ensures refused { IsTrue serializer.old.closed → StaysClosed (ctx.term_index ≡ []) serializer.old serializer.new result }
     ensures err { IfErr result (ClosesOrStays serializer.old serializer.new) }
 {
     reads_entries_back();
     reads_uncounted_term_back();
     let mut ctx = ctx;
-    ctx.sort()?;
-    let terms = ctx.terms_by_field(alloc, schema.num_fields())?;
+    ctx.term_index.sort()?;
+    let terms = ctx.term_index.terms_by_field(alloc, schema.num_fields())?;
     serialize_fields(
         alloc,
         per_field_postings_writers,

@@ -8,14 +8,14 @@ ghost use Rattle.ii_postings_writer.specs.IndexingTerm.{AreTermBytes, field_in};
 ghost use Rattle.ii_postings_writer.specs.SortedTerms.{IsTermBelow, SortedTerm, seen, state_of, terms_in};
 
 use crate::IndexingTermRef;
-use crate::indexing_context::IndexingContext;
+use crate::term_recorders::TermRecorders;
 use ii_base::Fault;
 use ii_recorder::AnyRecorder;
 use indexmap::IndexMap;
 use std::alloc::Global;
 use std::marker::Model;
 
-impl IndexingContext {
+impl TermRecorders {
     // Puts the terms in the order of their bytes.
     pub(crate) fn sort(&mut self) -> Result<(), Fault>
         ensures ascending { OnOk result (AreAscending (map (λ t. t.0) self.new)) }
@@ -23,7 +23,7 @@ impl IndexingContext {
         ensures same { (bytes : List ℕ) → recorder_of self.new bytes ≡ recorder_of self.old bytes }
         ensures only { OnlyMemory result }
     {
-        self.term_index.sort_unstable_keys()?;
+        self.recorders.sort_unstable_keys()?;
         Ok(())
     }
 }
@@ -125,7 +125,7 @@ fn by_field<'a>(
     Ok(fields)
 }
 
-impl IndexingContext {
+impl TermRecorders {
     // The terms of each of so many fields.
     pub(crate) fn terms_by_field<'a>(
         &'a self,
@@ -137,6 +137,6 @@ impl IndexingContext {
         ensures ascending { AreAscending (map (λ t. t.0) self.entry.now) → IfOk result (λ fields. AllByRecursion (λ ts. AreAscending (map (λ t. t.key) ts)) fields.items) }
         ensures only { OnlyMemory result }
     {
-        by_field(alloc, &self.term_index, num_fields)
+        by_field(alloc, &self.recorders, num_fields)
     }
 }

@@ -13,15 +13,14 @@ use indexmap::IndexMap;
 use std::alloc::Global;
 use std::marker::Model;
 
-/// What is gathered while documents are indexed: for each term that occurred, by its bytes, what
-/// keeps its postings.
+/// For each term that occurred, by its bytes, what keeps its postings.
 #[derive(Drop)]
-pub struct IndexingContext {
-    pub(crate) term_index: IndexMap<Vec<u8>, AnyRecorder>,
+pub struct TermRecorders {
+    pub(crate) recorders: IndexMap<Vec<u8>, AnyRecorder>,
     alloc: Global,
 }
 
-impl Model for IndexingContext {
+impl Model for TermRecorders {
     ghost use Rattle.std.specs.Prelude.{All, map};
     ghost use Rattle.ii_postings_writer.specs.IndexingTerm.{AreTermBytes};
     ghost use Rattle.indexmap.specs.IndexMap.{keys};
@@ -30,18 +29,18 @@ impl Model for IndexingContext {
 
     ghost Value = { TermIndex };
 
-    ghost view = { λ c. map (λ e. (e.0.items, any_state e.1)) c.term_index.entries };
+    ghost view = { λ c. map (λ e. (e.0.items, any_state e.1)) c.recorders.entries };
 
-    ghost invariant = { λ c. All (λ k. AreTermBytes k.items) (keys c.term_index) };
+    ghost invariant = { λ c. All (λ k. AreTermBytes k.items) (keys c.recorders) };
 }
 
-impl IndexingContext {
-    /// A context of no terms.
-    pub fn new(alloc: Global) -> IndexingContext
+impl TermRecorders {
+    /// No terms.
+    pub fn new(alloc: Global) -> TermRecorders
         ensures { result ≡ [] }
     {
-        IndexingContext {
-            term_index: IndexMap::new(alloc),
+        TermRecorders {
+            recorders: IndexMap::new(alloc),
             alloc,
         }
     }
@@ -61,12 +60,12 @@ impl IndexingContext {
         ensures ok { OnOk result (IsRecorded option doc position term.now self.old self.new) }
         ensures refused { IsRefusedBy (record_fault doc position (recorder_or_new option self.old term.now)) result }
     {
-        match self.term_index.get_mut(term) {
+        match self.recorders.get_mut(term) {
             Some(recorder) => record_in(recorder, doc, position),
             None => {
                 let recorder = recorder_with(self.alloc, option, doc, position)?;
                 let bytes = Vec::from_slice(self.alloc, term)?;
-                self.term_index.insert(bytes, recorder)?;
+                self.recorders.insert(bytes, recorder)?;
                 Ok(())
             }
         }

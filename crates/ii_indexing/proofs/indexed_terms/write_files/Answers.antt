@@ -17,13 +17,13 @@ returns-in-Ok-clause-failures g c =
 
 pub returns-in-Ok-clause-fault : goal.returns-in-Ok-clause-fault
 returns-in-Ok-clause-fault g c ts has =
-    table_fault c.args.serializer c.serialize_postings.new.serializer c.args.postings_writers.now c.args.ctx ts c.close.result.3 (subst (λ (es : List SchemaEntry). length es < 2 ^ 32) c.requires.schema c.requires.few) has
+    table_fault c.args.serializer c.serialize_postings.new.serializer c.args.postings_writers.now c.args.ctx.term_index ts c.close.result.3 (subst (λ (es : List SchemaEntry). length es < 2 ^ 32) c.requires.schema c.requires.few) has
     (c.in-Ok.ensures.closes ∙ c.requires.open) c.in-Ok.ensures.wrote (record { full = c.close.ensures.full; closed = c.close.ensures.closed; only = c.close.ensures.only })
 
 pub returns-in-Err-clause-fault : goal.returns-in-Err-clause-fault
 returns-in-Err-clause-fault g c ts has =
     subst (λ r. IfErr r (PassesBehind c.args.serializer.entries c.args.serializer.bodies ts)) c.in-Err.is
-    (terms_fault c.args.serializer c.args.postings_writers.now c.args.ctx ts c.serialize_postings.result (subst (λ (es : List SchemaEntry). length es < 2 ^ 32) c.requires.schema c.requires.few) has c.requires.open
+    (terms_fault c.args.serializer c.args.postings_writers.now c.args.ctx.term_index ts c.serialize_postings.result (subst (λ (es : List SchemaEntry). length es < 2 ^ 32) c.requires.schema c.requires.few) has c.requires.open
     (λ is. (c.serialize_postings.ensures.closed is).0) c.serialize_postings.ensures.fault)
 
 pub returns-in-Ok-clause-grow : goal.returns-in-Ok-clause-grow

@@ -1,6 +1,6 @@
 use Rattle.ii_recorder.specs.AnyRecorder.{any_state}
 use Rattle.ii_postings_writer.proofs.RecorderSteps.{recorded_refusal}
-use Rattle.ii_postings_writer.proofs.indexing_context.record_in.Goals as goal
+use Rattle.ii_postings_writer.proofs.term_recorders.record_in.Goals as goal
 
 pub returns-clause-refused : goal.returns-clause-refused
 returns-clause-refused c =

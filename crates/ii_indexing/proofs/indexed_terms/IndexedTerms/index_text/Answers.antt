@@ -17,22 +17,22 @@ returns-clause-stored g c =
     let words = g.S.TokenStream.to_come c.args.token_stream.now in
     let begin = c.args.position.now.end_position in
     let prefix = c.args.prefix.now in
-    let s : IndexedTermsState = record { terms = c.self.inside.ctx; writers = c.self.inside.writers } in
+    let s : IndexedTermsState = record { terms = c.self.inside.ctx.term_index; writers = c.self.inside.writers } in
     let w = c.get_for_field_mut-writer.result.now in
     let term : c.set_bytes.new.self ≡ record { field = c.args.field; value = prefix } = c.in_ok-set_bytes.ensures.ok ∙ ap (λ (t : IndexingTermState). record t { value = prefix }) c.clear_with_field.ensures in
     on_both c.index_text.result _ _ _
     (λ h counted entries ts takes stored.
     let old = subst (λ (q : IndexedTermsState). StoresTokens entries q ts) (sym c.self.view_is) stored in
     let tokens = subst (λ (t : IndexingTermState). HasTokens (kept_at entries) (text_piece c.args.doc t words) s.terms w ts
-    → HasTokens (kept_at entries) (text_piece c.args.doc t words) c.index_text.new.ctx c.index_text.new.self (ts ++ map (word_token (text_piece c.args.doc t words) begin) (kept_words words))) term (h (kept_at entries) ts) in
-    text_stored entries ts s (text_at c.args.doc c.args.field prefix words) begin w c.index_text.new.ctx c.index_text.new.self takes old c.get_for_field_mut-writer.ensures.value counted tokens)
+    → HasTokens (kept_at entries) (text_piece c.args.doc t words) c.index_text.new.ctx.term_index c.index_text.new.self (ts ++ map (word_token (text_piece c.args.doc t words) begin) (kept_words words))) term (h (kept_at entries) ts) in
+    text_stored entries ts s (text_at c.args.doc c.args.field prefix words) begin w c.index_text.new.ctx.term_index c.index_text.new.self takes old c.get_for_field_mut-writer.ensures.value counted tokens)
     c.index_text.ensures.tokens c.index_text.ensures.counted
 
 pub returns-clause-refused : goal.returns-clause-refused
 returns-clause-refused g c entries ts takes stored =
     let words = g.S.TokenStream.to_come c.args.token_stream.now in
     let prefix = c.args.prefix.now in
-    let s : IndexedTermsState = record { terms = c.self.inside.ctx; writers = c.self.inside.writers } in
+    let s : IndexedTermsState = record { terms = c.self.inside.ctx.term_index; writers = c.self.inside.writers } in
     let w = c.get_for_field_mut-writer.result.now in
     let term : c.set_bytes.new.self ≡ record { field = c.args.field; value = prefix } = c.in_ok-set_bytes.ensures.ok ∙ ap (λ (t : IndexingTermState). record t { value = prefix }) c.clear_with_field.ensures in
     let old = subst (λ (q : IndexedTermsState). StoresTokens entries q ts) (sym c.self.view_is) stored in

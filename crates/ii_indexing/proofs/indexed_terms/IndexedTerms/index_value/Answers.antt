@@ -15,21 +15,21 @@ subscribe-requires-clause-ends c = subst (λ (s : IndexedTermsState). AllEndBy c
 
 pub returns-clause-stored : goal.returns-clause-stored
 returns-clause-stored c =
-    let s : IndexedTermsState = record { terms = c.self.inside.ctx; writers = c.self.inside.writers } in
+    let s : IndexedTermsState = record { terms = c.self.inside.ctx.term_index; writers = c.self.inside.writers } in
     let w = c.get_for_field_mut-writer.result.now in
     let key = c.args.key.now in
     let term : c.set_bytes.new.self ≡ record { field = c.args.field; value = key } = c.in_ok-set_bytes.ensures.ok ∙ ap (λ (t : IndexingTermState). record t { value = key }) c.clear_with_field.ensures in
     on_both c.subscribe.result _ _ _
     (λ h counted entries ts takes stored.
     let old = subst (λ (q : IndexedTermsState). StoresTokens entries q ts) (sym c.self.view_is) stored in
-    let tokens = subst (λ (t : IndexingTermState). kept_at entries t.field t.value ≡ w.value_option → Records (kept_at entries) s.terms ts → Records (kept_at entries) c.subscribe.new.ctx (ts ++ term_token c.args.doc 0 false t ∷ []))
+    let tokens = subst (λ (t : IndexingTermState). kept_at entries t.field t.value ≡ w.value_option → Records (kept_at entries) s.terms ts → Records (kept_at entries) c.subscribe.new.ctx.term_index (ts ++ term_token c.args.doc 0 false t ∷ []))
     term (h (kept_at entries) ts false) in
-    value_stored entries ts s (value_at c.args.doc c.args.field key) w c.subscribe.new.ctx c.subscribe.new.self takes old c.get_for_field_mut-writer.ensures.value counted tokens)
+    value_stored entries ts s (value_at c.args.doc c.args.field key) w c.subscribe.new.ctx.term_index c.subscribe.new.self takes old c.get_for_field_mut-writer.ensures.value counted tokens)
     c.subscribe.ensures.tokens c.subscribe.ensures.counted
 
 pub returns-clause-refused : goal.returns-clause-refused
 returns-clause-refused c entries ts takes stored =
-    let s : IndexedTermsState = record { terms = c.self.inside.ctx; writers = c.self.inside.writers } in
+    let s : IndexedTermsState = record { terms = c.self.inside.ctx.term_index; writers = c.self.inside.writers } in
     let w = c.get_for_field_mut-writer.result.now in
     let key = c.args.key.now in
     let term : c.set_bytes.new.self ≡ record { field = c.args.field; value = key } = c.in_ok-set_bytes.ensures.ok ∙ ap (λ (t : IndexingTermState). record t { value = key }) c.clear_with_field.ensures in

@@ -20,7 +20,7 @@ pub returns-clause-fault : goal.returns-clause-fault
 returns-clause-fault g c ts has =
     let entries = c.open.ensures.entries ∙ c.requires.same in
     let tokens = subst (λ (s : IndexedTermsState). HaveTokens c.args.schema.now s.terms s.writers ts) (sym c.self.view_is) has in
-    let fault = c.write_files-terms.ensures.fault ts (subst (λ (es : List SchemaEntry). HaveTokens es c.self.inside.ctx c.self.inside.writers ts) (sym entries) tokens) in
+    let fault = c.write_files-terms.ensures.fault ts (subst (λ (es : List SchemaEntry). HaveTokens es c.self.inside.ctx.term_index c.self.inside.writers ts) (sym entries) tokens) in
     subst (λ (es : List SchemaEntry). IfErr c.write_files-terms.result.3 (λ e. (e ≡ OutOfMemory) ⊎ (e ≡ Write) ⊎ PassLimits es c.args.writers.terms c.args.writers.postings c.args.writers.positions ts e)) entries
     (subst (λ (b : IndexBodiesState). IfErr c.write_files-terms.result.3 (PassesBehind c.open.result.entries b ts)) c.open.ensures.bodies fault)
 
