@@ -22,7 +22,7 @@ use Rattle.ii_definitions.specs.JsonKeys.{is_json, type_of_code, type_under}
 use Rattle.ii_definitions.proofs.KeyLaws.{type_in_key}
 use Rattle.ii_indexing.specs.OpenPaths.{OpenPathsState, TellsPaths, no_paths, position_under}
 use Rattle.ii_indexing.specs.IndexedTerms.{TakesTexts, TakesValue, kept_at, kept_in, kept_under, values_kept_in, writer_in}
-use Rattle.ii_indexing.specs.Indexer.{EndsAt, StoresPieces}
+use Rattle.ii_indexing.specs.Indexer.{EndsAt, StoresAll, StoresPieces}
 use Rattle.ii_indexing.specs.OpenDocuments.{HasNorms, Tells, empty_document}
 use Rattle.ii_postings_writer.specs.PostingsWriter.{kept_as, text_kept_of, value_kept_of, writer_of, writers_of}
 use Rattle.ii_indexing.specs.Refusals.{piece_fault, pieces_fault}
@@ -136,7 +136,7 @@ one_fault option ps p = by (piece_fault option ps p)
     by (Some e) = refl
 
 -- an indexer of no calls stores none
-pub nothing_stored : (entries : List SchemaEntry) → StoresPieces entries (record { indexed = record { terms = []; writers = writers_of entries }; opened = record { documents = map (λ (e : SchemaEntry). empty_document 0) entries; norms = empty_buffers entries }; paths = map (λ (e : SchemaEntry). no_paths) entries }) []
+nothing_stored : (entries : List SchemaEntry) → StoresPieces entries (record { indexed = record { terms = []; paths = []; writers = writers_of entries }; opened = record { documents = map (λ (e : SchemaEntry). empty_document 0) entries; norms = empty_buffers entries }; paths = map (λ (e : SchemaEntry). no_paths) entries }) []
 nothing_stored entries = record {
   tokens = record { records = λ field key low. refl; counted = λ field inside. made_for entries field inside; of_fields = tt };
   documents = λ field d is. subst (λ (e : OpenDocument). Tells field [] [] e (buffer_of field (empty_buffers entries))) (sym (made_alike (empty_document 0) entries field d is)) (record {
@@ -156,7 +156,10 @@ nothing_stored entries = record {
     by field None = tt
     by field (Some ids) = λ x low. absurd (omega (arith, low))
 
-pub nothing_above : (entries : List SchemaEntry) → EndsAt 0 (record { indexed = record { terms = []; writers = writers_of entries }; opened = record { documents = map (λ (e : SchemaEntry). empty_document 0) entries; norms = empty_buffers entries }; paths = map (λ (e : SchemaEntry). no_paths) entries })
+pub nothing_known : (entries : List SchemaEntry) → StoresAll entries (record { indexed = record { terms = []; paths = []; writers = writers_of entries }; opened = record { documents = map (λ (e : SchemaEntry). empty_document 0) entries; norms = empty_buffers entries }; paths = map (λ (e : SchemaEntry). no_paths) entries }) []
+nothing_known entries = record { pieces = nothing_stored entries; known = refl }
+
+pub nothing_above : (entries : List SchemaEntry) → EndsAt 0 (record { indexed = record { terms = []; paths = []; writers = writers_of entries }; opened = record { documents = map (λ (e : SchemaEntry). empty_document 0) entries; norms = empty_buffers entries }; paths = map (λ (e : SchemaEntry). no_paths) entries })
 nothing_above entries = record {
   documents = length-map entries (λ (e : SchemaEntry). empty_document 0) ∙ sym (length-map entries writer_of);
   terms = λ bytes. tt;

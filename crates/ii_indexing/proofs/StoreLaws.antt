@@ -114,7 +114,7 @@ one_kind entries ts field key all = by (tokens_at field key ts) refl
     by (t ∷ us) is = basic_if (option_of entries field) t.of_text (kept_at entries field key) (kept_kind entries ts field key t us is all)
 
 pub tokens_stored : (entries : List SchemaEntry) (field : ℕ) (old : IndexedTermsState) (terms : TermIndex) (writer : PostingsWriterState) (ts us : List IndexToken) → field < length entries
-    → StoresTokens entries old ts → AddsTokens entries field old terms writer ts us → StoresTokens entries (record { terms = terms; writers = slice_set old.writers field writer }) (ts ++ us)
+    → StoresTokens entries old ts → AddsTokens entries field old terms writer ts us → StoresTokens entries (record { terms = terms; paths = old.paths; writers = slice_set old.writers field writer }) (ts ++ us)
 tokens_stored entries field old terms writer ts us low h adds = record {
   records = adds.records;
   counted = λ f inside. by_count f inside (field == f) refl;
@@ -158,7 +158,7 @@ words_of_field entries p begin (w ∷ ws) takes = (record { known = takes.known;
 pub text_stored : (entries : List SchemaEntry) (ts : List IndexToken) (s : IndexedTermsState) (p : Piece) (begin : ℕ) (w : PostingsWriterState) (terms : TermIndex) (after : PostingsWriterState)
     → TakesTexts entries p.field p.prefix → StoresTokens entries s ts → slice_get s.writers p.field ≡ Some w → after ≡ tokens_counted (length (kept_words p.words)) w
     → (HasTokens (kept_at entries) p s.terms w ts → HasTokens (kept_at entries) p terms after (ts ++ map (word_token p begin) (kept_words p.words)))
-    → StoresTokens entries (record { terms = terms; writers = slice_set s.writers p.field after }) (ts ++ map (word_token p begin) (kept_words p.words))
+    → StoresTokens entries (record { terms = terms; paths = s.paths; writers = slice_set s.writers p.field after }) (ts ++ map (word_token p begin) (kept_words p.words))
 text_stored entries ts s p begin w terms after takes h found counted f =
     let known = text_known entries ts s p w takes h found in
     let new = f known.1 in
@@ -176,7 +176,7 @@ text_stored entries ts s p begin w terms after takes h found counted f =
 pub value_stored : (entries : List SchemaEntry) (ts : List IndexToken) (s : IndexedTermsState) (p : Piece) (w : PostingsWriterState) (terms : TermIndex) (after : PostingsWriterState)
     → TakesValue entries p.field p.prefix → StoresTokens entries s ts → slice_get s.writers p.field ≡ Some w → after ≡ tokens_counted 1 w
     → (kept_at entries p.field p.prefix ≡ w.value_option → Records (kept_at entries) s.terms ts → Records (kept_at entries) terms (ts ++ value_token p ∷ []))
-    → StoresTokens entries (record { terms = terms; writers = slice_set s.writers p.field after }) (ts ++ value_token p ∷ [])
+    → StoresTokens entries (record { terms = terms; paths = s.paths; writers = slice_set s.writers p.field after }) (ts ++ value_token p ∷ [])
 value_stored entries ts s p w terms after takes h found counted f =
     let t = value_token p in
     let is : w ≡ writer_in entries p.field (field_count p.field ts) = some_inside _ _ (sym found ∙ h.counted p.field takes.known) in

@@ -17,9 +17,10 @@ use Rattle.ii_postings_writer.specs.PostingsWriter.{PostingsWriterState, kept_as
 use Rattle.ii_postings_writer.specs.Records.{Records}
 use Rattle.ii_postings_writer.specs.WordRefusals.{u64_max}
 
--- The terms of all fields, and the writer of each field.
+-- The terms of all fields, the known paths of JSON values, and the writer of each field.
 pub record IndexedTermsState : Type 0 where
   pub terms : TermIndex
+  pub paths : List (List ℕ)
   pub writers : List PostingsWriterState
 
 -- what the writer of a field keeps of the terms of texts, and of values

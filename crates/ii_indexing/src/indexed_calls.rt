@@ -7,7 +7,7 @@ ghost use Rattle.ii_json.specs.LeafVisit.{IsRefusedBy};
 ghost use Rattle.ii_indexing.specs.FieldValues.{key_of_value};
 ghost use Rattle.ii_indexing.specs.IndexCalls.{Takes, call_with, content_of, doc_of, field_of, type_of};
 ghost use Rattle.ii_indexing.specs.IndexedTerms.{TakesValue};
-ghost use Rattle.ii_indexing.specs.Indexer.{EndsAt, StoresPieces};
+ghost use Rattle.ii_indexing.specs.Indexer.{EndsAt, StoresAll, StoresPieces};
 ghost use Rattle.ii_indexing.specs.OpenDocuments.{with_norms};
 ghost use Rattle.ii_indexing.specs.Refusals.{content_fault, piece_fault};
 
@@ -38,12 +38,12 @@ impl IndexedFields {
         requires low { doc_of call < TERMINATED }
         requires known { field_of call < length self.old.indexed.writers }
         requires ends { EndsAt (doc_of call) self.old }
-        ensures stored { OnOk result ((entries : List SchemaEntry) (ps : List Piece) → Takes entries (field_of call) (type_of call) → StoresPieces entries self.old ps
-            → StoresPieces entries self.new (ps ++ call_pieces (A.words analyzer.now) (call_with expand_dots call))) }
+        ensures stored { OnOk result ((entries : List SchemaEntry) (ps : List Piece) → Takes entries (field_of call) (type_of call) → StoresAll entries self.old ps
+            → StoresAll entries self.new (ps ++ call_pieces (A.words analyzer.now) (call_with expand_dots call))) }
         ensures ends { OnOk result (EndsAt (doc_of call) self.new) }
         ensures fields { OnOk result (length self.new.indexed.writers ≡ length self.old.indexed.writers) }
         ensures norms { OnOk result (with_norms self.new.opened.norms ≡ with_norms self.old.opened.norms) }
-        ensures refused { (entries : List SchemaEntry) (ps : List Piece) → Takes entries (field_of call) (type_of call) → StoresPieces entries self.old ps
+        ensures refused { (entries : List SchemaEntry) (ps : List Piece) → Takes entries (field_of call) (type_of call) → StoresAll entries self.old ps
             → IsRefusedBy (content_fault (A.words analyzer.now) (option_of entries (field_of call)) ps (call_with expand_dots call) (content_of expand_dots call)) result }
     {
         let number = call.number();
@@ -92,6 +92,7 @@ impl IndexedFields {
         ensures ends { OnOk result (EndsAt doc self.new) }
         ensures fields { OnOk result (length self.new.indexed.writers ≡ length self.old.indexed.writers) }
         ensures norms { OnOk result (with_norms self.new.opened.norms ≡ with_norms self.old.opened.norms) }
+        ensures same_paths { OnOk result (self.new.indexed.paths ≡ self.old.indexed.paths) }
         ensures refused { (entries : List SchemaEntry) (ps : List Piece) → TakesValue entries field (key_of_value value) → StoresPieces entries self.old ps
             → IsRefusedBy (piece_fault (option_of entries field) ps (value_at doc field (key_of_value value))) result }
     {

@@ -2,7 +2,7 @@ ghost use Rattle.std.specs.Prelude.{◌≡◌, ◌<◌, ◌≤◌, ◌^◌, ◌�
 ghost use Rattle.ii_io.specs.Faults.{OnlyMemory};
 ghost use Rattle.ii_base.specs.Schema.{SchemaEntry, keeps_norms};
 ghost use Rattle.ii_docset.specs.declared.docset.TheConstants.{TERMINATED};
-ghost use Rattle.ii_definitions.specs.Tokens.{IndexToken, Piece, text_at, value_at};
+ghost use Rattle.ii_definitions.specs.Tokens.{IndexToken, Piece, at_path, text_at, value_at};
 ghost use Rattle.ii_definitions.specs.Fields.{option_of};
 ghost use Rattle.ii_base.specs.Paths.{has_zero};
 ghost use Rattle.ii_base.specs.Values.{json_key, text_key, typed_key};
@@ -11,7 +11,7 @@ ghost use Rattle.ii_json.specs.LeafVisit.{is_number_type};
 ghost use Rattle.ii_indexing.specs.IndexCalls.{Takes};
 ghost use Rattle.ii_indexing.specs.IndexedTerms.{TakesTexts, TakesValue};
 ghost use Rattle.ii_postings_writer.specs.FieldParts.{AreShortNorms};
-ghost use Rattle.ii_indexing.specs.Indexer.{EndsAt, StoresPieces, StoresSome};
+ghost use Rattle.ii_indexing.specs.Indexer.{EndsAt, StoresAll, StoresPieces, StoresSome};
 ghost use Rattle.ii_definitions.specs.Norms.{HoldNorms};
 ghost use Rattle.ii_indexing.specs.OpenDocuments.{TellsAll, with_norms};
 ghost use Rattle.ii_indexing.specs.Refusals.{piece_fault};
@@ -48,7 +48,7 @@ impl Model for IndexedFields {
 impl IndexedFields {
     // Nothing yet.
     pub(crate) fn new(alloc: Global, schema: &Schema) -> Result<IndexedFields, Fault>
-        ensures stored { IfOk result (λ f. StoresPieces schema.now f []) }
+        ensures stored { IfOk result (λ f. StoresAll schema.now f []) }
         ensures ends { IfOk result (EndsAt 0) }
         ensures fields { IfOk result (λ f. length f.indexed.writers ≡ length schema.now) }
         ensures norms { IfOk result (λ f. with_norms f.opened.norms ≡ map keeps_norms schema.now) }
@@ -109,6 +109,7 @@ impl IndexedFields {
         ensures ends { OnOk result (EndsAt doc self.new) }
         ensures fields { OnOk result (length self.new.indexed.writers ≡ length self.old.indexed.writers) }
         ensures norms { OnOk result (with_norms self.new.opened.norms ≡ with_norms self.old.opened.norms) }
+        ensures same_paths { OnOk result (self.new.indexed.paths ≡ self.old.indexed.paths) }
         ensures refused { (entries : List SchemaEntry) (ps : List Piece) → TakesTexts entries field [] → StoresPieces entries self.old ps → IsRefusedBy (piece_fault (option_of entries field) ps (text_at doc field [] (S.to_come tokens.old))) result }
     {
         let open = self.documents.open(doc, field)?;
@@ -148,6 +149,7 @@ impl IndexedFields {
         ensures ends { OnOk result (EndsAt doc self.new) }
         ensures fields { OnOk result (length self.new.indexed.writers ≡ length self.old.indexed.writers) }
         ensures norms { OnOk result (with_norms self.new.opened.norms ≡ with_norms self.old.opened.norms) }
+        ensures same_paths { OnOk result (self.new.indexed.paths ≡ self.old.indexed.paths) }
         ensures refused { (entries : List SchemaEntry) (ps : List Piece) → TakesTexts entries field prefix.now → StoresPieces entries self.old ps
             → IsRefusedBy (piece_fault (option_of entries field) ps (text_at doc field prefix.now (S.to_come tokens.old))) result }
     {
@@ -179,14 +181,15 @@ impl IndexedFields {
         requires known { field < length self.old.indexed.writers }
         requires ends { EndsAt doc self.old }
         requires path { has_zero path.now ≡ false }
-        ensures stored { OnOk result ((entries : List SchemaEntry) (ps : List Piece) → Takes entries field Json → StoresPieces entries self.old ps
-            → StoresPieces entries self.new (ps ++ text_at doc field (json_key path.now (text_key [])) (S.to_come tokens.old) ∷ [])) }
+        ensures stored { OnOk result ((entries : List SchemaEntry) (ps : List Piece) → Takes entries field Json → StoresAll entries self.old ps
+            → StoresAll entries self.new (ps ++ at_path path.now (text_at doc field (json_key path.now (text_key [])) (S.to_come tokens.old)) ∷ [])) }
         ensures ends { OnOk result (EndsAt doc self.new) }
         ensures fields { OnOk result (length self.new.indexed.writers ≡ length self.old.indexed.writers) }
         ensures norms { OnOk result (with_norms self.new.opened.norms ≡ with_norms self.old.opened.norms) }
-        ensures refused { (entries : List SchemaEntry) (ps : List Piece) → Takes entries field Json → StoresPieces entries self.old ps
-            → IsRefusedBy (piece_fault (option_of entries field) ps (text_at doc field (json_key path.now (text_key [])) (S.to_come tokens.old))) result }
+        ensures refused { (entries : List SchemaEntry) (ps : List Piece) → Takes entries field Json → StoresAll entries self.old ps
+            → IsRefusedBy (piece_fault (option_of entries field) ps (at_path path.now (text_at doc field (json_key path.now (text_key [])) (S.to_come tokens.old)))) result }
     {
+        let _path_id = self.terms.path_id(path)?;
         let prefix = text_prefix(alloc, path)?;
         self.index_words_under(alloc, doc, field, prefix.as_bytes(), tokens)
     }
@@ -206,14 +209,15 @@ impl IndexedFields {
         requires ends { EndsAt doc self.old }
         requires path { has_zero path.now ≡ false }
         requires number { is_number_type value_type ≡ true }
-        ensures stored { OnOk result ((entries : List SchemaEntry) (ps : List Piece) → Takes entries field Json → StoresPieces entries self.old ps
-            → StoresPieces entries self.new (ps ++ value_at doc field (json_key path.now (typed_key value_type number)) ∷ [])) }
+        ensures stored { OnOk result ((entries : List SchemaEntry) (ps : List Piece) → Takes entries field Json → StoresAll entries self.old ps
+            → StoresAll entries self.new (ps ++ at_path path.now (value_at doc field (json_key path.now (typed_key value_type number))) ∷ [])) }
         ensures ends { OnOk result (EndsAt doc self.new) }
         ensures fields { OnOk result (length self.new.indexed.writers ≡ length self.old.indexed.writers) }
         ensures norms { OnOk result (with_norms self.new.opened.norms ≡ with_norms self.old.opened.norms) }
-        ensures refused { (entries : List SchemaEntry) (ps : List Piece) → Takes entries field Json → StoresPieces entries self.old ps
-            → IsRefusedBy (piece_fault (option_of entries field) ps (value_at doc field (json_key path.now (typed_key value_type number)))) result }
+        ensures refused { (entries : List SchemaEntry) (ps : List Piece) → Takes entries field Json → StoresAll entries self.old ps
+            → IsRefusedBy (piece_fault (option_of entries field) ps (at_path path.now (value_at doc field (json_key path.now (typed_key value_type number))))) result }
     {
+        let _path_id = self.terms.path_id(path)?;
         let key = value_key(alloc, path, value_type, number)?;
         self.index_value(doc, field, key.as_bytes())
     }
@@ -228,6 +232,7 @@ impl IndexedFields {
         ensures ends { OnOk result (EndsAt doc self.new) }
         ensures fields { OnOk result (length self.new.indexed.writers ≡ length self.old.indexed.writers) }
         ensures norms { OnOk result (with_norms self.new.opened.norms ≡ with_norms self.old.opened.norms) }
+        ensures same_paths { OnOk result (self.new.indexed.paths ≡ self.old.indexed.paths) }
         ensures refused { (entries : List SchemaEntry) (ps : List Piece) → TakesValue entries field key.now → StoresPieces entries self.old ps
             → IsRefusedBy (piece_fault (option_of entries field) ps (value_at doc field key.now)) result }
     {

@@ -12,6 +12,7 @@ ghost use Rattle.ii_indexing.specs.IndexFiles.{ClosedFiles, CountsIndexFailures,
 ghost use Rattle.ii_postings_writer.specs.IndexingContext.{AllEndBy};
 ghost use Rattle.ii_postings_writer.specs.PostingsWriter.{text_fault, writers_of};
 ghost use Rattle.ii_json.specs.LeafVisit.{IsRefusedBy};
+ghost use Rattle.ii_json.specs.Paths.{path_fault, path_id, with_path};
 ghost use Rattle.ii_postings_writer.specs.SortedTerms.{AllMayBeWritten};
 
 use crate::index_writers::IndexWriters;
@@ -40,13 +41,13 @@ impl Model for IndexedTerms {
 
     ghost Value = { IndexedTermsState };
 
-    ghost view = { λ t. record { terms = t.ctx.term_index; writers = t.writers } };
+    ghost view = { λ t. record { terms = t.ctx.term_index; paths = t.ctx.path_to_unordered_id; writers = t.writers } };
 }
 
 impl IndexedTerms {
     // No terms.
     pub(crate) fn new(alloc: Global, schema: &Schema) -> Result<IndexedTerms, Fault>
-        ensures ok { IfOk result (λ terms. terms ≡ record { terms = []; writers = writers_of schema.now }) }
+        ensures ok { IfOk result (λ terms. terms ≡ record { terms = []; paths = []; writers = writers_of schema.now }) }
         ensures only { OnlyMemory result }
     {
         Ok(IndexedTerms {
@@ -54,6 +55,17 @@ impl IndexedTerms {
             writers: PerFieldPostingsWriter::for_schema(alloc, schema)?,
             term: IndexingTerm::with_capacity(alloc, 0)?,
         })
+    }
+
+    // The unordered id of a path, which is known from then on.
+    pub(crate) fn path_id(&mut self, path: &str) -> Result<u32, Fault>
+        ensures ok { IfOk result (λ id. id ≡ path_id self.old.paths path.now) }
+        ensures known { OnOk result (self.new ≡ record self.old { paths = with_path self.old.paths path.now }) }
+        ensures refused { IsRefusedBy (path_fault self.old.paths path.now) result }
+    {
+        self.ctx
+            .path_to_unordered_id
+            .get_or_allocate_unordered_id(path)
     }
 
     // Indexes the words of a text of a field, which stand under keys with a prefix.
@@ -72,6 +84,7 @@ impl IndexedTerms {
             → StoresTokens entries self.new (ts ++ piece_tokens_from true position.old.end_position (text_at doc field prefix.now (S.to_come token_stream.old)))) }
         ensures ends { OnOk result (AllEndBy doc self.new.terms) }
         ensures fields { length self.new.writers ≡ length self.old.writers }
+        ensures paths { self.new.paths ≡ self.old.paths }
         ensures num_tokens { OnOk result (position.new.num_tokens ≡ position.old.num_tokens + length (kept_words (S.to_come token_stream.old))) }
         ensures end_position { OnOk result (position.new.end_position ≡ end_after position.old.end_position (S.to_come token_stream.old)) }
         ensures refused { (entries : List SchemaEntry) (ts : List IndexToken) → TakesTexts entries field prefix.now → StoresTokens entries self.old ts
@@ -92,6 +105,7 @@ impl IndexedTerms {
             → StoresTokens entries self.new (ts ++ value_token (value_at doc field key.now) ∷ [])) }
         ensures ends { OnOk result (AllEndBy doc self.new.terms) }
         ensures fields { length self.new.writers ≡ length self.old.writers }
+        ensures paths { self.new.paths ≡ self.old.paths }
         ensures refused { (entries : List SchemaEntry) (ts : List IndexToken) → TakesValue entries field key.now → StoresTokens entries self.old ts
             → IsRefusedBy (value_fault field ts) result }
     {

@@ -8,7 +8,7 @@ ghost use Rattle.ii_definitions.specs.Fields.{option_of};
 ghost use Rattle.ii_definitions.specs.Tokens.{Piece, leaf_pieces};
 ghost use Rattle.ii_json.specs.LeafVisit.{IsRefusedBy, leaves_fault};
 ghost use Rattle.ii_indexing.specs.IndexCalls.{Takes};
-ghost use Rattle.ii_indexing.specs.Indexer.{EndsAt, StoresPieces};
+ghost use Rattle.ii_indexing.specs.Indexer.{EndsAt, StoresAll};
 ghost use Rattle.ii_indexing.specs.OpenDocuments.{with_norms};
 ghost use Rattle.ii_indexing.specs.Refusals.{next_leaf_fault};
 
@@ -39,7 +39,7 @@ impl<A: TextAnalyzer> LeafSink for LeafIndexer<'_, A> {
     ghost use Rattle.ii_definitions.specs.Fields.{option_of};
     ghost use Rattle.ii_definitions.specs.Tokens.{leaf_pieces};
     ghost use Rattle.ii_indexing.specs.IndexCalls.{Takes};
-    ghost use Rattle.ii_indexing.specs.Indexer.{EndsAt, LeafConstant, LeafGiven, StoresPieces};
+    ghost use Rattle.ii_indexing.specs.Indexer.{EndsAt, LeafConstant, LeafGiven, StoresAll};
     ghost use Rattle.ii_indexing.specs.OpenDocuments.{with_norms};
     ghost use Rattle.ii_indexing.specs.Refusals.{next_leaf_fault};
 
@@ -59,7 +59,7 @@ impl<A: TextAnalyzer> LeafSink for LeafIndexer<'_, A> {
     ghost ready = { λ s. (s.doc < TERMINATED) × (s.field < length s.fields.now.indexed.writers) × EndsAt s.doc s.fields.now };
 
     ghost holds = { λ s given leaves. Takes given.entries s.field Json
-        × StoresPieces given.entries s.fields.now (given.pieces ++ flat_map (leaf_pieces (A.words s.analyzer.now) s.doc s.field) leaves) };
+        × StoresAll given.entries s.fields.now (given.pieces ++ flat_map (leaf_pieces (A.words s.analyzer.now) s.doc s.field) leaves) };
 
     ghost fault = { λ k given before leaf. next_leaf_fault k.words (option_of given.entries k.field) given.pieces k.doc k.field before leaf };
 
@@ -92,12 +92,12 @@ pub(crate) fn index_json_value<A: TextAnalyzer>(
     requires low { doc < TERMINATED }
     requires known { field < length fields.old.indexed.writers }
     requires ends { EndsAt doc fields.old }
-    ensures stored { OnOk result ((entries : List SchemaEntry) (ps : List Piece) → Takes entries field Json → StoresPieces entries fields.old ps
-        → StoresPieces entries fields.new (ps ++ flat_map (leaf_pieces (A.words analyzer.now) doc field) (json_leaves expand_dots (json_of value.now)))) }
+    ensures stored { OnOk result ((entries : List SchemaEntry) (ps : List Piece) → Takes entries field Json → StoresAll entries fields.old ps
+        → StoresAll entries fields.new (ps ++ flat_map (leaf_pieces (A.words analyzer.now) doc field) (json_leaves expand_dots (json_of value.now)))) }
     ensures ends { OnOk result (EndsAt doc fields.new) }
     ensures fields { OnOk result (length fields.new.indexed.writers ≡ length fields.old.indexed.writers) }
     ensures norms { OnOk result (with_norms fields.new.opened.norms ≡ with_norms fields.old.opened.norms) }
-    ensures refused { (entries : List SchemaEntry) (ps : List Piece) → Takes entries field Json → StoresPieces entries fields.old ps
+    ensures refused { (entries : List SchemaEntry) (ps : List Piece) → Takes entries field Json → StoresAll entries fields.old ps
         → IsRefusedBy (leaves_fault (next_leaf_fault (A.words analyzer.now) (option_of entries field) ps doc field) [] (json_leaves expand_dots (json_of value.now))) result }
 {
     if !is_within(value, MAX_DEPTH) {
@@ -119,12 +119,12 @@ fn index_leaves<A: TextAnalyzer>(
     requires low { doc < TERMINATED }
     requires known { field < length fields.old.indexed.writers }
     requires ends { EndsAt doc fields.old }
-    ensures stored { OnOk result ((entries : List SchemaEntry) (ps : List Piece) → Takes entries field Json → StoresPieces entries fields.old ps
-        → StoresPieces entries fields.new (ps ++ flat_map (leaf_pieces (A.words analyzer.now) doc field) (leaves_below expand_dots [] (json_of value.now)))) }
+    ensures stored { OnOk result ((entries : List SchemaEntry) (ps : List Piece) → Takes entries field Json → StoresAll entries fields.old ps
+        → StoresAll entries fields.new (ps ++ flat_map (leaf_pieces (A.words analyzer.now) doc field) (leaves_below expand_dots [] (json_of value.now)))) }
     ensures ends { OnOk result (EndsAt doc fields.new) }
     ensures fields { OnOk result (length fields.new.indexed.writers ≡ length fields.old.indexed.writers) }
     ensures norms { OnOk result (with_norms fields.new.opened.norms ≡ with_norms fields.old.opened.norms) }
-    ensures refused { (entries : List SchemaEntry) (ps : List Piece) → Takes entries field Json → StoresPieces entries fields.old ps
+    ensures refused { (entries : List SchemaEntry) (ps : List Piece) → Takes entries field Json → StoresAll entries fields.old ps
         → IsRefusedBy (leaves_fault (next_leaf_fault (A.words analyzer.now) (option_of entries field) ps doc field) [] (leaves_below expand_dots [] (json_of value.now))) result }
 {
     let mut writer = JsonPathWriter::new(alloc);

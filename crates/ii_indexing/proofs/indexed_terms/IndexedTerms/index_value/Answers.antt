@@ -1,5 +1,5 @@
-use Rattle.std.proofs.Common.{◌≡◌, ◌++◌, ◌∷◌, ◌∙◌, [], false, sym, ap, subst}
-use Rattle.ii_definitions.specs.Tokens.{value_at}
+use Rattle.std.proofs.Common.{◌≡◌, ◌++◌, ◌∷◌, ◌∙◌, [], List, ℕ, slice_set, false, sym, ap, subst}
+use Rattle.ii_definitions.specs.Tokens.{value_at, value_token}
 use Rattle.ii_indexing.specs.IndexedTerms.{IndexedTermsState, StoresTokens, kept_at}
 use Rattle.ii_postings_writer.specs.IndexingContext.{AllEndBy}
 use Rattle.ii_postings_writer.specs.IndexingTerm.{IndexingTermState, term_bytes}
@@ -15,7 +15,7 @@ subscribe-requires-clause-ends c = subst (λ (s : IndexedTermsState). AllEndBy c
 
 pub returns-clause-stored : goal.returns-clause-stored
 returns-clause-stored c =
-    let s : IndexedTermsState = record { terms = c.self.inside.ctx.term_index; writers = c.self.inside.writers } in
+    let s : IndexedTermsState = record { terms = c.self.inside.ctx.term_index; paths = c.self.inside.ctx.path_to_unordered_id; writers = c.self.inside.writers } in
     let w = c.get_for_field_mut-writer.result.now in
     let key = c.args.key.now in
     let term : c.set_bytes.new.self ≡ record { field = c.args.field; value = key } = c.in_ok-set_bytes.ensures.ok ∙ ap (λ (t : IndexingTermState). record t { value = key }) c.clear_with_field.ensures in
@@ -24,12 +24,14 @@ returns-clause-stored c =
     let old = subst (λ (q : IndexedTermsState). StoresTokens entries q ts) (sym c.self.view_is) stored in
     let tokens = subst (λ (t : IndexingTermState). kept_at entries t.field t.value ≡ w.value_option → Records (kept_at entries) s.terms ts → Records (kept_at entries) c.subscribe.new.ctx.term_index (ts ++ term_token c.args.doc 0 false t ∷ []))
     term (h (kept_at entries) ts false) in
-    value_stored entries ts s (value_at c.args.doc c.args.field key) w c.subscribe.new.ctx.term_index c.subscribe.new.self takes old c.get_for_field_mut-writer.ensures.value counted tokens)
+    subst (λ (ps : List (List ℕ)). StoresTokens entries (record { terms = c.subscribe.new.ctx.term_index; paths = ps; writers = slice_set c.self.inside.writers c.args.field c.subscribe.new.self }) (ts ++ value_token (value_at c.args.doc c.args.field key) ∷ []))
+    (sym c.subscribe.ensures.paths)
+    (value_stored entries ts s (value_at c.args.doc c.args.field key) w c.subscribe.new.ctx.term_index c.subscribe.new.self takes old c.get_for_field_mut-writer.ensures.value counted tokens))
     c.subscribe.ensures.tokens c.subscribe.ensures.counted
 
 pub returns-clause-refused : goal.returns-clause-refused
 returns-clause-refused c entries ts takes stored =
-    let s : IndexedTermsState = record { terms = c.self.inside.ctx.term_index; writers = c.self.inside.writers } in
+    let s : IndexedTermsState = record { terms = c.self.inside.ctx.term_index; paths = c.self.inside.ctx.path_to_unordered_id; writers = c.self.inside.writers } in
     let w = c.get_for_field_mut-writer.result.now in
     let key = c.args.key.now in
     let term : c.set_bytes.new.self ≡ record { field = c.args.field; value = key } = c.in_ok-set_bytes.ensures.ok ∙ ap (λ (t : IndexingTermState). record t { value = key }) c.clear_with_field.ensures in
