@@ -1,2 +1,4 @@
 pub mod FoundLemmas
+pub mod NumberLemmas
 pub mod SameDocs
+pub mod TermLemmas

@@ -1,2 +1,4 @@
 pub mod Found
+pub mod ParserErrors
 pub mod Queries
+pub mod QueryTexts

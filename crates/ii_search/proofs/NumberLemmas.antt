@@ -1,0 +1,52 @@
+-- What `parse` answers of a number, as an option.
+use Rattle.std.proofs.Common.{◌≡◌, ℕ, ◌<◌, ◌^◌, Bool, true, false, ◌&&◌, cond, ℤ, pos, negsuc, nat_lt, List, length, None, Some, Result, Ok, Err, refl, arith, w64, FitsSigned}
+use Rattle.std.specs.Result.{OkIff, result_ok}
+use Rattle.std.specs.Str.{all_ascii_digits}
+use Rattle.std.specs.Str.Parse.{IsNumeral, ParsesSigned, ParsesUnsigned, digits_value, signed_digits_value, without_leading_plus, without_leading_sign}
+use Rattle.std.proofs.lemmas.Bool.{lt-ltb, ltb-true}
+use Rattle.std.proofs.lemmas.Str.Parse.{IsNumeralModel, numerals_by_value, tells_all_ascii_digits}
+use Rattle.ii_json.specs.FastValues.{i64_in, is_i64, is_numeral, u64_in}
+
+digits : IsNumeralModel (λ (ds : List ℕ). all_ascii_digits ds ≡ true) (digits_value 10)
+digits = numerals_by_value (λ (ds : List ℕ). all_ascii_digits ds ≡ true) tells_all_ascii_digits
+
+ok_is : {T E : Type 0} (r : Result T E) (P : Type 0) (t : Bool) (v : T) → (P → t ≡ true) → (t ≡ true → P) → OkIff r P v → result_ok r ≡ cond t (Some v) None
+ok_is (Ok x) P t v to from h = rw (to h.0, h.1) refl
+ok_is (Err e) P true v to from h = absurd (h (from refl))
+ok_is (Err e) P false v to from h = refl
+
+both_true : (a b : Bool) → a ≡ true → b ≡ true → (a && b) ≡ true
+both_true a b p q = rw (p, q) refl
+
+parts : (a b : Bool) → (a && b) ≡ true → (a ≡ true) × (b ≡ true)
+parts true true p = (refl, refl)
+parts true false p = absurd (cc)
+parts false b p = absurd (cc)
+
+numeral : (ds : List ℕ) → IsNumeral 10 ds → is_numeral ds ≡ true
+numeral ds is = both_true (nat_lt 0 (length ds)) (all_ascii_digits ds) (lt-ltb 0 (length ds) is.0) (digits.from ds is.1)
+
+from_numeral : (ds : List ℕ) → is_numeral ds ≡ true → IsNumeral 10 ds
+from_numeral ds is = let p = parts (nat_lt 0 (length ds)) (all_ascii_digits ds) is in (ltb-true 0 (length ds) p.0, digits.to ds p.1)
+
+fits : (z : ℤ) → FitsSigned w64 z → is_i64 z ≡ true
+fits (pos n) h = lt-ltb n (2 ^ 63) h.sfits
+fits (negsuc n) h = lt-ltb n (2 ^ 63) (omega (arith, h.sfits))
+
+from_fits : (z : ℤ) → is_i64 z ≡ true → FitsSigned w64 z
+from_fits (pos n) is = record { sfits = ltb-true n (2 ^ 63) is }
+from_fits (negsuc n) is = record { sfits = let low = ltb-true n (2 ^ 63) is in omega (arith, low) }
+
+pub parsed_signed : {E : Type 0} (text : List ℕ) (r : Result ℤ E) → ParsesSigned w64 10 text r → result_ok r ≡ i64_in text
+parsed_signed text r =
+    let ds = without_leading_sign text in
+    let z = signed_digits_value 10 text in
+    ok_is r (IsNumeral 10 ds × FitsSigned w64 z) (is_numeral ds && is_i64 z) z (λ p. both_true (is_numeral ds) (is_i64 z) (numeral ds p.0) (fits z p.1))
+    (λ t. let p = parts (is_numeral ds) (is_i64 z) t in (from_numeral ds p.0, from_fits z p.1))
+
+pub parsed_unsigned : {E : Type 0} (text : List ℕ) (r : Result ℕ E) → ParsesUnsigned 64 10 text r → result_ok r ≡ u64_in text
+parsed_unsigned text r =
+    let ds = without_leading_plus text in
+    let n = digits_value 10 ds in
+    ok_is r (IsNumeral 10 ds × (n < 2 ^ 64)) (is_numeral ds && nat_lt n (2 ^ 64)) n (λ p. both_true (is_numeral ds) (nat_lt n (2 ^ 64)) (numeral ds p.0) (lt-ltb n (2 ^ 64) p.1))
+    (λ t. let p = parts (is_numeral ds) (nat_lt n (2 ^ 64)) t in (from_numeral ds p.0, ltb-true n (2 ^ 64) p.1))
