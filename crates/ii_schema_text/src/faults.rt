@@ -1,4 +1,7 @@
-ghost use Rattle.std.specs.Prelude.{◌≡◌};
+ghost use Rattle.std.specs.Prelude.{◌≡◌, Err, List, Result};
+ghost use Rattle.toml.specs.Errors.{IsMemory};
+ghost use Rattle.ii_base.specs.Schema.{SchemaEntry};
+ghost use Rattle.ii_schema_text.specs.SchemaText.{Refusal, Tells, not_toml, told};
 ghost use Rattle.ii_schema_text.specs.declared.faults.SchemaFault.TheVariants as faults;
 
 use std::alloc::{AllocError, AllocFailed};
@@ -52,6 +55,18 @@ pub enum SchemaFault {
     /// What the table of a field says at a key isn't what it has to be, or is missing.
     #[error("field {0}: {1}")]
     WrongKey(usize, FieldKey),
+}
+
+impl SchemaFault {
+    // Why a text wasn't read as TOML: it isn't TOML, or no memory was found.
+    pub(crate) fn of_toml(error: TomlError) -> SchemaFault
+        ensures { (wanted : Result (List SchemaEntry) Refusal) → (¬ IsMemory error → wanted ≡ Err not_toml) → Tells (told result) wanted }
+    {
+        if error.is_memory() {
+            return SchemaFault::OutOfMemory;
+        }
+        SchemaFault::NotToml(error)
+    }
 }
 
 impl From<AllocError> for SchemaFault {

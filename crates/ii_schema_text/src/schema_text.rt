@@ -32,12 +32,7 @@ pub fn read_schema(alloc: Global, text: &str) -> Result<Schema, SchemaFault>
 {
     match toml::table_from_str(alloc, text) {
         Ok(table) => schema_of(alloc, &table),
-        Err(error) => {
-            if error.is_memory() {
-                return Err(SchemaFault::OutOfMemory);
-            }
-            Err(SchemaFault::NotToml(error))
-        }
+        Err(error) => Err(SchemaFault::of_toml(error)),
     }
 }
 
