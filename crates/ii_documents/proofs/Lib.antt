@@ -1,0 +1,6 @@
+mod AddingLemmas
+mod AddressLemmas
+mod DocumentLemmas
+mod JsonLemmas
+mod LineLemmas
+mod WorkedRows

@@ -1,0 +1,54 @@
+-- What members say, by hand.
+use Rattle.std.proofs.Common.{◌≡◌, ℕ, true, false, [], ◌∷◌, Ok, Err, codes, refl}
+use Rattle.std.specs.Prelude.{negsuc}
+use Rattle.serde_json.specs.Data.{array, boolean, item, member, negative, no_items, no_members, null, number, object, string, unsigned}
+use Rattle.ii_base.specs.Schema.{SchemaEntry}
+use Rattle.ii_base.specs.declared.schema.index_record_option.IndexRecordOption.TheVariants.{Basic}
+use Rattle.ii_base.specs.declared.schema.value_type.ValueType.{ValueType}
+use Rattle.ii_base.specs.declared.schema.value_type.ValueType.TheVariants as types
+use Rattle.ii_definitions.specs.Tokens.{Call, Content, text, value}
+use Rattle.ii_documents.specs.declared.faults.ValueFault.TheVariants as faults
+use Rattle.ii_documents.specs.JsonLines.{members_calls, unknown_key, wrong_value}
+
+abbrev entry : ValueType → SchemaEntry
+entry t = record { name = codes "a"; value_type = t; option = Basic; is_indexed = true; has_fieldnorms = false; expands_dots = false }
+
+abbrev call : ℕ → Content → Call
+call doc content = record { doc = doc; field = 0; content = content }
+
+-- an array has several texts
+texts : members_calls (entry types.Str ∷ []) 7 (member (codes "a") (array (item (string (codes "x y")) (item (string (codes "z")) no_items))) no_members) ≡ Ok (call 7 (text (codes "x y")) ∷ call 7 (text (codes "z")) ∷ [])
+unfolding members_calls
+texts = refl
+
+-- null has none
+nothing : members_calls (entry types.Str ∷ []) 7 (member (codes "a") null no_members) ≡ Ok []
+unfolding members_calls
+nothing = refl
+
+-- a truth value by its number
+truth : members_calls (entry types.Bool ∷ []) 2 (member (codes "a") (boolean true) no_members) ≡ Ok (call 2 (value (0 ∷ 0 ∷ 0 ∷ 0 ∷ 0 ∷ 0 ∷ 0 ∷ 1 ∷ [])) ∷ [])
+unfolding members_calls
+truth = refl
+
+-- a number of 16 bits by its bytes, and -1 by the number that stands for it
+unsigned_number : members_calls (entry types.U64 ∷ []) 2 (member (codes "a") (number (unsigned 258)) no_members) ≡ Ok (call 2 (value (0 ∷ 0 ∷ 0 ∷ 0 ∷ 0 ∷ 0 ∷ 1 ∷ 2 ∷ [])) ∷ [])
+unfolding members_calls
+unsigned_number = refl
+
+signed_number : members_calls (entry types.I64 ∷ []) 2 (member (codes "a") (number (negative (negsuc 0))) no_members) ≡ Ok (call 2 (value (127 ∷ 255 ∷ 255 ∷ 255 ∷ 255 ∷ 255 ∷ 255 ∷ 255 ∷ [])) ∷ [])
+unfolding members_calls
+signed_number = refl
+
+-- what is refused, and why
+below_zero : members_calls (entry types.U64 ∷ []) 2 (member (codes "a") (number (negative (negsuc 0))) no_members) ≡ Err (wrong_value 0 faults.OutOfRange)
+unfolding members_calls
+below_zero = refl
+
+no_text : members_calls (entry types.Str ∷ []) 2 (member (codes "a") (object no_members) no_members) ≡ Err (wrong_value 0 faults.WrongType)
+unfolding members_calls
+no_text = refl
+
+stranger : members_calls (entry types.Str ∷ []) 2 (member (codes "a") (boolean true) (member (codes "b") null no_members)) ≡ Err (unknown_key (codes "b"))
+unfolding members_calls
+stranger = refl

@@ -1,0 +1,175 @@
+-- Which index calls a line of JSON says, by a schema.
+use Rattle.std.specs.Prelude.{◌≡◌, ◌+◌, ℕ, Bool, true, false, List, [], ◌∷◌, ◌++◌, bytes_eq, map, if◌then◌else◌, Option, None, Some, option_map, Result, Ok, Err, ⊤, string_bytes}
+use Rattle.std.specs.List.{AllByRecursion, list_any}
+use Rattle.std.specs.Int.{bytes_high_first}
+use Rattle.hex.specs.Hex.{decode_of}
+use Rattle.serde_json.specs.Data.{Data, Items, Members, Num, array, boolean, item, member, no_items, no_members, null, number, object, string}
+use Rattle.serde_json.specs.Find.{as_bool, as_i64, as_number, as_object, as_str, as_u64, get_member}
+use Rattle.serde_json.specs.Read.{read}
+use Rattle.serde_json.specs.Written.{has_float}
+use Rattle.ii_base.specs.Json.{json_leaves}
+use Rattle.ii_base.specs.Schema.{SchemaEntry}
+use Rattle.ii_base.specs.Values.{flipped, number_of_bool, u64_bytes}
+use Rattle.ii_base.specs.declared.schema.value_type.ValueType.{ValueType}
+use Rattle.ii_base.specs.declared.schema.value_type.ValueType.TheVariants as types
+use Rattle.ii_definitions.specs.Tokens.{Call, Content, leaves, text, value}
+use Rattle.ii_indexing.specs.IndexCalls.{Takes, call_of, doc_of, field_of, type_of}
+use Rattle.ii_indexing.specs.declared.index_call.IndexCall.{IndexCall}
+use Rattle.ii_documents.specs.declared.faults.LineFault.{LineFault}
+use Rattle.ii_documents.specs.declared.faults.LineFault.TheVariants as faults
+use Rattle.ii_documents.specs.declared.faults.ValueFault.{ValueFault}
+use Rattle.ii_documents.specs.declared.faults.ValueFault.TheVariants as value_faults
+use Rattle.ii_documents.specs.Addresses.{address_in}
+use Rattle.ii_documents.specs.JsonValues.{json_from}
+use Rattle.ii_documents.specs.Steps.{◌>>=◌, needs}
+
+-- Why a line is no document.
+pub data Refusal : Type 0 where
+  too_many_documents : Refusal
+  not_json : Refusal
+  not_an_object : Refusal
+  unknown_key : List ℕ → Refusal
+  wrong_value : ℕ → ValueFault → Refusal
+
+-- what a fault tells of the line
+abbrev pub told : LineFault → Option Refusal
+told faults.OutOfMemory = None
+told faults.TooManyDocuments = Some too_many_documents
+told (faults.NotJson e) = Some not_json
+told faults.NotAnObject = Some not_an_object
+told (faults.UnknownKey key) = Some (unknown_key (string_bytes key))
+told (faults.WrongValue field fault) = Some (wrong_value field fault)
+
+-- nothing is told, or that this is the answer
+abbrev pub Tells : {Y : Type 0} → Option Refusal → Result Y Refusal → Type 0
+Tells None wanted = ⊤
+Tells (Some refusal) wanted = wanted ≡ Err refusal
+
+-- a call answered this, by a view, unless there was no memory
+abbrev pub Gives : {X Y : Type 0} → (X → Y) → Result X LineFault → Result Y Refusal → Type 0
+Gives view (Ok x) wanted = wanted ≡ Ok (view x)
+Gives view (Err e) wanted = Tells (told e) wanted
+
+-- a number of 64 bits
+abbrev pub number_content : ℕ → Content
+number_content n = value (u64_bytes n)
+
+-- an unsigned number, and a signed one
+abbrev pub u64_content : Num → Result Content ValueFault
+u64_content n = needs value_faults.OutOfRange (option_map number_content (as_u64 n))
+
+-- a signed number
+abbrev pub i64_content : Num → Result Content ValueFault
+i64_content n = needs value_faults.OutOfRange (option_map (λ z. number_content (flipped z)) (as_i64 n))
+
+-- bytes, as pairs of hexadecimal digits
+abbrev pub bytes_from : {E : Type 0} → Result (List ℕ) E → Result Content ValueFault
+bytes_from (Ok bytes) = Ok (value bytes)
+bytes_from (Err e) = Err value_faults.NotHex
+
+-- an address
+abbrev pub address_content : List ℕ → Result Content ValueFault
+address_content t = needs value_faults.NotAnAddress (option_map (λ n. value (bytes_high_first 16 n)) (address_in t))
+
+-- a JSON value, where no number in it is a floating-point number
+abbrev pub json_content : Bool → Data → Result Content ValueFault
+json_content expand_dots d = if has_float d then Err value_faults.Float else Ok (leaves (json_leaves expand_dots (json_from d)))
+
+-- what a value is to a field of a type
+abbrev pub content_in : ValueType → Bool → Data → Result Content ValueFault
+content_in types.Str dots d = needs value_faults.WrongType (as_str d) >>= λ t. Ok (text t)
+content_in types.U64 dots d = needs value_faults.WrongType (as_number d) >>= u64_content
+content_in types.I64 dots d = needs value_faults.WrongType (as_number d) >>= i64_content
+content_in types.Bool dots d = needs value_faults.WrongType (as_bool d) >>= λ b. Ok (number_content (number_of_bool b))
+content_in types.Bytes dots d = needs value_faults.WrongType (as_str d) >>= λ t. bytes_from (decode_of t)
+content_in types.IpAddr dots d = needs value_faults.WrongType (as_str d) >>= address_content
+content_in types.Json dots d = json_content dots d
+content_in types.Date dots d = Err value_faults.WrongType
+
+-- the call of a document for a value of a field
+abbrev pub call_with_content : ℕ → ℕ → Result Content ValueFault → Result Call Refusal
+call_with_content doc field (Ok content) = Ok (record { doc = doc; field = field; content = content })
+call_with_content doc field (Err fault) = Err (wrong_value field fault)
+
+-- the call of a document for a value of a field
+abbrev pub value_call : ℕ → ℕ → SchemaEntry → Data → Result Call Refusal
+value_call doc field e d = call_with_content doc field (content_in e.value_type e.expands_dots d)
+
+-- whether a type is that of JSON values
+abbrev pub is_json : ValueType → Bool
+is_json types.Json = true
+is_json types.Str = false
+is_json types.U64 = false
+is_json types.I64 = false
+is_json types.Bool = false
+is_json types.Date = false
+is_json types.Bytes = false
+is_json types.IpAddr = false
+
+-- The values of a field: null is none, and an array has several, but for a field of JSON values.
+abbrev pub values_of : Bool → Data → Items
+values_of json null = no_items
+values_of json (boolean b) = item (boolean b) no_items
+values_of json (number n) = item (number n) no_items
+values_of json (string s) = item (string s) no_items
+values_of json (array ds) = if json then item (array ds) no_items else ds
+values_of json (object ms) = item (object ms) no_items
+
+-- the calls of a document for the values of a field, in order
+abbrev pub items_calls : ℕ → ℕ → SchemaEntry → Items → Result (List Call) Refusal
+items_calls doc field e no_items = Ok []
+items_calls doc field e (item d ds) = do
+  c ← value_call doc field e d
+  cs ← items_calls doc field e ds
+  Ok (c ∷ cs)
+
+-- the calls for what stands under the name of a field: none where it isn't indexed, or nothing stands there
+abbrev pub field_calls : ℕ → ℕ → SchemaEntry → Option Data → Result (List Call) Refusal
+field_calls doc field e None = Ok []
+field_calls doc field e (Some d) = if e.is_indexed then items_calls doc field e (values_of (is_json e.value_type) d) else Ok []
+
+-- the calls of a document for fields that are numbered from one on, one after the other
+abbrev pub fields_calls : ℕ → Members → ℕ → List SchemaEntry → Result (List Call) Refusal
+fields_calls doc ms field [] = Ok []
+fields_calls doc ms field (e ∷ es) = do
+  cs ← field_calls doc field e (get_member e.name ms)
+  more ← fields_calls doc ms (field + 1) es
+  Ok (cs ++ more)
+
+-- the first key that no field has as its name
+abbrev pub unknown_in : List SchemaEntry → Members → Option (List ℕ)
+unknown_in es no_members = None
+unknown_in es (member key d ms) = if list_any (λ (e : SchemaEntry). bytes_eq e.name key) es then unknown_in es ms else Some key
+
+-- an unknown key is refused
+abbrev pub knows : Option (List ℕ) → Result (Unit {0}) Refusal
+knows None = Ok tt
+knows (Some key) = Err (unknown_key key)
+
+-- the calls of a document whose members these are
+unfoldable pub members_calls : List SchemaEntry → ℕ → Members → Result (List Call) Refusal
+members_calls es doc ms = do
+  _ ← knows (unknown_in es ms)
+  fields_calls doc ms 0 es
+
+-- the calls of a document that a line says
+unfoldable pub line_calls : List SchemaEntry → ℕ → List ℕ → Result (List Call) Refusal
+line_calls es doc line = do
+  d ← needs not_json (read line)
+  ms ← needs not_an_object (as_object d)
+  members_calls es doc ms
+
+-- A call is of a document, and its field takes its value.
+pub record IsOf (es : List SchemaEntry) (doc : ℕ) (c : IndexCall) : Type 0 where
+  pub doc_is : doc_of c ≡ doc
+  pub takes : Takes es (field_of c) (type_of c)
+
+-- calls of a document were added, which are these
+pub record Adds (es : List SchemaEntry) (doc : ℕ) (old new : List IndexCall) (cs : List Call) : Type 0 where
+  pub calls : map (call_of es) new ≡ map (call_of es) old ++ cs
+  pub each : AllByRecursion (IsOf es doc) old → AllByRecursion (IsOf es doc) new
+
+-- a call added what was wanted, unless there was no memory or it was refused
+abbrev pub AddsAs : List SchemaEntry → ℕ → List IndexCall → List IndexCall → Result (Unit {0}) LineFault → Result (List Call) Refusal → Type 0
+AddsAs es doc old new (Ok _) wanted = (cs : List Call) × (wanted ≡ Ok cs) × Adds es doc old new cs
+AddsAs es doc old new (Err e) wanted = Tells (told e) wanted

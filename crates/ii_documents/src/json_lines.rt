@@ -1,0 +1,185 @@
+//! Lines of JSON as index calls.
+ghost use Rattle.std.specs.Prelude.{◌≡◌, ◌<◌, IfOk, Some, bytes_eq, length, map, option_map, slice_get, true};
+ghost use Rattle.std.specs.List.{AllByRecursion, list_any};
+ghost use Rattle.serde_json.specs.Data.{item, no_items};
+ghost use Rattle.serde_json.specs.View.{items_view, members_view, view};
+ghost use Rattle.ii_base.specs.Schema.{SchemaEntry};
+ghost use Rattle.ii_indexing.specs.IndexCalls.{call_of};
+ghost use Rattle.ii_documents.specs.JsonLines.{AddsAs, Gives, IsOf, field_calls, fields_calls, is_json, items_calls, line_calls, members_calls, unknown_in};
+
+use crate::faults::LineFault;
+use crate::values::value_call;
+use ii_base::{Field, Schema, ValueType};
+use ii_docset::DocId;
+use ii_indexing::IndexCall;
+use serde_json::{Map, Value};
+use std::alloc::Global;
+
+// The calls of a document that a line says.
+#[tactic(auto, unfolding(crate::specs::JsonLines::line_calls))]
+pub(crate) fn line_calls(
+    alloc: Global,
+    schema: &Schema,
+    doc: DocId,
+    line: &str,
+) -> Result<Vec<IndexCall>, LineFault>
+    ensures gives { Gives (λ v. map (call_of schema.now) v.items) result (line_calls schema.now doc line.now) }
+    ensures each { IfOk result (λ v. AllByRecursion (IsOf schema.now doc) v.items) }
+{
+    let value = match Value::from_str(alloc, line) {
+        Ok(value) => value,
+        Err(error) => return Err(LineFault::of_json(error)),
+    };
+    match value.as_object() {
+        Some(members) => members_calls(alloc, schema, doc, members),
+        None => Err(LineFault::NotAnObject),
+    }
+}
+
+// The calls of a document whose members these are.
+#[tactic(auto, unfolding(crate::specs::JsonLines::members_calls))]
+fn members_calls(
+    alloc: Global,
+    schema: &Schema,
+    doc: DocId,
+    members: &Map<String, Value>,
+) -> Result<Vec<IndexCall>, LineFault>
+    ensures gives { Gives (λ v. map (call_of schema.now) v.items) result (members_calls schema.now doc (members_view members.now.entries)) }
+    ensures each { IfOk result (λ v. AllByRecursion (IsOf schema.now doc) v.items) }
+{
+    if let Some(key) = unknown_key(schema, members) {
+        let key = String::from_str(alloc, key)?;
+        return Err(LineFault::UnknownKey(key));
+    }
+    let mut calls = Vec::new(alloc);
+    push_fields(&mut calls, alloc, schema, doc, members)?;
+    Ok(calls)
+}
+
+// The first key that no field has as its name.
+fn unknown_key<'a>(schema: &Schema, members: &'a Map<String, Value>) -> Option<&'a str>
+    ensures { option_map (λ key. key.now) result ≡ unknown_in schema.now (members_view members.now.entries) }
+{
+    for (key, _) in members.iter() {
+        if !has_name(schema, key.as_str()) {
+            return Some(key.as_str());
+        }
+    }
+    None
+}
+
+// Whether a field has this name.
+fn has_name(schema: &Schema, name: &str) -> bool
+    ensures { result ≡ list_any (λ (e : SchemaEntry). bytes_eq e.name name.now) schema.now }
+{
+    for id in 0..schema.num_fields() {
+        let entry = schema.get_field_entry(Field::from_field_id(id as u32));
+        if entry.name() == name {
+            return true;
+        }
+    }
+    false
+}
+
+// Adds the calls of a document for its members, field after field.
+fn push_fields(
+    calls: &mut Vec<IndexCall>,
+    alloc: Global,
+    schema: &Schema,
+    doc: DocId,
+    members: &Map<String, Value>,
+) -> Result<(), LineFault>
+    ensures { AddsAs schema.now doc calls.old.items calls.new.items result (fields_calls doc (members_view members.now.entries) 0 schema.now) }
+{
+    for id in 0..schema.num_fields() {
+        let field = Field::from_field_id(id as u32);
+        let value = members.get(schema.get_field_entry(field).name());
+        push_field(calls, alloc, schema, doc, field, value)?;
+    }
+    Ok(())
+}
+
+// Adds the calls of a document for what stands under the name of a field.
+fn push_field(
+    calls: &mut Vec<IndexCall>,
+    alloc: Global,
+    schema: &Schema,
+    doc: DocId,
+    field: Field,
+    value: Option<&Value>,
+) -> Result<(), LineFault>
+    requires { field < length schema.now }
+    ensures { (e : SchemaEntry) → slice_get schema.now field ≡ Some e
+        → AddsAs schema.now doc calls.old.items calls.new.items result (field_calls doc field e (option_map (λ v. view v.now) value.entry)) }
+{
+    let entry = schema.get_field_entry(field);
+    let Some(value) = value else {
+        return Ok(());
+    };
+    if !entry.is_indexed() {
+        return Ok(());
+    }
+    match value {
+        Value::Null => Ok(()),
+        Value::Array(items) => {
+            if is_json(entry.value_type()) {
+                return push_value(calls, alloc, schema, doc, field, value);
+            }
+            push_items(calls, alloc, schema, doc, field, items)
+        }
+        _ => push_value(calls, alloc, schema, doc, field, value),
+    }
+}
+
+// Whether a type is that of JSON values.
+fn is_json(value_type: ValueType) -> bool
+    ensures { result ≡ is_json value_type }
+{
+    match value_type {
+        ValueType::Json => true,
+        ValueType::Str
+        | ValueType::U64
+        | ValueType::I64
+        | ValueType::Bool
+        | ValueType::Date
+        | ValueType::Bytes
+        | ValueType::IpAddr => false,
+    }
+}
+
+// Adds the calls of a document for the values of an indexed field.
+fn push_items(
+    calls: &mut Vec<IndexCall>,
+    alloc: Global,
+    schema: &Schema,
+    doc: DocId,
+    field: Field,
+    items: &Vec<Value>,
+) -> Result<(), LineFault>
+    requires { field < length schema.now }
+    ensures { (e : SchemaEntry) → slice_get schema.now field ≡ Some e → e.is_indexed ≡ true
+        → AddsAs schema.now doc calls.old.items calls.new.items result (items_calls doc field e (items_view items.now.items)) }
+{
+    for item in items {
+        push_value(calls, alloc, schema, doc, field, item)?;
+    }
+    Ok(())
+}
+
+// Adds the call of a document for a value of an indexed field.
+fn push_value(
+    calls: &mut Vec<IndexCall>,
+    alloc: Global,
+    schema: &Schema,
+    doc: DocId,
+    field: Field,
+    value: &Value,
+) -> Result<(), LineFault>
+    requires { field < length schema.now }
+    ensures { (e : SchemaEntry) → slice_get schema.now field ≡ Some e → e.is_indexed ≡ true
+        → AddsAs schema.now doc calls.old.items calls.new.items result (items_calls doc field e (item (view value.now) no_items)) }
+{
+    let call = value_call(alloc, doc, field, schema.get_field_entry(field), value)?;
+    calls.push(call)?;
+    Ok(())
+}

@@ -1,0 +1,106 @@
+//! JSON values of a line as those that an index takes.
+ghost use Rattle.std.specs.Prelude.{◌≡◌, IfOk, map};
+ghost use Rattle.serde_json.specs.Data as Data;
+ghost use Rattle.serde_json.specs.View.{items_view, members_view, number_view, view};
+ghost use Rattle.serde_json.specs.Written.{has_float, items_have_float, members_have_float};
+ghost use Rattle.ii_base.specs.Json.{items_from as items_made, json_of, members_from as members_made};
+ghost use Rattle.ii_documents.specs.JsonValues.{items_from, json_from, members_from, number_leaf};
+
+use ii_base::JsonValue;
+use serde_json::{Map, Number, Value};
+use std::alloc::{AllocError, Global};
+use std::num::f64_to_bits_with_nan;
+
+// The value that an index takes.
+#[cycle(json)]
+pub(crate) fn json_value(alloc: Global, value: &Value) -> Result<JsonValue, AllocError>
+    ensures { IfOk result (λ v. json_of v ≡ json_from (view value.now)) }
+{
+    match value {
+        Value::Null => Ok(JsonValue::Null),
+        Value::Bool(truth) => Ok(JsonValue::Bool(*truth)),
+        Value::Number(number) => Ok(json_number(number)),
+        Value::String(text) => Ok(JsonValue::Str(text.clone()?)),
+        Value::Array(items) => Ok(JsonValue::Array(json_items(alloc, items)?)),
+        Value::Object(members) => Ok(JsonValue::Object(json_members(alloc, members)?)),
+    }
+}
+
+#[cycle(json)]
+fn json_items(alloc: Global, items: &Vec<Value>) -> Result<Vec<JsonValue>, AllocError>
+    ensures { IfOk result (λ v. items_made (map json_of v.items) ≡ items_from (items_view items.now.items)) }
+{
+    let mut values = Vec::with_capacity(alloc, items.len())?;
+    for item in items {
+        values.push(json_value(alloc, item)?)?;
+    }
+    Ok(values)
+}
+
+#[cycle(json)]
+fn json_members(
+    alloc: Global,
+    members: &Map<String, Value>,
+) -> Result<Vec<(String, JsonValue)>, AllocError>
+    ensures { IfOk result (λ v. members_made (map (λ m. (m.0, json_of m.1)) v.items) ≡ members_from (members_view members.now.entries)) }
+{
+    let mut values = Vec::with_capacity(alloc, members.len())?;
+    for (key, member) in members.iter() {
+        let key = key.clone()?;
+        values.push((key, json_value(alloc, member)?))?;
+    }
+    Ok(values)
+}
+
+// A number; of a floating-point number its bits.
+fn json_number(number: &Number) -> JsonValue
+    ensures { json_of result ≡ json_from (Data.number (number_view number.now)) }
+{
+    if let Some(number) = number.as_u64() {
+        return JsonValue::U64(number);
+    }
+    if let Some(number) = number.as_i64() {
+        return JsonValue::I64(number);
+    }
+    match number.as_f64() {
+        Some(float) => JsonValue::F64Bits(f64_to_bits_with_nan(float)),
+        None => JsonValue::F64Bits(0),
+    }
+}
+
+// Whether a number in a value is a floating-point number.
+#[cycle(float)]
+pub(crate) fn has_float(value: &Value) -> bool
+    ensures { result ≡ has_float (view value.now) }
+{
+    match value {
+        Value::Null | Value::Bool(_) | Value::String(_) => false,
+        Value::Number(number) => number.is_f64(),
+        Value::Array(items) => items_have_float(items),
+        Value::Object(members) => members_have_float(members),
+    }
+}
+
+#[cycle(float)]
+fn items_have_float(items: &Vec<Value>) -> bool
+    ensures { result ≡ items_have_float (items_view items.now.items) }
+{
+    for item in items {
+        if has_float(item) {
+            return true;
+        }
+    }
+    false
+}
+
+#[cycle(float)]
+fn members_have_float(members: &Map<String, Value>) -> bool
+    ensures { result ≡ members_have_float (members_view members.now.entries) }
+{
+    for (_key, member) in members.iter() {
+        if has_float(member) {
+            return true;
+        }
+    }
+    false
+}

@@ -1,0 +1,135 @@
+//! Values of a line as index calls.
+ghost use Rattle.std.specs.Prelude.{◌≡◌, IfOk, Bool};
+ghost use Rattle.serde_json.specs.View.{view};
+ghost use Rattle.ii_base.specs.Schema.{SchemaEntry};
+ghost use Rattle.ii_base.specs.declared.schema.value_type.ValueType.TheVariants as types;
+ghost use Rattle.ii_documents.specs.JsonLines.{Gives, call_with_content, content_in, value_call};
+ghost use Rattle.ii_indexing.specs.IndexCalls.{call_with, type_of};
+
+use crate::addresses::address_of;
+use crate::faults::{LineFault, ValueFault};
+use crate::json_values::{has_float, json_value};
+use ii_base::{Field, FieldEntry, ValueType};
+use ii_docset::DocId;
+use ii_indexing::IndexCall;
+use serde_json::Value;
+use std::alloc::Global;
+
+// The call of a document for a value of a field, which is an entry of a schema.
+pub(crate) fn value_call(
+    alloc: Global,
+    doc: DocId,
+    field: Field,
+    entry: &FieldEntry,
+    value: &Value,
+) -> Result<IndexCall, LineFault>
+    ensures gives { Gives (λ c. call_with entry.now.expands_dots c) result (value_call doc field entry.now (view value.now)) }
+    ensures typed { IfOk result (λ c. type_of c ≡ entry.now.value_type) }
+{
+    match entry.value_type() {
+        ValueType::Str => text_call(alloc, doc, field, value),
+        ValueType::U64 => u64_call(doc, field, value),
+        ValueType::I64 => i64_call(doc, field, value),
+        ValueType::Bool => bool_call(doc, field, value),
+        ValueType::Bytes => bytes_call(alloc, doc, field, value),
+        ValueType::IpAddr => address_call(doc, field, value),
+        ValueType::Json => json_call(alloc, doc, field, value),
+        ValueType::Date => Err(LineFault::WrongValue(field, ValueFault::WrongType)),
+    }
+}
+
+// A text.
+fn text_call(alloc: Global, doc: DocId, field: Field, value: &Value) -> Result<IndexCall, LineFault>
+    ensures gives { (dots : Bool) → Gives (λ c. call_with dots c) result (call_with_content doc field (content_in types.Str dots (view value.now))) }
+    ensures typed { IfOk result (λ c. type_of c ≡ types.Str) }
+{
+    let Some(text) = value.as_str() else {
+        return Err(LineFault::WrongValue(field, ValueFault::WrongType));
+    };
+    let text = String::from_str(alloc, text)?;
+    Ok(IndexCall::Text(doc, field, text))
+}
+
+// An unsigned number.
+fn u64_call(doc: DocId, field: Field, value: &Value) -> Result<IndexCall, LineFault>
+    ensures gives { (dots : Bool) → Gives (λ c. call_with dots c) result (call_with_content doc field (content_in types.U64 dots (view value.now))) }
+    ensures typed { IfOk result (λ c. type_of c ≡ types.U64) }
+{
+    let Some(number) = value.as_number() else {
+        return Err(LineFault::WrongValue(field, ValueFault::WrongType));
+    };
+    match number.as_u64() {
+        Some(number) => Ok(IndexCall::U64(doc, field, number)),
+        None => Err(LineFault::WrongValue(field, ValueFault::OutOfRange)),
+    }
+}
+
+// A signed number.
+fn i64_call(doc: DocId, field: Field, value: &Value) -> Result<IndexCall, LineFault>
+    ensures gives { (dots : Bool) → Gives (λ c. call_with dots c) result (call_with_content doc field (content_in types.I64 dots (view value.now))) }
+    ensures typed { IfOk result (λ c. type_of c ≡ types.I64) }
+{
+    let Some(number) = value.as_number() else {
+        return Err(LineFault::WrongValue(field, ValueFault::WrongType));
+    };
+    match number.as_i64() {
+        Some(number) => Ok(IndexCall::I64(doc, field, number)),
+        None => Err(LineFault::WrongValue(field, ValueFault::OutOfRange)),
+    }
+}
+
+// A truth value.
+fn bool_call(doc: DocId, field: Field, value: &Value) -> Result<IndexCall, LineFault>
+    ensures gives { (dots : Bool) → Gives (λ c. call_with dots c) result (call_with_content doc field (content_in types.Bool dots (view value.now))) }
+    ensures typed { IfOk result (λ c. type_of c ≡ types.Bool) }
+{
+    match value.as_bool() {
+        Some(truth) => Ok(IndexCall::Bool(doc, field, truth)),
+        None => Err(LineFault::WrongValue(field, ValueFault::WrongType)),
+    }
+}
+
+// Bytes, as a text of hexadecimal digits.
+fn bytes_call(
+    alloc: Global,
+    doc: DocId,
+    field: Field,
+    value: &Value,
+) -> Result<IndexCall, LineFault>
+    ensures gives { (dots : Bool) → Gives (λ c. call_with dots c) result (call_with_content doc field (content_in types.Bytes dots (view value.now))) }
+    ensures typed { IfOk result (λ c. type_of c ≡ types.Bytes) }
+{
+    let Some(text) = value.as_str() else {
+        return Err(LineFault::WrongValue(field, ValueFault::WrongType));
+    };
+    match hex::decode(alloc, text) {
+        Ok(bytes) => Ok(IndexCall::Bytes(doc, field, bytes)),
+        Err(error) => Err(LineFault::of_hex(field, error)),
+    }
+}
+
+// An address, as a text.
+fn address_call(doc: DocId, field: Field, value: &Value) -> Result<IndexCall, LineFault>
+    ensures gives { (dots : Bool) → Gives (λ c. call_with dots c) result (call_with_content doc field (content_in types.IpAddr dots (view value.now))) }
+    ensures typed { IfOk result (λ c. type_of c ≡ types.IpAddr) }
+{
+    let Some(text) = value.as_str() else {
+        return Err(LineFault::WrongValue(field, ValueFault::WrongType));
+    };
+    match address_of(text) {
+        Some(address) => Ok(IndexCall::Ip(doc, field, address)),
+        None => Err(LineFault::WrongValue(field, ValueFault::NotAnAddress)),
+    }
+}
+
+// A JSON value with no floating-point number in it.
+fn json_call(alloc: Global, doc: DocId, field: Field, value: &Value) -> Result<IndexCall, LineFault>
+    ensures gives { (dots : Bool) → Gives (λ c. call_with dots c) result (call_with_content doc field (content_in types.Json dots (view value.now))) }
+    ensures typed { IfOk result (λ c. type_of c ≡ types.Json) }
+{
+    if has_float(value) {
+        return Err(LineFault::WrongValue(field, ValueFault::Float));
+    }
+    let value = json_value(alloc, value)?;
+    Ok(IndexCall::Json(doc, field, value))
+}

@@ -1,0 +1,91 @@
+-- What the table of a field says beside its name.
+use Rattle.std.specs.Prelude.{Bool, true, false, ◌&&◌, not, List, ℕ, bytes_eq, codes, if◌then◌else◌, Option, None, Some, Result, Ok}
+use Rattle.toml.specs.Data.{Data, as_bool, as_str, get}
+use Rattle.ii_base.specs.declared.schema.index_record_option.IndexRecordOption.{IndexRecordOption}
+use Rattle.ii_base.specs.declared.schema.index_record_option.IndexRecordOption.TheVariants.{Basic, WithFreqs, WithFreqsAndPositions}
+use Rattle.ii_schema_text.specs.declared.faults.FieldKey.{FieldKey}
+use Rattle.ii_schema_text.specs.declared.faults.FieldKey.TheVariants as keys
+use Rattle.ii_schema_text.specs.declared.field_type.FieldType.{FieldType}
+use Rattle.ii_schema_text.specs.declared.field_type.FieldType.TheVariants as types
+use Rattle.ii_schema_text.specs.declared.settings.Settings.{Settings}
+use Rattle.ii_schema_text.specs.Steps.{◌>>=◌, needs}
+
+-- whether values of a type are texts
+abbrev pub is_text : FieldType → Bool
+is_text types.Text = true
+is_text types.U64 = false
+is_text types.I64 = false
+is_text types.Bool = false
+is_text types.Bytes = false
+is_text types.IpAddr = false
+is_text types.Json = false
+
+-- whether they are JSON values
+abbrev pub is_json : FieldType → Bool
+is_json types.Text = false
+is_json types.U64 = false
+is_json types.I64 = false
+is_json types.Bool = false
+is_json types.Bytes = false
+is_json types.IpAddr = false
+is_json types.Json = true
+
+-- whether they are texts or have texts in them
+abbrev pub has_texts : FieldType → Bool
+has_texts types.Text = true
+has_texts types.U64 = false
+has_texts types.I64 = false
+has_texts types.Bool = false
+has_texts types.Bytes = false
+has_texts types.IpAddr = false
+has_texts types.Json = true
+
+-- the type that a name stands for
+unfoldable pub type_named : List ℕ → Option FieldType
+type_named name =
+    if bytes_eq name (codes "text") then Some types.Text
+    else if bytes_eq name (codes "u64") then Some types.U64
+    else if bytes_eq name (codes "i64") then Some types.I64
+    else if bytes_eq name (codes "bool") then Some types.Bool
+    else if bytes_eq name (codes "bytes") then Some types.Bytes
+    else if bytes_eq name (codes "ip_addr") then Some types.IpAddr
+    else if bytes_eq name (codes "json") then Some types.Json
+    else None
+
+-- the option that a name stands for
+unfoldable pub option_named : List ℕ → Option IndexRecordOption
+option_named name =
+    if bytes_eq name (codes "basic") then Some Basic
+    else if bytes_eq name (codes "freq") then Some WithFreqs
+    else if bytes_eq name (codes "position") then Some WithFreqsAndPositions
+    else None
+
+-- what a text gives
+abbrev pub named : {A : Type 0} → (List ℕ → Option A) → Option (List ℕ) → Option A
+named by None = None
+named by (Some name) = by name
+
+-- the type of a field, which has to be named
+abbrev pub type_in : Option Data → Option FieldType
+type_in None = None
+type_in (Some d) = named type_named (as_str d)
+
+-- what is kept of a term, positions too where nothing is said
+abbrev pub option_in : Bool → Option Data → Option IndexRecordOption
+option_in allowed None = Some (if allowed then WithFreqsAndPositions else Basic)
+option_in allowed (Some d) = if allowed then named option_named (as_str d) else None
+
+-- a truth value, and what is taken where nothing is said
+abbrev pub flag_in : Bool → Bool → Option Data → Option Bool
+flag_in allowed default None = Some (allowed && default)
+flag_in allowed default (Some d) = if allowed then as_bool d else None
+
+-- what a table says, or the first key at which it doesn't say what it has to
+unfoldable pub settings_in : Data → Result Settings FieldKey
+settings_in d = do
+  value_type ← needs keys.Type (type_in (get (codes "type") d))
+  is_indexed ← needs keys.Indexed (flag_in true true (get (codes "indexed") d))
+  option ← needs keys.Record (option_in (is_indexed && has_texts value_type) (get (codes "record") d))
+  norms ← needs keys.FieldNorms (flag_in (is_indexed && not (is_json value_type)) (is_text value_type) (get (codes "fieldnorms") d))
+  dots ← needs keys.ExpandDots (flag_in (is_indexed && is_json value_type) false (get (codes "expand_dots") d))
+  Ok (record { value_type = value_type; is_indexed = is_indexed; option = option; has_fieldnorms = norms; expands_dots = dots })

@@ -1,0 +1,99 @@
+ghost use Rattle.std.specs.Prelude.{◌≡◌, ◌&&◌, not, bytes_eq, option_map, string_bytes};
+ghost use Rattle.std.specs.List.{list_any};
+ghost use Rattle.ii_base.specs.Schema.{SchemaEntry};
+ghost use Rattle.toml.specs.View.{view};
+ghost use Rattle.ii_schema_text.specs.SchemaText.{Gives, entry_in, entry_with, members_in, name_in, unknown_in};
+ghost use Rattle.ii_schema_text.specs.declared.keys.KnownKeys.TheVariants.{OfField};
+
+use crate::faults::{FieldKey, SchemaFault};
+use crate::field_type::FieldType;
+use crate::keys::KnownKeys;
+use crate::settings::{Settings, settings_of};
+use ii_base::{FieldEntry, ValueType};
+use std::alloc::Global;
+use toml::Value;
+
+// Whether an entry has this name.
+fn has_name(entries: &[FieldEntry], name: &str) -> bool
+    ensures { result ≡ list_any (λ (e : SchemaEntry). bytes_eq e.name name.now) entries.now }
+{
+    for entry in entries {
+        if entry.name() == name {
+            return true;
+        }
+    }
+    false
+}
+
+// The name of a field behind others, if it is one.
+fn name_of<'a>(before: &[FieldEntry], value: Option<&'a Value>) -> Option<&'a str>
+    ensures { option_map (λ name. name.now) result ≡ name_in before.now (option_map (λ v. view v.now) value.entry) }
+{
+    let Some(value) = value else {
+        return None;
+    };
+    let Some(name) = value.as_str() else {
+        return None;
+    };
+    if has_name(before, name) {
+        return None;
+    }
+    if name.is_empty() {
+        return None;
+    }
+    Some(name)
+}
+
+// The first key of a field's table that isn't known.
+fn unknown_key(field: &Value) -> Option<&str>
+    ensures { option_map (λ key. key.now) result ≡ unknown_in OfField (members_in (view field.now)) }
+{
+    match field.as_table() {
+        Some(table) => KnownKeys::OfField.unknown(table),
+        None => None,
+    }
+}
+
+// The entry of a field.
+fn entry_with(name: String, settings: Settings) -> FieldEntry
+    ensures { result ≡ entry_with (string_bytes name) settings }
+{
+    if !settings.is_indexed {
+        return FieldEntry::unindexed(name, settings.value_type.value_type());
+    }
+    let norms = settings.has_fieldnorms;
+    match settings.value_type {
+        FieldType::Text => FieldEntry::text(name, settings.option, norms),
+        FieldType::U64 => FieldEntry::value(name, ValueType::U64, norms),
+        FieldType::I64 => FieldEntry::value(name, ValueType::I64, norms),
+        FieldType::Bool => FieldEntry::value(name, ValueType::Bool, norms),
+        FieldType::Bytes => FieldEntry::value(name, ValueType::Bytes, norms),
+        FieldType::IpAddr => FieldEntry::value(name, ValueType::IpAddr, norms),
+        FieldType::Json => FieldEntry::json(name, settings.option, settings.expands_dots),
+    }
+}
+
+// The entry that the table of a field behind others says.
+#[tactic(auto, unfolding(crate::specs::SchemaText::entry_in))]
+pub(crate) fn entry_of(
+    alloc: Global,
+    before: &[FieldEntry],
+    field: &Value,
+) -> Result<FieldEntry, SchemaFault>
+    ensures { Gives (λ (e : SchemaEntry). e) result (entry_in before.now (view field.now)) }
+{
+    let place = before.len();
+    if let Some(key) = unknown_key(field) {
+        let key = String::from_str(alloc, key)?;
+        return Err(SchemaFault::UnknownFieldKey(place, key));
+    }
+    let Some(name) = name_of(before, field.get("name")) else {
+        return Err(SchemaFault::WrongKey(place, FieldKey::Name));
+    };
+    let settings = match settings_of(field) {
+        Ok(settings) => settings,
+        Err(key) => return Err(SchemaFault::WrongKey(place, key)),
+    };
+    let name = String::from_str(alloc, name)?;
+    Ok(entry_with(name, settings))
+}

@@ -1,0 +1,86 @@
+ghost use Rattle.std.specs.Prelude.{◌≡◌, Err, List, Result};
+ghost use Rattle.toml.specs.Errors.{IsMemory};
+ghost use Rattle.ii_base.specs.Schema.{SchemaEntry};
+ghost use Rattle.ii_schema_text.specs.SchemaText.{Refusal, Tells, not_toml, told};
+ghost use Rattle.ii_schema_text.specs.declared.faults.SchemaFault.TheVariants as faults;
+
+use std::alloc::{AllocError, AllocFailed};
+use thiserror::Error;
+use toml::de::Error as TomlError;
+
+/// A key that the table of a field may have.
+#[derive(Clone, Copy, Debug, PartialEq, Eq, Error)]
+pub enum FieldKey {
+    /// The name of the field: a text that isn't empty, and that no field before has.
+    #[error("name: a text that is not empty, and that no field before has")]
+    Name,
+    /// The type of its values.
+    #[error("type: one of text, u64, i64, bool, bytes, ip_addr, json")]
+    Type,
+    /// Whether it is indexed.
+    #[error("indexed: true or false")]
+    Indexed,
+    /// What is kept of a term.
+    #[error("record: one of basic, freq, position, where an indexed field has texts or JSON values")]
+    Record,
+    /// Whether norms are kept.
+    #[error("fieldnorms: true or false, where an indexed field has no JSON values")]
+    FieldNorms,
+    /// Whether dots in the keys of its JSON values are expanded.
+    #[error("expand_dots: true or false, where an indexed field has JSON values")]
+    ExpandDots,
+}
+
+/// Why a text is no schema. Fields are numbered from 0.
+#[derive(Debug, Drop, Error)]
+pub enum SchemaFault {
+    /// No memory was found.
+    #[error("out of memory")]
+    OutOfMemory,
+    /// The text isn't TOML.
+    #[error("{0}")]
+    NotToml(TomlError),
+    /// A key beside `field`.
+    #[error("unknown key {0}: a schema has tables [[field]] alone")]
+    UnknownKey(String),
+    /// There is no table `[[field]]`.
+    #[error("no table [[field]]")]
+    NoFields,
+    /// There are 2^32 fields or more.
+    #[error("too many fields")]
+    TooManyFields,
+    /// The table of a field has a key that is none of `FieldKey`.
+    #[error("field {0}: unknown key {1}")]
+    UnknownFieldKey(usize, String),
+    /// What the table of a field says at a key isn't what it has to be, or is missing.
+    #[error("field {0}: {1}")]
+    WrongKey(usize, FieldKey),
+}
+
+impl SchemaFault {
+    // Why a text wasn't read as TOML: it isn't TOML, or no memory was found.
+    pub(crate) fn of_toml(error: TomlError) -> SchemaFault
+        ensures { (wanted : Result (List SchemaEntry) Refusal) → (¬ IsMemory error → wanted ≡ Err not_toml) → Tells (told result) wanted }
+    {
+        if error.is_memory() {
+            return SchemaFault::OutOfMemory;
+        }
+        SchemaFault::NotToml(error)
+    }
+}
+
+impl From<AllocError> for SchemaFault {
+    ghost from_gives = { λ _ e. e ≡ faults.OutOfMemory };
+
+    fn from(_: AllocError) -> Self {
+        SchemaFault::OutOfMemory
+    }
+}
+
+impl<T: Drop> From<AllocFailed<T>> for SchemaFault {
+    ghost from_gives = { λ _ e. e ≡ faults.OutOfMemory };
+
+    fn from(_: AllocFailed<T>) -> Self {
+        SchemaFault::OutOfMemory
+    }
+}

@@ -1,0 +1,122 @@
+ghost use Rattle.std.specs.Prelude.{◌≡◌, option_map};
+ghost use Rattle.toml.specs.View.{view};
+ghost use Rattle.ii_schema_text.specs.SchemaText.{value_type_of};
+ghost use Rattle.ii_schema_text.specs.Settings.{has_texts, is_json, is_text, type_in, type_named};
+
+use ii_base::ValueType;
+use toml::Value;
+
+/// The type of a field's values.
+#[derive(Clone, Copy, Debug, PartialEq, Eq)]
+pub enum FieldType {
+    Text,
+    U64,
+    I64,
+    Bool,
+    Bytes,
+    IpAddr,
+    Json,
+}
+
+impl FieldType {
+    // The type that a schema has for it.
+    pub(crate) fn value_type(self) -> ValueType
+        ensures { result ≡ value_type_of self }
+    {
+        match self {
+            FieldType::Text => ValueType::Str,
+            FieldType::U64 => ValueType::U64,
+            FieldType::I64 => ValueType::I64,
+            FieldType::Bool => ValueType::Bool,
+            FieldType::Bytes => ValueType::Bytes,
+            FieldType::IpAddr => ValueType::IpAddr,
+            FieldType::Json => ValueType::Json,
+        }
+    }
+
+    // Whether its values are texts or have texts in them.
+    pub(crate) fn has_texts(self) -> bool
+        ensures { result ≡ has_texts self }
+    {
+        match self {
+            FieldType::Text | FieldType::Json => true,
+            FieldType::U64
+            | FieldType::I64
+            | FieldType::Bool
+            | FieldType::Bytes
+            | FieldType::IpAddr => false,
+        }
+    }
+
+    // Whether its values are texts.
+    pub(crate) fn is_text(self) -> bool
+        ensures { result ≡ is_text self }
+    {
+        match self {
+            FieldType::Text => true,
+            FieldType::U64
+            | FieldType::I64
+            | FieldType::Bool
+            | FieldType::Bytes
+            | FieldType::IpAddr
+            | FieldType::Json => false,
+        }
+    }
+
+    // Whether its values are JSON values.
+    pub(crate) fn is_json(self) -> bool
+        ensures { result ≡ is_json self }
+    {
+        match self {
+            FieldType::Json => true,
+            FieldType::U64
+            | FieldType::I64
+            | FieldType::Bool
+            | FieldType::Bytes
+            | FieldType::IpAddr
+            | FieldType::Text => false,
+        }
+    }
+}
+
+// The type that a name stands for.
+#[tactic(auto, unfolding(crate::specs::Settings::type_named))]
+fn type_named(name: &str) -> Option<FieldType>
+    ensures { result ≡ type_named name.now }
+{
+    if name == "text" {
+        return Some(FieldType::Text);
+    }
+    if name == "u64" {
+        return Some(FieldType::U64);
+    }
+    if name == "i64" {
+        return Some(FieldType::I64);
+    }
+    if name == "bool" {
+        return Some(FieldType::Bool);
+    }
+    if name == "bytes" {
+        return Some(FieldType::Bytes);
+    }
+    if name == "ip_addr" {
+        return Some(FieldType::IpAddr);
+    }
+    if name == "json" {
+        return Some(FieldType::Json);
+    }
+    None
+}
+
+// The type that a value names.
+pub(crate) fn type_of(value: Option<&Value>) -> Option<FieldType>
+    ensures { result ≡ type_in (option_map (λ v. view v.now) value.entry) }
+{
+    let Some(value) = value else {
+        return None;
+    };
+    let Some(name) = value.as_str() else {
+        return None;
+    };
+    type_named(name)
+}

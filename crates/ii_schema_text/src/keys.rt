@@ -1,0 +1,63 @@
+ghost use Rattle.std.specs.Prelude.{◌≡◌, option_map};
+ghost use Rattle.toml.specs.View.{table_view};
+ghost use Rattle.ii_schema_text.specs.declared.keys.KnownKeys.TheVariants.{OfField};
+ghost use Rattle.ii_schema_text.specs.SchemaText.{is_known, unknown_in};
+
+use toml::Table;
+
+/// Which keys a table may have.
+#[derive(Clone, Copy, Debug, PartialEq, Eq)]
+pub enum KnownKeys {
+    /// Those of the whole text.
+    OfText,
+    /// Those of the table of a field.
+    OfField,
+}
+
+impl KnownKeys {
+    // Whether this is one of them.
+    #[tactic(auto, unfolding(crate::specs::SchemaText::is_known))]
+    fn has(self, key: &str) -> bool
+        ensures { result ≡ is_known self key.now }
+    {
+        match self {
+            KnownKeys::OfText => key == "field",
+            KnownKeys::OfField => is_field_key(key),
+        }
+    }
+
+    // The first key of a table that isn't one of them.
+    pub(crate) fn unknown(self, table: &Table) -> Option<&str>
+        ensures { option_map (λ key. key.now) result ≡ unknown_in self (table_view table.now) }
+    {
+        for (key, _) in table.iter() {
+            if !self.has(key.as_str()) {
+                return Some(key.as_str());
+            }
+        }
+        None
+    }
+}
+
+// Whether a field's table may have this key.
+#[tactic(auto, unfolding(crate::specs::SchemaText::is_known))]
+fn is_field_key(key: &str) -> bool
+    ensures { result ≡ is_known OfField key.now }
+{
+    if key == "name" {
+        return true;
+    }
+    if key == "type" {
+        return true;
+    }
+    if key == "indexed" {
+        return true;
+    }
+    if key == "record" {
+        return true;
+    }
+    if key == "fieldnorms" {
+        return true;
+    }
+    key == "expand_dots"
+}

@@ -1,0 +1,12 @@
+//! A schema as a text in TOML, with a table `[[field]]` for each field, in order.
+#![tactic(auto)]
+
+pub mod entry_table;
+pub mod faults;
+pub mod field_type;
+pub mod keys;
+pub mod schema_text;
+pub mod settings;
+
+pub use faults::{FieldKey, SchemaFault};
+pub use schema_text::read_schema;
