@@ -14,7 +14,7 @@ returns-then-not-has_sum c =
     let read = c.in-Ok.ensures.read ∙ ap (unsorted_block_at b.strict_delta_encoded b.tf_num_bits) bytes in
     let size = (block_fits _ _ _ _ _ (sym read)).many in
     let len = c.in-Ok.ensures.len in
-    let values = c.output_array.ensures.values ∙ take_all c.try_uncompress_block_unsorted.new.self.output_len output (omega arith) in
+    let values = c.output_array-freqs.ensures.values ∙ take_all c.try_uncompress_block_unsorted.new.self.output_len output (omega arith) in
     let sum = ap (has_sum c.args.skip_info b.tf_sum) (sym values) ∙ sym c.has_sum.ensures ∙ c.if-not-has_sum.true in
     rw b.is (block_refused c.args.skip_info b.doc_num_bits b.tf_num_bits b.tf_sum b.block_wand_fieldnorm_id b.block_wand_term_freq b.strict_delta_encoded c.args.bytes.now output _ read sum)
 
@@ -26,7 +26,7 @@ returns c =
     let read = c.in-Ok.ensures.read ∙ ap (unsorted_block_at b.strict_delta_encoded b.tf_num_bits) bytes in
     let size = (block_fits _ _ _ _ _ (sym read)).many in
     let len = c.in-Ok.ensures.len in
-    let values = c.output_array.ensures.values ∙ take_all c.try_uncompress_block_unsorted.new.self.output_len output (omega arith) in
+    let values = c.output_array-freqs.ensures.values ∙ take_all c.try_uncompress_block_unsorted.new.self.output_len output (omega arith) in
     let sum = ap (has_sum c.args.skip_info b.tf_sum) (sym values) ∙ sym c.has_sum.ensures ∙ c.if-not-has_sum.false in
     let bound = ap (bounds_counts b.block_wand_term_freq) (sym values) ∙ sym c.are_bounded.ensures in
     rw b.is (block_there c.args.skip_info b.doc_num_bits b.tf_num_bits b.tf_sum b.block_wand_fieldnorm_id b.block_wand_term_freq b.strict_delta_encoded c.are_bounded.result c.args.bytes.now output _ read sum bound)
