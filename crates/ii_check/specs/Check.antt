@@ -1,5 +1,5 @@
 -- What the check asks of the bytes of one block, and what a decoder holds of a row.
-use Rattle.std.specs.Prelude.{◌≡◌, ℕ, ◌+◌, ◌-◌, ◌*◌, Bool, false, ◌&&◌, ◌==◌, List, length, take, drop, replicate, slice_index, Option, Some, None}
+use Rattle.std.specs.Prelude.{◌≡◌, ℕ, ◌+◌, ◌-◌, ◌*◌, Bool, false, not, nat_lt, ◌&&◌, ◌==◌, List, length, take, drop, replicate, slice_index, Option, Some, None}
 use Rattle.ii_io.specs.Steps.{◌>>=◌, needs}
 use Rattle.ii_io.specs.Vints.{u32s_at}
 use Rattle.ii_base.specs.declared.schema.index_record_option.IndexRecordOption.{IndexRecordOption}
@@ -52,6 +52,11 @@ block_freqs_in skip_info (BitPacked doc_num_bits strict_delta tf_num_bits tf_sum
   _ ← needs (bounds_counts term_freq found.0)
   Some found.0
 block_freqs_in skip_info (VInt n) bytes = None
+
+-- whether what the skip list tells of a block excludes counts of so many
+abbrev pub excludes_in : ℕ → BlockInfo → Bool
+excludes_in least (BitPacked doc_num_bits strict_delta tf_num_bits tf_sum norm term_freq) = not (term_freq == 0) && nat_lt term_freq least
+excludes_in least (VInt n) = false
 
 -- how many documents a block that isn't full has
 abbrev pub num_vints : BlockInfo → ℕ

@@ -9,12 +9,12 @@ ghost use Rattle.ii_layout.specs.Positions.{positions_of};
 ghost use Rattle.ii_layout.specs.Postings.{postings};
 ghost use Rattle.ii_layout.specs.TermList.{deltas_if};
 ghost use Rattle.ii_check.specs.Positions.{deltas_read};
-ghost use Rattle.ii_check.specs.CheckedPostings.{AreGiven, AreLastFreqs, HasDocuments, IsAtBlock, IsSkipData, LoadsBlock, SeeksBlock, new_decoder};
+ghost use Rattle.ii_check.specs.CheckedPostings.{AreGiven, AreLastFreqs, HasDocuments, IsAtBlock, IsSkipData, LoadsBlock, SeeksBlock, SeeksFreq, new_decoder};
 ghost use Rattle.ii_check.specs.FreqReading.{freq_reading_of, reading_of_none};
 
 use super::check::{check_postings, freq_reading_option};
 use super::freq_reading_option::FreqReadingOption;
-use super::load::{NO_FREQ, decode_docs, decode_freqs};
+use super::load::{NO_FREQ, decode_docs, decode_freqs, is_passed};
 use super::positions::end_of_positions;
 use bytes::Bytes;
 use ii_base::{Fault, IndexRecordOption, LayoutFault, Part};
@@ -212,6 +212,24 @@ impl CheckedPostings {
         ensures moved { result ≡ nat_lt skip.old.block skip.new.block }
     {
         skip.seek(self.skip_data(), target)
+    }
+
+    /// Goes on to the first block behind the current one, which is full, that neither ends below `target`
+    /// nor has only counts below `least`, as its bound says; or else to the documents after the full
+    /// blocks.
+    pub fn seek_with_freq(&self, skip: &mut SkipReader, target: DocId, least: u32)
+        requires at { IsAtBlock self.now skip.old }
+        requires full { skip.old.block < self.now.doc_freq / 128 }
+        requires up_to { target ≤ TERMINATED }
+        ensures at { IsAtBlock self.now skip.new }
+        ensures seeks { SeeksFreq target least self.now.postings skip.old.block skip.new.block }
+    {
+        // that each entry tells of its block, for the proof
+        let _entries = self.skip_data();
+        self.advance(skip);
+        while is_passed(skip, target, least) {
+            self.advance(skip);
+        }
     }
 
     /// A reader of the positions that `bytes` hold, where both options have them, counts are read and
