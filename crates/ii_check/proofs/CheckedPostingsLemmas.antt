@@ -242,6 +242,7 @@ has_documents p g =
     record {
       ascending = documents_ascend skip n p.postings.docs p.postings.after g.documents;
       many = omega arith;
+      entries = g.entries;
       freqs = λ fs e.
           let fit = freqs_fit skip n p.postings.after fs (g.freqs fs e) in
           let many = fit.many in

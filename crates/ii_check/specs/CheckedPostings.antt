@@ -60,10 +60,11 @@ pub record AreReadFreqs (doc_freq : ℕ) (freqs : List ℕ) : Type 0 where
   pub many : length freqs ≡ doc_freq
   pub low : fit_u32 freqs ≡ true
 
--- The documents ascend, and are as many as the term is in; so are the counts, where they are read, where the field records positions the entries have their sums, and the entries bound them.
+-- The documents ascend, and are as many as the term is in, and there is an entry for each full block; so are the counts, where they are read, where the field records positions the entries have their sums, and the entries bound them.
 pub record HasDocuments (p : CheckedPostingsState) : Type 0 where
   pub ascending : are_documents p.postings.docs ≡ true
   pub many : length p.postings.docs ≡ p.doc_freq
+  pub entries : length p.postings.skip.entries ≡ p.doc_freq / 128
   pub freqs : (fs : List ℕ) → p.postings.freqs ≡ Some fs → AreReadFreqs p.doc_freq fs
   pub read : is_some p.postings.freqs ≡ is_read p.freq_reading
   pub sums : (fs : List ℕ) → p.postings.freqs ≡ Some fs → has_positions p.recorded ≡ true → (i : ℕ) → i ≤ p.doc_freq / 128 → tf_sum_before p.postings.skip.entries i ≡ sum (take (128 * i) fs)

@@ -3,7 +3,7 @@ ghost use Rattle.std.specs.List.{sum, list_all};
 ghost use Rattle.ii_io.specs.Faults.{OnlyMemory};
 ghost use Rattle.ii_io.specs.Parts.{part_of};
 ghost use Rattle.ii_docset.specs.declared.docset.TheConstants.{TERMINATED};
-ghost use Rattle.ii_base.specs.Options.{downgrade, has_positions};
+ghost use Rattle.ii_base.specs.Options.{downgrade, has_freq, has_positions};
 ghost use Rattle.ii_codes.specs.Sums.{fit_u32};
 ghost use Rattle.ii_layout.specs.Positions.{positions_of};
 ghost use Rattle.ii_layout.specs.Postings.{postings};
@@ -109,6 +109,7 @@ impl CheckedPostings {
         ensures doc_freq { result.doc_freq ≡ 0 }
         ensures documents { result.postings.docs ≡ [] }
         ensures freqs { result.postings.freqs ≡ None }
+        ensures entries { result.postings.skip.entries ≡ [] }
         ensures reading { result.freq_reading ≡ reading_of_none record_option requested_option }
         ensures has { HasDocuments result }
     {
@@ -183,6 +184,13 @@ impl CheckedPostings {
         ensures { result ≡ self.now.freq_reading }
     {
         self.freq_reading_option
+    }
+
+    /// Whether the term has counts, or would have some if it was in 128 documents.
+    pub fn has_freq(&self) -> bool
+        ensures { result ≡ has_freq self.now.postings.skip.skip_info }
+    {
+        self.places.skip_info.has_freq()
     }
 
     /// A skip reader at the first block.
