@@ -229,6 +229,7 @@ on_goes p skip skip' docs docs' freqs freqs' g =
       docs = refl;
       freqs = refl;
       freq_reading = refl;
+      bounds = refl;
       block = refl;
       doc_decodes = docs_later p skip skip' docs docs' freqs freqs' g;
       freq_decodes = freqs_later p skip skip' docs docs' freqs freqs' g;

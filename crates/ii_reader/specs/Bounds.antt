@@ -1,5 +1,5 @@
 -- What bounds the blocks of a term, and what a seek by count goes by.
-use Rattle.std.specs.Prelude.{◌≡◌, ℕ, ◌+◌, ◌-◌, ◌*◌, ◌<◌, ◌≤◌, Bool, true, false, ◌&&◌, List, [], ◌∷◌, length, map, nat_le, slice_index, if◌then◌else◌, Option, None, Some, Result, Ok, ⊤}
+use Rattle.std.specs.Prelude.{◌≡◌, ℕ, ◌+◌, ◌-◌, ◌*◌, ◌/◌, ◌<◌, ◌≤◌, Bool, true, false, ◌&&◌, List, [], ◌∷◌, length, map, nat_le, slice_index, if◌then◌else◌, Option, None, Some, Result, Ok, ⊤}
 use Rattle.std.specs.List.{range_with_len, slice_index_or, sum_by}
 use Rattle.ii_io.specs.declared.faults.Part.{Part}
 use Rattle.ii_io.specs.Parts.{◌>>=◌}
@@ -9,7 +9,9 @@ use Rattle.ii_docset.specs.Entries.{Entry}
 use Rattle.ii_layout.specs.SkipList.{SkipEntry, SkipList}
 use Rattle.ii_layout.specs.SkipReader.{code_of_max_tf, max_tf_of_code}
 use Rattle.ii_layout.specs.Postings.{postings}
-use Rattle.ii_check.specs.CheckedPostings.{excludes}
+use Rattle.ii_check.specs.declared.freq_reading_option.FreqReadingOption.{FreqReadingOption}
+use Rattle.ii_check.specs.FreqReading.{freq_reading_of}
+use Rattle.ii_check.specs.CheckedPostings.{excludes, is_read}
 
 -- what bounds a block: a norm id and a count, of which 0 says nothing
 abbrev pub entry_bounds : SkipEntry → ℕ × ℕ
@@ -24,6 +26,16 @@ abbrev pub bounds_read : IndexRecordOption → IndexRecordOption → ℕ → Lis
 bounds_read recorded requested doc_freq bytes = do
   p ← postings recorded requested doc_freq bytes
   Ok (bounds_of p.skip)
+
+-- the bounds that were looked at: those of a term whose counts are read
+abbrev pub trusted : FreqReadingOption → List (ℕ × ℕ) → List (ℕ × ℕ)
+trusted reading bounds = if is_read reading then bounds else []
+
+-- so they are by the bytes of a term
+abbrev pub bounds_trusted : IndexRecordOption → IndexRecordOption → ℕ → List ℕ → Result (List (ℕ × ℕ)) Part
+bounds_trusted recorded requested doc_freq bytes = do
+  p ← postings recorded requested doc_freq bytes
+  Ok (trusted (freq_reading_of requested p) (bounds_of p.skip))
 
 -- the two bytes of an entry
 abbrev pub bound_bytes : ℕ × ℕ → ℕ × ℕ
@@ -50,17 +62,21 @@ sought_with_freq target least (e ∷ es) = if is_wanted target least e then e �
 abbrev pub is_wanted_at : ℕ → ℕ → List ℕ → List ℕ → ℕ → Bool
 is_wanted_at target least docs freqs n = nat_le target (slice_index docs n) && nat_le least (slice_index freqs n)
 
+-- No document from place m on and before place n is wanted.
+abbrev pub AreUnwanted : ℕ → ℕ → List ℕ → List ℕ → ℕ → ℕ → Type 0
+AreUnwanted target least docs freqs m n = (k : ℕ) → m ≤ k → k < n → k < length docs → is_wanted_at target least docs freqs k ≡ false
+
 -- Of the documents from place m on the first that is wanted is at place n; or n lies behind all of them.
 pub record IsFirstWanted (target least : ℕ) (docs freqs : List ℕ) (m n : ℕ) : Type 0 where
   pub forward : m ≤ n
-  pub before : (k : ℕ) → m ≤ k → k < n → k < length docs → is_wanted_at target least docs freqs k ≡ false
+  pub before : AreUnwanted target least docs freqs m n
   pub there : n < length docs → is_wanted_at target least docs freqs n ≡ true
 
--- The same within a block from place i on: the first is at place k, or none is, and k lies behind its documents.
-pub record IsPlaced (target least : ℕ) (docs freqs : List ℕ) (block i k : ℕ) : Type 0 where
-  pub forward : i ≤ k
+-- The same as far as a block goes: the first from place m on is at place k of the block, or none up to its end is, and k lies behind its documents.
+pub record IsPlaced (target least : ℕ) (docs freqs : List ℕ) (m block k : ℕ) : Type 0 where
+  pub forward : m ≤ 128 * block + k
   pub most : k ≤ 128
-  pub before : (n : ℕ) → 128 * block + i ≤ n → n < 128 * block + k → n < length docs → is_wanted_at target least docs freqs n ≡ false
+  pub before : AreUnwanted target least docs freqs m (128 * block + k)
   pub there : k < 128 → 128 * block + k < length docs → is_wanted_at target least docs freqs (128 * block + k) ≡ true
   pub full : k ≡ 128 → block < length docs / 128
 
@@ -68,4 +84,4 @@ pub record IsPlaced (target least : ℕ) (docs freqs : List ℕ) (block i k : �
 pub record PassesBlocks (target least : ℕ) (docs freqs : List ℕ) (old new : ℕ) : Type 0 where
   pub behind : old < new
   pub within : new ≤ length docs / 128
-  pub between : (n : ℕ) → 128 * old + 128 ≤ n → n < 128 * new → is_wanted_at target least docs freqs n ≡ false
+  pub between : AreUnwanted target least docs freqs (128 * old + 128) (128 * new)

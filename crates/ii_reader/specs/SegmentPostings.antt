@@ -11,7 +11,7 @@ use Rattle.ii_check.specs.FreqReading.{reading_of_none}
 use Rattle.ii_check.specs.declared.freq_reading_option.FreqReadingOption.{FreqReadingOption}
 use Rattle.ii_reader.specs.BlockSegmentPostings.{BlockSegmentPostingsState}
 
--- what is left of its list, how many documents the list has, whether counts are read, what bounds the full blocks, the number of the block, how many decodes of documents and of counts there were, how many skip entries were read, and how many decodes of positions there were
+-- what is left of its list, how many documents the list has, whether counts are read, what bounds the full blocks as far as that was looked at, the number of the block, how many decodes of documents and of counts there were, how many skip entries were read, and how many decodes of positions there were
 pub record SegmentPostingsState : Type 0 where
   pub rest : List Entry
   pub doc_freq : ℕ

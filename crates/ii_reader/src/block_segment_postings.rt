@@ -17,7 +17,8 @@ use ii_base::{Fault, IndexRecordOption, LayoutFault, Part};
 use ii_check::{CheckedPostings, FreqReadingOption, NO_FREQ};
 use ii_codes::{BlockDecoder, COMPRESSION_BLOCK_SIZE};
 use ii_docset::{DocId, TERMINATED};
-use ii_layout::{BlockInfo, PositionReader, SkipReader, encode_block_wand_max_tf};
+use ii_layout::skip::encode_block_wand_max_tf;
+use ii_layout::{BlockInfo, PositionReader, SkipReader};
 use std::marker::Model;
 
 /// A cursor over the blocks of a term's postings, of which it holds one, decoded: block b has the
@@ -409,10 +410,10 @@ impl BlockSegmentPostings {
     fn place_with_freq(&self, from: usize, target: DocId, least: u32) -> usize
         requires read { IsSome self.now.freqs }
         requires from { from < 128 }
-        ensures found { IfSome self.now.freqs (λ freqs. IsPlaced target least self.now.docs freqs self.now.block from result) }
+        ensures found { IfSome self.now.freqs (λ freqs. IsPlaced target least self.now.docs freqs (128 * self.now.block + from) self.now.block result) }
         ensures lazy { IsLazy self.now }
     {
-        let len = self.block_len();
+        let len = self.docs().len();
         for idx in from..len {
             if self.is_wanted(idx, target, least) {
                 return idx;
@@ -440,6 +441,7 @@ impl BlockSegmentPostings {
         requires up_to { target ≤ TERMINATED }
         ensures passes { (freqs : List ℕ) → self.old.freqs ≡ Some freqs → PassesBlocks target least self.old.docs freqs self.old.block self.new.block }
         ensures goes { GoesTo self.old self.new self.new.block }
+        ensures later { self.old.block < self.new.block }
         ensures lands { excludes least (freq_bound self.old.bounds self.new.block) ≡ false }
     {
         self.checked.seek_with_freq(&mut self.skip, target, least);

@@ -9,7 +9,7 @@ ghost use Rattle.ii_layout.specs.TermList.{list_of, term_list};
 ghost use Rattle.ii_check.specs.CheckedPostings.{is_read};
 ghost use Rattle.ii_check.specs.FreqReading.{freq_reading};
 ghost use Rattle.ii_check.specs.Positions.{deltas_read};
-ghost use Rattle.ii_reader.specs.Bounds.{blocks_with_freq, bounds_read, sought_with_freq};
+ghost use Rattle.ii_reader.specs.Bounds.{blocks_with_freq, bounds_trusted, sought_with_freq, trusted};
 ghost use Rattle.ii_reader.specs.SegmentPostings.{DecodesOnce, DecodesPositions, FitCursor, SpentLazily, StaysLazy, WentLazily, decodes_read, postings_of_none};
 
 use super::block_segment_postings::BlockSegmentPostings;
@@ -35,6 +35,7 @@ impl Model for SegmentPostings {
     ghost use Rattle.ii_check.specs.CheckedPostings.{is_read};
     ghost use Rattle.ii_check.specs.Positions.{deltas_read};
     ghost use Rattle.ii_reader.specs.BlockSegmentPostings.{AreEntries};
+    ghost use Rattle.ii_reader.specs.Bounds.{trusted};
     ghost use Rattle.ii_reader.specs.SegmentPostings.{FitCursor, SegmentPostingsState, decodes_read};
 
     ghost Value = { SegmentPostingsState };
@@ -43,7 +44,7 @@ impl Model for SegmentPostings {
       rest = drop (128 * s.block_cursor.block + s.cur) (list_of s.block_cursor.docs s.block_cursor.freqs (deltas_read s.position_reader));
       doc_freq = length s.block_cursor.docs;
       freq_reading = s.block_cursor.freq_reading;
-      bounds = s.block_cursor.bounds;
+      bounds = trusted s.block_cursor.freq_reading s.block_cursor.bounds;
       block = s.block_cursor.block;
       doc_decodes = s.block_cursor.doc_decodes;
       freq_decodes = s.block_cursor.freq_decodes;
@@ -75,7 +76,7 @@ impl SegmentPostings {
         ensures doc_freq { IfOk result (λ cursor. cursor.doc_freq ≡ doc_freq) }
         ensures many { IfOk result (λ cursor. length cursor.rest ≡ doc_freq) }
         ensures reading { IfOk result (λ cursor. (freq_reading record_option requested_option doc_freq postings ≡ Ok cursor.freq_reading)
-            × (bounds_read record_option requested_option doc_freq postings ≡ Ok cursor.bounds)) }
+            × (bounds_trusted record_option requested_option doc_freq postings ≡ Ok cursor.bounds)) }
         ensures first { IfOk result (λ cursor. cursor.block ≡ 0) }
         ensures doc_decodes { IfOk result (λ cursor. cursor.doc_decodes ≤ 1) }
         ensures freq_decodes { IfOk result (λ cursor. cursor.freq_decodes ≤ 1) }
@@ -124,7 +125,7 @@ impl SegmentPostings {
         ensures doc_freq { OnOk result (self.new.doc_freq ≡ doc_freq) }
         ensures many { OnOk result (length self.new.rest ≡ doc_freq) }
         ensures reading { OnOk result ((freq_reading record_option requested_option doc_freq postings ≡ Ok self.new.freq_reading)
-            × (bounds_read record_option requested_option doc_freq postings ≡ Ok self.new.bounds)) }
+            × (bounds_trusted record_option requested_option doc_freq postings ≡ Ok self.new.bounds)) }
         ensures first { self.new.block ≡ 0 }
         // what was decoded and read for it
         ensures doc_decodes { self.new.doc_decodes ≤ 1 }
@@ -191,7 +192,7 @@ impl SegmentPostings {
         ensures rest { result.rest
             ≡ drop (128 * segment_block_postings.block) (list_of segment_block_postings.docs segment_block_postings.freqs (deltas_read position_reader)) }
         ensures doc_freq { result.doc_freq ≡ length segment_block_postings.docs }
-        ensures reading { (result.freq_reading ≡ segment_block_postings.freq_reading) × (result.bounds ≡ segment_block_postings.bounds) }
+        ensures reading { (result.freq_reading ≡ segment_block_postings.freq_reading) × (result.bounds ≡ trusted segment_block_postings.freq_reading segment_block_postings.bounds) }
         ensures block { result.block ≡ segment_block_postings.block }
         ensures doc_decodes { result.doc_decodes ≡ segment_block_postings.doc_decodes }
         ensures freq_decodes { result.freq_decodes ≡ segment_block_postings.freq_decodes }
@@ -246,6 +247,8 @@ impl SegmentPostings {
         ensures decodes { self.new.doc_decodes ≤ self.old.doc_decodes + blocks_with_freq least self.old.bounds self.old.block self.new.block }
         ensures lazy { StaysLazy self.new }
     {
+        // that documents ascend, for the proof
+        let _doc = self.doc();
         if self.block_cursor.freq_reading_option().is_read() {
             self.cur = self.block_cursor.seek_with_freq(self.cur, target, least);
             return self.doc();
@@ -253,8 +256,7 @@ impl SegmentPostings {
         if least <= 1 {
             return self.seek(target);
         }
-        self.cur = self.block_cursor.seek(TERMINATED);
-        self.doc()
+        self.seek(TERMINATED)
     }
 
     /// How many of the documents that are left are alive. The set has to tell of each of them. A copy
