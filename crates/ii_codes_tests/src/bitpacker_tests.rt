@@ -74,7 +74,10 @@ fn packed_until(alloc: Global, failing_call: u64) -> (Result<(), Fault>, bool, u
 fn a_failing_writer_is_told(rt: HostRuntime) {
     // a write for each of the three bytes
     for call in 1..4 {
-        assert!(rt; packed_until(rt.alloc(), call) == (Err(Fault::Write), true, 1), "call {call}");
+        assert!(rt;
+            packed_until(rt.alloc(), call) == (Err(Fault::Write), true, 1),
+            "call {call}"
+        );
     }
     assert!(rt; packed_until(rt.alloc(), 5) == (Ok(()), true, 0));
 }

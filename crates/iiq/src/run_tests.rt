@@ -3,7 +3,8 @@ use ii_base::{FailingReader, FailingWriter};
 use std::alloc::Global;
 
 // Lines of each kind, and their answers.
-const LINES: &[u8] = b"ids 0 2 10\ntext 0 a b a\nleaf 0 n i 5\n? text p a\n? leaf p n i 5\nids 1 0\n";
+const LINES: &[u8] =
+    b"ids 0 2 10\ntext 0 a b a\nleaf 0 n i 5\n? text p a\n? leaf p n i 5\nids 1 0\n";
 
 const ANSWERS: &[u8] = b"808288\n0 2 10\n0:2:0,2\n0:1:\nerror line\n";
 
@@ -39,7 +40,10 @@ fn a_failing_reader_is_told(rt: HostRuntime) {
 fn a_failing_writer_is_told(rt: HostRuntime) {
     // a write for each line that has an answer, and a flush
     for call in 1..6 {
-        assert!(rt; matches!(ended(rt.alloc(), 0, call), Ending::Output), "call {call}");
+        assert!(rt;
+            matches!(ended(rt.alloc(), 0, call), Ending::Output),
+            "call {call}"
+        );
     }
     assert!(rt; matches!(ended(rt.alloc(), 0, 6), Ending::Answered));
 }
