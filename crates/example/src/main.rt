@@ -8,13 +8,13 @@ use nequllpa::{DocSet, Field, Query, QueryCursor, SegmentPostings, TERMINATED, T
 
 fn main(rt: HostRuntime) -> anyhow::Result<()> {
     let index = texts::indexed(rt.alloc())?;
+    places::print(&rt, &index)?;
     let body = Field::from_field_id(0);
     let the = Query::Term(Term::from_field_text(rt.alloc(), body, "the")?);
     let bird = Query::Term(Term::from_field_text(rt.alloc(), body, "bird")?);
     let query = Query::and_not(rt.alloc(), the, bird)?;
     let mut found = search(rt.alloc(), &index, &query)?;
-    print_all(&rt, &mut found)?;
-    places::print(&rt, &index)
+    print_all(&rt, &mut found)
 }
 
 // Prints the documents that were found.

@@ -64,10 +64,10 @@ impl Costly {
         let mut bytes = Vec::new(alloc);
         let mut positions = Vec::new(alloc);
         match format {
-            Format::Documents => push_blocks(&mut bytes, count, &[])?,
-            Format::Counts => push_blocks(&mut bytes, count, &[0; 3])?,
+            Format::Documents => push_blocks(&mut bytes, count, 5, &[])?,
+            Format::Counts => push_blocks(&mut bytes, count, 8, &[0; 3])?,
             Format::Positions => {
-                push_blocks(&mut bytes, count, &[0, 128, 0, 0, 0, 0, 0])?;
+                push_blocks(&mut bytes, count, 12, &[0, 128, 0, 0, 0, 0, 0])?;
                 push_widths(&mut positions, count)?;
             }
             Format::Composite => push_fields(&mut bytes, count)?,
@@ -81,9 +81,9 @@ impl Costly {
     }
 }
 
-// Skip entries of full blocks without gaps, each with these bytes behind its code.
-fn push_blocks(bytes: &mut Vec<u8>, count: u32, rest: &[u8]) -> Result<(), Fault> {
-    write_u32_vint(count.saturating_mul(5 + rest.len() as u32), bytes)?;
+// Skip entries of full blocks without gaps, of so many bytes each, with these behind its code.
+fn push_blocks(bytes: &mut Vec<u8>, count: u32, size: u32, rest: &[u8]) -> Result<(), Fault> {
+    write_u32_vint(count.saturating_mul(size), bytes)?;
     let mut last = 127u32;
     for _ in 0..count {
         bytes.extend_from_slice(&last.to_le_bytes())?;
