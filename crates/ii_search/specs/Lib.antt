@@ -2,3 +2,4 @@ pub mod Found
 pub mod ParserErrors
 pub mod Queries
 pub mod QueryTexts
+pub mod TopByCount

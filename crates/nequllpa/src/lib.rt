@@ -34,7 +34,7 @@ pub use ii_reader::{BlockSegmentPostings, FreqReadingOption, LoadedPostings, Seg
 // how an index is searched
 pub use ii_search::{
     Delimiter, MAX_LEXEMES, ParseError, Query, QueryCursor, QueryParserError, UserInputAst,
-    UserInputLiteral, Wanted, count, parse, parse_query, query_of, search,
+    UserInputLiteral, Wanted, count, parse, parse_query, query_of, search, top_by_count,
 };
 
 // the norms of documents
