@@ -4,21 +4,19 @@
 mod places;
 mod texts;
 
-use nequllpa::{DocSet, Field, Query, QueryCursor, SegmentPostings, TERMINATED, Term, search};
+use nequllpa::{AsciiTokenizer, DocSet, Field, TERMINATED, parse_query, search};
 
 fn main(rt: HostRuntime) -> anyhow::Result<()> {
-    let index = texts::indexed(rt.alloc())?;
+    let (schema, index) = texts::indexed(rt.alloc())?;
     places::print(&rt, &index)?;
-    let body = Field::from_field_id(0);
-    let the = Query::Term(Term::from_field_text(rt.alloc(), body, "the")?);
-    let bird = Query::Term(Term::from_field_text(rt.alloc(), body, "bird")?);
-    let query = Query::and_not(rt.alloc(), the, bird)?;
+    let body = [Field::from_field_id(0)];
+    let query = parse_query(rt.alloc(), &schema, &body, &AsciiTokenizer, "the -bird")?;
     let mut found = search(rt.alloc(), &index, &query)?;
     print_all(&rt, &mut found)
 }
 
 // Prints the documents that were found.
-fn print_all(rt: &HostRuntime, found: &mut QueryCursor<SegmentPostings>) -> anyhow::Result<()> {
+fn print_all<D: DocSet>(rt: &HostRuntime, found: &mut D) -> anyhow::Result<()> {
     for _ in 0..found.size_hint() {
         if found.doc() >= TERMINATED {
             return Ok(());
