@@ -1,5 +1,5 @@
 -- Which paths are known after pieces, and what a piece's own path changes of what is stored.
-use Rattle.std.proofs.Common.{◌≡◌, ℕ, ◌+◌, List, [], ◌∷◌, ◌++◌, map, length, cond, Some, None, Err, Option, Result, inl, inr, true, refl, sym, ap, ◌∙◌, subst}
+use Rattle.std.proofs.Common.{◌≡◌, ℕ, ◌+◌, List, [], ◌∷◌, ◌++◌, length, cond, Some, None, Option, Result, inl, inr, true, false, refl, sym, ap, ◌∙◌, subst}
 use Rattle.std.specs.Prelude.{◌⊎◌}
 use Rattle.std.specs.Option.{option_map_or}
 use Rattle.std.proofs.lemmas.List.Sums.{fold-append}
@@ -10,13 +10,16 @@ use Rattle.ii_base.specs.Words.{Word}
 use Rattle.ii_base.specs.declared.schema.index_record_option.IndexRecordOption.{IndexRecordOption}
 use Rattle.ii_definitions.specs.Tokens.{IndexToken, Piece, at_path, begin_after, end_after, is_same_group, kept_words, piece_tokens, text_at, tokens_after, value_at, word_token}
 use Rattle.ii_json.specs.LeafVisit.{IsRefusedBy, first_fault}
-use Rattle.ii_json.specs.Paths.{path_fault, with_path}
+use Rattle.ii_base.specs.Paths.{has_zero}
+use Rattle.ii_json.specs.Paths.{AreDistinct, path_fault, with_path}
+use Rattle.ii_postings_writer.specs.Records.{Records}
+use Rattle.ii_postings_writer.specs.ResolvedTerms.{json_fields}
+use Rattle.ii_indexing.proofs.HeldLaws.{paths_more, still_known, tokens_kept}
 use Rattle.ii_postings_writer.specs.WordRefusals.{gap_fault, word_fault, words_fault}
 use Rattle.ii_indexing.specs.Indexer.{EndsAt, IndexedFieldsState, StoresAll, StoresPieces}
-use Rattle.ii_indexing.specs.IndexedTerms.{IndexedTermsState, StoresTokens}
-use Rattle.ii_indexing.specs.OpenDocuments.{TellsAll}
-use Rattle.ii_indexing.specs.OpenPaths.{TellAllPaths, texts_under}
-use Rattle.ii_indexing.specs.Refusals.{group_count, known_paths, own_path_fault, piece_fault, piece_fault_from, with_piece}
+use Rattle.ii_indexing.specs.IndexedTerms.{IndexedTermsState, StoresTokens, held_kept_at}
+use Rattle.ii_indexing.specs.OpenPaths.{texts_under}
+use Rattle.ii_indexing.specs.Refusals.{group_count, known_paths, piece_fault, piece_fault_from, with_piece}
 use Rattle.ii_indexing.proofs.PieceLaws.{begin_more, group_more, tokens_with}
 
 pub known_more : (ps : List Piece) (p : Piece) → known_paths (ps ++ p ∷ []) ≡ with_piece (known_paths ps) p
@@ -82,10 +85,24 @@ leaf_stored entries old new ps path p alike paths stored pieces = record {
 }
 
 -- what is stored isn't changed by a path that becomes known
-pub known_stored : (entries : List SchemaEntry) (s : IndexedFieldsState) (indexed : IndexedTermsState) (ps : List Piece) (paths : List (List ℕ)) → indexed ≡ record s.indexed { paths = paths } → StoresPieces entries s ps → StoresPieces entries (record s { indexed = indexed }) ps
-known_stored entries s indexed ps paths is h =
+pub known_stored : (entries : List SchemaEntry) (s : IndexedFieldsState) (indexed : IndexedTermsState) (ps : List Piece) (path : List ℕ) → indexed ≡ record s.indexed { paths = with_path s.indexed.paths path } → has_zero path ≡ false → path_fault s.indexed.paths path ≡ None → AreDistinct indexed.paths
+    → StoresPieces entries s ps → StoresPieces entries (record s { indexed = indexed }) ps
+known_stored entries s indexed ps path is clean fits distinct h =
+    let flags = json_fields entries in
+    let ts = tokens_after [] ps in
+    let unlike : AreDistinct (with_path s.indexed.paths path) = subst AreDistinct (ap (λ (i : IndexedTermsState). i.paths) is) distinct in
     subst (λ (i : IndexedTermsState). StoresPieces entries (record s { indexed = i }) ps) (sym is)
-    (record { tokens = record { records = h.tokens.records; counted = h.tokens.counted; of_fields = h.tokens.of_fields }; documents = h.documents; paths = h.paths })
+    (record {
+      tokens = record {
+        records = subst (Records (held_kept_at entries) s.indexed.terms) (sym (tokens_kept flags s.indexed.paths path ts h.tokens.has_paths)) h.tokens.records;
+        counted = h.tokens.counted;
+        of_fields = h.tokens.of_fields;
+        has_paths = still_known flags s.indexed.paths path ts h.tokens.has_paths;
+        known_paths = paths_more s.indexed.paths path h.tokens.known_paths (clean, tt) fits unlike;
+      };
+      documents = h.documents;
+      paths = h.paths;
+    })
 
 words_fault_alike : (option : IndexRecordOption) (path : List ℕ) (p : Piece) (begin n : ℕ) (ts : List IndexToken) (ws : List Word) → words_fault option (at_path path p) begin n ts ws ≡ words_fault option p begin n ts ws
 words_fault_alike option path p begin n ts [] = refl

@@ -87,13 +87,13 @@ impl IndexedFields {
         requires low { doc < TERMINATED }
         requires known { field < length self.old.indexed.writers }
         requires ends { EndsAt doc self.old }
-        ensures stored { OnOk result ((entries : List SchemaEntry) (ps : List Piece) → TakesValue entries field (key_of_value value) → StoresPieces entries self.old ps
+        ensures stored { OnOk result ((entries : List SchemaEntry) (ps : List Piece) → TakesValue entries self.old.indexed.paths field (key_of_value value) (key_of_value value) → StoresPieces entries self.old ps
             → StoresPieces entries self.new (ps ++ value_at doc field (key_of_value value) ∷ [])) }
         ensures ends { OnOk result (EndsAt doc self.new) }
         ensures fields { OnOk result (length self.new.indexed.writers ≡ length self.old.indexed.writers) }
         ensures norms { OnOk result (with_norms self.new.opened.norms ≡ with_norms self.old.opened.norms) }
         ensures same_paths { OnOk result (self.new.indexed.paths ≡ self.old.indexed.paths) }
-        ensures refused { (entries : List SchemaEntry) (ps : List Piece) → TakesValue entries field (key_of_value value) → StoresPieces entries self.old ps
+        ensures refused { (entries : List SchemaEntry) (ps : List Piece) → TakesValue entries self.old.indexed.paths field (key_of_value value) (key_of_value value) → StoresPieces entries self.old ps
             → IsRefusedBy (piece_fault (option_of entries field) ps (value_at doc field (key_of_value value))) result }
     {
         match value {

@@ -19,7 +19,7 @@ ghost use Rattle.ii_json.specs.LeafVisit.{IsRefusedBy};
 
 use crate::finished_fields::FinishedFields;
 use crate::indexed_terms::IndexedTerms;
-use crate::json_keys::{text_prefix, value_key};
+use crate::json_keys::{held_number, held_text, text_prefix};
 use crate::open_documents::{OpenDocument, OpenDocuments};
 use crate::open_paths::OpenPaths;
 use ii_base::{Fault, Field, Schema, TokenStream, ValueType};
@@ -105,12 +105,12 @@ impl IndexedFields {
         requires low { doc < TERMINATED }
         requires known { field < length self.old.indexed.writers }
         requires ends { EndsAt doc self.old }
-        ensures stored { OnOk result ((entries : List SchemaEntry) (ps : List Piece) → TakesTexts entries field [] → StoresPieces entries self.old ps → StoresPieces entries self.new (ps ++ text_at doc field [] (S.to_come tokens.old) ∷ [])) }
+        ensures stored { OnOk result ((entries : List SchemaEntry) (ps : List Piece) → TakesTexts entries self.old.indexed.paths field [] [] → StoresPieces entries self.old ps → StoresPieces entries self.new (ps ++ text_at doc field [] (S.to_come tokens.old) ∷ [])) }
         ensures ends { OnOk result (EndsAt doc self.new) }
         ensures fields { OnOk result (length self.new.indexed.writers ≡ length self.old.indexed.writers) }
         ensures norms { OnOk result (with_norms self.new.opened.norms ≡ with_norms self.old.opened.norms) }
         ensures same_paths { OnOk result (self.new.indexed.paths ≡ self.old.indexed.paths) }
-        ensures refused { (entries : List SchemaEntry) (ps : List Piece) → TakesTexts entries field [] → StoresPieces entries self.old ps → IsRefusedBy (piece_fault (option_of entries field) ps (text_at doc field [] (S.to_come tokens.old))) result }
+        ensures refused { (entries : List SchemaEntry) (ps : List Piece) → TakesTexts entries self.old.indexed.paths field [] [] → StoresPieces entries self.old ps → IsRefusedBy (piece_fault (option_of entries field) ps (text_at doc field [] (S.to_come tokens.old))) result }
     {
         let open = self.documents.open(doc, field)?;
         let mut position = IndexingPosition {
@@ -131,33 +131,34 @@ impl IndexedFields {
         Ok(())
     }
 
-    // Indexes the words of a stream that are still to come, under keys with a prefix.
+    // Indexes the words of a stream that are still to come, under keys with a prefix, of which this is held.
     fn index_words_under<S: TokenStream>(
         &mut self,
         alloc: Global,
         doc: DocId,
         field: Field,
         prefix: &[u8],
+        held: &[u8],
         tokens: &mut S,
     ) -> Result<(), Fault>
         requires low { doc < TERMINATED }
         requires known { field < length self.old.indexed.writers }
         requires ends { EndsAt doc self.old }
         requires some { bytes_eq prefix.now [] ≡ false }
-        ensures stored { OnOk result ((entries : List SchemaEntry) (ps : List Piece) → TakesTexts entries field prefix.now → StoresPieces entries self.old ps
+        ensures stored { OnOk result ((entries : List SchemaEntry) (ps : List Piece) → TakesTexts entries self.old.indexed.paths field held.now prefix.now → StoresPieces entries self.old ps
             → StoresPieces entries self.new (ps ++ text_at doc field prefix.now (S.to_come tokens.old) ∷ [])) }
         ensures ends { OnOk result (EndsAt doc self.new) }
         ensures fields { OnOk result (length self.new.indexed.writers ≡ length self.old.indexed.writers) }
         ensures norms { OnOk result (with_norms self.new.opened.norms ≡ with_norms self.old.opened.norms) }
         ensures same_paths { OnOk result (self.new.indexed.paths ≡ self.old.indexed.paths) }
-        ensures refused { (entries : List SchemaEntry) (ps : List Piece) → TakesTexts entries field prefix.now → StoresPieces entries self.old ps
+        ensures refused { (entries : List SchemaEntry) (ps : List Piece) → TakesTexts entries self.old.indexed.paths field held.now prefix.now → StoresPieces entries self.old ps
             → IsRefusedBy (piece_fault (option_of entries field) ps (text_at doc field prefix.now (S.to_come tokens.old))) result }
     {
         let open = self.documents.open(doc, field)?;
         let mut position = self.paths.open(doc, field, prefix);
         let num_tokens = position.num_tokens;
         self.terms
-            .index_text(doc, field, prefix, tokens, &mut position)?;
+            .index_text(doc, field, held, tokens, &mut position)?;
         let document = OpenDocument {
             doc,
             num_tokens: open.num_tokens,
@@ -189,9 +190,10 @@ impl IndexedFields {
         ensures refused { (entries : List SchemaEntry) (ps : List Piece) → Takes entries field Json → StoresAll entries self.old ps
             → IsRefusedBy (piece_fault (option_of entries field) ps (at_path path.now (text_at doc field (json_key path.now (text_key [])) (S.to_come tokens.old)))) result }
     {
-        let _path_id = self.terms.path_id(path)?;
+        let path_id = self.terms.path_id(path)?;
         let prefix = text_prefix(alloc, path)?;
-        self.index_words_under(alloc, doc, field, prefix.as_bytes(), tokens)
+        let held = held_text(alloc, path_id)?;
+        self.index_words_under(alloc, doc, field, prefix.as_bytes(), &held, tokens)
     }
 
     // Indexes a number at a path of a JSON field, which holds no byte 0.
@@ -217,27 +219,27 @@ impl IndexedFields {
         ensures refused { (entries : List SchemaEntry) (ps : List Piece) → Takes entries field Json → StoresAll entries self.old ps
             → IsRefusedBy (piece_fault (option_of entries field) ps (at_path path.now (value_at doc field (json_key path.now (typed_key value_type number))))) result }
     {
-        let _path_id = self.terms.path_id(path)?;
-        let key = value_key(alloc, path, value_type, number)?;
-        self.index_value(doc, field, key.as_bytes())
+        let path_id = self.terms.path_id(path)?;
+        let held = held_number(alloc, path_id, value_type, number)?;
+        self.index_value(doc, field, &held)
     }
 
-    // Indexes a value under its key.
-    pub(crate) fn index_value(&mut self, doc: DocId, field: Field, key: &[u8]) -> Result<(), Fault>
+    // Indexes a value under what is held of its key.
+    pub(crate) fn index_value(&mut self, doc: DocId, field: Field, held: &[u8]) -> Result<(), Fault>
         requires low { doc < TERMINATED }
         requires known { field < length self.old.indexed.writers }
         requires ends { EndsAt doc self.old }
-        ensures stored { OnOk result ((entries : List SchemaEntry) (ps : List Piece) → TakesValue entries field key.now → StoresPieces entries self.old ps
-            → StoresPieces entries self.new (ps ++ value_at doc field key.now ∷ [])) }
+        ensures stored { OnOk result ((entries : List SchemaEntry) (ps : List Piece) (key : List ℕ) → TakesValue entries self.old.indexed.paths field held.now key → StoresPieces entries self.old ps
+            → StoresPieces entries self.new (ps ++ value_at doc field key ∷ [])) }
         ensures ends { OnOk result (EndsAt doc self.new) }
         ensures fields { OnOk result (length self.new.indexed.writers ≡ length self.old.indexed.writers) }
         ensures norms { OnOk result (with_norms self.new.opened.norms ≡ with_norms self.old.opened.norms) }
         ensures same_paths { OnOk result (self.new.indexed.paths ≡ self.old.indexed.paths) }
-        ensures refused { (entries : List SchemaEntry) (ps : List Piece) → TakesValue entries field key.now → StoresPieces entries self.old ps
-            → IsRefusedBy (piece_fault (option_of entries field) ps (value_at doc field key.now)) result }
+        ensures refused { (entries : List SchemaEntry) (ps : List Piece) (key : List ℕ) → TakesValue entries self.old.indexed.paths field held.now key → StoresPieces entries self.old ps
+            → IsRefusedBy (piece_fault (option_of entries field) ps (value_at doc field key)) result }
     {
         let open = self.documents.open(doc, field)?;
-        self.terms.index_value(doc, field, key)?;
+        self.terms.index_value(doc, field, held)?;
         let document = OpenDocument {
             doc,
             num_tokens: open.num_tokens,

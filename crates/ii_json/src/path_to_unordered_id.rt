@@ -1,4 +1,4 @@
-ghost use Rattle.std.specs.Prelude.{length, Contains, ◌≡◌, ◌⊎◌, ◌≤◌, ◌^◌, [], IsOk, IsTrue, IfOk, MatchResult, None, false, OnErr, OnOk, Some};
+ghost use Rattle.std.specs.Prelude.{length, Contains, ◌≡◌, ◌⊎◌, ◌≤◌, ◌^◌, [], IsOk, IsTrue, IfOk, MatchResult, None, false, OnErr, OnOk, Some, slice_index_or};
 ghost use Rattle.std.specs.List.{range_with_len};
 ghost use Rattle.std.specs.List.Sorted.{IsPermutation};
 ghost use Rattle.ii_io.specs.Faults.{OnlyMemory};
@@ -114,6 +114,16 @@ impl PathToUnorderedId {
         let new_path = String::from_str(self.alloc, path)?;
         self.paths.insert(new_path)?;
         Ok(next_id as u32)
+    }
+
+    /// The path of an unordered id, or the empty one where no path has it.
+    pub fn path(&self, id: u32) -> &str
+        ensures { result.now ≡ slice_index_or self.now id [] }
+    {
+        match self.paths.get_index(id as usize) {
+            Some(path) => path.as_str(),
+            None => "",
+        }
     }
 
     /// The ordered id of each known path, in the order of the unordered ids: how many known paths are
