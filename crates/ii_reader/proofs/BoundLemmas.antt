@@ -192,9 +192,6 @@ range_parts a (suc n) m =
     let place : a + 1 + n ≡ a + suc n = omega arith in
     ap (range_with_len a) next ∙ ap (λ (later : List ℕ). a ∷ later) (range_parts (a + 1) n m ∙ ap (λ (k : ℕ). range_with_len (a + 1) n ++ range_with_len k m) place)
 
-none_at_once : (least i : ℕ) (bounds : List (ℕ × ℕ)) → blocks_with_freq least bounds i i ≡ 0
-none_at_once least i bounds = let none : i - i ≡ 0 = omega arith in rw none refl
-
 parts_sum : (least i k m : ℕ) (bounds : List (ℕ × ℕ)) → i ≤ k → k ≤ m → blocks_with_freq least bounds i m ≡ blocks_with_freq least bounds i k + blocks_with_freq least bounds k m
 parts_sum least i k m bounds first second =
     let all : m - i ≡ (k - i) + (m - k) = omega arith in
@@ -253,15 +250,6 @@ pub record IsLooking (target least from place : ℕ) (old now : BlockSegmentPost
   pub placed : IfSome old.freqs (λ (fs : List ℕ). IsPlaced target least old.docs fs (128 * old.block + from) now.block place)
   pub lazy : IsLazy now
 
-pub looks_first : (target least from place : ℕ) (s : BlockSegmentPostingsState) → IfSome s.freqs (λ (fs : List ℕ). IsPlaced target least s.docs fs (128 * s.block + from) s.block place) → IsLazy s → IsLooking target least from place s s
-looks_first target least from place s placed lazy =
-    let none = none_at_once least s.block s.bounds in
-    record {
-      looks = record { recorded = refl; requested = refl; docs = refl; freqs = refl; freq_reading = refl; bounds = refl; forward = omega arith; doc_decodes = omega arith; freq_decodes = omega arith };
-      placed = placed;
-      lazy = lazy;
-    }
-
 pub looks_on : (least : ℕ) (old now next : BlockSegmentPostingsState) → LooksFor least old now → GoesTo now next next.block → now.block < next.block → excludes least (freq_bound now.bounds next.block) ≡ false → LooksFor least old next
 looks_on least old now next was goes later lands =
     let forward = was.forward in
@@ -282,11 +270,6 @@ looks_on least old now next was goes later lands =
       doc_decodes = omega arith;
       freq_decodes = omega arith;
     }
-
--- a full block that has none
-pub full_here : (o : Option (List ℕ)) (target least m block place : ℕ) (docs : List ℕ) → IsSome o → IfSome o (λ (fs : List ℕ). IsPlaced target least docs fs m block place) → 128 ≤ place → block < length docs / 128
-full_here None target least m block place docs some placed all = absurd (cc)
-full_here (Some fs) target least m block place docs some placed all = let most = placed.most in placed.full (omega arith)
 
 joined_cases : (target least m b c place k : ℕ) (docs fs : List ℕ) (t u : Bool) → IsPlaced target least docs fs m b 128 → PassesBlocks target least docs fs b c → IsPlaced target least docs fs (128 * c + 0) c place → nat_lt k (128 * b + 128) ≡ t → nat_lt k (128 * c) ≡ u
     → m ≤ k → k < 128 * c + place → k < length docs → is_wanted_at target least docs fs k ≡ false
