@@ -1,5 +1,5 @@
 use Rattle.std.proofs.Common.{◌∙◌}
-use Rattle.ii_search.proofs.NumberLemmas.{parsed_signed}
+use Rattle.ii_json.proofs.ParseLemmas.{parsed_signed}
 use Rattle.ii_search.proofs.literal.i64_in.Goals as goal
 
 pub returns : goal.returns

@@ -1,5 +1,5 @@
 use Rattle.std.proofs.Common.{◌∙◌}
-use Rattle.ii_search.proofs.NumberLemmas.{parsed_unsigned}
+use Rattle.ii_json.proofs.ParseLemmas.{parsed_unsigned}
 use Rattle.ii_search.proofs.literal.u64_in.Goals as goal
 
 pub returns : goal.returns

@@ -1,6 +1,6 @@
 use Rattle.std.proofs.Common.{length, arith}
 use Rattle.ii_search.proofs.TopLemmas.{placed_at}
-use Rattle.ii_search.proofs.top_by_count.place_of.Goals as goal
+use Rattle.ii_search.proofs.most_frequent.place_of.Goals as goal
 
 pub returns-then-best-i-clause-place : goal.returns-then-best-i-clause-place
 returns-then-best-i-clause-place c = λ doc.

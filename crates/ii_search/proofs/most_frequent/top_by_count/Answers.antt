@@ -1,6 +1,6 @@
 use Rattle.std.proofs.Common.{◌≡◌, sym, ap, ◌∙◌, refl, arith}
 use Rattle.ii_search.proofs.TopLemmas.{AreBest, shorter, tops_all, tops_on}
-use Rattle.ii_search.proofs.top_by_count.top_by_count.Goals as goal
+use Rattle.ii_search.proofs.most_frequent.top_by_count.Goals as goal
 
 pub loop-doc-smaller : goal.loop-doc-smaller
 loop-doc-smaller c = shorter c.loop-doc.doc c.least_of-least.result c.loop-doc.cursor.rest c.seek_with_freq-doc.new.self.rest c.loop-doc.invariant.doc_is c.loop-doc-test.true c.seek_with_freq-doc.ensures.rest
