@@ -1,2 +1,3 @@
 mod IndexingLaws
 pub mod SearchingLaws
+pub mod TextLaws
