@@ -1,3 +1,4 @@
 pub mod BoundLaws
 mod IndexingLaws
 pub mod SearchingLaws
+pub mod TextLaws

@@ -12,4 +12,5 @@ pub mod opening;
 pub mod positions;
 pub mod queries;
 pub mod searching;
+pub mod texts;
 pub mod writing;

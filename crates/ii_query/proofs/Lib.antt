@@ -1,3 +1,4 @@
+pub mod AllLemmas
 pub mod MatchLaws
 pub mod NestedLemmas
 pub mod PickedLemmas

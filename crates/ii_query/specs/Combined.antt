@@ -1,5 +1,6 @@
 -- The documents of cursors that are combined.
 use Rattle.std.specs.Prelude.{◌≡◌, ℕ, Bool, if◌then◌else◌, List, [], ◌∷◌, filter, map, nat_le, not}
+use Rattle.std.specs.List.{range_with_len}
 use Rattle.ii_docset.specs.Entries.{Entry, docs_of, document}
 use Rattle.ii_docset.specs.Cursor.{doc_at, IsSound}
 use Rattle.ii_docset.specs.Intersection.{has_doc}
@@ -13,6 +14,10 @@ pub record Parts (A B : Type 0) : Type 0 where
 pub record QueryCursorState : Type 0 where
   pub rest : List Entry
   pub depth : ℕ
+
+-- so many documents, from one on
+abbrev pub all_from : ℕ → ℕ → List Entry
+all_from doc n = map document (range_with_len doc n)
 
 -- the documents of a list for which this holds
 abbrev pub picked : (ℕ → Bool) → List Entry → List Entry

@@ -1,14 +1,15 @@
 -- The documents of a cursor that is nested.
-use Rattle.std.specs.Prelude.{ℕ, ◌+◌, max, List, [], ⊤}
+use Rattle.std.specs.Prelude.{ℕ, ◌+◌, ◌-◌, max, List, [], ⊤}
 use Rattle.ii_docset.specs.Entries.{Entry}
-use Rattle.ii_query.specs.Combined.{IsAtFirst, common, either, without}
+use Rattle.ii_query.specs.Combined.{IsAtFirst, all_from, common, either, without}
 use Rattle.ii_query.specs.declared.query_cursor.QueryParts.{QueryParts}
-use Rattle.ii_query.specs.declared.query_cursor.QueryParts.TheVariants.{Nothing, One, Both, Either, Without}
+use Rattle.ii_query.specs.declared.query_cursor.QueryParts.TheVariants.{Nothing, One, All, Both, Either, Without}
 
 -- what is left, over that of the parts
 abbrev pub rest_of : {T : Type 0} → (T → List Entry) → QueryParts T → List Entry
 rest_of rest Nothing = []
 rest_of rest (One cursor) = rest cursor
+rest_of rest (All docs) = all_from docs.next (docs.end - docs.next)
 rest_of rest (Both first other) = common first.value.rest other.value.rest
 rest_of rest (Either first other) = either first.value.rest other.value.rest
 rest_of rest (Without first other) = without first.value.rest other.value.rest
@@ -17,6 +18,7 @@ rest_of rest (Without first other) = without first.value.rest other.value.rest
 abbrev pub depth_of : {T : Type 0} → QueryParts T → ℕ
 depth_of Nothing = 0
 depth_of (One cursor) = 0
+depth_of (All docs) = 0
 depth_of (Both first other) = max first.value.depth other.value.depth + 1
 depth_of (Either first other) = max first.value.depth other.value.depth + 1
 depth_of (Without first other) = max first.value.depth other.value.depth + 1
@@ -25,6 +27,7 @@ depth_of (Without first other) = max first.value.depth other.value.depth + 1
 abbrev pub AreParts : {T : Type 0} → QueryParts T → Type 0
 AreParts Nothing = ⊤
 AreParts (One cursor) = ⊤
+AreParts (All docs) = ⊤
 AreParts (Both first other) = IsAtFirst first.value.rest (common first.value.rest other.value.rest)
 AreParts (Either first other) = ⊤
 AreParts (Without first other) = IsAtFirst first.value.rest (without first.value.rest other.value.rest)

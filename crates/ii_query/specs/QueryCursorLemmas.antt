@@ -3,7 +3,7 @@ use Rattle.std.specs.Prelude.{◌≤◌, max}
 use Rattle.std.proofs.Common.{arith}
 use Rattle.ii_docset.specs.declared.docset.DocSet.{Ghosts}
 use Rattle.ii_query.specs.declared.query_cursor.QueryParts.{QueryParts}
-use Rattle.ii_query.specs.declared.query_cursor.QueryParts.TheVariants.{Nothing, One, Both, Either, Without}
+use Rattle.ii_query.specs.declared.query_cursor.QueryParts.TheVariants.{Nothing, One, All, Both, Either, Without}
 use Rattle.ii_query.specs.declared.query_cursor.QueryCursor.TheDeep.{deep-QueryParts}
 use Rattle.ii_query.specs.QueryCursor.{depth_of}
 
@@ -11,6 +11,7 @@ use Rattle.ii_query.specs.QueryCursor.{depth_of}
 pub part_depth : (T : Type 0) (t : Ghosts T) (p : QueryParts T) → max (deep-QueryParts T t p) 0 ≤ depth_of p
 part_depth T t Nothing = omega arith
 part_depth T t (One cursor) = omega arith
+part_depth T t (All docs) = omega arith
 part_depth T t (Both first other) = omega arith
 part_depth T t (Either first other) = omega arith
 part_depth T t (Without first other) = omega arith

@@ -1,11 +1,13 @@
 //! Cursors over the documents that queries match, made of other cursors.
 #![tactic(auto)]
 
+pub mod all_docs;
 pub mod exclude;
 pub mod intersection;
 pub mod query_cursor;
 pub mod union;
 
+pub use all_docs::AllDocs;
 pub use exclude::Exclude;
 pub use intersection::Intersection;
 pub use query_cursor::QueryCursor;

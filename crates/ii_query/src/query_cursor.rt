@@ -1,16 +1,17 @@
-ghost use Rattle.std.specs.Prelude.{◌≡◌, ◌≤◌, [], IfOk};
+ghost use Rattle.std.specs.Prelude.{◌≡◌, ◌≤◌, [], IfOk, min};
 ghost use Rattle.ii_io.specs.Faults.{OnlyMemory};
 ghost use Rattle.ii_docset.specs.Cursor.{doc_at, from_doc, IsSound};
-ghost use Rattle.ii_query.specs.Combined.{IsAtFirst, common, either, without};
+ghost use Rattle.ii_query.specs.Combined.{IsAtFirst, all_from, common, either, without};
 
+use crate::all_docs::AllDocs;
 use ii_base::Fault;
 use ii_docset::{DocId, DocSet, TERMINATED};
 use std::alloc::Global;
 use std::marker::Model;
 
 /// A cursor over the documents that a query matches, in ascending order. How it is nested is known when the
-/// program runs: it is over no documents, over those of one cursor, or over those that two such cursors
-/// both have, either has, or the first has and the other one hasn't.
+/// program runs: it is over no documents, over those of one cursor, over all below a number, or over those
+/// that two such cursors both have, either has, or the first has and the other one hasn't.
 #[cycle(query_cursor)]
 #[derive(Drop)]
 pub struct QueryCursor<T: DocSet> {
@@ -22,6 +23,7 @@ pub struct QueryCursor<T: DocSet> {
 enum QueryParts<T: DocSet> {
     Nothing,
     One(T),
+    All(AllDocs),
     Both(Box<QueryCursor<T>>, Box<QueryCursor<T>>),
     Either(Box<QueryCursor<T>>, Box<QueryCursor<T>>),
     Without(Box<QueryCursor<T>>, Box<QueryCursor<T>>),
@@ -62,6 +64,15 @@ impl<T: DocSet> QueryCursor<T> {
     {
         QueryCursor {
             parts: QueryParts::One(cursor),
+        }
+    }
+
+    /// All documents below a number. No document is above those below `TERMINATED`.
+    pub fn all(num_docs: DocId) -> QueryCursor<T>
+        ensures rest { result.rest ≡ all_from 0 (min num_docs TERMINATED) }
+    {
+        QueryCursor {
+            parts: QueryParts::All(AllDocs::new(num_docs)),
         }
     }
 
@@ -127,6 +138,7 @@ impl<T: DocSet> QueryCursor<T> {
         match &self.parts {
             QueryParts::Nothing => TERMINATED,
             QueryParts::One(cursor) => cursor.doc(),
+            QueryParts::All(docs) => docs.doc(),
             QueryParts::Both(first, _) => first.current(),
             QueryParts::Either(first, other) => first.current().min(other.current()),
             QueryParts::Without(first, _) => first.current(),
@@ -138,6 +150,7 @@ impl<T: DocSet> QueryCursor<T> {
         match &self.parts {
             QueryParts::Nothing => 0,
             QueryParts::One(cursor) => cursor.size_hint(),
+            QueryParts::All(docs) => docs.size_hint(),
             QueryParts::Both(first, _) => first.bound(),
             QueryParts::Either(first, other) => first.bound().saturating_add(other.bound()),
             QueryParts::Without(first, _) => first.bound(),
@@ -160,6 +173,9 @@ impl<T: DocSet> QueryCursor<T> {
             }
             QueryParts::One(cursor) => {
                 return go_on_to(cursor, target);
+            }
+            QueryParts::All(docs) => {
+                return go_on_to(docs, target);
             }
             QueryParts::Both(first, other) => {
                 first.go_to(target);

@@ -1,9 +1,9 @@
 -- What a query gives in an index that holds tokens.
-use Rattle.std.proofs.Common.{◌≡◌, ◌∙◌, ℕ, Bool, true, false, ◌&&◌, ◌||◌, ◌==◌, not, List, [], ◌∷◌, Option, None, Some, Result, Ok, Err, inl, inr, length, map, nat_eq, refl, sym, ap}
-use Rattle.std.specs.Prelude.{IsSomeAnd, MatchOption, filter, slice_get}
+use Rattle.std.proofs.Common.{◌≡◌, ◌∙◌, ℕ, Bool, true, false, ◌&&◌, ◌||◌, ◌==◌, not, List, [], ◌∷◌, Option, None, Some, Result, Ok, Err, inl, inr, length, map, nat_eq, ◌+◌, arith, refl, sym, ap}
+use Rattle.std.specs.Prelude.{IsSomeAnd, MatchOption, filter, min, nat_lt, slice_get}
 use Rattle.std.specs.List.{list_any}
 use Rattle.std.specs.Result.{result_unwrap_or}
-use Rattle.std.proofs.lemmas.Bool.{ltb-true}
+use Rattle.std.proofs.lemmas.Bool.{le-leb, ltb-true}
 use Rattle.std.proofs.lemmas.Bool.Decides.{eqb_tells}
 use Rattle.ii_io.specs.declared.faults.Fault.{Fault}
 use Rattle.ii_io.specs.declared.faults.Fault.TheVariants.{OutOfMemory}
@@ -11,10 +11,12 @@ use Rattle.ii_io.specs.declared.faults.Part.{Part}
 use Rattle.ii_base.specs.Schema.{SchemaEntry}
 use Rattle.ii_base.specs.declared.schema.index_record_option.IndexRecordOption.{IndexRecordOption}
 use Rattle.ii_base.specs.declared.schema.index_record_option.IndexRecordOption.TheVariants.{Basic}
+use Rattle.ii_docset.specs.declared.docset.TheConstants.{TERMINATED}
 use Rattle.ii_docset.specs.Cursor.{IsSound}
 use Rattle.ii_docset.specs.Entries.{Entry}
 use Rattle.ii_docset.specs.Intersection.{has_doc}
-use Rattle.ii_query.specs.Combined.{common, either, without}
+use Rattle.ii_query.specs.Combined.{all_from, common, either, without}
+use Rattle.ii_query.proofs.AllLemmas.{all_has}
 use Rattle.ii_query.proofs.MatchLaws.{common_has, either_has, without_has}
 use Rattle.ii_termdict.specs.Dictionary.{info_under}
 use Rattle.ii_termstore.specs.declared.term_info.TermInfo.{TermInfo}
@@ -26,7 +28,7 @@ use Rattle.ii_definitions.proofs.GroupedLaws.{none_occurs}
 use Rattle.ii_reader.specs.InvertedIndexReader.{InvertedIndexReaderState, IsRefusal}
 use Rattle.ii_reader.specs.OpenIndex.{FieldReaderHolds, IndexHolds, OpenIndexState}
 use Rattle.ii_reader.proofs.ReaderLemmas.{list_held}
-use Rattle.ii_search.specs.declared.query.Query.{Query, Empty, Term, And', Or', AndNot'}
+use Rattle.ii_search.specs.declared.query.Query.{Query, Empty, All, Term, And', Or', AndNot'}
 use Rattle.ii_search.specs.Found.{AreMatches, combined, docs_kept, docs_under, found_in}
 use Rattle.ii_search.specs.Queries.{has_fields, matches}
 
@@ -114,10 +116,15 @@ gives_either a b p q f g = rw (f.is, g.is) (record { es = either f.es g.es; is =
 gives_without : (a b : Result (List Entry) Part) (p q : ℕ → Bool) → Gives a p → Gives b q → Gives (combined without a b) (λ (doc : ℕ). p doc && not (q doc))
 gives_without a b p q f g = rw (f.is, g.is) (record { es = without f.es g.es; is = refl; exact = λ doc. without_has f.es g.es doc ∙ rw (f.exact doc, g.exact doc) refl })
 
+-- all documents below a number
+all_below : (n doc : ℕ) → has_doc (all_from 0 n) doc ≡ nat_lt doc n
+all_below n doc = let same : 0 + n ≡ n = omega arith in all_has 0 n doc ∙ rw (le-leb 0 doc (omega arith), same) refl
+
 -- an index that holds tokens gives the documents that match
 pub gives_matches : (entries : List SchemaEntry) (n : ℕ) (index : OpenIndexState) (ts : List IndexToken) (query : Query) → IndexHolds entries n index ts
     → has_fields (length entries) query ≡ true → Gives (found_in index query) (matches query ts)
 gives_matches entries n index ts Empty holds fields = record { es = []; is = refl; exact = λ doc. refl }
+gives_matches entries n index ts (All m) holds fields = record { es = all_from 0 (min m TERMINATED); is = refl; exact = λ doc. all_below (min m TERMINATED) doc }
 gives_matches entries n index ts (Term term) holds fields =
     gives_under entries term.field term.value ts (slice_get index.readers term.field) (holds.readers term.field (ltb-true term.field (length entries) fields))
 gives_matches entries n index ts (And' p first q other) holds fields =

@@ -1,19 +1,20 @@
 -- What a query gives in an index.
-use Rattle.std.specs.Prelude.{◌≡◌, ℕ, List, [], Option, None, Some, Result, Ok, Err, length, slice_get}
+use Rattle.std.specs.Prelude.{◌≡◌, ℕ, List, [], Option, None, Some, Result, Ok, Err, length, min, slice_get}
 use Rattle.ii_io.specs.declared.faults.Fault.{Fault}
 use Rattle.ii_io.specs.declared.faults.Fault.TheVariants.{OutOfMemory}
 use Rattle.ii_io.specs.declared.faults.Part.{Part}
 use Rattle.ii_base.specs.declared.schema.index_record_option.IndexRecordOption.TheVariants.{Basic}
+use Rattle.ii_docset.specs.declared.docset.TheConstants.{TERMINATED}
 use Rattle.ii_docset.specs.Cursor.{IsAscending}
 use Rattle.ii_docset.specs.Entries.{Entry}
 use Rattle.ii_docset.specs.Intersection.{has_doc}
-use Rattle.ii_query.specs.Combined.{QueryCursorState, common, either, without}
+use Rattle.ii_query.specs.Combined.{QueryCursorState, all_from, common, either, without}
 use Rattle.ii_termdict.specs.Dictionary.{info_under}
 use Rattle.ii_termstore.specs.declared.term_info.TermInfo.{TermInfo}
 use Rattle.ii_definitions.specs.Tokens.{IndexToken}
 use Rattle.ii_reader.specs.InvertedIndexReader.{InvertedIndexReaderState, term_of_file}
 use Rattle.ii_reader.specs.OpenIndex.{OpenIndexState}
-use Rattle.ii_search.specs.declared.query.Query.{Query, Empty, Term, And', Or', AndNot'}
+use Rattle.ii_search.specs.declared.query.Query.{Query, Empty, All, Term, And', Or', AndNot'}
 use Rattle.ii_search.specs.Queries.{matches}
 
 -- the documents of a term of which this is kept, or the first part that fails; none where nothing is kept of it
@@ -35,6 +36,7 @@ combined by (Ok es) (Ok fs) = Ok (by es fs)
 -- what a query gives over the lists that an index has, or the first part that fails
 abbrev pub found_in : OpenIndexState → Query → Result (List Entry) Part
 found_in index Empty = Ok []
+found_in index (All n) = Ok (all_from 0 (min n TERMINATED))
 found_in index (Term term) = docs_under term.value (slice_get index.readers term.field)
 found_in index (And' p first q other) = combined common (found_in index first) (found_in index other)
 found_in index (Or' p first q other) = combined either (found_in index first) (found_in index other)

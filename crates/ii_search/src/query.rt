@@ -4,7 +4,7 @@ ghost use Rattle.ii_io.specs.Faults.{OnlyMemory};
 ghost use Rattle.ii_definitions.specs.Tokens.{IndexToken};
 ghost use Rattle.ii_search.specs.Queries.{has_fields, matches};
 
-use ii_base::{Fault, Schema, Term};
+use ii_base::{DocId, Fault, Schema, Term};
 use std::alloc::Global;
 
 /// What the documents have that are searched for.
@@ -12,6 +12,9 @@ use std::alloc::Global;
 pub enum Query {
     /// No document matches.
     Empty,
+    /// Each document below a number: all of an index of so many documents. None is above those below
+    /// `TERMINATED`.
+    All(DocId),
     /// A token of the term's field whose key are the bytes of its value.
     Term(Term),
     /// What both queries want.
@@ -97,6 +100,7 @@ impl Query {
     {
         match self {
             Query::Empty => true,
+            Query::All(_) => true,
             Query::Term(term) => (term.field().field_id() as usize) < schema.num_fields(),
             Query::And(first, other) => first.has_fields(schema) && other.has_fields(schema),
             Query::Or(first, other) => first.has_fields(schema) && other.has_fields(schema),

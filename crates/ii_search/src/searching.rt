@@ -72,6 +72,7 @@ fn find(
 {
     match query {
         Query::Empty => Ok(QueryCursor::nothing()),
+        Query::All(num_docs) => Ok(QueryCursor::all(*num_docs)),
         Query::Term(term) => find_term(index, term),
         Query::And(first, other) => match find_parts(alloc, index, first, other) {
             Ok((first, other)) => QueryCursor::both(alloc, first, other),

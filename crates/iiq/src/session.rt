@@ -88,7 +88,7 @@ impl Session {
         match &self.index {
             None => Ok(String::new(alloc)),
             Some(Ok(index)) => found_text(alloc, index, query),
-            Some(Err(fault)) => error_text(alloc, *fault),
+            Some(Err(refusal)) => error_text(alloc, *refusal),
         }
     }
 

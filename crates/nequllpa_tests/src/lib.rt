@@ -14,6 +14,8 @@ mod json_tests;
 #[cfg(test)]
 mod memory_index;
 #[cfg(test)]
+mod query_text_tests;
+#[cfg(test)]
 mod ram_tests;
 #[cfg(test)]
 mod search_tests;

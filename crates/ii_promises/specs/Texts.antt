@@ -1,0 +1,14 @@
+-- What a query finds, where the errors are those of texts.
+use Rattle.std.specs.Prelude.{◌≡◌, List, Result, Ok, Err}
+use Rattle.ii_io.specs.declared.faults.Fault.TheVariants.{OutOfMemory}
+use Rattle.ii_query.specs.Combined.{QueryCursorState}
+use Rattle.ii_definitions.specs.Tokens.{IndexToken}
+use Rattle.ii_search.specs.declared.query.Query.{Query}
+use Rattle.ii_search.specs.declared.query_parser_error.QueryParserError.{QueryParserError}
+use Rattle.ii_search.specs.declared.query_parser_error.QueryParserError.TheVariants as errors
+use Rattle.ii_search.specs.Found.{AreMatches}
+
+-- A cursor has exactly the documents that match; it is refused for memory alone.
+abbrev pub GivesOrTells : Query → List IndexToken → Result QueryCursorState QueryParserError → Type 0
+GivesOrTells query ts (Ok cursor) = AreMatches query ts cursor.rest
+GivesOrTells query ts (Err e) = e ≡ errors.Fault OutOfMemory

@@ -1,0 +1,59 @@
+// What texts of queries find.
+ghost use Rattle.std.specs.Prelude.{◌≡◌, ◌⊎◌, ℕ, List, length, true, IfErr, IfOk, Some};
+ghost use Rattle.ii_base.specs.Schema.{SchemaEntry};
+ghost use Rattle.ii_docset.specs.Cursor.{IsAscending};
+ghost use Rattle.ii_docset.specs.Intersection.{has_doc};
+ghost use Rattle.ii_definitions.specs.Tokens.{IndexToken};
+ghost use Rattle.ii_reader.specs.OpenIndex.{IndexHolds};
+ghost use Rattle.ii_search.specs.Queries.{has_fields};
+ghost use Rattle.ii_search.specs.QueryTexts.{text_matches, text_refusal};
+ghost use Rattle.ii_promises.specs.Texts.{GivesOrTells};
+
+use nequllpa::{
+    Fault, Field, OpenIndex, Query, QueryCursor, QueryParserError, Schema, SegmentPostings,
+    TextAnalyzer, parse_query, search,
+};
+use std::alloc::Global;
+
+/// In an index of a schema that holds tokens, a text finds exactly the documents that it matches, in
+/// ascending order; it is refused for memory, or by what is wrong with it alone.
+#[tactic(auto, using(crate::proofs::SearchingLaws::found_ascend, crate::proofs::SearchingLaws::same_fields))]
+pub fn texts_find_what_matches<A: TextAnalyzer>(
+    alloc: Global,
+    index: &OpenIndex,
+    schema: &Schema,
+    default_fields: &[Field],
+    analyzer: &A,
+    text: &str,
+) -> Result<QueryCursor<SegmentPostings>, QueryParserError>
+    requires many { length index.now.readers ≡ length schema.now }
+    ensures ascending { IfOk result (λ cursor. IsAscending cursor.rest) }
+    ensures found { (num_docs : ℕ) (tokens : List IndexToken) → IndexHolds schema.now num_docs index.now tokens
+        → IfOk result (λ cursor. (doc : ℕ) → has_doc cursor.rest doc
+        ≡ text_matches (record { texts = record { analyze = A.words analyzer.now; entries = schema.now }; defaults = default_fields.now }) text.now tokens doc) }
+    ensures refused { (num_docs : ℕ) (tokens : List IndexToken) → IndexHolds schema.now num_docs index.now tokens
+        → IfErr result (λ e. (e ≡ QueryParserError.Fault Fault.OutOfMemory)
+        ⊎ (text_refusal (record { texts = record { analyze = A.words analyzer.now; entries = schema.now }; defaults = default_fields.now }) text.now ≡ Some e)) }
+{
+    match parse_query(alloc, schema, default_fields, analyzer, text) {
+        Ok(query) => searched(alloc, index, &query),
+        Err(error) => Err(error),
+    }
+}
+
+// What a query finds.
+fn searched(
+    alloc: Global,
+    index: &OpenIndex,
+    query: &Query,
+) -> Result<QueryCursor<SegmentPostings>, QueryParserError>
+    requires { has_fields (length index.now.readers) query.now ≡ true }
+    ensures ascending { IfOk result (λ cursor. IsAscending cursor.rest) }
+    ensures gives { (schema : List SchemaEntry) (num_docs : ℕ) (tokens : List IndexToken) → IndexHolds schema num_docs index.now tokens
+        → has_fields (length schema) query.now ≡ true → GivesOrTells query.now tokens result }
+{
+    match search(alloc, index, query) {
+        Ok(cursor) => Ok(cursor),
+        Err(fault) => Err(QueryParserError::Fault(fault)),
+    }
+}
