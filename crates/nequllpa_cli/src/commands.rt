@@ -6,8 +6,8 @@ use ii_base::{Field, Term};
 use ii_search::Query;
 use ii_store::{Folder, Kind, StoreFault, StoredIndex, load};
 use nequllpa_folder::{
-    AnswerFault, Checked, Found, Opened, TermChoice, check, term_of, write_fields,
-    write_found, write_postings, write_stats, write_terms,
+    AnswerFault, Checked, Found, Opened, TermChoice, check, term_of, write_fields, write_found,
+    write_postings, write_stats, write_terms,
 };
 use std::fmt::Display;
 use std::io::{self, BufWriter, Write};
@@ -335,7 +335,11 @@ pub fn refuse<F: Display + Drop>(rt: &HostRuntime, fault: F) -> anyhow::Result<u
 }
 
 /// The same of a file or a folder.
-pub fn refuse_path<F: Display + Drop>(rt: &HostRuntime, path: &str, fault: F) -> anyhow::Result<u8> {
+pub fn refuse_path<F: Display + Drop>(
+    rt: &HostRuntime,
+    path: &str,
+    fault: F,
+) -> anyhow::Result<u8> {
     eprintln!(rt; "nequllpa: {path}: {fault}")?;
     Ok(REFUSED)
 }

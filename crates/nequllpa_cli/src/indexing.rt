@@ -58,11 +58,7 @@ pub fn answer_index(
 }
 
 // The schema of a text.
-fn schema_of(
-    rt: &HostRuntime,
-    path: &str,
-    text: &[u8],
-) -> anyhow::Result<Result<Schema, u8>> {
+fn schema_of(rt: &HostRuntime, path: &str, text: &[u8]) -> anyhow::Result<Result<Schema, u8>> {
     let Ok(text) = std::str::from_utf8(text) else {
         return Ok(Err(refuse_path(rt, path, "not UTF-8")?));
     };
@@ -129,7 +125,7 @@ impl Intake {
         line: &[u8],
     ) -> anyhow::Result<Result<(), u8>> {
         self.bytes = self.bytes.saturating_add(line.len() as u64);
-        if self.bytes - self.told >= STEP {
+        if self.bytes.saturating_sub(self.told) >= STEP {
             self.told = self.bytes;
             self.tell(rt)?;
         }
@@ -183,7 +179,9 @@ impl Intake {
         let rate = self.bytes as u128 / millis;
         eprintln!(rt;
             "nequllpa: {num_docs} documents, {} MB, {}.{} MB/s",
-            self.bytes / 1_000_000, rate / 1000, rate % 1000 / 100
+            self.bytes / 1_000_000,
+            rate / 1000,
+            rate % 1000 / 100
         )?;
         Ok(())
     }
@@ -215,7 +213,10 @@ fn save_index(
         return Ok(ExitCode::from(refuse_path(rt, path, fault)?));
     }
     if bad_lines > 0 {
-        println!(rt; "{} documents indexed, {bad_lines} lines left out", stored.num_docs)?;
+        println!(rt;
+            "{} documents indexed, {bad_lines} lines left out",
+            stored.num_docs
+        )?;
     } else {
         println!(rt; "{} documents indexed", stored.num_docs)?;
     }

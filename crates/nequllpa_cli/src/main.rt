@@ -5,7 +5,9 @@ mod commands;
 mod indexing;
 mod usage;
 
-use commands::{answer_check, answer_fields, answer_postings, answer_search, answer_stats, answer_terms};
+use commands::{
+    answer_check, answer_fields, answer_postings, answer_search, answer_stats, answer_terms,
+};
 use indexing::answer_index;
 use std::process::ExitCode;
 
