@@ -1,25 +1,28 @@
-//! Indexes three texts in memory and prints where a word stands: a program of your own looks like this.
+//! Indexes three texts in memory and searches them: a program of your own looks like this.
 #![tactic(auto)]
 
+mod places;
 mod texts;
 
-use nequllpa::{DocSet, Field, Postings, TERMINATED, Term};
+use nequllpa::{AsciiTokenizer, DocSet, Field, TERMINATED, parse_query, search};
 
 fn main(rt: HostRuntime) -> anyhow::Result<()> {
-    let index = texts::indexed(rt.alloc())?;
-    let term = Term::from_field_text(rt.alloc(), Field::from_field_id(0), "the")?;
-    let reader = index.reader(term.field());
-    let Some(mut cursor) = reader.read_postings(&term, reader.record_option())? else {
-        return Ok(());
-    };
-    let mut positions = Vec::new(rt.alloc());
-    for _ in 0..cursor.doc_freq() {
-        if cursor.doc() >= TERMINATED {
+    let (schema, index) = texts::indexed(rt.alloc())?;
+    places::print(&rt, &index)?;
+    let body = [Field::from_field_id(0)];
+    let query = parse_query(rt.alloc(), &schema, &body, &AsciiTokenizer, "the -bird")?;
+    let mut found = search(rt.alloc(), &index, &query)?;
+    print_all(&rt, &mut found)
+}
+
+// Prints the documents that were found.
+fn print_all<D: DocSet>(rt: &HostRuntime, found: &mut D) -> anyhow::Result<()> {
+    for _ in 0..found.size_hint() {
+        if found.doc() >= TERMINATED {
             return Ok(());
         }
-        cursor.positions(&mut positions)?;
-        println!(rt; "{} at {:?}", cursor.doc(), positions)?;
-        cursor.advance();
+        println!(rt; "document {}", found.doc())?;
+        found.advance();
     }
     Ok(())
 }

@@ -1,5 +1,5 @@
 // Three texts, in a field with positions and norms.
-ghost use Rattle.std.specs.Prelude.{◌<◌, length, IfOk};
+ghost use Rattle.std.specs.Prelude.{◌≡◌, ◌<◌, length, IfOk};
 
 use anyhow::Result;
 use nequllpa::{
@@ -8,9 +8,10 @@ use nequllpa::{
 };
 use std::alloc::Global;
 
-// The index of the texts, in the order of their documents.
-pub(crate) fn indexed(alloc: Global) -> Result<OpenIndex>
-    ensures { IfOk result (λ index. 0 < length index.readers) }
+// The fields, and the index of the texts in the order of their documents.
+pub(crate) fn indexed(alloc: Global) -> Result<(Schema, OpenIndex)>
+    ensures some { IfOk result (λ both. 0 < length both.1.readers) }
+    ensures fields { IfOk result (λ both. length both.1.readers ≡ length both.0) }
 {
     let mut entries = Vec::new(alloc);
     let name = String::from_str(alloc, "body")?;
@@ -25,5 +26,7 @@ pub(crate) fn indexed(alloc: Global) -> Result<OpenIndex>
     let text = String::from_str(alloc, "the end, the very end")?;
     calls.push(IndexCall::Text(2, body, text))?;
     let schema = Schema::new(entries);
-    Ok(index_in_ram(alloc, schema, 3, calls, &AsciiTokenizer)?)
+    let fields = schema.clone()?;
+    let index = index_in_ram(alloc, schema, 3, calls, &AsciiTokenizer)?;
+    Ok((fields, index))
 }

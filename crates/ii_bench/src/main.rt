@@ -4,6 +4,7 @@
 
 mod ascending_terms;
 mod blocks;
+mod costly;
 mod dictionaries;
 mod indexes;
 mod lists;
@@ -21,5 +22,6 @@ fn main(rt: HostRuntime) -> Result<()> {
     blocks::measure(&rt)?;
     lists::measure(&rt)?;
     dictionaries::measure(&rt)?;
+    costly::measure(&rt)?;
     indexes::measure(&rt)
 }

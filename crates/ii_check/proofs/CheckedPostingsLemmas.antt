@@ -21,7 +21,7 @@ use Rattle.ii_layout.specs.Written.{block_of}
 use Rattle.ii_layout.specs.Frequencies.{freqs_at, has_freqs, freqs_if}
 use Rattle.ii_layout.specs.Postings.{Postings, postings}
 use Rattle.ii_layout.proofs.DocumentLemmas.{documents_ascend, length-documents_at, rest_of_documents}
-use Rattle.ii_layout.proofs.FrequencyLemmas.{freqs_fit, freqs_before, rest_of_freqs}
+use Rattle.ii_layout.proofs.FrequencyLemmas.{freqs_fit, freqs_before, block_of_freqs, rest_of_freqs}
 use Rattle.ii_check.specs.declared.freq_reading_option.FreqReadingOption.{FreqReadingOption}
 use Rattle.ii_check.specs.FreqReading.{reading_by, reading_of_none, freq_reading_of}
 use Rattle.ii_check.specs.Check.{HoldsRow}
@@ -242,12 +242,14 @@ has_documents p g =
     record {
       ascending = documents_ascend skip n p.postings.docs p.postings.after g.documents;
       many = omega arith;
+      entries = g.entries;
       freqs = λ fs e.
           let fit = freqs_fit skip n p.postings.after fs (g.freqs fs e) in
           let many = fit.many in
           record { many = omega arith; low = fit.low };
       read = g.read;
       sums = λ fs e has i within. freqs_before skip n i p.postings.after fs (g.freqs fs e) (ap has_positions (g.shape (ap is_some e)) ∙ has) (omega arith);
+      bounds = λ fs e i within. (block_of_freqs skip n i p.postings.after fs (g.freqs fs e) (omega arith)).bound_is;
     }
 
 -- the decoders that are left of the check of a short list

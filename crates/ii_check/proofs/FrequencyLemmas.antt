@@ -1,9 +1,7 @@
 -- Laws of the whole check of a term's counts.
-use Rattle.std.proofs.Common.{◌≡◌, ℕ, suc, ◌+◌, ◌*◌, ◌/◌, ◌<◌, Bool, true, false, List, [], ◌∷◌, ◌++◌, length, drop, Option, Some, None, nat_lt, refl, sym, ap, ◌∙◌, arith, is_some, eqb}
-use Rattle.std.specs.List.{concat, sum}
+use Rattle.std.proofs.Common.{◌≡◌, ℕ, suc, ◌+◌, ◌*◌, ◌/◌, ◌<◌, Bool, true, false, List, [], ◌∷◌, ◌++◌, length, drop, Option, Some, None, nat_lt, refl, sym, ap, ◌∙◌, arith, is_some}
+use Rattle.std.specs.List.{concat}
 use Rattle.ii_base.specs.declared.schema.index_record_option.IndexRecordOption.{IndexRecordOption}
-use Rattle.ii_base.specs.declared.schema.index_record_option.IndexRecordOption.TheVariants.{Basic, WithFreqs, WithFreqsAndPositions}
-use Rattle.ii_base.specs.Options.{has_positions}
 use Rattle.ii_io.specs.Steps.{◌>>=◌, needs}
 use Rattle.ii_io.specs.Vints.{u32s_at}
 use Rattle.ii_codes.specs.Blocks.{unsorted_block_at}
@@ -11,7 +9,7 @@ use Rattle.ii_layout.specs.Each.{each}
 use Rattle.ii_layout.specs.declared.skip.BlockInfo.TheVariants.{BitPacked}
 use Rattle.ii_layout.specs.SkipList.{SkipList, block_place}
 use Rattle.ii_layout.specs.SkipReader.{SkipReaderState, reader_at}
-use Rattle.ii_layout.specs.Frequencies.{has_sum, block_freqs, freqs_at}
+use Rattle.ii_layout.specs.Frequencies.{bounds_counts, has_sum, block_freqs, freqs_at}
 use Rattle.ii_layout.proofs.PositionLemmas.{each_none}
 use Rattle.ii_layout.proofs.SkipReaderLemmas.{at_full_block}
 use Rattle.ii_check.specs.Check.{block_freqs_in}
@@ -57,16 +55,15 @@ freqs_all skip i n after end c =
     let read : each (block_freqs skip) (length skip.entries) ≡ Some c.0 = ap (each (block_freqs skip)) (sym end) ∙ c.1 in
     rw read (rest_cases c.0 (u32s_at n after))
 
-pub some_sum : (skip_info : IndexRecordOption) (tf_sum : ℕ) (freqs : List ℕ) → has_positions skip_info ≡ true → has_sum skip_info tf_sum freqs ≡ eqb (sum freqs) tf_sum
-some_sum Basic tf_sum freqs e = absurd (cc)
-some_sum WithFreqs tf_sum freqs e = absurd (cc)
-some_sum WithFreqsAndPositions tf_sum freqs e = refl
+bound_cases : (t : Bool) (freqs : List ℕ) → t ≡ is_some (needs t >>= λ _. Some freqs)
+bound_cases true freqs = refl
+bound_cases false freqs = refl
 
-sum_cases : (t : Bool) (freqs : List ℕ) → t ≡ is_some (needs t >>= λ _. Some freqs)
-sum_cases true freqs = refl
-sum_cases false freqs = refl
+-- A block whose counts were read isn't there where its sum is wrong; else it is where they are bounded.
+pub block_refused : (skip_info : IndexRecordOption) (w f tf_sum norm tf : ℕ) (s : Bool) (bytes freqs rest : List ℕ) → Some (freqs, rest) ≡ unsorted_block_at s f (drop (16 * w) bytes)
+    → has_sum skip_info tf_sum freqs ≡ false → false ≡ is_some (block_freqs_in skip_info (BitPacked w s f tf_sum norm tf) bytes)
+block_refused skip_info w f tf_sum norm tf s bytes freqs rest read sum = rw (← read, sum) refl
 
--- a block whose counts were read is there where its sum is right
-pub block_there : (skip_info : IndexRecordOption) (w f tf_sum norm tf : ℕ) (s t : Bool) (bytes freqs rest : List ℕ) → Some (freqs, rest) ≡ unsorted_block_at s f (drop (16 * w) bytes) → has_sum skip_info tf_sum freqs ≡ t
-    → t ≡ is_some (block_freqs_in skip_info (BitPacked w s f tf_sum norm tf) bytes)
-block_there skip_info w f tf_sum norm tf s t bytes freqs rest read sum = rw (← read, sum) (sum_cases t freqs)
+pub block_there : (skip_info : IndexRecordOption) (w f tf_sum norm tf : ℕ) (s t : Bool) (bytes freqs rest : List ℕ) → Some (freqs, rest) ≡ unsorted_block_at s f (drop (16 * w) bytes)
+    → has_sum skip_info tf_sum freqs ≡ true → bounds_counts tf freqs ≡ t → t ≡ is_some (block_freqs_in skip_info (BitPacked w s f tf_sum norm tf) bytes)
+block_there skip_info w f tf_sum norm tf s t bytes freqs rest read sum bound = rw (← read, sum, bound) (bound_cases t freqs)

@@ -1,5 +1,5 @@
 -- What the check asks of the bytes of one block, and what a decoder holds of a row.
-use Rattle.std.specs.Prelude.{◌≡◌, ℕ, ◌+◌, ◌-◌, ◌*◌, Bool, false, ◌&&◌, ◌==◌, List, length, take, drop, replicate, slice_index, Option, Some, None}
+use Rattle.std.specs.Prelude.{◌≡◌, ℕ, ◌+◌, ◌-◌, ◌*◌, Bool, false, not, nat_lt, ◌&&◌, ◌==◌, List, length, take, drop, replicate, slice_index, Option, Some, None}
 use Rattle.ii_io.specs.Steps.{◌>>=◌, needs}
 use Rattle.ii_io.specs.Vints.{u32s_at}
 use Rattle.ii_base.specs.declared.schema.index_record_option.IndexRecordOption.{IndexRecordOption}
@@ -9,7 +9,7 @@ use Rattle.ii_codes.specs.BlockDecoder.{BlockDecoderState, decodes_of}
 use Rattle.ii_codes.specs.SortedVints.{sorted_vints_at}
 use Rattle.ii_layout.specs.declared.skip.BlockInfo.{BlockInfo}
 use Rattle.ii_layout.specs.declared.skip.BlockInfo.TheVariants.{BitPacked, VInt}
-use Rattle.ii_layout.specs.Frequencies.{has_sum}
+use Rattle.ii_layout.specs.Frequencies.{bounds_counts, has_sum}
 use Rattle.ii_layout.specs.SkipList.{SkipList, entries_at}
 
 -- the skip list whose entries are at the front of these bytes, and its body
@@ -44,13 +44,19 @@ abbrev pub freqs_in : BlockInfo → List ℕ → Option (List ℕ × List ℕ)
 freqs_in (BitPacked doc_num_bits strict_delta tf_num_bits tf_sum norm term_freq) bytes = unsorted_block_at strict_delta tf_num_bits bytes
 freqs_in (VInt n) bytes = u32s_at n bytes
 
--- the counts of a full block, whose sum is the one told
+-- the counts of a full block, whose sum is the one told, and which the bound told bounds
 abbrev pub block_freqs_in : IndexRecordOption → BlockInfo → List ℕ → Option (List ℕ)
 block_freqs_in skip_info (BitPacked doc_num_bits strict_delta tf_num_bits tf_sum norm term_freq) bytes = do
   found ← unsorted_block_at strict_delta tf_num_bits (drop (16 * doc_num_bits) bytes)
   _ ← needs (has_sum skip_info tf_sum found.0)
+  _ ← needs (bounds_counts term_freq found.0)
   Some found.0
 block_freqs_in skip_info (VInt n) bytes = None
+
+-- whether what the skip list tells of a block excludes counts of so many
+abbrev pub excludes_in : ℕ → BlockInfo → Bool
+excludes_in least (BitPacked doc_num_bits strict_delta tf_num_bits tf_sum norm term_freq) = not (term_freq == 0) && nat_lt term_freq least
+excludes_in least (VInt n) = false
 
 -- how many documents a block that isn't full has
 abbrev pub num_vints : BlockInfo → ℕ

@@ -1,5 +1,5 @@
 -- Postings that were checked, and what lends their blocks.
-use Rattle.std.specs.Prelude.{◌≡◌, ℕ, ◌+◌, ◌-◌, ◌*◌, ◌/◌, ◌%◌, ◌<◌, ◌≤◌, max, slice_index, Bool, true, false, List, [], take, drop, length, replicate, Option, Some, None, is_some, Ok}
+use Rattle.std.specs.Prelude.{◌≡◌, ℕ, ◌+◌, ◌-◌, ◌*◌, ◌/◌, ◌%◌, ◌<◌, ◌≤◌, max, slice_index, nat_lt, ◌==◌, Bool, true, false, not, ◌&&◌, ◌||◌, List, [], take, drop, length, replicate, Option, Some, None, is_some, Ok}
 use Rattle.std.specs.List.{sum}
 use Rattle.std.specs.Result.{result_unwrap_or}
 use Rattle.ii_base.specs.declared.schema.index_record_option.IndexRecordOption.{IndexRecordOption}
@@ -10,9 +10,9 @@ use Rattle.ii_docset.specs.Entries.{are_documents}
 use Rattle.ii_codes.specs.BlockDecoder.{BlockDecoderState, decodes_of}
 use Rattle.ii_codes.specs.Sums.{fit_u32}
 use Rattle.ii_layout.specs.SkipList.{IsSplit, entry_size, entries_at, tf_sum_before}
-use Rattle.ii_layout.specs.SkipReader.{SkipReaderState, reader_at}
-use Rattle.ii_layout.specs.Documents.{documents_at}
-use Rattle.ii_layout.specs.Frequencies.{freqs_at}
+use Rattle.ii_layout.specs.SkipReader.{SkipReaderState, max_tf_of_code, reader_at}
+use Rattle.ii_layout.specs.Documents.{documents_at, skip_entry}
+use Rattle.ii_layout.specs.Frequencies.{bounds_counts, freqs_at}
 use Rattle.ii_layout.specs.Postings.{Postings, postings}
 use Rattle.ii_layout.specs.Written.{block_of}
 use Rattle.ii_check.specs.declared.freq_reading_option.FreqReadingOption.{FreqReadingOption}
@@ -60,13 +60,15 @@ pub record AreReadFreqs (doc_freq : ℕ) (freqs : List ℕ) : Type 0 where
   pub many : length freqs ≡ doc_freq
   pub low : fit_u32 freqs ≡ true
 
--- The documents ascend, and are as many as the term is in; so are the counts, where they are read, and where the field records positions the entries have their sums.
+-- The documents ascend, and are as many as the term is in, and there is an entry for each full block; so are the counts, where they are read, where the field records positions the entries have their sums, and the entries bound them.
 pub record HasDocuments (p : CheckedPostingsState) : Type 0 where
   pub ascending : are_documents p.postings.docs ≡ true
   pub many : length p.postings.docs ≡ p.doc_freq
+  pub entries : length p.postings.skip.entries ≡ p.doc_freq / 128
   pub freqs : (fs : List ℕ) → p.postings.freqs ≡ Some fs → AreReadFreqs p.doc_freq fs
   pub read : is_some p.postings.freqs ≡ is_read p.freq_reading
   pub sums : (fs : List ℕ) → p.postings.freqs ≡ Some fs → has_positions p.recorded ≡ true → (i : ℕ) → i ≤ p.doc_freq / 128 → tf_sum_before p.postings.skip.entries i ≡ sum (take (128 * i) fs)
+  pub bounds : (fs : List ℕ) → p.postings.freqs ≡ Some fs → (i : ℕ) → i < p.doc_freq / 128 → bounds_counts (max_tf_of_code (skip_entry p.postings.skip.entries i).block_wand_term_freq) (block_of fs i) ≡ true
 
 -- a decoder that decoded nothing yet
 abbrev pub new_decoder : ℕ → BlockDecoderState
@@ -119,3 +121,18 @@ pub record SeeksBlock (target : ℕ) (docs : List ℕ) (i k : ℕ) : Type 0 wher
   pub within : k ≤ max i (length docs / 128)
   pub passed : (j : ℕ) → i ≤ j → j < k → slice_index docs (128 * j + 127) < target
   pub found : k < length docs / 128 → target ≤ slice_index docs (128 * k + 127)
+
+-- whether a bound says that no count of a block is so great
+abbrev pub excludes : ℕ → ℕ → Bool
+excludes least bound = not (bound == 0) && nat_lt bound least
+
+-- whether block j ends below a target, or has no count of so many, as its entry says
+abbrev pub is_passed : ℕ → ℕ → Postings → ℕ → Bool
+is_passed target least p j = nat_lt (slice_index p.docs (128 * j + 127)) target || excludes least (max_tf_of_code (skip_entry p.skip.entries j).block_wand_term_freq)
+
+-- A seek by count went from block i of a list to block k behind it: past blocks that are passed, to the first one that isn't or to the documents after the full blocks.
+pub record SeeksFreq (target least : ℕ) (p : Postings) (i k : ℕ) : Type 0 where
+  pub behind : i < k
+  pub within : k ≤ length p.docs / 128
+  pub passed : (j : ℕ) → i < j → j < k → is_passed target least p j ≡ true
+  pub found : k < length p.docs / 128 → is_passed target least p k ≡ false

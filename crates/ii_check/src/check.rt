@@ -9,7 +9,7 @@ ghost use Rattle.ii_docset.specs.Entries.{ascend_from};
 ghost use Rattle.ii_codes.specs.Blocks.{least_first, sorted_block_at};
 ghost use Rattle.ii_codes.specs.SortedVints.{sorted_vints_at};
 ghost use Rattle.ii_layout.specs.Documents.{documents_at};
-ghost use Rattle.ii_layout.specs.Frequencies.{freqs_at};
+ghost use Rattle.ii_layout.specs.Frequencies.{bounds_counts, freqs_at, has_sum};
 ghost use Rattle.ii_layout.specs.Postings.{postings};
 ghost use Rattle.ii_layout.specs.SkipList.{entry_size};
 ghost use Rattle.ii_check.specs.Check.{HoldsRow, after_rest, block_fits, block_freqs_in, fits_by, skip_list_of};
@@ -227,7 +227,7 @@ pub(crate) fn freq_reading_option(
 }
 
 // Whether the counts of a term are there: those of each full block after its documents, with the sum
-// that its entry tells, and the others after the last documents. The last counts are then left in
+// and the bound that its entry tells, and the others after the last documents. The last counts are then left in
 // the decoder.
 fn has_freqs(
     decoder: &mut BlockDecoder,
@@ -253,7 +253,8 @@ fn has_freqs(
     are_rest_freqs(decoder, doc_freq % COMPRESSION_BLOCK_SIZE as u32, after)
 }
 
-// Whether the counts of a full block are there, after the documents that bytes begin with.
+// Whether the counts of a full block are there, after the documents that bytes begin with, with the sum
+// and the bound that are told.
 fn are_block_freqs(
     decoder: &mut BlockDecoder,
     skip_info: IndexRecordOption,
@@ -267,6 +268,7 @@ fn are_block_freqs(
         strict_delta_encoded,
         tf_num_bits,
         tf_sum,
+        block_wand_term_freq,
         ..
     } = block_info
     else {
@@ -277,10 +279,38 @@ fn are_block_freqs(
     else {
         return false;
     };
-    if !skip_info.has_positions() {
+    let freqs = decoder.output_array();
+    if !has_sum(skip_info, tf_sum, freqs) {
+        return false;
+    }
+    are_bounded(block_wand_term_freq, freqs)
+}
+
+// Whether counts have the sum that is told, where there is one.
+fn has_sum(skip_info: IndexRecordOption, tf_sum: u32, freqs: &[u32]) -> bool
+    requires { length freqs.now ≤ 128 }
+    ensures { result ≡ has_sum skip_info tf_sum freqs.now }
+{
+    match skip_info {
+        IndexRecordOption::Basic => true,
+        IndexRecordOption::WithFreqs => true,
+        IndexRecordOption::WithFreqsAndPositions => sum_of(freqs) == u64::from(tf_sum),
+    }
+}
+
+// Whether no count is above a bound, of which 0 says nothing.
+fn are_bounded(bound: u32, freqs: &[u32]) -> bool
+    ensures { result ≡ bounds_counts bound freqs.now }
+{
+    if bound == 0 {
         return true;
     }
-    sum_of(decoder.output_array()) == u64::from(tf_sum)
+    for freq in freqs {
+        if *freq > bound {
+            return false;
+        }
+    }
+    true
 }
 
 // Whether bytes begin with so many counts. The decoder then holds them.

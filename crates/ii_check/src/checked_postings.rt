@@ -3,18 +3,18 @@ ghost use Rattle.std.specs.List.{sum, list_all};
 ghost use Rattle.ii_io.specs.Faults.{OnlyMemory};
 ghost use Rattle.ii_io.specs.Parts.{part_of};
 ghost use Rattle.ii_docset.specs.declared.docset.TheConstants.{TERMINATED};
-ghost use Rattle.ii_base.specs.Options.{downgrade, has_positions};
+ghost use Rattle.ii_base.specs.Options.{downgrade, has_freq, has_positions};
 ghost use Rattle.ii_codes.specs.Sums.{fit_u32};
 ghost use Rattle.ii_layout.specs.Positions.{positions_of};
 ghost use Rattle.ii_layout.specs.Postings.{postings};
 ghost use Rattle.ii_layout.specs.TermList.{deltas_if};
 ghost use Rattle.ii_check.specs.Positions.{deltas_read};
-ghost use Rattle.ii_check.specs.CheckedPostings.{AreGiven, AreLastFreqs, HasDocuments, IsAtBlock, IsSkipData, LoadsBlock, SeeksBlock, new_decoder};
+ghost use Rattle.ii_check.specs.CheckedPostings.{AreGiven, AreLastFreqs, HasDocuments, IsAtBlock, IsSkipData, LoadsBlock, SeeksBlock, SeeksFreq, new_decoder};
 ghost use Rattle.ii_check.specs.FreqReading.{freq_reading_of, reading_of_none};
 
 use super::check::{check_postings, freq_reading_option};
 use super::freq_reading_option::FreqReadingOption;
-use super::load::{NO_FREQ, decode_docs, decode_freqs};
+use super::load::{NO_FREQ, decode_docs, decode_freqs, is_passed};
 use super::positions::end_of_positions;
 use bytes::Bytes;
 use ii_base::{Fault, IndexRecordOption, LayoutFault, Part};
@@ -109,6 +109,7 @@ impl CheckedPostings {
         ensures doc_freq { result.doc_freq ≡ 0 }
         ensures documents { result.postings.docs ≡ [] }
         ensures freqs { result.postings.freqs ≡ None }
+        ensures entries { result.postings.skip.entries ≡ [] }
         ensures reading { result.freq_reading ≡ reading_of_none record_option requested_option }
         ensures has { HasDocuments result }
     {
@@ -185,6 +186,13 @@ impl CheckedPostings {
         self.freq_reading_option
     }
 
+    /// Whether the term has counts, or would have some if it was in 128 documents.
+    pub fn has_freq(&self) -> bool
+        ensures { result ≡ has_freq self.now.postings.skip.skip_info }
+    {
+        self.places.skip_info.has_freq()
+    }
+
     /// A skip reader at the first block.
     pub fn skip_reader(&self) -> SkipReader
         ensures at { IsAtBlock self.now result }
@@ -212,6 +220,24 @@ impl CheckedPostings {
         ensures moved { result ≡ nat_lt skip.old.block skip.new.block }
     {
         skip.seek(self.skip_data(), target)
+    }
+
+    /// Goes on to the first block behind the current one, which is full, that neither ends below `target`
+    /// nor has only counts below `least`, as its bound says; or else to the documents after the full
+    /// blocks.
+    pub fn seek_with_freq(&self, skip: &mut SkipReader, target: DocId, least: u32)
+        requires at { IsAtBlock self.now skip.old }
+        requires full { skip.old.block < self.now.doc_freq / 128 }
+        requires up_to { target ≤ TERMINATED }
+        ensures at { IsAtBlock self.now skip.new }
+        ensures seeks { SeeksFreq target least self.now.postings skip.old.block skip.new.block }
+    {
+        // that each entry tells of its block, for the proof
+        let _entries = self.skip_data();
+        self.advance(skip);
+        while is_passed(skip, target, least) {
+            self.advance(skip);
+        }
     }
 
     /// A reader of the positions that `bytes` hold, where both options have them, counts are read and

@@ -1,11 +1,12 @@
-ghost use Rattle.std.specs.Prelude.{◌≡◌, ◌≤◌, drop, Some, IsSome};
+ghost use Rattle.std.specs.Prelude.{◌≡◌, ◌≤◌, ◌||◌, drop, nat_lt, Some, IsSome};
 ghost use Rattle.std.specs.Option.{option_map};
 ghost use Rattle.ii_docset.specs.declared.docset.TheConstants.{TERMINATED};
-ghost use Rattle.ii_check.specs.Check.{HoldsRow, docs_in, freqs_in, num_vints};
+ghost use Rattle.ii_check.specs.Check.{HoldsRow, docs_in, excludes_in, freqs_in, num_vints};
+ghost use Rattle.ii_check.specs.CheckedPostings.{excludes};
 
 use ii_codes::{BlockDecoder, VIntDecoder};
 use ii_docset::{DocId, TERMINATED};
-use ii_layout::BlockInfo;
+use ii_layout::{BlockInfo, SkipReader};
 
 /// What stands in a decoder after the counts of a block, or in place of counts that aren't read.
 pub const NO_FREQ: u32 = 1;
@@ -55,4 +56,31 @@ pub(crate) fn decode_freqs(decoder: &mut BlockDecoder, block_info: BlockInfo, by
             decoder.uncompress_vint_unsorted(bytes, num_docs as usize, NO_FREQ);
         }
     }
+}
+
+/// Whether the block at which a skip reader stands ends below `target`, or its bound says that each of its
+/// counts is below `least`.
+pub(crate) fn is_passed(skip: &SkipReader, target: DocId, least: u32) -> bool
+    ensures { result ≡ (nat_lt skip.now.last_doc_in_block target || excludes_in least skip.now.block_info) }
+{
+    if skip.last_doc_in_block() < target {
+        return true;
+    }
+    match skip.block_info() {
+        BlockInfo::BitPacked {
+            block_wand_term_freq,
+            ..
+        } => excludes(block_wand_term_freq, least),
+        BlockInfo::VInt { .. } => false,
+    }
+}
+
+// Whether a bound, of which 0 says nothing, is below a count.
+fn excludes(bound: u32, least: u32) -> bool
+    ensures { result ≡ excludes least bound }
+{
+    if bound == 0 {
+        return false;
+    }
+    bound < least
 }

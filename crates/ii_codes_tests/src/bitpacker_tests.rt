@@ -1,6 +1,10 @@
 use ii_codes::{BitPacker, compute_num_bits, extract_bits};
-use ii_io::CountingWriter;
+use ii_io::{CountingWriter, FailingWriter, Fault};
+use std::alloc::Global;
 use std::test::Fail;
+
+// 321, 2 and 51, of 9, 2 and 6 bits.
+const PACKED: [u8; 3] = [0x41, 0x9D, 0x01];
 
 #[test]
 fn packs_and_extracts(rt: HostRuntime) -> Result<(), Fail> {
@@ -11,7 +15,7 @@ fn packs_and_extracts(rt: HostRuntime) -> Result<(), Fail> {
     packer.write(51, compute_num_bits(51), &mut output)?;
     packer.close(&mut output)?;
     let bytes = output.finish();
-    assert!(rt; bytes.as_slice() == [0x41, 0x9D, 0x01].as_slice());
+    assert!(rt; bytes.as_slice() == PACKED.as_slice());
     assert!(rt; bytes.len() == 3);
     assert!(rt; extract_bits(&bytes, 0, 9) == 321);
     assert!(rt; extract_bits(&bytes, 9, 2) == 2);
@@ -46,4 +50,34 @@ fn extracts_up_to_56_bits(rt: HostRuntime) {
             compute_num_bits(u64::MAX)
         ) == (0, 1, 64)
     );
+}
+
+// Packs the numbers into a writer that fails at a call, up to the first fault.
+fn pack(output: &mut CountingWriter<FailingWriter>) -> Result<(), Fault> {
+    let mut packer = BitPacker::new();
+    packer.write(321, 9, output)?;
+    packer.write(2, 2, output)?;
+    packer.write(51, 6, output)?;
+    packer.close(output)
+}
+
+// How that ends, and whether a beginning of the bytes was written.
+fn packed_until(alloc: Global, failing_call: u64) -> (Result<(), Fault>, bool, u64) {
+    let mut output = CountingWriter::wrap(FailingWriter::new(alloc, failing_call));
+    let answer = pack(&mut output);
+    let failed_calls = output.failed_calls();
+    let begun = PACKED.starts_with(output.finish().bytes());
+    (answer, begun, failed_calls)
+}
+
+#[test]
+fn a_failing_writer_is_told(rt: HostRuntime) {
+    // a write for each of the three bytes
+    for call in 1..4 {
+        assert!(rt;
+            packed_until(rt.alloc(), call) == (Err(Fault::Write), true, 1),
+            "call {call}"
+        );
+    }
+    assert!(rt; packed_until(rt.alloc(), 5) == (Ok(()), true, 0));
 }

@@ -1,14 +1,13 @@
 -- The type in a JSON key.
-use Rattle.std.proofs.Common.{true≢false, ◌≡◌, ℕ, suc, ◌+◌, Bool, true, false, not, ◌||◌, ◌==◌, List, [], ◌∷◌, ◌++◌, length, take, refl, sym, ap, ◌∙◌, arith}
+use Rattle.std.proofs.Common.{true≢false, ◌≡◌, ℕ, suc, ◌+◌, Bool, true, false, ◌==◌, List, [], ◌∷◌, length, take, refl, sym, ap, ◌∙◌, arith}
 use Rattle.std.specs.Prelude.{Some, slice_get}
 use Rattle.std.specs.List.{prefix_len}
-use Rattle.ii_io.specs.Steps.{◌>>=◌}
 use Rattle.ii_base.specs.Paths.{has_zero}
 use Rattle.ii_base.specs.Values.{json_key}
 use Rattle.ii_definitions.specs.JsonKeys.{is_path_byte, path_in, type_in, type_of_code}
 
 -- the path is what stands before the first byte 0
-path_of_key : (path key : List ℕ) → has_zero path ≡ false → path_in (json_key path key) ≡ path
+pub path_of_key : (path key : List ℕ) → has_zero path ≡ false → path_in (json_key path key) ≡ path
 path_of_key [] key none = refl
 path_of_key (b ∷ bs) key none = by (b == 0) refl (path_of_key bs key)
   where

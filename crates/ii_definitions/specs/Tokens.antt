@@ -1,5 +1,5 @@
 -- The tokens of a list of index calls.
-use Rattle.std.specs.Prelude.{ℕ, ◌+◌, max, Bool, true, false, ◌&&◌, ◌==◌, List, [], ◌∷◌, ◌++◌, bytes_eq, filter, length, map, nat_le}
+use Rattle.std.specs.Prelude.{ℕ, ◌+◌, max, Bool, true, false, ◌&&◌, ◌==◌, List, [], ◌∷◌, ◌++◌, bytes_eq, filter, length, map, nat_le, Option, None, Some}
 use Rattle.std.specs.List.{flat_map, fold}
 use Rattle.ii_base.specs.Json.{Leaf, text_leaf, unsupported, value_leaf}
 use Rattle.ii_base.specs.Values.{json_key, text_key, typed_key}
@@ -25,10 +25,11 @@ pub record IndexToken : Type 0 where
   pub position : ℕ
   pub of_text : Bool
 
--- A text, or one value. A text's words stand under keys that begin with the prefix; a value's key is the prefix.
+-- A text, or one value; a leaf of a JSON value has a path. A text's words stand under keys that begin with the prefix; a value's key is the prefix.
 pub record Piece : Type 0 where
   pub doc : ℕ
   pub field : ℕ
+  pub path : Option (List ℕ)
   pub prefix : List ℕ
   pub is_text : Bool
   pub words : List Word
@@ -77,16 +78,20 @@ tokens_after earlier (p ∷ ps) = piece_tokens earlier p ++ tokens_after (earlie
 
 -- a text whose words stand under keys with a prefix, and a value under its key
 abbrev pub text_at : ℕ → ℕ → List ℕ → List Word → Piece
-text_at doc field prefix ws = record { doc = doc; field = field; prefix = prefix; is_text = true; words = ws }
+text_at doc field prefix ws = record { doc = doc; field = field; path = None; prefix = prefix; is_text = true; words = ws }
 
 -- a value under its key
 abbrev pub value_at : ℕ → ℕ → List ℕ → Piece
-value_at doc field key = record { doc = doc; field = field; prefix = key; is_text = false; words = [] }
+value_at doc field key = record { doc = doc; field = field; path = None; prefix = key; is_text = false; words = [] }
+
+-- a leaf of a JSON value, which has a path
+abbrev pub at_path : List ℕ → Piece → Piece
+at_path path p = record p { path = Some path }
 
 -- what a leaf of a JSON value gives, by what an analyzer makes of a text
 abbrev pub leaf_pieces : (List ℕ → List Word) → ℕ → ℕ → List ℕ × Leaf → List Piece
-leaf_pieces analyze doc field (path, text_leaf t) = text_at doc field (json_key path (text_key [])) (analyze t) ∷ []
-leaf_pieces analyze doc field (path, value_leaf t n) = value_at doc field (json_key path (typed_key t n)) ∷ []
+leaf_pieces analyze doc field (path, text_leaf t) = at_path path (text_at doc field (json_key path (text_key [])) (analyze t)) ∷ []
+leaf_pieces analyze doc field (path, value_leaf t n) = at_path path (value_at doc field (json_key path (typed_key t n))) ∷ []
 leaf_pieces analyze doc field (path, unsupported kind) = []
 
 -- the pieces of a call

@@ -1,4 +1,4 @@
-ghost use Rattle.std.specs.Prelude.{◌≡◌, []};
+ghost use Rattle.std.specs.Prelude.{◌≡◌, [], false, true, OnErr};
 
 use bytes::Bytes;
 use ii_io::{CompositeFile, CompositeWrite, CountingWriter, Fault, Field};
@@ -38,6 +38,32 @@ fn write_two<W: Write>(composite: &mut CompositeWrite<W>) -> Result<(), Fault>
     composite
         .for_field(Field::from_field_id(1))?
         .write_all(&[8])
+}
+
+/// A body is begun; how many there are then. Where memory for it is refused, the composite writer has to be
+/// closed, else the answer is nothing.
+pub fn begun(alloc: Global) -> Result<Option<usize>, Fault> {
+    let mut composite = CompositeWrite::wrap(alloc, CountingWriter::wrap(Vec::new(alloc)));
+    let Err(fault) = begin(&mut composite) else {
+        return Ok(Some(1));
+    };
+    let again = begin(&mut composite);
+    let (_unwritten, closed) = composite.close();
+    if again.and(closed) == Err(Fault::SerializerClosed) && closed == again {
+        return Err(fault);
+    }
+    Ok(None)
+}
+
+// Begins the body of field 7.
+fn begin<W: Write>(composite: &mut CompositeWrite<W>) -> Result<(), Fault>
+    requires { composite.old.closed ≡ false → composite.old.starts ≡ [] }
+    ensures { OnErr result (composite.new.closed ≡ true) }
+{
+    match composite.for_field(Field::from_field_id(7)) {
+        Ok(_) => Ok(()),
+        Err(fault) => Err(fault),
+    }
 }
 
 // Adds numbers to a text.

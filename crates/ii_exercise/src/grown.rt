@@ -1,5 +1,9 @@
+use crate::{composite, norms};
 use ii_base::{Fault, Field, JsonPathWriter, Term};
-use ii_indexing::{IndexingTerm, JsonTermSerializer, PathToUnorderedId, json_path_sep_to_dot};
+use ii_indexing::{
+    IndexingTerm, JsonTermSerializer, PathToUnorderedId, Recorder, TfAndPositionRecorder,
+    json_path_sep_to_dot,
+};
 use std::alloc::Global;
 
 // So long that what it is added to has to grow.
@@ -15,6 +19,9 @@ pub fn read_back(alloc: Global) -> Result<String, Fault> {
     push(&mut text, "indexed term", indexing_term(alloc)?)?;
     push(&mut text, "paths", paths(alloc)?)?;
     push(&mut text, "dots", dots(alloc)?)?;
+    push(&mut text, "bodies", composite::begun(alloc)?)?;
+    push(&mut text, "norms", norms::grown(alloc)?)?;
+    push(&mut text, "recorder", recorder(alloc)?)?;
     Ok(text)
 }
 
@@ -89,4 +96,20 @@ fn dots(alloc: Global) -> Result<Option<usize>, Fault> {
     let mut path = String::from_str(alloc, "a\u{1}b")?;
     let step = json_path_sep_to_dot(&mut path);
     ends(step, path.as_str() == "a\u{1}b", path.len())
+}
+
+// How many positions a document has. One that was refused for memory is taken once more, and one below it
+// isn't, since it is there then.
+fn recorder(alloc: Global) -> Result<Option<usize>, Fault> {
+    let mut recorder = TfAndPositionRecorder::new(alloc);
+    recorder.new_doc(3)?;
+    for position in 0..40u32 {
+        let step = recorder.record_position(position);
+        if step.is_err() {
+            let again = recorder.record_position(position);
+            return ends(step, again.is_ok() && recorder.current_doc() == 3, 0);
+        }
+    }
+    let step = recorder.close_doc();
+    ends(step, recorder.term_doc_freq() == Some(1), 40)
 }

@@ -54,8 +54,8 @@ fn word_at_path(alloc: Global) -> Result<Term, Fault> {
     Term::from_field_bytes(alloc, Field::from_field_id(3), serializer.as_bytes())
 }
 
-// The index of all calls.
-fn opened(alloc: Global) -> Result<OpenIndex, Fault>
+/// The index of all calls.
+pub fn opened(alloc: Global) -> Result<OpenIndex, Fault>
     ensures { IfOk result (λ index. length index.readers ≡ 4) }
 {
     let (schema, calls) = (fields(alloc)?, calls(alloc)?);
@@ -118,8 +118,8 @@ fn text(alloc: Global, doc: u32, text: &str) -> Result<IndexCall, Fault>
     Ok(IndexCall::Text(doc, Field::from_field_id(0), text))
 }
 
-// The term of a word.
-fn word(alloc: Global, word: &str) -> Result<Term, Fault> {
+/// The term of a word.
+pub fn word(alloc: Global, word: &str) -> Result<Term, Fault> {
     Term::from_field_text(alloc, Field::from_field_id(0), word)
 }
 

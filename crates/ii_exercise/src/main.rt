@@ -3,12 +3,15 @@
 #![tactic(auto)]
 
 mod composite;
+mod deletes;
 mod dictionary;
 mod grown;
 mod index;
 mod loaded;
 mod norms;
+mod placed;
 mod postings;
+mod reset;
 mod schema;
 mod walked;
 
@@ -26,6 +29,7 @@ fn main(rt: HostRuntime) -> ExitCode {
 // A line for each part.
 fn report_all(rt: &HostRuntime) -> io::Result<()> {
     report_fields(rt)?;
+    report_cursors(rt)?;
     report_terms(rt)
 }
 
@@ -35,13 +39,19 @@ fn report_fields(rt: &HostRuntime) -> io::Result<()> {
     report(rt, "norms", norms::read_back(rt.alloc()))
 }
 
-fn report_terms(rt: &HostRuntime) -> io::Result<()> {
+fn report_cursors(rt: &HostRuntime) -> io::Result<()> {
     report(rt, "postings", postings::read_back(rt.alloc()))?;
     report(rt, "walk", walked::read_back(rt.alloc()))?;
     report(rt, "loaded", loaded::read_back(rt.alloc()))?;
+    report(rt, "placed", placed::read_back(rt.alloc()))?;
+    report(rt, "deletes", deletes::read_back(rt.alloc()))
+}
+
+fn report_terms(rt: &HostRuntime) -> io::Result<()> {
     report(rt, "grown", grown::read_back(rt.alloc()))?;
     report(rt, "dictionary", dictionary::read_back(rt.alloc()))?;
-    report(rt, "index", index::read_back(rt.alloc()))
+    report(rt, "index", index::read_back(rt.alloc()))?;
+    report(rt, "reset", reset::read_back(rt.alloc()))
 }
 
 // Prints what was read back, or the fault.

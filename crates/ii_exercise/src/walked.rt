@@ -1,3 +1,6 @@
+ghost use Rattle.std.specs.Prelude.{◌≡◌, ◌∷◌, [], IfOk};
+ghost use Rattle.ii_docset.specs.Entries.{document};
+
 use bytes::Bytes;
 use ii_base::{Fault, IndexRecordOption};
 use ii_docset::{CursorAnswer, CursorCall, DocId, DocSet, TERMINATED, Walk, walk};
@@ -13,9 +16,14 @@ static THREE: [u8; 3] = [0x80, 0x82, 0x88];
 const PLACES: [DocId; 7] = [0, 0, 2, 2, 10, 10, TERMINATED];
 
 /// A cursor over them.
-pub fn three() -> Result<SegmentPostings, Fault> {
+pub fn three() -> Result<SegmentPostings, Fault>
+    ensures { IfOk result (λ cursor. cursor.rest ≡ document 0 ∷ document 2 ∷ document 10 ∷ []) }
+{
     let bytes = Bytes::from_static(&THREE);
-    Ok(SegmentPostings::open(3, bytes, None, BASIC, BASIC)?)
+    match SegmentPostings::open(3, bytes, None, BASIC, BASIC) {
+        Ok(cursor) => Ok(cursor),
+        Err(fault) => Err(Fault::from(fault)),
+    }
 }
 
 /// A walk to the end of three documents. Where memory is refused inside it, its answers have to be those

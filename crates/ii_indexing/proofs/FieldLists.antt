@@ -21,8 +21,16 @@ use Rattle.ii_json.specs.LeafVisit.{is_number_type}
 use Rattle.ii_definitions.specs.JsonKeys.{is_json, type_of_code, type_under}
 use Rattle.ii_definitions.proofs.KeyLaws.{type_in_key}
 use Rattle.ii_indexing.specs.OpenPaths.{OpenPathsState, TellsPaths, no_paths, position_under}
-use Rattle.ii_indexing.specs.IndexedTerms.{TakesTexts, TakesValue, kept_at, kept_in, kept_under, values_kept_in, writer_in}
-use Rattle.ii_indexing.specs.Indexer.{EndsAt, StoresPieces}
+use Rattle.std.specs.List.{IsDistinct}
+use Rattle.ii_io.specs.Steps.{◌>>=◌}
+use Rattle.ii_definitions.specs.JsonKeys.{path_in}
+use Rattle.ii_definitions.proofs.KeyLaws.{path_of_key}
+use Rattle.ii_json.specs.Paths.{AreDistinct, is_known, path_id, with_path}
+use Rattle.ii_postings_writer.specs.ResolvedTerms.{HasPath, behind_path, held_key, held_value, id_bytes, is_json_field, json_fields}
+use Rattle.ii_postings_writer.proofs.ResolvedLaws.{behind_key}
+use Rattle.ii_indexing.proofs.HeldLaws.{after_id, json_flag, own_id}
+use Rattle.ii_indexing.specs.IndexedTerms.{IndexedTermsState, TakesTexts, TakesValue, held_kept_at, held_kept_under, held_type, kept_at, kept_in, kept_under, values_kept_in, writer_in}
+use Rattle.ii_indexing.specs.Indexer.{EndsAt, StoresAll, StoresPieces}
 use Rattle.ii_indexing.specs.OpenDocuments.{HasNorms, Tells, empty_document}
 use Rattle.ii_postings_writer.specs.PostingsWriter.{kept_as, text_kept_of, value_kept_of, writer_of, writers_of}
 use Rattle.ii_indexing.specs.Refusals.{piece_fault, pieces_fault}
@@ -68,23 +76,54 @@ takes_values_kept entries field t h =
 takes_option : (entries : List SchemaEntry) (field : ℕ) (t : ValueType) (h : Takes entries field t) → option_of entries field ≡ h.entry.option
 takes_option entries field t h = ap (λ (o : Option SchemaEntry). unwrap_or (option_map (λ (e : SchemaEntry). e.option) o) Basic) h.found
 
+takes_held_at : (entries : List SchemaEntry) (field : ℕ) (t : ValueType) (h : Takes entries field t) (key : List ℕ) → held_kept_at entries field key ≡ kept_as (held_type t key) h.entry.option
+takes_held_at entries field t h key = ap (λ (o : Option SchemaEntry). unwrap_or (option_map (held_kept_under key) o) Basic) h.found ∙ ap (λ (v : ValueType). kept_as (held_type v key) h.entry.option) h.typed
+
+plain_flag : (entries : List SchemaEntry) (field : ℕ) (t : ValueType) (h : Takes entries field t) → is_json t ≡ false → is_json_field (json_fields entries) field ≡ false
+plain_flag entries field t h plain = json_flag entries field h.entry false h.found (ap is_json h.typed ∙ plain)
+
+takes_flag : (entries : List SchemaEntry) (field : ℕ) (h : Takes entries field Json) → is_json_field (json_fields entries) field ≡ true
+takes_flag entries field h = json_flag entries field h.entry true h.found (ap is_json h.typed)
+
+-- a path that is known, and what stands behind it
+has_known_path : (paths : List (List ℕ)) (path rest : List ℕ) → has_zero path ≡ false → is_known paths path ≡ true → HasPath paths (json_key path rest)
+has_known_path paths path rest clean known =
+    let at : path_in (json_key path rest) ≡ path = path_of_key path rest clean in
+    record {
+      known = ap (is_known paths) at ∙ known;
+      whole = ap (λ (v : List ℕ). json_key path v) (sym (behind_key path rest clean)) ∙ ap (λ (p : List ℕ). json_key p (behind_path (json_key path rest))) (sym at);
+    }
+
+held_at_path : (entries : List SchemaEntry) (paths : List (List ℕ)) (field : ℕ) (h : Takes entries field Json) (path rest : List ℕ) → has_zero path ≡ false → held_key (json_fields entries) paths field (json_key path rest) ≡ held_value (path_id paths path) rest
+held_at_path entries paths field h path rest clean =
+    let key = json_key path rest in
+    ap (λ (b : Bool). if b then held_value (path_id paths (path_in key)) (behind_path key) else key) (takes_flag entries field h)
+    ∙ ap (λ (p : List ℕ). held_value (path_id paths p) (behind_path key)) (path_of_key path rest clean)
+    ∙ ap (λ (v : List ℕ). held_value (path_id paths path) v) (behind_key path rest clean)
+
 -- Values of a type aren't JSON, and of them is kept that they occur.
 pub record IsPlain (t : ValueType) : Type 0 where
   pub typed : is_json t ≡ false
   pub basic : (o : IndexRecordOption) → kept_as t o ≡ Basic
 
-pub takes_value : (entries : List SchemaEntry) (field : ℕ) (t : ValueType) → Takes entries field t → IsPlain t → (key : List ℕ) → TakesValue entries field key
-takes_value entries field t h plain key = record {
+pub takes_value : (entries : List SchemaEntry) (field : ℕ) (t : ValueType) → Takes entries field t → IsPlain t → (paths : List (List ℕ)) (key : List ℕ) → TakesValue entries paths field key key
+takes_value entries field t h plain paths key = record {
   known = takes_inside entries field t h;
   option = takes_values_kept entries field t h ∙ rw plain.typed (plain.basic h.entry.option);
   kept = takes_kept_at entries field t h key ∙ rw plain.typed (plain.basic h.entry.option);
+  held_kept = takes_held_at entries field t h key ∙ rw plain.typed (plain.basic h.entry.option);
+  holds = rw (plain_flag entries field t h plain.typed) refl;
+  has_path = λ json. let other : true ≡ false = sym json ∙ plain_flag entries field t h plain.typed in absurd (cc);
 }
 
-pub takes_text : (entries : List SchemaEntry) (field : ℕ) → Takes entries field Str → TakesTexts entries field []
-takes_text entries field h = record {
+pub takes_text : (entries : List SchemaEntry) (field : ℕ) → Takes entries field Str → (paths : List (List ℕ)) → TakesTexts entries paths field [] []
+takes_text entries field h paths = record {
   known = takes_inside entries field Str h;
   option = takes_kept entries field Str h ∙ sym (takes_option entries field Str h);
   kept = λ key. takes_kept_at entries field Str h key ∙ sym (takes_kept entries field Str h);
+  held_kept = λ key. takes_held_at entries field Str h key ∙ sym (takes_kept entries field Str h);
+  holds = λ key. rw (plain_flag entries field Str h refl) refl;
+  has_path = λ key json. let other : true ≡ false = sym json ∙ plain_flag entries field Str h refl in absurd (cc);
 }
 
 -- in a JSON field the key tells the type
@@ -93,11 +132,24 @@ under_path : (entries : List SchemaEntry) (field : ℕ) (h : Takes entries field
 under_path entries field h path t key clean is =
     takes_kept_at entries field Json h (json_key path (code_of t ∷ key)) ∙ ap (λ (o : Option ValueType). kept_as (unwrap_or o Json) h.entry.option) (type_in_key path (code_of t) key clean ∙ is)
 
-pub takes_text_at : (entries : List SchemaEntry) (field : ℕ) → Takes entries field Json → (path : List ℕ) → has_zero path ≡ false → TakesTexts entries field (json_key path (text_key []))
-takes_text_at entries field h path clean = record {
+-- and behind the id of a path
+held_under : (entries : List SchemaEntry) (field : ℕ) (h : Takes entries field Json) (id : ℕ) (t : ValueType) (key : List ℕ) → type_of_code (code_of t) ≡ Some t
+    → held_kept_at entries field (held_value id (code_of t ∷ key)) ≡ kept_as t h.entry.option
+held_under entries field h id t key is =
+    takes_held_at entries field Json h (held_value id (code_of t ∷ key)) ∙ ap (λ (o : Option ℕ). kept_as (unwrap_or (o >>= type_of_code) Json) h.entry.option) (after_id id (code_of t ∷ key))
+    ∙ ap (λ (o : Option ValueType). kept_as (unwrap_or o Json) h.entry.option) is
+
+pub takes_text_at : (entries : List SchemaEntry) (paths : List (List ℕ)) (field : ℕ) → Takes entries field Json → (path : List ℕ) → has_zero path ≡ false → is_known paths path ≡ true
+    → TakesTexts entries paths field (held_value (path_id paths path) (text_key [])) (json_key path (text_key []))
+takes_text_at entries paths field h path clean is = record {
   known = takes_inside entries field Json h;
   option = takes_kept entries field Json h ∙ sym (takes_option entries field Json h);
   kept = λ key. ap (kept_at entries field) (append_assoc path (0 ∷ code_of Str ∷ []) key) ∙ under_path entries field h path Str key clean refl ∙ sym (takes_kept entries field Json h);
+  held_kept = λ key. ap (held_kept_at entries field) (append_assoc (id_bytes (path_id paths path)) (code_of Str ∷ []) key) ∙ held_under entries field h (path_id paths path) Str key refl ∙ sym (takes_kept entries field Json h);
+  holds = λ key.
+      ap (held_key (json_fields entries) paths field) (append_assoc path (0 ∷ code_of Str ∷ []) key) ∙ held_at_path entries paths field h path (code_of Str ∷ key) clean
+      ∙ sym (append_assoc (id_bytes (path_id paths path)) (code_of Str ∷ []) key);
+  has_path = λ key json. subst (HasPath paths) (sym (append_assoc path (0 ∷ code_of Str ∷ []) key)) (has_known_path paths path (code_of Str ∷ key) clean is);
 }
 
 number_code : (t : ValueType) → is_number_type t ≡ true → type_of_code (code_of t) ≡ Some t
@@ -120,12 +172,31 @@ number_kept Bytes o is = refl
 number_kept Json o is = absurd (cc)
 number_kept IpAddr o is = refl
 
-pub takes_number_at : (entries : List SchemaEntry) (field : ℕ) → Takes entries field Json → (path : List ℕ) (t : ValueType) (n : ℕ) → has_zero path ≡ false → is_number_type t ≡ true → TakesValue entries field (json_key path (typed_key t n))
-takes_number_at entries field h path t n clean is = record {
+pub takes_number_at : (entries : List SchemaEntry) (paths : List (List ℕ)) (field : ℕ) → Takes entries field Json → (path : List ℕ) (t : ValueType) (n : ℕ) → has_zero path ≡ false → is_known paths path ≡ true → is_number_type t ≡ true
+    → TakesValue entries paths field (held_value (path_id paths path) (typed_key t n)) (json_key path (typed_key t n))
+takes_number_at entries paths field h path t n clean known is = record {
   known = takes_inside entries field Json h;
   option = takes_values_kept entries field Json h;
   kept = under_path entries field h path t (u64_bytes n) clean (number_code t is) ∙ number_kept t h.entry.option is;
+  held_kept = held_under entries field h (path_id paths path) t (u64_bytes n) (number_code t is) ∙ number_kept t h.entry.option is;
+  holds = held_at_path entries paths field h path (typed_key t n) clean;
+  has_path = λ json. has_known_path paths path (typed_key t n) clean known;
 }
+
+-- so it is once a path is known, by the id that it got
+pub takes_text_known : (entries : List SchemaEntry) (old new : IndexedTermsState) (field : ℕ) → Takes entries field Json → (path : List ℕ) → has_zero path ≡ false → new ≡ record old { paths = with_path old.paths path }
+    → TakesTexts entries new.paths field (held_value (path_id old.paths path) (text_key [])) (json_key path (text_key []))
+takes_text_known entries old new field h path clean is =
+    subst (λ (ps : List (List ℕ)). TakesTexts entries ps field (held_value (path_id old.paths path) (text_key [])) (json_key path (text_key []))) (sym (ap (λ (i : IndexedTermsState). i.paths) is))
+    (subst (λ (id : ℕ). TakesTexts entries (with_path old.paths path) field (held_value id (text_key [])) (json_key path (text_key []))) (own_id old.paths path).1
+    (takes_text_at entries (with_path old.paths path) field h path clean (own_id old.paths path).0))
+
+pub takes_number_known : (entries : List SchemaEntry) (old new : IndexedTermsState) (field : ℕ) → Takes entries field Json → (path : List ℕ) (t : ValueType) (n : ℕ) → has_zero path ≡ false → is_number_type t ≡ true → new ≡ record old { paths = with_path old.paths path }
+    → TakesValue entries new.paths field (held_value (path_id old.paths path) (typed_key t n)) (json_key path (typed_key t n))
+takes_number_known entries old new field h path t n clean number is =
+    subst (λ (ps : List (List ℕ)). TakesValue entries ps field (held_value (path_id old.paths path) (typed_key t n)) (json_key path (typed_key t n))) (sym (ap (λ (i : IndexedTermsState). i.paths) is))
+    (subst (λ (id : ℕ). TakesValue entries (with_path old.paths path) field (held_value id (typed_key t n)) (json_key path (typed_key t n))) (own_id old.paths path).1
+    (takes_number_at entries (with_path old.paths path) field h path t n clean (own_id old.paths path).0 number))
 
 -- one piece alone
 pub one_fault : (option : IndexRecordOption) (ps : List Piece) (p : Piece) → piece_fault option ps p ≡ pieces_fault option ps (p ∷ [])
@@ -136,9 +207,13 @@ one_fault option ps p = by (piece_fault option ps p)
     by (Some e) = refl
 
 -- an indexer of no calls stores none
-pub nothing_stored : (entries : List SchemaEntry) → StoresPieces entries (record { indexed = record { terms = []; writers = writers_of entries }; opened = record { documents = map (λ (e : SchemaEntry). empty_document 0) entries; norms = empty_buffers entries }; paths = map (λ (e : SchemaEntry). no_paths) entries }) []
+none_alike : AreDistinct []
+unfolding IsDistinct
+none_alike = tt
+
+nothing_stored : (entries : List SchemaEntry) → StoresPieces entries (record { indexed = record { terms = []; paths = []; writers = writers_of entries }; opened = record { documents = map (λ (e : SchemaEntry). empty_document 0) entries; norms = empty_buffers entries }; paths = map (λ (e : SchemaEntry). no_paths) entries }) []
 nothing_stored entries = record {
-  tokens = record { records = λ field key low. refl; counted = λ field inside. made_for entries field inside; of_fields = tt };
+  tokens = record { records = λ field key low. refl; counted = λ field inside. made_for entries field inside; of_fields = tt; has_paths = tt; known_paths = record { distinct = none_alike; clean = tt; few = omega arith } };
   documents = λ field d is. subst (λ (e : OpenDocument). Tells field [] [] e (buffer_of field (empty_buffers entries))) (sym (made_alike (empty_document 0) entries field d is)) (record {
     begin = λ x from. ap (λ (e : OpenDocument). e.end_position) (sym (at_empty 0 x));
     group = λ x from. ap (λ (e : OpenDocument). e.num_tokens) (sym (at_empty 0 x));
@@ -156,7 +231,10 @@ nothing_stored entries = record {
     by field None = tt
     by field (Some ids) = λ x low. absurd (omega (arith, low))
 
-pub nothing_above : (entries : List SchemaEntry) → EndsAt 0 (record { indexed = record { terms = []; writers = writers_of entries }; opened = record { documents = map (λ (e : SchemaEntry). empty_document 0) entries; norms = empty_buffers entries }; paths = map (λ (e : SchemaEntry). no_paths) entries })
+pub nothing_known : (entries : List SchemaEntry) → StoresAll entries (record { indexed = record { terms = []; paths = []; writers = writers_of entries }; opened = record { documents = map (λ (e : SchemaEntry). empty_document 0) entries; norms = empty_buffers entries }; paths = map (λ (e : SchemaEntry). no_paths) entries }) []
+nothing_known entries = record { pieces = nothing_stored entries; known = refl }
+
+pub nothing_above : (entries : List SchemaEntry) → EndsAt 0 (record { indexed = record { terms = []; paths = []; writers = writers_of entries }; opened = record { documents = map (λ (e : SchemaEntry). empty_document 0) entries; norms = empty_buffers entries }; paths = map (λ (e : SchemaEntry). no_paths) entries })
 nothing_above entries = record {
   documents = length-map entries (λ (e : SchemaEntry). empty_document 0) ∙ sym (length-map entries writer_of);
   terms = λ bytes. tt;

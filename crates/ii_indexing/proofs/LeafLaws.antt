@@ -10,10 +10,10 @@ use Rattle.ii_base.specs.Words.{Word}
 use Rattle.ii_base.specs.declared.schema.value_type.ValueType.{ValueType}
 use Rattle.ii_base.specs.declared.schema.value_type.ValueType.TheVariants.{Json}
 use Rattle.ii_definitions.specs.Fields.{option_of}
-use Rattle.ii_definitions.specs.Tokens.{Piece, leaf_pieces, text_at, value_at}
+use Rattle.ii_definitions.specs.Tokens.{Piece, at_path, leaf_pieces, text_at, value_at}
 use Rattle.ii_json.specs.LeafVisit.{IsRefusedBy}
 use Rattle.ii_indexing.specs.IndexCalls.{Takes}
-use Rattle.ii_indexing.specs.Indexer.{IndexedFieldsState, LeafGiven, StoresPieces}
+use Rattle.ii_indexing.specs.Indexer.{IndexedFieldsState, LeafGiven, StoresAll}
 use Rattle.ii_indexing.specs.Refusals.{next_leaf_fault, piece_fault}
 use Rattle.ii_indexing.proofs.FieldLists.{one_fault}
 
@@ -28,15 +28,15 @@ module _ (words : List ℕ → List Word) (doc field : ℕ) where
 
   -- A leaf is stored after pieces.
   abbrev pub LeafStored : IndexedFieldsState → IndexedFieldsState → List ℕ × Leaf → Type 0
-  LeafStored old new l = (entries : List SchemaEntry) (ps : List Piece) → Takes entries field Json → StoresPieces entries old ps → StoresPieces entries new (ps ++ leaf_pieces words doc field l)
+  LeafStored old new l = (entries : List SchemaEntry) (ps : List Piece) → Takes entries field Json → StoresAll entries old ps → StoresAll entries new (ps ++ leaf_pieces words doc field l)
 
   -- It is refused by the cause of the one text or value that it gives.
   abbrev pub PieceRefused : {T : Type 0} → IndexedFieldsState → Result T Fault → Piece → Type 0
-  PieceRefused old result p = (entries : List SchemaEntry) (ps : List Piece) → Takes entries field Json → StoresPieces entries old ps → IsRefusedBy (piece_fault (option_of entries field) ps p) result
+  PieceRefused old result p = (entries : List SchemaEntry) (ps : List Piece) → Takes entries field Json → StoresAll entries old ps → IsRefusedBy (piece_fault (option_of entries field) ps p) result
 
   -- What leaves of a JSON value have stored.
   abbrev pub LeavesHeld : IndexedFieldsState → LeafGiven → List (List ℕ × Leaf) → Type 0
-  LeavesHeld s given before = Takes given.entries field Json × StoresPieces given.entries s (given.pieces ++ given_of before)
+  LeavesHeld s given before = Takes given.entries field Json × StoresAll given.entries s (given.pieces ++ given_of before)
 
   -- A leaf is stored behind them, or refused there.
   abbrev pub LeafTaken : IndexedFieldsState → IndexedFieldsState → List ℕ × Leaf → Type 0
@@ -46,19 +46,19 @@ module _ (words : List ℕ → List Word) (doc field : ℕ) where
   LeafRefused old result l = (given : LeafGiven) (before : List (List ℕ × Leaf)) → LeavesHeld old given before → IsRefusedBy (next_leaf_fault words (option_of given.entries field) given.pieces doc field before l) result
 
   pub leaf_held : (old new : IndexedFieldsState) (l : List ℕ × Leaf) → LeafStored old new l → LeafTaken old new l
-  leaf_held old new l h given before held = (held.0, subst (StoresPieces given.entries new) (leaf_more given.pieces before l) (h given.entries (given.pieces ++ given_of before) held.0 held.1))
+  leaf_held old new l h given before held = (held.0, subst (StoresAll given.entries new) (leaf_more given.pieces before l) (h given.entries (given.pieces ++ given_of before) held.0 held.1))
 
-  pub text_leaf_refused : {T : Type 0} (old : IndexedFieldsState) (result : Result T Fault) (path text : List ℕ) → PieceRefused old result (text_at doc field (json_key path (text_key [])) (words text))
+  pub text_leaf_refused : {T : Type 0} (old : IndexedFieldsState) (result : Result T Fault) (path text : List ℕ) → PieceRefused old result (at_path path (text_at doc field (json_key path (text_key [])) (words text)))
       → LeafRefused old result (path, text_leaf text)
   text_leaf_refused old result path text h given before held =
       let ps = given.pieces ++ given_of before in
-      subst (λ (f : Option Fault). IsRefusedBy f result) (one_fault (option_of given.entries field) ps (text_at doc field (json_key path (text_key [])) (words text))) (h given.entries ps held.0 held.1)
+      subst (λ (f : Option Fault). IsRefusedBy f result) (one_fault (option_of given.entries field) ps (at_path path (text_at doc field (json_key path (text_key [])) (words text)))) (h given.entries ps held.0 held.1)
 
-  pub value_leaf_refused : {T : Type 0} (old : IndexedFieldsState) (result : Result T Fault) (path : List ℕ) (t : ValueType) (n : ℕ) → PieceRefused old result (value_at doc field (json_key path (typed_key t n))) → LeafRefused old result (path, value_leaf t n)
+  pub value_leaf_refused : {T : Type 0} (old : IndexedFieldsState) (result : Result T Fault) (path : List ℕ) (t : ValueType) (n : ℕ) → PieceRefused old result (at_path path (value_at doc field (json_key path (typed_key t n)))) → LeafRefused old result (path, value_leaf t n)
   value_leaf_refused old result path t n h given before held =
       let ps = given.pieces ++ given_of before in
-      subst (λ (f : Option Fault). IsRefusedBy f result) (one_fault (option_of given.entries field) ps (value_at doc field (json_key path (typed_key t n)))) (h given.entries ps held.0 held.1)
+      subst (λ (f : Option Fault). IsRefusedBy f result) (one_fault (option_of given.entries field) ps (at_path path (value_at doc field (json_key path (typed_key t n))))) (h given.entries ps held.0 held.1)
 
 -- a value's first leaf stands behind the pieces themselves
-pub first_held : (entries : List SchemaEntry) (s : IndexedFieldsState) (ps : List Piece) → StoresPieces entries s ps → StoresPieces entries s (ps ++ [])
-first_held entries s ps stored = subst (StoresPieces entries s) (sym (append-nil ps)) stored
+pub first_held : (entries : List SchemaEntry) (s : IndexedFieldsState) (ps : List Piece) → StoresAll entries s ps → StoresAll entries s (ps ++ [])
+first_held entries s ps stored = subst (StoresAll entries s) (sym (append-nil ps)) stored

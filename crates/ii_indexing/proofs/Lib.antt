@@ -4,6 +4,8 @@ pub mod DocumentLaws
 pub mod FieldLists
 pub mod FinishLaws
 pub mod NormFileLaws
+pub mod HeldLaws
+pub mod KnownLaws
 pub mod LeafLaws
 pub mod PathLaws
 mod PathPositions

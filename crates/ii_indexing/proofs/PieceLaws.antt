@@ -160,7 +160,7 @@ tells_more doc field ps ts us p d new ids pd dd nd only ends counts norm h = rec
         n x below ∙ ap id_of_norm (sym (unchanged x field ts us (only.other_doc x other)))
 
 -- the tokens of one more piece
-tokens_with : (ps : List Piece) (p : Piece) → tokens_after [] (ps ++ p ∷ []) ≡ tokens_after [] ps ++ piece_tokens ps p
+pub tokens_with : (ps : List Piece) (p : Piece) → tokens_after [] (ps ++ p ∷ []) ≡ tokens_after [] ps ++ piece_tokens ps p
 tokens_with ps p = tokens_after-append [] ps (p ∷ []) ∙ ap (λ (us : List IndexToken). tokens_after [] ps ++ us) (append-nil (piece_tokens ps p))
 
 all_tell : (ps : List Piece) (ts us : List IndexToken) (p : Piece) (s : OpenDocumentsState) (field : ℕ) (new : OpenDocument) → p.field ≡ field → OnlyAt p.doc p.field us → TellsAll ps ts s

@@ -1,5 +1,5 @@
 -- No index call is refused for a writer.
-use Rattle.std.proofs.Common.{◌≡◌, ℕ, ◌+◌, Bool, true, false, ◌&&◌, ◌||◌, ◌==◌, List, [], ◌∷◌, ◌++◌, Option, Some, None, Err, Result, sym, ◌∙◌, subst, arith, ⊎_elim}
+use Rattle.std.proofs.Common.{◌≡◌, ℕ, ◌+◌, ◌^◌, length, Bool, true, false, ◌&&◌, ◌||◌, ◌==◌, List, [], ◌∷◌, ◌++◌, Option, Some, None, Err, Result, sym, ◌∙◌, subst, arith, ⊎_elim}
 use Rattle.std.specs.Prelude.{◌⊎◌, IfSome, if◌then◌else◌, nat_le, nat_lt}
 use Rattle.ii_io.specs.declared.faults.Fault.{Fault}
 use Rattle.ii_io.specs.declared.faults.Fault.TheVariants.{DecreasingPosition, Limit, OutOfMemory, Write}
@@ -14,9 +14,10 @@ use Rattle.ii_definitions.specs.Postings.{field_count}
 use Rattle.ii_definitions.specs.Tokens.{Call, Content, IndexToken, Piece, begin_after, content_pieces, end_after, kept_words, leaf_pieces, leaves, pieces_of, text, tokens_after, value, word_token, words}
 use Rattle.ii_recorder.specs.Recorded.{last_position, position_fault, u32_max}
 use Rattle.ii_indexing.specs.IndexFiles.{CountsIndexFailures}
-use Rattle.ii_indexing.specs.Refusals.{call_fault, calls_fault, content_fault, leaf_fault, next_leaf_fault, group_count, piece_fault, piece_fault_from, pieces_fault}
+use Rattle.ii_indexing.specs.Refusals.{call_fault, calls_fault, content_fault, leaf_fault, next_leaf_fault, group_count, known_paths, own_path_fault, piece_fault, piece_fault_from, pieces_fault}
 use Rattle.ii_postings_writer.specs.WordRefusals.{gap_fault, open_entry, u64_max, word_fault, words_fault}
 use Rattle.ii_json.specs.LeafVisit.{first_fault, leaves_fault}
+use Rattle.ii_json.specs.Paths.{is_known}
 use Rattle.ii_indexing.specs.declared.index_writers.IndexWriters.{IndexWriters}
 
 -- A fault, if there is one, isn't a writer's.
@@ -56,10 +57,23 @@ piece_other true option earlier ts p =
     (limit_or (nat_lt u32_max (end_after begin p.words)) (Limit limit.Position) None (λ is. absurd (cc)) tt)
 piece_other false option earlier ts p = limit_or (nat_le u64_max (field_count p.field ts)) (Limit limit.Tokens) None (λ is. absurd (cc)) tt
 
+path_other : (known : List (List ℕ)) (path : Option (List ℕ)) → IsNotWrite (own_path_fault known path)
+path_other known None = tt
+path_other known (Some path) = by (is_known known path) (nat_lt (length known) (2 ^ 32))
+  where
+    by : (a b : Bool) → IsNotWrite (if a then None else if b then None else Some (Limit limit.Paths))
+    by true b = tt
+    by false true = tt
+    by false false = λ is. absurd (cc)
+
+whole_piece_other : (option : IndexRecordOption) (earlier : List Piece) (p : Piece) → IsNotWrite (piece_fault option earlier p)
+whole_piece_other option earlier p =
+    first_or (own_path_fault (known_paths earlier) p.path) (piece_fault_from p.is_text option earlier (tokens_after [] earlier) p) (path_other (known_paths earlier) p.path) (piece_other p.is_text option earlier (tokens_after [] earlier) p)
+
 pieces_other : (option : IndexRecordOption) (earlier ps : List Piece) → IsNotWrite (pieces_fault option earlier ps)
 pieces_other option earlier [] = tt
 pieces_other option earlier (p ∷ ps) =
-    first_or (piece_fault option earlier p) (pieces_fault option (earlier ++ p ∷ []) ps) (piece_other p.is_text option earlier (tokens_after [] earlier) p) (pieces_other option (earlier ++ p ∷ []) ps)
+    first_or (piece_fault option earlier p) (pieces_fault option (earlier ++ p ∷ []) ps) (whole_piece_other option earlier p) (pieces_other option (earlier ++ p ∷ []) ps)
 
 leaf_other : (analyze : List ℕ → List Word) (option : IndexRecordOption) (earlier : List Piece) (doc field : ℕ) (l : List ℕ × Leaf) → IsNotWrite (leaf_fault analyze option earlier doc field l)
 leaf_other analyze option earlier doc field (path, text_leaf t) = pieces_other option earlier (leaf_pieces analyze doc field (path, text_leaf t))

@@ -12,10 +12,14 @@ use Rattle.ii_base.specs.Schema.{SchemaEntry}
 use Rattle.ii_base.specs.Words.{Word}
 use Rattle.ii_base.specs.declared.schema.index_record_option.IndexRecordOption.{IndexRecordOption}
 use Rattle.ii_base.specs.declared.schema.index_record_option.IndexRecordOption.TheVariants.{Basic}
-use Rattle.ii_definitions.specs.Tokens.{IndexToken, Piece, kept_words, value_token, word_token}
+use Rattle.ii_definitions.specs.Tokens.{IndexToken, Piece, kept_words, text_at, value_at, value_token, word_token}
+use Rattle.std.proofs.lemmas.List.{map-append}
+use Rattle.ii_postings_writer.specs.ResolvedTerms.{IsKnownToken, held_token, json_fields}
+use Rattle.ii_postings_writer.proofs.ResolvedRecords.{kind_held}
+use Rattle.ii_indexing.proofs.HeldLaws.{count_held, keys_held, words_held, words_known}
 use Rattle.ii_definitions.specs.Fields.{option_of}
 use Rattle.ii_definitions.specs.Postings.{field_count, is_at, kind_of, tokens_at}
-use Rattle.ii_indexing.specs.IndexedTerms.{IndexedTermsState, IsOfField, StoresTokens, TakesTexts, TakesValue, kept_at, kept_in, value_fault, writer_in}
+use Rattle.ii_indexing.specs.IndexedTerms.{IndexedTermsState, IsOfField, StoresTokens, TakesTexts, TakesValue, held_kept_at, kept_at, kept_in, value_fault, writer_in}
 use Rattle.ii_recorder.specs.Recorded.{position_fault}
 use Rattle.ii_postings_writer.specs.IndexingContext.{entry_for_doc, recorder_or_new, TermIndex, recorder_of}
 use Rattle.ii_postings_writer.specs.IndexingTerm.{field_bytes}
@@ -61,9 +65,10 @@ set_other (y ∷ xs) (suc i) (suc j) w other = set_other xs i j w (grind (arith,
 
 -- What a field has with more tokens of it.
 pub record AddsTokens (entries : List SchemaEntry) (field : ℕ) (old : IndexedTermsState) (terms : TermIndex) (writer : PostingsWriterState) (ts us : List IndexToken) : Type 0 where
-  pub records : Records (kept_at entries) terms (ts ++ us)
+  pub records : Records (held_kept_at entries) terms (map (held_token (json_fields entries) old.paths) (ts ++ us))
   pub writer_is : writer ≡ writer_in entries field (field_count field (ts ++ us))
   pub of_field : AllByRecursion (IsOfField entries) us
+  pub has_paths : AllByRecursion (IsKnownToken (json_fields entries) old.paths) us
   pub only : OnlyIn field us
 
 all_joined : {A : Type 0} (P : A → Type 0) (xs ys : List A) → AllByRecursion P xs → AllByRecursion P ys → AllByRecursion P (xs ++ ys)
@@ -114,11 +119,13 @@ one_kind entries ts field key all = by (tokens_at field key ts) refl
     by (t ∷ us) is = basic_if (option_of entries field) t.of_text (kept_at entries field key) (kept_kind entries ts field key t us is all)
 
 pub tokens_stored : (entries : List SchemaEntry) (field : ℕ) (old : IndexedTermsState) (terms : TermIndex) (writer : PostingsWriterState) (ts us : List IndexToken) → field < length entries
-    → StoresTokens entries old ts → AddsTokens entries field old terms writer ts us → StoresTokens entries (record { terms = terms; writers = slice_set old.writers field writer }) (ts ++ us)
+    → StoresTokens entries old ts → AddsTokens entries field old terms writer ts us → StoresTokens entries (record { terms = terms; paths = old.paths; writers = slice_set old.writers field writer }) (ts ++ us)
 tokens_stored entries field old terms writer ts us low h adds = record {
   records = adds.records;
   counted = λ f inside. by_count f inside (field == f) refl;
   of_fields = all_joined (IsOfField entries) ts us h.of_fields adds.of_field;
+  has_paths = all_joined (IsKnownToken (json_fields entries) old.paths) ts us h.has_paths adds.has_paths;
+  known_paths = h.known_paths;
 }
   where
     by_count : (f : ℕ) → f < length entries → (b : Bool) → (field == f) ≡ b → slice_get (slice_set old.writers field writer) f ≡ Some (writer_in entries f (field_count f (ts ++ us)))
@@ -134,72 +141,92 @@ some_inside : {A : Type 0} (x y : A) → Some x ≡ Some y → x ≡ y
 some_inside x y is = cc
 
 -- what a writer of a text knows
-pub text_known : (entries : List SchemaEntry) (ts : List IndexToken) (s : IndexedTermsState) (p : Piece) (w : PostingsWriterState) → TakesTexts entries p.field p.prefix
-    → StoresTokens entries s ts → slice_get s.writers p.field ≡ Some w → (w.option ≡ option_of entries p.field) × HasTokens (kept_at entries) p s.terms w ts
-text_known entries ts s p w takes h found =
-    let is : w ≡ writer_in entries p.field (field_count p.field ts) = some_inside _ _ (sym found ∙ h.counted p.field takes.known) in
-    let option : w.option ≡ kept_in entries p.field = ap (λ (v : PostingsWriterState). v.option) is in (
+pub text_known : (entries : List SchemaEntry) (ts : List IndexToken) (s : IndexedTermsState) (doc field : ℕ) (held prefix : List ℕ) (words : List Word) (w : PostingsWriterState) → TakesTexts entries s.paths field held prefix
+    → StoresTokens entries s ts → slice_get s.writers field ≡ Some w
+    → (w.option ≡ option_of entries field) × HasTokens (held_kept_at entries) (text_at doc field held words) s.terms w (map (held_token (json_fields entries) s.paths) ts)
+text_known entries ts s doc field held prefix words w takes h found =
+    let is : w ≡ writer_in entries field (field_count field ts) = some_inside _ _ (sym found ∙ h.counted field takes.known) in
+    let option : w.option ≡ kept_in entries field = ap (λ (v : PostingsWriterState). v.option) is in
+    let flags = json_fields entries in (
       option ∙ takes.option,
       record {
         records = h.records;
-        kinds = λ key. takes.kept key ∙ sym option;
+        kinds = λ key. takes.held_kept key ∙ sym option;
         of_text = λ key.
-            let same : kept_at entries p.field (p.prefix ++ key) ≡ w.option = takes.kept key ∙ sym option in
-            subst (λ (o : IndexRecordOption). kind_of o (tokens_at p.field (p.prefix ++ key) ts) ≡ o) same (one_kind entries ts p.field (p.prefix ++ key) h.of_fields);
-        counted = ap (λ (v : PostingsWriterState). v.total_num_tokens) is;
+            let same : kept_at entries field (prefix ++ key) ≡ w.option = takes.kept key ∙ sym option in
+            ap (kind_of w.option) (keys_held entries s.paths h.known_paths (text_at doc field prefix words) (text_at doc field held words) refl refl takes ts key h.has_paths)
+            ∙ kind_held flags s.paths w.option (tokens_at field (prefix ++ key) ts)
+            ∙ subst (λ (o : IndexRecordOption). kind_of o (tokens_at field (prefix ++ key) ts) ≡ o) same (one_kind entries ts field (prefix ++ key) h.of_fields);
+        counted = ap (λ (v : PostingsWriterState). v.total_num_tokens) is ∙ sym (count_held flags s.paths field ts);
       },
     )
 
-words_of_field : (entries : List SchemaEntry) (p : Piece) (begin : ℕ) (ws : List Word) → TakesTexts entries p.field p.prefix → AllByRecursion (IsOfField entries) (map (word_token p begin) ws)
-words_of_field entries p begin [] takes = tt
-words_of_field entries p begin (w ∷ ws) takes = (record { known = takes.known; kind = sym (takes.kept w.text ∙ takes.option) }, words_of_field entries p begin ws takes)
+words_of_field : (entries : List SchemaEntry) (paths : List (List ℕ)) (held : List ℕ) (p : Piece) (begin : ℕ) (ws : List Word) → TakesTexts entries paths p.field held p.prefix → AllByRecursion (IsOfField entries) (map (word_token p begin) ws)
+words_of_field entries paths held p begin [] takes = tt
+words_of_field entries paths held p begin (w ∷ ws) takes = (record { known = takes.known; kind = sym (takes.kept w.text ∙ takes.option) }, words_of_field entries paths held p begin ws takes)
 
 -- a text was indexed
-pub text_stored : (entries : List SchemaEntry) (ts : List IndexToken) (s : IndexedTermsState) (p : Piece) (begin : ℕ) (w : PostingsWriterState) (terms : TermIndex) (after : PostingsWriterState)
-    → TakesTexts entries p.field p.prefix → StoresTokens entries s ts → slice_get s.writers p.field ≡ Some w → after ≡ tokens_counted (length (kept_words p.words)) w
-    → (HasTokens (kept_at entries) p s.terms w ts → HasTokens (kept_at entries) p terms after (ts ++ map (word_token p begin) (kept_words p.words)))
-    → StoresTokens entries (record { terms = terms; writers = slice_set s.writers p.field after }) (ts ++ map (word_token p begin) (kept_words p.words))
-text_stored entries ts s p begin w terms after takes h found counted f =
-    let known = text_known entries ts s p w takes h found in
+pub text_stored : (entries : List SchemaEntry) (ts : List IndexToken) (s : IndexedTermsState) (doc field : ℕ) (held prefix : List ℕ) (words : List Word) (begin : ℕ) (w : PostingsWriterState) (terms : TermIndex) (after : PostingsWriterState)
+    → TakesTexts entries s.paths field held prefix → StoresTokens entries s ts → slice_get s.writers field ≡ Some w → after ≡ tokens_counted (length (kept_words words)) w
+    → let p = text_at doc field prefix words in let q = text_at doc field held words in let us = map (held_token (json_fields entries) s.paths) ts in
+    (HasTokens (held_kept_at entries) q s.terms w us → HasTokens (held_kept_at entries) q terms after (us ++ map (word_token q begin) (kept_words words)))
+    → StoresTokens entries (record { terms = terms; paths = s.paths; writers = slice_set s.writers field after }) (ts ++ map (word_token p begin) (kept_words words))
+text_stored entries ts s doc field held prefix words begin w terms after takes h found counted f =
+    let flags = json_fields entries in
+    let p = text_at doc field prefix words in
+    let q = text_at doc field held words in
+    let ws = kept_words words in
+    let us = map (word_token p begin) ws in
+    let known = text_known entries ts s doc field held prefix words w takes h found in
     let new = f known.1 in
-    let is : w ≡ writer_in entries p.field (field_count p.field ts) = some_inside _ _ (sym found ∙ h.counted p.field takes.known) in
-    let made : after ≡ tokens_counted (length (kept_words p.words)) (writer_in entries p.field (field_count p.field ts)) = counted ∙ ap (tokens_counted (length (kept_words p.words))) is in
-    let many = sym (ap (λ (v : PostingsWriterState). v.total_num_tokens) made) ∙ new.counted in
-    tokens_stored entries p.field s terms after ts (map (word_token p begin) (kept_words p.words)) takes.known h (record {
-      records = new.records;
-      writer_is = made ∙ ap (writer_in entries p.field) many;
-      of_field = words_of_field entries p begin (kept_words p.words) takes;
-      only = words_only p begin (kept_words p.words);
+    let all : map (held_token flags s.paths) ts ++ map (word_token q begin) ws ≡ map (held_token flags s.paths) (ts ++ us)
+    = ap (λ (vs : List IndexToken). map (held_token flags s.paths) ts ++ vs) (sym (words_held entries s.paths h.known_paths p q refl refl takes begin ws)) ∙ sym (map-append (held_token flags s.paths) ts us) in
+    let is : w ≡ writer_in entries field (field_count field ts) = some_inside _ _ (sym found ∙ h.counted field takes.known) in
+    let made : after ≡ tokens_counted (length ws) (writer_in entries field (field_count field ts)) = counted ∙ ap (tokens_counted (length ws)) is in
+    let many = sym (ap (λ (v : PostingsWriterState). v.total_num_tokens) made) ∙ new.counted ∙ ap (field_count field) all ∙ count_held flags s.paths field (ts ++ us) in
+    tokens_stored entries field s terms after ts us takes.known h (record {
+      records = subst (Records (held_kept_at entries) terms) all new.records;
+      writer_is = made ∙ ap (writer_in entries field) many;
+      of_field = words_of_field entries s.paths held p begin ws takes;
+      has_paths = words_known entries s.paths h.known_paths p q refl refl takes begin ws;
+      only = words_only p begin ws;
     })
 
 -- a value was indexed
-pub value_stored : (entries : List SchemaEntry) (ts : List IndexToken) (s : IndexedTermsState) (p : Piece) (w : PostingsWriterState) (terms : TermIndex) (after : PostingsWriterState)
-    → TakesValue entries p.field p.prefix → StoresTokens entries s ts → slice_get s.writers p.field ≡ Some w → after ≡ tokens_counted 1 w
-    → (kept_at entries p.field p.prefix ≡ w.value_option → Records (kept_at entries) s.terms ts → Records (kept_at entries) terms (ts ++ value_token p ∷ []))
-    → StoresTokens entries (record { terms = terms; writers = slice_set s.writers p.field after }) (ts ++ value_token p ∷ [])
-value_stored entries ts s p w terms after takes h found counted f =
-    let t = value_token p in
-    let is : w ≡ writer_in entries p.field (field_count p.field ts) = some_inside _ _ (sym found ∙ h.counted p.field takes.known) in
+pub value_stored : (entries : List SchemaEntry) (ts : List IndexToken) (s : IndexedTermsState) (doc field : ℕ) (held key : List ℕ) (w : PostingsWriterState) (terms : TermIndex) (after : PostingsWriterState)
+    → TakesValue entries s.paths field held key → StoresTokens entries s ts → slice_get s.writers field ≡ Some w → after ≡ tokens_counted 1 w
+    → let us = map (held_token (json_fields entries) s.paths) ts in
+    (held_kept_at entries field held ≡ w.value_option → Records (held_kept_at entries) s.terms us → Records (held_kept_at entries) terms (us ++ value_token (value_at doc field held) ∷ []))
+    → StoresTokens entries (record { terms = terms; paths = s.paths; writers = slice_set s.writers field after }) (ts ++ value_token (value_at doc field key) ∷ [])
+value_stored entries ts s doc field held key w terms after takes h found counted f =
+    let flags = json_fields entries in
+    let t = value_token (value_at doc field key) in
+    let is : w ≡ writer_in entries field (field_count field ts) = some_inside _ _ (sym found ∙ h.counted field takes.known) in
     let option : w.value_option ≡ Basic = ap (λ (v : PostingsWriterState). v.value_option) is ∙ takes.option in
-    tokens_stored entries p.field s terms after ts (t ∷ []) takes.known h (record {
-      records = f (takes.kept ∙ sym option) h.records;
-      writer_is = counted ∙ ap (tokens_counted 1) is ∙ ap (writer_in entries p.field) (sym (field_count_more p.field ts t refl));
+    let token : value_token (value_at doc field held) ≡ held_token flags s.paths t = ap (λ (k : List ℕ). record t { key = k }) (sym takes.holds) in
+    let all : map (held_token flags s.paths) ts ++ value_token (value_at doc field held) ∷ [] ≡ map (held_token flags s.paths) (ts ++ t ∷ [])
+    = ap (λ (u : IndexToken). map (held_token flags s.paths) ts ++ u ∷ []) token ∙ sym (map-append (held_token flags s.paths) ts (t ∷ [])) in
+    tokens_stored entries field s terms after ts (t ∷ []) takes.known h (record {
+      records = subst (Records (held_kept_at entries) terms) all (f (takes.held_kept ∙ sym option) h.records);
+      writer_is = counted ∙ ap (tokens_counted 1) is ∙ ap (writer_in entries field) (sym (field_count_more field ts t refl));
       of_field = (record { known = takes.known; kind = sym takes.kept }, tt);
-      only = one_token p.field t [] refl (no_tokens p.field);
+      has_paths = (takes.has_path, tt);
+      only = one_token field t [] refl (no_tokens field);
     })
 
 -- why it is refused
-pub value_refused : {T : Type 0} (entries : List SchemaEntry) (ts : List IndexToken) (s : IndexedTermsState) (doc field : ℕ) (key : List ℕ) (w : PostingsWriterState) (result : Result T Fault)
-    → field < 4294967296 → TakesValue entries field key → StoresTokens entries s ts → slice_get s.writers field ≡ Some w
-    → IsRefusedBy (subscribe_fault w.value_option w.total_num_tokens doc 0 (field_bytes field ++ key) s.terms) result → IsRefusedBy (value_fault field ts) result
-value_refused {T} entries ts s doc field key w result low takes h found refused =
+pub value_refused : {T : Type 0} (entries : List SchemaEntry) (ts : List IndexToken) (s : IndexedTermsState) (doc field : ℕ) (held key : List ℕ) (w : PostingsWriterState) (result : Result T Fault)
+    → field < 4294967296 → TakesValue entries s.paths field held key → StoresTokens entries s ts → slice_get s.writers field ≡ Some w
+    → IsRefusedBy (subscribe_fault w.value_option w.total_num_tokens doc 0 (field_bytes field ++ held) s.terms) result → IsRefusedBy (value_fault field ts) result
+value_refused {T} entries ts s doc field held key w result low takes h found refused =
     let is : w ≡ writer_in entries field (field_count field ts) = some_inside _ _ (sym found ∙ h.counted field takes.known) in
     let option : w.value_option ≡ Basic = ap (λ (v : PostingsWriterState). v.value_option) is ∙ takes.option in
     let many : w.total_num_tokens ≡ field_count field ts = ap (λ (v : PostingsWriterState). v.total_num_tokens) is in
-    let bytes = field_bytes field ++ key in
-    let known : HasKey Basic (tokens_at field key ts) (recorder_of s.terms bytes) =
-    subst (λ (o : IndexRecordOption). HasKey o (tokens_at field key ts) (recorder_of s.terms bytes)) takes.kept (h.records field key low) in
-    let kept = key_recorder Basic (tokens_at field key ts) (recorder_of s.terms bytes) known in
+    let bytes = field_bytes field ++ held in
+    let us = map (held_token (json_fields entries) s.paths) ts in
+    let known : HasKey Basic (tokens_at field held us) (recorder_of s.terms bytes) =
+    subst (λ (o : IndexRecordOption). HasKey o (tokens_at field held us) (recorder_of s.terms bytes)) takes.held_kept (h.records field held low) in
+    let kept = key_recorder Basic (tokens_at field held us) (recorder_of s.terms bytes) known in
     let r = recorder_or_new Basic s.terms bytes in
     let cause : subscribe_fault w.value_option w.total_num_tokens doc 0 bytes s.terms ≡ value_fault field ts =
     ap (λ (o : IndexRecordOption). subscribe_fault o w.total_num_tokens doc 0 bytes s.terms) option

@@ -1,6 +1,6 @@
 -- What is stored of calls is what the context and the writers have, and may be written.
-use Rattle.std.proofs.Common.{◌≡◌, ℕ, zero, suc, ◌<◌, Bool, true, false, List, [], ◌∷◌, ◌++◌, map, length, Option, Some, None, refl, sym, ap, ◌∙◌, subst, arith, length-append}
-use Rattle.std.specs.Prelude.{IsTrue, IsSome, MatchOption, is_some, slice_set, unwrap_or, ⊤, if◌then◌else◌}
+use Rattle.std.proofs.Common.{◌≡◌, ℕ, zero, suc, ◌<◌, ◌==◌, Bool, true, false, List, [], ◌∷◌, ◌++◌, map, length, Option, Some, None, refl, sym, ap, ◌∙◌, subst, arith, length-append}
+use Rattle.std.specs.Prelude.{bytes_eq, filter, IsTrue, IsSome, MatchOption, is_some, slice_set, unwrap_or, ⊤, if◌then◌else◌}
 use Rattle.std.specs.List.{AllByRecursion}
 use Rattle.std.specs.Option.{option_map, option_to_list}
 use Rattle.ii_base.specs.Schema.{SchemaEntry, keeps_norms}
@@ -11,13 +11,19 @@ use Rattle.ii_docset.specs.Entries.{Entry as DocEntry}
 use Rattle.ii_fieldnorm.specs.Buffers.{Buffers, buffer_of, empty_buffers}
 use Rattle.ii_definitions.specs.Cut.{cut_entry}
 use Rattle.ii_definitions.specs.Fields.{option_of}
-use Rattle.ii_definitions.specs.Postings.{IsCounted, grouped, kind_of, tokens_at}
+use Rattle.ii_definitions.specs.Postings.{IsCounted, grouped, is_at, kind_of, tokens_at}
 use Rattle.ii_definitions.specs.Tokens.{IndexToken}
 use Rattle.ii_definitions.proofs.GroupedLaws.{grouped_counted}
 use Rattle.ii_recorder.specs.Pushed.{pushed_freqs}
 use Rattle.ii_recorder.specs.Recorded.{RecorderState}
-use Rattle.ii_postings_writer.specs.HeldBodies.{HaveTokens}
-use Rattle.ii_indexing.specs.IndexedTerms.{IndexedTermsState, IsOfField, StoresTokens, kept_at}
+use Rattle.std.proofs.lemmas.Bool.{and_parts, eqb-true}
+use Rattle.std.proofs.lemmas.Slice.Eq.{bytes_eq-Decides}
+use Rattle.ii_definitions.specs.JsonKeys.{path_in}
+use Rattle.ii_json.specs.Paths.{path_id}
+use Rattle.ii_postings_writer.specs.ResolvedTerms.{HaveHeldTokens, HoldIds, HoldsId, IsKnownToken, behind_path, held_token, is_json_field, json_fields}
+use Rattle.ii_postings_writer.proofs.ResolvedLaws.{path_of_id}
+use Rattle.ii_indexing.proofs.HeldLaws.{kept_held}
+use Rattle.ii_indexing.specs.IndexedTerms.{IndexedTermsState, IsOfField, StoresTokens, held_kept_at}
 use Rattle.ii_postings_writer.specs.IndexingContext.{AllEndBy, EndsBy, recorder_of}
 use Rattle.ii_postings_writer.specs.IndexingTerm.{field_bytes}
 use Rattle.ii_indexing.specs.OpenDocuments.{with_norms}
@@ -25,7 +31,6 @@ use Rattle.ii_postings_writer.specs.PostingsWriter.{PostingsWriterState}
 use Rattle.ii_postings_writer.specs.Records.{HasPostings}
 use Rattle.ii_postings_writer.specs.SortedTerms.{AllMayBeWritten, MayBeWritten}
 use Rattle.ii_postings_writer.proofs.SortedLemmas.{all_mapped, field_of_bytes}
-use Rattle.ii_indexing.proofs.StoreLaws.{kept_kind, token_field}
 
 -- the counts of entries that are cut
 counts_some : (option : IndexRecordOption) (es : List DocEntry) → IsTrue (has_freq option) → AllByRecursion IsCounted es → AllByRecursion (λ n. 0 < n) (pushed_freqs option (map (cut_entry option) es))
@@ -44,43 +49,111 @@ has_some option ts r has none = by r.pending refl has.opened
         let entries : r.closed ++ e ∷ [] ≡ [] = ap (λ (o : Option DocEntry). r.closed ++ option_to_list o) (sym is) ∙ has.entries ∙ ap (λ (us : List IndexToken). map (cut_entry option) (grouped us)) none in
         omega (arith, length-append r.closed (e ∷ []), ap length entries)
 
+-- What is known of a token as terms hold it: its field is one of the schema, which keeps of what is held of its key what the definitions keep of such a token's, and that holds the id of a known path.
+pub record IsHeldToken (entries : List SchemaEntry) (paths : List (List ℕ)) (t : IndexToken) : Type 0 where
+  pub known : t.field < length entries
+  pub kind : kind_of (option_of entries t.field) (t ∷ []) ≡ held_kept_at entries t.field t.key
+  pub id : is_json_field (json_fields entries) t.field ≡ true → HoldsId paths t.key
+
+-- the first of those that are kept
+first_of_kept : (p : IndexToken → Bool) (P : IndexToken → Type 0) (xs : List IndexToken) (y : IndexToken) (ys : List IndexToken) → filter p xs ≡ y ∷ ys → AllByRecursion P xs → P y × (p y ≡ true)
+first_of_kept p P [] y ys is all = absurd (cc)
+first_of_kept p P (x ∷ xs) y ys is all = by (p x) refl (λ rest. first_of_kept p P xs y ys rest all.1)
+  where
+    by : (b : Bool) → p x ≡ b → (filter p xs ≡ y ∷ ys → P y × (p y ≡ true)) → P y × (p y ≡ true)
+    by true at rest =
+        let kept : x ∷ filter p xs ≡ y ∷ ys = sym (rw at refl) ∙ is in
+        let same : x ≡ y = cc in
+        subst (λ (z : IndexToken). P z × (p z ≡ true)) same (all.0, at)
+    by false at rest =
+        let kept : filter p xs ≡ y ∷ ys = sym (rw at refl) ∙ is in
+        rest kept
+
 module _ (entries : List SchemaEntry) (s : IndexedTermsState) (ts : List IndexToken) (h : StoresTokens entries s ts) where
-  -- the field of a key that occurred
-  known_field : (field : ℕ) (key : List ℕ) (r : RecorderState) → HasPostings (kept_at entries field key) (tokens_at field key ts) r → field < length entries
-  known_field field key r has = by (tokens_at field key ts) refl
+  abbrev flags : List Bool
+  flags = json_fields entries
+
+  abbrev held : List IndexToken
+  held = map (held_token flags s.paths) ts
+
+  one_held : (t : IndexToken) → IsOfField entries t → IsKnownToken flags s.paths t → IsHeldToken entries s.paths (held_token flags s.paths t)
+  one_held t of known = record {
+    known = of.known;
+    kind = of.kind ∙ sym (kept_held entries s.paths t.field t.key known);
+    id = λ json.
+        let has = known json in
+        let at = path_of_id s.paths (path_in t.key) has.known in
+        record { id = path_id s.paths (path_in t.key); typed_value = behind_path t.key; small = omega (arith, at.0, h.known_paths.few); known = at.0; is = rw json refl };
+  }
+
+  each_held : (us : List IndexToken) → AllByRecursion (IsOfField entries) us → AllByRecursion (IsKnownToken flags s.paths) us → AllByRecursion (IsHeldToken entries s.paths) (map (held_token flags s.paths) us)
+  each_held [] of known = tt
+  each_held (t ∷ us) of known = (one_held t of.0 known.0, each_held us of.1 known.1)
+
+  -- what is known of a key that occurred
+  held_first : (field : ℕ) (key : List ℕ) (t : IndexToken) (us : List IndexToken) → tokens_at field key held ≡ t ∷ us → IsHeldToken entries s.paths t × (t.field ≡ field) × (t.key ≡ key)
+  held_first field key t us is =
+      let first = first_of_kept (is_at field key) (IsHeldToken entries s.paths) held t us is (each_held ts h.of_fields h.has_paths) in
+      let parts = and_parts (t.field == field) (bytes_eq t.key key) first.1 in
+      (first.0, eqb-true t.field field parts.0, (bytes_eq-Decides t.key key).0 parts.1)
+
+  with_first : (field : ℕ) (key : List ℕ) (r : RecorderState) (P : Type 0) → HasPostings (held_kept_at entries field key) (tokens_at field key held) r
+      → ((t : IndexToken) (us : List IndexToken) → tokens_at field key held ≡ t ∷ us → P) → P
+  with_first field key r P has next = by (tokens_at field key held) refl
     where
-      by : (us : List IndexToken) → tokens_at field key ts ≡ us → field < length entries
-      by [] is = absurd (has_some (kept_at entries field key) (tokens_at field key ts) r has is)
-      by (t ∷ us) is = token_field entries ts field key t us is h.of_fields
+      by : (us : List IndexToken) → tokens_at field key held ≡ us → P
+      by [] is = absurd (has_some (held_kept_at entries field key) (tokens_at field key held) r has is)
+      by (t ∷ us) is = next t us is
+
+  known_field : (field : ℕ) (key : List ℕ) (r : RecorderState) → HasPostings (held_kept_at entries field key) (tokens_at field key held) r → field < length entries
+  known_field field key r has = with_first field key r (field < length entries) has (λ t us is. let first = held_first field key t us is in subst (λ (f : ℕ). f < length entries) first.1 first.0.known)
+
+  held_kind : (field : ℕ) (key : List ℕ) (t : IndexToken) (us : List IndexToken) → tokens_at field key held ≡ t ∷ us → held_kept_at entries field key ≡ kind_of (option_of entries field) (tokens_at field key held)
+  held_kind field key t us is =
+      let first = held_first field key t us is in
+      let kind : kind_of (option_of entries field) (t ∷ us) ≡ held_kept_at entries field key
+      = subst (λ (k : List ℕ). kind_of (option_of entries field) (t ∷ []) ≡ held_kept_at entries field k) first.2 (subst (λ (f : ℕ). kind_of (option_of entries f) (t ∷ []) ≡ held_kept_at entries f t.key) first.1 first.0.kind) in
+      sym (ap (kind_of (option_of entries field)) is ∙ kind)
 
   pub may_be_written : (doc : ℕ) → AllEndBy doc s.terms → AllMayBeWritten (length entries) s.terms
   may_be_written doc ends field key small = by (recorder_of s.terms (field_bytes field ++ key)) (h.records field key small) (ends (field_bytes field ++ key))
     where
-      by : (o : Option RecorderState) → MatchOption o (tokens_at field key ts ≡ []) (HasPostings (kept_at entries field key) (tokens_at field key ts)) → MatchOption o ⊤ (EndsBy doc)
+      by : (o : Option RecorderState) → MatchOption o (tokens_at field key held ≡ []) (HasPostings (held_kept_at entries field key) (tokens_at field key held)) → MatchOption o ⊤ (EndsBy doc)
           → MatchOption o ⊤ (MayBeWritten (length entries) (field_bytes field ++ key))
       by None has end = tt
       by (Some r) has end = record {
         known = rw (field_of_bytes field key small) (known_field field key r has);
         writable = record {
           ascending = end.ascending;
-          counted = λ some. rw (has.entries, has.kept) (counts_some (kept_at entries field key) (grouped (tokens_at field key ts)) (rw (← has.kept) some) (grouped_counted (tokens_at field key ts)));
+          counted = λ some. rw (has.entries, has.kept) (counts_some (held_kept_at entries field key) (grouped (tokens_at field key held)) (rw (← has.kept) some) (grouped_counted (tokens_at field key held)));
         };
       }
 
-  pub have_tokens : HaveTokens entries s.terms s.writers ts
+  -- terms of JSON fields hold ids of known paths
+  pub hold_ids : HoldIds (json_fields entries) s.paths s.terms
+  hold_ids field key small = by (recorder_of s.terms (field_bytes field ++ key)) (h.records field key small)
+    where
+      by : (o : Option RecorderState) → MatchOption o (tokens_at field key held ≡ []) (HasPostings (held_kept_at entries field key) (tokens_at field key held))
+          → MatchOption o ⊤ (λ r. is_json_field (json_fields entries) field ≡ true → HoldsId s.paths key)
+      by None has = tt
+      by (Some r) has = λ json.
+          with_first field key r (HoldsId s.paths key) has (λ t us is.
+          let first = held_first field key t us is in
+          subst (HoldsId s.paths) first.2 (first.0.id (ap (is_json_field (json_fields entries)) first.1 ∙ json)))
+
+  pub have_tokens : HaveHeldTokens entries s.paths s.terms s.writers ts
   have_tokens = record {
-    records = λ field key small. by field key (tokens_at field key ts) refl (recorder_of s.terms (field_bytes field ++ key)) (h.records field key small);
+    records = λ field key small. by field key (tokens_at field key held) refl (recorder_of s.terms (field_bytes field ++ key)) (h.records field key small);
     counted = λ field inside. ap (λ (o : Option PostingsWriterState). unwrap_or (option_map (λ (w : PostingsWriterState). w.total_num_tokens) o) 0) (h.counted field inside);
     known = all_mapped (IsOfField entries) (λ (t : IndexToken). t.field < length entries) (λ t of. of.known) ts h.of_fields;
+    paths_known = h.has_paths;
   }
     where
-      by : (field : ℕ) (key : List ℕ) (us : List IndexToken) → tokens_at field key ts ≡ us → (o : Option RecorderState) → MatchOption o (tokens_at field key ts ≡ []) (HasPostings (kept_at entries field key) (tokens_at field key ts))
-          → MatchOption o (tokens_at field key ts ≡ []) (HasPostings (kind_of (option_of entries field) (tokens_at field key ts)) (tokens_at field key ts))
+      by : (field : ℕ) (key : List ℕ) (us : List IndexToken) → tokens_at field key held ≡ us → (o : Option RecorderState) → MatchOption o (tokens_at field key held ≡ []) (HasPostings (held_kept_at entries field key) (tokens_at field key held))
+          → MatchOption o (tokens_at field key held ≡ []) (HasPostings (kind_of (option_of entries field) (tokens_at field key held)) (tokens_at field key held))
       by field key us is None has = has
-      by field key [] is (Some r) has = absurd (has_some (kept_at entries field key) (tokens_at field key ts) r has is)
-      by field key (t ∷ us) is (Some r) has =
-          let kind : kept_at entries field key ≡ kind_of (option_of entries field) (tokens_at field key ts) = sym (ap (kind_of (option_of entries field)) is ∙ kept_kind entries ts field key t us is h.of_fields) in
-          subst (λ (o : IndexRecordOption). HasPostings o (tokens_at field key ts) r) kind has
+      by field key [] is (Some r) has = absurd (has_some (held_kept_at entries field key) (tokens_at field key held) r has is)
+      by field key (t ∷ us) is (Some r) has = subst (λ (o : IndexRecordOption). HasPostings o (tokens_at field key held) r) (held_kind field key t us is) has
 
 some_kept : (g : List ℕ → List ℕ) (b : Option (List ℕ)) → is_some (option_map g b) ≡ is_some b
 some_kept g None = refl

@@ -1,5 +1,5 @@
 -- What is kept of the terms of all fields while documents are indexed.
-use Rattle.std.specs.Prelude.{◌≡◌, ℕ, ◌<◌, if◌then◌else◌, List, [], ◌∷◌, ◌++◌, nat_le, length, Option, None, Some, slice_get, unwrap_or}
+use Rattle.std.specs.Prelude.{◌≡◌, ℕ, ◌<◌, ◌≤◌, ◌^◌, true, if◌then◌else◌, List, [], ◌∷◌, ◌++◌, map, nat_le, length, Option, None, Some, slice_get, unwrap_or}
 use Rattle.std.specs.List.{AllByRecursion}
 use Rattle.std.specs.Option.{option_map}
 use Rattle.ii_io.specs.declared.faults.Fault.{Fault}
@@ -8,7 +8,11 @@ use Rattle.ii_io.specs.declared.faults.LimitName.TheVariants as limit
 use Rattle.ii_base.specs.Schema.{SchemaEntry}
 use Rattle.ii_base.specs.declared.schema.index_record_option.IndexRecordOption.{IndexRecordOption}
 use Rattle.ii_base.specs.declared.schema.index_record_option.IndexRecordOption.TheVariants.{Basic}
-use Rattle.ii_definitions.specs.JsonKeys.{type_under}
+use Rattle.ii_io.specs.Steps.{◌>>=◌}
+use Rattle.ii_base.specs.declared.schema.value_type.ValueType.{ValueType}
+use Rattle.ii_definitions.specs.JsonKeys.{is_json, type_of_code, type_under}
+use Rattle.ii_json.specs.Paths.{AreDistinct}
+use Rattle.ii_postings_writer.specs.ResolvedTerms.{AreClean, HasPath, IsKnownToken, held_key, held_token, is_json_field, json_fields}
 use Rattle.ii_definitions.specs.Tokens.{IndexToken}
 use Rattle.ii_definitions.specs.Fields.{option_of}
 use Rattle.ii_definitions.specs.Postings.{field_count, kind_of}
@@ -17,9 +21,10 @@ use Rattle.ii_postings_writer.specs.PostingsWriter.{PostingsWriterState, kept_as
 use Rattle.ii_postings_writer.specs.Records.{Records}
 use Rattle.ii_postings_writer.specs.WordRefusals.{u64_max}
 
--- The terms of all fields, and the writer of each field.
+-- The terms of all fields, the known paths of JSON values, and the writer of each field.
 pub record IndexedTermsState : Type 0 where
   pub terms : TermIndex
+  pub paths : List (List ℕ)
   pub writers : List PostingsWriterState
 
 -- what the writer of a field keeps of the terms of texts, and of values
@@ -42,28 +47,54 @@ kept_under key e = kept_as (type_under e.value_type key) e.option
 abbrev pub kept_at : List SchemaEntry → ℕ → List ℕ → IndexRecordOption
 kept_at entries field key = unwrap_or (option_map (kept_under key) (slice_get entries field)) Basic
 
--- A field of a schema takes texts whose words stand under keys with a prefix.
-pub record TakesTexts (entries : List SchemaEntry) (field : ℕ) (prefix : List ℕ) : Type 0 where
+-- the type of what stands under a key as a term holds it: in a JSON field the letter behind the path's id tells it
+abbrev pub held_type : ValueType → List ℕ → ValueType
+held_type t key = if is_json t then unwrap_or (slice_get key 4 >>= type_of_code) t else t
+
+-- what is kept of it
+abbrev pub held_kept_under : List ℕ → SchemaEntry → IndexRecordOption
+held_kept_under key e = kept_as (held_type e.value_type key) e.option
+
+-- what is kept of what stands under a key as a term holds it in a field
+abbrev pub held_kept_at : List SchemaEntry → ℕ → List ℕ → IndexRecordOption
+held_kept_at entries field key = unwrap_or (option_map (held_kept_under key) (slice_get entries field)) Basic
+
+-- A field of a schema takes texts whose words stand under keys with a prefix, and under another one in its terms.
+pub record TakesTexts (entries : List SchemaEntry) (paths : List (List ℕ)) (field : ℕ) (held prefix : List ℕ) : Type 0 where
   pub known : field < length entries
   pub option : kept_in entries field ≡ option_of entries field
   pub kept : (key : List ℕ) → kept_at entries field (prefix ++ key) ≡ kept_in entries field
+  pub held_kept : (key : List ℕ) → held_kept_at entries field (held ++ key) ≡ kept_in entries field
+  pub holds : (key : List ℕ) → held_key (json_fields entries) paths field (prefix ++ key) ≡ held ++ key
+  pub has_path : (key : List ℕ) → is_json_field (json_fields entries) field ≡ true → HasPath paths (prefix ++ key)
 
--- It takes a value under a key.
-pub record TakesValue (entries : List SchemaEntry) (field : ℕ) (key : List ℕ) : Type 0 where
+-- It takes a value under a key, and under another one in its terms.
+pub record TakesValue (entries : List SchemaEntry) (paths : List (List ℕ)) (field : ℕ) (held key : List ℕ) : Type 0 where
   pub known : field < length entries
   pub option : values_kept_in entries field ≡ Basic
   pub kept : kept_at entries field key ≡ Basic
+  pub held_kept : held_kept_at entries field held ≡ Basic
+  pub holds : held_key (json_fields entries) paths field key ≡ held
+  pub has_path : is_json_field (json_fields entries) field ≡ true → HasPath paths key
+
+-- Paths are known, each once and none with byte 0, and no more than have ids.
+pub record AreKnownPaths (paths : List (List ℕ)) : Type 0 where
+  pub distinct : AreDistinct paths
+  pub clean : AreClean paths
+  pub few : length paths ≤ 2 ^ 32
 
 -- A token stands in a field of a schema, which keeps of its key what the definitions keep of such a token's.
 pub record IsOfField (entries : List SchemaEntry) (t : IndexToken) : Type 0 where
   pub known : t.field < length entries
   pub kind : kind_of (option_of entries t.field) (t ∷ []) ≡ kept_at entries t.field t.key
 
--- Tokens of the fields of a schema are stored: the postings of each key, and how many there are of each field.
+-- Tokens of the fields of a schema are stored: the postings of each key, which in JSON fields hold the ids of known paths, and how many there are of each field.
 pub record StoresTokens (entries : List SchemaEntry) (s : IndexedTermsState) (ts : List IndexToken) : Type 0 where
-  pub records : Records (kept_at entries) s.terms ts
+  pub records : Records (held_kept_at entries) s.terms (map (held_token (json_fields entries) s.paths) ts)
   pub counted : (field : ℕ) → field < length entries → slice_get s.writers field ≡ Some (writer_in entries field (field_count field ts))
   pub of_fields : AllByRecursion (IsOfField entries) ts
+  pub has_paths : AllByRecursion (IsKnownToken (json_fields entries) s.paths) ts
+  pub known_paths : AreKnownPaths s.paths
 
 -- why a value is refused after tokens
 abbrev pub value_fault : ℕ → List IndexToken → Option Fault

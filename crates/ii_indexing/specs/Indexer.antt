@@ -8,6 +8,7 @@ use Rattle.ii_indexing.specs.IndexedTerms.{IndexedTermsState, StoresTokens}
 use Rattle.ii_postings_writer.specs.IndexingContext.{AllEndBy}
 use Rattle.ii_indexing.specs.OpenDocuments.{OpenDocumentsState, ReachTo, TellsAll, with_norms}
 use Rattle.ii_indexing.specs.OpenPaths.{OpenPathsState, PathsReachTo, TellAllPaths}
+use Rattle.ii_indexing.specs.Refusals.{known_paths}
 
 -- The terms of all fields, the open document of each, and what is known of that path by path.
 pub record IndexedFieldsState : Type 0 where
@@ -20,6 +21,11 @@ pub record StoresPieces (entries : List SchemaEntry) (s : IndexedFieldsState) (p
   pub tokens : StoresTokens entries s.indexed (tokens_after [] ps)
   pub documents : TellsAll ps (tokens_after [] ps) s.opened
   pub paths : TellAllPaths ps s.paths
+
+-- And the paths of these are known, exactly these.
+pub record StoresAll (entries : List SchemaEntry) (s : IndexedFieldsState) (ps : List Piece) : Type 0 where
+  pub pieces : StoresPieces entries s ps
+  pub known : s.indexed.paths ≡ known_paths ps
 
 -- Each field has an open document, and nothing lies above a document.
 pub record EndsAt (doc : ℕ) (s : IndexedFieldsState) : Type 0 where
@@ -40,7 +46,7 @@ pub record IndexerState : Type 0 where
 -- Some pieces are stored.
 pub record StoresSome (entries : List SchemaEntry) (s : IndexedFieldsState) : Type 0 where
   pub pieces : List Piece
-  pub stored : StoresPieces entries s pieces
+  pub stored : StoresAll entries s pieces
 
 -- What holds of an indexer's fields while no call was refused.
 pub record AreRunning (entries : List SchemaEntry) (last_doc : ℕ) (s : IndexedFieldsState) : Type 0 where
@@ -66,4 +72,4 @@ pub record LeafConstant : Type 0 where
 
 -- Texts and values are stored, whatever analyzers made the words of the texts.
 abbrev pub Stores : IndexerState → List Piece → Type 0
-Stores s ps = StoresPieces s.schema s.fields ps
+Stores s ps = StoresAll s.schema s.fields ps

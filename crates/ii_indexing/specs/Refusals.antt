@@ -1,6 +1,7 @@
 -- Which index calls are refused, memory aside.
 use Rattle.std.specs.Prelude.{ℕ, Bool, true, false, if◌then◌else◌, List, [], ◌∷◌, ◌++◌, length, nat_le, Option, None, Some}
-use Rattle.std.specs.List.{filter, flat_map}
+use Rattle.std.specs.List.{filter, flat_map, fold}
+use Rattle.std.specs.Option.{option_map_or}
 use Rattle.ii_io.specs.declared.faults.Fault.{Fault}
 use Rattle.ii_io.specs.declared.faults.Fault.TheVariants.{Limit, UnsupportedLeaf}
 use Rattle.ii_io.specs.declared.faults.LimitName.TheVariants as limit
@@ -8,6 +9,7 @@ use Rattle.ii_base.specs.declared.schema.index_record_option.IndexRecordOption.{
 use Rattle.ii_base.specs.Json.{Leaf, text_leaf, unsupported, value_leaf}
 use Rattle.ii_base.specs.Words.{Word}
 use Rattle.ii_json.specs.LeafVisit.{first_fault, leaves_fault}
+use Rattle.ii_json.specs.Paths.{path_fault, with_path}
 use Rattle.ii_definitions.specs.Tokens.{Call, Content, IndexToken, Piece, begin_after, content_pieces, is_same_group, kept_words, leaf_pieces, leaves, pieces_of, text, tokens_after, value, words}
 use Rattle.ii_definitions.specs.Postings.{field_count}
 use Rattle.ii_postings_writer.specs.WordRefusals.{gap_fault, u64_max, words_fault}
@@ -23,9 +25,22 @@ piece_fault_from true option earlier ts p =
     first_fault (words_fault option p begin (group_count earlier p) ts (kept_words p.words)) (gap_fault begin p.words)
 piece_fault_from false option earlier ts p = if nat_le u64_max (field_count p.field ts) then Some (Limit limit.Tokens) else None
 
--- why a piece is refused after earlier ones, in a field that records by this option
+-- the paths that are known with a piece more
+abbrev pub with_piece : List (List ℕ) → Piece → List (List ℕ)
+with_piece known p = option_map_or (with_path known) p.path known
+
+-- the paths of pieces, each once, in the order in which they became known
+abbrev pub known_paths : List Piece → List (List ℕ)
+known_paths ps = fold with_piece [] ps
+
+-- why the path of a piece can't have an id, if it has a path
+abbrev pub own_path_fault : List (List ℕ) → Option (List ℕ) → Option Fault
+own_path_fault known None = None
+own_path_fault known (Some path) = path_fault known path
+
+-- why a piece is refused after earlier ones, in a field that records by this option: its path can't have an id, or what stands at it is refused
 abbrev pub piece_fault : IndexRecordOption → List Piece → Piece → Option Fault
-piece_fault option earlier p = piece_fault_from p.is_text option earlier (tokens_after [] earlier) p
+piece_fault option earlier p = first_fault (own_path_fault (known_paths earlier) p.path) (piece_fault_from p.is_text option earlier (tokens_after [] earlier) p)
 
 -- why pieces are refused, one after the other
 abbrev pub pieces_fault : IndexRecordOption → List Piece → List Piece → Option Fault

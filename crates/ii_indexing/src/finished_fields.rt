@@ -2,7 +2,7 @@ ghost use Rattle.std.specs.Prelude.{◌≡◌, ◌<◌, ◌^◌, List, length, O
 ghost use Rattle.ii_io.specs.CountingWriter.{Writes};
 ghost use Rattle.ii_definitions.specs.Tokens.{IndexToken};
 ghost use Rattle.ii_postings_writer.specs.FieldParts.{AreShortNorms};
-ghost use Rattle.ii_postings_writer.specs.HeldBodies.{HaveTokens};
+ghost use Rattle.ii_postings_writer.specs.ResolvedTerms.{AreClean, HaveHeldTokens, HoldIds, json_fields};
 ghost use Rattle.ii_indexing.specs.IndexFiles.{CountsIndexFailures, FilesGrow, IsIndexFault, WroteIndex};
 ghost use Rattle.ii_definitions.specs.Norms.{HoldNorms};
 ghost use Rattle.ii_postings_writer.specs.SortedTerms.{AllMayBeWritten};
@@ -40,11 +40,13 @@ impl FinishedFields {
         requires writers { length self.terms.writers ≡ length schema.now }
         requires short { AreShortNorms self.readers }
         requires terms { AllMayBeWritten (length schema.now) self.terms.terms }
-        ensures holds { (ts : List IndexToken) → HoldNorms schema.now num_docs self.norms ts → HaveTokens schema.now self.terms.terms self.terms.writers ts
+        requires ids { HoldIds (json_fields schema.now) self.terms.paths self.terms.terms }
+        requires clean { AreClean self.terms.paths }
+        ensures holds { (ts : List IndexToken) → HoldNorms schema.now num_docs self.norms ts → HaveHeldTokens schema.now self.terms.paths self.terms.terms self.terms.writers ts
             → OnOk result.1 (WroteIndex schema.now num_docs writers result.0 ts) }
         ensures failures { CountsIndexFailures writers result.0 result.1 }
         ensures grow { FilesGrow writers result.0 }
-        ensures fault { (ts : List IndexToken) → HoldNorms schema.now num_docs self.norms ts → HaveTokens schema.now self.terms.terms self.terms.writers ts
+        ensures fault { (ts : List IndexToken) → HoldNorms schema.now num_docs self.norms ts → HaveHeldTokens schema.now self.terms.paths self.terms.terms self.terms.writers ts
             → IfErr result.1 (IsIndexFault schema.now num_docs writers ts) }
     {
         let FinishedFields {

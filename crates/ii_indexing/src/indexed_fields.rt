@@ -2,42 +2,32 @@ ghost use Rattle.std.specs.Prelude.{◌≡◌, ◌<◌, ◌≤◌, ◌^◌, ◌�
 ghost use Rattle.ii_io.specs.Faults.{OnlyMemory};
 ghost use Rattle.ii_base.specs.Schema.{SchemaEntry, keeps_norms};
 ghost use Rattle.ii_docset.specs.declared.docset.TheConstants.{TERMINATED};
-ghost use Rattle.ii_definitions.specs.Tokens.{IndexToken, Piece, call_pieces, text_at, value_at};
+ghost use Rattle.ii_definitions.specs.Tokens.{IndexToken, Piece, at_path, text_at, value_at};
 ghost use Rattle.ii_definitions.specs.Fields.{option_of};
 ghost use Rattle.ii_base.specs.Paths.{has_zero};
 ghost use Rattle.ii_base.specs.Values.{json_key, text_key, typed_key};
 ghost use Rattle.ii_base.specs.declared.schema.value_type.ValueType.TheVariants.{Json};
 ghost use Rattle.ii_json.specs.LeafVisit.{is_number_type};
-ghost use Rattle.ii_indexing.specs.IndexCalls.{Takes, call_with, content_of, doc_of, field_of, type_of};
-ghost use Rattle.ii_indexing.specs.FieldValues.{key_of_value};
+ghost use Rattle.ii_indexing.specs.IndexCalls.{Takes};
 ghost use Rattle.ii_indexing.specs.IndexedTerms.{TakesTexts, TakesValue};
 ghost use Rattle.ii_postings_writer.specs.FieldParts.{AreShortNorms};
-ghost use Rattle.ii_indexing.specs.Indexer.{EndsAt, StoresPieces, StoresSome};
+ghost use Rattle.ii_indexing.specs.Indexer.{EndsAt, StoresAll, StoresPieces, StoresSome};
 ghost use Rattle.ii_definitions.specs.Norms.{HoldNorms};
 ghost use Rattle.ii_indexing.specs.OpenDocuments.{TellsAll, with_norms};
-ghost use Rattle.ii_indexing.specs.Refusals.{content_fault, piece_fault};
+ghost use Rattle.ii_indexing.specs.Refusals.{piece_fault};
 ghost use Rattle.ii_json.specs.LeafVisit.{IsRefusedBy};
 
 use crate::finished_fields::FinishedFields;
-use crate::index_call::IndexCall;
 use crate::indexed_terms::IndexedTerms;
-use crate::json_utils::{index_json_value, text_prefix, value_key};
+use crate::json_keys::{held_number, held_text, text_prefix};
 use crate::open_documents::{OpenDocument, OpenDocuments};
 use crate::open_paths::OpenPaths;
-use ii_base::{Fault, Field, JsonValue, Schema, TextAnalyzer, TokenStream, ValueType};
+use ii_base::{Fault, Field, Schema, TokenStream, ValueType};
 use ii_docset::DocId;
 use ii_fieldnorm::FieldNormReaders;
 use ii_postings_writer::IndexingPosition;
 use std::alloc::Global;
 use std::marker::Model;
-
-/// A value that isn't text; a number or a truth value is the number of 64 bits that stands for it.
-#[derive(Drop)]
-enum FieldValue {
-    Number(u64),
-    Bytes(Vec<u8>),
-    Ip(u128),
-}
 
 /// The terms of all fields of a schema, and the open document of each.
 #[derive(Drop)]
@@ -58,7 +48,7 @@ impl Model for IndexedFields {
 impl IndexedFields {
     // Nothing yet.
     pub(crate) fn new(alloc: Global, schema: &Schema) -> Result<IndexedFields, Fault>
-        ensures stored { IfOk result (λ f. StoresPieces schema.now f []) }
+        ensures stored { IfOk result (λ f. StoresAll schema.now f []) }
         ensures ends { IfOk result (EndsAt 0) }
         ensures fields { IfOk result (λ f. length f.indexed.writers ≡ length schema.now) }
         ensures norms { IfOk result (λ f. with_norms f.opened.norms ≡ map keeps_norms schema.now) }
@@ -70,56 +60,6 @@ impl IndexedFields {
             documents: OpenDocuments::new(alloc, schema)?,
             paths: OpenPaths::new(alloc, schema)?,
         })
-    }
-
-    // Indexes a call to a field where the dots of keys are expanded or not.
-    pub(crate) fn index_call<A: TextAnalyzer>(
-        &mut self,
-        alloc: Global,
-        call: IndexCall,
-        expand_dots: bool,
-        analyzer: &A,
-    ) -> Result<(), Fault>
-        requires low { doc_of call < TERMINATED }
-        requires known { field_of call < length self.old.indexed.writers }
-        requires ends { EndsAt (doc_of call) self.old }
-        ensures stored { OnOk result ((entries : List SchemaEntry) (ps : List Piece) → Takes entries (field_of call) (type_of call) → StoresPieces entries self.old ps
-            → StoresPieces entries self.new (ps ++ call_pieces (A.words analyzer.now) (call_with expand_dots call))) }
-        ensures ends { OnOk result (EndsAt (doc_of call) self.new) }
-        ensures fields { OnOk result (length self.new.indexed.writers ≡ length self.old.indexed.writers) }
-        ensures norms { OnOk result (with_norms self.new.opened.norms ≡ with_norms self.old.opened.norms) }
-        ensures refused { (entries : List SchemaEntry) (ps : List Piece) → Takes entries (field_of call) (type_of call) → StoresPieces entries self.old ps
-            → IsRefusedBy (content_fault (A.words analyzer.now) (option_of entries (field_of call)) ps (call_with expand_dots call) (content_of expand_dots call)) result }
-    {
-        let number = call.number();
-        match call {
-            IndexCall::Text(doc, field, text) => {
-                let mut tokens = analyzer.token_stream(text.as_str());
-                self.index_words(doc, field, &mut tokens)
-            }
-            IndexCall::Tokens(doc, field, tokens) => {
-                let mut tokens = tokens;
-                self.index_words(doc, field, &mut tokens)
-            }
-            IndexCall::U64(doc, field, _) => {
-                self.index_field_value(doc, field, FieldValue::Number(number))
-            }
-            IndexCall::I64(doc, field, _) => {
-                self.index_field_value(doc, field, FieldValue::Number(number))
-            }
-            IndexCall::Bool(doc, field, _) => {
-                self.index_field_value(doc, field, FieldValue::Number(number))
-            }
-            IndexCall::Bytes(doc, field, bytes) => {
-                self.index_field_value(doc, field, FieldValue::Bytes(bytes))
-            }
-            IndexCall::Ip(doc, field, address) => {
-                self.index_field_value(doc, field, FieldValue::Ip(address))
-            }
-            IndexCall::Json(doc, field, value) => {
-                index_json_value(alloc, self, doc, field, &value, expand_dots, analyzer)
-            }
-        }
     }
 
     // The terms, and the norms of so many documents.
@@ -156,7 +96,7 @@ impl IndexedFields {
     }
 
     // Indexes the words of a stream that are still to come.
-    fn index_words<S: TokenStream>(
+    pub(crate) fn index_words<S: TokenStream>(
         &mut self,
         doc: DocId,
         field: Field,
@@ -165,11 +105,12 @@ impl IndexedFields {
         requires low { doc < TERMINATED }
         requires known { field < length self.old.indexed.writers }
         requires ends { EndsAt doc self.old }
-        ensures stored { OnOk result ((entries : List SchemaEntry) (ps : List Piece) → TakesTexts entries field [] → StoresPieces entries self.old ps → StoresPieces entries self.new (ps ++ text_at doc field [] (S.to_come tokens.old) ∷ [])) }
+        ensures stored { OnOk result ((entries : List SchemaEntry) (ps : List Piece) → TakesTexts entries self.old.indexed.paths field [] [] → StoresPieces entries self.old ps → StoresPieces entries self.new (ps ++ text_at doc field [] (S.to_come tokens.old) ∷ [])) }
         ensures ends { OnOk result (EndsAt doc self.new) }
         ensures fields { OnOk result (length self.new.indexed.writers ≡ length self.old.indexed.writers) }
         ensures norms { OnOk result (with_norms self.new.opened.norms ≡ with_norms self.old.opened.norms) }
-        ensures refused { (entries : List SchemaEntry) (ps : List Piece) → TakesTexts entries field [] → StoresPieces entries self.old ps → IsRefusedBy (piece_fault (option_of entries field) ps (text_at doc field [] (S.to_come tokens.old))) result }
+        ensures same_paths { OnOk result (self.new.indexed.paths ≡ self.old.indexed.paths) }
+        ensures refused { (entries : List SchemaEntry) (ps : List Piece) → TakesTexts entries self.old.indexed.paths field [] [] → StoresPieces entries self.old ps → IsRefusedBy (piece_fault (option_of entries field) ps (text_at doc field [] (S.to_come tokens.old))) result }
     {
         let open = self.documents.open(doc, field)?;
         let mut position = IndexingPosition {
@@ -190,32 +131,34 @@ impl IndexedFields {
         Ok(())
     }
 
-    // Indexes the words of a stream that are still to come, under keys with a prefix.
+    // Indexes the words of a stream that are still to come, under keys with a prefix, of which this is held.
     fn index_words_under<S: TokenStream>(
         &mut self,
         alloc: Global,
         doc: DocId,
         field: Field,
         prefix: &[u8],
+        held: &[u8],
         tokens: &mut S,
     ) -> Result<(), Fault>
         requires low { doc < TERMINATED }
         requires known { field < length self.old.indexed.writers }
         requires ends { EndsAt doc self.old }
         requires some { bytes_eq prefix.now [] ≡ false }
-        ensures stored { OnOk result ((entries : List SchemaEntry) (ps : List Piece) → TakesTexts entries field prefix.now → StoresPieces entries self.old ps
+        ensures stored { OnOk result ((entries : List SchemaEntry) (ps : List Piece) → TakesTexts entries self.old.indexed.paths field held.now prefix.now → StoresPieces entries self.old ps
             → StoresPieces entries self.new (ps ++ text_at doc field prefix.now (S.to_come tokens.old) ∷ [])) }
         ensures ends { OnOk result (EndsAt doc self.new) }
         ensures fields { OnOk result (length self.new.indexed.writers ≡ length self.old.indexed.writers) }
         ensures norms { OnOk result (with_norms self.new.opened.norms ≡ with_norms self.old.opened.norms) }
-        ensures refused { (entries : List SchemaEntry) (ps : List Piece) → TakesTexts entries field prefix.now → StoresPieces entries self.old ps
+        ensures same_paths { OnOk result (self.new.indexed.paths ≡ self.old.indexed.paths) }
+        ensures refused { (entries : List SchemaEntry) (ps : List Piece) → TakesTexts entries self.old.indexed.paths field held.now prefix.now → StoresPieces entries self.old ps
             → IsRefusedBy (piece_fault (option_of entries field) ps (text_at doc field prefix.now (S.to_come tokens.old))) result }
     {
         let open = self.documents.open(doc, field)?;
         let mut position = self.paths.open(doc, field, prefix);
         let num_tokens = position.num_tokens;
         self.terms
-            .index_text(doc, field, prefix, tokens, &mut position)?;
+            .index_text(doc, field, held, tokens, &mut position)?;
         let document = OpenDocument {
             doc,
             num_tokens: open.num_tokens,
@@ -239,16 +182,18 @@ impl IndexedFields {
         requires known { field < length self.old.indexed.writers }
         requires ends { EndsAt doc self.old }
         requires path { has_zero path.now ≡ false }
-        ensures stored { OnOk result ((entries : List SchemaEntry) (ps : List Piece) → Takes entries field Json → StoresPieces entries self.old ps
-            → StoresPieces entries self.new (ps ++ text_at doc field (json_key path.now (text_key [])) (S.to_come tokens.old) ∷ [])) }
+        ensures stored { OnOk result ((entries : List SchemaEntry) (ps : List Piece) → Takes entries field Json → StoresAll entries self.old ps
+            → StoresAll entries self.new (ps ++ at_path path.now (text_at doc field (json_key path.now (text_key [])) (S.to_come tokens.old)) ∷ [])) }
         ensures ends { OnOk result (EndsAt doc self.new) }
         ensures fields { OnOk result (length self.new.indexed.writers ≡ length self.old.indexed.writers) }
         ensures norms { OnOk result (with_norms self.new.opened.norms ≡ with_norms self.old.opened.norms) }
-        ensures refused { (entries : List SchemaEntry) (ps : List Piece) → Takes entries field Json → StoresPieces entries self.old ps
-            → IsRefusedBy (piece_fault (option_of entries field) ps (text_at doc field (json_key path.now (text_key [])) (S.to_come tokens.old))) result }
+        ensures refused { (entries : List SchemaEntry) (ps : List Piece) → Takes entries field Json → StoresAll entries self.old ps
+            → IsRefusedBy (piece_fault (option_of entries field) ps (at_path path.now (text_at doc field (json_key path.now (text_key [])) (S.to_come tokens.old)))) result }
     {
+        let path_id = self.terms.path_id(path)?;
         let prefix = text_prefix(alloc, path)?;
-        self.index_words_under(alloc, doc, field, prefix.as_bytes(), tokens)
+        let held = held_text(alloc, path_id)?;
+        self.index_words_under(alloc, doc, field, prefix.as_bytes(), &held, tokens)
     }
 
     // Indexes a number at a path of a JSON field, which holds no byte 0.
@@ -266,58 +211,35 @@ impl IndexedFields {
         requires ends { EndsAt doc self.old }
         requires path { has_zero path.now ≡ false }
         requires number { is_number_type value_type ≡ true }
-        ensures stored { OnOk result ((entries : List SchemaEntry) (ps : List Piece) → Takes entries field Json → StoresPieces entries self.old ps
-            → StoresPieces entries self.new (ps ++ value_at doc field (json_key path.now (typed_key value_type number)) ∷ [])) }
+        ensures stored { OnOk result ((entries : List SchemaEntry) (ps : List Piece) → Takes entries field Json → StoresAll entries self.old ps
+            → StoresAll entries self.new (ps ++ at_path path.now (value_at doc field (json_key path.now (typed_key value_type number))) ∷ [])) }
         ensures ends { OnOk result (EndsAt doc self.new) }
         ensures fields { OnOk result (length self.new.indexed.writers ≡ length self.old.indexed.writers) }
         ensures norms { OnOk result (with_norms self.new.opened.norms ≡ with_norms self.old.opened.norms) }
-        ensures refused { (entries : List SchemaEntry) (ps : List Piece) → Takes entries field Json → StoresPieces entries self.old ps
-            → IsRefusedBy (piece_fault (option_of entries field) ps (value_at doc field (json_key path.now (typed_key value_type number)))) result }
+        ensures refused { (entries : List SchemaEntry) (ps : List Piece) → Takes entries field Json → StoresAll entries self.old ps
+            → IsRefusedBy (piece_fault (option_of entries field) ps (at_path path.now (value_at doc field (json_key path.now (typed_key value_type number))))) result }
     {
-        let key = value_key(alloc, path, value_type, number)?;
-        self.index_value(doc, field, key.as_bytes())
+        let path_id = self.terms.path_id(path)?;
+        let held = held_number(alloc, path_id, value_type, number)?;
+        self.index_value(doc, field, &held)
     }
 
-    // Indexes a value that isn't text.
-    fn index_field_value(
-        &mut self,
-        doc: DocId,
-        field: Field,
-        value: FieldValue,
-    ) -> Result<(), Fault>
+    // Indexes a value under what is held of its key.
+    pub(crate) fn index_value(&mut self, doc: DocId, field: Field, held: &[u8]) -> Result<(), Fault>
         requires low { doc < TERMINATED }
         requires known { field < length self.old.indexed.writers }
         requires ends { EndsAt doc self.old }
-        ensures stored { OnOk result ((entries : List SchemaEntry) (ps : List Piece) → TakesValue entries field (key_of_value value) → StoresPieces entries self.old ps
-            → StoresPieces entries self.new (ps ++ value_at doc field (key_of_value value) ∷ [])) }
+        ensures stored { OnOk result ((entries : List SchemaEntry) (ps : List Piece) (key : List ℕ) → TakesValue entries self.old.indexed.paths field held.now key → StoresPieces entries self.old ps
+            → StoresPieces entries self.new (ps ++ value_at doc field key ∷ [])) }
         ensures ends { OnOk result (EndsAt doc self.new) }
         ensures fields { OnOk result (length self.new.indexed.writers ≡ length self.old.indexed.writers) }
         ensures norms { OnOk result (with_norms self.new.opened.norms ≡ with_norms self.old.opened.norms) }
-        ensures refused { (entries : List SchemaEntry) (ps : List Piece) → TakesValue entries field (key_of_value value) → StoresPieces entries self.old ps
-            → IsRefusedBy (piece_fault (option_of entries field) ps (value_at doc field (key_of_value value))) result }
-    {
-        match value {
-            FieldValue::Number(number) => self.index_value(doc, field, &number.to_be_bytes()),
-            FieldValue::Bytes(bytes) => self.index_value(doc, field, &bytes),
-            FieldValue::Ip(address) => self.index_value(doc, field, &address.to_be_bytes()),
-        }
-    }
-
-    // Indexes a value under its key.
-    fn index_value(&mut self, doc: DocId, field: Field, key: &[u8]) -> Result<(), Fault>
-        requires low { doc < TERMINATED }
-        requires known { field < length self.old.indexed.writers }
-        requires ends { EndsAt doc self.old }
-        ensures stored { OnOk result ((entries : List SchemaEntry) (ps : List Piece) → TakesValue entries field key.now → StoresPieces entries self.old ps
-            → StoresPieces entries self.new (ps ++ value_at doc field key.now ∷ [])) }
-        ensures ends { OnOk result (EndsAt doc self.new) }
-        ensures fields { OnOk result (length self.new.indexed.writers ≡ length self.old.indexed.writers) }
-        ensures norms { OnOk result (with_norms self.new.opened.norms ≡ with_norms self.old.opened.norms) }
-        ensures refused { (entries : List SchemaEntry) (ps : List Piece) → TakesValue entries field key.now → StoresPieces entries self.old ps
-            → IsRefusedBy (piece_fault (option_of entries field) ps (value_at doc field key.now)) result }
+        ensures same_paths { OnOk result (self.new.indexed.paths ≡ self.old.indexed.paths) }
+        ensures refused { (entries : List SchemaEntry) (ps : List Piece) (key : List ℕ) → TakesValue entries self.old.indexed.paths field held.now key → StoresPieces entries self.old ps
+            → IsRefusedBy (piece_fault (option_of entries field) ps (value_at doc field key)) result }
     {
         let open = self.documents.open(doc, field)?;
-        self.terms.index_value(doc, field, key)?;
+        self.terms.index_value(doc, field, held)?;
         let document = OpenDocument {
             doc,
             num_tokens: open.num_tokens,

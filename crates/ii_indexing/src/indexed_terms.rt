@@ -7,11 +7,12 @@ ghost use Rattle.ii_definitions.specs.Fields.{option_of};
 ghost use Rattle.ii_definitions.specs.Tokens.{IndexToken, end_after, kept_words, piece_tokens_from, text_at, value_at, value_token};
 ghost use Rattle.ii_indexing.specs.IndexedTerms.{StoresTokens, TakesTexts, TakesValue, value_fault};
 ghost use Rattle.ii_postings_writer.specs.FieldParts.{AreShortNorms, HasFields};
-ghost use Rattle.ii_postings_writer.specs.HeldBodies.{HaveTokens};
+ghost use Rattle.ii_postings_writer.specs.ResolvedTerms.{AreClean, HaveHeldTokens, HoldIds, json_fields};
 ghost use Rattle.ii_indexing.specs.IndexFiles.{ClosedFiles, CountsIndexFailures, CountsThreeFailures, FilesGrow, PassLimits, WroteTermFiles};
 ghost use Rattle.ii_postings_writer.specs.IndexingContext.{AllEndBy};
 ghost use Rattle.ii_postings_writer.specs.PostingsWriter.{text_fault, writers_of};
 ghost use Rattle.ii_json.specs.LeafVisit.{IsRefusedBy};
+ghost use Rattle.ii_json.specs.Paths.{AreDistinct, path_fault, path_id, with_path};
 ghost use Rattle.ii_postings_writer.specs.SortedTerms.{AllMayBeWritten};
 
 use crate::index_writers::IndexWriters;
@@ -40,13 +41,13 @@ impl Model for IndexedTerms {
 
     ghost Value = { IndexedTermsState };
 
-    ghost view = { λ t. record { terms = t.ctx; writers = t.writers } };
+    ghost view = { λ t. record { terms = t.ctx.term_index; paths = t.ctx.path_to_unordered_id; writers = t.writers } };
 }
 
 impl IndexedTerms {
     // No terms.
     pub(crate) fn new(alloc: Global, schema: &Schema) -> Result<IndexedTerms, Fault>
-        ensures ok { IfOk result (λ terms. terms ≡ record { terms = []; writers = writers_of schema.now }) }
+        ensures ok { IfOk result (λ terms. terms ≡ record { terms = []; paths = []; writers = writers_of schema.now }) }
         ensures only { OnlyMemory result }
     {
         Ok(IndexedTerms {
@@ -56,49 +57,63 @@ impl IndexedTerms {
         })
     }
 
-    // Indexes the words of a text of a field, which stand under keys with a prefix.
+    // The unordered id of a path, which is known from then on.
+    pub(crate) fn path_id(&mut self, path: &str) -> Result<u32, Fault>
+        ensures ok { IfOk result (λ id. id ≡ path_id self.old.paths path.now) }
+        ensures known { OnOk result (self.new ≡ record self.old { paths = with_path self.old.paths path.now }) }
+        ensures distinct { AreDistinct self.new.paths }
+        ensures refused { IsRefusedBy (path_fault self.old.paths path.now) result }
+    {
+        self.ctx
+            .path_to_unordered_id
+            .get_or_allocate_unordered_id(path)
+    }
+
+    // Indexes the words of a text of a field, whose terms begin with what is held of their keys' prefix.
     pub(crate) fn index_text<S: TokenStream>(
         &mut self,
         doc: DocId,
         field: Field,
-        prefix: &[u8],
+        held: &[u8],
         token_stream: &mut S,
         position: &mut IndexingPosition,
     ) -> Result<(), Fault>
         requires low { doc < TERMINATED }
         requires known { field < length self.old.writers }
         requires ends { AllEndBy doc self.old.terms }
-        ensures stored { OnOk result ((entries : List SchemaEntry) (ts : List IndexToken) → TakesTexts entries field prefix.now → StoresTokens entries self.old ts
-            → StoresTokens entries self.new (ts ++ piece_tokens_from true position.old.end_position (text_at doc field prefix.now (S.to_come token_stream.old)))) }
+        ensures stored { OnOk result ((entries : List SchemaEntry) (ts : List IndexToken) → (prefix : List ℕ) → TakesTexts entries self.old.paths field held.now prefix → StoresTokens entries self.old ts
+            → StoresTokens entries self.new (ts ++ piece_tokens_from true position.old.end_position (text_at doc field prefix (S.to_come token_stream.old)))) }
         ensures ends { OnOk result (AllEndBy doc self.new.terms) }
         ensures fields { length self.new.writers ≡ length self.old.writers }
+        ensures paths { self.new.paths ≡ self.old.paths }
         ensures num_tokens { OnOk result (position.new.num_tokens ≡ position.old.num_tokens + length (kept_words (S.to_come token_stream.old))) }
         ensures end_position { OnOk result (position.new.end_position ≡ end_after position.old.end_position (S.to_come token_stream.old)) }
-        ensures refused { (entries : List SchemaEntry) (ts : List IndexToken) → TakesTexts entries field prefix.now → StoresTokens entries self.old ts
-            → IsRefusedBy (text_fault (option_of entries field) (text_at doc field prefix.now (S.to_come token_stream.old)) position.old ts) result }
+        ensures refused { (entries : List SchemaEntry) (ts : List IndexToken) → (prefix : List ℕ) → TakesTexts entries self.old.paths field held.now prefix → StoresTokens entries self.old ts
+            → IsRefusedBy (text_fault (option_of entries field) (text_at doc field prefix (S.to_come token_stream.old)) position.old ts) result }
     {
         self.term.clear_with_field(field);
-        self.term.set_bytes(prefix)?;
+        self.term.set_bytes(held)?;
         let writer = self.writers.get_for_field_mut(field);
         writer.index_text(doc, token_stream, &mut self.term, &mut self.ctx, position)
     }
 
-    // Indexes a value of a field under its key.
-    pub(crate) fn index_value(&mut self, doc: DocId, field: Field, key: &[u8]) -> Result<(), Fault>
+    // Indexes a value of a field under what is held of its key.
+    pub(crate) fn index_value(&mut self, doc: DocId, field: Field, held: &[u8]) -> Result<(), Fault>
         requires low { doc < TERMINATED }
         requires known { field < length self.old.writers }
         requires ends { AllEndBy doc self.old.terms }
-        ensures stored { OnOk result ((entries : List SchemaEntry) (ts : List IndexToken) → TakesValue entries field key.now → StoresTokens entries self.old ts
-            → StoresTokens entries self.new (ts ++ value_token (value_at doc field key.now) ∷ [])) }
+        ensures stored { OnOk result ((entries : List SchemaEntry) (ts : List IndexToken) → (key : List ℕ) → TakesValue entries self.old.paths field held.now key → StoresTokens entries self.old ts
+            → StoresTokens entries self.new (ts ++ value_token (value_at doc field key) ∷ [])) }
         ensures ends { OnOk result (AllEndBy doc self.new.terms) }
         ensures fields { length self.new.writers ≡ length self.old.writers }
-        ensures refused { (entries : List SchemaEntry) (ts : List IndexToken) → TakesValue entries field key.now → StoresTokens entries self.old ts
+        ensures paths { self.new.paths ≡ self.old.paths }
+        ensures refused { (entries : List SchemaEntry) (ts : List IndexToken) → (key : List ℕ) → TakesValue entries self.old.paths field held.now key → StoresTokens entries self.old ts
             → IsRefusedBy (value_fault field ts) result }
     {
         // that the field has 32 bits, for the proof
         let _field = field.field_id();
         self.term.clear_with_field(field);
-        self.term.set_bytes(key)?;
+        self.term.set_bytes(held)?;
         let writer = self.writers.get_for_field_mut(field);
         writer.subscribe(doc, 0, &self.term, &mut self.ctx)
     }
@@ -119,11 +134,13 @@ impl IndexedTerms {
         requires writers { length self.writers ≡ length schema.now }
         requires norms { AreShortNorms fieldnorm_readers.now }
         requires terms { AllMayBeWritten (length schema.now) self.terms }
-        ensures holds { (ts : List IndexToken) → HaveTokens schema.now self.terms self.writers ts → OnOk result.1 (WroteTermFiles schema.now writers result.0 ts) }
+        requires ids { HoldIds (json_fields schema.now) self.paths self.terms }
+        requires clean { AreClean self.paths }
+        ensures holds { (ts : List IndexToken) → HaveHeldTokens schema.now self.paths self.terms self.writers ts → OnOk result.1 (WroteTermFiles schema.now writers result.0 ts) }
         ensures norms { result.0.fieldnorms ≡ writers.fieldnorms }
         ensures failures { CountsIndexFailures writers result.0 result.1 }
         ensures grow { FilesGrow writers result.0 }
-        ensures fault { (ts : List IndexToken) → HaveTokens schema.now self.terms self.writers ts
+        ensures fault { (ts : List IndexToken) → HaveHeldTokens schema.now self.paths self.terms self.writers ts
             → IfErr result.1 (λ e. (e ≡ Fault.OutOfMemory) ⊎ (e ≡ Fault.Write) ⊎ PassLimits schema.now writers.terms writers.postings writers.positions ts e) }
     {
         let IndexedTerms {
@@ -175,12 +192,14 @@ fn write_files<W: Write>(
     requires writers { length postings_writers.now ≡ length schema.now }
     requires fresh { HasFields serializer.entries serializer.bodies serializer.bodies [] }
     requires norms { AreShortNorms fieldnorm_readers.now }
-    requires terms { AllMayBeWritten (length schema.now) ctx }
-    ensures holds { (ts : List IndexToken) → HaveTokens serializer.entries ctx postings_writers.now ts
+    requires terms { AllMayBeWritten (length schema.now) ctx.term_index }
+    requires ids { HoldIds (json_fields schema.now) ctx.path_to_unordered_id ctx.term_index }
+    requires clean { AreClean ctx.path_to_unordered_id }
+    ensures holds { (ts : List IndexToken) → HaveHeldTokens serializer.entries ctx.path_to_unordered_id ctx.term_index postings_writers.now ts
         → OnOk result.3 (ClosedFiles serializer result.0 result.1 result.2 ts) }
     ensures failures { CountsThreeFailures serializer.bodies result.0 result.1 result.2 result.3 }
     ensures grow { Grows serializer.bodies.terms.writer result.0 × Grows serializer.bodies.postings.writer result.1 × Grows serializer.bodies.positions.writer result.2 }
-    ensures fault { (ts : List IndexToken) → HaveTokens serializer.entries ctx postings_writers.now ts
+    ensures fault { (ts : List IndexToken) → HaveHeldTokens serializer.entries ctx.path_to_unordered_id ctx.term_index postings_writers.now ts
         → IfErr result.3 (λ e. (e ≡ Fault.OutOfMemory) ⊎ (e ≡ Fault.Write) ⊎ PassLimits serializer.entries serializer.bodies.terms.writer serializer.bodies.postings.writer serializer.bodies.positions.writer ts e) }
 {
     let mut serializer = serializer;

@@ -1,56 +1,25 @@
 ghost use Rattle.std.specs.Prelude.{◌≡◌, ◌<◌, ◌++◌, ◌∷◌, [], List, ℕ, true, false, length, IfOk, OnOk};
 ghost use Rattle.std.specs.List.{flat_map};
-ghost use Rattle.ii_io.specs.Faults.{OnlyMemory};
 ghost use Rattle.ii_base.specs.Json.{json_leaves, json_of, leaves_below};
-ghost use Rattle.ii_base.specs.Paths.{has_zero};
 ghost use Rattle.ii_base.specs.Schema.{SchemaEntry};
-ghost use Rattle.ii_base.specs.Values.{json_key, text_key, typed_key};
 ghost use Rattle.ii_base.specs.declared.schema.value_type.ValueType.TheVariants.{Json};
 ghost use Rattle.ii_docset.specs.declared.docset.TheConstants.{TERMINATED};
 ghost use Rattle.ii_definitions.specs.Fields.{option_of};
 ghost use Rattle.ii_definitions.specs.Tokens.{Piece, leaf_pieces};
 ghost use Rattle.ii_json.specs.LeafVisit.{IsRefusedBy, leaves_fault};
 ghost use Rattle.ii_indexing.specs.IndexCalls.{Takes};
-ghost use Rattle.ii_indexing.specs.Indexer.{EndsAt, StoresPieces};
+ghost use Rattle.ii_indexing.specs.Indexer.{EndsAt, StoresAll};
 ghost use Rattle.ii_indexing.specs.OpenDocuments.{with_norms};
 ghost use Rattle.ii_indexing.specs.Refusals.{next_leaf_fault};
 
 use crate::indexed_fields::IndexedFields;
 use ii_base::json_value::is_within;
 use ii_base::{
-    Fault, Field, JsonLeaf, JsonPathWriter, JsonValue, LeafKind, MAX_DEPTH, TextAnalyzer, ValueType,
+    Fault, Field, JsonLeaf, JsonPathWriter, JsonValue, LeafKind, MAX_DEPTH, TextAnalyzer,
 };
 use ii_docset::DocId;
-use ii_json::{JsonTermSerializer, LeafSink, visit_leaves};
+use ii_json::{LeafSink, visit_leaves};
 use std::alloc::Global;
-
-// The first bytes of the keys of a text's words at a path: the path, byte 0, and the letter of texts.
-pub(crate) fn text_prefix(alloc: Global, path: &str) -> Result<JsonTermSerializer, Fault>
-    requires path { has_zero path.now ≡ false }
-    ensures ok { IfOk result (λ prefix. prefix ≡ json_key path.now (text_key [])) }
-    ensures only { OnlyMemory result }
-{
-    let mut prefix = JsonTermSerializer::new(alloc);
-    prefix.append_term(path, ValueType::Str, &[])?;
-    Ok(prefix)
-}
-
-// The key of a number at a path: the path, byte 0, the letter of its type, and its 8 bytes, the highest
-// first.
-pub(crate) fn value_key(
-    alloc: Global,
-    path: &str,
-    value_type: ValueType,
-    number: u64,
-) -> Result<JsonTermSerializer, Fault>
-    requires path { has_zero path.now ≡ false }
-    ensures ok { IfOk result (λ key. key ≡ json_key path.now (typed_key value_type number)) }
-    ensures only { OnlyMemory result }
-{
-    let mut key = JsonTermSerializer::new(alloc);
-    key.append_term(path, value_type, &number.to_be_bytes())?;
-    Ok(key)
-}
 
 /// Indexes the leaves of a JSON value in a field of a document.
 #[derive(Drop)]
@@ -70,7 +39,7 @@ impl<A: TextAnalyzer> LeafSink for LeafIndexer<'_, A> {
     ghost use Rattle.ii_definitions.specs.Fields.{option_of};
     ghost use Rattle.ii_definitions.specs.Tokens.{leaf_pieces};
     ghost use Rattle.ii_indexing.specs.IndexCalls.{Takes};
-    ghost use Rattle.ii_indexing.specs.Indexer.{EndsAt, LeafConstant, LeafGiven, StoresPieces};
+    ghost use Rattle.ii_indexing.specs.Indexer.{EndsAt, LeafConstant, LeafGiven, StoresAll};
     ghost use Rattle.ii_indexing.specs.OpenDocuments.{with_norms};
     ghost use Rattle.ii_indexing.specs.Refusals.{next_leaf_fault};
 
@@ -90,7 +59,7 @@ impl<A: TextAnalyzer> LeafSink for LeafIndexer<'_, A> {
     ghost ready = { λ s. (s.doc < TERMINATED) × (s.field < length s.fields.now.indexed.writers) × EndsAt s.doc s.fields.now };
 
     ghost holds = { λ s given leaves. Takes given.entries s.field Json
-        × StoresPieces given.entries s.fields.now (given.pieces ++ flat_map (leaf_pieces (A.words s.analyzer.now) s.doc s.field) leaves) };
+        × StoresAll given.entries s.fields.now (given.pieces ++ flat_map (leaf_pieces (A.words s.analyzer.now) s.doc s.field) leaves) };
 
     ghost fault = { λ k given before leaf. next_leaf_fault k.words (option_of given.entries k.field) given.pieces k.doc k.field before leaf };
 
@@ -123,12 +92,12 @@ pub(crate) fn index_json_value<A: TextAnalyzer>(
     requires low { doc < TERMINATED }
     requires known { field < length fields.old.indexed.writers }
     requires ends { EndsAt doc fields.old }
-    ensures stored { OnOk result ((entries : List SchemaEntry) (ps : List Piece) → Takes entries field Json → StoresPieces entries fields.old ps
-        → StoresPieces entries fields.new (ps ++ flat_map (leaf_pieces (A.words analyzer.now) doc field) (json_leaves expand_dots (json_of value.now)))) }
+    ensures stored { OnOk result ((entries : List SchemaEntry) (ps : List Piece) → Takes entries field Json → StoresAll entries fields.old ps
+        → StoresAll entries fields.new (ps ++ flat_map (leaf_pieces (A.words analyzer.now) doc field) (json_leaves expand_dots (json_of value.now)))) }
     ensures ends { OnOk result (EndsAt doc fields.new) }
     ensures fields { OnOk result (length fields.new.indexed.writers ≡ length fields.old.indexed.writers) }
     ensures norms { OnOk result (with_norms fields.new.opened.norms ≡ with_norms fields.old.opened.norms) }
-    ensures refused { (entries : List SchemaEntry) (ps : List Piece) → Takes entries field Json → StoresPieces entries fields.old ps
+    ensures refused { (entries : List SchemaEntry) (ps : List Piece) → Takes entries field Json → StoresAll entries fields.old ps
         → IsRefusedBy (leaves_fault (next_leaf_fault (A.words analyzer.now) (option_of entries field) ps doc field) [] (json_leaves expand_dots (json_of value.now))) result }
 {
     if !is_within(value, MAX_DEPTH) {
@@ -150,12 +119,12 @@ fn index_leaves<A: TextAnalyzer>(
     requires low { doc < TERMINATED }
     requires known { field < length fields.old.indexed.writers }
     requires ends { EndsAt doc fields.old }
-    ensures stored { OnOk result ((entries : List SchemaEntry) (ps : List Piece) → Takes entries field Json → StoresPieces entries fields.old ps
-        → StoresPieces entries fields.new (ps ++ flat_map (leaf_pieces (A.words analyzer.now) doc field) (leaves_below expand_dots [] (json_of value.now)))) }
+    ensures stored { OnOk result ((entries : List SchemaEntry) (ps : List Piece) → Takes entries field Json → StoresAll entries fields.old ps
+        → StoresAll entries fields.new (ps ++ flat_map (leaf_pieces (A.words analyzer.now) doc field) (leaves_below expand_dots [] (json_of value.now)))) }
     ensures ends { OnOk result (EndsAt doc fields.new) }
     ensures fields { OnOk result (length fields.new.indexed.writers ≡ length fields.old.indexed.writers) }
     ensures norms { OnOk result (with_norms fields.new.opened.norms ≡ with_norms fields.old.opened.norms) }
-    ensures refused { (entries : List SchemaEntry) (ps : List Piece) → Takes entries field Json → StoresPieces entries fields.old ps
+    ensures refused { (entries : List SchemaEntry) (ps : List Piece) → Takes entries field Json → StoresAll entries fields.old ps
         → IsRefusedBy (leaves_fault (next_leaf_fault (A.words analyzer.now) (option_of entries field) ps doc field) [] (leaves_below expand_dots [] (json_of value.now))) result }
 {
     let mut writer = JsonPathWriter::new(alloc);

@@ -6,10 +6,12 @@
 mod finished_fields;
 pub mod index_call;
 pub mod index_writers;
+mod indexed_calls;
 mod indexed_fields;
 mod indexed_terms;
 pub mod indexer;
 pub mod indexing_positions_per_path;
+mod json_keys;
 mod json_utils;
 mod open_documents;
 mod open_paths;
@@ -22,7 +24,7 @@ pub use ii_json::{
 pub use ii_postings_writer::serialize_postings::serialize_postings;
 pub use ii_postings_writer::{
     IndexingContext, IndexingPosition, IndexingTerm, IndexingTermRef, PerFieldPostingsWriter,
-    PostingsWriter, SpecializedPostingsWriter,
+    PostingsWriter, SpecializedPostingsWriter, TermRecorders,
 };
 pub use ii_recorder::{
     AnyRecorder, BufferLender, DocIdRecorder, FieldSerializer, InvertedIndexSerializer, Recorder,

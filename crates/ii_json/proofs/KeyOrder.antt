@@ -4,8 +4,8 @@ use Rattle.std.proofs.Common.{Ordering, Less, Equal, Greater}
 use Rattle.std.specs.Cmp.{nat_cmp_is, ranked}
 use Rattle.std.specs.Cmp.Lexicographic.{slice_cmp}
 use Rattle.std.specs.List.{AllByRecursion}
-use Rattle.std.specs.List.Sorted.{IsStrictlySortedBy}
-use Rattle.std.specs.Ordering.{nat_cmp, ordering_then}
+use Rattle.std.specs.List.Sorted.{IsSorted, IsStrictlySortedBy}
+use Rattle.std.specs.Ordering.{is_lt, nat_cmp, ordering_then}
 use Rattle.std.proofs.lemmas.Cmp.{nat_list_cmp_total}
 use Rattle.std.proofs.lemmas.List.{get_or-map}
 use Rattle.ii_base.specs.Paths.{has_zero}
@@ -13,7 +13,7 @@ use Rattle.ii_base.specs.Values.{json_key}
 use Rattle.ii_json.specs.PathRank.{StandAtRanks, is_smaller, path_rank, path_ranks}
 use Rattle.ii_json.specs.PathTerms.{AreAscendingTerms, HasPath, PathTerm, key_of_term, ordered_id_of_term, path_of_term, term_cmp}
 use Rattle.ii_json.proofs.CleanPaths.{or_left, or_right}
-use Rattle.ii_json.proofs.RankLemmas.{count_more, less_from, not_below_itself, other_default}
+use Rattle.ii_json.proofs.RankLemmas.{at_place, count_more, less_from, not_below_itself, other_default}
 
 -- the byte 0 that ends a path comes before every byte of one
 above_zero : (h : ℕ) → (h == 0) ≡ false → 0 < h
@@ -82,6 +82,27 @@ module _ (known : List (List ℕ)) (p q : List ℕ) (p_in : Contains known p) (q
       by Greater is =
           let less : slice_cmp nat_cmp q p ≡ Less = rw (nat_list_cmp_total.antisymm q p, is) refl in
           sym (nat_cmp_is (path_rank known p) (path_rank known q) Greater (smaller_rank q p less known q_in.0 q_in.1 q_in.2))
+
+-- so are keys: by the ranks of their paths, and then by what stands behind these
+pub ranked_as_keys : (known : List (List ℕ)) (p q x y : List ℕ) → Contains known p → Contains known q → has_zero p ≡ false → has_zero q ≡ false
+    → ordering_then (nat_cmp (path_rank known p) (path_rank known q)) (slice_cmp nat_cmp x y) ≡ slice_cmp nat_cmp (json_key p x) (json_key q y)
+ranked_as_keys known p q x y p_in q_in p_none q_none =
+    ap (λ (o : Ordering). ordering_then o (slice_cmp nat_cmp x y)) (ranks_by_paths known p q p_in q_in) ∙ sym (keys_by_paths p q x y p_none q_none)
+
+-- what is sorted by one order is sorted by another that is the same on it
+pub sorted_alike : {X : Type 0} (P : X → Type 0) (c d : X → X → Ordering) → ((x y : X) → P x → P y → c x y ≡ d x y) → (xs : List X) → AllByRecursion P xs → IsSorted c xs → IsSorted d xs
+sorted_alike P c d same xs all sorted k e low high =
+    ap is_lt (sym (same (get_or xs (k + 1) e) (get_or xs k e) (at_place P xs all (k + 1) e high) (at_place P xs all k e (omega (arith, high))))) ∙ sorted k e low high
+
+-- terms that are sorted by the ranks of their paths, and then by what stands behind these, have sorted keys
+pub ranked_by_keys : {X : Type 0} (known : List (List ℕ)) (path typed_value : X → List ℕ) (xs : List X) → AllByRecursion (λ (x : X). Contains known (path x) × (has_zero (path x) ≡ false)) xs
+    → IsSorted (λ (x y : X). ordering_then (nat_cmp (path_rank known (path x)) (path_rank known (path y))) (slice_cmp nat_cmp (typed_value x) (typed_value y))) xs
+    → IsSorted (λ (x y : X). slice_cmp nat_cmp (json_key (path x) (typed_value x)) (json_key (path y) (typed_value y))) xs
+ranked_by_keys {X} known path typed_value xs all sorted =
+    sorted_alike (λ (x : X). Contains known (path x) × (has_zero (path x) ≡ false))
+    (λ (x y : X). ordering_then (nat_cmp (path_rank known (path x)) (path_rank known (path y))) (slice_cmp nat_cmp (typed_value x) (typed_value y)))
+    (λ (x y : X). slice_cmp nat_cmp (json_key (path x) (typed_value x)) (json_key (path y) (typed_value y)))
+    (λ x y x_has y_has. ranked_as_keys known (path x) (path y) (typed_value x) (typed_value y) x_has.0 y_has.0 x_has.1 y_has.1) xs all sorted
 
 module _ (known : List (List ℕ)) where
   path_is_known : (t : PathTerm) → HasPath known t → Contains known (path_of_term known t)

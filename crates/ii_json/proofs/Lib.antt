@@ -4,7 +4,7 @@ pub mod KeyOrder
 mod KnownPaths
 pub mod LeafVisitLemmas
 mod NumberLeaves
-mod ParseLemmas
+pub mod ParseLemmas
 mod RankLemmas
 pub mod TermLemmas
 mod WorkedRows

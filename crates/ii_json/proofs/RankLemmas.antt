@@ -96,7 +96,7 @@ none_smaller : (path : List ℕ) (paths : List (List ℕ)) → AllByRecursion (�
 none_smaller path [] above = refl
 none_smaller path (other ∷ paths) above = rw (turned path other above.0) (none_smaller path paths above.1)
 
-at_place : {X : Type 0} (P : X → Type 0) (xs : List X) → AllByRecursion P xs → (i : ℕ) (d : X) → i < length xs → P (get_or xs i d)
+pub at_place : {X : Type 0} (P : X → Type 0) (xs : List X) → AllByRecursion P xs → (i : ℕ) (d : X) → i < length xs → P (get_or xs i d)
 at_place P [] all i d within = absurd (omega (arith, within))
 at_place P (x ∷ xs) all zero d within = all.0
 at_place P (x ∷ xs) all (suc i) d within = at_place P xs all.1 i d (omega (arith, within))

@@ -1,6 +1,7 @@
 ghost use Rattle.std.specs.Prelude.{◌≡◌, ◌++◌, [], length, take, IfOk, OnErr, OnOk};
 ghost use Rattle.std.specs.Borrow.{sem};
 ghost use Rattle.ii_io.specs.Faults.{OnlyMemory};
+ghost use Rattle.ii_base.specs.Values.{json_key};
 ghost use Rattle.ii_json.specs.JsonTerms.{written_byte, written_path, written_json_term};
 ghost use Rattle.ii_json.specs.Lending.{RestsWith};
 
@@ -67,6 +68,22 @@ impl JsonTermSerializer {
     {
         let len = self.bytes.len();
         if let Err(refused) = push_term(&mut self.bytes, path.as_bytes(), value_type, payload) {
+            self.bytes.truncate(len);
+            return Err(refused);
+        }
+        Ok(())
+    }
+
+    /// Adds the key of a term at a path that holds no byte 00: the path, byte 00, and what stands behind it,
+    /// the letter of a type and the bytes of a value. `OutOfMemory` where there is no room for them: the
+    /// bytes then stay.
+    pub fn append_key(&mut self, path: &str, typed_value: &[u8]) -> Result<(), Fault>
+        ensures ok { OnOk result (self.new ≡ self.old ++ json_key path.now typed_value.now) }
+        ensures err { OnErr result (self.new ≡ self.old) }
+        ensures only { OnlyMemory result }
+    {
+        let len = self.bytes.len();
+        if let Err(refused) = push_key(&mut self.bytes, path.as_bytes(), typed_value) {
             self.bytes.truncate(len);
             return Err(refused);
         }
@@ -142,6 +159,18 @@ fn push_term(
     push_path(bytes, path)?;
     bytes.push(value_type.to_code())?;
     bytes.extend_from_slice(payload)?;
+    Ok(())
+}
+
+// Pushes a key: a path as it is, its end, and what stands behind it. What stood before stays.
+fn push_key(bytes: &mut Vec<u8>, path: &[u8], typed_value: &[u8]) -> Result<(), Fault>
+    ensures ok { OnOk result (bytes.new.items ≡ bytes.old.items ++ json_key path.now typed_value.now) }
+    ensures err { OnErr result (take (length bytes.old.items) bytes.new.items ≡ bytes.old.items) }
+    ensures only { OnlyMemory result }
+{
+    bytes.extend_from_slice(path)?;
+    bytes.push(END_OF_PATH)?;
+    bytes.extend_from_slice(typed_value)?;
     Ok(())
 }
 

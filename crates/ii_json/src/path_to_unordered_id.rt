@@ -1,4 +1,4 @@
-ghost use Rattle.std.specs.Prelude.{length, Contains, ◌≡◌, ◌⊎◌, ◌≤◌, ◌^◌, [], IsOk, IsTrue, IfOk, MatchResult, None, false, OnErr, OnOk, Some};
+ghost use Rattle.std.specs.Prelude.{length, Contains, ◌≡◌, ◌⊎◌, ◌≤◌, ◌^◌, [], IsOk, IsTrue, IfOk, MatchResult, None, false, OnErr, OnOk, Some, slice_index_or};
 ghost use Rattle.std.specs.List.{range_with_len};
 ghost use Rattle.std.specs.List.Sorted.{IsPermutation};
 ghost use Rattle.ii_io.specs.Faults.{OnlyMemory};
@@ -116,11 +116,23 @@ impl PathToUnorderedId {
         Ok(next_id as u32)
     }
 
+    /// The path of an unordered id, or the empty one where no path has it.
+    pub fn path(&self, id: u32) -> &str
+        ensures { result.now ≡ slice_index_or self.now id [] }
+    {
+        match self.paths.get_index(id as usize) {
+            Some(path) => path.as_str(),
+            None => "",
+        }
+    }
+
     /// The ordered id of each known path, in the order of the unordered ids: how many known paths are
     /// smaller by their bytes. `OutOfMemory` where there is no room for them.
     pub fn unordered_id_to_ordered_id(&self, alloc: Global) -> Result<Vec<OrderedPathId>, Fault>
         ensures ranks { IfOk result (λ ids. ids.items ≡ path_ranks self.now) }
         ensures permutation { IfOk result (λ ids. IsPermutation (range_with_len 0 (length self.now)) ids.items) }
+        ensures distinct { AreDistinct self.now }
+        ensures few { length self.now ≤ 2 ^ 32 }
         ensures only { OnlyMemory result }
     {
         let sorted = self.ordered_id_to_path(alloc)?;
@@ -137,6 +149,8 @@ impl PathToUnorderedId {
         ensures ascending { IfOk result (λ paths. AreAscendingPaths (texts_of paths.items)) }
         ensures permutation { IfOk result (λ paths. IsPermutation self.entry.now (texts_of paths.items)) }
         ensures places { IfOk result (λ paths. StandAtRanks self.entry.now (texts_of paths.items)) }
+        ensures distinct { AreDistinct self.entry.now }
+        ensures few { length self.entry.now ≤ 2 ^ 32 }
         ensures only { OnlyMemory result }
     {
         let mut paths = self.known_paths(alloc)?;
@@ -148,6 +162,7 @@ impl PathToUnorderedId {
     fn known_paths(&self, alloc: Global) -> Result<Vec<&str>, Fault>
         ensures ok { IfOk result (λ paths. texts_of paths.items ≡ self.entry.now) }
         ensures distinct { AreDistinct self.entry.now }
+        ensures few { length self.entry.now ≤ 2 ^ 32 }
         ensures only { OnlyMemory result }
     {
         let mut paths = Vec::new(alloc);

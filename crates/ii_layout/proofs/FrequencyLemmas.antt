@@ -18,7 +18,8 @@ use Rattle.ii_codes.proofs.PackedLemmas.{length-entries_in}
 use Rattle.ii_layout.specs.Each.{each}
 use Rattle.ii_layout.specs.SkipList.{SkipEntry, SkipList, no_entry, block_place, tf_sum_before}
 use Rattle.ii_layout.specs.Documents.{skip_entry}
-use Rattle.ii_layout.specs.Frequencies.{has_sum, block_freqs, freqs_at}
+use Rattle.ii_layout.specs.Frequencies.{bounds_counts, has_sum, block_freqs, freqs_at}
+use Rattle.ii_layout.specs.SkipReader.{max_tf_of_code}
 use Rattle.ii_layout.specs.Written.{block_of}
 use Rattle.ii_layout.proofs.DocumentLemmas.{each_gives, AreWhole, length-concat, concat_block, last_block}
 
@@ -69,12 +70,20 @@ pub record StandFreqs (skip : SkipList) (i : ℕ) (freqs : List ℕ) : Type 0 wh
   pub after : List ℕ
   pub read : unsorted_block_at (skip_entry skip.entries i).strict_delta (skip_entry skip.entries i).tf_num_bits (drop (16 * (skip_entry skip.entries i).doc_num_bits) (drop (block_place skip.entries i) skip.body)) ≡ Some (freqs, after)
   pub sum_is : has_sum skip.skip_info (skip_entry skip.entries i).tf_sum freqs ≡ true
+  pub bound_is : bounds_counts (max_tf_of_code (skip_entry skip.entries i).block_wand_term_freq) freqs ≡ true
 
 stand_freqs : (skip : SkipList) (i : ℕ) (freqs : List ℕ) → block_freqs skip i ≡ Some freqs → StandFreqs skip i freqs
 stand_freqs skip i freqs e =
     let found = step-some (unsorted_block_at (skip_entry skip.entries i).strict_delta (skip_entry skip.entries i).tf_num_bits (drop (16 * (skip_entry skip.entries i).doc_num_bits) (drop (block_place skip.entries i) skip.body))) _ freqs e in
     let sum = needs-some (has_sum skip.skip_info (skip_entry skip.entries i).tf_sum found.0.0) _ freqs found.2 in
-    record { after = found.0.1; read = found.1 ∙ ap (λ (vs : List ℕ). Some (vs, found.0.1)) (some-same sum.1); sum_is = ap (has_sum skip.skip_info (skip_entry skip.entries i).tf_sum) (sym (some-same sum.1)) ∙ sum.0 }
+    let bound = needs-some (bounds_counts (max_tf_of_code (skip_entry skip.entries i).block_wand_term_freq) found.0.0) _ freqs sum.1 in
+    let same = some-same bound.1 in
+    record {
+      after = found.0.1;
+      read = found.1 ∙ ap (λ (vs : List ℕ). Some (vs, found.0.1)) same;
+      sum_is = ap (has_sum skip.skip_info (skip_entry skip.entries i).tf_sum) (sym same) ∙ sum.0;
+      bound_is = ap (bounds_counts (max_tf_of_code (skip_entry skip.entries i).block_wand_term_freq)) (sym same) ∙ bound.0;
+    }
 
 -- all rows have so many values of 32 bits
 abbrev AllFit : List (List ℕ) → Type 0

@@ -155,3 +155,20 @@ row_other_sum = refl
 pub row_sum_unread : posting_list WithFreqsAndPositions Basic 128 (0x8C ∷ 0x7F ∷ 0 ∷ 0 ∷ 0 ∷ 0x40 ∷ 2 ∷ 0x7F ∷ 1 ∷ 0 ∷ 0 ∷ 0 ∷ 0 ∷ replicate 32 0xAA) ≡ Ok (map document (range_with_len 0 128))
 unfolding entry_at u64_at u32_at sorted_block_at unsorted_block_at unpacked entries_in bits_in
 row_sum_unread = refl
+
+-- counts of 3 above a bound of 2, which is looked at where they are read, and bounds of 4 and of 255
+pub row_above_bound : posting_list WithFreqs WithFreqs 128 (0x88 ∷ 0x7F ∷ 0 ∷ 0 ∷ 0 ∷ 0x40 ∷ 2 ∷ 0 ∷ 2 ∷ replicate 32 0xAA) ≡ Err Frequencies
+unfolding entry_at u64_at u32_at sorted_block_at unsorted_block_at unpacked entries_in bits_in
+row_above_bound = refl
+
+pub row_bound_unread : posting_list WithFreqs Basic 128 (0x88 ∷ 0x7F ∷ 0 ∷ 0 ∷ 0 ∷ 0x40 ∷ 2 ∷ 0 ∷ 2 ∷ replicate 32 0xAA) ≡ Ok (map document (range_with_len 0 128))
+unfolding entry_at u64_at u32_at sorted_block_at unsorted_block_at unpacked entries_in bits_in
+row_bound_unread = refl
+
+pub row_bounded : posting_list WithFreqs WithFreqs 128 (0x88 ∷ 0x7F ∷ 0 ∷ 0 ∷ 0 ∷ 0x40 ∷ 2 ∷ 19 ∷ 4 ∷ replicate 32 0xAA) ≡ Ok (map (λ d. counted d 3) (range_with_len 0 128))
+unfolding entry_at u64_at u32_at sorted_block_at unsorted_block_at unpacked entries_in bits_in
+row_bounded = refl
+
+pub row_no_bound : posting_list WithFreqs WithFreqs 128 (0x88 ∷ 0x7F ∷ 0 ∷ 0 ∷ 0 ∷ 0x40 ∷ 2 ∷ 0 ∷ 255 ∷ replicate 32 0xAA) ≡ Ok (map (λ d. counted d 3) (range_with_len 0 128))
+unfolding entry_at u64_at u32_at sorted_block_at unsorted_block_at unpacked entries_in bits_in
+row_no_bound = refl

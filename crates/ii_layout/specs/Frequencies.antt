@@ -1,6 +1,6 @@
 -- The counts of a term, after the documents of each full block and after the last documents.
-use Rattle.std.specs.Prelude.{ℕ, ◌*◌, Bool, true, false, ◌&&◌, ◌||◌, List, ◌++◌, drop, length, nat_lt, ◌==◌, Option, None, Some}
-use Rattle.std.specs.List.{concat, sum}
+use Rattle.std.specs.Prelude.{ℕ, ◌*◌, Bool, true, false, ◌&&◌, ◌||◌, List, ◌++◌, drop, length, nat_lt, nat_le, ◌==◌, Option, None, Some}
+use Rattle.std.specs.List.{concat, list_all, sum}
 use Rattle.ii_io.specs.Steps.{◌>>=◌, needs}
 use Rattle.ii_io.specs.Vints.{u32s_at}
 use Rattle.ii_base.specs.declared.schema.index_record_option.IndexRecordOption.{IndexRecordOption}
@@ -9,6 +9,7 @@ use Rattle.ii_base.specs.Options.{has_freq}
 use Rattle.ii_codes.specs.Blocks.{unsorted_block_at}
 use Rattle.ii_layout.specs.Each.{each}
 use Rattle.ii_layout.specs.SkipList.{SkipList, block_place}
+use Rattle.ii_layout.specs.SkipReader.{max_tf_of_code}
 use Rattle.ii_layout.specs.Documents.{skip_entry}
 
 -- where entries have the sum of a block's counts, it is this one
@@ -17,12 +18,17 @@ has_sum Basic tf_sum freqs = true
 has_sum WithFreqs tf_sum freqs = true
 has_sum WithFreqsAndPositions tf_sum freqs = sum freqs == tf_sum
 
--- the counts of block i, after its documents
+-- no count is above a bound; one of 0 says nothing
+abbrev pub bounds_counts : ℕ → List ℕ → Bool
+bounds_counts bound freqs = bound == 0 || list_all (λ c. nat_le c bound) freqs
+
+-- the counts of block i, after its documents, which its entry sums up and bounds
 abbrev pub block_freqs : SkipList → ℕ → Option (List ℕ)
 block_freqs skip i = do
   let e = skip_entry skip.entries i
   found ← unsorted_block_at e.strict_delta e.tf_num_bits (drop (16 * e.doc_num_bits) (drop (block_place skip.entries i) skip.body))
   _ ← needs (has_sum skip.skip_info e.tf_sum found.0)
+  _ ← needs (bounds_counts (max_tf_of_code e.block_wand_term_freq) found.0)
   Some found.0
 
 -- all counts, n of them after the last documents

@@ -1,5 +1,5 @@
 -- Terms that are put to their fields one after the other.
-use Rattle.std.proofs.Common.{add-one, eq-eqb, append-nil, zero-add, cond, ◌≡◌, ℕ, zero, suc, ◌+◌, ◌<◌, Bool, true, false, List, [], ◌∷◌, ◌++◌, length, map, take, drop, replicate, slice_index_or, slice_set, nat_eq, refl, sym, ap, ◌∙◌, subst, arith, Some}
+use Rattle.std.proofs.Common.{add-one, eq-eqb, append-nil, zero-add, cond, ◌≡◌, ℕ, zero, suc, ◌+◌, ◌≤◌, ◌<◌, Bool, true, false, List, [], ◌∷◌, ◌++◌, length, map, take, drop, replicate, slice_index_or, slice_set, nat_eq, refl, sym, ap, ◌∙◌, subst, arith, Some}
 use Rattle.std.specs.Prelude.{slice_get, filter, Vec}
 use Rattle.std.specs.List.{AllByRecursion, range_with_len}
 use Rattle.std.proofs.lemmas.Bool.{ne_eqb}
@@ -13,6 +13,7 @@ use Rattle.ii_recorder.specs.declared.recorder.any_recorder.AnyRecorder.{AnyReco
 use Rattle.ii_recorder.specs.Recorded.{RecorderState}
 use Rattle.ii_postings_writer.specs.IndexingContext.{TermIndex}
 use Rattle.ii_postings_writer.specs.IndexingTerm.{field_in}
+use Rattle.ii_postings_writer.specs.ResolvedTerms.{behind_id, key_with, path_id_in, resolved, resolved_terms}
 use Rattle.ii_postings_writer.specs.SortedTerms.{IsTermBelow, SortedTerm, seen, term_of, terms_in}
 
 module _ {X : Type 0} (f g : ℕ → X) where
@@ -67,6 +68,21 @@ all_at P [] k x all at = absurd (cc)
 all_at P (y ∷ ys) zero x all at = let same : y ≡ x = cc in subst P same all.0
 all_at P (y ∷ ys) (suc k) x all at = all_at P ys k x all.1 at
 
+front_field : (xs ys : List ℕ) → 4 ≤ length xs → field_in (take 4 xs ++ ys) ≡ field_in xs
+unfolding field_in
+front_field [] ys long = absurd (omega (arith, long))
+front_field (a ∷ []) ys long = absurd (omega (arith, long))
+front_field (a ∷ b ∷ []) ys long = absurd (omega (arith, long))
+front_field (a ∷ b ∷ c ∷ []) ys long = absurd (omega (arith, long))
+front_field (a ∷ b ∷ c ∷ d ∷ xs) ys long = refl
+
+dropped_front : (xs ys : List ℕ) → 4 ≤ length xs → drop 4 (take 4 xs ++ ys) ≡ ys
+dropped_front [] ys long = absurd (omega (arith, long))
+dropped_front (a ∷ []) ys long = absurd (omega (arith, long))
+dropped_front (a ∷ b ∷ []) ys long = absurd (omega (arith, long))
+dropped_front (a ∷ b ∷ c ∷ []) ys long = absurd (omega (arith, long))
+dropped_front (a ∷ b ∷ c ∷ d ∷ xs) ys long = refl
+
 pub take_one_more : {X : Type 0} (xs : List X) (k : ℕ) (x : X) → slice_get xs k ≡ Some x → take (suc k) xs ≡ take k xs ++ x ∷ []
 take_one_more [] k x at = absurd (cc)
 take_one_more (y ∷ ys) zero x at = let same : y ≡ x = cc in ap (λ z. z ∷ []) same
@@ -76,14 +92,29 @@ take_one_more (y ∷ ys) (suc k) x at = ap (λ zs. y ∷ zs) (take_one_more ys k
 pub seen_at : {A : Type 0} (n : ℕ) (es : List (Vec ℕ A × AnyRecorder)) (k : ℕ) (e : Vec ℕ A × AnyRecorder) → AllByRecursion (IsTermBelow n) (map seen es) → slice_get es k ≡ Some e → IsTermBelow n (seen e)
 seen_at n es k e all at = all_at (IsTermBelow n) (map seen es) k (seen e) all (slice_get-map seen es k ∙ ap (option_map seen) at)
 
+-- the field of a term is that of its key
+pub resolved_field : (flags : List Bool) (paths : List (List ℕ)) (term : List ℕ) → 4 ≤ length term → field_in (resolved flags paths term) ≡ field_in term
+resolved_field flags paths term long = front_field term (key_with paths (path_id_in flags term) (behind_id flags term)) long
+
+pub resolved_key : (flags : List Bool) (paths : List (List ℕ)) (term : List ℕ) → 4 ≤ length term → drop 4 (resolved flags paths term) ≡ key_with paths (path_id_in flags term) (behind_id flags term)
+resolved_key flags paths term long = dropped_front term (key_with paths (path_id_in flags term) (behind_id flags term)) long
+
 -- the lists of the fields once a term was added to its own
-pub added : {A : Type 0} (n : ℕ) (es : List (Vec ℕ A × AnyRecorder)) (k : ℕ) (e : Vec ℕ A × AnyRecorder) (fields new : List (List SortedTerm)) (bytes : List ℕ) → slice_get es k ≡ Some e
-    → AllByRecursion (IsTermBelow n) (map seen es) → bytes ≡ e.0.items → fields ≡ lists_of n (map seen (take k es))
-    → new ≡ slice_set fields (field_in bytes) (slice_index_or fields (field_in bytes) [] ++ record { key = drop 4 bytes; recorder = any_state e.1 } ∷ [])
-    → new ≡ lists_of n (map seen (take (k + 1) es))
-added n es k e fields new bytes at all same known put =
-    let more : map seen (take (k + 1) es) ≡ map seen (take k es) ++ seen e ∷ [] = ap (map seen) (ap (λ (m : ℕ). take m es) (add-one k) ∙ take_one_more es k e at) ∙ map-append seen (take k es) (e ∷ []) in
-    rw (put, same, known, more) (one_more n (map seen (take k es)) (seen e) (seen_at n es k e all at).known)
+pub added : {A : Type 0} (flags : List Bool) (paths : List (List ℕ)) (n : ℕ) (es : List (Vec ℕ A × AnyRecorder)) (k : ℕ) (e : Vec ℕ A × AnyRecorder) (fields new : List (List SortedTerm)) (bytes : List ℕ) → slice_get es k ≡ Some e
+    → AllByRecursion (IsTermBelow n) (map seen es) → bytes ≡ e.0.items → fields ≡ lists_of n (resolved_terms flags paths (map seen (take k es)))
+    → new ≡ slice_set fields (field_in bytes) (slice_index_or fields (field_in bytes) [] ++ record { key = drop 4 (resolved flags paths bytes); recorder = any_state e.1 } ∷ [])
+    → new ≡ lists_of n (resolved_terms flags paths (map seen (take (k + 1) es)))
+added flags paths n es k e fields new bytes at all same known put =
+    let t : List ℕ × RecorderState = (resolved flags paths e.0.items, any_state e.1) in
+    let terms = resolved_terms flags paths (map seen (take k es)) in
+    let more : resolved_terms flags paths (map seen (take (k + 1) es)) ≡ terms ++ t ∷ [] =
+    ap (resolved_terms flags paths) (ap (map seen) (ap (λ (m : ℕ). take m es) (add-one k) ∙ take_one_more es k e at) ∙ map-append seen (take k es) (e ∷ []))
+    ∙ map-append (λ (u : List ℕ × RecorderState). (resolved flags paths u.0, u.1)) (map seen (take k es)) (seen e ∷ []) in
+    let below = seen_at n es k e all at in
+    let field : field_in t.0 ≡ field_in e.0.items = resolved_field flags paths e.0.items below.long in
+    let put_at : slice_set (lists_of n terms) (field_in t.0) (slice_index_or (lists_of n terms) (field_in t.0) [] ++ term_of t ∷ []) ≡ lists_of n (terms ++ t ∷ []) = one_more n terms t (omega (arith, field, below.known)) in
+    let at_field = subst (λ (f : ℕ). slice_set (lists_of n terms) f (slice_index_or (lists_of n terms) f [] ++ term_of t ∷ []) ≡ lists_of n (terms ++ t ∷ [])) field put_at in
+    rw (put, same, known, more) at_field
 
 pub known_at : (n : ℕ) (t : List ℕ × RecorderState) (terms : TermIndex) (fields : List (List SortedTerm)) (bytes : List ℕ) → IsTermBelow n t → bytes ≡ t.0 → fields ≡ lists_of n terms → field_in bytes < length fields
 known_at n t terms fields bytes below same known = rw (same, known, length-map-range_with_len (λ (field : ℕ). terms_in field terms) 0 n) below.known

@@ -10,6 +10,10 @@ pub mod PartLemmas
 pub mod PostingsLaws
 pub mod RecorderSteps
 pub mod RecordsLaws
+pub mod ResolvedLaws
+pub mod ResolvedOrder
+pub mod ResolvedParts
+pub mod ResolvedRecords
 pub mod SchemaItems
 pub mod SerializeLemmas
 pub mod SortedLemmas

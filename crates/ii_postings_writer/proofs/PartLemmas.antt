@@ -49,9 +49,9 @@ pub some_part : (entries : List SchemaEntry) (field tokens : ℕ) (terms : List 
 some_part entries field tokens [] some = absurd (omega (arith, some))
 some_part entries field tokens (t ∷ ts) some = refl
 
-pub keys_seen : (terms : List TermOfField) → map (λ (t : SortedTerm). t.key) (map state_of terms) ≡ map (λ (t : TermOfField). t.key.now) terms
+pub keys_seen : (terms : List TermOfField) → map (λ (t : SortedTerm). t.key) (map state_of terms) ≡ map (λ (t : TermOfField). (state_of t).key) terms
 keys_seen [] = refl
-keys_seen (t ∷ ts) = ap (λ (ks : List (List ℕ)). t.key.now ∷ ks) (keys_seen ts)
+keys_seen (t ∷ ts) = ap (λ (ks : List (List ℕ)). (state_of t).key ∷ ks) (keys_seen ts)
 
 pub tokens_of_writer : (writers : List PostingsWriterState) (field : ℕ) (w : PostingsWriterState) → slice_get writers field ≡ Some w → w.total_num_tokens ≡ tokens_in writers field
 tokens_of_writer writers field w is = rw is refl

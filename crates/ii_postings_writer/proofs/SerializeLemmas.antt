@@ -59,7 +59,7 @@ module _ (mode : IndexRecordOption) where
   all_written terms = map (written_term mode) (map state_of terms)
 
   abbrev key_of : TermOfField → List ℕ
-  key_of t = t.key.now
+  key_of t = (state_of t).key
 
   written_keys : (terms : List TermOfField) → map (λ (t : WrittenTerm). t.key) (all_written terms) ≡ map key_of terms
   written_keys [] = refl

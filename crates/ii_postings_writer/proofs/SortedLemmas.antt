@@ -156,7 +156,7 @@ pub each_key : {V : Type 0} (f : V → RecorderState) {A : Type 0} (es : List (V
 each_key f [] all = tt
 each_key f (e ∷ es) all = (all 0 e.0 (omega (arith)), each_key f es (All-tail (λ (k : Vec ℕ _). AreTermBytes k.items) e.0 (keys_of es) all))
 
-lists_ascend : (first n : ℕ) (terms : TermIndex) → AllByRecursion AreTermBytes (keys_of terms) → IsStrictlySortedBy (slice_cmp nat_cmp) (keys_of terms)
+pub lists_ascend : (first n : ℕ) (terms : TermIndex) → AllByRecursion AreTermBytes (keys_of terms) → IsStrictlySortedBy (slice_cmp nat_cmp) (keys_of terms)
     → AllByRecursion (λ (ts : List SortedTerm). IsStrictlySortedBy (slice_cmp nat_cmp) (map (λ (t : SortedTerm). t.key) ts)) (map (λ (field : ℕ). terms_in field terms) (range_with_len first n))
 lists_ascend first zero terms all sorted = tt
 lists_ascend first (suc n) terms all sorted = (terms_in_ascend first terms all sorted, lists_ascend (first + 1) n terms all sorted)

@@ -6,6 +6,7 @@ pub mod Lending
 pub mod LendingWriters
 pub mod PostingsWriter
 pub mod Records
+pub mod ResolvedTerms
 pub mod SortedTerms
 pub mod TermLimits
 pub mod TokenFiles

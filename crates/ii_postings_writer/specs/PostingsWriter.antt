@@ -81,7 +81,7 @@ text_state terms w at = record { terms = terms; writer = w; num_tokens = at.num_
 
 -- a text of a document, whose words stand under keys that begin with the value of a term
 abbrev pub text_piece : ℕ → IndexingTermState → List Word → Piece
-text_piece doc term words = record { doc = doc; field = term.field; prefix = term.value; is_text = true; words = words }
+text_piece doc term words = record { doc = doc; field = term.field; path = None; prefix = term.value; is_text = true; words = words }
 
 -- where a word ends
 abbrev pub word_end : ℕ → Word → ℕ

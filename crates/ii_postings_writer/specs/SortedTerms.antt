@@ -1,5 +1,7 @@
 -- The terms of an index, field by field.
-use Rattle.std.specs.Prelude.{MatchOption, ⊤, ◌^◌, if◌then◌else◌, IsTrue, [], ℕ, ◌==◌, ◌<◌, ◌≤◌, List, ◌++◌, drop, filter, length, map, Vec}
+use Rattle.std.specs.Prelude.{MatchOption, ⊤, ◌^◌, if◌then◌else◌, IsTrue, [], ℕ, ◌==◌, ◌<◌, ◌≤◌, List, ◌++◌, drop, filter, length, map, Vec, Option, None, Some}
+use Rattle.std.specs.Borrow.{Bor}
+use Rattle.ii_base.specs.Values.{json_key}
 use Rattle.ii_recorder.specs.AnyRecorder.{any_state}
 use Rattle.ii_recorder.specs.declared.recorder.any_recorder.AnyRecorder.{AnyRecorder}
 use Rattle.std.specs.List.{AllByRecursion}
@@ -19,9 +21,14 @@ pub record SortedTerm : Type 0 where
   pub key : List ℕ
   pub recorder : RecorderState
 
+-- a key that begins with a path, in a JSON field
+abbrev pub key_under : Option (Bor (List ℕ)) → List ℕ → List ℕ
+key_under None value = value
+key_under (Some path) value = json_key path.now value
+
 -- a term that is lent, as what it stands for
 abbrev pub state_of : TermOfField → SortedTerm
-state_of t = record { key = t.key.now; recorder = any_state t.recorder.now }
+state_of t = record { key = key_under t.path t.value.now; recorder = any_state t.recorder.now }
 
 -- a term of the context, as a term of its field
 abbrev pub term_of : List ℕ × RecorderState → SortedTerm

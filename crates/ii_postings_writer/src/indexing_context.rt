@@ -1,117 +1,27 @@
-ghost use Rattle.std.specs.Prelude.{◌≡◌, ◌≤◌, ◌<◌, [], length, IfOk, OnOk};
-ghost use Rattle.ii_io.specs.Faults.{OnlyMemory};
-ghost use Rattle.ii_docset.specs.declared.docset.TheConstants.{TERMINATED};
-ghost use Rattle.ii_recorder.specs.AnyRecorder.{any_state};
-ghost use Rattle.ii_postings_writer.specs.IndexingContext.{AllEndBy, EndsBy, IsRecorded, new_recorder, opened_at, record_fault, recorded_at, recorder_or_new};
-ghost use Rattle.ii_postings_writer.specs.IndexingTerm.{AreTermBytes};
-ghost use Rattle.ii_json.specs.LeafVisit.{IsRefusedBy};
+ghost use Rattle.std.specs.Prelude.{◌≡◌, []};
 
-use ii_base::{Fault, IndexRecordOption};
-use ii_docset::DocId;
-use ii_recorder::{AnyRecorder, Recorder};
-use indexmap::IndexMap;
+use crate::term_recorders::TermRecorders;
+use ii_json::PathToUnorderedId;
 use std::alloc::Global;
-use std::marker::Model;
 
-/// What is gathered while documents are indexed: for each term that occurred, by its bytes, what
-/// keeps its postings.
+/// What is gathered while documents are indexed.
 #[derive(Drop)]
 pub struct IndexingContext {
-    pub(crate) term_index: IndexMap<Vec<u8>, AnyRecorder>,
-    alloc: Global,
-}
-
-impl Model for IndexingContext {
-    ghost use Rattle.std.specs.Prelude.{All, map};
-    ghost use Rattle.ii_postings_writer.specs.IndexingTerm.{AreTermBytes};
-    ghost use Rattle.indexmap.specs.IndexMap.{keys};
-    ghost use Rattle.ii_recorder.specs.AnyRecorder.{any_state};
-    ghost use Rattle.ii_postings_writer.specs.IndexingContext.{TermIndex};
-
-    ghost Value = { TermIndex };
-
-    ghost view = { λ c. map (λ e. (e.0.items, any_state e.1)) c.term_index.entries };
-
-    ghost invariant = { λ c. All (λ k. AreTermBytes k.items) (keys c.term_index) };
+    /// For each term that occurred what keeps its postings.
+    pub term_index: TermRecorders,
+    /// The paths of JSON values, by the ids that they have while these are indexed.
+    pub path_to_unordered_id: PathToUnorderedId,
 }
 
 impl IndexingContext {
-    /// A context of no terms.
+    /// A context of no terms and no paths.
     pub fn new(alloc: Global) -> IndexingContext
-        ensures { result ≡ [] }
+        ensures terms { result.term_index ≡ [] }
+        ensures paths { result.path_to_unordered_id ≡ [] }
     {
         IndexingContext {
-            term_index: IndexMap::new(alloc),
-            alloc,
+            term_index: TermRecorders::new(alloc),
+            path_to_unordered_id: PathToUnorderedId::new(alloc),
         }
     }
-
-    // Records a position of a document under a term, whose recorder keeps what `option` says if it is
-    // new.
-    pub(crate) fn record(
-        &mut self,
-        option: IndexRecordOption,
-        term: &[u8],
-        doc: DocId,
-        position: u32,
-    ) -> Result<(), Fault>
-        requires term { AreTermBytes term.now }
-        requires low { doc < TERMINATED }
-        requires ends { AllEndBy doc self.old }
-        ensures ok { OnOk result (IsRecorded option doc position term.now self.old self.new) }
-        ensures refused { IsRefusedBy (record_fault doc position (recorder_or_new option self.old term.now)) result }
-    {
-        match self.term_index.get_mut(term) {
-            Some(recorder) => record_in(recorder, doc, position),
-            None => {
-                let recorder = recorder_with(self.alloc, option, doc, position)?;
-                let bytes = Vec::from_slice(self.alloc, term)?;
-                self.term_index.insert(bytes, recorder)?;
-                Ok(())
-            }
-        }
-    }
-}
-
-// A recorder of one position.
-fn recorder_with(
-    alloc: Global,
-    option: IndexRecordOption,
-    doc: DocId,
-    position: u32,
-) -> Result<AnyRecorder, Fault>
-    ensures ok { IfOk result (λ r. any_state r ≡ recorded_at doc position (new_recorder option)) }
-    ensures refused { IsRefusedBy (record_fault doc position (new_recorder option)) result }
-{
-    let mut recorder = AnyRecorder::new(alloc, option);
-    recorder.new_doc(doc)?;
-    recorder.record_position(position)?;
-    Ok(recorder)
-}
-
-// One more position of a document, which is that of the last one or lies above it.
-#[tactic(auto, using(crate::proofs::RecorderSteps::recorded_refusal, crate::proofs::RecordsLaws::records_more))]
-fn record_in(recorder: &mut AnyRecorder, doc: DocId, position: u32) -> Result<(), Fault>
-    requires low { doc < TERMINATED }
-    requires ends { EndsBy doc (any_state recorder.old) }
-    ensures ok { OnOk result (any_state recorder.new ≡ recorded_at doc position (any_state recorder.old)) }
-    ensures refused { IsRefusedBy (record_fault doc position (any_state recorder.old)) result }
-{
-    open_doc(recorder, doc)?;
-    recorder.record_position(position)
-}
-
-// Begins a document, unless it is the last one.
-#[tactic(auto, using(crate::proofs::RecorderSteps::opened_same, crate::proofs::RecorderSteps::opened_anew, crate::proofs::RecorderSteps::last_below))]
-fn open_doc(recorder: &mut AnyRecorder, doc: DocId) -> Result<(), Fault>
-    requires low { doc < TERMINATED }
-    requires ends { EndsBy doc (any_state recorder.old) }
-    ensures ok { OnOk result (any_state recorder.new ≡ opened_at doc (any_state recorder.old)) }
-    ensures only { OnlyMemory result }
-{
-    if recorder.current_doc() == doc {
-        return Ok(());
-    }
-    recorder.close_doc()?;
-    recorder.new_doc(doc)
 }

@@ -9,9 +9,11 @@ pub mod per_field_postings_writer;
 pub mod postings_writer;
 pub mod serialize_postings;
 pub mod sorted_terms;
+pub mod term_recorders;
 
 pub use indexing_context::IndexingContext;
 pub use indexing_position::IndexingPosition;
 pub use indexing_term::{IndexingTerm, IndexingTermRef};
 pub use per_field_postings_writer::PerFieldPostingsWriter;
 pub use postings_writer::{PostingsWriter, SpecializedPostingsWriter};
+pub use term_recorders::TermRecorders;

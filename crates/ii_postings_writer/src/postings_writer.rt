@@ -15,6 +15,7 @@ ghost use Rattle.ii_json.specs.LeafVisit.{IsRefusedBy, first_fault};
 use crate::indexing_context::IndexingContext;
 use crate::indexing_position::IndexingPosition;
 use crate::indexing_term::IndexingTerm;
+use crate::term_recorders::TermRecorders;
 use ii_base::{Fault, IndexRecordOption, LimitName, TokenStream, TokenView};
 use ii_docset::DocId;
 use std::marker::Model;
@@ -45,14 +46,15 @@ pub trait PostingsWriter: Drop {
         ctx: &mut IndexingContext,
     ) -> Result<(), Fault>
         requires low { doc < TERMINATED }
-        requires ends { AllEndBy doc ctx.old }
-        ensures recorded { OnOk result (IsRecorded (state self.old).value_option doc pos (term_bytes term.now) ctx.old ctx.new) }
-        ensures ends { OnOk result (AllEndBy doc ctx.new) }
+        requires ends { AllEndBy doc ctx.old.term_index }
+        ensures recorded { OnOk result (IsRecorded (state self.old).value_option doc pos (term_bytes term.now) ctx.old.term_index ctx.new.term_index) }
+        ensures ends { OnOk result (AllEndBy doc ctx.new.term_index) }
         ensures tokens { OnOk result ((kind : ℕ → List ℕ → IndexRecordOption) (ts : List IndexToken) (of_text : Bool)
-            → kind term.now.field term.now.value ≡ (state self.old).value_option → Records kind ctx.old ts → Records kind ctx.new (ts ++ term_token doc pos of_text term.now ∷ [])) }
+            → kind term.now.field term.now.value ≡ (state self.old).value_option → Records kind ctx.old.term_index ts → Records kind ctx.new.term_index (ts ++ term_token doc pos of_text term.now ∷ [])) }
         ensures counted { OnOk result (state self.new ≡ tokens_counted 1 (state self.old)) }
         ensures uncounted { OnErr result (state self.new ≡ state self.old) }
-        ensures refused { IsRefusedBy (subscribe_fault (state self.old).value_option (state self.old).total_num_tokens doc pos (term_bytes term.now) ctx.old) result };
+        ensures paths { ctx.new.path_to_unordered_id ≡ ctx.old.path_to_unordered_id }
+        ensures refused { IsRefusedBy (subscribe_fault (state self.old).value_option (state self.old).total_num_tokens doc pos (term_bytes term.now) ctx.old.term_index) result };
 
     /// Indexes the tokens of a text that are still to come, under the terms that the buffer's value and
     /// their own bytes make, in a document that isn't below those before. They stand behind the texts
@@ -73,18 +75,19 @@ pub trait PostingsWriter: Drop {
         indexing_position: &mut IndexingPosition,
     ) -> Result<(), Fault>
         requires low { doc_id < TERMINATED }
-        requires ends { AllEndBy doc_id ctx.old }
+        requires ends { AllEndBy doc_id ctx.old.term_index }
         ensures tokens { OnOk result ((kind : ℕ → List ℕ → IndexRecordOption) (ts : List IndexToken)
-            → let p = text_piece doc_id term_buffer.old (S.to_come token_stream.old) in HasTokens kind p ctx.old (state self.old) ts
-            → HasTokens kind p ctx.new (state self.new) (ts ++ piece_tokens_from true indexing_position.old.end_position p)) }
-        ensures ends { OnOk result (AllEndBy doc_id ctx.new) }
+            → let p = text_piece doc_id term_buffer.old (S.to_come token_stream.old) in HasTokens kind p ctx.old.term_index (state self.old) ts
+            → HasTokens kind p ctx.new.term_index (state self.new) (ts ++ piece_tokens_from true indexing_position.old.end_position p)) }
+        ensures ends { OnOk result (AllEndBy doc_id ctx.new.term_index) }
         ensures counted { OnOk result (state self.new ≡ tokens_counted (length (kept_words (S.to_come token_stream.old))) (state self.old)) }
         ensures num_tokens { OnOk result (indexing_position.new.num_tokens ≡ indexing_position.old.num_tokens + length (kept_words (S.to_come token_stream.old))) }
         ensures end_position { OnOk result (indexing_position.new.end_position ≡ end_after indexing_position.old.end_position (S.to_come token_stream.old)) }
         ensures same_term { OnOk result (term_buffer.new ≡ term_buffer.old) }
         ensures ended { OnOk result (S.to_come token_stream.new ≡ []) }
+        ensures paths { ctx.new.path_to_unordered_id ≡ ctx.old.path_to_unordered_id }
         ensures refused { (kind : ℕ → List ℕ → IndexRecordOption) (ts : List IndexToken)
-            → let p = text_piece doc_id term_buffer.old (S.to_come token_stream.old) in HasTokens kind p ctx.old (state self.old) ts
+            → let p = text_piece doc_id term_buffer.old (S.to_come token_stream.old) in HasTokens kind p ctx.old.term_index (state self.old) ts
             → IsRefusedBy (text_fault (state self.old).option p indexing_position.old ts) result };
 
     /// How many tokens it had.
@@ -140,20 +143,20 @@ impl SpecializedPostingsWriter {
         doc: DocId,
         pos: u32,
         term: &IndexingTerm,
-        ctx: &mut IndexingContext,
+        terms: &mut TermRecorders,
     ) -> Result<(), Fault>
         requires low { doc < TERMINATED }
-        requires ends { AllEndBy doc ctx.old }
-        ensures recorded { OnOk result (IsRecorded option doc pos (term_bytes term.now) ctx.old ctx.new) }
-        ensures ends { OnOk result (AllEndBy doc ctx.new) }
+        requires ends { AllEndBy doc terms.old }
+        ensures recorded { OnOk result (IsRecorded option doc pos (term_bytes term.now) terms.old terms.new) }
+        ensures ends { OnOk result (AllEndBy doc terms.new) }
         ensures counted { OnOk result (self.new ≡ tokens_counted 1 self.old) }
         ensures uncounted { OnErr result (self.new ≡ self.old) }
-        ensures refused { IsRefusedBy (subscribe_fault option self.old.total_num_tokens doc pos (term_bytes term.now) ctx.old) result }
+        ensures refused { IsRefusedBy (subscribe_fault option self.old.total_num_tokens doc pos (term_bytes term.now) terms.old) result }
     {
         if self.total_num_tokens == u64::MAX {
             return Err(Fault::Limit(LimitName::Tokens));
         }
-        ctx.record(option, term.serialized_term(), doc, pos)?;
+        terms.record(option, term.serialized_term(), doc, pos)?;
         self.total_num_tokens += 1;
         Ok(())
     }
@@ -165,20 +168,20 @@ impl SpecializedPostingsWriter {
         pos: u32,
         word: &[u8],
         term: &mut IndexingTerm,
-        ctx: &mut IndexingContext,
+        terms: &mut TermRecorders,
     ) -> Result<(), Fault>
         requires low { doc < TERMINATED }
-        requires ends { AllEndBy doc ctx.old }
-        ensures recorded { OnOk result (IsRecorded self.old.option doc pos (field_bytes term.old.field ++ (term.old.value ++ word.now)) ctx.old ctx.new) }
-        ensures ends { OnOk result (AllEndBy doc ctx.new) }
+        requires ends { AllEndBy doc terms.old }
+        ensures recorded { OnOk result (IsRecorded self.old.option doc pos (field_bytes term.old.field ++ (term.old.value ++ word.now)) terms.old terms.new) }
+        ensures ends { OnOk result (AllEndBy doc terms.new) }
         ensures counted { OnOk result (self.new ≡ tokens_counted 1 self.old) }
         ensures uncounted { OnErr result (self.new ≡ self.old) }
-        ensures refused { IsRefusedBy (subscribe_fault self.old.option self.old.total_num_tokens doc pos (field_bytes term.old.field ++ (term.old.value ++ word.now)) ctx.old) result }
+        ensures refused { IsRefusedBy (subscribe_fault self.old.option self.old.total_num_tokens doc pos (field_bytes term.old.field ++ (term.old.value ++ word.now)) terms.old) result }
         ensures same_term { OnOk result (term.new ≡ term.old) }
     {
         let len = term.len_bytes();
         term.add_bytes(word)?;
-        self.record(self.option, doc, pos, term, ctx)?;
+        self.record(self.option, doc, pos, term, terms)?;
         term.truncate_value_bytes(len);
         Ok(())
     }
@@ -190,18 +193,18 @@ impl SpecializedPostingsWriter {
         token: &TokenView<'_>,
         begin: u32,
         term: &mut IndexingTerm,
-        ctx: &mut IndexingContext,
+        terms: &mut TermRecorders,
         at: &mut IndexingPosition,
     ) -> Result<(), Fault>
         requires low { doc < TERMINATED }
-        requires ends { AllEndBy doc ctx.old }
-        ensures indexed { OnOk result (IndexesKept (text_piece doc term.old []) begin (seen_word token.now) (text_state ctx.old self.old at.old) (text_state ctx.new self.new at.new)) }
+        requires ends { AllEndBy doc terms.old }
+        ensures indexed { OnOk result (IndexesKept (text_piece doc term.old []) begin (seen_word token.now) (text_state terms.old self.old at.old) (text_state terms.new self.new at.new)) }
         ensures same_term { OnOk result (term.new ≡ term.old) }
-        ensures refused { IsRefusedBy (kept_fault (text_piece doc term.old []) begin (seen_word token.now) (text_state ctx.old self.old at.old)) result }
+        ensures refused { IsRefusedBy (kept_fault (text_piece doc term.old []) begin (seen_word token.now) (text_state terms.old self.old at.old)) result }
     {
         let (position, end) = token_place(begin, token.position, token.position_length)?;
         let num_tokens = one_more(at.num_tokens)?;
-        self.subscribe_word(doc, position, token.text.as_bytes(), term, ctx)?;
+        self.subscribe_word(doc, position, token.text.as_bytes(), term, terms)?;
         at.num_tokens = num_tokens;
         at.end_position = at.end_position.max(end);
         Ok(())
@@ -214,21 +217,21 @@ impl SpecializedPostingsWriter {
         token: &TokenView<'_>,
         begin: u32,
         term: &mut IndexingTerm,
-        ctx: &mut IndexingContext,
+        terms: &mut TermRecorders,
         at: &mut IndexingPosition,
     ) -> Result<(), Fault>
         requires low { doc < TERMINATED }
-        requires ends { AllEndBy doc ctx.old }
-        ensures indexed { OnOk result ((words : List Word) → IndexesWords (text_piece doc term.old words) begin (kept_words (seen_word token.now ∷ [])) (text_state ctx.old self.old at.old) (text_state ctx.new self.new at.new)) }
+        requires ends { AllEndBy doc terms.old }
+        ensures indexed { OnOk result ((words : List Word) → IndexesWords (text_piece doc term.old words) begin (kept_words (seen_word token.now ∷ [])) (text_state terms.old self.old at.old) (text_state terms.new self.new at.new)) }
         ensures same_term { OnOk result (term.new ≡ term.old) }
-        ensures refused { IfErr result (λ e. (words : List Word) → RefusesWords (text_piece doc term.old words) begin (kept_words (seen_word token.now ∷ [])) (text_state ctx.old self.old at.old) e) }
+        ensures refused { IfErr result (λ e. (words : List Word) → RefusesWords (text_piece doc term.old words) begin (kept_words (seen_word token.now ∷ [])) (text_state terms.old self.old at.old) e) }
     {
         // that the field has 32 bits, for the proof
         let _field = term.field().field_id();
         if token.text.len() > MAX_TOKEN_LEN {
             return Ok(());
         }
-        self.index_kept(doc, token, begin, term, ctx, at)
+        self.index_kept(doc, token, begin, term, terms, at)
     }
 
     // Indexes the words that are still to come of a text.
@@ -238,19 +241,19 @@ impl SpecializedPostingsWriter {
         token_stream: &mut S,
         begin: u32,
         term: &mut IndexingTerm,
-        ctx: &mut IndexingContext,
+        terms: &mut TermRecorders,
         at: &mut IndexingPosition,
     ) -> Result<(), Fault>
         requires low { doc < TERMINATED }
-        requires ends { AllEndBy doc ctx.old }
-        ensures indexed { OnOk result (IndexesWords (text_piece doc term.old (S.to_come token_stream.old)) begin (kept_words (S.to_come token_stream.old)) (text_state ctx.old self.old at.old) (text_state ctx.new self.new at.new)) }
+        requires ends { AllEndBy doc terms.old }
+        ensures indexed { OnOk result (IndexesWords (text_piece doc term.old (S.to_come token_stream.old)) begin (kept_words (S.to_come token_stream.old)) (text_state terms.old self.old at.old) (text_state terms.new self.new at.new)) }
         ensures same_term { OnOk result (term.new ≡ term.old) }
         ensures ended { OnOk result (S.to_come token_stream.new ≡ []) }
-        ensures refused { IfErr result (λ e. RefusesWords (text_piece doc term.old (S.to_come token_stream.old)) begin (kept_words (S.to_come token_stream.old)) (text_state ctx.old self.old at.old) e) }
+        ensures refused { IfErr result (λ e. RefusesWords (text_piece doc term.old (S.to_come token_stream.old)) begin (kept_words (S.to_come token_stream.old)) (text_state terms.old self.old at.old) e) }
     {
         while token_stream.advance() {
             let token = token_stream.token();
-            self.index_word(doc, &token, begin, term, ctx, at)?;
+            self.index_word(doc, &token, begin, term, terms, at)?;
         }
         Ok(())
     }
@@ -268,7 +271,7 @@ impl PostingsWriter for SpecializedPostingsWriter {
     ) -> Result<(), Fault> {
         // that the field has 32 bits, for the proof
         let _field = term.field().field_id();
-        self.record(self.value_option, doc, pos, term, ctx)
+        self.record(self.value_option, doc, pos, term, &mut ctx.term_index)
     }
 
     fn index_text<S: TokenStream>(
@@ -285,7 +288,7 @@ impl PostingsWriter for SpecializedPostingsWriter {
             token_stream,
             begin,
             term_buffer,
-            ctx,
+            &mut ctx.term_index,
             indexing_position,
         )?;
         indexing_position.end_position = next_text(indexing_position.end_position)?;

@@ -10,7 +10,10 @@ ghost use Rattle.ii_recorder.specs.Terms.{WrittenTerm, field_bodies};
 ghost use Rattle.ii_recorder.specs.HeldTerms.{HoldsTerms};
 ghost use Rattle.ii_postings_writer.specs.FieldParts.{AreShortNorms, FieldPart, HasFields, WroteContext, first_parts, parts_of, tokens_in};
 ghost use Rattle.ii_definitions.specs.Tokens.{IndexToken};
+ghost use Rattle.ii_definitions.specs.JsonKeys.{is_json};
+ghost use Rattle.ii_io.specs.Faults.{OnlyMemory};
 ghost use Rattle.ii_postings_writer.specs.HeldBodies.{HaveTokens, WroteTokens};
+ghost use Rattle.ii_postings_writer.specs.ResolvedTerms.{AreClean, HaveHeldTokens, HaveUnlessMemory, HoldIds, json_fields, resolved_terms};
 ghost use Rattle.ii_postings_writer.specs.SortedTerms.{AllMayBeWritten, IsTold, IsWritable, SortedTerm, state_of, written_term};
 ghost use Rattle.ii_postings_writer.specs.TermLimits.{AreWithin};
 ghost use Rattle.ii_postings_writer.specs.WriteFaults.{ClosesOrStays, IsContextFault, IsPartFault, IsPartsFault, IsTermFaultAfter, StaysClosed};
@@ -19,16 +22,17 @@ use crate::indexing_context::IndexingContext;
 use crate::per_field_postings_writer::PerFieldPostingsWriter;
 use crate::postings_writer::PostingsWriter;
 use crate::sorted_terms::{FieldTerms, TermOfField};
-use ii_base::{Fault, Field, Schema};
+use ii_base::{Fault, Field, FieldEntry, Schema, ValueType};
 use ii_fieldnorm::{FieldNormReader, FieldNormReaders};
+use ii_json::JsonTermSerializer;
 use ii_layout::written::reads_uncounted_term_back;
 use ii_recorder::held_terms::reads_entries_back;
 use ii_recorder::{AnyRecorder, BufferLender, FieldSerializer, InvertedIndexSerializer, Recorder};
 use std::alloc::Global;
 use std::io::Write;
 
-// Writes a term of the field.
-fn serialize_one_term<W: Write>(
+// Writes a term of the field under a key.
+fn serialize_under_key<W: Write>(
     key: &[u8],
     recorder: &AnyRecorder,
     buffer_lender: &mut BufferLender,
@@ -59,18 +63,56 @@ fn serialize_one_term<W: Write>(
     serializer.close_term()
 }
 
+// Writes a term of the field, whose key is put together in a buffer if it has a path.
+fn serialize_one_term<W: Write>(
+    term: TermOfField<'_>,
+    keys: &mut JsonTermSerializer,
+    buffer_lender: &mut BufferLender,
+    serializer: &mut FieldSerializer<'_, W>,
+) -> Result<(), Fault>
+    requires open { serializer.old.index.now.closed ≡ false }
+    requires between { serializer.old.index.now.field.term_open ≡ false }
+    requires ascending { AreAscending (serializer.old.index.now.field.places.keys ++ (state_of term).key ∷ []) }
+    requires writable { IsWritable (state_of term) }
+    ensures same_reference { serializer.new.index.ghost_name ≡ serializer.old.index.ghost_name }
+    ensures writing { (initial : IndexBodiesState) (field tokens : ℕ) (ts : List WrittenTerm) → IsWriting initial serializer.old.index.now field tokens ts []
+        → OnOk result (IsWriting initial serializer.new.index.now field tokens (ts ++ written_term (option_of serializer.old.index.now.entries field) (state_of term.entry) ∷ []) []) }
+    ensures told { OnOk result (IsTold serializer.old.index.now.field.term.mode (state_of term.entry)) }
+    ensures between { OnOk result (serializer.new.index.now.field.term_open ≡ false) }
+    ensures closes { Closes result serializer.new.index.now.closed }
+    ensures entries { serializer.new.index.now.entries ≡ serializer.old.index.now.entries }
+    // where it is refused
+    ensures failures { CountsFailures serializer.old.index.now.bodies serializer.new.index.now.bodies result }
+    ensures grow { AllGrow serializer.old.index.now.bodies serializer.new.index.now.bodies }
+    ensures fault { (initial : IndexBodiesState) (field tokens : ℕ) (ts : List WrittenTerm) → IsWriting initial serializer.old.index.now field tokens ts []
+        → IfErr result (IsTermFaultAfter initial (option_of serializer.old.index.now.entries field) tokens ts
+        (written_term (option_of serializer.old.index.now.entries field) (state_of term.entry))) }
+    ensures none { ¬ IsErrOf result Fault.SerializerClosed }
+{
+    let Some(path) = term.path else {
+        return serialize_under_key(term.value, term.recorder, buffer_lender, serializer);
+    };
+    keys.clear();
+    if let Err(refused) = keys.append_key(path, term.value) {
+        serializer.shut();
+        return Err(refused);
+    }
+    serialize_under_key(keys.as_bytes(), term.recorder, buffer_lender, serializer)
+}
+
 // Writes a field with so many tokens, whose terms ascend.
 fn serialize_field<W: Write>(
     field: Field,
     total_num_tokens: u64,
     fieldnorm_reader: Option<FieldNormReader>,
     terms: &[TermOfField<'_>],
+    keys: &mut JsonTermSerializer,
     buffer_lender: &mut BufferLender,
     serializer: &mut InvertedIndexSerializer<W>,
 ) -> Result<(), Fault>
     requires known { field < length serializer.old.entries }
     requires lacks { serializer.old.closed ≡ false → LacksField field serializer.old.bodies }
-    requires ascending { AreAscending (map (λ t. t.key.now) terms.now) }
+    requires ascending { AreAscending (map (λ t. (state_of t).key) terms.now) }
     requires writable { AllByRecursion IsWritable (map state_of terms.now) }
     ensures entries { serializer.new.entries ≡ serializer.old.entries }
     ensures closes { Closes result serializer.new.closed }
@@ -92,7 +134,7 @@ fn serialize_field<W: Write>(
     let mut serializer = serializer.new_field(field, total_num_tokens, fieldnorm_reader)?;
     for place in 0..terms.len() {
         let term = terms[place];
-        serialize_one_term(term.key, term.recorder, buffer_lender, &mut serializer)?;
+        serialize_one_term(term, keys, buffer_lender, &mut serializer)?;
     }
     serializer.close()
 }
@@ -103,6 +145,7 @@ fn serialize_if_any<W: Write>(
     writers: &PerFieldPostingsWriter,
     norms: &FieldNormReaders,
     terms: &FieldTerms<'_>,
+    keys: &mut JsonTermSerializer,
     buffer_lender: &mut BufferLender,
     serializer: &mut InvertedIndexSerializer<W>,
 ) -> Result<(), Fault>
@@ -137,6 +180,7 @@ fn serialize_if_any<W: Write>(
         total_num_tokens,
         fieldnorm_reader,
         terms,
+        keys,
         buffer_lender,
         serializer,
     )
@@ -169,6 +213,7 @@ fn serialize_fields<W: Write>(
     ensures refused { IsTrue serializer.old.closed → StaysClosed (first_parts serializer.old.entries writers.now terms.now.items (length terms.now.items) ≡ []) serializer.old serializer.new result }
     ensures err { IfErr result (ClosesOrStays serializer.old serializer.new) }
 {
+    let mut keys = JsonTermSerializer::new(alloc);
     let mut buffer_lender = BufferLender::new(alloc);
     for place in 0..terms.len() {
         let field = Field::from_field_id(place as u32);
@@ -177,11 +222,31 @@ fn serialize_fields<W: Write>(
             writers,
             norms,
             &terms[place],
+            &mut keys,
             &mut buffer_lender,
             serializer,
         )?;
     }
     Ok(())
+}
+
+// Which fields of a schema hold JSON values.
+fn json_fields(alloc: Global, schema: &Schema) -> Result<Vec<bool>, Fault>
+    ensures ok { IfOk result (λ flags. flags.items ≡ json_fields schema.now) }
+    ensures only { OnlyMemory result }
+{
+    let mut flags = Vec::with_capacity(alloc, schema.num_fields())?;
+    for (_field, entry) in schema.fields() {
+        flags.push(holds_json(entry))?;
+    }
+    Ok(flags)
+}
+
+// Whether a field holds JSON values.
+fn holds_json(entry: &FieldEntry) -> bool
+    ensures { result ≡ is_json entry.now.value_type }
+{
+    entry.value_type().to_code() == ValueType::Json.to_code()
 }
 
 /// Writes the terms of a context, the fields that have some in ascending order, with the numbers of
@@ -206,24 +271,35 @@ pub fn serialize_postings<W: Write>(
     requires writers { length per_field_postings_writers.now ≡ length schema.now }
     requires fresh { HasFields serializer.old.entries serializer.old.bodies serializer.old.bodies [] }
     requires norms { AreShortNorms fieldnorm_readers.now }
-    requires terms { AllMayBeWritten (length schema.now) ctx }
+    requires terms { AllMayBeWritten (length schema.now) ctx.term_index }
+    requires ids { HoldIds (json_fields schema.now) ctx.path_to_unordered_id ctx.term_index }
+    requires clean { AreClean ctx.path_to_unordered_id }
     ensures entries { serializer.new.entries ≡ serializer.old.entries }
-    ensures wrote { OnOk result (WroteContext serializer.old serializer.new per_field_postings_writers.now ctx) }
-    ensures holds { (ts : List IndexToken) → HaveTokens serializer.old.entries ctx per_field_postings_writers.now ts → OnOk result (WroteTokens serializer.old serializer.new ts) }
+    ensures wrote { OnOk result (WroteContext serializer.old serializer.new per_field_postings_writers.now (resolved_terms (json_fields schema.now) ctx.path_to_unordered_id ctx.term_index)) }
+    ensures holds { (ts : List IndexToken) → HaveHeldTokens serializer.old.entries ctx.path_to_unordered_id ctx.term_index per_field_postings_writers.now ts → OnOk result (WroteTokens serializer.old serializer.new ts) }
+    ensures tokens { (ts : List IndexToken) → HaveHeldTokens serializer.old.entries ctx.path_to_unordered_id ctx.term_index per_field_postings_writers.now ts
+        → HaveUnlessMemory (HaveTokens serializer.old.entries (resolved_terms (json_fields schema.now) ctx.path_to_unordered_id ctx.term_index) per_field_postings_writers.now ts) result }
     ensures closes { OnOk result (serializer.new.closed ≡ serializer.old.closed) }
     // where it is refused
     ensures failures { CountsFailures serializer.old.bodies serializer.new.bodies result }
     ensures grow { AllGrow serializer.old.bodies serializer.new.bodies }
-    ensures fault { IfErr result (λ e. (e ≡ Fault.OutOfMemory) ⊎ (e ≡ Fault.SerializerClosed) ⊎ IsContextFault serializer.old per_field_postings_writers.now ctx e) }
-    ensures closed { IsErrOf result Fault.SerializerClosed → IsTrue serializer.old.closed × (0 < length ctx) }
-    ensures refused { IsTrue serializer.old.closed → StaysClosed (ctx ≡ []) serializer.old serializer.new result }
+    ensures fault { IfErr result (λ e. (e ≡ Fault.OutOfMemory) ⊎ (e ≡ Fault.SerializerClosed) ⊎ IsContextFault serializer.old per_field_postings_writers.now (resolved_terms (json_fields schema.now) ctx.path_to_unordered_id ctx.term_index) e) }
+    ensures closed { IsErrOf result Fault.SerializerClosed → IsTrue serializer.old.closed × (0 < length ctx.term_index) }
+    ensures refused { IsTrue serializer.old.closed → StaysClosed (ctx.term_index ≡ []) serializer.old serializer.new result }
     ensures err { IfErr result (ClosesOrStays serializer.old serializer.new) }
 {
     reads_entries_back();
     reads_uncounted_term_back();
     let mut ctx = ctx;
-    ctx.sort()?;
-    let terms = ctx.terms_by_field(alloc, schema.num_fields())?;
+    let flags = json_fields(alloc, schema)?;
+    let ranks = ctx.path_to_unordered_id.unordered_id_to_ordered_id(alloc)?;
+    ctx.term_index.sort(&flags, &ranks)?;
+    let terms = ctx.term_index.terms_by_field(
+        alloc,
+        &flags,
+        &ctx.path_to_unordered_id,
+        schema.num_fields(),
+    )?;
     serialize_fields(
         alloc,
         per_field_postings_writers,

@@ -1,38 +1,127 @@
 ghost use Rattle.std.specs.Prelude.{◌≡◌, ◌≤◌, ◌<◌, ◌++◌, ◌∷◌, ℕ, List, [], drop, length, map, replicate, slice_index_or, slice_set, OnOk, IfOk};
 ghost use Rattle.std.specs.List.{AllByRecursion, range_with_len};
+ghost use Rattle.std.specs.List.Sorted.{IsPermutation};
 ghost use Rattle.ii_io.specs.Faults.{OnlyMemory};
+ghost use Rattle.ii_json.specs.PathRank.{path_ranks};
+ghost use Rattle.ii_json.specs.Paths.{AreDistinct};
 ghost use Rattle.ii_recorder.specs.AnyRecorder.{any_state};
-ghost use Rattle.ii_termdict.specs.ReadBack.{AreAscending};
-ghost use Rattle.ii_postings_writer.specs.IndexingContext.{recorder_of};
-ghost use Rattle.ii_postings_writer.specs.IndexingTerm.{AreTermBytes, field_in};
+ghost use Rattle.ii_postings_writer.specs.IndexingTerm.{field_in};
+ghost use Rattle.ii_postings_writer.specs.ResolvedTerms.{AreClean, AreSorted, HoldIds, front_of, held_cmp, is_json_field, path_id_in, rank_of, resolved, resolved_terms, value_place};
 ghost use Rattle.ii_postings_writer.specs.SortedTerms.{IsTermBelow, SortedTerm, seen, state_of, terms_in};
 
-use crate::IndexingTermRef;
-use crate::indexing_context::IndexingContext;
+use crate::term_recorders::TermRecorders;
 use ii_base::Fault;
+use ii_json::{OrderedPathId, PathToUnorderedId};
 use ii_recorder::AnyRecorder;
 use indexmap::IndexMap;
 use std::alloc::Global;
+use std::cmp::Ordering;
 use std::marker::Model;
 
-impl IndexingContext {
-    // Puts the terms in the order of their bytes.
-    pub(crate) fn sort(&mut self) -> Result<(), Fault>
-        ensures ascending { OnOk result (AreAscending (map (λ t. t.0) self.new)) }
-        ensures whole { OnOk result (AllByRecursion AreTermBytes (map (λ t. t.0) self.new)) }
-        ensures same { (bytes : List ℕ) → recorder_of self.new bytes ≡ recorder_of self.old bytes }
+// The bytes of a field, and those of an id, in a term.
+const FIELD_LEN: usize = 4;
+
+const ID_LEN: usize = 4;
+
+impl TermRecorders {
+    // Puts the terms in the order of their keys, where the terms of some fields hold ids of paths with
+    // these ranks.
+    pub(crate) fn sort(&mut self, flags: &[bool], ranks: &[OrderedPathId]) -> Result<(), Fault>
+        ensures moved { IsPermutation self.old self.new }
+        ensures sorted { (paths : List (List ℕ)) → AreDistinct paths → AreClean paths → ranks.now ≡ path_ranks paths → HoldIds flags.now paths self.old → OnOk result (AreSorted flags.now paths self.new) }
         ensures only { OnlyMemory result }
     {
-        self.term_index.sort_unstable_keys()?;
+        self.recorders.sort_unstable_by(
+            |left: &Vec<u8>, _: &AnyRecorder, right: &Vec<u8>, _: &AnyRecorder| -> Ordering
+                ensures { result ≡ held_cmp flags.entry.now ranks.entry.now left.now.items right.now.items }
+            { compare(flags, ranks, left, right) },
+        )?;
         Ok(())
     }
 }
 
-/// A term of a field, by its key, with what keeps its postings.
+// Which of two terms goes out first.
+fn compare(flags: &[bool], ranks: &[OrderedPathId], left: &[u8], right: &[u8]) -> Ordering
+    ensures { result ≡ held_cmp flags.now ranks.now left.now right.now }
+{
+    let (left_id, right_id) = (path_id_in(flags, left), path_id_in(flags, right));
+    let fields = front_of(left).cmp(front_of(right));
+    let paths = rank_of(ranks, left_id).cmp(&rank_of(ranks, right_id));
+    let values = behind_id(left_id, left).cmp(behind_id(right_id, right));
+    fields.then(paths).then(values)
+}
+
+// The bytes of a term's field.
+fn front_of(term: &[u8]) -> &[u8]
+    ensures { result.now ≡ front_of term.now }
+{
+    &term[..term.len().min(FIELD_LEN)]
+}
+
+// What stands behind the field of a term, and behind the id if there is one.
+fn behind_id(id: Option<u32>, term: &[u8]) -> &[u8]
+    ensures { result.now ≡ drop (value_place id) term.now }
+{
+    let place = if id.is_some() {
+        FIELD_LEN + ID_LEN
+    } else {
+        FIELD_LEN
+    };
+    &term[place.min(term.len())..]
+}
+
+// The rank of a path, 0 where there is none.
+fn rank_of(ranks: &[OrderedPathId], id: Option<u32>) -> u32
+    ensures { result ≡ rank_of ranks.now id }
+{
+    let Some(id) = id else {
+        return 0;
+    };
+    match ranks.get(id as usize) {
+        Some(rank) => rank.path_id(),
+        None => 0,
+    }
+}
+
+// The id of the path in a term, if its field holds such ids.
+fn path_id_in(flags: &[bool], term: &[u8]) -> Option<u32>
+    ensures { result ≡ path_id_in flags.now term.now }
+{
+    if term.len() < FIELD_LEN + ID_LEN {
+        return None;
+    }
+    if !is_json_field(flags, number_in(term)) {
+        return None;
+    }
+    Some(number_in(&term[FIELD_LEN..]))
+}
+
+// Whether a field holds JSON values.
+fn is_json_field(flags: &[bool], field: u32) -> bool
+    ensures { result ≡ is_json_field flags.now field }
+{
+    match flags.get(field as usize) {
+        Some(flag) => *flag,
+        None => false,
+    }
+}
+
+// The number of the first 4 bytes, the highest first.
+#[tactic(auto, unfolding(crate::specs::IndexingTerm::field_in))]
+fn number_in(bytes: &[u8]) -> u32
+    requires { 4 ≤ length bytes.now }
+    ensures { result ≡ field_in bytes.now }
+{
+    u32::from_be_bytes([bytes[0], bytes[1], bytes[2], bytes[3]])
+}
+
+/// A term of a field, with what keeps its postings.
 #[derive(Clone, Copy)]
 pub struct TermOfField<'a> {
+    /// The path that its key begins with, in a JSON field.
+    pub path: Option<&'a str>,
     /// The bytes of its value.
-    pub key: &'a [u8],
+    pub value: &'a [u8],
     /// What keeps its postings.
     pub recorder: &'a AnyRecorder,
 }
@@ -45,12 +134,11 @@ pub(crate) struct FieldTerms<'a> {
 
 impl<'a> Model for FieldTerms<'a> {
     ghost use Rattle.std.specs.Prelude.{List, map};
-    ghost use Rattle.ii_recorder.specs.AnyRecorder.{any_state};
-    ghost use Rattle.ii_postings_writer.specs.SortedTerms.{SortedTerm};
+    ghost use Rattle.ii_postings_writer.specs.SortedTerms.{SortedTerm, state_of};
 
     ghost Value = { List SortedTerm };
 
-    ghost view = { λ f. map (λ t. record { key = t.key.now; recorder = any_state t.recorder.now }) f.terms.items };
+    ghost view = { λ f. map state_of f.terms.items };
 }
 
 impl<'a> FieldTerms<'a> {
@@ -68,29 +156,57 @@ impl<'a> FieldTerms<'a> {
         &self.terms
     }
 
-    pub(crate) fn push(&mut self, key: &'a [u8], recorder: &'a AnyRecorder) -> Result<(), Fault>
-        ensures ok { OnOk result (self.new ≡ self.old ++ record { key = key.now; recorder = any_state recorder.now } ∷ []) }
+    pub(crate) fn push(&mut self, term: TermOfField<'a>) -> Result<(), Fault>
+        ensures ok { OnOk result (self.new ≡ self.old ++ state_of term.entry ∷ []) }
         ensures only { OnlyMemory result }
     {
-        self.terms.push(TermOfField { key, recorder })?;
+        self.terms.push(term)?;
         Ok(())
     }
 }
 
-// Adds a term to those of its field.
+// A term by its key.
+fn keyed<'a>(
+    flags: &[bool],
+    paths: &'a PathToUnorderedId,
+    term: &'a [u8],
+    recorder: &'a AnyRecorder,
+) -> TermOfField<'a>
+    requires long { 4 ≤ length term.now }
+    ensures { state_of result ≡ record { key = drop 4 (resolved flags.now paths.now term.now); recorder = any_state recorder.now } }
+{
+    let id = path_id_in(flags, term);
+    let value = behind_id(id, term);
+    let Some(id) = id else {
+        return TermOfField {
+            path: None,
+            value,
+            recorder,
+        };
+    };
+    TermOfField {
+        path: Some(paths.path(id)),
+        value,
+        recorder,
+    }
+}
+
+// Adds a term to those of its field, by its key.
 fn add_term<'a>(
     fields: &mut Vec<FieldTerms<'a>>,
+    flags: &[bool],
+    paths: &'a PathToUnorderedId,
     term: &'a [u8],
     recorder: &'a AnyRecorder,
 ) -> Result<(), Fault>
     requires long { 4 ≤ length term.now }
     requires known { field_in term.now < length fields.old.items }
     ensures ok { OnOk result (fields.new.items ≡ slice_set fields.old.items (field_in term.now)
-        (slice_index_or fields.old.items (field_in term.now) [] ++ record { key = drop 4 term.now; recorder = any_state recorder.now } ∷ [])) }
+        (slice_index_or fields.old.items (field_in term.now) [] ++ record { key = drop 4 (resolved flags.now paths.now term.now); recorder = any_state recorder.now } ∷ [])) }
     ensures only { OnlyMemory result }
 {
-    let field = IndexingTermRef::wrap(term).field().field_id() as usize;
-    fields[field].push(&term[4..], recorder)
+    let field = number_in(term) as usize;
+    fields[field].push(keyed(flags, paths, term, recorder))
 }
 
 // No terms of so many fields.
@@ -109,10 +225,12 @@ fn no_terms<'a>(alloc: Global, num_fields: usize) -> Result<Vec<FieldTerms<'a>>,
 fn by_field<'a>(
     alloc: Global,
     terms: &'a IndexMap<Vec<u8>, AnyRecorder>,
+    flags: &[bool],
+    paths: &'a PathToUnorderedId,
     num_fields: usize,
 ) -> Result<Vec<FieldTerms<'a>>, Fault>
     requires known { AllByRecursion (IsTermBelow num_fields) (map seen terms.now.entries) }
-    ensures ok { IfOk result (λ fields. fields.items ≡ map (λ field. terms_in field (map seen terms.entry.now.entries)) (range_with_len 0 num_fields)) }
+    ensures ok { IfOk result (λ fields. fields.items ≡ map (λ field. terms_in field (resolved_terms flags.now paths.entry.now (map seen terms.entry.now.entries))) (range_with_len 0 num_fields)) }
     ensures only { OnlyMemory result }
 {
     let mut fields = no_terms(alloc, num_fields)?;
@@ -120,23 +238,24 @@ fn by_field<'a>(
         let Some((term, recorder)) = terms.get_index(place) else {
             return Ok(fields);
         };
-        add_term(&mut fields, term, recorder)?;
+        add_term(&mut fields, flags, paths, term, recorder)?;
     }
     Ok(fields)
 }
 
-impl IndexingContext {
-    // The terms of each of so many fields.
+impl TermRecorders {
+    // The terms of each of so many fields, by their keys.
     pub(crate) fn terms_by_field<'a>(
         &'a self,
         alloc: Global,
+        flags: &[bool],
+        paths: &'a PathToUnorderedId,
         num_fields: usize,
     ) -> Result<Vec<FieldTerms<'a>>, Fault>
         requires known { AllByRecursion (λ t. field_in t.0 < num_fields) self.now }
-        ensures ok { IfOk result (λ fields. fields.items ≡ map (λ field. terms_in field self.entry.now) (range_with_len 0 num_fields)) }
-        ensures ascending { AreAscending (map (λ t. t.0) self.entry.now) → IfOk result (λ fields. AllByRecursion (λ ts. AreAscending (map (λ t. t.key) ts)) fields.items) }
+        ensures ok { IfOk result (λ fields. fields.items ≡ map (λ field. terms_in field (resolved_terms flags.now paths.entry.now self.entry.now)) (range_with_len 0 num_fields)) }
         ensures only { OnlyMemory result }
     {
-        by_field(alloc, &self.term_index, num_fields)
+        by_field(alloc, &self.recorders, flags, paths, num_fields)
     }
 }

@@ -1,2 +1,3 @@
+pub mod BoundLaws
 mod IndexingLaws
 pub mod SearchingLaws

@@ -3,6 +3,7 @@
 #![tactic(auto)]
 
 pub mod block_cursors;
+pub mod bounds;
 pub mod cursors;
 pub mod faults;
 pub mod indexing;

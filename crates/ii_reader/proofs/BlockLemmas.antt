@@ -8,6 +8,7 @@ use Rattle.ii_codes.specs.BlockDecoder.{BlockDecoderState, decodes_of}
 use Rattle.ii_layout.specs.Written.{block_of}
 use Rattle.ii_layout.specs.SkipReader.{SkipReaderState}
 use Rattle.ii_check.specs.CheckedPostings.{AreReadFreqs, AreLastFreqs, CheckedPostingsState, HasDocuments, HoldsBlock, HoldsFreqs, IsAtBlock, LoadsBlock, LoadsFreqs, new_decoder}
+use Rattle.ii_reader.specs.Bounds.{bounds_of}
 use Rattle.ii_reader.specs.BlockSegmentPostings.{BlockSegmentPostingsState, GoesTo, IsLazy, IsLoaded, doc_in_block, first_decodes, freqs_of_block, freq_in_block}
 
 -- an entry of a block that a decoder holds, and what stands after the block
@@ -143,7 +144,7 @@ pub record Moves (p : CheckedPostingsState) (skip skip' : SkipReaderState) (docs
 
 abbrev pub state_of : CheckedPostingsState → SkipReaderState → BlockDecoderState → BlockDecoderState → BlockSegmentPostingsState
 state_of p skip docs freqs =
-    record { recorded = p.recorded; requested = p.requested; docs = p.postings.docs; freqs = p.postings.freqs; freq_reading = p.freq_reading; block = skip.block; doc_decodes = docs.decodes; freq_decodes = freqs.decodes; entries_read = skip.entries_read }
+    record { recorded = p.recorded; requested = p.requested; docs = p.postings.docs; freqs = p.postings.freqs; freq_reading = p.freq_reading; bounds = bounds_of p.postings.skip; block = skip.block; doc_decodes = docs.decodes; freq_decodes = freqs.decodes; entries_read = skip.entries_read }
 
 doc_count : (p : CheckedPostingsState) (skip skip' : SkipReaderState) (docs docs' freqs freqs' : BlockDecoderState) → Moves p skip skip' docs docs' freqs freqs' → docs'.decodes ≤ docs.decodes + min 1 (skip'.block - skip.block)
 doc_count p skip skip' docs docs' freqs freqs' m = decodes_next p.postings.docs p.doc_freq skip.block skip'.block docs.decodes docs'.decodes m.was.has.many m.next m.was.at.within m.loads.docs_are.decodes
@@ -175,7 +176,7 @@ moved_goes p skip skip' docs docs' freqs freqs' m =
     let many = m.was.has.many in
     let count = doc_count p skip skip' docs docs' freqs freqs' m in
     let counts = freq_count p skip skip' docs docs' freqs freqs' m in
-    record { recorded = refl; requested = refl; docs = refl; freqs = refl; freq_reading = refl; block = omega arith; doc_decodes = omega arith; freq_decodes = omega arith }
+    record { recorded = refl; requested = refl; docs = refl; freqs = refl; freq_reading = refl; bounds = refl; block = omega arith; doc_decodes = omega arith; freq_decodes = omega arith }
 
 -- a cursor that went on to a later block
 pub record GoesOn (p : CheckedPostingsState) (skip skip' : SkipReaderState) (docs docs' freqs freqs' : BlockDecoderState) : Type 0 where
@@ -228,6 +229,7 @@ on_goes p skip skip' docs docs' freqs freqs' g =
       docs = refl;
       freqs = refl;
       freq_reading = refl;
+      bounds = refl;
       block = refl;
       doc_decodes = docs_later p skip skip' docs docs' freqs freqs' g;
       freq_decodes = freqs_later p skip skip' docs docs' freqs freqs' g;

@@ -71,7 +71,7 @@ one_at [] (suc i) = refl
 one_at (d ∷ ds) zero = refl
 one_at (d ∷ ds) (suc i) = one_at ds i
 
-freq_at : (docs freqs : List ℕ) (pss : List (List ℕ)) (i : ℕ) → length freqs ≡ length docs → i < length docs → get_or freqs i 0 ≡ term_freq_at false (drop i (located pss (entries_of docs (Some freqs))))
+pub freq_at : (docs freqs : List ℕ) (pss : List (List ℕ)) (i : ℕ) → length freqs ≡ length docs → i < length docs → get_or freqs i 0 ≡ term_freq_at false (drop i (located pss (entries_of docs (Some freqs))))
 freq_at [] freqs pss i many within = absurd (omega arith)
 freq_at (d ∷ ds) [] pss i many within = absurd (omega arith)
 freq_at (d ∷ ds) (f ∷ fs) [] zero many within = refl

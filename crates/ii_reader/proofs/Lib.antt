@@ -1,4 +1,5 @@
 pub mod BlockLemmas
+pub mod BoundLemmas
 pub mod BlockSearchLemmas
 pub mod CursorLemmas
 pub mod IndexLemmas

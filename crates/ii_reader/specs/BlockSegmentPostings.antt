@@ -9,15 +9,17 @@ use Rattle.ii_layout.specs.SkipReader.{SkipReaderState}
 use Rattle.ii_layout.specs.Written.{block_of}
 use Rattle.ii_check.specs.declared.freq_reading_option.FreqReadingOption.{FreqReadingOption}
 use Rattle.ii_check.specs.FreqReading.{reading_of_none}
+use Rattle.ii_reader.specs.Bounds.{blocks_with_freq}
 use Rattle.ii_check.specs.CheckedPostings.{AreReadFreqs, CheckedPostingsState, HasDocuments, HoldsBlock, HoldsFreqs, IsAtBlock}
 
--- the option that the field records, and the one that is requested; the documents of the list and, where they are read, their counts; whether these are read; the number of the block; how many decodes of documents and of counts there were, and how many skip entries were read
+-- the option that the field records, and the one that is requested; the documents of the list and, where they are read, their counts; whether these are read; what bounds the full blocks; the number of the block; how many decodes of documents and of counts there were, and how many skip entries were read
 pub record BlockSegmentPostingsState : Type 0 where
   pub recorded : IndexRecordOption
   pub requested : IndexRecordOption
   pub docs : List ℕ
   pub freqs : Option (List ℕ)
   pub freq_reading : FreqReadingOption
+  pub bounds : List (ℕ × ℕ)
   pub block : ℕ
   pub doc_decodes : ℕ
   pub freq_decodes : ℕ
@@ -25,7 +27,7 @@ pub record BlockSegmentPostingsState : Type 0 where
 
 -- a cursor over no documents, by the option that a field records and the one that is requested
 abbrev pub cursor_of_none : IndexRecordOption → IndexRecordOption → BlockSegmentPostingsState
-cursor_of_none recorded requested = record { recorded = recorded; requested = requested; docs = []; freqs = None; freq_reading = reading_of_none recorded requested; block = 0; doc_decodes = 0; freq_decodes = 0; entries_read = 0 }
+cursor_of_none recorded requested = record { recorded = recorded; requested = requested; docs = []; freqs = None; freq_reading = reading_of_none recorded requested; bounds = []; block = 0; doc_decodes = 0; freq_decodes = 0; entries_read = 0 }
 
 -- the document at a place of a block, or the end after its documents
 abbrev pub doc_in_block : List ℕ → ℕ → ℕ → ℕ
@@ -71,9 +73,22 @@ pub record GoesTo (old new : BlockSegmentPostingsState) (to : ℕ) : Type 0 wher
   pub docs : new.docs ≡ old.docs
   pub freqs : new.freqs ≡ old.freqs
   pub freq_reading : new.freq_reading ≡ old.freq_reading
+  pub bounds : new.bounds ≡ old.bounds
   pub block : new.block ≡ to
   pub doc_decodes : new.doc_decodes ≤ old.doc_decodes + min 1 (to - old.block)
   pub freq_decodes : new.freq_decodes ≤ old.freq_decodes + min 1 (to - old.block)
+
+-- A cursor looks for a count from a block on: the list stays, and only blocks are decoded that may have one of so many, as far as their bounds say.
+pub record LooksFor (least : ℕ) (old new : BlockSegmentPostingsState) : Type 0 where
+  pub recorded : new.recorded ≡ old.recorded
+  pub requested : new.requested ≡ old.requested
+  pub docs : new.docs ≡ old.docs
+  pub freqs : new.freqs ≡ old.freqs
+  pub freq_reading : new.freq_reading ≡ old.freq_reading
+  pub bounds : new.bounds ≡ old.bounds
+  pub forward : old.block ≤ new.block
+  pub doc_decodes : new.doc_decodes ≤ old.doc_decodes + blocks_with_freq least old.bounds old.block new.block
+  pub freq_decodes : new.freq_decodes ≤ old.freq_decodes + blocks_with_freq least old.bounds old.block new.block
 
 -- What a cursor holds: a list that was checked, a skip reader at its block, and decoders with the documents and the counts of that block.
 pub record IsLoaded (checked : CheckedPostingsState) (skip : SkipReaderState) (docs freqs : BlockDecoderState) : Type 0 where

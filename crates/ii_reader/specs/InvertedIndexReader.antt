@@ -17,6 +17,7 @@ use Rattle.ii_check.specs.FreqReading.{freq_reading}
 use Rattle.ii_definitions.specs.Tokens.{IndexToken}
 use Rattle.ii_definitions.specs.Postings.{field_count, key_postings, occurs}
 use Rattle.ii_definitions.specs.Files.{HoldsTerm, bytes_in}
+use Rattle.ii_reader.specs.Bounds.{bounds_read, bounds_trusted}
 use Rattle.ii_reader.specs.BlockSegmentPostings.{AreEntries, BlockSegmentPostingsState, first_decodes}
 use Rattle.ii_reader.specs.SegmentPostings.{SegmentPostingsState}
 
@@ -81,6 +82,7 @@ pub record OpensTerm (reader : InvertedIndexReaderState) (requested : IndexRecor
   pub doc_freq : cursor.doc_freq ≡ info.doc_freq
   pub many : length cursor.rest ≡ info.doc_freq
   pub reading : freq_reading reader.option requested info.doc_freq (bytes_in reader.postings info.postings_range) ≡ Ok cursor.freq_reading
+  pub bounds : bounds_trusted reader.option requested info.doc_freq (bytes_in reader.postings info.postings_range) ≡ Ok cursor.bounds
   pub first : cursor.block ≡ 0
   pub doc_decodes : cursor.doc_decodes ≤ 1
   pub freq_decodes : cursor.freq_decodes ≤ 1
@@ -93,6 +95,7 @@ pub record OpensBlocks (postings : List ℕ) (recorded requested : IndexRecordOp
   pub recorded_is : cursor.recorded ≡ recorded
   pub requested_is : cursor.requested ≡ requested
   pub reading : freq_reading recorded requested info.doc_freq (bytes_in postings info.postings_range) ≡ Ok cursor.freq_reading
+  pub bounds : bounds_read recorded requested info.doc_freq (bytes_in postings info.postings_range) ≡ Ok cursor.bounds
   pub entries : AreEntries info.doc_freq cursor.docs cursor.freqs
   pub first : cursor.block ≡ 0
   pub doc_decodes : cursor.doc_decodes ≡ min 1 info.doc_freq

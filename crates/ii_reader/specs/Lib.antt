@@ -1,4 +1,5 @@
 pub mod BlockSegmentPostings
+pub mod Bounds
 pub mod InvertedIndexReader
 pub mod JsonFields
 pub mod LoadedPostings

@@ -11,11 +11,12 @@ use Rattle.ii_check.specs.FreqReading.{reading_of_none}
 use Rattle.ii_check.specs.declared.freq_reading_option.FreqReadingOption.{FreqReadingOption}
 use Rattle.ii_reader.specs.BlockSegmentPostings.{BlockSegmentPostingsState}
 
--- what is left of its list, how many documents the list has, whether counts are read, the number of the block, how many decodes of documents and of counts there were, how many skip entries were read, and how many decodes of positions there were
+-- what is left of its list, how many documents the list has, whether counts are read, what bounds the full blocks as far as that was looked at, the number of the block, how many decodes of documents and of counts there were, how many skip entries were read, and how many decodes of positions there were
 pub record SegmentPostingsState : Type 0 where
   pub rest : List Entry
   pub doc_freq : ℕ
   pub freq_reading : FreqReadingOption
+  pub bounds : List (ℕ × ℕ)
   pub block : ℕ
   pub doc_decodes : ℕ
   pub freq_decodes : ℕ
@@ -24,7 +25,7 @@ pub record SegmentPostingsState : Type 0 where
 
 -- a cursor over no documents, by the option that a field records and the one that is requested
 abbrev pub postings_of_none : IndexRecordOption → IndexRecordOption → SegmentPostingsState
-postings_of_none recorded requested = record { rest = []; doc_freq = 0; freq_reading = reading_of_none recorded requested; block = 0; doc_decodes = 0; freq_decodes = 0; entries_read = 0; position_decodes = 0 }
+postings_of_none recorded requested = record { rest = []; doc_freq = 0; freq_reading = reading_of_none recorded requested; bounds = []; block = 0; doc_decodes = 0; freq_decodes = 0; entries_read = 0; position_decodes = 0 }
 
 -- how many decodes of positions there were
 abbrev pub decodes_read : Option PositionReaderState → ℕ
@@ -51,6 +52,7 @@ FitCursor cursor (Some deltas) = (has_positions (downgrade cursor.recorded curso
 pub record WentLazily (old new : SegmentPostingsState) : Type 0 where
   pub doc_freq : new.doc_freq ≡ old.doc_freq
   pub freq_reading : new.freq_reading ≡ old.freq_reading
+  pub bounds : new.bounds ≡ old.bounds
   pub forward : old.block ≤ new.block
   pub doc_decodes : new.doc_decodes + old.block ≤ old.doc_decodes + new.block
   pub freq_decodes : new.freq_decodes + old.block ≤ old.freq_decodes + new.block
@@ -60,6 +62,7 @@ pub record WentLazily (old new : SegmentPostingsState) : Type 0 where
 pub record SpentLazily (asked counts : ℕ) (old new : SegmentPostingsState) : Type 0 where
   pub doc_freq : new.doc_freq ≡ old.doc_freq
   pub freq_reading : new.freq_reading ≡ old.freq_reading
+  pub bounds : new.bounds ≡ old.bounds
   pub forward : old.block ≤ new.block
   pub doc_decodes : new.doc_decodes + old.block ≤ old.doc_decodes + new.block
   pub freq_decodes : new.freq_decodes + old.block ≤ old.freq_decodes + new.block

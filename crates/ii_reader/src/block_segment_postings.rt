@@ -1,22 +1,24 @@
-ghost use Rattle.std.specs.Prelude.{◌≡◌, ◌+◌, ◌*◌, ◌/◌, ◌<◌, ◌≤◌, ⊤, [], length, min, slice_index, true, is_some, None, Some, Ok, Err, IfOk, IfErr, OnOk, OnErr, IsSome, MatchOption};
+ghost use Rattle.std.specs.Prelude.{◌≡◌, ◌+◌, ◌*◌, ◌/◌, ◌<◌, ◌≤◌, ⊤, ℕ, List, [], length, min, option_map, slice_get, slice_index, true, false, is_some, None, Some, Ok, Err, IfOk, IfErr, IfSome, OnOk, OnErr, IsSome, MatchOption};
 ghost use Rattle.ii_io.specs.Faults.{OnlyMemory};
 ghost use Rattle.ii_docset.specs.declared.docset.TheConstants.{TERMINATED};
 ghost use Rattle.ii_io.specs.Parts.{part_of};
 ghost use Rattle.ii_base.specs.Options.{downgrade, has_positions};
 ghost use Rattle.ii_layout.specs.TermList.{deltas_if, docs_and_freqs};
 ghost use Rattle.ii_layout.specs.Written.{block_of};
-ghost use Rattle.ii_check.specs.CheckedPostings.{SeeksBlock};
-ghost use Rattle.ii_check.specs.CheckedPostings.{is_read};
+ghost use Rattle.ii_layout.specs.Frequencies.{bounds_counts};
+ghost use Rattle.ii_check.specs.CheckedPostings.{SeeksBlock, excludes, is_read};
 ghost use Rattle.ii_check.specs.FreqReading.{freq_reading};
 ghost use Rattle.ii_check.specs.Positions.{deltas_read};
-ghost use Rattle.ii_reader.specs.BlockSegmentPostings.{AreEntries, ComeBefore, GoesTo, IsBelow, IsLazy, IsSought, cursor_of_none, doc_in_block, first_decodes, freq_in_block, freqs_of_block};
+ghost use Rattle.ii_reader.specs.Bounds.{IsFirstWanted, IsPlaced, PassesBlocks, bound_bytes, bounds_read, freq_bound, is_wanted_at};
+ghost use Rattle.ii_reader.specs.BlockSegmentPostings.{AreEntries, ComeBefore, GoesTo, IsBelow, IsLazy, IsSought, LooksFor, cursor_of_none, doc_in_block, first_decodes, freq_in_block, freqs_of_block};
 
 use bytes::Bytes;
 use ii_base::{Fault, IndexRecordOption, LayoutFault, Part};
 use ii_check::{CheckedPostings, FreqReadingOption, NO_FREQ};
 use ii_codes::{BlockDecoder, COMPRESSION_BLOCK_SIZE};
 use ii_docset::{DocId, TERMINATED};
-use ii_layout::{PositionReader, SkipReader};
+use ii_layout::skip::encode_block_wand_max_tf;
+use ii_layout::{BlockInfo, PositionReader, SkipReader};
 use std::marker::Model;
 
 /// A cursor over the blocks of a term's postings, of which it holds one, decoded: block b has the
@@ -32,6 +34,7 @@ pub struct BlockSegmentPostings {
 
 impl Model for BlockSegmentPostings {
     ghost use Rattle.ii_reader.specs.BlockSegmentPostings.{BlockSegmentPostingsState, IsLoaded};
+    ghost use Rattle.ii_reader.specs.Bounds.{bounds_of};
 
     ghost Value = { BlockSegmentPostingsState };
 
@@ -41,6 +44,7 @@ impl Model for BlockSegmentPostings {
       docs = c.checked.postings.docs;
       freqs = c.checked.postings.freqs;
       freq_reading = c.checked.freq_reading;
+      bounds = bounds_of c.checked.postings.skip;
       block = c.skip.block;
       doc_decodes = c.doc_decoder.decodes;
       freq_decodes = c.freq_decoder.decodes;
@@ -63,7 +67,8 @@ impl BlockSegmentPostings {
     ) -> Result<BlockSegmentPostings, LayoutFault>
         ensures ok { IfOk result (λ cursor. docs_and_freqs record_option requested_option doc_freq bytes ≡ Ok (cursor.docs, cursor.freqs)) }
         ensures options { IfOk result (λ cursor. (cursor.recorded ≡ record_option) × (cursor.requested ≡ requested_option)) }
-        ensures reading { IfOk result (λ cursor. freq_reading record_option requested_option doc_freq bytes ≡ Ok cursor.freq_reading) }
+        ensures reading { IfOk result (λ cursor. (freq_reading record_option requested_option doc_freq bytes ≡ Ok cursor.freq_reading)
+            × (bounds_read record_option requested_option doc_freq bytes ≡ Ok cursor.bounds)) }
         ensures entries { IfOk result (λ cursor. AreEntries doc_freq cursor.docs cursor.freqs) }
         ensures first { IfOk result (λ cursor. cursor.block ≡ 0) }
         // what was decoded and read for it
@@ -111,7 +116,8 @@ impl BlockSegmentPostings {
     pub fn reset(&mut self, doc_freq: u32, bytes: Bytes) -> Result<(), LayoutFault>
         ensures ok { OnOk result (docs_and_freqs self.old.recorded self.old.requested doc_freq bytes ≡ Ok (self.new.docs, self.new.freqs)) }
         ensures options { (self.new.recorded ≡ self.old.recorded) × (self.new.requested ≡ self.old.requested) }
-        ensures reading { OnOk result (freq_reading self.old.recorded self.old.requested doc_freq bytes ≡ Ok self.new.freq_reading) }
+        ensures reading { OnOk result ((freq_reading self.old.recorded self.old.requested doc_freq bytes ≡ Ok self.new.freq_reading)
+            × (bounds_read self.old.recorded self.old.requested doc_freq bytes ≡ Ok self.new.bounds)) }
         ensures entries { OnOk result (AreEntries doc_freq self.new.docs self.new.freqs) }
         ensures first { self.new.block ≡ 0 }
         // what was decoded and read for it
@@ -131,7 +137,8 @@ impl BlockSegmentPostings {
         requires { self.old ≡ cursor_of_none self.old.recorded self.old.requested }
         ensures ok { OnOk result (docs_and_freqs self.old.recorded self.old.requested doc_freq bytes ≡ Ok (self.new.docs, self.new.freqs)) }
         ensures options { (self.new.recorded ≡ self.old.recorded) × (self.new.requested ≡ self.old.requested) }
-        ensures reading { OnOk result (freq_reading self.old.recorded self.old.requested doc_freq bytes ≡ Ok self.new.freq_reading) }
+        ensures reading { OnOk result ((freq_reading self.old.recorded self.old.requested doc_freq bytes ≡ Ok self.new.freq_reading)
+            × (bounds_read self.old.recorded self.old.requested doc_freq bytes ≡ Ok self.new.bounds)) }
         ensures entries { OnOk result (AreEntries doc_freq self.new.docs self.new.freqs) }
         ensures first { self.new.block ≡ 0 }
         // what was decoded and read for it
@@ -258,6 +265,29 @@ impl BlockSegmentPostings {
         self.freq_decoder.output(idx)
     }
 
+    /// What bounds the current block, if it is full and the term has counts: a norm id that isn't above
+    /// that of any of its documents, and a count that isn't below any of its counts, where 0 and 255 say
+    /// nothing. The count was looked at where counts are read; the norm id is what the bytes say.
+    pub fn block_bounds(&self) -> Option<(u8, u8)>
+        ensures bounds { result ≡ option_map bound_bytes (slice_get self.now.bounds self.now.block) }
+        ensures bounded { (freqs : List ℕ) → self.now.freqs ≡ Some freqs → bounds_counts (freq_bound self.now.bounds self.now.block) (block_of freqs self.now.block) ≡ true }
+    {
+        if !self.checked.has_freq() {
+            return None;
+        }
+        match self.skip.block_info() {
+            BlockInfo::BitPacked {
+                block_wand_fieldnorm_id,
+                block_wand_term_freq,
+                ..
+            } => Some((
+                block_wand_fieldnorm_id,
+                encode_block_wand_max_tf(block_wand_term_freq),
+            )),
+            BlockInfo::VInt { .. } => None,
+        }
+    }
+
     /// How many documents the block has.
     pub fn block_len(&self) -> usize
         ensures { result ≡ length (block_of self.now.docs self.now.block) }
@@ -350,6 +380,71 @@ impl BlockSegmentPostings {
         ensures lazy { IsLazy self.new }
     {
         self.checked.advance(&mut self.skip);
+        self.checked
+            .load_block(&self.skip, &mut self.doc_decoder, &mut self.freq_decoder);
+    }
+
+    /// Goes on to the first document, from the one at `from` in the block on, that isn't below `target` and
+    /// has a count of at least `least`, or else behind all documents. Counts are read. Answers its place in
+    /// the block that the cursor comes to. Blocks are passed that end below the target or have no such
+    /// count, as their bounds say; each other one is decoded, once.
+    pub fn seek_with_freq(&mut self, from: usize, target: DocId, least: u32) -> usize
+        requires read { IsSome self.old.freqs }
+        requires from { from < 128 }
+        requires up_to { target ≤ TERMINATED }
+        ensures found { IfSome self.old.freqs (λ freqs. IsFirstWanted target least self.old.docs freqs (128 * self.old.block + from) (128 * self.new.block + result)) }
+        ensures inside { result < 128 }
+        ensures looks { LooksFor least self.old self.new }
+        ensures lazy { IsLazy self.new }
+    {
+        let mut place = self.place_with_freq(from, target, least);
+        while place >= COMPRESSION_BLOCK_SIZE {
+            self.next_with_freq(target, least);
+            place = self.place_with_freq(0, target, least);
+        }
+        place
+    }
+
+    // The place of the first document of the block, from one on, that isn't below `target` and has a count
+    // of at least `least`; or one behind the documents, which is 128 where the block is full.
+    fn place_with_freq(&self, from: usize, target: DocId, least: u32) -> usize
+        requires read { IsSome self.now.freqs }
+        requires from { from < 128 }
+        ensures found { IfSome self.now.freqs (λ freqs. IsPlaced target least self.now.docs freqs (128 * self.now.block + from) self.now.block result) }
+        ensures lazy { IsLazy self.now }
+    {
+        let len = self.docs().len();
+        for idx in from..len {
+            if self.is_wanted(idx, target, least) {
+                return idx;
+            }
+        }
+        len.max(from)
+    }
+
+    // Whether a document of the block isn't below `target`, and has a count of at least `least`.
+    fn is_wanted(&self, idx: usize, target: DocId, least: u32) -> bool
+        requires read { IsSome self.now.freqs }
+        requires inside { idx < length (block_of self.now.docs self.now.block) }
+        ensures { IfSome self.now.freqs (λ freqs. result ≡ is_wanted_at target least self.now.docs freqs (128 * self.now.block + idx)) }
+    {
+        if self.doc(idx) < target {
+            return false;
+        }
+        self.freq(idx) >= least
+    }
+
+    // Goes on from a full block to the next one that doesn't end below `target` and may have a count of at
+    // least `least`, and decodes it.
+    fn next_with_freq(&mut self, target: DocId, least: u32)
+        requires full { self.old.block < length self.old.docs / 128 }
+        requires up_to { target ≤ TERMINATED }
+        ensures passes { (freqs : List ℕ) → self.old.freqs ≡ Some freqs → PassesBlocks target least self.old.docs freqs self.old.block self.new.block }
+        ensures goes { GoesTo self.old self.new self.new.block }
+        ensures later { self.old.block < self.new.block }
+        ensures lands { excludes least (freq_bound self.old.bounds self.new.block) ≡ false }
+    {
+        self.checked.seek_with_freq(&mut self.skip, target, least);
         self.checked
             .load_block(&self.skip, &mut self.doc_decoder, &mut self.freq_decoder);
     }

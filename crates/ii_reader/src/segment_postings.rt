@@ -9,6 +9,7 @@ ghost use Rattle.ii_layout.specs.TermList.{list_of, term_list};
 ghost use Rattle.ii_check.specs.CheckedPostings.{is_read};
 ghost use Rattle.ii_check.specs.FreqReading.{freq_reading};
 ghost use Rattle.ii_check.specs.Positions.{deltas_read};
+ghost use Rattle.ii_reader.specs.Bounds.{blocks_with_freq, bounds_trusted, sought_with_freq, trusted};
 ghost use Rattle.ii_reader.specs.SegmentPostings.{DecodesOnce, DecodesPositions, FitCursor, SpentLazily, StaysLazy, WentLazily, decodes_read, postings_of_none};
 
 use super::block_segment_postings::BlockSegmentPostings;
@@ -16,7 +17,7 @@ use bytes::Bytes;
 use ii_base::{AliveBitSet, Fault, HasLen, IndexRecordOption, LayoutFault};
 use ii_check::FreqReadingOption;
 use ii_codes::COMPRESSION_BLOCK_SIZE;
-use ii_docset::{DocId, DocSet, Postings, SeekOnce};
+use ii_docset::{DocId, DocSet, Postings, SeekOnce, TERMINATED};
 use ii_layout::PositionReader;
 use std::marker::Model;
 
@@ -34,6 +35,7 @@ impl Model for SegmentPostings {
     ghost use Rattle.ii_check.specs.CheckedPostings.{is_read};
     ghost use Rattle.ii_check.specs.Positions.{deltas_read};
     ghost use Rattle.ii_reader.specs.BlockSegmentPostings.{AreEntries};
+    ghost use Rattle.ii_reader.specs.Bounds.{trusted};
     ghost use Rattle.ii_reader.specs.SegmentPostings.{FitCursor, SegmentPostingsState, decodes_read};
 
     ghost Value = { SegmentPostingsState };
@@ -42,6 +44,7 @@ impl Model for SegmentPostings {
       rest = drop (128 * s.block_cursor.block + s.cur) (list_of s.block_cursor.docs s.block_cursor.freqs (deltas_read s.position_reader));
       doc_freq = length s.block_cursor.docs;
       freq_reading = s.block_cursor.freq_reading;
+      bounds = trusted s.block_cursor.freq_reading s.block_cursor.bounds;
       block = s.block_cursor.block;
       doc_decodes = s.block_cursor.doc_decodes;
       freq_decodes = s.block_cursor.freq_decodes;
@@ -72,7 +75,8 @@ impl SegmentPostings {
         ensures ok { IfOk result (λ cursor. term_list record_option requested_option doc_freq postings positions ≡ Ok cursor.rest) }
         ensures doc_freq { IfOk result (λ cursor. cursor.doc_freq ≡ doc_freq) }
         ensures many { IfOk result (λ cursor. length cursor.rest ≡ doc_freq) }
-        ensures reading { IfOk result (λ cursor. freq_reading record_option requested_option doc_freq postings ≡ Ok cursor.freq_reading) }
+        ensures reading { IfOk result (λ cursor. (freq_reading record_option requested_option doc_freq postings ≡ Ok cursor.freq_reading)
+            × (bounds_trusted record_option requested_option doc_freq postings ≡ Ok cursor.bounds)) }
         ensures first { IfOk result (λ cursor. cursor.block ≡ 0) }
         ensures doc_decodes { IfOk result (λ cursor. cursor.doc_decodes ≤ 1) }
         ensures freq_decodes { IfOk result (λ cursor. cursor.freq_decodes ≤ 1) }
@@ -120,7 +124,8 @@ impl SegmentPostings {
         ensures ok { OnOk result (term_list record_option requested_option doc_freq postings positions ≡ Ok self.new.rest) }
         ensures doc_freq { OnOk result (self.new.doc_freq ≡ doc_freq) }
         ensures many { OnOk result (length self.new.rest ≡ doc_freq) }
-        ensures reading { OnOk result (freq_reading record_option requested_option doc_freq postings ≡ Ok self.new.freq_reading) }
+        ensures reading { OnOk result ((freq_reading record_option requested_option doc_freq postings ≡ Ok self.new.freq_reading)
+            × (bounds_trusted record_option requested_option doc_freq postings ≡ Ok self.new.bounds)) }
         ensures first { self.new.block ≡ 0 }
         // what was decoded and read for it
         ensures doc_decodes { self.new.doc_decodes ≤ 1 }
@@ -170,7 +175,7 @@ impl SegmentPostings {
 
     /// A cursor over no documents.
     pub fn empty() -> SegmentPostings
-        ensures { result ≡ record { rest = []; doc_freq = 0; freq_reading = FreqReadingOption.NoFreq; block = 0; doc_decodes = 0; freq_decodes = 0; entries_read = 0; position_decodes = 0 } }
+        ensures { result ≡ record { rest = []; doc_freq = 0; freq_reading = FreqReadingOption.NoFreq; bounds = []; block = 0; doc_decodes = 0; freq_decodes = 0; entries_read = 0; position_decodes = 0 } }
     {
         SegmentPostings::from_block_postings(BlockSegmentPostings::empty(), None)
     }
@@ -187,7 +192,7 @@ impl SegmentPostings {
         ensures rest { result.rest
             ≡ drop (128 * segment_block_postings.block) (list_of segment_block_postings.docs segment_block_postings.freqs (deltas_read position_reader)) }
         ensures doc_freq { result.doc_freq ≡ length segment_block_postings.docs }
-        ensures reading { result.freq_reading ≡ segment_block_postings.freq_reading }
+        ensures reading { (result.freq_reading ≡ segment_block_postings.freq_reading) × (result.bounds ≡ trusted segment_block_postings.freq_reading segment_block_postings.bounds) }
         ensures block { result.block ≡ segment_block_postings.block }
         ensures doc_decodes { result.doc_decodes ≡ segment_block_postings.doc_decodes }
         ensures freq_decodes { result.freq_decodes ≡ segment_block_postings.freq_decodes }
@@ -227,6 +232,31 @@ impl SegmentPostings {
         ensures { result ≡ self.now.doc_freq }
     {
         self.block_cursor.doc_freq()
+    }
+
+    /// Drops what lies before the first document that isn't below `target` and has a count of at least
+    /// `least`, where each count is 1 if counts aren't read, and answers that document, or `TERMINATED`.
+    /// Blocks are passed that end below the target or have no such count, as their bounds say; each other
+    /// one is decoded, once.
+    pub fn seek_with_freq(&mut self, target: DocId, least: u32) -> DocId
+        requires { IsTarget target self.old.rest }
+        ensures doc { result ≡ doc_at self.new.rest }
+        ensures rest { self.new.rest ≡ sought_with_freq target least self.old.rest }
+        ensures sound { IsSound self.new.rest }
+        ensures work { WentLazily self.old self.new }
+        ensures decodes { self.new.doc_decodes ≤ self.old.doc_decodes + blocks_with_freq least self.old.bounds self.old.block self.new.block }
+        ensures lazy { StaysLazy self.new }
+    {
+        // that documents ascend, for the proof
+        let _doc = self.doc();
+        if self.block_cursor.freq_reading_option().is_read() {
+            self.cur = self.block_cursor.seek_with_freq(self.cur, target, least);
+            return self.doc();
+        }
+        if least <= 1 {
+            return self.seek(target);
+        }
+        self.seek(TERMINATED)
     }
 
     /// How many of the documents that are left are alive. The set has to tell of each of them. A copy

@@ -166,8 +166,9 @@ impl<'a, W: Write> FieldSerializer<'a, W> {
         self.index.check_open()
     }
 
-    // Takes it that a call was refused.
-    pub(crate) fn shut(&mut self)
+    /// Takes it that a call was refused: each further one answers `SerializerClosed`. For whoever lacks
+    /// memory for a term's key.
+    pub fn shut(&mut self)
         ensures same_reference { self.new.index.ghost_name ≡ self.old.index.ghost_name }
         ensures shut { self.new.index.now ≡ record self.old.index.now { closed = true } }
     {

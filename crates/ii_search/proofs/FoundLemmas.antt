@@ -153,11 +153,3 @@ memory_alone entries n index ts query fault holds fields (inr (part, is, err)) =
 pub first_refused : (by : List Entry → List Entry → List Entry) (a b : Result (List Entry) Part) (fault : Fault) → IsRefusal a fault → IsRefusal (combined by a b) fault
 first_refused by a b fault (inl memory) = inl memory
 first_refused by a b fault (inr (part, is, err)) = inr (part, is, rw err refl)
-
-pub other_refused : (by : List Entry → List Entry → List Entry) (a b : Result (List Entry) Part) (es : List Entry) (fault : Fault) → a ≡ Ok es → IsRefusal b fault → IsRefusal (combined by a b) fault
-other_refused by a b es fault first (inl memory) = inl memory
-other_refused by a b es fault first (inr (part, is, err)) = inr (part, is, rw (first, err) refl)
-
--- both are found
-pub both_found : (by : List Entry → List Entry → List Entry) (a b : Result (List Entry) Part) (es fs gs : List Entry) → a ≡ Ok es → b ≡ Ok fs → gs ≡ by es fs → combined by a b ≡ Ok gs
-both_found by a b es fs gs first other is = rw (first, other, is) refl

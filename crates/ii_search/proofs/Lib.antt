@@ -1,2 +1,4 @@
 pub mod FoundLemmas
 pub mod SameDocs
+pub mod TermLemmas
+pub mod TopLemmas

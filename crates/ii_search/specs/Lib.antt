@@ -1,2 +1,5 @@
 pub mod Found
+pub mod ParserErrors
 pub mod Queries
+pub mod QueryTexts
+pub mod TopByCount

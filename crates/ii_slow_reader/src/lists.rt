@@ -53,7 +53,8 @@ pub struct Listed {
 }
 
 // What the skip list says of a full block: its last document, the widths, whether deltas are strict, the
-// sum of its counts where that is kept, and at which byte after the skip list it begins.
+// sum of its counts where that is kept, a count that none of them passes where that is known, and at which
+// byte after the skip list it begins.
 #[derive(Drop)]
 struct Block {
     last: u64,
@@ -61,6 +62,7 @@ struct Block {
     count_width: u64,
     strict: bool,
     sum: Option<u64>,
+    bound: Option<u64>,
     start: u64,
 }
 
@@ -235,7 +237,21 @@ fn read_entry(postings: &[u8], at: u64, size: u64, place: u64) -> Option<Block> 
         count_width,
         strict: code / 64 % 2 == 1,
         sum,
+        bound: bound_of(postings, at, size)?,
         start: place,
+    })
+}
+
+// The count that an entry of so many bytes ends in; none where it has no counts, or that one says nothing.
+fn bound_of(postings: &[u8], at: u64, size: u64) -> Option<Option<u64>> {
+    if size == 5 {
+        return Some(None);
+    }
+    let bound = fixed(postings, at.saturating_add(size).saturating_sub(1), 1)?;
+    Some(if bound == 0 || bound == 255 {
+        None
+    } else {
+        Some(bound)
     })
 }
 
@@ -297,7 +313,8 @@ fn ascend(docs: &[u64]) -> bool {
     true
 }
 
-// Reads the counts of full blocks; false where they aren't there, don't fit, or have another sum.
+// Reads the counts of full blocks; false where they aren't there, don't fit, have another sum, or pass their
+// bound.
 fn read_counts(
     postings: &[u8],
     start: u64,
@@ -313,7 +330,7 @@ fn read_counts(
                 return Ok(false);
             };
             let count = found.saturating_add(u64::from(block.strict));
-            if count > u64::from(u32::MAX) {
+            if count > block.bound.unwrap_or(u64::from(u32::MAX)) {
                 return Ok(false);
             }
             sum = sum.saturating_add(count);

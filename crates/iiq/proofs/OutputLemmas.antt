@@ -1,12 +1,13 @@
 -- Laws of what is printed.
-use Rattle.std.proofs.Common.{◌≡◌, ℕ, ◌<◌, List, [], ◌∷◌, ◌++◌, drop, map, refl, sym, ap, arith, decimal}
+use Rattle.std.proofs.Common.{◌≡◌, ℕ, ◌<◌, List, [], ◌∷◌, ◌++◌, drop, map, refl, sym, ap, arith, codes, decimal}
 use Rattle.std.specs.List.{join_with_byte, flat_map}
 use Rattle.std.proofs.lemmas.List.{append-nil}
 use Rattle.ii_base.specs.declared.schema.index_record_option.IndexRecordOption.{IndexRecordOption}
+use Rattle.ii_base.specs.declared.schema.index_record_option.IndexRecordOption.TheVariants.{Basic}
 use Rattle.ii_docset.specs.declared.docset.TheConstants.{TERMINATED}
 use Rattle.ii_docset.specs.Entries.{Entry}
 use Rattle.ii_docset.specs.Cursor.{doc_at, IsAscending}
-use Rattle.iiq.specs.Output.{item, item_at, list_text, positions_text}
+use Rattle.iiq.specs.Output.{found_text, item, item_at, list_text, positions_text}
 use Rattle.ii_docset.proofs.CursorLemmas.{nothing_left, doc_below}
 
 -- the items after the first one
@@ -36,6 +37,19 @@ more_items_none option (e ∷ es) up h = absurd (let none = nothing_left (e ∷ 
 
 pub below_end : (es : List Entry) (doc : ℕ) → IsAscending es → doc ≡ doc_at es → (doc ≡ TERMINATED → ⊥) → doc_at es < TERMINATED
 below_end es doc up e h = let most = doc_below es up in omega arith
+
+-- the first document that was found, and those after it
+pub found_first : (es : List Entry) → doc_at es < TERMINATED → found_text es ≡ decimal (doc_at es) ++ more_items Basic (drop 1 es)
+found_first [] h = absurd (omega arith)
+found_first (e ∷ es) h = joined Basic e es
+
+pub found_none : (es : List Entry) → IsAscending es → doc_at es ≡ TERMINATED → found_text es ≡ codes "none"
+found_none [] up h = refl
+found_none (e ∷ es) up h = absurd (let none = nothing_left (e ∷ es) up (omega arith) in cc)
+
+pub more_found : (es : List Entry) → doc_at es < TERMINATED → more_items Basic es ≡ (32 ∷ decimal (doc_at es)) ++ more_items Basic (drop 1 es)
+more_found [] h = absurd (omega arith)
+more_found (e ∷ es) h = refl
 
 -- the numbers after the first one
 abbrev pub more_numbers : List ℕ → List ℕ

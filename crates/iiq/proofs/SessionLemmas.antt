@@ -123,7 +123,7 @@ pub listed_text : (requested : IndexRecordOption) (field : ℕ) (key : List ℕ)
     → ((f : ℕ) (tokens : List IndexToken) → ReaderHolds f reader tokens → GivesPostings reader.option f key requested tokens (Ok (Some cursor)))
     → text ≡ list_text (downgrade reader.option requested) cursor.rest → text ≡ key_text requested field key ts
 listed_text requested field key index ts reader cursor text below o found holds is =
-    let held : FieldReaderHolds fields field reader ts = rw found at (o.hold field below) in
+    let held : FieldReaderHolds fields field reader ts = rw found at (o.holds.readers field below) in
     let gives = holds field ts held.holds in
     let option_is = held.option_is in
     rw gives.0 (is ∙ ap (λ (o : IndexRecordOption). list_text (downgrade o requested) cursor.rest) option_is
@@ -143,7 +143,7 @@ gives_index schema n kept found schema_is n_is holds many known fault =
         → IfSome why (λ fault. (found ≡ Err fault) ⊎ (found ≡ Err OutOfMemory))
         → (why ≡ None → IfErr found (λ e. (e ≡ OutOfMemory) ⊎ IsRamFault fields n (tokens_of ascii_words calls) e))
         → GivesIndex calls found
-    gives_cases n calls (Ok index) None n_is why holds many known fault = (tokens_of ascii_words calls, (why, refl), record { many = many; hold = holds.readers })
+    gives_cases n calls (Ok index) None n_is why holds many known fault = (tokens_of ascii_words calls, (why, refl), record { many = many; num_docs = n; holds = holds })
     gives_cases n calls (Ok index) (Some f) n_is why holds many known fault = absurd (⊎_elim (λ e. ok_no_err (Ok index) index f refl e) (λ e. ok_no_err (Ok index) index OutOfMemory refl e) known)
     gives_cases n calls (Err e) None n_is why holds many known fault =
         ⊎_elim inl (λ limit. inr (inr (why, subst (λ (m : ℕ). IsRamFault fields m (tokens_of ascii_words calls) e) n_is limit))) (fault refl)

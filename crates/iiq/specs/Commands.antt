@@ -1,5 +1,5 @@
 -- What a line asks for.
-use Rattle.std.specs.Prelude.{ℕ, ◌^◌, List, [], ◌∷◌, length, if◌then◌else◌, nat_lt, Option, Some, None, option_map, codes}
+use Rattle.std.specs.Prelude.{ℕ, ◌^◌, List, [], ◌∷◌, length, if◌then◌else◌, nat_lt, Option, Some, None, option_map, is_none, codes}
 use Rattle.std.specs.List.{join_with_byte}
 use Rattle.std.specs.Str.{bytes_eq}
 use Rattle.ii_base.specs.Json.{Leaf, text_leaf, u64_leaf, unsupported, value_leaf}
@@ -13,14 +13,18 @@ use Rattle.ii_io.specs.Steps.{◌>>=◌, needs}
 use Rattle.ii_docset.specs.declared.docset.TheConstants.{TERMINATED}
 use Rattle.ii_docset.specs.Entries.{are_documents}
 use Rattle.ii_definitions.specs.Tokens.{Call, leaves, text, value}
+use Rattle.ii_base.specs.AsciiWords.{ascii_words}
+use Rattle.ii_search.specs.QueryTexts.{QueryFields, text_refusal}
+use Rattle.iiq.specs.Session.{fields}
 use Rattle.iiq.specs.Words.{line_words, number_below, numbers_below, signed_number, truth_of_word, bytes_of_word}
 
--- A look-up has the option that is asked for, and the term, if there is one.
+-- A look-up has the option that is asked for, and the term, if there is one; a search has its text.
 pub data Command : Type 0 where
   show_ids : List ℕ → Command
   open_list : IndexRecordOption → IndexRecordOption → ℕ → List ℕ → Option (List ℕ) → Command
   index_call : Call → Command
   look_up : IndexRecordOption → Option TermState → Command
+  search_for : List ℕ → Command
 
 -- the field of texts
 abbrev pub text_field : ℕ
@@ -172,14 +176,27 @@ leaf_query words = do
   found ← path_leaves option.1
   Some (look_up option.0 (leaf_term found))
 
+-- what texts of queries are read by: words by the analyzer, and those without a name in the field of texts
+abbrev pub asked : QueryFields
+asked = record { texts = record { analyze = ascii_words; entries = fields }; defaults = text_field ∷ [] }
+
+-- what a text behind `? query` asks for, if it is a query
+abbrev pub text_search : List ℕ → Option Command
+text_search bytes = needs (is_none (text_refusal asked bytes)) >>= λ _. Some (search_for bytes)
+
 -- a look-up, by the word behind the question mark
-abbrev pub query_command : List (List ℕ) → Option Command
-query_command [] = None
-query_command (word ∷ words) =
+abbrev pub look_up_command : List (List ℕ) → Option Command
+look_up_command [] = None
+look_up_command (word ∷ words) =
     if bytes_eq word (codes "text") then text_query words
     else if bytes_eq word (codes "num") then num_query words
     else if bytes_eq word (codes "leaf") then leaf_query words
     else None
+
+-- what a question mark asks for: the text of a query is all that stands behind its word's space
+abbrev pub query_command : List (List ℕ) → Option Command
+query_command [] = None
+query_command (word ∷ words) = if bytes_eq word (codes "query") then text_search (join_with_byte 32 words) else look_up_command (word ∷ words)
 
 -- a line of words, by its first one
 abbrev pub words_command : List (List ℕ) → Option Command

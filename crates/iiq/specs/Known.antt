@@ -1,25 +1,30 @@
 -- The program's records, as what they stand for.
-use Rattle.std.specs.Prelude.{◌≡◌, ℕ, ◌<◌, ◌≤◌, false, true, Bool, List, [], ◌∷◌, length, map, Option, None, Some, MatchOption, Result, Ok, Err, unwrap_or}
+use Rattle.std.specs.Prelude.{◌≡◌, ℕ, ◌<◌, ◌≤◌, false, true, Bool, List, [], ◌∷◌, length, map, ◌++◌, codes, decimal, is_none, Option, None, Some, MatchOption, Result, Ok, Err, unwrap_or}
 use Rattle.std.specs.Option.{option_map}
+use Rattle.ii_io.specs.Faults.{number_of}
 use Rattle.ii_io.specs.declared.faults.Fault.{Fault}
 use Rattle.ii_base.specs.Json.{Json, Leaf, leaf, null, text_leaf, u64_leaf, value_leaf}
 use Rattle.ii_base.specs.Options.{downgrade}
 use Rattle.ii_base.specs.Values.{flipped, number_of_bool}
 use Rattle.ii_base.specs.declared.schema.value_type.ValueType.TheVariants as types
 use Rattle.ii_docset.specs.declared.docset.TheConstants.{TERMINATED}
+use Rattle.ii_docset.specs.Entries.{Entry}
 use Rattle.ii_layout.specs.TermList.{term_list}
 use Rattle.ii_definitions.specs.Tokens.{Call, IndexToken}
 use Rattle.ii_indexing.specs.declared.index_call.IndexCall.{IndexCall}
 use Rattle.ii_indexing.specs.IndexCalls.{MayAllBeIndexed, Takes, call_of, doc_of, field_of, type_of}
-use Rattle.ii_reader.specs.OpenIndex.{OpenIndexState, ReadersHold}
+use Rattle.ii_reader.specs.OpenIndex.{IndexHolds, OpenIndexState}
 use Rattle.iiq.specs.declared.commands.Opening.{Opening}
 use Rattle.iiq.specs.declared.commands.Query.{Query}
 use Rattle.iiq.specs.declared.leaves.LeafValue.{LeafValue}
 use Rattle.iiq.specs.declared.leaves.LeafValue.TheVariants.{Null, Signed, Text, Truth, Unsigned}
 use Rattle.iiq.specs.declared.leaves.PathValue.{PathValue}
 use Rattle.iiq.specs.declared.session.Session.{Session as SessionKept}
-use Rattle.iiq.specs.Commands.{Command, index_call, leaf_key, leaf_under, look_up, open_list}
-use Rattle.iiq.specs.Output.{AnswersLine, AnswersMaybe, opened_text, with_ends}
+use Rattle.ii_search.specs.Found.{AreMatches}
+use Rattle.ii_search.specs.QueryTexts.{MeansText, text_refusal}
+use Rattle.ii_search.specs.declared.query.Query.{Query as QueryOf}
+use Rattle.iiq.specs.Commands.{Command, asked, index_call, leaf_key, leaf_under, look_up, open_list}
+use Rattle.iiq.specs.Output.{AnswersLine, AnswersMaybe, found_text, opened_text, with_ends}
 use Rattle.iiq.specs.Session.{Session, gathering, opened, refused, IsIndexed, fields, kept_with, num_docs_of}
 
 -- what an opening asks for
@@ -67,10 +72,11 @@ pub record GathersCalls (kept : List IndexCall) (num_docs : ℕ) (calls : List C
   pub most : num_docs ≤ TERMINATED
   pub may : MayAllBeIndexed fields num_docs kept
 
--- The readers of an open index have these tokens.
+-- An open index has these tokens, and norms of so many documents.
 pub record IsOpen (index : OpenIndexState) (ts : List IndexToken) : Type 0 where
   pub many : length index.readers ≡ length fields
-  pub hold : ReadersHold fields index.readers ts
+  pub num_docs : ℕ
+  pub holds : IndexHolds fields num_docs index ts
 
 -- What is known where no index was asked for, or it is open, or was refused.
 abbrev pub KnowsIndex : List IndexCall → ℕ → Option (Result OpenIndexState Fault) → Session → Type 0
@@ -120,3 +126,14 @@ pub record IsReply (old : Session) (line : List ℕ) (now : SessionKept) (text :
   pub knows : Knows now new
   pub answers : AnswersLine old line new texts
   pub text_is : text ≡ with_ends texts
+
+-- What a query finds once there is an index: exactly the documents that match it; where it was refused, the fault is told.
+abbrev pub FindsDocs : Session → QueryOf → List ℕ → Type 0
+FindsDocs (gathering calls) query reply = reply ≡ []
+FindsDocs (opened ts) query reply = (es : List Entry) × AreMatches query ts es × (reply ≡ found_text es)
+FindsDocs (refused fault) query reply = reply ≡ codes "error " ++ decimal (number_of fault)
+
+-- The query of a text, if it is one.
+abbrev pub IsQuery : List ℕ → Option QueryOf → Type 0
+IsQuery text None = is_none (text_refusal asked text) ≡ false
+IsQuery text (Some query) = MeansText asked text query

@@ -10,14 +10,17 @@ use Rattle.ii_base.specs.Terms.{TermState}
 use Rattle.ii_io.specs.Faults.{number_of}
 use Rattle.ii_io.specs.declared.faults.Part.{Part}
 use Rattle.ii_io.specs.declared.faults.Part.TheVariants.{Skip, Documents, Frequencies, Positions}
+use Rattle.ii_docset.specs.Cursor.{IsAscending}
 use Rattle.ii_docset.specs.Entries.{Entry, document}
+use Rattle.ii_docset.specs.Intersection.{has_doc}
 use Rattle.ii_layout.specs.TermList.{term_list}
 use Rattle.ii_layout.specs.Written.{written_documents}
 use Rattle.ii_definitions.specs.Fields.{option_of}
 use Rattle.ii_definitions.specs.Postings.{key_postings, occurs}
 use Rattle.ii_definitions.specs.Tokens.{IndexToken}
+use Rattle.ii_search.specs.QueryTexts.{text_matches}
 use Rattle.iiq.specs.Words.{lines_of, nothing, written_hex}
-use Rattle.iiq.specs.Commands.{Command, show_ids, open_list, index_call, look_up, command_of}
+use Rattle.iiq.specs.Commands.{Command, asked, show_ids, open_list, index_call, look_up, search_for, command_of}
 use Rattle.iiq.specs.Session.{Session, gathering, opened, refused, Indexes, fields, kept_with}
 
 -- positions, parted by commas
@@ -70,6 +73,24 @@ look_up_text (gathering calls) requested term = []
 look_up_text (opened ts) requested term = term_text requested term ts
 look_up_text (refused fault) requested term = codes "error " ++ decimal (number_of fault)
 
+-- the documents that were found, or that there are none
+abbrev pub found_text : List Entry → List ℕ
+found_text [] = codes "none"
+found_text (e ∷ es) = list_text Basic (e ∷ es)
+
+-- A search is answered by exactly the documents that match its text, in ascending order.
+pub record FindsMatches (text : List ℕ) (ts : List IndexToken) (reply : List ℕ) : Type 0 where
+  pub docs : List Entry
+  pub ascending : IsAscending docs
+  pub exact : (doc : ℕ) → has_doc docs doc ≡ text_matches asked text ts doc
+  pub reply_is : reply ≡ found_text docs
+
+-- So it is once there is an index; where it was refused, the fault is told.
+abbrev pub FindsText : Session → List ℕ → List ℕ → Type 0
+FindsText (gathering calls) text reply = reply ≡ []
+FindsText (opened ts) text reply = FindsMatches text ts reply
+FindsText (refused fault) text reply = reply ≡ codes "error " ++ decimal (number_of fault)
+
 -- what documents are answered with: their bytes, and the list of them
 abbrev pub ids_texts : List ℕ → List (List ℕ)
 ids_texts docs = written_hex (written_documents docs) ∷ list_text Basic (map document docs) ∷ []
@@ -81,6 +102,7 @@ AnswersCommand old (open_list recorded requested doc_freq bytes positions) new t
     (new ≡ old) × (texts ≡ Some (opened_text (downgrade recorded requested) (term_list recorded requested doc_freq bytes positions) ∷ []))
 AnswersCommand old (index_call c) new texts = MatchOption (kept_with old c) ((new ≡ old) × (texts ≡ None)) (λ kept. (new ≡ kept) × (texts ≡ Some []))
 AnswersCommand old (look_up requested term) new texts = Indexes old new × (texts ≡ Some (look_up_text new requested term ∷ []))
+AnswersCommand old (search_for text) new texts = Indexes old new × (reply : List ℕ) × FindsText new text reply × (texts ≡ Some (reply ∷ []))
 
 -- So it is for a line, if it is well formed.
 abbrev pub AnswersMaybe : Session → Option Command → Session → Option (List (List ℕ)) → Type 0

@@ -3,7 +3,7 @@ ghost use Rattle.std.specs.Option.{option_copied, option_map};
 ghost use Rattle.std.specs.List.{join_with_byte};
 ghost use Rattle.std.specs.Str.{IsUtf8};
 ghost use Rattle.iiq.specs.Words.{AreTexts, number_below, bytes_of_word, parts_left};
-ghost use Rattle.iiq.specs.Commands.{documents_of_words, key_of_word, last_by, leaf_command, leaf_query, next_by, num_command, num_query, open_command, option_of_word, positions_of_words, query_command, text_command, text_query};
+ghost use Rattle.iiq.specs.Commands.{documents_of_words, key_of_word, last_by, leaf_command, leaf_query, look_up_command, next_by, num_command, num_query, open_command, option_of_word, positions_of_words, text_command, text_query};
 ghost use Rattle.iiq.specs.Known.{IsCall, call_command, opening_command, query_look_up};
 ghost use Rattle.iiq.specs.Session.{fields};
 
@@ -154,8 +154,8 @@ pub fn text_call(alloc: Global, rest: Option<&[u8]>) -> Result<Option<IndexCall>
     Ok(Some(IndexCall::Text(doc, Field::from_field_id(0), text)))
 }
 
-// A text, or none at all.
-fn text_of(alloc: Global, text: Option<&[u8]>) -> Result<String, AllocError>
+/// A text, or none at all.
+pub fn text_of(alloc: Global, text: Option<&[u8]>) -> Result<String, AllocError>
     requires { IfSome text (λ t. IsUtf8 t.now) }
     ensures { IfOk result (λ string. string_bytes string ≡ join_with_byte 32 (parts_left 32 (option_copied text.entry))) }
 {
@@ -201,7 +201,7 @@ pub fn leaf_call(alloc: Global, words: &mut Parts<'_>) -> Result<Option<IndexCal
 /// What the words after the question mark look up.
 pub fn term_to_look_up(alloc: Global, words: &mut Parts<'_>) -> Result<Option<Query>, AllocError>
     requires { AreTexts words.old }
-    ensures query { IfOk result (λ query. option_map query_look_up query ≡ query_command words.old) }
+    ensures query { IfOk result (λ query. option_map query_look_up query ≡ look_up_command words.old) }
     ensures field { IfOk result (λ query. IfSome query (λ q. IfSome q.term (λ t. t.field < length fields))) }
 {
     let Some(word) = words.next() else {

@@ -5,7 +5,7 @@ ghost use Rattle.ii_docset.specs.Entries.{are_documents, document};
 ghost use Rattle.iiq.specs.Commands.{documents_of_words};
 ghost use Rattle.iiq.specs.Words.{written_hex};
 ghost use Rattle.ii_layout.specs.Written.{written_documents};
-ghost use Rattle.iiq.specs.Output.{item_at, list_text, part_name, positions_text};
+ghost use Rattle.iiq.specs.Output.{found_text, item_at, list_text, part_name, positions_text};
 
 use ii_base::{CountingWriter, IndexRecordOption, Part};
 use ii_docset::{DocSet, Postings, TERMINATED};
@@ -65,6 +65,23 @@ pub fn push_list(
     while doc != TERMINATED {
         text.push(' ')?;
         push_item(text, cursor, option, &mut positions)?;
+        doc = cursor.advance();
+    }
+    Ok(())
+}
+
+/// Adds the documents that a cursor has left to a text, parted by spaces, or `none`.
+pub fn push_found<D: DocSet>(text: &mut String, cursor: &mut D) -> Result<(), AllocError>
+    ensures { OnOk result (string_bytes text.new ≡ string_bytes text.old ++ found_text (D.rest cursor.old)) }
+{
+    let first = cursor.doc();
+    if first == TERMINATED {
+        return text.push_str("none");
+    }
+    write!(text, "{first}")?;
+    let mut doc = cursor.advance();
+    while doc != TERMINATED {
+        write!(text, " {doc}")?;
         doc = cursor.advance();
     }
     Ok(())

@@ -1,20 +1,21 @@
 ghost use Rattle.std.specs.Prelude.{◌≡◌, ◌++◌, List, ℕ, IsTrue, IfOk, IfSome, string_bytes, option_map, map};
 ghost use Rattle.std.specs.Option.{option_copied};
+ghost use Rattle.std.specs.List.{join_with_byte};
 ghost use Rattle.std.specs.Str.{IsUtf8};
 ghost use Rattle.ii_docset.specs.Entries.{are_documents, document};
 ghost use Rattle.ii_layout.specs.Written.{written_documents};
-ghost use Rattle.iiq.specs.Commands.{Command, ids_command, open_command, query_command, command_of};
+ghost use Rattle.iiq.specs.Commands.{Command, ids_command, look_up_command, open_command, query_command, text_search, command_of};
 ghost use Rattle.iiq.specs.Known.{Answers, AnswersAlone, IsCall, IsReply, IsSession, Knows, call_command, open_texts};
 ghost use Rattle.iiq.specs.Output.{ids_texts, with_ends};
 ghost use Rattle.iiq.specs.Session.{Session as SessionState};
-ghost use Rattle.iiq.specs.Words.{AreTexts};
+ghost use Rattle.iiq.specs.Words.{AreTexts, parts_left};
 
 use crate::commands::{
-    Opening, documents, leaf_call, list_to_open, num_call, term_to_look_up, text_call,
+    Opening, documents, leaf_call, list_to_open, num_call, term_to_look_up, text_call, text_of,
 };
 use crate::output::{hex_text, name_of, push_list, written};
 use crate::parts::{Parts, cut};
-use crate::session::Session;
+use crate::session::{Session, query_of_text};
 use bytes::Bytes;
 use ii_base::{IndexRecordOption, LayoutFault};
 use ii_indexing::IndexCall;
@@ -64,7 +65,7 @@ fn command_reply(
         return call_reply(alloc, session, call);
     }
     if word == b"?".as_slice() {
-        return query_reply(alloc, session, &mut words);
+        return question_reply(alloc, session, rest);
     }
     if word == b"ids".as_slice() {
         return ids_reply(alloc, &mut words);
@@ -102,7 +103,7 @@ fn query_reply(
 ) -> Result<Option<String>, AllocError>
     requires session { IsSession session.old }
     requires words { AreTexts words.old }
-    ensures { (s : SessionState) → Knows session.old s → IfOk result (λ reply. Answers s (query_command words.old) session.new (option_map string_bytes reply)) }
+    ensures { (s : SessionState) → Knows session.old s → IfOk result (λ reply. Answers s (look_up_command words.old) session.new (option_map string_bytes reply)) }
 {
     let Some(query) = term_to_look_up(alloc, words)? else {
         return Ok(None);
@@ -110,6 +111,46 @@ fn query_reply(
     let mut text = session.look_up(alloc, &query)?;
     text.push('\n')?;
     Ok(Some(text))
+}
+
+// What stands behind the question mark: the text of a query, or the words of a look-up.
+fn question_reply(
+    alloc: Global,
+    session: &mut Session,
+    rest: Option<&[u8]>,
+) -> Result<Option<String>, AllocError>
+    requires session { IsSession session.old }
+    requires text { IfSome rest (λ text. IsUtf8 text.now) }
+    ensures { (s : SessionState) → Knows session.old s → IfOk result (λ reply. Answers s (query_command (parts_left 32 (option_copied rest.entry))) session.new (option_map string_bytes reply)) }
+{
+    let Some(text) = rest else {
+        return Ok(None);
+    };
+    let (word, behind) = cut(text, b' ');
+    if word == b"query".as_slice() {
+        return search_reply(alloc, session, behind);
+    }
+    let mut words = Parts::left(rest, b' ');
+    query_reply(alloc, session, &mut words)
+}
+
+// The documents that match a text.
+fn search_reply(
+    alloc: Global,
+    session: &mut Session,
+    text: Option<&[u8]>,
+) -> Result<Option<String>, AllocError>
+    requires session { IsSession session.old }
+    requires text { IfSome text (λ t. IsUtf8 t.now) }
+    ensures { (s : SessionState) → Knows session.old s → IfOk result (λ reply. Answers s (text_search (join_with_byte 32 (parts_left 32 (option_copied text.entry)))) session.new (option_map string_bytes reply)) }
+{
+    let text = text_of(alloc, text)?;
+    let Some(query) = query_of_text(alloc, text.as_str())? else {
+        return Ok(None);
+    };
+    let mut reply = session.search(alloc, &query)?;
+    reply.push('\n')?;
+    Ok(Some(reply))
 }
 
 fn ids_reply(alloc: Global, words: &mut Parts<'_>) -> Result<Option<String>, AllocError>

@@ -1,19 +1,22 @@
-ghost use Rattle.std.specs.Prelude.{◌≡◌, ◌++◌, ◌<◌, ◌≤◌, [], List, length, map, codes, decimal, string_bytes, IfOk, IfSome};
+ghost use Rattle.std.specs.Prelude.{◌≡◌, ◌++◌, ◌<◌, ◌≤◌, [], List, length, map, codes, decimal, string_bytes, IfOk, IfSome, IsErr, is_none, true};
 ghost use Rattle.ii_io.specs.Faults.{OnlyMemory, number_of};
 ghost use Rattle.ii_docset.specs.declared.docset.TheConstants.{TERMINATED};
 ghost use Rattle.ii_definitions.specs.Tokens.{IndexToken};
 ghost use Rattle.ii_indexing.specs.IndexCalls.{MayAllBeIndexed, call_of};
-ghost use Rattle.iiq.specs.Known.{GivesIndex, IsCall, IsOpen, IsSession, Keeps, Knows};
+ghost use Rattle.ii_search.specs.Queries.{has_fields};
+ghost use Rattle.iiq.specs.Known.{FindsDocs, GivesIndex, IsCall, IsOpen, IsQuery, IsSession, Keeps, Knows};
 ghost use Rattle.iiq.specs.Output.{key_text, look_up_text, term_text};
-ghost use Rattle.iiq.specs.Session.{Session as SessionState, gathering, Indexes, fields, num_docs_of};
+ghost use Rattle.iiq.specs.Session.{Session as SessionState, gathering, opened, Indexes, fields, num_docs_of};
 
 use crate::commands::Query;
-use crate::output::push_list;
-use ii_base::{AsciiTokenizer, Fault, FieldEntry, IndexRecordOption, Schema, Term, ValueType};
+use crate::output::{push_found, push_list};
+use ii_base::{
+    AsciiTokenizer, Fault, Field, FieldEntry, IndexRecordOption, Schema, Term, ValueType,
+};
 use ii_docset::DocId;
 use ii_indexing::IndexCall;
 use ii_reader::OpenIndex;
-use nequllpa::index_in_ram;
+use nequllpa::{QueryParserError, index_in_ram, parse_query, search};
 use std::alloc::{AllocError, Global};
 use std::mem;
 
@@ -69,6 +72,22 @@ impl Session {
         match &self.index {
             None => Ok(String::new(alloc)),
             Some(Ok(index)) => query_text(alloc, index, query),
+            Some(Err(fault)) => error_text(alloc, *fault),
+        }
+    }
+
+    /// Searches: the documents that match a query, or `none`; `error` and the fault's number where the index
+    /// of the calls was refused.
+    pub fn search(&mut self, alloc: Global, query: &nequllpa::Query) -> Result<String, AllocError>
+        requires session { IsSession self.old }
+        requires fields { has_fields (length fields) query.now ≡ true }
+        ensures { (s : SessionState) → Knows self.old s → (t : SessionState) × Indexes s t × Knows self.new t
+            × IfOk result (λ text. FindsDocs t query.now (string_bytes text)) }
+    {
+        self.open(alloc);
+        match &self.index {
+            None => Ok(String::new(alloc)),
+            Some(Ok(index)) => found_text(alloc, index, query),
             Some(Err(fault)) => error_text(alloc, *fault),
         }
     }
@@ -148,6 +167,52 @@ fn list_text(
             Ok(text)
         }
         Err(_) => Err(AllocError),
+    }
+}
+
+// The documents of an index that match a query, or `none`.
+fn found_text(
+    alloc: Global,
+    index: &OpenIndex,
+    query: &nequllpa::Query,
+) -> Result<String, AllocError>
+    requires many { length index.now.readers ≡ length fields }
+    requires fields { has_fields (length fields) query.now ≡ true }
+    ensures { (ts : List IndexToken) → IsOpen index.now ts
+        → IfOk result (λ text. FindsDocs (opened ts) query.now (string_bytes text)) }
+{
+    match search(alloc, index, query) {
+        Ok(mut cursor) => {
+            let mut text = String::new(alloc);
+            push_found(&mut text, &mut cursor)?;
+            Ok(text)
+        }
+        Err(_) => Err(AllocError),
+    }
+}
+
+/// The query of a text, if it is one.
+pub fn query_of_text(alloc: Global, text: &str) -> Result<Option<nequllpa::Query>, AllocError>
+    ensures { IfOk result (IsQuery text.now) }
+{
+    let Ok(schema) = schema(alloc) else {
+        return Err(AllocError);
+    };
+    let defaults = [Field::from_field_id(0)];
+    match parse_query(alloc, &schema, &defaults, &AsciiTokenizer, text) {
+        Ok(query) => Ok(Some(query)),
+        Err(error) => no_query(error),
+    }
+}
+
+// No query, but where memory was missing.
+fn no_query(error: QueryParserError) -> Result<Option<nequllpa::Query>, AllocError>
+    ensures none { IfOk result (λ query. is_none query ≡ true) }
+    ensures ok { (fault : Fault) → error ≡ QueryParserError.Fault fault → IsErr result }
+{
+    match error {
+        QueryParserError::Fault(_) => Err(AllocError),
+        _ => Ok(None),
     }
 }
 

@@ -32,7 +32,10 @@ pub use ii_query::{Exclude, Intersection, Union};
 pub use ii_reader::{BlockSegmentPostings, FreqReadingOption, LoadedPostings, SegmentPostings};
 
 // how an index is searched
-pub use ii_search::{Query, QueryCursor, count, search};
+pub use ii_search::{
+    Delimiter, MAX_LEXEMES, ParseError, Query, QueryCursor, QueryParserError, UserInputAst,
+    UserInputLiteral, Wanted, count, parse, parse_query, query_of, search, top_by_count,
+};
 
 // the norms of documents
 pub use ii_fieldnorm::{FieldNormReader, FieldNormReaders, fieldnorm_to_id, id_to_fieldnorm};

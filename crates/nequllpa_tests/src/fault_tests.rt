@@ -1,23 +1,38 @@
 use crate::indexer_tests::last_token;
+use crate::json_tests::{json_entry, text_at};
 use crate::memory_index::{
-    Index, are_untouched, text_and_number, text_calls, texts, write_to, writers, written,
+    FULL, Index, are_untouched, text_calls, text_entry, texts, write_to, writers, written,
 };
-use ii_base::{CountingWriter, FailingWriter, Fault, Field, LimitName};
+use ii_base::{
+    CountingWriter, FailingWriter, Fault, Field, FieldEntry, LimitName, Schema, ValueType,
+};
 use ii_indexing::{IndexCall, IndexWriters};
 use std::alloc::Global;
 use std::test::Fail;
 
-// A word in document 0, a number in document 1.
-fn two_calls(alloc: Global) -> Result<Vec<IndexCall>, Fault> {
+// A text, a number and a JSON value.
+fn three_fields(alloc: Global) -> Result<Schema, Fault> {
+    let mut entries = Vec::new(alloc);
+    entries.push(text_entry(alloc, FULL, true)?)?;
+    let name = String::from_str(alloc, "number")?;
+    entries.push(FieldEntry::value(name, ValueType::U64, false))?;
+    entries.push(json_entry(alloc, false)?)?;
+    Ok(Schema::new(entries))
+}
+
+// Words in document 0, a number and a value with words in document 1.
+fn three_calls(alloc: Global) -> Result<Vec<IndexCall>, Fault> {
     let mut calls = text_calls(alloc, &[(0, 0, "a b")])?;
     calls.push(IndexCall::U64(1, Field::from_field_id(1), 7))?;
+    let value = text_at(alloc, "t", "c d")?;
+    calls.push(IndexCall::Json(1, Field::from_field_id(2), value))?;
     Ok(calls)
 }
 
 // Their index.
-fn two_fields(alloc: Global) -> Result<Index, Fault> {
-    let calls = two_calls(alloc)?;
-    written(alloc, text_and_number(alloc)?, 2, calls)
+fn index_of_three(alloc: Global) -> Result<Index, Fault> {
+    let calls = three_calls(alloc)?;
+    written(alloc, three_fields(alloc)?, 2, calls)
 }
 
 // The call that fails of the writer at a place, if it is this one.
@@ -40,8 +55,8 @@ fn run(
         positions: failing_writer(alloc, 2, failing),
         fieldnorms: failing_writer(alloc, 3, failing),
     };
-    let calls = two_calls(alloc)?;
-    write_to(alloc, text_and_number(alloc)?, 2, calls, writers)
+    let calls = three_calls(alloc)?;
+    write_to(alloc, three_fields(alloc)?, 2, calls, writers)
 }
 
 // Whether a writer has as many failed calls, and wrote the beginning of these bytes.
@@ -124,7 +139,7 @@ fn told_calls(alloc: Global, right: &Index, place: u32) -> Result<u64, Fault> {
 
 // Whether each call was told, at least a write and a flush.
 fn are_told(alloc: Global, place: u32) -> Result<bool, Fault> {
-    let right = two_fields(alloc)?;
+    let right = index_of_three(alloc)?;
     Ok(told_calls(alloc, &right, place)? >= 2)
 }
 

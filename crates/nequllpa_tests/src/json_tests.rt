@@ -9,7 +9,7 @@ use std::alloc::Global;
 use std::test::Fail;
 
 // A JSON field with positions.
-fn json_entry(alloc: Global, expand_dots: bool) -> Result<FieldEntry, Fault> {
+pub(crate) fn json_entry(alloc: Global, expand_dots: bool) -> Result<FieldEntry, Fault> {
     Ok(FieldEntry::json(String::from_str(alloc, "json")?, FULL, expand_dots))
 }
 
@@ -38,7 +38,7 @@ fn object(alloc: Global, key: &str, value: JsonValue) -> Result<JsonValue, Fault
 }
 
 // An object of one text.
-fn text_at(alloc: Global, key: &str, text: &str) -> Result<JsonValue, Fault> {
+pub(crate) fn text_at(alloc: Global, key: &str, text: &str) -> Result<JsonValue, Fault> {
     object(alloc, key, JsonValue::Str(String::from_str(alloc, text)?))
 }
 

@@ -241,8 +241,8 @@ pub fn opened(alloc: Global, index: &Index) -> Result<OpenIndex, Fault>
     open_index(alloc, terms, postings, positions, fieldnorms, &index.schema)
 }
 
-// A cursor over the postings of a term, if its field has it.
-fn cursor_of(
+/// A cursor over the postings of a term, if its field has it.
+pub fn cursor_of(
     alloc: Global,
     index: &Index,
     term: &Term,

@@ -2,11 +2,11 @@
 ghost use Rattle.std.specs.Prelude.{◌≡◌, IfOk, length, true};
 ghost use Rattle.ii_search.specs.Queries.{has_fields};
 
-use crate::memory_index::{checked, text_calls, two_texts};
+use crate::memory_index::{FULL, checked, cursor_of, text_calls, texts, two_texts, written_texts};
 use ii_base::{AsciiTokenizer, Fault, Field, Schema, Term};
 use ii_docset::{DocId, DocSet, TERMINATED};
 use ii_reader::{OpenIndex, SegmentPostings};
-use nequllpa::{Query, QueryCursor, count, index_in_ram, search};
+use nequllpa::{Query, QueryCursor, count, index_in_ram, search, top_by_count};
 use std::alloc::Global;
 use std::test::Fail;
 
@@ -264,5 +264,38 @@ fn documents_are_counted(rt: HostRuntime) -> Result<(), Fail> {
 fn fields_are_asked_for(rt: HostRuntime) -> Result<(), Fail> {
     assert!(rt; asked(rt.alloc(), 1)?);
     assert!(rt; !asked(rt.alloc(), 2)?);
+    Ok(())
+}
+
+// A word in four documents, once to three times in each.
+static OFTEN: [(DocId, u32, &str); 5] = [
+    (0, 0, "a b a"),
+    (1, 0, "a"),
+    (2, 0, "a a c a"),
+    (4, 0, "b a a"),
+    (5, 0, "b"),
+];
+
+// The documents in which it occurs most often, with their counts.
+fn most_often(alloc: Global, n: usize) -> Result<String, Fault> {
+    let index = written_texts(alloc, texts(alloc, true)?, 6, &OFTEN)?;
+    let word = Term::from_field_text(alloc, Field::from_field_id(0), "a")?;
+    let mut text = String::new(alloc);
+    let Some(mut cursor) = cursor_of(alloc, &index, &word, FULL)? else {
+        return Ok(text);
+    };
+    for (doc, count) in top_by_count(alloc, &mut cursor, n)? {
+        write!(text, "{doc}:{count} ")?;
+    }
+    Ok(text)
+}
+
+#[test]
+fn the_most_frequent_are_found(rt: HostRuntime) -> Result<(), Fail> {
+    assert!(rt; most_often(rt.alloc(), 0)?.as_str() == "");
+    assert!(rt; most_often(rt.alloc(), 1)?.as_str() == "2:3 ");
+    // of equal counts the smaller document comes first
+    assert!(rt; most_often(rt.alloc(), 2)?.as_str() == "2:3 0:2 ");
+    assert!(rt; most_often(rt.alloc(), 9)?.as_str() == "2:3 0:2 4:2 1:1 ");
     Ok(())
 }

@@ -1,6 +1,7 @@
-use Rattle.std.proofs.Common.{◌<◌, ◌^◌, ◌∙◌, List, length, subst}
+use Rattle.std.proofs.Common.{inl, ⊎_elim, ◌<◌, ◌^◌, ◌∙◌, List, length, subst}
 use Rattle.ii_base.specs.Schema.{SchemaEntry}
 use Rattle.std.specs.Prelude.{IfErr}
+use Rattle.ii_postings_writer.specs.ResolvedTerms.{json_fields, resolved_terms}
 use Rattle.ii_indexing.proofs.WrittenFiles.{PassesBehind, closed_files, table_fault, terms_fault, three_counted}
 use Rattle.ii_io.specs.CountingWriterLemmas.{Grows-trans}
 use Rattle.ii_indexing.proofs.indexed_terms.write_files.Goals as goal
@@ -17,14 +18,16 @@ returns-in-Ok-clause-failures g c =
 
 pub returns-in-Ok-clause-fault : goal.returns-in-Ok-clause-fault
 returns-in-Ok-clause-fault g c ts has =
-    table_fault c.args.serializer c.serialize_postings.new.serializer c.args.postings_writers.now c.args.ctx ts c.close.result.3 (subst (λ (es : List SchemaEntry). length es < 2 ^ 32) c.requires.schema c.requires.few) has
+    table_fault c.args.serializer c.serialize_postings.new.serializer c.args.postings_writers.now (resolved_terms (json_fields c.args.schema.now) c.args.ctx.path_to_unordered_id c.args.ctx.term_index) ts c.close.result.3
+    (subst (λ (es : List SchemaEntry). length es < 2 ^ 32) c.requires.schema c.requires.few) (c.in-Ok.ensures.tokens ts has)
     (c.in-Ok.ensures.closes ∙ c.requires.open) c.in-Ok.ensures.wrote (record { full = c.close.ensures.full; closed = c.close.ensures.closed; only = c.close.ensures.only })
 
 pub returns-in-Err-clause-fault : goal.returns-in-Err-clause-fault
 returns-in-Err-clause-fault g c ts has =
-    subst (λ r. IfErr r (PassesBehind c.args.serializer.entries c.args.serializer.bodies ts)) c.in-Err.is
-    (terms_fault c.args.serializer c.args.postings_writers.now c.args.ctx ts c.serialize_postings.result (subst (λ (es : List SchemaEntry). length es < 2 ^ 32) c.requires.schema c.requires.few) has c.requires.open
-    (λ is. (c.serialize_postings.ensures.closed is).0) c.serialize_postings.ensures.fault)
+    ⊎_elim (λ memory. inl memory)
+    (λ have. subst (λ r. IfErr r (PassesBehind c.args.serializer.entries c.args.serializer.bodies ts)) c.in-Err.is
+    (terms_fault c.args.serializer c.args.postings_writers.now (resolved_terms (json_fields c.args.schema.now) c.args.ctx.path_to_unordered_id c.args.ctx.term_index) ts c.serialize_postings.result
+    (subst (λ (es : List SchemaEntry). length es < 2 ^ 32) c.requires.schema c.requires.few) have c.requires.open (λ is. (c.serialize_postings.ensures.closed is).0) c.serialize_postings.ensures.fault)) (c.in-Err.ensures.tokens ts has)
 
 pub returns-in-Ok-clause-grow : goal.returns-in-Ok-clause-grow
 returns-in-Ok-clause-grow g c =

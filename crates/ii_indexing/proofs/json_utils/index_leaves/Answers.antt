@@ -5,7 +5,7 @@ use Rattle.ii_base.specs.Paths.{PathState}
 use Rattle.ii_definitions.specs.Fields.{option_of}
 use Rattle.ii_definitions.specs.Tokens.{leaf_pieces}
 use Rattle.ii_json.specs.LeafVisit.{IsRefusedBy, leaves_at, leaves_fault}
-use Rattle.ii_indexing.specs.Indexer.{IndexedFieldsState, LeafConstant, StoresPieces}
+use Rattle.ii_indexing.specs.Indexer.{IndexedFieldsState, LeafConstant, StoresAll}
 use Rattle.ii_indexing.specs.Refusals.{next_leaf_fault}
 use Rattle.ii_indexing.proofs.LeafLaws.{first_held}
 use Rattle.ii_postings_writer.proofs.TermIndexLemmas.{on_both}
@@ -18,10 +18,10 @@ returns-clause-stored g c =
     let sink = c.visit_leaves.new.sink in
     on_both c.visit_leaves.result _ _ _
     (λ held same entries ps takes stored.
-    let taken = subst (λ (k : LeafConstant). StoresPieces entries sink.fields.now (ps ++ flat_map (leaf_pieces k.words k.doc k.field) (leaves_at c.set_expand_dots.new.self c.args.value.now))) same
+    let taken = subst (λ (k : LeafConstant). StoresAll entries sink.fields.now (ps ++ flat_map (leaf_pieces k.words k.doc k.field) (leaves_at c.set_expand_dots.new.self c.args.value.now))) same
     (held (record { entries = entries; pieces = ps }) [] (takes, first_held entries c.args.fields.now ps stored)).1 in
-    let told = subst (λ (w : PathState). StoresPieces entries sink.fields.now (ps ++ flat_map (leaf_pieces words c.args.doc c.args.field) (leaves_at w c.args.value.now))) begin taken in
-    subst (λ (s : IndexedFieldsState). StoresPieces entries s (ps ++ flat_map (leaf_pieces words c.args.doc c.args.field) (leaves_below c.args.expand_dots [] (json_of c.args.value.now)))) (search rules) told)
+    let told = subst (λ (w : PathState). StoresAll entries sink.fields.now (ps ++ flat_map (leaf_pieces words c.args.doc c.args.field) (leaves_at w c.args.value.now))) begin taken in
+    subst (λ (s : IndexedFieldsState). StoresAll entries s (ps ++ flat_map (leaf_pieces words c.args.doc c.args.field) (leaves_below c.args.expand_dots [] (json_of c.args.value.now)))) (search rules) told)
     c.visit_leaves.ensures.leaves c.visit_leaves.ensures.constant
 
 pub returns-clause-refused : goal.returns-clause-refused

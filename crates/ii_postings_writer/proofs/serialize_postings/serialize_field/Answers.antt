@@ -16,7 +16,7 @@ use Rattle.ii_postings_writer.proofs.serialize_postings.serialize_field.Goals as
 pub serialize_one_term-requires-clause-ascending :
     goal.serialize_one_term-requires-clause-ascending
 serialize_one_term-requires-clause-ascending g c =
-    subst (λ t. AreAscending (c.loop-place.serializer.index.now.field.places.keys ++ t.key.now ∷ [])) (sym c.index-terms-place.is)
+    subst (λ t. AreAscending (c.loop-place.serializer.index.now.field.places.keys ++ (state_of t).key ∷ [])) (sym c.index-terms-place.is)
     (next_above (option_of c.args.serializer.now.entries c.args.field) c.args.terms.now c.loop-place.place c.index-terms-place.result c.loop-place.serializer.index.now.field.places.keys
     (search rules) c.requires.ascending c.loop-place.invariant.0.terms.keys)
 

@@ -1,101 +1,259 @@
-use Rattle.std.proofs.Common.{◌<◌, ◌^◌, ◌∙◌, ap, sym, subst, length, map, List, ℕ, arith}
+use Rattle.std.proofs.Common.{◌<◌, ◌∙◌, ap, sym, subst, length, map, Bool, List, ℕ, arith}
 use Rattle.std.specs.List.{AllByRecursion, range_with_len}
+use Rattle.std.proofs.lemmas.List.{length-map}
 use Rattle.std.proofs.lemmas.Result.{IfErr-weaker}
 use Rattle.std.proofs.lemmas.List.FromFn.{length-map-range_with_len}
 use Rattle.ii_recorder.specs.Recorded.{RecorderState}
+use Rattle.ii_termdict.specs.ReadBack.{AreAscending}
 use Rattle.ii_postings_writer.specs.IndexingTerm.{field_in}
-use Rattle.ii_postings_writer.specs.SortedTerms.{AllMayBeWritten, IsWritable, SortedTerm, terms_in}
+use Rattle.ii_postings_writer.specs.ResolvedTerms.{json_fields, resolved_terms}
+use Rattle.ii_postings_writer.specs.SortedTerms.{IsWritable, MayBeWritten, SortedTerm, terms_in}
 use Rattle.ii_postings_writer.proofs.ContextFaults.{context_fault, no_terms, some_terms}
 use Rattle.ii_postings_writer.proofs.TermIndexLemmas.{on_ok}
 use Rattle.ii_postings_writer.proofs.PartLemmas.{AreLists, wrote_context, wrote_terms}
-use Rattle.ii_postings_writer.proofs.HeldBodies.{sorted_written, wrote_tokens}
-use Rattle.ii_postings_writer.proofs.SortedLemmas.{all_writable, each_may_be, fields_known}
+use Rattle.ii_postings_writer.proofs.HeldBodies.{IsWritten, wrote_tokens}
+use Rattle.ii_postings_writer.proofs.ResolvedParts.{had_resolved, have_resolved, have_unless, may_be_under_keys, no_resolved, raw_fields, resolve, same_keys, sorted_by, whole_keys}
+use Rattle.ii_postings_writer.proofs.SortedLemmas.{all_writable, fields_known, lists_ascend}
 use Rattle.ii_postings_writer.proofs.serialize_postings.serialize_postings.Goals as goal
 
 pub terms_by_field-requires : goal.terms_by_field-requires
 terms_by_field-requires g c =
-    let all = each_may_be (length c.args.schema.now) c.args.ctx c.sort.new.self c.in_ok-sort.ensures.same c.in_ok-sort.ensures.ascending c.in_ok-sort.ensures.whole c.requires.terms in
-    record { known = subst (λ (n : ℕ). AllByRecursion (λ (t : List ℕ × RecorderState). field_in t.0 < n) c.sort.new.self) (sym c.num_fields.ensures.value) (fields_known (length c.args.schema.now) c.sort.new.self all) }
+    let flags = json_fields c.args.schema.now in
+    let paths = c.args.ctx.path_to_unordered_id in
+    let old = c.args.ctx.term_index in
+    let new = c.sort.new.self in
+    let unlike = c.unordered_id_to_ordered_id.ensures.distinct in
+    let few = c.unordered_id_to_ordered_id.ensures.few in
+    let clean = c.requires.clean in
+    let moved = c.sort.ensures.moved in
+    let sorted = sorted_by flags paths old new c.deref.result.now c.deref-2.result.now unlike clean (c.deref.ensures.value ∙ c.in_ok-flags.ensures.ok) (c.deref-2.ensures.value ∙ c.in_ok-ranks.ensures.ranks) c.requires.ids c.in_ok-sort.ensures.sorted in
+    record { known = subst (λ (n : ℕ). AllByRecursion (λ (t : List ℕ × RecorderState). field_in t.0 < n) new) (sym c.num_fields.ensures.value) (raw_fields flags paths unlike clean few old new moved sorted (length c.args.schema.now) c.requires.terms) }
 
 pub serialize_fields-requires-clause-known : goal.serialize_fields-requires-clause-known
 serialize_fields-requires-clause-known g c =
-    let many = ap length c.in_ok-terms.ensures.ok ∙ length-map-range_with_len (λ (field : ℕ). terms_in field c.sort.new.self) 0 c.num_fields.result in
-    omega (arith, many, c.num_fields.ensures.value, ap length c.requires.schema)
+    let paths = c.args.ctx.path_to_unordered_id in
+    let lists = ap length c.in_ok-terms.ensures.ok ∙ length-map-range_with_len (λ (field : ℕ). terms_in field (resolved_terms c.deref-3.result.now paths c.sort.new.self)) 0 c.num_fields.result in
+    omega (arith, lists, c.num_fields.ensures.value, ap length c.requires.schema)
 
 pub serialize_fields-requires-clause-few : goal.serialize_fields-requires-clause-few
 serialize_fields-requires-clause-few g c =
-    let many = ap length c.in_ok-terms.ensures.ok ∙ length-map-range_with_len (λ (field : ℕ). terms_in field c.sort.new.self) 0 c.num_fields.result in
-    omega (arith, many, c.num_fields.ensures.bound)
+    let paths = c.args.ctx.path_to_unordered_id in
+    let lists = ap length c.in_ok-terms.ensures.ok ∙ length-map-range_with_len (λ (field : ℕ). terms_in field (resolved_terms c.deref-3.result.now paths c.sort.new.self)) 0 c.num_fields.result in
+    omega (arith, lists, c.num_fields.ensures.bound)
 
 pub serialize_fields-requires-clause-writers : goal.serialize_fields-requires-clause-writers
 serialize_fields-requires-clause-writers g c =
-    let many = ap length c.in_ok-terms.ensures.ok ∙ length-map-range_with_len (λ (field : ℕ). terms_in field c.sort.new.self) 0 c.num_fields.result in
-    omega (arith, many, c.num_fields.ensures.value, c.requires.writers)
+    let paths = c.args.ctx.path_to_unordered_id in
+    let lists = ap length c.in_ok-terms.ensures.ok ∙ length-map-range_with_len (λ (field : ℕ). terms_in field (resolved_terms c.deref-3.result.now paths c.sort.new.self)) 0 c.num_fields.result in
+    omega (arith, lists, c.num_fields.ensures.value, c.requires.writers)
+
+pub serialize_fields-requires-clause-ascending : goal.serialize_fields-requires-clause-ascending
+serialize_fields-requires-clause-ascending g c =
+    let flags = json_fields c.args.schema.now in
+    let paths = c.args.ctx.path_to_unordered_id in
+    let old = c.args.ctx.term_index in
+    let new = c.sort.new.self in
+    let unlike = c.unordered_id_to_ordered_id.ensures.distinct in
+    let few = c.unordered_id_to_ordered_id.ensures.few in
+    let clean = c.requires.clean in
+    let moved = c.sort.ensures.moved in
+    let sorted = sorted_by flags paths old new c.deref.result.now c.deref-2.result.now unlike clean (c.deref.ensures.value ∙ c.in_ok-flags.ensures.ok) (c.deref-2.ensures.value ∙ c.in_ok-ranks.ensures.ranks) c.requires.ids c.in_ok-sort.ensures.sorted in
+    let keyed = resolved_terms flags paths new in
+    let many = c.num_fields.result in
+    let are = c.in_ok-terms.ensures.ok ∙ ap (λ (fs : List Bool). map (λ (field : ℕ). terms_in field (resolved_terms fs paths new)) (range_with_len 0 many)) (c.deref-3.ensures.value ∙ c.in_ok-flags.ensures.ok) in
+    subst (AllByRecursion (λ (ts : List SortedTerm). AreAscending (map (λ (t : SortedTerm). t.key) ts))) (sym are) (lists_ascend 0 many keyed (whole_keys flags paths unlike clean few old new moved sorted) sorted.ascending)
 
 pub serialize_fields-requires-clause-writable : goal.serialize_fields-requires-clause-writable
 serialize_fields-requires-clause-writable g c =
-    let all = each_may_be (length c.args.schema.now) c.args.ctx c.sort.new.self c.in_ok-sort.ensures.same c.in_ok-sort.ensures.ascending c.in_ok-sort.ensures.whole c.requires.terms in
-    subst (AllByRecursion (λ (ts : List SortedTerm). AllByRecursion IsWritable ts)) (sym c.in_ok-terms.ensures.ok) (all_writable (length c.args.schema.now) 0 c.num_fields.result c.sort.new.self all)
+    let flags = json_fields c.args.schema.now in
+    let paths = c.args.ctx.path_to_unordered_id in
+    let old = c.args.ctx.term_index in
+    let new = c.sort.new.self in
+    let unlike = c.unordered_id_to_ordered_id.ensures.distinct in
+    let few = c.unordered_id_to_ordered_id.ensures.few in
+    let clean = c.requires.clean in
+    let moved = c.sort.ensures.moved in
+    let sorted = sorted_by flags paths old new c.deref.result.now c.deref-2.result.now unlike clean (c.deref.ensures.value ∙ c.in_ok-flags.ensures.ok) (c.deref-2.ensures.value ∙ c.in_ok-ranks.ensures.ranks) c.requires.ids c.in_ok-sort.ensures.sorted in
+    let keyed = resolved_terms flags paths new in
+    let many = c.num_fields.result in
+    let are = c.in_ok-terms.ensures.ok ∙ ap (λ (fs : List Bool). map (λ (field : ℕ). terms_in field (resolved_terms fs paths new)) (range_with_len 0 many)) (c.deref-3.ensures.value ∙ c.in_ok-flags.ensures.ok) in
+    subst (AllByRecursion (λ (ts : List SortedTerm). AllByRecursion IsWritable ts)) (sym are)
+    (all_writable (length c.args.schema.now) 0 many keyed (may_be_under_keys flags paths unlike clean few old new moved sorted (length c.args.schema.now) c.requires.terms))
 
 pub returns-clause-wrote : goal.returns-clause-wrote
 returns-clause-wrote g c =
-    let lists : AreLists (length c.args.serializer.now.entries) c.args.ctx c.sort.new.self c.in_ok-terms.terms.items = record {
-      same = c.in_ok-sort.ensures.same;
-      ascending = c.in_ok-sort.ensures.ascending;
-      whole = c.in_ok-sort.ensures.whole;
-      are = c.in_ok-terms.ensures.ok ∙ ap (λ (m : ℕ). map (λ (field : ℕ). terms_in field c.sort.new.self) (range_with_len 0 m)) (c.num_fields.ensures.value ∙ ap length c.requires.schema);
+    let flags = json_fields c.args.schema.now in
+    let paths = c.args.ctx.path_to_unordered_id in
+    let old = c.args.ctx.term_index in
+    let new = c.sort.new.self in
+    let unlike = c.unordered_id_to_ordered_id.ensures.distinct in
+    let few = c.unordered_id_to_ordered_id.ensures.few in
+    let clean = c.requires.clean in
+    let moved = c.sort.ensures.moved in
+    let sorted = sorted_by flags paths old new c.deref.result.now c.deref-2.result.now unlike clean (c.deref.ensures.value ∙ c.in_ok-flags.ensures.ok) (c.deref-2.ensures.value ∙ c.in_ok-ranks.ensures.ranks) c.requires.ids c.in_ok-sort.ensures.sorted in
+    let keyed = resolved_terms flags paths new in
+    let many = c.num_fields.result in
+    let are = c.in_ok-terms.ensures.ok ∙ ap (λ (fs : List Bool). map (λ (field : ℕ). terms_in field (resolved_terms fs paths new)) (range_with_len 0 many)) (c.deref-3.ensures.value ∙ c.in_ok-flags.ensures.ok) in
+    let terms = resolved_terms flags paths old in
+    let first = c.args.serializer.now in
+    let last = c.serialize_fields.new.serializer in
+    let writers = c.args.per_field_postings_writers.now in
+    let fields = c.in_ok-terms.terms.items in
+    let lists : AreLists (length first.entries) terms keyed fields = record {
+      same = same_keys flags paths unlike clean few old new moved sorted;
+      ascending = sorted.ascending;
+      whole = whole_keys flags paths unlike clean few old new moved sorted;
+      are = are ∙ ap (λ (m : ℕ). map (λ (field : ℕ). terms_in field keyed) (range_with_len 0 m)) (c.num_fields.ensures.value ∙ ap length c.requires.schema);
     } in
-    wrote_context c.serialize_fields.result c.args.serializer.now c.serialize_fields.new.serializer c.args.per_field_postings_writers.now c.args.ctx c.sort.new.self
-    (wrote_terms c.serialize_fields.result c.args.serializer.now c.serialize_fields.new.serializer c.args.per_field_postings_writers.now c.args.ctx c.sort.new.self c.in_ok-terms.terms.items lists c.serialize_fields.ensures.wrote)
+    wrote_context c.serialize_fields.result first last writers terms keyed (wrote_terms c.serialize_fields.result first last writers terms keyed fields lists c.serialize_fields.ensures.wrote)
 
 pub returns-clause-holds : goal.returns-clause-holds
 returns-clause-holds g c ts has =
-    let lists : AreLists (length c.args.serializer.now.entries) c.args.ctx c.sort.new.self c.in_ok-terms.terms.items = record {
-      same = c.in_ok-sort.ensures.same;
-      ascending = c.in_ok-sort.ensures.ascending;
-      whole = c.in_ok-sort.ensures.whole;
-      are = c.in_ok-terms.ensures.ok ∙ ap (λ (m : ℕ). map (λ (field : ℕ). terms_in field c.sort.new.self) (range_with_len 0 m)) (c.num_fields.ensures.value ∙ ap length c.requires.schema);
+    let flags = json_fields c.args.schema.now in
+    let paths = c.args.ctx.path_to_unordered_id in
+    let old = c.args.ctx.term_index in
+    let new = c.sort.new.self in
+    let unlike = c.unordered_id_to_ordered_id.ensures.distinct in
+    let few = c.unordered_id_to_ordered_id.ensures.few in
+    let clean = c.requires.clean in
+    let moved = c.sort.ensures.moved in
+    let sorted = sorted_by flags paths old new c.deref.result.now c.deref-2.result.now unlike clean (c.deref.ensures.value ∙ c.in_ok-flags.ensures.ok) (c.deref-2.ensures.value ∙ c.in_ok-ranks.ensures.ranks) c.requires.ids c.in_ok-sort.ensures.sorted in
+    let keyed = resolved_terms flags paths new in
+    let many = c.num_fields.result in
+    let are = c.in_ok-terms.ensures.ok ∙ ap (λ (fs : List Bool). map (λ (field : ℕ). terms_in field (resolved_terms fs paths new)) (range_with_len 0 many)) (c.deref-3.ensures.value ∙ c.in_ok-flags.ensures.ok) in
+    let terms = resolved_terms flags paths old in
+    let first = c.args.serializer.now in
+    let last = c.serialize_fields.new.serializer in
+    let writers = c.args.per_field_postings_writers.now in
+    let fields = c.in_ok-terms.terms.items in
+    let lists : AreLists (length first.entries) terms keyed fields = record {
+      same = same_keys flags paths unlike clean few old new moved sorted;
+      ascending = sorted.ascending;
+      whole = whole_keys flags paths unlike clean few old new moved sorted;
+      are = are ∙ ap (λ (m : ℕ). map (λ (field : ℕ). terms_in field keyed) (range_with_len 0 m)) (c.num_fields.ensures.value ∙ ap length c.requires.schema);
     } in
-    let few : length c.args.serializer.now.entries < 2 ^ 32 = omega (arith, c.num_fields.ensures.value, c.num_fields.ensures.bound, ap length c.requires.schema) in
-    let may = subst (λ (n : ℕ). AllMayBeWritten n c.args.ctx) (ap length c.requires.schema) c.requires.terms in
-    let written = sorted_written c.args.serializer.now.entries c.args.ctx c.sort.new.self c.args.per_field_postings_writers.now ts few c.in_ok-sort.ensures.same c.in_ok-sort.ensures.ascending c.in_ok-sort.ensures.whole may has in
-    wrote_tokens c.serialize_fields.result c.reads_entries_back.ensures c.reads_uncounted_term_back.ensures c.args.serializer.now c.serialize_fields.new.serializer c.args.per_field_postings_writers.now c.args.ctx c.sort.new.self ts written
-    (wrote_terms c.serialize_fields.result c.args.serializer.now c.serialize_fields.new.serializer c.args.per_field_postings_writers.now c.args.ctx c.sort.new.self c.in_ok-terms.terms.items lists c.serialize_fields.ensures.wrote)
+    let may = subst (λ (n : ℕ). AllByRecursion (λ (t : List ℕ × RecorderState). MayBeWritten n t.0 t.1) keyed) (ap length c.requires.schema) (may_be_under_keys flags paths unlike clean few old new moved sorted (length c.args.schema.now) c.requires.terms) in
+    let written : IsWritten first.entries writers keyed ts = record {
+      few = omega (arith, c.num_fields.ensures.value, c.num_fields.ensures.bound, ap length c.requires.schema);
+      whole = lists.whole;
+      ascending = sorted.ascending;
+      may = may;
+      tokens = have_resolved flags paths unlike clean few old new moved sorted first.entries writers ts (ap json_fields (sym c.requires.schema)) has;
+    } in
+    wrote_tokens c.serialize_fields.result c.reads_entries_back.ensures c.reads_uncounted_term_back.ensures first last writers terms keyed ts written
+    (wrote_terms c.serialize_fields.result first last writers terms keyed fields lists c.serialize_fields.ensures.wrote)
+
+pub returns-clause-tokens : goal.returns-clause-tokens
+returns-clause-tokens g c ts has =
+    let flags = json_fields c.args.schema.now in
+    let paths = c.args.ctx.path_to_unordered_id in
+    let old = c.args.ctx.term_index in
+    let new = c.sort.new.self in
+    let unlike = c.unordered_id_to_ordered_id.ensures.distinct in
+    let few = c.unordered_id_to_ordered_id.ensures.few in
+    let clean = c.requires.clean in
+    let moved = c.sort.ensures.moved in
+    let sorted = sorted_by flags paths old new c.deref.result.now c.deref-2.result.now unlike clean (c.deref.ensures.value ∙ c.in_ok-flags.ensures.ok) (c.deref-2.ensures.value ∙ c.in_ok-ranks.ensures.ranks) c.requires.ids c.in_ok-sort.ensures.sorted in
+    let keyed = resolved_terms flags paths new in
+    let many = c.num_fields.result in
+    let are = c.in_ok-terms.ensures.ok ∙ ap (λ (fs : List Bool). map (λ (field : ℕ). terms_in field (resolved_terms fs paths new)) (range_with_len 0 many)) (c.deref-3.ensures.value ∙ c.in_ok-flags.ensures.ok) in
+    let terms = resolved_terms flags paths old in
+    let first = c.args.serializer.now in
+    let last = c.serialize_fields.new.serializer in
+    let writers = c.args.per_field_postings_writers.now in
+    let fields = c.in_ok-terms.terms.items in
+    let lists : AreLists (length first.entries) terms keyed fields = record {
+      same = same_keys flags paths unlike clean few old new moved sorted;
+      ascending = sorted.ascending;
+      whole = whole_keys flags paths unlike clean few old new moved sorted;
+      are = are ∙ ap (λ (m : ℕ). map (λ (field : ℕ). terms_in field keyed) (range_with_len 0 m)) (c.num_fields.ensures.value ∙ ap length c.requires.schema);
+    } in
+    have_unless _ c.serialize_fields.result (had_resolved flags paths unlike clean few old new moved sorted first.entries writers ts (ap json_fields (sym c.requires.schema)) has)
 
 pub returns-clause-fault : goal.returns-clause-fault
 returns-clause-fault g c =
-    let lists : AreLists (length c.args.serializer.now.entries) c.args.ctx c.sort.new.self c.in_ok-terms.terms.items = record {
-      same = c.in_ok-sort.ensures.same;
-      ascending = c.in_ok-sort.ensures.ascending;
-      whole = c.in_ok-sort.ensures.whole;
-      are = c.in_ok-terms.ensures.ok ∙ ap (λ (m : ℕ). map (λ (field : ℕ). terms_in field c.sort.new.self) (range_with_len 0 m)) (c.num_fields.ensures.value ∙ ap length c.requires.schema);
+    let flags = json_fields c.args.schema.now in
+    let paths = c.args.ctx.path_to_unordered_id in
+    let old = c.args.ctx.term_index in
+    let new = c.sort.new.self in
+    let unlike = c.unordered_id_to_ordered_id.ensures.distinct in
+    let few = c.unordered_id_to_ordered_id.ensures.few in
+    let clean = c.requires.clean in
+    let moved = c.sort.ensures.moved in
+    let sorted = sorted_by flags paths old new c.deref.result.now c.deref-2.result.now unlike clean (c.deref.ensures.value ∙ c.in_ok-flags.ensures.ok) (c.deref-2.ensures.value ∙ c.in_ok-ranks.ensures.ranks) c.requires.ids c.in_ok-sort.ensures.sorted in
+    let keyed = resolved_terms flags paths new in
+    let many = c.num_fields.result in
+    let are = c.in_ok-terms.ensures.ok ∙ ap (λ (fs : List Bool). map (λ (field : ℕ). terms_in field (resolved_terms fs paths new)) (range_with_len 0 many)) (c.deref-3.ensures.value ∙ c.in_ok-flags.ensures.ok) in
+    let terms = resolved_terms flags paths old in
+    let first = c.args.serializer.now in
+    let last = c.serialize_fields.new.serializer in
+    let writers = c.args.per_field_postings_writers.now in
+    let fields = c.in_ok-terms.terms.items in
+    let lists : AreLists (length first.entries) terms keyed fields = record {
+      same = same_keys flags paths unlike clean few old new moved sorted;
+      ascending = sorted.ascending;
+      whole = whole_keys flags paths unlike clean few old new moved sorted;
+      are = are ∙ ap (λ (m : ℕ). map (λ (field : ℕ). terms_in field keyed) (range_with_len 0 m)) (c.num_fields.ensures.value ∙ ap length c.requires.schema);
     } in
-    IfErr-weaker c.serialize_fields.result _ _ (λ e fault. context_fault c.args.serializer.now c.args.per_field_postings_writers.now c.args.ctx c.sort.new.self c.in_ok-terms.terms.items e lists fault) c.serialize_fields.ensures.fault
+    IfErr-weaker c.serialize_fields.result _ _ (λ e fault. context_fault first writers terms keyed fields e lists fault) c.serialize_fields.ensures.fault
 
 pub returns-clause-closed : goal.returns-clause-closed
 returns-clause-closed g c is =
-    let lists : AreLists (length c.args.serializer.now.entries) c.args.ctx c.sort.new.self c.in_ok-terms.terms.items = record {
-      same = c.in_ok-sort.ensures.same;
-      ascending = c.in_ok-sort.ensures.ascending;
-      whole = c.in_ok-sort.ensures.whole;
-      are = c.in_ok-terms.ensures.ok ∙ ap (λ (m : ℕ). map (λ (field : ℕ). terms_in field c.sort.new.self) (range_with_len 0 m)) (c.num_fields.ensures.value ∙ ap length c.requires.schema);
+    let flags = json_fields c.args.schema.now in
+    let paths = c.args.ctx.path_to_unordered_id in
+    let old = c.args.ctx.term_index in
+    let new = c.sort.new.self in
+    let unlike = c.unordered_id_to_ordered_id.ensures.distinct in
+    let few = c.unordered_id_to_ordered_id.ensures.few in
+    let clean = c.requires.clean in
+    let moved = c.sort.ensures.moved in
+    let sorted = sorted_by flags paths old new c.deref.result.now c.deref-2.result.now unlike clean (c.deref.ensures.value ∙ c.in_ok-flags.ensures.ok) (c.deref-2.ensures.value ∙ c.in_ok-ranks.ensures.ranks) c.requires.ids c.in_ok-sort.ensures.sorted in
+    let keyed = resolved_terms flags paths new in
+    let many = c.num_fields.result in
+    let are = c.in_ok-terms.ensures.ok ∙ ap (λ (fs : List Bool). map (λ (field : ℕ). terms_in field (resolved_terms fs paths new)) (range_with_len 0 many)) (c.deref-3.ensures.value ∙ c.in_ok-flags.ensures.ok) in
+    let terms = resolved_terms flags paths old in
+    let first = c.args.serializer.now in
+    let last = c.serialize_fields.new.serializer in
+    let writers = c.args.per_field_postings_writers.now in
+    let fields = c.in_ok-terms.terms.items in
+    let lists : AreLists (length first.entries) terms keyed fields = record {
+      same = same_keys flags paths unlike clean few old new moved sorted;
+      ascending = sorted.ascending;
+      whole = whole_keys flags paths unlike clean few old new moved sorted;
+      are = are ∙ ap (λ (m : ℕ). map (λ (field : ℕ). terms_in field keyed) (range_with_len 0 m)) (c.num_fields.ensures.value ∙ ap length c.requires.schema);
     } in
     let closed = c.serialize_fields.ensures.closed is in
-    (closed.0, some_terms c.args.serializer.now.entries c.args.per_field_postings_writers.now (length c.args.serializer.now.entries) c.args.ctx c.sort.new.self c.in_ok-terms.terms.items lists closed.1)
+    (closed.0, omega (arith, some_terms first.entries writers (length first.entries) terms keyed fields lists closed.1, length-map old (resolve flags paths)))
 
 pub returns-clause-refused : goal.returns-clause-refused
 returns-clause-refused g c closed =
-    let lists : AreLists (length c.args.serializer.now.entries) c.args.ctx c.sort.new.self c.in_ok-terms.terms.items = record {
-      same = c.in_ok-sort.ensures.same;
-      ascending = c.in_ok-sort.ensures.ascending;
-      whole = c.in_ok-sort.ensures.whole;
-      are = c.in_ok-terms.ensures.ok ∙ ap (λ (m : ℕ). map (λ (field : ℕ). terms_in field c.sort.new.self) (range_with_len 0 m)) (c.num_fields.ensures.value ∙ ap length c.requires.schema);
+    let flags = json_fields c.args.schema.now in
+    let paths = c.args.ctx.path_to_unordered_id in
+    let old = c.args.ctx.term_index in
+    let new = c.sort.new.self in
+    let unlike = c.unordered_id_to_ordered_id.ensures.distinct in
+    let few = c.unordered_id_to_ordered_id.ensures.few in
+    let clean = c.requires.clean in
+    let moved = c.sort.ensures.moved in
+    let sorted = sorted_by flags paths old new c.deref.result.now c.deref-2.result.now unlike clean (c.deref.ensures.value ∙ c.in_ok-flags.ensures.ok) (c.deref-2.ensures.value ∙ c.in_ok-ranks.ensures.ranks) c.requires.ids c.in_ok-sort.ensures.sorted in
+    let keyed = resolved_terms flags paths new in
+    let many = c.num_fields.result in
+    let are = c.in_ok-terms.ensures.ok ∙ ap (λ (fs : List Bool). map (λ (field : ℕ). terms_in field (resolved_terms fs paths new)) (range_with_len 0 many)) (c.deref-3.ensures.value ∙ c.in_ok-flags.ensures.ok) in
+    let terms = resolved_terms flags paths old in
+    let first = c.args.serializer.now in
+    let last = c.serialize_fields.new.serializer in
+    let writers = c.args.per_field_postings_writers.now in
+    let fields = c.in_ok-terms.terms.items in
+    let lists : AreLists (length first.entries) terms keyed fields = record {
+      same = same_keys flags paths unlike clean few old new moved sorted;
+      ascending = sorted.ascending;
+      whole = whole_keys flags paths unlike clean few old new moved sorted;
+      are = are ∙ ap (λ (m : ℕ). map (λ (field : ℕ). terms_in field keyed) (range_with_len 0 m)) (c.num_fields.ensures.value ∙ ap length c.requires.schema);
     } in
-    let all = each_may_be (length c.args.schema.now) c.args.ctx c.sort.new.self c.in_ok-sort.ensures.same c.in_ok-sort.ensures.ascending c.in_ok-sort.ensures.whole c.requires.terms in
-    let known = subst (λ (n : ℕ). AllByRecursion (λ (t : List ℕ × RecorderState). field_in t.0 < n) c.sort.new.self) (ap length c.requires.schema) (fields_known (length c.args.schema.now) c.sort.new.self all) in
+    let may = subst (λ (n : ℕ). AllByRecursion (λ (t : List ℕ × RecorderState). MayBeWritten n t.0 t.1) keyed) (ap length c.requires.schema) (may_be_under_keys flags paths unlike clean few old new moved sorted (length c.args.schema.now) c.requires.terms) in
     let stays = c.serialize_fields.ensures.refused closed in
     record {
       same = stays.same;
-      none = on_ok c.serialize_fields.result _ _ (no_terms c.args.serializer.now.entries c.args.per_field_postings_writers.now (length c.args.serializer.now.entries) c.args.ctx c.sort.new.self c.in_ok-terms.terms.items lists known) stays.none;
+      none = on_ok c.serialize_fields.result _ _ (λ none. no_resolved flags paths old (no_terms first.entries writers (length first.entries) terms keyed fields lists (fields_known (length first.entries) keyed may) none)) stays.none;
       only = stays.only;
     }

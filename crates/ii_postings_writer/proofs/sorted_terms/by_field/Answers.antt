@@ -17,5 +17,5 @@ add_term-requires-clause-known c =
 
 pub loop-place-preserved : goal.loop-place-preserved
 loop-place-preserved c =
-    added c.args.num_fields c.args.terms.now.entries c.loop-place.place (c.in-Some.term.now, c.in-Some.recorder.now) c.loop-place.fields.items c.add_term.new.fields.items c.deref.result.now
+    added c.args.flags.now c.args.paths.now c.args.num_fields c.args.terms.now.entries c.loop-place.place (c.in-Some.term.now, c.in-Some.recorder.now) c.loop-place.fields.items c.add_term.new.fields.items c.deref.result.now
     (sym c.in-Some.ensures.entry) c.requires.known c.deref.ensures.value c.loop-place.invariant c.in_ok-add_term.ensures.ok

@@ -16,3 +16,6 @@ returns-clause-freqs c = rw c.from_static.ensures (ap (λ (p : Postings). p.freq
 
 pub returns-clause-has : goal.returns-clause-has
 returns-clause-has c = rw (c.from_static.ensures, c.freq_reading_option.ensures, and-false (has_freq c.args.record_option)) (empty_has c.args.record_option c.args.requested_option)
+
+pub returns-clause-entries : goal.returns-clause-entries
+returns-clause-entries c = rw c.from_static.ensures (ap (λ (p : Postings). p.skip.entries) (empty_given c.args.record_option c.args.requested_option))

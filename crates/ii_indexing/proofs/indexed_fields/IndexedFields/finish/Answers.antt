@@ -13,7 +13,7 @@ use Rattle.ii_indexing.proofs.indexed_fields.IndexedFields.finish.Goals as goal
 pub returns-in_err-readers-clause-only : goal.returns-in_err-readers-clause-only
 returns-in_err-readers-clause-only c =
     let p = err_from_is_err_and c.from_residual-in_err-readers.result c.from_residual-in_err-readers.ensures.1 in
-    let st = subst (λ (s : IndexedFieldsState). StoresPieces c.args.schema.now s c.requires.some.pieces) (sym c.self.view_is) c.requires.some.stored in
+    let st = subst (λ (s : IndexedFieldsState). StoresPieces c.args.schema.now s c.requires.some.pieces) (sym c.self.view_is) c.requires.some.stored.pieces in
     let same = subst (λ (s : IndexedFieldsState). with_norms s.opened.norms ≡ map keeps_norms c.args.schema.now) (sym c.self.view_is) c.requires.norms in
     let ts = tokens_after [] c.requires.some.pieces in
     let held = c.in_ok-norms.ensures.holds c.args.schema.now c.requires.some.pieces ts same st.documents in
@@ -30,7 +30,7 @@ returns-clause-norms c ps ts told =
 pub returns-clause-short : goal.returns-clause-short
 returns-clause-short c =
     let ts = tokens_after [] c.requires.some.pieces in
-    let st = subst (λ (s : IndexedFieldsState). StoresPieces c.args.schema.now s c.requires.some.pieces) (sym c.self.view_is) c.requires.some.stored in
+    let st = subst (λ (s : IndexedFieldsState). StoresPieces c.args.schema.now s c.requires.some.pieces) (sym c.self.view_is) c.requires.some.stored.pieces in
     let same = subst (λ (s : IndexedFieldsState). with_norms s.opened.norms ≡ map keeps_norms c.args.schema.now) (sym c.self.view_is) c.requires.norms in
     let held = c.in_ok-norms.ensures.holds c.args.schema.now c.requires.some.pieces ts same st.documents in
     short_bodies c.args.schema.now c.args.num_docs c.in_ok-norms.norms ts c.in_ok-readers.readers c.requires.docs held (sym (ap composite c.in_ok-clone.ensures.cases) ∙ c.in_ok-readers.ensures.opened)

@@ -6,29 +6,29 @@ use Rattle.ii_definitions.specs.Tokens.{value}
 use Rattle.ii_indexing.specs.IndexCalls.{call_with, number_in, type_of}
 use Rattle.ii_indexing.specs.FieldValues.{key_of_value}
 use Rattle.ii_indexing.specs.declared.index_call.IndexCall.{IndexCall}
-use Rattle.ii_indexing.specs.declared.indexed_fields.FieldValue.TheVariants as values
+use Rattle.ii_indexing.specs.declared.indexed_calls.FieldValue.TheVariants as values
 use Rattle.ii_indexing.proofs.CallLaws.{CallRefused, CallStored, TextRefused, TextStored, text_call, text_call_refused, value_call, value_call_refused, words_call, words_call_refused}
-use Rattle.ii_postings_writer.proofs.TermIndexLemmas.{on_ok}
+use Rattle.ii_postings_writer.proofs.TermIndexLemmas.{on_both}
 use Rattle.ii_indexing.proofs.indexed_fields.IndexedFields.index_call.Goals as goal
 
 pub returns-in-Text-clause-stored : goal.returns-in-Text-clause-stored
 returns-in-Text-clause-stored g c =
     let told = rw c.token_stream-tokens.ensures at c.index_words.ensures.stored in
-    let at = subst (λ (t : List ℕ). OnOk c.index_words.result (TextStored c.args.self.now c.index_words.new.self c.in-Text.doc c.in-Text.field [] (g.A.TextAnalyzer.words c.args.analyzer.now t))) c.as_str.ensures.value told in
+    let at = subst (λ (t : List ℕ). OnOk c.index_words.result (TextStored c.args.self.now c.index_words.new.self c.in-Text.doc c.in-Text.field [] [] (g.A.TextAnalyzer.words c.args.analyzer.now t))) c.as_str.ensures.value told in
     subst (λ (x : IndexCall). OnOk c.index_words.result (CallStored (g.A.TextAnalyzer.words c.args.analyzer.now) c.args.self.now c.index_words.new.self (call_with c.args.expand_dots x) (type_of x))) (sym c.in-Text.is)
-    (on_ok c.index_words.result _ _ (text_call (g.A.TextAnalyzer.words c.args.analyzer.now) c.args.self.now c.index_words.new.self c.in-Text.doc c.in-Text.field c.in-Text.text.bytes.items) at)
+    (on_both c.index_words.result _ _ _ (text_call (g.A.TextAnalyzer.words c.args.analyzer.now) c.args.self.now c.index_words.new.self c.in-Text.doc c.in-Text.field c.in-Text.text.bytes.items) at c.index_words.ensures.same_paths)
 
 pub returns-in-Text-clause-refused : goal.returns-in-Text-clause-refused
 returns-in-Text-clause-refused g c =
     let told = rw c.token_stream-tokens.ensures at c.index_words.ensures.refused in
-    let at = subst (λ (t : List ℕ). TextRefused c.args.self.now c.index_words.result c.in-Text.doc c.in-Text.field [] (g.A.TextAnalyzer.words c.args.analyzer.now t)) c.as_str.ensures.value told in
+    let at = subst (λ (t : List ℕ). TextRefused c.args.self.now c.index_words.result c.in-Text.doc c.in-Text.field [] [] (g.A.TextAnalyzer.words c.args.analyzer.now t)) c.as_str.ensures.value told in
     subst (λ (x : IndexCall). CallRefused (g.A.TextAnalyzer.words c.args.analyzer.now) c.args.self.now c.index_words.result (call_with c.args.expand_dots x) (type_of x)) (sym c.in-Text.is)
     (text_call_refused (g.A.TextAnalyzer.words c.args.analyzer.now) c.args.self.now c.index_words.result c.in-Text.doc c.in-Text.field c.in-Text.text.bytes.items at)
 
 pub returns-in-Tokens-clause-stored : goal.returns-in-Tokens-clause-stored
 returns-in-Tokens-clause-stored g c =
     subst (λ (x : IndexCall). OnOk c.index_words-in-Tokens.result (CallStored (g.A.TextAnalyzer.words c.args.analyzer.now) c.args.self.now c.index_words-in-Tokens.new.self (call_with c.args.expand_dots x) (type_of x))) (sym c.in-Tokens.is)
-    (on_ok c.index_words-in-Tokens.result _ _ (words_call (g.A.TextAnalyzer.words c.args.analyzer.now) c.args.self.now c.index_words-in-Tokens.new.self c.in-Tokens.doc c.in-Tokens.field c.in-Tokens.tokens.to_come) c.index_words-in-Tokens.ensures.stored)
+    (on_both c.index_words-in-Tokens.result _ _ _ (words_call (g.A.TextAnalyzer.words c.args.analyzer.now) c.args.self.now c.index_words-in-Tokens.new.self c.in-Tokens.doc c.in-Tokens.field c.in-Tokens.tokens.to_come) c.index_words-in-Tokens.ensures.stored c.index_words-in-Tokens.ensures.same_paths)
 
 pub returns-in-Tokens-clause-refused : goal.returns-in-Tokens-clause-refused
 returns-in-Tokens-clause-refused g c =
@@ -40,7 +40,7 @@ returns-in-U64-clause-stored g c =
     let number = c.number-number.ensures ∙ ap number_in c.in-U64.is in
     subst (λ (x : IndexCall). OnOk c.index_field_value.result (CallStored (g.A.TextAnalyzer.words c.args.analyzer.now) c.args.self.now c.index_field_value.new.self (call_with c.args.expand_dots x) (type_of x))) (sym c.in-U64.is)
     (subst (λ (n : ℕ). OnOk c.index_field_value.result (CallStored (g.A.TextAnalyzer.words c.args.analyzer.now) c.args.self.now c.index_field_value.new.self (record { doc = c.in-U64.doc; field = c.in-U64.field; content = value (u64_bytes n) }) types.U64)) number
-    (on_ok c.index_field_value.result _ _ (value_call (g.A.TextAnalyzer.words c.args.analyzer.now) c.args.self.now c.index_field_value.new.self c.in-U64.doc c.in-U64.field (key_of_value (values.Number c.number-number.result)) types.U64 (record { typed = refl; basic = λ o. refl })) c.index_field_value.ensures.stored))
+    (on_both c.index_field_value.result _ _ _ (value_call (g.A.TextAnalyzer.words c.args.analyzer.now) c.args.self.now c.index_field_value.new.self c.in-U64.doc c.in-U64.field (key_of_value (values.Number c.number-number.result)) types.U64 (record { typed = refl; basic = λ o. refl })) c.index_field_value.ensures.stored c.index_field_value.ensures.same_paths))
 
 pub returns-in-U64-clause-refused : goal.returns-in-U64-clause-refused
 returns-in-U64-clause-refused g c =
@@ -54,7 +54,7 @@ returns-in-I64-clause-stored g c =
     let number = c.number-number.ensures ∙ ap number_in c.in-I64.is in
     subst (λ (x : IndexCall). OnOk c.index_field_value-in-I64.result (CallStored (g.A.TextAnalyzer.words c.args.analyzer.now) c.args.self.now c.index_field_value-in-I64.new.self (call_with c.args.expand_dots x) (type_of x))) (sym c.in-I64.is)
     (subst (λ (n : ℕ). OnOk c.index_field_value-in-I64.result (CallStored (g.A.TextAnalyzer.words c.args.analyzer.now) c.args.self.now c.index_field_value-in-I64.new.self (record { doc = c.in-I64.doc; field = c.in-I64.field; content = value (u64_bytes n) }) types.I64)) number
-    (on_ok c.index_field_value-in-I64.result _ _ (value_call (g.A.TextAnalyzer.words c.args.analyzer.now) c.args.self.now c.index_field_value-in-I64.new.self c.in-I64.doc c.in-I64.field (key_of_value (values.Number c.number-number.result)) types.I64 (record { typed = refl; basic = λ o. refl })) c.index_field_value-in-I64.ensures.stored))
+    (on_both c.index_field_value-in-I64.result _ _ _ (value_call (g.A.TextAnalyzer.words c.args.analyzer.now) c.args.self.now c.index_field_value-in-I64.new.self c.in-I64.doc c.in-I64.field (key_of_value (values.Number c.number-number.result)) types.I64 (record { typed = refl; basic = λ o. refl })) c.index_field_value-in-I64.ensures.stored c.index_field_value-in-I64.ensures.same_paths))
 
 pub returns-in-I64-clause-refused : goal.returns-in-I64-clause-refused
 returns-in-I64-clause-refused g c =
@@ -68,7 +68,7 @@ returns-in-Bool-clause-stored g c =
     let number = c.number-number.ensures ∙ ap number_in c.in-Bool.is in
     subst (λ (x : IndexCall). OnOk c.index_field_value-in-Bool.result (CallStored (g.A.TextAnalyzer.words c.args.analyzer.now) c.args.self.now c.index_field_value-in-Bool.new.self (call_with c.args.expand_dots x) (type_of x))) (sym c.in-Bool.is)
     (subst (λ (n : ℕ). OnOk c.index_field_value-in-Bool.result (CallStored (g.A.TextAnalyzer.words c.args.analyzer.now) c.args.self.now c.index_field_value-in-Bool.new.self (record { doc = c.in-Bool.doc; field = c.in-Bool.field; content = value (u64_bytes n) }) types.Bool)) number
-    (on_ok c.index_field_value-in-Bool.result _ _ (value_call (g.A.TextAnalyzer.words c.args.analyzer.now) c.args.self.now c.index_field_value-in-Bool.new.self c.in-Bool.doc c.in-Bool.field (key_of_value (values.Number c.number-number.result)) types.Bool (record { typed = refl; basic = λ o. refl })) c.index_field_value-in-Bool.ensures.stored))
+    (on_both c.index_field_value-in-Bool.result _ _ _ (value_call (g.A.TextAnalyzer.words c.args.analyzer.now) c.args.self.now c.index_field_value-in-Bool.new.self c.in-Bool.doc c.in-Bool.field (key_of_value (values.Number c.number-number.result)) types.Bool (record { typed = refl; basic = λ o. refl })) c.index_field_value-in-Bool.ensures.stored c.index_field_value-in-Bool.ensures.same_paths))
 
 pub returns-in-Bool-clause-refused : goal.returns-in-Bool-clause-refused
 returns-in-Bool-clause-refused g c =
@@ -80,7 +80,7 @@ returns-in-Bool-clause-refused g c =
 pub returns-in-Bytes-clause-stored : goal.returns-in-Bytes-clause-stored
 returns-in-Bytes-clause-stored g c =
     subst (λ (x : IndexCall). OnOk c.index_field_value-in-Bytes.result (CallStored (g.A.TextAnalyzer.words c.args.analyzer.now) c.args.self.now c.index_field_value-in-Bytes.new.self (call_with c.args.expand_dots x) (type_of x))) (sym c.in-Bytes.is)
-    (on_ok c.index_field_value-in-Bytes.result _ _ (value_call (g.A.TextAnalyzer.words c.args.analyzer.now) c.args.self.now c.index_field_value-in-Bytes.new.self c.in-Bytes.doc c.in-Bytes.field (key_of_value (values.Bytes c.in-Bytes.bytes)) types.Bytes (record { typed = refl; basic = λ o. refl })) c.index_field_value-in-Bytes.ensures.stored)
+    (on_both c.index_field_value-in-Bytes.result _ _ _ (value_call (g.A.TextAnalyzer.words c.args.analyzer.now) c.args.self.now c.index_field_value-in-Bytes.new.self c.in-Bytes.doc c.in-Bytes.field (key_of_value (values.Bytes c.in-Bytes.bytes)) types.Bytes (record { typed = refl; basic = λ o. refl })) c.index_field_value-in-Bytes.ensures.stored c.index_field_value-in-Bytes.ensures.same_paths)
 
 pub returns-in-Bytes-clause-refused : goal.returns-in-Bytes-clause-refused
 returns-in-Bytes-clause-refused g c =
@@ -90,7 +90,7 @@ returns-in-Bytes-clause-refused g c =
 pub returns-in-Ip-clause-stored : goal.returns-in-Ip-clause-stored
 returns-in-Ip-clause-stored g c =
     subst (λ (x : IndexCall). OnOk c.index_field_value-in-Ip.result (CallStored (g.A.TextAnalyzer.words c.args.analyzer.now) c.args.self.now c.index_field_value-in-Ip.new.self (call_with c.args.expand_dots x) (type_of x))) (sym c.in-Ip.is)
-    (on_ok c.index_field_value-in-Ip.result _ _ (value_call (g.A.TextAnalyzer.words c.args.analyzer.now) c.args.self.now c.index_field_value-in-Ip.new.self c.in-Ip.doc c.in-Ip.field (key_of_value (values.Ip c.in-Ip.address)) types.IpAddr (record { typed = refl; basic = λ o. refl })) c.index_field_value-in-Ip.ensures.stored)
+    (on_both c.index_field_value-in-Ip.result _ _ _ (value_call (g.A.TextAnalyzer.words c.args.analyzer.now) c.args.self.now c.index_field_value-in-Ip.new.self c.in-Ip.doc c.in-Ip.field (key_of_value (values.Ip c.in-Ip.address)) types.IpAddr (record { typed = refl; basic = λ o. refl })) c.index_field_value-in-Ip.ensures.stored c.index_field_value-in-Ip.ensures.same_paths)
 
 pub returns-in-Ip-clause-refused : goal.returns-in-Ip-clause-refused
 returns-in-Ip-clause-refused g c =

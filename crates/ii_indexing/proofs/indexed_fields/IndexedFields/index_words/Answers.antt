@@ -6,6 +6,7 @@ use Rattle.ii_definitions.specs.Tokens.{kept_words, text_at, tokens_after}
 use Rattle.ii_definitions.specs.Fields.{option_of}
 use Rattle.ii_indexing.specs.Refusals.{piece_fault}
 use Rattle.ii_json.specs.LeafVisit.{IsRefusedBy}
+use Rattle.ii_indexing.specs.IndexedTerms.{TakesTexts}
 use Rattle.ii_indexing.specs.Indexer.{EndsAt, IndexedFieldsState, StoresPieces}
 use Rattle.ii_indexing.specs.declared.open_documents.OpenDocument.{OpenDocument}
 use Rattle.ii_postings_writer.specs.declared.indexing_position.IndexingPosition.{IndexingPosition}
@@ -16,17 +17,19 @@ use Rattle.ii_indexing.proofs.indexed_fields.IndexedFields.index_words.Goals as 
 pub returns-in_err-index_text-clause-refused : goal.returns-in_err-index_text-clause-refused
 returns-in_err-index_text-clause-refused g c entries ps takes stored =
     let st = subst (λ (s : IndexedFieldsState). StoresPieces entries s ps) (sym c.self.view_is) stored in
+    let taken = subst (λ (s : IndexedFieldsState). TakesTexts entries s.indexed.paths c.args.field [] []) (sym c.self.view_is) takes in
     let d = c.in_ok-open.open in
     let told = c.in_ok-open.ensures.told ps (tokens_after [] ps) st.documents in
     let p = err_from_is_err_and c.from_residual-in_err-index_text.result c.from_residual-in_err-index_text.ensures.1 in
     let at : IndexingPosition = record { num_tokens = d.num_tokens; end_position = d.end_position } in
     let refused = text_refused (option_of entries c.args.field) ps c.open.new.self c.args.doc c.args.field (g.S.TokenStream.to_come c.args.tokens.now) d at c.index_text.result told c.in_ok-open.ensures.found c.in_ok-open.ensures.at refl
-    (c.index_text.ensures.refused entries (tokens_after [] ps) takes st.tokens) in
+    (c.index_text.ensures.refused entries (tokens_after [] ps) [] taken st.tokens) in
     rw (p.1, p.2) (subst (IsRefusedBy (piece_fault (option_of entries c.args.field) ps (text_at c.args.doc c.args.field [] (g.S.TokenStream.to_come c.args.tokens.now)))) c.in_err-index_text.was refused)
 
 pub returns-clause-stored : goal.returns-clause-stored
 returns-clause-stored g c entries ps takes stored =
     let st = subst (λ (s : IndexedFieldsState). StoresPieces entries s ps) (sym c.self.view_is) stored in
+    let taken = subst (λ (s : IndexedFieldsState). TakesTexts entries s.indexed.paths c.args.field [] []) (sym c.self.view_is) takes in
     let d = c.in_ok-open.open in
     let words = g.S.TokenStream.to_come c.args.tokens.now in
     let told = c.in_ok-open.ensures.told ps (tokens_after [] ps) st.documents in
@@ -35,7 +38,7 @@ returns-clause-stored g c entries ps takes stored =
     let new : OpenDocument = record { doc = c.args.doc; num_tokens = c.index_text.new.position.num_tokens; end_position = c.index_text.new.position.end_position; norm = c.saturating_add.result } in
     rw c.put.ensures
     (words_stored entries ps c.index_text.new.self c.open.new.self d new c.self.inside.paths c.args.doc c.args.field words (paths_kept ps (text_at c.args.doc c.args.field [] words) c.self.inside.paths (text_has_none c.args.doc c.args.field words) st.paths) told c.in_ok-open.ensures.found c.in_ok-open.ensures.at refl num c.in_ok-index_text.ensures.end_position
-    (c.saturating_add.ensures ∙ ap (λ (n : ℕ). min (d.norm + n) u32_max) more) (c.in_ok-index_text.ensures.stored entries (tokens_after [] ps) takes st.tokens))
+    (c.saturating_add.ensures ∙ ap (λ (n : ℕ). min (d.norm + n) u32_max) more) (c.in_ok-index_text.ensures.stored entries (tokens_after [] ps) [] taken st.tokens))
 
 pub returns-clause-ends : goal.returns-clause-ends
 returns-clause-ends g c =
@@ -52,8 +55,9 @@ returns-clause-ends g c =
 pub returns-clause-refused : goal.returns-clause-refused
 returns-clause-refused g c entries ps takes stored =
     let st = subst (λ (s : IndexedFieldsState). StoresPieces entries s ps) (sym c.self.view_is) stored in
+    let taken = subst (λ (s : IndexedFieldsState). TakesTexts entries s.indexed.paths c.args.field [] []) (sym c.self.view_is) takes in
     let d = c.in_ok-open.open in
     let told = c.in_ok-open.ensures.told ps (tokens_after [] ps) st.documents in
     let at : IndexingPosition = record { num_tokens = d.num_tokens; end_position = d.end_position } in
     text_refused (option_of entries c.args.field) ps c.open.new.self c.args.doc c.args.field (g.S.TokenStream.to_come c.args.tokens.now) d at (Ok c.in_ok-index_text.field-0) told c.in_ok-open.ensures.found c.in_ok-open.ensures.at refl
-    (c.in_ok-index_text.ensures.refused entries (tokens_after [] ps) takes st.tokens)
+    (c.in_ok-index_text.ensures.refused entries (tokens_after [] ps) [] taken st.tokens)

@@ -5,7 +5,7 @@ use Rattle.ii_recorder.specs.Recorded.{u32_max}
 use Rattle.ii_definitions.specs.Fields.{option_of}
 use Rattle.ii_definitions.specs.Tokens.{kept_words, piece_tokens_from, text_at, tokens_after}
 use Rattle.ii_json.specs.LeafVisit.{IsRefusedBy}
-use Rattle.ii_indexing.specs.IndexedTerms.{StoresTokens}
+use Rattle.ii_indexing.specs.IndexedTerms.{StoresTokens, TakesTexts}
 use Rattle.ii_indexing.specs.Indexer.{EndsAt, IndexedFieldsState, StoresPieces}
 use Rattle.ii_indexing.specs.OpenPaths.{opened_path}
 use Rattle.ii_postings_writer.specs.PostingsWriter.{text_fault}
@@ -28,13 +28,14 @@ put-requires-2 g c =
 pub returns-in_err-index_text-clause-refused : goal.returns-in_err-index_text-clause-refused
 returns-in_err-index_text-clause-refused g c entries ps takes stored =
     let st = subst (λ (s : IndexedFieldsState). StoresPieces entries s ps) (sym c.self.view_is) stored in
+    let taken = subst (λ (s : IndexedFieldsState). TakesTexts entries s.indexed.paths c.args.field c.args.held.now c.args.prefix.now) (sym c.self.view_is) takes in
     let ends = subst (EndsAt c.args.doc) (sym c.self.view_is) c.requires.ends in
     let known = subst (λ (s : IndexedFieldsState). c.args.field < length s.indexed.writers) (sym c.self.view_is) c.requires.known in
     let h = has_path c.self.inside.paths c.args.doc c.args.field (omega (arith, known, ends.paths)) ends.paths_reach in
     let first = c.open-position.ensures.position h.old h.found ∙ sym (position_told ps c.self.inside.paths c.args.doc c.args.field h.old h.found h.reach c.args.prefix.now c.requires.some st.paths) in
     let p = text_at c.args.doc c.args.field c.args.prefix.now (g.S.TokenStream.to_come c.args.tokens.now) in
     let r = err_from_is_err_and c.from_residual-in_err-index_text.result c.from_residual-in_err-index_text.ensures.1 in
-    let refused = subst (λ (at : IndexingPosition). IsRefusedBy (text_fault (option_of entries c.args.field) p at (tokens_after [] ps)) c.index_text.result) first (c.index_text.ensures.refused entries (tokens_after [] ps) takes st.tokens) in
+    let refused = subst (λ (at : IndexingPosition). IsRefusedBy (text_fault (option_of entries c.args.field) p at (tokens_after [] ps)) c.index_text.result) first (c.index_text.ensures.refused entries (tokens_after [] ps) c.args.prefix.now taken st.tokens) in
     rw (r.1, r.2) (subst (IsRefusedBy (piece_fault (option_of entries c.args.field) ps p)) c.in_err-index_text.was refused)
 
 pub returns-clause-stored : goal.returns-clause-stored
@@ -53,13 +54,14 @@ returns-clause-stored g c =
     on_ok c.put-2.result _ _
     (λ puts entries ps takes stored.
     let st = subst (λ (s : IndexedFieldsState). StoresPieces entries s ps) (sym c.self.view_is) stored in
+    let taken = subst (λ (s : IndexedFieldsState). TakesTexts entries s.indexed.paths c.args.field c.args.held.now c.args.prefix.now) (sym c.self.view_is) takes in
     let told = c.in_ok-open.ensures.told ps (tokens_after [] ps) st.documents in
     let begins = c.open-position.ensures.position h.old h.found in
     let first = begins ∙ sym (position_told ps c.self.inside.paths c.args.doc c.args.field h.old h.found h.reach prefix c.requires.some st.paths) in
     let by_path = text_told c.self.inside.paths c.args.doc c.args.field h prefix last c.open-position.new.self c.put-2.new.self (c.open-position.ensures.opened h.old h.found) puts ps words c.open-position.result begins
     (ap (λ (n : ℕ). record { num_tokens = n; end_position = last.end_position }) num ∙ ap (λ (n : ℕ). record { num_tokens = c.open-position.result.num_tokens + length (kept_words words); end_position = n }) end) c.requires.some st.paths in
     let tokens = subst (λ (n : ℕ). StoresTokens entries c.index_text.new.self (tokens_after [] ps ++ piece_tokens_from true n (text_at c.args.doc c.args.field prefix words))) (ap (λ (at : IndexingPosition). at.end_position) first)
-    (c.in_ok-index_text.ensures.stored entries (tokens_after [] ps) takes st.tokens) in
+    (c.in_ok-index_text.ensures.stored entries (tokens_after [] ps) c.args.prefix.now taken st.tokens) in
     rw c.put.ensures
     (words_under_stored entries ps c.index_text.new.self c.open.new.self d new c.put-2.new.self c.args.doc c.args.field prefix words by_path c.requires.some told c.in_ok-open.ensures.found c.in_ok-open.ensures.at refl refl refl
     (c.saturating_add.ensures ∙ ap (λ (n : ℕ). min (d.norm + n) u32_max) more) tokens))
@@ -86,10 +88,11 @@ returns-clause-ends g c =
 pub returns-clause-refused : goal.returns-clause-refused
 returns-clause-refused g c entries ps takes stored =
     let st = subst (λ (s : IndexedFieldsState). StoresPieces entries s ps) (sym c.self.view_is) stored in
+    let taken = subst (λ (s : IndexedFieldsState). TakesTexts entries s.indexed.paths c.args.field c.args.held.now c.args.prefix.now) (sym c.self.view_is) takes in
     let ends = subst (EndsAt c.args.doc) (sym c.self.view_is) c.requires.ends in
     let known = subst (λ (s : IndexedFieldsState). c.args.field < length s.indexed.writers) (sym c.self.view_is) c.requires.known in
     let h = has_path c.self.inside.paths c.args.doc c.args.field (omega (arith, known, ends.paths)) ends.paths_reach in
     let first = c.open-position.ensures.position h.old h.found ∙ sym (position_told ps c.self.inside.paths c.args.doc c.args.field h.old h.found h.reach c.args.prefix.now c.requires.some st.paths) in
     let p = text_at c.args.doc c.args.field c.args.prefix.now (g.S.TokenStream.to_come c.args.tokens.now) in
-    let none = subst (λ (at : IndexingPosition). text_fault (option_of entries c.args.field) p at (tokens_after [] ps) ≡ None) first (c.in_ok-index_text.ensures.refused entries (tokens_after [] ps) takes st.tokens) in
+    let none = subst (λ (at : IndexingPosition). text_fault (option_of entries c.args.field) p at (tokens_after [] ps) ≡ None) first (c.in_ok-index_text.ensures.refused entries (tokens_after [] ps) c.args.prefix.now taken st.tokens) in
     refused_for_memory (piece_fault (option_of entries c.args.field) ps p) c.put-2.result none c.put-2.ensures.only

@@ -1,11 +1,12 @@
-use Rattle.std.proofs.Common.{◌≡◌, ◌++◌, ◌∷◌, ◌∙◌, [], false, sym, ap, subst}
-use Rattle.ii_definitions.specs.Tokens.{value_at}
-use Rattle.ii_indexing.specs.IndexedTerms.{IndexedTermsState, StoresTokens, kept_at}
+use Rattle.std.proofs.Common.{◌≡◌, ◌++◌, ◌∷◌, ◌∙◌, [], List, ℕ, map, slice_set, false, sym, ap, subst}
+use Rattle.ii_definitions.specs.Tokens.{value_at, value_token}
+use Rattle.ii_indexing.specs.IndexedTerms.{IndexedTermsState, StoresTokens, TakesValue, held_kept_at}
 use Rattle.ii_postings_writer.specs.IndexingContext.{AllEndBy}
 use Rattle.ii_postings_writer.specs.IndexingTerm.{IndexingTermState, term_bytes}
 use Rattle.ii_postings_writer.specs.PostingsWriter.{subscribe_fault, term_token}
 use Rattle.ii_postings_writer.specs.Records.{Records}
 use Rattle.ii_json.specs.LeafVisit.{IsRefusedBy}
+use Rattle.ii_postings_writer.specs.ResolvedTerms.{held_token, json_fields}
 use Rattle.ii_indexing.proofs.StoreLaws.{value_refused, value_stored}
 use Rattle.ii_postings_writer.proofs.TermIndexLemmas.{on_both}
 use Rattle.ii_indexing.proofs.indexed_terms.IndexedTerms.index_value.Goals as goal
@@ -15,24 +16,29 @@ subscribe-requires-clause-ends c = subst (λ (s : IndexedTermsState). AllEndBy c
 
 pub returns-clause-stored : goal.returns-clause-stored
 returns-clause-stored c =
-    let s : IndexedTermsState = record { terms = c.self.inside.ctx; writers = c.self.inside.writers } in
+    let s : IndexedTermsState = record { terms = c.self.inside.ctx.term_index; paths = c.self.inside.ctx.path_to_unordered_id; writers = c.self.inside.writers } in
     let w = c.get_for_field_mut-writer.result.now in
-    let key = c.args.key.now in
-    let term : c.set_bytes.new.self ≡ record { field = c.args.field; value = key } = c.in_ok-set_bytes.ensures.ok ∙ ap (λ (t : IndexingTermState). record t { value = key }) c.clear_with_field.ensures in
+    let held = c.args.held.now in
+    let term : c.set_bytes.new.self ≡ record { field = c.args.field; value = held } = c.in_ok-set_bytes.ensures.ok ∙ ap (λ (t : IndexingTermState). record t { value = held }) c.clear_with_field.ensures in
     on_both c.subscribe.result _ _ _
-    (λ h counted entries ts takes stored.
+    (λ h counted entries ts key takes stored.
     let old = subst (λ (q : IndexedTermsState). StoresTokens entries q ts) (sym c.self.view_is) stored in
-    let tokens = subst (λ (t : IndexingTermState). kept_at entries t.field t.value ≡ w.value_option → Records (kept_at entries) s.terms ts → Records (kept_at entries) c.subscribe.new.ctx (ts ++ term_token c.args.doc 0 false t ∷ []))
-    term (h (kept_at entries) ts false) in
-    value_stored entries ts s (value_at c.args.doc c.args.field key) w c.subscribe.new.ctx c.subscribe.new.self takes old c.get_for_field_mut-writer.ensures.value counted tokens)
+    let taken = subst (λ (q : IndexedTermsState). TakesValue entries q.paths c.args.field held key) (sym c.self.view_is) takes in
+    let us = map (held_token (json_fields entries) s.paths) ts in
+    let tokens = subst (λ (t : IndexingTermState). held_kept_at entries t.field t.value ≡ w.value_option → Records (held_kept_at entries) s.terms us → Records (held_kept_at entries) c.subscribe.new.ctx.term_index (us ++ term_token c.args.doc 0 false t ∷ []))
+    term (h (held_kept_at entries) us false) in
+    subst (λ (ps : List (List ℕ)). StoresTokens entries (record { terms = c.subscribe.new.ctx.term_index; paths = ps; writers = slice_set c.self.inside.writers c.args.field c.subscribe.new.self }) (ts ++ value_token (value_at c.args.doc c.args.field key) ∷ []))
+    (sym c.subscribe.ensures.paths)
+    (value_stored entries ts s c.args.doc c.args.field held key w c.subscribe.new.ctx.term_index c.subscribe.new.self taken old c.get_for_field_mut-writer.ensures.value counted tokens))
     c.subscribe.ensures.tokens c.subscribe.ensures.counted
 
 pub returns-clause-refused : goal.returns-clause-refused
-returns-clause-refused c entries ts takes stored =
-    let s : IndexedTermsState = record { terms = c.self.inside.ctx; writers = c.self.inside.writers } in
+returns-clause-refused c entries ts key takes stored =
+    let s : IndexedTermsState = record { terms = c.self.inside.ctx.term_index; paths = c.self.inside.ctx.path_to_unordered_id; writers = c.self.inside.writers } in
     let w = c.get_for_field_mut-writer.result.now in
-    let key = c.args.key.now in
-    let term : c.set_bytes.new.self ≡ record { field = c.args.field; value = key } = c.in_ok-set_bytes.ensures.ok ∙ ap (λ (t : IndexingTermState). record t { value = key }) c.clear_with_field.ensures in
+    let held = c.args.held.now in
+    let term : c.set_bytes.new.self ≡ record { field = c.args.field; value = held } = c.in_ok-set_bytes.ensures.ok ∙ ap (λ (t : IndexingTermState). record t { value = held }) c.clear_with_field.ensures in
     let old = subst (λ (q : IndexedTermsState). StoresTokens entries q ts) (sym c.self.view_is) stored in
+    let taken = subst (λ (q : IndexedTermsState). TakesValue entries q.paths c.args.field held key) (sym c.self.view_is) takes in
     let refused = subst (λ (t : IndexingTermState). IsRefusedBy (subscribe_fault w.value_option w.total_num_tokens c.args.doc 0 (term_bytes t) s.terms) c.subscribe.result) term c.subscribe.ensures.refused in
-    value_refused entries ts s c.args.doc c.args.field key w c.subscribe.result (rw (← c.field_id-field.ensures) c.field_id-field.type_inv) takes old c.get_for_field_mut-writer.ensures.value refused
+    value_refused entries ts s c.args.doc c.args.field held key w c.subscribe.result (rw (← c.field_id-field.ensures) c.field_id-field.type_inv) taken old c.get_for_field_mut-writer.ensures.value refused

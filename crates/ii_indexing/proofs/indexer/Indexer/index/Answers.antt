@@ -5,7 +5,7 @@ use Rattle.ii_json.specs.LeafVisit.{IsRefusedBy}
 use Rattle.ii_indexing.specs.Refusals.{call_fault, content_fault}
 use Rattle.ii_definitions.specs.Tokens.{call_pieces}
 use Rattle.ii_indexing.specs.IndexCalls.{Takes, call_of, call_with, content_of, doc_of, expands_dots_in, field_of, type_of}
-use Rattle.ii_indexing.specs.Indexer.{EndsAt, IndexerState, StoresPieces}
+use Rattle.ii_indexing.specs.Indexer.{EndsAt, IndexerState, StoresAll}
 use Rattle.ii_indexing.proofs.CallLaws.{ends_later}
 use Rattle.ii_indexing.proofs.FieldLists.{takes_inside}
 use Rattle.ii_indexing.proofs.indexer.Indexer.index.Goals as goal
@@ -27,7 +27,7 @@ index_call-requires-clause-ends g c =
 pub returns-in_err-index_call-clause-refused : goal.returns-in_err-index_call-clause-refused
 returns-in_err-index_call-clause-refused g c fine ps stored =
     let now = c.self.view_is in
-    let st = subst (λ (s : IndexerState). StoresPieces c.args.self.now.schema s.fields ps) (sym now) stored in
+    let st = subst (λ (s : IndexerState). StoresAll c.args.self.now.schema s.fields ps) (sym now) stored in
     let p = err_from_is_err_and c.from_residual.result c.from_residual.ensures.1 in
     let dots = c.expands_dots-expand_dots.ensures ∙ ap (expands_dots_in c.self.inside.schema) c.field.ensures ∙ ap (λ (s : IndexerState). expands_dots_in s.schema (field_of c.args.call)) now in
     let analyze = g.A.TextAnalyzer.words c.args.analyzer.now in
@@ -40,11 +40,11 @@ returns-clause-stored g c ps stored =
     let now = c.self.view_is in
     let analyze = g.A.TextAnalyzer.words c.args.analyzer.now in
     let running : c.args.self.now.failed ≡ false = sym (ap (λ (s : IndexerState). s.failed) now) ∙ c.if-self.false in
-    let st = subst (λ (s : IndexerState). StoresPieces s.schema s.fields ps) (sym now) stored in
+    let st = subst (λ (s : IndexerState). StoresAll s.schema s.fields ps) (sym now) stored in
     let takes = subst (λ (s : IndexerState). Takes s.schema (field_of c.args.call) (type_of c.args.call)) (sym now) (c.requires.takes running) in
     let dots = c.expands_dots-expand_dots.ensures ∙ ap (expands_dots_in c.self.inside.schema) c.field.ensures in
-    let told = subst (λ (b : Bool). StoresPieces c.self.inside.schema c.index_call.new.self (ps ++ call_pieces analyze (call_with b c.args.call))) dots (c.in_ok-index_call.ensures.stored c.self.inside.schema ps takes st) in
-    subst (λ (s : IndexerState). StoresPieces c.self.inside.schema c.index_call.new.self (ps ++ call_pieces analyze (call_of s.schema c.args.call))) now told
+    let told = subst (λ (b : Bool). StoresAll c.self.inside.schema c.index_call.new.self (ps ++ call_pieces analyze (call_with b c.args.call))) dots (c.in_ok-index_call.ensures.stored c.self.inside.schema ps takes st) in
+    subst (λ (s : IndexerState). StoresAll c.self.inside.schema c.index_call.new.self (ps ++ call_pieces analyze (call_of s.schema c.args.call))) now told
 
 pub invariant_of-self-2 : goal.invariant_of-self-2
 invariant_of-self-2 g c =

@@ -12,8 +12,8 @@ returns-clause-indexed c =
     let term = c.args.term.now in
     let low : term.field < 2 ^ 32 = omega (arith, c.field.type_inv, c.field.ensures) in
     let keep : nat_le (length c.args.token.now.text.now) max_token_len ≡ true = grind (arith, c.if-token-gt-MAX_TOKEN_LEN.false) in
-    let old = text_state c.args.ctx.now c.args.self.now c.args.at.now in
-    let new = text_state c.index_kept.new.ctx c.index_kept.new.self c.index_kept.new.at in
+    let old = text_state c.args.terms.now c.args.self.now c.args.at.now in
+    let new = text_state c.index_kept.new.terms c.index_kept.new.self c.index_kept.new.at in
     rw keep (ok_with (kept_fault (text_piece c.args.doc term []) c.args.begin w old) c.index_kept.result _ ((words : List Word) → IndexesWords (text_piece c.args.doc term words) c.args.begin (w ∷ []) old new)
     c.index_kept.ensures.indexed c.index_kept.ensures.refused (λ h cause words. one_word c.args.doc term words c.args.begin w old new low c.requires.ends cause h))
 
@@ -23,6 +23,6 @@ returns-clause-refused c =
     let term = c.args.term.now in
     let low : term.field < 2 ^ 32 = omega (arith, c.field.type_inv, c.field.ensures) in
     let keep : nat_le (length c.args.token.now.text.now) max_token_len ≡ true = grind (arith, c.if-token-gt-MAX_TOKEN_LEN.false) in
-    let old = text_state c.args.ctx.now c.args.self.now c.args.at.now in
+    let old = text_state c.args.terms.now c.args.self.now c.args.at.now in
     rw keep (err_with (kept_fault (text_piece c.args.doc term []) c.args.begin w old) c.index_kept.result _ c.index_kept.ensures.refused
     (λ e cause words. one_refused c.args.doc term words c.args.begin w old e low c.requires.ends cause))

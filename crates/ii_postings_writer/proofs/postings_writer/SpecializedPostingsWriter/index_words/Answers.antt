@@ -15,12 +15,12 @@ loop-token_stream-preserved g c =
     let w = seen_word c.token-token.result in
     let first : slice_get rest 0 ≡ Some w = sym (c.loop-token_stream-test.ensures.current refl) ∙ c.token-token.ensures in
     let parts : rest ≡ w ∷ g.S.TokenStream.to_come c.advance.new.self = first_of rest w first ∙ ap (λ ws. w ∷ ws) (sym c.loop-token_stream-test.ensures.rest) in
-    let mid = text_state c.loop-token_stream.ctx c.loop-token_stream.self c.loop-token_stream.at in
-    let now = text_state c.index_word.new.ctx c.index_word.new.self c.index_word.new.at in
+    let mid = text_state c.loop-token_stream.terms c.loop-token_stream.self c.loop-token_stream.at in
+    let now = text_state c.index_word.new.terms c.index_word.new.self c.index_word.new.at in
     let one : IndexesWords (text_piece c.args.doc c.args.term.now all) c.args.begin (kept_words (w ∷ [])) mid now =
     subst (λ (t : IndexingTermState). IndexesWords (text_piece c.args.doc t all) c.args.begin (kept_words (w ∷ [])) mid now) c.loop-token_stream.invariant.same (c.in_ok-index_word.ensures.indexed all) in
     record {
-      indexing = next_word (text_piece c.args.doc c.args.term.now all) c.args.begin all rest (g.S.TokenStream.to_come c.advance.new.self) w (text_state c.args.ctx.now c.args.self.now c.args.at.now) mid now c.loop-token_stream.invariant.indexing parts one;
+      indexing = next_word (text_piece c.args.doc c.args.term.now all) c.args.begin all rest (g.S.TokenStream.to_come c.advance.new.self) w (text_state c.args.terms.now c.args.self.now c.args.at.now) mid now c.loop-token_stream.invariant.indexing parts one;
       same = c.in_ok-index_word.ensures.same_term ∙ c.loop-token_stream.invariant.same;
     }
 
@@ -31,9 +31,9 @@ returns-in_err-index_word-clause-refused g c =
     let w = seen_word c.token-token.result in
     let first : slice_get rest 0 ≡ Some w = sym (c.loop-token_stream-test.ensures.current refl) ∙ c.token-token.ensures in
     let parts : rest ≡ w ∷ drop 1 rest = first_of rest w first in
-    let mid = text_state c.loop-token_stream.ctx c.loop-token_stream.self c.loop-token_stream.at in
+    let mid = text_state c.loop-token_stream.terms c.loop-token_stream.self c.loop-token_stream.at in
     let p = err_from_is_err_and c.from_residual.result c.from_residual.ensures.1 in
     let fault = c.in_err-index_word.field-0.0 in
     let refused : RefusesWords (text_piece c.args.doc c.args.term.now all) c.args.begin (kept_words (w ∷ [])) mid fault =
     subst (λ (t : IndexingTermState). RefusesWords (text_piece c.args.doc t all) c.args.begin (kept_words (w ∷ [])) mid fault) c.loop-token_stream.invariant.same (c.in_err-index_word.ensures.refused all) in
-    rw (p.1, p.2) (word_refused (text_piece c.args.doc c.args.term.now all) c.args.begin all rest (drop 1 rest) w (text_state c.args.ctx.now c.args.self.now c.args.at.now) mid fault c.loop-token_stream.invariant.indexing parts refused)
+    rw (p.1, p.2) (word_refused (text_piece c.args.doc c.args.term.now all) c.args.begin all rest (drop 1 rest) w (text_state c.args.terms.now c.args.self.now c.args.at.now) mid fault c.loop-token_stream.invariant.indexing parts refused)

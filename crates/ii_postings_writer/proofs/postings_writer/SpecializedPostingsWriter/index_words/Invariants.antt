@@ -6,7 +6,7 @@ use Rattle.ii_postings_writer.proofs.postings_writer.SpecializedPostingsWriter.i
 abbrev pub invariant-loop-token_stream : goal.invariant-loop-token_stream
 invariant-loop-token_stream g l = record {
   indexing : IsIndexing (text_piece l.doc l.fn.term (g.S.TokenStream.to_come l.fn.token_stream)) l.begin (g.S.TokenStream.to_come l.fn.token_stream) (g.S.TokenStream.to_come l.token_stream)
-      (text_state l.fn.ctx l.fn.self l.fn.at) (text_state l.ctx l.self l.at);
+      (text_state l.fn.terms l.fn.self l.fn.at) (text_state l.terms l.self l.at);
   same : l.term ≡ l.fn.term;
 }
 

@@ -5,5 +5,5 @@ use Rattle.ii_postings_writer.proofs.postings_writer.SpecializedPostingsWriter.r
 
 pub returns-clause-ends : goal.returns-clause-ends
 returns-clause-ends c =
-    let recorded : IsRecorded c.args.option c.args.doc c.args.pos (term_bytes c.args.term.now) c.args.ctx.now c.record.new.self = rw (← c.serialized_term.ensures.bytes) c.in_ok-record.ensures.ok in
-    all_end c.args.option c.args.doc c.args.pos (term_bytes c.args.term.now) c.args.ctx.now c.record.new.self recorded c.requires.ends c.requires.low
+    let recorded : IsRecorded c.args.option c.args.doc c.args.pos (term_bytes c.args.term.now) c.args.terms.now c.record.new.self = rw (← c.serialized_term.ensures.bytes) c.in_ok-record.ensures.ok in
+    all_end c.args.option c.args.doc c.args.pos (term_bytes c.args.term.now) c.args.terms.now c.record.new.self recorded c.requires.ends c.requires.low

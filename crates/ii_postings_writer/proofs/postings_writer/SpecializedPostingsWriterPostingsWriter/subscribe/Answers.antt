@@ -5,4 +5,4 @@ use Rattle.ii_postings_writer.proofs.postings_writer.SpecializedPostingsWriterPo
 
 pub returns-clause-tokens : goal.returns-clause-tokens
 returns-clause-tokens c =
-    on_ok c.record-2.result _ _ (records_subscribed c.args.self.now.value_option c.args.doc c.args.pos c.args.term.now c.args.ctx.now c.record-2.new.ctx (omega (arith, c.field.type_inv, c.field.ensures))) (rw (← c.record.view_is) c.record-2.ensures.recorded)
+    on_ok c.record-2.result _ _ (records_subscribed c.args.self.now.value_option c.args.doc c.args.pos c.args.term.now c.args.ctx.now.term_index c.record-2.new.terms (omega (arith, c.field.type_inv, c.field.ensures))) (rw (← c.record.view_is) c.record-2.ensures.recorded)

@@ -1,6 +1,7 @@
 use Rattle.std.proofs.Common.{None, refl, ap, ◌∙◌, arith}
 use Rattle.ii_base.specs.Options.{downgrade, has_positions}
 use Rattle.ii_check.specs.Positions.{deltas_read}
+use Rattle.ii_reader.proofs.BoundLemmas.{trusted_read}
 use Rattle.ii_reader.proofs.CursorLemmas.{length_opened}
 use Rattle.ii_reader.proofs.PositionLemmas.{fits_found, list_opened, none_given}
 use Rattle.ii_reader.proofs.segment_postings.SegmentPostings.reset.Goals as goal
@@ -36,3 +37,13 @@ pub returns-in-Ok-clause-many : goal.returns-in-Ok-clause-many
 returns-in-Ok-clause-many c =
     let b = c.fill.new.self in
     length_opened c.args.doc_freq b.block b.docs b.freqs (deltas_read c.in-Ok.position_reader) c.in_default.ensures.entries c.in_default.ensures.first
+
+pub returns-then-is_none-clause-reading : goal.returns-then-is_none-clause-reading
+returns-then-is_none-clause-reading c =
+    let told = rw c.clear_by.ensures at c.in_default.ensures.reading in
+    (told.0, trusted_read c.args.record_option c.args.requested_option c.args.doc_freq c.args.postings c.fill.new.self.freq_reading c.fill.new.self.bounds told.0 told.1)
+
+pub returns-in-Ok-clause-reading : goal.returns-in-Ok-clause-reading
+returns-in-Ok-clause-reading c =
+    let told = rw c.clear_by.ensures at c.in_default.ensures.reading in
+    (told.0, trusted_read c.args.record_option c.args.requested_option c.args.doc_freq c.args.postings c.fill.new.self.freq_reading c.fill.new.self.bounds told.0 told.1)

@@ -1,0 +1,54 @@
+ghost use Rattle.std.specs.Prelude.{◌≡◌, ◌∷◌, [], IfOk};
+
+use bytes::Bytes;
+use ii_base::{Fault, IndexRecordOption};
+use ii_docset::{DocSet, Postings};
+use ii_reader::SegmentPostings;
+use std::alloc::Global;
+
+const FULL: IndexRecordOption = IndexRecordOption::WithFreqsAndPositions;
+
+// Document 0, in which a term stands at 0 and 4.
+static POSTINGS: [u8; 2] = [0x80, 0x82];
+
+static POSITIONS: [u8; 3] = [0x80, 0x80, 0x84];
+
+// A cursor over it.
+fn two_positions() -> Result<SegmentPostings, Fault>
+    ensures { IfOk result (λ cursor. cursor.rest ≡ record { doc = 0; term_freq = 2; positions = 0 ∷ 4 ∷ [] } ∷ []) }
+{
+    let postings = Bytes::from_static(&POSTINGS);
+    let positions = Some(Bytes::from_static(&POSITIONS));
+    match SegmentPostings::open(1, postings, positions, FULL, FULL) {
+        Ok(cursor) => Ok(cursor),
+        Err(fault) => Err(Fault::from(fault)),
+    }
+}
+
+/// Positions are added to a number, and put in place of one. Where memory is refused, what was added to has
+/// to be what it was, what was filled has to be empty, and the cursor has to stand where it stood.
+pub fn read_back(alloc: Global) -> Result<String, Fault> {
+    let mut cursor = two_positions()?;
+    let mut added = Vec::with_capacity(alloc, 1)?;
+    added.push(7)?;
+    let step = cursor.append_positions_with_offset(10, &mut added);
+    if step.is_err() && (added.as_slice() != [7].as_slice() || cursor.doc() != 0) {
+        return Ok(String::from_str(alloc, " changed")?);
+    }
+    step?;
+    let mut filled = Vec::with_capacity(alloc, 1)?;
+    filled.push(7)?;
+    let step = cursor.positions(&mut filled);
+    if step.is_err() && (!filled.is_empty() || cursor.doc() != 0) {
+        return Ok(String::from_str(alloc, " changed")?);
+    }
+    step?;
+    told(alloc, &added, &filled)
+}
+
+// The numbers of both.
+fn told(alloc: Global, added: &[u32], filled: &[u32]) -> Result<String, Fault> {
+    let mut text = String::new(alloc);
+    write!(text, " {added:?} {filled:?}")?;
+    Ok(text)
+}

@@ -1,0 +1,58 @@
+use crate::index::{opened, word};
+use crate::walked::three;
+use ii_base::{Fault, Field, IndexRecordOption, Term};
+use ii_docset::{DocSet, TERMINATED};
+use ii_reader::InvertedIndexReader;
+use ii_termstore::TermInfo;
+use std::alloc::Global;
+
+const FULL: IndexRecordOption = IndexRecordOption::WithFreqsAndPositions;
+
+/// Cursors are given another list by a reader. Where memory is refused, they have to be over no documents.
+pub fn read_back(alloc: Global) -> Result<String, Fault> {
+    let index = opened(alloc)?;
+    let reader = index.reader(Field::from_field_id(0));
+    let term = word(alloc, "be")?;
+    let Some(info) = reader.get_term_info(&term) else {
+        return Ok(String::from_str(alloc, " not there")?);
+    };
+    let mut text = String::new(alloc);
+    push(&mut text, "documents", of_documents(reader, &info)?)?;
+    push(&mut text, "blocks", of_blocks(reader, &term, &info)?)?;
+    Ok(text)
+}
+
+// Adds how many documents a cursor has, or that it has some although memory was refused.
+fn push(text: &mut String, name: &str, count: Option<u32>) -> Result<(), Fault> {
+    match count {
+        Some(count) => write!(text, " {name} {count}")?,
+        None => write!(text, " {name} left")?,
+    }
+    Ok(())
+}
+
+fn of_documents(reader: &InvertedIndexReader, info: &TermInfo) -> Result<Option<u32>, Fault> {
+    let mut cursor = three()?;
+    let step = reader.reset_postings_from_terminfo(info, FULL, &mut cursor);
+    if step.is_err() && (cursor.doc() != TERMINATED || cursor.doc_freq() != 0) {
+        return Ok(None);
+    }
+    step?;
+    Ok(Some(cursor.doc_freq()))
+}
+
+fn of_blocks(
+    reader: &InvertedIndexReader,
+    term: &Term,
+    info: &TermInfo,
+) -> Result<Option<u32>, Fault> {
+    let Some(mut cursor) = reader.read_block_postings(term, FULL)? else {
+        return Ok(None);
+    };
+    let step = reader.reset_block_postings_from_terminfo(info, &mut cursor);
+    if step.is_err() && cursor.doc_freq() != 0 {
+        return Ok(None);
+    }
+    step?;
+    Ok(Some(cursor.doc_freq()))
+}

@@ -1,0 +1,101 @@
+-- Terms that were sorted by the ranks of their paths stand in the order of their keys.
+use Rattle.std.proofs.Common.{◌≡◌, ℕ, ◌<◌, ◌^◌, Bool, true, false, List, [], ◌∷◌, ◌++◌, map, drop, Some, None, Option, Vec, refl, sym, ap, ◌∙◌, subst}
+use Rattle.std.specs.Prelude.{MatchOption, bytes_eq, ⊤}
+use Rattle.std.specs.Cmp.{IsStrictWeakOrder}
+use Rattle.std.specs.Cmp.Lexicographic.{slice_cmp}
+use Rattle.std.specs.List.{AllByRecursion, IsDistinct}
+use Rattle.std.specs.List.Sorted.{IsSorted, IsStrictlySortedBy}
+use Rattle.std.specs.Map.{keys_of, lookup}
+use Rattle.std.specs.Ordering.{is_lt, nat_cmp}
+use Rattle.std.proofs.lemmas.Cmp.{nat_cmp_total, nat_list_cmp_total, on_total, then_total}
+use Rattle.std.proofs.lemmas.List.MinMax.{ranks_by}
+use Rattle.std.proofs.lemmas.Slice.Eq.{bytes_eq-Decides}
+use Rattle.ii_json.specs.PathRank.{path_ranks}
+use Rattle.ii_json.specs.Paths.{AreDistinct}
+use Rattle.ii_json.proofs.KeyOrder.{sorted_alike}
+use Rattle.ii_recorder.specs.Recorded.{RecorderState}
+use Rattle.ii_recorder.specs.declared.recorder.any_recorder.AnyRecorder.{AnyRecorder}
+use Rattle.ii_postings_writer.specs.IndexingContext.{TermIndex, recorder_of}
+use Rattle.ii_postings_writer.specs.IndexingTerm.{AreTermBytes, field_bytes}
+use Rattle.ii_postings_writer.specs.ResolvedTerms.{AreClean, AreSorted, HoldIds, HoldsId, IsHeldTerm, behind_id, front_of, held_cmp, is_json_field, path_id_in, rank_of, resolved, resolved_terms}
+use Rattle.ii_postings_writer.specs.SortedTerms.{seen}
+use Rattle.ii_postings_writer.proofs.ResolvedLaws.{held_as_keys, resolved_alike}
+use Rattle.ii_postings_writer.proofs.SortedLemmas.{found_first, found_later, sorted_distinct}
+
+pub none_apart : (k : List ℕ) (ts : TermIndex) → AllByRecursion (λ (y : List ℕ). bytes_eq k y ≡ false) (keys_of ts) → lookup (bytes_eq k) ts ≡ None
+none_apart k [] apart = refl
+none_apart k (t ∷ ts) apart = rw apart.0 (none_apart k ts apart.1)
+
+-- what holds of each term that is looked up holds of all, where no two are alike
+pub held_each : (flags : List Bool) (paths : List (List ℕ)) (terms : TermIndex) → IsDistinct bytes_eq (keys_of terms) → AllByRecursion AreTermBytes (keys_of terms) → HoldIds flags paths terms
+    → AllByRecursion (λ (t : List ℕ × RecorderState). IsHeldTerm flags paths t.0) terms
+unfolding IsDistinct
+held_each flags paths [] distinct are ids = tt
+held_each flags paths (t ∷ ts) distinct are ids =
+    (record { field = are.0.field; value = drop 4 t.0; small = are.0.small; is = are.0.are; ids = here }, held_each flags paths ts distinct.1 are.1 (λ field key small. later field key small (bytes_eq (field_bytes field ++ key) t.0) refl))
+  where
+    here : is_json_field flags are.0.field ≡ true → HoldsId paths (drop 4 t.0)
+    here =
+        let there = ids are.0.field (drop 4 t.0) are.0.small in
+        let found : recorder_of (t ∷ ts) (field_bytes are.0.field ++ drop 4 t.0) ≡ Some t.1 = ap (recorder_of (t ∷ ts)) (sym are.0.are) ∙ found_first t ts in
+        subst (λ (o : Option RecorderState). MatchOption o ⊤ (λ r. is_json_field flags are.0.field ≡ true → HoldsId paths (drop 4 t.0))) found there
+
+    later : (field : ℕ) (key : List ℕ) → field < 2 ^ 32 → (b : Bool) → bytes_eq (field_bytes field ++ key) t.0 ≡ b → MatchOption (recorder_of ts (field_bytes field ++ key)) ⊤ (λ r. is_json_field flags field ≡ true → HoldsId paths key)
+    later field key small true same =
+        let is : field_bytes field ++ key ≡ t.0 = (bytes_eq-Decides (field_bytes field ++ key) t.0).0 same in
+        let none : recorder_of ts (field_bytes field ++ key) ≡ None = ap (recorder_of ts) is ∙ none_apart t.0 ts distinct.0 in
+        subst (λ (o : Option RecorderState). MatchOption o ⊤ (λ r. is_json_field flags field ≡ true → HoldsId paths key)) (sym none) tt
+    later field key small false other =
+        subst (λ (o : Option RecorderState). MatchOption o ⊤ (λ r. is_json_field flags field ≡ true → HoldsId paths key)) (found_later (field_bytes field ++ key) t ts other) (ids field key small)
+
+abbrev Entry : Type 0 → Type 0
+Entry A = Vec ℕ A × AnyRecorder
+
+module _ {A : Type 0} where
+  -- the order of entries that is asked of a sort
+  pub held_order : (flags : List Bool) (ranks : List ℕ) → IsStrictWeakOrder (λ (e f : Entry A). is_lt (held_cmp flags ranks e.0.items f.0.items))
+  held_order flags ranks =
+      ranks_by
+      (then_total (then_total (on_total front_of nat_list_cmp_total) (on_total (λ (t : List ℕ). rank_of ranks (path_id_in flags t)) nat_cmp_total)) (on_total (behind_id flags) nat_list_cmp_total))
+      (λ (e : Entry A). e.0.items)
+
+  seen_apart : (e : Entry A) (es : List (Entry A)) → AllByRecursion (λ (k : Vec ℕ A). bytes_eq e.0.items k.items ≡ false) (keys_of es) → AllByRecursion (λ (k : List ℕ). bytes_eq e.0.items k ≡ false) (keys_of (map seen es))
+  seen_apart e [] apart = tt
+  seen_apart e (f ∷ fs) apart = (apart.0, seen_apart e fs apart.1)
+
+  pub seen_distinct : (es : List (Entry A)) → IsDistinct (λ (x y : Vec ℕ A). bytes_eq x.items y.items) (keys_of es) → IsDistinct bytes_eq (keys_of (map seen es))
+  unfolding IsDistinct
+  seen_distinct [] distinct = tt
+  seen_distinct (e ∷ es) distinct = (seen_apart e es distinct.0, seen_distinct es distinct.1)
+
+  module _ (flags : List Bool) (paths : List (List ℕ)) (unlike : AreDistinct paths) (clean : AreClean paths) where
+    resolved_apart : (e : Entry A) (es : List (Entry A)) → IsHeldTerm flags paths e.0.items → AllByRecursion (λ (t : List ℕ × RecorderState). IsHeldTerm flags paths t.0) (map seen es)
+        → AllByRecursion (λ (k : Vec ℕ A). bytes_eq e.0.items k.items ≡ false) (keys_of es) → AllByRecursion (λ (f : Entry A). bytes_eq (resolved flags paths e.0.items) (resolved flags paths f.0.items) ≡ false) es
+    resolved_apart e [] he hs apart = tt
+    resolved_apart e (f ∷ fs) he hs apart = (resolved_alike flags paths unlike clean e.0.items f.0.items he hs.0 ∙ apart.0, resolved_apart e fs he hs.1 apart.1)
+
+    resolved_distinct : (es : List (Entry A)) → AllByRecursion (λ (t : List ℕ × RecorderState). IsHeldTerm flags paths t.0) (map seen es) → IsDistinct (λ (x y : Vec ℕ A). bytes_eq x.items y.items) (keys_of es)
+        → IsDistinct (λ (e f : Entry A). bytes_eq (resolved flags paths e.0.items) (resolved flags paths f.0.items)) es
+    unfolding IsDistinct
+    resolved_distinct [] hs distinct = tt
+    resolved_distinct (e ∷ es) hs distinct = (resolved_apart e es hs.0 hs.1 distinct.0, resolved_distinct es hs.1 distinct.1)
+
+    each_held : (es : List (Entry A)) → AllByRecursion (λ (t : List ℕ × RecorderState). IsHeldTerm flags paths t.0) (map seen es) → AllByRecursion (λ (e : Entry A). IsHeldTerm flags paths e.0.items) es
+    each_held [] hs = tt
+    each_held (e ∷ es) hs = (hs.0, each_held es hs.1)
+
+    resolved_keys : (es : List (Entry A)) → map (λ (t : List ℕ × RecorderState). t.0) (resolved_terms flags paths (map seen es)) ≡ map (λ (e : Entry A). resolved flags paths e.0.items) es
+    resolved_keys [] = refl
+    resolved_keys (e ∷ es) = ap (λ (ks : List (List ℕ)). resolved flags paths e.0.items ∷ ks) (resolved_keys es)
+
+    -- entries that were sorted so are sorted by their keys
+    pub are_sorted : (es : List (Entry A)) → AllByRecursion (λ (t : List ℕ × RecorderState). IsHeldTerm flags paths t.0) (map seen es) → IsDistinct (λ (x y : Vec ℕ A). bytes_eq x.items y.items) (keys_of es)
+        → IsSorted (λ (e f : Entry A). held_cmp flags (path_ranks paths) e.0.items f.0.items) es → AreSorted flags paths (map seen es)
+    are_sorted es hs distinct sorted =
+        let by_keys = sorted_alike (λ (e : Entry A). IsHeldTerm flags paths e.0.items) (λ (e f : Entry A). held_cmp flags (path_ranks paths) e.0.items f.0.items) (λ (e f : Entry A). slice_cmp nat_cmp (resolved flags paths e.0.items) (resolved flags paths f.0.items))
+        (λ e f he hf. held_as_keys flags paths clean e.0.items f.0.items he hf) es (each_held es hs) sorted in
+        record {
+          held = hs;
+          distinct = seen_distinct es distinct;
+          ascending = subst (IsStrictlySortedBy (slice_cmp nat_cmp)) (sym (resolved_keys es)) (sorted_distinct (λ (e : Entry A). resolved flags paths e.0.items) es by_keys (resolved_distinct es hs distinct));
+        }

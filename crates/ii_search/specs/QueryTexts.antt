@@ -1,0 +1,245 @@
+-- What the text of a query means, by the fields of a schema.
+use Rattle.std.specs.Prelude.{◌≡◌, ◌⊎◌, ℕ, Bool, true, false, ◌&&◌, ◌||◌, ◌==◌, ◌+◌, not, List, [], ◌∷◌, ◌++◌, Option, None, Some, Result, Ok, Err, bytes_eq, drop, if◌then◌else◌, length, nat_lt, option_map, position, slice_get, take}
+use Rattle.std.specs.Borrow.{Bor}
+use Rattle.std.specs.List.{AllByRecursion, list_all, list_any, position_from}
+use Rattle.std.specs.Option.{option_or, option_to_list}
+use Rattle.ii_io.specs.declared.faults.Fault.TheVariants.{OutOfMemory}
+use Rattle.ii_base.specs.Paths.{has_zero, path_bytes, segments_of}
+use Rattle.ii_base.specs.Schema.{SchemaEntry}
+use Rattle.ii_base.specs.Terms.{TermState}
+use Rattle.ii_base.specs.Values.{flipped, number_of_bool, text_key, u64_bytes}
+use Rattle.ii_base.specs.Words.{Word}
+use Rattle.ii_base.specs.declared.schema.value_type.ValueType.{ValueType}
+use Rattle.ii_base.specs.declared.schema.value_type.ValueType.TheVariants as types
+use Rattle.ii_json.specs.FastValues.{bool_in, fast_value_in, i64_in, u64_in}
+use Rattle.ii_definitions.specs.Tokens.{IndexToken}
+use Rattle.ii_query_grammar.specs.Parsed.{SyntaxError, parsed}
+use Rattle.ii_query_grammar.specs.Trees.{Ast, Literal, both, either, leaf, without}
+use Rattle.ii_query_grammar.specs.declared.query_grammar.TheConstants.{MAX_LEXEMES}
+use Rattle.ii_search.specs.Queries.{has_fields, is_token_of, matches}
+use Rattle.ii_search.specs.declared.query.Query.{Query}
+use Rattle.ii_search.specs.declared.query_parser_error.QueryParserError.{QueryParserError}
+use Rattle.ii_search.specs.declared.query_parser_error.QueryParserError.TheVariants as errors
+
+-- What words are looked up by: an analyzer, and the fields of a schema.
+pub record TextFields : Type 0 where
+  pub analyze : List ℕ → List Word
+  pub entries : List SchemaEntry
+
+-- Those, and the fields that are meant where none is named.
+pub record QueryFields : Type 0 where
+  pub texts : TextFields
+  pub defaults : List ℕ
+
+-- the terms of a word or a phrase, of which a document has to have one, or why it has none
+abbrev pub Terms : Type 0
+Terms = Result (List TermState) QueryParserError
+
+-- the token of a text of one
+abbrev pub only_word : List Word → Option (List ℕ)
+only_word [] = None
+only_word (w ∷ []) = Some w.text
+only_word (w ∷ x ∷ ws) = None
+
+-- the term of a value in a field, if there is one
+abbrev pub value_term : ℕ → QueryParserError → Option (List ℕ) → Terms
+value_term field error None = Err error
+value_term field error (Some key) = Ok (record { field = field; value = key } ∷ [])
+
+-- terms, of which there has to be one
+abbrev pub some_term : List TermState → Terms
+some_term [] = Err errors.UnsupportedPhrase
+some_term (t ∷ ts) = Ok (t ∷ ts)
+
+-- the bytes of a path and their end
+abbrev pub path_key : Bool → List ℕ → List ℕ
+path_key expand_dots path = path_bytes expand_dots (segments_of path) ++ 0 ∷ []
+
+-- the value that a text is taken for at a path, if it is taken for one, and its token, if it is one
+abbrev pub json_terms : TextFields → ℕ → Bool → List ℕ → List ℕ → List TermState
+json_terms q field expand_dots path phrase =
+    option_to_list (option_map (λ value. record { field = field; value = path_key expand_dots path ++ value }) (fast_value_in phrase))
+    ++ option_to_list (option_map (λ word. record { field = field; value = path_key expand_dots path ++ text_key word }) (only_word (q.analyze phrase)))
+
+-- the terms of a text in a field, by the type of its values
+abbrev pub typed_terms : TextFields → ℕ → Bool → List ℕ → List ℕ → ValueType → Terms
+typed_terms q field expand_dots path phrase types.Str = value_term field errors.UnsupportedPhrase (only_word (q.analyze phrase))
+typed_terms q field expand_dots path phrase types.U64 = value_term field errors.ExpectedInt (option_map u64_bytes (u64_in phrase))
+typed_terms q field expand_dots path phrase types.I64 = value_term field errors.ExpectedInt (option_map (λ n. u64_bytes (flipped n)) (i64_in phrase))
+typed_terms q field expand_dots path phrase types.Bool = value_term field errors.ExpectedBool (option_map (λ b. u64_bytes (number_of_bool b)) (bool_in phrase))
+typed_terms q field expand_dots path phrase types.Date = Err errors.UnsupportedType
+typed_terms q field expand_dots path phrase types.Bytes = Err errors.UnsupportedType
+typed_terms q field expand_dots path phrase types.IpAddr = Err errors.UnsupportedType
+typed_terms q field expand_dots path phrase types.Json = if has_zero path then Err errors.UnsupportedPath else some_term (json_terms q field expand_dots path phrase)
+
+-- those of an entry of the schema, if it is indexed
+abbrev pub entry_terms : TextFields → ℕ → List ℕ → List ℕ → Option SchemaEntry → Terms
+entry_terms q field path phrase None = Err errors.FieldDoesNotExist
+entry_terms q field path phrase (Some e) = if e.is_indexed then typed_terms q field e.expands_dots path phrase e.value_type else Err errors.FieldNotIndexed
+
+abbrev pub field_terms : TextFields → ℕ → List ℕ → List ℕ → Terms
+field_terms q field path phrase = entry_terms q field path phrase (slice_get q.entries field)
+
+-- the field of a name, the first that has it
+abbrev pub field_named : List SchemaEntry → List ℕ → Option ℕ
+field_named entries name = position_from (λ (e : SchemaEntry). bytes_eq e.name name) 0 entries
+
+abbrev pub is_json_type : ValueType → Bool
+is_json_type types.Json = true
+is_json_type types.Str = false
+is_json_type types.U64 = false
+is_json_type types.I64 = false
+is_json_type types.Bool = false
+is_json_type types.Date = false
+is_json_type types.Bytes = false
+is_json_type types.IpAddr = false
+
+-- whether a field has JSON values
+abbrev pub is_json : Option SchemaEntry → Bool
+is_json None = false
+is_json (Some e) = is_json_type e.value_type
+
+-- the terms at a path in a field of JSON values
+abbrev pub path_terms : TextFields → List ℕ → List ℕ → Option ℕ → Terms
+path_terms q path phrase None = Err errors.FieldDoesNotExist
+path_terms q path phrase (Some field) = if is_json (slice_get q.entries field) then field_terms q field path phrase else Err errors.FieldDoesNotExist
+
+-- those of a name that is cut at its first dot, if it has one
+abbrev pub dotted_terms : TextFields → List ℕ → List ℕ → Option ℕ → Terms
+dotted_terms q name phrase None = Err errors.FieldDoesNotExist
+dotted_terms q name phrase (Some i) = path_terms q (drop (i + 1) name) phrase (field_named q.entries (take i name))
+
+-- those of a name: that of a field, or of one of JSON values and a path behind a dot
+abbrev pub named_terms : TextFields → List ℕ → List ℕ → Option ℕ → Terms
+named_terms q name phrase (Some field) = field_terms q field [] phrase
+named_terms q name phrase None = dotted_terms q name phrase (position (λ b. b == 46) name)
+
+-- two lists of terms together, or the first refusal
+abbrev pub joined_terms : Terms → Terms → Terms
+joined_terms (Err e) other = Err e
+joined_terms (Ok ts) (Err e) = Err e
+joined_terms (Ok ts) (Ok us) = Ok (ts ++ us)
+
+-- the terms of a text in each of some fields
+abbrev pub default_terms : TextFields → List ℕ → List ℕ → Terms
+default_terms q phrase [] = Ok []
+default_terms q phrase (field ∷ fields) = joined_terms (field_terms q field [] phrase) (default_terms q phrase fields)
+
+-- those of the fields that are meant, where there is one
+abbrev pub some_default : TextFields → List ℕ → List ℕ → Terms
+some_default q phrase [] = Err errors.NoDefaultFieldDeclared
+some_default q phrase (field ∷ fields) = default_terms q phrase (field ∷ fields)
+
+-- the terms of a word or a phrase
+abbrev pub literal_terms : TextFields → List ℕ → Option (List ℕ) → List ℕ → Terms
+literal_terms q defaults None phrase = some_default q phrase defaults
+literal_terms q defaults (Some name) phrase = named_terms q name phrase (field_named q.entries name)
+
+abbrev pub terms_of : QueryFields → Literal → Terms
+terms_of q l = literal_terms q.texts q.defaults l.field_name l.phrase
+
+-- whether a document has one of these terms
+abbrev pub has_term : List IndexToken → ℕ → List TermState → Bool
+has_term ts doc terms = list_any (λ term. list_any (is_token_of term doc) ts) terms
+
+-- whether a document has what a word or a phrase means
+abbrev pub has_one : List IndexToken → ℕ → Terms → Bool
+has_one ts doc (Err e) = false
+has_one ts doc (Ok terms) = has_term ts doc terms
+
+-- whether a document matches the tree of a text
+abbrev pub ast_matches : QueryFields → Ast → List IndexToken → ℕ → Bool
+ast_matches q (leaf l) ts doc = has_one ts doc (terms_of q l)
+ast_matches q (both first other) ts doc = ast_matches q first ts doc && ast_matches q other ts doc
+ast_matches q (either first other) ts doc = ast_matches q first ts doc || ast_matches q other ts doc
+ast_matches q (without first other) ts doc = ast_matches q first ts doc && not (ast_matches q other ts doc)
+
+-- why a word or a phrase is refused
+abbrev pub refused : Terms → Option QueryParserError
+refused (Err e) = Some e
+refused (Ok terms) = None
+
+-- why a tree is refused: the first refusal of its words and phrases
+abbrev pub ast_refusal : QueryFields → Ast → Option QueryParserError
+ast_refusal q (leaf l) = refused (terms_of q l)
+ast_refusal q (both first other) = option_or (ast_refusal q first) (ast_refusal q other)
+ast_refusal q (either first other) = option_or (ast_refusal q first) (ast_refusal q other)
+ast_refusal q (without first other) = option_or (ast_refusal q first) (ast_refusal q other)
+
+-- A query means what a tree does, which is refused for nothing.
+pub record Means (q : QueryFields) (ast : Ast) (query : Query) : Type 0 where
+  pub taken : ast_refusal q ast ≡ None
+  pub exact : (ts : List IndexToken) (doc : ℕ) → matches query ts doc ≡ ast_matches q ast ts doc
+  pub fields : has_fields (length q.texts.entries) query ≡ true
+
+-- Memory was missing, or this is why.
+abbrev pub IsRefusedBy : Option QueryParserError → QueryParserError → Type 0
+IsRefusedBy refusal e = (e ≡ errors.Fault OutOfMemory) ⊎ (refusal ≡ Some e)
+
+-- A query means what a tree does, or it is refused.
+abbrev pub IsQueryOf : QueryFields → Ast → Result Query QueryParserError → Type 0
+IsQueryOf q ast (Ok query) = Means q ast query
+IsQueryOf q ast (Err e) = IsRefusedBy (ast_refusal q ast) e
+
+-- why the tree of a text is refused, or why it has none
+abbrev pub read_refusal : QueryFields → Result Ast SyntaxError → Option QueryParserError
+read_refusal q (Ok ast) = ast_refusal q ast
+read_refusal q (Err e) = Some (errors.SyntaxError e.wanted e.at)
+
+abbrev pub text_refusal : QueryFields → List ℕ → Option QueryParserError
+text_refusal q text = read_refusal q (parsed MAX_LEXEMES text)
+
+-- whether a document matches a text
+abbrev pub read_matches : QueryFields → Result Ast SyntaxError → List IndexToken → ℕ → Bool
+read_matches q (Ok ast) ts doc = ast_matches q ast ts doc
+read_matches q (Err e) ts doc = false
+
+abbrev pub text_matches : QueryFields → List ℕ → List IndexToken → ℕ → Bool
+text_matches q text ts doc = read_matches q (parsed MAX_LEXEMES text) ts doc
+
+-- A query means what a text does.
+pub record MeansText (q : QueryFields) (text : List ℕ) (query : Query) : Type 0 where
+  pub taken : text_refusal q text ≡ None
+  pub exact : (ts : List IndexToken) (doc : ℕ) → matches query ts doc ≡ text_matches q text ts doc
+  pub fields : has_fields (length q.texts.entries) query ≡ true
+
+-- A query means what a text does, or it is refused.
+abbrev pub IsQueryOfText : QueryFields → List ℕ → Result Query QueryParserError → Type 0
+IsQueryOfText q text (Ok query) = MeansText q text query
+IsQueryOfText q text (Err e) = IsRefusedBy (text_refusal q text) e
+
+-- the fields of terms are those of a schema
+abbrev pub are_in : List SchemaEntry → List TermState → Bool
+are_in entries terms = list_all (λ (t : TermState). nat_lt t.field (length entries)) terms
+
+-- Terms were added, or they are refused.
+abbrev pub Adds : Terms → List SchemaEntry → List TermState → List TermState → Result (Unit {0}) QueryParserError → Type 0
+Adds terms entries old new (Ok done) = (ts : List TermState) × (terms ≡ Ok ts) × (new ≡ old ++ ts) × (are_in entries ts ≡ true)
+Adds terms entries old new (Err e) = IsRefusedBy (refused terms) e
+
+-- Terms of a field were added, or they are refused.
+abbrev pub AddsIn : Terms → ℕ → List TermState → List TermState → Result (Unit {0}) QueryParserError → Type 0
+AddsIn terms field old new (Ok done) = (ts : List TermState) × (terms ≡ Ok ts) × (new ≡ old ++ ts) × AllByRecursion (λ (t : TermState). t.field ≡ field) ts
+AddsIn terms field old new (Err e) = IsRefusedBy (refused terms) e
+
+-- A term was added, or there is none.
+abbrev pub AddsMaybe : Option TermState → QueryParserError → List TermState → List TermState → Result (Unit {0}) QueryParserError → Type 0
+AddsMaybe None error old new (Ok done) = ⊥
+AddsMaybe (Some term) error old new (Ok done) = new ≡ old ++ term ∷ []
+AddsMaybe None error old new (Err e) = e ≡ error
+AddsMaybe (Some term) error old new (Err e) = e ≡ errors.Fault OutOfMemory
+
+-- Two terms were added, or the one that there is, or there is none.
+abbrev pub AddsSome : Option TermState → Option TermState → List TermState → List TermState → Result (Unit {0}) QueryParserError → Type 0
+AddsSome first other old new (Ok done) = (some_term (option_to_list first ++ option_to_list other) ≡ Ok (option_to_list first ++ option_to_list other)) × (new ≡ old ++ (option_to_list first ++ option_to_list other))
+AddsSome first other old new (Err e) = IsRefusedBy (refused (some_term (option_to_list first ++ option_to_list other))) e
+
+-- A name was cut at its first dot, or has none.
+abbrev pub CutsAtDot : List ℕ → Option (Bor (List ℕ) × Bor (List ℕ)) → Type 0
+CutsAtDot name None = position (λ b. b == 46) name ≡ None
+CutsAtDot name (Some parts) = (i : ℕ) × (position (λ b. b == 46) name ≡ Some i) × (parts.0.now ≡ take i name) × (parts.1.now ≡ drop (i + 1) name)
+
+-- The queries of two trees, or the first refusal.
+abbrev pub AreParts : QueryFields → Ast → Ast → Result (Query × Query) QueryParserError → Type 0
+AreParts q first other (Ok parts) = Means q first parts.0 × Means q other parts.1
+AreParts q first other (Err e) = IsRefusedBy (option_or (ast_refusal q first) (ast_refusal q other)) e

@@ -1,0 +1,77 @@
+// The documents of a term with the greatest counts.
+ghost use Rattle.std.specs.Prelude.{◌≡◌, ◌+◌, ◌<◌, ◌≤◌, ℕ, insert, length, take, IfOk, OnOk};
+ghost use Rattle.std.specs.List.{slice_index_or};
+ghost use Rattle.ii_io.specs.Faults.{OnlyMemory};
+ghost use Rattle.ii_search.specs.TopByCount.{placed, top};
+
+use ii_base::Fault;
+use ii_docset::{DocId, DocSet, Postings, TERMINATED};
+use ii_reader::SegmentPostings;
+use std::alloc::Global;
+
+/// The `n` documents that a cursor has left with the greatest counts, each with its count, where each count
+/// is 1 if counts aren't read: the greatest first, and of equal ones the smaller document. It is found by
+/// seeks by count, so blocks are passed whose bounds say that none of their documents is among them. The
+/// cursor is then at its end. `OutOfMemory` where there is no room for so many.
+pub fn top_by_count(
+    alloc: Global,
+    cursor: &mut SegmentPostings,
+    n: usize,
+) -> Result<Vec<(DocId, u32)>, Fault>
+    ensures top { IfOk result (λ best. best.items ≡ top n cursor.old.rest) }
+    ensures only { OnlyMemory result }
+{
+    let mut best = Vec::new(alloc);
+    let mut doc = cursor.doc();
+    while doc < TERMINATED {
+        let count = cursor.term_freq();
+        put(&mut best, n, doc, count)?;
+        let least = least_of(best.as_slice(), n);
+        doc = cursor.seek_with_freq(doc + 1, least);
+    }
+    Ok(best)
+}
+
+// Puts a document behind those that have no smaller count, and leaves the first `n`.
+fn put(best: &mut Vec<(DocId, u32)>, n: usize, doc: DocId, count: u32) -> Result<(), Fault>
+    ensures ok { OnOk result (best.new.items ≡ take n (placed (doc, count) best.old.items)) }
+    ensures few { OnOk result (length best.new.items ≤ n) }
+    ensures only { OnlyMemory result }
+{
+    let place = place_of(best, count);
+    match best.insert(place, (doc, count)) {
+        Ok(()) => {
+            best.truncate(n);
+            Ok(())
+        }
+        Err(refused) => Err(Fault::from(refused)),
+    }
+}
+
+// The place behind those that have no smaller count.
+fn place_of(best: &[(DocId, u32)], count: u32) -> usize
+    ensures place { (doc : ℕ) → placed (doc, count) best.now ≡ insert best.now result (doc, count) }
+    ensures within { result ≤ length best.now }
+{
+    for i in 0..best.len() {
+        if best[i].1 < count {
+            return i;
+        }
+    }
+    best.len()
+}
+
+// The count that a document needs to be among the first `n`, of which these are known.
+fn least_of(best: &[(DocId, u32)], n: usize) -> u32
+    ensures few { length best.now < n → result ≡ 0 }
+    ensures all { (k : ℕ) → k < length best.now → result ≤ (slice_index_or best.now k (0, 0)).1 + 1 }
+{
+    if best.len() < n {
+        return 0;
+    }
+    let mut least = u32::MAX;
+    for i in 0..best.len() {
+        least = least.min(best[i].1);
+    }
+    least.saturating_add(1)
+}
