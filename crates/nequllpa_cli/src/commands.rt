@@ -1,34 +1,206 @@
 //! What the commands answer.
+ghost use Rattle.std.specs.Prelude.{◌<◌, IfOk, length};
+
+use clap::ArgMatches;
+use ii_base::{Field, Term};
+use ii_search::Query;
 use ii_store::{Folder, Kind, StoreFault, StoredIndex, load};
+use nequllpa_folder::{
+    AnswerFault, Checked, Found, Opened, TermChoice, check, term_of, write_fields, write_found,
+    write_postings, write_stats, write_terms,
+};
+use std::fmt::Display;
+use std::io::{self, BufWriter, Write};
 use std::process::ExitCode;
 
-/// Tells whether the files of a folder are an index, each as it was saved.
-pub fn answer_check(rt: &HostRuntime, path: &str) -> anyhow::Result<ExitCode> {
-    match load(rt.alloc(), &Folder::new(rt, path)) {
-        Ok(index) => {
-            println!(rt;
-                "{} documents; each file is as it was saved",
-                index.num_docs
-            )?;
-            Ok(ExitCode::SUCCESS)
+/// The answer is "no", or something is damaged.
+pub const NO: u8 = 1;
+/// The words of the command are wrong, or the system refused.
+pub const REFUSED: u8 = 2;
+
+/// Prints the documents that have all terms that are given.
+pub fn answer_search(
+    rt: &HostRuntime,
+    path: &str,
+    given: &ArgMatches<'_>,
+) -> anyhow::Result<ExitCode> {
+    let limit = match number_given(rt, given, "limit")? {
+        Ok(limit) => limit.unwrap_or(u32::MAX),
+        Err(status) => return Ok(ExitCode::from(status)),
+    };
+    let how = if given.get_flag("count") {
+        Found::Count
+    } else {
+        Found::Documents(limit)
+    };
+    let opened = match opened_at(rt, path)? {
+        Ok(opened) => opened,
+        Err(status) => return Ok(ExitCode::from(status)),
+    };
+    let query = match query_given(rt, &opened, given)? {
+        Ok(query) => query,
+        Err(status) => return Ok(ExitCode::from(status)),
+    };
+    if !query.has_fields(opened.schema()) {
+        return Ok(ExitCode::from(REFUSED));
+    }
+    let mut out = BufWriter::new(rt.alloc(), io::writer(rt))?;
+    let found = write_found(rt.alloc(), &mut out, &opened, &query, how);
+    out.flush()?;
+    ended(rt, path, found)
+}
+
+// The query that all terms occur.
+fn query_given(
+    rt: &HostRuntime,
+    opened: &Opened,
+    given: &ArgMatches<'_>,
+) -> anyhow::Result<Result<Query, u8>> {
+    let field = match field_given(rt, opened, given)? {
+        Ok(field) => field,
+        Err(status) => return Ok(Err(status)),
+    };
+    let Some([first, others @ ..]) = given.get_strs("TERM") else {
+        return Ok(Err(REFUSED));
+    };
+    let first = match term_given(rt, opened, field, first)? {
+        Ok(term) => Query::Term(term),
+        Err(status) => return Ok(Err(status)),
+    };
+    let mut queries = Vec::new(rt.alloc());
+    for other in others {
+        match term_given(rt, opened, field, other)? {
+            Ok(term) => queries.push(Query::Term(term))?,
+            Err(status) => return Ok(Err(status)),
         }
-        Err(fault) => refused(rt, path, fault),
+    }
+    match Query::and_all(rt.alloc(), first, queries) {
+        Ok(query) => Ok(Ok(query)),
+        Err(fault) => Ok(Err(refuse(rt, fault)?)),
     }
 }
 
-/// Tells how many documents an index has, and how long its files are.
-pub fn answer_stats(rt: &HostRuntime, path: &str) -> anyhow::Result<ExitCode> {
-    match load(rt.alloc(), &Folder::new(rt, path)) {
-        Ok(index) => {
-            print_stats(rt, &index)?;
-            Ok(ExitCode::SUCCESS)
+/// Prints the terms of a field.
+pub fn answer_terms(
+    rt: &HostRuntime,
+    path: &str,
+    given: &ArgMatches<'_>,
+) -> anyhow::Result<ExitCode> {
+    let top = match number_given(rt, given, "top")? {
+        Ok(top) => top,
+        Err(status) => return Ok(ExitCode::from(status)),
+    };
+    let choice = TermChoice {
+        prefix: given.get_str("prefix").unwrap_or(""),
+        top: top.map(|top| top as usize),
+    };
+    let opened = match opened_at(rt, path)? {
+        Ok(opened) => opened,
+        Err(status) => return Ok(ExitCode::from(status)),
+    };
+    let field = match field_given(rt, &opened, given)? {
+        Ok(field) => field,
+        Err(status) => return Ok(ExitCode::from(status)),
+    };
+    let mut out = BufWriter::new(rt.alloc(), io::writer(rt))?;
+    let written = write_terms(rt.alloc(), &mut out, &opened, field, choice);
+    out.flush()?;
+    ended(rt, path, written.map(|()| true))
+}
+
+/// Prints the documents of a term.
+pub fn answer_postings(
+    rt: &HostRuntime,
+    path: &str,
+    given: &ArgMatches<'_>,
+) -> anyhow::Result<ExitCode> {
+    let opened = match opened_at(rt, path)? {
+        Ok(opened) => opened,
+        Err(status) => return Ok(ExitCode::from(status)),
+    };
+    let field = match field_given(rt, &opened, given)? {
+        Ok(field) => field,
+        Err(status) => return Ok(ExitCode::from(status)),
+    };
+    let Some(text) = given.get_str("TERM") else {
+        return Ok(ExitCode::from(REFUSED));
+    };
+    let term = match term_given(rt, &opened, field, text)? {
+        Ok(term) => term,
+        Err(status) => return Ok(ExitCode::from(status)),
+    };
+    let reader = opened.reader(field);
+    let positions = given.get_flag("positions");
+    let mut out = BufWriter::new(rt.alloc(), io::writer(rt))?;
+    let written = write_postings(rt.alloc(), &mut out, reader, &term, positions);
+    out.flush()?;
+    ended(rt, path, written)
+}
+
+/// Tells of the fields.
+pub fn answer_fields(rt: &HostRuntime, path: &str) -> anyhow::Result<ExitCode> {
+    let opened = match opened_at(rt, path)? {
+        Ok(opened) => opened,
+        Err(status) => return Ok(ExitCode::from(status)),
+    };
+    let mut out = BufWriter::new(rt.alloc(), io::writer(rt))?;
+    let written = write_fields(rt.alloc(), &mut out, &opened);
+    out.flush()?;
+    ended(rt, path, written.map(|()| true))
+}
+
+/// Tells whether the files of a folder are an index, each as it was saved, and all that is in them fits.
+pub fn answer_check(rt: &HostRuntime, path: &str) -> anyhow::Result<ExitCode> {
+    let opened = match opened_at(rt, path)? {
+        Ok(opened) => opened,
+        Err(status) => return Ok(ExitCode::from(status)),
+    };
+    let mut out = BufWriter::new(rt.alloc(), io::writer(rt))?;
+    let checked = check(rt.alloc(), &mut out, &opened);
+    out.flush()?;
+    match checked {
+        Ok(checked) => {
+            print_checked(rt, &opened, checked)?;
+            ended(rt, path, Ok(checked.damages == 0))
         }
-        Err(fault) => refused(rt, path, fault),
+        Err(fault) => ended(rt, path, Err(fault)),
     }
+}
+
+// What was looked at.
+fn print_checked(rt: &HostRuntime, opened: &Opened, checked: Checked) -> anyhow::Result<()> {
+    let num_docs = opened.num_docs();
+    let Checked {
+        terms,
+        postings,
+        positions,
+        damages,
+    } = checked;
+    println!(rt; "{num_docs} documents; each file is as it was saved")?;
+    println!(rt; "{terms} terms, {postings} postings, {positions} positions")?;
+    println!(rt; "{damages} damages")?;
+    Ok(())
+}
+
+/// Tells how many documents an index has, how long its files are, and what its lists take.
+pub fn answer_stats(rt: &HostRuntime, path: &str) -> anyhow::Result<ExitCode> {
+    let stored = match loaded_at(rt, path)? {
+        Ok(stored) => stored,
+        Err(status) => return Ok(ExitCode::from(status)),
+    };
+    print_files(rt, &stored)?;
+    let opened = match opened_of(rt, path, stored)? {
+        Ok(opened) => opened,
+        Err(status) => return Ok(ExitCode::from(status)),
+    };
+    let mut out = BufWriter::new(rt.alloc(), io::writer(rt))?;
+    let written = write_stats(&mut out, &opened);
+    out.flush()?;
+    ended(rt, path, written.map(|()| true))
 }
 
 // The documents, and the bytes of each file.
-fn print_stats(rt: &HostRuntime, index: &StoredIndex) -> anyhow::Result<()> {
+fn print_files(rt: &HostRuntime, index: &StoredIndex) -> anyhow::Result<()> {
     println!(rt; "{:>12} documents", index.num_docs)?;
     for number in 0..Kind::COUNT {
         let kind = Kind::at(number);
@@ -37,16 +209,137 @@ fn print_stats(rt: &HostRuntime, index: &StoredIndex) -> anyhow::Result<()> {
     Ok(())
 }
 
-// Why there is no answer: on standard output where the files are to blame, else on standard error.
-fn refused(rt: &HostRuntime, path: &str, fault: StoreFault) -> anyhow::Result<ExitCode> {
-    match fault {
-        StoreFault::Index(fault) => {
+// The index of a folder as its bytes, or the status where there is none.
+fn loaded_at(rt: &HostRuntime, path: &str) -> anyhow::Result<Result<StoredIndex, u8>> {
+    match load(rt.alloc(), &Folder::new(rt, path)) {
+        Ok(stored) => Ok(Ok(stored)),
+        Err(StoreFault::Index(fault)) => {
             println!(rt; "{path}: {fault}")?;
-            Ok(ExitCode::from(1))
+            Ok(Err(NO))
         }
-        StoreFault::Directory(fault) => {
-            eprintln!(rt; "nequllpa: {path}: {fault}")?;
-            Ok(ExitCode::from(2))
+        Err(StoreFault::Directory(fault)) => Ok(Err(refuse_path(rt, path, fault)?)),
+    }
+}
+
+// The index of these bytes, or the status where they aren't one.
+fn opened_of(
+    rt: &HostRuntime,
+    path: &str,
+    stored: StoredIndex,
+) -> anyhow::Result<Result<Opened, u8>> {
+    match Opened::open(rt.alloc(), stored) {
+        Ok(opened) => Ok(Ok(opened)),
+        Err(fault) => {
+            if fault.is_memory() {
+                return Ok(Err(refuse_path(rt, path, fault)?));
+            }
+            println!(rt; "{path}: {fault}")?;
+            Ok(Err(NO))
         }
     }
+}
+
+// The index of a folder, open, or the status where there is none.
+fn opened_at(rt: &HostRuntime, path: &str) -> anyhow::Result<Result<Opened, u8>> {
+    match loaded_at(rt, path)? {
+        Ok(stored) => opened_of(rt, path, stored),
+        Err(status) => Ok(Err(status)),
+    }
+}
+
+// The field that is named.
+fn field_given(
+    rt: &HostRuntime,
+    opened: &Opened,
+    given: &ArgMatches<'_>,
+) -> anyhow::Result<Result<Field, u8>>
+    ensures { IfOk result (λ field. IfOk field (λ f. f < length opened.now.schema)) }
+{
+    let Some(name) = given.get_str("FIELD") else {
+        return Ok(Err(REFUSED));
+    };
+    match opened.field_named(name) {
+        Some(field) => Ok(Ok(field)),
+        None => {
+            eprintln!(rt; "nequllpa: no field {name}; the command fields lists them")?;
+            Ok(Err(REFUSED))
+        }
+    }
+}
+
+// The term of a field that a text asks for.
+fn term_given(
+    rt: &HostRuntime,
+    opened: &Opened,
+    field: Field,
+    text: &str,
+) -> anyhow::Result<Result<Term, u8>>
+    requires { field < length opened.now.schema }
+{
+    let entry = opened.entry(field);
+    match term_of(rt.alloc(), field, entry, text) {
+        Ok(Some(term)) => Ok(Ok(term)),
+        Ok(None) => {
+            let name = entry.name();
+            eprintln!(rt; "nequllpa: {text} is no term of {name}; the command terms shows some")?;
+            Ok(Err(REFUSED))
+        }
+        Err(fault) => Ok(Err(refuse(rt, fault)?)),
+    }
+}
+
+// The number behind an option, if it is given.
+fn number_given(
+    rt: &HostRuntime,
+    given: &ArgMatches<'_>,
+    option: &str,
+) -> anyhow::Result<Result<Option<u32>, u8>> {
+    let Some(text) = given.get_str(option) else {
+        return Ok(Ok(None));
+    };
+    match text.parse::<u32>() {
+        Ok(number) => Ok(Ok(Some(number))),
+        Err(_) => {
+            eprintln!(rt; "nequllpa: --{option} {text}: not a number below 4294967296")?;
+            Ok(Err(REFUSED))
+        }
+    }
+}
+
+// The status of an answer, which is "yes", "no", or none because of a fault.
+fn ended(
+    rt: &HostRuntime,
+    path: &str,
+    answer: Result<bool, AnswerFault>,
+) -> anyhow::Result<ExitCode> {
+    match answer {
+        Ok(true) => Ok(ExitCode::SUCCESS),
+        Ok(false) => Ok(ExitCode::from(NO)),
+        Err(AnswerFault::Output(kind)) => {
+            Ok(ExitCode::from(refuse(rt, AnswerFault::Output(kind))?))
+        }
+        Err(fault) => {
+            if fault.is_memory() {
+                return Ok(ExitCode::from(refuse_path(rt, path, fault)?));
+            }
+            println!(rt; "{path}: {fault}")?;
+            Ok(ExitCode::from(NO))
+        }
+    }
+}
+
+/// Tells on standard error why there is no answer, and gives the status.
+pub fn refuse<F: Display + Drop>(rt: &HostRuntime, fault: F) -> anyhow::Result<u8> {
+    eprintln!(rt; "nequllpa: {fault}")?;
+    Ok(REFUSED)
+}
+
+/// The same of a file or a folder.
+pub fn refuse_path<F: Display + Drop>(
+    rt: &HostRuntime,
+    path: &str,
+    fault: F,
+) -> anyhow::Result<u8> {
+    eprintln!(rt; "nequllpa: {path}: {fault}")?;
+    Ok(REFUSED)
 }

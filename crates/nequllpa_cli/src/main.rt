@@ -1,11 +1,14 @@
-//! A program over an index in a folder: it looks whether the files are those that were saved, and tells
-//! how long they are.
+//! A program over an index of JSON lines in a folder: it makes one, searches it and looks into it.
 #![tactic(auto)]
 
 mod commands;
+mod indexing;
 mod usage;
 
-use commands::{answer_check, answer_stats};
+use commands::{
+    answer_check, answer_fields, answer_postings, answer_search, answer_stats, answer_terms,
+};
+use indexing::answer_index;
 use std::process::ExitCode;
 
 fn main(rt: HostRuntime) -> anyhow::Result<ExitCode> {
@@ -24,8 +27,13 @@ fn main(rt: HostRuntime) -> anyhow::Result<ExitCode> {
     let Some(path) = given.get_str("DIR") else {
         return Ok(ExitCode::from(2));
     };
-    if name == "stats" {
-        return answer_stats(&rt, path);
+    match name {
+        "index" => answer_index(&rt, path, given),
+        "search" => answer_search(&rt, path, given),
+        "terms" => answer_terms(&rt, path, given),
+        "postings" => answer_postings(&rt, path, given),
+        "fields" => answer_fields(&rt, path),
+        "stats" => answer_stats(&rt, path),
+        _ => answer_check(&rt, path),
     }
-    answer_check(&rt, path)
 }

@@ -4,24 +4,132 @@ use std::alloc::{AllocError, Global};
 
 /// The command line of the program.
 pub fn command<'a>(alloc: Global) -> Result<Command<'a>, AllocError> {
-    let check = of_folder(
-        alloc,
-        "check",
-        "Looks whether each file has the length and the checksum that meta says; status 1 where one hasn't",
-    )?;
-    let stats = of_folder(
-        alloc,
-        "stats",
-        "Tells how many documents there are, and the bytes of each file",
-    )?;
     Command::new(alloc, "nequllpa")
         .about(
-            "Looks into an index in a folder. Status 0: done; 1: no index, or a damaged one; 2: usage or the system",
+            "Indexes JSON lines into a folder, searches the index and looks into it. Status 0: done; 1: no document, no such term, a bad line, no index, or a damaged one; 2: usage or the system",
         )
         .subcommand_required(true)
         .arg_required_else_help(true)
-        .subcommand(check)?
-        .subcommand(stats)
+        .subcommand(index_command(alloc)?)?
+        .subcommand(search_command(alloc)?)?
+        .subcommand(terms_command(alloc)?)?
+        .subcommand(postings_command(alloc)?)?
+        .subcommand(of_folder(
+            alloc,
+            "fields",
+            "Tells of each field its number, name, type, what it records, its terms and tokens; of a JSON field also its paths and types",
+        )?)?
+        .subcommand(of_folder(
+            alloc,
+            "check",
+            "Looks whether each file is as it was saved, walks every list of every term, and compares the norms with the counts; status 1 where something is damaged",
+        )?)?
+        .subcommand(of_folder(
+            alloc,
+            "stats",
+            "Tells how many documents there are, the bytes of each file, and of each field what its lists take",
+        )?)
+}
+
+fn index_command<'a>(alloc: Global) -> Result<Command<'a>, AllocError> {
+    let schema = Arg::new(alloc, "schema")
+        .long("schema")
+        .value_name("FILE")
+        .required(true)
+        .action(ArgAction::Set)
+        .help("The schema, in TOML: a table [[field]] with name and type for each field");
+    let skip_bad = Arg::new(alloc, "skip-bad")
+        .long("skip-bad")
+        .action(ArgAction::SetTrue)
+        .help("Leaves lines out that are no documents, tells of each, and counts them");
+    let files = Arg::new(alloc, "FILE")
+        .action(ArgAction::Append)
+        .num_args(0..)
+        .help("Files of JSON lines, an object on each line; standard input where there is none");
+    of_folder(
+        alloc,
+        "index",
+        "Indexes JSON lines: the folder then has the index of these, in place of the one that it had",
+    )?
+    .arg(files)?
+    .arg(schema)?
+    .arg(skip_bad)
+}
+
+fn search_command<'a>(alloc: Global) -> Result<Command<'a>, AllocError> {
+    let terms = Arg::new(alloc, "TERM")
+        .required(true)
+        .action(ArgAction::Append)
+        .num_args(1..)
+        .allow_negative_numbers(true)
+        .help("Terms that all have to occur, each as the command terms prints them");
+    let limit = Arg::new(alloc, "limit")
+        .long("limit")
+        .value_name("N")
+        .action(ArgAction::Set)
+        .help("Prints so many documents at most");
+    let count = Arg::new(alloc, "count")
+        .long("count")
+        .action(ArgAction::SetTrue)
+        .help("Prints how many documents there are, alone");
+    of_folder(
+        alloc,
+        "search",
+        "Prints the documents that have all terms, numbered from 0 in the order of their lines; status 1 where there are none",
+    )?
+    .arg(field_argument(alloc))?
+    .arg(terms)?
+    .arg(limit)?
+    .arg(count)
+}
+
+fn terms_command<'a>(alloc: Global) -> Result<Command<'a>, AllocError> {
+    let prefix = Arg::new(alloc, "prefix")
+        .long("prefix")
+        .value_name("P")
+        .action(ArgAction::Set)
+        .help("Prints terms alone that begin so");
+    let top = Arg::new(alloc, "top")
+        .long("top")
+        .value_name("N")
+        .action(ArgAction::Set)
+        .help("Prints the N terms that are in the most documents, these first");
+    of_folder(
+        alloc,
+        "terms",
+        "Prints the terms of a field in order, each behind the number of its documents",
+    )?
+    .arg(field_argument(alloc))?
+    .arg(prefix)?
+    .arg(top)
+}
+
+fn postings_command<'a>(alloc: Global) -> Result<Command<'a>, AllocError> {
+    let term = Arg::new(alloc, "TERM")
+        .required(true)
+        .action(ArgAction::Set)
+        .allow_negative_numbers(true)
+        .help("The term, as the command terms prints it");
+    let positions = Arg::new(alloc, "positions")
+        .long("positions")
+        .action(ArgAction::SetTrue)
+        .help("Prints where it occurs too, if the field records that");
+    of_folder(
+        alloc,
+        "postings",
+        "Prints the documents of a term, each with how often the term occurs if the field records that; status 1 where there is no such term",
+    )?
+    .arg(field_argument(alloc))?
+    .arg(term)?
+    .arg(positions)
+}
+
+// The name of a field.
+fn field_argument<'a>(alloc: Global) -> Arg<'a> {
+    Arg::new(alloc, "FIELD")
+        .required(true)
+        .action(ArgAction::Set)
+        .help("The name of a field")
 }
 
 // A command that is given a folder.

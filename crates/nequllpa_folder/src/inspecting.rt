@@ -1,0 +1,332 @@
+//! What an index holds, as text.
+ghost use Rattle.std.specs.Prelude.{◌≡◌, ◌<◌, length, true};
+ghost use Rattle.ii_docset.specs.Cursor.{IsCurrent};
+ghost use Rattle.ii_search.specs.Queries.{has_fields};
+
+use crate::faults::AnswerFault;
+use crate::keys::{push_key, push_path};
+use crate::opened::Opened;
+use ii_base::{Field, FieldEntry, IndexRecordOption, Term, ValueType};
+use ii_docset::{DocSet, Postings, TERMINATED};
+use ii_reader::{InvertedIndexReader, SegmentPostings};
+use ii_search::{Query, count, search};
+use std::alloc::Global;
+use std::io::Write;
+
+/// How a list of documents is written.
+#[derive(Clone, Copy, Debug, PartialEq, Eq)]
+pub enum Found {
+    /// Their number alone.
+    Count,
+    /// The documents, so many at most.
+    Documents(u32),
+}
+
+/// Writes which documents match a query, each on a line, or how many they are; answers whether any does.
+pub fn write_found<W: Write>(
+    alloc: Global,
+    out: &mut W,
+    opened: &Opened,
+    query: &Query,
+    how: Found,
+) -> Result<bool, AnswerFault>
+    requires { has_fields (length opened.now.schema) query.now ≡ true }
+{
+    match how {
+        Found::Count => {
+            let many = count(alloc, opened.index(), query)?;
+            writeln!(out, "{many}")?;
+            Ok(many > 0)
+        }
+        Found::Documents(limit) => write_documents(alloc, out, opened, query, limit),
+    }
+}
+
+// Writes the documents, so many at most, and answers whether there are any.
+fn write_documents<W: Write>(
+    alloc: Global,
+    out: &mut W,
+    opened: &Opened,
+    query: &Query,
+    limit: u32,
+) -> Result<bool, AnswerFault>
+    requires { has_fields (length opened.now.schema) query.now ≡ true }
+{
+    match search(alloc, opened.index(), query) {
+        Ok(mut cursor) => write_cursor(out, &mut cursor, limit),
+        Err(fault) => Err(AnswerFault::Index(fault)),
+    }
+}
+
+// Writes the documents that a cursor has left, so many at most, and answers whether there are any.
+fn write_cursor<W: Write, C: DocSet>(
+    out: &mut W,
+    cursor: &mut C,
+    limit: u32,
+) -> Result<bool, AnswerFault> {
+    let any = cursor.doc() < TERMINATED;
+    for _ in 0..limit {
+        let doc = cursor.doc();
+        if doc >= TERMINATED {
+            return Ok(any);
+        }
+        writeln!(out, "{doc}")?;
+        cursor.advance();
+    }
+    Ok(any)
+}
+
+/// Which terms of a field are written.
+#[derive(Clone, Copy, Debug)]
+pub struct TermChoice<'a> {
+    /// How the text of a term begins.
+    pub prefix: &'a str,
+    /// So many of them, those in the most documents, or all in the order of their keys.
+    pub top: Option<usize>,
+}
+
+/// Writes the terms of a field, each on a line behind the number of its documents and a space.
+pub fn write_terms<W: Write>(
+    alloc: Global,
+    out: &mut W,
+    opened: &Opened,
+    field: Field,
+    choice: TermChoice<'_>,
+) -> Result<(), AnswerFault>
+    requires { field < length opened.now.schema }
+{
+    match choice.top {
+        Some(top) => write_top(alloc, out, opened, field, choice.prefix, top),
+        None => write_all_terms(alloc, out, opened, field, choice.prefix),
+    }
+}
+
+// Writes the terms of a field in the order of their keys.
+fn write_all_terms<W: Write>(
+    alloc: Global,
+    out: &mut W,
+    opened: &Opened,
+    field: Field,
+    prefix: &str,
+) -> Result<(), AnswerFault>
+    requires { field < length opened.now.schema }
+{
+    let value_type = opened.entry(field).value_type();
+    let dictionary = opened.reader(field).terms();
+    let mut terms = dictionary.stream();
+    let mut text = String::new(alloc);
+    for _ in 0..dictionary.num_terms() {
+        let Some((key, info)) = terms.next() else {
+            return Ok(());
+        };
+        text.clear();
+        push_key(&mut text, value_type, key)?;
+        if text.as_str().starts_with(prefix) {
+            writeln!(out, "{} {text}", info.doc_freq)?;
+        }
+    }
+    Ok(())
+}
+
+// Writes the terms of a field that are in the most documents, of as many the one with the least key.
+fn write_top<W: Write>(
+    alloc: Global,
+    out: &mut W,
+    opened: &Opened,
+    field: Field,
+    prefix: &str,
+    top: usize,
+) -> Result<(), AnswerFault>
+    requires { field < length opened.now.schema }
+{
+    let value_type = opened.entry(field).value_type();
+    let dictionary = opened.reader(field).terms();
+    let mut ranks = chosen(alloc, opened, field, prefix)?;
+    ranks.sort_unstable();
+    let mut text = String::new(alloc);
+    for (others, ord) in ranks.iter().take(top) {
+        if *ord >= dictionary.num_terms() as u64 {
+            return Ok(());
+        }
+        text.clear();
+        push_key(&mut text, value_type, dictionary.key(*ord))?;
+        writeln!(out, "{} {text}", u32::MAX - *others)?;
+    }
+    Ok(())
+}
+
+// Each term whose text begins so: how many documents below 2^32 it isn't in, and its place.
+fn chosen(
+    alloc: Global,
+    opened: &Opened,
+    field: Field,
+    prefix: &str,
+) -> Result<Vec<(u32, u64)>, AnswerFault>
+    requires { field < length opened.now.schema }
+{
+    let value_type = opened.entry(field).value_type();
+    let dictionary = opened.reader(field).terms();
+    let mut terms = dictionary.stream();
+    let mut text = String::new(alloc);
+    let mut ranks = Vec::new(alloc);
+    for ord in 0..dictionary.num_terms() as u64 {
+        let Some((key, info)) = terms.next() else {
+            return Ok(ranks);
+        };
+        text.clear();
+        push_key(&mut text, value_type, key)?;
+        if text.as_str().starts_with(prefix) {
+            ranks.push((u32::MAX - info.doc_freq, ord))?;
+        }
+    }
+    Ok(ranks)
+}
+
+/// Writes the documents of a term, each on a line: the document, how often the term occurs where the field
+/// records that, and where it occurs if that is asked for and recorded. Answers whether there is such a term.
+pub fn write_postings<W: Write>(
+    alloc: Global,
+    out: &mut W,
+    reader: &InvertedIndexReader,
+    term: &Term,
+    with_positions: bool,
+) -> Result<bool, AnswerFault> {
+    let recorded = reader.record_option();
+    let requested = requested(recorded, with_positions);
+    let Some(mut cursor) = reader.read_postings(term, requested)? else {
+        return Ok(false);
+    };
+    let mut positions = Vec::new(alloc);
+    for _ in 0..cursor.doc_freq() {
+        if cursor.doc() >= TERMINATED {
+            return Ok(true);
+        }
+        write_posting(out, &mut cursor, requested, &mut positions)?;
+        cursor.advance();
+    }
+    Ok(true)
+}
+
+// What is read of a term.
+fn requested(recorded: IndexRecordOption, with_positions: bool) -> IndexRecordOption {
+    if with_positions {
+        return recorded;
+    }
+    recorded.downgrade(IndexRecordOption::WithFreqs)
+}
+
+// Writes the current document.
+fn write_posting<W: Write>(
+    out: &mut W,
+    cursor: &mut SegmentPostings,
+    requested: IndexRecordOption,
+    positions: &mut Vec<u32>,
+) -> Result<(), AnswerFault>
+    requires { IsCurrent cursor.old.rest }
+{
+    let doc = cursor.doc();
+    if !requested.has_freq() {
+        writeln!(out, "{doc}")?;
+        return Ok(());
+    }
+    let freq = cursor.term_freq();
+    if !requested.has_positions() {
+        writeln!(out, "{doc} {freq}")?;
+        return Ok(());
+    }
+    cursor.positions(positions)?;
+    write!(out, "{doc} {freq}")?;
+    for position in positions.as_slice() {
+        write!(out, " {}", *position)?;
+    }
+    writeln!(out)?;
+    Ok(())
+}
+
+/// Writes a line for each field: its number, name and type, what it records, how many terms and tokens it
+/// has; and below a JSON field a line for each path and type.
+pub fn write_fields<W: Write>(
+    alloc: Global,
+    out: &mut W,
+    opened: &Opened,
+) -> Result<(), AnswerFault> {
+    for id in 0..opened.schema().num_fields() {
+        let field = Field::from_field_id(id as u32);
+        let entry = opened.entry(field);
+        let reader = opened.reader(field);
+        write!(
+            out,
+            "{id} {} {}",
+            entry.name(),
+            type_name(entry.value_type())
+        )?;
+        write_settings(out, entry)?;
+        writeln!(
+            out,
+            ": {} terms, {} tokens",
+            reader.terms().num_terms(),
+            reader.total_num_tokens()
+        )?;
+        if entry.value_type() == ValueType::Json {
+            write_paths(alloc, out, reader)?;
+        }
+    }
+    Ok(())
+}
+
+// What a field records.
+fn write_settings<W: Write>(out: &mut W, entry: &FieldEntry) -> Result<(), AnswerFault> {
+    if !entry.is_indexed() {
+        write!(out, " not indexed")?;
+        return Ok(());
+    }
+    match entry.index_record_option() {
+        IndexRecordOption::Basic => write!(out, " basic")?,
+        IndexRecordOption::WithFreqs => write!(out, " freq")?,
+        IndexRecordOption::WithFreqsAndPositions => write!(out, " position")?,
+    }
+    if entry.has_fieldnorms() {
+        write!(out, " fieldnorms")?;
+    }
+    if entry.expands_dots() {
+        write!(out, " expand_dots")?;
+    }
+    Ok(())
+}
+
+// Writes a line for each path and type of a JSON field.
+fn write_paths<W: Write>(
+    alloc: Global,
+    out: &mut W,
+    reader: &InvertedIndexReader,
+) -> Result<(), AnswerFault> {
+    let spaces = reader.list_encoded_json_fields(alloc)?;
+    let mut text = String::new(alloc);
+    for space in &spaces {
+        text.clear();
+        push_path(&mut text, space.field_name.as_slice())?;
+        writeln!(
+            out,
+            "  {text} {}: {} terms, {} bytes of postings, {} bytes of positions",
+            type_name(space.field_type),
+            space.num_terms,
+            space.postings_size,
+            space.positions_size
+        )?;
+    }
+    Ok(())
+}
+
+/// The name of a type in a schema's text.
+pub fn type_name(value_type: ValueType) -> &'static str {
+    match value_type {
+        ValueType::Str => "text",
+        ValueType::U64 => "u64",
+        ValueType::I64 => "i64",
+        ValueType::Bool => "bool",
+        ValueType::Date => "date",
+        ValueType::Bytes => "bytes",
+        ValueType::Json => "json",
+        ValueType::IpAddr => "ip_addr",
+    }
+}

@@ -1,0 +1,143 @@
+//! An index that is open.
+ghost use Rattle.std.specs.Prelude.{◌≡◌, ◌<◌, ℕ, IfOk, IfSome, List, Ok, length};
+ghost use Rattle.ii_base.specs.Schema.{SchemaEntry};
+ghost use Rattle.ii_definitions.specs.Fields.{option_of};
+ghost use Rattle.ii_definitions.specs.Files.{HoldTokens};
+ghost use Rattle.ii_definitions.specs.Norms.{HoldNorms};
+ghost use Rattle.ii_definitions.specs.Tokens.{IndexToken};
+ghost use Rattle.ii_reader.specs.OpenIndex.{IndexHolds};
+ghost use Rattle.ii_schema_text.specs.SchemaText.{text_schema};
+ghost use Rattle.ii_store.specs.Index.{view};
+ghost use Rattle.nequllpa_folder.specs.Stored.{HoldsTokens};
+
+use crate::faults::OpenFault;
+use bytes::Bytes;
+use ii_base::{Fault, Field, FieldEntry, Schema};
+use ii_reader::{InvertedIndexReader, OpenIndex, open_index};
+use ii_schema_text::read_schema;
+use ii_store::StoredIndex;
+use std::alloc::Global;
+
+/// An index that is open: its schema, and a reader for each field.
+#[derive(Drop)]
+pub struct Opened {
+    schema: Schema,
+    index: OpenIndex,
+    num_docs: u32,
+    ghost many: { length index.readers ≡ length schema },
+}
+
+impl Opened {
+    /// Opens an index of these bytes, by the schema that stands in them. Where they hold tokens of the
+    /// fields of that schema, so do the readers.
+    pub fn open(alloc: Global, stored: StoredIndex) -> Result<Opened, OpenFault>
+        ensures docs { IfOk result (λ o. o.num_docs ≡ stored.num_docs) }
+        ensures holds { (entries : List SchemaEntry) (ts : List IndexToken) → text_schema stored.schema.items ≡ Ok entries → HoldsTokens entries (view stored) ts
+            → IfOk result (λ o. (o.schema ≡ entries) × IndexHolds entries stored.num_docs o.index ts) }
+    {
+        let StoredIndex {
+            num_docs,
+            schema,
+            terms,
+            postings,
+            positions,
+            fieldnorms,
+        } = stored;
+        let Ok(text) = std::str::from_utf8(schema.as_slice()) else {
+            return Err(OpenFault::SchemaBytes);
+        };
+        let schema = match read_schema(alloc, text) {
+            Ok(schema) => schema,
+            Err(fault) => return Err(OpenFault::Schema(fault)),
+        };
+        let files = Files {
+            terms,
+            postings,
+            positions,
+            fieldnorms,
+        };
+        match files.open(alloc, &schema) {
+            Ok(index) => Ok(Opened {
+                schema,
+                index,
+                num_docs,
+            }),
+            Err(fault) => Err(OpenFault::Files(fault)),
+        }
+    }
+
+    /// How many documents there are.
+    pub fn num_docs(&self) -> u32 {
+        self.num_docs
+    }
+
+    /// The schema.
+    pub fn schema(&self) -> &Schema
+        ensures { result.now ≡ self.now.schema }
+    {
+        &self.schema
+    }
+
+    /// The readers.
+    pub fn index(&self) -> &OpenIndex
+        ensures { length result.now.readers ≡ length self.now.schema }
+    {
+        &self.index
+    }
+
+    /// The entry of a field.
+    pub fn entry(&self, field: Field) -> &FieldEntry
+        requires { field < length self.now.schema }
+    {
+        self.schema.get_field_entry(field)
+    }
+
+    /// The reader of a field.
+    pub fn reader(&self, field: Field) -> &InvertedIndexReader
+        requires { field < length self.now.schema }
+    {
+        self.index.reader(field)
+    }
+
+    /// The field of a name, if there is one.
+    pub fn field_named(&self, name: &str) -> Option<Field>
+        ensures { IfSome result (λ field. field < length self.now.schema) }
+    {
+        for id in 0..self.schema.num_fields() {
+            let field = Field::from_field_id(id as u32);
+            if self.schema.get_field_entry(field).name() == name {
+                return Some(field);
+            }
+        }
+        None
+    }
+}
+
+// The files of an index.
+#[derive(Drop)]
+struct Files {
+    terms: Vec<u8>,
+    postings: Vec<u8>,
+    positions: Vec<u8>,
+    fieldnorms: Vec<u8>,
+}
+
+impl Files {
+    fn open(self, alloc: Global, schema: &Schema) -> Result<OpenIndex, Fault>
+        ensures many { IfOk result (λ index. length index.readers ≡ length schema.now) }
+        ensures holds { (n : ℕ) (ts : List IndexToken) → HoldTokens (option_of schema.now) self.terms.items self.postings.items self.positions.items ts → HoldNorms schema.now n self.fieldnorms.items ts
+            → IfOk result (λ index. IndexHolds schema.now n index ts) }
+    {
+        let Files {
+            terms,
+            postings,
+            positions,
+            fieldnorms,
+        } = self;
+        let terms = Bytes::from_vec(terms)?;
+        let postings = Bytes::from_vec(postings)?;
+        let positions = Bytes::from_vec(positions)?;
+        let fieldnorms = Bytes::from_vec(fieldnorms)?;
+        open_index(alloc, terms, postings, positions, fieldnorms, schema)
+    }
+}

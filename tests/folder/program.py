@@ -1,0 +1,313 @@
+#!/usr/bin/env python3
+"""The program `nequllpa` as a user runs it: JSON lines of texts that the machine has are indexed into a folder, searched and looked
+into, and what is answered is compared with a plain reading of the texts; bad lines and schemas, damaged files, a folder that can't be
+written and one that is no index are refused by name.
+
+    program.py            as the gate runs it, over the licences of the machine
+    program.py MB         the same over so many megabytes of the kit's sources, and how long it took"""
+import json
+import os
+import random
+import resource
+import shutil
+import signal
+import subprocess
+import sys
+import tempfile
+import time
+
+sys.dont_write_bytecode = True
+sys.path.insert(0, os.path.dirname(os.path.abspath(__file__)))
+sys.path.insert(0, os.path.join(os.path.dirname(os.path.dirname(os.path.dirname(os.path.abspath(__file__)))), 'tools'))
+import programs
+import texts
+
+PROGRAM = 'nequllpa_cli'
+FILES = {'schema': 'schema', 'term': 'terms', 'idx': 'postings', 'pos': 'positions', 'fieldnorm': 'field norms'}
+
+
+class Failed(Exception):
+    """What isn't as it has to be."""
+
+
+class User:
+    """A user with a folder, who runs the program."""
+
+    def __init__(self, program, folder):
+        self.program, self.folder, self.runs = program, folder, 0
+
+    def path(self, name):
+        return os.path.join(self.folder, name)
+
+    def write(self, name, text):
+        with open(self.path(name), 'wb') as file:
+            file.write(text if isinstance(text, bytes) else text.encode())
+        return self.path(name)
+
+    def run(self, *words, given=b'', before=None):
+        self.runs += 1
+        return subprocess.run([self.program, *map(str, words)], input=given, stdout=subprocess.PIPE, stderr=subprocess.PIPE,
+                              cwd=self.folder, preexec_fn=before, timeout=600)
+
+    def wants(self, words, status, out=None, err=None, given=b'', before=None):
+        """Runs the program, which has to end so, print this, and tell something with this in it on standard error."""
+        done = self.run(*words, given=given, before=before)
+        told = f'{" ".join(map(str, words))}: status {done.returncode}, {done.stdout[-300:]!r}, {done.stderr[-300:]!r}'
+        if done.returncode != status:
+            raise Failed(f'{told}; wanted status {status}')
+        if out is not None and done.stdout.decode() != out:
+            raise Failed(f'{told}; wanted {out[-300:]!r}')
+        if err is not None and err not in done.stderr.decode():
+            raise Failed(f'{told}; wanted {err!r} on standard error')
+        return done.stdout.decode()
+
+
+def lines(docs):
+    return ''.join(json.dumps(doc, ensure_ascii=False) + '\n' for doc in docs)
+
+
+def numbers(found):
+    return ''.join(f'{number}\n' for number in found)
+
+
+def indexes(user, docs):
+    """The documents, from two files and from standard input: the same index, and what the commands tell of it."""
+    schema = user.write('schema.toml', texts.SCHEMA)
+    half = len(docs) // 2
+    first, second = user.write('a.jsonl', lines(docs[:half])), user.write('b.jsonl', '\n' + lines(docs[half:]) + '  \n')
+    user.wants(['index', 'folder', '--schema', schema, first, second], 0, f'{len(docs)} documents indexed\n')
+    user.wants(['index', 'other', '--schema', schema], 0, f'{len(docs)} documents indexed\n', given=lines(docs).encode())
+    for name in sorted(os.listdir(user.path('folder'))):
+        with open(os.path.join(user.path('folder'), name), 'rb') as one, open(os.path.join(user.path('other'), name), 'rb') as two:
+            if one.read() != two.read():
+                raise Failed(f'{name} differs between two files and standard input')
+    told = user.wants(['check', 'folder'], 0)
+    if f'{len(docs)} documents; each file is as it was saved\n' not in told or '\n0 damages\n' not in told:
+        raise Failed(f'check: {told!r}')
+    stats = user.wants(['stats', 'folder'], 0)
+    for kind, name in FILES.items():
+        size = os.path.getsize(os.path.join(user.path('folder'), f'{kind}.0'))
+        if f'{size:>12} bytes of {name}\n' not in stats:
+            raise Failed(f'stats: no {size} bytes of {name} in {stats!r}')
+
+
+def searches(user, docs, chosen):
+    """Words and pairs of words of a field of texts, by a plain filter over the words."""
+    lists = texts.lists_of(docs, 'body')
+    words = sorted(lists)
+    picked = chosen.sample(words, min(40, len(words))) + sorted(words, key=lambda word: -len(lists[word]))[:10]
+    for word in picked:
+        found = sorted(lists[word])
+        user.wants(['search', 'folder', 'body', word], 0, numbers(found))
+        user.wants(['search', 'folder', 'body', word, '--count'], 0, f'{len(found)}\n')
+        user.wants(['search', 'folder', 'body', word, '--limit', 2], 0, numbers(found[:2]))
+        postings = ''.join(f'{doc} {len(at)} {" ".join(map(str, at))}\n' for doc, at in sorted(lists[word].items()))
+        user.wants(['postings', 'folder', 'body', word, '--positions'], 0, postings)
+        user.wants(['postings', 'folder', 'body', word], 0, ''.join(f'{doc} {len(at)}\n' for doc, at in sorted(lists[word].items())))
+        other = chosen.choice(picked)
+        both = sorted(set(lists[word]) & set(lists[other]))
+        user.wants(['search', 'folder', 'body', word, other], 0 if both else 1, numbers(both))
+    user.wants(['search', 'folder', 'body', 'nosuchword'], 1, '')
+    user.wants(['search', 'folder', 'body', 'nosuchword', '--count'], 1, '0\n')
+    user.wants(['postings', 'folder', 'body', 'nosuchword'], 1, '')
+    by_key = sorted(lists, key=str.encode)
+    user.wants(['terms', 'folder', 'body'], 0, ''.join(f'{len(lists[word])} {word}\n' for word in by_key))
+    user.wants(['terms', 'folder', 'body', '--prefix', 'co'], 0, ''.join(f'{len(lists[word])} {word}\n' for word in by_key if word.startswith('co')))
+    top = sorted(lists, key=lambda word: (-len(lists[word]), word.encode()))[:7]
+    user.wants(['terms', 'folder', 'body', '--top', 7], 0, ''.join(f'{len(lists[word])} {word}\n' for word in top))
+
+
+def values(user, docs):
+    """A value of each type, by a plain filter over the documents."""
+    for field, term, has in (
+            ('number', str(docs[3]['number']), lambda doc: doc['number'] == docs[3]['number']),
+            ('change', '-9', lambda doc: doc['change'] == -9),
+            ('is_long', 'true', lambda doc: doc['is_long']),
+            ('mark', docs[0]['mark'].upper(), lambda doc: doc['mark'] == docs[0]['mark']),
+            ('address', '10.0.1.2', lambda doc: doc['address'] == '10.0.1.2'),
+            ('address', '2001:DB8:0:0::2', lambda doc: doc['address'] == '2001:db8::2'),
+            ('about', f'file.name s {texts.words_of(docs[0]["title"])[0]}',
+             lambda doc: texts.words_of(docs[0]['title'])[0] in texts.words_of(doc['title'])),
+            ('about', 'file.place i 3', lambda doc: doc['about']['file']['place'] == 3),
+            ('about', r'odd\.key o true', lambda doc: doc['about']['odd.key'])):
+        found = [number for number, doc in enumerate(docs) if has(doc)]
+        user.wants(['search', 'folder', field, term], 0 if found else 1, numbers(found))
+    told = user.wants(['fields', 'folder'], 0)
+    tokens = sum(len(texts.positions_of(doc['body'])) for doc in docs)
+    terms = len(texts.lists_of(docs, 'body'))
+    for wanted in (f'1 body text position fieldnorms: {terms} terms, {tokens} tokens\n', '2 number u64 basic: ', '8 note text not indexed: 0 terms, 0 tokens\n',
+                   '\n  file.name text: ', '\n  file.place i64: ', '\n  odd\\.key bool: 2 terms, '):
+        if wanted not in told:
+            raise Failed(f'fields: no {wanted!r} in {told!r}')
+    shown = user.wants(['terms', 'folder', 'about', '--prefix', 'file.place i -'], 0)
+    if shown:
+        raise Failed(f'terms of about: {shown!r}')
+    for wanted in ('10.0.1.2\n', '2001:db8::2\n'):
+        if wanted not in user.wants(['terms', 'folder', 'address'], 0):
+            raise Failed(f'terms of address: no {wanted!r}')
+
+
+BAD_LINES = (
+    ('[1, 2]', 'not an object'),
+    ('{"body": "a"', 'not JSON'),
+    ('{"body": "a", "other": 1}', 'unknown key other'),
+    ('{"body": 5}', 'body: not of the type of the field'),
+    ('{"body": ["a", null]}', 'body: not of the type of the field'),
+    ('{"number": -1}', 'number: a number out of range'),
+    ('{"number": 1.5}', 'number: a number out of range'),
+    ('{"number": 18446744073709551616}', 'number: a number out of range'),
+    ('{"number": "1"}', 'number: not of the type of the field'),
+    ('{"change": 9223372036854775808}', 'change: a number out of range'),
+    ('{"is_long": 0}', 'is_long: not of the type of the field'),
+    ('{"mark": "abc"}', 'mark: not pairs of hexadecimal digits'),
+    ('{"mark": "xy"}', 'mark: not pairs of hexadecimal digits'),
+    ('{"address": "1.2.3"}', 'address: not an IP address'),
+    ('{"address": "01.2.3.4"}', 'address: not an IP address'),
+    ('{"about": {"x": [1, 2.5]}}', 'about: a floating-point number'),
+    (b'{"body": "\xff"}', 'not UTF-8'),
+)
+
+BAD_SCHEMAS = (
+    ('', 'no table [[field]]'),
+    ('field = 5', 'no table [[field]]'),
+    ('other = 5', 'unknown key other'),
+    ('[[field]', ''),
+    ('[[field]]\ntype = "text"', 'field 0: name'),
+    ('[[field]]\nname = ""\ntype = "text"', 'field 0: name'),
+    ('[[field]]\nname = "a"\ntype = "text"\n[[field]]\nname = "a"\ntype = "u64"', 'field 1: name'),
+    ('[[field]]\nname = "a"', 'field 0: type'),
+    ('[[field]]\nname = "a"\ntype = "float"', 'field 0: type'),
+    ('[[field]]\nname = "a"\ntype = "text"\nrecord = "all"', 'field 0: record'),
+    ('[[field]]\nname = "a"\ntype = "u64"\nrecord = "freq"', 'field 0: record'),
+    ('[[field]]\nname = "a"\ntype = "json"\nfieldnorms = true', 'field 0: fieldnorms'),
+    ('[[field]]\nname = "a"\ntype = "text"\nexpand_dots = true', 'field 0: expand_dots'),
+    ('[[field]]\nname = "a"\ntype = "text"\nindexed = 1', 'field 0: indexed'),
+    ('[[field]]\nname = "a"\ntype = "text"\nstored = true', 'field 0: unknown key stored'),
+)
+
+
+def refusals(user, docs):
+    """Bad lines, schemas and words are refused by name, and the index that is there stays."""
+    schema = user.path('schema.toml')
+    for line, reason in BAD_LINES:
+        line = line if isinstance(line, bytes) else line.encode()
+        user.write('bad.jsonl', b'{"body": "one"}\n' + line + b'\n')
+        user.wants(['index', 'folder', '--schema', schema, 'bad.jsonl'], 1, '', f'bad.jsonl:2: {reason}')
+    bad = b''.join((line if isinstance(line, bytes) else line.encode()) + b'\n' for line, _ in BAD_LINES)
+    user.wants(['index', 'some', '--schema', schema, '--skip-bad', '-'], 2, '', '-: ')
+    user.wants(['index', 'some', '--schema', schema, '--skip-bad'], 0, f'2 documents indexed, {len(BAD_LINES)} lines left out\n',
+               f'-:{len(BAD_LINES) + 1}: not UTF-8', given=b'{"body": "one"}\n' + bad + b'{"body": null, "number": [1, 2]}\n')
+    user.wants(['search', 'some', 'number', '2'], 0, '1\n')
+    for text, reason in BAD_SCHEMAS:
+        user.write('bad.toml', text)
+        user.wants(['index', 'folder', '--schema', 'bad.toml', 'a.jsonl'], 2, '', f'nequllpa: bad.toml: {reason}')
+    for words, reason in ((['index', 'folder', 'a.jsonl'], '--schema'), (['index', 'folder', '--schema', 'none.toml'], 'none.toml'),
+                          (['index', 'folder', '--schema', schema, 'none.jsonl'], 'none.jsonl'), (['search', 'folder', 'nofield', 'a'], 'no field nofield'),
+                          (['search', 'folder', 'number', 'x'], 'x is no term of number'), (['terms', 'folder', 'body', '--top', 'x'], '--top x'),
+                          (['about', 'file.name'], ''), ([], 'Usage')):
+        user.wants(words, 2, '', reason)
+    user.wants(['check', 'nowhere'], 1, 'nowhere: no index here\n')
+    user.wants(['check', '.'], 1, '.: no index here\n')
+    told = user.wants(['check', 'folder'], 0)
+    if not told.startswith(f'{len(docs)} documents; '):
+        raise Failed(f'after refusals: {told!r}')
+
+
+def damages(user, chosen, places):
+    """Each file cut, changed and taken away at many places: `check` names it each time."""
+    whole = user.path('folder')
+    for name in sorted(os.listdir(whole)):
+        kind = FILES.get(name.split('.')[0])
+        said = f'the file of {kind} has another ' if kind else ''
+        with open(os.path.join(whole, name), 'rb') as file:
+            text = file.read()
+        size = len(text)
+        for place in [0, size - 1] + [chosen.randrange(size) for _ in range(places)]:
+            changed = bytearray(text)
+            changed[place] ^= 1 << chosen.randrange(8)
+            for damaged in (bytes(changed), text[:place], text + b'\0'):
+                with open(os.path.join(whole, name), 'wb') as file:
+                    file.write(damaged)
+                told = user.wants(['check', 'folder'], 1)
+                if kind and said not in told or not kind and not ('meta is damaged' in told or 'an index of version' in told):
+                    raise Failed(f'{name} changed at {place}: {told!r}')
+        os.remove(os.path.join(whole, name))
+        user.wants(['check', 'folder'], 1, f'folder: the file of {kind} is missing\n' if kind else 'folder: no index here\n')
+        with open(os.path.join(whole, name), 'wb') as file:
+            file.write(text)
+    user.wants(['check', 'folder'], 0)
+
+
+def stopped(user, docs):
+    """A folder that can't be written, and a disk with no room: refused, and the index that was there stays."""
+    schema = user.path('schema.toml')
+    locked = user.path('locked')
+    shutil.copytree(user.path('folder'), locked)
+    os.chmod(locked, 0o555)
+    os.chmod(user.folder, 0o755)
+
+    def as_nobody():
+        if os.getuid() == 0:
+            os.setuid(65534)
+
+    user.wants(['index', 'locked', '--schema', schema, 'a.jsonl'], 2, '', 'nequllpa: locked: the folder refused: PermissionDenied', before=as_nobody)
+    user.wants(['check', 'locked'], 0)
+    os.chmod(locked, 0o755)
+
+    def no_room():
+        signal.signal(signal.SIGXFSZ, signal.SIG_IGN)
+        resource.setrlimit(resource.RLIMIT_FSIZE, (2000, 2000))
+
+    user.wants(['index', 'locked', '--schema', schema, 'b.jsonl'], 2, '', 'nequllpa: locked: the folder refused', before=no_room)
+    told = user.wants(['check', 'locked'], 0)
+    if not told.startswith(f'{len(docs)} documents; '):
+        raise Failed(f'after a write with no room: {told!r}')
+
+
+def measured(user, docs):
+    """How long it takes to index, to open and to search, which is printed."""
+    text = lines(docs)
+    size = len(text.encode())
+    path, schema = user.write('all.jsonl', text), user.path('schema.toml')
+    begun = time.time()
+    user.wants(['index', 'large', '--schema', schema, path], 0)
+    indexed = time.time() - begun
+    peak = resource.getrusage(resource.RUSAGE_CHILDREN).ru_maxrss << 10
+    bytes_of = sum(os.path.getsize(os.path.join(user.path('large'), name)) for name in os.listdir(user.path('large')))
+    word = max(texts.lists_of(docs[:200], 'body').items(), key=lambda item: len(item[1]))[0]
+    times = []
+    for command in (['search', 'large', 'body', word, '--count'], ['check', 'large']):
+        begun = time.time()
+        user.wants(command, 0)
+        times.append(time.time() - begun)
+    print(f'{len(docs)} documents, {size / 1e6:.1f} MB of JSON lines: {size / 1e6 / indexed:.1f} MB/s indexed with {peak / size:.1f} bytes of memory for each, '
+          f'an index of {bytes_of / 1e6:.1f} MB, opened and searched in {times[0]:.2f} s, checked in {times[1]:.2f} s')
+
+
+def main():
+    large = float(sys.argv[1]) if len(sys.argv) > 1 else None
+    if 'NEQULLPA' not in os.environ and not programs.build(PROGRAM):
+        print('tests/folder: the program was not built')
+        return 1
+    chosen = random.Random(36)
+    with tempfile.TemporaryDirectory() as folder:
+        program = shutil.copy(os.environ.get('NEQULLPA', programs.program_of(PROGRAM)), os.path.join(folder, 'program'))
+        user = User(program, folder)
+        try:
+            docs = list(texts.documents(texts.small_texts(), 100_000))
+            indexes(user, docs)
+            searches(user, docs, chosen)
+            values(user, docs)
+            refusals(user, docs)
+            damages(user, chosen, 20)
+            stopped(user, docs)
+            if large:
+                measured(user, list(texts.documents(texts.large_texts(), large * 1e6)))
+        except Failed as why:
+            print(f'tests/folder: {why}')
+            return 1
+    print(f'tests/folder: {user.runs} runs of nequllpa over {len(docs)} documents')
+    return 0
+
+
+sys.exit(main())
