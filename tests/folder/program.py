@@ -98,17 +98,23 @@ def searches(user, docs, chosen):
     picked = chosen.sample(words, min(40, len(words))) + sorted(words, key=lambda word: -len(lists[word]))[:10]
     for word in picked:
         found = sorted(lists[word])
-        user.wants(['search', 'folder', 'body', word], 0, numbers(found))
-        user.wants(['search', 'folder', 'body', word, '--count'], 0, f'{len(found)}\n')
-        user.wants(['search', 'folder', 'body', word, '--limit', 2], 0, numbers(found[:2]))
+        user.wants(['search', 'folder', f'body:{word}'], 0, numbers(found))
+        user.wants(['search', 'folder', word, '--field', 'body', '--count'], 0, f'{len(found)}\n')
+        user.wants(['search', 'folder', f'body:"{word}"', '--limit', 2], 0, numbers(found[:2]))
         postings = ''.join(f'{doc} {len(at)} {" ".join(map(str, at))}\n' for doc, at in sorted(lists[word].items()))
         user.wants(['postings', 'folder', 'body', word, '--positions'], 0, postings)
         user.wants(['postings', 'folder', 'body', word], 0, ''.join(f'{doc} {len(at)}\n' for doc, at in sorted(lists[word].items())))
         other = chosen.choice(picked)
-        both = sorted(set(lists[word]) & set(lists[other]))
-        user.wants(['search', 'folder', 'body', word, other], 0 if both else 1, numbers(both))
-    user.wants(['search', 'folder', 'body', 'nosuchword'], 1, '')
-    user.wants(['search', 'folder', 'body', 'nosuchword', '--count'], 1, '0\n')
+        one, two = set(lists[word]), set(lists[other])
+        for query, wanted in ((f'body:{word} AND body:{other}', one & two), (f'{word} OR {other}', one | two), (f'{word} AND -{other}', one - two)):
+            user.wants(['search', 'folder', query, '--field', 'body'], 0 if wanted else 1, numbers(sorted(wanted)))
+    titles = texts.lists_of(docs, 'title')
+    for word in chosen.sample(sorted(titles), min(5, len(titles))):
+        anywhere = sorted(set(titles[word]) | set(lists.get(word, {})))
+        user.wants(['search', 'folder', word], 0, numbers(anywhere))
+        user.wants(['search', 'folder', word, '--field', 'title', '--field', 'body'], 0, numbers(anywhere))
+    user.wants(['search', 'folder', 'nosuchword'], 1, '')
+    user.wants(['search', 'folder', 'nosuchword', '--count'], 1, '0\n')
     user.wants(['postings', 'folder', 'body', 'nosuchword'], 1, '')
     by_key = sorted(lists, key=str.encode)
     user.wants(['terms', 'folder', 'body'], 0, ''.join(f'{len(lists[word])} {word}\n' for word in by_key))
@@ -119,6 +125,16 @@ def searches(user, docs, chosen):
 
 def values(user, docs):
     """A value of each type, by a plain filter over the documents."""
+    name = texts.words_of(docs[0]['title'])[0]
+    for query, has in (
+            (f'number:{docs[3]["number"]}', lambda doc: doc['number'] == docs[3]['number']),
+            ('change:"-9"', lambda doc: doc['change'] == -9),
+            ('is_long:true', lambda doc: doc['is_long']),
+            (f'about.file.name:{name}', lambda doc: name in texts.words_of(doc['title'])),
+            ('about.file.place:3', lambda doc: doc['about']['file']['place'] == 3),
+            (r'about.odd\.key:true', lambda doc: doc['about']['odd.key'])):
+        found = [number for number, doc in enumerate(docs) if has(doc)]
+        user.wants(['search', 'folder', query], 0 if found else 1, numbers(found))
     for field, term, has in (
             ('number', str(docs[3]['number']), lambda doc: doc['number'] == docs[3]['number']),
             ('change', '-9', lambda doc: doc['change'] == -9),
@@ -126,12 +142,12 @@ def values(user, docs):
             ('mark', docs[0]['mark'].upper(), lambda doc: doc['mark'] == docs[0]['mark']),
             ('address', '10.0.1.2', lambda doc: doc['address'] == '10.0.1.2'),
             ('address', '2001:DB8:0:0::2', lambda doc: doc['address'] == '2001:db8::2'),
-            ('about', f'file.name s {texts.words_of(docs[0]["title"])[0]}',
-             lambda doc: texts.words_of(docs[0]['title'])[0] in texts.words_of(doc['title'])),
             ('about', 'file.place i 3', lambda doc: doc['about']['file']['place'] == 3),
             ('about', r'odd\.key o true', lambda doc: doc['about']['odd.key'])):
         found = [number for number, doc in enumerate(docs) if has(doc)]
-        user.wants(['search', 'folder', field, term], 0 if found else 1, numbers(found))
+        told = user.wants(['postings', 'folder', field, term], 0 if found else 1)
+        if [int(line.split()[0]) for line in told.splitlines()] != found:
+            raise Failed(f'postings of {term} in {field}: {told!r}')
     told = user.wants(['fields', 'folder'], 0)
     tokens = sum(len(texts.positions_of(doc['body'])) for doc in docs)
     terms = len(texts.lists_of(docs, 'body'))
@@ -197,13 +213,14 @@ def refusals(user, docs):
     user.wants(['index', 'some', '--schema', schema, '--skip-bad', '-'], 2, '', '-: ')
     user.wants(['index', 'some', '--schema', schema, '--skip-bad'], 0, f'2 documents indexed, {len(BAD_LINES)} lines left out\n',
                f'-:{len(BAD_LINES) + 1}: not UTF-8', given=b'{"body": "one"}\n' + bad + b'{"body": null, "number": [1, 2]}\n')
-    user.wants(['search', 'some', 'number', '2'], 0, '1\n')
+    user.wants(['search', 'some', 'number:2'], 0, '1\n')
     for text, reason in BAD_SCHEMAS:
         user.write('bad.toml', text)
         user.wants(['index', 'folder', '--schema', 'bad.toml', 'a.jsonl'], 2, '', f'nequllpa: bad.toml: {reason}')
     for words, reason in ((['index', 'folder', 'a.jsonl'], '--schema'), (['index', 'folder', '--schema', 'none.toml'], 'none.toml'),
-                          (['index', 'folder', '--schema', schema, 'none.jsonl'], 'none.jsonl'), (['search', 'folder', 'nofield', 'a'], 'no field nofield'),
-                          (['search', 'folder', 'number', 'x'], 'x is no term of number'), (['terms', 'folder', 'body', '--top', 'x'], '--top x'),
+                          (['index', 'folder', '--schema', schema, 'none.jsonl'], 'none.jsonl'), (['postings', 'folder', 'nofield', 'a'], 'no field nofield'),
+                          (['postings', 'folder', 'number', 'x'], 'x is no term of number'), (['search', 'folder', 'number:x'], 'number:x: a number was expected'),
+                          (['search', 'folder', 'a AND'], 'a AND: '), (['search', 'folder', 'nofield:a'], 'no such field'), (['search', 'folder', 'a', '--field', 'nofield'], 'no field nofield'), (['terms', 'folder', 'body', '--top', 'x'], '--top x'),
                           (['about', 'file.name'], ''), ([], 'Usage')):
         user.wants(words, 2, '', reason)
     user.wants(['check', 'nowhere'], 1, 'nowhere: no index here\n')
@@ -276,7 +293,7 @@ def measured(user, docs):
     bytes_of = sum(os.path.getsize(os.path.join(user.path('large'), name)) for name in os.listdir(user.path('large')))
     word = max(texts.lists_of(docs[:200], 'body').items(), key=lambda item: len(item[1]))[0]
     times = []
-    for command in (['search', 'large', 'body', word, '--count'], ['check', 'large']):
+    for command in (['search', 'large', f'body:{word}', '--count'], ['check', 'large']):
         begun = time.time()
         user.wants(command, 0)
         times.append(time.time() - begun)

@@ -2,8 +2,8 @@
 ghost use Rattle.std.specs.Prelude.{◌<◌, IfOk, length};
 
 use clap::ArgMatches;
-use ii_base::{Field, Term};
-use ii_search::Query;
+use ii_base::{AsciiTokenizer, Field, Term, ValueType};
+use ii_search::{Query, parse_query};
 use ii_store::{Folder, Kind, StoreFault, StoredIndex, load};
 use nequllpa_folder::{
     AnswerFault, Checked, Found, Opened, TermChoice, check, term_of, write_fields, write_found,
@@ -18,7 +18,7 @@ pub const NO: u8 = 1;
 /// The words of the command are wrong, or the system refused.
 pub const REFUSED: u8 = 2;
 
-/// Prints the documents that have all terms that are given.
+/// Prints the documents that match a query.
 pub fn answer_search(
     rt: &HostRuntime,
     path: &str,
@@ -50,34 +50,48 @@ pub fn answer_search(
     ended(rt, path, found)
 }
 
-// The query that all terms occur.
+// The query of a text.
 fn query_given(
     rt: &HostRuntime,
     opened: &Opened,
     given: &ArgMatches<'_>,
 ) -> anyhow::Result<Result<Query, u8>> {
-    let field = match field_given(rt, opened, given)? {
-        Ok(field) => field,
-        Err(status) => return Ok(Err(status)),
-    };
-    let Some([first, others @ ..]) = given.get_strs("TERM") else {
+    let Some(text) = given.get_str("QUERY") else {
         return Ok(Err(REFUSED));
     };
-    let first = match term_given(rt, opened, field, first)? {
-        Ok(term) => Query::Term(term),
+    let fields = match default_fields(rt, opened, given)? {
+        Ok(fields) => fields,
         Err(status) => return Ok(Err(status)),
     };
-    let mut queries = Vec::new(rt.alloc());
-    for other in others {
-        match term_given(rt, opened, field, other)? {
-            Ok(term) => queries.push(Query::Term(term))?,
+    match parse_query(rt.alloc(), opened.schema(), &fields, &AsciiTokenizer, text) {
+        Ok(query) => Ok(Ok(query)),
+        Err(error) => Ok(Err(refuse_path(rt, text, error)?)),
+    }
+}
+
+// The fields that a word without the name of a field is looked up in: those that are given, or all indexed
+// fields of texts.
+fn default_fields(
+    rt: &HostRuntime,
+    opened: &Opened,
+    given: &ArgMatches<'_>,
+) -> anyhow::Result<Result<Vec<Field>, u8>> {
+    let mut fields = Vec::new(rt.alloc());
+    let Some(names) = given.get_strs("field") else {
+        for (field, entry) in opened.schema().fields() {
+            if entry.is_indexed() && entry.value_type() == ValueType::Str {
+                fields.push(field)?;
+            }
+        }
+        return Ok(Ok(fields));
+    };
+    for name in names {
+        match field_named(rt, opened, name)? {
+            Ok(field) => fields.push(field)?,
             Err(status) => return Ok(Err(status)),
         }
     }
-    match Query::and_all(rt.alloc(), first, queries) {
-        Ok(query) => Ok(Ok(query)),
-        Err(fault) => Ok(Err(refuse(rt, fault)?)),
-    }
+    Ok(Ok(fields))
 }
 
 /// Prints the terms of a field.
@@ -247,7 +261,7 @@ fn opened_at(rt: &HostRuntime, path: &str) -> anyhow::Result<Result<Opened, u8>>
     }
 }
 
-// The field that is named.
+// The field that is given.
 fn field_given(
     rt: &HostRuntime,
     opened: &Opened,
@@ -255,9 +269,16 @@ fn field_given(
 ) -> anyhow::Result<Result<Field, u8>>
     ensures { IfOk result (λ field. IfOk field (λ f. f < length opened.now.schema)) }
 {
-    let Some(name) = given.get_str("FIELD") else {
-        return Ok(Err(REFUSED));
-    };
+    match given.get_str("FIELD") {
+        Some(name) => field_named(rt, opened, name),
+        None => Ok(Err(REFUSED)),
+    }
+}
+
+// The field of a name.
+fn field_named(rt: &HostRuntime, opened: &Opened, name: &str) -> anyhow::Result<Result<Field, u8>>
+    ensures { IfOk result (λ field. IfOk field (λ f. f < length opened.now.schema)) }
+{
     match opened.field_named(name) {
         Some(field) => Ok(Ok(field)),
         None => {

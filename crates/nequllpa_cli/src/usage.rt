@@ -57,12 +57,19 @@ fn index_command<'a>(alloc: Global) -> Result<Command<'a>, AllocError> {
 }
 
 fn search_command<'a>(alloc: Global) -> Result<Command<'a>, AllocError> {
-    let terms = Arg::new(alloc, "TERM")
+    let query = Arg::new(alloc, "QUERY")
         .required(true)
+        .action(ArgAction::Set)
+        .help(
+            "Words, also behind the name of a field and a colon, with AND, OR, - and parentheses: sea AND -title:\"new\"",
+        );
+    let field = Arg::new(alloc, "field")
+        .long("field")
+        .value_name("FIELD")
         .action(ArgAction::Append)
-        .num_args(1..)
-        .allow_negative_numbers(true)
-        .help("Terms that all have to occur, each as the command terms prints them");
+        .help(
+            "A field for words that name none, given once or more; all fields of texts if it is not given",
+        );
     let limit = Arg::new(alloc, "limit")
         .long("limit")
         .value_name("N")
@@ -75,10 +82,10 @@ fn search_command<'a>(alloc: Global) -> Result<Command<'a>, AllocError> {
     of_folder(
         alloc,
         "search",
-        "Prints the documents that have all terms, numbered from 0 in the order of their lines; status 1 where there are none",
+        "Prints the documents that match a query, numbered from 0 in the order of their lines; status 1 where there are none",
     )?
-    .arg(field_argument(alloc))?
-    .arg(terms)?
+    .arg(query)?
+    .arg(field)?
     .arg(limit)?
     .arg(count)
 }
