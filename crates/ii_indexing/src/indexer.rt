@@ -73,8 +73,9 @@ impl Indexer {
     /// Indexes a call, whose document isn't below the one before and is one of the indexer's, and whose
     /// field is indexed and has values of its type.
     ///
-    /// The faults are those of the definitions (`call_fault`), for a JSON value leaf by leaf, for a text word
-    /// by word: `Limit(Position)` where it starts or ends above `u32::MAX`, `Limit(Tokens)` for more than
+    /// The faults are those of the definitions (`call_fault`), for a JSON value leaf by leaf: `Limit(Paths)`
+    /// where `u32::MAX` + 1 paths are known and the leaf's isn't one of them; for a text word by word:
+    /// `Limit(Position)` where it starts or ends above `u32::MAX`, `Limit(Tokens)` for more than
     /// `u32::MAX` tokens of the texts of a document in a field, or at a path of it, or more than `u64::MAX`
     /// of a field, `Limit(Position)` at position `u32::MAX`, `DecreasingPosition` below the last position of
     /// the term in the document, `Limit(Count)` for more than `u32::MAX` of them; and `Limit(Position)` where

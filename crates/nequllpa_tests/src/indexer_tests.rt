@@ -3,7 +3,10 @@ ghost use Rattle.ii_base.specs.declared.schema.value_type.ValueType.TheVariants 
 ghost use Rattle.ii_indexing.specs.IndexCalls.{Takes};
 
 use crate::memory_index::{FULL, Index, are_untouched, index_of, texts, told, writers};
-use ii_base::{AsciiTokenizer, Fault, Field, FieldEntry, LimitName, Schema, Token, TokenList};
+use ii_base::{
+    AsciiTokenizer, Fault, Field, FieldEntry, JsonValue, LeafKind, LimitName, Schema, Token,
+    TokenList,
+};
 use ii_indexing::{IndexCall, Indexer};
 use std::alloc::Global;
 use std::test::Fail;
@@ -116,5 +119,44 @@ fn a_failed_indexer_writes_nothing(rt: HostRuntime) -> Result<(), Fail> {
     assert!(rt; answer == Err(Fault::Limit(LimitName::Position)));
     assert!(rt; finished == Err(Fault::IndexerFailed));
     assert!(rt; is_untouched);
+    Ok(())
+}
+
+// An indexer of 9 documents with a field of JSON values.
+fn json_indexer(alloc: Global) -> Result<Indexer, Fault>
+    ensures ready { IfOk result (λ i. (i.failed ≡ false) × (i.last_doc ≡ 0) × (i.num_docs ≡ 9)) }
+    ensures takes { IfOk result (λ i. Takes i.schema 0 types.Json) }
+{
+    let mut entries = Vec::new(alloc);
+    let name = String::from_str(alloc, "json")?;
+    entries.push(FieldEntry::json(name, FULL, false))?;
+    Indexer::new(alloc, Schema::new(entries), 9)
+}
+
+// Indexes a float, and then a number; how each call ends.
+fn put_float_and_number(indexer: &mut Indexer) -> (Result<(), Fault>, Result<(), Fault>)
+    requires running { indexer.old.failed ≡ false }
+    requires order { indexer.old.last_doc ≡ 0 }
+    requires many { indexer.old.num_docs ≡ 9 }
+    requires takes { Takes indexer.old.schema 0 types.Json }
+{
+    let field = Field::from_field_id(0);
+    let float = JsonValue::F64Bits(4607182418800017408);
+    let first = indexer.index(IndexCall::Json(0, field, float), &AsciiTokenizer);
+    let number = IndexCall::Json(1, field, JsonValue::U64(1));
+    (first, indexer.index(number, &AsciiTokenizer))
+}
+
+// The same of an indexer that has taken nothing.
+fn float_and_number(alloc: Global) -> Result<(Result<(), Fault>, Result<(), Fault>), Fault> {
+    let mut indexer = json_indexer(alloc)?;
+    Ok(put_float_and_number(&mut indexer))
+}
+
+#[test]
+fn an_indexer_has_failed_after_a_float(rt: HostRuntime) -> Result<(), Fail> {
+    let (float, number) = float_and_number(rt.alloc())?;
+    assert!(rt; float == Err(Fault::UnsupportedLeaf(LeafKind::Float)));
+    assert!(rt; number == Err(Fault::IndexerFailed));
     Ok(())
 }
