@@ -1,3 +1,5 @@
+ghost use Rattle.std.specs.Prelude.{IsSome};
+
 use crate::{composite, norms};
 use ii_base::{Fault, Field, JsonPathWriter, Term};
 use ii_indexing::{
@@ -98,18 +100,28 @@ fn dots(alloc: Global) -> Result<Option<usize>, Fault> {
     ends(step, path.as_str() == "a\u{1}b", path.len())
 }
 
-// How many positions a document has. One that was refused for memory is taken once more, and one below it
-// isn't, since it is there then.
+// How many positions a document has, each of five bytes. One that was refused for memory is taken once more.
 fn recorder(alloc: Global) -> Result<Option<usize>, Fault> {
     let mut recorder = TfAndPositionRecorder::new(alloc);
     recorder.new_doc(3)?;
-    for position in 0..40u32 {
-        let step = recorder.record_position(position);
-        if step.is_err() {
-            let again = recorder.record_position(position);
-            return ends(step, again.is_ok() && recorder.current_doc() == 3, 0);
+    recorder.record_position(1_073_741_824)?;
+    match recorder.record_position(1_073_741_825) {
+        Ok(()) => {
+            let step = recorder.close_doc();
+            ends(step, recorder.term_doc_freq() == Some(1), 2)
         }
+        Err(fault) => taken_again(&mut recorder, 1_073_741_825, fault),
     }
-    let step = recorder.close_doc();
-    ends(step, recorder.term_doc_freq() == Some(1), 40)
+}
+
+// Whether a document takes a position that was refused, and stays the same; then the refusal is handed on.
+fn taken_again(
+    recorder: &mut TfAndPositionRecorder,
+    position: u32,
+    fault: Fault,
+) -> Result<Option<usize>, Fault>
+    requires { IsSome recorder.old.pending }
+{
+    let again = recorder.record_position(position);
+    ends(Err(fault), again.is_ok() && recorder.current_doc() == 3, 0)
 }

@@ -242,7 +242,7 @@ pub fn opened(alloc: Global, index: &Index) -> Result<OpenIndex, Fault>
 }
 
 /// A cursor over the postings of a term, if its field has it.
-pub fn cursor_of(
+pub fn term_cursor(
     alloc: Global,
     index: &Index,
     term: &Term,
@@ -311,7 +311,7 @@ pub fn postings_of(
     term: &Term,
     option: IndexRecordOption,
 ) -> Result<String, Fault> {
-    match cursor_of(alloc, index, term, option)? {
+    match term_cursor(alloc, index, term, option)? {
         Some(mut cursor) => walked(alloc, &mut cursor),
         None => Ok(String::new(alloc)),
     }
@@ -343,7 +343,7 @@ pub fn found_by_seeks(
     targets: &[DocId],
 ) -> Result<String, Fault> {
     let term = Term::from_field_text(alloc, Field::from_field_id(0), word)?;
-    match cursor_of(alloc, index, &term, FULL)? {
+    match term_cursor(alloc, index, &term, FULL)? {
         Some(mut cursor) => sought(alloc, &mut cursor, targets),
         None => Ok(String::new(alloc)),
     }

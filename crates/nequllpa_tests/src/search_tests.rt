@@ -2,7 +2,9 @@
 ghost use Rattle.std.specs.Prelude.{◌≡◌, IfOk, length, true};
 ghost use Rattle.ii_search.specs.Queries.{has_fields};
 
-use crate::memory_index::{FULL, checked, cursor_of, text_calls, texts, two_texts, written_texts};
+use crate::memory_index::{
+    FULL, checked, term_cursor, text_calls, texts, two_texts, written_texts,
+};
 use ii_base::{AsciiTokenizer, Fault, Field, Schema, Term};
 use ii_docset::{DocId, DocSet, TERMINATED};
 use ii_reader::{OpenIndex, SegmentPostings};
@@ -281,7 +283,7 @@ fn most_often(alloc: Global, n: usize) -> Result<String, Fault> {
     let index = written_texts(alloc, texts(alloc, true)?, 6, &OFTEN)?;
     let word = Term::from_field_text(alloc, Field::from_field_id(0), "a")?;
     let mut text = String::new(alloc);
-    let Some(mut cursor) = cursor_of(alloc, &index, &word, FULL)? else {
+    let Some(mut cursor) = term_cursor(alloc, &index, &word, FULL)? else {
         return Ok(text);
     };
     for (doc, count) in top_by_count(alloc, &mut cursor, n)? {
