@@ -10,7 +10,7 @@ sys.path.insert(0, os.path.dirname(os.path.dirname(os.path.abspath(__file__))))
 import refusing
 
 REFUSALS = (b'out of memory', b'the writer failed')
-WITHOUT_WRITER = (b'index', b'walk', b'loaded', b'grown')
+WITHOUT_WRITER = (b'index', b'walk', b'loaded', b'placed', b'deletes', b'reset')
 
 
 def may_say(name, line):
