@@ -108,6 +108,12 @@ def searches(user, docs, chosen):
         one, two = set(lists[word]), set(lists[other])
         for query, wanted in ((f'body:{word} AND body:{other}', one & two), (f'{word} OR {other}', one | two), (f'{word} AND -{other}', one - two)):
             user.wants(['search', 'folder', query, '--field', 'body'], 0 if wanted else 1, numbers(sorted(wanted)))
+    for word in chosen.sample(picked, 15):
+        doc, places = chosen.choice(sorted(lists[word].items()))
+        behind = [other for other in words if places[0] + 1 in lists[other].get(doc, ())]
+        for other in behind[:1] + [word, chosen.choice(picked)]:
+            found = [doc for doc in sorted(lists[word]) if any(place + 1 in lists[other].get(doc, ()) for place in lists[word][doc])]
+            user.wants(['search', 'folder', f'body:"{word} {other}"'], 0 if found else 1, numbers(found))
     titles = texts.lists_of(docs, 'title')
     for word in chosen.sample(sorted(titles), min(5, len(titles))):
         anywhere = sorted(set(titles[word]) | set(lists.get(word, {})))

@@ -1,4 +1,5 @@
 mod AliveLemmas
+pub mod AscentLemmas
 pub mod AsciiLemmas
 mod CharLemmas
 mod JsonRows

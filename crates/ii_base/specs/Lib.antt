@@ -1,5 +1,6 @@
 pub mod AliveBitSet
 pub mod AsciiWords
+pub mod Entries
 pub mod Json
 pub mod Options
 pub mod Paths

@@ -4,6 +4,7 @@
 
 pub mod alive_bitset;
 pub mod datetime;
+pub mod doc_id;
 pub mod fast_value;
 pub mod json_path_writer;
 pub mod json_utils;
@@ -13,6 +14,7 @@ pub mod tokenizer;
 
 pub use alive_bitset::AliveBitSet;
 pub use datetime::DateTime;
+pub use doc_id::{DocId, TERMINATED};
 pub use fast_value::FastValue;
 pub use ii_io::vint::{VInt, read_u32_vint, write_u32_vint};
 pub use ii_io::{
@@ -36,6 +38,3 @@ pub use tokenizer::token_list::TokenList;
 pub use tokenizer::token_places::TokenPlaces;
 pub use tokenizer::token_stream::TokenStream;
 pub use tokenizer::token_view::TokenView;
-
-/// The number of a document in its index.
-pub type DocId = u32;

@@ -1,5 +1,5 @@
 ghost use Rattle.std.specs.Prelude.{◌≡◌, ◌<◌};
-ghost use Rattle.ii_docset.specs.Entries.{are_documents};
+ghost use Rattle.ii_base.specs.Entries.{are_documents};
 
 use crate::table::{Measured, ROUNDS, print_row};
 use anyhow::Result;

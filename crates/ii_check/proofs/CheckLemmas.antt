@@ -8,9 +8,9 @@ use Rattle.std.proofs.lemmas.List.Folds.{concat-append}
 use Rattle.std.proofs.lemmas.List.FromFn.{length-map-range_with_len}
 use Rattle.ii_base.specs.declared.schema.index_record_option.IndexRecordOption.{IndexRecordOption}
 use Rattle.ii_io.specs.Steps.{◌>>=◌, needs}
-use Rattle.ii_docset.specs.declared.docset.TheConstants.{TERMINATED}
-use Rattle.ii_docset.specs.Entries.{ascend_from, are_documents}
-use Rattle.ii_docset.proofs.AscentLemmas.{least_after, ascend-append, least_after-append, least_after-last}
+use Rattle.ii_base.specs.declared.doc_id.TheConstants.{TERMINATED}
+use Rattle.ii_base.specs.Entries.{ascend_from, are_documents}
+use Rattle.ii_base.proofs.AscentLemmas.{least_after, ascend-append, least_after-append, least_after-last}
 use Rattle.ii_codes.specs.Blocks.{sorted_block_at}
 use Rattle.ii_codes.specs.BlockDecoder.{BlockDecoderState}
 use Rattle.ii_codes.specs.SortedVints.{sorted_vints_at}

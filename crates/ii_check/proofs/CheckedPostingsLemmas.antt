@@ -11,7 +11,7 @@ use Rattle.ii_io.specs.StepLemmas.{step-some, needs-some, some-same}
 use Rattle.ii_io.specs.Vints.{u32s_at, u64_at}
 use Rattle.ii_io.specs.declared.faults.Part.{Part}
 use Rattle.ii_io.specs.declared.faults.Part.TheVariants.{Documents, Frequencies}
-use Rattle.ii_docset.specs.declared.docset.TheConstants.{TERMINATED}
+use Rattle.ii_base.specs.declared.doc_id.TheConstants.{TERMINATED}
 use Rattle.ii_codes.specs.SortedVints.{sorted_vints_at}
 use Rattle.ii_codes.specs.BlockDecoder.{BlockDecoderState}
 use Rattle.ii_layout.specs.SkipList.{SkipEntry, SkipList, IsSplit, skip_list, skip_list_at, skip_info_of, block_place, entry_size, entries_at}

@@ -3,7 +3,7 @@ use Rattle.std.proofs.Common.{◌≡◌, ℕ, ◌/◌, ◌%◌, ◌<◌, true, f
 use Rattle.ii_base.specs.Options.{has_freq}
 use Rattle.ii_io.specs.Vints.{u32s_at}
 use Rattle.ii_io.specs.StepLemmas.{some-same}
-use Rattle.ii_docset.specs.declared.docset.TheConstants.{TERMINATED}
+use Rattle.ii_base.specs.declared.doc_id.TheConstants.{TERMINATED}
 use Rattle.ii_codes.specs.SortedVints.{sorted_vints_at}
 use Rattle.ii_codes.specs.BlockDecoder.{BlockDecoderState}
 use Rattle.ii_layout.specs.SkipList.{SkipList, IsSplit}

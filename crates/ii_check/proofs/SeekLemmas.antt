@@ -1,7 +1,7 @@
 -- Seeks over the blocks of checked postings.
 use Rattle.std.proofs.Common.{◌≡◌, ℕ, ◌+◌, ◌*◌, ◌/◌, ◌%◌, ◌<◌, ◌≤◌, Bool, true, false, ◌||◌, List, length, get_or, min, nat_lt, refl, sym, ap, ◌∙◌, arith}
 use Rattle.std.proofs.lemmas.Bool.{le-ltb, lt-ltb, ltb-true, ltb-false}
-use Rattle.ii_docset.specs.declared.docset.TheConstants.{TERMINATED}
+use Rattle.ii_base.specs.declared.doc_id.TheConstants.{TERMINATED}
 use Rattle.ii_layout.specs.SkipList.{SkipEntry, entry_size, entries_at}
 use Rattle.ii_layout.specs.SkipReader.{SkipReaderState, Seeks, reader_at}
 use Rattle.ii_layout.specs.Documents.{skip_entry}

@@ -5,8 +5,8 @@ use Rattle.std.proofs.lemmas.Bool.{cases_lt, le-leb, lt-ltb, le-ltb}
 use Rattle.std.specs.Option.{option_map}
 use Rattle.ii_io.specs.Steps.{needs}
 use Rattle.ii_io.specs.StepLemmas.{step-some, some-same}
-use Rattle.ii_docset.specs.declared.docset.TheConstants.{TERMINATED}
-use Rattle.ii_docset.specs.Entries.{ascend_from}
+use Rattle.ii_base.specs.declared.doc_id.TheConstants.{TERMINATED}
+use Rattle.ii_base.specs.Entries.{ascend_from}
 use Rattle.ii_codes.specs.Packed.{unpacked}
 use Rattle.ii_codes.specs.Blocks.{least_first, values_from, sorted_values, sorted_block_at}
 use Rattle.ii_codes.specs.Sums.{fit_u32}

@@ -3,7 +3,7 @@ use Rattle.std.specs.Prelude.{◌≡◌, ℕ, ◌+◌, ◌-◌, ◌*◌, Bool, f
 use Rattle.ii_io.specs.Steps.{◌>>=◌, needs}
 use Rattle.ii_io.specs.Vints.{u32s_at}
 use Rattle.ii_base.specs.declared.schema.index_record_option.IndexRecordOption.{IndexRecordOption}
-use Rattle.ii_docset.specs.Entries.{ascend_from}
+use Rattle.ii_base.specs.Entries.{ascend_from}
 use Rattle.ii_codes.specs.Blocks.{sorted_block_at, unsorted_block_at}
 use Rattle.ii_codes.specs.BlockDecoder.{BlockDecoderState, decodes_of}
 use Rattle.ii_codes.specs.SortedVints.{sorted_vints_at}

@@ -4,8 +4,8 @@ ghost use Rattle.std.specs.Option.{option_map};
 ghost use Rattle.ii_io.specs.Parts.{part_of};
 ghost use Rattle.ii_io.specs.Vints.{u32s_at};
 ghost use Rattle.ii_base.specs.Options.{has_freq};
-ghost use Rattle.ii_docset.specs.declared.docset.TheConstants.{TERMINATED};
-ghost use Rattle.ii_docset.specs.Entries.{ascend_from};
+ghost use Rattle.ii_base.specs.declared.doc_id.TheConstants.{TERMINATED};
+ghost use Rattle.ii_base.specs.Entries.{ascend_from};
 ghost use Rattle.ii_codes.specs.Blocks.{least_first, sorted_block_at};
 ghost use Rattle.ii_codes.specs.SortedVints.{sorted_vints_at};
 ghost use Rattle.ii_layout.specs.Documents.{documents_at};
@@ -18,9 +18,8 @@ ghost use Rattle.ii_check.specs.FreqReading.{reading_by};
 
 use super::freq_reading_option::FreqReadingOption;
 use super::load::NO_FREQ;
-use ii_base::{IndexRecordOption, LayoutFault, Part};
+use ii_base::{DocId, IndexRecordOption, LayoutFault, Part, TERMINATED};
 use ii_codes::{BlockDecoder, COMPRESSION_BLOCK_SIZE, compressed_block_size, last_of_sorted_block};
-use ii_docset::{DocId, TERMINATED};
 use ii_layout::{
     BlockInfo, SkipPlaces, SkipReader, bytes_from, split_into_skips_and_postings, sum_of,
 };

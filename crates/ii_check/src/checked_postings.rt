@@ -2,7 +2,7 @@ ghost use Rattle.std.specs.Prelude.{◌≡◌, ◌+◌, ◌/◌, ◌<◌, ◌≤
 ghost use Rattle.std.specs.List.{sum, list_all};
 ghost use Rattle.ii_io.specs.Faults.{OnlyMemory};
 ghost use Rattle.ii_io.specs.Parts.{part_of};
-ghost use Rattle.ii_docset.specs.declared.docset.TheConstants.{TERMINATED};
+ghost use Rattle.ii_base.specs.declared.doc_id.TheConstants.{TERMINATED};
 ghost use Rattle.ii_base.specs.Options.{downgrade, has_freq, has_positions};
 ghost use Rattle.ii_codes.specs.Sums.{fit_u32};
 ghost use Rattle.ii_layout.specs.Positions.{positions_of};
@@ -17,9 +17,8 @@ use super::freq_reading_option::FreqReadingOption;
 use super::load::{NO_FREQ, decode_docs, decode_freqs, is_passed};
 use super::positions::end_of_positions;
 use bytes::Bytes;
-use ii_base::{Fault, IndexRecordOption, LayoutFault, Part};
+use ii_base::{DocId, Fault, IndexRecordOption, LayoutFault, Part, TERMINATED};
 use ii_codes::{BlockDecoder, COMPRESSION_BLOCK_SIZE};
-use ii_docset::{DocId, TERMINATED};
 use ii_layout::{PositionReader, SkipPlaces, SkipReader, bytes_from, sum_of};
 use std::marker::Model;
 

@@ -1,11 +1,11 @@
 ghost use Rattle.std.specs.Prelude.{◌≡◌, ◌≤◌, ◌||◌, drop, nat_lt, Some, IsSome};
 ghost use Rattle.std.specs.Option.{option_map};
-ghost use Rattle.ii_docset.specs.declared.docset.TheConstants.{TERMINATED};
+ghost use Rattle.ii_base.specs.declared.doc_id.TheConstants.{TERMINATED};
 ghost use Rattle.ii_check.specs.Check.{HoldsRow, docs_in, excludes_in, freqs_in, num_vints};
 ghost use Rattle.ii_check.specs.CheckedPostings.{excludes};
 
+use ii_base::{DocId, TERMINATED};
 use ii_codes::{BlockDecoder, VIntDecoder};
-use ii_docset::{DocId, TERMINATED};
 use ii_layout::{BlockInfo, SkipReader};
 
 /// What stands in a decoder after the counts of a block, or in place of counts that aren't read.

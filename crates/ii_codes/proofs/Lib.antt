@@ -8,6 +8,7 @@ pub mod LengthLemmas
 pub mod PackLemmas
 pub mod PackedLaws
 pub mod PackedLemmas
+pub mod PairLemmas
 pub mod PrefixLemmas
 pub mod SearchLemmas
 pub mod SortedVintLemmas

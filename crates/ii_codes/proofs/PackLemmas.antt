@@ -43,7 +43,7 @@ word_more w k end word bits e x entries here few stands narrow entry shifted =
     (sum, rw sum (omega arith))
 
 -- byte j of the bits of a word
-word_byte : (w : ℕ) (row : List ℕ) (end n j x : ℕ) → x ≡ bits_in w row (end * 8) n → j * 8 + 8 ≤ n → bits_in w row ((end + j) * 8) 8 ≡ x / 2 ^ (j * 8) % 2 ^ 8
+pub word_byte : (w : ℕ) (row : List ℕ) (end n j x : ℕ) → x ≡ bits_in w row (end * 8) n → j * 8 + 8 ≤ n → bits_in w row ((end + j) * 8) 8 ≡ x / 2 ^ (j * 8) % 2 ^ 8
 word_byte w row end n j x e within =
     let place : (end + j) * 8 ≡ end * 8 + j * 8 = omega arith in
     rw place (sym (window_cut w row (end * 8) n (j * 8) 8 x e within))

@@ -13,8 +13,10 @@ use super::{COMPRESSION_BLOCK_SIZE, compressed_block_size};
 use byteorder::{ByteOrder, LittleEndian};
 use ii_io::Tally;
 use lanes::{sorted_narrow, sorted_wide, sum_narrow, sum_wide, unpack_narrow, unpack_wide};
+use pairs::pack_narrow;
 
 mod lanes;
+mod pairs;
 
 /// A block of entries of 32 bits and sixteen bytes more.
 const PADDED_BLOCK_SIZE: usize = 528;
@@ -224,23 +226,25 @@ fn pack_width<const W: usize>(entries: &[u32], output: &mut [u8])
     }
 }
 
-/// Puts the bytes of 128 entries of `width` bits in front of `output`.
-pub(crate) fn pack(entries: &[u32], width: u8, output: &mut [u8])
+/// Puts the bytes of 128 entries that fit in `width` bits in front of `output`; what stands behind them
+/// may change.
+fn pack(entries: &[u32], width: u8, output: &mut [u8])
     requires many { length entries.now ≡ 128 }
     requires narrow { width ≤ 32 }
-    requires room { 16 * width ≤ length output.old }
+    requires fits { (k : ℕ) → k < 128 → slice_index entries.now k < 2 ^ width }
+    requires room { 512 ≤ length output.old }
     ensures { take (16 * width) output.new ≡ packed width entries.now }
 {
     match width {
         0 => pack_width::<0>(entries, output),
-        1 => pack_width::<1>(entries, output),
-        2 => pack_width::<2>(entries, output),
-        3 => pack_width::<3>(entries, output),
-        4 => pack_width::<4>(entries, output),
-        5 => pack_width::<5>(entries, output),
-        6 => pack_width::<6>(entries, output),
-        7 => pack_width::<7>(entries, output),
-        8 => pack_width::<8>(entries, output),
+        1 => pack_narrow::<1>(entries, output),
+        2 => pack_narrow::<2>(entries, output),
+        3 => pack_narrow::<3>(entries, output),
+        4 => pack_narrow::<4>(entries, output),
+        5 => pack_narrow::<5>(entries, output),
+        6 => pack_narrow::<6>(entries, output),
+        7 => pack_narrow::<7>(entries, output),
+        8 => pack_narrow::<8>(entries, output),
         9 => pack_width::<9>(entries, output),
         10 => pack_width::<10>(entries, output),
         11 => pack_width::<11>(entries, output),
@@ -272,6 +276,7 @@ pub(crate) fn pack(entries: &[u32], width: u8, output: &mut [u8])
 pub(crate) fn least_width_of(entries: &[u32]) -> u8
     ensures value { result ≡ least_width entries.now }
     ensures narrow { result ≤ 32 }
+    ensures fits { (k : ℕ) → k < length entries.now → slice_index entries.now k < 2 ^ result }
 {
     let mut all = 0u32;
     for entry in entries {

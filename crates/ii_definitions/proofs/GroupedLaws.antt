@@ -3,7 +3,7 @@ use Rattle.std.proofs.Common.{true≢false, suc-ne-zero, ◌==◌, ◌||◌, ◌
 use Rattle.std.specs.Prelude.{filter}
 use Rattle.std.specs.List.{AllByRecursion}
 use Rattle.std.proofs.lemmas.List.Sums.{length-filter}
-use Rattle.ii_docset.specs.Entries.{Entry}
+use Rattle.ii_base.specs.Entries.{Entry}
 use Rattle.ii_definitions.specs.Postings.{IsCounted, field_count, grouped, is_at, occurs, tokens_at, with_token}
 use Rattle.ii_definitions.specs.Tokens.{IndexToken}
 

@@ -6,7 +6,7 @@ use Rattle.ii_base.specs.Json.{Leaf, text_leaf, u64_leaf, unsupported}
 use Rattle.ii_base.specs.Values.{json_key, text_key, typed_key}
 use Rattle.ii_base.specs.declared.schema.index_record_option.IndexRecordOption.TheVariants.{WithFreqsAndPositions}
 use Rattle.ii_base.specs.declared.schema.value_type.ValueType.TheVariants as types
-use Rattle.ii_docset.specs.Entries.{Entry, document}
+use Rattle.ii_base.specs.Entries.{Entry, document}
 use Rattle.ii_definitions.specs.JsonKeys.{type_in}
 use Rattle.ii_definitions.specs.Postings.{field_count, key_postings}
 use Rattle.ii_definitions.specs.Tokens.{Call, IndexToken, leaves, tokens_of}

@@ -4,7 +4,7 @@ use Rattle.std.specs.List.{list_any}
 use Rattle.ii_base.specs.declared.schema.index_record_option.IndexRecordOption.{IndexRecordOption}
 use Rattle.ii_base.specs.declared.schema.index_record_option.IndexRecordOption.TheVariants.{Basic}
 use Rattle.ii_base.specs.Options.{downgrade}
-use Rattle.ii_docset.specs.Entries.{Entry}
+use Rattle.ii_base.specs.Entries.{Entry}
 use Rattle.ii_definitions.specs.Cut.{cut_entry}
 use Rattle.ii_definitions.specs.Tokens.{IndexToken}
 

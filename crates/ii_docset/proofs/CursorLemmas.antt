@@ -4,8 +4,9 @@ use Rattle.std.proofs.lemmas.Bool.{lt-ltb, ltb-true, le-leb, lt-leb, leb-true}
 use Rattle.std.proofs.lemmas.List.{drop-drop, take_more}
 use Rattle.std.proofs.lemmas.List.Elements.{All-drop, All-map}
 use Rattle.std.specs.List.{All, range_with_len}
-use Rattle.ii_docset.specs.declared.docset.TheConstants.{TERMINATED}
-use Rattle.ii_docset.specs.Entries.{Entry, document, ascend_from, are_documents}
+use Rattle.ii_base.specs.declared.doc_id.TheConstants.{TERMINATED}
+use Rattle.ii_base.specs.Entries.{Entry, document, ascend_from, are_documents}
+use Rattle.ii_base.proofs.AscentLemmas.{and_parts}
 use Rattle.ii_docset.specs.Cursor.{doc_at, IsAscending, FitsU32, IsSound, from_doc, positions_at}
 
 pub IsAscending_drop_1 : (es : List Entry) → IsAscending es → IsAscending (drop 1 es)
@@ -61,11 +62,6 @@ ended (d ∷ ds) zero h = absurd (omega arith)
 ended (d ∷ ds) (suc i) h = ended ds i (omega arith)
 
 -- documents in order are an ascending list, and no others are
-pub and_parts : (a b c : Bool) → (a && b && c) ≡ true → (a ≡ true) × (b ≡ true) × (c ≡ true)
-and_parts true true c h = (refl, refl, h)
-and_parts true false c h = absurd (cc)
-and_parts false b c h = absurd (cc)
-
 ascending_from : (least : ℕ) (docs : List ℕ) → ascend_from least docs ≡ true → IsAscending (map document docs) × (least ≤ TERMINATED → least ≤ doc_at (map document docs))
 ascending_from least [] h = (tt, λ up. up)
 ascending_from least (d ∷ ds) h =

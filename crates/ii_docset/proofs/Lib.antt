@@ -1,5 +1,4 @@
 pub mod AliveLemmas
-pub mod AscentLemmas
 pub mod BoxLemmas
 pub mod BufferLemmas
 pub mod CursorLemmas

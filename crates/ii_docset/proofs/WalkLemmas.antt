@@ -4,7 +4,7 @@ use Rattle.std.proofs.lemmas.List.{append_assoc, drop_more, length-append, map-a
 use Rattle.ii_docset.specs.declared.calls.CursorAnswer.{CursorAnswer}
 use Rattle.ii_docset.specs.declared.calls.CursorCall.{CursorCall}
 use Rattle.ii_docset.specs.Calls.{IsLawful, answer_of, answer_to, answers_to, asked_by, count_asked, counts_asked, num_asked, rest_after, rest_after_call}
-use Rattle.ii_docset.specs.Entries.{Entry}
+use Rattle.ii_base.specs.Entries.{Entry}
 
 -- So many calls were made of a cursor, and answered so; it stands here.
 pub record IsWalking (calls : List CursorCall) (one : Bool) (es : List Entry) (i : ℕ) (answers : List CursorAnswer) (here : List Entry) : Type 0 where

@@ -1,7 +1,7 @@
 -- Which documents of a list are alive.
 use Rattle.std.specs.Prelude.{ℕ, ◌<◌, Bool, false, List, filter, length, slice_index_or}
 use Rattle.std.specs.List.{All}
-use Rattle.ii_docset.specs.Entries.{Entry}
+use Rattle.ii_base.specs.Entries.{Entry}
 
 -- There is a flag for each document of the list.
 abbrev pub IsCovered : List Bool → List Entry → Type 0

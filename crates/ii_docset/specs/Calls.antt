@@ -7,7 +7,7 @@ use Rattle.ii_docset.specs.declared.calls.CursorCall.{CursorCall}
 use Rattle.ii_docset.specs.declared.calls.CursorCall.TheVariants as call
 use Rattle.ii_docset.specs.declared.calls.Walk.{Walk}
 use Rattle.ii_docset.specs.Cursor.{IsCurrent, IsTarget, doc_at, from_doc, positions_at, term_freq_at}
-use Rattle.ii_docset.specs.Entries.{Entry}
+use Rattle.ii_base.specs.Entries.{Entry}
 
 -- what an answer tells
 pub data Answer : Type 0 where

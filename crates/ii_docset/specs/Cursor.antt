@@ -1,10 +1,10 @@
 -- A cursor is the rest of a list of entries.
-use Rattle.std.specs.Prelude.{◌≡◌, ◌≢◌, ℕ, ◌+◌, ◌^◌, ◌<◌, ◌≤◌, Bool, true, false, List, [], ◌∷◌, filter, nat_le, ⊤}
+use Rattle.std.specs.Prelude.{◌≡◌, ◌≢◌, ℕ, ◌+◌, ◌^◌, ◌<◌, ◌≤◌, Bool, true, false, List, [], ◌∷◌, filter, get_or, nat_le, ⊤}
 use Rattle.std.specs.List.{All}
-use Rattle.ii_docset.specs.declared.docset.TheConstants.{TERMINATED}
+use Rattle.ii_base.specs.declared.doc_id.TheConstants.{TERMINATED}
 use Rattle.ii_docset.specs.declared.docset.SeekDangerResult.{SeekDangerResult}
 use Rattle.ii_docset.specs.declared.docset.SeekDangerResult.TheVariants.{Found, SeekLowerBound}
-use Rattle.ii_docset.specs.Entries.{Entry}
+use Rattle.ii_base.specs.Entries.{Entry}
 
 -- the first document of the rest, or the end
 abbrev pub doc_at : List Entry → ℕ
@@ -53,6 +53,10 @@ total_freq one (e ∷ es) = term_freq_at one (e ∷ es) + total_freq one es
 abbrev pub positions_at : List Entry → List ℕ
 positions_at [] = []
 positions_at (e ∷ es) = e.positions
+
+-- the position before the one at a place, 0 before the first
+abbrev pub position_before : ℕ → List ℕ → ℕ
+position_before from positions = get_or (0 ∷ positions) from 0
 
 -- What is answered of a target, over the rest from it on: whether it is the first document there, else which one is. The end is answered by itself.
 abbrev pub IsDangerAnswer : SeekDangerResult → ℕ → List Entry → Type 0

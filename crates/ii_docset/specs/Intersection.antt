@@ -1,7 +1,7 @@
 -- What two lists have in common.
 use Rattle.std.specs.Prelude.{ℕ, Bool, List, filter, nat_eq}
 use Rattle.std.specs.List.{list_any}
-use Rattle.ii_docset.specs.Entries.{Entry, docs_of}
+use Rattle.ii_base.specs.Entries.{Entry, docs_of}
 
 -- whether a list has a document
 abbrev pub has_doc : List Entry → ℕ → Bool

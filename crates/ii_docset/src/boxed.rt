@@ -81,6 +81,10 @@ impl<T: Postings> Postings for Box<T> {
     fn positions(&mut self, output: &mut Vec<u32>) -> Result<(), Fault> {
         (**self).positions(output)
     }
+
+    fn read_positions(&mut self, from: usize, before: u32, output: &mut [u32]) -> usize {
+        (**self).read_positions(from, before, output)
+    }
 }
 
 /// A boxed cursor is the cursor in the box. Nothing is said of what is decoded through it.
@@ -206,5 +210,9 @@ impl Postings for Box<dyn Postings> {
 
     fn positions(&mut self, output: &mut Vec<u32>) -> Result<(), Fault> {
         (**self).positions(output)
+    }
+
+    fn read_positions(&mut self, from: usize, before: u32, output: &mut [u32]) -> usize {
+        (**self).read_positions(from, before, output)
     }
 }

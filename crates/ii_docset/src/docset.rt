@@ -1,12 +1,9 @@
 ghost use Rattle.std.specs.Prelude.{◌≡◌, ◌≤◌, ◌<◌, ◌++◌, ℕ, Bool, false, ⊤, List, [], drop, length, take, min};
-ghost use Rattle.ii_docset.specs.Entries.{Entry, docs_of};
+ghost use Rattle.ii_base.specs.Entries.{Entry, docs_of};
 ghost use Rattle.ii_docset.specs.Cursor.{doc_at, from_doc, IsDangerAnswer, IsSound, IsTarget};
 ghost use Rattle.ii_docset.specs.Alive.{IsCovered, alive_in};
 
-use ii_base::{AliveBitSet, DocId};
-
-/// What a cursor answers after its last document. Documents lie below it.
-pub const TERMINATED: DocId = 2_147_483_647;
+use ii_base::{AliveBitSet, DocId, TERMINATED};
 
 /// How many documents `DocSet::fill_buffer` writes at most.
 pub const COLLECT_BLOCK_BUFFER_LEN: usize = 64;

@@ -2,8 +2,8 @@ ghost use Rattle.std.specs.Prelude.{◌≡◌, [], IfOk, OnOk};
 ghost use Rattle.ii_io.specs.Faults.{OnlyMemory};
 ghost use Rattle.ii_docset.specs.Intersection.{common_docs};
 
-use crate::docset::{DocSet, SeekDangerResult, TERMINATED};
-use ii_base::{DocId, Fault};
+use crate::docset::{DocSet, SeekDangerResult};
+use ii_base::{DocId, Fault, TERMINATED};
 use std::alloc::Global;
 
 /// The documents that both cursors have left, in ascending order. The first cursor is then at its

@@ -94,4 +94,8 @@ impl<T: Postings> Postings for Lent<'_, T> {
     fn positions(&mut self, output: &mut Vec<u32>) -> Result<(), Fault> {
         self.inner.positions(output)
     }
+
+    fn read_positions(&mut self, from: usize, before: u32, output: &mut [u32]) -> usize {
+        self.inner.read_positions(from, before, output)
+    }
 }

@@ -11,10 +11,10 @@ pub mod seek_once;
 pub mod walking;
 
 pub use calls::{CursorAnswer, CursorCall, Walk};
-pub use docset::{COLLECT_BLOCK_BUFFER_LEN, DocSet, SeekDangerResult, TERMINATED};
-pub use ii_base::DocId;
+pub use docset::{COLLECT_BLOCK_BUFFER_LEN, DocSet, SeekDangerResult};
+pub use ii_base::{DocId, TERMINATED};
 pub use intersection::intersect;
 pub use lent::Lent;
-pub use postings::Postings;
+pub use postings::{Postings, copy_positions};
 pub use seek_once::SeekOnce;
 pub use walking::walk;

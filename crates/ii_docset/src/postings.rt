@@ -1,7 +1,7 @@
-ghost use Rattle.std.specs.Prelude.{◌≡◌, ℕ, ◌+◌, ◌<◌, ◌≤◌, ◌^◌, ◌⊎◌, ◌++◌, ⊤, [], map, IsTrue, OnOk, OnErr};
+ghost use Rattle.std.specs.Prelude.{◌≡◌, ℕ, ◌+◌, ◌-◌, ◌<◌, ◌≤◌, ◌^◌, ◌⊎◌, ◌++◌, ⊤, [], drop, length, map, min, take, IsTrue, OnOk, OnErr};
 ghost use Rattle.std.specs.List.{All};
 ghost use Rattle.ii_io.specs.Faults.{OnlyMemory};
-ghost use Rattle.ii_docset.specs.Cursor.{IsCurrent, positions_at, term_freq_at};
+ghost use Rattle.ii_docset.specs.Cursor.{IsCurrent, position_before, positions_at, term_freq_at};
 
 use crate::docset::DocSet;
 use ii_base::Fault;
@@ -77,9 +77,38 @@ pub trait Postings: DocSet {
         self.positions_with_offset(0, output)
     }
 
+    /// Writes positions of the current document to the front of `output`, from the one at place `from`
+    /// on, as many as are left and have room, and answers how many they are. What stands in `output`
+    /// after them stays. `before` is the position before the one at `from`, or 0 where that is the
+    /// first. Memory is never taken, and the cursor stands where it stood.
+    fn read_positions(&mut self, from: usize, before: u32, output: &mut [u32]) -> usize
+        requires current { IsCurrent (Self.rest self.old) }
+        requires before { before ≡ position_before from (positions_at (Self.rest self.old)) }
+        ensures count { result ≡ min (length output.old) (length (positions_at (Self.rest self.old)) - from) }
+        ensures read { output.new ≡ take (length output.old) (drop from (positions_at (Self.rest self.old))) ++ drop (length (positions_at (Self.rest self.old)) - from) output.old }
+        ensures few { length (positions_at (Self.rest self.old)) < 2 ^ 32 }
+        ensures rest { Self.rest self.new ≡ Self.rest self.old }
+        ensures kind { Self.always_one self.new ≡ Self.always_one self.old }
+        ensures work { spent 1 result self.old self.new };
+
     ghost spent_moving: { (a b : Self) → Self.went a b → spent 0 0 a b };
 
     ghost spent_more: { (k m l n : ℕ) (a b : Self) → k ≤ l → m ≤ n → spent k m a b → spent l n a b };
 
     ghost spent_on: { (k m l n : ℕ) (a b c : Self) → spent k m a b → spent l n b c → spent (k + l) (m + n) a c };
+}
+
+/// Copies positions from place `from` on to the front of `output`, as many as are left and have room, and
+/// answers how many they are: what `Postings::read_positions` answers where positions lie in memory.
+pub fn copy_positions(positions: &[u32], from: usize, output: &mut [u32]) -> usize
+    ensures count { result ≡ min (length output.old) (length positions.now - from) }
+    ensures read { output.new ≡ take (length output.old) (drop from positions.now) ++ drop (length positions.now - from) output.old }
+{
+    if from >= positions.len() {
+        return 0;
+    }
+    let count = output.len().min(positions.len() - from);
+    let (front, _) = output.split_at_mut(count);
+    front.copy_from_slice(&positions[from..from + count]);
+    count
 }

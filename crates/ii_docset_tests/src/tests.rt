@@ -26,7 +26,7 @@ struct Below {
 impl Model for Below {
     ghost use Rattle.std.specs.Prelude.{List, ◌-◌, ◌≤◌, map};
     ghost use Rattle.std.specs.List.{range_with_len};
-    ghost use Rattle.ii_docset.specs.Entries.{Entry, document};
+    ghost use Rattle.ii_base.specs.Entries.{Entry, document};
 
     ghost Value = { List Entry };
 
@@ -220,6 +220,11 @@ fn positions_are_told(rt: HostRuntime) -> Result<(), Fail> {
     assert!(rt; cursor.seek(10) == 10);
     cursor.positions(&mut output)?;
     assert!(rt; output.as_slice() == [4, 9].as_slice());
+    let mut some = [7; 3];
+    assert!(rt; cursor.read_positions(1, 4, &mut some) == 1);
+    assert!(rt; some == [9, 7, 7]);
+    assert!(rt; cursor.read_positions(0, 0, &mut some) == 2);
+    assert!(rt; some == [4, 9, 7]);
     Ok(())
 }
 

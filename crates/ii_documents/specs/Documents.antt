@@ -1,7 +1,7 @@
 -- Documents that are to be indexed, as their calls.
 use Rattle.std.specs.Prelude.{◌≡◌, ◌+◌, ℕ, List, ◌++◌, nat_lt, if◌then◌else◌, Result, Ok, Err}
 use Rattle.ii_base.specs.Schema.{SchemaEntry}
-use Rattle.ii_docset.specs.declared.docset.TheConstants.{TERMINATED}
+use Rattle.ii_base.specs.declared.doc_id.TheConstants.{TERMINATED}
 use Rattle.ii_definitions.specs.Tokens.{Call}
 use Rattle.ii_documents.specs.JsonLines.{Refusal, line_calls, too_many_documents}
 

@@ -28,7 +28,7 @@ pub struct Documents {
 
 impl Model for Documents {
     ghost use Rattle.std.specs.Prelude.{◌≤◌, map};
-    ghost use Rattle.ii_docset.specs.declared.docset.TheConstants.{TERMINATED};
+    ghost use Rattle.ii_base.specs.declared.doc_id.TheConstants.{TERMINATED};
     ghost use Rattle.ii_indexing.specs.IndexCalls.{MayAllBeIndexed, call_of};
     ghost use Rattle.ii_documents.specs.Documents.{DocumentsState};
 

@@ -1,7 +1,7 @@
 -- Even documents one after the other.
 use Rattle.std.proofs.Common.{◌≡◌, ℕ, zero, suc, ◌+◌, ◌*◌, ◌<◌, ◌≤◌, true, List, [], ◌∷◌, ◌++◌, length, refl, sym, ap, ◌∙◌, arith}
 use Rattle.std.proofs.lemmas.Bool.{le-leb, lt-ltb}
-use Rattle.ii_docset.specs.Entries.{ascend_from, are_documents}
+use Rattle.ii_base.specs.Entries.{ascend_from, are_documents}
 
 -- so many even documents from a place on
 abbrev pub evens : ℕ → ℕ → List ℕ

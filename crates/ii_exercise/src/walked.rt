@@ -1,5 +1,5 @@
 ghost use Rattle.std.specs.Prelude.{◌≡◌, ◌∷◌, [], IfOk};
-ghost use Rattle.ii_docset.specs.Entries.{document};
+ghost use Rattle.ii_base.specs.Entries.{document};
 
 use bytes::Bytes;
 use ii_base::{Fault, IndexRecordOption};

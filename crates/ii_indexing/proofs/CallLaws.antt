@@ -2,7 +2,7 @@
 use Rattle.std.proofs.Common.{◌≡◌, ℕ, List, [], ◌∷◌, ◌++◌, ◌≤◌, ◌∙◌, Some, None, Ok, Err, inl, arith, append-nil, Option, Result, ap, refl, sym, subst}
 use Rattle.std.specs.Prelude.{IfErr, MatchOption, ⊤}
 use Rattle.std.proofs.lemmas.Grind.{flat_map-append}
-use Rattle.ii_docset.specs.Entries.{Entry as DocEntry}
+use Rattle.ii_base.specs.Entries.{Entry as DocEntry}
 use Rattle.ii_recorder.specs.Recorded.{RecorderState}
 use Rattle.ii_postings_writer.specs.IndexingContext.{EndsBy, recorder_of}
 use Rattle.ii_io.specs.declared.faults.Fault.{Fault}

@@ -4,7 +4,7 @@ use Rattle.std.specs.Prelude.{MatchOption, is_some, ⊤, if◌then◌else◌}
 use Rattle.std.proofs.lemmas.List.FromFn.{length-map-range_with_len}
 use Rattle.ii_io.specs.Composite.{Body, body_of, composite}
 use Rattle.ii_base.specs.Schema.{SchemaEntry, keeps_norms}
-use Rattle.ii_docset.specs.declared.docset.TheConstants.{TERMINATED}
+use Rattle.ii_base.specs.declared.doc_id.TheConstants.{TERMINATED}
 use Rattle.ii_fieldnorm.specs.Buffers.{Buffers, buffer_of}
 use Rattle.ii_fieldnorm.specs.Norms.{id_of_norm}
 use Rattle.ii_definitions.specs.Postings.{doc_count}

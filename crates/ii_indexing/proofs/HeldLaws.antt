@@ -18,7 +18,7 @@ use Rattle.ii_base.specs.declared.schema.index_record_option.IndexRecordOption.{
 use Rattle.ii_base.specs.declared.schema.index_record_option.IndexRecordOption.TheVariants.{Basic}
 use Rattle.ii_base.specs.declared.schema.value_type.ValueType.{ValueType}
 use Rattle.ii_base.specs.Options.{downgrade}
-use Rattle.ii_docset.specs.Entries.{Entry as DocEntry}
+use Rattle.ii_base.specs.Entries.{Entry as DocEntry}
 use Rattle.ii_definitions.specs.Cut.{cut_entry}
 use Rattle.ii_definitions.specs.JsonKeys.{is_json, path_in, type_in, type_of_code, type_under}
 use Rattle.ii_definitions.specs.Postings.{field_count, grouped, kind_of, postings_from, tokens_at}

@@ -18,7 +18,7 @@ use Rattle.ii_io.specs.declared.faults.Fault.{Fault}
 use Rattle.ii_io.specs.declared.faults.Fault.TheVariants.{OutOfMemory, Write, SerializerClosed, IndexerFailed, UnsupportedLeaf, DecreasingPosition, Limit, Damaged}
 use Rattle.ii_io.specs.declared.faults.LimitName.TheVariants.{Offset}
 use Rattle.ii_base.specs.Schema.{SchemaEntry, keeps_norms}
-use Rattle.ii_docset.specs.declared.docset.TheConstants.{TERMINATED}
+use Rattle.ii_base.specs.declared.doc_id.TheConstants.{TERMINATED}
 use Rattle.ii_fieldnorm.specs.Buffers.{Buffers, buffer_of, filled, filled_buffers, norm_bodies, norm_bodies_from, recorded, recorded_buffers, WroteNorms}
 use Rattle.ii_fieldnorm.specs.Norms.{id_of_norm}
 use Rattle.ii_fieldnorm.proofs.WrittenNorms.{body_of-norm_bodies}

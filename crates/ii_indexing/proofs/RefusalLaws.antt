@@ -9,7 +9,7 @@ use Rattle.ii_base.specs.Json.{Leaf, text_leaf, unsupported, value_leaf}
 use Rattle.ii_base.specs.Words.{Word}
 use Rattle.ii_base.specs.Options.{has_freq, has_positions}
 use Rattle.ii_base.specs.declared.schema.index_record_option.IndexRecordOption.{IndexRecordOption}
-use Rattle.ii_docset.specs.Entries.{Entry}
+use Rattle.ii_base.specs.Entries.{Entry}
 use Rattle.ii_definitions.specs.Postings.{field_count}
 use Rattle.ii_definitions.specs.Tokens.{Call, Content, IndexToken, Piece, begin_after, content_pieces, end_after, kept_words, leaf_pieces, leaves, pieces_of, text, tokens_after, value, word_token, words}
 use Rattle.ii_recorder.specs.Recorded.{last_position, position_fault, u32_max}

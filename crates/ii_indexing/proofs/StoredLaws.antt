@@ -7,7 +7,7 @@ use Rattle.ii_base.specs.Schema.{SchemaEntry, keeps_norms}
 use Rattle.ii_base.specs.Options.{has_freq}
 use Rattle.ii_base.specs.declared.schema.index_record_option.IndexRecordOption.{IndexRecordOption}
 use Rattle.ii_base.specs.declared.schema.index_record_option.IndexRecordOption.TheVariants.{Basic, WithFreqs, WithFreqsAndPositions}
-use Rattle.ii_docset.specs.Entries.{Entry as DocEntry}
+use Rattle.ii_base.specs.Entries.{Entry as DocEntry}
 use Rattle.ii_fieldnorm.specs.Buffers.{Buffers, buffer_of, empty_buffers}
 use Rattle.ii_definitions.specs.Cut.{cut_entry}
 use Rattle.ii_definitions.specs.Fields.{option_of}

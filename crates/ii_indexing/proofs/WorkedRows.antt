@@ -10,7 +10,7 @@ use Rattle.ii_base.specs.declared.schema.index_record_option.IndexRecordOption.T
 use Rattle.ii_base.specs.AsciiWords.{ascii_words}
 use Rattle.ii_base.specs.Values.{u64_bytes}
 use Rattle.ii_base.specs.Words.{Word}
-use Rattle.ii_docset.specs.Entries.{Entry, document}
+use Rattle.ii_base.specs.Entries.{Entry, document}
 use Rattle.ii_fieldnorm.specs.Norms.{id_of_norm, norm_of_id}
 use Rattle.ii_definitions.specs.Norms.{norm_file, norm_ids}
 use Rattle.ii_definitions.specs.Tokens.{Call, IndexToken, pieces_of, text, words, value, tokens_of}

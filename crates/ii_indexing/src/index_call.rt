@@ -1,8 +1,7 @@
 ghost use Rattle.std.specs.Prelude.{◌≡◌};
 ghost use Rattle.ii_indexing.specs.IndexCalls.{doc_of, field_of, number_in};
 
-use ii_base::{FastValue, Field, JsonValue, TokenList};
-use ii_docset::DocId;
+use ii_base::{DocId, FastValue, Field, JsonValue, TokenList};
 
 /// What is to be indexed: a document, a field, and a value of the field's type.
 #[derive(Drop)]

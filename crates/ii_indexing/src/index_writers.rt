@@ -1,5 +1,5 @@
 ghost use Rattle.std.specs.Prelude.{◌≡◌, ◌≤◌, ◌⊎◌, [], List, map, false, None, Err, IfErr, IfOk, IfSome, OnOk};
-ghost use Rattle.ii_docset.specs.declared.docset.TheConstants.{TERMINATED};
+ghost use Rattle.ii_base.specs.declared.doc_id.TheConstants.{TERMINATED};
 ghost use Rattle.ii_definitions.specs.Fields.{option_of};
 ghost use Rattle.ii_definitions.specs.Tokens.{pieces_of, tokens_of};
 ghost use Rattle.ii_indexing.specs.IndexCalls.{MayAllBeIndexed, call_of};
@@ -10,8 +10,7 @@ ghost use Rattle.ii_json.specs.LeafVisit.{IsRefusedBy};
 
 use crate::index_call::IndexCall;
 use crate::indexer::Indexer;
-use ii_base::{CountingWriter, Fault, Schema, TextAnalyzer};
-use ii_docset::DocId;
+use ii_base::{CountingWriter, DocId, Fault, Schema, TextAnalyzer};
 use std::alloc::Global;
 use std::io::Write;
 

@@ -1,6 +1,6 @@
 ghost use Rattle.std.specs.Prelude.{◌≡◌, ◌<◌, ◌∷◌, ◌++◌, [], List, length, OnOk};
 ghost use Rattle.ii_base.specs.Schema.{SchemaEntry};
-ghost use Rattle.ii_docset.specs.declared.docset.TheConstants.{TERMINATED};
+ghost use Rattle.ii_base.specs.declared.doc_id.TheConstants.{TERMINATED};
 ghost use Rattle.ii_definitions.specs.Fields.{option_of};
 ghost use Rattle.ii_definitions.specs.Tokens.{Piece, call_pieces, value_at};
 ghost use Rattle.ii_json.specs.LeafVisit.{IsRefusedBy};
@@ -14,8 +14,7 @@ ghost use Rattle.ii_indexing.specs.Refusals.{content_fault, piece_fault};
 use crate::index_call::IndexCall;
 use crate::indexed_fields::IndexedFields;
 use crate::json_utils::index_json_value;
-use ii_base::{Fault, Field, TextAnalyzer};
-use ii_docset::DocId;
+use ii_base::{DocId, Fault, Field, TextAnalyzer};
 use std::alloc::Global;
 
 /// A value that isn't text; a number or a truth value is the number of 64 bits that stands for it.

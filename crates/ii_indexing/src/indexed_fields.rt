@@ -1,7 +1,7 @@
 ghost use Rattle.std.specs.Prelude.{◌≡◌, ◌<◌, ◌≤◌, ◌^◌, ◌∷◌, ◌++◌, [], List, ℕ, true, false, bytes_eq, length, map, IfOk, OnErr, OnOk};
 ghost use Rattle.ii_io.specs.Faults.{OnlyMemory};
 ghost use Rattle.ii_base.specs.Schema.{SchemaEntry, keeps_norms};
-ghost use Rattle.ii_docset.specs.declared.docset.TheConstants.{TERMINATED};
+ghost use Rattle.ii_base.specs.declared.doc_id.TheConstants.{TERMINATED};
 ghost use Rattle.ii_definitions.specs.Tokens.{IndexToken, Piece, at_path, text_at, value_at};
 ghost use Rattle.ii_definitions.specs.Fields.{option_of};
 ghost use Rattle.ii_base.specs.Paths.{has_zero};
@@ -22,8 +22,7 @@ use crate::indexed_terms::IndexedTerms;
 use crate::json_keys::{held_number, held_text, text_prefix};
 use crate::open_documents::{OpenDocument, OpenDocuments};
 use crate::open_paths::OpenPaths;
-use ii_base::{Fault, Field, Schema, TokenStream, ValueType};
-use ii_docset::DocId;
+use ii_base::{DocId, Fault, Field, Schema, TokenStream, ValueType};
 use ii_fieldnorm::FieldNormReaders;
 use ii_postings_writer::IndexingPosition;
 use std::alloc::Global;

@@ -2,7 +2,7 @@ ghost use Rattle.std.specs.Prelude.{◌≡◌, ◌<◌, ◌+◌, ◌∷◌, ◌+
 ghost use Rattle.ii_io.specs.CountingWriter.{Grows};
 ghost use Rattle.ii_io.specs.Faults.{OnlyMemory};
 ghost use Rattle.ii_base.specs.Schema.{SchemaEntry};
-ghost use Rattle.ii_docset.specs.declared.docset.TheConstants.{TERMINATED};
+ghost use Rattle.ii_base.specs.declared.doc_id.TheConstants.{TERMINATED};
 ghost use Rattle.ii_definitions.specs.Fields.{option_of};
 ghost use Rattle.ii_definitions.specs.Tokens.{IndexToken, end_after, kept_words, piece_tokens_from, text_at, value_at, value_token};
 ghost use Rattle.ii_indexing.specs.IndexedTerms.{StoresTokens, TakesTexts, TakesValue, value_fault};
@@ -16,8 +16,7 @@ ghost use Rattle.ii_json.specs.Paths.{AreDistinct, path_fault, path_id, with_pat
 ghost use Rattle.ii_postings_writer.specs.SortedTerms.{AllMayBeWritten};
 
 use crate::index_writers::IndexWriters;
-use ii_base::{CountingWriter, Fault, Field, Schema, TokenStream};
-use ii_docset::DocId;
+use ii_base::{CountingWriter, DocId, Fault, Field, Schema, TokenStream};
 use ii_fieldnorm::FieldNormReaders;
 use ii_postings_writer::serialize_postings::serialize_postings;
 use ii_postings_writer::{

@@ -1,6 +1,6 @@
 ghost use Rattle.std.specs.Prelude.{◌≡◌, ◌<◌, ◌≤◌, ◌∷◌, ◌++◌, [], ℕ, List, length, true, false, Err, IfErr, IfOk, OnErr, OnOk};
 ghost use Rattle.ii_io.specs.Faults.{OnlyMemory};
-ghost use Rattle.ii_docset.specs.declared.docset.TheConstants.{TERMINATED};
+ghost use Rattle.ii_base.specs.declared.doc_id.TheConstants.{TERMINATED};
 ghost use Rattle.ii_definitions.specs.Fields.{option_of};
 ghost use Rattle.ii_definitions.specs.Tokens.{Piece, call_pieces, tokens_after};
 ghost use Rattle.ii_indexing.specs.IndexFiles.{CountsIndexFailures, FilesGrow, IsIndexFault, WroteIndex};
@@ -12,8 +12,7 @@ ghost use Rattle.ii_json.specs.LeafVisit.{IsRefusedBy};
 use crate::index_call::IndexCall;
 use crate::index_writers::IndexWriters;
 use crate::indexed_fields::IndexedFields;
-use ii_base::{Fault, Field, Schema, TextAnalyzer};
-use ii_docset::DocId;
+use ii_base::{DocId, Fault, Field, Schema, TextAnalyzer};
 use std::alloc::Global;
 use std::io::Write;
 use std::marker::Model;
@@ -34,7 +33,7 @@ pub struct Indexer {
 
 impl Model for Indexer {
     ghost use Rattle.std.specs.Prelude.{◌≡◌, ◌≤◌, false};
-    ghost use Rattle.ii_docset.specs.declared.docset.TheConstants.{TERMINATED};
+    ghost use Rattle.ii_base.specs.declared.doc_id.TheConstants.{TERMINATED};
     ghost use Rattle.ii_indexing.specs.Indexer.{AreRunning, IndexerState};
 
     ghost Value = { IndexerState };

@@ -3,7 +3,7 @@ ghost use Rattle.std.specs.List.{flat_map};
 ghost use Rattle.ii_base.specs.Json.{json_leaves, json_of, leaves_below};
 ghost use Rattle.ii_base.specs.Schema.{SchemaEntry};
 ghost use Rattle.ii_base.specs.declared.schema.value_type.ValueType.TheVariants.{Json};
-ghost use Rattle.ii_docset.specs.declared.docset.TheConstants.{TERMINATED};
+ghost use Rattle.ii_base.specs.declared.doc_id.TheConstants.{TERMINATED};
 ghost use Rattle.ii_definitions.specs.Fields.{option_of};
 ghost use Rattle.ii_definitions.specs.Tokens.{Piece, leaf_pieces};
 ghost use Rattle.ii_json.specs.LeafVisit.{IsRefusedBy, leaves_fault};
@@ -17,7 +17,7 @@ use ii_base::json_value::is_within;
 use ii_base::{
     Fault, Field, JsonLeaf, JsonPathWriter, JsonValue, LeafKind, MAX_DEPTH, TextAnalyzer,
 };
-use ii_docset::DocId;
+use ii_base::DocId;
 use ii_json::{LeafSink, visit_leaves};
 use std::alloc::Global;
 
@@ -35,7 +35,7 @@ impl<A: TextAnalyzer> LeafSink for LeafIndexer<'_, A> {
     ghost use Rattle.std.specs.Prelude.{◌<◌, ◌++◌, length};
     ghost use Rattle.std.specs.List.{flat_map};
     ghost use Rattle.ii_base.specs.declared.schema.value_type.ValueType.TheVariants.{Json};
-    ghost use Rattle.ii_docset.specs.declared.docset.TheConstants.{TERMINATED};
+    ghost use Rattle.ii_base.specs.declared.doc_id.TheConstants.{TERMINATED};
     ghost use Rattle.ii_definitions.specs.Fields.{option_of};
     ghost use Rattle.ii_definitions.specs.Tokens.{leaf_pieces};
     ghost use Rattle.ii_indexing.specs.IndexCalls.{Takes};

@@ -2,7 +2,7 @@ ghost use Rattle.std.specs.Prelude.{◌≡◌, ◌<◌, ◌≤◌, ◌^◌, [], 
 ghost use Rattle.ii_base.specs.Schema.{SchemaEntry, keeps_norms};
 ghost use Rattle.ii_io.specs.Composite.{composite, written_composite};
 ghost use Rattle.ii_io.specs.Faults.{OnlyMemory};
-ghost use Rattle.ii_docset.specs.declared.docset.TheConstants.{TERMINATED};
+ghost use Rattle.ii_base.specs.declared.doc_id.TheConstants.{TERMINATED};
 ghost use Rattle.ii_fieldnorm.specs.Buffers.{empty_buffers, norm_bodies};
 ghost use Rattle.ii_definitions.specs.Norms.{HoldNorms};
 ghost use Rattle.ii_definitions.specs.Tokens.{IndexToken, Piece};
@@ -10,8 +10,7 @@ ghost use Rattle.ii_indexing.specs.declared.open_documents.OpenDocument.{OpenDoc
 ghost use Rattle.ii_indexing.specs.OpenDocuments.{AreBehind, AreClosed, ReachTo, TellsAll, empty_document, document_at, with_norms};
 
 use bytes::Bytes;
-use ii_base::{CountingWriter, Fault, Field, Schema};
-use ii_docset::DocId;
+use ii_base::{CountingWriter, DocId, Fault, Field, Schema};
 use ii_fieldnorm::{FieldNormsSerializer, FieldNormsWriter};
 use std::alloc::Global;
 use std::marker::Model;

@@ -4,8 +4,7 @@ ghost use Rattle.ii_base.specs.Schema.{SchemaEntry};
 ghost use Rattle.ii_indexing.specs.OpenPaths.{OpenPathsState, PutsPosition, no_paths, opened_path, position_under};
 
 use crate::indexing_positions_per_path::IndexingPositionsPerPath;
-use ii_base::{Fault, Field, Schema};
-use ii_docset::DocId;
+use ii_base::{DocId, Fault, Field, Schema};
 use ii_postings_writer::IndexingPosition;
 use std::alloc::Global;
 use std::marker::Model;

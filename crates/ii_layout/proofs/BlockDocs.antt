@@ -2,9 +2,9 @@
 use Rattle.std.proofs.Common.{◌≡◌, ℕ, zero, suc, ◌+◌, ◌*◌, ◌<◌, ◌≤◌, true, List, [], ◌∷◌, ◌++◌, length, take, drop, get_or, nat_le, nat_lt, refl, ap, ◌∙◌, arith}
 use Rattle.std.proofs.lemmas.Bool.{ltb-true, leb-true}
 use Rattle.std.proofs.lemmas.List.{get_or-take, get_or-drop, get_or_append_left, drop-append-le, take-append-le, length-take-le, length-drop}
-use Rattle.ii_docset.specs.declared.docset.TheConstants.{TERMINATED}
-use Rattle.ii_docset.specs.Entries.{ascend_from, are_documents}
-use Rattle.ii_docset.proofs.CursorLemmas.{and_parts}
+use Rattle.ii_base.specs.declared.doc_id.TheConstants.{TERMINATED}
+use Rattle.ii_base.specs.Entries.{ascend_from, are_documents}
+use Rattle.ii_base.proofs.AscentLemmas.{and_parts}
 use Rattle.ii_codes.proofs.SortedVintLemmas.{falls_by}
 use Rattle.ii_codes.specs.Sums.{DoNotFall}
 use Rattle.ii_layout.specs.Written.{block_of, last_before}

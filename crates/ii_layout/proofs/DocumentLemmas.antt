@@ -5,8 +5,8 @@ use Rattle.std.proofs.lemmas.Bool.{ltb-true, ltb-false, eqb-true, and_parts}
 use Rattle.std.proofs.Math.Seq.{take-append_seam, drop-append_seam}
 use Rattle.std.specs.List.{concat}
 use Rattle.ii_io.specs.StepLemmas.{needs-some, step-some, some-same}
-use Rattle.ii_docset.specs.Entries.{ascend_from, are_documents}
-use Rattle.ii_docset.proofs.AscentLemmas.{least_after, ascend-append, least_after-last}
+use Rattle.ii_base.specs.Entries.{ascend_from, are_documents}
+use Rattle.ii_base.proofs.AscentLemmas.{least_after, ascend-append, least_after-last}
 use Rattle.ii_codes.specs.Blocks.{sorted_block_at}
 use Rattle.ii_codes.proofs.LengthLemmas.{length-sorted_block_at, length-sorted_vints_at}
 use Rattle.ii_layout.specs.Each.{each}

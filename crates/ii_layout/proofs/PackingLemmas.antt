@@ -13,7 +13,7 @@ use Rattle.ii_io.specs.declared.faults.LimitName.TheVariants.{Offset}
 use Rattle.ii_io.specs.CountingWriter.{CountingWriterState, Wrote, Writes, IsFull}
 use Rattle.ii_io.specs.CountingWriterLemmas.{Wrote-trans, full_after, writes_then, writes_refused_by, writes_went}
 use Rattle.ii_io.specs.Vints.{vint_u64}
-use Rattle.ii_docset.specs.Entries.{are_documents}
+use Rattle.ii_base.specs.Entries.{are_documents}
 use Rattle.ii_codes.specs.Blocks.{least_first, sorted_entries, sorted_width, sorted_bytes}
 use Rattle.ii_codes.specs.Sums.{DoNotFall}
 use Rattle.ii_base.specs.Options.{has_freq}

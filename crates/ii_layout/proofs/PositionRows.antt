@@ -6,7 +6,7 @@ use Rattle.ii_io.specs.declared.faults.Part.TheVariants.{Positions}
 use Rattle.ii_io.specs.Vints.{vint_u32, vint_u64, u32_at, u64_at}
 use Rattle.ii_codes.specs.Packed.{bits_in, entries_in, packed, unpacked, num_bits}
 use Rattle.ii_codes.specs.Blocks.{unsorted_block_at}
-use Rattle.ii_docset.specs.Entries.{Entry, document, counted}
+use Rattle.ii_base.specs.Entries.{Entry, document, counted}
 use Rattle.ii_layout.specs.Positions.{position_deltas, positions_of, written_positions}
 use Rattle.ii_layout.specs.TermList.{term_list}
 

@@ -13,7 +13,7 @@ use Rattle.ii_io.specs.Numbers.{le_bytes}
 use Rattle.ii_io.specs.Steps.{◌>>=◌, needs}
 use Rattle.ii_io.specs.Vints.{vint_u64}
 use Rattle.ii_io.specs.VintLemmas.{u64_at-vint_u64}
-use Rattle.ii_docset.specs.Entries.{are_documents}
+use Rattle.ii_base.specs.Entries.{are_documents}
 use Rattle.ii_io.specs.Vints.{u32s_at}
 use Rattle.ii_codes.specs.Blocks.{sorted_width, sorted_entries, sorted_bytes, unsorted_width, unsorted_entries, unsorted_bytes, IsBlock, AscendsAfter}
 use Rattle.ii_codes.specs.UnsortedVints.{unsorted_vints}

@@ -15,7 +15,7 @@ use Rattle.byteorder.specs.Endian.{little_number}
 use Rattle.ii_io.specs.Numbers.{little_endian, number_at}
 use Rattle.ii_io.specs.NumberLemmas.{number_at-some}
 use Rattle.ii_io.specs.StepLemmas.{some-same}
-use Rattle.ii_docset.specs.declared.docset.TheConstants.{TERMINATED}
+use Rattle.ii_base.specs.declared.doc_id.TheConstants.{TERMINATED}
 
 -- the number in the four bytes at the front
 pub number_front : (n : ℕ) (bytes : List ℕ) → n ≡ little_number 4 bytes → 4 ≤ length bytes → n ≡ little_endian (take 4 bytes)

@@ -5,10 +5,10 @@ use Rattle.ii_base.specs.declared.schema.index_record_option.IndexRecordOption.T
 use Rattle.ii_io.specs.declared.faults.Part.TheVariants.{Skip, Documents, Frequencies}
 use Rattle.ii_io.specs.Numbers.{le_bytes}
 use Rattle.ii_io.specs.Vints.{vint_u32, vint_u64, u32_at, u64_at}
-use Rattle.ii_docset.specs.declared.docset.TheConstants.{TERMINATED}
+use Rattle.ii_base.specs.declared.doc_id.TheConstants.{TERMINATED}
 use Rattle.ii_codes.specs.Packed.{bits_in, entries_in, packed, unpacked, num_bits}
 use Rattle.ii_codes.specs.Blocks.{sorted_block_at, unsorted_block_at}
-use Rattle.ii_docset.specs.Entries.{document, counted}
+use Rattle.ii_base.specs.Entries.{document, counted}
 use Rattle.ii_layout.specs.declared.skip.BlockInfo.TheVariants.{BitPacked, VInt}
 use Rattle.ii_layout.specs.SkipList.{entry_at, entries_at}
 use Rattle.ii_layout.specs.SkipReader.{reader_at}

@@ -10,7 +10,7 @@ use Rattle.ii_base.specs.Options.{has_freq}
 use Rattle.ii_io.specs.Vints.{vint_u32, fewest_groups}
 use Rattle.ii_codes.specs.SortedVints.{sorted_vints}
 use Rattle.ii_codes.specs.UnsortedVints.{unsorted_vints}
-use Rattle.ii_docset.specs.Entries.{Entry, are_documents}
+use Rattle.ii_base.specs.Entries.{Entry, are_documents}
 use Rattle.ii_layout.specs.SkipList.{SkipEntry, SkipList, skip_list}
 use Rattle.ii_layout.specs.Frequencies.{has_freqs, freqs_at, freqs_if}
 use Rattle.ii_layout.specs.Postings.{entries_of, posting_list}

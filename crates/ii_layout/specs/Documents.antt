@@ -2,7 +2,7 @@
 use Rattle.std.specs.Prelude.{ℕ, zero, suc, List, ◌++◌, drop, length, slice_index, ◌==◌, Option, Some}
 use Rattle.std.specs.List.{concat, slice_index_or}
 use Rattle.ii_io.specs.Steps.{◌>>=◌, needs}
-use Rattle.ii_docset.specs.Entries.{are_documents}
+use Rattle.ii_base.specs.Entries.{are_documents}
 use Rattle.ii_codes.specs.Blocks.{sorted_block_at}
 use Rattle.ii_codes.specs.SortedVints.{sorted_vints_at}
 use Rattle.ii_layout.specs.Each.{each}

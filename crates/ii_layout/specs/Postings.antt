@@ -6,7 +6,7 @@ use Rattle.ii_io.specs.declared.faults.Part.TheVariants.{Skip, Documents, Freque
 use Rattle.ii_io.specs.Parts.{◌>>=◌}
 use Rattle.ii_base.specs.declared.schema.index_record_option.IndexRecordOption.{IndexRecordOption}
 use Rattle.ii_base.specs.Options.{has_freq}
-use Rattle.ii_docset.specs.Entries.{Entry, document, counted}
+use Rattle.ii_base.specs.Entries.{Entry, document, counted}
 use Rattle.ii_layout.specs.SkipList.{SkipList, skip_list}
 use Rattle.ii_layout.specs.Documents.{documents_at}
 use Rattle.ii_layout.specs.Frequencies.{has_freqs, freqs_if}

@@ -9,7 +9,7 @@ use Rattle.ii_base.specs.Options.{downgrade, has_freq, has_positions}
 use Rattle.ii_base.specs.declared.schema.index_record_option.IndexRecordOption.TheVariants.{Basic}
 use Rattle.std.specs.List.{sum, list_all, AllByRecursion}
 use Rattle.ii_codes.specs.Sums.{fit_u32}
-use Rattle.ii_docset.specs.Entries.{Entry, are_documents}
+use Rattle.ii_base.specs.Entries.{Entry, are_documents}
 use Rattle.ii_layout.specs.Postings.{postings, entries_of}
 use Rattle.ii_layout.specs.Positions.{positions_of, deltas_at, written_positions}
 use Rattle.ii_layout.specs.Written.{written_postings, AreFreqs, freqs_read}

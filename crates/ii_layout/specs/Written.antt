@@ -9,7 +9,7 @@ use Rattle.ii_io.specs.Vints.{vint_u64}
 use Rattle.ii_codes.specs.Blocks.{sorted_width, sorted_bytes, unsorted_width, unsorted_bytes}
 use Rattle.ii_codes.specs.SortedVints.{sorted_vints}
 use Rattle.ii_codes.specs.UnsortedVints.{unsorted_vints}
-use Rattle.ii_docset.specs.Entries.{document, are_documents}
+use Rattle.ii_base.specs.Entries.{document, are_documents}
 use Rattle.ii_layout.specs.SkipList.{entry_size}
 use Rattle.ii_layout.specs.Postings.{entries_of, posting_list}
 

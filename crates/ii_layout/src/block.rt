@@ -3,7 +3,7 @@ ghost use Rattle.std.specs.List.{sum};
 ghost use Rattle.ii_layout.specs.PostingsSerializer.{no_docs, one_doc, joined};
 
 use ii_codes::COMPRESSION_BLOCK_SIZE;
-use ii_docset::DocId;
+use ii_base::DocId;
 use std::marker::Model;
 
 /// At most 128 documents with their counts.

@@ -6,16 +6,15 @@ ghost use Rattle.ii_io.specs.CountingWriter.{Writes, WritesUnlessClosed, IsFull}
 ghost use Rattle.ii_io.specs.Faults.{OnlyMemory};
 ghost use Rattle.ii_codes.specs.Blocks.{sorted_bytes, unsorted_width};
 ghost use Rattle.ii_codes.specs.Sums.{DoNotFall};
-ghost use Rattle.ii_docset.specs.Entries.{are_documents};
+ghost use Rattle.ii_base.specs.Entries.{are_documents};
 ghost use Rattle.ii_layout.specs.PostingsSerializer.{AreWhole, AreBlockFreqs, IsFullBlock, IsOpenBlock, IsSumTooLarge, AddsDocs, no_docs, one_doc, joined, sized, written_docs};
 ghost use Rattle.ii_layout.specs.Written.{entry_of_block, freq_part, packed_freqs, rest_bytes, written_postings};
 
 use super::block::Block;
 use super::doc_list::DocList;
 use super::skip::SkipSerializer;
-use ii_base::{CountingWriter, Fault, IndexRecordOption, LimitName};
+use ii_base::{CountingWriter, DocId, Fault, IndexRecordOption, LimitName};
 use ii_codes::{BlockEncoder, VIntEncoder};
-use ii_docset::DocId;
 use ii_fieldnorm::FieldNormReader;
 use ii_io::vint::{self, MAX_LONG_VINT_SIZE};
 use std::alloc::Global;

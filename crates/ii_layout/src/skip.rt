@@ -1,15 +1,14 @@
 ghost use Rattle.std.specs.Prelude.{◌≡◌, ◌+◌, ◌*◌, ◌/◌, ◌^◌, ◌<◌, ◌≤◌, min, [], ◌∷◌, ◌++◌, false, true, length, drop, nat_lt, if◌then◌else◌};
 ghost use Rattle.ii_io.specs.Numbers.{le_bytes};
 ghost use Rattle.ii_layout.specs.SkipList.{width_of_code, strict_of_code, entry_size, entry_at, entries_at};
-ghost use Rattle.ii_docset.specs.declared.docset.TheConstants.{TERMINATED};
+ghost use Rattle.ii_base.specs.declared.doc_id.TheConstants.{TERMINATED};
 ghost use Rattle.ii_layout.specs.SkipReader.{Seeks, max_tf_of_code, code_of_max_tf, block_info_of, packed_size_of, tf_sum_of, reader_at};
 ghost use Rattle.ii_layout.specs.SkipSerializer.{Adds};
 ghost use Rattle.ii_layout.specs.Written.{code_of_width};
 
 use byteorder::{ByteOrder, LittleEndian};
-use ii_base::IndexRecordOption;
+use ii_base::{DocId, IndexRecordOption, TERMINATED};
 use ii_codes::compressed_block_size;
-use ii_docset::{DocId, TERMINATED};
 use ii_io::{Fault, Tally};
 use std::alloc::{AllocError, Global};
 use std::marker::Model;

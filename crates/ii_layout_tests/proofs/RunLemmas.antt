@@ -3,7 +3,7 @@ use Rattle.std.proofs.Common.{◌≡◌, ℕ, zero, suc, ◌+◌, ◌<◌, true,
 use Rattle.std.proofs.lemmas.Bool.{le-leb, lt-ltb}
 use Rattle.std.proofs.lemmas.List.FromFn.{length-range_with_len}
 use Rattle.std.specs.List.{range_with_len}
-use Rattle.ii_docset.specs.Entries.{ascend_from, are_documents}
+use Rattle.ii_base.specs.Entries.{ascend_from, are_documents}
 use Rattle.ii_base.proofs.AsciiLemmas.{range_more}
 
 row_ascends : (a n : ℕ) → a + n < 2147483647 → ascend_from a (range_with_len a n) ≡ true

@@ -2,8 +2,7 @@ ghost use Rattle.std.specs.Prelude.{◌≡◌, ◌<◌, ◌≤◌, [], IsTrue, O
 ghost use Rattle.ii_base.specs.Options.{has_freq};
 ghost use Rattle.std.specs.List.{range_with_len};
 
-use ii_base::{CountingWriter, Fault, IndexRecordOption, LimitName};
-use ii_docset::TERMINATED;
+use ii_base::{CountingWriter, Fault, IndexRecordOption, LimitName, TERMINATED};
 use ii_fieldnorm::FieldNormReader;
 use ii_io::FailingWriter;
 use ii_layout::skip::{

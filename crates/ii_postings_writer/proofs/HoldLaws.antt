@@ -6,7 +6,7 @@ use Rattle.ii_io.specs.declared.faults.Part.{Part}
 use Rattle.ii_base.specs.declared.schema.index_record_option.IndexRecordOption.{IndexRecordOption}
 use Rattle.ii_base.specs.declared.schema.index_record_option.IndexRecordOption.TheVariants.{Basic, WithFreqs, WithFreqsAndPositions}
 use Rattle.ii_base.specs.Options.{downgrade, has_freq, has_positions}
-use Rattle.ii_docset.specs.Entries.{Entry, docs_of}
+use Rattle.ii_base.specs.Entries.{Entry, docs_of}
 use Rattle.ii_layout.specs.TermList.{ReadsUncountedTermBack, term_list}
 use Rattle.ii_layout.specs.Written.{written_postings}
 use Rattle.ii_definitions.specs.Cut.{cut_entry}

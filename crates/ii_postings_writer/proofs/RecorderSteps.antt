@@ -4,14 +4,14 @@ use Rattle.std.specs.Prelude.{slice_get, unwrap_or, IsTrue, IfErr, IfSome, Match
 use Rattle.std.specs.Option.{option_to_list}
 use Rattle.std.proofs.lemmas.List.{length-map, map-append}
 use Rattle.ii_base.specs.declared.schema.index_record_option.IndexRecordOption.{IndexRecordOption}
-use Rattle.ii_docset.specs.Entries.{Entry, are_documents, docs_of}
-use Rattle.ii_docset.proofs.AscentLemmas.{ascend-append, least_after, least_after-append}
+use Rattle.ii_base.specs.Entries.{Entry, are_documents, docs_of}
+use Rattle.ii_base.proofs.AscentLemmas.{ascend-append, least_after, least_after-append}
 use Rattle.std.proofs.lemmas.Bool.{eqb-false}
 use Rattle.ii_recorder.specs.Recorded.{RecorderState, begun, current_doc, entries_of_recorder, last_doc, position_fault, u32_max, with_position}
 use Rattle.ii_io.specs.declared.faults.Fault.{Fault}
 use Rattle.ii_io.specs.declared.faults.Fault.TheVariants.{OutOfMemory}
 use Rattle.ii_json.specs.LeafVisit.{IsRefusedBy}
-use Rattle.ii_docset.specs.declared.docset.TheConstants.{TERMINATED}
+use Rattle.ii_base.specs.declared.doc_id.TheConstants.{TERMINATED}
 use Rattle.ii_postings_writer.specs.IndexingContext.{EndsBy, entry_for_doc, is_open, new_recorder, opened_at, recorded_at}
 use Rattle.ii_recorder.proofs.RecorderLemmas.{last_of_push}
 

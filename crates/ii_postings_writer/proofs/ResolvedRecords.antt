@@ -8,7 +8,7 @@ use Rattle.std.proofs.lemmas.Cmp.{nat_list_eq_equiv}
 use Rattle.std.proofs.lemmas.Slice.Eq.{bytes_eq-Decides}
 use Rattle.ii_base.specs.Values.{json_key}
 use Rattle.ii_base.specs.declared.schema.index_record_option.IndexRecordOption.{IndexRecordOption}
-use Rattle.ii_docset.specs.Entries.{Entry}
+use Rattle.ii_base.specs.Entries.{Entry}
 use Rattle.ii_definitions.specs.Cut.{cut_entry}
 use Rattle.ii_definitions.specs.JsonKeys.{path_in}
 use Rattle.ii_definitions.specs.Postings.{grouped, is_at, kind_of, tokens_at, with_token}

@@ -12,7 +12,7 @@ use Rattle.ii_io.specs.declared.faults.LimitName.TheVariants as limit
 use Rattle.ii_base.specs.declared.schema.index_record_option.IndexRecordOption.{IndexRecordOption}
 use Rattle.ii_base.specs.declared.schema.index_record_option.IndexRecordOption.TheVariants.{Basic, WithFreqs, WithFreqsAndPositions}
 use Rattle.ii_base.specs.Options.{downgrade}
-use Rattle.ii_docset.specs.Entries.{Entry, ascend_from, docs_of}
+use Rattle.ii_base.specs.Entries.{Entry, ascend_from, docs_of}
 use Rattle.ii_base.specs.Words.{Word}
 use Rattle.ii_recorder.specs.Recorded.{RecorderState, begun, entries_of_recorder, position_fault, u32_max}
 use Rattle.ii_definitions.specs.Tokens.{IndexToken, Piece, kept_words, max_token_len, word_token}
@@ -27,7 +27,7 @@ use Rattle.ii_json.specs.LeafVisit.{IsRefusedBy, first_fault}
 use Rattle.ii_postings_writer.proofs.RecordsLaws.{HasKey, records_more, tokens_at_last}
 use Rattle.ii_postings_writer.proofs.RecorderSteps.{open_in}
 use Rattle.ii_json.proofs.LeafVisitLemmas.{first_fault-assoc}
-use Rattle.ii_docset.specs.declared.docset.TheConstants.{TERMINATED}
+use Rattle.ii_base.specs.declared.doc_id.TheConstants.{TERMINATED}
 
 pub records_subscribed : (option : IndexRecordOption) (doc position : ℕ) (term : IndexingTermState) (old new : TermIndex) → term.field < 2 ^ 32 → IsRecorded option doc position (term_bytes term) old new
     → (kind : ℕ → List ℕ → IndexRecordOption) (ts : List IndexToken) (of_text : Bool) → kind term.field term.value ≡ option → Records kind old ts → Records kind new (ts ++ term_token doc position of_text term ∷ [])

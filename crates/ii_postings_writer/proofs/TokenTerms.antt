@@ -13,7 +13,7 @@ use Rattle.std.proofs.lemmas.Map.Text.{is_eq-slice_cmp}
 use Rattle.ii_base.specs.declared.schema.index_record_option.IndexRecordOption.{IndexRecordOption}
 use Rattle.ii_base.specs.declared.schema.index_record_option.IndexRecordOption.TheVariants.{Basic, WithFreqs, WithFreqsAndPositions}
 use Rattle.ii_base.specs.Options.{has_freq, has_positions}
-use Rattle.ii_docset.specs.Entries.{Entry, docs_of}
+use Rattle.ii_base.specs.Entries.{Entry, docs_of}
 use Rattle.ii_definitions.specs.Cut.{cut_entry}
 use Rattle.ii_definitions.specs.Postings.{grouped, kind_of, occurs, tokens_at}
 use Rattle.ii_definitions.specs.Tokens.{IndexToken}

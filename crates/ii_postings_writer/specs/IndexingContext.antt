@@ -4,7 +4,7 @@ use Rattle.std.specs.Map.{lookup}
 use Rattle.std.specs.Option.{option_map_or}
 use Rattle.ii_io.specs.declared.faults.Fault.{Fault}
 use Rattle.ii_base.specs.declared.schema.index_record_option.IndexRecordOption.{IndexRecordOption}
-use Rattle.ii_docset.specs.Entries.{Entry, are_documents, docs_of}
+use Rattle.ii_base.specs.Entries.{Entry, are_documents, docs_of}
 use Rattle.ii_recorder.specs.Recorded.{RecorderState, begun, entries_of_recorder, position_fault, with_position}
 
 -- each term's bytes with its recorder

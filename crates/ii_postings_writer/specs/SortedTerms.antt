@@ -8,7 +8,7 @@ use Rattle.std.specs.List.{AllByRecursion}
 use Rattle.ii_base.specs.declared.schema.index_record_option.IndexRecordOption.{IndexRecordOption}
 use Rattle.ii_base.specs.declared.schema.index_record_option.IndexRecordOption.TheVariants.{Basic}
 use Rattle.ii_base.specs.Options.{has_freq, has_positions}
-use Rattle.ii_docset.specs.Entries.{are_documents, docs_of}
+use Rattle.ii_base.specs.Entries.{are_documents, docs_of}
 use Rattle.ii_recorder.specs.Pushed.{FillTooLarge, HaveDeltas, pushed_deltas, pushed_freqs}
 use Rattle.ii_recorder.specs.Recorded.{RecorderState, entries_of_recorder}
 use Rattle.ii_recorder.specs.Terms.{WrittenTerm}

@@ -7,7 +7,7 @@ use Rattle.std.specs.Ordering.{nat_cmp}
 use Rattle.ii_io.specs.Composite.{Body}
 use Rattle.ii_base.specs.Schema.{SchemaEntry}
 use Rattle.ii_base.specs.declared.schema.index_record_option.IndexRecordOption.{IndexRecordOption}
-use Rattle.ii_docset.specs.Entries.{docs_of}
+use Rattle.ii_base.specs.Entries.{docs_of}
 use Rattle.ii_definitions.specs.Cut.{cut_entry}
 use Rattle.ii_definitions.specs.Fields.{option_of}
 use Rattle.ii_definitions.specs.Postings.{field_count, grouped, kind_of, tokens_at}

@@ -7,7 +7,7 @@ use Rattle.ii_io.specs.declared.faults.LimitName.TheVariants as limit
 use Rattle.ii_base.specs.declared.schema.index_record_option.IndexRecordOption.{IndexRecordOption}
 use Rattle.ii_base.specs.Words.{Word}
 use Rattle.ii_json.specs.LeafVisit.{first_fault}
-use Rattle.ii_docset.specs.Entries.{Entry}
+use Rattle.ii_base.specs.Entries.{Entry}
 use Rattle.ii_recorder.specs.Recorded.{begun, position_fault, u32_max}
 use Rattle.ii_definitions.specs.Tokens.{IndexToken, Piece, end_after, word_token}
 use Rattle.ii_definitions.specs.Postings.{field_count, key_postings}

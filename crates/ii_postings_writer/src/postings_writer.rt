@@ -2,7 +2,7 @@ ghost use Rattle.std.specs.Prelude.{◌≡◌, ◌≤◌, ◌<◌, ◌+◌, ◌+
 ghost use Rattle.ii_io.specs.declared.faults.LimitName.TheVariants as limit;
 ghost use Rattle.ii_base.specs.Words.{Word, seen_word};
 ghost use Rattle.ii_base.specs.declared.schema.index_record_option.IndexRecordOption.TheVariants.{Basic};
-ghost use Rattle.ii_docset.specs.declared.docset.TheConstants.{TERMINATED};
+ghost use Rattle.ii_base.specs.declared.doc_id.TheConstants.{TERMINATED};
 ghost use Rattle.ii_recorder.specs.Recorded.{u32_max};
 ghost use Rattle.ii_definitions.specs.Tokens.{IndexToken, end_after, kept_words, piece_tokens_from};
 ghost use Rattle.ii_postings_writer.specs.IndexingContext.{AllEndBy, IsRecorded};
@@ -16,8 +16,7 @@ use crate::indexing_context::IndexingContext;
 use crate::indexing_position::IndexingPosition;
 use crate::indexing_term::IndexingTerm;
 use crate::term_recorders::TermRecorders;
-use ii_base::{Fault, IndexRecordOption, LimitName, TokenStream, TokenView};
-use ii_docset::DocId;
+use ii_base::{DocId, Fault, IndexRecordOption, LimitName, TokenStream, TokenView};
 use std::marker::Model;
 
 // How far the next text of a field lies behind the last one.

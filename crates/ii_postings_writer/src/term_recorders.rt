@@ -1,13 +1,12 @@
 ghost use Rattle.std.specs.Prelude.{◌≡◌, ◌≤◌, ◌<◌, [], length, IfOk, OnOk};
 ghost use Rattle.ii_io.specs.Faults.{OnlyMemory};
-ghost use Rattle.ii_docset.specs.declared.docset.TheConstants.{TERMINATED};
+ghost use Rattle.ii_base.specs.declared.doc_id.TheConstants.{TERMINATED};
 ghost use Rattle.ii_recorder.specs.AnyRecorder.{any_state};
 ghost use Rattle.ii_postings_writer.specs.IndexingContext.{AllEndBy, EndsBy, IsRecorded, new_recorder, opened_at, record_fault, recorded_at, recorder_or_new};
 ghost use Rattle.ii_postings_writer.specs.IndexingTerm.{AreTermBytes};
 ghost use Rattle.ii_json.specs.LeafVisit.{IsRefusedBy};
 
-use ii_base::{Fault, IndexRecordOption};
-use ii_docset::DocId;
+use ii_base::{DocId, Fault, IndexRecordOption};
 use ii_recorder::{AnyRecorder, Recorder};
 use indexmap::IndexMap;
 use std::alloc::Global;

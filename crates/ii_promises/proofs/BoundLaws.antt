@@ -5,7 +5,7 @@ use Rattle.std.proofs.lemmas.Option.{get_or_from_slice_get}
 use Rattle.std.proofs.lemmas.Bool.{ne_eqb}
 use Rattle.ii_io.specs.StepLemmas.{some-same}
 use Rattle.ii_docset.specs.Cursor.{doc_at}
-use Rattle.ii_docset.specs.Entries.{Entry}
+use Rattle.ii_base.specs.Entries.{Entry}
 use Rattle.ii_layout.specs.Frequencies.{bounds_counts}
 use Rattle.ii_reader.specs.Bounds.{bound_bytes, freq_bound, is_wanted, sought_with_freq}
 

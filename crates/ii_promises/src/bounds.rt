@@ -2,7 +2,7 @@
 ghost use Rattle.std.specs.Prelude.{◌≡◌, ◌+◌, ◌-◌, ◌*◌, ◌<◌, ◌≤◌, ◌&&◌, ◌==◌, ℕ, List, drop, filter, not, nat_le, nat_lt, take, true, if◌then◌else◌, Some};
 ghost use Rattle.std.specs.List.{list_all, range_with_len, slice_index_or, sum_by};
 ghost use Rattle.ii_docset.specs.Cursor.{IsTarget, doc_at};
-ghost use Rattle.ii_docset.specs.Entries.{Entry};
+ghost use Rattle.ii_base.specs.Entries.{Entry};
 
 use nequllpa::{BlockSegmentPostings, DocId, SegmentPostings};
 

@@ -8,13 +8,13 @@ ghost use Rattle.ii_definitions.specs.Norms.{HoldNorms};
 ghost use Rattle.ii_definitions.specs.Tokens.{IndexToken, tokens_of};
 ghost use Rattle.ii_indexing.specs.IndexCalls.{MayAllBeIndexed, call_of};
 ghost use Rattle.ii_indexing.specs.Refusals.{calls_fault};
-ghost use Rattle.ii_search.specs.Queries.{has_fields, matches};
+ghost use Rattle.ii_search.specs.Queries.{has_fields, keeps_positions, matches};
 ghost use Rattle.nequllpa.specs.Ram.{IsRamFault};
 
 use bytes::Bytes;
 use nequllpa::{
-    DocId, Fault, IndexCall, Query, QueryCursor, Schema, SegmentPostings, TextAnalyzer,
-    index_in_ram, open_index, search,
+    DocId, Fault, IndexCall, Query, QueryCursor, Schema, SegmentPostings, TermOrPhrase,
+    TextAnalyzer, index_in_ram, open_index, search,
 };
 use std::alloc::Global;
 
@@ -28,10 +28,11 @@ pub fn queries_find_what_matches<A: TextAnalyzer>(
     calls: Vec<IndexCall>,
     analyzer: &A,
     query: &Query,
-) -> Result<QueryCursor<SegmentPostings>, Fault>
+) -> Result<QueryCursor<TermOrPhrase<SegmentPostings>>, Fault>
     requires docs { num_docs ≤ 2147483647 }
     requires calls { MayAllBeIndexed schema num_docs calls.items }
     requires fields { has_fields (length schema) query.now ≡ true }
+    requires positions { keeps_positions schema query.now ≡ true }
     ensures ascending { IfOk result (λ cursor. IsAscending cursor.rest) }
     ensures found { IfOk result (λ cursor. (doc : ℕ) → has_doc cursor.rest doc ≡ matches query.now (tokens_of (A.words analyzer.now) (map (call_of schema) calls.items)) doc) }
     ensures fault { calls_fault (A.words analyzer.now) (option_of schema) [] (map (call_of schema) calls.items) ≡ None
@@ -54,8 +55,9 @@ pub fn queries_of_files_find_what_matches(
     fieldnorms: Bytes,
     schema: &Schema,
     query: &Query,
-) -> Result<QueryCursor<SegmentPostings>, Fault>
+) -> Result<QueryCursor<TermOrPhrase<SegmentPostings>>, Fault>
     requires fields { has_fields (length schema.now) query.now ≡ true }
+    requires positions { keeps_positions schema.now query.now ≡ true }
     ensures ascending { IfOk result (λ cursor. IsAscending cursor.rest) }
     ensures found { (tokens : List IndexToken) → (num_docs : ℕ) → HoldTokens (option_of schema.now) terms postings positions tokens → HoldNorms schema.now num_docs fieldnorms tokens
         → IfOk result (λ cursor. (doc : ℕ) → has_doc cursor.rest doc ≡ matches query.now tokens doc) }

@@ -5,13 +5,13 @@ ghost use Rattle.ii_docset.specs.Cursor.{IsAscending};
 ghost use Rattle.ii_docset.specs.Intersection.{has_doc};
 ghost use Rattle.ii_definitions.specs.Tokens.{IndexToken};
 ghost use Rattle.ii_reader.specs.OpenIndex.{IndexHolds};
-ghost use Rattle.ii_search.specs.Queries.{has_fields};
+ghost use Rattle.ii_search.specs.Queries.{has_fields, keeps_positions};
 ghost use Rattle.ii_search.specs.QueryTexts.{text_matches, text_refusal};
 ghost use Rattle.ii_promises.specs.Texts.{GivesOrTells};
 
 use nequllpa::{
     Fault, Field, OpenIndex, Query, QueryCursor, QueryParserError, Schema, SegmentPostings,
-    TextAnalyzer, parse_query, search,
+    TermOrPhrase, TextAnalyzer, parse_query, search,
 };
 use std::alloc::Global;
 
@@ -25,7 +25,7 @@ pub fn texts_find_what_matches<A: TextAnalyzer>(
     default_fields: &[Field],
     analyzer: &A,
     text: &str,
-) -> Result<QueryCursor<SegmentPostings>, QueryParserError>
+) -> Result<QueryCursor<TermOrPhrase<SegmentPostings>>, QueryParserError>
     requires many { length index.now.readers ≡ length schema.now }
     ensures ascending { IfOk result (λ cursor. IsAscending cursor.rest) }
     ensures found { (num_docs : ℕ) (tokens : List IndexToken) → IndexHolds schema.now num_docs index.now tokens
@@ -46,11 +46,11 @@ fn searched(
     alloc: Global,
     index: &OpenIndex,
     query: &Query,
-) -> Result<QueryCursor<SegmentPostings>, QueryParserError>
+) -> Result<QueryCursor<TermOrPhrase<SegmentPostings>>, QueryParserError>
     requires { has_fields (length index.now.readers) query.now ≡ true }
     ensures ascending { IfOk result (λ cursor. IsAscending cursor.rest) }
     ensures gives { (schema : List SchemaEntry) (num_docs : ℕ) (tokens : List IndexToken) → IndexHolds schema num_docs index.now tokens
-        → has_fields (length schema) query.now ≡ true → GivesOrTells query.now tokens result }
+        → has_fields (length schema) query.now ≡ true → keeps_positions schema query.now ≡ true → GivesOrTells query.now tokens result }
 {
     match search(alloc, index, query) {
         Ok(cursor) => Ok(cursor),

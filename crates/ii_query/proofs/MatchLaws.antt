@@ -3,8 +3,8 @@ use Rattle.std.proofs.Common.{◌≡◌, ◌≢◌, ℕ, ◌<◌, Bool, true, fa
 use Rattle.std.proofs.lemmas.Bool.{eq-eqb, ne_eqb}
 use Rattle.std.proofs.lemmas.Bool.Decides.{eqb_tells, leb_tells}
 use Rattle.std.specs.Prelude.{map, nat_eq, not}
-use Rattle.ii_docset.specs.declared.docset.TheConstants.{TERMINATED}
-use Rattle.ii_docset.specs.Entries.{Entry, docs_of, document}
+use Rattle.ii_base.specs.declared.doc_id.TheConstants.{TERMINATED}
+use Rattle.ii_base.specs.Entries.{Entry, docs_of, document}
 use Rattle.ii_docset.specs.Cursor.{doc_at, IsAscending, from_doc}
 use Rattle.ii_docset.specs.Intersection.{has_doc}
 use Rattle.ii_query.specs.Combined.{common, either, picked, put_all, put_in, without}

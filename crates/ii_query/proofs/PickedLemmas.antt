@@ -5,8 +5,8 @@ use Rattle.std.proofs.lemmas.List.Elements.{All-map}
 use Rattle.std.proofs.lemmas.Bool.Decides.{leb_tells}
 use Rattle.std.specs.Prelude.{filter, map, not}
 use Rattle.std.specs.List.{All}
-use Rattle.ii_docset.specs.declared.docset.TheConstants.{TERMINATED}
-use Rattle.ii_docset.specs.Entries.{Entry, docs_of, document}
+use Rattle.ii_base.specs.declared.doc_id.TheConstants.{TERMINATED}
+use Rattle.ii_base.specs.Entries.{Entry, docs_of, document}
 use Rattle.ii_docset.specs.Cursor.{doc_at, FitsU32, IsAscending, IsSound, from_doc}
 use Rattle.ii_docset.specs.Intersection.{common_docs, has_doc}
 use Rattle.ii_docset.proofs.CursorLemmas.{from_doc_here}

@@ -3,8 +3,8 @@ use Rattle.std.proofs.Common.{◌≡◌, ℕ, suc, ◌+◌, ◌<◌, ◌≤◌, 
 use Rattle.std.proofs.lemmas.Bool.{le-leb, lt-leb}
 use Rattle.std.proofs.lemmas.Bool.Decides.{leb_tells}
 use Rattle.std.specs.Prelude.{filter, map, nat_le, if◌then◌else◌}
-use Rattle.ii_docset.specs.declared.docset.TheConstants.{TERMINATED}
-use Rattle.ii_docset.specs.Entries.{Entry, docs_of, document}
+use Rattle.ii_base.specs.declared.doc_id.TheConstants.{TERMINATED}
+use Rattle.ii_base.specs.Entries.{Entry, docs_of, document}
 use Rattle.ii_docset.specs.Cursor.{doc_at, IsAscending, IsSound, from_doc}
 use Rattle.ii_docset.proofs.CursorLemmas.{doc_below, from_doc_here, from_doc_step, nothing_left}
 use Rattle.ii_query.specs.Combined.{either, put_all, put_in}

@@ -1,7 +1,7 @@
 -- The documents of cursors that are combined.
 use Rattle.std.specs.Prelude.{◌≡◌, ℕ, Bool, if◌then◌else◌, List, [], ◌∷◌, filter, map, nat_le, not}
 use Rattle.std.specs.List.{range_with_len}
-use Rattle.ii_docset.specs.Entries.{Entry, docs_of, document}
+use Rattle.ii_base.specs.Entries.{Entry, docs_of, document}
 use Rattle.ii_docset.specs.Cursor.{doc_at, IsSound}
 use Rattle.ii_docset.specs.Intersection.{has_doc}
 

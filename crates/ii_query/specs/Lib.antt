@@ -1,3 +1,5 @@
 pub mod Combined
+pub mod Phrase
 pub mod QueryCursor
 pub mod QueryCursorLemmas
+pub mod TermOrPhrase

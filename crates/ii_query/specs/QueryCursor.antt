@@ -1,6 +1,6 @@
 -- The documents of a cursor that is nested.
 use Rattle.std.specs.Prelude.{ℕ, ◌+◌, ◌-◌, max, List, [], ⊤}
-use Rattle.ii_docset.specs.Entries.{Entry}
+use Rattle.ii_base.specs.Entries.{Entry}
 use Rattle.ii_query.specs.Combined.{IsAtFirst, all_from, common, either, without}
 use Rattle.ii_query.specs.declared.query_cursor.QueryParts.{QueryParts}
 use Rattle.ii_query.specs.declared.query_cursor.QueryParts.TheVariants.{Nothing, One, All, Both, Either, Without}

@@ -4,11 +4,15 @@
 pub mod all_docs;
 pub mod exclude;
 pub mod intersection;
+pub mod phrase;
 pub mod query_cursor;
+pub mod term_or_phrase;
 pub mod union;
 
 pub use all_docs::AllDocs;
 pub use exclude::Exclude;
 pub use intersection::Intersection;
+pub use phrase::{PhraseMatch, PhrasePart};
 pub use query_cursor::QueryCursor;
+pub use term_or_phrase::TermOrPhrase;
 pub use union::Union;

@@ -196,7 +196,7 @@ impl<T: DocSet> QueryCursor<T> {
 
 // Drops the documents of a cursor below a target, which may lie below the current one.
 #[tactic(auto, using(ii_docset::proofs::CursorLemmas::doc_below))]
-fn go_on_to<T: DocSet>(cursor: &mut T, target: DocId) -> DocId
+pub(crate) fn go_on_to<T: DocSet>(cursor: &mut T, target: DocId) -> DocId
     requires { target ≤ TERMINATED }
     ensures doc { result ≡ doc_at (T.rest cursor.new) }
     ensures rest { T.rest cursor.new ≡ from_doc target (T.rest cursor.old) }

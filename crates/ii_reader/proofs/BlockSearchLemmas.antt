@@ -4,11 +4,11 @@ use Rattle.std.specs.List.Sorted.{IsNonDecreasing}
 use Rattle.std.proofs.lemmas.Bool.{ltb-true, ltb-false}
 use Rattle.std.proofs.lemmas.List.{get_or_past, get_or_default, length-replicate}
 use Rattle.std.proofs.lemmas.List.Filters.{length-filter_both}
-use Rattle.ii_docset.specs.declared.docset.TheConstants.{TERMINATED}
+use Rattle.ii_base.specs.declared.doc_id.TheConstants.{TERMINATED}
 use Rattle.ii_codes.specs.BlockDecoder.{BlockDecoderState}
 use Rattle.ii_codes.specs.Search.{count_below}
 use Rattle.ii_codes.proofs.SearchLemmas.{low_below, high_above}
-use Rattle.ii_docset.specs.Entries.{are_documents}
+use Rattle.ii_base.specs.Entries.{are_documents}
 use Rattle.ii_layout.specs.Written.{block_of}
 use Rattle.ii_layout.proofs.BlockDocs.{document_low, get_or-block_of}
 use Rattle.ii_check.specs.CheckedPostings.{HoldsBlock}

@@ -9,8 +9,8 @@ use Rattle.std.proofs.lemmas.List.Sums.{sum_by-append, sum_by-cons}
 use Rattle.std.proofs.lemmas.List.FromFn.{length-range_with_len}
 use Rattle.ii_base.specs.declared.schema.index_record_option.IndexRecordOption.{IndexRecordOption}
 use Rattle.ii_base.specs.Options.{has_freq}
-use Rattle.ii_docset.specs.declared.docset.TheConstants.{TERMINATED}
-use Rattle.ii_docset.specs.Entries.{Entry, document, are_documents}
+use Rattle.ii_base.specs.declared.doc_id.TheConstants.{TERMINATED}
+use Rattle.ii_base.specs.Entries.{Entry, document, are_documents}
 use Rattle.ii_docset.specs.Cursor.{doc_at, from_doc, IsAscending, term_freq_at}
 use Rattle.ii_docset.proofs.CursorLemmas.{advanced, doc_below, from_doc_here}
 use Rattle.ii_layout.specs.SkipList.{SkipEntry, SkipList, no_entry}

@@ -4,8 +4,8 @@ use Rattle.std.specs.List.{All, zip, list_all}
 use Rattle.std.proofs.lemmas.Bool.{ltb-true, ltb-false, leb-true, and_parts}
 use Rattle.std.proofs.lemmas.List.{get_or-take, get_or-drop, get_or_past, drop_all, length-map}
 use Rattle.std.proofs.lemmas.List.Elements.{All-map, All-head, All-tail, All-cons}
-use Rattle.ii_docset.specs.declared.docset.TheConstants.{TERMINATED}
-use Rattle.ii_docset.specs.Entries.{Entry, document, counted, ascend_from, are_documents}
+use Rattle.ii_base.specs.declared.doc_id.TheConstants.{TERMINATED}
+use Rattle.ii_base.specs.Entries.{Entry, document, counted, ascend_from, are_documents}
 use Rattle.ii_docset.specs.Cursor.{doc_at, FitsU32, IsAscending, IsSound, term_freq_at}
 use Rattle.ii_docset.proofs.CursorLemmas.{documents_sound, IsSound_drop, advanced}
 use Rattle.ii_codes.specs.Sums.{fit_u32}

@@ -6,6 +6,7 @@ pub mod IndexLemmas
 pub mod JsonLemmas
 pub mod JsonOrderLemmas
 pub mod LoadedLemmas
+pub mod PieceLemmas
 pub mod PositionLemmas
 pub mod ReaderLemmas
 pub mod SeekLemmas

@@ -6,8 +6,8 @@ use Rattle.std.proofs.lemmas.Bool.{ltb-true, ltb-false}
 use Rattle.std.proofs.lemmas.List.{get_or-drop, drop-drop, drop-append-le, take-append-le, get_or_append_left, get_or-append_right, length-map, nil_from_length, length-take-le, take_all, take_more_set, drop-set-lt, get_or_default}
 use Rattle.std.proofs.lemmas.List.Elements.{All-drop, All-map}
 use Rattle.std.proofs.lemmas.List.Sums.{sum_by-cons}
-use Rattle.ii_docset.specs.declared.docset.TheConstants.{TERMINATED}
-use Rattle.ii_docset.specs.Entries.{Entry}
+use Rattle.ii_base.specs.declared.doc_id.TheConstants.{TERMINATED}
+use Rattle.ii_base.specs.Entries.{Entry}
 use Rattle.ii_docset.specs.Cursor.{total_freq, doc_at, positions_at, term_freq_at, IsAscending, FitsU32, IsSound}
 use Rattle.ii_docset.proofs.CursorLemmas.{IsSound_drop, length_below, length_step, nothing_left}
 use Rattle.ii_reader.specs.LoadedPostings.{AreOffsets, IsEndOf, IsHeld, loaded, loaded_entry, num_positions, entry_between, entries_held}

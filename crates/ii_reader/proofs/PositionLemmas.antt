@@ -9,15 +9,15 @@ use Rattle.std.proofs.lemmas.List.Sums.{sum_by-cons, sum_by_more, sum_by-take-le
 use Rattle.ii_io.specs.StepLemmas.{needs-some, step-some, some-same}
 use Rattle.ii_base.specs.declared.schema.index_record_option.IndexRecordOption.{IndexRecordOption}
 use Rattle.ii_base.specs.Options.{downgrade, has_positions}
-use Rattle.ii_docset.specs.declared.docset.TheConstants.{TERMINATED}
+use Rattle.ii_base.specs.declared.doc_id.TheConstants.{TERMINATED}
 use Rattle.ii_codes.specs.Sums.{fit_u32, running_sums}
-use Rattle.ii_docset.specs.Entries.{document}
+use Rattle.ii_base.specs.Entries.{document}
 use Rattle.ii_docset.specs.Cursor.{positions_at}
 use Rattle.ii_layout.specs.Postings.{entries_of}
 use Rattle.ii_layout.specs.Positions.{position_deltas, positions_of, deltas_at}
 use Rattle.ii_layout.specs.TermList.{deltas_if, docs_and_freqs, term_list, list_of, located, positions_if}
 use Rattle.ii_layout.specs.Written.{block_of}
-use Rattle.ii_docset.specs.Entries.{are_documents}
+use Rattle.ii_base.specs.Entries.{are_documents}
 use Rattle.ii_docset.proofs.CursorLemmas.{ascending, length_below}
 use Rattle.ii_codes.specs.BlockDecoder.{BlockDecoderState}
 use Rattle.ii_layout.specs.PositionReader.{PositionReaderState}
@@ -238,6 +238,17 @@ pub cursor_asks : (cursor : BlockSegmentPostingsState) (reader : Option Position
 cursor_asks cursor reader r cur start count e f a inside b count_is =
     let (fs, are, many, asks) = counts_asked cursor.freqs cursor.docs r.deltas cursor.block cur start count (fits_some cursor reader r e f).1 a inside b count_is in
     record { counts = fs; are = are; many = many; asks = asks }
+
+-- where it ends in 64 bits
+pub asks_low : (cursor : BlockSegmentPostingsState) (ds : List ℕ) (cur start count : ℕ) → Asks cursor ds cur start count → AreEntries (length cursor.docs) cursor.docs cursor.freqs → start + count < 2 ^ 64
+asks_low cursor ds cur start count a entries =
+    let inside = asks_inside a.counts ds (128 * cursor.block + cur) start count a.asks in
+    let all = a.asks.many in
+    let fs = entries.freqs_are a.counts a.are in
+    let size = fs.many in
+    let low = sum_low a.counts fs.low in
+    let most = many_documents cursor.docs entries.ascending in
+    omega arith
 
 pub asked_positions : (cursor : BlockSegmentPostingsState) (reader : Option PositionReaderState) (r : PositionReaderState) (cur start count : ℕ) → reader ≡ Some r → Asks cursor r.deltas cur start count
     → positions_at (drop (128 * cursor.block + cur) (list_of cursor.docs cursor.freqs (deltas_read reader))) ≡ running_sums 0 (take count (drop start r.deltas))

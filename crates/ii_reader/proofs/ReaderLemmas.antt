@@ -22,7 +22,7 @@ use Rattle.ii_definitions.specs.Postings.{is_at, key_postings, occurs}
 use Rattle.std.proofs.lemmas.Bool.{leb-true}
 use Rattle.std.specs.Option.{option_map}
 use Rattle.std.specs.Result.{result_unwrap_or}
-use Rattle.ii_docset.specs.Entries.{Entry}
+use Rattle.ii_base.specs.Entries.{Entry}
 use Rattle.ii_termstore.specs.declared.term_info.TermInfo.{TermInfo}
 use Rattle.ii_definitions.specs.Files.{HoldsTerm, bytes_in}
 use Rattle.ii_io.specs.declared.faults.Fault.TheVariants.{OutOfMemory}

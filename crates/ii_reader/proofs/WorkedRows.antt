@@ -12,7 +12,7 @@ use Rattle.ii_termstore.specs.TermStore.{store_parts, term_store}
 use Rattle.ii_termdict.specs.Dictionary.{dictionary, end_of, key_parts, keys_at}
 use Rattle.ii_reader.specs.InvertedIndexReader.{InvertedIndexReaderState, docs_of_file, reader_of_none, reader_over, term_of_file}
 use Rattle.ii_reader.specs.OpenIndex.{all_or_first, index_of_files, reader_if, reader_of_bodies}
-use Rattle.ii_docset.specs.Entries.{document}
+use Rattle.ii_base.specs.Entries.{document}
 use Rattle.ii_layout.specs.TermList.{docs_and_freqs, term_list}
 use Rattle.ii_check.specs.declared.freq_reading_option.FreqReadingOption.TheVariants.{NoFreq}
 use Rattle.ii_check.specs.FreqReading.{freq_reading}

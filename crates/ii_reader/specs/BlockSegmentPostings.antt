@@ -2,8 +2,8 @@
 use Rattle.std.specs.Prelude.{◌≡◌, ℕ, ◌+◌, ◌-◌, ◌*◌, ◌/◌, ◌<◌, ◌≤◌, max, true, List, [], length, take, min, ⊤, Option, None, Some, slice_index}
 use Rattle.std.specs.List.{slice_index_or, sum}
 use Rattle.ii_base.specs.declared.schema.index_record_option.IndexRecordOption.{IndexRecordOption}
-use Rattle.ii_docset.specs.declared.docset.TheConstants.{TERMINATED}
-use Rattle.ii_docset.specs.Entries.{are_documents}
+use Rattle.ii_base.specs.declared.doc_id.TheConstants.{TERMINATED}
+use Rattle.ii_base.specs.Entries.{are_documents}
 use Rattle.ii_codes.specs.BlockDecoder.{BlockDecoderState}
 use Rattle.ii_layout.specs.SkipReader.{SkipReaderState}
 use Rattle.ii_layout.specs.Written.{block_of}

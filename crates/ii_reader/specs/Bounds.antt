@@ -5,7 +5,7 @@ use Rattle.ii_io.specs.declared.faults.Part.{Part}
 use Rattle.ii_io.specs.Parts.{◌>>=◌}
 use Rattle.ii_base.specs.declared.schema.index_record_option.IndexRecordOption.{IndexRecordOption}
 use Rattle.ii_base.specs.Options.{has_freq}
-use Rattle.ii_docset.specs.Entries.{Entry}
+use Rattle.ii_base.specs.Entries.{Entry}
 use Rattle.ii_layout.specs.SkipList.{SkipEntry, SkipList}
 use Rattle.ii_layout.specs.SkipReader.{code_of_max_tf, max_tf_of_code}
 use Rattle.ii_layout.specs.Postings.{postings}

@@ -9,7 +9,7 @@ use Rattle.ii_io.specs.declared.faults.Part.TheVariants as parts
 use Rattle.ii_io.specs.Numbers.{number_at}
 use Rattle.ii_base.specs.declared.schema.index_record_option.IndexRecordOption.{IndexRecordOption}
 use Rattle.ii_base.specs.Options.{downgrade, has_positions}
-use Rattle.ii_docset.specs.Entries.{Entry}
+use Rattle.ii_base.specs.Entries.{Entry}
 use Rattle.ii_layout.specs.TermList.{docs_and_freqs, term_list}
 use Rattle.ii_termstore.specs.declared.term_info.TermInfo.{TermInfo}
 use Rattle.ii_termdict.specs.Dictionary.{info_under}

@@ -4,8 +4,8 @@ use Rattle.std.specs.List.{sum_by}
 use Rattle.ii_io.specs.declared.faults.Fault.{Fault}
 use Rattle.ii_io.specs.declared.faults.Fault.TheVariants.{OutOfMemory, Limit}
 use Rattle.ii_io.specs.declared.faults.LimitName.TheVariants.{LoadedPositions}
-use Rattle.ii_docset.specs.declared.docset.TheConstants.{TERMINATED}
-use Rattle.ii_docset.specs.Entries.{Entry}
+use Rattle.ii_base.specs.declared.doc_id.TheConstants.{TERMINATED}
+use Rattle.ii_base.specs.Entries.{Entry}
 use Rattle.ii_docset.specs.Cursor.{IsSound}
 
 -- what is left of the list, and how many documents were loaded

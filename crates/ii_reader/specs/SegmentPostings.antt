@@ -3,7 +3,7 @@ use Rattle.std.specs.Prelude.{◌≡◌, ℕ, ◌+◌, ◌*◌, ◌/◌, ◌≤�
 use Rattle.std.specs.List.{sum, list_all}
 use Rattle.ii_base.specs.Options.{downgrade, has_positions}
 use Rattle.ii_codes.specs.Sums.{fit_u32}
-use Rattle.ii_docset.specs.Entries.{Entry}
+use Rattle.ii_base.specs.Entries.{Entry}
 use Rattle.ii_layout.specs.Positions.{positions_of}
 use Rattle.ii_layout.specs.PositionReader.{PositionReaderState}
 use Rattle.ii_base.specs.declared.schema.index_record_option.IndexRecordOption.{IndexRecordOption}

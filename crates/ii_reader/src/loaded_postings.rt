@@ -5,7 +5,7 @@ ghost use Rattle.ii_docset.specs.Cursor.{IsCurrent, total_freq, doc_at, position
 ghost use Rattle.ii_reader.specs.LoadedPostings.{IsEndOf, IsLoadFault, loaded, num_positions};
 
 use ii_base::{Fault, LimitName};
-use ii_docset::{DocId, DocSet, Postings, TERMINATED};
+use ii_docset::{DocId, DocSet, Postings, TERMINATED, copy_positions};
 use std::alloc::Global;
 use std::marker::Model;
 
@@ -165,6 +165,10 @@ impl Postings for LoadedPostings {
         output: &mut Vec<u32>,
     ) -> Result<(), Fault> {
         append_with_offset(self.current_positions(), offset, output)
+    }
+
+    fn read_positions(&mut self, from: usize, _before: u32, output: &mut [u32]) -> usize {
+        copy_positions(self.current_positions(), from, output)
     }
 }
 

@@ -1,10 +1,10 @@
-ghost use Rattle.std.specs.Prelude.{◌≡◌, ◌+◌, ◌*◌, ◌/◌, ◌^◌, ◌<◌, ◌≤◌, ◌⊎◌, ◌++◌, false, not, [], drop, take, length, map, Ok, Err, IfOk, IfErr, OnOk, OnErr, IsTrue};
+ghost use Rattle.std.specs.Prelude.{◌≡◌, ◌+◌, ◌*◌, ◌/◌, ◌^◌, ◌<◌, ◌≤◌, ◌⊎◌, ◌++◌, ◌-◌, ◌∷◌, false, not, [], drop, get_or, take, length, map, min, Ok, Err, IfOk, IfErr, OnOk, OnErr, IsTrue};
 ghost use Rattle.std.specs.List.{All};
 ghost use Rattle.ii_io.specs.Faults.{OnlyMemory};
 ghost use Rattle.ii_io.specs.Parts.{part_of};
 ghost use Rattle.ii_codes.specs.Sums.{fit_u32, running_sums};
 ghost use Rattle.ii_docset.specs.Alive.{IsCovered, alive_in};
-ghost use Rattle.ii_docset.specs.Cursor.{doc_at, from_doc, positions_at, term_freq_at, IsCurrent, IsSound, IsTarget};
+ghost use Rattle.ii_docset.specs.Cursor.{doc_at, from_doc, position_before, positions_at, term_freq_at, IsCurrent, IsSound, IsTarget};
 ghost use Rattle.ii_layout.specs.TermList.{list_of, term_list};
 ghost use Rattle.ii_check.specs.CheckedPostings.{is_read};
 ghost use Rattle.ii_check.specs.FreqReading.{freq_reading};
@@ -412,6 +412,30 @@ impl Postings for SegmentPostings {
         let count = self.block_cursor.freq(self.cur);
         append_positions(reader, start, count, offset, output)
     }
+
+    /// Writes positions of the current document to the front of `output`, from the one at place `from`
+    /// on. Of the positions those blocks are decoded in which they lie, and no document or count.
+    fn read_positions(&mut self, from: usize, before: u32, output: &mut [u32]) -> usize
+        requires current { IsCurrent self.old.rest }
+        requires before { before ≡ position_before from (positions_at self.old.rest) }
+        ensures count { result ≡ min (length output.old) (length (positions_at self.old.rest) - from) }
+        ensures read { output.new ≡ take (length output.old) (drop from (positions_at self.old.rest)) ++ drop (length (positions_at self.old.rest) - from) output.old }
+        ensures few { length (positions_at self.old.rest) < 2 ^ 32 }
+        ensures rest { self.new.rest ≡ self.old.rest }
+        ensures kind { not (is_read self.new.freq_reading) ≡ not (is_read self.old.freq_reading) }
+        ensures work { SpentLazily 1 result self.old self.new }
+        // what a caller learns beyond the trait
+        ensures decodes { DecodesPositions result self.old self.new }
+    {
+        // that positions have 32 bits, for the proof
+        let _doc = self.doc();
+        let Some(reader) = &mut self.position_reader else {
+            return 0;
+        };
+        let start = self.block_cursor.position_offset(self.cur);
+        let count = self.block_cursor.freq(self.cur);
+        read_piece(reader, start, count, from, before, output)
+    }
 }
 
 // Adds the positions whose deltas, so many, begin at a place, each plus an offset.
@@ -436,6 +460,35 @@ fn append_positions(
     let (_, added) = output.as_mut_slice().split_at_mut(len);
     read_positions(reader, start, offset, added);
     Ok(())
+}
+
+// Reads positions of a document to the front of `output`, from a place on, as many as are left and have
+// room, and answers how many. The deltas of all of them, so many, begin at a place.
+fn read_piece(
+    reader: &mut PositionReader,
+    start: u64,
+    count: u32,
+    from: usize,
+    before: u32,
+    output: &mut [u32],
+) -> usize
+    requires inside { start + count ≤ length reader.old.deltas }
+    requires low { start + count < 2 ^ 64 }
+    requires fits { IsTrue (fit_u32 (running_sums 0 (take count (drop start reader.old.deltas)))) }
+    requires before { before ≡ position_before from (running_sums 0 (take count (drop start reader.old.deltas))) }
+    ensures count { result ≡ min (length output.old) (count - from) }
+    ensures read { output.new ≡ take (length output.old) (drop from (running_sums 0 (take count (drop start reader.old.deltas)))) ++ drop (count - from) output.old }
+    ensures deltas { reader.new.deltas ≡ reader.old.deltas }
+    ensures decodes { reader.new.decodes ≤ reader.old.decodes + result / 128 + 2 }
+{
+    let count = count as usize;
+    if from >= count {
+        return 0;
+    }
+    let many = output.len().min(count - from);
+    let (front, _) = output.split_at_mut(many);
+    read_positions(reader, start + from as u64, before, front);
+    many
 }
 
 // Reads as many positions as `output` has room for, whose deltas begin at a place, each plus an offset.

@@ -1,5 +1,5 @@
 ghost use Rattle.std.specs.Prelude.{◌≡◌, [], ◌∷◌, IfSome};
-ghost use Rattle.ii_docset.specs.Entries.{document};
+ghost use Rattle.ii_base.specs.Entries.{document};
 
 use crate::position_tests::{first_freq, shows, sought, sought_at_end};
 use bytes::Bytes;

@@ -7,7 +7,7 @@ use Rattle.std.proofs.lemmas.List.{map-append}
 use Rattle.std.proofs.lemmas.List.Sums.{sum_by-append, sum_by-cons}
 use Rattle.ii_codes.specs.Sums.{DoNotFall, differences, fit_u32}
 use Rattle.ii_codes.proofs.SortedVintLemmas.{fit_u32-all, running_sums-differences, length-differences}
-use Rattle.ii_docset.specs.Entries.{Entry, counted}
+use Rattle.ii_base.specs.Entries.{Entry, counted}
 use Rattle.ii_layout.specs.Positions.{positions_of}
 use Rattle.ii_recorder.specs.Gathered.{Gathered, all_of, gathered, more_positions, none_after, position_read, positions_in, with_number}
 use Rattle.ii_recorder.specs.Kept.{IsLocated}

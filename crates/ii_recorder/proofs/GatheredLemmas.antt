@@ -4,7 +4,7 @@ use Rattle.std.specs.Prelude.{slice_get, unwrap_or}
 use Rattle.std.specs.List.{sum}
 use Rattle.std.proofs.lemmas.List.Sums.{sum_by-append, sum_by-cons}
 use Rattle.ii_codes.specs.Sums.{running_sums}
-use Rattle.ii_docset.specs.Entries.{Entry, counted}
+use Rattle.ii_base.specs.Entries.{Entry, counted}
 use Rattle.ii_recorder.specs.Gathered.{Gathered, all_of, behind_positions, count_read, counted_all, first_positions, gathered, located_at, more_positions, none_after, position_read, with_count, with_number}
 
 pub gathered_more : (step : Gathered → ℕ → Gathered) (g : Gathered) (ns : List ℕ) (n : ℕ) → gathered step g (ns ++ n ∷ []) ≡ step (gathered step g ns) n

@@ -8,7 +8,7 @@ use Rattle.ii_io.specs.declared.faults.Part.{Part}
 use Rattle.ii_base.specs.declared.schema.index_record_option.IndexRecordOption.{IndexRecordOption}
 use Rattle.ii_base.specs.declared.schema.index_record_option.IndexRecordOption.TheVariants.{Basic, WithFreqs, WithFreqsAndPositions}
 use Rattle.ii_base.specs.Options.{downgrade, has_freq, has_positions}
-use Rattle.ii_docset.specs.Entries.{Entry, counted, docs_of, document}
+use Rattle.ii_base.specs.Entries.{Entry, counted, docs_of, document}
 use Rattle.ii_layout.specs.Positions.{written_positions}
 use Rattle.ii_layout.specs.TermList.{ReadsTermBack, list_of, located, term_list}
 use Rattle.ii_layout.specs.Written.{AreFreqs, block_of, freqs_read, written_postings}

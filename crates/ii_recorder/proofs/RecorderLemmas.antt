@@ -3,7 +3,7 @@ use Rattle.std.proofs.Common.{◌≡◌, ℕ, ◌+◌, ◌-◌, ◌<◌, ◌≤�
 use Rattle.std.specs.Prelude.{slice_get, unwrap_or, min, IfSome}
 use Rattle.std.specs.Option.{option_to_list}
 use Rattle.std.proofs.lemmas.List.{length-map, map-append}
-use Rattle.ii_docset.specs.Entries.{Entry, docs_of}
+use Rattle.ii_base.specs.Entries.{Entry, docs_of}
 use Rattle.ii_recorder.specs.Kept.{IsCount, IsLastDoc}
 use Rattle.ii_recorder.specs.Recorded.{RecorderState, entries_of_recorder, last_doc, u32_max}
 

@@ -8,7 +8,7 @@ use Rattle.std.proofs.lemmas.List.{map-append, take_all}
 use Rattle.ii_io.specs.Vints.{vint_u32}
 use Rattle.ii_base.specs.declared.schema.index_record_option.IndexRecordOption.TheVariants.{Basic, WithFreqs, WithFreqsAndPositions}
 use Rattle.ii_codes.specs.Sums.{running_sums}
-use Rattle.ii_docset.specs.Entries.{Entry, counted, document}
+use Rattle.ii_base.specs.Entries.{Entry, counted, document}
 use Rattle.ii_recorder.specs.Gathered.{Gathered, counts_in, counts_state, docs_by_deltas, docs_read, docs_state, more_positions, none_after, positions_in, positions_state, recounted, with_count, with_number}
 use Rattle.ii_recorder.specs.Kept.{IsCount, IsLastDoc, IsLocated, KeepsCounts, KeepsDocs, KeepsPositions}
 use Rattle.ii_recorder.specs.Recorded.{RecorderState, begun, current_doc, entries_of_recorder, last_doc, last_position, u32_max, with_position}

@@ -1,7 +1,7 @@
 -- What recorders hold and push of document 0 at 0 and 4 and of document 3 at 1, and a term that is found by its key.
 use Rattle.std.proofs.Common.{◌≡◌, List, [], ◌∷◌, true, false, Some, refl}
 use Rattle.ii_base.specs.declared.schema.index_record_option.IndexRecordOption.TheVariants.{Basic, WithFreqs, WithFreqsAndPositions}
-use Rattle.ii_docset.specs.Entries.{Entry, counted, docs_of, document}
+use Rattle.ii_base.specs.Entries.{Entry, counted, docs_of, document}
 use Rattle.ii_recorder.specs.HeldTerms.{has_key}
 use Rattle.ii_recorder.specs.Pushed.{pushed_deltas, pushed_freqs}
 use Rattle.ii_recorder.specs.Terms.{WrittenTerm}

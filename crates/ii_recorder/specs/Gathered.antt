@@ -4,7 +4,7 @@ use Rattle.std.specs.Option.{option_map, option_to_list}
 use Rattle.std.specs.List.{sum}
 use Rattle.ii_base.specs.declared.schema.index_record_option.IndexRecordOption.TheVariants.{Basic, WithFreqs, WithFreqsAndPositions}
 use Rattle.ii_codes.specs.Sums.{running_sums}
-use Rattle.ii_docset.specs.Entries.{Entry, counted, document}
+use Rattle.ii_base.specs.Entries.{Entry, counted, document}
 use Rattle.ii_recorder.specs.Recorded.{RecorderState}
 use Rattle.ii_recorder.specs.VintRows.{numbers}
 

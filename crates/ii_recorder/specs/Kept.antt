@@ -2,7 +2,7 @@
 use Rattle.std.specs.Prelude.{◌≡◌, ℕ, ◌^◌, ◌<◌, true, Bool, List, length, min, unwrap_or, IfSome}
 use Rattle.std.specs.List.{AllByRecursion, sum}
 use Rattle.ii_codes.specs.Sums.{DoNotFall}
-use Rattle.ii_docset.specs.Entries.{Entry}
+use Rattle.ii_base.specs.Entries.{Entry}
 use Rattle.ii_recorder.specs.Gathered.{counts_in, counts_state, positions_in, positions_state}
 use Rattle.ii_recorder.specs.Recorded.{RecorderState, entries_of_recorder, last_doc, last_position, u32_max}
 use Rattle.ii_recorder.specs.VintRows.{AreVints, numbers}

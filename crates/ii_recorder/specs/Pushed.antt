@@ -8,7 +8,7 @@ use Rattle.ii_io.specs.CountingWriter.{Closes}
 use Rattle.ii_base.specs.declared.schema.index_record_option.IndexRecordOption.{IndexRecordOption}
 use Rattle.ii_base.specs.Options.{downgrade, has_freq, has_positions}
 use Rattle.ii_codes.specs.Sums.{differences}
-use Rattle.ii_docset.specs.Entries.{Entry, are_documents, docs_of}
+use Rattle.ii_base.specs.Entries.{Entry, are_documents, docs_of}
 use Rattle.ii_layout.specs.Positions.{positions_of}
 use Rattle.ii_layout.specs.PostingsSerializer.{IsSumTooLarge}
 use Rattle.ii_layout.specs.TermList.{AreDeltas, term_list}

@@ -6,7 +6,7 @@ use Rattle.ii_io.specs.declared.faults.Fault.TheVariants.{DecreasingPosition, Li
 use Rattle.ii_io.specs.declared.faults.LimitName.TheVariants as limit
 use Rattle.ii_base.specs.declared.schema.index_record_option.IndexRecordOption.{IndexRecordOption}
 use Rattle.ii_base.specs.Options.{has_freq, has_positions}
-use Rattle.ii_docset.specs.Entries.{Entry, docs_of}
+use Rattle.ii_base.specs.Entries.{Entry, docs_of}
 use Rattle.ii_definitions.specs.Cut.{cut_entry}
 
 -- What a recorder has: what it keeps of a document, the documents that were closed, and the one that is open.

@@ -3,7 +3,7 @@ ghost use Rattle.std.specs.Borrow.{sem, RestsIfErr};
 ghost use Rattle.ii_base.specs.declared.schema.index_record_option.IndexRecordOption.TheVariants.{Basic};
 ghost use Rattle.ii_base.specs.Options.{has_freq, has_positions};
 ghost use Rattle.ii_io.specs.CountingWriter.{Closes, IsFull};
-ghost use Rattle.ii_docset.specs.Entries.{are_documents};
+ghost use Rattle.ii_base.specs.Entries.{are_documents};
 ghost use Rattle.ii_layout.specs.PostingsSerializer.{IsSumTooLarge};
 ghost use Rattle.ii_termdict.specs.ReadBack.{AreAscending};
 ghost use Rattle.ii_recorder.specs.Terms.{WrittenTerm, field_bodies};
@@ -14,7 +14,7 @@ ghost use Rattle.ii_recorder.specs.IndexSerializer.{IsFieldFault, IsTermFault, I
 ghost use Rattle.ii_recorder.specs.contracts.serializer.InvertedIndexSerializer.{the_row};
 
 use super::serializer::InvertedIndexSerializer;
-use ii_docset::DocId;
+use ii_base::DocId;
 use ii_fieldnorm::FieldNormReader;
 use ii_io::{Fault, Field, LimitName};
 use std::io::Write;

@@ -3,7 +3,7 @@ ghost use Rattle.std.specs.List.{zip};
 ghost use Rattle.ii_base.specs.declared.schema.index_record_option.IndexRecordOption.TheVariants.{Basic};
 ghost use Rattle.ii_base.specs.Options.{has_freq, has_positions};
 ghost use Rattle.ii_io.specs.CountingWriter.{Grows, Wrote, WritesUnlessClosed, Closes};
-ghost use Rattle.ii_docset.specs.Entries.{are_documents};
+ghost use Rattle.ii_base.specs.Entries.{are_documents};
 ghost use Rattle.ii_layout.specs.PostingsSerializer.{IsSumTooLarge};
 ghost use Rattle.ii_layout.specs.Written.{written_postings};
 ghost use Rattle.ii_termdict.specs.Dictionary.{dictionary};
@@ -15,8 +15,7 @@ ghost use Rattle.ii_recorder.specs.TermPlaces.{with_term};
 
 use super::open_term::OpenTerm;
 use super::term_places::TermPlaces;
-use ii_base::IndexRecordOption;
-use ii_docset::DocId;
+use ii_base::{DocId, IndexRecordOption};
 use ii_fieldnorm::FieldNormReader;
 use ii_io::{CountingWriter, Fault, LimitName};
 use std::alloc::Global;

@@ -2,13 +2,12 @@ ghost use Rattle.std.specs.Prelude.{◌≡◌, ◌+◌, ◌^◌, ◌<◌, ◌≤
 ghost use Rattle.ii_base.specs.declared.schema.index_record_option.IndexRecordOption.TheVariants.{Basic};
 ghost use Rattle.ii_base.specs.Options.{has_freq, has_positions};
 ghost use Rattle.ii_io.specs.CountingWriter.{Grows, IsFull, Wrote};
-ghost use Rattle.ii_docset.specs.Entries.{are_documents};
+ghost use Rattle.ii_base.specs.Entries.{are_documents};
 ghost use Rattle.ii_layout.specs.PostingsSerializer.{IsSumTooLarge};
 ghost use Rattle.ii_layout.specs.Written.{written_postings};
 ghost use Rattle.ii_recorder.specs.Terms.{positions_bytes};
 
-use ii_base::IndexRecordOption;
-use ii_docset::DocId;
+use ii_base::{DocId, IndexRecordOption};
 use ii_fieldnorm::FieldNormReader;
 use ii_io::{CountingWriter, Fault, LimitName};
 use ii_layout::{PositionWriter, PostingsSerializer};
@@ -28,7 +27,7 @@ pub struct OpenTerm {
 
 impl Model for OpenTerm {
     ghost use Rattle.std.specs.Prelude.{◌≡◌, ◌||◌, length, IsTrue};
-    ghost use Rattle.ii_docset.specs.Entries.{are_documents};
+    ghost use Rattle.ii_base.specs.Entries.{are_documents};
     ghost use Rattle.ii_recorder.specs.OpenTerm.{OpenTermState};
 
     ghost Value = { OpenTermState };

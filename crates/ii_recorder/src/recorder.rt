@@ -7,8 +7,7 @@ ghost use Rattle.ii_recorder.specs.Recorded.{RecorderState, begun, current_doc, 
 
 use super::buffer_lender::BufferLender;
 use super::field_serializer::FieldSerializer;
-use ii_base::Fault;
-use ii_docset::DocId;
+use ii_base::{DocId, Fault};
 use std::io::Write;
 
 pub mod any_recorder;

@@ -4,7 +4,7 @@ ghost use Rattle.ii_base.specs.Options.{has_freq, has_positions};
 ghost use Rattle.ii_io.specs.CountingWriter.{Closes, CountingWriterState, Grows, IsFull};
 ghost use Rattle.ii_io.specs.Composite.{Body, fit_fields};
 ghost use Rattle.ii_io.specs.CompositeWrite.{HasBodies, WroteComposite};
-ghost use Rattle.ii_docset.specs.Entries.{are_documents};
+ghost use Rattle.ii_base.specs.Entries.{are_documents};
 ghost use Rattle.ii_layout.specs.PostingsSerializer.{IsSumTooLarge};
 ghost use Rattle.ii_termdict.specs.ReadBack.{AreAscending};
 ghost use Rattle.ii_recorder.specs.Terms.{WrittenTerm, field_bodies};
@@ -15,8 +15,7 @@ ghost use Rattle.ii_recorder.specs.IndexSerializer.{IsFieldFault, IsTermFault, I
 
 use super::field_terms::FieldTerms;
 use super::index_bodies::IndexBodies;
-use ii_base::{IndexRecordOption, Schema};
-use ii_docset::DocId;
+use ii_base::{DocId, IndexRecordOption, Schema};
 use ii_fieldnorm::FieldNormReader;
 use ii_io::{CountingWriter, Fault, Field, LimitName};
 use std::alloc::Global;

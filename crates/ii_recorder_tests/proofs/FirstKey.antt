@@ -1,7 +1,7 @@
 -- The first key of a field.
 use Rattle.std.proofs.Common.{◌≡◌, ℕ, zero, suc, ◌+◌, ◌<◌, ◌≤◌, true, List, [], ◌∷◌, ◌++◌, refl, sym, ap, ◌∙◌, arith}
 use Rattle.std.proofs.lemmas.Bool.{le-leb, lt-ltb}
-use Rattle.ii_docset.specs.Entries.{ascend_from, are_documents}
+use Rattle.ii_base.specs.Entries.{ascend_from, are_documents}
 use Rattle.std.specs.List.Sorted.{IsStrictlySortedBy}
 use Rattle.ii_termdict.specs.ReadBack.{AreAscending}
 

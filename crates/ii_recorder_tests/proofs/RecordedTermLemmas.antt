@@ -5,7 +5,7 @@ use Rattle.ii_io.specs.declared.faults.Fault.{Fault}
 use Rattle.ii_base.specs.declared.schema.index_record_option.IndexRecordOption.{IndexRecordOption}
 use Rattle.ii_base.specs.declared.schema.index_record_option.IndexRecordOption.TheVariants.{Basic}
 use Rattle.ii_base.specs.Options.{has_freq}
-use Rattle.ii_docset.specs.Entries.{Entry}
+use Rattle.ii_base.specs.Entries.{Entry}
 use Rattle.ii_recorder.proofs.PushLemmas.{writing_pushed}
 use Rattle.ii_recorder.specs.FieldTerms.{term_under}
 use Rattle.ii_recorder.specs.HeldTerms.{HoldsTerms}

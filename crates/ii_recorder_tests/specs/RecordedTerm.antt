@@ -3,7 +3,7 @@ use Rattle.std.specs.Prelude.{[], ◌∷◌, if◌then◌else◌}
 use Rattle.ii_base.specs.declared.schema.index_record_option.IndexRecordOption.{IndexRecordOption}
 use Rattle.ii_base.specs.declared.schema.index_record_option.IndexRecordOption.TheVariants.{Basic}
 use Rattle.ii_base.specs.Options.{has_freq, has_positions}
-use Rattle.ii_docset.specs.Entries.{docs_of}
+use Rattle.ii_base.specs.Entries.{docs_of}
 use Rattle.ii_recorder.specs.Pushed.{pushed_deltas, pushed_freqs}
 use Rattle.ii_recorder.specs.Recorded.{RecorderState, entries_of_recorder}
 use Rattle.ii_recorder.specs.Terms.{WrittenTerm}

@@ -1,7 +1,6 @@
 ghost use Rattle.std.specs.Prelude.{◌≡◌, [], None};
 
-use ii_base::{Fault, IndexRecordOption, LimitName};
-use ii_docset::DocId;
+use ii_base::{DocId, Fault, IndexRecordOption, LimitName};
 use ii_recorder::{AnyRecorder, BufferLender, Recorder};
 use std::alloc::Global;
 use std::test::Fail;

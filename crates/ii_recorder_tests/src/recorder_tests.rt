@@ -1,7 +1,7 @@
 ghost use Rattle.std.specs.Prelude.{◌<◌, ◌≡◌, [], ◌∷◌, true, false, length, IsTrue, IfOk, OnOk};
 ghost use Rattle.std.specs.List.{AllByRecursion};
 ghost use Rattle.ii_base.specs.Options.{has_freq};
-ghost use Rattle.ii_docset.specs.Entries.{are_documents, docs_of};
+ghost use Rattle.ii_base.specs.Entries.{are_documents, docs_of};
 ghost use Rattle.ii_definitions.specs.Fields.{option_of};
 ghost use Rattle.ii_recorder.specs.HeldTerms.{HoldsTerms};
 ghost use Rattle.ii_recorder.specs.IndexBodies.{LacksField};

@@ -1,7 +1,7 @@
 -- What a query gives in an index that holds tokens.
-use Rattle.std.proofs.Common.{◌≡◌, ◌∙◌, ℕ, Bool, true, false, ◌&&◌, ◌||◌, ◌==◌, not, List, [], ◌∷◌, Option, None, Some, Result, Ok, Err, inl, inr, length, map, nat_eq, ◌+◌, arith, refl, sym, ap}
+use Rattle.std.proofs.Common.{◌≡◌, ◌∙◌, ℕ, Bool, true, false, ◌&&◌, ◌||◌, ◌==◌, not, List, [], ◌∷◌, Option, None, Some, Result, Ok, Err, inl, inr, cond, length, map, nat_eq, ◌+◌, arith, refl, sym, ap}
 use Rattle.std.specs.Prelude.{IsSomeAnd, MatchOption, filter, min, nat_lt, slice_get}
-use Rattle.std.specs.List.{list_any}
+use Rattle.std.specs.List.{list_all, list_any}
 use Rattle.std.specs.Result.{result_unwrap_or}
 use Rattle.std.proofs.lemmas.Bool.{le-leb, ltb-true}
 use Rattle.std.proofs.lemmas.Bool.Decides.{eqb_tells}
@@ -10,27 +10,33 @@ use Rattle.ii_io.specs.declared.faults.Fault.TheVariants.{OutOfMemory}
 use Rattle.ii_io.specs.declared.faults.Part.{Part}
 use Rattle.ii_base.specs.Schema.{SchemaEntry}
 use Rattle.ii_base.specs.declared.schema.index_record_option.IndexRecordOption.{IndexRecordOption}
-use Rattle.ii_base.specs.declared.schema.index_record_option.IndexRecordOption.TheVariants.{Basic}
-use Rattle.ii_docset.specs.declared.docset.TheConstants.{TERMINATED}
+use Rattle.ii_base.specs.declared.schema.index_record_option.IndexRecordOption.TheVariants.{Basic, WithFreqs, WithFreqsAndPositions}
+use Rattle.ii_base.specs.Options.{downgrade, has_positions}
+use Rattle.ii_base.specs.Terms.{TermState}
+use Rattle.ii_base.specs.declared.doc_id.TheConstants.{TERMINATED}
 use Rattle.ii_docset.specs.Cursor.{IsSound}
-use Rattle.ii_docset.specs.Entries.{Entry}
+use Rattle.ii_base.specs.Entries.{Entry}
 use Rattle.ii_docset.specs.Intersection.{has_doc}
 use Rattle.ii_query.specs.Combined.{all_from, common, either, without}
+use Rattle.ii_query.specs.Phrase.{PhrasePartState, phrase_docs, stand_from}
 use Rattle.ii_query.proofs.AllLemmas.{all_has}
 use Rattle.ii_query.proofs.MatchLaws.{common_has, either_has, without_has}
+use Rattle.ii_query.proofs.PhraseLemmas.{phrase_has}
 use Rattle.ii_termdict.specs.Dictionary.{info_under}
 use Rattle.ii_termstore.specs.declared.term_info.TermInfo.{TermInfo}
 use Rattle.ii_definitions.specs.Cut.{cut_entry}
 use Rattle.ii_definitions.specs.Files.{HoldsTerm}
-use Rattle.ii_definitions.specs.Postings.{grouped, is_at, key_postings, occurs, tokens_at, with_token}
+use Rattle.ii_definitions.specs.Fields.{option_of}
+use Rattle.ii_definitions.specs.Postings.{entry_of, grouped, is_at, key_postings, kind_of, occurs, postings_from, tokens_at, with_token}
 use Rattle.ii_definitions.specs.Tokens.{IndexToken}
 use Rattle.ii_definitions.proofs.GroupedLaws.{none_occurs}
 use Rattle.ii_reader.specs.InvertedIndexReader.{InvertedIndexReaderState, IsRefusal}
 use Rattle.ii_reader.specs.OpenIndex.{FieldReaderHolds, IndexHolds, OpenIndexState}
 use Rattle.ii_reader.proofs.ReaderLemmas.{list_held}
-use Rattle.ii_search.specs.declared.query.Query.{Query, Empty, All, Term, And', Or', AndNot'}
-use Rattle.ii_search.specs.Found.{AreMatches, combined, docs_kept, docs_under, found_in}
-use Rattle.ii_search.specs.Queries.{has_fields, matches}
+use Rattle.ii_search.specs.declared.query.PhraseTerm.{PhraseTerm}
+use Rattle.ii_search.specs.declared.query.Query.{Query, Empty, All, Term, Phrase, And', Or', AndNot'}
+use Rattle.ii_search.specs.Found.{AreMatches, combined, docs_kept, docs_of_term, docs_under, found_in, parts_of, phrase_of, with_part}
+use Rattle.ii_search.specs.Queries.{are_of_texts, follow, has_fields, has_phrase, has_positions_in, is_text_key, is_token_of, keeps_positions, matches, stands_at}
 
 or_twice : (a c : Bool) → (a || c) ≡ (a || (a || c))
 or_twice true c = refl
@@ -93,7 +99,7 @@ pub record Gives (found : Result (List Entry) Part) (holds : ℕ → Bool) : Typ
 
 gives_kept : (reader : InvertedIndexReaderState) (field : ℕ) (key : List ℕ) (ts : List IndexToken) (kept : Option TermInfo)
     → MatchOption kept (occurs field key ts ≡ false) (HoldsTerm reader.option field key reader.postings reader.positions ts)
-    → Gives (docs_kept reader kept) (λ (doc : ℕ). list_any (λ (t : IndexToken). (t.doc == doc) && is_at field key t) ts)
+    → Gives (docs_kept Basic reader kept) (λ (doc : ℕ). list_any (λ (t : IndexToken). (t.doc == doc) && is_at field key t) ts)
 gives_kept reader field key ts None none = record { es = []; is = refl; exact = λ doc. sym (none_has field key ts doc none) }
 gives_kept reader field key ts (Some info) holds = record {
   es = key_postings reader.option field key Basic ts;
@@ -103,7 +109,7 @@ gives_kept reader field key ts (Some info) holds = record {
 
 gives_under : (entries : List SchemaEntry) (field : ℕ) (key : List ℕ) (ts : List IndexToken) (reader : Option InvertedIndexReaderState)
     → IsSomeAnd reader (λ r. FieldReaderHolds entries field r ts)
-    → Gives (docs_under key reader) (λ (doc : ℕ). list_any (λ (t : IndexToken). (t.doc == doc) && is_at field key t) ts)
+    → Gives (docs_under Basic key reader) (λ (doc : ℕ). list_any (λ (t : IndexToken). (t.doc == doc) && is_at field key t) ts)
 gives_under entries field key ts None h = absurd h
 gives_under entries field key ts (Some r) h = gives_kept r field key ts (info_under key r.terms) (h.holds.exact key)
 
@@ -116,41 +122,176 @@ gives_either a b p q f g = rw (f.is, g.is) (record { es = either f.es g.es; is =
 gives_without : (a b : Result (List Entry) Part) (p q : ℕ → Bool) → Gives a p → Gives b q → Gives (combined without a b) (λ (doc : ℕ). p doc && not (q doc))
 gives_without a b p q f g = rw (f.is, g.is) (record { es = without f.es g.es; is = refl; exact = λ doc. without_has f.es g.es doc ∙ rw (f.exact doc, g.exact doc) refl })
 
+-- entries of a document with a position for which something holds
+abbrev pub placed_in : ℕ → (ℕ → Bool) → List Entry → Bool
+placed_in doc holds es = list_any (λ (e : Entry). nat_eq e.doc doc && list_any holds e.positions) es
+
+-- tokens of a document at such a position
+abbrev pub token_in : ℕ → (ℕ → Bool) → IndexToken → Bool
+token_in doc holds t = (t.doc == doc) && holds t.position
+
+both_or : (a b c d : Bool) → ((a && (b || c)) || d) ≡ ((a && b) || ((a && c) || d))
+both_or true true c d = refl
+both_or true false c d = refl
+both_or false b c d = refl
+
+or_none : (b : Bool) → (b || false) ≡ b
+or_none true = refl
+or_none false = refl
+
+with_placed : (doc : ℕ) (holds : ℕ → Bool) (t : IndexToken) (es : List Entry) → placed_in doc holds (with_token t es) ≡ (token_in doc holds t || placed_in doc holds es)
+with_placed doc holds t [] = ap (λ (b : Bool). (nat_eq t.doc doc && b) || false) (or_none (holds t.position))
+with_placed doc holds t (e ∷ es) = elim (eqb_tells e.doc t.doc) [
+  | inl h ↦ rw (h.0, h.1) (both_or (nat_eq t.doc doc) (holds t.position) (list_any holds e.positions) (placed_in doc holds es))
+  | inr h ↦ rw (h.0) (ap (λ (b : Bool). (nat_eq t.doc doc && b) || placed_in doc holds (e ∷ es)) (or_none (holds t.position)))
+]
+
+grouped_placed : (doc : ℕ) (holds : ℕ → Bool) (ts : List IndexToken) → placed_in doc holds (grouped ts) ≡ list_any (token_in doc holds) ts
+grouped_placed doc holds [] = refl
+grouped_placed doc holds (t ∷ ts) = with_placed doc holds t (grouped ts) ∙ ap (λ (b : Bool). token_in doc holds t || b) (grouped_placed doc holds ts)
+
+-- where positions are cut there are none
+cut_placed : (doc : ℕ) (holds : ℕ → Bool) (option : IndexRecordOption) (es : List Entry) → placed_in doc holds (map (cut_entry option) es) ≡ (has_positions option && placed_in doc holds es)
+cut_placed doc holds Basic [] = refl
+cut_placed doc holds Basic (e ∷ es) = rw (and_false (nat_eq e.doc doc)) (cut_placed doc holds Basic es)
+cut_placed doc holds WithFreqs [] = refl
+cut_placed doc holds WithFreqs (e ∷ es) = rw (and_false (nat_eq e.doc doc)) (cut_placed doc holds WithFreqs es)
+cut_placed doc holds WithFreqsAndPositions [] = refl
+cut_placed doc holds WithFreqsAndPositions (e ∷ es) = ap (λ (b : Bool). (nat_eq e.doc doc && list_any holds e.positions) || b) (cut_placed doc holds WithFreqsAndPositions es)
+
+-- what is kept of a key's tokens in a field with positions
+kept_placed : (option : IndexRecordOption) (us : List IndexToken) (b : Bool) → has_positions option ≡ true → (us ≡ [] → b ≡ false) → (has_positions (downgrade (kind_of option us) WithFreqsAndPositions) && b) ≡ (are_of_texts us && b)
+kept_placed option [] b keeps none = rw (none refl) (and_false _)
+kept_placed option (t ∷ us) b keeps none = by option t.of_text keeps
+  where
+    by : (o : IndexRecordOption) (texts : Bool) → has_positions o ≡ true → (has_positions (downgrade (cond texts o Basic) WithFreqsAndPositions) && b) ≡ (texts && b)
+    by o false keeps = refl
+    by Basic true keeps = absurd (cc)
+    by WithFreqs true keeps = absurd (cc)
+    by WithFreqsAndPositions true keeps = refl
+
+swapped : (a b c : Bool) → ((a && b) && c) ≡ ((a && c) && b)
+swapped true true true = refl
+swapped true true false = refl
+swapped true false true = refl
+swapped true false false = refl
+swapped false b c = refl
+
+any_alike : {A : Type 0} (p q : A → Bool) (xs : List A) → ((x : A) → p x ≡ q x) → list_any p xs ≡ list_any q xs
+any_alike p q [] same = refl
+any_alike p q (x ∷ xs) same = rw (same x, any_alike p q xs same) refl
+
+-- a key's postings have the positions of its tokens
+positions_have : (option : IndexRecordOption) (ts : List IndexToken) (term : TermState) (doc : ℕ) (holds : ℕ → Bool) → has_positions option ≡ true
+    → placed_in doc holds (key_postings option term.field term.value WithFreqsAndPositions ts) ≡ (is_text_key term ts && list_any (λ (t : IndexToken). is_token_of term doc t && holds t.position) ts)
+positions_have option ts term doc holds keeps =
+    let us = tokens_at term.field term.value ts in
+    cut_placed doc holds _ (grouped us)
+    ∙ kept_placed option us (placed_in doc holds (grouped us)) keeps (λ none. ap (λ (vs : List IndexToken). placed_in doc holds (grouped vs)) none)
+    ∙ ap (λ (b : Bool). are_of_texts us && b)
+    (grouped_placed doc holds us ∙ any_of (token_in doc holds) (is_at term.field term.value) ts
+    ∙ any_alike (λ (t : IndexToken). token_in doc holds t && is_at term.field term.value t) (λ (t : IndexToken). is_token_of term doc t && holds t.position) ts (λ t. swapped (t.doc == doc) (holds t.position) (is_at term.field term.value t)))
+
+-- A term's entries are found, with the positions of its tokens.
+pub record GivesPositions (ts : List IndexToken) (term : TermState) (found : Result (List Entry) Part) : Type 0 where
+  pub es : List Entry
+  pub is : found ≡ Ok es
+  pub exact : (doc : ℕ) (holds : ℕ → Bool) → placed_in doc holds es ≡ (is_text_key term ts && list_any (λ (t : IndexToken). is_token_of term doc t && holds t.position) ts)
+
+positions_kept : (reader : InvertedIndexReaderState) (term : TermState) (ts : List IndexToken) (kept : Option TermInfo) → has_positions reader.option ≡ true
+    → MatchOption kept (occurs term.field term.value ts ≡ false) (HoldsTerm reader.option term.field term.value reader.postings reader.positions ts)
+    → GivesPositions ts term (docs_kept WithFreqsAndPositions reader kept)
+positions_kept reader term ts None keeps none = record {
+  es = [];
+  is = refl;
+  exact = λ doc holds. sym (ap (λ (us : List IndexToken). are_of_texts us && list_any (λ (t : IndexToken). is_token_of term doc t && holds t.position) ts) (none_occurs term.field term.value ts none));
+}
+positions_kept reader term ts (Some info) keeps holds = record {
+  es = key_postings reader.option term.field term.value WithFreqsAndPositions ts;
+  is = list_held reader term.field term.value WithFreqsAndPositions ts info holds;
+  exact = λ doc place. positions_have reader.option ts term doc place keeps;
+}
+
+positions_under : (entries : List SchemaEntry) (term : TermState) (ts : List IndexToken) (reader : Option InvertedIndexReaderState) → has_positions_in entries term ≡ true
+    → IsSomeAnd reader (λ r. FieldReaderHolds entries term.field r ts) → GivesPositions ts term (docs_under WithFreqsAndPositions term.value reader)
+positions_under entries term ts None keeps h = absurd h
+positions_under entries term ts (Some r) keeps h = positions_kept r term ts (info_under term.value r.terms) (ap has_positions h.option_is ∙ keeps) (h.holds.exact term.value)
+
+-- The other terms of a phrase are found.
+pub record GivesParts (ts : List IndexToken) (others : List PhraseTerm) (found : Result (List PhrasePartState) Part) : Type 0 where
+  pub parts : List PhrasePartState
+  pub is : found ≡ Ok parts
+  pub exact : (doc start : ℕ) → stand_from parts doc start ≡ follow ts doc others start
+
+gives_part : (ts : List IndexToken) (o : PhraseTerm) (others : List PhraseTerm) (first : Result (List Entry) Part) (found : Result (List PhrasePartState) Part) → GivesPositions ts o.term first → GivesParts ts others found
+    → GivesParts ts (o ∷ others) (with_part o.distance first found)
+gives_part ts o others first found f g = rw (f.is, g.is) (record {
+  parts = record { distance = o.distance; rest = f.es } ∷ g.parts;
+  is = refl;
+  exact = λ doc start. rw (f.exact doc (λ (p : ℕ). nat_eq p (start + o.distance)), g.exact doc start) refl;
+})
+
+gives_parts : (entries : List SchemaEntry) (n : ℕ) (index : OpenIndexState) (ts : List IndexToken) (others : List PhraseTerm) → IndexHolds entries n index ts
+    → list_all (λ (o : PhraseTerm). nat_lt o.term.field (length entries)) others ≡ true → list_all (λ (o : PhraseTerm). has_positions_in entries o.term) others ≡ true → GivesParts ts others (parts_of index others)
+gives_parts entries n index ts [] holds fields keeps = record { parts = []; is = refl; exact = λ doc start. refl }
+gives_parts entries n index ts (o ∷ os) holds fields keeps =
+    let h = both_true (nat_lt o.term.field (length entries)) (list_all (λ (p : PhraseTerm). nat_lt p.term.field (length entries)) os) fields in
+    let k = both_true (has_positions_in entries o.term) (list_all (λ (p : PhraseTerm). has_positions_in entries p.term) os) keeps in
+    gives_part ts o os _ _ (positions_under entries o.term ts (slice_get index.readers o.term.field) k.0 (holds.readers o.term.field (ltb-true o.term.field (length entries) h.0)))
+    (gives_parts entries n index ts os holds h.1 k.1)
+
+gives_phrase : (ts : List IndexToken) (first : TermState) (others : List PhraseTerm) (a : Result (List Entry) Part) (b : Result (List PhrasePartState) Part) → GivesPositions ts first a → GivesParts ts others b
+    → Gives (phrase_of a b) (λ (doc : ℕ). has_phrase ts doc first others)
+gives_phrase ts first others a b f g = rw (f.is, g.is) (record {
+  es = phrase_docs f.es g.parts;
+  is = refl;
+  exact = λ doc. phrase_has doc f.es g.parts ∙ f.exact doc (stand_from g.parts doc)
+      ∙ ap (λ (b : Bool). is_text_key first ts && b) (any_alike _ _ ts (λ t. ap (λ (c : Bool). is_token_of first doc t && c) (g.exact doc t.position)));
+})
+
 -- all documents below a number
 all_below : (n doc : ℕ) → has_doc (all_from 0 n) doc ≡ nat_lt doc n
 all_below n doc = let same : 0 + n ≡ n = omega arith in all_has 0 n doc ∙ rw (le-leb 0 doc (omega arith), same) refl
 
 -- an index that holds tokens gives the documents that match
 pub gives_matches : (entries : List SchemaEntry) (n : ℕ) (index : OpenIndexState) (ts : List IndexToken) (query : Query) → IndexHolds entries n index ts
-    → has_fields (length entries) query ≡ true → Gives (found_in index query) (matches query ts)
-gives_matches entries n index ts Empty holds fields = record { es = []; is = refl; exact = λ doc. refl }
-gives_matches entries n index ts (All m) holds fields = record { es = all_from 0 (min m TERMINATED); is = refl; exact = λ doc. all_below (min m TERMINATED) doc }
-gives_matches entries n index ts (Term term) holds fields =
+    → has_fields (length entries) query ≡ true → keeps_positions entries query ≡ true → Gives (found_in index query) (matches query ts)
+gives_matches entries n index ts Empty holds fields keeps = record { es = []; is = refl; exact = λ doc. refl }
+gives_matches entries n index ts (All m) holds fields keeps = record { es = all_from 0 (min m TERMINATED); is = refl; exact = λ doc. all_below (min m TERMINATED) doc }
+gives_matches entries n index ts (Term term) holds fields keeps =
     gives_under entries term.field term.value ts (slice_get index.readers term.field) (holds.readers term.field (ltb-true term.field (length entries) fields))
-gives_matches entries n index ts (And' p first q other) holds fields =
+gives_matches entries n index ts (Phrase first others) holds fields keeps =
+    let h = both_true (nat_lt first.field (length entries)) _ fields in
+    let k = both_true (has_positions_in entries first) _ keeps in
+    gives_phrase ts first others.items _ _ (positions_under entries first ts (slice_get index.readers first.field) k.0 (holds.readers first.field (ltb-true first.field (length entries) h.0)))
+    (gives_parts entries n index ts others.items holds h.1 k.1)
+gives_matches entries n index ts (And' p first q other) holds fields keeps =
     let h = both_true (has_fields (length entries) first) (has_fields (length entries) other) fields in
-    gives_common _ _ _ _ (gives_matches entries n index ts first holds h.0) (gives_matches entries n index ts other holds h.1)
-gives_matches entries n index ts (Or' p first q other) holds fields =
+    let k = both_true (keeps_positions entries first) (keeps_positions entries other) keeps in
+    gives_common _ _ _ _ (gives_matches entries n index ts first holds h.0 k.0) (gives_matches entries n index ts other holds h.1 k.1)
+gives_matches entries n index ts (Or' p first q other) holds fields keeps =
     let h = both_true (has_fields (length entries) first) (has_fields (length entries) other) fields in
-    gives_either _ _ _ _ (gives_matches entries n index ts first holds h.0) (gives_matches entries n index ts other holds h.1)
-gives_matches entries n index ts (AndNot' p first q other) holds fields =
+    let k = both_true (keeps_positions entries first) (keeps_positions entries other) keeps in
+    gives_either _ _ _ _ (gives_matches entries n index ts first holds h.0 k.0) (gives_matches entries n index ts other holds h.1 k.1)
+gives_matches entries n index ts (AndNot' p first q other) holds fields keeps =
     let h = both_true (has_fields (length entries) first) (has_fields (length entries) other) fields in
-    gives_without _ _ _ _ (gives_matches entries n index ts first holds h.0) (gives_matches entries n index ts other holds h.1)
+    let k = both_true (keeps_positions entries first) (keeps_positions entries other) keeps in
+    gives_without _ _ _ _ (gives_matches entries n index ts first holds h.0 k.0) (gives_matches entries n index ts other holds h.1 k.1)
 
 -- so what is found are the documents that match
 pub found_match : (entries : List SchemaEntry) (n : ℕ) (index : OpenIndexState) (ts : List IndexToken) (query : Query) (rest : List Entry) → IndexHolds entries n index ts
-    → has_fields (length entries) query ≡ true → found_in index query ≡ Ok rest → IsSound rest → AreMatches query ts rest
-found_match entries n index ts query rest holds fields found sound =
-    let g = gives_matches entries n index ts query holds fields in
+    → has_fields (length entries) query ≡ true → keeps_positions entries query ≡ true → found_in index query ≡ Ok rest → IsSound rest → AreMatches query ts rest
+found_match entries n index ts query rest holds fields keeps found sound =
+    let g = gives_matches entries n index ts query holds fields keeps in
     let same : g.es ≡ rest = ap (λ (r : Result (List Entry) Part). result_unwrap_or r []) (sym g.is ∙ found) in
     record { ascending = sound.ascending; exact = λ doc. ap (λ (es : List Entry). has_doc es doc) (sym same) ∙ g.exact doc }
 
 -- and nothing but want of memory is in the way
 pub memory_alone : (entries : List SchemaEntry) (n : ℕ) (index : OpenIndexState) (ts : List IndexToken) (query : Query) (fault : Fault) → IndexHolds entries n index ts
-    → has_fields (length entries) query ≡ true → IsRefusal (found_in index query) fault → fault ≡ OutOfMemory
-memory_alone entries n index ts query fault holds fields (inl memory) = memory
-memory_alone entries n index ts query fault holds fields (inr (part, is, err)) =
-    let g = gives_matches entries n index ts query holds fields in
+    → has_fields (length entries) query ≡ true → keeps_positions entries query ≡ true → IsRefusal (found_in index query) fault → fault ≡ OutOfMemory
+memory_alone entries n index ts query fault holds fields keeps (inl memory) = memory
+memory_alone entries n index ts query fault holds fields keeps (inr (part, is, err)) =
+    let g = gives_matches entries n index ts query holds fields keeps in
     absurd (ok_is_no_err g.es part (sym g.is ∙ err))
   where
     ok_is_no_err : (es : List Entry) (part : Part) → Ok es ≡ Err part → ⊥

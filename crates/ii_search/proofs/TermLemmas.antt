@@ -1,13 +1,16 @@
 -- The terms of words and phrases.
-use Rattle.std.proofs.Common.{◌≡◌, ◌∙◌, ℕ, ◌+◌, ◌<◌, Bool, true, false, List, [], ◌∷◌, ◌++◌, append_assoc, append-nil, cond, drop, eqb, get_or, length, nat_lt, Option, None, Some, Result, Ok, Err, inl, inr, refl, sym, ap, arith, subst, add-one}
-use Rattle.std.specs.Prelude.{bytes_eq, option_map, position, slice_get}
-use Rattle.std.specs.List.{AllByRecursion, position_from, position_or_len}
+use Rattle.std.proofs.Common.{◌≡◌, ◌∙◌, ℕ, ◌+◌, ◌<◌, Bool, true, false, ◌&&◌, ◌||◌, true≢false, List, [], ◌∷◌, ◌++◌, append_assoc, append-nil, cond, drop, eqb, get_or, length, nat_lt, Option, None, Some, Result, Ok, Err, inl, inr, refl, sym, ap, arith, subst, add-one}
+use Rattle.std.specs.Prelude.{IfSome, bytes_eq, option_map, position, slice_get, unwrap_or}
+use Rattle.std.specs.List.{AllByRecursion, list_all, position_from, position_or_len}
+use Rattle.std.specs.Result.{result_unwrap_or}
 use Rattle.std.specs.Option.{option_to_list}
 use Rattle.std.proofs.Math.Seq.{drop-cons}
-use Rattle.std.proofs.lemmas.Bool.{eqb-true, lt-ltb, ltb-true}
+use Rattle.std.proofs.lemmas.Bool.{and_parts, eqb-true, lt-ltb, ltb-true}
 use Rattle.std.proofs.lemmas.List.Folds.{list_all-append}
 use Rattle.std.proofs.lemmas.List.Sums.{passes_at_first}
 use Rattle.std.proofs.lemmas.Option.{get_or_from_slice_get, slice_get_within}
+use Rattle.ii_base.specs.declared.schema.index_record_option.IndexRecordOption.{IndexRecordOption}
+use Rattle.ii_base.specs.Options.{has_positions}
 use Rattle.ii_base.specs.Paths.{has_zero}
 use Rattle.ii_base.specs.Schema.{SchemaEntry}
 use Rattle.ii_base.specs.Terms.{TermState}
@@ -16,13 +19,19 @@ use Rattle.ii_base.specs.Words.{Word}
 use Rattle.ii_base.specs.declared.schema.value_type.ValueType.{ValueType}
 use Rattle.ii_base.specs.declared.schema.value_type.ValueType.TheVariants as types
 use Rattle.ii_json.specs.FastValues.{fast_value_in, with_value}
+use Rattle.ii_definitions.specs.Fields.{option_of}
+use Rattle.ii_search.specs.declared.query.PhraseTerm.{PhraseTerm}
 use Rattle.ii_search.specs.declared.query_parser_error.QueryParserError.{QueryParserError}
 use Rattle.ii_search.specs.declared.query_parser_error.QueryParserError.TheVariants as errors
-use Rattle.ii_search.specs.QueryTexts.{Adds, AddsIn, AddsSome, IsRefusedBy, TextFields, Terms, are_in, default_terms, field_terms, joined_terms, only_word, path_key, refused, some_default, some_term, typed_terms}
+use Rattle.ii_definitions.specs.Tokens.{IndexToken}
+use Rattle.ii_query_grammar.specs.Trees.{Literal, leaf}
+use Rattle.ii_search.specs.declared.query.Query.{Query}
+use Rattle.ii_search.specs.Queries.{has_fields, has_positions_in, keeps_positions, matches}
+use Rattle.ii_search.specs.QueryTexts.{Adds, AddsIn, AddsMaybe, AddsText, IsPhraseIn, IsRefusedBy, Means, PhraseState, QueryFields, TextFields, Terms, are_in, default_terms, field_terms, has_one, has_term, is_alone, joined_terms, one_term, path_key, path_value, phrase_kept, phrase_within, refused, some_default, stand_after, terms_after, terms_of, text_terms, typed_terms, value_term, words_phrase}
 
 -- Terms of the fields so far were added, and those of the fields that are left come after them.
-pub record IsGathering (q : TextFields) (phrase all fields : List ℕ) (old now : List TermState) : Type 0 where
-  pub found : List TermState
+pub record IsGathering (q : TextFields) (phrase all fields : List ℕ) (old now : List PhraseState) : Type 0 where
+  pub found : List PhraseState
   pub now_is : now ≡ old ++ found
   pub within : are_in q.entries found ≡ true
   pub whole : default_terms q phrase all ≡ joined_terms (Ok found) (default_terms q phrase fields)
@@ -31,22 +40,22 @@ nothing_first : (terms : Terms) → terms ≡ joined_terms (Ok []) terms
 nothing_first (Ok ts) = refl
 nothing_first (Err e) = refl
 
-pub gathering_first : (q : TextFields) (phrase all : List ℕ) (old : List TermState) → IsGathering q phrase all all old old
+pub gathering_first : (q : TextFields) (phrase all : List ℕ) (old : List PhraseState) → IsGathering q phrase all all old old
 gathering_first q phrase all old = record { found = []; now_is = sym (append-nil old); within = refl; whole = nothing_first (default_terms q phrase all) }
 
-joined_twice : (ts us : List TermState) (terms : Terms) → joined_terms (Ok ts) (joined_terms (Ok us) terms) ≡ joined_terms (Ok (ts ++ us)) terms
-joined_twice ts us (Ok vs) = ap (λ (l : List TermState). Ok l) (sym (append_assoc ts us vs))
+joined_twice : (ts us : List PhraseState) (terms : Terms) → joined_terms (Ok ts) (joined_terms (Ok us) terms) ≡ joined_terms (Ok (ts ++ us)) terms
+joined_twice ts us (Ok vs) = ap (λ (l : List PhraseState). Ok l) (sym (append_assoc ts us vs))
 joined_twice ts us (Err e) = refl
 
-all_append : (entries : List SchemaEntry) (ts us : List TermState) → are_in entries ts ≡ true → are_in entries us ≡ true → are_in entries (ts ++ us) ≡ true
-all_append entries ts us first other = list_all-append (λ (t : TermState). nat_lt t.field (length entries)) ts us ∙ rw (first, other) refl
+all_append : (entries : List SchemaEntry) (ts us : List PhraseState) → are_in entries ts ≡ true → are_in entries us ≡ true → are_in entries (ts ++ us) ≡ true
+all_append entries ts us first other = list_all-append (λ (p : PhraseState). phrase_within (length entries) p && phrase_kept entries p) ts us ∙ rw (first, other) refl
 
 -- one field more
-pub gathering_next : (q : TextFields) (phrase all : List ℕ) (field : ℕ) (fields left : List ℕ) (old now new : List TermState) → IsGathering q phrase all left old now → left ≡ field ∷ fields
+pub gathering_next : (q : TextFields) (phrase all : List ℕ) (field : ℕ) (fields left : List ℕ) (old now new : List PhraseState) → IsGathering q phrase all left old now → left ≡ field ∷ fields
     → Adds (field_terms q field [] phrase) q.entries now new (Ok tt) → IsGathering q phrase all fields old new
 gathering_next q phrase all field fields left old now new is left_is (ts, terms_is, new_is, within) = record {
   found = is.found ++ ts;
-  now_is = new_is ∙ ap (λ (l : List TermState). l ++ ts) is.now_is ∙ append_assoc old is.found ts;
+  now_is = new_is ∙ ap (λ (l : List PhraseState). l ++ ts) is.now_is ∙ append_assoc old is.found ts;
   within = all_append q.entries is.found ts is.within within;
   whole = is.whole ∙ ap (λ (l : List ℕ). joined_terms (Ok is.found) (default_terms q phrase l)) left_is
       ∙ ap (λ (t : Terms). joined_terms (Ok is.found) (joined_terms t (default_terms q phrase fields))) terms_is
@@ -58,16 +67,16 @@ some_default_is q phrase [] some = absurd (cc)
 some_default_is q phrase (f ∷ fs) some = refl
 
 -- all fields
-pub gathered : (q : TextFields) (phrase all : List ℕ) (old now : List TermState) → eqb (length all) 0 ≡ false → IsGathering q phrase all [] old now → Adds (some_default q phrase all) q.entries old now (Ok tt)
+pub gathered : (q : TextFields) (phrase all : List ℕ) (old now : List PhraseState) → eqb (length all) 0 ≡ false → IsGathering q phrase all [] old now → Adds (some_default q phrase all) q.entries old now (Ok tt)
 gathered q phrase all old now some is =
-    (is.found, some_default_is q phrase all some ∙ is.whole ∙ ap (λ (l : List TermState). Ok l) (append-nil is.found), is.now_is, is.within)
+    (is.found, some_default_is q phrase all some ∙ is.whole ∙ ap (λ (l : List PhraseState). Ok l) (append-nil is.found), is.now_is, is.within)
 
-refused_first : (found : List TermState) (terms others : Terms) (e : QueryParserError) → refused terms ≡ Some e → refused (joined_terms (Ok found) (joined_terms terms others)) ≡ Some e
+refused_first : (found : List PhraseState) (terms others : Terms) (e : QueryParserError) → refused terms ≡ Some e → refused (joined_terms (Ok found) (joined_terms terms others)) ≡ Some e
 refused_first found (Ok ts) others e is = absurd (cc)
 refused_first found (Err e) others f is = is
 
 -- a field is refused
-pub gathering_refused : (q : TextFields) (phrase all : List ℕ) (field : ℕ) (fields left : List ℕ) (old now new : List TermState) (e : QueryParserError) → eqb (length all) 0 ≡ false → IsGathering q phrase all left old now → left ≡ field ∷ fields
+pub gathering_refused : (q : TextFields) (phrase all : List ℕ) (field : ℕ) (fields left : List ℕ) (old now new : List PhraseState) (e : QueryParserError) → eqb (length all) 0 ≡ false → IsGathering q phrase all left old now → left ≡ field ∷ fields
     → Adds (field_terms q field [] phrase) q.entries now new (Err e) → Adds (some_default q phrase all) q.entries old new (Err e)
 gathering_refused q phrase all field fields left old now new e some is left_is (inl memory) = inl memory
 gathering_refused q phrase all field fields left old now new e some is left_is (inr why) =
@@ -78,64 +87,144 @@ gathering_refused q phrase all field fields left old now new e some is left_is (
 pub field_at : (all : List ℕ) (i field : ℕ) → i < length all → field ≡ get_or all i 0 → drop i all ≡ field ∷ drop (i + 1) all
 field_at all i field inside is = drop-cons all i 0 inside ∙ rw (is, add-one) refl
 
-typed_same : (analyze : List ℕ → List Word) (entries : List SchemaEntry) (field : ℕ) (expand_dots : Bool) (path phrase : List ℕ) (t : ValueType)
-    → typed_terms (record { analyze = analyze; entries = [] }) field expand_dots path phrase t ≡ typed_terms (record { analyze = analyze; entries = entries }) field expand_dots path phrase t
-typed_same analyze entries field expand_dots path phrase types.Str = refl
-typed_same analyze entries field expand_dots path phrase types.U64 = refl
-typed_same analyze entries field expand_dots path phrase types.I64 = refl
-typed_same analyze entries field expand_dots path phrase types.Bool = refl
-typed_same analyze entries field expand_dots path phrase types.Date = refl
-typed_same analyze entries field expand_dots path phrase types.Bytes = refl
-typed_same analyze entries field expand_dots path phrase types.IpAddr = refl
-typed_same analyze entries field expand_dots path phrase types.Json = refl
+typed_same : (analyze : List ℕ → List Word) (entries : List SchemaEntry) (field : ℕ) (keeps expand_dots : Bool) (path phrase : List ℕ) (t : ValueType)
+    → typed_terms (record { analyze = analyze; entries = [] }) field keeps expand_dots path phrase t ≡ typed_terms (record { analyze = analyze; entries = entries }) field keeps expand_dots path phrase t
+typed_same analyze entries field keeps expand_dots path phrase types.Str = refl
+typed_same analyze entries field keeps expand_dots path phrase types.U64 = refl
+typed_same analyze entries field keeps expand_dots path phrase types.I64 = refl
+typed_same analyze entries field keeps expand_dots path phrase types.Bool = refl
+typed_same analyze entries field keeps expand_dots path phrase types.Date = refl
+typed_same analyze entries field keeps expand_dots path phrase types.Bytes = refl
+typed_same analyze entries field keeps expand_dots path phrase types.IpAddr = refl
+typed_same analyze entries field keeps expand_dots path phrase types.Json = refl
 
-within_by : (entries : List SchemaEntry) (field : ℕ) (ts : List TermState) → field < length entries → AllByRecursion (λ (t : TermState). t.field ≡ field) ts → are_in entries ts ≡ true
-within_by entries field [] inside all = refl
-within_by entries field (t ∷ ts) inside all =
-    let here = all.0 in rw (lt-ltb t.field (length entries) (omega (arith, here, inside))) (within_by entries field ts inside all.1)
+-- terms of a field that is there
+others_within : (n field : ℕ) (os : List PhraseTerm) → field < n → AllByRecursion (λ (o : PhraseTerm). o.term.field ≡ field) os → list_all (λ (o : PhraseTerm). nat_lt o.term.field n) os ≡ true
+others_within n field [] inside all = refl
+others_within n field (o ∷ os) inside all = let here = all.0 in rw (lt-ltb o.term.field n (omega (arith, here, inside))) (others_within n field os inside all.1)
 
-adds_by : (terms : Terms) (entries : List SchemaEntry) (field : ℕ) (old new : List TermState) (r : Result (Unit {0}) QueryParserError) → field < length entries → AddsIn terms field old new r → Adds terms entries old new r
-adds_by terms entries field old new (Ok done) inside (ts, terms_is, new_is, all) = (ts, terms_is, new_is, within_by entries field ts inside all)
-adds_by terms entries field old new (Err e) inside why = why
+-- and of one that keeps positions
+kept_in : (entries : List SchemaEntry) (field : ℕ) (e : SchemaEntry) (t : TermState) → slice_get entries field ≡ Some e → t.field ≡ field → has_positions e.option ≡ true → has_positions_in entries t ≡ true
+kept_in entries field e t here is keeps = ap (λ (f : ℕ). has_positions (option_of entries f)) is ∙ rw here keeps
+
+others_kept : (entries : List SchemaEntry) (field : ℕ) (e : SchemaEntry) (os : List PhraseTerm) → slice_get entries field ≡ Some e → has_positions e.option ≡ true → AllByRecursion (λ (o : PhraseTerm). o.term.field ≡ field) os
+    → list_all (λ (o : PhraseTerm). has_positions_in entries o.term) os ≡ true
+others_kept entries field e [] here keeps all = refl
+others_kept entries field e (o ∷ os) here keeps all = rw (kept_in entries field e o.term here all.0 keeps) (others_kept entries field e os here keeps all.1)
+
+phrase_in : (entries : List SchemaEntry) (field : ℕ) (e : SchemaEntry) (p : PhraseState) → slice_get entries field ≡ Some e → IsPhraseIn field (has_positions e.option) p → (phrase_within (length entries) p && phrase_kept entries p) ≡ true
+phrase_in entries field e p here is =
+    let inside = slice_get_within entries field e here in
+    let first = is.first in
+    let within : phrase_within (length entries) p ≡ true = rw (lt-ltb p.first.field (length entries) (omega (arith, first, inside))) (others_within (length entries) field p.others inside is.others) in
+    rw within (kept (has_positions e.option) refl (is_alone p) refl is.kept)
+  where
+    kept : (k : Bool) → has_positions e.option ≡ k → (a : Bool) → is_alone p ≡ a → (has_positions e.option || is_alone p) ≡ true → phrase_kept entries p ≡ true
+    kept k keeps true alone either = rw alone refl
+    kept true keeps false alone either = rw (alone, kept_in entries field e p.first here is.first keeps) (others_kept entries field e p.others here keeps is.others)
+    kept false keeps false alone either = absurd (true≢false (sym (rw (keeps, alone) at either)))
+
+within_by : (entries : List SchemaEntry) (field : ℕ) (e : SchemaEntry) (ts : List PhraseState) → slice_get entries field ≡ Some e → AllByRecursion (IsPhraseIn field (has_positions e.option)) ts → are_in entries ts ≡ true
+within_by entries field e [] here all = refl
+within_by entries field e (t ∷ ts) here all = rw (phrase_in entries field e t here all.0) (within_by entries field e ts here all.1)
+
+adds_by : (terms : Terms) (entries : List SchemaEntry) (field : ℕ) (e : SchemaEntry) (old new : List PhraseState) (r : Result (Unit {0}) QueryParserError) → slice_get entries field ≡ Some e → AddsIn terms field (has_positions e.option) old new r → Adds terms entries old new r
+adds_by terms entries field e old new (Ok done) here (ts, terms_is, new_is, all) = (ts, terms_is, new_is, within_by entries field e ts here all)
+adds_by terms entries field e old new (Err error) here why = why
 
 -- the terms of a field that is indexed
-pub entry_adds : (analyze : List ℕ → List Word) (entries : List SchemaEntry) (field : ℕ) (path phrase : List ℕ) (e : SchemaEntry) (t : ValueType) (expand_dots : Bool) (old new : List TermState) (r : Result (Unit {0}) QueryParserError)
-    → slice_get entries field ≡ Some e → e.is_indexed ≡ true → t ≡ e.value_type → expand_dots ≡ e.expands_dots
-    → AddsIn (typed_terms (record { analyze = analyze; entries = [] }) field expand_dots path phrase t) field old new r
+pub entry_adds : (analyze : List ℕ → List Word) (entries : List SchemaEntry) (field : ℕ) (path phrase : List ℕ) (e : SchemaEntry) (t : ValueType) (option : IndexRecordOption) (expand_dots : Bool) (old new : List PhraseState) (r : Result (Unit {0}) QueryParserError)
+    → slice_get entries field ≡ Some e → e.is_indexed ≡ true → t ≡ e.value_type → option ≡ e.option → expand_dots ≡ e.expands_dots
+    → AddsIn (typed_terms (record { analyze = analyze; entries = [] }) field (has_positions option) expand_dots path phrase t) field (has_positions option) old new r
     → Adds (field_terms (record { analyze = analyze; entries = entries }) field path phrase) entries old new r
-entry_adds analyze entries field path phrase e t expand_dots old new r here indexed type_is dots_is adds =
+entry_adds analyze entries field path phrase e t option expand_dots old new r here indexed type_is option_is dots_is adds =
     subst (λ (terms : Terms). Adds terms entries old new r)
-    (typed_same analyze entries field expand_dots path phrase t
+    (typed_same analyze entries field (has_positions e.option) expand_dots path phrase t
     ∙ rw (type_is, dots_is, here, indexed) refl)
-    (adds_by _ entries field old new r (slice_get_within entries field e here) adds)
+    (adds_by _ entries field e old new r here (subst (λ (o : IndexRecordOption). AddsIn (typed_terms (record { analyze = analyze; entries = [] }) field (has_positions o) expand_dots path phrase t) field (has_positions o) old new r) option_is adds))
 
-option_fields : {A : Type 0} (field : ℕ) (value : A → List ℕ) (o : Option A) → AllByRecursion (λ (t : TermState). t.field ≡ field) (option_to_list (option_map (λ (a : A). record { field = field; value = value a }) o))
-option_fields field value None = tt
-option_fields field value (Some a) = (refl, tt)
+after_fields : (prefix : TermState) (first : ℕ) (ws : List Word) → AllByRecursion (λ (o : PhraseTerm). o.term.field ≡ prefix.field) (terms_after prefix first ws)
+after_fields prefix first [] = tt
+after_fields prefix first (w ∷ ws) = (refl, after_fields prefix first ws)
 
-both_fields : (field : ℕ) (ts us : List TermState) → AllByRecursion (λ (t : TermState). t.field ≡ field) ts → AllByRecursion (λ (t : TermState). t.field ≡ field) us → AllByRecursion (λ (t : TermState). t.field ≡ field) (ts ++ us)
-both_fields field [] us first other = other
-both_fields field (t ∷ ts) us first other = (first.0, both_fields field ts us first.1 other)
+-- The terms of a phrase are of a field.
+abbrev pub IsOfField : ℕ → PhraseState → Type 0
+IsOfField field p = (p.first.field ≡ field) × AllByRecursion (λ (o : PhraseTerm). o.term.field ≡ field) p.others
 
-some_adds : (terms : Terms) (field : ℕ) (first other : Option TermState) (old new : List TermState) (r : Result (Unit {0}) QueryParserError) → terms ≡ some_term (option_to_list first ++ option_to_list other)
-    → AllByRecursion (λ (t : TermState). t.field ≡ field) (option_to_list first ++ option_to_list other) → AddsSome first other old new r → AddsIn terms field old new r
-some_adds terms field first other old new (Ok done) terms_is all adds = (option_to_list first ++ option_to_list other, terms_is ∙ adds.0, adds.1, all)
-some_adds terms field first other old new (Err e) terms_is all adds = subst (λ (t : Terms). IsRefusedBy (refused t) e) (sym terms_is) adds
+some_is : {A : Type 0} (a b : A) → Some a ≡ Some b → a ≡ b
+some_is a b same = ap (λ (o : Option _). unwrap_or o a) same
+
+words_field : (prefix : TermState) (ws : List Word) (p : PhraseState) → words_phrase prefix ws ≡ Some p → IsOfField prefix.field p
+words_field prefix [] p is = absurd (cc)
+words_field prefix (w ∷ ws) p is = by (stand_after w.position ws) refl is
+  where
+    by : (b : Bool) → stand_after w.position ws ≡ b → words_phrase prefix (w ∷ ws) ≡ Some p → IsOfField prefix.field p
+    by true after is = subst (IsOfField prefix.field) (some_is _ p (rw after at is)) (refl, after_fields prefix w.position ws)
+    by false after is = absurd (let none = rw after at is in cc)
+
+or_true : (b : Bool) → (b || true) ≡ true
+or_true true = refl
+or_true false = refl
+
+alone_in : (field : ℕ) (keeps : Bool) (t : TermState) → t.field ≡ field → IsPhraseIn field keeps (one_term t)
+alone_in field keeps t is = record { first = is; others = tt; kept = or_true keeps }
+
+ok_is : (a b : List PhraseState) (x : Terms) → x ≡ Ok a → x ≡ Ok b → a ≡ b
+ok_is a b x first other = ap (λ (r : Terms). result_unwrap_or r []) (sym first ∙ other)
+
+-- what a text is looked up by is of its field
+text_in : (field : ℕ) (keeps : Bool) (value : Option TermState) (words : Option PhraseState) (ts : List PhraseState) → IfSome value (λ t. t.field ≡ field) → ((p : PhraseState) → words ≡ Some p → IsOfField field p) → text_terms keeps value words ≡ Ok ts
+    → AllByRecursion (IsPhraseIn field keeps) ts
+text_in field keeps None None ts of_value of_words is = absurd (cc)
+text_in field keeps (Some v) None ts of_value of_words is = subst (AllByRecursion (IsPhraseIn field keeps)) (ok_is _ ts _ refl is) (alone_in field keeps v of_value, tt)
+text_in field keeps value (Some p) ts of_value of_words is = by (keeps || is_alone p) refl (of_words p refl) value of_value is
+  where
+    by : (b : Bool) → (keeps || is_alone p) ≡ b → IsOfField field p → (v : Option TermState) → IfSome v (λ t. t.field ≡ field) → text_terms keeps v (Some p) ≡ Ok ts → AllByRecursion (IsPhraseIn field keeps) ts
+    by true kept of_field None of_v is = subst (AllByRecursion (IsPhraseIn field keeps)) (ok_is _ ts _ refl (rw kept at is)) (record { first = of_field.0; others = of_field.1; kept = kept }, tt)
+    by true kept of_field (Some v) of_v is = subst (AllByRecursion (IsPhraseIn field keeps)) (ok_is _ ts _ refl (rw kept at is)) (alone_in field keeps v of_v, (record { first = of_field.0; others = of_field.1; kept = kept }, tt))
+    by false kept of_field v of_v is = absurd (let none = rw kept at is in cc)
+
+text_adds : (field : ℕ) (keeps : Bool) (value : Option TermState) (words : Option PhraseState) (old new : List PhraseState) (r : Result (Unit {0}) QueryParserError) → IfSome value (λ t. t.field ≡ field) → ((p : PhraseState) → words ≡ Some p → IsOfField field p)
+    → AddsText keeps value words old new r → AddsIn (text_terms keeps value words) field keeps old new r
+text_adds field keeps value words old new (Ok done) of_value of_words (ts, is, new_is) = (ts, is, new_is, text_in field keeps value words ts of_value of_words is)
+text_adds field keeps value words old new (Err e) of_value of_words why = why
+
+-- the terms of a text in a field of texts
+pub str_adds : (q : TextFields) (field : ℕ) (keeps expand_dots : Bool) (path phrase : List ℕ) (old new : List PhraseState) (r : Result (Unit {0}) QueryParserError)
+    → AddsText keeps None (words_phrase (record { field = field; value = [] }) (q.analyze phrase)) old new r → AddsIn (typed_terms q field keeps expand_dots path phrase types.Str) field keeps old new r
+str_adds q field keeps expand_dots path phrase old new r adds = text_adds field keeps None _ old new r tt (words_field (record { field = field; value = [] }) (q.analyze phrase)) adds
+
+-- the term of a value
+pub value_adds : {A : Type 0} (field : ℕ) (keeps : Bool) (error : QueryParserError) (bytes : A → List ℕ) (o : Option A) (term : Option TermState) (old new : List PhraseState) (r : Result (Unit {0}) QueryParserError)
+    → term ≡ option_map (λ (a : A). record { field = field; value = bytes a }) o → AddsMaybe term error old new r → AddsIn (value_term field error (option_map bytes o)) field keeps old new r
+value_adds field keeps error bytes o term old new r is adds = by o r (subst (λ (t : Option TermState). AddsMaybe t error old new r) is adds)
+  where
+    by : (p : Option _) (s : Result (Unit {0}) QueryParserError) → AddsMaybe (option_map (λ a. record { field = field; value = bytes a }) p) error old new s → AddsIn (value_term field error (option_map bytes p)) field keeps old new s
+    by None (Ok done) adds = absurd adds
+    by None (Err e) adds = inr (ap (λ (x : QueryParserError). Some x) (sym adds))
+    by (Some a) (Ok done) adds = (one_term (record { field = field; value = bytes a }) ∷ [], refl, adds, (alone_in field keeps _ refl, tt))
+    by (Some a) (Err e) adds = inl adds
+
+value_field : (field : ℕ) (key : List ℕ) (o : Option (List ℕ)) → IfSome (option_map (λ (v : List ℕ). record { field = field; value = key ++ v }) o) (λ (t : TermState). t.field ≡ field)
+value_field field key None = tt
+value_field field key (Some v) = refl
 
 -- the terms at a path
-pub json_adds : (q : TextFields) (field : ℕ) (expand_dots : Bool) (path phrase : List ℕ) (start : TermState) (value word : Option TermState) (old new : List TermState) (r : Result (Unit {0}) QueryParserError)
-    → has_zero path ≡ false → start ≡ record { field = field; value = path_key expand_dots path } → value ≡ option_map (with_value start) (fast_value_in phrase)
-    → word ≡ option_map (λ (w : List ℕ). record { field = start.field; value = start.value ++ text_key w }) (only_word (q.analyze phrase))
-    → AddsSome value word old new r → AddsIn (typed_terms q field expand_dots path phrase types.Json) field old new r
-json_adds q field expand_dots path phrase start value word old new r no_zero start_is value_is word_is adds =
-    some_adds _ field value word old new r
-    (rw (no_zero, value_is, word_is, start_is) refl)
-    (rw (value_is, word_is, start_is) (both_fields field _ _ (option_fields field (λ (v : List ℕ). path_key expand_dots path ++ v) (fast_value_in phrase)) (option_fields field (λ (w : List ℕ). path_key expand_dots path ++ text_key w) (only_word (q.analyze phrase)))))
-    adds
+pub json_adds : (q : TextFields) (field : ℕ) (keeps expand_dots : Bool) (path phrase : List ℕ) (start prefix : TermState) (value : Option TermState) (words : Option PhraseState) (old new : List PhraseState) (r : Result (Unit {0}) QueryParserError)
+    → has_zero path ≡ false → start ≡ record { field = field; value = path_key expand_dots path } → value ≡ option_map (with_value start) (fast_value_in phrase) → prefix ≡ record { field = start.field; value = start.value ++ text_key [] }
+    → words ≡ words_phrase prefix (q.analyze phrase) → AddsText keeps value words old new r → AddsIn (typed_terms q field keeps expand_dots path phrase types.Json) field keeps old new r
+json_adds q field keeps expand_dots path phrase start prefix value words old new r no_zero start_is value_is prefix_is words_are adds =
+    let at : TermState = record { field = field; value = path_key expand_dots path ++ text_key [] } in
+    let prefix_at : prefix ≡ at = rw (prefix_is, start_is) refl in
+    let value_at : value ≡ path_value field expand_dots path phrase = rw (value_is, start_is) refl in
+    let words_at : words ≡ words_phrase at (q.analyze phrase) = words_are ∙ ap (λ (t : TermState). words_phrase t (q.analyze phrase)) prefix_at in
+    let all = text_adds field keeps (path_value field expand_dots path phrase) (words_phrase at (q.analyze phrase)) old new r (value_field field (path_key expand_dots path) (fast_value_in phrase)) (words_field at (q.analyze phrase))
+    (subst (λ (v : Option TermState). AddsText keeps v (words_phrase at (q.analyze phrase)) old new r) value_at (subst (λ (w : Option PhraseState). AddsText keeps value w old new r) words_at adds)) in
+    rw no_zero all
 
 -- a path that holds byte 0
-pub zero_refused : (q : TextFields) (field : ℕ) (expand_dots : Bool) (path phrase : List ℕ) → has_zero path ≡ true → IsRefusedBy (refused (typed_terms q field expand_dots path phrase types.Json)) errors.UnsupportedPath
-zero_refused q field expand_dots path phrase has = inr (rw has refl)
+pub zero_refused : (q : TextFields) (field : ℕ) (keeps expand_dots : Bool) (path phrase : List ℕ) → has_zero path ≡ true → IsRefusedBy (refused (typed_terms q field keeps expand_dots path phrase types.Json)) errors.UnsupportedPath
+zero_refused q field keeps expand_dots path phrase has = inr (rw has refl)
 
 entry_at : (entries : List SchemaEntry) (i : ℕ) (e : SchemaEntry) → slice_get entries i ≡ Some e → drop i entries ≡ e ∷ drop (i + 1) entries
 entry_at entries i e here =
@@ -160,3 +249,23 @@ dot_at name i is =
     let found = some_if (nat_lt (position_or_len (λ b. eqb b 46) name) (length name)) (position_or_len (λ b. eqb b 46) name) i is in
     let inside = ltb-true (position_or_len (λ b. eqb b 46) name) (length name) found.0 in
     (rw found.1 at inside, eqb-true (get_or name i 0) 46 (rw found.1 at (passes_at_first (λ b. eqb b 46) name 0 inside)))
+
+all_split : (f g : PhraseState → Bool) (ps : List PhraseState) → list_all (λ (p : PhraseState). f p && g p) ps ≡ true → (list_all f ps ≡ true) × (list_all g ps ≡ true)
+all_split f g [] all = (refl, refl)
+all_split f g (p ∷ ps) all =
+    let parts = and_parts (f p && g p) (list_all (λ (x : PhraseState). f x && g x) ps) all in
+    let here = and_parts (f p) (g p) parts.0 in
+    let later = all_split f g ps parts.1 in
+    (rw here.0 later.0, rw here.1 later.1)
+
+-- what a word or a phrase means
+pub leaf_means : (q : QueryFields) (l : Literal) (query : Query) (terms : List PhraseState) → Adds (terms_of q l) q.texts.entries [] terms (Ok tt) → ((ts : List IndexToken) (doc : ℕ) → matches query ts doc ≡ has_term ts doc terms)
+    → ((n : ℕ) → has_fields n query ≡ list_all (phrase_within n) terms) → ((entries : List SchemaEntry) → keeps_positions entries query ≡ list_all (phrase_kept entries) terms) → Means q (leaf l) query
+leaf_means q l query terms (ts, is, new_is, within) means fields positions =
+    let all = all_split (phrase_within (length q.texts.entries)) (phrase_kept q.texts.entries) ts within in
+    record {
+      taken = ap refused is;
+      exact = λ tokens doc. means tokens doc ∙ ap (has_term tokens doc) new_is ∙ sym (ap (has_one tokens doc) is);
+      fields = fields (length q.texts.entries) ∙ ap (list_all (phrase_within (length q.texts.entries))) new_is ∙ all.0;
+      positions = positions q.texts.entries ∙ ap (list_all (phrase_kept q.texts.entries)) new_is ∙ all.1;
+    }

@@ -1,31 +1,56 @@
 -- What a query gives in an index.
-use Rattle.std.specs.Prelude.{◌≡◌, ℕ, List, [], Option, None, Some, Result, Ok, Err, length, min, slice_get}
+use Rattle.std.specs.Prelude.{◌≡◌, ℕ, List, [], ◌∷◌, Option, None, Some, Result, Ok, Err, length, min, slice_get}
 use Rattle.ii_io.specs.declared.faults.Fault.{Fault}
 use Rattle.ii_io.specs.declared.faults.Fault.TheVariants.{OutOfMemory}
 use Rattle.ii_io.specs.declared.faults.Part.{Part}
-use Rattle.ii_base.specs.declared.schema.index_record_option.IndexRecordOption.TheVariants.{Basic}
-use Rattle.ii_docset.specs.declared.docset.TheConstants.{TERMINATED}
+use Rattle.ii_base.specs.declared.schema.index_record_option.IndexRecordOption.{IndexRecordOption}
+use Rattle.ii_base.specs.declared.schema.index_record_option.IndexRecordOption.TheVariants.{Basic, WithFreqsAndPositions}
+use Rattle.ii_base.specs.Terms.{TermState}
+use Rattle.ii_base.specs.declared.doc_id.TheConstants.{TERMINATED}
 use Rattle.ii_docset.specs.Cursor.{IsAscending}
-use Rattle.ii_docset.specs.Entries.{Entry}
+use Rattle.ii_base.specs.Entries.{Entry}
 use Rattle.ii_docset.specs.Intersection.{has_doc}
 use Rattle.ii_query.specs.Combined.{QueryCursorState, all_from, common, either, without}
+use Rattle.ii_query.specs.Phrase.{PhrasePartState, phrase_docs}
 use Rattle.ii_termdict.specs.Dictionary.{info_under}
 use Rattle.ii_termstore.specs.declared.term_info.TermInfo.{TermInfo}
 use Rattle.ii_definitions.specs.Tokens.{IndexToken}
 use Rattle.ii_reader.specs.InvertedIndexReader.{InvertedIndexReaderState, term_of_file}
 use Rattle.ii_reader.specs.OpenIndex.{OpenIndexState}
-use Rattle.ii_search.specs.declared.query.Query.{Query, Empty, All, Term, And', Or', AndNot'}
+use Rattle.ii_search.specs.declared.query.PhraseTerm.{PhraseTerm}
+use Rattle.ii_search.specs.declared.query.Query.{Query, Empty, All, Term, Phrase, And', Or', AndNot'}
 use Rattle.ii_search.specs.Queries.{matches}
 
--- the documents of a term of which this is kept, or the first part that fails; none where nothing is kept of it
-abbrev pub docs_kept : InvertedIndexReaderState → Option TermInfo → Result (List Entry) Part
-docs_kept reader None = Ok []
-docs_kept reader (Some info) = term_of_file reader Basic info
+-- the documents of a term of which this is kept, with what is requested, or the first part that fails; none where nothing is kept of it
+abbrev pub docs_kept : IndexRecordOption → InvertedIndexReaderState → Option TermInfo → Result (List Entry) Part
+docs_kept requested reader None = Ok []
+docs_kept requested reader (Some info) = term_of_file reader requested info
 
 -- the documents of a key in a field
-abbrev pub docs_under : List ℕ → Option InvertedIndexReaderState → Result (List Entry) Part
-docs_under key None = Ok []
-docs_under key (Some reader) = docs_kept reader (info_under key reader.terms)
+abbrev pub docs_under : IndexRecordOption → List ℕ → Option InvertedIndexReaderState → Result (List Entry) Part
+docs_under requested key None = Ok []
+docs_under requested key (Some reader) = docs_kept requested reader (info_under key reader.terms)
+
+-- the documents of a term, with what is requested
+abbrev pub docs_of_term : IndexRecordOption → OpenIndexState → TermState → Result (List Entry) Part
+docs_of_term requested index term = docs_under requested term.value (slice_get index.readers term.field)
+
+-- one part of a phrase more, or the first part that fails
+abbrev pub with_part : ℕ → Result (List Entry) Part → Result (List PhrasePartState) Part → Result (List PhrasePartState) Part
+with_part distance (Err part) others = Err part
+with_part distance (Ok es) (Err part) = Err part
+with_part distance (Ok es) (Ok others) = Ok (record { distance = distance; rest = es } ∷ others)
+
+-- the documents of the other terms of a phrase, with their positions
+abbrev pub parts_of : OpenIndexState → List PhraseTerm → Result (List PhrasePartState) Part
+parts_of index [] = Ok []
+parts_of index (o ∷ os) = with_part o.distance (docs_of_term WithFreqsAndPositions index o.term) (parts_of index os)
+
+-- the documents of a phrase, or the first part that fails
+abbrev pub phrase_of : Result (List Entry) Part → Result (List PhrasePartState) Part → Result (List Entry) Part
+phrase_of (Err part) others = Err part
+phrase_of (Ok es) (Err part) = Err part
+phrase_of (Ok es) (Ok others) = Ok (phrase_docs es others)
 
 -- two lists that are combined, or the first part that fails
 abbrev pub combined : (List Entry → List Entry → List Entry) → Result (List Entry) Part → Result (List Entry) Part → Result (List Entry) Part
@@ -37,7 +62,8 @@ combined by (Ok es) (Ok fs) = Ok (by es fs)
 abbrev pub found_in : OpenIndexState → Query → Result (List Entry) Part
 found_in index Empty = Ok []
 found_in index (All n) = Ok (all_from 0 (min n TERMINATED))
-found_in index (Term term) = docs_under term.value (slice_get index.readers term.field)
+found_in index (Term term) = docs_of_term Basic index term
+found_in index (Phrase first others) = phrase_of (docs_of_term WithFreqsAndPositions index first) (parts_of index others.items)
 found_in index (And' p first q other) = combined common (found_in index first) (found_in index other)
 found_in index (Or' p first q other) = combined either (found_in index first) (found_in index other)
 found_in index (AndNot' p first q other) = combined without (found_in index first) (found_in index other)

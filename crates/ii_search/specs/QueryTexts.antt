@@ -1,9 +1,10 @@
 -- What the text of a query means, by the fields of a schema.
-use Rattle.std.specs.Prelude.{◌≡◌, ◌⊎◌, ℕ, Bool, true, false, ◌&&◌, ◌||◌, ◌==◌, ◌+◌, not, List, [], ◌∷◌, ◌++◌, Option, None, Some, Result, Ok, Err, bytes_eq, drop, if◌then◌else◌, length, nat_lt, option_map, position, slice_get, take}
+use Rattle.std.specs.Prelude.{◌≡◌, ◌⊎◌, ℕ, Bool, true, false, ◌&&◌, ◌||◌, ◌==◌, ◌+◌, ◌-◌, not, List, [], ◌∷◌, ◌++◌, Option, None, Some, Result, Ok, Err, bytes_eq, drop, if◌then◌else◌, length, map, nat_eq, nat_le, nat_lt, option_map, position, slice_get, take}
 use Rattle.std.specs.Borrow.{Bor}
 use Rattle.std.specs.List.{AllByRecursion, list_all, list_any, position_from}
 use Rattle.std.specs.Option.{option_or, option_to_list}
 use Rattle.ii_io.specs.declared.faults.Fault.TheVariants.{OutOfMemory}
+use Rattle.ii_base.specs.Options.{has_positions}
 use Rattle.ii_base.specs.Paths.{has_zero, path_bytes, segments_of}
 use Rattle.ii_base.specs.Schema.{SchemaEntry}
 use Rattle.ii_base.specs.Terms.{TermState}
@@ -16,7 +17,8 @@ use Rattle.ii_definitions.specs.Tokens.{IndexToken}
 use Rattle.ii_query_grammar.specs.Parsed.{SyntaxError, parsed}
 use Rattle.ii_query_grammar.specs.Trees.{Ast, Literal, both, either, leaf, without}
 use Rattle.ii_query_grammar.specs.declared.query_grammar.TheConstants.{MAX_LEXEMES}
-use Rattle.ii_search.specs.Queries.{has_fields, is_token_of, matches}
+use Rattle.ii_search.specs.Queries.{has_fields, has_phrase, has_positions_in, is_token_of, keeps_positions, matches}
+use Rattle.ii_search.specs.declared.query.PhraseTerm.{PhraseTerm}
 use Rattle.ii_search.specs.declared.query.Query.{Query}
 use Rattle.ii_search.specs.declared.query_parser_error.QueryParserError.{QueryParserError}
 use Rattle.ii_search.specs.declared.query_parser_error.QueryParserError.TheVariants as errors
@@ -31,51 +33,76 @@ pub record QueryFields : Type 0 where
   pub texts : TextFields
   pub defaults : List ℕ
 
--- the terms of a word or a phrase, of which a document has to have one, or why it has none
-abbrev pub Terms : Type 0
-Terms = Result (List TermState) QueryParserError
+-- A term, and those that follow it in a phrase; a term alone has none.
+pub record PhraseState : Type 0 where
+  pub first : TermState
+  pub others : List PhraseTerm
 
--- the token of a text of one
-abbrev pub only_word : List Word → Option (List ℕ)
-only_word [] = None
-only_word (w ∷ []) = Some w.text
-only_word (w ∷ x ∷ ws) = None
+-- a term alone
+abbrev pub one_term : TermState → PhraseState
+one_term t = record { first = t; others = [] }
+
+abbrev pub is_alone : PhraseState → Bool
+is_alone p = nat_eq (length p.others) 0
+
+-- the terms and phrases of a word or a phrase, of which a document has to have one, or why it has none
+abbrev pub Terms : Type 0
+Terms = Result (List PhraseState) QueryParserError
+
+-- the term of a word behind a prefix
+abbrev pub word_term : TermState → List ℕ → TermState
+word_term prefix word = record { field = prefix.field; value = prefix.value ++ word }
+
+-- whether words stand at a place or after it, less than 2^32 positions
+abbrev pub stand_after : ℕ → List Word → Bool
+stand_after first ws = list_all (λ (w : Word). nat_le first w.position && nat_lt (w.position - first) 4294967296) ws
+
+-- words behind a prefix, each with how far it stands after a place
+abbrev pub terms_after : TermState → ℕ → List Word → List PhraseTerm
+terms_after prefix first ws = map (λ (w : Word). record { distance = w.position - first; term = word_term prefix w.text }) ws
+
+-- the phrase of words behind a prefix: the first one, and the others, none of which stands before it
+abbrev pub words_phrase : TermState → List Word → Option PhraseState
+words_phrase prefix [] = None
+words_phrase prefix (w ∷ ws) = if stand_after w.position ws then Some (record { first = word_term prefix w.text; others = terms_after prefix w.position ws }) else None
 
 -- the term of a value in a field, if there is one
 abbrev pub value_term : ℕ → QueryParserError → Option (List ℕ) → Terms
 value_term field error None = Err error
-value_term field error (Some key) = Ok (record { field = field; value = key } ∷ [])
+value_term field error (Some key) = Ok (one_term (record { field = field; value = key }) ∷ [])
 
--- terms, of which there has to be one
-abbrev pub some_term : List TermState → Terms
-some_term [] = Err errors.UnsupportedPhrase
-some_term (t ∷ ts) = Ok (t ∷ ts)
+-- what a text is looked up by: the term of a value, if there is one, and its words; several words want positions
+abbrev pub text_terms : Bool → Option TermState → Option PhraseState → Terms
+text_terms keeps None None = Err errors.UnsupportedPhrase
+text_terms keeps (Some value) None = Ok (one_term value ∷ [])
+text_terms keeps value (Some words) =
+    if keeps || is_alone words then Ok (map one_term (option_to_list value) ++ words ∷ []) else Err errors.FieldDoesNotHavePositionsIndexed
 
 -- the bytes of a path and their end
 abbrev pub path_key : Bool → List ℕ → List ℕ
 path_key expand_dots path = path_bytes expand_dots (segments_of path) ++ 0 ∷ []
 
--- the value that a text is taken for at a path, if it is taken for one, and its token, if it is one
-abbrev pub json_terms : TextFields → ℕ → Bool → List ℕ → List ℕ → List TermState
-json_terms q field expand_dots path phrase =
-    option_to_list (option_map (λ value. record { field = field; value = path_key expand_dots path ++ value }) (fast_value_in phrase))
-    ++ option_to_list (option_map (λ word. record { field = field; value = path_key expand_dots path ++ text_key word }) (only_word (q.analyze phrase)))
+-- the value that a text is taken for at a path, if it is taken for one
+abbrev pub path_value : ℕ → Bool → List ℕ → List ℕ → Option TermState
+path_value field expand_dots path phrase = option_map (λ value. record { field = field; value = path_key expand_dots path ++ value }) (fast_value_in phrase)
 
--- the terms of a text in a field, by the type of its values
-abbrev pub typed_terms : TextFields → ℕ → Bool → List ℕ → List ℕ → ValueType → Terms
-typed_terms q field expand_dots path phrase types.Str = value_term field errors.UnsupportedPhrase (only_word (q.analyze phrase))
-typed_terms q field expand_dots path phrase types.U64 = value_term field errors.ExpectedInt (option_map u64_bytes (u64_in phrase))
-typed_terms q field expand_dots path phrase types.I64 = value_term field errors.ExpectedInt (option_map (λ n. u64_bytes (flipped n)) (i64_in phrase))
-typed_terms q field expand_dots path phrase types.Bool = value_term field errors.ExpectedBool (option_map (λ b. u64_bytes (number_of_bool b)) (bool_in phrase))
-typed_terms q field expand_dots path phrase types.Date = Err errors.UnsupportedType
-typed_terms q field expand_dots path phrase types.Bytes = Err errors.UnsupportedType
-typed_terms q field expand_dots path phrase types.IpAddr = Err errors.UnsupportedType
-typed_terms q field expand_dots path phrase types.Json = if has_zero path then Err errors.UnsupportedPath else some_term (json_terms q field expand_dots path phrase)
+-- the terms of a text in a field, by what the field keeps and by the type of its values
+abbrev pub typed_terms : TextFields → ℕ → Bool → Bool → List ℕ → List ℕ → ValueType → Terms
+typed_terms q field keeps expand_dots path phrase types.Str = text_terms keeps None (words_phrase (record { field = field; value = [] }) (q.analyze phrase))
+typed_terms q field keeps expand_dots path phrase types.U64 = value_term field errors.ExpectedInt (option_map u64_bytes (u64_in phrase))
+typed_terms q field keeps expand_dots path phrase types.I64 = value_term field errors.ExpectedInt (option_map (λ n. u64_bytes (flipped n)) (i64_in phrase))
+typed_terms q field keeps expand_dots path phrase types.Bool = value_term field errors.ExpectedBool (option_map (λ b. u64_bytes (number_of_bool b)) (bool_in phrase))
+typed_terms q field keeps expand_dots path phrase types.Date = Err errors.UnsupportedType
+typed_terms q field keeps expand_dots path phrase types.Bytes = Err errors.UnsupportedType
+typed_terms q field keeps expand_dots path phrase types.IpAddr = Err errors.UnsupportedType
+typed_terms q field keeps expand_dots path phrase types.Json =
+    if has_zero path then Err errors.UnsupportedPath
+    else text_terms keeps (path_value field expand_dots path phrase) (words_phrase (record { field = field; value = path_key expand_dots path ++ text_key [] }) (q.analyze phrase))
 
 -- those of an entry of the schema, if it is indexed
 abbrev pub entry_terms : TextFields → ℕ → List ℕ → List ℕ → Option SchemaEntry → Terms
 entry_terms q field path phrase None = Err errors.FieldDoesNotExist
-entry_terms q field path phrase (Some e) = if e.is_indexed then typed_terms q field e.expands_dots path phrase e.value_type else Err errors.FieldNotIndexed
+entry_terms q field path phrase (Some e) = if e.is_indexed then typed_terms q field (has_positions e.option) e.expands_dots path phrase e.value_type else Err errors.FieldNotIndexed
 
 abbrev pub field_terms : TextFields → ℕ → List ℕ → List ℕ → Terms
 field_terms q field path phrase = entry_terms q field path phrase (slice_get q.entries field)
@@ -138,9 +165,14 @@ literal_terms q defaults (Some name) phrase = named_terms q name phrase (field_n
 abbrev pub terms_of : QueryFields → Literal → Terms
 terms_of q l = literal_terms q.texts q.defaults l.field_name l.phrase
 
--- whether a document has one of these terms
-abbrev pub has_term : List IndexToken → ℕ → List TermState → Bool
-has_term ts doc terms = list_any (λ term. list_any (is_token_of term doc) ts) terms
+-- whether a document has a term, or the phrase where others follow it
+abbrev pub has_words : List IndexToken → ℕ → TermState → List PhraseTerm → Bool
+has_words ts doc first [] = list_any (is_token_of first doc) ts
+has_words ts doc first (o ∷ os) = has_phrase ts doc first (o ∷ os)
+
+-- whether a document has one of these terms and phrases
+abbrev pub has_term : List IndexToken → ℕ → List PhraseState → Bool
+has_term ts doc terms = list_any (λ (p : PhraseState). has_words ts doc p.first p.others) terms
 
 -- whether a document has what a word or a phrase means
 abbrev pub has_one : List IndexToken → ℕ → Terms → Bool
@@ -171,6 +203,7 @@ pub record Means (q : QueryFields) (ast : Ast) (query : Query) : Type 0 where
   pub taken : ast_refusal q ast ≡ None
   pub exact : (ts : List IndexToken) (doc : ℕ) → matches query ts doc ≡ ast_matches q ast ts doc
   pub fields : has_fields (length q.texts.entries) query ≡ true
+  pub positions : keeps_positions q.texts.entries query ≡ true
 
 -- Memory was missing, or this is why.
 abbrev pub IsRefusedBy : Option QueryParserError → QueryParserError → Type 0
@@ -202,37 +235,52 @@ pub record MeansText (q : QueryFields) (text : List ℕ) (query : Query) : Type 
   pub taken : text_refusal q text ≡ None
   pub exact : (ts : List IndexToken) (doc : ℕ) → matches query ts doc ≡ text_matches q text ts doc
   pub fields : has_fields (length q.texts.entries) query ≡ true
+  pub positions : keeps_positions q.texts.entries query ≡ true
 
 -- A query means what a text does, or it is refused.
 abbrev pub IsQueryOfText : QueryFields → List ℕ → Result Query QueryParserError → Type 0
 IsQueryOfText q text (Ok query) = MeansText q text query
 IsQueryOfText q text (Err e) = IsRefusedBy (text_refusal q text) e
 
--- the fields of terms are those of a schema
-abbrev pub are_in : List SchemaEntry → List TermState → Bool
-are_in entries terms = list_all (λ (t : TermState). nat_lt t.field (length entries)) terms
+-- whether the fields of a phrase are among so many
+abbrev pub phrase_within : ℕ → PhraseState → Bool
+phrase_within n p = nat_lt p.first.field n && list_all (λ (o : PhraseTerm). nat_lt o.term.field n) p.others
+
+-- whether they keep positions, where several terms need them
+abbrev pub phrase_kept : List SchemaEntry → PhraseState → Bool
+phrase_kept entries p = is_alone p || (has_positions_in entries p.first && list_all (λ (o : PhraseTerm). has_positions_in entries o.term) p.others)
+
+-- the fields of terms and phrases are those of a schema, and keep positions where they are needed
+abbrev pub are_in : List SchemaEntry → List PhraseState → Bool
+are_in entries terms = list_all (λ (p : PhraseState). phrase_within (length entries) p && phrase_kept entries p) terms
+
+-- The terms of a phrase are of a field, which keeps positions where they are needed.
+pub record IsPhraseIn (field : ℕ) (keeps : Bool) (p : PhraseState) : Type 0 where
+  pub first : p.first.field ≡ field
+  pub others : AllByRecursion (λ (o : PhraseTerm). o.term.field ≡ field) p.others
+  pub kept : (keeps || is_alone p) ≡ true
 
 -- Terms were added, or they are refused.
-abbrev pub Adds : Terms → List SchemaEntry → List TermState → List TermState → Result (Unit {0}) QueryParserError → Type 0
-Adds terms entries old new (Ok done) = (ts : List TermState) × (terms ≡ Ok ts) × (new ≡ old ++ ts) × (are_in entries ts ≡ true)
+abbrev pub Adds : Terms → List SchemaEntry → List PhraseState → List PhraseState → Result (Unit {0}) QueryParserError → Type 0
+Adds terms entries old new (Ok done) = (ts : List PhraseState) × (terms ≡ Ok ts) × (new ≡ old ++ ts) × (are_in entries ts ≡ true)
 Adds terms entries old new (Err e) = IsRefusedBy (refused terms) e
 
 -- Terms of a field were added, or they are refused.
-abbrev pub AddsIn : Terms → ℕ → List TermState → List TermState → Result (Unit {0}) QueryParserError → Type 0
-AddsIn terms field old new (Ok done) = (ts : List TermState) × (terms ≡ Ok ts) × (new ≡ old ++ ts) × AllByRecursion (λ (t : TermState). t.field ≡ field) ts
-AddsIn terms field old new (Err e) = IsRefusedBy (refused terms) e
+abbrev pub AddsIn : Terms → ℕ → Bool → List PhraseState → List PhraseState → Result (Unit {0}) QueryParserError → Type 0
+AddsIn terms field keeps old new (Ok done) = (ts : List PhraseState) × (terms ≡ Ok ts) × (new ≡ old ++ ts) × AllByRecursion (IsPhraseIn field keeps) ts
+AddsIn terms field keeps old new (Err e) = IsRefusedBy (refused terms) e
 
 -- A term was added, or there is none.
-abbrev pub AddsMaybe : Option TermState → QueryParserError → List TermState → List TermState → Result (Unit {0}) QueryParserError → Type 0
+abbrev pub AddsMaybe : Option TermState → QueryParserError → List PhraseState → List PhraseState → Result (Unit {0}) QueryParserError → Type 0
 AddsMaybe None error old new (Ok done) = ⊥
-AddsMaybe (Some term) error old new (Ok done) = new ≡ old ++ term ∷ []
+AddsMaybe (Some term) error old new (Ok done) = new ≡ old ++ one_term term ∷ []
 AddsMaybe None error old new (Err e) = e ≡ error
 AddsMaybe (Some term) error old new (Err e) = e ≡ errors.Fault OutOfMemory
 
--- Two terms were added, or the one that there is, or there is none.
-abbrev pub AddsSome : Option TermState → Option TermState → List TermState → List TermState → Result (Unit {0}) QueryParserError → Type 0
-AddsSome first other old new (Ok done) = (some_term (option_to_list first ++ option_to_list other) ≡ Ok (option_to_list first ++ option_to_list other)) × (new ≡ old ++ (option_to_list first ++ option_to_list other))
-AddsSome first other old new (Err e) = IsRefusedBy (refused (some_term (option_to_list first ++ option_to_list other))) e
+-- What a text is looked up by was added, or it is refused.
+abbrev pub AddsText : Bool → Option TermState → Option PhraseState → List PhraseState → List PhraseState → Result (Unit {0}) QueryParserError → Type 0
+AddsText keeps value words old new (Ok done) = (ts : List PhraseState) × (text_terms keeps value words ≡ Ok ts) × (new ≡ old ++ ts)
+AddsText keeps value words old new (Err e) = IsRefusedBy (refused (text_terms keeps value words)) e
 
 -- A name was cut at its first dot, or has none.
 abbrev pub CutsAtDot : List ℕ → Option (Bor (List ℕ) × Bor (List ℕ)) → Type 0

@@ -1,7 +1,7 @@
 -- The documents of a list with the greatest counts.
 use Rattle.std.specs.Prelude.{ℕ, List, [], ◌∷◌, nat_le, take, if◌then◌else◌}
 use Rattle.std.specs.List.{fold}
-use Rattle.ii_docset.specs.Entries.{Entry}
+use Rattle.ii_base.specs.Entries.{Entry}
 
 -- a document and its count, put behind those that have no smaller one
 abbrev pub placed : ℕ × ℕ → List (ℕ × ℕ) → List (ℕ × ℕ)

@@ -3,17 +3,18 @@
 
 pub mod literal;
 pub mod most_frequent;
+mod phrase_words;
 pub mod query;
 pub mod query_parser;
 pub mod query_parser_error;
 pub mod searching;
 
-pub use ii_query::QueryCursor;
+pub use ii_query::{QueryCursor, TermOrPhrase};
 pub use ii_query_grammar::{
     Delimiter, MAX_LEXEMES, ParseError, UserInputAst, UserInputLiteral, Wanted, parse,
 };
 pub use most_frequent::top_by_count;
-pub use query::Query;
+pub use query::{PhraseTerm, Query};
 pub use query_parser::{parse_query, query_of};
 pub use query_parser_error::QueryParserError;
 pub use searching::{count, search};

@@ -1,14 +1,16 @@
-ghost use Rattle.std.specs.Prelude.{◌≡◌, ◌==◌, ◌++◌, [], position, slice_get, string_bytes, IfOk};
+ghost use Rattle.std.specs.Prelude.{◌≡◌, ◌==◌, ◌++◌, [], false, None, position, slice_get, IfOk};
 ghost use Rattle.std.specs.Option.{option_map};
 ghost use Rattle.ii_io.specs.Faults.{OnlyMemory};
+ghost use Rattle.ii_base.specs.Options.{has_positions};
 ghost use Rattle.ii_base.specs.Values.{flipped, number_of_bool, text_key, u64_bytes};
 ghost use Rattle.ii_base.specs.declared.schema.value_type.ValueType.TheVariants as types;
 ghost use Rattle.ii_json.specs.FastValues.{bool_in, i64_in, u64_in};
 ghost use Rattle.ii_query_grammar.specs.Trees.{literal_of};
-ghost use Rattle.ii_search.specs.QueryTexts.{Adds, AddsIn, AddsMaybe, AddsSome, CutsAtDot, field_named, field_terms, is_json, named_terms, only_word, some_default, terms_of, typed_terms};
+ghost use Rattle.ii_search.specs.QueryTexts.{Adds, AddsIn, AddsMaybe, AddsText, CutsAtDot, field_named, field_terms, is_json, named_terms, some_default, terms_of, typed_terms, words_phrase};
 
+use crate::phrase_words::{PhraseWords, words_phrase};
 use crate::query_parser_error::QueryParserError;
-use ii_base::{Fault, Field, Schema, Term, TextAnalyzer, TokenStream, ValueType};
+use ii_base::{Fault, Field, IndexRecordOption, Schema, Term, TextAnalyzer, ValueType};
 use ii_json::convert_to_fast_value_and_append_to_json_term;
 use ii_query_grammar::UserInputLiteral;
 use std::alloc::Global;
@@ -20,7 +22,7 @@ pub(crate) fn push_literal<A: TextAnalyzer>(
     default_fields: &[Field],
     analyzer: &A,
     literal: &UserInputLiteral,
-    terms: &mut Vec<Term>,
+    terms: &mut Vec<PhraseWords>,
 ) -> Result<(), QueryParserError>
     ensures { Adds (terms_of (record { texts = record { analyze = A.words analyzer.now; entries = schema.now }; defaults = default_fields.now }) (literal_of literal.now)) schema.now terms.old.items terms.new.items result }
 {
@@ -38,7 +40,7 @@ fn push_defaults<A: TextAnalyzer>(
     default_fields: &[Field],
     analyzer: &A,
     phrase: &str,
-    terms: &mut Vec<Term>,
+    terms: &mut Vec<PhraseWords>,
 ) -> Result<(), QueryParserError>
     ensures { Adds (some_default (record { analyze = A.words analyzer.now; entries = schema.now }) phrase.now default_fields.now) schema.now terms.old.items terms.new.items result }
 {
@@ -61,7 +63,7 @@ fn push_named<A: TextAnalyzer>(
     analyzer: &A,
     name: &str,
     phrase: &str,
-    terms: &mut Vec<Term>,
+    terms: &mut Vec<PhraseWords>,
 ) -> Result<(), QueryParserError>
     ensures { Adds (named_terms (record { analyze = A.words analyzer.now; entries = schema.now }) name.now phrase.now (field_named schema.now name.now)) schema.now terms.old.items terms.new.items result }
 {
@@ -127,7 +129,7 @@ fn push_in_field<A: TextAnalyzer>(
     field: Field,
     path: &str,
     phrase: &str,
-    terms: &mut Vec<Term>,
+    terms: &mut Vec<PhraseWords>,
 ) -> Result<(), QueryParserError>
     ensures { Adds (field_terms (record { analyze = A.words analyzer.now; entries = schema.now }) field path.now phrase.now) schema.now terms.old.items terms.new.items result }
 {
@@ -141,6 +143,7 @@ fn push_in_field<A: TextAnalyzer>(
     let place = Place {
         field,
         value_type: entry.value_type(),
+        option: entry.index_record_option(),
         expand_dots: entry.expands_dots(),
     };
     place.push_terms(alloc, analyzer, path, phrase, terms)
@@ -151,6 +154,7 @@ fn push_in_field<A: TextAnalyzer>(
 struct Place {
     field: Field,
     value_type: ValueType,
+    option: IndexRecordOption,
     expand_dots: bool,
 }
 
@@ -162,27 +166,26 @@ impl Place {
         analyzer: &A,
         path: &str,
         phrase: &str,
-        terms: &mut Vec<Term>,
+        terms: &mut Vec<PhraseWords>,
     ) -> Result<(), QueryParserError>
-        ensures { AddsIn (typed_terms (record { analyze = A.words analyzer.now; entries = [] }) self.field self.expand_dots path.now phrase.now self.value_type) self.field terms.old.items terms.new.items result }
+        ensures { AddsIn (typed_terms (record { analyze = A.words analyzer.now; entries = [] }) self.field (has_positions self.option) self.expand_dots path.now phrase.now self.value_type) self.field (has_positions self.option) terms.old.items terms.new.items result }
     {
         match self.value_type {
-            ValueType::Str => push_term(
-                word_term(alloc, analyzer, self.field, phrase)?,
-                QueryParserError::UnsupportedPhrase,
-                terms,
-            ),
+            ValueType::Str => self.push_text(alloc, analyzer, phrase, terms),
             ValueType::U64 => push_term(
+                alloc,
                 u64_term(alloc, self.field, phrase)?,
                 QueryParserError::ExpectedInt,
                 terms,
             ),
             ValueType::I64 => push_term(
+                alloc,
                 i64_term(alloc, self.field, phrase)?,
                 QueryParserError::ExpectedInt,
                 terms,
             ),
             ValueType::Bool => push_term(
+                alloc,
                 bool_term(alloc, self.field, phrase)?,
                 QueryParserError::ExpectedBool,
                 terms,
@@ -194,79 +197,51 @@ impl Place {
         }
     }
 
-    // Adds those of a text at a path of JSON values: the value that it is taken for, and its token.
+    // Adds the token of a text, or the phrase of several.
+    fn push_text<A: TextAnalyzer>(
+        self,
+        alloc: Global,
+        analyzer: &A,
+        phrase: &str,
+        terms: &mut Vec<PhraseWords>,
+    ) -> Result<(), QueryParserError>
+        ensures { AddsText (has_positions self.option) None (words_phrase (record { field = self.field; value = [] }) (A.words analyzer.now phrase.now)) terms.old.items terms.new.items result }
+    {
+        let prefix = Term::from_field_bytes(alloc, self.field, &[])?;
+        let words = words_phrase(alloc, analyzer, &prefix, phrase)?;
+        push_words(alloc, self.option, None, words, terms)
+    }
+
+    // Adds those of a text at a path of JSON values: the value that it is taken for, and its tokens.
     fn push_json<A: TextAnalyzer>(
         self,
         alloc: Global,
         analyzer: &A,
         path: &str,
         phrase: &str,
-        terms: &mut Vec<Term>,
+        terms: &mut Vec<PhraseWords>,
     ) -> Result<(), QueryParserError>
-        ensures { AddsIn (typed_terms (record { analyze = A.words analyzer.now; entries = [] }) self.field self.expand_dots path.now phrase.now types.Json) self.field terms.old.items terms.new.items result }
+        ensures { AddsIn (typed_terms (record { analyze = A.words analyzer.now; entries = [] }) self.field (has_positions self.option) self.expand_dots path.now phrase.now types.Json) self.field (has_positions self.option) terms.old.items terms.new.items result }
     {
         if path.as_bytes().contains(&0) {
             return Err(QueryParserError::UnsupportedPath);
         }
         let start = Term::from_field_json_path(alloc, self.field, path, self.expand_dots)?;
         let value = convert_to_fast_value_and_append_to_json_term(alloc, &start, phrase)?;
-        let word = behind_path(alloc, analyzer, start, phrase)?;
-        push_some(value, word, terms)
+        let prefix = text_prefix(start)?;
+        let words = words_phrase(alloc, analyzer, &prefix, phrase)?;
+        push_words(alloc, self.option, value, words, terms)
     }
 }
 
-// The term of a text's one token behind a path, if it has one.
-fn behind_path<A: TextAnalyzer>(
-    alloc: Global,
-    analyzer: &A,
-    path: Term,
-    phrase: &str,
-) -> Result<Option<Term>, Fault>
-    ensures ok { IfOk result (λ term. term ≡ option_map (λ word. record { field = path.field; value = path.value ++ text_key word }) (only_word (A.words analyzer.now phrase.now))) }
+// What stands before the words of texts at a path.
+fn text_prefix(path: Term) -> Result<Term, Fault>
+    ensures ok { IfOk result (λ prefix. prefix ≡ record { field = path.field; value = path.value ++ text_key [] }) }
     ensures only { OnlyMemory result }
 {
-    let Some(word) = only_token(alloc, analyzer, phrase)? else {
-        return Ok(None);
-    };
-    let mut term = path;
-    term.append_type_and_str(word.as_str())?;
-    Ok(Some(term))
-}
-
-// The term of a text's one token, if it has one.
-fn word_term<A: TextAnalyzer>(
-    alloc: Global,
-    analyzer: &A,
-    field: Field,
-    phrase: &str,
-) -> Result<Option<Term>, Fault>
-    ensures ok { IfOk result (λ term. term ≡ option_map (λ word. record { field = field; value = word }) (only_word (A.words analyzer.now phrase.now))) }
-    ensures only { OnlyMemory result }
-{
-    let Some(word) = only_token(alloc, analyzer, phrase)? else {
-        return Ok(None);
-    };
-    Ok(Some(Term::from_field_text(alloc, field, word.as_str())?))
-}
-
-// The one token of a text, if it has one and no more.
-fn only_token<A: TextAnalyzer>(
-    alloc: Global,
-    analyzer: &A,
-    text: &str,
-) -> Result<Option<String>, Fault>
-    ensures ok { IfOk result (λ word. option_map (λ w. string_bytes w) word ≡ only_word (A.words analyzer.now text.now)) }
-    ensures only { OnlyMemory result }
-{
-    let mut tokens = analyzer.token_stream(text);
-    if !tokens.advance() {
-        return Ok(None);
-    }
-    let word = String::from_str(alloc, tokens.token().text)?;
-    if tokens.advance() {
-        return Ok(None);
-    }
-    Ok(Some(word))
+    let mut prefix = path;
+    prefix.append_type_and_str("")?;
+    Ok(prefix)
 }
 
 // The term of a number or a truth value that a text is taken for, if it is one.
@@ -321,32 +296,48 @@ fn bool_in(text: &str) -> Option<bool>
 
 // Adds a term, or tells why there is none.
 fn push_term(
+    alloc: Global,
     term: Option<Term>,
     error: QueryParserError,
-    terms: &mut Vec<Term>,
+    terms: &mut Vec<PhraseWords>,
 ) -> Result<(), QueryParserError>
     ensures { AddsMaybe term error terms.old.items terms.new.items result }
 {
     match term {
-        Some(term) => Ok(terms.push(term)?),
+        Some(term) => Ok(terms.push(PhraseWords::one(alloc, term))?),
         None => Err(error),
     }
 }
 
-// Adds two terms, of which there has to be one.
-fn push_some(
-    first: Option<Term>,
-    other: Option<Term>,
-    terms: &mut Vec<Term>,
+// Adds what a text is looked up by: the term of a value, and the text's words, of which there has to be one.
+fn push_words(
+    alloc: Global,
+    option: IndexRecordOption,
+    value: Option<Term>,
+    words: Option<PhraseWords>,
+    terms: &mut Vec<PhraseWords>,
 ) -> Result<(), QueryParserError>
-    ensures { AddsSome first other terms.old.items terms.new.items result }
+    ensures { AddsText (has_positions option) value words terms.old.items terms.new.items result }
 {
-    let Some(first) = first else {
-        return push_term(other, QueryParserError::UnsupportedPhrase, terms);
+    let Some(words) = words else {
+        return push_value(alloc, value, terms);
     };
-    terms.push(first)?;
-    match other {
-        Some(other) => Ok(terms.push(other)?),
-        None => Ok(()),
+    if !option.has_positions() && !words.is_alone() {
+        return Err(QueryParserError::FieldDoesNotHavePositionsIndexed);
     }
+    if let Some(value) = value {
+        terms.push(PhraseWords::one(alloc, value))?;
+    }
+    Ok(terms.push(words)?)
+}
+
+// Adds the term of a value alone, if there is one.
+fn push_value(
+    alloc: Global,
+    value: Option<Term>,
+    terms: &mut Vec<PhraseWords>,
+) -> Result<(), QueryParserError>
+    ensures { AddsText false value None terms.old.items terms.new.items result }
+{
+    push_term(alloc, value, QueryParserError::UnsupportedPhrase, terms)
 }

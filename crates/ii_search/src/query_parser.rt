@@ -1,16 +1,17 @@
-ghost use Rattle.std.specs.Prelude.{◌≡◌, ◌&&◌, ◌||◌, ℕ, List, IfOk, nat_lt};
-ghost use Rattle.std.specs.List.{list_all, list_any};
+ghost use Rattle.std.specs.Prelude.{◌≡◌, ◌&&◌, ◌||◌, ℕ, List, IfOk};
+ghost use Rattle.std.specs.List.{list_all};
 ghost use Rattle.ii_io.specs.Faults.{OnlyMemory};
-ghost use Rattle.ii_base.specs.Terms.{TermState};
+ghost use Rattle.ii_base.specs.Schema.{SchemaEntry};
 ghost use Rattle.ii_definitions.specs.Tokens.{IndexToken};
 ghost use Rattle.ii_query_grammar.specs.Trees.{ast_of, leaf, literal_of};
-ghost use Rattle.ii_search.specs.Queries.{has_fields, is_token_of, matches};
-ghost use Rattle.ii_search.specs.QueryTexts.{AreParts, IsQueryOf, IsQueryOfText, has_term};
+ghost use Rattle.ii_search.specs.Queries.{has_fields, keeps_positions, matches};
+ghost use Rattle.ii_search.specs.QueryTexts.{AreParts, IsQueryOf, IsQueryOfText, has_term, has_words, phrase_kept, phrase_within};
 
 use crate::literal::push_literal;
+use crate::phrase_words::PhraseWords;
 use crate::query::Query;
 use crate::query_parser_error::QueryParserError;
-use ii_base::{Fault, Field, Schema, Term, TextAnalyzer};
+use ii_base::{Fault, Field, Schema, TextAnalyzer};
 use ii_query_grammar::{UserInputAst, UserInputLiteral, parse};
 use std::alloc::Global;
 
@@ -38,12 +39,14 @@ pub fn parse_query<A: TextAnalyzer>(
 ///
 /// - The name of a field is that of one of the schema, or that of one of JSON values, a dot, and a path into
 ///   these: the name ends at the first dot then.
-/// - A text in a field of texts is the one token that the analyzer makes of it; `UnsupportedPhrase` where it
-///   makes none, or more.
+/// - A text in a field of texts is the token that the analyzer makes of it, or the phrase of several, each at
+///   its position. `UnsupportedPhrase` where it makes none, or one that stands before the first, or 2^32
+///   positions and more behind it; `FieldDoesNotHavePositionsIndexed` where the field keeps no positions, and
+///   there are several.
 /// - In a field of numbers or truth values it is the value that Rust's `parse` takes it for; `ExpectedInt` or
 ///   `ExpectedBool` where it is none.
 /// - At a path of JSON values it is either: the value that it is taken for, as a signed number, an unsigned one
-///   or a truth value, or its one token; `UnsupportedPhrase` where it is neither.
+///   or a truth value, or its token or phrase as in a field of texts; `UnsupportedPhrase` where it is neither.
 ///
 /// `OutOfMemory` in a `Fault` where there is no room for the query.
 #[cycle(query_of)]
@@ -144,15 +147,16 @@ fn literal_query<A: TextAnalyzer>(
     }
 }
 
-// What has one of some terms.
-fn any_of(alloc: Global, terms: Vec<Term>) -> Result<Query, Fault>
+// What has one of some terms and phrases.
+fn any_of(alloc: Global, terms: Vec<PhraseWords>) -> Result<Query, Fault>
     ensures matches { IfOk result (λ query. (ts : List IndexToken) (doc : ℕ) → matches query ts doc ≡ has_term ts doc terms.items) }
-    ensures fields { IfOk result (λ query. (n : ℕ) → has_fields n query ≡ list_all (λ (t : TermState). nat_lt t.field n) terms.items) }
+    ensures fields { IfOk result (λ query. (n : ℕ) → has_fields n query ≡ list_all (phrase_within n) terms.items) }
+    ensures positions { IfOk result (λ query. (entries : List SchemaEntry) → keeps_positions entries query ≡ list_all (phrase_kept entries) terms.items) }
     ensures only { OnlyMemory result }
 {
     let mut any = Query::Empty;
-    for term in terms {
-        any = match or_term(alloc, any, term) {
+    for words in terms {
+        any = match or_words(alloc, any, words) {
             Ok(any) => any,
             Err(fault) => return Err(fault),
         };
@@ -160,14 +164,28 @@ fn any_of(alloc: Global, terms: Vec<Term>) -> Result<Query, Fault>
     Ok(any)
 }
 
-// What a query wants, or a term.
-fn or_term(alloc: Global, query: Query, term: Term) -> Result<Query, Fault>
-    ensures matches { IfOk result (λ both. (ts : List IndexToken) (doc : ℕ) → matches both ts doc ≡ (matches query ts doc || list_any (is_token_of term doc) ts)) }
-    ensures fields { IfOk result (λ both. (n : ℕ) → has_fields n both ≡ (has_fields n query && nat_lt term.field n)) }
+// What a query wants, or a term or a phrase.
+fn or_words(alloc: Global, query: Query, words: PhraseWords) -> Result<Query, Fault>
+    ensures matches { IfOk result (λ both. (ts : List IndexToken) (doc : ℕ) → matches both ts doc ≡ (matches query ts doc || has_words ts doc words.first words.others)) }
+    ensures fields { IfOk result (λ both. (n : ℕ) → has_fields n both ≡ (has_fields n query && phrase_within n words)) }
+    ensures positions { IfOk result (λ both. (entries : List SchemaEntry) → keeps_positions entries both ≡ (keeps_positions entries query && phrase_kept entries words)) }
     ensures only { OnlyMemory result }
 {
     match query {
-        Query::Empty => Ok(Query::Term(term)),
-        query => Query::or(alloc, query, Query::Term(term)),
+        Query::Empty => Ok(words_query(words)),
+        query => Query::or(alloc, query, words_query(words)),
     }
+}
+
+// The query of a term or a phrase.
+fn words_query(words: PhraseWords) -> Query
+    ensures matches { (ts : List IndexToken) (doc : ℕ) → matches result ts doc ≡ has_words ts doc words.first words.others }
+    ensures fields { (n : ℕ) → has_fields n result ≡ phrase_within n words }
+    ensures positions { (entries : List SchemaEntry) → keeps_positions entries result ≡ phrase_kept entries words }
+{
+    let (first, others) = words.into_terms();
+    if others.is_empty() {
+        return Query::Term(first);
+    }
+    Query::Phrase(first, others)
 }

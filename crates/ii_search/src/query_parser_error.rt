@@ -24,9 +24,13 @@ pub enum QueryParserError {
     /// A text in a field of truth values is neither `true` nor `false`.
     #[error("true or false was expected")]
     ExpectedBool,
-    /// A text that isn't one token, in a field of texts, or at a path where it is no value either.
-    #[error("a text of one token was expected")]
+    /// A text of no token, in a field of texts, or at a path where it is no value either; or tokens that
+    /// stand before the first one, or 2^32 positions and more behind it.
+    #[error("a text with tokens was expected")]
     UnsupportedPhrase,
+    /// A text of several tokens in a field that doesn't keep positions.
+    #[error("the field keeps no positions, which a phrase needs")]
+    FieldDoesNotHavePositionsIndexed,
     /// A path that holds byte 0.
     #[error("a path with byte 0")]
     UnsupportedPath,

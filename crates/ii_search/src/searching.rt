@@ -1,22 +1,25 @@
-ghost use Rattle.std.specs.Prelude.{◌≡◌, ◌<◌, ℕ, List, Ok, IfErr, IfOk, length, slice_get, true};
+ghost use Rattle.std.specs.Prelude.{◌≡◌, ◌<◌, ℕ, List, Ok, IfErr, IfOk, length, nat_lt, true};
+ghost use Rattle.std.specs.List.{list_all};
+ghost use Rattle.ii_base.specs.declared.schema.index_record_option.IndexRecordOption.TheVariants.{Basic, WithFreqsAndPositions};
 ghost use Rattle.ii_base.specs.Schema.{SchemaEntry};
 ghost use Rattle.ii_docset.specs.Cursor.{IsSound};
-ghost use Rattle.ii_docset.specs.Entries.{Entry};
+ghost use Rattle.ii_base.specs.Entries.{Entry};
 ghost use Rattle.ii_definitions.specs.Tokens.{IndexToken};
 ghost use Rattle.ii_reader.specs.InvertedIndexReader.{IsRefusal};
 ghost use Rattle.ii_reader.specs.OpenIndex.{IndexHolds};
-ghost use Rattle.ii_search.specs.Found.{GivesCount, GivesMatches, combined, docs_under, found_in};
-ghost use Rattle.ii_search.specs.Queries.{has_fields};
+ghost use Rattle.ii_search.specs.Found.{GivesCount, GivesMatches, combined, docs_of_term, found_in, parts_of, phrase_of};
+ghost use Rattle.ii_search.specs.Queries.{has_fields, keeps_positions};
 
-use crate::query::Query;
+use crate::query::{PhraseTerm, Query};
 use ii_base::{Fault, IndexRecordOption, Term};
 use ii_docset::DocSet;
-use ii_query::QueryCursor;
+use ii_query::{PhraseMatch, PhrasePart, QueryCursor, TermOrPhrase};
 use ii_reader::{OpenIndex, SegmentPostings};
 use std::alloc::Global;
 
 /// A cursor over the documents that match a query, in ascending order. Each term's field is one of the
-/// index (`Query::has_fields` tells).
+/// index (`Query::has_fields` tells), and those of phrases keep positions (`Query::keeps_positions`): in
+/// others no phrase is found.
 ///
 /// `Damaged` by the first part of a term's bytes that `InvertedIndexReader::read_postings` refuses, of the
 /// terms in the order of the query; `OutOfMemory` where there is no room for the parts of the cursor, or
@@ -25,14 +28,14 @@ pub fn search(
     alloc: Global,
     index: &OpenIndex,
     query: &Query,
-) -> Result<QueryCursor<SegmentPostings>, Fault>
+) -> Result<QueryCursor<TermOrPhrase<SegmentPostings>>, Fault>
     requires fields { has_fields (length index.now.readers) query.now ≡ true }
     ensures sound { IfOk result (λ cursor. IsSound cursor.rest) }
     ensures listed { IfOk result (λ cursor. found_in index.now query.now ≡ Ok cursor.rest) }
     ensures refused { IfErr result (IsRefusal (found_in index.now query.now)) }
     // where the index holds tokens
     ensures holds { (schema : List SchemaEntry) (num_docs : ℕ) (tokens : List IndexToken) → IndexHolds schema num_docs index.now tokens
-        → has_fields (length schema) query.now ≡ true → GivesMatches query.now tokens result }
+        → has_fields (length schema) query.now ≡ true → keeps_positions schema query.now ≡ true → GivesMatches query.now tokens result }
 {
     match find(alloc, index, query) {
         Ok(cursor) => {
@@ -51,7 +54,7 @@ pub fn count(alloc: Global, index: &OpenIndex, query: &Query) -> Result<u32, Fau
     ensures refused { IfErr result (IsRefusal (found_in index.now query.now)) }
     // where the index holds tokens
     ensures holds { (schema : List SchemaEntry) (num_docs : ℕ) (tokens : List IndexToken) → IndexHolds schema num_docs index.now tokens
-        → has_fields (length schema) query.now ≡ true → GivesCount query.now tokens result }
+        → has_fields (length schema) query.now ≡ true → keeps_positions schema query.now ≡ true → GivesCount query.now tokens result }
 {
     match search(alloc, index, query) {
         Ok(mut cursor) => Ok(cursor.count_including_deleted()),
@@ -65,7 +68,7 @@ fn find(
     alloc: Global,
     index: &OpenIndex,
     query: &Query,
-) -> Result<QueryCursor<SegmentPostings>, Fault>
+) -> Result<QueryCursor<TermOrPhrase<SegmentPostings>>, Fault>
     requires fields { has_fields (length index.now.readers) query.now ≡ true }
     ensures listed { IfOk result (λ cursor. found_in index.now query.now ≡ Ok cursor.rest) }
     ensures refused { IfErr result (IsRefusal (found_in index.now query.now)) }
@@ -74,6 +77,7 @@ fn find(
         Query::Empty => Ok(QueryCursor::nothing()),
         Query::All(num_docs) => Ok(QueryCursor::all(*num_docs)),
         Query::Term(term) => find_term(index, term),
+        Query::Phrase(first, others) => find_phrase(alloc, index, first, others),
         Query::And(first, other) => match find_parts(alloc, index, first, other) {
             Ok((first, other)) => QueryCursor::both(alloc, first, other),
             Err(fault) => Err(fault),
@@ -96,7 +100,13 @@ fn find_parts(
     index: &OpenIndex,
     first: &Query,
     other: &Query,
-) -> Result<(QueryCursor<SegmentPostings>, QueryCursor<SegmentPostings>), Fault>
+) -> Result<
+    (
+        QueryCursor<TermOrPhrase<SegmentPostings>>,
+        QueryCursor<TermOrPhrase<SegmentPostings>>,
+    ),
+    Fault,
+>
     requires first { has_fields (length index.now.readers) first.now ≡ true }
     requires other { has_fields (length index.now.readers) other.now ≡ true }
     ensures first { IfOk result (λ parts. found_in index.now first.now ≡ Ok parts.0.rest) }
@@ -114,15 +124,82 @@ fn find_parts(
 }
 
 // A cursor over the documents of a term.
-fn find_term(index: &OpenIndex, term: &Term) -> Result<QueryCursor<SegmentPostings>, Fault>
+fn find_term(
+    index: &OpenIndex,
+    term: &Term,
+) -> Result<QueryCursor<TermOrPhrase<SegmentPostings>>, Fault>
     requires field { term.now.field < length index.now.readers }
-    ensures listed { IfOk result (λ cursor. docs_under term.now.value (slice_get index.now.readers term.now.field) ≡ Ok cursor.rest) }
-    ensures refused { IfErr result (IsRefusal (docs_under term.now.value (slice_get index.now.readers term.now.field))) }
+    ensures listed { IfOk result (λ cursor. docs_of_term Basic index.now term.now ≡ Ok cursor.rest) }
+    ensures refused { IfErr result (IsRefusal (docs_of_term Basic index.now term.now)) }
+{
+    match postings_of(index, term, IndexRecordOption::Basic) {
+        Ok(cursor) => Ok(QueryCursor::one(TermOrPhrase::Term(cursor))),
+        Err(fault) => Err(fault),
+    }
+}
+
+// A cursor over the documents of a phrase.
+fn find_phrase(
+    alloc: Global,
+    index: &OpenIndex,
+    first: &Term,
+    others: &[PhraseTerm],
+) -> Result<QueryCursor<TermOrPhrase<SegmentPostings>>, Fault>
+    requires first { first.now.field < length index.now.readers }
+    requires others { list_all (λ o. nat_lt o.term.field (length index.now.readers)) others.now ≡ true }
+    ensures listed { IfOk result (λ cursor. phrase_of (docs_of_term WithFreqsAndPositions index.now first.now) (parts_of index.now others.now) ≡ Ok cursor.rest) }
+    ensures refused { IfErr result (IsRefusal (phrase_of (docs_of_term WithFreqsAndPositions index.now first.now) (parts_of index.now others.now))) }
+{
+    let first = match postings_of(index, first, IndexRecordOption::WithFreqsAndPositions) {
+        Ok(first) => first,
+        Err(fault) => return Err(fault),
+    };
+    match phrase_parts(alloc, index, others) {
+        Ok(others) => Ok(QueryCursor::one(TermOrPhrase::Phrase(PhraseMatch::new(first, others)))),
+        Err(fault) => Err(fault),
+    }
+}
+
+// Cursors over the documents of the other terms of a phrase.
+fn phrase_parts(
+    alloc: Global,
+    index: &OpenIndex,
+    others: &[PhraseTerm],
+) -> Result<Vec<PhrasePart<SegmentPostings>>, Fault>
+    requires others { list_all (λ o. nat_lt o.term.field (length index.now.readers)) others.now ≡ true }
+    ensures listed { IfOk result (λ parts. parts_of index.now others.now ≡ Ok parts.items) }
+    ensures refused { IfErr result (IsRefusal (parts_of index.now others.now)) }
+{
+    let mut parts = Vec::new(alloc);
+    for other in others {
+        let cursor = match postings_of(
+            index,
+            &other.term,
+            IndexRecordOption::WithFreqsAndPositions,
+        ) {
+            Ok(cursor) => cursor,
+            Err(fault) => return Err(fault),
+        };
+        parts.push(PhrasePart::new(other.distance, cursor))?;
+    }
+    Ok(parts)
+}
+
+// A cursor over the list of a term, as far as it is requested; over no documents where the field hasn't the
+// term.
+fn postings_of(
+    index: &OpenIndex,
+    term: &Term,
+    option: IndexRecordOption,
+) -> Result<SegmentPostings, Fault>
+    requires field { term.now.field < length index.now.readers }
+    ensures listed { IfOk result (λ cursor. docs_of_term option index.now term.now ≡ Ok cursor.rest) }
+    ensures refused { IfErr result (IsRefusal (docs_of_term option index.now term.now)) }
 {
     let reader = index.reader(term.field());
-    match reader.read_postings(term, IndexRecordOption::Basic) {
-        Ok(Some(cursor)) => Ok(QueryCursor::one(cursor)),
-        Ok(None) => Ok(QueryCursor::nothing()),
+    match reader.read_postings(term, option) {
+        Ok(Some(cursor)) => Ok(cursor),
+        Ok(None) => Ok(SegmentPostings::empty()),
         Err(fault) => Err(fault),
     }
 }

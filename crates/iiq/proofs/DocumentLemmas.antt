@@ -2,8 +2,8 @@
 use Rattle.std.proofs.Common.{ℕ, List, ◌++◌, Option, Some}
 use Rattle.std.specs.Option.{option_map}
 use Rattle.ii_io.specs.Steps.{◌>>=◌, needs}
-use Rattle.ii_docset.specs.declared.docset.TheConstants.{TERMINATED}
-use Rattle.ii_docset.specs.Entries.{ascend_from}
+use Rattle.ii_base.specs.declared.doc_id.TheConstants.{TERMINATED}
+use Rattle.ii_base.specs.Entries.{ascend_from}
 use Rattle.iiq.specs.Words.{numbers_below}
 
 -- the documents that words write from a least one on

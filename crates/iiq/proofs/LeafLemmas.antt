@@ -14,7 +14,7 @@ use Rattle.ii_base.specs.Json.{Json, Leaf, json_leaves, json_of, json_step, leaf
 use Rattle.ii_base.specs.Paths.{acts_as, has_zero, joined_segments, kept_bytes, marked, path_bytes, segment_bytes, segments_of}
 use Rattle.ii_base.specs.Terms.{TermState}
 use Rattle.ii_base.specs.Values.{json_key}
-use Rattle.ii_docset.specs.declared.docset.TheConstants.{TERMINATED}
+use Rattle.ii_base.specs.declared.doc_id.TheConstants.{TERMINATED}
 use Rattle.ii_indexing.specs.declared.index_call.IndexCall.TheVariants as calls
 use Rattle.iiq.specs.Commands.{leaf_key, leaf_term, leaf_under}
 use Rattle.iiq.specs.Known.{IsCall, json_alone}

@@ -4,8 +4,8 @@ use Rattle.std.specs.List.{join_with_byte, flat_map}
 use Rattle.std.proofs.lemmas.List.{append-nil}
 use Rattle.ii_base.specs.declared.schema.index_record_option.IndexRecordOption.{IndexRecordOption}
 use Rattle.ii_base.specs.declared.schema.index_record_option.IndexRecordOption.TheVariants.{Basic}
-use Rattle.ii_docset.specs.declared.docset.TheConstants.{TERMINATED}
-use Rattle.ii_docset.specs.Entries.{Entry}
+use Rattle.ii_base.specs.declared.doc_id.TheConstants.{TERMINATED}
+use Rattle.ii_base.specs.Entries.{Entry}
 use Rattle.ii_docset.specs.Cursor.{doc_at, IsAscending}
 use Rattle.iiq.specs.Output.{found_text, item, item_at, list_text, positions_text}
 use Rattle.ii_docset.proofs.CursorLemmas.{nothing_left, doc_below}

@@ -6,7 +6,7 @@ use Rattle.std.specs.Str.{IsUtf8, is_utf8}
 use Rattle.std.proofs.lemmas.Str.{IsUtf8-from_is_utf8, is_utf8-from_IsUtf8}
 use Rattle.std.proofs.lemmas.List.{append-nil, length-map}
 use Rattle.ii_docset.proofs.CursorLemmas.{ascending, length_below}
-use Rattle.ii_docset.specs.Entries.{document, are_documents}
+use Rattle.ii_base.specs.Entries.{document, are_documents}
 use Rattle.ii_base.specs.declared.schema.index_record_option.IndexRecordOption.{IndexRecordOption}
 use Rattle.ii_base.specs.declared.schema.index_record_option.IndexRecordOption.TheVariants.{Basic}
 use Rattle.ii_io.specs.CountingWriter.{CountingWriterState, Wrote}

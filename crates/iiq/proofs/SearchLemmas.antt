@@ -8,7 +8,7 @@ use Rattle.ii_base.specs.Schema.{SchemaEntry}
 use Rattle.ii_definitions.specs.Tokens.{IndexToken}
 use Rattle.ii_reader.specs.OpenIndex.{IndexHolds, OpenIndexState}
 use Rattle.ii_search.specs.Found.{GivesMatches}
-use Rattle.ii_search.specs.Queries.{has_fields}
+use Rattle.ii_search.specs.Queries.{has_fields, keeps_positions}
 use Rattle.ii_search.specs.QueryTexts.{IsRefusedBy, MeansText, text_refusal}
 use Rattle.ii_search.specs.declared.query.Query.{Query as QueryOf}
 use Rattle.ii_search.specs.declared.query_parser_error.QueryParserError.{QueryParserError}
@@ -29,9 +29,9 @@ no_query_is (Err e) text error is none err = tt
 
 -- what a search in an open index answers
 pub found_now : (index : OpenIndexState) (query : QueryOf) (cursor : QueryCursorState) (reply : List ℕ)
-    → ((schema : List SchemaEntry) (num_docs : ℕ) (tokens : List IndexToken) → IndexHolds schema num_docs index tokens → has_fields (length schema) query ≡ true → GivesMatches query tokens (Ok cursor))
-    → has_fields (length fields) query ≡ true → reply ≡ found_text cursor.rest → (ts : List IndexToken) → IsOpen index ts → FindsDocs (opened ts) query reply
-found_now index query cursor reply holds has is ts o = (cursor.rest, holds fields o.num_docs ts o.holds has, is)
+    → ((schema : List SchemaEntry) (num_docs : ℕ) (tokens : List IndexToken) → IndexHolds schema num_docs index tokens → has_fields (length schema) query ≡ true → keeps_positions schema query ≡ true → GivesMatches query tokens (Ok cursor))
+    → has_fields (length fields) query ≡ true → keeps_positions fields query ≡ true → reply ≡ found_text cursor.rest → (ts : List IndexToken) → IsOpen index ts → FindsDocs (opened ts) query reply
+found_now index query cursor reply holds has keeps is ts o = (cursor.rest, holds fields o.num_docs ts o.holds has keeps, is)
 
 pub found_in_session : {E : Type 0} (kept : SessionKept) (t : Session) (index : OpenIndexState) (query : QueryOf) (r : Result (String Global) E) → kept.index ≡ Some (Ok index) → Knows kept t
     → ((ts : List IndexToken) → IsOpen index ts → IfOk r (λ text. FindsDocs (opened ts) query (string_bytes text)))

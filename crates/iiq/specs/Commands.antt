@@ -10,8 +10,8 @@ use Rattle.ii_base.specs.declared.schema.value_type.ValueType.TheVariants as typ
 use Rattle.ii_base.specs.declared.schema.index_record_option.IndexRecordOption.{IndexRecordOption}
 use Rattle.ii_base.specs.declared.schema.index_record_option.IndexRecordOption.TheVariants.{Basic, WithFreqs, WithFreqsAndPositions}
 use Rattle.ii_io.specs.Steps.{◌>>=◌, needs}
-use Rattle.ii_docset.specs.declared.docset.TheConstants.{TERMINATED}
-use Rattle.ii_docset.specs.Entries.{are_documents}
+use Rattle.ii_base.specs.declared.doc_id.TheConstants.{TERMINATED}
+use Rattle.ii_base.specs.Entries.{are_documents}
 use Rattle.ii_definitions.specs.Tokens.{Call, leaves, text, value}
 use Rattle.ii_base.specs.AsciiWords.{ascii_words}
 use Rattle.ii_search.specs.QueryTexts.{QueryFields, text_refusal}

@@ -7,8 +7,8 @@ use Rattle.ii_base.specs.Json.{Json, Leaf, leaf, null, text_leaf, u64_leaf, valu
 use Rattle.ii_base.specs.Options.{downgrade}
 use Rattle.ii_base.specs.Values.{flipped, number_of_bool}
 use Rattle.ii_base.specs.declared.schema.value_type.ValueType.TheVariants as types
-use Rattle.ii_docset.specs.declared.docset.TheConstants.{TERMINATED}
-use Rattle.ii_docset.specs.Entries.{Entry}
+use Rattle.ii_base.specs.declared.doc_id.TheConstants.{TERMINATED}
+use Rattle.ii_base.specs.Entries.{Entry}
 use Rattle.ii_layout.specs.TermList.{term_list}
 use Rattle.ii_definitions.specs.Tokens.{Call, IndexToken}
 use Rattle.ii_indexing.specs.declared.index_call.IndexCall.{IndexCall}

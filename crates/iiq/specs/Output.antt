@@ -11,7 +11,7 @@ use Rattle.ii_io.specs.Faults.{number_of}
 use Rattle.ii_io.specs.declared.faults.Part.{Part}
 use Rattle.ii_io.specs.declared.faults.Part.TheVariants.{Skip, Documents, Frequencies, Positions}
 use Rattle.ii_docset.specs.Cursor.{IsAscending}
-use Rattle.ii_docset.specs.Entries.{Entry, document}
+use Rattle.ii_base.specs.Entries.{Entry, document}
 use Rattle.ii_docset.specs.Intersection.{has_doc}
 use Rattle.ii_layout.specs.TermList.{term_list}
 use Rattle.ii_layout.specs.Written.{written_documents}

@@ -1,7 +1,7 @@
 ghost use Rattle.std.specs.Prelude.{◌≡◌, ◌++◌, ◌<◌, string_bytes, IfOk, OnOk, IsTrue};
-ghost use Rattle.ii_docset.specs.declared.docset.TheConstants.{TERMINATED};
+ghost use Rattle.ii_base.specs.declared.doc_id.TheConstants.{TERMINATED};
 ghost use Rattle.ii_docset.specs.Cursor.{doc_at};
-ghost use Rattle.ii_docset.specs.Entries.{are_documents, document};
+ghost use Rattle.ii_base.specs.Entries.{are_documents, document};
 ghost use Rattle.iiq.specs.Commands.{documents_of_words};
 ghost use Rattle.iiq.specs.Words.{written_hex};
 ghost use Rattle.ii_layout.specs.Written.{written_documents};

@@ -2,7 +2,7 @@ ghost use Rattle.std.specs.Prelude.{◌≡◌, ◌++◌, List, ℕ, IsTrue, IfOk
 ghost use Rattle.std.specs.Option.{option_copied};
 ghost use Rattle.std.specs.List.{join_with_byte};
 ghost use Rattle.std.specs.Str.{IsUtf8};
-ghost use Rattle.ii_docset.specs.Entries.{are_documents, document};
+ghost use Rattle.ii_base.specs.Entries.{are_documents, document};
 ghost use Rattle.ii_layout.specs.Written.{written_documents};
 ghost use Rattle.iiq.specs.Commands.{Command, ids_command, look_up_command, open_command, query_command, text_search, command_of};
 ghost use Rattle.iiq.specs.Known.{Answers, AnswersAlone, IsCall, IsReply, IsSession, Knows, call_command, open_texts};

@@ -1,9 +1,9 @@
 ghost use Rattle.std.specs.Prelude.{◌≡◌, ◌++◌, ◌<◌, ◌≤◌, [], List, length, map, codes, decimal, string_bytes, IfOk, IfSome, IsErr, is_none, true};
 ghost use Rattle.ii_io.specs.Faults.{OnlyMemory, number_of};
-ghost use Rattle.ii_docset.specs.declared.docset.TheConstants.{TERMINATED};
+ghost use Rattle.ii_base.specs.declared.doc_id.TheConstants.{TERMINATED};
 ghost use Rattle.ii_definitions.specs.Tokens.{IndexToken};
 ghost use Rattle.ii_indexing.specs.IndexCalls.{MayAllBeIndexed, call_of};
-ghost use Rattle.ii_search.specs.Queries.{has_fields};
+ghost use Rattle.ii_search.specs.Queries.{has_fields, keeps_positions};
 ghost use Rattle.iiq.specs.Known.{FindsDocs, GivesIndex, IsCall, IsOpen, IsQuery, IsSession, Keeps, Knows};
 ghost use Rattle.iiq.specs.Output.{key_text, look_up_text, term_text};
 ghost use Rattle.iiq.specs.Session.{Session as SessionState, gathering, opened, Indexes, fields, num_docs_of};
@@ -81,6 +81,7 @@ impl Session {
     pub fn search(&mut self, alloc: Global, query: &nequllpa::Query) -> Result<String, AllocError>
         requires session { IsSession self.old }
         requires fields { has_fields (length fields) query.now ≡ true }
+        requires positions { keeps_positions fields query.now ≡ true }
         ensures { (s : SessionState) → Knows self.old s → (t : SessionState) × Indexes s t × Knows self.new t
             × IfOk result (λ text. FindsDocs t query.now (string_bytes text)) }
     {
@@ -178,6 +179,7 @@ fn found_text(
 ) -> Result<String, AllocError>
     requires many { length index.now.readers ≡ length fields }
     requires fields { has_fields (length fields) query.now ≡ true }
+    requires positions { keeps_positions fields query.now ≡ true }
     ensures { (ts : List IndexToken) → IsOpen index.now ts
         → IfOk result (λ text. FindsDocs (opened ts) query.now (string_bytes text)) }
 {

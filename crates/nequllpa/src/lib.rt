@@ -28,13 +28,14 @@ pub use ii_docset::{
     COLLECT_BLOCK_BUFFER_LEN, CursorAnswer, CursorCall, DocId, DocSet, Lent, Postings,
     SeekDangerResult, SeekOnce, TERMINATED, Walk, intersect, walk,
 };
-pub use ii_query::{AllDocs, Exclude, Intersection, Union};
+pub use ii_query::{AllDocs, Exclude, Intersection, PhraseMatch, PhrasePart, Union};
 pub use ii_reader::{BlockSegmentPostings, FreqReadingOption, LoadedPostings, SegmentPostings};
 
 // how an index is searched
 pub use ii_search::{
-    Delimiter, MAX_LEXEMES, ParseError, Query, QueryCursor, QueryParserError, UserInputAst,
-    UserInputLiteral, Wanted, count, parse, parse_query, query_of, search, top_by_count,
+    Delimiter, MAX_LEXEMES, ParseError, PhraseTerm, Query, QueryCursor, QueryParserError,
+    TermOrPhrase, UserInputAst, UserInputLiteral, Wanted, count, parse, parse_query, query_of,
+    search, top_by_count,
 };
 
 // the norms of documents

@@ -1,6 +1,6 @@
 //! An index in memory: index calls go in, and readers of its fields come out.
 ghost use Rattle.std.specs.Prelude.{◌≡◌, ◌≤◌, ◌⊎◌, [], ℕ, List, length, map, None, Err, IfErr, IfOk, IfSome, OnOk, Some};
-ghost use Rattle.ii_docset.specs.declared.docset.TheConstants.{TERMINATED};
+ghost use Rattle.ii_base.specs.declared.doc_id.TheConstants.{TERMINATED};
 ghost use Rattle.ii_definitions.specs.Fields.{option_of};
 ghost use Rattle.ii_definitions.specs.Files.{HoldTokens};
 ghost use Rattle.ii_definitions.specs.Norms.{HoldNorms};

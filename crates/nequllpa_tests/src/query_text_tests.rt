@@ -7,8 +7,8 @@ use ii_docset::{DocSet, TERMINATED};
 use ii_indexing::IndexCall;
 use ii_reader::{OpenIndex, SegmentPostings};
 use nequllpa::{
-    AllDocs, ParseError, Query, QueryCursor, QueryParserError, index_in_ram, parse, parse_query,
-    search,
+    AllDocs, ParseError, Query, QueryCursor, QueryParserError, TermOrPhrase, index_in_ram, parse,
+    parse_query, search,
 };
 use std::alloc::{AllocError, Global};
 use std::test::Fail;
@@ -94,7 +94,10 @@ fn indexed(alloc: Global, schema: Schema) -> Result<OpenIndex, Fault>
 }
 
 // A cursor over what a query gives, where the index has its fields.
-fn cursor_of(alloc: Global, query: &Query) -> Result<QueryCursor<SegmentPostings>, Fault> {
+fn cursor_of(
+    alloc: Global,
+    query: &Query,
+) -> Result<QueryCursor<TermOrPhrase<SegmentPostings>>, Fault> {
     let schema = fields(alloc)?;
     if !query.has_fields(&schema) {
         return Ok(QueryCursor::nothing());
@@ -153,13 +156,15 @@ fn texts_find_documents(rt: HostRuntime) -> Result<(), Fail> {
     assert!(rt; finds(rt.alloc(), "new -title:york price:7", "1,2,")?);
     assert!(rt; finds(rt.alloc(), "attr.color:red", "3,")?);
     assert!(rt; finds(rt.alloc(), "color:red", "no such field")?);
-    assert!(rt;
-        finds(
-            rt.alloc(),
-            "\"new york\"",
-            "a text of one token was expected"
-        )?
-    );
+    assert!(rt; finds(rt.alloc(), "title:.", "a text with tokens was expected")?);
+    Ok(())
+}
+
+#[test]
+fn phrases_find_documents(rt: HostRuntime) -> Result<(), Fail> {
+    assert!(rt; finds(rt.alloc(), "\"new york\"", "0,")?);
+    assert!(rt; finds(rt.alloc(), "\"york new\" OR title:\"new jersey\"", "1,")?);
+    assert!(rt; finds(rt.alloc(), "attr.color:\"red red\"", "")?);
     Ok(())
 }
 

@@ -8,7 +8,9 @@ use crate::memory_index::{
 use ii_base::{AsciiTokenizer, Fault, Field, Schema, Term};
 use ii_docset::{DocId, DocSet, TERMINATED};
 use ii_reader::{OpenIndex, SegmentPostings};
-use nequllpa::{Query, QueryCursor, count, index_in_ram, search, top_by_count};
+use nequllpa::{
+    PhraseTerm, Query, QueryCursor, TermOrPhrase, count, index_in_ram, search, top_by_count,
+};
 use std::alloc::Global;
 use std::test::Fail;
 
@@ -41,7 +43,10 @@ fn indexed(alloc: Global, schema: Schema) -> Result<OpenIndex, Fault>
 }
 
 // The documents of a cursor, each with a comma behind it.
-fn documents(alloc: Global, cursor: &mut QueryCursor<SegmentPostings>) -> Result<String, Fault> {
+fn documents(
+    alloc: Global,
+    cursor: &mut QueryCursor<TermOrPhrase<SegmentPostings>>,
+) -> Result<String, Fault> {
     let mut text = String::new(alloc);
     for _ in 0..cursor.size_hint() {
         let doc = cursor.doc();
@@ -55,7 +60,10 @@ fn documents(alloc: Global, cursor: &mut QueryCursor<SegmentPostings>) -> Result
 }
 
 // A cursor over what a query gives, where the index has its fields.
-fn cursor_of(alloc: Global, query: &Query) -> Result<QueryCursor<SegmentPostings>, Fault> {
+fn cursor_of(
+    alloc: Global,
+    query: &Query,
+) -> Result<QueryCursor<TermOrPhrase<SegmentPostings>>, Fault> {
     let schema = two_texts(alloc)?;
     if !query.has_fields(&schema) {
         return Ok(QueryCursor::nothing());
@@ -204,6 +212,42 @@ fn no_document_is_put_together(rt: HostRuntime) -> Result<(), Fail> {
     assert!(rt; word_and_nothing_give(rt.alloc(), Pair::And, "")?);
     assert!(rt; word_and_nothing_give(rt.alloc(), Pair::Or, "0,1,4,")?);
     assert!(rt; word_and_nothing_give(rt.alloc(), Pair::AndNot, "0,1,4,")?);
+    Ok(())
+}
+
+// A phrase of two words, each of a field, the second one so many positions behind the first.
+fn phrase(
+    alloc: Global,
+    first: (u32, &'static str),
+    distance: u32,
+    other: (u32, &'static str),
+) -> Result<Query, Fault> {
+    let start = Term::from_field_text(alloc, Field::from_field_id(first.0), first.1)?;
+    let term = Term::from_field_text(alloc, Field::from_field_id(other.0), other.1)?;
+    let mut others = Vec::new(alloc);
+    others.push(PhraseTerm { distance, term })?;
+    Ok(Query::Phrase(start, others))
+}
+
+// Whether a phrase gives these documents.
+fn phrase_gives(
+    alloc: Global,
+    first: (u32, &'static str),
+    distance: u32,
+    other: (u32, &'static str),
+    docs: &str,
+) -> Result<bool, Fault> {
+    let query = phrase(alloc, first, distance, other)?;
+    let found = found(alloc, &query)?;
+    Ok(found.as_str() == docs)
+}
+
+#[test]
+fn phrases_give_documents(rt: HostRuntime) -> Result<(), Fail> {
+    assert!(rt; phrase_gives(rt.alloc(), (0, "a"), 1, (0, "b"), "0,4,")?);
+    assert!(rt; phrase_gives(rt.alloc(), (0, "b"), 1, (0, "a"), "")?);
+    assert!(rt; phrase_gives(rt.alloc(), (0, "a"), 2, (0, "c"), "0,")?);
+    assert!(rt; phrase_gives(rt.alloc(), (0, "a"), 0, (1, "x"), "0,4,")?);
     Ok(())
 }
 

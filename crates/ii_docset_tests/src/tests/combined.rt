@@ -1,6 +1,9 @@
+use super::list_postings::{ListPostings, Place};
 use super::{Below, three};
 use ii_docset::{DocId, DocSet, SeekDangerResult, TERMINATED};
-use ii_query::{Exclude, Intersection, Union};
+use ii_query::{Exclude, Intersection, PhraseMatch, PhrasePart, Union};
+use std::alloc::Global;
+use std::test::Fail;
 
 // The next four documents of a cursor, the current one first.
 fn next_four<D: DocSet>(cursor: &mut D) -> [DocId; 4] {
@@ -63,4 +66,50 @@ fn combined_cursors_are_asked(rt: HostRuntime) {
         asked(&mut Exclude::new(three(), Below { next: 1, end: 4 }), 1)
             == SeekDangerResult::SeekLowerBound(10)
     );
+}
+
+// Documents 0, 2 and 10 again, and where another term stands there.
+static OTHER_PLACES: [Place; 3] = [
+    Place {
+        doc: 0,
+        positions: &[3],
+    },
+    Place {
+        doc: 2,
+        positions: &[2],
+    },
+    Place {
+        doc: 10,
+        positions: &[6, 10],
+    },
+];
+
+fn other() -> ListPostings {
+    ListPostings::new(&OTHER_PLACES)
+}
+
+// The documents of a term behind which another one stands so many positions further on.
+fn phrase(
+    alloc: Global,
+    first: ListPostings,
+    other: ListPostings,
+    distance: u32,
+) -> Result<[DocId; 4], Fail> {
+    let mut others = Vec::new(alloc);
+    others.push(PhrasePart::new(distance, other))?;
+    Ok(next_four(&mut PhraseMatch::new(first, others)))
+}
+
+#[test]
+fn phrases_are_found(rt: HostRuntime) -> Result<(), Fail> {
+    assert!(rt; phrase(rt.alloc(), three(), other(), 1)? == [2, 10, TERMINATED, TERMINATED]);
+    assert!(rt; phrase(rt.alloc(), other(), three(), 1)? == [TERMINATED; 4]);
+    assert!(rt;
+        phrase(rt.alloc(), three(), other(), 0)? == [0, TERMINATED, TERMINATED, TERMINATED]
+    );
+    assert!(rt;
+        phrase(rt.alloc(), three(), other(), 2)? == [10, TERMINATED, TERMINATED, TERMINATED]
+    );
+    assert!(rt; phrase(rt.alloc(), three(), three(), u32::MAX)? == [TERMINATED; 4]);
+    Ok(())
 }

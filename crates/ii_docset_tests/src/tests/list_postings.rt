@@ -1,10 +1,10 @@
 ghost use Rattle.std.specs.Prelude.{◌≡◌, ◌+◌, ◌<◌, ◌^◌, ◌++◌, length, map, IfErr, OnErr, OnOk};
 ghost use Rattle.std.specs.List.{All};
-ghost use Rattle.ii_docset.specs.Entries.{Entry};
+ghost use Rattle.ii_base.specs.Entries.{Entry};
 ghost use Rattle.ii_docset.specs.Cursor.{IsSound};
 
 use ii_base::Fault;
-use ii_docset::{DocId, DocSet, Postings, TERMINATED};
+use ii_docset::{DocId, DocSet, Postings, TERMINATED, copy_positions};
 use std::marker::Model;
 
 // A document, and where a term occurs there.
@@ -24,7 +24,7 @@ impl Model for ListPostings {
     ghost use Rattle.std.specs.Prelude.{List, length, map};
     ghost use Rattle.ii_docset_tests.specs.declared.tests.list_postings.Place.{Place};
     ghost use Rattle.ii_docset.specs.Cursor.{IsSound};
-    ghost use Rattle.ii_docset.specs.Entries.{Entry};
+    ghost use Rattle.ii_base.specs.Entries.{Entry};
 
     ghost Value = { List Entry };
 
@@ -82,6 +82,13 @@ impl Postings for ListPostings {
             return Ok(());
         };
         append(first.positions, offset, output)
+    }
+
+    fn read_positions(&mut self, from: usize, _before: u32, output: &mut [u32]) -> usize {
+        let Some((first, _)) = self.left.split_first() else {
+            return 0;
+        };
+        copy_positions(first.positions, from, output)
     }
 }
 

@@ -7,8 +7,7 @@ use super::term_frequency_recorder::TermFrequencyRecorder;
 use super::tf_and_position_recorder::TfAndPositionRecorder;
 use crate::buffer_lender::BufferLender;
 use crate::field_serializer::FieldSerializer;
-use ii_base::{Fault, IndexRecordOption};
-use ii_docset::DocId;
+use ii_base::{DocId, Fault, IndexRecordOption};
 use std::alloc::Global;
 use std::io::Write;
 

@@ -1,5 +1,5 @@
 ghost use Rattle.std.specs.Prelude.{◌≡◌, [], ◌∷◌, None, false, map};
-ghost use Rattle.ii_docset.specs.Entries.{document};
+ghost use Rattle.ii_base.specs.Entries.{document};
 ghost use Rattle.ii_recorder.specs.Pushed.{MayPush, Pushes};
 ghost use Rattle.ii_base.specs.declared.schema.index_record_option.IndexRecordOption.TheVariants.{Basic};
 
@@ -8,8 +8,7 @@ use super::sum_reader::SumReader;
 use super::vint32_reader::VInt32Reader;
 use crate::buffer_lender::BufferLender;
 use crate::field_serializer::FieldSerializer;
-use ii_base::{Fault, write_u32_vint};
-use ii_docset::DocId;
+use ii_base::{DocId, Fault, write_u32_vint};
 use std::alloc::Global;
 use std::io::Write;
 use std::marker::Model;

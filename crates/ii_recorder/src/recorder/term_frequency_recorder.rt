@@ -1,5 +1,5 @@
 ghost use Rattle.std.specs.Prelude.{◌≡◌, [], ◌∷◌, None, drop, slice_get, unwrap_or};
-ghost use Rattle.ii_docset.specs.Entries.{counted};
+ghost use Rattle.ii_base.specs.Entries.{counted};
 ghost use Rattle.ii_recorder.specs.Gathered.{counted_all, counts_in};
 ghost use Rattle.ii_recorder.specs.Pushed.{MayPush, Pushes};
 ghost use Rattle.ii_base.specs.declared.schema.index_record_option.IndexRecordOption.TheVariants.{WithFreqs};
@@ -8,8 +8,7 @@ use super::Recorder;
 use super::vint32_reader::VInt32Reader;
 use crate::buffer_lender::BufferLender;
 use crate::field_serializer::FieldSerializer;
-use ii_base::{Fault, LimitName, write_u32_vint};
-use ii_docset::DocId;
+use ii_base::{DocId, Fault, LimitName, write_u32_vint};
 use std::alloc::Global;
 use std::io::Write;
 use std::marker::Model;

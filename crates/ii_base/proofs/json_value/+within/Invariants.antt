@@ -1,4 +1,4 @@
-use Rattle.std.proofs.Common.{◌≡◌, ℕ, drop, map, nat_le}
+use Rattle.std.proofs.Common.{◌≡◌, drop, map, nat_le}
 use Rattle.ii_base.specs.Json.{items_depth, items_from, json_of, members_depth, members_from}
 use Rattle.ii_base.proofs.json_value.+within.Given as goal
 

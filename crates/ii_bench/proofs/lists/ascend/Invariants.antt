@@ -1,5 +1,5 @@
 use Rattle.std.proofs.Common.{◌≡◌, drop}
-use Rattle.ii_docset.specs.Entries.{ascend_from}
+use Rattle.ii_base.specs.Entries.{ascend_from}
 use Rattle.ii_bench.proofs.lists.ascend.Given as goal
 
 abbrev pub invariant-loop-doc : goal.invariant-loop-doc

@@ -1,6 +1,6 @@
 use Rattle.ii_codes.proofs.LengthLemmas.{length-sorted_block_at, length-sorted_vints_at}
 use Rattle.std.proofs.Common.{sym}
-use Rattle.ii_docset.specs.declared.docset.TheConstants.{TERMINATED}
+use Rattle.ii_base.specs.declared.doc_id.TheConstants.{TERMINATED}
 use Rattle.ii_check.proofs.LoadLemmas.{row_of_block, row_of_vints}
 use Rattle.ii_check.proofs.load.decode_docs.Goals as goal
 

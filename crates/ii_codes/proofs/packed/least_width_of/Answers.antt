@@ -1,7 +1,7 @@
 use Rattle.std.proofs.Common.{◌∙◌, arith, ap, get_or, take}
 use Rattle.std.proofs.lemmas.List.{take_more, take_all}
 use Rattle.ii_codes.specs.Packed.{least_width}
-use Rattle.ii_codes.proofs.WidthLemmas.{least_width-push, num_bits-or, num_bits-least, num_bits-leading_of}
+use Rattle.ii_codes.proofs.WidthLemmas.{least_width-fits, least_width-push, num_bits-or, num_bits-least, num_bits-leading_of}
 use Rattle.ii_codes.proofs.packed.least_width_of.Goals as goal
 
 pub loop-entry-init : goal.loop-entry-init
@@ -18,3 +18,9 @@ pub returns-clause-value : goal.returns-clause-value
 returns-clause-value c =
     let bits = num_bits-leading_of 32 c.loop-entry.all (omega arith) (omega arith) in
     bits ∙ c.loop-entry.invariant ∙ ap least_width (take_all c.loop-entry.entry-index c.args.entries.now (omega arith))
+
+pub returns-clause-fits : goal.returns-clause-fits
+returns-clause-fits c k within =
+    let bits = num_bits-leading_of 32 c.loop-entry.all (omega arith) (omega arith) in
+    let width = bits ∙ c.loop-entry.invariant ∙ ap least_width (take_all c.loop-entry.entry-index c.args.entries.now (omega arith)) in
+    rw width (least_width-fits c.args.entries.now (λ j inside. omega (arith, c.type_inv.entries j)) k within)

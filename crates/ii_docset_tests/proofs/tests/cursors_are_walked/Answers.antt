@@ -1,6 +1,6 @@
 use Rattle.std.proofs.Common.{List, refl, ◌∙◌}
 use denote.Param.Object.{read_made}
-use Rattle.ii_docset.specs.Entries.{Entry}
+use Rattle.ii_base.specs.Entries.{Entry}
 use Rattle.ii_docset_tests.proofs.tests.cursors_are_walked.OwnLists.{own-1, at-1-1}
 use Rattle.ii_docset_tests.proofs.tests.cursors_are_walked.Goals as goal
 

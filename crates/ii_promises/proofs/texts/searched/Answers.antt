@@ -4,4 +4,4 @@ use Rattle.ii_search.specs.declared.query_parser_error.QueryParserError.TheVaria
 use Rattle.ii_promises.proofs.texts.searched.Goals as goal
 
 pub returns-in-Err-clause-gives : goal.returns-in-Err-clause-gives
-returns-in-Err-clause-gives c = λ schema num_docs tokens holds fields. ap (λ (f : Fault). errors.Fault f) (c.in-Err.ensures.holds schema num_docs tokens holds fields)
+returns-in-Err-clause-gives c = λ schema num_docs tokens holds fields keeps. ap (λ (f : Fault). errors.Fault f) (c.in-Err.ensures.holds schema num_docs tokens holds fields keeps)

@@ -1,5 +1,5 @@
 use Rattle.std.proofs.Common.{[], List, ℕ, ap, map, ◌∙◌, refl}
-use Rattle.ii_docset.specs.Entries.{document}
+use Rattle.ii_base.specs.Entries.{document}
 use Rattle.ii_docset.proofs.IntersectionLemmas.{asked_for, at_end, bound_above, bound_more, bound_target}
 use Rattle.ii_query.proofs.PickedLemmas.{common_at, common_found}
 use Rattle.ii_query.proofs.intersection.meet.Goals as goal

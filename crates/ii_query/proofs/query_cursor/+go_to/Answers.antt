@@ -1,6 +1,6 @@
 use Rattle.std.proofs.Common.{◌≡◌, ℕ, [], List, drop, map, refl, rules, sym, ap, ◌∙◌, arith}
 use Rattle.std.specs.Prelude.{not}
-use Rattle.ii_docset.specs.Entries.{document}
+use Rattle.ii_base.specs.Entries.{document}
 use Rattle.ii_docset.specs.Cursor.{doc_at, from_doc}
 use Rattle.ii_docset.specs.Intersection.{has_doc}
 use Rattle.ii_docset.proofs.CursorLemmas.{doc_below}

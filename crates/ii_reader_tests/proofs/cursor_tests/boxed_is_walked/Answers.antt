@@ -1,6 +1,6 @@
 use Rattle.std.proofs.Common.{List, refl, ap, ◌∙◌}
 use denote.Param.Object.{read_made}
-use Rattle.ii_docset.specs.Entries.{Entry}
+use Rattle.ii_base.specs.Entries.{Entry}
 use Rattle.ii_reader.specs.SegmentPostings.{SegmentPostingsState}
 use Rattle.ii_reader_tests.proofs.cursor_tests.boxed_is_walked.OwnLists.{own-1, at-1-1}
 use Rattle.ii_reader_tests.proofs.cursor_tests.boxed_is_walked.Goals as goal

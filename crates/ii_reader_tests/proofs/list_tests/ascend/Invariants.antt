@@ -1,5 +1,5 @@
 use Rattle.std.proofs.Common.{◌≡◌, drop}
-use Rattle.ii_docset.specs.Entries.{ascend_from}
+use Rattle.ii_base.specs.Entries.{ascend_from}
 use Rattle.ii_reader_tests.proofs.list_tests.ascend.Given as goal
 
 abbrev pub invariant-loop-doc : goal.invariant-loop-doc

@@ -3,6 +3,6 @@ use Rattle.ii_search.proofs.SameDocs.{same_length}
 use Rattle.ii_search.proofs.searching.count.Goals as goal
 
 pub returns-in-Ok-clause-holds : goal.returns-in-Ok-clause-holds
-returns-in-Ok-clause-holds c = λ schema num_docs tokens holds fields es matched.
-    let found = c.in-Ok.ensures.holds schema num_docs tokens holds fields in
+returns-in-Ok-clause-holds c = λ schema num_docs tokens holds fields keeps es matched.
+    let found = c.in-Ok.ensures.holds schema num_docs tokens holds fields keeps in
     c.count_including_deleted.ensures.count ∙ same_length c.in-Ok.cursor.rest es found.ascending matched.ascending (λ doc. found.exact doc ∙ sym (matched.exact doc))

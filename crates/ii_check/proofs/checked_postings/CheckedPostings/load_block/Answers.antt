@@ -1,5 +1,5 @@
 use Rattle.std.proofs.Common.{drop, refl, sym, ap, ◌∙◌}
-use Rattle.ii_docset.specs.declared.docset.TheConstants.{TERMINATED}
+use Rattle.ii_base.specs.declared.doc_id.TheConstants.{TERMINATED}
 use Rattle.ii_check.specs.Check.{freqs_in}
 use Rattle.ii_check.proofs.LoadLemmas.{is_told, some_there, loads, loads_freqs, keeps_freqs, told_freqs, after_is}
 use Rattle.ii_check.proofs.checked_postings.CheckedPostings.load_block.Goals as goal

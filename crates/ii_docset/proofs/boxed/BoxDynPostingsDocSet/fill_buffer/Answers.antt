@@ -1,5 +1,5 @@
 use Rattle.std.proofs.Common.{◌++◌, length, take, drop, min, ap, ◌∙◌}
-use Rattle.ii_docset.specs.Entries.{docs_of}
+use Rattle.ii_base.specs.Entries.{docs_of}
 use Rattle.ii_docset.proofs.boxed.BoxDynPostingsDocSet.fill_buffer.Goals as goal
 
 pub returns-clause-count : goal.returns-clause-count

@@ -1,5 +1,5 @@
 use Rattle.std.proofs.Common.{◌≡◌, ◌+◌, ◌≤◌, length}
-use Rattle.ii_docset.specs.declared.docset.TheConstants.{TERMINATED}
+use Rattle.ii_base.specs.declared.doc_id.TheConstants.{TERMINATED}
 use Rattle.ii_docset.specs.Cursor.{doc_at, IsSound}
 use Rattle.ii_docset.proofs.docset.DocSet.count_including_deleted.Given as goal
 

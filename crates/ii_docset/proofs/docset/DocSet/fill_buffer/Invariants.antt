@@ -1,5 +1,5 @@
 use Rattle.std.proofs.Common.{◌≡◌, ◌<◌, ◌++◌, length, take, drop}
-use Rattle.ii_docset.specs.Entries.{docs_of}
+use Rattle.ii_base.specs.Entries.{docs_of}
 use Rattle.ii_docset.specs.Cursor.{IsSound}
 use Rattle.ii_docset.proofs.docset.DocSet.fill_buffer.Given as goal
 

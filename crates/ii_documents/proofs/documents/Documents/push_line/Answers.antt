@@ -1,6 +1,6 @@
 use Rattle.std.proofs.Common.{◌≡◌, ◌++◌, ◌+◌, arith, map, refl, rules, subst, sym, true, nat_lt}
 use Rattle.std.proofs.lemmas.List.{map-append}
-use Rattle.ii_docset.specs.declared.docset.TheConstants.{TERMINATED}
+use Rattle.ii_base.specs.declared.doc_id.TheConstants.{TERMINATED}
 use Rattle.ii_indexing.specs.IndexCalls.{MayAllBeIndexed, call_of}
 use Rattle.ii_documents.proofs.DocumentLemmas.{adds_line, may_more}
 use Rattle.ii_documents.proofs.documents.Documents.push_line.Goals as goal

@@ -1,5 +1,5 @@
 use Rattle.std.proofs.Common.{◌≡◌, ◌<◌, true, is_some, ◌+◌, ◌*◌, drop, sym, ◌∙◌}
-use Rattle.ii_docset.specs.declared.docset.TheConstants.{TERMINATED}
+use Rattle.ii_base.specs.declared.doc_id.TheConstants.{TERMINATED}
 use Rattle.ii_docset.specs.Cursor.{doc_at}
 use Rattle.ii_layout.specs.TermList.{list_of}
 use Rattle.ii_check.specs.Positions.{deltas_read}

@@ -1,5 +1,5 @@
 use Rattle.std.proofs.Common.{◌≡◌, map}
-use Rattle.ii_docset.specs.Entries.{document}
+use Rattle.ii_base.specs.Entries.{document}
 use Rattle.ii_base.specs.declared.schema.index_record_option.IndexRecordOption.TheVariants.{Basic}
 use Rattle.ii_recorder.proofs.PushLemmas.{IsPushing}
 use Rattle.ii_recorder.proofs.recorder.doc_id_recorder.push_docs.Given as goal

@@ -1,5 +1,5 @@
 use Rattle.std.proofs.Common.{◌+◌, arith, sym, ◌∙◌}
-use Rattle.ii_docset.specs.Entries.{counted}
+use Rattle.ii_base.specs.Entries.{counted}
 use Rattle.ii_base.specs.declared.schema.index_record_option.IndexRecordOption.TheVariants.{WithFreqs}
 use Rattle.ii_recorder.specs.Gathered.{counted_all, counts_in, gathered, none_after, with_count}
 use Rattle.ii_recorder.proofs.GatheredLemmas.{counts_left}

@@ -1,5 +1,5 @@
 use Rattle.std.proofs.Common.{◌+◌, ◌<◌, ◌^◌, arith, sym, ◌∙◌}
-use Rattle.ii_docset.specs.Entries.{Entry}
+use Rattle.ii_base.specs.Entries.{Entry}
 use Rattle.ii_base.specs.declared.schema.index_record_option.IndexRecordOption.TheVariants.{WithFreqsAndPositions}
 use Rattle.ii_recorder.specs.Gathered.{all_of, behind_positions, first_positions, gathered, located_at, none_after, positions_in, with_number}
 use Rattle.ii_recorder.proofs.GatheredLemmas.{fewer_behind, positions_left}

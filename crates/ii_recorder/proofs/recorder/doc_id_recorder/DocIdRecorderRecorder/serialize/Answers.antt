@@ -1,6 +1,6 @@
 use Rattle.std.proofs.Common.{◌≡◌, map, sym, ap, ◌∙◌}
 use Rattle.ii_codes.specs.Sums.{running_sums}
-use Rattle.ii_docset.specs.Entries.{document}
+use Rattle.ii_base.specs.Entries.{document}
 use Rattle.ii_recorder.specs.Gathered.{docs_state}
 use Rattle.ii_recorder.specs.Recorded.{entries_of_recorder}
 use Rattle.ii_recorder.specs.VintRows.{numbers}

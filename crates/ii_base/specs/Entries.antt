@@ -1,6 +1,6 @@
 -- What a term's list has of a document: the document, how often the term occurs there, and where.
 use Rattle.std.specs.Prelude.{ℕ, ◌+◌, Bool, true, ◌&&◌, List, [], ◌∷◌, map, nat_lt, nat_le}
-use Rattle.ii_docset.specs.declared.docset.TheConstants.{TERMINATED}
+use Rattle.ii_base.specs.declared.doc_id.TheConstants.{TERMINATED}
 
 pub record Entry : Type 0 where
   pub doc : ℕ

@@ -1,12 +1,18 @@
 -- Laws of documents that ascend, in parts.
-use Rattle.std.proofs.Common.{◌≡◌, ℕ, zero, suc, ◌+◌, Bool, true, false, ◌&&◌, List, [], ◌∷◌, ◌++◌, length, get_or, nat_le, nat_lt, refl, ap, ◌∙◌, arith}
-use Rattle.ii_docset.specs.declared.docset.TheConstants.{TERMINATED}
-use Rattle.ii_docset.specs.Entries.{ascend_from}
+use Rattle.std.proofs.Common.{◌≡◌, ◌≤◌, ℕ, zero, suc, ◌+◌, Bool, true, false, ◌&&◌, List, [], ◌∷◌, ◌++◌, length, get_or, nat_le, nat_lt, refl, ap, ◌∙◌, arith}
+use Rattle.std.proofs.lemmas.Bool.{ltb-true, leb-true}
+use Rattle.ii_base.specs.declared.doc_id.TheConstants.{TERMINATED}
+use Rattle.ii_base.specs.Entries.{ascend_from}
 
 -- the least document after documents
 abbrev pub least_after : ℕ → List ℕ → ℕ
 least_after least [] = least
 least_after least (d ∷ ds) = least_after (d + 1) ds
+
+pub and_parts : (a b c : Bool) → (a && b && c) ≡ true → (a ≡ true) × (b ≡ true) × (c ≡ true)
+and_parts true true c h = (refl, refl, h)
+and_parts true false c h = absurd (cc)
+and_parts false b c h = absurd (cc)
 
 and_cases : (a b c d : Bool) → (a && b && (c && d)) ≡ ((a && b && c) && d)
 and_cases true true c d = refl
@@ -29,3 +35,13 @@ least_after-last least n [] e = absurd (omega arith)
 least_after-last least zero (x ∷ []) e = refl
 least_after-last least zero (x ∷ y ∷ xs) e = absurd (omega arith)
 least_after-last least (suc n) (x ∷ xs) e = least_after-last (x + 1) n xs (omega arith)
+
+-- documents lie below the end, so there are no more than that
+pub ascent_below : (least : ℕ) (docs : List ℕ) → ascend_from least docs ≡ true → least ≤ TERMINATED → length docs + least ≤ TERMINATED
+ascent_below least [] h low = omega arith
+ascent_below least (d ∷ ds) h low =
+    let parts = and_parts (nat_le least d) (nat_lt d TERMINATED) (ascend_from (d + 1) ds) h in
+    let first = leb-true least d parts.0 in
+    let high = ltb-true d TERMINATED parts.1 in
+    let later = ascent_below (d + 1) ds parts.2 (omega arith) in
+    omega arith

@@ -1,0 +1,171 @@
+-- How the terms of a phrase are looked at, one after the other, and their positions piece by piece.
+use Rattle.std.proofs.Common.{◌≡◌, ◌≢◌, ◌∙◌, ℕ, zero, suc, ◌+◌, ◌-◌, ◌<◌, ◌≤◌, ◌^◌, Bool, true, false, ◌&&◌, ◌||◌, List, [], ◌∷◌, ◌++◌, add-one, drop, get_or, length, set, take, inl, inr, refl, sym, ap, subst, arith, length-drop, length-take}
+use Rattle.std.proofs.Math.Seq.{drop-cons}
+use Rattle.std.specs.Prelude.{min, nat_eq}
+use Rattle.std.specs.List.{All, AllByRecursion, list_all, list_any}
+use Rattle.std.proofs.lemmas.Bool.{and_right, cases_lt, ne_eqb}
+use Rattle.std.proofs.lemmas.List.{drop-drop, drop_all, get_or-drop, get_or-take, length-set, set-get_or, take-append-drop, take-append-le, take_all}
+use Rattle.std.proofs.lemmas.List.Elements.{All-head, All-tail}
+use Rattle.std.proofs.lemmas.List.Folds.{list_any-append}
+use Rattle.ii_base.specs.declared.doc_id.TheConstants.{TERMINATED}
+use Rattle.ii_base.specs.Entries.{Entry}
+use Rattle.ii_docset.specs.Cursor.{IsAscending, IsCurrent, IsSound, doc_at, from_doc, position_before, positions_at}
+use Rattle.ii_docset.proofs.CursorLemmas.{doc_below}
+use Rattle.ii_query.specs.Phrase.{IsAtDoc, MeetsAt, PhrasePartState, has_position, is_among, stand_from, stand_here}
+use Rattle.ii_query.proofs.PhraseLemmas.{has_below, has_from, up_from}
+
+-- The first terms so far were taken to a document.
+pub record IsMeeting (doc i : ℕ) (old now : List PhrasePartState) : Type 0 where
+  pub alike : (d start : ℕ) → doc ≤ d → stand_from now d start ≡ stand_from old d start
+  pub met : AllByRecursion (IsAtDoc doc) (take i now)
+  pub many : length now ≡ length old
+
+-- A term was taken to a document.
+pub record IsMoved (doc bound : ℕ) (old new : PhrasePartState) : Type 0 where
+  pub distance_is : new.distance ≡ old.distance
+  pub rest_is : new.rest ≡ from_doc doc old.rest
+  pub sound : IsSound new.rest
+  pub here : bound ≡ doc_at new.rest
+
+pub meeting_first : (doc : ℕ) (old : List PhrasePartState) → IsMeeting doc 0 old old
+meeting_first doc old = record { alike = λ d start up. refl; met = tt; many = refl }
+
+part_set : (parts : List PhrasePartState) (i : ℕ) (new old : PhrasePartState) (doc bound d start : ℕ) → i < length parts → old ≡ get_or parts i old → IsMoved doc bound old new → doc ≤ d → stand_from (set parts i new) d start ≡ stand_from parts d start
+part_set [] i new old doc bound d start inside is moved up = absurd (omega (arith, inside))
+part_set (p ∷ ps) zero new old doc bound d start inside is moved up =
+    let same : has_position new.rest d (start + new.distance) ≡ has_position old.rest d (start + old.distance) = rw (moved.distance_is, moved.rest_is) (has_from doc d (start + old.distance) old.rest up) in
+    ap (λ (b : Bool). b && stand_from ps d start) (same ∙ ap (λ (q : PhrasePartState). has_position q.rest d (start + q.distance)) is)
+part_set (p ∷ ps) (suc i) new old doc bound d start inside is moved up = ap (λ (b : Bool). has_position p.rest d (start + p.distance) && b) (part_set ps i new old doc bound d start (omega (arith, inside)) is moved up)
+
+part_none : (parts : List PhrasePartState) (i : ℕ) (new : PhrasePartState) (d start : ℕ) → i < length parts → IsSound new.rest → d < doc_at new.rest → stand_from (set parts i new) d start ≡ false
+part_none [] i new d start inside sound low = absurd (omega (arith, inside))
+part_none (p ∷ ps) zero new d start inside sound low = rw (has_below d (start + new.distance) new.rest sound.ascending low) refl
+part_none (p ∷ ps) (suc i) new d start inside sound low = and_right (has_position p.rest d (start + p.distance)) _ (part_none ps i new d start (omega (arith, inside)) sound low)
+
+met_set : (doc : ℕ) (parts : List PhrasePartState) (i : ℕ) (new : PhrasePartState) → i < length parts → AllByRecursion (IsAtDoc doc) (take i parts) → IsAtDoc doc new → AllByRecursion (IsAtDoc doc) (take (suc i) (set parts i new))
+met_set doc [] i new inside met at = absurd (omega (arith, inside))
+met_set doc (p ∷ ps) zero new inside met at = (at, tt)
+met_set doc (p ∷ ps) (suc i) new inside met at = (met.0, met_set doc ps i new (omega (arith, inside)) met.1 at)
+
+-- one term more stands at the document
+pub meeting_next : (doc i bound : ℕ) (start now : List PhrasePartState) (old new : PhrasePartState) → IsMeeting doc i start now → i < length now → old ≡ get_or now i old → IsMoved doc bound old new → bound ≡ doc
+    → IsMeeting doc (i + 1) start (set now i new)
+meeting_next doc i bound start now old new m inside is moved same = record {
+  alike = λ d from up. part_set now i new old doc bound d from inside is moved up ∙ m.alike d from up;
+  met = subst (λ (n : ℕ). AllByRecursion (IsAtDoc doc) (take n (set now i new))) (sym (add-one i)) (met_set doc now i new inside m.met (record { sound = moved.sound; here = sym moved.here ∙ same }));
+  many = length-set now i new ∙ m.many;
+}
+
+-- a term stands above it
+pub meeting_stops : (doc i bound : ℕ) (start now : List PhrasePartState) (old new : PhrasePartState) → IsMeeting doc i start now → i < length now → old ≡ get_or now i old → IsMoved doc bound old new → bound ≢ doc → doc < TERMINATED
+    → MeetsAt doc start (set now i new) bound
+meeting_stops doc i bound start now old new m inside is moved other low =
+    let here = moved.here in
+    let below = doc_below new.rest moved.sound.ascending in
+    let up = subst (λ (l : List Entry). doc ≤ doc_at l) (sym moved.rest_is) (up_from doc old.rest (omega (arith, low))) in
+    record {
+      alike = λ d from high. part_set now i new old doc bound d from inside is moved high ∙ m.alike d from high;
+      low = omega (arith, here, up);
+      up_to = omega (arith, here, below);
+      met = λ same. absurd (other same);
+      none = λ d from lower above. part_none now i new d from inside moved.sound (omega (arith, here, lower));
+    }
+
+-- all stand at it
+pub meeting_ends : (doc : ℕ) (start now : List PhrasePartState) → IsMeeting doc (length start) start now → doc < TERMINATED → MeetsAt doc start now doc
+meeting_ends doc start now m low =
+    let many = m.many in
+    record {
+      alike = m.alike;
+      low = omega arith;
+      up_to = omega (arith, low);
+      met = λ same. subst (λ (ps : List PhrasePartState). AllByRecursion (IsAtDoc doc) ps) (take_all (length start) now (omega (arith, many))) m.met;
+      none = λ d from lower above. absurd (omega (arith, above));
+    }
+
+-- a term among others
+pub part_at : (P : PhrasePartState → Type 0) (parts : List PhrasePartState) (i : ℕ) (p : PhrasePartState) → AllByRecursion P parts → i < length parts → p ≡ get_or parts i p → P p
+part_at P [] i p all inside is = absurd (omega (arith, inside))
+part_at P (q ∷ qs) zero p all inside is = rw is all.0
+part_at P (q ∷ qs) (suc i) p all inside is = part_at P qs i p all.1 (omega (arith, inside)) is
+
+-- whether a term stands where it is, and those after it
+pub standing_next : (parts : List PhrasePartState) (i start : ℕ) (p : PhrasePartState) → i < length parts → p ≡ get_or parts i p
+    → stand_here (drop i parts) start ≡ (is_among (positions_at p.rest) (start + p.distance) && stand_here (drop (i + 1) parts) start)
+standing_next parts i start p inside is = ap (λ (ps : List PhrasePartState). stand_here ps start) (drop-cons parts i p inside) ∙ rw (← is, add-one i) refl
+
+-- So many positions of a document, from a place on, were read to the front of a buffer.
+pub record IsReading (positions : List ℕ) (from count : ℕ) (buffer : List ℕ) : Type 0 where
+  pub count_is : count ≡ min 64 (length positions - from)
+  pub read : take count buffer ≡ take 64 (drop from positions)
+  pub few : length positions < 2 ^ 32
+  pub within : from ≤ length positions
+  pub size : length buffer ≡ 64
+
+-- what a call read
+pub reading : (positions told : List ℕ) (from count : ℕ) (old new : List ℕ) → told ≡ positions → length old ≡ 64 → from ≤ length positions → length told < 2 ^ 32 → count ≡ min (length old) (length told - from)
+    → new ≡ take (length old) (drop from told) ++ drop (length told - from) old → length new ≡ length old → IsReading positions from count new
+reading positions told from count old new same size within few count_is read kept =
+    let left = length-drop from positions in
+    let taken = length-take 64 (drop from positions) in
+    let count_is : count ≡ min 64 (length positions - from) = rw (← same, ← size) count_is in
+    let read_is : new ≡ take 64 (drop from positions) ++ drop (length positions - from) old = rw (← same, ← size) read in
+    record {
+      count_is = count_is;
+      read = ap (take count) read_is ∙ take-append-le count (take 64 (drop from positions)) _ (omega (arith, left, taken, count_is)) ∙ take_all count (take 64 (drop from positions)) (omega (arith, left, taken, count_is));
+      few = rw (← same) few;
+      within = within;
+      size = kept ∙ size;
+    }
+
+-- the position before the next one to be read
+pub reading_before : (positions : List ℕ) (from count : ℕ) (buffer : List ℕ) → IsReading positions from count buffer → 0 < count → get_or buffer (count - 1) 0 ≡ position_before (from + count) positions
+reading_before positions from count buffer r some =
+    let count_is = r.count_is in
+    let next : suc (from + (count - 1)) ≡ from + count = omega (arith, some) in
+    sym (get_or-take count buffer (count - 1) 0 (omega (arith, some)))
+    ∙ ap (λ (xs : List ℕ). get_or xs (count - 1) 0) r.read
+    ∙ get_or-take 64 (drop from positions) (count - 1) 0 (omega (arith, some, count_is))
+    ∙ get_or-drop from positions (count - 1) 0
+    ∙ ap (λ (n : ℕ). get_or (0 ∷ positions) n 0) next
+
+pub reading_within : (positions : List ℕ) (from count : ℕ) (buffer : List ℕ) → IsReading positions from count buffer → from + count ≤ length positions
+reading_within positions from count buffer r = let count_is = r.count_is in let within = r.within in omega (arith, count_is, within)
+
+pub reading_smaller : (positions : List ℕ) (from count : ℕ) (buffer : List ℕ) → IsReading positions from count buffer → 0 < count → length positions - (from + count) < length positions - from
+reading_smaller positions from count buffer r some = let count_is = r.count_is in let within = r.within in omega (arith, count_is, within, some)
+
+-- what is left of the positions: those read, and those to come
+left_is : (f : ℕ → Bool) (positions : List ℕ) (from count : ℕ) (buffer : List ℕ) → IsReading positions from count buffer → list_any f (drop from positions) ≡ (list_any f (take count buffer) || list_any f (drop (from + count) positions))
+left_is f positions from count buffer r =
+    ap (list_any f) (sym (take-append-drop 64 (drop from positions)))
+    ∙ list_any-append f (take 64 (drop from positions)) (drop 64 (drop from positions))
+    ∙ (λ j. list_any f (sym r.read j) || list_any f (behind j))
+  where
+    behind : drop 64 (drop from positions) ≡ drop (from + count) positions
+    behind = let count_is = r.count_is in let within = r.within in let left = length-drop from positions in elim (cases_lt 64 (length positions - from)) [
+      | inl more ↦ let full : 64 ≡ count = omega (arith, count_is, more) in drop-drop 64 from positions ∙ ap (λ (n : ℕ). drop (from + n) positions) full
+      | inr last ↦ drop_all 64 (drop from positions) (omega (arith, left, last)) ∙ sym (drop_all (from + count) positions (omega (arith, count_is, last, within)))
+    ]
+
+pub reading_on : (f : ℕ → Bool) (positions : List ℕ) (from count : ℕ) (buffer : List ℕ) → IsReading positions from count buffer → list_any f (take count buffer) ≡ false → list_any f (drop from positions) ≡ list_any f positions → list_any f (drop (from + count) positions) ≡ list_any f positions
+reading_on f positions from count buffer r none left = sym (left_is f positions from count buffer r ∙ rw none refl) ∙ left
+
+pub reading_found : (f : ℕ → Bool) (positions : List ℕ) (from count : ℕ) (buffer : List ℕ) → IsReading positions from count buffer → list_any f (take count buffer) ≡ true → list_any f (drop from positions) ≡ list_any f positions → true ≡ list_any f positions
+reading_found f positions from count buffer r some left = sym (left_is f positions from count buffer r ∙ rw some refl) ∙ left
+
+pub reading_all : (f : ℕ → Bool) (positions : List ℕ) (from count : ℕ) (buffer : List ℕ) → IsReading positions from count buffer → count ≤ 0 → list_any f (drop from positions) ≡ list_any f positions → false ≡ list_any f positions
+reading_all f positions from count buffer r none left =
+    let count_is = r.count_is in
+    sym (ap (list_any f) (drop_all from positions (omega (arith, count_is, none)))) ∙ left
+
+-- a position of 32 bits isn't a greater number
+none_among : (ps : List ℕ) (n : ℕ) → All (λ (p : ℕ). p < 2 ^ 32) ps → 2 ^ 32 ≤ n → is_among ps n ≡ false
+none_among [] n low up = refl
+none_among (p ∷ ps) n low up =
+    let first = All-head (λ (q : ℕ). q < 2 ^ 32) p ps low in
+    rw (ne_eqb p n (λ same. omega (arith, first, up, same))) (none_among ps n (All-tail (λ (q : ℕ). q < 2 ^ 32) p ps low) up)
+
+pub too_great : (es : List Entry) (n : ℕ) → IsSound es → 2 ^ 32 ≤ n → false ≡ is_among (positions_at es) n
+too_great [] n sound up = refl
+too_great (e ∷ es) n sound up = sym (none_among e.positions n (sound.fits 0 e (omega arith)).1 up)

@@ -1,0 +1,36 @@
+use Rattle.std.proofs.Common.{◌≡◌, ◌+◌, Bool, List, ap, sym, ◌∙◌, take}
+use Rattle.std.specs.List.{list_any}
+use Rattle.ii_base.specs.Entries.{Entry}
+use Rattle.ii_docset.specs.Cursor.{position_before, positions_at}
+use Rattle.ii_query.specs.Phrase.{PhrasePartState, stand_here}
+use Rattle.ii_query.proofs.PhraseSteps.{reading, reading_before, reading_found, reading_on, reading_within}
+use Rattle.ii_query.proofs.phrase.is_phrase.Goals as goal
+
+pub returns-then-stand_from_one-clause-phrase : goal.returns-then-stand_from_one-clause-phrase
+returns-then-stand_from_one-clause-phrase g c =
+    let l = c.loop-count in
+    let stand = stand_here c.args.others.now.items in
+    reading_found stand (positions_at (g.P.DocSet.rest c.args.first.now)) l.from l.count l.starts l.invariant.read
+    (ap (λ (ps : List PhrasePartState). list_any (stand_here ps) (take l.count l.starts)) (sym l.invariant.same) ∙ sym c.stand_from_one.ensures.stand ∙ c.if-stand_from_one.true) l.invariant.left
+
+pub read_positions-count-requires-in-loop-count-clause-before :
+    goal.read_positions-count-requires-in-loop-count-clause-before
+read_positions-count-requires-in-loop-count-clause-before g c =
+    let l = c.loop-count in
+    reading_before (positions_at (g.P.DocSet.rest c.args.first.now)) l.from l.count l.starts l.invariant.read c.loop-count-test.true
+    ∙ ap (λ (es : List Entry). position_before (l.from + l.count) (positions_at es)) (sym l.invariant.rest)
+
+pub loop-count-preserved : goal.loop-count-preserved
+loop-count-preserved g c =
+    let l = c.loop-count in
+    let r = c.read_positions-count-in-loop-count in
+    let ps = positions_at (g.P.DocSet.rest c.args.first.now) in
+    let stand = stand_here c.args.others.now.items in
+    record {
+      rest = r.ensures.rest ∙ l.invariant.rest;
+      same = c.stand_from_one.ensures.same ∙ l.invariant.same;
+      read = reading ps (positions_at (g.P.DocSet.rest l.first)) (l.from + l.count) r.result l.starts r.new.output (ap positions_at l.invariant.rest) l.invariant.read.size (reading_within ps l.from l.count l.starts l.invariant.read)
+          r.ensures.few r.ensures.count r.ensures.read r.auto.output;
+      left = reading_on stand ps l.from l.count l.starts l.invariant.read
+          (ap (λ (os : List PhrasePartState). list_any (stand_here os) (take l.count l.starts)) (sym l.invariant.same) ∙ sym c.stand_from_one.ensures.stand ∙ c.if-stand_from_one.false) l.invariant.left;
+    }

@@ -1,0 +1,53 @@
+-- The documents of a phrase.
+use Rattle.std.specs.Prelude.{◌≡◌, ℕ, ◌+◌, ◌<◌, ◌≤◌, Bool, ◌&&◌, false, List, filter, map, nat_eq}
+use Rattle.std.specs.List.{AllByRecursion, list_all, list_any}
+use Rattle.ii_base.specs.Entries.{Entry, docs_of, document}
+use Rattle.ii_base.specs.declared.doc_id.TheConstants.{TERMINATED}
+use Rattle.ii_docset.specs.Cursor.{IsSound, doc_at, positions_at}
+
+-- a term of a phrase: what is left of its list, and how far it stands after the first term
+pub record PhrasePartState : Type 0 where
+  pub distance : ℕ
+  pub rest : List Entry
+
+-- what is left of the lists of a phrase: that of its first term, and those of the others
+pub record PhraseMatchState : Type 0 where
+  pub first : List Entry
+  pub others : List PhrasePartState
+
+-- whether a number is one of some positions
+abbrev pub is_among : List ℕ → ℕ → Bool
+is_among positions position = list_any (λ (p : ℕ). nat_eq p position) positions
+
+-- whether a list has a document with a position
+abbrev pub has_position : List Entry → ℕ → ℕ → Bool
+has_position es doc position = list_any (λ (e : Entry). nat_eq e.doc doc && is_among e.positions position) es
+
+-- whether each other term stands in a document at its distance from a place
+abbrev pub stand_from : List PhrasePartState → ℕ → ℕ → Bool
+stand_from others doc start = list_all (λ (p : PhrasePartState). has_position p.rest doc (start + p.distance)) others
+
+-- whether they do from one of an entry's positions
+abbrev pub begins_phrase : List PhrasePartState → Entry → Bool
+begins_phrase others e = list_any (stand_from others e.doc) e.positions
+
+-- the documents of a phrase
+abbrev pub phrase_docs : List Entry → List PhrasePartState → List Entry
+phrase_docs es others = map document (docs_of (filter (begins_phrase others) es))
+
+-- whether each other term stands in its current document at its distance from a place
+abbrev pub stand_here : List PhrasePartState → ℕ → Bool
+stand_here others start = list_all (λ (p : PhrasePartState). is_among (positions_at p.rest) (start + p.distance)) others
+
+-- A term stands at a document.
+pub record IsAtDoc (doc : ℕ) (part : PhrasePartState) : Type 0 where
+  pub sound : IsSound part.rest
+  pub here : doc_at part.rest ≡ doc
+
+-- Terms were taken to a document: none lost anything from it on, and they stand at it, or the first document of one, which no phrase is below, is answered.
+pub record MeetsAt (doc : ℕ) (old new : List PhrasePartState) (bound : ℕ) : Type 0 where
+  pub alike : (d start : ℕ) → doc ≤ d → stand_from new d start ≡ stand_from old d start
+  pub low : doc ≤ bound
+  pub up_to : bound ≤ TERMINATED
+  pub met : bound ≡ doc → AllByRecursion (IsAtDoc doc) new
+  pub none : (d start : ℕ) → d < bound → doc < bound → stand_from new d start ≡ false

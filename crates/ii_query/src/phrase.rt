@@ -1,0 +1,250 @@
+ghost use Rattle.std.specs.Prelude.{◌≡◌, ◌<◌, ◌≤◌, ◌+◌};
+ghost use Rattle.std.specs.List.{AllByRecursion, list_any};
+ghost use Rattle.ii_docset.specs.Cursor.{IsCurrent, IsSound, doc_at, from_doc, positions_at};
+ghost use Rattle.ii_query.specs.Combined.{IsAtFirst};
+ghost use Rattle.ii_query.specs.Phrase.{IsAtDoc, MeetsAt, PhrasePartState, is_among, phrase_docs, stand_from, stand_here};
+
+use crate::query_cursor::go_on_to;
+use ii_docset::{DocId, DocSet, Postings, TERMINATED};
+use std::marker::Model;
+
+// How many positions are read at once.
+const POSITIONS_READ: usize = 64;
+
+/// A term of a phrase behind the first one: a cursor over its list, and how many positions it stands after
+/// the first term.
+#[derive(Drop)]
+pub struct PhrasePart<P: Postings> {
+    distance: u32,
+    postings: P,
+}
+
+impl<P: Postings> Model for PhrasePart<P> {
+    ghost use Rattle.ii_query.specs.Phrase.{PhrasePartState};
+
+    ghost Value = { PhrasePartState };
+
+    ghost view = { λ s. record { distance = s.distance; rest = P.rest s.postings } };
+}
+
+impl<P: Postings> PhrasePart<P> {
+    /// A term so many positions after the first one.
+    pub fn new(distance: u32, postings: P) -> PhrasePart<P>
+        ensures distance { result.distance ≡ distance }
+        ensures rest { result.rest ≡ P.rest postings }
+    {
+        PhrasePart { distance, postings }
+    }
+
+    // Drops the documents below a target, which may lie below the current one.
+    fn go_to(&mut self, target: DocId) -> DocId
+        requires { target ≤ TERMINATED }
+        ensures doc { result ≡ doc_at self.new.rest }
+        ensures rest { self.new.rest ≡ from_doc target self.old.rest }
+        ensures sound { IsSound self.new.rest }
+        ensures up_to { result ≤ TERMINATED }
+        ensures distance { self.new.distance ≡ self.old.distance }
+    {
+        go_on_to(&mut self.postings, target)
+    }
+
+    // Whether the term stands in the current document at its distance from a place.
+    fn stands_from(&mut self, start: u32) -> bool
+        requires { IsCurrent self.old.rest }
+        ensures stands { result ≡ is_among (positions_at self.old.rest) (start + self.old.distance) }
+        ensures same { self.new ≡ self.old }
+    {
+        // that positions have 32 bits, for the proof
+        let _doc = self.postings.doc();
+        match start.checked_add(self.distance) {
+            Some(position) => has_position(&mut self.postings, position),
+            None => false,
+        }
+    }
+}
+
+// Whether a cursor's current document has a position, which is looked for piece by piece.
+fn has_position<P: Postings>(cursor: &mut P, position: u32) -> bool
+    requires { IsCurrent (P.rest cursor.old) }
+    ensures has { result ≡ is_among (positions_at (P.rest cursor.old)) position }
+    ensures rest { P.rest cursor.new ≡ P.rest cursor.old }
+{
+    let mut positions = [0; POSITIONS_READ];
+    let mut from = 0;
+    let mut count = cursor.read_positions(0, 0, &mut positions);
+    while count > 0 {
+        if positions[..count].contains(&position) {
+            return true;
+        }
+        let before = positions[count - 1];
+        from += count;
+        count = cursor.read_positions(from, before, &mut positions);
+    }
+    false
+}
+
+// Drops the documents of the other terms below one. Answers it where they all have it, else a greater one,
+// below which there is no phrase.
+fn meet_others<P: Postings>(others: &mut Vec<PhrasePart<P>>, doc: DocId) -> DocId
+    requires { doc < TERMINATED }
+    ensures { MeetsAt doc others.old.items others.new.items result }
+{
+    for i in 0..others.len() {
+        let bound = others[i].go_to(doc);
+        if bound != doc {
+            return bound;
+        }
+    }
+    doc
+}
+
+// Whether the other terms stand in their current documents at their distances from a place.
+fn stand_from<P: Postings>(others: &mut Vec<PhrasePart<P>>, start: u32) -> bool
+    requires { AllByRecursion (λ part. IsCurrent part.rest) others.old.items }
+    ensures stand { result ≡ stand_here others.old.items start }
+    ensures same { others.new.items ≡ others.old.items }
+{
+    for i in 0..others.len() {
+        if !others[i].stands_from(start) {
+            return false;
+        }
+    }
+    true
+}
+
+// Whether they do from one of some places.
+fn stand_from_one<P: Postings>(others: &mut Vec<PhrasePart<P>>, starts: &[u32]) -> bool
+    requires { AllByRecursion (λ part. IsCurrent part.rest) others.old.items }
+    ensures stand { result ≡ list_any (stand_here others.old.items) starts.now }
+    ensures same { others.new.items ≡ others.old.items }
+{
+    for start in starts {
+        if stand_from(others, *start) {
+            return true;
+        }
+    }
+    false
+}
+
+// Whether they do from a position of the first term, in whose current document they all are. Positions are
+// read piece by piece.
+fn is_phrase<P: Postings>(first: &mut P, others: &mut Vec<PhrasePart<P>>) -> bool
+    requires first { IsCurrent (P.rest first.old) }
+    requires others { AllByRecursion (λ part. IsCurrent part.rest) others.old.items }
+    ensures phrase { result ≡ list_any (stand_here others.old.items) (positions_at (P.rest first.old)) }
+    ensures rest { P.rest first.new ≡ P.rest first.old }
+    ensures same { others.new.items ≡ others.old.items }
+{
+    let mut starts = [0; POSITIONS_READ];
+    let mut from = 0;
+    let mut count = first.read_positions(0, 0, &mut starts);
+    while count > 0 {
+        if stand_from_one(others, &starts[..count]) {
+            return true;
+        }
+        let before = starts[count - 1];
+        from += count;
+        count = first.read_positions(from, before, &mut starts);
+    }
+    false
+}
+
+// The current document of the first term where it has the phrase, else a greater one, below which none has.
+fn candidate<P: Postings>(first: &mut P, others: &mut Vec<PhrasePart<P>>, doc: DocId) -> DocId
+    requires low { doc < TERMINATED }
+    requires here { doc ≡ doc_at (P.rest first.old) }
+    ensures first { P.rest first.new ≡ P.rest first.old }
+    ensures same { phrase_docs (P.rest first.old) others.new.items ≡ phrase_docs (P.rest first.old) others.old.items }
+    ensures low { doc ≤ result }
+    ensures least { result ≤ doc_at (phrase_docs (P.rest first.old) others.new.items) }
+    ensures here { result ≡ doc → doc_at (phrase_docs (P.rest first.old) others.new.items) ≡ doc }
+{
+    // that documents ascend, for the proof
+    let _doc = first.doc();
+    let bound = meet_others(others, doc);
+    if bound != doc {
+        return bound;
+    }
+    if is_phrase(first, others) {
+        doc
+    } else {
+        doc + 1
+    }
+}
+
+// Goes on to the next document that has the phrase, which may be the current one.
+fn go_to_phrase<P: Postings>(first: &mut P, others: &mut Vec<PhrasePart<P>>) -> DocId
+    ensures doc { result ≡ doc_at (P.rest first.new) }
+    ensures at { IsAtFirst (P.rest first.new) (phrase_docs (P.rest first.new) others.new.items) }
+    ensures rest { phrase_docs (P.rest first.new) others.new.items ≡ phrase_docs (P.rest first.old) others.old.items }
+{
+    let mut doc = first.doc();
+    while doc < TERMINATED {
+        let bound = candidate(first, others, doc);
+        if bound == doc {
+            return doc;
+        }
+        doc = first.seek(bound);
+    }
+    doc
+}
+
+/// A cursor over the documents that have a phrase, in ascending order: those of its first term that have a
+/// position from which each other term stands at its distance. The first one leads: so let it be the one in
+/// the fewest documents. Positions are read piece by piece; memory is never taken.
+#[derive(Drop)]
+pub struct PhraseMatch<P: Postings> {
+    first: P,
+    others: Vec<PhrasePart<P>>,
+}
+
+impl<P: Postings> Model for PhraseMatch<P> {
+    ghost use Rattle.ii_query.specs.Combined.{IsAtFirst};
+    ghost use Rattle.ii_query.specs.Phrase.{PhraseMatchState, phrase_docs};
+
+    ghost Value = { PhraseMatchState };
+
+    ghost view = { λ s. record { first = P.rest s.first; others = s.others.items } };
+
+    ghost invariant = { λ s. IsAtFirst (P.rest s.first) (phrase_docs (P.rest s.first) s.others.items) };
+}
+
+impl<P: Postings> PhraseMatch<P> {
+    /// The documents that have a phrase, by the lists of its terms.
+    pub fn new(first: P, others: Vec<PhrasePart<P>>) -> PhraseMatch<P>
+        ensures rest { phrase_docs result.first result.others ≡ phrase_docs (P.rest first) others.items }
+    {
+        let mut first = first;
+        let mut others = others;
+        go_to_phrase(&mut first, &mut others);
+        PhraseMatch { first, others }
+    }
+}
+
+impl<P: Postings> DocSet for PhraseMatch<P> {
+    ghost use Rattle.ii_query.specs.Phrase.{phrase_docs};
+
+    ghost rest = { λ s. phrase_docs s.first s.others };
+
+    ghost went_nowhere = { λ s. tt };
+
+    ghost went_on = { λ a b c first second. tt };
+
+    fn advance(&mut self) -> DocId {
+        self.first.advance();
+        go_to_phrase(&mut self.first, &mut self.others)
+    }
+
+    fn doc(&self) -> DocId {
+        self.first.doc()
+    }
+
+    fn size_hint(&self) -> u32 {
+        self.first.size_hint()
+    }
+
+    fn seek(&mut self, target: DocId) -> DocId {
+        self.first.seek(target);
+        go_to_phrase(&mut self.first, &mut self.others)
+    }
+}
