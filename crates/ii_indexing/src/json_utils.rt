@@ -15,9 +15,8 @@ ghost use Rattle.ii_indexing.specs.Refusals.{next_leaf_fault};
 use crate::indexed_fields::IndexedFields;
 use ii_base::json_value::is_within;
 use ii_base::{
-    Fault, Field, JsonLeaf, JsonPathWriter, JsonValue, LeafKind, MAX_DEPTH, TextAnalyzer,
+    DocId, Fault, Field, JsonLeaf, JsonPathWriter, JsonValue, LeafKind, MAX_DEPTH, TextAnalyzer,
 };
-use ii_base::DocId;
 use ii_json::{LeafSink, visit_leaves};
 use std::alloc::Global;
 

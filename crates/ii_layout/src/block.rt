@@ -2,8 +2,8 @@ ghost use Rattle.std.specs.Prelude.{◌≡◌, ◌^◌, ◌<◌, ◌≤◌, ◌=
 ghost use Rattle.std.specs.List.{sum};
 ghost use Rattle.ii_layout.specs.PostingsSerializer.{no_docs, one_doc, joined};
 
-use ii_codes::COMPRESSION_BLOCK_SIZE;
 use ii_base::DocId;
+use ii_codes::COMPRESSION_BLOCK_SIZE;
 use std::marker::Model;
 
 /// At most 128 documents with their counts.
