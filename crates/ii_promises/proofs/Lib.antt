@@ -1,4 +1,5 @@
-pub mod BoundLaws
 mod IndexingLaws
+pub mod BoundLaws
+pub mod DecodesLaws
 pub mod SearchingLaws
 pub mod TextLaws

@@ -14,16 +14,16 @@ use Rattle.ii_search.specs.Queries.{has_fields, matches}
 use Rattle.nequllpa.specs.Ram.{IsRamFault}
 
 -- the documents that match
-pub matches_are_found : (query : Query) (ts : List IndexToken) (answer : Result QueryCursorState Fault) → GivesMatches query ts answer → IfOk answer (λ cursor. (doc : ℕ) → has_doc cursor.rest doc ≡ matches query ts doc)
+pub matches_are_found : {T : Type 0} (query : Query) (ts : List IndexToken) (answer : Result (QueryCursorState T) Fault) → GivesMatches query ts answer → IfOk answer (λ cursor. (doc : ℕ) → has_doc cursor.rest doc ≡ matches query ts doc)
 matches_are_found query ts (Ok cursor) gives = gives.exact
 matches_are_found query ts (Err fault) gives = tt
 
 -- and nothing but memory is refused
-pub memory_of_search : (query : Query) (ts : List IndexToken) (answer : Result QueryCursorState Fault) → GivesMatches query ts answer → IfErr answer (λ fault. fault ≡ OutOfMemory)
+pub memory_of_search : {T : Type 0} (query : Query) (ts : List IndexToken) (answer : Result (QueryCursorState T) Fault) → GivesMatches query ts answer → IfErr answer (λ fault. fault ≡ OutOfMemory)
 memory_of_search query ts (Ok cursor) gives = tt
 memory_of_search query ts (Err fault) gives = gives
 
-pub refused_search : (query : Query) (entries : List SchemaEntry) (n : ℕ) (ts : List IndexToken) (answer : Result QueryCursorState Fault) → GivesMatches query ts answer
+pub refused_search : {T : Type 0} (query : Query) (entries : List SchemaEntry) (n : ℕ) (ts : List IndexToken) (answer : Result (QueryCursorState T) Fault) → GivesMatches query ts answer
     → IfErr answer (λ e. (e ≡ OutOfMemory) ⊎ IsRamFault entries n ts e)
 refused_search query entries n ts (Ok cursor) gives = tt
 refused_search query entries n ts (Err fault) gives = inl gives
@@ -33,6 +33,6 @@ pub same_fields : (m n : ℕ) (query : Query) → m ≡ n → has_fields n query
 same_fields m n query same fields = ap (λ (k : ℕ). has_fields k query) same ∙ fields
 
 -- what is sound ascends
-pub found_ascend : (answer : Result QueryCursorState Fault) → IfOk answer (λ cursor. IsSound cursor.rest) → IfOk answer (λ cursor. IsAscending cursor.rest)
+pub found_ascend : {T : Type 0} (answer : Result (QueryCursorState T) Fault) → IfOk answer (λ cursor. IsSound cursor.rest) → IfOk answer (λ cursor. IsAscending cursor.rest)
 found_ascend (Ok cursor) sound = sound.ascending
 found_ascend (Err fault) sound = tt

@@ -11,12 +11,12 @@ use Rattle.ii_search.specs.declared.query_parser_error.QueryParserError.{QueryPa
 use Rattle.ii_search.specs.declared.query_parser_error.QueryParserError.TheVariants as errors
 use Rattle.ii_promises.specs.Texts.{GivesOrTells}
 
-pub text_found : (q : QueryFields) (text : List ℕ) (query : Query) (ts : List IndexToken) (r : Result QueryCursorState QueryParserError) → MeansText q text query → GivesOrTells query ts r
+pub text_found : {T : Type 0} (q : QueryFields) (text : List ℕ) (query : Query) (ts : List IndexToken) (r : Result (QueryCursorState T) QueryParserError) → MeansText q text query → GivesOrTells query ts r
     → IfOk r (λ cursor. (doc : ℕ) → has_doc cursor.rest doc ≡ text_matches q text ts doc)
 text_found q text query ts (Ok cursor) means found = λ doc. found.exact doc ∙ means.exact ts doc
 text_found q text query ts (Err e) means found = tt
 
-pub text_refused : (q : QueryFields) (text : List ℕ) (query : Query) (ts : List IndexToken) (r : Result QueryCursorState QueryParserError) → GivesOrTells query ts r
+pub text_refused : {T : Type 0} (q : QueryFields) (text : List ℕ) (query : Query) (ts : List IndexToken) (r : Result (QueryCursorState T) QueryParserError) → GivesOrTells query ts r
     → IfErr r (λ e. (e ≡ errors.Fault OutOfMemory) ⊎ (text_refusal q text ≡ Some e))
 text_refused q text query ts (Ok cursor) found = tt
 text_refused q text query ts (Err e) memory = inl memory

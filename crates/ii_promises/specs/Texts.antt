@@ -9,6 +9,6 @@ use Rattle.ii_search.specs.declared.query_parser_error.QueryParserError.TheVaria
 use Rattle.ii_search.specs.Found.{AreMatches}
 
 -- A cursor has exactly the documents that match; it is refused for memory alone.
-abbrev pub GivesOrTells : Query → List IndexToken → Result QueryCursorState QueryParserError → Type 0
+abbrev pub GivesOrTells : {T : Type 0} → Query → List IndexToken → Result (QueryCursorState T) QueryParserError → Type 0
 GivesOrTells query ts (Ok cursor) = AreMatches query ts cursor.rest
 GivesOrTells query ts (Err e) = e ≡ errors.Fault OutOfMemory

@@ -1,6 +1,7 @@
 // What queries find.
 ghost use Rattle.std.specs.Prelude.{◌≡◌, ◌≤◌, ◌⊎◌, ℕ, [], List, true, length, map, None, IfErr, IfOk};
-ghost use Rattle.ii_docset.specs.Cursor.{IsAscending};
+ghost use Rattle.std.specs.List.{AllByRecursion};
+ghost use Rattle.ii_docset.specs.Cursor.{IsAscending, IsTarget};
 ghost use Rattle.ii_docset.specs.Intersection.{has_doc};
 ghost use Rattle.ii_definitions.specs.Fields.{option_of};
 ghost use Rattle.ii_definitions.specs.Files.{HoldTokens};
@@ -10,11 +11,12 @@ ghost use Rattle.ii_indexing.specs.IndexCalls.{MayAllBeIndexed, call_of};
 ghost use Rattle.ii_indexing.specs.Refusals.{calls_fault};
 ghost use Rattle.ii_search.specs.Queries.{has_fields, keeps_positions, matches};
 ghost use Rattle.nequllpa.specs.Ram.{IsRamFault};
+ghost use Rattle.ii_promises.specs.Decodes.{HaveDecodedFew};
 
 use bytes::Bytes;
 use nequllpa::{
-    DocId, Fault, IndexCall, Query, QueryCursor, Schema, SegmentPostings, TermOrPhrase,
-    TextAnalyzer, index_in_ram, open_index, search,
+    DocId, DocSet, Fault, IndexCall, OpenIndex, Query, QueryCursor, Schema, SegmentPostings,
+    TermOrPhrase, TextAnalyzer, index_in_ram, open_index, search,
 };
 use std::alloc::Global;
 
@@ -68,4 +70,41 @@ pub fn queries_of_files_find_what_matches(
         Ok(index) => search(alloc, &index, query),
         Err(fault) => Err(fault),
     }
+}
+
+/// A search decodes no block of a term's list twice, of documents or of counts.
+#[tactic(auto, using(crate::proofs::DecodesLaws::few_are_told))]
+pub fn searches_decode_no_block_twice(
+    alloc: Global,
+    index: &OpenIndex,
+    query: &Query,
+) -> Result<QueryCursor<TermOrPhrase<SegmentPostings>>, Fault>
+    requires fields { has_fields (length index.now.readers) query.now ≡ true }
+    ensures few { IfOk result (λ cursor. AllByRecursion HaveDecodedFew cursor.cursors) }
+{
+    search(alloc, index, query)
+}
+
+/// Nor does going on to the next document that was found.
+#[tactic(auto, using(crate::proofs::DecodesLaws::few_go_on))]
+pub fn next_matches_decode_no_block_twice(
+    cursor: &mut QueryCursor<TermOrPhrase<SegmentPostings>>,
+) -> DocId
+    requires few { AllByRecursion HaveDecodedFew cursor.old.cursors }
+    ensures few { AllByRecursion HaveDecodedFew cursor.new.cursors }
+{
+    cursor.advance()
+}
+
+/// Nor does a seek among them.
+#[tactic(auto, using(crate::proofs::DecodesLaws::few_go_on))]
+pub fn sought_matches_decode_no_block_twice(
+    cursor: &mut QueryCursor<TermOrPhrase<SegmentPostings>>,
+    target: DocId,
+) -> DocId
+    requires target { IsTarget target cursor.old.rest }
+    requires few { AllByRecursion HaveDecodedFew cursor.old.cursors }
+    ensures few { AllByRecursion HaveDecodedFew cursor.new.cursors }
+{
+    cursor.seek(target)
 }

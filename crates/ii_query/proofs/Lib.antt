@@ -1,7 +1,9 @@
 pub mod AllLemmas
+pub mod CommonLemmas
 pub mod MatchLaws
 pub mod NestedLemmas
 pub mod PhraseLemmas
 pub mod PhraseSteps
 pub mod PickedLemmas
 pub mod UnionLemmas
+pub mod WorkLemmas

@@ -1,15 +1,15 @@
 -- How the terms of a phrase are looked at, one after the other, and their positions piece by piece.
 use Rattle.std.proofs.Common.{◌≡◌, ◌≢◌, ◌∙◌, ℕ, zero, suc, ◌+◌, ◌-◌, ◌<◌, ◌≤◌, ◌^◌, Bool, true, false, ◌&&◌, ◌||◌, List, [], ◌∷◌, ◌++◌, add-one, drop, get_or, length, set, take, inl, inr, refl, sym, ap, subst, arith, length-drop, length-take}
 use Rattle.std.proofs.Math.Seq.{drop-cons}
-use Rattle.std.specs.Prelude.{min, nat_eq}
-use Rattle.std.specs.List.{All, AllByRecursion, list_all, list_any}
+use Rattle.std.specs.Prelude.{min}
+use Rattle.std.specs.List.{All, AllByRecursion, list_any}
 use Rattle.std.proofs.lemmas.Bool.{and_right, cases_lt, ne_eqb}
-use Rattle.std.proofs.lemmas.List.{drop-drop, drop_all, get_or-drop, get_or-take, length-set, set-get_or, take-append-drop, take-append-le, take_all}
+use Rattle.std.proofs.lemmas.List.{drop-drop, drop_all, get_or-drop, get_or-take, length-set, take-append-drop, take-append-le, take_all}
 use Rattle.std.proofs.lemmas.List.Elements.{All-head, All-tail}
 use Rattle.std.proofs.lemmas.List.Folds.{list_any-append}
 use Rattle.ii_base.specs.declared.doc_id.TheConstants.{TERMINATED}
 use Rattle.ii_base.specs.Entries.{Entry}
-use Rattle.ii_docset.specs.Cursor.{IsAscending, IsCurrent, IsSound, doc_at, from_doc, position_before, positions_at}
+use Rattle.ii_docset.specs.Cursor.{IsSound, doc_at, from_doc, position_before, positions_at}
 use Rattle.ii_docset.proofs.CursorLemmas.{doc_below}
 use Rattle.ii_query.specs.Phrase.{IsAtDoc, MeetsAt, PhrasePartState, has_position, is_among, stand_from, stand_here}
 use Rattle.ii_query.proofs.PhraseLemmas.{has_below, has_from, up_from}
@@ -93,6 +93,15 @@ part_at P (q ∷ qs) (suc i) p all inside is = part_at P qs i p all.1 (omega (ar
 pub standing_next : (parts : List PhrasePartState) (i start : ℕ) (p : PhrasePartState) → i < length parts → p ≡ get_or parts i p
     → stand_here (drop i parts) start ≡ (is_among (positions_at p.rest) (start + p.distance) && stand_here (drop (i + 1) parts) start)
 standing_next parts i start p inside is = ap (λ (ps : List PhrasePartState). stand_here ps start) (drop-cons parts i p inside) ∙ rw (← is, add-one i) refl
+
+any_behind : (f : ℕ → Bool) (xs : List ℕ) (i : ℕ) → i < length xs → f (get_or xs i 0) ≡ false → list_any f (drop (suc i) xs) ≡ list_any f (drop i xs)
+any_behind f [] i inside fails = absurd (omega (arith, inside))
+any_behind f (x ∷ xs) zero inside fails = rw (fails) refl
+any_behind f (x ∷ xs) (suc i) inside fails = any_behind f xs i (omega (arith, inside)) fails
+
+-- a place that fails is passed over
+pub any_next : (f : ℕ → Bool) (xs : List ℕ) (i : ℕ) → i < length xs → f (get_or xs i 0) ≡ false → list_any f (drop (i + 1) xs) ≡ list_any f (drop i xs)
+any_next f xs i inside fails = ap (λ (n : ℕ). list_any f (drop n xs)) (add-one i) ∙ any_behind f xs i inside fails
 
 -- So many positions of a document, from a place on, were read to the front of a buffer.
 pub record IsReading (positions : List ℕ) (from count : ℕ) (buffer : List ℕ) : Type 0 where

@@ -10,10 +10,11 @@ pub record Parts (A B : Type 0) : Type 0 where
   pub first : A
   pub other : B
 
--- what is left of the documents of a cursor, and how deep it is nested
-pub record QueryCursorState : Type 0 where
+-- what is left of the documents of a cursor, how deep it is nested, and the cursors that it goes over
+pub record QueryCursorState (T : Type 0) : Type 0 where
   pub rest : List Entry
   pub depth : ℕ
+  pub cursors : List T
 
 -- so many documents, from one on
 abbrev pub all_from : ℕ → ℕ → List Entry

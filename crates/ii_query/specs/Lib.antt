@@ -3,3 +3,5 @@ pub mod Phrase
 pub mod QueryCursor
 pub mod QueryCursorLemmas
 pub mod TermOrPhrase
+pub mod TermOrPhraseLaws
+pub mod WorkLaws

@@ -10,10 +10,30 @@ pub record PhrasePartState : Type 0 where
   pub distance : ℕ
   pub rest : List Entry
 
--- what is left of the lists of a phrase: that of its first term, and those of the others
-pub record PhraseMatchState : Type 0 where
+-- a term of a phrase, and the cursor over its list
+pub record PhraseTermState (P : Type 0) : Type 0 where
+  pub part : PhrasePartState
+  pub cursor : P
+
+-- what is left of the lists of a phrase: that of its first term, and those of the others; and the cursors over them
+pub record PhraseMatchState (P : Type 0) : Type 0 where
   pub first : List Entry
   pub others : List PhrasePartState
+  pub cursors : List P
+
+-- the terms alone
+abbrev pub parts_in : {P : Type 0} → List (PhraseTermState P) → List PhrasePartState
+parts_in terms = map (λ (t : PhraseTermState _). t.part) terms
+
+-- their cursors
+abbrev pub cursors_in : {P : Type 0} → List (PhraseTermState P) → List P
+cursors_in terms = map (λ (t : PhraseTermState _). t.cursor) terms
+
+-- What a cursor did from one state to another has a bound, for so many times that positions were asked for, of so many in all.
+pub record Spent {P : Type 0} (spent : ℕ → ℕ → P → P → Type 0) (old new : P) : Type 0 where
+  pub asked : ℕ
+  pub count : ℕ
+  pub by : spent asked count old new
 
 -- whether a number is one of some positions
 abbrev pub is_among : List ℕ → ℕ → Bool

@@ -1,5 +1,5 @@
 -- The documents of a cursor that is nested.
-use Rattle.std.specs.Prelude.{ℕ, ◌+◌, ◌-◌, max, List, [], ⊤}
+use Rattle.std.specs.Prelude.{ℕ, ◌+◌, ◌-◌, ◌++◌, max, List, [], ◌∷◌, ⊤}
 use Rattle.ii_base.specs.Entries.{Entry}
 use Rattle.ii_query.specs.Combined.{IsAtFirst, all_from, common, either, without}
 use Rattle.ii_query.specs.declared.query_cursor.QueryParts.{QueryParts}
@@ -22,6 +22,15 @@ depth_of (All docs) = 0
 depth_of (Both first other) = max first.value.depth other.value.depth + 1
 depth_of (Either first other) = max first.value.depth other.value.depth + 1
 depth_of (Without first other) = max first.value.depth other.value.depth + 1
+
+-- the cursors that it goes over
+abbrev pub cursors_of : {T : Type 0} → QueryParts T → List T
+cursors_of Nothing = []
+cursors_of (One cursor) = cursor ∷ []
+cursors_of (All docs) = []
+cursors_of (Both first other) = first.value.cursors ++ other.value.cursors
+cursors_of (Either first other) = first.value.cursors ++ other.value.cursors
+cursors_of (Without first other) = first.value.cursors ++ other.value.cursors
 
 -- The first of two parts stands at a document that belongs to both, or to it alone.
 abbrev pub AreParts : {T : Type 0} → QueryParts T → Type 0

@@ -1,7 +1,8 @@
 -- The documents of a term or of a phrase.
-use Rattle.std.specs.Prelude.{List}
+use Rattle.std.specs.Prelude.{ℕ, List}
+use Rattle.std.specs.List.{AllZip}
 use Rattle.ii_base.specs.Entries.{Entry}
-use Rattle.ii_query.specs.Phrase.{phrase_docs}
+use Rattle.ii_query.specs.Phrase.{Spent, phrase_docs}
 use Rattle.ii_query.specs.declared.term_or_phrase.TermOrPhrase.{TermOrPhrase}
 use Rattle.ii_query.specs.declared.term_or_phrase.TermOrPhrase.TheVariants.{Term, Phrase}
 
@@ -9,3 +10,10 @@ use Rattle.ii_query.specs.declared.term_or_phrase.TermOrPhrase.TheVariants.{Term
 abbrev pub rest_of : {P : Type 0} → (P → List Entry) → TermOrPhrase P → List Entry
 rest_of rest (Term cursor) = rest cursor
 rest_of rest (Phrase cursor) = phrase_docs cursor.first cursor.others
+
+-- what a move of the term's cursor may do, and each of those of a phrase, which asks for positions
+abbrev pub WentOn : {P : Type 0} → (P → P → Type 0) → (ℕ → ℕ → P → P → Type 0) → TermOrPhrase P → TermOrPhrase P → Type 0
+WentOn went spent (Term old) (Term new) = went old new
+WentOn went spent (Phrase old) (Phrase new) = AllZip (Spent spent) old.cursors new.cursors
+WentOn went spent (Term old) (Phrase new) = ⊥
+WentOn went spent (Phrase old) (Term new) = ⊥

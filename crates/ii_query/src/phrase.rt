@@ -1,8 +1,8 @@
-ghost use Rattle.std.specs.Prelude.{◌≡◌, ◌<◌, ◌≤◌, ◌+◌};
-ghost use Rattle.std.specs.List.{AllByRecursion, list_any};
+ghost use Rattle.std.specs.Prelude.{◌≡◌, ◌<◌, ◌≤◌, ◌+◌, ◌∷◌};
+ghost use Rattle.std.specs.List.{AllByRecursion, AllZip, list_any};
 ghost use Rattle.ii_docset.specs.Cursor.{IsCurrent, IsSound, doc_at, from_doc, positions_at};
 ghost use Rattle.ii_query.specs.Combined.{IsAtFirst};
-ghost use Rattle.ii_query.specs.Phrase.{IsAtDoc, MeetsAt, PhrasePartState, is_among, phrase_docs, stand_from, stand_here};
+ghost use Rattle.ii_query.specs.Phrase.{IsAtDoc, MeetsAt, PhrasePartState, Spent, cursors_in, is_among, parts_in, phrase_docs, stand_from, stand_here};
 
 use crate::query_cursor::go_on_to;
 use ii_docset::{DocId, DocSet, Postings, TERMINATED};
@@ -20,18 +20,19 @@ pub struct PhrasePart<P: Postings> {
 }
 
 impl<P: Postings> Model for PhrasePart<P> {
-    ghost use Rattle.ii_query.specs.Phrase.{PhrasePartState};
+    ghost use Rattle.ii_query.specs.Phrase.{PhraseTermState};
 
-    ghost Value = { PhrasePartState };
+    ghost Value = { PhraseTermState P };
 
-    ghost view = { λ s. record { distance = s.distance; rest = P.rest s.postings } };
+    ghost view = { λ s. record { part = record { distance = s.distance; rest = P.rest s.postings }; cursor = s.postings } };
 }
 
 impl<P: Postings> PhrasePart<P> {
     /// A term so many positions after the first one.
     pub fn new(distance: u32, postings: P) -> PhrasePart<P>
-        ensures distance { result.distance ≡ distance }
-        ensures rest { result.rest ≡ P.rest postings }
+        ensures distance { result.part.distance ≡ distance }
+        ensures rest { result.part.rest ≡ P.rest postings }
+        ensures cursor { result.cursor ≡ postings }
     {
         PhrasePart { distance, postings }
     }
@@ -39,20 +40,22 @@ impl<P: Postings> PhrasePart<P> {
     // Drops the documents below a target, which may lie below the current one.
     fn go_to(&mut self, target: DocId) -> DocId
         requires { target ≤ TERMINATED }
-        ensures doc { result ≡ doc_at self.new.rest }
-        ensures rest { self.new.rest ≡ from_doc target self.old.rest }
-        ensures sound { IsSound self.new.rest }
+        ensures doc { result ≡ doc_at self.new.part.rest }
+        ensures rest { self.new.part.rest ≡ from_doc target self.old.part.rest }
+        ensures sound { IsSound self.new.part.rest }
         ensures up_to { result ≤ TERMINATED }
-        ensures distance { self.new.distance ≡ self.old.distance }
+        ensures distance { self.new.part.distance ≡ self.old.part.distance }
+        ensures work { P.went self.old.cursor self.new.cursor }
     {
         go_on_to(&mut self.postings, target)
     }
 
     // Whether the term stands in the current document at its distance from a place.
     fn stands_from(&mut self, start: u32) -> bool
-        requires { IsCurrent self.old.rest }
-        ensures stands { result ≡ is_among (positions_at self.old.rest) (start + self.old.distance) }
-        ensures same { self.new ≡ self.old }
+        requires { IsCurrent self.old.part.rest }
+        ensures stands { result ≡ is_among (positions_at self.old.part.rest) (start + self.old.part.distance) }
+        ensures same { self.new.part ≡ self.old.part }
+        ensures work { Spent P.spent self.old.cursor self.new.cursor }
     {
         // that positions have 32 bits, for the proof
         let _doc = self.postings.doc();
@@ -68,6 +71,7 @@ fn has_position<P: Postings>(cursor: &mut P, position: u32) -> bool
     requires { IsCurrent (P.rest cursor.old) }
     ensures has { result ≡ is_among (positions_at (P.rest cursor.old)) position }
     ensures rest { P.rest cursor.new ≡ P.rest cursor.old }
+    ensures work { Spent P.spent cursor.old cursor.new }
 {
     let mut positions = [0; POSITIONS_READ];
     let mut from = 0;
@@ -87,7 +91,8 @@ fn has_position<P: Postings>(cursor: &mut P, position: u32) -> bool
 // below which there is no phrase.
 fn meet_others<P: Postings>(others: &mut Vec<PhrasePart<P>>, doc: DocId) -> DocId
     requires { doc < TERMINATED }
-    ensures { MeetsAt doc others.old.items others.new.items result }
+    ensures meets { MeetsAt doc (parts_in others.old.items) (parts_in others.new.items) result }
+    ensures work { AllZip (Spent P.spent) (cursors_in others.old.items) (cursors_in others.new.items) }
 {
     for i in 0..others.len() {
         let bound = others[i].go_to(doc);
@@ -100,9 +105,10 @@ fn meet_others<P: Postings>(others: &mut Vec<PhrasePart<P>>, doc: DocId) -> DocI
 
 // Whether the other terms stand in their current documents at their distances from a place.
 fn stand_from<P: Postings>(others: &mut Vec<PhrasePart<P>>, start: u32) -> bool
-    requires { AllByRecursion (λ part. IsCurrent part.rest) others.old.items }
-    ensures stand { result ≡ stand_here others.old.items start }
-    ensures same { others.new.items ≡ others.old.items }
+    requires { AllByRecursion (λ part. IsCurrent part.rest) (parts_in others.old.items) }
+    ensures stand { result ≡ stand_here (parts_in others.old.items) start }
+    ensures same { parts_in others.new.items ≡ parts_in others.old.items }
+    ensures work { AllZip (Spent P.spent) (cursors_in others.old.items) (cursors_in others.new.items) }
 {
     for i in 0..others.len() {
         if !others[i].stands_from(start) {
@@ -114,9 +120,10 @@ fn stand_from<P: Postings>(others: &mut Vec<PhrasePart<P>>, start: u32) -> bool
 
 // Whether they do from one of some places.
 fn stand_from_one<P: Postings>(others: &mut Vec<PhrasePart<P>>, starts: &[u32]) -> bool
-    requires { AllByRecursion (λ part. IsCurrent part.rest) others.old.items }
-    ensures stand { result ≡ list_any (stand_here others.old.items) starts.now }
-    ensures same { others.new.items ≡ others.old.items }
+    requires { AllByRecursion (λ part. IsCurrent part.rest) (parts_in others.old.items) }
+    ensures stand { result ≡ list_any (stand_here (parts_in others.old.items)) starts.now }
+    ensures same { parts_in others.new.items ≡ parts_in others.old.items }
+    ensures work { AllZip (Spent P.spent) (cursors_in others.old.items) (cursors_in others.new.items) }
 {
     for start in starts {
         if stand_from(others, *start) {
@@ -130,10 +137,12 @@ fn stand_from_one<P: Postings>(others: &mut Vec<PhrasePart<P>>, starts: &[u32]) 
 // read piece by piece.
 fn is_phrase<P: Postings>(first: &mut P, others: &mut Vec<PhrasePart<P>>) -> bool
     requires first { IsCurrent (P.rest first.old) }
-    requires others { AllByRecursion (λ part. IsCurrent part.rest) others.old.items }
-    ensures phrase { result ≡ list_any (stand_here others.old.items) (positions_at (P.rest first.old)) }
+    requires others { AllByRecursion (λ part. IsCurrent part.rest) (parts_in others.old.items) }
+    ensures phrase { result ≡ list_any (stand_here (parts_in others.old.items)) (positions_at (P.rest first.old)) }
     ensures rest { P.rest first.new ≡ P.rest first.old }
-    ensures same { others.new.items ≡ others.old.items }
+    ensures same { parts_in others.new.items ≡ parts_in others.old.items }
+    ensures first_work { Spent P.spent first.old first.new }
+    ensures other_work { AllZip (Spent P.spent) (cursors_in others.old.items) (cursors_in others.new.items) }
 {
     let mut starts = [0; POSITIONS_READ];
     let mut from = 0;
@@ -154,10 +163,12 @@ fn candidate<P: Postings>(first: &mut P, others: &mut Vec<PhrasePart<P>>, doc: D
     requires low { doc < TERMINATED }
     requires here { doc ≡ doc_at (P.rest first.old) }
     ensures first { P.rest first.new ≡ P.rest first.old }
-    ensures same { phrase_docs (P.rest first.old) others.new.items ≡ phrase_docs (P.rest first.old) others.old.items }
+    ensures same { phrase_docs (P.rest first.old) (parts_in others.new.items) ≡ phrase_docs (P.rest first.old) (parts_in others.old.items) }
     ensures low { doc ≤ result }
-    ensures least { result ≤ doc_at (phrase_docs (P.rest first.old) others.new.items) }
-    ensures here { result ≡ doc → doc_at (phrase_docs (P.rest first.old) others.new.items) ≡ doc }
+    ensures least { result ≤ doc_at (phrase_docs (P.rest first.old) (parts_in others.new.items)) }
+    ensures here { result ≡ doc → doc_at (phrase_docs (P.rest first.old) (parts_in others.new.items)) ≡ doc }
+    ensures first_work { Spent P.spent first.old first.new }
+    ensures other_work { AllZip (Spent P.spent) (cursors_in others.old.items) (cursors_in others.new.items) }
 {
     // that documents ascend, for the proof
     let _doc = first.doc();
@@ -175,8 +186,10 @@ fn candidate<P: Postings>(first: &mut P, others: &mut Vec<PhrasePart<P>>, doc: D
 // Goes on to the next document that has the phrase, which may be the current one.
 fn go_to_phrase<P: Postings>(first: &mut P, others: &mut Vec<PhrasePart<P>>) -> DocId
     ensures doc { result ≡ doc_at (P.rest first.new) }
-    ensures at { IsAtFirst (P.rest first.new) (phrase_docs (P.rest first.new) others.new.items) }
-    ensures rest { phrase_docs (P.rest first.new) others.new.items ≡ phrase_docs (P.rest first.old) others.old.items }
+    ensures at { IsAtFirst (P.rest first.new) (phrase_docs (P.rest first.new) (parts_in others.new.items)) }
+    ensures rest { phrase_docs (P.rest first.new) (parts_in others.new.items) ≡ phrase_docs (P.rest first.old) (parts_in others.old.items) }
+    ensures first_work { Spent P.spent first.old first.new }
+    ensures other_work { AllZip (Spent P.spent) (cursors_in others.old.items) (cursors_in others.new.items) }
 {
     let mut doc = first.doc();
     while doc < TERMINATED {
@@ -199,20 +212,22 @@ pub struct PhraseMatch<P: Postings> {
 }
 
 impl<P: Postings> Model for PhraseMatch<P> {
+    ghost use Rattle.std.specs.Prelude.{◌∷◌};
     ghost use Rattle.ii_query.specs.Combined.{IsAtFirst};
-    ghost use Rattle.ii_query.specs.Phrase.{PhraseMatchState, phrase_docs};
+    ghost use Rattle.ii_query.specs.Phrase.{PhraseMatchState, cursors_in, parts_in, phrase_docs};
 
-    ghost Value = { PhraseMatchState };
+    ghost Value = { PhraseMatchState P };
 
-    ghost view = { λ s. record { first = P.rest s.first; others = s.others.items } };
+    ghost view = { λ s. record { first = P.rest s.first; others = parts_in s.others.items; cursors = s.first ∷ cursors_in s.others.items } };
 
-    ghost invariant = { λ s. IsAtFirst (P.rest s.first) (phrase_docs (P.rest s.first) s.others.items) };
+    ghost invariant = { λ s. IsAtFirst (P.rest s.first) (phrase_docs (P.rest s.first) (parts_in s.others.items)) };
 }
 
 impl<P: Postings> PhraseMatch<P> {
     /// The documents that have a phrase, by the lists of its terms.
     pub fn new(first: P, others: Vec<PhrasePart<P>>) -> PhraseMatch<P>
-        ensures rest { phrase_docs result.first result.others ≡ phrase_docs (P.rest first) others.items }
+        ensures rest { phrase_docs result.first result.others ≡ phrase_docs (P.rest first) (parts_in others.items) }
+        ensures work { AllZip (Spent P.spent) (first ∷ cursors_in others.items) result.cursors }
     {
         let mut first = first;
         let mut others = others;
@@ -222,13 +237,18 @@ impl<P: Postings> PhraseMatch<P> {
 }
 
 impl<P: Postings> DocSet for PhraseMatch<P> {
-    ghost use Rattle.ii_query.specs.Phrase.{phrase_docs};
+    ghost use Rattle.std.specs.List.{AllZip};
+    ghost use Rattle.ii_query.specs.Phrase.{Spent, phrase_docs};
+    ghost use Rattle.ii_query.specs.WorkLaws.{all_went_on, none_went, spent_in_turn, spent_nothing};
 
     ghost rest = { λ s. phrase_docs s.first s.others };
 
-    ghost went_nowhere = { λ s. tt };
+    // Its cursors go on, and read positions.
+    ghost went = { λ a b. AllZip (Spent P.spent) a.cursors b.cursors };
 
-    ghost went_on = { λ a b c first second. tt };
+    ghost went_nowhere = { λ s. none_went (Spent P.spent) (λ t. spent_nothing P.spent (P.spent_moving t t (P.went_nowhere t))) s.cursors };
+
+    ghost went_on = { λ a b c first second. all_went_on (Spent P.spent) (spent_in_turn P.spent P.spent_on) a.cursors b.cursors c.cursors first second };
 
     fn advance(&mut self) -> DocId {
         self.first.advance();

@@ -1,4 +1,5 @@
-ghost use Rattle.std.specs.Prelude.{◌≡◌, ◌≤◌, [], IfOk, min};
+ghost use Rattle.std.specs.Prelude.{◌≡◌, ◌≤◌, ◌++◌, ◌⊎◌, [], ◌∷◌, IfOk, min};
+ghost use Rattle.std.specs.List.{AllZip};
 ghost use Rattle.ii_io.specs.Faults.{OnlyMemory};
 ghost use Rattle.ii_docset.specs.Cursor.{doc_at, from_doc, IsSound};
 ghost use Rattle.ii_query.specs.Combined.{IsAtFirst, all_from, common, either, without};
@@ -32,11 +33,11 @@ enum QueryParts<T: DocSet> {
 impl<T: DocSet> Model for QueryCursor<T> {
     ghost use Rattle.ii_query.specs.Combined.{QueryCursorState};
 
-    ghost Value = { QueryCursorState };
+    ghost Value = { QueryCursorState T };
 
-    ghost use Rattle.ii_query.specs.QueryCursor.{AreParts, depth_of, rest_of};
+    ghost use Rattle.ii_query.specs.QueryCursor.{AreParts, cursors_of, depth_of, rest_of};
 
-    ghost view = { λ c. record { rest = rest_of T.rest c.parts; depth = depth_of c.parts } };
+    ghost view = { λ c. record { rest = rest_of T.rest c.parts; depth = depth_of c.parts; cursors = cursors_of c.parts } };
 
     ghost invariant = { λ c. AreParts c.parts };
 
@@ -52,6 +53,7 @@ impl<T: DocSet> QueryCursor<T> {
     /// A cursor over no documents.
     pub fn nothing() -> QueryCursor<T>
         ensures rest { result.rest ≡ [] }
+        ensures cursors { result.cursors ≡ [] }
     {
         QueryCursor {
             parts: QueryParts::Nothing,
@@ -61,6 +63,7 @@ impl<T: DocSet> QueryCursor<T> {
     /// The documents of one cursor.
     pub fn one(cursor: T) -> QueryCursor<T>
         ensures rest { result.rest ≡ T.rest cursor }
+        ensures cursors { result.cursors ≡ cursor ∷ [] }
     {
         QueryCursor {
             parts: QueryParts::One(cursor),
@@ -70,28 +73,33 @@ impl<T: DocSet> QueryCursor<T> {
     /// All documents below a number. No document is above those below `TERMINATED`.
     pub fn all(num_docs: DocId) -> QueryCursor<T>
         ensures rest { result.rest ≡ all_from 0 (min num_docs TERMINATED) }
+        ensures cursors { result.cursors ≡ [] }
     {
         QueryCursor {
             parts: QueryParts::All(AllDocs::new(num_docs)),
         }
     }
 
-    /// The documents that both have. The first one leads: so let it be the one over fewer documents.
+    /// The documents that both have. The one leads that goes over fewer documents, by its hint.
     /// `OutOfMemory` where there is no room for two boxes.
+    #[tactic(auto, using(crate::proofs::CommonLemmas::common_swaps))]
     pub fn both(
         alloc: Global,
         first: QueryCursor<T>,
         other: QueryCursor<T>,
     ) -> Result<QueryCursor<T>, Fault>
         ensures rest { IfOk result (λ cursor. cursor.rest ≡ common first.rest other.rest) }
+        ensures work { IfOk result (λ cursor. AllZip T.went (first.cursors ++ other.cursors) cursor.cursors ⊎ AllZip T.went (other.cursors ++ first.cursors) cursor.cursors) }
         ensures only { OnlyMemory result }
     {
-        let mut first = Box::new(alloc, first)?;
-        let mut other = Box::new(alloc, other)?;
-        meet(&mut first, &mut other);
-        Ok(QueryCursor {
-            parts: QueryParts::Both(first, other),
-        })
+        // that documents ascend, for the proof
+        let _first = first.current();
+        let _other = other.current();
+        if other.bound() < first.bound() {
+            lead(alloc, other, first)
+        } else {
+            lead(alloc, first, other)
+        }
     }
 
     /// The documents that either has, each once. `OutOfMemory` where there is no room for two boxes.
@@ -101,6 +109,7 @@ impl<T: DocSet> QueryCursor<T> {
         other: QueryCursor<T>,
     ) -> Result<QueryCursor<T>, Fault>
         ensures rest { IfOk result (λ cursor. cursor.rest ≡ either first.rest other.rest) }
+        ensures cursors { IfOk result (λ cursor. cursor.cursors ≡ first.cursors ++ other.cursors) }
         ensures only { OnlyMemory result }
     {
         let first = Box::new(alloc, first)?;
@@ -118,6 +127,7 @@ impl<T: DocSet> QueryCursor<T> {
         other: QueryCursor<T>,
     ) -> Result<QueryCursor<T>, Fault>
         ensures rest { IfOk result (λ cursor. cursor.rest ≡ without first.rest other.rest) }
+        ensures work { IfOk result (λ cursor. AllZip T.went (first.cursors ++ other.cursors) cursor.cursors) }
         ensures only { OnlyMemory result }
     {
         let mut first = Box::new(alloc, first)?;
@@ -166,6 +176,7 @@ impl<T: DocSet> QueryCursor<T> {
         ensures sound { IsSound self.new.rest }
         ensures up_to { result ≤ TERMINATED }
         ensures depth { self.new.depth ≡ self.old.depth }
+        ensures work { AllZip T.went self.old.cursors self.new.cursors }
     {
         match &mut self.parts {
             QueryParts::Nothing => {
@@ -194,6 +205,24 @@ impl<T: DocSet> QueryCursor<T> {
     }
 }
 
+// The documents that both have, of which the first one leads.
+fn lead<T: DocSet>(
+    alloc: Global,
+    first: QueryCursor<T>,
+    other: QueryCursor<T>,
+) -> Result<QueryCursor<T>, Fault>
+    ensures rest { IfOk result (λ cursor. cursor.rest ≡ common first.rest other.rest) }
+    ensures work { IfOk result (λ cursor. AllZip T.went (first.cursors ++ other.cursors) cursor.cursors) }
+    ensures only { OnlyMemory result }
+{
+    let mut first = Box::new(alloc, first)?;
+    let mut other = Box::new(alloc, other)?;
+    meet(&mut first, &mut other);
+    Ok(QueryCursor {
+        parts: QueryParts::Both(first, other),
+    })
+}
+
 // Drops the documents of a cursor below a target, which may lie below the current one.
 #[tactic(auto, using(ii_docset::proofs::CursorLemmas::doc_below))]
 pub(crate) fn go_on_to<T: DocSet>(cursor: &mut T, target: DocId) -> DocId
@@ -202,6 +231,7 @@ pub(crate) fn go_on_to<T: DocSet>(cursor: &mut T, target: DocId) -> DocId
     ensures rest { T.rest cursor.new ≡ from_doc target (T.rest cursor.old) }
     ensures sound { IsSound (T.rest cursor.new) }
     ensures up_to { result ≤ TERMINATED }
+    ensures work { T.went cursor.old cursor.new }
 {
     let doc = cursor.doc();
     if doc < target {
@@ -218,6 +248,8 @@ fn meet<T: DocSet>(first: &mut QueryCursor<T>, other: &mut QueryCursor<T>) -> Do
     ensures rest { common first.new.rest other.new.rest ≡ common first.old.rest other.old.rest }
     ensures up_to { result ≤ TERMINATED }
     ensures depth { (first.new.depth ≡ first.old.depth) × (other.new.depth ≡ other.old.depth) }
+    ensures first_work { AllZip T.went first.old.cursors first.new.cursors }
+    ensures other_work { AllZip T.went other.old.cursors other.new.cursors }
 {
     let mut doc = first.current();
     while doc < TERMINATED {
@@ -238,6 +270,8 @@ fn leave_out<T: DocSet>(first: &mut QueryCursor<T>, other: &mut QueryCursor<T>) 
     ensures rest { without first.new.rest other.new.rest ≡ without first.old.rest other.old.rest }
     ensures up_to { result ≤ TERMINATED }
     ensures depth { (first.new.depth ≡ first.old.depth) × (other.new.depth ≡ other.old.depth) }
+    ensures first_work { AllZip T.went first.old.cursors first.new.cursors }
+    ensures other_work { AllZip T.went other.old.cursors other.new.cursors }
 {
     let mut doc = first.current();
     while doc < TERMINATED {
@@ -250,11 +284,17 @@ fn leave_out<T: DocSet>(first: &mut QueryCursor<T>, other: &mut QueryCursor<T>) 
 }
 
 impl<T: DocSet> DocSet for QueryCursor<T> {
+    ghost use Rattle.std.specs.List.{AllZip};
+    ghost use Rattle.ii_query.specs.WorkLaws.{all_went_on, none_went};
+
     ghost rest = { λ s. s.rest };
 
-    ghost went_nowhere = { λ s. tt };
+    // Each of its cursors went on.
+    ghost went = { λ a b. AllZip T.went a.cursors b.cursors };
 
-    ghost went_on = { λ a b c first second. tt };
+    ghost went_nowhere = { λ s. none_went T.went T.went_nowhere s.cursors };
+
+    ghost went_on = { λ a b c first second. all_went_on T.went T.went_on a.cursors b.cursors c.cursors first second };
 
     fn advance(&mut self) -> DocId {
         let doc = self.current();

@@ -1,7 +1,7 @@
 -- The lists of the terms of a phrase, one after the other.
 use Rattle.std.proofs.Common.{◌≡◌, ◌∙◌, ℕ, ◌+◌, ◌<◌, Bool, true, false, ◌&&◌, List, [], ◌∷◌, ◌++◌, append_assoc, append-nil, add-one, drop, get_or, length, nat_lt, Option, None, Some, Result, Ok, Err, inl, inr, refl, sym, ap}
 use Rattle.std.specs.Prelude.{IfErr, IfNone, IfSome}
-use Rattle.std.specs.List.{list_all}
+use Rattle.std.specs.List.{AllByRecursion, list_all}
 use Rattle.std.proofs.Math.Seq.{drop-cons}
 use Rattle.std.proofs.lemmas.Bool.{and_parts, ltb-true}
 use Rattle.ii_io.specs.declared.faults.Fault.{Fault}
@@ -9,12 +9,13 @@ use Rattle.ii_io.specs.declared.faults.Part.{Part}
 use Rattle.ii_base.specs.Entries.{Entry}
 use Rattle.ii_base.specs.declared.schema.index_record_option.IndexRecordOption.{IndexRecordOption}
 use Rattle.ii_base.specs.declared.schema.index_record_option.IndexRecordOption.TheVariants.{WithFreqsAndPositions}
-use Rattle.ii_query.specs.Phrase.{PhrasePartState}
+use Rattle.ii_query.specs.Phrase.{PhrasePartState, PhraseTermState, cursors_in, parts_in}
 use Rattle.ii_termstore.specs.declared.term_info.TermInfo.{TermInfo}
 use Rattle.ii_reader.specs.InvertedIndexReader.{InvertedIndexReaderState, IsRefusal, term_of_file}
 use Rattle.ii_reader.specs.OpenIndex.{OpenIndexState}
 use Rattle.ii_reader.specs.SegmentPostings.{SegmentPostingsState}
 use Rattle.ii_search.specs.declared.query.PhraseTerm.{PhraseTerm}
+use Rattle.ii_search.specs.Decodes.{DecodesFew}
 use Rattle.ii_search.specs.Found.{docs_kept, docs_of_term, parts_of, with_part}
 
 -- a term that is refused
@@ -83,3 +84,12 @@ all_passed test all i o inside is left passed = left ∙ all_from test all i o i
 
 pub one_failed : (test : PhraseTerm → Bool) (all : List PhraseTerm) (i : ℕ) (o : PhraseTerm) → i < length all → o ≡ get_or all i o → list_all test all ≡ list_all test (drop i all) → test o ≡ false → false ≡ list_all test all
 one_failed test all i o inside is left failed = sym (left ∙ all_from test all i o inside is ∙ ap (λ (b : Bool). b && list_all test (drop (i + 1) all)) failed)
+
+-- one cursor more
+pub parts_pushed : {P : Type 0} (terms : List (PhraseTermState P)) (t : PhraseTermState P) → parts_in (terms ++ t ∷ []) ≡ parts_in terms ++ t.part ∷ []
+parts_pushed [] t = refl
+parts_pushed (s ∷ ss) t = ap (λ (ps : List PhrasePartState). s.part ∷ ps) (parts_pushed ss t)
+
+pub lazy_pushed : (terms : List (PhraseTermState SegmentPostingsState)) (t : PhraseTermState SegmentPostingsState) → AllByRecursion DecodesFew (cursors_in terms) → DecodesFew t.cursor → AllByRecursion DecodesFew (cursors_in (terms ++ t ∷ []))
+lazy_pushed [] t all few = (few, tt)
+lazy_pushed (s ∷ ss) t all few = (all.0, lazy_pushed ss t all.1 few)

@@ -74,7 +74,7 @@ pub record AreMatches (query : Query) (ts : List IndexToken) (es : List Entry) :
   pub exact : (doc : ℕ) → has_doc es doc ≡ matches query ts doc
 
 -- A cursor has exactly the documents that match; it is refused for memory alone.
-abbrev pub GivesMatches : Query → List IndexToken → Result QueryCursorState Fault → Type 0
+abbrev pub GivesMatches : {T : Type 0} → Query → List IndexToken → Result (QueryCursorState T) Fault → Type 0
 GivesMatches query ts (Ok cursor) = AreMatches query ts cursor.rest
 GivesMatches query ts (Err fault) = fault ≡ OutOfMemory
 

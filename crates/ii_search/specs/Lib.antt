@@ -1,3 +1,5 @@
+pub mod Decodes
+pub mod DecodesLaws
 pub mod Found
 pub mod ParserErrors
 pub mod Queries

@@ -1,5 +1,5 @@
 ghost use Rattle.std.specs.Prelude.{◌≡◌, ◌<◌, ℕ, List, Ok, IfErr, IfOk, length, nat_lt, true};
-ghost use Rattle.std.specs.List.{list_all};
+ghost use Rattle.std.specs.List.{AllByRecursion, list_all};
 ghost use Rattle.ii_base.specs.declared.schema.index_record_option.IndexRecordOption.TheVariants.{Basic, WithFreqsAndPositions};
 ghost use Rattle.ii_base.specs.Schema.{SchemaEntry};
 ghost use Rattle.ii_docset.specs.Cursor.{IsSound};
@@ -7,6 +7,8 @@ ghost use Rattle.ii_base.specs.Entries.{Entry};
 ghost use Rattle.ii_definitions.specs.Tokens.{IndexToken};
 ghost use Rattle.ii_reader.specs.InvertedIndexReader.{IsRefusal};
 ghost use Rattle.ii_reader.specs.OpenIndex.{IndexHolds};
+ghost use Rattle.ii_query.specs.Phrase.{cursors_in, parts_in};
+ghost use Rattle.ii_search.specs.Decodes.{DecodesFew, EachDecodesFew};
 ghost use Rattle.ii_search.specs.Found.{GivesCount, GivesMatches, combined, docs_of_term, found_in, parts_of, phrase_of};
 ghost use Rattle.ii_search.specs.Queries.{has_fields, keeps_positions};
 
@@ -32,6 +34,7 @@ pub fn search(
     requires fields { has_fields (length index.now.readers) query.now ≡ true }
     ensures sound { IfOk result (λ cursor. IsSound cursor.rest) }
     ensures listed { IfOk result (λ cursor. found_in index.now query.now ≡ Ok cursor.rest) }
+    ensures lazy { IfOk result (λ cursor. AllByRecursion EachDecodesFew cursor.cursors) }
     ensures refused { IfErr result (IsRefusal (found_in index.now query.now)) }
     // where the index holds tokens
     ensures holds { (schema : List SchemaEntry) (num_docs : ℕ) (tokens : List IndexToken) → IndexHolds schema num_docs index.now tokens
@@ -71,6 +74,7 @@ fn find(
 ) -> Result<QueryCursor<TermOrPhrase<SegmentPostings>>, Fault>
     requires fields { has_fields (length index.now.readers) query.now ≡ true }
     ensures listed { IfOk result (λ cursor. found_in index.now query.now ≡ Ok cursor.rest) }
+    ensures lazy { IfOk result (λ cursor. AllByRecursion EachDecodesFew cursor.cursors) }
     ensures refused { IfErr result (IsRefusal (found_in index.now query.now)) }
 {
     match query {
@@ -111,6 +115,8 @@ fn find_parts(
     requires other { has_fields (length index.now.readers) other.now ≡ true }
     ensures first { IfOk result (λ parts. found_in index.now first.now ≡ Ok parts.0.rest) }
     ensures other { IfOk result (λ parts. found_in index.now other.now ≡ Ok parts.1.rest) }
+    ensures first_lazy { IfOk result (λ parts. AllByRecursion EachDecodesFew parts.0.cursors) }
+    ensures other_lazy { IfOk result (λ parts. AllByRecursion EachDecodesFew parts.1.cursors) }
     ensures refused { IfErr result (λ fault. (by : List Entry → List Entry → List Entry) → IsRefusal (combined by (found_in index.now first.now) (found_in index.now other.now)) fault) }
 {
     let first = match find(alloc, index, first) {
@@ -130,6 +136,7 @@ fn find_term(
 ) -> Result<QueryCursor<TermOrPhrase<SegmentPostings>>, Fault>
     requires field { term.now.field < length index.now.readers }
     ensures listed { IfOk result (λ cursor. docs_of_term Basic index.now term.now ≡ Ok cursor.rest) }
+    ensures lazy { IfOk result (λ cursor. AllByRecursion EachDecodesFew cursor.cursors) }
     ensures refused { IfErr result (IsRefusal (docs_of_term Basic index.now term.now)) }
 {
     match postings_of(index, term, IndexRecordOption::Basic) {
@@ -148,6 +155,7 @@ fn find_phrase(
     requires first { first.now.field < length index.now.readers }
     requires others { list_all (λ o. nat_lt o.term.field (length index.now.readers)) others.now ≡ true }
     ensures listed { IfOk result (λ cursor. phrase_of (docs_of_term WithFreqsAndPositions index.now first.now) (parts_of index.now others.now) ≡ Ok cursor.rest) }
+    ensures lazy { IfOk result (λ cursor. AllByRecursion EachDecodesFew cursor.cursors) }
     ensures refused { IfErr result (IsRefusal (phrase_of (docs_of_term WithFreqsAndPositions index.now first.now) (parts_of index.now others.now))) }
 {
     let first = match postings_of(index, first, IndexRecordOption::WithFreqsAndPositions) {
@@ -167,7 +175,8 @@ fn phrase_parts(
     others: &[PhraseTerm],
 ) -> Result<Vec<PhrasePart<SegmentPostings>>, Fault>
     requires others { list_all (λ o. nat_lt o.term.field (length index.now.readers)) others.now ≡ true }
-    ensures listed { IfOk result (λ parts. parts_of index.now others.now ≡ Ok parts.items) }
+    ensures listed { IfOk result (λ parts. parts_of index.now others.now ≡ Ok (parts_in parts.items)) }
+    ensures lazy { IfOk result (λ parts. AllByRecursion DecodesFew (cursors_in parts.items)) }
     ensures refused { IfErr result (IsRefusal (parts_of index.now others.now)) }
 {
     let mut parts = Vec::new(alloc);
@@ -194,12 +203,21 @@ fn postings_of(
 ) -> Result<SegmentPostings, Fault>
     requires field { term.now.field < length index.now.readers }
     ensures listed { IfOk result (λ cursor. docs_of_term option index.now term.now ≡ Ok cursor.rest) }
+    ensures lazy { IfOk result DecodesFew }
     ensures refused { IfErr result (IsRefusal (docs_of_term option index.now term.now)) }
 {
     let reader = index.reader(term.field());
     match reader.read_postings(term, option) {
-        Ok(Some(cursor)) => Ok(cursor),
-        Ok(None) => Ok(SegmentPostings::empty()),
+        Ok(Some(cursor)) => {
+            // that it decoded no block twice, for the proof
+            let _doc = cursor.doc();
+            Ok(cursor)
+        }
+        Ok(None) => {
+            let cursor = SegmentPostings::empty();
+            let _doc = cursor.doc();
+            Ok(cursor)
+        }
         Err(fault) => Err(fault),
     }
 }

@@ -28,7 +28,7 @@ no_query_is (Ok (Some query)) text error is none err = absurd (cc)
 no_query_is (Err e) text error is none err = tt
 
 -- what a search in an open index answers
-pub found_now : (index : OpenIndexState) (query : QueryOf) (cursor : QueryCursorState) (reply : List ℕ)
+pub found_now : {T : Type 0} (index : OpenIndexState) (query : QueryOf) (cursor : QueryCursorState T) (reply : List ℕ)
     → ((schema : List SchemaEntry) (num_docs : ℕ) (tokens : List IndexToken) → IndexHolds schema num_docs index tokens → has_fields (length schema) query ≡ true → keeps_positions schema query ≡ true → GivesMatches query tokens (Ok cursor))
     → has_fields (length fields) query ≡ true → keeps_positions fields query ≡ true → reply ≡ found_text cursor.rest → (ts : List IndexToken) → IsOpen index ts → FindsDocs (opened ts) query reply
 found_now index query cursor reply holds has keeps is ts o = (cursor.rest, holds fields o.num_docs ts o.holds has keeps, is)

@@ -1,7 +1,8 @@
-use Rattle.std.proofs.Common.{◌≡◌, ◌+◌, ℕ, List, ap, sym, ◌∙◌, nat_eq}
+use Rattle.std.proofs.Common.{◌+◌, ℕ, List, ap, sym, ◌∙◌, nat_eq}
 use Rattle.ii_base.specs.Entries.{Entry}
 use Rattle.ii_docset.specs.Cursor.{position_before, positions_at}
 use Rattle.ii_query.proofs.PhraseSteps.{reading, reading_before, reading_found, reading_on, reading_within}
+use Rattle.ii_query.specs.WorkLaws.{spent_in_turn}
 use Rattle.ii_query.proofs.phrase.has_position.Goals as goal
 
 pub returns-then-contains-clause-has : goal.returns-then-contains-clause-has
@@ -26,4 +27,5 @@ loop-count-preserved g c =
       read = reading ps (positions_at (g.P.DocSet.rest l.cursor)) (l.from + l.count) r.result l.positions r.new.output (ap positions_at l.invariant.rest) l.invariant.read.size (reading_within ps l.from l.count l.positions l.invariant.read)
           r.ensures.few r.ensures.count r.ensures.read r.auto.output;
       left = reading_on (λ (p : ℕ). nat_eq p c.args.position) ps l.from l.count l.positions l.invariant.read (sym c.contains.ensures.value ∙ c.if-contains.false) l.invariant.left;
+      work = spent_in_turn g.P.Postings.spent g.met.P.Postings.spent_on c.args.cursor.now l.cursor r.new.self l.invariant.work (record { asked = 1; count = r.result; by = r.ensures.work });
     }

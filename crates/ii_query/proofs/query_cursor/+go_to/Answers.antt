@@ -1,5 +1,6 @@
 use Rattle.std.proofs.Common.{◌≡◌, ℕ, [], List, drop, map, refl, rules, sym, ap, ◌∙◌, arith}
 use Rattle.std.specs.Prelude.{not}
+use Rattle.std.specs.List.{AllZip}
 use Rattle.ii_base.specs.Entries.{document}
 use Rattle.ii_docset.specs.Cursor.{doc_at, from_doc}
 use Rattle.ii_docset.specs.Intersection.{has_doc}
@@ -7,8 +8,10 @@ use Rattle.ii_docset.proofs.CursorLemmas.{doc_below}
 use Rattle.ii_docset.proofs.IntersectionLemmas.{asked_for, at_end, bound_above, bound_more}
 use Rattle.ii_query.specs.Combined.{common, without}
 use Rattle.ii_query.proofs.NestedLemmas.{least_of}
-use Rattle.ii_query.proofs.PickedLemmas.{common_found, picked_from, picked_sound, without_asked, without_at, without_found}
+use Rattle.ii_query.proofs.PickedLemmas.{common_at, common_found, picked_from, picked_sound, without_asked, without_at, without_found}
 use Rattle.ii_query.proofs.UnionLemmas.{either_from, either_sound, next_from}
+use Rattle.ii_query.specs.WorkLaws.{all_went_on, none_went}
+use Rattle.ii_query.proofs.WorkLemmas.{all_beside}
 use Rattle.ii_query.proofs.query_cursor.+go_to.Goals as goal
 
 pub QueryCursor::go_to-returns-in-Both-clause-rest : goal.QueryCursor::go_to-returns-in-Both-clause-rest
@@ -78,6 +81,8 @@ leave_out-loop-doc-preserved g t c =
       met = ap (λ (left : List _). without left told) next ∙ passed ∙ without_asked es l.other.rest told l.doc h ∙ l.invariant.met;
       first_depth = c.go_to-doc.ensures.depth ∙ l.invariant.first_depth;
       other_depth = c.go_to.ensures.depth ∙ l.invariant.other_depth;
+      first_work = all_went_on g.T.DocSet.went g.met.T.DocSet.went_on c.args.first.now.cursors l.first.cursors c.go_to-doc.new.self.cursors l.invariant.first_work c.go_to-doc.ensures.work;
+      other_work = all_went_on g.T.DocSet.went g.met.T.DocSet.went_on c.args.other.now.cursors l.other.cursors c.go_to.new.self.cursors l.invariant.other_work c.go_to.ensures.work;
     }
 
 pub leave_out-returns-clause-at : goal.leave_out-returns-clause-at
@@ -112,6 +117,8 @@ meet-loop-doc-preserved g t c =
       met = bound_more [] _ l.first.rest c.go_to-doc.new.self.rest l.other.rest told l.doc c.go_to-bound.result h c.go_to-bound.ensures.doc c.go_to-doc.ensures.rest l.invariant.met;
       first_depth = c.go_to-doc.ensures.depth ∙ l.invariant.first_depth;
       other_depth = c.go_to-bound.ensures.depth ∙ l.invariant.other_depth;
+      first_work = all_went_on g.T.DocSet.went g.met.T.DocSet.went_on c.args.first.now.cursors l.first.cursors c.go_to-doc.new.self.cursors l.invariant.first_work c.go_to-doc.ensures.work;
+      other_work = all_went_on g.T.DocSet.went g.met.T.DocSet.went_on c.args.other.now.cursors l.other.cursors c.go_to-bound.new.self.cursors l.invariant.other_work c.go_to-bound.ensures.work;
     }
 
 pub meet-returns-clause-at : goal.meet-returns-clause-at
@@ -131,3 +138,60 @@ meet-returns-clause-up_to g t c =
     let here = c.loop-doc.invariant.here in
     let below = doc_below c.loop-doc.first.rest c.loop-doc.invariant.sound.ascending in
     omega (arith, here, below)
+
+pub QueryCursor::go_to-returns-in-Both-clause-work : goal.QueryCursor::go_to-returns-in-Both-clause-work
+QueryCursor::go_to-returns-in-Both-clause-work g t c =
+    let gone : AllZip g.T.DocSet.went c.in-Both.first.value.cursors c.go_to.new.self.cursors = search rules in
+    let met : AllZip g.T.DocSet.went c.go_to.new.self.cursors c.meet.new.first.cursors = search rules in
+    let other : AllZip g.T.DocSet.went c.in-Both.other.value.cursors c.meet.new.other.cursors = search rules in
+    rw (← c.self.view_is, c.in-Both.is) (all_beside g.T.DocSet.went c.in-Both.first.value.cursors c.in-Both.other.value.cursors c.meet.new.first.cursors c.meet.new.other.cursors (all_went_on g.T.DocSet.went g.met.T.DocSet.went_on _ _ _ gone met) other)
+
+pub QueryCursor::go_to-returns-in-Either-clause-work : goal.QueryCursor::go_to-returns-in-Either-clause-work
+QueryCursor::go_to-returns-in-Either-clause-work g t c =
+    let one : AllZip g.T.DocSet.went c.in-Either.first.value.cursors c.go_to-one.new.self.cursors = search rules in
+    let two : AllZip g.T.DocSet.went c.in-Either.other.value.cursors c.go_to-two.new.self.cursors = search rules in
+    rw (← c.self.view_is, c.in-Either.is) (all_beside g.T.DocSet.went c.in-Either.first.value.cursors c.in-Either.other.value.cursors c.go_to-one.new.self.cursors c.go_to-two.new.self.cursors one two)
+
+pub QueryCursor::go_to-returns-in-Without-clause-work : goal.QueryCursor::go_to-returns-in-Without-clause-work
+QueryCursor::go_to-returns-in-Without-clause-work g t c =
+    let gone : AllZip g.T.DocSet.went c.in-Without.first.value.cursors c.go_to-in-Without.new.self.cursors = search rules in
+    let left : AllZip g.T.DocSet.went c.go_to-in-Without.new.self.cursors c.leave_out.new.first.cursors = search rules in
+    let other : AllZip g.T.DocSet.went c.in-Without.other.value.cursors c.leave_out.new.other.cursors = search rules in
+    rw (← c.self.view_is, c.in-Without.is) (all_beside g.T.DocSet.went c.in-Without.first.value.cursors c.in-Without.other.value.cursors c.leave_out.new.first.cursors c.leave_out.new.other.cursors (all_went_on g.T.DocSet.went g.met.T.DocSet.went_on _ _ _ gone left) other)
+
+pub leave_out-loop-doc-init : goal.leave_out-loop-doc-init
+leave_out-loop-doc-init g t c = record {
+  here = c.current-doc.ensures.doc;
+  sound = c.current-doc.ensures.sound;
+  met = refl;
+  first_depth = refl;
+  other_depth = refl;
+  first_work = none_went g.T.DocSet.went g.met.T.DocSet.went_nowhere c.args.first.now.cursors;
+  other_work = none_went g.T.DocSet.went g.met.T.DocSet.went_nowhere c.args.other.now.cursors;
+}
+
+pub leave_out-returns-then-go_to-doc-clause-other_work : goal.leave_out-returns-then-go_to-doc-clause-other_work
+leave_out-returns-then-go_to-doc-clause-other_work g t c = all_went_on g.T.DocSet.went g.met.T.DocSet.went_on _ _ _ c.loop-doc.invariant.other_work c.go_to.ensures.work
+
+pub meet-loop-doc-init : goal.meet-loop-doc-init
+meet-loop-doc-init g t c = record {
+  here = c.current-doc.ensures.doc;
+  sound = c.current-doc.ensures.sound;
+  met = refl;
+  first_depth = refl;
+  other_depth = refl;
+  first_work = none_went g.T.DocSet.went g.met.T.DocSet.went_nowhere c.args.first.now.cursors;
+  other_work = none_went g.T.DocSet.went g.met.T.DocSet.went_nowhere c.args.other.now.cursors;
+}
+
+pub meet-returns-then-bound-doc-clause-other_work : goal.meet-returns-then-bound-doc-clause-other_work
+meet-returns-then-bound-doc-clause-other_work g t c = all_went_on g.T.DocSet.went g.met.T.DocSet.went_on _ _ _ c.loop-doc.invariant.other_work c.go_to-bound.ensures.work
+
+pub meet-returns-then-bound-doc-clause-at : goal.meet-returns-then-bound-doc-clause-at
+meet-returns-then-bound-doc-clause-at g t c =
+    let l = c.loop-doc in
+    let here = l.invariant.here in
+    record {
+      sound = l.invariant.sound;
+      here = common_at l.first.rest c.go_to-bound.new.self.rest (rw (← here) c.loop-doc-test.true) (sym c.go_to-bound.ensures.doc ∙ c.if-bound-doc.true ∙ here);
+    }

@@ -1,5 +1,6 @@
 use Rattle.std.proofs.Common.{◌≡◌, ◌-◌, ◌+◌, ◌*◌}
 use Rattle.std.specs.Prelude.{max}
+use Rattle.std.specs.List.{AllZip}
 use Rattle.ii_base.specs.declared.doc_id.TheConstants.{TERMINATED}
 use Rattle.ii_docset.specs.Cursor.{doc_at, IsSound}
 use Rattle.ii_docset.specs.Intersection.{common_docs}
@@ -22,6 +23,8 @@ invariant-meet-loop-doc g l = record {
   met : common_docs l.first.rest l.other.rest ≡ common_docs l.fn.first.rest l.fn.other.rest;
   first_depth : l.first.depth ≡ l.fn.first.depth;
   other_depth : l.other.depth ≡ l.fn.other.depth;
+  first_work : AllZip g.T.DocSet.went l.fn.first.cursors l.first.cursors;
+  other_work : AllZip g.T.DocSet.went l.fn.other.cursors l.other.cursors;
 }
 
 abbrev pub decreases-meet-loop-doc : goal.decreases-meet-loop-doc
@@ -34,6 +37,8 @@ invariant-leave_out-loop-doc g l = record {
   met : without l.first.rest l.other.rest ≡ without l.fn.first.rest l.fn.other.rest;
   first_depth : l.first.depth ≡ l.fn.first.depth;
   other_depth : l.other.depth ≡ l.fn.other.depth;
+  first_work : AllZip g.T.DocSet.went l.fn.first.cursors l.first.cursors;
+  other_work : AllZip g.T.DocSet.went l.fn.other.cursors l.other.cursors;
 }
 
 abbrev pub decreases-leave_out-loop-doc : goal.decreases-leave_out-loop-doc

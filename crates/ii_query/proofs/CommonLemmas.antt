@@ -1,0 +1,61 @@
+-- What two lists have in common is the same whichever leads.
+use Rattle.std.proofs.Common.{◌≡◌, ◌≢◌, ℕ, ◌<◌, ◌≤◌, Bool, true, false, ◌&&◌, List, [], ◌∷◌, inl, inr, refl, sym, ap, ◌∙◌, arith}
+use Rattle.std.proofs.lemmas.Bool.{eq-eqb, ne_eqb}
+use Rattle.std.proofs.lemmas.Bool.Decides.{eqb_tells}
+use Rattle.std.specs.Prelude.{filter, map}
+use Rattle.ii_base.specs.Entries.{Entry, docs_of, document}
+use Rattle.ii_docset.specs.Cursor.{doc_at, IsAscending, IsSound}
+use Rattle.ii_docset.specs.Intersection.{has_doc}
+use Rattle.ii_query.specs.Combined.{common, picked}
+use Rattle.ii_query.proofs.MatchLaws.{common_has}
+use Rattle.ii_query.proofs.PickedLemmas.{has_below, picked_sound}
+
+and_swap : (a b : Bool) → (a && b) ≡ (b && a)
+and_swap true true = refl
+and_swap true false = refl
+and_swap false true = refl
+and_swap false false = refl
+
+has_first : (e : Entry) (es : List Entry) → has_doc (e ∷ es) e.doc ≡ true
+has_first e es = rw (eq-eqb e.doc e.doc refl) refl
+
+-- the first document of one list is not below that of another one with the same documents
+not_below : (e f : Entry) (es fs : List Entry) → IsAscending (f ∷ fs) → ((d : ℕ) → has_doc (e ∷ es) d ≡ has_doc (f ∷ fs) d) → f.doc ≤ e.doc
+not_below e f es fs ascend alike = grind (arith, alike e.doc, has_first e es, has_below e.doc (f ∷ fs) ascend)
+
+-- a document behind the first ones
+behind : (e f : Entry) (es fs : List Entry) → IsAscending (e ∷ es) → IsAscending (f ∷ fs) → e.doc ≡ f.doc → ((d : ℕ) → has_doc (e ∷ es) d ≡ has_doc (f ∷ fs) d) → (d : ℕ) → has_doc es d ≡ has_doc fs d
+behind e f es fs up also same alike d = elim (eqb_tells e.doc d) [
+  | inl h ↦
+      let low : d < doc_at es = let here = h.1 in let first = up.0 in omega (arith, here, first) in
+      let below : d < doc_at fs = let here = h.1 in let first = also.0 in omega (arith, here, first, same) in
+      has_below d es up.1 low ∙ sym (has_below d fs also.1 below)
+  | inr h ↦
+      let other : f.doc ≢ d = λ eq. h.1 (same ∙ eq) in
+      let told = alike d in
+      let later : has_doc es d ≡ has_doc fs d = rw (h.0, ne_eqb f.doc d other) at told in
+      later
+]
+
+-- ascending lists that have the same documents
+same_docs : (es fs : List Entry) → IsAscending es → IsAscending fs → ((d : ℕ) → has_doc es d ≡ has_doc fs d) → docs_of es ≡ docs_of fs
+same_docs [] [] up also alike = refl
+same_docs [] (f ∷ fs) up also alike = absurd (let wrong : false ≡ true = alike f.doc ∙ has_first f fs in cc)
+same_docs (e ∷ es) [] up also alike = absurd (let wrong : true ≡ false = sym (has_first e es) ∙ alike e.doc in cc)
+same_docs (e ∷ es) (f ∷ fs) up also alike =
+    let low = not_below e f es fs also alike in
+    let high = not_below f e fs es up (λ d. sym (alike d)) in
+    let same : e.doc ≡ f.doc = omega (arith, low, high) in
+    ap (λ (docs : List ℕ). e.doc ∷ docs) (same_docs es fs up.1 also.1 (behind e f es fs up also same alike)) ∙ ap (λ (d : ℕ). d ∷ docs_of fs) same
+
+docs_again : (docs : List ℕ) → docs_of (map document docs) ≡ docs
+docs_again [] = refl
+docs_again (d ∷ ds) = ap (λ (more : List ℕ). d ∷ more) (docs_again ds)
+
+picked_again : (holds : ℕ → Bool) (es : List Entry) → map document (docs_of (picked holds es)) ≡ picked holds es
+picked_again holds es = ap (map document) (docs_again (filter holds (docs_of es)))
+
+pub common_swaps : (es fs : List Entry) → IsSound es → IsSound fs → common es fs ≡ common fs es
+common_swaps es fs sound also =
+    let same = same_docs (common es fs) (common fs es) (picked_sound (has_doc fs) es sound).ascending (picked_sound (has_doc es) fs also).ascending (λ d. common_has es fs d ∙ and_swap (has_doc es d) (has_doc fs d) ∙ sym (common_has fs es d)) in
+    sym (picked_again (has_doc fs) es) ∙ ap (map document) same ∙ picked_again (has_doc es) fs

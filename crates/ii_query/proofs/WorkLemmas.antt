@@ -1,0 +1,41 @@
+-- What the cursors of a phrase did while its terms were looked at in turn.
+use Rattle.std.proofs.Common.{◌≡◌, ℕ, zero, suc, ◌<◌, List, [], ◌∷◌, ◌++◌, get_or, length, set, refl, ap, ◌∙◌, arith}
+use Rattle.std.specs.List.{AllZip}
+use Rattle.ii_query.specs.Phrase.{PhrasePartState, PhraseTermState, cursors_in, parts_in}
+
+-- parts beside one another
+pub all_beside : {T : Type 0} (R : T → T → Type 0) (xs ys us vs : List T) → AllZip R xs us → AllZip R ys vs → AllZip R (xs ++ ys) (us ++ vs)
+all_beside R [] ys [] vs first other = other
+all_beside R [] ys (u ∷ us) vs first other = elim first [ ]
+all_beside R (x ∷ xs) ys [] vs first other = elim first [ ]
+all_beside R (x ∷ xs) ys (u ∷ us) vs first other = (first.0, all_beside R xs ys us vs first.1 other)
+
+-- a term is put in the place of another one
+pub parts_set : {P : Type 0} (terms : List (PhraseTermState P)) (i : ℕ) (new : PhraseTermState P) → parts_in (set terms i new) ≡ set (parts_in terms) i new.part
+parts_set [] i new = refl
+parts_set (t ∷ ts) zero new = refl
+parts_set (t ∷ ts) (suc i) new = ap (λ (ps : List PhrasePartState). t.part ∷ ps) (parts_set ts i new)
+
+-- the part of a term at a place
+pub part_got : {P : Type 0} (terms : List (PhraseTermState P)) (i : ℕ) (t : PhraseTermState P) → i < length terms → t ≡ get_or terms i t → t.part ≡ get_or (parts_in terms) i t.part
+part_got [] i t inside is = absurd (omega (arith, inside))
+part_got (s ∷ ss) zero t inside is = ap (λ (u : PhraseTermState _). u.part) is
+part_got (s ∷ ss) (suc i) t inside is = part_got ss i t (omega (arith, inside)) is
+
+pub parts_many : {P : Type 0} (terms : List (PhraseTermState P)) → length (parts_in terms) ≡ length terms
+parts_many [] = refl
+parts_many (t ∷ ts) = ap suc (parts_many ts)
+
+-- a part that stays is as good as the term before it
+pub parts_same : {P : Type 0} (terms : List (PhraseTermState P)) (i : ℕ) (old new : PhraseTermState P) → i < length terms → old ≡ get_or terms i old → new.part ≡ old.part → parts_in (set terms i new) ≡ parts_in terms
+parts_same [] i old new inside is same = absurd (omega (arith, inside))
+parts_same (t ∷ ts) zero old new inside is same = ap (λ (p : PhrasePartState). p ∷ parts_in ts) (same ∙ ap (λ (u : PhraseTermState _). u.part) is)
+parts_same (t ∷ ts) (suc i) old new inside is same = ap (λ (ps : List PhrasePartState). t.part ∷ ps) (parts_same ts i old new (omega (arith, inside)) is same)
+
+-- the cursor of one term went on
+pub work_set : {P : Type 0} (R : P → P → Type 0) → ((a b c : P) → R a b → R b c → R a c) → (start : List P) (now : List (PhraseTermState P)) (i : ℕ) (old new : PhraseTermState P) → i < length now → old ≡ get_or now i old → R old.cursor new.cursor
+    → AllZip R start (cursors_in now) → AllZip R start (cursors_in (set now i new))
+work_set R on start [] i old new inside is moved work = absurd (omega (arith, inside))
+work_set R on [] (t ∷ ts) i old new inside is moved work = elim work [ ]
+work_set R on (s ∷ ss) (t ∷ ts) zero old new inside is moved work = (on s t.cursor new.cursor work.0 (rw is at moved), work.1)
+work_set R on (s ∷ ss) (t ∷ ts) (suc i) old new inside is moved work = (work.0, work_set R on ss ts i old new (omega (arith, inside)) is moved work.1)

@@ -1,0 +1,26 @@
+-- What cursors did, together.
+use Rattle.std.specs.Prelude.{ℕ, ◌+◌, List, [], ◌∷◌}
+use Rattle.std.specs.List.{AllZip}
+use Rattle.ii_query.specs.Phrase.{Spent}
+
+-- nothing was done
+pub none_went : {T : Type 0} (R : T → T → Type 0) → ((t : T) → R t t) → (ts : List T) → AllZip R ts ts
+none_went R none [] = tt
+none_went R none (t ∷ ts) = (none t, none_went R none ts)
+
+-- one after the other
+pub all_went_on : {T : Type 0} (R : T → T → Type 0) → ((a b c : T) → R a b → R b c → R a c) → (xs ys zs : List T) → AllZip R xs ys → AllZip R ys zs → AllZip R xs zs
+all_went_on R on [] [] [] first second = tt
+all_went_on R on [] [] (z ∷ zs) first second = elim second [ ]
+all_went_on R on [] (y ∷ ys) zs first second = elim first [ ]
+all_went_on R on (x ∷ xs) [] zs first second = elim first [ ]
+all_went_on R on (x ∷ xs) (y ∷ ys) [] first second = elim second [ ]
+all_went_on R on (x ∷ xs) (y ∷ ys) (z ∷ zs) first second = (on x y z first.0 second.0, all_went_on R on xs ys zs first.1 second.1)
+
+-- asked for positions in turn
+pub spent_in_turn : {P : Type 0} (spent : ℕ → ℕ → P → P → Type 0) → ((k m l n : ℕ) (a b c : P) → spent k m a b → spent l n b c → spent (k + l) (m + n) a c) → (a b c : P) → Spent spent a b → Spent spent b c → Spent spent a c
+spent_in_turn spent on a b c first second = record { asked = first.asked + second.asked; count = first.count + second.count; by = on first.asked first.count second.asked second.count a b c first.by second.by }
+
+-- no positions were asked for
+pub spent_nothing : {P : Type 0} (spent : ℕ → ℕ → P → P → Type 0) {a b : P} → spent 0 0 a b → Spent spent a b
+spent_nothing spent by = record { asked = 0; count = 0; by = by }

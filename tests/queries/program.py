@@ -1,0 +1,166 @@
+#!/usr/bin/env python3
+"""Asks the program 10,000 random queries over random texts, numbers and JSON values: each answer has to be what a filter of
+the words says, one document after the other, as docs/PROGRAM.md has it. `program.py N SEED` asks N others."""
+import os
+import random
+import re
+import subprocess
+import sys
+
+sys.dont_write_bytecode = True
+TOP = os.path.dirname(os.path.dirname(os.path.dirname(os.path.abspath(__file__))))
+sys.path.insert(0, os.path.join(TOP, 'tools'))
+import programs
+
+# so many queries are asked of each index
+ASKED = 500
+WORDS = ('a', 'b', 'c', 'the', 'sea', 'Sea', '7', '007', 'é1', 'x9')
+PATHS = ('k', 'k.l', 'deep.er.path')
+BETWEEN = (' ', '  ', ', ', '. ', '-', '! ')
+
+
+def words(text):
+    """The words of a text."""
+    return re.findall('[A-Za-z0-9\u0080-\U0010ffff]+', text)
+
+
+def spelled(chosen, draw):
+    """A text of these words."""
+    text = ''
+    for i, word in enumerate(chosen):
+        text += (draw.choice(BETWEEN) if i else '') + word
+    return text
+
+
+class Index:
+    """Lines of an index, and for each document the texts at each place, as their words, and the numbers."""
+
+    def __init__(self, draw):
+        self.lines, self.texts, self.numbers = [], {}, {}
+        self.docs = []
+        doc = draw.randrange(3)
+        for _ in range(draw.randrange(1, 60)):
+            self.docs.append(doc)
+            for _ in range(draw.randrange(4)):
+                self.add(doc, draw)
+            doc += 1 if draw.random() < 0.8 else draw.randrange(1, 200)
+
+    def add(self, doc, draw):
+        """One line of a document."""
+        kind = draw.random()
+        if kind < 0.6:
+            most = 300 if draw.random() < 0.03 else 12
+            chosen = draw.choices(WORDS, k=draw.randrange(most))
+            self.lines.append(f'text {doc} {spelled(chosen, draw)}')
+            self.texts.setdefault('text', {}).setdefault(doc, []).append(chosen)
+        elif kind < 0.75:
+            number = draw.randrange(10)
+            self.lines.append(f'num {doc} {number}')
+            self.numbers.setdefault('num', {}).setdefault(doc, set()).add(number)
+        elif kind < 0.9:
+            path, chosen = draw.choice(PATHS), draw.choices(WORDS, k=draw.randrange(1, 4))
+            self.lines.append(f'leaf {doc} {path} s {"-".join(chosen)}')
+            self.texts.setdefault(path, {}).setdefault(doc, []).append(chosen)
+        else:
+            path, number = draw.choice(PATHS), draw.randrange(10)
+            self.lines.append(f'leaf {doc} {path} i {number}')
+            self.numbers.setdefault(path, {}).setdefault(doc, set()).add(number)
+
+    def with_phrase(self, place, phrase):
+        """The documents in one of whose texts at a place these words stand one behind the other."""
+        return {doc for doc, texts in self.texts.get(place, {}).items()
+                if any(text[i:i + len(phrase)] == phrase for text in texts for i in range(len(text)))}
+
+    def with_number(self, place, number):
+        """The documents with a number at a place."""
+        return {doc for doc, numbers in self.numbers.get(place, {}).items() if number in numbers}
+
+
+def literal(index, draw):
+    """A word, a phrase or a number, and the documents that have it."""
+    place = draw.choice(('', 'text', 'text', 'num') + PATHS)
+    if place == 'num':
+        number = draw.randrange(11)
+        return f'num:{number}', index.with_number('num', number)
+    chosen = draw.choices(WORDS, k=draw.choice((1, 1, 1, 2, 2, 3, 5)))
+    if len(chosen) == 1 and draw.random() < 0.8:
+        written = chosen[0]
+    else:
+        written = f'"{spelled(chosen, draw)}"'
+    prefix = {'': '', 'text': 'text:'}.get(place, f'leaf.{place}:')
+    found = index.with_phrase(place or 'text', chosen)
+    if place in PATHS and len(chosen) == 1 and chosen[0].isdecimal():
+        found = found | index.with_number(place, int(chosen[0]))
+    return prefix + written, found
+
+
+def query(index, draw, depth):
+    """A query, as it stands between parentheses, and the documents that match it."""
+    form = draw.random()
+    if depth == 0 or form < 0.25:
+        return literal(index, draw)
+    if form < 0.5:
+        return all_of(index, draw, depth)
+    parts = [all_of(index, draw, depth) if draw.random() < 0.4 else part(index, draw, depth) for _ in range(draw.randrange(2, 4))]
+    found = set().union(*(docs for _, docs in parts))
+    if form < 0.8:
+        return draw.choice((' OR ', ' ')).join(text for text, _ in parts), found
+    # one that is left out, wherever it stands among those beside one another
+    text, docs = part(index, draw, depth)
+    texts = [text for text, _ in parts]
+    texts.insert(draw.randrange(len(texts) + 1), '-' + text)
+    return ' '.join(texts), found - docs
+
+
+def part(index, draw, depth):
+    """A literal, or a query in parentheses."""
+    text, docs = query(index, draw, depth - 1)
+    return (text, docs) if re.fullmatch(r'[^ ]+|[^" ]*"[^"]*"', text) and '(' not in text else (f'({text})', docs)
+
+
+def all_of(index, draw, depth):
+    """Parts that a document has to match all, but those behind a minus."""
+    text, found = part(index, draw, depth)
+    for _ in range(draw.randrange(1, 3)):
+        other, docs = part(index, draw, depth)
+        if draw.random() < 0.3:
+            text, found = f'{text} AND -{other}', found - docs
+        else:
+            text, found = f'{text} AND {other}', found & docs
+    return text, found
+
+
+def asked(index, draw):
+    """A query of at most a hundred words and signs, and its answer."""
+    while True:
+        text, docs = query(index, draw, draw.randrange(4))
+        if len(re.findall(r'[^ ()]+|[()]', text)) <= 100:
+            return text, ' '.join(map(str, sorted(docs))) or 'none'
+
+
+def main():
+    count, seed = (int(sys.argv[1]), sys.argv[2]) if len(sys.argv) > 2 else (10_000, '0')
+    if not programs.build('iiq'):
+        print('tests/queries: the program was not built')
+        return 1
+    draw, wrong, matched = random.Random(seed), 0, 0
+    for first in range(0, count, ASKED):
+        index = Index(draw)
+        pairs = [asked(index, draw) for _ in range(min(ASKED, count - first))]
+        given = index.lines + [f'? query {text}' for text, _ in pairs]
+        run = subprocess.run([programs.program_of('iiq')], input='\n'.join(given + ['']).encode(), stdout=subprocess.PIPE, stderr=subprocess.PIPE)
+        answers = run.stdout.decode().split('\n')
+        if run.returncode != 0 or len(answers) != len(pairs) + 1:
+            print(f'tests/queries: status {run.returncode}, {len(answers) - 1} answers for {len(pairs)} queries')
+            wrong += 1
+        for (text, want), answer in zip(pairs, answers):
+            matched += want != 'none'
+            if answer != want:
+                wrong += 1
+                if wrong < 10:
+                    print('\n'.join(index.lines + [f'? query {text}', f'answered {answer}, wanted {want}']))
+    print(f'tests/queries: {count} queries asked, {matched} with documents, {wrong} answered otherwise')
+    return 1 if wrong else 0
+
+
+sys.exit(main())
