@@ -1,3 +1,4 @@
+pub mod DecodesLemmas
 pub mod FoundLemmas
 pub mod PartLemmas
 pub mod SameDocs

@@ -22,8 +22,8 @@ loop-other-preserved c =
       lazy = rw (c.in_ok-push.ensures.items) (lazy_pushed l.parts.items c.new.result l.invariant.lazy (rw (c.new.ensures.cursor) c.in-Ok.ensures.lazy));
     }
 
-pub loop-other-init : goal.loop-other-entry
+pub loop-other-init : goal.loop-other-init
 loop-other-init c = record {
-  listing = rw (c.new-parts.ensures.items) (listing_first c.args.index.now c.args.others.now c.requires);
+  listing = rw (c.new-parts.ensures.items) (listing_first c.args.index.now c.args.others.now c.requires.others);
   lazy = rw (c.new-parts.ensures.items) tt;
 }

@@ -1,0 +1,24 @@
+-- Cursors that are put together have decoded few blocks where each of them has.
+use Rattle.std.proofs.Common.{List, ◌++◌, Result, Ok, Err, inl, inr}
+use Rattle.std.specs.Prelude.{◌⊎◌, IfOk}
+use Rattle.std.specs.List.{AllByRecursion, AllZip}
+use Rattle.ii_io.specs.declared.faults.Fault.{Fault}
+use Rattle.ii_query.specs.Combined.{QueryCursorState}
+use Rattle.ii_query.specs.TermOrPhrase.{WentOn}
+use Rattle.ii_query.specs.declared.term_or_phrase.TermOrPhrase.{TermOrPhrase}
+use Rattle.ii_reader.specs.SegmentPostings.{SegmentPostingsState, SpentLazily, WentLazily}
+use Rattle.ii_search.specs.Decodes.{EachDecodesFew}
+use Rattle.ii_search.specs.DecodesLaws.{all_both, all_went}
+
+-- one beside the other
+pub few_beside : (xs ys : List (TermOrPhrase SegmentPostingsState)) (r : Result (QueryCursorState (TermOrPhrase SegmentPostingsState)) Fault) → AllByRecursion EachDecodesFew xs → AllByRecursion EachDecodesFew ys
+    → IfOk r (λ cursor. AllZip (WentOn WentLazily SpentLazily) (xs ++ ys) cursor.cursors) → IfOk r (λ cursor. AllByRecursion EachDecodesFew cursor.cursors)
+few_beside xs ys (Ok cursor) few also went = all_went (xs ++ ys) cursor.cursors went (all_both EachDecodesFew xs ys few also)
+few_beside xs ys (Err fault) few also went = tt
+
+-- in either order
+pub few_either_way : (xs ys : List (TermOrPhrase SegmentPostingsState)) (r : Result (QueryCursorState (TermOrPhrase SegmentPostingsState)) Fault) → AllByRecursion EachDecodesFew xs → AllByRecursion EachDecodesFew ys
+    → IfOk r (λ cursor. AllZip (WentOn WentLazily SpentLazily) (xs ++ ys) cursor.cursors ⊎ AllZip (WentOn WentLazily SpentLazily) (ys ++ xs) cursor.cursors) → IfOk r (λ cursor. AllByRecursion EachDecodesFew cursor.cursors)
+few_either_way xs ys (Ok cursor) few also (inl went) = few_beside xs ys (Ok cursor) few also went
+few_either_way xs ys (Ok cursor) few also (inr went) = few_beside ys xs (Ok cursor) also few went
+few_either_way xs ys (Err fault) few also went = tt
