@@ -358,7 +358,7 @@ def stopped(user, docs):
         return no_more
 
     sizes = sorted({os.path.getsize(os.path.join(locked, name)) for name in os.listdir(locked)})
-    for size in [0, 1] + [size // 2 for size in sizes]:
+    for size in [0, 1] + [size // 4 for size in sizes]:
         user.wants(['index', 'locked', '--schema', schema, 'b.jsonl'], 2, '', 'nequllpa: locked: the folder refused', before=room_for(size))
         told = user.wants(['check', 'locked'], 0)
         if not told.startswith(f'{len(docs)} documents; '):

@@ -99,7 +99,10 @@ fn print_checked(
     if changed == 0 {
         println!(rt; "{num_docs} documents; each file is as it was saved")?;
     } else {
-        println!(rt; "{num_docs} documents; {changed} files are not as they were saved")?;
+        println!(rt;
+            "{num_docs} documents; {changed} of {} files are not as they were saved",
+            Kind::COUNT
+        )?;
     }
     println!(rt; "{terms} terms, {postings} postings, {positions} positions")?;
     println!(rt; "{damages} damages")?;

@@ -157,24 +157,24 @@ pub placing_first : (all : List Entry) (docs : List ℕ) → IsAscending (map do
 placing_first all docs h = record { placed = refl; ascending = h }
 
 -- the document at a place
-at_place : (docs : List ℕ) (i doc : ℕ) → i < length docs → doc ≡ get_or docs i doc → drop i docs ≡ doc ∷ drop (i + 1) docs
-at_place docs i doc inside is = drop-cons docs i doc inside ∙ rw (← is, add-one i) refl
+at_place : (docs : List ℕ) (i doc d : ℕ) → i < length docs → doc ≡ get_or docs i d → drop i docs ≡ doc ∷ drop (i + 1) docs
+at_place docs i doc d inside is = drop-cons docs i d inside ∙ rw (is, add-one i) refl
 
-pub placing_low : (all rest : List Entry) (docs : List ℕ) (i doc : ℕ) (places : List Place) → i < length docs → doc ≡ get_or docs i doc → IsPlacing all docs i rest places → doc < TERMINATED
-placing_low all rest docs i doc places inside is placing =
-    let h : IsAscending (map document (doc ∷ drop (i + 1) docs)) = rw (at_place docs i doc inside is) at placing.ascending in
+pub placing_low : (all rest : List Entry) (docs : List ℕ) (i doc d : ℕ) (places : List Place) → i < length docs → doc ≡ get_or docs i d → IsPlacing all docs i rest places → doc < TERMINATED
+placing_low all rest docs i doc d places inside is placing =
+    let h : IsAscending (map document (doc ∷ drop (i + 1) docs)) = rw (at_place docs i doc d inside is) at placing.ascending in
     let first = h.0 in
     let up = doc_below (map document (drop (i + 1) docs)) h.1 in
     omega arith
 
-pub placing_next : (all rest now : List Entry) (docs : List ℕ) (i doc : ℕ) (places more : List Place) (place : Place) → i < length docs → doc ≡ get_or docs i doc → now ≡ from_doc doc rest → place_view place ≡ positions_of rest doc
+pub placing_next : (all rest now : List Entry) (docs : List ℕ) (i doc d : ℕ) (places more : List Place) (place : Place) → i < length docs → doc ≡ get_or docs i d → now ≡ from_doc doc rest → place_view place ≡ positions_of rest doc
     → more ≡ places ++ place ∷ [] → IsPlacing all docs i rest places → IsPlacing all docs (i + 1) now more
-placing_next all rest now docs i doc places more place inside is now_is place_is more_is placing =
+placing_next all rest now docs i doc d places more place inside is now_is place_is more_is placing =
     let others = drop (i + 1) docs in
-    let h : IsAscending (map document (doc ∷ others)) = rw (at_place docs i doc inside is) at placing.ascending in
+    let h : IsAscending (map document (doc ∷ others)) = rw (at_place docs i doc d inside is) at placing.ascending in
     let first = h.0 in
     let same : map (positions_of (from_doc doc rest)) others ≡ map (positions_of rest) others = later_same doc rest others h.1 (omega arith) in
-    let e : map place_view places ++ positions_of rest doc ∷ map (positions_of rest) others ≡ map (positions_of all) docs = rw (at_place docs i doc inside is) at placing.placed in
+    let e : map place_view places ++ positions_of rest doc ∷ map (positions_of rest) others ≡ map (positions_of all) docs = rw (at_place docs i doc d inside is) at placing.placed in
     record {
       placed = rw (more_is, now_is, same, map-append place_view places (place ∷ []), place_is) (append_assoc (map place_view places) (positions_of rest doc ∷ []) (map (positions_of rest) others) ∙ e);
       ascending = h.1;

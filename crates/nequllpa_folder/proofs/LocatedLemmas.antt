@@ -15,7 +15,7 @@ use Rattle.ii_termdict.specs.TermStreamer.{TermStreamerState}
 use Rattle.ii_reader.specs.InvertedIndexReader.{InvertedIndexReaderState, IsRefusal, OpensTerm, term_of_file}
 use Rattle.ii_reader.specs.SegmentPostings.{SegmentPostingsState}
 use Rattle.nequllpa_folder.specs.declared.walking.DamagedTerm.{DamagedTerm}
-use Rattle.nequllpa_folder.specs.Located.{damage_of, damaged_from, damaged_term, damaged_terms}
+use Rattle.nequllpa_folder.specs.Located.{damage_of, damaged_from, damaged_term, damaged_terms, damages_at}
 
 -- The damaged ones so far, in front of those of the terms that are left, are all; the terms are read in their order, by what the field records.
 pub record IsLocating (reader : InvertedIndexReaderState) (option : IndexRecordOption) (terms : TermStreamerState) (ord : ℕ) (damaged : List DamagedTerm) : Type 0 where
@@ -61,27 +61,34 @@ damaged_on reader ord info part damaged is err located =
     let h : damaged_terms reader ≡ (damaged ++ damaged_term ord part ∷ []) ++ damaged_from reader (ord + 1) (drop (suc ord) reader.terms) = g ∙ sym (append_assoc damaged (damaged_term ord part ∷ []) (damaged_from reader (ord + 1) (drop (suc ord) reader.terms))) in
     rw add-one (rw add-one at h)
 
--- the list of the next term is whole
-pub locating_whole : (reader : InvertedIndexReaderState) (option : IndexRecordOption) (terms now : TermStreamerState) (ord : ℕ) (info : TermInfo) (cursor : SegmentPostingsState) (damaged : List DamagedTerm) → ord < length reader.terms
-    → Some info ≡ slice_get (entry_infos terms.entries) terms.passed → now ≡ record terms { passed = if nat_lt terms.passed (length terms.entries) then terms.passed + 1 else terms.passed } → OpensTerm reader option info cursor
-    → IsLocating reader option terms ord damaged → IsLocating reader option now (ord + 1) damaged
-locating_whole reader option terms now ord info cursor damaged low is now_is opens l =
-    let is_1 : Some info ≡ slice_get (entry_infos reader.terms) ord = rw l.terms_are at is in
-    let whole : term_of_file reader reader.option info ≡ Ok cursor.rest = rw l.option_is at opens.list in
-    let now_1 : now ≡ record { entries = reader.terms; passed = if nat_lt ord (length reader.terms) then ord + 1 else ord } = rw l.terms_are at now_is in
-    record { located = whole_on reader ord info cursor.rest damaged is_1 whole l.located; terms_are = passed_on reader.terms ord now low now_1; option_is = l.option_is }
+-- what a term adds: nothing where its list is whole
+pub no_damage : (reader : InvertedIndexReaderState) (option : IndexRecordOption) (info : TermInfo) (cursor : SegmentPostingsState) (ord : ℕ) (damaged : List DamagedTerm) → OpensTerm reader option info cursor → damaged ≡ damaged ++ damages_at ord (term_of_file reader option info)
+no_damage reader option info cursor ord damaged opens = sym (append-nil damaged) ∙ (let e = opens.list in rw e refl)
 
--- or one of its parts is damaged
-pub locating_damaged : (reader : InvertedIndexReaderState) (option : IndexRecordOption) (terms now : TermStreamerState) (ord : ℕ) (info : TermInfo) (part : Part) (damaged more : List DamagedTerm) → ord < length reader.terms
-    → Some info ≡ slice_get (entry_infos terms.entries) terms.passed → now ≡ record terms { passed = if nat_lt terms.passed (length terms.entries) then terms.passed + 1 else terms.passed } → IsRefusal (term_of_file reader option info) (Damaged part)
-    → more ≡ damaged ++ damaged_term ord part ∷ [] → IsLocating reader option terms ord damaged → IsLocating reader option now (ord + 1) more
-locating_damaged reader option terms now ord info part damaged more low is now_is (inl memory) more_is l = absurd (cc)
-locating_damaged reader option terms now ord info part damaged more low is now_is (inr (other, same, err)) more_is l =
+-- or itself, with the part that is damaged
+pub one_damage : (reader : InvertedIndexReaderState) (option : IndexRecordOption) (info : TermInfo) (part : Part) (ord : ℕ) (damaged more : List DamagedTerm) → IsRefusal (term_of_file reader option info) (Damaged part) → more ≡ damaged ++ damaged_term ord part ∷ []
+    → more ≡ damaged ++ damages_at ord (term_of_file reader option info)
+one_damage reader option info part ord damaged more (inl memory) more_is = absurd (cc)
+one_damage reader option info part ord damaged more (inr (other, same, err)) more_is =
+    let part_is : part ≡ other = cc in
+    more_is ∙ rw (err, part_is) refl
+
+next_by : (reader : InvertedIndexReaderState) (ord : ℕ) (info : TermInfo) (damaged more : List DamagedTerm) (found : Result (List Entry) Part) → Some info ≡ slice_get (entry_infos reader.terms) ord → term_of_file reader reader.option info ≡ found → more ≡ damaged ++ damages_at ord found
+    → damaged_terms reader ≡ damaged ++ damaged_from reader ord (drop ord reader.terms) → damaged_terms reader ≡ more ++ damaged_from reader (ord + 1) (drop (ord + 1) reader.terms)
+next_by reader ord info damaged more (Ok es) is found more_is located =
+    let same : more ≡ damaged = more_is ∙ append-nil damaged in
+    rw same (whole_on reader ord info es damaged is found located)
+next_by reader ord info damaged more (Err part) is found more_is located = rw more_is (damaged_on reader ord info part damaged is found located)
+
+-- the next term, whatever its list is
+pub locating_next : (reader : InvertedIndexReaderState) (option : IndexRecordOption) (terms now : TermStreamerState) (ord : ℕ) (info : TermInfo) (damaged more : List DamagedTerm) → ord < length reader.terms
+    → Some info ≡ slice_get (entry_infos terms.entries) terms.passed → now ≡ record terms { passed = if nat_lt terms.passed (length terms.entries) then terms.passed + 1 else terms.passed }
+    → more ≡ damaged ++ damages_at ord (term_of_file reader option info) → IsLocating reader option terms ord damaged → IsLocating reader option now (ord + 1) more
+locating_next reader option terms now ord info damaged more low is now_is more_is l =
     let is_1 : Some info ≡ slice_get (entry_infos reader.terms) ord = rw l.terms_are at is in
-    let part_is : other ≡ part = cc in
-    let err_1 : term_of_file reader reader.option info ≡ Err part = rw (← part_is) (rw l.option_is at err) in
+    let more_1 : more ≡ damaged ++ damages_at ord (term_of_file reader reader.option info) = rw l.option_is at more_is in
     let now_1 : now ≡ record { entries = reader.terms; passed = if nat_lt ord (length reader.terms) then ord + 1 else ord } = rw l.terms_are at now_is in
-    record { located = rw more_is (damaged_on reader ord info part damaged is_1 err_1 l.located); terms_are = passed_on reader.terms ord now low now_1; option_is = l.option_is }
+    record { located = next_by reader ord info damaged more (term_of_file reader reader.option info) is_1 refl more_1 l.located; terms_are = passed_on reader.terms ord now low now_1; option_is = l.option_is }
 
 -- a term is there
 pub locating_short : (reader : InvertedIndexReaderState) (option : IndexRecordOption) (terms : TermStreamerState) (ord : ℕ) (damaged : List DamagedTerm) → ord < length reader.terms → None ≡ slice_get (entry_infos terms.entries) terms.passed

@@ -94,30 +94,30 @@ pub terms_first : (index : OpenIndexState) (docs : List ℕ) (terms : List (Bor 
 terms_first index docs terms fields = record { placed = none_in_front (all_or_first (map (term_places index docs) (lent terms))); fields = fields }
 
 -- the term at a place
-at_place : (terms : List (Bor TermState)) (i : ℕ) (t : Bor TermState) → i < length terms → t ≡ get_or terms i t → drop i terms ≡ t ∷ drop (i + 1) terms
-at_place terms i t inside is = drop-cons terms i t inside ∙ rw (← is, add-one i) refl
+at_place : (terms : List (Bor TermState)) (i : ℕ) (t d : Bor TermState) → i < length terms → t ≡ get_or terms i d → drop i terms ≡ t ∷ drop (i + 1) terms
+at_place terms i t d inside is = drop-cons terms i d inside ∙ rw (is, add-one i) refl
 
-pub terms_field : (index : OpenIndexState) (docs : List ℕ) (terms : List (Bor TermState)) (i : ℕ) (places : List TermPlaces) (t : Bor TermState) → i < length terms → t ≡ get_or terms i t → IsPlacingTerms index docs terms i places → t.now.field < length index.readers
-terms_field index docs terms i places t inside is placing =
-    let fields = rw (at_place terms i t inside is) at placing.fields in
+pub terms_field : (index : OpenIndexState) (docs : List ℕ) (terms : List (Bor TermState)) (i : ℕ) (places : List TermPlaces) (t d : Bor TermState) → i < length terms → t ≡ get_or terms i d → IsPlacingTerms index docs terms i places → t.now.field < length index.readers
+terms_field index docs terms i places t d inside is placing =
+    let fields = rw (at_place terms i t d inside is) at placing.fields in
     ltb-true t.now.field (length index.readers) (and_parts (nat_lt t.now.field (length index.readers)) (list_all (λ (u : TermState). nat_lt u.field (length index.readers)) (lent (drop (i + 1) terms))) fields).0
 
-pub terms_next : (index : OpenIndexState) (docs : List ℕ) (terms : List (Bor TermState)) (i : ℕ) (places more : List TermPlaces) (t : Bor TermState) (place : TermPlaces) → i < length terms → t ≡ get_or terms i t → term_places index docs t.now ≡ Ok (places_view place)
+pub terms_next : (index : OpenIndexState) (docs : List ℕ) (terms : List (Bor TermState)) (i : ℕ) (places more : List TermPlaces) (t d : Bor TermState) (place : TermPlaces) → i < length terms → t ≡ get_or terms i d → term_places index docs t.now ≡ Ok (places_view place)
     → more ≡ places ++ place ∷ [] → IsPlacingTerms index docs terms i places → IsPlacingTerms index docs terms (i + 1) more
-terms_next index docs terms i places more t place inside is found more_is placing =
+terms_next index docs terms i places more t d place inside is found more_is placing =
     let left = lent (drop (i + 1) terms) in
-    let e : all_or_first (map (term_places index docs) (lent terms)) ≡ in_front (map places_view places) (all_or_first (term_places index docs t.now ∷ map (term_places index docs) left)) = rw (at_place terms i t inside is) at placing.placed in
+    let e : all_or_first (map (term_places index docs) (lent terms)) ≡ in_front (map places_view places) (all_or_first (term_places index docs t.now ∷ map (term_places index docs) left)) = rw (at_place terms i t d inside is) at placing.placed in
     record {
       placed = rw (more_is, map-append places_view places (place ∷ [])) (one_more (all_or_first (map (term_places index docs) (lent terms))) (map places_view places) (term_places index docs t.now) (map (term_places index docs) left) (places_view place) e found);
-      fields = (and_parts (nat_lt t.now.field (length index.readers)) (list_all (λ (u : TermState). nat_lt u.field (length index.readers)) left) (rw (at_place terms i t inside is) at placing.fields)).1;
+      fields = (and_parts (nat_lt t.now.field (length index.readers)) (list_all (λ (u : TermState). nat_lt u.field (length index.readers)) left) (rw (at_place terms i t d inside is) at placing.fields)).1;
     }
 
-pub terms_refused : (index : OpenIndexState) (docs : List ℕ) (terms : List (Bor TermState)) (i : ℕ) (places : List TermPlaces) (t : Bor TermState) (fault : Fault) → i < length terms → t ≡ get_or terms i t → IsRefusal (term_places index docs t.now) fault
+pub terms_refused : (index : OpenIndexState) (docs : List ℕ) (terms : List (Bor TermState)) (i : ℕ) (places : List TermPlaces) (t d : Bor TermState) (fault : Fault) → i < length terms → t ≡ get_or terms i d → IsRefusal (term_places index docs t.now) fault
     → IsPlacingTerms index docs terms i places → IsRefusal (all_or_first (map (term_places index docs) (lent terms))) fault
-terms_refused index docs terms i places t fault inside is (inl memory) placing = inl memory
-terms_refused index docs terms i places t fault inside is (inr (part, why, err)) placing =
+terms_refused index docs terms i places t d fault inside is (inl memory) placing = inl memory
+terms_refused index docs terms i places t d fault inside is (inr (part, why, err)) placing =
     let left = lent (drop (i + 1) terms) in
-    let e : all_or_first (map (term_places index docs) (lent terms)) ≡ in_front (map places_view places) (all_or_first (term_places index docs t.now ∷ map (term_places index docs) left)) = rw (at_place terms i t inside is) at placing.placed in
+    let e : all_or_first (map (term_places index docs) (lent terms)) ≡ in_front (map places_view places) (all_or_first (term_places index docs t.now ∷ map (term_places index docs) left)) = rw (at_place terms i t d inside is) at placing.placed in
     inr (part, why, e ∙ rw err refl)
 
 pub terms_all : (index : OpenIndexState) (docs : List ℕ) (terms : List (Bor TermState)) (i : ℕ) (places : List TermPlaces) → length terms ≤ i → IsPlacingTerms index docs terms i places → all_or_first (map (term_places index docs) (lent terms)) ≡ Ok (map places_view places)
@@ -131,16 +131,32 @@ terms_all index docs terms i places end placing =
     drop-end zero (t ∷ ts) h = absurd (omega arith)
     drop-end (suc i) (t ∷ ts) h = drop-end i ts (omega arith)
 
+-- the terms that a query wants, as a slice
+pub wanted_slice : (n : ℕ) (query : Query) (terms slice : List (Bor TermState)) → has_fields n query ≡ true → slice ≡ terms → lent terms ≡ wanted_terms query → list_all (λ (t : TermState). nat_lt t.field n) (lent slice) ≡ true
+wanted_slice n query terms slice fields same wanted = wanted_known n query (lent slice) fields (ap lent same ∙ wanted)
+
+pub wanted_found : (index : OpenIndexState) (docs : List ℕ) (query : Query) (terms slice : List (Bor TermState)) (places : List (List (Option (List ℕ)))) → slice ≡ terms → lent terms ≡ wanted_terms query
+    → all_or_first (map (term_places index docs) (lent slice)) ≡ Ok places → all_or_first (map (term_places index docs) (wanted_terms query)) ≡ Ok places
+wanted_found index docs query terms slice places same wanted placed = ap (λ (ts : List TermState). all_or_first (map (term_places index docs) ts)) (sym (ap lent same ∙ wanted)) ∙ placed
+
+pub wanted_refused : (index : OpenIndexState) (docs : List ℕ) (query : Query) (terms slice : List (Bor TermState)) (fault : Fault) → slice ≡ terms → lent terms ≡ wanted_terms query
+    → IsRefusal (all_or_first (map (term_places index docs) (lent slice))) fault → IsRefusal (all_or_first (map (term_places index docs) (wanted_terms query))) fault
+wanted_refused index docs query terms slice fault same wanted (inl memory) = inl memory
+wanted_refused index docs query terms slice fault same wanted (inr (part, why, err)) = inr (part, why, ap (λ (ts : List TermState). all_or_first (map (term_places index docs) ts)) (sym (ap lent same ∙ wanted)) ∙ err)
+
+pub ascend_slice : (docs slice : List ℕ) → slice ≡ docs → IsAscending (map document docs) → IsAscending (map document slice)
+ascend_slice docs slice same h = rw same h
+
 -- what a search finds, of its parts
-pub found_all : (index : OpenIndexState) (query : Query) (limit : ℕ) (docs : List ℕ) (terms : List TermState) (places : List (List (Option (List ℕ)))) → first_docs index query limit ≡ Ok docs → terms ≡ wanted_terms query
-    → all_or_first (map (term_places index docs) terms) ≡ Ok places → found_places index query limit ≡ Ok (record { docs = docs; places = places })
-found_all index query limit docs terms places first wanted placed =
-    let e : all_or_first (map (term_places index docs) (wanted_terms query)) ≡ Ok places = rw wanted at placed in
+pub found_all : (index : OpenIndexState) (query : Query) (limit : ℕ) (docs slice : List ℕ) (places : List (List (Option (List ℕ)))) → first_docs index query limit ≡ Ok docs → slice ≡ docs
+    → all_or_first (map (term_places index slice) (wanted_terms query)) ≡ Ok places → found_places index query limit ≡ Ok (record { docs = docs; places = places })
+found_all index query limit docs slice places first same placed =
+    let e : all_or_first (map (term_places index docs) (wanted_terms query)) ≡ Ok places = ap (λ (ds : List ℕ). all_or_first (map (term_places index ds) (wanted_terms query))) (sym same) ∙ placed in
     rw (first, e) refl
 
-pub found_refused : (index : OpenIndexState) (query : Query) (limit : ℕ) (docs : List ℕ) (terms : List TermState) (fault : Fault) → first_docs index query limit ≡ Ok docs → terms ≡ wanted_terms query
-    → IsRefusal (all_or_first (map (term_places index docs) terms)) fault → IsRefusal (found_places index query limit) fault
-found_refused index query limit docs terms fault first wanted (inl memory) = inl memory
-found_refused index query limit docs terms fault first wanted (inr (part, why, err)) =
-    let e : all_or_first (map (term_places index docs) (wanted_terms query)) ≡ Err part = rw wanted at err in
+pub found_refused : (index : OpenIndexState) (query : Query) (limit : ℕ) (docs slice : List ℕ) (fault : Fault) → first_docs index query limit ≡ Ok docs → slice ≡ docs
+    → IsRefusal (all_or_first (map (term_places index slice) (wanted_terms query))) fault → IsRefusal (found_places index query limit) fault
+found_refused index query limit docs slice fault first same (inl memory) = inl memory
+found_refused index query limit docs slice fault first same (inr (part, why, err)) =
+    let e : all_or_first (map (term_places index docs) (wanted_terms query)) ≡ Err part = ap (λ (ds : List ℕ). all_or_first (map (term_places index ds) (wanted_terms query))) (sym same) ∙ err in
     inr (part, why, rw (first, e) refl)

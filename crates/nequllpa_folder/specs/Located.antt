@@ -1,9 +1,10 @@
 -- Which parts of an index are damaged.
-use Rattle.std.specs.Prelude.{◌≡◌, ℕ, List, Option, None, Some, Result, Ok, Err}
+use Rattle.std.specs.Prelude.{◌≡◌, ℕ, List, [], ◌∷◌, Option, None, Some, Result, Ok, Err}
 use Rattle.std.specs.List.{enumerate_from, filter_map}
 use Rattle.std.specs.Option.{option_map}
 use Rattle.std.specs.Result.{result_err}
 use Rattle.ii_io.specs.declared.faults.Part.{Part}
+use Rattle.ii_base.specs.Entries.{Entry}
 use Rattle.ii_termdict.specs.Dictionary.{TermEntry}
 use Rattle.ii_reader.specs.InvertedIndexReader.{InvertedIndexReaderState, term_of_file}
 use Rattle.nequllpa_folder.specs.declared.walking.DamagedTerm.{DamagedTerm}
@@ -18,6 +19,11 @@ Opens found (Damaged file part) = found ≡ Err part
 -- a damaged term
 abbrev pub damaged_term : ℕ → Part → DamagedTerm
 damaged_term ord part = record { ord = ord; part = part }
+
+-- the damage of a term at a place, by its list
+abbrev pub damages_at : ℕ → Result (List Entry) Part → List DamagedTerm
+damages_at ord (Ok es) = []
+damages_at ord (Err part) = damaged_term ord part ∷ []
 
 -- the term at a place in the order of keys, with the first part of its list that fails, if one does
 abbrev pub damage_of : InvertedIndexReaderState → ℕ × TermEntry → Option DamagedTerm

@@ -41,7 +41,7 @@ pub struct FoundPlaces {
 ///
 /// `Damaged` by the first part of a list that `InvertedIndexReader::read_postings` refuses, of the terms in
 /// the order of the query; `OutOfMemory` where there is no room for what is found.
-#[tactic(auto, using(crate::proofs::QueryLemmas::found_all, crate::proofs::QueryLemmas::found_refused, crate::proofs::QueryLemmas::refused_memory, crate::proofs::QueryLemmas::refused_then, crate::proofs::QueryLemmas::wanted_known))]
+#[tactic(auto, using(crate::proofs::QueryLemmas::found_all, crate::proofs::QueryLemmas::found_refused, crate::proofs::QueryLemmas::refused_memory, crate::proofs::QueryLemmas::refused_then, crate::proofs::QueryLemmas::ascend_slice))]
 pub fn find_places(
     alloc: Global,
     index: &OpenIndex,
@@ -56,11 +56,7 @@ pub fn find_places(
         Ok(docs) => docs,
         Err(fault) => return Err(fault),
     };
-    let terms = match wanted_terms(alloc, query) {
-        Ok(terms) => terms,
-        Err(fault) => return Err(fault),
-    };
-    match places_of_terms(alloc, index, &terms, &docs) {
+    match places_of_query(alloc, index, query, docs.as_slice()) {
         Ok(places) => Ok(FoundPlaces { docs, places }),
         Err(fault) => Err(fault),
     }
@@ -153,6 +149,29 @@ fn push_others<'q>(others: &'q [PhraseTerm], terms: &mut Vec<&'q Term>) -> Resul
         terms.push(&other.term)?;
     }
     Ok(())
+}
+
+// Where each term that a query wants stands in documents.
+#[tactic(auto, using(crate::proofs::QueryLemmas::wanted_slice, crate::proofs::QueryLemmas::wanted_found, crate::proofs::QueryLemmas::wanted_refused, crate::proofs::QueryLemmas::refused_memory))]
+fn places_of_query(
+    alloc: Global,
+    index: &OpenIndex,
+    query: &Query,
+    docs: &[DocId],
+) -> Result<Vec<TermPlaces>, Fault>
+    requires fields { has_fields (length index.now.readers) query.now ≡ true }
+    requires ascending { IsAscending (map document docs.now) }
+    ensures found { IfOk result (λ places. all_or_first (map (term_places index.now docs.now) (wanted_terms query.now)) ≡ Ok (map places_view places.items)) }
+    ensures refused { IfErr result (IsRefusal (all_or_first (map (term_places index.now docs.now) (wanted_terms query.now)))) }
+{
+    let terms = match wanted_terms(alloc, query) {
+        Ok(terms) => terms,
+        Err(fault) => return Err(fault),
+    };
+    match places_of_terms(alloc, index, terms.as_slice(), docs) {
+        Ok(places) => Ok(places),
+        Err(fault) => Err(fault),
+    }
 }
 
 // Where each of some terms stands in documents.

@@ -1,12 +1,14 @@
 //! Walking every list of a field.
-ghost use Rattle.std.specs.Prelude.{◌≡◌, IfOk};
+ghost use Rattle.std.specs.Prelude.{◌≡◌, ◌++◌, IfOk, OnOk};
 ghost use Rattle.ii_docset.specs.Cursor.{IsCurrent};
 ghost use Rattle.ii_io.specs.Faults.{OnlyMemory};
-ghost use Rattle.nequllpa_folder.specs.Located.{damaged_terms};
+ghost use Rattle.ii_reader.specs.InvertedIndexReader.{term_of_file};
+ghost use Rattle.nequllpa_folder.specs.Located.{damaged_terms, damages_at};
 
 use ii_base::{Fault, IndexRecordOption, Part};
 use ii_docset::{DocSet, Postings, TERMINATED};
 use ii_reader::{InvertedIndexReader, SegmentPostings};
+use ii_termdict::TermInfo;
 use std::alloc::{AllocError, Global};
 
 /// A term whose list is damaged.
@@ -59,7 +61,7 @@ impl Walk {
 
     /// Walks the lists of all terms of a field, with counts and positions, and answers which are damaged, in
     /// the order of their keys; of the others all documents are walked. `OutOfMemory` alone is a fault.
-    #[tactic(auto, using(crate::proofs::LocatedLemmas::locating_first, crate::proofs::LocatedLemmas::locating_whole, crate::proofs::LocatedLemmas::locating_damaged, crate::proofs::LocatedLemmas::locating_short, crate::proofs::LocatedLemmas::locating_all))]
+    #[tactic(auto, using(crate::proofs::LocatedLemmas::locating_first, crate::proofs::LocatedLemmas::locating_next, crate::proofs::LocatedLemmas::locating_short, crate::proofs::LocatedLemmas::locating_all))]
     pub fn walk_terms(
         &mut self,
         alloc: Global,
@@ -75,13 +77,29 @@ impl Walk {
             let Some((_, info)) = terms.next() else {
                 return Ok(damaged);
             };
-            match reader.read_postings_from_terminfo(&info, option) {
-                Ok(mut cursor) => self.walk_list(ord, &mut cursor, option)?,
-                Err(Fault::Damaged(part)) => damaged.push(DamagedTerm { ord, part })?,
-                Err(fault) => return Err(fault),
-            }
+            self.walk_term(reader, &info, ord, option, &mut damaged)?;
         }
         Ok(damaged)
+    }
+
+    // Walks the list of a term that stands at a place, or adds it to the damaged ones.
+    #[tactic(auto, using(crate::proofs::LocatedLemmas::no_damage, crate::proofs::LocatedLemmas::one_damage))]
+    fn walk_term(
+        &mut self,
+        reader: &InvertedIndexReader,
+        info: &TermInfo,
+        ord: u64,
+        option: IndexRecordOption,
+        damaged: &mut Vec<DamagedTerm>,
+    ) -> Result<(), Fault>
+        ensures damaged { OnOk result (damaged.new.items ≡ damaged.old.items ++ damages_at ord (term_of_file reader.now option info.now)) }
+        ensures only { OnlyMemory result }
+    {
+        match reader.read_postings_from_terminfo(info, option) {
+            Ok(mut cursor) => self.walk_list(ord, &mut cursor, option),
+            Err(Fault::Damaged(part)) => Ok(damaged.push(DamagedTerm { ord, part })?),
+            Err(fault) => Err(fault),
+        }
     }
 
     // Walks the list of a term.
