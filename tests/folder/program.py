@@ -1,7 +1,8 @@
 #!/usr/bin/env python3
 """The program `nequllpa` as a user runs it: JSON lines of texts that the machine has are indexed into a folder, searched and looked
 into, and what is answered is compared with a plain reading of the texts; bad lines and schemas, damaged files, a folder that can't be
-written and one that is no index are refused by name.
+written and one that is no index are refused by name. Documents are told with the positions of the words that were sought, and damage with
+its file, field, term, part and bytes.
 
     program.py            as the gate runs it, over the licences of the machine
     program.py MB         the same over so many megabytes of the kit's sources, and how long it took"""
@@ -91,6 +92,22 @@ def indexes(user, docs):
             raise Failed(f'stats: no {size} bytes of {name} in {stats!r}')
 
 
+def placed(lists, words, found):
+    """What `--positions` prints of documents: each with the words that stand in it, and where."""
+    row = lambda doc: [(word, lists[word][doc]) for word in words if doc in lists[word]]
+    told = ''.join(f'{doc}{"".join(f"{chr(9)}body:{word} " + " ".join(map(str, at)) for word, at in row(doc))}\n' for doc in found)
+    terms = lambda doc: [{'field': 'body', 'term': word, 'positions': at} for word, at in row(doc)]
+    return told, ''.join(json.dumps({'doc': doc, 'terms': terms(doc)}, ensure_ascii=False, separators=(',', ':')) + '\n' for doc in found)
+
+
+def tells_places(user, lists, words, query, found):
+    """The documents of a query with the positions of its words, in words and as JSON."""
+    told, objects = placed(lists, words, found)
+    user.wants(['search', 'folder', query, '--field', 'body', '--positions'], 0 if found else 1, told)
+    user.wants(['search', 'folder', query, '--field', 'body', '--positions', '--json'], 0 if found else 1, objects)
+    user.wants(['search', 'folder', query, '--field', 'body', '--json', '--limit', 3], 0 if found else 1, ''.join(f'{{"doc":{doc}}}\n' for doc in found[:3]))
+
+
 def searches(user, docs, chosen):
     """Words and pairs of words of a field of texts, by a plain filter over the words."""
     lists = texts.lists_of(docs, 'body')
@@ -108,12 +125,15 @@ def searches(user, docs, chosen):
         one, two = set(lists[word]), set(lists[other])
         for query, wanted in ((f'body:{word} AND body:{other}', one & two), (f'{word} OR {other}', one | two), (f'{word} AND -{other}', one - two)):
             user.wants(['search', 'folder', query, '--field', 'body'], 0 if wanted else 1, numbers(sorted(wanted)))
+            if word in picked[::5]:
+                tells_places(user, lists, [word] if '-' in query else [word, other], query, sorted(wanted))
     for word in chosen.sample(picked, 15):
         doc, places = chosen.choice(sorted(lists[word].items()))
         behind = [other for other in words if places[0] + 1 in lists[other].get(doc, ())]
         for other in behind[:1] + [word, chosen.choice(picked)]:
             found = [doc for doc in sorted(lists[word]) if any(place + 1 in lists[other].get(doc, ()) for place in lists[word][doc])]
             user.wants(['search', 'folder', f'body:"{word} {other}"'], 0 if found else 1, numbers(found))
+            tells_places(user, lists, [word, other], f'"{word} {other}"', found)
     titles = texts.lists_of(docs, 'title')
     for word in chosen.sample(sorted(titles), min(5, len(titles))):
         anywhere = sorted(set(titles[word]) | set(lists.get(word, {})))
@@ -127,6 +147,28 @@ def searches(user, docs, chosen):
     user.wants(['terms', 'folder', 'body', '--prefix', 'co'], 0, ''.join(f'{len(lists[word])} {word}\n' for word in by_key if word.startswith('co')))
     top = sorted(lists, key=lambda word: (-len(lists[word]), word.encode()))[:7]
     user.wants(['terms', 'folder', 'body', '--top', 7], 0, ''.join(f'{len(lists[word])} {word}\n' for word in top))
+
+
+IDS = '''\
+[[field]]
+name = "id"
+type = "u64"
+
+[[field]]
+name = "body"
+type = "text"
+'''
+
+
+def ids(user):
+    """Documents told by the values of a field `id`, where they have one."""
+    schema = user.write('ids.toml', IDS)
+    docs = [{'id': 70, 'body': 'old "sea"'}, {'body': 'the sea'}, {'id': [9, 5], 'body': 'sea, old sea'}]
+    user.wants(['index', 'ids', '--schema', schema], 0, '3 documents indexed\n', 'bytes of memory for each byte of input', given=lines(docs).encode())
+    user.wants(['search', 'ids', 'sea', '--ids'], 0, '70\n1\n5\n')
+    user.wants(['search', 'ids', 'sea -the', '--ids', '--positions'], 0, '70\tbody:sea 1\n5\tbody:sea 0 2\n')
+    user.wants(['search', 'ids', 'sea', '--ids', '--json', '--limit', 2], 0, '{"doc":0,"id":"70"}\n{"doc":1}\n')
+    user.wants(['search', 'folder', 'nosuchword', '--ids'], 1, '')
 
 
 def values(user, docs):
@@ -237,28 +279,60 @@ def refusals(user, docs):
 
 
 def damages(user, chosen, places):
-    """Each file cut, changed and taken away at many places: `check` names it each time."""
-    whole = user.path('folder')
+    """Each file cut, changed and taken away at many places: `check` names it each time, and tells which bytes it has."""
+    whole, damaged_places, located = user.path('folder'), 0, 0
     for name in sorted(os.listdir(whole)):
         kind = FILES.get(name.split('.')[0])
-        said = f'the file of {kind} has another ' if kind else ''
         with open(os.path.join(whole, name), 'rb') as file:
             text = file.read()
         size = len(text)
         for place in [0, size - 1] + [chosen.randrange(size) for _ in range(places)]:
             changed = bytearray(text)
             changed[place] ^= 1 << chosen.randrange(8)
-            for damaged in (bytes(changed), text[:place], text + b'\0'):
+            for damaged, what in ((bytes(changed), 'checksum'), (text[:place], 'length')):
                 with open(os.path.join(whole, name), 'wb') as file:
                     file.write(damaged)
                 told = user.wants(['check', 'folder'], 1)
-                if kind and said not in told or not kind and not ('meta is damaged' in told or 'an index of version' in told):
+                said = f'folder: the file of {kind} has another {what} than meta says, bytes 0..{len(damaged)}\n'
+                if kind and not told.startswith(said) or not kind and not ('meta is damaged' in told or 'an index of version' in told):
                     raise Failed(f'{name} changed at {place}: {told!r}')
+                damaged_places += 1
+                located += f'\nthe file of {kind}' in told
+        with open(os.path.join(whole, name), 'wb') as file:
+            file.write(text + b'\0')
+        user.wants(['check', 'folder'], 1)
         os.remove(os.path.join(whole, name))
-        user.wants(['check', 'folder'], 1, f'folder: the file of {kind} is missing\n' if kind else 'folder: no index here\n')
+        told = user.wants(['check', 'folder'], 1)
+        if not told.startswith(f'folder: the file of {kind} is missing\n' if kind else 'folder: no index here\n'):
+            raise Failed(f'{name} taken away: {told!r}')
         with open(os.path.join(whole, name), 'wb') as file:
             file.write(text)
     user.wants(['check', 'folder'], 0)
+    print(f'tests/folder: {damaged_places} damaged places, each in the file that check names; the lists tell of {located} where')
+
+
+def places_of_damage(user):
+    """Damage of one list: its file, field, term and part, and where its bytes lie."""
+    docs = [{'body': 'sea ' * 3 + 'bird'}] * 3
+    user.wants(['index', 'small', '--schema', user.write('ids.toml', IDS)], 0, given=lines(docs).encode())
+    path = os.path.join(user.path('small'), 'idx.0')
+    with open(path, 'rb') as file:
+        text = file.read()
+    # the number of tokens in 8 bytes, then documents and counts of `bird`, and those of `sea`
+    bird, sea = bytes([0x80, 0x81, 0x81, 0x81, 0x81, 0x81]), bytes([0x80, 0x81, 0x81, 0x83, 0x83, 0x83])
+    start = text.index(bird + sea)
+    for place, byte, said in ((0, 0x00, f', field body, term bird: damaged frequencies, bytes {start}..{start + 6}'),
+                              (7, 0x80, f', field body, term sea: damaged documents, bytes {start + 6}..{start + 12}'),
+                              (8, 0x82, f', field body, term sea: document 3 is none of the index, bytes {start + 6}..{start + 12}'),
+                              (-8, 13, f', field body: the field tells 13 tokens, and its terms have 12, bytes {start - 8}..{start}'),
+                              (len(text) - start - 1, 0xff, f': damaged composite file, bytes 0..{len(text)}')):
+        changed = bytearray(text)
+        changed[start + place] = byte
+        with open(path, 'wb') as file:
+            file.write(changed)
+        told = user.wants(['check', 'small'], 1)
+        if not told.startswith('small: the file of postings has another checksum') or f'\nthe file of postings{said}\n' not in told:
+            raise Failed(f'the list changed at {place}: {told!r}; wanted {said!r}')
 
 
 def stopped(user, docs):
@@ -277,14 +351,20 @@ def stopped(user, docs):
     user.wants(['check', 'locked'], 0)
     os.chmod(locked, 0o755)
 
-    def no_room():
-        signal.signal(signal.SIGXFSZ, signal.SIG_IGN)
-        resource.setrlimit(resource.RLIMIT_FSIZE, (2000, 2000))
+    def room_for(size):
+        def no_more():
+            signal.signal(signal.SIGXFSZ, signal.SIG_IGN)
+            resource.setrlimit(resource.RLIMIT_FSIZE, (size, size))
+        return no_more
 
-    user.wants(['index', 'locked', '--schema', schema, 'b.jsonl'], 2, '', 'nequllpa: locked: the folder refused', before=no_room)
-    told = user.wants(['check', 'locked'], 0)
-    if not told.startswith(f'{len(docs)} documents; '):
-        raise Failed(f'after a write with no room: {told!r}')
+    sizes = sorted({os.path.getsize(os.path.join(locked, name)) for name in os.listdir(locked)})
+    for size in [0, 1] + [size // 4 for size in sizes]:
+        user.wants(['index', 'locked', '--schema', schema, 'b.jsonl'], 2, '', 'nequllpa: locked: the folder refused', before=room_for(size))
+        told = user.wants(['check', 'locked'], 0)
+        if not told.startswith(f'{len(docs)} documents; '):
+            raise Failed(f'after a write with room for {size} bytes: {told!r}')
+        user.wants(['index', 'new', '--schema', schema, 'b.jsonl'], 2, '', 'make room', before=room_for(size))
+        user.wants(['check', 'new'], 1, 'new: no index here\n')
 
 
 def measured(user, docs):
@@ -322,7 +402,9 @@ def main():
             searches(user, docs, chosen)
             values(user, docs)
             refusals(user, docs)
-            damages(user, chosen, 20)
+            ids(user)
+            damages(user, chosen, 82)
+            places_of_damage(user)
             stopped(user, docs)
             if large:
                 measured(user, list(texts.documents(texts.large_texts(), large * 1e6)))

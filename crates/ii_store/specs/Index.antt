@@ -73,6 +73,7 @@ used_slot None = Second
 used_slot (Some meta) = slot_in meta
 
 infixl 10 ◌>>=◌
+-- a step after another, unless a fault was found
 abbrev pub ◌>>=◌ : {A B : Type 0} → Result A IndexFault → (A → Result B IndexFault) → Result B IndexFault
 (Ok x) >>= f = f x
 (Err e) >>= f = Err e
@@ -125,11 +126,12 @@ index_in (Some meta) files = index_at meta (files Schema) (files Terms) (files P
 unfoldable pub index_of : Files → Result Index IndexFault
 index_of files = index_in (files Meta) (λ kind. files (File (used_slot (files Meta)) kind))
 
--- what a call answered, by a view, is this, unless the directory refused or there was no memory
+-- a fault is this one, unless the directory refused or there was no memory
 abbrev pub Fails : {Y : Type 0} → StoreFault → Result Y IndexFault → Type 0
 Fails (faults.Directory fault) wanted = ⊤
 Fails (faults.Index fault) wanted = wanted ≡ Err fault
 
+-- what a call answered, by a view, is this, unless the directory refused or there was no memory
 abbrev pub Gives : {X Y : Type 0} → (X → Y) → Result X StoreFault → Result Y IndexFault → Type 0
 Gives view (Ok x) wanted = wanted ≡ Ok (view x)
 Gives view (Err e) wanted = Fails e wanted

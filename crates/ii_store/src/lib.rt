@@ -5,6 +5,7 @@
 pub mod directory;
 pub mod faults;
 pub mod folder;
+pub mod left_index;
 pub mod memory_directory;
 pub mod meta;
 pub mod name;
@@ -14,6 +15,7 @@ pub mod stored_index;
 pub use directory::Directory;
 pub use faults::{DirectoryFault, IndexFault, StoreFault};
 pub use folder::Folder;
+pub use left_index::{LeftFile, LeftIndex, load_left};
 pub use memory_directory::MemoryDirectory;
 pub use name::{Kind, Name, Slot};
 pub use stored_index::{StoredIndex, load};

@@ -1,8 +1,8 @@
 //! The guard of an index: the file `meta`, 249 bytes. docs/FORMATS draws it.
-ghost use Rattle.std.specs.Prelude.{◌≡◌, ◌<◌, ◌^◌, ◌++◌, bytes_eq, length, IfOk, Ok, OnOk, Some};
+ghost use Rattle.std.specs.Prelude.{◌≡◌, ◌≤◌, ◌<◌, ◌^◌, ◌++◌, bytes_eq, length, Err, IfOk, MatchOption, Ok, OnOk, Some};
 ghost use Rattle.std.specs.Int.{w64, to_le_bytes};
 ghost use Rattle.sha2.specs.Sha256.{sha256};
-ghost use Rattle.ii_store.specs.Index.{Index, entry, guard, guarded, head, index_at, num_docs_in, slot_in, version_in, view, whole_num_docs_in};
+ghost use Rattle.ii_store.specs.Index.{Index, entry, file_in, guard, guarded, head, index_at, num_docs_in, slot_in, version_in, view, whole_num_docs_in};
 
 use crate::faults::{DirectoryFault, IndexFault};
 use crate::name::{Kind, Slot};
@@ -17,17 +17,32 @@ pub const VERSION: u32 = 1;
 const FORMAT: &[u8] = b"nequllpa";
 
 // Whether bytes are the checksum of a file.
-pub(crate) fn is_checksum(bytes: &[u8], file: &[u8]) -> bool
+fn is_checksum(bytes: &[u8], file: &[u8]) -> bool
     ensures { result ≡ bytes_eq bytes.now (sha256 file.now) }
 {
     bytes == Sha256::digest(file).as_slice()
 }
 
 // Whether bytes are the length of a file.
-pub(crate) fn is_len(bytes: &[u8], len: usize) -> bool
+fn is_len(bytes: &[u8], len: usize) -> bool
     ensures { result ≡ bytes_eq bytes.now (to_le_bytes w64 len) }
 {
     bytes == (len as u64).to_le_bytes().as_slice()
+}
+
+// Why a file isn't as its entry says, if it isn't: its length comes before its checksum.
+#[tactic(auto, unfolding(crate::specs::Index::file_in))]
+pub(crate) fn fault_by(kind: Kind, entry: &[u8], bytes: &[u8]) -> Option<IndexFault>
+    requires { 40 ≤ length entry.now }
+    ensures { MatchOption result (file_in kind entry.now (Some bytes.now) ≡ Ok bytes.now) (λ fault. file_in kind entry.now (Some bytes.now) ≡ Err fault) }
+{
+    if !is_len(&entry[..8], bytes.len()) {
+        return Some(IndexFault::WrongLength(kind));
+    }
+    if !is_checksum(&entry[8..40], bytes) {
+        return Some(IndexFault::WrongChecksum(kind));
+    }
+    None
 }
 
 // The slot that a guard names.

@@ -5,7 +5,7 @@ ghost use Rattle.ii_store.specs.Index.{Gives, bytes_of, file_in, index_in, index
 
 use crate::directory::Directory;
 use crate::faults::{IndexFault, StoreFault};
-use crate::meta::{checked_num_docs, is_checksum, is_len, slot_named};
+use crate::meta::{checked_num_docs, fault_by, slot_named};
 use crate::name::{Kind, Name, Slot};
 use std::alloc::Global;
 
@@ -95,11 +95,8 @@ fn load_file<D: Directory>(
         return Err(StoreFault::Index(IndexFault::Missing(kind)));
     };
     let (_, entry) = meta.split_at(place);
-    if !is_len(&entry[..8], bytes.len()) {
-        return Err(StoreFault::Index(IndexFault::WrongLength(kind)));
+    match fault_by(kind, entry, bytes.as_slice()) {
+        None => Ok(bytes),
+        Some(fault) => Err(StoreFault::Index(fault)),
     }
-    if !is_checksum(&entry[8..40], bytes.as_slice()) {
-        return Err(StoreFault::Index(IndexFault::WrongChecksum(kind)));
-    }
-    Ok(bytes)
 }

@@ -1,7 +1,7 @@
 use ii_store::save::{remove_unused, save};
 use ii_store::{
-    Directory, DirectoryFault, Folder, Kind, MemoryDirectory, Name, Slot, StoreFault, StoredIndex,
-    load,
+    Directory, DirectoryFault, Folder, Kind, LeftIndex, MemoryDirectory, Name, Slot, StoreFault,
+    StoredIndex, load, load_left,
 };
 use std::alloc::Global;
 use std::fs;
@@ -108,6 +108,55 @@ fn each_fault_has_its_name(rt: HostRuntime) -> Result<(), Fail> {
     assert!(rt;
         told.as_str()
             == "no index here; an index of version 2; the file meta is damaged; the file of postings is missing; the file of postings has another length than meta says; the file of postings has another checksum than meta says; found"
+    );
+    Ok(())
+}
+
+// What is left of an index, a line for each file: how many bytes it has, and its fault.
+fn told_left(alloc: Global, left: &LeftIndex) -> Result<String, DirectoryFault> {
+    let mut told = format!(in alloc; "{} documents", left.num_docs)?;
+    for number in 0..Kind::COUNT {
+        let file = left.file_of(Kind::at(number));
+        match file.fault {
+            Some(fault) => write!(told, "; {} bytes, {fault}", file.bytes.len())?,
+            None => write!(told, "; {} bytes", file.bytes.len())?,
+        }
+    }
+    Ok(told)
+}
+
+fn told_left_of<D: Directory>(alloc: Global, directory: &D) -> Result<String, DirectoryFault> {
+    match load_left(alloc, directory) {
+        Ok(left) => told_left(alloc, &left),
+        Err(StoreFault::Index(fault)) => Ok(format!(in alloc; "{fault}")?),
+        Err(StoreFault::Directory(fault)) => Ok(format!(in alloc; "{fault}")?),
+    }
+}
+
+// The same of an index whose files of postings, positions and norms were changed, cut and taken away, and
+// of one whose guard was cut.
+fn all_told_left(alloc: Global) -> Result<String, DirectoryFault> {
+    let mut directory = MemoryDirectory::new(alloc);
+    save(alloc, &mut directory, &index_of(alloc, 7)?)?;
+    let whole = told_left_of(alloc, &directory)?;
+    directory.write(Name::File(Slot::First, Kind::Postings), &OTHER_VERSION[..2])?;
+    directory.write(
+        Name::File(Slot::First, Kind::Positions),
+        &OTHER_VERSION[..3],
+    )?;
+    directory.remove(Name::File(Slot::First, Kind::FieldNorms))?;
+    let changed = told_left_of(alloc, &directory)?;
+    directory.write(Name::Meta, OTHER_VERSION)?;
+    let version = told_left_of(alloc, &directory)?;
+    Ok(format!(in alloc; "{whole}\n{changed}\n{version}")?)
+}
+
+#[test]
+fn files_are_left_with_their_faults(rt: HostRuntime) -> Result<(), Fail> {
+    let told = all_told_left(rt.alloc()).ok().ok_or("memory")?;
+    assert!(rt;
+        told.as_str()
+            == "7 documents; 2 bytes; 3 bytes; 2 bytes; 0 bytes; 1 bytes\n7 documents; 2 bytes; 3 bytes; 2 bytes, the file of postings has another checksum than meta says; 3 bytes, the file of positions has another length than meta says; 0 bytes, the file of field norms is missing\nan index of version 2"
     );
     Ok(())
 }

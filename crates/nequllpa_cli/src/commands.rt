@@ -6,7 +6,7 @@ use ii_base::{AsciiTokenizer, Field, Term, ValueType};
 use ii_search::{Query, parse_query};
 use ii_store::{Folder, Kind, StoreFault, StoredIndex, load};
 use nequllpa_folder::{
-    AnswerFault, Checked, Found, Opened, TermChoice, check, term_of, write_fields, write_found,
+    AnswerFault, Listing, Opened, TermChoice, term_of, write_count, write_fields, write_listing,
     write_postings, write_stats, write_terms,
 };
 use std::fmt::Display;
@@ -28,11 +28,6 @@ pub fn answer_search(
         Ok(limit) => limit.unwrap_or(u32::MAX),
         Err(status) => return Ok(ExitCode::from(status)),
     };
-    let how = if given.get_flag("count") {
-        Found::Count
-    } else {
-        Found::Documents(limit)
-    };
     let opened = match opened_at(rt, path)? {
         Ok(opened) => opened,
         Err(status) => return Ok(ExitCode::from(status)),
@@ -45,7 +40,17 @@ pub fn answer_search(
         return Ok(ExitCode::from(REFUSED));
     }
     let mut out = BufWriter::new(rt.alloc(), io::writer(rt))?;
-    let found = write_found(rt.alloc(), &mut out, &opened, &query, how);
+    let found = if given.get_flag("count") {
+        write_count(rt.alloc(), &mut out, &opened, &query)
+    } else {
+        let how = Listing {
+            limit,
+            as_json: given.get_flag("json"),
+            with_positions: given.get_flag("positions"),
+            by_id: given.get_flag("ids"),
+        };
+        write_listing(rt.alloc(), &mut out, &opened, &query, how)
+    };
     out.flush()?;
     ended(rt, path, found)
 }
@@ -161,39 +166,6 @@ pub fn answer_fields(rt: &HostRuntime, path: &str) -> anyhow::Result<ExitCode> {
     let written = write_fields(rt.alloc(), &mut out, &opened);
     out.flush()?;
     ended(rt, path, written.map(|()| true))
-}
-
-/// Tells whether the files of a folder are an index, each as it was saved, and all that is in them fits.
-pub fn answer_check(rt: &HostRuntime, path: &str) -> anyhow::Result<ExitCode> {
-    let opened = match opened_at(rt, path)? {
-        Ok(opened) => opened,
-        Err(status) => return Ok(ExitCode::from(status)),
-    };
-    let mut out = BufWriter::new(rt.alloc(), io::writer(rt))?;
-    let checked = check(rt.alloc(), &mut out, &opened);
-    out.flush()?;
-    match checked {
-        Ok(checked) => {
-            print_checked(rt, &opened, checked)?;
-            ended(rt, path, Ok(checked.damages == 0))
-        }
-        Err(fault) => ended(rt, path, Err(fault)),
-    }
-}
-
-// What was looked at.
-fn print_checked(rt: &HostRuntime, opened: &Opened, checked: Checked) -> anyhow::Result<()> {
-    let num_docs = opened.num_docs();
-    let Checked {
-        terms,
-        postings,
-        positions,
-        damages,
-    } = checked;
-    println!(rt; "{num_docs} documents; each file is as it was saved")?;
-    println!(rt; "{terms} terms, {postings} postings, {positions} positions")?;
-    println!(rt; "{damages} damages")?;
-    Ok(())
 }
 
 /// Tells how many documents an index has, how long its files are, and what its lists take.
@@ -328,7 +300,7 @@ fn number_given(
 }
 
 // The status of an answer, which is "yes", "no", or none because of a fault.
-fn ended(
+pub fn ended(
     rt: &HostRuntime,
     path: &str,
     answer: Result<bool, AnswerFault>,

@@ -15,6 +15,9 @@ use std::time::Instant;
 // After so many bytes of input it is told how far it came.
 const STEP: u64 = 16 << 20;
 
+// Indexing takes about so many bytes of memory for each byte of input: its lines, and then the index.
+const MEMORY_MULTIPLE: u32 = 11;
+
 // What is done while input is read.
 #[derive(Drop)]
 struct Intake {
@@ -51,6 +54,9 @@ pub fn answer_index(
         told: 0,
         begun: Instant::now(rt)?,
     };
+    eprintln!(rt;
+        "nequllpa: this takes about {MEMORY_MULTIPLE} bytes of memory for each byte of input"
+    )?;
     if let Err(status) = take_inputs(rt, given, &mut intake)? {
         return Ok(ExitCode::from(status));
     }
@@ -210,7 +216,11 @@ fn save_index(
         return Ok(ExitCode::from(refuse_path(rt, path, e.kind())?));
     }
     if let Err(fault) = put(rt, path, &stored) {
-        return Ok(ExitCode::from(refuse_path(rt, path, fault)?));
+        let status = refuse_path(rt, path, fault)?;
+        eprintln!(rt;
+            "nequllpa: the folder has a whole index still, if it had one; make room, or let it be written, and index again"
+        )?;
+        return Ok(ExitCode::from(status));
     }
     if bad_lines > 0 {
         println!(rt;

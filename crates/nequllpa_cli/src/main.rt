@@ -1,13 +1,13 @@
 //! A program over an index of JSON lines in a folder: it makes one, searches it and looks into it.
 #![tactic(auto)]
 
+mod checking;
 mod commands;
 mod indexing;
 mod usage;
 
-use commands::{
-    answer_check, answer_fields, answer_postings, answer_search, answer_stats, answer_terms,
-};
+use checking::answer_check;
+use commands::{answer_fields, answer_postings, answer_search, answer_stats, answer_terms};
 use indexing::answer_index;
 use std::process::ExitCode;
 

@@ -22,7 +22,7 @@ pub fn command<'a>(alloc: Global) -> Result<Command<'a>, AllocError> {
         .subcommand(of_folder(
             alloc,
             "check",
-            "Looks whether each file is as it was saved, walks every list of every term, and compares the norms with the counts; status 1 where something is damaged",
+            "Looks whether each file is as it was saved, walks every list of every term, and compares the norms with the counts; prints for each damage the file, the field, the term, the part and the range of its bytes; status 1 where something is damaged",
         )?)?
         .subcommand(of_folder(
             alloc,
@@ -49,7 +49,7 @@ fn index_command<'a>(alloc: Global) -> Result<Command<'a>, AllocError> {
     of_folder(
         alloc,
         "index",
-        "Indexes JSON lines: the folder then has the index of these, in place of the one that it had",
+        "Indexes JSON lines: the folder then has the index of these, in place of the one that it had. Takes about 11 bytes of memory for each byte of input",
     )?
     .arg(files)?
     .arg(schema)?
@@ -79,6 +79,21 @@ fn search_command<'a>(alloc: Global) -> Result<Command<'a>, AllocError> {
         .long("count")
         .action(ArgAction::SetTrue)
         .help("Prints how many documents there are, alone");
+    let positions = flag(
+        alloc,
+        "positions",
+        "Prints behind each document the terms of the query that stand in it, each with its positions: parted by tabs, as FIELD:TERM P P",
+    );
+    let ids = flag(
+        alloc,
+        "ids",
+        "Prints the value of the field id, where the schema has one, in place of the number of a document",
+    );
+    let json = flag(
+        alloc,
+        "json",
+        "Prints an object of JSON for each document: doc, its number; with --ids id; with --positions terms, each with field, term and positions",
+    );
     of_folder(
         alloc,
         "search",
@@ -87,7 +102,18 @@ fn search_command<'a>(alloc: Global) -> Result<Command<'a>, AllocError> {
     .arg(query)?
     .arg(field)?
     .arg(limit)?
-    .arg(count)
+    .arg(count)?
+    .arg(positions)?
+    .arg(ids)?
+    .arg(json)
+}
+
+// A word that is given or not.
+fn flag<'a>(alloc: Global, name: &'a str, help: &'a str) -> Arg<'a> {
+    Arg::new(alloc, name)
+        .long(name)
+        .action(ArgAction::SetTrue)
+        .help(help)
 }
 
 fn terms_command<'a>(alloc: Global) -> Result<Command<'a>, AllocError> {

@@ -1,1 +1,5 @@
+mod FindingLemmas
+mod LocatedLemmas
+mod QueryLemmas
 mod StoredLaws
+mod TableLemmas

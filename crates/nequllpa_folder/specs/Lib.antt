@@ -1,1 +1,5 @@
+pub mod Bodies
+pub mod Finding
+pub mod Located
+pub mod Positions
 pub mod Stored

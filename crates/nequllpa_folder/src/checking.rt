@@ -1,18 +1,20 @@
-//! Looking into every list of an index.
-ghost use Rattle.std.specs.Prelude.{◌<◌, length};
-ghost use Rattle.ii_docset.specs.Cursor.{IsCurrent};
-
+//! Looking into every list of the files of an index, whatever they hold.
 use crate::faults::AnswerFault;
 use crate::keys::push_key;
-use crate::opened::Opened;
-use ii_base::{Fault, Field, IndexRecordOption, Part};
-use ii_docset::{DocSet, Postings, TERMINATED};
+use crate::walked_files::{OpenedField, WalkedFiles};
+use crate::walking::{DamagedTerm, StrayTerm, Walk};
+use ii_base::{Field, FieldEntry, Part, Schema};
 use ii_fieldnorm::{FieldNormReader, fieldnorm_to_id};
-use ii_reader::{InvertedIndexReader, SegmentPostings};
+use ii_reader::InvertedIndexReader;
+use ii_store::{Kind, StoredIndex};
 use ii_termdict::TermInfo;
 use std::alloc::Global;
 use std::io::Write;
+use std::ops::Range;
 use thiserror::Error;
+
+// How many bytes of a field's postings tell its number of tokens, in front of all lists.
+const TOKEN_COUNT_SIZE: u64 = 8;
 
 /// What was looked at, and how often something was wrong.
 #[derive(Clone, Copy, Debug, PartialEq, Eq)]
@@ -33,175 +35,19 @@ impl Checked {
             damages: 0,
         }
     }
-}
 
-/// Walks every list of every term with its counts and positions, compares the norms with the counts, and
-/// writes a line for each damage: its field, its term, and the part, or what doesn't fit.
-pub fn check<W: Write>(
-    alloc: Global,
-    out: &mut W,
-    opened: &Opened,
-) -> Result<Checked, AnswerFault> {
-    let mut checked = Checked::nothing();
-    for id in 0..opened.schema().num_fields() {
-        let field = Field::from_field_id(id as u32);
-        check_field(alloc, out, opened, field, &mut checked)?;
+    // Counts what was walked of a field.
+    fn add(&mut self, terms: usize, walk: &Walk) {
+        self.terms = self.terms.saturating_add(terms as u64);
+        self.postings = self.postings.saturating_add(walk.postings);
+        self.positions = self.positions.saturating_add(walk.positions);
     }
-    Ok(checked)
-}
-
-// Walks the lists of a field.
-fn check_field<W: Write>(
-    alloc: Global,
-    out: &mut W,
-    opened: &Opened,
-    field: Field,
-    checked: &mut Checked,
-) -> Result<(), AnswerFault>
-    requires { field < length opened.now.schema }
-{
-    let reader = opened.reader(field);
-    let mut terms = reader.terms().stream();
-    let mut walk = Walk::new(alloc, opened.num_docs())?;
-    let mut text = String::new(alloc);
-    for _ in 0..reader.terms().num_terms() {
-        let Some((key, info)) = terms.next() else {
-            return Ok(());
-        };
-        checked.terms = checked.terms.saturating_add(1);
-        if let Some(damage) = walk.check_term(reader, &info, checked)? {
-            checked.damages = checked.damages.saturating_add(1);
-            text.clear();
-            push_key(&mut text, opened.entry(field).value_type(), key)?;
-            let name = opened.entry(field).name();
-            writeln!(out, "field {name}, term {text}: {damage}")?;
-        }
-    }
-    if let Some(damage) = walk.check_field(opened, field)? {
-        checked.damages = checked.damages.saturating_add(1);
-        let name = opened.entry(field).name();
-        writeln!(out, "field {name}: {damage}")?;
-    }
-    Ok(())
-}
-
-// What is known of the documents of a field, from the lists that were walked.
-#[derive(Drop)]
-struct Walk {
-    // how many tokens each document has, and all of them
-    counts: Vec<u32>,
-    tokens: u64,
-    // the positions of the last document
-    positions: Vec<u32>,
-}
-
-impl Walk {
-    // No list was walked yet.
-    fn new(alloc: Global, num_docs: u32) -> Result<Walk, AnswerFault> {
-        Ok(Walk {
-            counts: vec![in alloc; 0u32; num_docs as usize]?,
-            tokens: 0,
-            positions: Vec::new(alloc),
-        })
-    }
-
-    // Walks the list of a term, and tells what is damaged.
-    fn check_term(
-        &mut self,
-        reader: &InvertedIndexReader,
-        info: &TermInfo,
-        checked: &mut Checked,
-    ) -> Result<Option<Damage>, AnswerFault> {
-        let option = reader.record_option();
-        let mut cursor = match reader.read_postings_from_terminfo(info, option) {
-            Ok(cursor) => cursor,
-            Err(Fault::Damaged(part)) => return Ok(Some(Damage::Part(part))),
-            Err(fault) => return Err(AnswerFault::Index(fault)),
-        };
-        for _ in 0..cursor.doc_freq() {
-            if cursor.doc() >= TERMINATED {
-                return Ok(None);
-            }
-            if let Some(damage) = self.check_posting(&mut cursor, option, checked)? {
-                return Ok(Some(damage));
-            }
-            cursor.advance();
-        }
-        Ok(None)
-    }
-
-    // Looks at the current document.
-    fn check_posting(
-        &mut self,
-        cursor: &mut SegmentPostings,
-        option: IndexRecordOption,
-        checked: &mut Checked,
-    ) -> Result<Option<Damage>, AnswerFault>
-        requires { IsCurrent cursor.old.rest }
-    {
-        let doc = cursor.doc();
-        checked.postings = checked.postings.saturating_add(1);
-        let freq = cursor.term_freq();
-        let Some(count) = self.counts.get_mut(doc as usize) else {
-            return Ok(Some(Damage::Document(doc)));
-        };
-        *count = (*count).saturating_add(freq);
-        self.tokens = self.tokens.saturating_add(u64::from(freq));
-        if !option.has_positions() {
-            return Ok(None);
-        }
-        cursor.positions(&mut self.positions)?;
-        checked.positions = checked
-            .positions
-            .saturating_add(self.positions.len() as u64);
-        Ok(None)
-    }
-
-    // Compares the number of tokens and the norms of a field with what was walked.
-    fn check_field(&self, opened: &Opened, field: Field) -> Result<Option<Damage>, AnswerFault>
-        requires { field < length opened.now.schema }
-    {
-        let reader = opened.reader(field);
-        let is_counted = reader.record_option().has_freq();
-        if is_counted && reader.total_num_tokens() != self.tokens {
-            return Ok(Some(Damage::Tokens(reader.total_num_tokens(), self.tokens)));
-        }
-        if !opened.entry(field).has_fieldnorms() {
-            return Ok(None);
-        }
-        let norms = match opened.index().get_fieldnorms_reader(field) {
-            Ok(Some(norms)) => norms,
-            Ok(None) => return Ok(Some(Damage::NoNorms)),
-            Err(Fault::Damaged(part)) => return Ok(Some(Damage::Part(part))),
-            Err(fault) => return Err(AnswerFault::Index(fault)),
-        };
-        if norms.num_docs() as usize != self.counts.len() {
-            return Ok(Some(Damage::Norms(norms.num_docs())));
-        }
-        if !is_counted {
-            return Ok(None);
-        }
-        Ok(first_other_norm(&norms, &self.counts))
-    }
-}
-
-// The first document whose norm isn't that of its number of tokens.
-fn first_other_norm(norms: &FieldNormReader, counts: &Vec<u32>) -> Option<Damage> {
-    for doc in 0..norms.num_docs() {
-        let Some(count) = counts.get(doc as usize) else {
-            return None;
-        };
-        if norms.fieldnorm_id(doc) != fieldnorm_to_id(*count) {
-            return Some(Damage::Norm(doc, *count));
-        }
-    }
-    None
 }
 
 /// What of an index doesn't fit the rest.
 #[derive(Clone, Copy, Debug, PartialEq, Eq, Error)]
 pub enum Damage {
-    /// The bytes of a term don't hold this part.
+    /// The bytes don't hold this part.
     #[error("damaged {0}")]
     Part(Part),
     /// A document that the index doesn't have.
@@ -219,4 +65,268 @@ pub enum Damage {
     /// A document has so many tokens of the field, and the norm of another number.
     #[error("document {0} has {1} tokens, and the norm of another number")]
     Norm(u32, u32),
+}
+
+/// Walks every list of every term of the fields of a schema, with counts and positions, compares the norms
+/// with the counts, and writes a line for each damage: its file, field and term, the part, or what doesn't
+/// fit, and where the bytes lie in the file. What the files hold is no fault: a field whose bodies are
+/// damaged is told and left out, and what was counted of it is compared only where no list is damaged.
+pub fn check<W: Write>(
+    alloc: Global,
+    out: &mut W,
+    schema: &Schema,
+    stored: StoredIndex,
+) -> Result<Checked, AnswerFault> {
+    let num_docs = stored.num_docs;
+    let files = WalkedFiles::open(alloc, stored)?;
+    let mut checked = Checked::nothing();
+    check_tables(out, &files, &mut checked)?;
+    for (field, entry) in schema.fields() {
+        let walked = WalkedField {
+            files: &files,
+            field,
+            entry,
+            num_docs,
+        };
+        walked.check(alloc, out, &mut checked)?;
+    }
+    Ok(checked)
+}
+
+// Writes a line for each file whose table is damaged.
+fn check_tables<W: Write>(
+    out: &mut W,
+    files: &WalkedFiles,
+    checked: &mut Checked,
+) -> Result<(), AnswerFault> {
+    for kind in [
+        Kind::Terms,
+        Kind::Postings,
+        Kind::Positions,
+        Kind::FieldNorms,
+    ] {
+        let file = files.file(kind);
+        if !file.is_whole() {
+            checked.damages = checked.damages.saturating_add(1);
+            let damage = Damage::Part(Part::Composite);
+            writeln!(out, "the file of {kind}: {damage}, bytes 0..{}", file.len())?;
+        }
+    }
+    Ok(())
+}
+
+// A field whose lists are walked.
+#[derive(Clone, Copy)]
+struct WalkedField<'a> {
+    files: &'a WalkedFiles,
+    field: Field,
+    entry: &'a FieldEntry,
+    num_docs: u32,
+}
+
+impl WalkedField<'_> {
+    // Walks its lists, and compares its norms with them.
+    fn check<W: Write>(
+        &self,
+        alloc: Global,
+        out: &mut W,
+        checked: &mut Checked,
+    ) -> Result<(), AnswerFault> {
+        let option = self.entry.index_record_option();
+        let reader = match self.files.open_field(self.field, option)? {
+            OpenedField::Reader(reader) => reader,
+            OpenedField::Damaged(kind, part) => {
+                if !self.files.file(kind).is_whole() {
+                    return Ok(());
+                }
+                let place = self.files.file(kind).place(self.field);
+                return self.tell(out, checked, kind, None, Damage::Part(part), place);
+            }
+        };
+        let mut walk = Walk::new(alloc, self.num_docs)?;
+        let damaged = walk.walk_terms(alloc, &reader)?;
+        checked.add(reader.terms().num_terms(), &walk);
+        self.tell_terms(alloc, out, checked, &reader, &damaged, &walk.strays)?;
+        if !damaged.is_empty() || !walk.strays.is_empty() || !self.is_walked() {
+            return Ok(());
+        }
+        self.check_tokens(out, checked, &reader, walk.tokens)?;
+        self.check_norms(out, checked, &reader, &walk.counts)
+    }
+
+    // Whether no table hides lists of the field.
+    fn is_walked(&self) -> bool {
+        self.files.file(Kind::Terms).is_whole()
+    }
+
+    // Writes a line for each damaged term.
+    fn tell_terms<W: Write>(
+        &self,
+        alloc: Global,
+        out: &mut W,
+        checked: &mut Checked,
+        reader: &InvertedIndexReader,
+        damaged: &[DamagedTerm],
+        strays: &[StrayTerm],
+    ) -> Result<(), AnswerFault> {
+        for term in damaged {
+            self.tell_term(
+                alloc,
+                out,
+                checked,
+                reader,
+                term.ord,
+                Damage::Part(term.part),
+            )?;
+        }
+        for term in strays {
+            self.tell_term(
+                alloc,
+                out,
+                checked,
+                reader,
+                term.ord,
+                Damage::Document(term.doc),
+            )?;
+        }
+        Ok(())
+    }
+
+    // Writes a line for a term.
+    fn tell_term<W: Write>(
+        &self,
+        alloc: Global,
+        out: &mut W,
+        checked: &mut Checked,
+        reader: &InvertedIndexReader,
+        ord: u64,
+        damage: Damage,
+    ) -> Result<(), AnswerFault> {
+        if ord >= reader.terms().num_terms() as u64 {
+            return Ok(());
+        }
+        let key = reader.terms().key(ord);
+        let Some(info) = reader.terms().get(key) else {
+            return Ok(());
+        };
+        let mut text = String::new(alloc);
+        push_key(&mut text, self.entry.value_type(), key)?;
+        let (kind, place) = self.place_of(&info, damage);
+        self.tell(out, checked, kind, Some(text.as_str()), damage, place)
+    }
+
+    // The file that a damage of a term lies in, and where: its list of positions, its postings, or, where
+    // these lie outside, the terms of the field.
+    fn place_of(&self, info: &TermInfo, damage: Damage) -> (Kind, Range<u64>) {
+        match damage {
+            Damage::Part(Part::Range) => {
+                (Kind::Terms, self.files.file(Kind::Terms).place(self.field))
+            }
+            Damage::Part(Part::Positions) => {
+                let body = self.files.file(Kind::Positions).place(self.field);
+                (Kind::Positions, within(body.start, &info.positions_range))
+            }
+            _ => {
+                let body = self.files.file(Kind::Postings).place(self.field);
+                let lists = body.start.saturating_add(TOKEN_COUNT_SIZE);
+                (Kind::Postings, within(lists, &info.postings_range))
+            }
+        }
+    }
+
+    // Compares the number of tokens that the field tells with those that were walked.
+    fn check_tokens<W: Write>(
+        &self,
+        out: &mut W,
+        checked: &mut Checked,
+        reader: &InvertedIndexReader,
+        tokens: u64,
+    ) -> Result<(), AnswerFault> {
+        let told = reader.total_num_tokens();
+        if !reader.record_option().has_freq() || told == tokens {
+            return Ok(());
+        }
+        let start = self.files.file(Kind::Postings).place(self.field).start;
+        let place = start..start.saturating_add(TOKEN_COUNT_SIZE);
+        let damage = Damage::Tokens(told, tokens);
+        self.tell(out, checked, Kind::Postings, None, damage, place)
+    }
+
+    // Compares the norms with the numbers of tokens that were walked.
+    fn check_norms<W: Write>(
+        &self,
+        out: &mut W,
+        checked: &mut Checked,
+        reader: &InvertedIndexReader,
+        counts: &Vec<u32>,
+    ) -> Result<(), AnswerFault> {
+        let file = self.files.file(Kind::FieldNorms);
+        if !self.entry.has_fieldnorms() || !file.is_whole() {
+            return Ok(());
+        }
+        let body = file.place(self.field);
+        let damage = match file.body(self.field)? {
+            None => Some(Damage::NoNorms),
+            Some(ids) => match FieldNormReader::open(ids) {
+                Ok(norms) => first_damage(&norms, counts, reader.record_option().has_freq()),
+                Err(_) => Some(Damage::Part(Part::FieldNorms)),
+            },
+        };
+        let Some(damage) = damage else {
+            return Ok(());
+        };
+        let place = match damage {
+            Damage::Norm(doc, _) => within(body.start, &(doc as usize..doc as usize + 1)),
+            _ => body,
+        };
+        self.tell(out, checked, Kind::FieldNorms, None, damage, place)
+    }
+
+    // Writes a line for a damage, and counts it.
+    fn tell<W: Write>(
+        &self,
+        out: &mut W,
+        checked: &mut Checked,
+        kind: Kind,
+        term: Option<&str>,
+        damage: Damage,
+        place: Range<u64>,
+    ) -> Result<(), AnswerFault> {
+        checked.damages = checked.damages.saturating_add(1);
+        write!(out, "the file of {kind}, field {}", self.entry.name())?;
+        if let Some(term) = term {
+            write!(out, ", term {term}")?;
+        }
+        writeln!(out, ": {damage}, bytes {}..{}", place.start, place.end)?;
+        Ok(())
+    }
+}
+
+// A range of bytes that begins at a place.
+fn within(start: u64, range: &Range<usize>) -> Range<u64> {
+    start.saturating_add(range.start as u64)..start.saturating_add(range.end as u64)
+}
+
+// What is wrong with the norms of a field whose documents have these numbers of tokens.
+fn first_damage(norms: &FieldNormReader, counts: &Vec<u32>, is_counted: bool) -> Option<Damage> {
+    if norms.num_docs() as usize != counts.len() {
+        return Some(Damage::Norms(norms.num_docs()));
+    }
+    if !is_counted {
+        return None;
+    }
+    first_other_norm(norms, counts)
+}
+
+// The first document whose norm isn't that of its number of tokens.
+fn first_other_norm(norms: &FieldNormReader, counts: &Vec<u32>) -> Option<Damage> {
+    for doc in 0..norms.num_docs() {
+        let Some(count) = counts.get(doc as usize) else {
+            return None;
+        };
+        if norms.fieldnorm_id(doc) != fieldnorm_to_id(*count) {
+            return Some(Damage::Norm(doc, *count));
+        }
+    }
+    None
 }

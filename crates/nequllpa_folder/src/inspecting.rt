@@ -9,71 +9,22 @@ use crate::opened::Opened;
 use ii_base::{Field, FieldEntry, IndexRecordOption, Term, ValueType};
 use ii_docset::{DocSet, Postings, TERMINATED};
 use ii_reader::{InvertedIndexReader, SegmentPostings};
-use ii_search::{Query, count, search};
+use ii_search::{Query, count};
 use std::alloc::Global;
 use std::io::Write;
 
-/// How a list of documents is written.
-#[derive(Clone, Copy, Debug, PartialEq, Eq)]
-pub enum Found {
-    /// Their number alone.
-    Count,
-    /// The documents, so many at most.
-    Documents(u32),
-}
-
-/// Writes which documents match a query, each on a line, or how many they are; answers whether any does.
-pub fn write_found<W: Write>(
+/// Writes how many documents match a query, and answers whether any does.
+pub fn write_count<W: Write>(
     alloc: Global,
     out: &mut W,
     opened: &Opened,
     query: &Query,
-    how: Found,
 ) -> Result<bool, AnswerFault>
     requires { has_fields (length opened.now.schema) query.now ≡ true }
 {
-    match how {
-        Found::Count => {
-            let many = count(alloc, opened.index(), query)?;
-            writeln!(out, "{many}")?;
-            Ok(many > 0)
-        }
-        Found::Documents(limit) => write_documents(alloc, out, opened, query, limit),
-    }
-}
-
-// Writes the documents, so many at most, and answers whether there are any.
-fn write_documents<W: Write>(
-    alloc: Global,
-    out: &mut W,
-    opened: &Opened,
-    query: &Query,
-    limit: u32,
-) -> Result<bool, AnswerFault>
-    requires { has_fields (length opened.now.schema) query.now ≡ true }
-{
-    match search(alloc, opened.index(), query) {
-        Ok(mut cursor) => write_cursor(out, &mut cursor, limit),
-        Err(fault) => Err(AnswerFault::Index(fault)),
-    }
-}
-
-// Writes the documents that a cursor has left, so many at most, and answers whether there are any.
-fn write_cursor<W: Write, C: DocSet>(
-    out: &mut W,
-    cursor: &mut C,
-    limit: u32,
-) -> Result<bool, AnswerFault> {
-    let any = cursor.doc() < TERMINATED;
-    for _ in 0..limit {
-        let doc = cursor.doc();
-        if doc >= TERMINATED {
-            return Ok(any);
-        }
-        writeln!(out, "{doc}")?;
-        cursor.advance();
-    }
-    Ok(any)
+    let many = count(alloc, opened.index(), query)?;
+    writeln!(out, "{many}")?;
+    Ok(many > 0)
 }
 
 /// Which terms of a field are written.

@@ -4,16 +4,24 @@
 
 pub mod checking;
 pub mod faults;
+pub mod field_bodies;
+pub mod finding;
+pub mod ids;
 pub mod inspecting;
 pub mod keys;
+pub mod listing;
 pub mod opened;
 pub mod stats;
 pub mod storing;
+pub mod walked_files;
+pub mod walking;
 
 pub use checking::{Checked, Damage, check};
 pub use faults::{AnswerFault, InputFault, OpenFault};
-pub use inspecting::{Found, TermChoice, write_fields, write_found, write_postings, write_terms};
+pub use finding::{FoundPlaces, TermPlaces, find_places, first_docs, wanted_terms};
+pub use inspecting::{TermChoice, write_count, write_fields, write_postings, write_terms};
 pub use keys::{push_key, term_of};
-pub use opened::Opened;
+pub use listing::{Listing, write_listing};
+pub use opened::{Opened, schema_of};
 pub use stats::write_stats;
 pub use storing::{add_line, store};

@@ -43,12 +43,9 @@ impl Opened {
             positions,
             fieldnorms,
         } = stored;
-        let Ok(text) = std::str::from_utf8(schema.as_slice()) else {
-            return Err(OpenFault::SchemaBytes);
-        };
-        let schema = match read_schema(alloc, text) {
+        let schema = match schema_of(alloc, schema.as_slice()) {
             Ok(schema) => schema,
-            Err(fault) => return Err(OpenFault::Schema(fault)),
+            Err(fault) => return Err(fault),
         };
         let files = Files {
             terms,
@@ -110,6 +107,19 @@ impl Opened {
             }
         }
         None
+    }
+}
+
+/// The schema that the bytes of an index say, or why they say none.
+pub fn schema_of(alloc: Global, bytes: &[u8]) -> Result<Schema, OpenFault>
+    ensures { (entries : List SchemaEntry) → text_schema bytes.now ≡ Ok entries → IfOk result (λ schema. schema ≡ entries) }
+{
+    let Ok(text) = std::str::from_utf8(bytes) else {
+        return Err(OpenFault::SchemaBytes);
+    };
+    match read_schema(alloc, text) {
+        Ok(schema) => Ok(schema),
+        Err(fault) => Err(OpenFault::Schema(fault)),
     }
 }
 

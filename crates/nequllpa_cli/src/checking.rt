@@ -1,0 +1,110 @@
+//! How the files of a folder are looked through for damage.
+use crate::commands::{NO, ended, refuse_path};
+use ii_base::Schema;
+use ii_store::{Folder, IndexFault, Kind, LeftFile, LeftIndex, StoreFault, load_left};
+use nequllpa_folder::{Checked, check, schema_of};
+use std::io::{self, BufWriter, Write};
+use std::process::ExitCode;
+
+/// Tells whether the files of a folder are an index, each as it was saved, and all that is in them fits.
+pub fn answer_check(rt: &HostRuntime, path: &str) -> anyhow::Result<ExitCode> {
+    let left = match load_left(rt.alloc(), &Folder::new(rt, path)) {
+        Ok(left) => left,
+        Err(StoreFault::Index(fault)) => {
+            println!(rt; "{path}: {fault}")?;
+            return Ok(ExitCode::from(NO));
+        }
+        Err(StoreFault::Directory(fault)) => {
+            return Ok(ExitCode::from(refuse_path(rt, path, fault)?));
+        }
+    };
+    let changed = print_changed(rt, path, &left)?;
+    if left.schema.fault.is_some() {
+        println!(rt; "the lists were not looked at, since they can be read by the schema alone")?;
+        return Ok(ExitCode::from(NO));
+    }
+    match schema_of(rt.alloc(), left.schema.bytes.as_slice()) {
+        Ok(schema) => check_lists(rt, path, &schema, left, changed),
+        Err(fault) => {
+            if fault.is_memory() {
+                return Ok(ExitCode::from(refuse_path(rt, path, fault)?));
+            }
+            println!(rt; "{path}: {fault}")?;
+            Ok(ExitCode::from(NO))
+        }
+    }
+}
+
+// A line for each file that isn't as it was saved; how many they are.
+fn print_changed(rt: &HostRuntime, path: &str, left: &LeftIndex) -> anyhow::Result<u64> {
+    let mut changed = 0u64;
+    for number in 0..Kind::COUNT {
+        let file = left.file_of(Kind::at(number));
+        if let Some(fault) = file.fault {
+            changed = changed.saturating_add(1);
+            print_fault(rt, path, file, fault)?;
+        }
+    }
+    Ok(changed)
+}
+
+// A file that isn't as it was saved, and the bytes that it has.
+fn print_fault(
+    rt: &HostRuntime,
+    path: &str,
+    file: &LeftFile,
+    fault: IndexFault,
+) -> anyhow::Result<()> {
+    match fault {
+        IndexFault::Missing(_) => println!(rt; "{path}: {fault}")?,
+        _ => println!(rt; "{path}: {fault}, bytes 0..{}", file.bytes.len())?,
+    }
+    Ok(())
+}
+
+// Looks into every list of the files.
+fn check_lists(
+    rt: &HostRuntime,
+    path: &str,
+    schema: &Schema,
+    left: LeftIndex,
+    changed: u64,
+) -> anyhow::Result<ExitCode> {
+    let num_docs = left.num_docs;
+    let mut out = BufWriter::new(rt.alloc(), io::writer(rt))?;
+    let checked = check(rt.alloc(), &mut out, schema, left.into_index());
+    out.flush()?;
+    match checked {
+        Ok(checked) => {
+            print_checked(rt, num_docs, changed, checked)?;
+            ended(rt, path, Ok(checked.damages == 0 && changed == 0))
+        }
+        Err(fault) => ended(rt, path, Err(fault)),
+    }
+}
+
+// What was looked at.
+fn print_checked(
+    rt: &HostRuntime,
+    num_docs: u32,
+    changed: u64,
+    checked: Checked,
+) -> anyhow::Result<()> {
+    let Checked {
+        terms,
+        postings,
+        positions,
+        damages,
+    } = checked;
+    if changed == 0 {
+        println!(rt; "{num_docs} documents; each file is as it was saved")?;
+    } else {
+        println!(rt;
+            "{num_docs} documents; {changed} of {} files are not as they were saved",
+            Kind::COUNT
+        )?;
+    }
+    println!(rt; "{terms} terms, {postings} postings, {positions} positions")?;
+    println!(rt; "{damages} damages")?;
+    Ok(())
+}

@@ -1,0 +1,57 @@
+-- What a search finds: documents, and where in them the terms of the query stand.
+use Rattle.std.specs.Prelude.{ℕ, List, [], ◌∷◌, ◌++◌, map, take, Option, Result, Ok}
+use Rattle.std.specs.Option.{option_map}
+use Rattle.ii_io.specs.Parts.{◌>>=◌}
+use Rattle.ii_io.specs.declared.faults.Part.{Part}
+use Rattle.ii_base.specs.Entries.{Entry, docs_of}
+use Rattle.ii_base.specs.Terms.{TermState}
+use Rattle.ii_base.specs.declared.schema.index_record_option.IndexRecordOption.TheVariants.{WithFreqsAndPositions}
+use Rattle.ii_reader.specs.OpenIndex.{OpenIndexState, all_or_first}
+use Rattle.ii_search.specs.declared.query.PhraseTerm.{PhraseTerm}
+use Rattle.ii_search.specs.declared.query.Query.{Query, Empty, All, Term, Phrase, And', Or', AndNot'}
+use Rattle.ii_search.specs.Found.{docs_of_term, found_in}
+use Rattle.nequllpa_folder.specs.Positions.{positions_of}
+use Rattle.nequllpa_folder.specs.declared.finding.FoundPlaces.{FoundPlaces}
+use Rattle.nequllpa_folder.specs.declared.finding.TermPlaces.{TermPlaces}
+
+-- the terms that a query wants, in its order; those behind a "not" are none of them
+abbrev pub wanted_terms : Query → List TermState
+wanted_terms Empty = []
+wanted_terms (All n) = []
+wanted_terms (Term term) = term ∷ []
+wanted_terms (Phrase first others) = first ∷ map (λ (o : PhraseTerm). o.term) others.items
+wanted_terms (And' p first q other) = wanted_terms first ++ wanted_terms other
+wanted_terms (Or' p first q other) = wanted_terms first ++ wanted_terms other
+wanted_terms (AndNot' p first q other) = wanted_terms first
+
+-- where a term stands in each of some documents, or the first part of its list that fails
+abbrev pub term_places : OpenIndexState → List ℕ → TermState → Result (List (Option (List ℕ))) Part
+term_places index docs term = do
+  es ← docs_of_term WithFreqsAndPositions index term
+  Ok (map (positions_of es) docs)
+
+-- the first documents that a query gives, so many at most, or the first part that fails
+abbrev pub first_docs : OpenIndexState → Query → ℕ → Result (List ℕ) Part
+first_docs index query limit = do
+  es ← found_in index query
+  Ok (docs_of (take limit es))
+
+-- documents, and for each term where it stands in each of them
+pub record FoundState : Type 0 where
+  pub docs : List ℕ
+  pub places : List (List (Option (List ℕ)))
+
+-- what a search finds, or the first part that fails
+abbrev pub found_places : OpenIndexState → Query → ℕ → Result FoundState Part
+found_places index query limit = do
+  docs ← first_docs index query limit
+  places ← all_or_first (map (term_places index docs) (wanted_terms query))
+  Ok (record { docs = docs; places = places })
+
+-- the places of a term in memory
+abbrev pub places_view : TermPlaces → List (Option (List ℕ))
+places_view p = map (option_map (λ v. v.items)) p.positions.items
+
+-- what was found in memory
+abbrev pub found_view : FoundPlaces → FoundState
+found_view f = record { docs = f.docs.items; places = map places_view f.places.items }

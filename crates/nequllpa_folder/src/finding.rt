@@ -1,0 +1,279 @@
+//! Which documents match a query, and where in them its terms stand.
+ghost use Rattle.std.specs.Prelude.{◌≡◌, ◌<◌, ◌++◌, IfErr, IfOk, Ok, OnOk, length, map, nat_lt, take, true};
+ghost use Rattle.std.specs.List.{list_all};
+ghost use Rattle.std.specs.Option.{option_map};
+ghost use Rattle.ii_base.specs.declared.schema.index_record_option.IndexRecordOption.TheVariants.{WithFreqsAndPositions};
+ghost use Rattle.ii_base.specs.Entries.{docs_of, document};
+ghost use Rattle.ii_docset.specs.Cursor.{IsAscending, from_doc};
+ghost use Rattle.ii_io.specs.Faults.{OnlyMemory};
+ghost use Rattle.ii_reader.specs.InvertedIndexReader.{IsRefusal};
+ghost use Rattle.ii_reader.specs.OpenIndex.{all_or_first};
+ghost use Rattle.ii_search.specs.Found.{docs_of_term};
+ghost use Rattle.ii_search.specs.Queries.{has_fields};
+ghost use Rattle.nequllpa_folder.specs.Finding.{first_docs, found_places, found_view, places_view, term_places, wanted_terms};
+ghost use Rattle.nequllpa_folder.specs.Positions.{positions_of};
+
+use ii_base::{Fault, IndexRecordOption, Term};
+use ii_docset::{DocId, DocSet, Postings, SeekDangerResult, TERMINATED};
+use ii_reader::{OpenIndex, SegmentPostings};
+use ii_search::{PhraseTerm, Query, search};
+use std::alloc::Global;
+
+/// Where a term stands in documents.
+#[derive(Drop)]
+pub struct TermPlaces {
+    /// Of each document the positions, in ascending order, as far as the field keeps any; nothing where
+    /// the document hasn't the term.
+    pub positions: Vec<Option<Vec<u32>>>,
+}
+
+/// Documents that were found.
+#[derive(Drop)]
+pub struct FoundPlaces {
+    /// The documents, ascending.
+    pub docs: Vec<DocId>,
+    /// Of each term that the query wants (`wanted_terms`) where it stands in these documents.
+    pub places: Vec<TermPlaces>,
+}
+
+/// The documents that match a query, so many at most, and for each term that the query wants where it
+/// stands in them. The fields of the query's terms are those of the index (`Query::has_fields` tells).
+///
+/// `Damaged` by the first part of a list that `InvertedIndexReader::read_postings` refuses, of the terms in
+/// the order of the query; `OutOfMemory` where there is no room for what is found.
+#[tactic(auto, using(crate::proofs::QueryLemmas::found_all, crate::proofs::QueryLemmas::found_refused, crate::proofs::QueryLemmas::refused_memory, crate::proofs::QueryLemmas::refused_then, crate::proofs::QueryLemmas::ascend_slice))]
+pub fn find_places(
+    alloc: Global,
+    index: &OpenIndex,
+    query: &Query,
+    limit: u32,
+) -> Result<FoundPlaces, Fault>
+    requires { has_fields (length index.now.readers) query.now ≡ true }
+    ensures found { IfOk result (λ found. found_places index.now query.now limit ≡ Ok (found_view found)) }
+    ensures refused { IfErr result (IsRefusal (found_places index.now query.now limit)) }
+{
+    let docs = match first_docs(alloc, index, query, limit) {
+        Ok(docs) => docs,
+        Err(fault) => return Err(fault),
+    };
+    match places_of_query(alloc, index, query, docs.as_slice()) {
+        Ok(places) => Ok(FoundPlaces { docs, places }),
+        Err(fault) => Err(fault),
+    }
+}
+
+/// The documents that match a query, ascending, so many at most. See `find_places` for what is asked and
+/// for the faults.
+#[tactic(auto, using(crate::proofs::QueryLemmas::docs_found, crate::proofs::QueryLemmas::docs_found_ascend, crate::proofs::QueryLemmas::docs_refused, crate::proofs::QueryLemmas::refused_memory))]
+pub fn first_docs(
+    alloc: Global,
+    index: &OpenIndex,
+    query: &Query,
+    limit: u32,
+) -> Result<Vec<DocId>, Fault>
+    requires { has_fields (length index.now.readers) query.now ≡ true }
+    ensures found { IfOk result (λ docs. first_docs index.now query.now limit ≡ Ok docs.items) }
+    ensures ascending { IfOk result (λ docs. IsAscending (map document docs.items)) }
+    ensures refused { IfErr result (IsRefusal (first_docs index.now query.now limit)) }
+{
+    let mut cursor = match search(alloc, index, query) {
+        Ok(cursor) => cursor,
+        Err(fault) => return Err(fault),
+    };
+    match take_docs(alloc, &mut cursor, limit) {
+        Ok(docs) => Ok(docs),
+        Err(fault) => Err(fault),
+    }
+}
+
+// The documents that a cursor has left, so many at most.
+#[tactic(auto, using(crate::proofs::FindingLemmas::taking_first, crate::proofs::FindingLemmas::taking_next, crate::proofs::FindingLemmas::taking_ended, crate::proofs::FindingLemmas::taking_all))]
+fn take_docs<C: DocSet>(alloc: Global, cursor: &mut C, limit: u32) -> Result<Vec<DocId>, Fault>
+    ensures taken { IfOk result (λ docs. docs.items ≡ docs_of (take limit (C.rest cursor.old))) }
+    ensures only { OnlyMemory result }
+{
+    let mut docs = Vec::new(alloc);
+    for _i in 0..limit {
+        let doc = cursor.doc();
+        if doc >= TERMINATED {
+            return Ok(docs);
+        }
+        docs.push(doc)?;
+        cursor.advance();
+    }
+    Ok(docs)
+}
+
+/// The terms that a query wants, in its order: those of its words and phrases, none behind a "not".
+/// `OutOfMemory` alone is a fault.
+pub fn wanted_terms<'q>(alloc: Global, query: &'q Query) -> Result<Vec<&'q Term>, Fault>
+    ensures wanted { IfOk result (λ terms. map (λ t. t.now) terms.items ≡ wanted_terms query.now) }
+    ensures only { OnlyMemory result }
+{
+    let mut terms = Vec::new(alloc);
+    push_terms(query, &mut terms)?;
+    Ok(terms)
+}
+
+// Adds the terms that a query wants.
+fn push_terms<'q>(query: &'q Query, terms: &mut Vec<&'q Term>) -> Result<(), Fault>
+    ensures wanted { OnOk result (map (λ t. t.now) terms.new.items ≡ map (λ t. t.now) terms.old.items ++ wanted_terms query.now) }
+    ensures only { OnlyMemory result }
+{
+    match query {
+        Query::Empty => Ok(()),
+        Query::All(_) => Ok(()),
+        Query::Term(term) => Ok(terms.push(term)?),
+        Query::Phrase(first, others) => {
+            terms.push(first)?;
+            push_others(others, terms)
+        }
+        Query::And(first, other) => {
+            push_terms(first, terms)?;
+            push_terms(other, terms)
+        }
+        Query::Or(first, other) => {
+            push_terms(first, terms)?;
+            push_terms(other, terms)
+        }
+        Query::AndNot(first, _) => push_terms(first, terms),
+    }
+}
+
+// Adds the terms of a phrase behind the first one.
+fn push_others<'q>(others: &'q [PhraseTerm], terms: &mut Vec<&'q Term>) -> Result<(), Fault>
+    ensures wanted { OnOk result (map (λ t. t.now) terms.new.items ≡ map (λ t. t.now) terms.old.items ++ map (λ o. o.term) others.now) }
+    ensures only { OnlyMemory result }
+{
+    for other in others {
+        terms.push(&other.term)?;
+    }
+    Ok(())
+}
+
+// Where each term that a query wants stands in documents.
+#[tactic(auto, using(crate::proofs::QueryLemmas::wanted_slice, crate::proofs::QueryLemmas::wanted_found, crate::proofs::QueryLemmas::wanted_refused, crate::proofs::QueryLemmas::refused_memory))]
+fn places_of_query(
+    alloc: Global,
+    index: &OpenIndex,
+    query: &Query,
+    docs: &[DocId],
+) -> Result<Vec<TermPlaces>, Fault>
+    requires fields { has_fields (length index.now.readers) query.now ≡ true }
+    requires ascending { IsAscending (map document docs.now) }
+    ensures found { IfOk result (λ places. all_or_first (map (term_places index.now docs.now) (wanted_terms query.now)) ≡ Ok (map places_view places.items)) }
+    ensures refused { IfErr result (IsRefusal (all_or_first (map (term_places index.now docs.now) (wanted_terms query.now)))) }
+{
+    let terms = match wanted_terms(alloc, query) {
+        Ok(terms) => terms,
+        Err(fault) => return Err(fault),
+    };
+    match places_of_terms(alloc, index, terms.as_slice(), docs) {
+        Ok(places) => Ok(places),
+        Err(fault) => Err(fault),
+    }
+}
+
+// Where each of some terms stands in documents.
+#[tactic(auto, using(crate::proofs::QueryLemmas::terms_first, crate::proofs::QueryLemmas::terms_field, crate::proofs::QueryLemmas::terms_next, crate::proofs::QueryLemmas::terms_refused, crate::proofs::QueryLemmas::terms_all, crate::proofs::QueryLemmas::refused_memory))]
+fn places_of_terms(
+    alloc: Global,
+    index: &OpenIndex,
+    terms: &[&Term],
+    docs: &[DocId],
+) -> Result<Vec<TermPlaces>, Fault>
+    requires fields { list_all (λ t. nat_lt t.field (length index.now.readers)) (map (λ t. t.now) terms.now) ≡ true }
+    requires ascending { IsAscending (map document docs.now) }
+    ensures found { IfOk result (λ places. all_or_first (map (term_places index.now docs.now) (map (λ t. t.now) terms.now)) ≡ Ok (map places_view places.items)) }
+    ensures refused { IfErr result (IsRefusal (all_or_first (map (term_places index.now docs.now) (map (λ t. t.now) terms.now)))) }
+{
+    let mut places = Vec::new(alloc);
+    for term in terms {
+        let found = match places_of_term(alloc, index, *term, docs) {
+            Ok(found) => found,
+            Err(fault) => return Err(fault),
+        };
+        places.push(found)?;
+    }
+    Ok(places)
+}
+
+// Where a term stands in documents.
+#[tactic(auto, using(crate::proofs::QueryLemmas::term_found, crate::proofs::QueryLemmas::term_refused, crate::proofs::QueryLemmas::refused_memory))]
+fn places_of_term(
+    alloc: Global,
+    index: &OpenIndex,
+    term: &Term,
+    docs: &[DocId],
+) -> Result<TermPlaces, Fault>
+    requires field { term.now.field < length index.now.readers }
+    requires ascending { IsAscending (map document docs.now) }
+    ensures found { IfOk result (λ places. term_places index.now docs.now term.now ≡ Ok (places_view places)) }
+    ensures refused { IfErr result (IsRefusal (term_places index.now docs.now term.now)) }
+{
+    let mut cursor = match positions_cursor(index, term) {
+        Ok(cursor) => cursor,
+        Err(fault) => return Err(fault),
+    };
+    match places_in(alloc, &mut cursor, docs) {
+        Ok(positions) => Ok(TermPlaces { positions }),
+        Err(fault) => Err(fault),
+    }
+}
+
+// A cursor over the list of a term with its positions; over no documents where the field hasn't the term.
+fn positions_cursor(index: &OpenIndex, term: &Term) -> Result<SegmentPostings, Fault>
+    requires { term.now.field < length index.now.readers }
+    ensures listed { IfOk result (λ cursor. docs_of_term WithFreqsAndPositions index.now term.now ≡ Ok cursor.rest) }
+    ensures refused { IfErr result (IsRefusal (docs_of_term WithFreqsAndPositions index.now term.now)) }
+{
+    let reader = index.reader(term.field());
+    match reader.read_postings(term, IndexRecordOption::WithFreqsAndPositions) {
+        Ok(Some(cursor)) => Ok(cursor),
+        Ok(None) => Ok(SegmentPostings::empty()),
+        Err(fault) => Err(fault),
+    }
+}
+
+// The positions that a cursor has left of each of some documents.
+#[tactic(auto, using(crate::proofs::FindingLemmas::placing_first, crate::proofs::FindingLemmas::placing_low, crate::proofs::FindingLemmas::placing_next, crate::proofs::FindingLemmas::placing_all))]
+fn places_in<C: Postings>(
+    alloc: Global,
+    cursor: &mut C,
+    docs: &[DocId],
+) -> Result<Vec<Option<Vec<u32>>>, Fault>
+    requires { IsAscending (map document docs.now) }
+    ensures found { IfOk result (λ places. map (option_map (λ v. v.items)) places.items ≡ map (positions_of (C.rest cursor.old)) docs.now) }
+    ensures only { OnlyMemory result }
+{
+    let mut places = Vec::new(alloc);
+    for doc in docs {
+        let positions = positions_at(alloc, cursor, *doc)?;
+        places.push(positions)?;
+    }
+    Ok(places)
+}
+
+// The positions that a cursor has of a document, to which it goes.
+#[tactic(auto, using(crate::proofs::FindingLemmas::place_found, crate::proofs::FindingLemmas::place_missed))]
+fn positions_at<C: Postings>(
+    alloc: Global,
+    cursor: &mut C,
+    doc: DocId,
+) -> Result<Option<Vec<u32>>, Fault>
+    requires { doc < TERMINATED }
+    ensures found { IfOk result (λ positions. option_map (λ v. v.items) positions ≡ positions_of (C.rest cursor.old) doc) }
+    ensures rest { C.rest cursor.new ≡ from_doc doc (C.rest cursor.old) }
+    ensures only { OnlyMemory result }
+{
+    // that documents ascend, for the proof
+    let _first = cursor.doc();
+    match cursor.seek_danger(doc) {
+        SeekDangerResult::Found => {
+            let mut positions = Vec::new(alloc);
+            cursor.positions(&mut positions)?;
+            Ok(Some(positions))
+        }
+        SeekDangerResult::SeekLowerBound(_) => Ok(None),
+    }
+}
