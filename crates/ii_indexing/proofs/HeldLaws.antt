@@ -46,7 +46,7 @@ module _ (flags : List Bool) (paths : List (List ℕ)) where
       ap (λ (o : IndexRecordOption). map (cut_entry (downgrade o requested)) (grouped (map (held_token flags paths) ts))) (kind_held flags paths option ts)
       ∙ ap (map (cut_entry (downgrade (kind_of option ts) requested))) (grouped_held flags paths ts)
 
-all_both : {A : Type 0} (P : A → Type 0) (xs ys : List A) → AllByRecursion P xs → AllByRecursion P ys → AllByRecursion P (xs ++ ys)
+pub all_both : {A : Type 0} (P : A → Type 0) (xs ys : List A) → AllByRecursion P xs → AllByRecursion P ys → AllByRecursion P (xs ++ ys)
 all_both P [] ys first second = second
 all_both P (x ∷ xs) ys first second = (first.0, all_both P xs ys first.1 second)
 

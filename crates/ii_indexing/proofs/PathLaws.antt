@@ -14,7 +14,7 @@ use Rattle.ii_definitions.specs.JsonKeys.{path_in}
 use Rattle.ii_definitions.specs.Tokens.{Piece, begin_after, end_after, is_same_group, kept_words, text_at, value_at}
 use Rattle.ii_json.specs.Paths.{is_known, path_id, with_path}
 use Rattle.ii_postings_writer.proofs.ResolvedLaws.{path_of_id}
-use Rattle.ii_indexing.specs.OpenPaths.{IsKnownBy, OpenPathsState, PathPositions, PathsReachTo, PutsPosition, TellAllPaths, TellsPaths, no_texts, opened_path, position_by, path_positions_at, text_prefix, texts_at}
+use Rattle.ii_indexing.specs.OpenPaths.{IsKnownBy, OpenPathsState, PathsReachTo, PutsPosition, TellAllPaths, TellsPaths, no_texts, opened_path, position_by, path_positions_at, text_prefix, texts_at}
 use Rattle.ii_indexing.specs.Refusals.{group_count}
 use Rattle.ii_postings_writer.specs.declared.indexing_position.IndexingPosition.{IndexingPosition}
 use Rattle.ii_indexing.proofs.DocumentLaws.{set_value}

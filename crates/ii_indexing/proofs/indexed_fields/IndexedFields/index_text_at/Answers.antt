@@ -1,6 +1,5 @@
-use Rattle.std.proofs.Common.{◌∙◌, [], List, ℕ, sym, ap, subst}
+use Rattle.std.proofs.Common.{◌∙◌, sym, ap, subst}
 use Rattle.std.proofs.lemmas.Result.{err_from_is_err_and}
-use Rattle.ii_base.specs.Values.{json_key, text_key}
 use Rattle.ii_definitions.specs.Fields.{option_of}
 use Rattle.ii_definitions.specs.Tokens.{text_at}
 use Rattle.ii_json.specs.Paths.{with_path}
