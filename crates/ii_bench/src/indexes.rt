@@ -119,9 +119,9 @@ fn schema(alloc: Global) -> Result<Schema, Fault>
     Ok(Schema::new(entries))
 }
 
-// The four files, in memory.
+/// The four files, in memory.
 #[derive(Drop)]
-struct Files {
+pub struct Files {
     terms: Bytes,
     postings: Bytes,
     positions: Bytes,
@@ -129,7 +129,8 @@ struct Files {
 }
 
 impl Files {
-    fn len(&self) -> u64 {
+    /// How many bytes they have together.
+    pub fn len(&self) -> u64 {
         let terms = self.terms.len() as u64;
         let postings = self.postings.len() as u64;
         terms
@@ -143,7 +144,8 @@ fn file(writer: CountingWriter<Vec<u8>>) -> Result<Bytes, Fault> {
     Ok(Bytes::from_vec(writer.finish())?)
 }
 
-fn written(alloc: Global, indexer: Indexer) -> Result<Files, Fault> {
+/// The files of what was indexed.
+pub fn written(alloc: Global, indexer: Indexer) -> Result<Files, Fault> {
     let writers = IndexWriters {
         terms: CountingWriter::wrap(Vec::new(alloc)),
         postings: CountingWriter::wrap(Vec::new(alloc)),

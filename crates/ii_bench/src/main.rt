@@ -7,6 +7,7 @@ mod blocks;
 mod costly;
 mod dictionaries;
 mod indexes;
+mod json_values;
 mod lists;
 mod table;
 
@@ -19,6 +20,8 @@ fn main(rt: HostRuntime) -> Result<()> {
         return Ok(());
     }
     table::print_head(&rt)?;
+    // first, while the program has little memory of its own
+    json_values::measure(&rt)?;
     blocks::measure(&rt)?;
     lists::measure(&rt)?;
     dictionaries::measure(&rt)?;

@@ -28,3 +28,8 @@ pub fn print_row(rt: &HostRuntime, name: &str, measured: &Measured) -> io::Resul
     let (whole, rest) = (hundredths / 100, hundredths % 100);
     println!(rt; "| {name} | {whole}.{rest:02} | {speed} |")
 }
+
+/// A row: bytes an item.
+pub fn print_memory(rt: &HostRuntime, name: &str, bytes: u64) -> io::Result<()> {
+    println!(rt; "| {name} | {bytes} bytes | |")
+}

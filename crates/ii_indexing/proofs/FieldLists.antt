@@ -20,7 +20,7 @@ use Rattle.ii_base.specs.Values.{json_key, text_key, typed_key, u64_bytes}
 use Rattle.ii_json.specs.LeafVisit.{is_number_type}
 use Rattle.ii_definitions.specs.JsonKeys.{is_json, type_of_code, type_under}
 use Rattle.ii_definitions.proofs.KeyLaws.{type_in_key}
-use Rattle.ii_indexing.specs.OpenPaths.{OpenPathsState, TellsPaths, no_paths, position_under}
+use Rattle.ii_indexing.specs.OpenPaths.{IsKnownBy, OpenPathsState, TellsPaths, no_paths, position_by, text_prefix}
 use Rattle.std.specs.List.{IsDistinct}
 use Rattle.ii_io.specs.Steps.{◌>>=◌}
 use Rattle.ii_definitions.specs.JsonKeys.{path_in}
@@ -139,7 +139,7 @@ held_under entries field h id t key is =
     takes_held_at entries field Json h (held_value id (code_of t ∷ key)) ∙ ap (λ (o : Option ℕ). kept_as (unwrap_or (o >>= type_of_code) Json) h.entry.option) (after_id id (code_of t ∷ key))
     ∙ ap (λ (o : Option ValueType). kept_as (unwrap_or o Json) h.entry.option) is
 
-pub takes_text_at : (entries : List SchemaEntry) (paths : List (List ℕ)) (field : ℕ) → Takes entries field Json → (path : List ℕ) → has_zero path ≡ false → is_known paths path ≡ true
+takes_text_at : (entries : List SchemaEntry) (paths : List (List ℕ)) (field : ℕ) → Takes entries field Json → (path : List ℕ) → has_zero path ≡ false → is_known paths path ≡ true
     → TakesTexts entries paths field (held_value (path_id paths path) (text_key [])) (json_key path (text_key []))
 takes_text_at entries paths field h path clean is = record {
   known = takes_inside entries field Json h;
@@ -183,13 +183,18 @@ takes_number_at entries paths field h path t n clean known is = record {
   has_path = λ json. has_known_path paths path (typed_key t n) clean known;
 }
 
+pub takes_text_by : (entries : List SchemaEntry) (paths : List (List ℕ)) (field : ℕ) → Takes entries field Json → (path : List ℕ) (id : ℕ) → IsKnownBy paths path id → TakesTexts entries paths field (held_value id (text_key [])) (text_prefix path)
+takes_text_by entries paths field takes path id h = subst (λ (i : ℕ). TakesTexts entries paths field (held_value i (text_key [])) (text_prefix path)) h.id_is (takes_text_at entries paths field takes path h.clean h.known_is)
+
 -- so it is once a path is known, by the id that it got
-pub takes_text_known : (entries : List SchemaEntry) (old new : IndexedTermsState) (field : ℕ) → Takes entries field Json → (path : List ℕ) → has_zero path ≡ false → new ≡ record old { paths = with_path old.paths path }
-    → TakesTexts entries new.paths field (held_value (path_id old.paths path) (text_key [])) (json_key path (text_key []))
-takes_text_known entries old new field h path clean is =
-    subst (λ (ps : List (List ℕ)). TakesTexts entries ps field (held_value (path_id old.paths path) (text_key [])) (json_key path (text_key []))) (sym (ap (λ (i : IndexedTermsState). i.paths) is))
-    (subst (λ (id : ℕ). TakesTexts entries (with_path old.paths path) field (held_value id (text_key [])) (json_key path (text_key []))) (own_id old.paths path).1
-    (takes_text_at entries (with_path old.paths path) field h path clean (own_id old.paths path).0))
+pub known_by : (old new : IndexedTermsState) (path : List ℕ) (id : ℕ) → has_zero path ≡ false → new ≡ record old { paths = with_path old.paths path } → id ≡ path_id old.paths path → IsKnownBy new.paths path id
+known_by old new path id clean is at =
+    let paths : new.paths ≡ with_path old.paths path = ap (λ (i : IndexedTermsState). i.paths) is in
+    record {
+      clean = clean;
+      known_is = ap (λ (ps : List (List ℕ)). is_known ps path) paths ∙ (own_id old.paths path).0;
+      id_is = ap (λ (ps : List (List ℕ)). path_id ps path) paths ∙ (own_id old.paths path).1 ∙ sym at;
+    }
 
 pub takes_number_known : (entries : List SchemaEntry) (old new : IndexedTermsState) (field : ℕ) → Takes entries field Json → (path : List ℕ) (t : ValueType) (n : ℕ) → has_zero path ≡ false → is_number_type t ≡ true → new ≡ record old { paths = with_path old.paths path }
     → TakesValue entries new.paths field (held_value (path_id old.paths path) (typed_key t n)) (json_key path (typed_key t n))
@@ -220,7 +225,7 @@ nothing_stored entries = record {
     count = λ x from. ap (λ (e : OpenDocument). e.norm) (sym (at_empty 0 x));
     norms = by field (buffer_of field (empty_buffers entries));
   });
-  paths = λ field o is. subst (TellsPaths field []) (sym (made_alike no_paths entries field o is)) (λ doc prefix from some. ap (position_under prefix) (no_positions (0 == doc)));
+  paths = λ field o is. subst (TellsPaths [] field []) (sym (made_alike no_paths entries field o is)) (record { told = λ doc path from clean. ap (position_by (path_id [] path)) (no_positions (0 == doc)); free = λ id above. refl });
 }
   where
     no_positions : (b : Bool) → [] ≡ (if b then no_paths.positions else [])

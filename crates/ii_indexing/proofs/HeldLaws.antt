@@ -46,7 +46,7 @@ module _ (flags : List Bool) (paths : List (List ℕ)) where
       ap (λ (o : IndexRecordOption). map (cut_entry (downgrade o requested)) (grouped (map (held_token flags paths) ts))) (kind_held flags paths option ts)
       ∙ ap (map (cut_entry (downgrade (kind_of option ts) requested))) (grouped_held flags paths ts)
 
-all_both : {A : Type 0} (P : A → Type 0) (xs ys : List A) → AllByRecursion P xs → AllByRecursion P ys → AllByRecursion P (xs ++ ys)
+pub all_both : {A : Type 0} (P : A → Type 0) (xs ys : List A) → AllByRecursion P xs → AllByRecursion P ys → AllByRecursion P (xs ++ ys)
 all_both P [] ys first second = second
 all_both P (x ∷ xs) ys first second = (first.0, all_both P xs ys first.1 second)
 
@@ -121,6 +121,15 @@ known_kept known path q is = by (is_known known path)
     by : (b : Bool) → is_known (if b then known else known ++ path ∷ []) q ≡ true
     by true = is
     by false = list_any-append (bytes_eq q) known (path ∷ []) ∙ rw is refl
+
+-- an unknown path's id lies behind those of known ones
+pub unknown_id : (known : List (List ℕ)) (q : List ℕ) → is_known known q ≡ false → path_id known q ≡ length known
+unknown_id [] q none = refl
+unknown_id (x ∷ xs) q none = by (bytes_eq q x) refl (unknown_id xs q)
+  where
+    by : (b : Bool) → bytes_eq q x ≡ b → (is_known xs q ≡ false → path_id xs q ≡ length xs) → path_id (x ∷ xs) q ≡ length (x ∷ xs)
+    by true is rest = let some : true ≡ false = sym (rw is refl) ∙ none in absurd (cc)
+    by false is rest = rw is (omega (arith, rest (sym (rw is refl) ∙ none)))
 
 -- the id that a path got
 unknown_place : (q : List ℕ) (xs : List (List ℕ)) → list_any (bytes_eq q) xs ≡ false → position_or_len (bytes_eq q) (xs ++ q ∷ []) ≡ position_or_len (bytes_eq q) xs

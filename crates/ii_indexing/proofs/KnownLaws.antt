@@ -18,8 +18,9 @@ use Rattle.ii_indexing.proofs.HeldLaws.{paths_more, still_known, tokens_kept}
 use Rattle.ii_postings_writer.specs.WordRefusals.{gap_fault, word_fault, words_fault}
 use Rattle.ii_indexing.specs.Indexer.{EndsAt, IndexedFieldsState, StoresAll, StoresPieces}
 use Rattle.ii_indexing.specs.IndexedTerms.{IndexedTermsState, StoresTokens, held_kept_at}
-use Rattle.ii_indexing.specs.OpenPaths.{texts_under}
+use Rattle.ii_indexing.specs.OpenPaths.{text_prefix, texts_at}
 use Rattle.ii_indexing.specs.Refusals.{group_count, known_paths, piece_fault, piece_fault_from, with_piece}
+use Rattle.ii_indexing.proofs.PathLaws.{paths_known}
 use Rattle.ii_indexing.proofs.PieceLaws.{begin_more, group_more, tokens_with}
 
 pub known_more : (ps : List Piece) (p : Piece) → known_paths (ps ++ p ∷ []) ≡ with_piece (known_paths ps) p
@@ -50,9 +51,9 @@ module _ (ps : List Piece) (p q : Piece) (h : AreAlike p q) where
   tokens_alike : tokens_after [] (ps ++ q ∷ []) ≡ tokens_after [] (ps ++ p ∷ [])
   tokens_alike = tokens_with ps q ∙ ap (λ (ts : List IndexToken). tokens_after [] ps ++ ts) (h.tokens ps) ∙ sym (tokens_with ps p)
 
-  texts_alike : (doc field : ℕ) (prefix : List ℕ) → texts_under doc field prefix (ps ++ q ∷ []) ≡ texts_under doc field prefix (ps ++ p ∷ [])
-  texts_alike doc field prefix =
-      let r = text_at doc field prefix [] in
+  texts_alike : (doc field : ℕ) (path : List ℕ) → texts_at doc field path (ps ++ q ∷ []) ≡ texts_at doc field path (ps ++ p ∷ [])
+  texts_alike doc field path =
+      let r = text_at doc field (text_prefix path) [] in
       ap (λ (n : ℕ). record { num_tokens = n; end_position = begin_after (ps ++ q ∷ []) r }) (counts_alike r)
       ∙ ap (λ (n : ℕ). record { num_tokens = group_count (ps ++ p ∷ []) r; end_position = n }) (begins_alike r)
 
@@ -67,7 +68,9 @@ module _ (ps : List Piece) (p q : Piece) (h : AreAlike p q) where
           count = λ doc from. rw tokens_alike (tells.count doc from);
           norms = rw tokens_alike tells.norms;
         };
-    paths = λ field o found doc prefix from some. texts_alike doc field prefix ∙ stored.paths field o found doc prefix from some;
+    paths = λ field o found.
+        let tells = stored.paths field o found in
+        record { told = λ doc path from clean. texts_alike doc field path ∙ tells.told doc path from clean; free = tells.free };
   }
 
 pub text_alike : (path : List ℕ) (doc field : ℕ) (prefix : List ℕ) (ws : List Word) → AreAlike (text_at doc field prefix ws) (at_path path (text_at doc field prefix ws))
@@ -101,7 +104,7 @@ known_stored entries s indexed ps path is clean fits distinct h =
         known_paths = paths_more s.indexed.paths path h.tokens.known_paths (clean, tt) fits unlike;
       };
       documents = h.documents;
-      paths = h.paths;
+      paths = paths_known s.indexed.paths path ps s.paths h.paths;
     })
 
 words_fault_alike : (option : IndexRecordOption) (path : List ℕ) (p : Piece) (begin n : ℕ) (ts : List IndexToken) (ws : List Word) → words_fault option (at_path path p) begin n ts ws ≡ words_fault option p begin n ts ws

@@ -1,16 +1,24 @@
 -- What one more piece changes of what is known path by path.
-use Rattle.std.proofs.Common.{◌≡◌, ℕ, zero, suc, ◌+◌, ◌<◌, ◌≤◌, ◌==◌, ◌&&◌, Bool, true, false, List, [], ◌∷◌, ◌++◌, length, cond, Some, refl, sym, ap, ◌∙◌, subst, arith}
-use Rattle.std.specs.Prelude.{slice_get, slice_set, bytes_eq, if◌then◌else◌}
+use Rattle.std.proofs.Common.{◌≡◌, ℕ, zero, suc, ◌+◌, ◌<◌, ◌≤◌, ◌==◌, ◌&&◌, Bool, true, false, List, [], ◌∷◌, ◌++◌, length, cond, Some, refl, sym, ap, ◌∙◌, subst, arith, length-append}
+use Rattle.std.specs.Prelude.{slice_get, slice_index_or, slice_set, bytes_eq, if◌then◌else◌}
 use Rattle.std.proofs.lemmas.List.{length-set}
+use Rattle.std.proofs.lemmas.List.Folds.{position_or_len_push}
 use Rattle.std.proofs.lemmas.Bool.{eqb-true, eq-eqb}
 use Rattle.std.proofs.lemmas.Cmp.{nat_list_eq_equiv}
 use Rattle.std.proofs.lemmas.Slice.Eq.{bytes_eq-Decides}
+use Rattle.ii_base.specs.Paths.{has_zero}
+use Rattle.ii_base.specs.Values.{text_key}
 use Rattle.ii_base.specs.Words.{Word}
+use Rattle.ii_definitions.proofs.KeyLaws.{path_of_key}
+use Rattle.ii_definitions.specs.JsonKeys.{path_in}
 use Rattle.ii_definitions.specs.Tokens.{Piece, begin_after, end_after, is_same_group, kept_words, text_at, value_at}
-use Rattle.ii_indexing.specs.OpenPaths.{OpenPathsState, PathsReachTo, PutsPosition, TellAllPaths, TellsPaths, opened_path, position_under, path_positions_at, texts_under}
+use Rattle.ii_json.specs.Paths.{is_known, path_id, with_path}
+use Rattle.ii_postings_writer.proofs.ResolvedLaws.{path_of_id}
+use Rattle.ii_indexing.specs.OpenPaths.{IsKnownBy, OpenPathsState, PathsReachTo, PutsPosition, TellAllPaths, TellsPaths, no_texts, opened_path, position_by, path_positions_at, text_prefix, texts_at}
 use Rattle.ii_indexing.specs.Refusals.{group_count}
 use Rattle.ii_postings_writer.specs.declared.indexing_position.IndexingPosition.{IndexingPosition}
 use Rattle.ii_indexing.proofs.DocumentLaws.{set_value}
+use Rattle.ii_indexing.proofs.HeldLaws.{id_kept, unknown_id}
 use Rattle.ii_indexing.proofs.PieceLaws.{begin_more, group_more}
 use Rattle.ii_indexing.proofs.StoreLaws.{set_other, set_same}
 
@@ -22,10 +30,47 @@ with_text at ws = record { num_tokens = at.num_tokens + length (kept_words ws); 
 abbrev texts_if : Bool → IndexingPosition → List Word → IndexingPosition
 texts_if b at ws = record { num_tokens = cond b (at.num_tokens + length (kept_words ws)) at.num_tokens; end_position = cond b (end_after at.end_position ws) at.end_position }
 
-texts_after : (doc field : ℕ) (prefix : List ℕ) (ps : List Piece) (p : Piece) (b : Bool) → is_same_group (text_at doc field prefix []) p ≡ b
-    → texts_under doc field prefix (ps ++ p ∷ []) ≡ texts_if b (texts_under doc field prefix ps) p.words
-texts_after doc field prefix ps p b is =
-    let q = text_at doc field prefix [] in
+-- no text at a path stands under the empty prefix, nor under that of another path
+pub some_prefix : (path : List ℕ) → bytes_eq (text_prefix path) [] ≡ false
+some_prefix [] = refl
+some_prefix (b ∷ bs) = refl
+
+path_of_prefix : (p q : List ℕ) → has_zero p ≡ false → has_zero q ≡ false → text_prefix p ≡ text_prefix q → p ≡ q
+path_of_prefix p q clean other is = sym (path_of_key p (text_key []) clean) ∙ ap path_in is ∙ path_of_key q (text_key []) other
+
+same_prefix : (p q : List ℕ) (b : Bool) → has_zero p ≡ false → has_zero q ≡ false → bytes_eq p q ≡ b → bytes_eq (text_prefix p) (text_prefix q) ≡ b
+same_prefix p q true clean other is = (bytes_eq-Decides (text_prefix p) (text_prefix q)).1 (ap text_prefix ((bytes_eq-Decides p q).0 is))
+same_prefix p q false clean other is = by (bytes_eq (text_prefix p) (text_prefix q)) refl
+  where
+    by : (b : Bool) → bytes_eq (text_prefix p) (text_prefix q) ≡ b → b ≡ false
+    by true same = sym ((bytes_eq-Decides p q).1 (path_of_prefix p q clean other ((bytes_eq-Decides (text_prefix p) (text_prefix q)).0 same))) ∙ is
+    by false differs = refl
+
+-- a known path's id is no other path's
+other_id : (known : List (List ℕ)) (path other : List ℕ) → is_known known path ≡ true → path_id known other ≡ path_id known path → other ≡ path
+other_id known path other is same = by (is_known known other) refl
+  where
+    by : (b : Bool) → is_known known other ≡ b → other ≡ path
+    by true there = sym (path_of_id known other there).1 ∙ ap (λ (i : ℕ). slice_index_or known i []) same ∙ (path_of_id known path is).1
+    by false none = absurd (omega (arith, unknown_id known other none, same, (path_of_id known path is).0))
+
+-- an unknown path's id lies behind those of known ones, and so it does with one path more
+free_id : (known : List (List ℕ)) (path q : List ℕ) → is_known known q ≡ false → length known ≤ path_id (with_path known path) q
+free_id known path q none = by (is_known known path)
+  where
+    last : (n m : ℕ) (b c : Bool) → n ≡ m → m ≤ cond b (m + cond c 0 1) n
+    last n m true true is = omega arith
+    last n m true false is = omega arith
+    last n m false c is = omega (arith, is)
+
+    by : (b : Bool) → length known ≤ path_id (if b then known else known ++ path ∷ []) q
+    by true = omega (arith, unknown_id known q none)
+    by false = subst (λ (n : ℕ). length known ≤ n) (sym (position_or_len_push (bytes_eq q) known path)) (last (path_id known q) (length known) (path_id known q == length known) (bytes_eq q path) (unknown_id known q none))
+
+texts_after : (doc field : ℕ) (path : List ℕ) (ps : List Piece) (p : Piece) (b : Bool) → is_same_group (text_at doc field (text_prefix path) []) p ≡ b
+    → texts_at doc field path (ps ++ p ∷ []) ≡ texts_if b (texts_at doc field path ps) p.words
+texts_after doc field path ps p b is =
+    let q = text_at doc field (text_prefix path) [] in
     ap (λ (n : ℕ). record { num_tokens = n; end_position = begin_after (ps ++ p ∷ []) q }) (group_more ps p q b is)
     ∙ ap (λ (n : ℕ). record { num_tokens = cond b (group_count ps q + length (kept_words p.words)) (group_count ps q); end_position = n }) (begin_more ps p q b is)
 
@@ -54,20 +99,42 @@ text_has_none doc field ws x f prefix some = not_fourth true (doc == x) (field =
 pub value_has_none : (doc field : ℕ) (key : List ℕ) → HasNoPrefix (value_at doc field key)
 value_has_none doc field key x f prefix some = refl
 
-pub paths_kept : (ps : List Piece) (p : Piece) (paths : List OpenPathsState) → HasNoPrefix p → TellAllPaths ps paths → TellAllPaths (ps ++ p ∷ []) paths
-paths_kept ps p paths none h field o is doc prefix from some = texts_after doc field prefix ps p false (none doc field prefix some) ∙ h field o is doc prefix from some
+pub paths_kept : (known : List (List ℕ)) (ps : List Piece) (p : Piece) (paths : List OpenPathsState) → HasNoPrefix p → TellAllPaths known ps paths → TellAllPaths known (ps ++ p ∷ []) paths
+paths_kept known ps p paths none h field o is =
+    let tells = h field o is in
+    record { told = λ doc path from clean. texts_after doc field path ps p false (none doc field (text_prefix path) (some_prefix path)) ∙ tells.told doc path from clean; free = tells.free }
 
--- A text stands behind those under its prefix: its document is open, and what is known with it was put.
-pub record PutsText (ps : List Piece) (paths : List OpenPathsState) (doc field : ℕ) (prefix : List ℕ) (ws : List Word) (old new : OpenPathsState) : Type 0 where
+-- a path becomes known
+pub paths_known : (known : List (List ℕ)) (path : List ℕ) (ps : List Piece) (paths : List OpenPathsState) → TellAllPaths known ps paths → TellAllPaths (with_path known path) ps paths
+paths_known known path ps paths h field o is =
+    let tells = h field o is in
+    record { told = λ doc q from clean. tells.told doc q from clean ∙ same doc q tells (is_known known q) refl; free = λ id above. tells.free id (omega (arith, above, longer (is_known known path))) }
+  where
+    longer : (b : Bool) → length known ≤ length (if b then known else known ++ path ∷ [])
+    longer true = omega arith
+    longer false = omega (arith, length-append known (path ∷ []))
+
+    none_by : (doc id : ℕ) (b : Bool) → position_by id o.positions ≡ no_texts → position_by id (if b then o.positions else []) ≡ no_texts
+    none_by doc id true none = none
+    none_by doc id false none = refl
+
+    same : (doc : ℕ) (q : List ℕ) → TellsPaths known field ps o → (b : Bool) → is_known known q ≡ b → position_by (path_id known q) (path_positions_at doc o) ≡ position_by (path_id (with_path known path) q) (path_positions_at doc o)
+    same doc q tells true there = ap (λ (id : ℕ). position_by id (path_positions_at doc o)) (sym (id_kept known path q there))
+    same doc q tells false none =
+        none_by doc (path_id known q) (o.doc == doc) (tells.free (path_id known q) (omega (arith, unknown_id known q none)))
+        ∙ sym (none_by doc (path_id (with_path known path) q) (o.doc == doc) (tells.free (path_id (with_path known path) q) (free_id known path q none)))
+
+-- A text stands behind those at its path: its document is open, and what is known with it was put.
+pub record PutsText (known : List (List ℕ)) (paths : List OpenPathsState) (doc field id : ℕ) (path : List ℕ) (ws : List Word) (old new : OpenPathsState) : Type 0 where
   pub found : slice_get paths field ≡ Some old
   pub old_doc : old.doc ≡ doc
   pub new_doc : new.doc ≡ doc
-  pub some : bytes_eq prefix [] ≡ false
-  pub put : (other : List ℕ) → position_under other new.positions ≡ (if bytes_eq prefix other then with_text (position_under prefix old.positions) ws else position_under other old.positions)
+  pub has_id : IsKnownBy known path id
+  pub put : (other : ℕ) → position_by other new.positions ≡ (if id == other then with_text (position_by id old.positions) ws else position_by other old.positions)
 
-module _ (ps : List Piece) (paths : List OpenPathsState) (doc field : ℕ) (prefix : List ℕ) (ws : List Word) (old new : OpenPathsState) (h : PutsText ps paths doc field prefix ws old new) (told : TellAllPaths ps paths) where
+module _ (known : List (List ℕ)) (ps : List Piece) (paths : List OpenPathsState) (doc field id : ℕ) (path : List ℕ) (ws : List Word) (old new : OpenPathsState) (h : PutsText known paths doc field id path ws old new) (told : TellAllPaths known ps paths) where
   abbrev p : Piece
-  p = text_at doc field prefix ws
+  p = text_at doc field (text_prefix path) ws
 
   positions_same : (o : OpenPathsState) → o.doc ≡ doc → path_positions_at doc o ≡ o.positions
   positions_same o at = rw (eq-eqb o.doc doc at) refl
@@ -75,42 +142,64 @@ module _ (ps : List Piece) (paths : List OpenPathsState) (doc field : ℕ) (pref
   positions_other : (o : OpenPathsState) (x : ℕ) → o.doc ≡ doc → (doc == x) ≡ false → path_positions_at x o ≡ []
   positions_other o x at other = rw (at, other) refl
 
-  here : (pre : List ℕ) → bytes_eq pre [] ≡ false → (b : Bool) → bytes_eq prefix pre ≡ b → texts_under doc field pre (ps ++ p ∷ []) ≡ position_under pre new.positions
-  here pre some true same =
-      let is : prefix ≡ pre = (bytes_eq-Decides prefix pre).0 same in
-      let group : is_same_group (text_at doc field prefix []) p ≡ true = rw (eq-eqb doc doc refl, eq-eqb field field refl) ((bytes_eq-Decides prefix prefix).1 refl) in
-      let before : texts_under doc field prefix ps ≡ position_under prefix old.positions = told field old h.found doc prefix (omega (arith, h.old_doc)) h.some ∙ ap (position_under prefix) (positions_same old h.old_doc) in
-      let after : position_under prefix new.positions ≡ with_text (position_under prefix old.positions) ws = h.put prefix ∙ rw ((bytes_eq-Decides prefix prefix).1 refl) refl in
-      subst (λ (l : List ℕ). texts_under doc field l (ps ++ p ∷ []) ≡ position_under l new.positions) is
-      (texts_after doc field prefix ps p true group ∙ ap (λ (at : IndexingPosition). with_text at ws) before ∙ sym after)
-  here pre some false other =
-      let apart : is_same_group (text_at doc field pre []) p ≡ false = not_fourth true (doc == doc) (field == field) (bytes_eq prefix pre) other in
-      let after : position_under pre new.positions ≡ position_under pre old.positions = h.put pre ∙ rw other refl in
-      texts_after doc field pre ps p false apart ∙ told field old h.found doc pre (omega (arith, h.old_doc)) some ∙ ap (position_under pre) (positions_same old h.old_doc) ∙ sym after
+  before : (q : List ℕ) → has_zero q ≡ false → texts_at doc field q ps ≡ position_by (path_id known q) old.positions
+  before q clean = (told field old h.found).told doc q (omega (arith, h.old_doc)) clean ∙ ap (position_by (path_id known q)) (positions_same old h.old_doc)
 
-  at_doc : (x : ℕ) (pre : List ℕ) → old.doc ≤ x → bytes_eq pre [] ≡ false → (b : Bool) → (doc == x) ≡ b → texts_under x field pre (ps ++ p ∷ []) ≡ position_under pre (path_positions_at x new)
-  at_doc x pre from some true same =
+  group : (q : List ℕ) (b : Bool) → has_zero q ≡ false → bytes_eq path q ≡ b → is_same_group (text_at doc field (text_prefix q) []) p ≡ b
+  group q b clean is = rw (eq-eqb doc doc refl, eq-eqb field field refl) (same_prefix path q b h.has_id.clean clean is)
+
+  put_other : (q : List ℕ) → bytes_eq path q ≡ false → position_by (path_id known q) new.positions ≡ position_by (path_id known q) old.positions
+  put_other q differs = by (id == path_id known q) refl
+    where
+      by : (b : Bool) → (id == path_id known q) ≡ b → position_by (path_id known q) new.positions ≡ position_by (path_id known q) old.positions
+      by true same =
+          let is : q ≡ path = other_id known path q h.has_id.known_is (sym (eqb-true id (path_id known q) same) ∙ sym h.has_id.id_is) in
+          let equal : true ≡ false = sym ((bytes_eq-Decides path q).1 (sym is)) ∙ differs in
+          absurd (cc)
+      by false other = h.put (path_id known q) ∙ rw other refl
+
+  here : (q : List ℕ) → has_zero q ≡ false → (b : Bool) → bytes_eq path q ≡ b → texts_at doc field q (ps ++ p ∷ []) ≡ position_by (path_id known q) new.positions
+  here q clean true same =
+      let is : path ≡ q = (bytes_eq-Decides path q).0 same in
+      let after : position_by id new.positions ≡ with_text (position_by id old.positions) ws = h.put id ∙ rw (eq-eqb id id refl) refl in
+      let by_id : path_id known q ≡ id = ap (path_id known) (sym is) ∙ h.has_id.id_is in
+      texts_after doc field q ps p true (group q true clean same)
+      ∙ ap (λ (at : IndexingPosition). with_text at ws) (before q clean ∙ ap (λ (i : ℕ). position_by i old.positions) by_id) ∙ sym after ∙ ap (λ (i : ℕ). position_by i new.positions) (sym by_id)
+  here q clean false differs = texts_after doc field q ps p false (group q false clean differs) ∙ before q clean ∙ sym (put_other q differs)
+
+  at_doc : (x : ℕ) (q : List ℕ) → old.doc ≤ x → has_zero q ≡ false → (b : Bool) → (doc == x) ≡ b → texts_at x field q (ps ++ p ∷ []) ≡ position_by (path_id known q) (path_positions_at x new)
+  at_doc x q from clean true same =
       let is : doc ≡ x = eqb-true doc x same in
-      subst (λ (y : ℕ). texts_under y field pre (ps ++ p ∷ []) ≡ position_under pre (path_positions_at y new)) is
-      (here pre some (bytes_eq prefix pre) refl ∙ ap (position_under pre) (sym (positions_same new h.new_doc)))
-  at_doc x pre from some false other =
-      let apart : is_same_group (text_at x field pre []) p ≡ false = not_second true (doc == x) (field == field) (bytes_eq prefix pre) other in
-      texts_after x field pre ps p false apart ∙ told field old h.found x pre from some
-      ∙ ap (position_under pre) (positions_other old x h.old_doc other ∙ sym (positions_other new x h.new_doc other))
+      subst (λ (y : ℕ). texts_at y field q (ps ++ p ∷ []) ≡ position_by (path_id known q) (path_positions_at y new)) is
+      (here q clean (bytes_eq path q) refl ∙ ap (position_by (path_id known q)) (sym (positions_same new h.new_doc)))
+  at_doc x q from clean false other =
+      let apart : is_same_group (text_at x field (text_prefix q) []) p ≡ false = not_second true (doc == x) (field == field) (bytes_eq (text_prefix path) (text_prefix q)) other in
+      texts_after x field q ps p false apart ∙ (told field old h.found).told x q from clean
+      ∙ ap (position_by (path_id known q)) (positions_other old x h.old_doc other ∙ sym (positions_other new x h.new_doc other))
 
-  pub paths_put : TellAllPaths (ps ++ p ∷ []) (slice_set paths field new)
+  still_free : (other : ℕ) → length known ≤ other → position_by other new.positions ≡ no_texts
+  still_free other above =
+      let apart : (id == other) ≡ false = grind (arith, (path_of_id known path h.has_id.known_is).0, h.has_id.id_is, above) in
+      h.put other ∙ rw apart refl ∙ (told field old h.found).free other above
+
+  pub paths_put : TellAllPaths known (ps ++ p ∷ []) (slice_set paths field new)
   paths_put f o is = by (field == f) refl
     where
-      by : (b : Bool) → (field == f) ≡ b → TellsPaths f (ps ++ p ∷ []) o
+      by : (b : Bool) → (field == f) ≡ b → TellsPaths known f (ps ++ p ∷ []) o
       by true same =
           let at = eqb-true field f same in
           let value : o ≡ new = set_value paths field new o (subst (λ (g : ℕ). slice_get (slice_set paths field new) g ≡ Some o) (sym at) is) in
-          subst (λ (g : ℕ). TellsPaths g (ps ++ p ∷ []) o) at
-          (subst (TellsPaths field (ps ++ p ∷ [])) (sym value) (λ x pre from some. at_doc x pre (omega (arith, from, h.old_doc, h.new_doc)) some (doc == x) refl))
-      by false other = λ x pre from some.
-          let apart : is_same_group (text_at x f pre []) p ≡ false = not_third true (doc == x) (field == f) (bytes_eq prefix pre) other in
+          subst (λ (g : ℕ). TellsPaths known g (ps ++ p ∷ []) o) at
+          (subst (TellsPaths known field (ps ++ p ∷ [])) (sym value) (record { told = λ x q from clean. at_doc x q (omega (arith, from, h.old_doc, h.new_doc)) clean (doc == x) refl; free = still_free }))
+      by false other =
           let found : slice_get paths f ≡ Some o = sym (set_other paths field f new other) ∙ is in
-          texts_after x f pre ps p false apart ∙ told f o found x pre from some
+          let tells = told f o found in
+          record {
+            told = λ x q from clean.
+                let apart : is_same_group (text_at x f (text_prefix q) []) p ≡ false = not_third true (doc == x) (field == f) (bytes_eq (text_prefix path) (text_prefix q)) other in
+                texts_after x f q ps p false apart ∙ tells.told x q from clean;
+            free = tells.free;
+          }
 
 -- nothing lies above the document of a text
 pub reach_paths : (paths : List OpenPathsState) (field doc : ℕ) (new : OpenPathsState) → new.doc ≡ doc → PathsReachTo doc paths → PathsReachTo doc (slice_set paths field new)
@@ -124,7 +213,7 @@ reach_paths paths field doc new at h f o is = by (field == f) refl
     by false other = h f o (sym (set_other paths field f new other) ∙ is)
 
 -- a document was opened that isn't below the open one
-module _ (ps : List Piece) (paths : List OpenPathsState) (doc field : ℕ) (old : OpenPathsState) (found : slice_get paths field ≡ Some old) (reach : old.doc ≤ doc) where
+module _ (known : List (List ℕ)) (ps : List Piece) (paths : List OpenPathsState) (doc field : ℕ) (old : OpenPathsState) (found : slice_get paths field ≡ Some old) (reach : old.doc ≤ doc) where
   positions_later : (x : ℕ) → doc ≤ x → path_positions_at x (opened_path doc old) ≡ path_positions_at x old
   positions_later x from = by (doc == x) refl
     where
@@ -134,20 +223,31 @@ module _ (ps : List Piece) (paths : List OpenPathsState) (doc field : ℕ) (old 
           let above : (old.doc == x) ≡ false = grind (arith, other, from, reach) in
           rw above refl
 
-  pub paths_opened : TellAllPaths ps paths → TellAllPaths ps (slice_set paths field (opened_path doc old))
+  opened_free : TellsPaths known field ps old → (id : ℕ) → length known ≤ id → position_by id (path_positions_at doc old) ≡ no_texts
+  opened_free tells id above = by (old.doc == doc)
+    where
+      by : (b : Bool) → position_by id (if b then old.positions else []) ≡ no_texts
+      by true = tells.free id above
+      by false = refl
+
+  pub paths_opened : TellAllPaths known ps paths → TellAllPaths known ps (slice_set paths field (opened_path doc old))
   paths_opened told f o is = by (field == f) refl
     where
-      by : (b : Bool) → (field == f) ≡ b → TellsPaths f ps o
+      by : (b : Bool) → (field == f) ≡ b → TellsPaths known f ps o
       by true same =
           let at = eqb-true field f same in
+          let tells = told field old found in
           let value : o ≡ opened_path doc old = set_value paths field (opened_path doc old) o (subst (λ (g : ℕ). slice_get (slice_set paths field (opened_path doc old)) g ≡ Some o) (sym at) is) in
-          subst (λ (g : ℕ). TellsPaths g ps o) at
-          (subst (TellsPaths field ps) (sym value) (λ x pre from some. told field old found x pre (omega (arith, from, reach)) some ∙ ap (position_under pre) (sym (positions_later x from))))
+          subst (λ (g : ℕ). TellsPaths known g ps o) at
+          (subst (TellsPaths known field ps) (sym value) (record {
+            told = λ x q from clean. tells.told x q (omega (arith, from, reach)) clean ∙ ap (position_by (path_id known q)) (sym (positions_later x from));
+            free = opened_free tells;
+          }))
       by false other = told f o (sym (set_other paths field f (opened_path doc old) other) ∙ is)
 
-  -- and what is told of its texts under a prefix is right
-  pub position_told : (prefix : List ℕ) → bytes_eq prefix [] ≡ false → TellAllPaths ps paths → texts_under doc field prefix ps ≡ position_under prefix (opened_path doc old).positions
-  position_told prefix some told = told field old found doc prefix reach some
+  -- and what is told of its texts at a path is right
+  pub position_told : (path : List ℕ) (id : ℕ) → IsKnownBy known path id → TellAllPaths known ps paths → texts_at doc field path ps ≡ position_by id (opened_path doc old).positions
+  position_told path id h told = (told field old found).told doc path reach h.clean ∙ ap (λ (i : ℕ). position_by i (path_positions_at doc old)) h.id_is
 
 -- The field of a schema whose open document isn't above one.
 pub record HasPath (paths : List OpenPathsState) (doc field : ℕ) : Type 0 where
@@ -165,28 +265,28 @@ has_path paths doc field low reach =
     let o = inside_found paths field low in
     record { old = o.0; found = o.1; reach = reach field o.0 o.1 }
 
--- A document was opened in a field, and what is known of the texts under a prefix was put.
-module _ (paths : List OpenPathsState) (doc field : ℕ) (h : HasPath paths doc field) (prefix : List ℕ) (last : IndexingPosition) (opened after : List OpenPathsState) (is : opened ≡ slice_set paths field (opened_path doc h.old))
-    (puts : (o : OpenPathsState) → slice_get opened field ≡ Some o → PutsPosition field prefix last opened after o) where
+-- A document was opened in a field, and what is known of the texts at the path with an id was put.
+module _ (paths : List OpenPathsState) (doc field : ℕ) (h : HasPath paths doc field) (id : ℕ) (last : IndexingPosition) (opened after : List OpenPathsState) (is : opened ≡ slice_set paths field (opened_path doc h.old))
+    (puts : (o : OpenPathsState) → slice_get opened field ≡ Some o → PutsPosition field id last opened after o) where
   now_open : slice_get opened field ≡ Some (opened_path doc h.old)
   now_open = ap (λ (q : List OpenPathsState). slice_get q field) is ∙ set_same paths field h.old (opened_path doc h.old) h.found
 
-  put_last : PutsPosition field prefix last opened after (opened_path doc h.old)
+  put_last : PutsPosition field id last opened after (opened_path doc h.old)
   put_last = puts (opened_path doc h.old) now_open
 
-  pub text_told : (ps : List Piece) (ws : List Word) (first : IndexingPosition) → first ≡ position_under prefix (opened_path doc h.old).positions → last ≡ with_text first ws → bytes_eq prefix [] ≡ false
-      → TellAllPaths ps paths → TellAllPaths (ps ++ text_at doc field prefix ws ∷ []) after
-  text_told ps ws first begins ends some told =
+  pub text_told : (known : List (List ℕ)) (ps : List Piece) (path : List ℕ) (ws : List Word) (first : IndexingPosition) → first ≡ position_by id (opened_path doc h.old).positions → last ≡ with_text first ws → IsKnownBy known path id
+      → TellAllPaths known ps paths → TellAllPaths known (ps ++ text_at doc field (text_prefix path) ws ∷ []) after
+  text_told known ps path ws first begins ends has_id told =
       let put = put_last in
-      let lasts : last ≡ with_text (position_under prefix (opened_path doc h.old).positions) ws = ends ∙ ap (λ (p : IndexingPosition). with_text p ws) begins in
-      let all = paths_put ps opened doc field prefix ws (opened_path doc h.old) put.new (record {
+      let lasts : last ≡ with_text (position_by id (opened_path doc h.old).positions) ws = ends ∙ ap (λ (p : IndexingPosition). with_text p ws) begins in
+      let all = paths_put known ps opened doc field id path ws (opened_path doc h.old) put.new (record {
         found = now_open;
         old_doc = refl;
         new_doc = put.doc;
-        some = some;
-        put = λ other. put.put other ∙ ap (λ (p : IndexingPosition). if bytes_eq prefix other then p else position_under other (opened_path doc h.old).positions) lasts;
-      }) (subst (TellAllPaths ps) (sym is) (paths_opened ps paths doc field h.old h.found h.reach told)) in
-      subst (TellAllPaths (ps ++ text_at doc field prefix ws ∷ [])) (sym put.set) all
+        has_id = has_id;
+        put = λ other. put.put other ∙ ap (λ (p : IndexingPosition). if id == other then p else position_by other (opened_path doc h.old).positions) lasts;
+      }) (subst (TellAllPaths known ps) (sym is) (paths_opened known ps paths doc field h.old h.found h.reach told)) in
+      subst (TellAllPaths known (ps ++ text_at doc field (text_prefix path) ws ∷ [])) (sym put.set) all
 
   pub text_reach : PathsReachTo doc paths → PathsReachTo doc after
   text_reach reach =

@@ -205,7 +205,7 @@ other_text doc field prefix words some = rw some (and-false ((doc == doc) && (fi
 -- One more text or value of a field was indexed.
 module _ (entries : List SchemaEntry) (ps : List Piece) (indexed : IndexedTermsState) (s : OpenDocumentsState) (d new : OpenDocument) (paths : List OpenPathsState) where
   piece_stored : (p : Piece) (us : List IndexToken) → IndexesPiece entries ps p us indexed s d new
-      → TellAllPaths (ps ++ p ∷ []) paths → StoresPieces entries (record { indexed = indexed; opened = record s { documents = slice_set s.documents p.field new }; paths = paths }) (ps ++ p ∷ [])
+      → TellAllPaths indexed.paths (ps ++ p ∷ []) paths → StoresPieces entries (record { indexed = indexed; opened = record s { documents = slice_set s.documents p.field new }; paths = paths }) (ps ++ p ∷ [])
   piece_stored p us h by_path =
       let ts = tokens_after [] ps in
       let all : tokens_after [] (ps ++ p ∷ []) ≡ ts ++ us = tokens_with ps p ∙ ap (λ (vs : List IndexToken). ts ++ vs) h.tokens_are in
@@ -217,7 +217,7 @@ module _ (entries : List SchemaEntry) (ps : List Piece) (indexed : IndexedTermsS
       }
 
   pub words_stored : (doc field : ℕ) (words : List Word)
-      → TellAllPaths (ps ++ text_at doc field [] words ∷ []) paths → TellsAll ps (tokens_after [] ps) s → slice_get s.documents field ≡ Some d → d.doc ≡ doc → new.doc ≡ doc → new.num_tokens ≡ d.num_tokens + length (kept_words words) → new.end_position ≡ end_after d.end_position words
+      → TellAllPaths indexed.paths (ps ++ text_at doc field [] words ∷ []) paths → TellsAll ps (tokens_after [] ps) s → slice_get s.documents field ≡ Some d → d.doc ≡ doc → new.doc ≡ doc → new.num_tokens ≡ d.num_tokens + length (kept_words words) → new.end_position ≡ end_after d.end_position words
       → new.norm ≡ min (d.norm + length (kept_words words)) u32_max → StoresTokens entries indexed (tokens_after [] ps ++ piece_tokens_from true d.end_position (text_at doc field [] words))
       → StoresPieces entries (record { indexed = indexed; opened = record s { documents = slice_set s.documents field new }; paths = paths }) (ps ++ text_at doc field [] words ∷ [])
   words_stored doc field words by_path told found at now num end norm tokens =
@@ -238,7 +238,7 @@ module _ (entries : List SchemaEntry) (ps : List Piece) (indexed : IndexedTermsS
       }) by_path
 
   pub value_added : (doc field : ℕ) (key : List ℕ)
-      → TellAllPaths (ps ++ value_at doc field key ∷ []) paths → TellsAll ps (tokens_after [] ps) s → slice_get s.documents field ≡ Some d → d.doc ≡ doc → new.doc ≡ doc → new.num_tokens ≡ d.num_tokens → new.end_position ≡ d.end_position
+      → TellAllPaths indexed.paths (ps ++ value_at doc field key ∷ []) paths → TellsAll ps (tokens_after [] ps) s → slice_get s.documents field ≡ Some d → d.doc ≡ doc → new.doc ≡ doc → new.num_tokens ≡ d.num_tokens → new.end_position ≡ d.end_position
       → new.norm ≡ min (d.norm + 1) u32_max → StoresTokens entries indexed (tokens_after [] ps ++ value_token (value_at doc field key) ∷ [])
       → StoresPieces entries (record { indexed = indexed; opened = record s { documents = slice_set s.documents field new }; paths = paths }) (ps ++ value_at doc field key ∷ [])
   value_added doc field key by_path told found at now num end norm tokens =
@@ -259,7 +259,7 @@ module _ (entries : List SchemaEntry) (ps : List Piece) (indexed : IndexedTermsS
 
   -- a text under a prefix changes nothing of where the texts of the field without one end
   pub words_under_stored : (doc field : ℕ) (prefix : List ℕ) (words : List Word)
-      → TellAllPaths (ps ++ text_at doc field prefix words ∷ []) paths → bytes_eq prefix [] ≡ false → TellsAll ps (tokens_after [] ps) s → slice_get s.documents field ≡ Some d → d.doc ≡ doc → new.doc ≡ doc
+      → TellAllPaths indexed.paths (ps ++ text_at doc field prefix words ∷ []) paths → bytes_eq prefix [] ≡ false → TellsAll ps (tokens_after [] ps) s → slice_get s.documents field ≡ Some d → d.doc ≡ doc → new.doc ≡ doc
       → new.num_tokens ≡ d.num_tokens → new.end_position ≡ d.end_position → new.norm ≡ min (d.norm + length (kept_words words)) u32_max
       → StoresTokens entries indexed (tokens_after [] ps ++ piece_tokens ps (text_at doc field prefix words))
       → StoresPieces entries (record { indexed = indexed; opened = record s { documents = slice_set s.documents field new }; paths = paths }) (ps ++ text_at doc field prefix words ∷ [])

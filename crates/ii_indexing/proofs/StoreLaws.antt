@@ -16,7 +16,7 @@ use Rattle.ii_definitions.specs.Tokens.{IndexToken, Piece, kept_words, text_at, 
 use Rattle.std.proofs.lemmas.List.{map-append}
 use Rattle.ii_postings_writer.specs.ResolvedTerms.{IsKnownToken, held_token, json_fields}
 use Rattle.ii_postings_writer.proofs.ResolvedRecords.{kind_held}
-use Rattle.ii_indexing.proofs.HeldLaws.{count_held, keys_held, words_held, words_known}
+use Rattle.ii_indexing.proofs.HeldLaws.{all_both, count_held, keys_held, words_held, words_known}
 use Rattle.ii_definitions.specs.Fields.{option_of}
 use Rattle.ii_definitions.specs.Postings.{field_count, is_at, kind_of, tokens_at}
 use Rattle.ii_indexing.specs.IndexedTerms.{IndexedTermsState, IsOfField, StoresTokens, TakesTexts, TakesValue, held_kept_at, kept_at, kept_in, value_fault, writer_in}
@@ -71,10 +71,6 @@ pub record AddsTokens (entries : List SchemaEntry) (field : ℕ) (old : IndexedT
   pub has_paths : AllByRecursion (IsKnownToken (json_fields entries) old.paths) us
   pub only : OnlyIn field us
 
-all_joined : {A : Type 0} (P : A → Type 0) (xs ys : List A) → AllByRecursion P xs → AllByRecursion P ys → AllByRecursion P (xs ++ ys)
-all_joined P [] ys first second = second
-all_joined P (x ∷ xs) ys first second = (first.0, all_joined P xs ys first.1 second)
-
 -- the first of those that are kept
 first_kept : {A : Type 0} (p : A → Bool) (P : A → Type 0) (xs : List A) (y : A) (ys : List A) → filter p xs ≡ y ∷ ys → AllByRecursion P xs → P y × (p y ≡ true)
 first_kept p P [] y ys is all = absurd (cc)
@@ -99,13 +95,6 @@ kept_kind entries ts field key t us is all =
     let same : t.key ≡ key = (bytes_eq-Decides t.key key).0 parts.1 in
     subst (λ (k : List ℕ). kind_of (option_of entries field) (t ∷ []) ≡ kept_at entries field k) same (subst (λ (f : ℕ). kind_of (option_of entries f) (t ∷ []) ≡ kept_at entries f t.key) at first.0.kind)
 
--- and its field is one of the schema
-pub token_field : (entries : List SchemaEntry) (ts : List IndexToken) (field : ℕ) (key : List ℕ) (t : IndexToken) (us : List IndexToken) → tokens_at field key ts ≡ t ∷ us → AllByRecursion (IsOfField entries) ts → field < length entries
-token_field entries ts field key t us is all =
-    let first = first_kept (is_at field key) (IsOfField entries) ts t us is all in
-    let at : t.field ≡ field = eqb-true t.field field (and_parts (t.field == field) (bytes_eq t.key key) first.1).0 in
-    subst (λ (f : ℕ). f < length entries) at first.0.known
-
 basic_if : (o : IndexRecordOption) (b : Bool) (kept : IndexRecordOption) → cond b o Basic ≡ kept → cond b kept Basic ≡ kept
 basic_if o true kept is = refl
 basic_if o false kept is = is
@@ -123,8 +112,8 @@ pub tokens_stored : (entries : List SchemaEntry) (field : ℕ) (old : IndexedTer
 tokens_stored entries field old terms writer ts us low h adds = record {
   records = adds.records;
   counted = λ f inside. by_count f inside (field == f) refl;
-  of_fields = all_joined (IsOfField entries) ts us h.of_fields adds.of_field;
-  has_paths = all_joined (IsKnownToken (json_fields entries) old.paths) ts us h.has_paths adds.has_paths;
+  of_fields = all_both (IsOfField entries) ts us h.of_fields adds.of_field;
+  has_paths = all_both (IsKnownToken (json_fields entries) old.paths) ts us h.has_paths adds.has_paths;
   known_paths = h.known_paths;
 }
   where

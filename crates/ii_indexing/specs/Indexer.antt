@@ -20,7 +20,7 @@ pub record IndexedFieldsState : Type 0 where
 pub record StoresPieces (entries : List SchemaEntry) (s : IndexedFieldsState) (ps : List Piece) : Type 0 where
   pub tokens : StoresTokens entries s.indexed (tokens_after [] ps)
   pub documents : TellsAll ps (tokens_after [] ps) s.opened
-  pub paths : TellAllPaths ps s.paths
+  pub paths : TellAllPaths s.indexed.paths ps s.paths
 
 -- And the paths of these are known, exactly these.
 pub record StoresAll (entries : List SchemaEntry) (s : IndexedFieldsState) (ps : List Piece) : Type 0 where

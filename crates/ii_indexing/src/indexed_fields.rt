@@ -1,11 +1,11 @@
-ghost use Rattle.std.specs.Prelude.{◌≡◌, ◌<◌, ◌≤◌, ◌^◌, ◌∷◌, ◌++◌, [], List, ℕ, true, false, bytes_eq, length, map, IfOk, OnErr, OnOk};
+ghost use Rattle.std.specs.Prelude.{◌≡◌, ◌<◌, ◌≤◌, ◌^◌, ◌∷◌, ◌++◌, [], List, ℕ, true, false, length, map, IfOk, OnErr, OnOk};
 ghost use Rattle.ii_io.specs.Faults.{OnlyMemory};
 ghost use Rattle.ii_base.specs.Schema.{SchemaEntry, keeps_norms};
 ghost use Rattle.ii_base.specs.declared.doc_id.TheConstants.{TERMINATED};
 ghost use Rattle.ii_definitions.specs.Tokens.{IndexToken, Piece, at_path, text_at, value_at};
 ghost use Rattle.ii_definitions.specs.Fields.{option_of};
 ghost use Rattle.ii_base.specs.Paths.{has_zero};
-ghost use Rattle.ii_base.specs.Values.{json_key, text_key, typed_key};
+ghost use Rattle.ii_base.specs.Values.{json_key, typed_key};
 ghost use Rattle.ii_base.specs.declared.schema.value_type.ValueType.TheVariants.{Json};
 ghost use Rattle.ii_json.specs.LeafVisit.{is_number_type};
 ghost use Rattle.ii_indexing.specs.IndexCalls.{Takes};
@@ -14,12 +14,13 @@ ghost use Rattle.ii_postings_writer.specs.FieldParts.{AreShortNorms};
 ghost use Rattle.ii_indexing.specs.Indexer.{EndsAt, StoresAll, StoresPieces, StoresSome};
 ghost use Rattle.ii_definitions.specs.Norms.{HoldNorms};
 ghost use Rattle.ii_indexing.specs.OpenDocuments.{TellsAll, with_norms};
+ghost use Rattle.ii_indexing.specs.OpenPaths.{IsKnownBy, text_prefix};
 ghost use Rattle.ii_indexing.specs.Refusals.{piece_fault};
 ghost use Rattle.ii_json.specs.LeafVisit.{IsRefusedBy};
 
 use crate::finished_fields::FinishedFields;
 use crate::indexed_terms::IndexedTerms;
-use crate::json_keys::{held_number, held_text, text_prefix};
+use crate::json_keys::{held_number, held_text};
 use crate::open_documents::{OpenDocument, OpenDocuments};
 use crate::open_paths::OpenPaths;
 use ii_base::{DocId, Fault, Field, Schema, TokenStream, ValueType};
@@ -130,34 +131,33 @@ impl IndexedFields {
         Ok(())
     }
 
-    // Indexes the words of a stream that are still to come, under keys with a prefix, of which this is held.
-    fn index_words_under<S: TokenStream>(
+    // Indexes the words of a stream that are still to come, as a text at the path with an id.
+    fn index_words_at<S: TokenStream>(
         &mut self,
         alloc: Global,
         doc: DocId,
         field: Field,
-        prefix: &[u8],
-        held: &[u8],
+        path_id: u32,
         tokens: &mut S,
     ) -> Result<(), Fault>
         requires low { doc < TERMINATED }
         requires known { field < length self.old.indexed.writers }
         requires ends { EndsAt doc self.old }
-        requires some { bytes_eq prefix.now [] ≡ false }
-        ensures stored { OnOk result ((entries : List SchemaEntry) (ps : List Piece) → TakesTexts entries self.old.indexed.paths field held.now prefix.now → StoresPieces entries self.old ps
-            → StoresPieces entries self.new (ps ++ text_at doc field prefix.now (S.to_come tokens.old) ∷ [])) }
+        ensures stored { OnOk result ((entries : List SchemaEntry) (ps : List Piece) (path : List ℕ) → Takes entries field Json → IsKnownBy self.old.indexed.paths path path_id → StoresPieces entries self.old ps
+            → StoresPieces entries self.new (ps ++ text_at doc field (text_prefix path) (S.to_come tokens.old) ∷ [])) }
         ensures ends { OnOk result (EndsAt doc self.new) }
         ensures fields { OnOk result (length self.new.indexed.writers ≡ length self.old.indexed.writers) }
         ensures norms { OnOk result (with_norms self.new.opened.norms ≡ with_norms self.old.opened.norms) }
         ensures same_paths { OnOk result (self.new.indexed.paths ≡ self.old.indexed.paths) }
-        ensures refused { (entries : List SchemaEntry) (ps : List Piece) → TakesTexts entries self.old.indexed.paths field held.now prefix.now → StoresPieces entries self.old ps
-            → IsRefusedBy (piece_fault (option_of entries field) ps (text_at doc field prefix.now (S.to_come tokens.old))) result }
+        ensures refused { (entries : List SchemaEntry) (ps : List Piece) (path : List ℕ) → Takes entries field Json → IsKnownBy self.old.indexed.paths path path_id → StoresPieces entries self.old ps
+            → IsRefusedBy (piece_fault (option_of entries field) ps (text_at doc field (text_prefix path) (S.to_come tokens.old))) result }
     {
+        let held = held_text(alloc, path_id)?;
         let open = self.documents.open(doc, field)?;
-        let mut position = self.paths.open(doc, field, prefix);
+        let mut position = self.paths.open(doc, field, path_id);
         let num_tokens = position.num_tokens;
         self.terms
-            .index_text(doc, field, held, tokens, &mut position)?;
+            .index_text(doc, field, &held, tokens, &mut position)?;
         let document = OpenDocument {
             doc,
             num_tokens: open.num_tokens,
@@ -165,7 +165,7 @@ impl IndexedFields {
             norm: open.norm.saturating_add(position.num_tokens - num_tokens),
         };
         self.documents.put(field, document);
-        self.paths.put(alloc, field, prefix, position)
+        self.paths.put(field, path_id, position)
     }
 
     // Indexes the words of a text at a path of a JSON field, which holds no byte 0.
@@ -182,17 +182,15 @@ impl IndexedFields {
         requires ends { EndsAt doc self.old }
         requires path { has_zero path.now ≡ false }
         ensures stored { OnOk result ((entries : List SchemaEntry) (ps : List Piece) → Takes entries field Json → StoresAll entries self.old ps
-            → StoresAll entries self.new (ps ++ at_path path.now (text_at doc field (json_key path.now (text_key [])) (S.to_come tokens.old)) ∷ [])) }
+            → StoresAll entries self.new (ps ++ at_path path.now (text_at doc field (text_prefix path.now) (S.to_come tokens.old)) ∷ [])) }
         ensures ends { OnOk result (EndsAt doc self.new) }
         ensures fields { OnOk result (length self.new.indexed.writers ≡ length self.old.indexed.writers) }
         ensures norms { OnOk result (with_norms self.new.opened.norms ≡ with_norms self.old.opened.norms) }
         ensures refused { (entries : List SchemaEntry) (ps : List Piece) → Takes entries field Json → StoresAll entries self.old ps
-            → IsRefusedBy (piece_fault (option_of entries field) ps (at_path path.now (text_at doc field (json_key path.now (text_key [])) (S.to_come tokens.old)))) result }
+            → IsRefusedBy (piece_fault (option_of entries field) ps (at_path path.now (text_at doc field (text_prefix path.now) (S.to_come tokens.old)))) result }
     {
         let path_id = self.terms.path_id(path)?;
-        let prefix = text_prefix(alloc, path)?;
-        let held = held_text(alloc, path_id)?;
-        self.index_words_under(alloc, doc, field, prefix.as_bytes(), &held, tokens)
+        self.index_words_at(alloc, doc, field, path_id, tokens)
     }
 
     // Indexes a number at a path of a JSON field, which holds no byte 0.

@@ -1,6 +1,6 @@
-ghost use Rattle.std.specs.Prelude.{◌≡◌, [], List, ℕ, bytes_eq, if◌then◌else◌, OnOk};
+ghost use Rattle.std.specs.Prelude.{◌≡◌, ◌==◌, [], ℕ, if◌then◌else◌, OnOk};
 ghost use Rattle.ii_io.specs.Faults.{OnlyMemory};
-ghost use Rattle.ii_indexing.specs.OpenPaths.{position_under};
+ghost use Rattle.ii_indexing.specs.OpenPaths.{position_by};
 
 use ii_base::Fault;
 use ii_postings_writer::IndexingPosition;
@@ -8,20 +8,19 @@ use indexmap::IndexMap;
 use std::alloc::Global;
 use std::marker::Model;
 
-/// What is known of the texts of a document at each path of a JSON field so far: by what the keys of a
-/// text's words begin with, how many tokens they have, and where the next text begins.
+/// What is known of the texts of a document at each path of a JSON field so far: by the path's unordered
+/// id, how many tokens they have, and where the next text begins.
 #[derive(Drop)]
 pub struct IndexingPositionsPerPath {
-    positions: IndexMap<Vec<u8>, IndexingPosition>,
+    positions: IndexMap<u32, IndexingPosition>,
 }
 
 impl Model for IndexingPositionsPerPath {
-    ghost use Rattle.std.specs.Prelude.{map};
     ghost use Rattle.ii_indexing.specs.OpenPaths.{PathPositions};
 
     ghost Value = { PathPositions };
 
-    ghost view = { λ p. map (λ e. (e.0.items, e.1)) p.positions.entries };
+    ghost view = { λ p. p.positions.entries };
 }
 
 impl IndexingPositionsPerPath {
@@ -41,11 +40,11 @@ impl IndexingPositionsPerPath {
         self.positions.clear();
     }
 
-    // What is known of the texts under a prefix.
-    pub(crate) fn position(&self, prefix: &[u8]) -> IndexingPosition
-        ensures { result ≡ position_under prefix.now self.now }
+    // What is known of the texts at the path with an id.
+    pub(crate) fn position(&self, path_id: u32) -> IndexingPosition
+        ensures { result ≡ position_by path_id self.now }
     {
-        match self.positions.get(prefix) {
+        match self.positions.get(&path_id) {
             Some(position) => IndexingPosition {
                 num_tokens: position.num_tokens,
                 end_position: position.end_position,
@@ -57,18 +56,12 @@ impl IndexingPositionsPerPath {
         }
     }
 
-    // Puts what is known of the texts under a prefix in place of what was known.
-    pub(crate) fn put(
-        &mut self,
-        alloc: Global,
-        prefix: &[u8],
-        position: IndexingPosition,
-    ) -> Result<(), Fault>
-        ensures ok { OnOk result ((other : List ℕ) → position_under other self.new ≡ (if bytes_eq prefix.now other then position else position_under other self.old)) }
+    // Puts what is known of the texts at the path with an id in place of what was known.
+    pub(crate) fn put(&mut self, path_id: u32, position: IndexingPosition) -> Result<(), Fault>
+        ensures ok { OnOk result ((other : ℕ) → position_by other self.new ≡ (if path_id == other then position else position_by other self.old)) }
         ensures only { OnlyMemory result }
     {
-        let bytes = Vec::from_slice(alloc, prefix)?;
-        self.positions.insert(bytes, position)?;
+        self.positions.insert(path_id, position)?;
         Ok(())
     }
 }

@@ -1,23 +1,10 @@
-ghost use Rattle.std.specs.Prelude.{◌≡◌, [], false, IfOk};
+ghost use Rattle.std.specs.Prelude.{◌≡◌, [], IfOk};
 ghost use Rattle.ii_io.specs.Faults.{OnlyMemory};
-ghost use Rattle.ii_base.specs.Paths.{has_zero};
-ghost use Rattle.ii_base.specs.Values.{json_key, text_key, typed_key};
+ghost use Rattle.ii_base.specs.Values.{text_key, typed_key};
 ghost use Rattle.ii_postings_writer.specs.ResolvedTerms.{held_value};
 
 use ii_base::{Fault, ValueType};
-use ii_json::JsonTermSerializer;
 use std::alloc::Global;
-
-// The first bytes of the keys of a text's words at a path: the path, byte 0, and the letter of texts.
-pub(crate) fn text_prefix(alloc: Global, path: &str) -> Result<JsonTermSerializer, Fault>
-    requires path { has_zero path.now ≡ false }
-    ensures ok { IfOk result (λ prefix. prefix ≡ json_key path.now (text_key [])) }
-    ensures only { OnlyMemory result }
-{
-    let mut prefix = JsonTermSerializer::new(alloc);
-    prefix.append_term(path, ValueType::Str, &[])?;
-    Ok(prefix)
-}
 
 // What a term holds of the words of a text at a path: the path's id, and the letter of texts.
 #[tactic(auto, unfolding(ii_postings_writer::specs::IndexingTerm::field_bytes))]

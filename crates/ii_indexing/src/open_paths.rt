@@ -1,7 +1,7 @@
-ghost use Rattle.std.specs.Prelude.{◌≡◌, ◌<◌, List, ℕ, bytes_eq, if◌then◌else◌, length, map, slice_get, slice_set, Some, IfOk, OnOk};
+ghost use Rattle.std.specs.Prelude.{◌≡◌, ◌<◌, ◌==◌, ℕ, if◌then◌else◌, length, map, slice_get, slice_set, Some, IfOk, OnOk};
 ghost use Rattle.ii_io.specs.Faults.{OnlyMemory};
 ghost use Rattle.ii_base.specs.Schema.{SchemaEntry};
-ghost use Rattle.ii_indexing.specs.OpenPaths.{OpenPathsState, PutsPosition, no_paths, opened_path, position_under};
+ghost use Rattle.ii_indexing.specs.OpenPaths.{OpenPathsState, PutsPosition, no_paths, opened_path, position_by};
 
 use crate::indexing_positions_per_path::IndexingPositionsPerPath;
 use ii_base::{DocId, Fault, Field, Schema};
@@ -45,25 +45,20 @@ impl FieldPaths {
         }
     }
 
-    // What is known of the texts under a prefix.
-    pub(crate) fn position(&self, prefix: &[u8]) -> IndexingPosition
-        ensures { result ≡ position_under prefix.now self.now.positions }
+    // What is known of the texts at the path with an id.
+    pub(crate) fn position(&self, path_id: u32) -> IndexingPosition
+        ensures { result ≡ position_by path_id self.now.positions }
     {
-        self.positions.position(prefix)
+        self.positions.position(path_id)
     }
 
-    // Puts what is known of the texts under a prefix in place of what was known.
-    pub(crate) fn put(
-        &mut self,
-        alloc: Global,
-        prefix: &[u8],
-        position: IndexingPosition,
-    ) -> Result<(), Fault>
+    // Puts what is known of the texts at the path with an id in place of what was known.
+    pub(crate) fn put(&mut self, path_id: u32, position: IndexingPosition) -> Result<(), Fault>
         ensures doc { OnOk result (self.new.doc ≡ self.old.doc) }
-        ensures ok { OnOk result ((other : List ℕ) → position_under other self.new.positions ≡ (if bytes_eq prefix.now other then position else position_under other self.old.positions)) }
+        ensures ok { OnOk result ((other : ℕ) → position_by other self.new.positions ≡ (if path_id == other then position else position_by other self.old.positions)) }
         ensures only { OnlyMemory result }
     {
-        self.positions.put(alloc, prefix, position)
+        self.positions.put(path_id, position)
     }
 }
 
@@ -95,29 +90,29 @@ impl OpenPaths {
         Ok(OpenPaths { fields })
     }
 
-    // Opens a document in a field, which isn't below the one before, and tells of its texts under a prefix.
-    pub(crate) fn open(&mut self, doc: DocId, field: Field, prefix: &[u8]) -> IndexingPosition
+    // Opens a document in a field, which isn't below the one before, and tells of its texts at the path with
+    // an id.
+    pub(crate) fn open(&mut self, doc: DocId, field: Field, path_id: u32) -> IndexingPosition
         requires known { field < length self.old }
         ensures opened { (o : OpenPathsState) → slice_get self.old field ≡ Some o → self.new ≡ slice_set self.old field (opened_path doc o) }
-        ensures position { (o : OpenPathsState) → slice_get self.old field ≡ Some o → result ≡ position_under prefix.now (opened_path doc o).positions }
+        ensures position { (o : OpenPathsState) → slice_get self.old field ≡ Some o → result ≡ position_by path_id (opened_path doc o).positions }
     {
         let paths = &mut self.fields[field.field_id() as usize];
         paths.open(doc);
-        paths.position(prefix)
+        paths.position(path_id)
     }
 
-    // Puts what is known of the texts under a prefix of a field in place of what was known.
+    // Puts what is known of the texts at the path with an id, in a field, in place of what was known.
     pub(crate) fn put(
         &mut self,
-        alloc: Global,
         field: Field,
-        prefix: &[u8],
+        path_id: u32,
         position: IndexingPosition,
     ) -> Result<(), Fault>
         requires known { field < length self.old }
-        ensures ok { OnOk result ((o : OpenPathsState) → slice_get self.old field ≡ Some o → PutsPosition field prefix.now position self.old self.new o) }
+        ensures ok { OnOk result ((o : OpenPathsState) → slice_get self.old field ≡ Some o → PutsPosition field path_id position self.old self.new o) }
         ensures only { OnlyMemory result }
     {
-        self.fields[field.field_id() as usize].put(alloc, prefix, position)
+        self.fields[field.field_id() as usize].put(path_id, position)
     }
 }

@@ -191,6 +191,24 @@ fn fields_count_the_positions_of_a_path_apart(rt: HostRuntime) -> Result<(), Fai
     Ok(())
 }
 
+// Two texts at one path, and between them one at another.
+fn texts_at_two_paths(alloc: Global) -> Result<JsonValue, Fault> {
+    let mut members = Vec::new(alloc);
+    for member in [("a", "x y"), ("b", "x"), ("a", "x")] {
+        let (key, text) = member;
+        members.push(pair(alloc, key, JsonValue::Str(String::from_str(alloc, text)?))?)?;
+    }
+    Ok(JsonValue::Object(members))
+}
+
+#[test]
+fn paths_count_their_positions_apart(rt: HostRuntime) -> Result<(), Fail> {
+    let keys: [(u32, &'static [u8]); 2] = [(0, b"a\0sx"), (0, b"b\0sx")];
+    let told = told_of_one(rt.alloc(), texts_at_two_paths(rt.alloc())?, &keys)?;
+    assert!(rt; told.as_str() == "0:2:0,3, ; 0:1:0, ; 4 tokens of 3 terms");
+    Ok(())
+}
+
 #[test]
 fn a_text_at_the_root_has_no_path(rt: HostRuntime) -> Result<(), Fail> {
     let value = JsonValue::Str(String::from_str(rt.alloc(), "x")?);

@@ -1,9 +1,10 @@
-use Rattle.std.proofs.Common.{[], sym, ◌∙◌, subst, refl}
+use Rattle.std.proofs.Common.{[], ◌++◌, ◌∷◌, List, ℕ, sym, ◌∙◌, subst, refl}
 use Rattle.std.proofs.lemmas.List.{length-set}
 use Rattle.std.proofs.lemmas.Result.{err_from_is_err_and}
 use Rattle.ii_definitions.specs.Tokens.{tokens_after, value_at}
 use Rattle.ii_indexing.specs.IndexedTerms.{TakesValue}
 use Rattle.ii_indexing.specs.Indexer.{EndsAt, IndexedFieldsState, StoresPieces}
+use Rattle.ii_indexing.specs.OpenPaths.{TellAllPaths}
 use Rattle.ii_indexing.specs.declared.open_documents.OpenDocument.{OpenDocument}
 use Rattle.ii_indexing.proofs.PathLaws.{paths_kept, value_has_none}
 use Rattle.ii_indexing.proofs.PieceLaws.{reach_put, value_added}
@@ -23,9 +24,11 @@ returns-clause-stored c entries ps key takes stored =
     let d = c.in_ok-open.open in
     let told = c.in_ok-open.ensures.told ps (tokens_after [] ps) st.documents in
     let new : OpenDocument = record { doc = c.args.doc; num_tokens = d.num_tokens; end_position = d.end_position; norm = c.saturating_add.result } in
+    let p = value_at c.args.doc c.args.field key in
+    let by_path = subst (λ (known : List (List ℕ)). TellAllPaths known (ps ++ p ∷ []) c.self.inside.paths) (sym c.in_ok-index_value.ensures.paths)
+    (paths_kept c.self.inside.terms.paths ps p c.self.inside.paths (value_has_none c.args.doc c.args.field key) st.paths) in
     rw c.put.ensures
-    (value_added entries ps c.index_value.new.self c.open.new.self d new c.self.inside.paths c.args.doc c.args.field key
-    (paths_kept ps (value_at c.args.doc c.args.field key) c.self.inside.paths (value_has_none c.args.doc c.args.field key) st.paths) told c.in_ok-open.ensures.found c.in_ok-open.ensures.at refl refl refl c.saturating_add.ensures
+    (value_added entries ps c.index_value.new.self c.open.new.self d new c.self.inside.paths c.args.doc c.args.field key by_path told c.in_ok-open.ensures.found c.in_ok-open.ensures.at refl refl refl c.saturating_add.ensures
     (c.in_ok-index_value.ensures.stored entries (tokens_after [] ps) key taken st.tokens))
 
 pub returns-clause-ends : goal.returns-clause-ends

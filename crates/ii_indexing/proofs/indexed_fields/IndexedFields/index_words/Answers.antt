@@ -1,4 +1,4 @@
-use Rattle.std.proofs.Common.{◌≡◌, ◌+◌, ◌-◌, [], length, sym, ap, ◌∙◌, subst, arith, min, refl, Ok, ℕ}
+use Rattle.std.proofs.Common.{◌≡◌, ◌+◌, ◌-◌, ◌++◌, ◌∷◌, [], List, length, sym, ap, ◌∙◌, subst, arith, min, refl, Ok, ℕ}
 use Rattle.std.proofs.lemmas.List.{length-set}
 use Rattle.std.proofs.lemmas.Result.{err_from_is_err_and}
 use Rattle.ii_recorder.specs.Recorded.{u32_max}
@@ -9,6 +9,7 @@ use Rattle.ii_json.specs.LeafVisit.{IsRefusedBy}
 use Rattle.ii_indexing.specs.IndexedTerms.{TakesTexts}
 use Rattle.ii_indexing.specs.Indexer.{EndsAt, IndexedFieldsState, StoresPieces}
 use Rattle.ii_indexing.specs.declared.open_documents.OpenDocument.{OpenDocument}
+use Rattle.ii_indexing.specs.OpenPaths.{TellAllPaths}
 use Rattle.ii_postings_writer.specs.declared.indexing_position.IndexingPosition.{IndexingPosition}
 use Rattle.ii_indexing.proofs.PathLaws.{paths_kept, text_has_none}
 use Rattle.ii_indexing.proofs.PieceLaws.{reach_put, text_refused, words_stored}
@@ -36,8 +37,11 @@ returns-clause-stored g c entries ps takes stored =
     let num = c.in_ok-index_text.ensures.num_tokens in
     let more : c.index_text.new.position.num_tokens - d.num_tokens ≡ length (kept_words words) = omega (arith, num) in
     let new : OpenDocument = record { doc = c.args.doc; num_tokens = c.index_text.new.position.num_tokens; end_position = c.index_text.new.position.end_position; norm = c.saturating_add.result } in
+    let p = text_at c.args.doc c.args.field [] words in
+    let by_path = subst (λ (known : List (List ℕ)). TellAllPaths known (ps ++ p ∷ []) c.self.inside.paths) (sym c.in_ok-index_text.ensures.paths)
+    (paths_kept c.self.inside.terms.paths ps p c.self.inside.paths (text_has_none c.args.doc c.args.field words) st.paths) in
     rw c.put.ensures
-    (words_stored entries ps c.index_text.new.self c.open.new.self d new c.self.inside.paths c.args.doc c.args.field words (paths_kept ps (text_at c.args.doc c.args.field [] words) c.self.inside.paths (text_has_none c.args.doc c.args.field words) st.paths) told c.in_ok-open.ensures.found c.in_ok-open.ensures.at refl num c.in_ok-index_text.ensures.end_position
+    (words_stored entries ps c.index_text.new.self c.open.new.self d new c.self.inside.paths c.args.doc c.args.field words by_path told c.in_ok-open.ensures.found c.in_ok-open.ensures.at refl num c.in_ok-index_text.ensures.end_position
     (c.saturating_add.ensures ∙ ap (λ (n : ℕ). min (d.norm + n) u32_max) more) (c.in_ok-index_text.ensures.stored entries (tokens_after [] ps) [] taken st.tokens))
 
 pub returns-clause-ends : goal.returns-clause-ends

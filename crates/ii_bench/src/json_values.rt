@@ -1,0 +1,118 @@
+ghost use Rattle.std.specs.Prelude.{◌≡◌, ◌<◌, length, IfOk};
+ghost use Rattle.ii_base.specs.declared.schema.value_type.ValueType.TheVariants.{Json};
+ghost use Rattle.ii_indexing.specs.IndexCalls.{Takes};
+
+use crate::indexes::written;
+use crate::table::{Measured, ROUNDS, print_memory, print_row};
+use anyhow::Result;
+use ii_base::{AsciiTokenizer, Field, FieldEntry, IndexRecordOption, JsonValue, Schema};
+use ii_indexing::{IndexCall, Indexer};
+use ii_io::Fault;
+use std::alloc::Global;
+use std::fs;
+use std::time::{Duration, Instant};
+
+/// How many values are indexed, each in a document of its own.
+const DOCS: u32 = 10_000;
+
+/// The keys of a value: the path of a leaf is the first one, byte 01 and another one, 40 bytes in all.
+const OUTER: &str = "properties_of_a_page";
+
+const TITLE: &str = "title_as_it_appears";
+
+const AUTHOR: &str = "author_of_the_pages";
+
+const VISITS: &str = "visits_in_one_month";
+
+const CHANGE: &str = "change_of_its_place";
+
+const PUBLIC: &str = "is_public_or_hidden";
+
+/// Prints what it takes to make and index values of five leaves and to write the index, and the memory that
+/// this takes at most beside what the program has before.
+pub fn measure(rt: &HostRuntime) -> Result<()> {
+    let before = peak_memory(rt)?;
+    let mut least = Duration::MAX;
+    let mut file_bytes = 0;
+    for _ in 0..ROUNDS {
+        let start = Instant::now(rt)?;
+        let files = written(rt.alloc(), indexed(rt.alloc())?)?;
+        least = least.min(start.elapsed(rt)?);
+        file_bytes = files.len();
+    }
+    let measured = Measured {
+        took: least,
+        items: u64::from(DOCS),
+        bytes: file_bytes,
+    };
+    print_row(
+        rt,
+        "indexing and writing JSON: a value of five leaves",
+        &measured,
+    )?;
+    let memory = peak_memory(rt)?.saturating_sub(before);
+    print_memory(
+        rt,
+        "memory for it at most: a value",
+        memory / u64::from(DOCS),
+    )?;
+    Ok(())
+}
+
+// How many bytes of memory the program had at most so far, or 0 where the system doesn't tell.
+fn peak_memory(rt: &HostRuntime) -> Result<u64> {
+    let status = fs::read_to_string(rt, "/proc/self/status")?;
+    for line in status.as_str().lines() {
+        if let Some(size) = line.strip_prefix("VmHWM:") {
+            let kilobytes = size.trim_end_matches("kB").trim().parse::<u64>()?;
+            return Ok(kilobytes.saturating_mul(1024));
+        }
+    }
+    Ok(0)
+}
+
+fn schema(alloc: Global) -> Result<Schema, Fault>
+    ensures takes { IfOk result (λ schema. Takes schema 0 Json) }
+    ensures some { IfOk result (λ schema. 0 < length schema) }
+{
+    let mut entries = Vec::new(alloc);
+    let name = String::from_str(alloc, "json")?;
+    let option = IndexRecordOption::WithFreqsAndPositions;
+    entries.push(FieldEntry::json(name, option, false))?;
+    Ok(Schema::new(entries))
+}
+
+fn indexed(alloc: Global) -> Result<Indexer> {
+    let mut indexer = Indexer::new(alloc, schema(alloc)?, DOCS)?;
+    for doc in 0..DOCS {
+        let value = value(alloc, doc)?;
+        indexer.index(
+            IndexCall::Json(doc, Field::from_field_id(0), value),
+            &AsciiTokenizer,
+        )?;
+    }
+    Ok(indexer)
+}
+
+// A value of five leaves: two texts of two words, and three numbers.
+fn value(alloc: Global, doc: u32) -> Result<JsonValue> {
+    let number = u64::from(doc);
+    let mut leaves = Vec::new(alloc);
+    leaves.push(text_at(alloc, TITLE, number % 5_000)?)?;
+    leaves.push(text_at(alloc, AUTHOR, number % 300)?)?;
+    leaves.push(member(alloc, VISITS, JsonValue::U64(number % 1_000))?)?;
+    leaves.push(member(alloc, CHANGE, JsonValue::I64(-7))?)?;
+    leaves.push(member(alloc, PUBLIC, JsonValue::Bool(doc % 2 == 0))?)?;
+    let mut members = Vec::new(alloc);
+    members.push(member(alloc, OUTER, JsonValue::Object(leaves))?)?;
+    Ok(JsonValue::Object(members))
+}
+
+fn member(alloc: Global, key: &str, value: JsonValue) -> Result<(String, JsonValue)> {
+    Ok((String::from_str(alloc, key)?, value))
+}
+
+fn text_at(alloc: Global, key: &str, number: u64) -> Result<(String, JsonValue)> {
+    let text = format!(in alloc; "w{number} v{}", number / 2)?;
+    member(alloc, key, JsonValue::Str(text))
+}
