@@ -1,4 +1,4 @@
-ghost use Rattle.std.specs.Prelude.{◌≡◌, ◌<◌, ◌≤◌, [], length, Some, OnOk};
+ghost use Rattle.std.specs.Prelude.{◌≡◌, ◌<◌, ◌≤◌, ℕ, [], OnOk};
 ghost use Rattle.std.specs.List.{range_with_len};
 ghost use Rattle.ii_layout.specs.Bounds.{Covers};
 
