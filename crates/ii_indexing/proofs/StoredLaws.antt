@@ -1,6 +1,6 @@
 -- What is stored of calls is what the context and the writers have, and may be written.
-use Rattle.std.proofs.Common.{inl, inr, ◌≤◌, ◌+◌, ◌&&◌, nat_le, nat_lt, ◌≡◌, ℕ, zero, suc, ◌<◌, ◌==◌, Bool, true, false, List, [], ◌∷◌, ◌++◌, map, length, Option, Some, None, refl, sym, ap, ◌∙◌, subst, arith, length-append}
-use Rattle.std.specs.Prelude.{◌⊎◌, bytes_eq, filter, IsTrue, IsSome, MatchOption, is_some, slice_set, unwrap_or, ⊤, if◌then◌else◌}
+use Rattle.std.proofs.Common.{inr, ◌≤◌, ◌+◌, ◌&&◌, nat_le, nat_lt, ◌≡◌, ℕ, zero, suc, ◌<◌, ◌==◌, Bool, true, false, List, [], ◌∷◌, ◌++◌, map, length, Option, Some, None, refl, sym, ap, ◌∙◌, subst, arith, length-append}
+use Rattle.std.specs.Prelude.{bytes_eq, filter, IsTrue, IsSome, MatchOption, is_some, slice_set, unwrap_or, ⊤, if◌then◌else◌}
 use Rattle.std.specs.List.{AllByRecursion}
 use Rattle.std.specs.Option.{option_map, option_to_list}
 use Rattle.ii_base.specs.Schema.{SchemaEntry, keeps_norms}
@@ -109,10 +109,10 @@ covers_below n readers field norms (d ∷ ds) all = (by (body_of field readers) 
     by (Some ids) many = inr (omega (arith, many, all.0))
 
 -- the documents of a recorder have norms
-covered_by : (n doc : ℕ) (readers : List Body) (field : ℕ) (terms : TermIndex) (r : RecorderState) (bytes : List ℕ) → recorder_of terms bytes ≡ Some r → EndsBy doc r → (doc < n) ⊎ (terms ≡ []) → HaveNormsOf n readers
+covered_by : (n doc : ℕ) (readers : List Body) (field : ℕ) (terms : TermIndex) (r : RecorderState) (bytes : List ℕ) → recorder_of terms bytes ≡ Some r → EndsBy doc r → (0 < length terms → doc < n) → HaveNormsOf n readers
     → AllByRecursion (Covers (norms_in readers field)) (docs_of (entries_of_recorder r))
-covered_by n doc readers field terms r bytes found end (inl low) norms = covers_below n readers field norms (docs_of (entries_of_recorder r)) (all_docs_below n doc r end low)
-covered_by n doc readers field terms r bytes found end (inr none) norms = let nothing : None ≡ Some r = ap (λ (ts : TermIndex). recorder_of ts bytes) (sym none) ∙ found in absurd (cc)
+covered_by n doc readers field [] r bytes found end below norms = absurd (cc)
+covered_by n doc readers field (t ∷ ts) r bytes found end below norms = covers_below n readers field norms (docs_of (entries_of_recorder r)) (all_docs_below n doc r end (below (omega (arith))))
 
 module _ (entries : List SchemaEntry) (s : IndexedTermsState) (ts : List IndexToken) (h : StoresTokens entries s ts) where
   abbrev flags : List Bool
@@ -160,7 +160,7 @@ module _ (entries : List SchemaEntry) (s : IndexedTermsState) (ts : List IndexTo
       = subst (λ (k : List ℕ). kind_of (option_of entries field) (t ∷ []) ≡ held_kept_at entries field k) first.2 (subst (λ (f : ℕ). kind_of (option_of entries f) (t ∷ []) ≡ held_kept_at entries f t.key) first.1 first.0.kind) in
       sym (ap (kind_of (option_of entries field)) is ∙ kind)
 
-  pub may_be_written : (n doc : ℕ) (readers : List Body) → AllEndBy doc s.terms → (doc < n) ⊎ (s.terms ≡ []) → HaveNormsOf n readers → AllMayBeWritten (length entries) readers s.terms
+  pub may_be_written : (n doc : ℕ) (readers : List Body) → AllEndBy doc s.terms → (0 < length s.terms → doc < n) → HaveNormsOf n readers → AllMayBeWritten (length entries) readers s.terms
   may_be_written n doc readers ends below norms field key small = by (recorder_of s.terms (field_bytes field ++ key)) refl (h.records field key small) (ends (field_bytes field ++ key))
     where
       by : (o : Option RecorderState) → recorder_of s.terms (field_bytes field ++ key) ≡ o → MatchOption o (tokens_at field key held ≡ []) (HasPostings (held_kept_at entries field key) (tokens_at field key held)) → MatchOption o ⊤ (EndsBy doc)

@@ -17,6 +17,7 @@ use Rattle.ii_postings_writer.specs.WriteFaults.{IsContextFault, IsPartsFault}
 use Rattle.ii_postings_writer.proofs.FaultLemmas.{all_some, no_part}
 use Rattle.ii_postings_writer.proofs.PartLemmas.{AreLists}
 use Rattle.ii_postings_writer.proofs.SortedLemmas.{found_first}
+use Rattle.ii_io.specs.Composite.{Body}
 
 pub context_fault : (old : IndexSerializerState) (writers : List PostingsWriterState) (readers : List Body) (terms sorted : TermIndex) (lists : List (List SortedTerm)) (e : Fault) → AreLists (length old.entries) terms sorted lists
     → (e ≡ SerializerClosed) ⊎ IsPartsFault old.entries old.bodies (first_parts old.entries writers readers lists (length lists)) e → (e ≡ OutOfMemory) ⊎ (e ≡ SerializerClosed) ⊎ IsContextFault old writers readers terms e

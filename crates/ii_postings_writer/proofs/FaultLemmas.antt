@@ -1,5 +1,5 @@
 -- Why terms, fields and contexts can't be written.
-use Rattle.std.proofs.Common.{◌≡◌, ℕ, zero, suc, ◌+◌, ◌-◌, ◌<◌, ◌⊎◌, inl, inr, Bool, false, List, [], ◌∷◌, ◌++◌, length, map, take, drop, get_or, Result, Ok, Err, refl, sym, ap, ◌∙◌, subst, arith, length-append, append-nil, append_assoc, add-zero, true≢false}
+use Rattle.std.proofs.Common.{Option, ◌≡◌, ℕ, zero, suc, ◌+◌, ◌-◌, ◌<◌, ◌⊎◌, inl, inr, Bool, false, List, [], ◌∷◌, ◌++◌, length, map, take, drop, get_or, Result, Ok, Err, refl, sym, ap, ◌∙◌, subst, arith, length-append, append-nil, append_assoc, add-zero, true≢false}
 use Rattle.std.specs.Prelude.{◌↔◌, IsTrue, slice_index_or, IsErrOf, IfErr}
 use Rattle.std.specs.List.{AllByRecursion, flat_map}
 use Rattle.std.proofs.lemmas.Grind.{flat_map-append}
@@ -21,7 +21,7 @@ use Rattle.ii_recorder.specs.IndexSerializer.{IndexSerializerState, IsFieldFault
 use Rattle.ii_recorder.specs.Terms.{IsShort, WrittenTerm, field_bodies, open_bodies, positions_body, positions_bytes, postings_bytes}
 use Rattle.ii_postings_writer.specs.FieldParts.{FieldPart, HasFields, HoldsPart, bodies_of, first_parts, parts_of, positions_of_part, postings_body, terms_body, tokens_in, written_terms}
 use Rattle.ii_postings_writer.specs.PostingsWriter.{PostingsWriterState}
-use Rattle.ii_postings_writer.specs.SortedTerms.{IsTold, SortedTerm, state_of, written_term}
+use Rattle.ii_postings_writer.specs.SortedTerms.{norms_in, IsTold, SortedTerm, state_of, written_term}
 use Rattle.ii_postings_writer.specs.declared.sorted_terms.TermOfField.{TermOfField}
 use Rattle.ii_definitions.specs.Fields.{option_of}
 use Rattle.ii_postings_writer.specs.TermLimits.{AreWithin, FirstOf, HasLargeSum, IsLong, IsWithin, PassEnds}

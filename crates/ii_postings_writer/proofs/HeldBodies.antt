@@ -29,7 +29,7 @@ use Rattle.ii_postings_writer.proofs.SortedLemmas.{each_may_be, kept_writable}
 use Rattle.ii_recorder.specs.IndexSerializer.{IndexSerializerState}
 use Rattle.ii_postings_writer.specs.IndexingContext.{TermIndex, recorder_of}
 use Rattle.ii_postings_writer.specs.PostingsWriter.{PostingsWriterState}
-use Rattle.ii_postings_writer.specs.SortedTerms.{AllMayBeWritten, MayBeWritten, SortedTerm, terms_in}
+use Rattle.ii_postings_writer.specs.SortedTerms.{norms_in, AllMayBeWritten, MayBeWritten, SortedTerm, terms_in}
 use Rattle.ii_postings_writer.proofs.PartLemmas.{part_of}
 
 module _ (entries : List SchemaEntry) (writers : List PostingsWriterState) (readers : List Body) (lists : List (List SortedTerm)) where

@@ -20,19 +20,22 @@ use Rattle.ii_definitions.specs.Postings.{kind_of, tokens_at}
 use Rattle.ii_definitions.specs.Tokens.{IndexToken}
 use Rattle.ii_json.specs.PathRank.{path_ranks}
 use Rattle.ii_json.specs.Paths.{AreDistinct}
-use Rattle.ii_recorder.specs.Recorded.{RecorderState}
+use Rattle.ii_recorder.specs.Recorded.{entries_of_recorder, RecorderState}
 use Rattle.ii_postings_writer.specs.HeldBodies.{HaveTokens}
 use Rattle.ii_postings_writer.specs.IndexingContext.{TermIndex, recorder_of}
 use Rattle.ii_postings_writer.specs.IndexingTerm.{AreTermBytes, field_bytes, field_in}
 use Rattle.ii_postings_writer.specs.PostingsWriter.{PostingsWriterState}
 use Rattle.ii_postings_writer.specs.Records.{HasPostings}
 use Rattle.ii_postings_writer.specs.ResolvedTerms.{AreClean, AreSorted, HaveHeldTokens, HaveUnlessMemory, HoldIds, IsHeldTerm, IsKnownToken, held_token, is_json_field, json_fields, resolved, resolved_terms}
-use Rattle.ii_postings_writer.specs.SortedTerms.{AllMayBeWritten, MayBeWritten}
+use Rattle.ii_postings_writer.specs.SortedTerms.{norms_in, AllMayBeWritten, MayBeWritten}
 use Rattle.ii_postings_writer.proofs.ResolvedLaws.{json_resolved, plain_resolved}
 use Rattle.ii_postings_writer.proofs.ResolvedOrder.{none_apart}
 use Rattle.ii_postings_writer.proofs.ResolvedRecords.{resolved_records}
 use Rattle.ii_postings_writer.proofs.SortedLemmas.{field_of_bytes, found_first, found_later}
 use Rattle.ii_postings_writer.proofs.TermLemmas.{behind_field}
+use Rattle.ii_io.specs.Composite.{Body}
+use Rattle.ii_layout.specs.Bounds.{Covers}
+use Rattle.ii_base.specs.Entries.{docs_of}
 
 abbrev first_of : List ℕ × RecorderState → List ℕ
 first_of t = t.0

@@ -1,5 +1,5 @@
 -- Terms of a field that are written one after the other.
-use Rattle.std.proofs.Common.{Result, Ok, Err, OnOk, zero, suc, ◌+◌, ◌<◌, arith, append-nil, take, map, length, Ordering, Less, get_or, ◌≡◌, ℕ, Bool, List, [], ◌∷◌, ◌++◌, refl, sym, ap, ◌∙◌, subst}
+use Rattle.std.proofs.Common.{Option, Result, Ok, Err, OnOk, zero, suc, ◌+◌, ◌<◌, arith, append-nil, take, map, length, Ordering, Less, get_or, ◌≡◌, ℕ, Bool, List, [], ◌∷◌, ◌++◌, refl, sym, ap, ◌∙◌, subst}
 use Rattle.std.specs.Prelude.{if◌then◌else◌, IsTrue, ◌^◌}
 use Rattle.std.specs.List.{AllByRecursion}
 use Rattle.std.specs.List.Sorted.{IsStrictlySortedBy}

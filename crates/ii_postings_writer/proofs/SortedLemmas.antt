@@ -1,8 +1,8 @@
 -- Terms in the order of their bytes.
-use Rattle.std.proofs.Common.{length, length-append, ◌≤◌, Option, Some, Result, Ok, Err, IfOk, None, zero, suc, ◌+◌, ◌<◌, ◌^◌, ◌++◌, drop, filter, nat_eq, arith, ◌≡◌, ℕ, Bool, true, false, List, [], ◌∷◌, map, refl, sym, ap, ◌∙◌, subst, Vec}
+use Rattle.std.proofs.Common.{zero-add, length, length-append, ◌≤◌, Option, Some, Result, Ok, Err, IfOk, None, zero, suc, ◌+◌, ◌<◌, ◌^◌, ◌++◌, drop, filter, nat_eq, arith, ◌≡◌, ℕ, Bool, true, false, List, [], ◌∷◌, map, refl, sym, ap, ◌∙◌, subst, Vec}
 use Rattle.std.proofs.Common.{Ordering, Less, Equal, Greater}
 use Rattle.std.specs.Ordering.{ordering_reverse}
-use Rattle.std.specs.Prelude.{bytes_eq}
+use Rattle.std.specs.Prelude.{slice_index_or, bytes_eq}
 use Rattle.std.proofs.lemmas.List.Elements.{All-tail}
 use Rattle.std.specs.Prelude.{All, MatchOption, ⊤}
 use Rattle.std.specs.Ordering.{is_eq}
@@ -15,7 +15,7 @@ use Rattle.std.proofs.lemmas.Cmp.{nat_list_eq_equiv}
 use Rattle.std.specs.Cmp.Lexicographic.{bytes_decides, slice_cmp}
 use Rattle.std.specs.Ordering.{nat_cmp}
 use Rattle.ii_postings_writer.specs.IndexingContext.{TermIndex, recorder_of}
-use Rattle.ii_postings_writer.specs.SortedTerms.{AllMayBeWritten, IsTermBelow, IsWritable, MayBeWritten, SortedTerm, terms_in}
+use Rattle.ii_postings_writer.specs.SortedTerms.{norms_in, term_of, AllMayBeWritten, IsTermBelow, IsWritable, MayBeWritten, SortedTerm, terms_in}
 use Rattle.ii_postings_writer.proofs.TermLemmas.{length_field}
 use Rattle.ii_postings_writer.specs.IndexingTerm.{AreTermBytes, field_bytes, field_in}
 use Rattle.std.specs.Map.{lookup}
@@ -26,6 +26,8 @@ use Rattle.std.proofs.lemmas.Map.Text.{is_eq-slice_cmp}
 use Rattle.std.proofs.lemmas.List.Kept.{IsStrictlySortedBy-dedup, IsStrictlySortedBy-filter}
 use Rattle.std.proofs.lemmas.Bool.{eqb-true}
 use Rattle.std.proofs.lemmas.Map.Keys.{IsDistinct-head, IsDistinct-tail}
+use Rattle.ii_io.specs.Composite.{Body}
+use Rattle.std.proofs.lemmas.List.FromFn.{get_or-map-range_with_len}
 
 module _ {K : Type 0} (E : K → K → Bool) (flips : (x y : K) → E x y ≡ E y x) where
   dedup_from_distinct : (k : K) (ks : List K) → IsDistinct E (k ∷ ks) → dedup_from E k ks ≡ k ∷ ks

@@ -2,6 +2,9 @@ use Rattle.std.proofs.Common.{rules, length, ◌≡◌, ◌<◌, [], ◌∙◌, 
 use Rattle.std.proofs.lemmas.List.{get_or_default}
 use Rattle.std.proofs.lemmas.Result.{err_from_is_err_and}
 use Rattle.ii_recorder.specs.IndexBodies.{LacksField}
+use Rattle.std.specs.Prelude.{slice_index_or}
+use Rattle.std.specs.List.{AllByRecursion}
+use Rattle.ii_postings_writer.specs.SortedTerms.{IsWritable, norms_in}
 use Rattle.ii_postings_writer.proofs.FaultLemmas.{IsNextField, all_some, field_fault, no_part}
 use Rattle.ii_postings_writer.proofs.PartLemmas.{lacks_next, next_part}
 use Rattle.ii_postings_writer.specs.FieldParts.{HasFields, first_parts}
@@ -16,6 +19,14 @@ serialize_if_any-requires-clause-lacks g c _ =
     subst (λ (field : ℕ). LacksField field c.loop-place.serializer.bodies) (sym c.from_field_id-field.ensures)
     (lacks_next c.args.serializer.now.entries c.args.writers.now c.args.norms.now c.args.terms.now.items c.loop-place.place c.args.serializer.now.bodies c.loop-place.serializer.bodies
     (omega (arith, few, low, c.len-place-end.ensures)) c.loop-place.invariant.0)
+
+pub serialize_if_any-requires-clause-writable : goal.serialize_if_any-requires-clause-writable
+serialize_if_any-requires-clause-writable g c =
+    let low = c.loop-place-test.true in
+    let inside : c.loop-place.place < length c.args.terms.now.items = omega (arith, low, c.len-place-end.ensures) in
+    let at = c.index.ensures ∙ get_or_default c.args.terms.now.items c.loop-place.place c.index.result.now [] inside in
+    subst (AllByRecursion (IsWritable (norms_in c.args.norms.now c.from_field_id-field.result))) (sym at)
+    (subst (λ (f : ℕ). AllByRecursion (IsWritable (norms_in c.args.norms.now f)) (slice_index_or c.args.terms.now.items c.loop-place.place [])) (sym c.from_field_id-field.ensures) (c.requires.writable c.loop-place.place inside))
 
 pub loop-place-preserved : goal.loop-place-preserved
 loop-place-preserved g c =
