@@ -211,4 +211,4 @@ went_ok (Err e) went h = absurd (cc)
 -- what was written of a field stays as it is
 pub writing_pushed : (option : IndexRecordOption) (initial : IndexBodiesState) (s : IndexSerializerState) (es : List Entry) (field tokens : ℕ) (norms : Option Norms) (ts : List WrittenTerm) (pending : List (List ℕ)) → IsWriting initial s field tokens norms ts pending
     → IsWriting initial (with_entries option s es) field tokens norms ts pending
-writing_pushed option initial s es field tokens ts pending h = record { counted = h.counted; mode = h.mode; norms_are = h.norms_are; bodies = h.bodies; terms = h.terms }
+writing_pushed option initial s es field tokens norms ts pending h = record { counted = h.counted; mode = h.mode; norms_are = h.norms_are; bodies = h.bodies; terms = h.terms }
