@@ -31,6 +31,7 @@ use Rattle.ii_postings_writer.specs.IndexingContext.{TermIndex, recorder_of}
 use Rattle.ii_postings_writer.specs.PostingsWriter.{PostingsWriterState}
 use Rattle.ii_postings_writer.specs.SortedTerms.{norms_in, AllMayBeWritten, MayBeWritten, SortedTerm, terms_in}
 use Rattle.ii_postings_writer.proofs.PartLemmas.{part_of}
+use Rattle.ii_fieldnorm.specs.Readers.{Norms}
 
 module _ (entries : List SchemaEntry) (writers : List PostingsWriterState) (readers : List Body) (lists : List (List SortedTerm)) where
   abbrev pub list_at : ℕ → List SortedTerm
@@ -44,10 +45,10 @@ module _ (entries : List SchemaEntry) (writers : List PostingsWriterState) (read
   own_part field = part_of entries field (tokens_in writers field) (norms_in readers field) (list_at field)
 
   module _ (body : FieldPart → Body) (same : (p : FieldPart) → (body p).field ≡ p.field) where
-    passed : (field first tokens : ℕ) (l : List SortedTerm) (rest : List FieldPart) → (first ≡ field → ⊥) → body_of field (map body (parts_of entries first tokens l ++ rest)) ≡ body_of field (map body rest)
-    passed field first tokens [] rest apart = refl
-    passed field first tokens (t ∷ ts) rest apart =
-        let p = part_of entries first tokens (t ∷ ts) in
+    passed : (field first tokens : ℕ) (norms : Option Norms) (l : List SortedTerm) (rest : List FieldPart) → (first ≡ field → ⊥) → body_of field (map body (parts_of entries first tokens norms l ++ rest)) ≡ body_of field (map body rest)
+    passed field first tokens norms [] rest apart = refl
+    passed field first tokens norms (t ∷ ts) rest apart =
+        let p = part_of entries first tokens norms (t ∷ ts) in
         let other : nat_eq (body p).field field ≡ false = ne_eqb (body p).field field (λ e. apart (sym (same p) ∙ e)) in
         rw other refl
 
@@ -55,12 +56,12 @@ module _ (entries : List SchemaEntry) (writers : List PostingsWriterState) (read
     none_past : (field first k : ℕ) → field < first → body_of field (map body (flat_map part_list (range_with_len first k))) ≡ None
     none_past field first zero low = refl
     none_past field first (suc k) low =
-        passed field first (tokens_in writers first) (list_at first) (flat_map part_list (range_with_len (first + 1) k)) (λ e. absurd (omega (arith, e, low))) ∙ none_past field (first + 1) k (omega (arith, low))
+        passed field first (tokens_in writers first) (norms_in readers first) (list_at first) (flat_map part_list (range_with_len (first + 1) k)) (λ e. absurd (omega (arith, e, low))) ∙ none_past field (first + 1) k (omega (arith, low))
 
     none_before : (field first k : ℕ) → first + k ≤ field → body_of field (map body (flat_map part_list (range_with_len first k))) ≡ None
     none_before field first zero high = refl
     none_before field first (suc k) high =
-        passed field first (tokens_in writers first) (list_at first) (flat_map part_list (range_with_len (first + 1) k)) (λ e. absurd (omega (arith, e, high))) ∙ none_before field (first + 1) k (omega (arith, high))
+        passed field first (tokens_in writers first) (norms_in readers first) (list_at first) (flat_map part_list (range_with_len (first + 1) k)) (λ e. absurd (omega (arith, e, high))) ∙ none_before field (first + 1) k (omega (arith, high))
 
     -- the body of a field, if it has terms
     abbrev pub own_body : ℕ → List SortedTerm → Option (List ℕ)
@@ -86,7 +87,7 @@ module _ (entries : List SchemaEntry) (writers : List PostingsWriterState) (read
             (here field (list_at field) (flat_map part_list (range_with_len (field + 1) k)) (none_past field (field + 1) k (omega (arith))))
         by_case false other later =
             let apart = eqb-false first field other in
-            passed field first (tokens_in writers first) (list_at first) (flat_map part_list (range_with_len (first + 1) k)) apart ∙ later (omega (arith, low, apart)) (omega (arith, high))
+            passed field first (tokens_in writers first) (norms_in readers first) (list_at first) (flat_map part_list (range_with_len (first + 1) k)) apart ∙ later (omega (arith, low, apart)) (omega (arith, high))
 
     pub own_found : (field n : ℕ) → field < n → body_of field (map body (first_parts entries writers readers lists n)) ≡ own_body field (list_at field)
     own_found field n inside = found_at field 0 n (omega (arith)) (omega (arith, inside))
@@ -98,9 +99,9 @@ module _ (entries : List SchemaEntry) (writers : List PostingsWriterState) (read
   held_here field [] rest some all = absurd (omega (arith, some))
   held_here field (t ∷ ts) rest some all = all.0
 
-  held_later : (field tokens : ℕ) (l : List SortedTerm) (rest : List FieldPart) → AllByRecursion (HoldsPart entries) (parts_of entries field tokens l ++ rest) → AllByRecursion (HoldsPart entries) rest
-  held_later field tokens [] rest all = all
-  held_later field tokens (t ∷ ts) rest all = all.1
+  held_later : (field tokens : ℕ) (norms : Option Norms) (l : List SortedTerm) (rest : List FieldPart) → AllByRecursion (HoldsPart entries) (parts_of entries field tokens norms l ++ rest) → AllByRecursion (HoldsPart entries) rest
+  held_later field tokens norms [] rest all = all
+  held_later field tokens norms (t ∷ ts) rest all = all.1
 
   held_from : (field first k : ℕ) → first ≤ field → field < first + k → 0 < length (list_at field) → AllByRecursion (HoldsPart entries) (flat_map part_list (range_with_len first k)) → HoldsPart entries (own_part field)
   held_from field first zero low high some all = absurd (omega (arith, low, high))
@@ -113,7 +114,7 @@ module _ (entries : List SchemaEntry) (writers : List PostingsWriterState) (read
           held_here field (list_at field) (flat_map part_list (range_with_len (field + 1) k)) some (subst (λ (f : ℕ). AllByRecursion (HoldsPart entries) (part_list f ++ flat_map part_list (range_with_len (f + 1) k))) own all)
       by_case false other later =
           let apart = eqb-false first field other in
-          later (omega (arith, low, apart)) (omega (arith, high)) some (held_later first (tokens_in writers first) (list_at first) (flat_map part_list (range_with_len (first + 1) k)) all)
+          later (omega (arith, low, apart)) (omega (arith, high)) some (held_later first (tokens_in writers first) (norms_in readers first) (list_at first) (flat_map part_list (range_with_len (first + 1) k)) all)
 
   -- the bodies of a field that was written hold its terms
   pub part_held : (field n : ℕ) → field < n → 0 < length (list_at field) → AllByRecursion (HoldsPart entries) (first_parts entries writers readers lists n) → HoldsPart entries (own_part field)

@@ -96,7 +96,7 @@ pub record IsKnown (norms : Option Norms) (mode : IndexRecordOption) (field : �
   pub told : IsTold mode s
 
 pub all_known : (norms : Option Norms) (mode : IndexRecordOption) (field : ℕ) (sorted : TermIndex) (states : List SortedTerm) → AllByRecursion (λ (s : SortedTerm). recorder_of sorted (field_bytes field ++ s.key) ≡ Some s.recorder) states
-    → AllByRecursion IsWritable norms states → AllByRecursion (IsTold mode) states → AllByRecursion (IsKnown norms mode field sorted) states
+    → AllByRecursion (IsWritable norms) states → AllByRecursion (IsTold mode) states → AllByRecursion (IsKnown norms mode field sorted) states
 all_known norms mode field sorted [] found writable told = tt
 all_known norms mode field sorted (s ∷ ss) found writable told = (record { found = found.0; writable = writable.0; told = told.0 }, all_known norms mode field sorted ss found.1 writable.1 told.1)
 
