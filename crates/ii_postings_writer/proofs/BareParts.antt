@@ -2,7 +2,8 @@
 use Rattle.std.proofs.Common.{inl, inr, ◌≡◌, ℕ, zero, suc, ◌+◌, ◌≤◌, ◌<◌, ◌^◌, List, [], ◌∷◌, ◌++◌, length, map, Option, None, refl, sym, ap, ◌∙◌, subst, arith, length-append}
 use Rattle.std.specs.Prelude.{◌⊎◌, slice_index_or}
 use Rattle.std.specs.List.{AllByRecursion, flat_map, range_with_len}
-use Rattle.ii_io.specs.Composite.{Body, Place, bodies_bytes, places_from, table_bytes, written_composite}
+use Rattle.ii_io.specs.Composite.{Body, bodies_bytes, places_from, table_bytes, written_composite}
+use Rattle.ii_io.specs.declared.composite_file.place.Place.{Place}
 use Rattle.ii_io.specs.Numbers.{le_bytes}
 use Rattle.ii_io.specs.CountingWriter.{IsFull}
 use Rattle.ii_io.specs.declared.faults.Fault.{Fault}
