@@ -1,6 +1,9 @@
 -- What a field holds whose only term has a recorder's documents.
 use Rattle.std.proofs.Common.{◌≡◌, ℕ, [], ◌∷◌, List, Bool, if◌then◌else◌, Option, None, Result, refl}
 use Rattle.std.specs.Prelude.{OnOk}
+use Rattle.std.specs.List.{AllByRecursion}
+use Rattle.ii_fieldnorm.specs.Readers.{Norms}
+use Rattle.ii_layout.specs.Bounds.{Covers}
 use Rattle.ii_io.specs.declared.faults.Fault.{Fault}
 use Rattle.ii_base.specs.declared.schema.index_record_option.IndexRecordOption.{IndexRecordOption}
 use Rattle.ii_base.specs.declared.schema.index_record_option.IndexRecordOption.TheVariants.{Basic}
@@ -30,3 +33,8 @@ held_as result m mode t u same is h = rw (same, is) at h
 pub still_writing : (option : IndexRecordOption) (initial : IndexBodiesState) (s new : IndexSerializerState) (es : List Entry) (field tokens : ℕ) (pending : List (List ℕ)) → new ≡ with_entries option s es → IsWriting initial s field tokens None [] pending
     → IsWriting initial new field tokens None [] pending
 still_writing option initial s new es field tokens pending is h = rw is (writing_pushed option initial s es field tokens None [] pending h)
+
+-- where no norms are known, none is lacking
+pub none_lacking : (norms : Option Norms) (docs : List ℕ) → norms ≡ None → AllByRecursion (Covers norms) docs
+none_lacking norms [] is = tt
+none_lacking norms (d ∷ ds) is = (rw is tt, none_lacking norms ds is)
