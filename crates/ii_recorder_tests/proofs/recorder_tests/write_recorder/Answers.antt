@@ -29,8 +29,8 @@ pub serialize-requires : goal.serialize-requires
 serialize-requires g c =
     let term = c.in_ok-new_term.ensures.term in
     record {
-      inside = λ open. c.in_ok-new_term.ensures.inside;
-      ascending = λ open. rw (ap (λ (t : OpenTermState). t.docs) term) c.requires.docs;
+      inside = λ still. c.in_ok-new_term.ensures.inside;
+      ascending = λ still. rw (ap (λ (t : OpenTermState). t.docs) term) c.requires.docs;
       counted = search rules;
-      covered = λ open. none_lacking c.new_term.new.self.index.now.field.term.norms _ (ap (λ (t : OpenTermState). t.norms) term ∙ c.in_ok-field.ensures.begins.norms_are);
+      covered = λ still. none_lacking c.new_term.new.self.index.now.field.term.norms _ (ap (λ (t : OpenTermState). t.norms) term ∙ c.in_ok-field.ensures.begins.norms_are);
     }
