@@ -8,7 +8,7 @@ pub new_term-requires-clause-ascending : goal.new_term-requires-clause-ascending
 new_term-requires-clause-ascending g c = λ _. first_ascends c.in_ok-field.field.index.now.field.places.keys _ c.in_ok-field.ensures.begins.terms.keys
 
 pub write_doc-requires-clause-ascending : goal.write_doc-requires-clause-ascending
-write_doc-requires-clause-ascending g c = λ e. rw (c.loop-doc.invariant e).1.0 (next_ascends c.loop-doc.doc (omega arith))
+write_doc-requires-clause-ascending g c = λ e. rw (c.loop-doc.invariant e).1 (next_ascends c.loop-doc.doc (omega arith))
 
 pub loop-doc-preserved : goal.loop-doc-preserved
 loop-doc-preserved g c = λ e.
@@ -22,7 +22,7 @@ loop-doc-init g c = λ e.
     (c.in_ok-new_term.ensures.inside, ap (λ (t : OpenTermState). t.docs) term, ap (λ (t : OpenTermState). t.norms) term ∙ c.in_ok-field.ensures.begins.norms_are)
 
 pub write_doc-requires-clause-covered : goal.write_doc-requires-clause-covered
-write_doc-requires-clause-covered g c = λ e. rw (c.loop-doc.invariant e).1.1 tt
+write_doc-requires-clause-covered g c = λ e. rw (c.loop-doc.invariant e).2 tt
 
 pub write_doc-requires-2-clause-covered : goal.write_doc-requires-2-clause-covered
-write_doc-requires-2-clause-covered g c = λ e. rw (c.loop-doc.invariant e).1.1 tt
+write_doc-requires-2-clause-covered g c = λ e. rw (c.loop-doc.invariant e).2 tt
