@@ -14,7 +14,7 @@ pub loop-doc-preserved : goal.loop-doc-preserved
 loop-doc-preserved g c = λ e.
     let ok = c.in_ok-write_doc.ensures.ok in
     let was = c.loop-doc.invariant (ap (λ (s : IndexSerializerState). s.closed) (sym ok) ∙ e) in
-    (ap (λ (s : IndexSerializerState). s.field.term_open) ok ∙ was.0, ap (λ (s : IndexSerializerState). s.field.term.docs) ok ∙ ap (λ (docs : List ℕ). docs ++ c.loop-doc.doc ∷ []) was.1 ∙ next_doc c.loop-doc.doc)
+    (ap (λ (s : IndexSerializerState). s.field.term_open) ok ∙ was.0, ap (λ (s : IndexSerializerState). s.field.term.docs) ok ∙ ap (λ (docs : List ℕ). docs ++ c.loop-doc.doc ∷ []) was.1 ∙ next_doc c.loop-doc.doc, ap (λ (s : IndexSerializerState). s.field.term.norms) ok ∙ was.2)
 
 pub loop-doc-init : goal.loop-doc-init
 loop-doc-init g c = λ e.
