@@ -1,3 +1,5 @@
+ghost use Rattle.std.specs.Prelude.{◌≡◌, ◌↔◌, IsTrue};
+
 use hex::FromHexError;
 use ii_base::Fault;
 use ii_documents::LineFault;
@@ -53,7 +55,9 @@ impl OpenFault {
 }
 
 /// Whether no memory was found.
-pub fn is_memory(fault: Fault) -> bool {
+pub fn is_memory(fault: Fault) -> bool
+    ensures { IsTrue result ↔ (fault ≡ Fault.OutOfMemory) }
+{
     matches!(fault, Fault::OutOfMemory)
 }
 

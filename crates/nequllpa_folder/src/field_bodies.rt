@@ -6,6 +6,7 @@ ghost use Rattle.ii_io.specs.Composite.{composite, places_at, table_of};
 ghost use Rattle.ii_io.specs.Faults.{OnlyMemory};
 ghost use Rattle.nequllpa_folder.specs.Bodies.{body_in};
 
+use crate::faults::is_memory;
 use bytes::Bytes;
 use ii_io::composite_file::place::Place;
 use ii_io::{BinarySerializable, CompositeFile, Fault, Field};
@@ -33,11 +34,15 @@ impl FieldBodies {
                 bytes,
                 bodies: Some(bodies),
             }),
-            Err(Fault::OutOfMemory) => Err(Fault::OutOfMemory),
-            Err(_) => Ok(FieldBodies {
-                bytes,
-                bodies: None,
-            }),
+            Err(fault) => {
+                if is_memory(fault) {
+                    return Err(fault);
+                }
+                Ok(FieldBodies {
+                    bytes,
+                    bodies: None,
+                })
+            }
         }
     }
 
