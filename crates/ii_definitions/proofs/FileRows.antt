@@ -1,5 +1,5 @@
 -- The files of one number hold its token.
-use Rattle.std.proofs.Common.{◌≡◌, ℕ, Bool, true, false, List, [], ◌∷◌, ◌++◌, Ok, Some, length, nat_eq, refl, sym, arith}
+use Rattle.std.proofs.Common.{◌≡◌, ℕ, Bool, true, false, List, [], ◌∷◌, ◌++◌, Ok, None, Some, length, nat_eq, refl, sym, arith}
 use Rattle.std.specs.Prelude.{MatchOption, bytes_eq, replicate}
 use Rattle.std.proofs.lemmas.Bool.{eqb-true}
 use Rattle.std.proofs.lemmas.Cmp.{nat_list_eq_equiv}
@@ -36,7 +36,7 @@ abbrev terms : List ℕ
 terms = written_dictionary (u64_bytes 5 ∷ []) (info ∷ [])
 
 abbrev postings : List ℕ
-postings = le_bytes 8 1 ++ written_postings Basic (0 ∷ []) []
+postings = le_bytes 8 1 ++ written_postings None Basic (0 ∷ []) []
 
 pub number_postings : postings ≡ 1 ∷ replicate 7 0 ++ 0x80 ∷ []
 unfolding le_bytes vint_u32 vint_u64

@@ -1,5 +1,5 @@
 -- What is stored of calls is what the context and the writers have, and may be written.
-use Rattle.std.proofs.Common.{◌≡◌, ℕ, zero, suc, ◌<◌, ◌==◌, Bool, true, false, List, [], ◌∷◌, ◌++◌, map, length, Option, Some, None, refl, sym, ap, ◌∙◌, subst, arith, length-append}
+use Rattle.std.proofs.Common.{inr, ◌≤◌, ◌+◌, ◌&&◌, nat_le, nat_lt, ◌≡◌, ℕ, zero, suc, ◌<◌, ◌==◌, Bool, true, false, List, [], ◌∷◌, ◌++◌, map, length, Option, Some, None, refl, sym, ap, ◌∙◌, subst, arith, length-append}
 use Rattle.std.specs.Prelude.{bytes_eq, filter, IsTrue, IsSome, MatchOption, is_some, slice_set, unwrap_or, ⊤, if◌then◌else◌}
 use Rattle.std.specs.List.{AllByRecursion}
 use Rattle.std.specs.Option.{option_map, option_to_list}
@@ -7,7 +7,12 @@ use Rattle.ii_base.specs.Schema.{SchemaEntry, keeps_norms}
 use Rattle.ii_base.specs.Options.{has_freq}
 use Rattle.ii_base.specs.declared.schema.index_record_option.IndexRecordOption.{IndexRecordOption}
 use Rattle.ii_base.specs.declared.schema.index_record_option.IndexRecordOption.TheVariants.{Basic, WithFreqs, WithFreqsAndPositions}
-use Rattle.ii_base.specs.Entries.{Entry as DocEntry}
+use Rattle.ii_base.specs.Entries.{Entry as DocEntry, ascend_from, docs_of}
+use Rattle.ii_base.specs.declared.doc_id.TheConstants.{TERMINATED}
+use Rattle.ii_io.specs.Composite.{Body, body_of}
+use Rattle.ii_fieldnorm.specs.Readers.{norms_of_ids}
+use Rattle.ii_layout.specs.Bounds.{Covers}
+use Rattle.std.proofs.lemmas.List.{map-append}
 use Rattle.ii_fieldnorm.specs.Buffers.{Buffers, buffer_of, empty_buffers}
 use Rattle.ii_definitions.specs.Cut.{cut_entry}
 use Rattle.ii_definitions.specs.Fields.{option_of}
@@ -15,8 +20,8 @@ use Rattle.ii_definitions.specs.Postings.{IsCounted, grouped, is_at, kind_of, to
 use Rattle.ii_definitions.specs.Tokens.{IndexToken}
 use Rattle.ii_definitions.proofs.GroupedLaws.{grouped_counted}
 use Rattle.ii_recorder.specs.Pushed.{pushed_freqs}
-use Rattle.ii_recorder.specs.Recorded.{RecorderState}
-use Rattle.std.proofs.lemmas.Bool.{and_parts, eqb-true}
+use Rattle.ii_recorder.specs.Recorded.{RecorderState, entries_of_recorder}
+use Rattle.std.proofs.lemmas.Bool.{and_parts, eqb-true, leb-true}
 use Rattle.std.proofs.lemmas.Slice.Eq.{bytes_eq-Decides}
 use Rattle.ii_definitions.specs.JsonKeys.{path_in}
 use Rattle.ii_json.specs.Paths.{path_id}
@@ -24,12 +29,12 @@ use Rattle.ii_postings_writer.specs.ResolvedTerms.{HaveHeldTokens, HoldIds, Hold
 use Rattle.ii_postings_writer.proofs.ResolvedLaws.{path_of_id}
 use Rattle.ii_indexing.proofs.HeldLaws.{kept_held}
 use Rattle.ii_indexing.specs.IndexedTerms.{IndexedTermsState, IsOfField, StoresTokens, held_kept_at}
-use Rattle.ii_postings_writer.specs.IndexingContext.{AllEndBy, EndsBy, recorder_of}
-use Rattle.ii_postings_writer.specs.IndexingTerm.{field_bytes}
-use Rattle.ii_indexing.specs.OpenDocuments.{with_norms}
+use Rattle.ii_postings_writer.specs.IndexingContext.{AllEndBy, EndsBy, TermIndex, recorder_of}
+use Rattle.ii_postings_writer.specs.IndexingTerm.{field_bytes, field_in}
+use Rattle.ii_indexing.specs.OpenDocuments.{HaveNormsOf, with_norms}
 use Rattle.ii_postings_writer.specs.PostingsWriter.{PostingsWriterState}
 use Rattle.ii_postings_writer.specs.Records.{HasPostings}
-use Rattle.ii_postings_writer.specs.SortedTerms.{AllMayBeWritten, MayBeWritten}
+use Rattle.ii_postings_writer.specs.SortedTerms.{AllMayBeWritten, MayBeWritten, norms_in}
 use Rattle.ii_postings_writer.proofs.SortedLemmas.{all_mapped, field_of_bytes}
 
 -- the counts of entries that are cut
@@ -68,6 +73,46 @@ first_of_kept p P (x ∷ xs) y ys is all = by (p x) refl (λ rest. first_of_kept
     by false at rest =
         let kept : filter p xs ≡ y ∷ ys = sym (rw at refl) ∙ is in
         rest kept
+
+-- the last of documents that ascend is the greatest
+from_least : (least : ℕ) (xs : List ℕ) (d : ℕ) → ascend_from least (xs ++ d ∷ []) ≡ true → least ≤ d
+from_least least [] d h = leb-true least d (and_parts (nat_le least d) (nat_lt d TERMINATED) (and_parts (nat_le least d && nat_lt d TERMINATED) (ascend_from (d + 1) []) h).0).0
+from_least least (x ∷ xs) d h =
+    let parts = and_parts (nat_le least x && nat_lt x TERMINATED) (ascend_from (x + 1) (xs ++ d ∷ [])) h in
+    let first = leb-true least x (and_parts (nat_le least x) (nat_lt x TERMINATED) parts.0).0 in
+    let rest = from_least (x + 1) xs d parts.1 in
+    omega (arith, first, rest)
+
+none_above : (least : ℕ) (xs : List ℕ) (d limit : ℕ) → ascend_from least (xs ++ d ∷ []) ≡ true → d < limit → AllByRecursion (λ (x : ℕ). x < limit) (xs ++ d ∷ [])
+none_above least [] d limit h low = (low, tt)
+none_above least (x ∷ xs) d limit h low =
+    let parts = and_parts (nat_le least x && nat_lt x TERMINATED) (ascend_from (x + 1) (xs ++ d ∷ [])) h in
+    let rest = from_least (x + 1) xs d parts.1 in
+    (omega (arith, rest, low), none_above (x + 1) xs d limit parts.1 low)
+
+all_docs_below : (n doc : ℕ) (r : RecorderState) → EndsBy doc r → doc < n → AllByRecursion (λ (d : ℕ). d < n) (docs_of (entries_of_recorder r))
+all_docs_below n doc r end low = by r.pending refl end.last
+  where
+    by : (o : Option DocEntry) → r.pending ≡ o → MatchOption o ⊥ (λ (e : DocEntry). e.doc ≤ doc) → AllByRecursion (λ (d : ℕ). d < n) (docs_of (entries_of_recorder r))
+    by None is last = absurd last
+    by (Some e) is last =
+        let all : docs_of (entries_of_recorder r) ≡ docs_of r.closed ++ e.doc ∷ [] = ap (λ (o : Option DocEntry). docs_of (r.closed ++ option_to_list o)) is ∙ map-append (λ (f : DocEntry). f.doc) r.closed (e ∷ []) in
+        subst (AllByRecursion (λ (d : ℕ). d < n)) (sym all) (none_above 0 (docs_of r.closed) e.doc n (sym (ap (ascend_from 0) all) ∙ end.ascending) (omega (arith, last, low)))
+
+-- norms of so many documents answer for those below
+covers_below : (n : ℕ) (readers : List Body) (field : ℕ) → HaveNormsOf n readers → (docs : List ℕ) → AllByRecursion (λ (d : ℕ). d < n) docs → AllByRecursion (Covers (norms_in readers field)) docs
+covers_below n readers field norms [] all = tt
+covers_below n readers field norms (d ∷ ds) all = (by (body_of field readers) (norms field), covers_below n readers field norms ds all.1)
+  where
+    by : (o : Option (List ℕ)) → MatchOption o ⊤ (λ (ids : List ℕ). length ids ≡ n) → Covers (option_map norms_of_ids o) d
+    by None many = tt
+    by (Some ids) many = inr (omega (arith, many, all.0))
+
+-- the documents of a recorder have norms
+covered_by : (n doc : ℕ) (readers : List Body) (field : ℕ) (terms : TermIndex) (r : RecorderState) (bytes : List ℕ) → recorder_of terms bytes ≡ Some r → EndsBy doc r → (0 < length terms → doc < n) → HaveNormsOf n readers
+    → AllByRecursion (Covers (norms_in readers field)) (docs_of (entries_of_recorder r))
+covered_by n doc readers field [] r bytes found end below norms = absurd (cc)
+covered_by n doc readers field (t ∷ ts) r bytes found end below norms = covers_below n readers field norms (docs_of (entries_of_recorder r)) (all_docs_below n doc r end (below (omega (arith))))
 
 module _ (entries : List SchemaEntry) (s : IndexedTermsState) (ts : List IndexToken) (h : StoresTokens entries s ts) where
   abbrev flags : List Bool
@@ -115,17 +160,18 @@ module _ (entries : List SchemaEntry) (s : IndexedTermsState) (ts : List IndexTo
       = subst (λ (k : List ℕ). kind_of (option_of entries field) (t ∷ []) ≡ held_kept_at entries field k) first.2 (subst (λ (f : ℕ). kind_of (option_of entries f) (t ∷ []) ≡ held_kept_at entries f t.key) first.1 first.0.kind) in
       sym (ap (kind_of (option_of entries field)) is ∙ kind)
 
-  pub may_be_written : (doc : ℕ) → AllEndBy doc s.terms → AllMayBeWritten (length entries) s.terms
-  may_be_written doc ends field key small = by (recorder_of s.terms (field_bytes field ++ key)) (h.records field key small) (ends (field_bytes field ++ key))
+  pub may_be_written : (n doc : ℕ) (readers : List Body) → AllEndBy doc s.terms → (0 < length s.terms → doc < n) → HaveNormsOf n readers → AllMayBeWritten (length entries) readers s.terms
+  may_be_written n doc readers ends below norms field key small = by (recorder_of s.terms (field_bytes field ++ key)) refl (h.records field key small) (ends (field_bytes field ++ key))
     where
-      by : (o : Option RecorderState) → MatchOption o (tokens_at field key held ≡ []) (HasPostings (held_kept_at entries field key) (tokens_at field key held)) → MatchOption o ⊤ (EndsBy doc)
-          → MatchOption o ⊤ (MayBeWritten (length entries) (field_bytes field ++ key))
-      by None has end = tt
-      by (Some r) has end = record {
+      by : (o : Option RecorderState) → recorder_of s.terms (field_bytes field ++ key) ≡ o → MatchOption o (tokens_at field key held ≡ []) (HasPostings (held_kept_at entries field key) (tokens_at field key held)) → MatchOption o ⊤ (EndsBy doc)
+          → MatchOption o ⊤ (MayBeWritten (length entries) readers (field_bytes field ++ key))
+      by None is has end = tt
+      by (Some r) is has end = record {
         known = rw (field_of_bytes field key small) (known_field field key r has);
         writable = record {
           ascending = end.ascending;
           counted = λ some. rw (has.entries, has.kept) (counts_some (held_kept_at entries field key) (grouped (tokens_at field key held)) (rw (← has.kept) some) (grouped_counted (tokens_at field key held)));
+          covered = covered_by n doc readers (field_in (field_bytes field ++ key)) s.terms r (field_bytes field ++ key) is end below norms;
         };
       }
 

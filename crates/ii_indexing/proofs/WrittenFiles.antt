@@ -136,27 +136,27 @@ limits_of entries b ts e (inr (inr (inr (inr (offset, inl (inr (inr full))))))) 
 limits_of entries b ts e (inr (inr (inr (inr (offset, inr far))))) = inr (inr (inr (inr (offset, inr far))))
 
 -- terms that can't be written
-pub terms_fault : (old : IndexSerializerState) (writers : List PostingsWriterState) (ctx : TermIndex) (ts : List IndexToken) (result : Result (Unit {0}) Fault) → length old.entries < 2 ^ 32 → HaveTokens old.entries ctx writers ts
-    → old.closed ≡ false → (IsErrOf result SerializerClosed → IsTrue old.closed) → IfErr result (λ e. (e ≡ OutOfMemory) ⊎ (e ≡ SerializerClosed) ⊎ IsContextFault old writers ctx e) → IfErr result (PassesBehind old.entries old.bodies ts)
-terms_fault old writers ctx ts (Ok x) few has running closed fault = tt
-terms_fault old writers ctx ts (Err e) few has running closed (inl memory) = inl memory
-terms_fault old writers ctx ts (Err e) few has running closed (inr (inl is)) = absurd (true≢false (sym (closed (ap (λ (f : Fault). Err f) is)) ∙ running))
-terms_fault old writers ctx ts (Err e) few has running closed (inr (inr cause)) = limits_of old.entries old.bodies ts e (tokens_fault old writers ctx ts e few has cause)
+pub terms_fault : (old : IndexSerializerState) (writers : List PostingsWriterState) (readers : List Body) (ctx : TermIndex) (ts : List IndexToken) (result : Result (Unit {0}) Fault) → length old.entries < 2 ^ 32 → HaveTokens old.entries ctx writers ts
+    → old.closed ≡ false → (IsErrOf result SerializerClosed → IsTrue old.closed) → IfErr result (λ e. (e ≡ OutOfMemory) ⊎ (e ≡ SerializerClosed) ⊎ IsContextFault old writers readers ctx e) → IfErr result (PassesBehind old.entries old.bodies ts)
+terms_fault old writers readers ctx ts (Ok x) few has running closed fault = tt
+terms_fault old writers readers ctx ts (Err e) few has running closed (inl memory) = inl memory
+terms_fault old writers readers ctx ts (Err e) few has running closed (inr (inl is)) = absurd (true≢false (sym (closed (ap (λ (f : Fault). Err f) is)) ∙ running))
+terms_fault old writers readers ctx ts (Err e) few has running closed (inr (inr cause)) = limits_of old.entries old.bodies ts e (tokens_fault old writers readers ctx ts e few has cause)
 
-pub table_fault : (old now : IndexSerializerState) (writers : List PostingsWriterState) (ctx : TermIndex) (ts : List IndexToken) (result : Result (Unit {0}) Fault) → length old.entries < 2 ^ 32 → HaveTokens old.entries ctx writers ts
-    → now.closed ≡ false → WroteContext old now writers ctx → ClosesBy now result → IfErr result (PassesBehind old.entries old.bodies ts)
-table_fault old now writers ctx ts (Ok x) few has running wrote h = tt
-table_fault old now writers ctx ts (Err e) few has running wrote h =
+pub table_fault : (old now : IndexSerializerState) (writers : List PostingsWriterState) (readers : List Body) (ctx : TermIndex) (ts : List IndexToken) (result : Result (Unit {0}) Fault) → length old.entries < 2 ^ 32 → HaveTokens old.entries ctx writers ts
+    → now.closed ≡ false → WroteContext old now writers readers ctx → ClosesBy now result → IfErr result (PassesBehind old.entries old.bodies ts)
+table_fault old now writers readers ctx ts (Ok x) few has running wrote h = tt
+table_fault old now writers readers ctx ts (Err e) few has running wrote h =
     ⊎_elim (λ write. inr (inl write))
     (λ others. ⊎_elim (λ full. inr (inr (inr (inr (full, inl (no_room (h.full (ap (λ (f : Fault). Err f) full)))))))) (λ closed. absurd (not_closed (h.closed.0 (ap (λ (f : Fault). Err f) closed)))) others) h.only
   where
     files : HasFiles old.entries old.bodies now.bodies ts
-    files = wrote_files old now writers ctx ts few has wrote
+    files = wrote_files old now writers readers ctx ts few has wrote
 
     no_room : OneIsFull now.bodies (tables_of now.bodies) → HaveNoRoom old.entries old.bodies.terms.writer old.bodies.postings.writer old.bodies.positions.writer ts
-    no_room (inl full) = inl (table_full old.bodies.terms.writer now.bodies.terms (file_bodies (λ f. f.terms) old.entries ts) files.terms full)
-    no_room (inr (inl full)) = inr (inl (table_full old.bodies.postings.writer now.bodies.postings (file_bodies (λ f. f.postings) old.entries ts) files.postings full))
-    no_room (inr (inr full)) = inr (inr (table_full old.bodies.positions.writer now.bodies.positions (file_bodies (λ f. f.positions) old.entries ts) files.positions full))
+    no_room (inl full) = inl (subst (IsFull old.bodies.terms.writer) files.terms.room (table_full old.bodies.terms.writer now.bodies.terms files.terms.bodies files.terms.has full))
+    no_room (inr (inl full)) = inr (inl (subst (IsFull old.bodies.postings.writer) files.postings.room (table_full old.bodies.postings.writer now.bodies.postings files.postings.bodies files.postings.has full)))
+    no_room (inr (inr full)) = inr (inr (subst (IsFull old.bodies.positions.writer) files.positions.room (table_full old.bodies.positions.writer now.bodies.positions files.positions.bodies files.positions.has full)))
 
     not_closed : IsTrue now.closed → ⊥
     not_closed is = absurd (cc)

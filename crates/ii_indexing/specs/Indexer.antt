@@ -48,10 +48,11 @@ pub record StoresSome (entries : List SchemaEntry) (s : IndexedFieldsState) : Ty
   pub pieces : List Piece
   pub stored : StoresAll entries s pieces
 
--- What holds of an indexer's fields while no call was refused.
-pub record AreRunning (entries : List SchemaEntry) (last_doc : ℕ) (s : IndexedFieldsState) : Type 0 where
+-- What holds of an indexer's fields while no call was refused; where there are terms, the last document is one of so many.
+pub record AreRunning (entries : List SchemaEntry) (num_docs last_doc : ℕ) (s : IndexedFieldsState) : Type 0 where
   pub few : length entries < 2 ^ 32
   pub ends : EndsAt last_doc s
+  pub below : 0 < length s.indexed.terms → last_doc < num_docs
   pub writers : length s.indexed.writers ≡ length entries
   pub norms : with_norms s.opened.norms ≡ map keeps_norms entries
   pub some : StoresSome entries s

@@ -1,6 +1,7 @@
 -- What is known of each field in the document that was opened last in it, and the norms of the documents before.
-use Rattle.std.specs.Prelude.{◌≡◌, ℕ, ◌<◌, ◌≤◌, Bool, ◌==◌, min, if◌then◌else◌, List, [], get_or, is_some, length, map, slice_get, IfSome, Option, None, Some}
+use Rattle.std.specs.Prelude.{◌≡◌, ℕ, ◌<◌, ◌≤◌, Bool, ◌==◌, min, if◌then◌else◌, List, [], get_or, is_some, length, map, slice_get, ⊤, MatchOption, IfSome, Option, None, Some}
 use Rattle.std.specs.Option.{option_map}
+use Rattle.ii_io.specs.Composite.{Body, body_of}
 use Rattle.ii_fieldnorm.specs.Buffers.{Buffers, buffer_of, recorded}
 use Rattle.ii_fieldnorm.specs.Norms.{id_of_norm}
 use Rattle.ii_definitions.specs.Tokens.{IndexToken, Piece, begin_after, text_at}
@@ -57,3 +58,7 @@ closed_norms (Some d) ids = option_map (recorded d.doc d.norm) ids
 -- So it is with the fields of these documents.
 abbrev pub AreClosed : List OpenDocument → Buffers → Buffers → Type 0
 AreClosed documents old new = (field : ℕ) → buffer_of field new ≡ closed_norms (slice_get documents field) (buffer_of field old)
+
+-- Norms that are read are those of so many documents, in each field that has some.
+abbrev pub HaveNormsOf : ℕ → List Body → Type 0
+HaveNormsOf num_docs readers = (field : ℕ) → MatchOption (body_of field readers) ⊤ (λ ids. length ids ≡ num_docs)

@@ -39,7 +39,7 @@ impl FinishedFields {
         requires few { length schema.now < 2 ^ 32 }
         requires writers { length self.terms.writers ≡ length schema.now }
         requires short { AreShortNorms self.readers }
-        requires terms { AllMayBeWritten (length schema.now) self.terms.terms }
+        requires terms { AllMayBeWritten (length schema.now) self.readers self.terms.terms }
         requires ids { HoldIds (json_fields schema.now) self.terms.paths self.terms.terms }
         requires clean { AreClean self.terms.paths }
         ensures holds { (ts : List IndexToken) → HoldNorms schema.now num_docs self.norms ts → HaveHeldTokens schema.now self.terms.paths self.terms.terms self.terms.writers ts

@@ -13,7 +13,7 @@ ghost use Rattle.ii_indexing.specs.IndexedTerms.{TakesTexts, TakesValue};
 ghost use Rattle.ii_postings_writer.specs.FieldParts.{AreShortNorms};
 ghost use Rattle.ii_indexing.specs.Indexer.{EndsAt, StoresAll, StoresPieces, StoresSome};
 ghost use Rattle.ii_definitions.specs.Norms.{HoldNorms};
-ghost use Rattle.ii_indexing.specs.OpenDocuments.{TellsAll, with_norms};
+ghost use Rattle.ii_indexing.specs.OpenDocuments.{HaveNormsOf, TellsAll, with_norms};
 ghost use Rattle.ii_indexing.specs.OpenPaths.{IsKnownBy, text_prefix};
 ghost use Rattle.ii_indexing.specs.Refusals.{piece_fault};
 ghost use Rattle.ii_json.specs.LeafVisit.{IsRefusedBy};
@@ -50,6 +50,7 @@ impl IndexedFields {
     pub(crate) fn new(alloc: Global, schema: &Schema) -> Result<IndexedFields, Fault>
         ensures stored { IfOk result (λ f. StoresAll schema.now f []) }
         ensures ends { IfOk result (EndsAt 0) }
+        ensures none { IfOk result (λ f. f.indexed.terms ≡ []) }
         ensures fields { IfOk result (λ f. length f.indexed.writers ≡ length schema.now) }
         ensures norms { IfOk result (λ f. with_norms f.opened.norms ≡ map keeps_norms schema.now) }
         ensures few { IfOk result (λ f. length schema.now < 2 ^ 32) }
@@ -78,6 +79,7 @@ impl IndexedFields {
         ensures terms { IfOk result (λ f. f.terms ≡ self.indexed) }
         ensures norms { IfOk result (λ f. (ps : List Piece) (ts : List IndexToken) → TellsAll ps ts self.opened → HoldNorms schema.now num_docs f.norms ts) }
         ensures short { IfOk result (λ f. AreShortNorms f.readers) }
+        ensures many { IfOk result (λ f. HaveNormsOf num_docs f.readers) }
         ensures only { OnlyMemory result }
     {
         let IndexedFields {

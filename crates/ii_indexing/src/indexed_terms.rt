@@ -132,7 +132,7 @@ impl IndexedTerms {
         requires few { length schema.now < 2 ^ 32 }
         requires writers { length self.writers ≡ length schema.now }
         requires norms { AreShortNorms fieldnorm_readers.now }
-        requires terms { AllMayBeWritten (length schema.now) self.terms }
+        requires terms { AllMayBeWritten (length schema.now) fieldnorm_readers.now self.terms }
         requires ids { HoldIds (json_fields schema.now) self.paths self.terms }
         requires clean { AreClean self.paths }
         ensures holds { (ts : List IndexToken) → HaveHeldTokens schema.now self.paths self.terms self.writers ts → OnOk result.1 (WroteTermFiles schema.now writers result.0 ts) }
@@ -191,7 +191,7 @@ fn write_files<W: Write>(
     requires writers { length postings_writers.now ≡ length schema.now }
     requires fresh { HasFields serializer.entries serializer.bodies serializer.bodies [] }
     requires norms { AreShortNorms fieldnorm_readers.now }
-    requires terms { AllMayBeWritten (length schema.now) ctx.term_index }
+    requires terms { AllMayBeWritten (length schema.now) fieldnorm_readers.now ctx.term_index }
     requires ids { HoldIds (json_fields schema.now) ctx.path_to_unordered_id ctx.term_index }
     requires clean { AreClean ctx.path_to_unordered_id }
     ensures holds { (ts : List IndexToken) → HaveHeldTokens serializer.entries ctx.path_to_unordered_id ctx.term_index postings_writers.now ts

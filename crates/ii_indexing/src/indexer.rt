@@ -46,7 +46,7 @@ impl Model for Indexer {
       failed = i.failed;
     } };
 
-    ghost invariant = { λ i. (i.num_docs ≤ TERMINATED) × (i.failed ≡ false → AreRunning i.schema i.last_doc i.fields) };
+    ghost invariant = { λ i. (i.num_docs ≤ TERMINATED) × (i.failed ≡ false → AreRunning i.schema i.num_docs i.last_doc i.fields) };
 }
 
 impl Indexer {

@@ -1,4 +1,6 @@
 pub mod BlockDocs
+pub mod BoundLaws
+pub mod BoundLemmas
 pub mod DocumentLemmas
 pub mod FrequencyLemmas
 pub mod PackingLemmas

@@ -22,12 +22,16 @@ use Rattle.ii_codes.proofs.BlockLaws.{reads_sorted_blocks, reads_unsorted_blocks
 use Rattle.ii_codes.proofs.PackedLaws.{length-packed}
 use Rattle.ii_codes.proofs.SortedVintLemmas.{reads_back, reads_unsorted_back}
 use Rattle.ii_codes.proofs.WidthLemmas.{least_width-least}
+use Rattle.ii_fieldnorm.specs.Readers.{Norms}
+use Rattle.ii_layout.specs.Bounds.{fieldnorm_bound, term_freq_bound}
 use Rattle.ii_layout.specs.Each.{each}
 use Rattle.ii_layout.specs.SkipList.{SkipEntry, SkipList, no_entry, entry_at, entry_size, entries_at, skip_info_of, skip_list, block_size, block_place}
+use Rattle.ii_layout.specs.SkipReader.{max_tf_of_code}
 use Rattle.ii_layout.specs.Documents.{skip_entry, last_doc_before, block_docs, rest_docs, documents_at}
-use Rattle.ii_layout.specs.Frequencies.{has_sum, block_freqs, freqs_at}
+use Rattle.ii_layout.specs.Frequencies.{bounds_counts, has_sum, block_freqs, freqs_at}
 use Rattle.ii_layout.specs.Written.{block_of, last_before, code_of_width, freq_part, packed_freqs, rest_freqs, entry_bytes, block_bytes, skip_bytes, AreFreqs}
 use Rattle.ii_layout.specs.PostingsSerializer.{IsFullBlock}
+use Rattle.ii_layout.proofs.BoundLemmas.{bound_holds}
 use Rattle.ii_layout.proofs.BlockDocs.{full_block, rest_falls, document_low, get_or-block_of, length-block_of}
 use Rattle.ii_layout.proofs.PackingLemmas.{narrow, flat_map-range, length-entries}
 
@@ -69,17 +73,28 @@ sum_of Basic freqs = 0
 sum_of WithFreqs freqs = 0
 sum_of WithFreqsAndPositions freqs = sum freqs
 
+-- and the bounds of the block
+abbrev pub norm_of : Option Norms → IndexRecordOption → List ℕ → ℕ
+norm_of norms Basic docs = 0
+norm_of norms WithFreqs docs = fieldnorm_bound norms docs
+norm_of norms WithFreqsAndPositions docs = fieldnorm_bound norms docs
+
+abbrev pub bound_of : Option Norms → IndexRecordOption → List ℕ → ℕ
+bound_of norms Basic freqs = 0
+bound_of norms WithFreqs freqs = term_freq_bound norms freqs
+bound_of norms WithFreqsAndPositions freqs = term_freq_bound norms freqs
+
 -- the entry of a block
-abbrev pub entry_for : IndexRecordOption → List ℕ → List ℕ → ℕ → SkipEntry
-entry_for skip_info docs freqs i =
+abbrev pub entry_for : Option Norms → IndexRecordOption → List ℕ → List ℕ → ℕ → SkipEntry
+entry_for norms skip_info docs freqs i =
     record {
       last_doc = get_or (block_of docs i) 127 0;
       strict_delta = true;
       doc_num_bits = sorted_width (last_before docs i) (block_of docs i);
       tf_num_bits = width_of skip_info (block_of freqs i);
       tf_sum = sum_of skip_info (block_of freqs i);
-      block_wand_fieldnorm_id = 0;
-      block_wand_term_freq = 0;
+      block_wand_fieldnorm_id = norm_of norms skip_info (block_of docs i);
+      block_wand_term_freq = bound_of norms skip_info (block_of freqs i);
     }
 
 -- an entry is read as it was written
@@ -92,13 +107,13 @@ strict_code w thin = omega arith
 width_code : (w : ℕ) → w < 32 → (64 + w) % 32 ≡ w
 width_code w thin = omega arith
 
-entry_read : (skip_info : IndexRecordOption) (d w : ℕ) (freqs later : List ℕ) → d < 2 ^ 32 → w < 32 → sum_of skip_info freqs < 2 ^ 32
-    → entry_at skip_info (le_bytes 4 d ++ code_of_width w ∷ [] ++ freq_part skip_info freqs ++ later)
-    ≡ record { last_doc = d; strict_delta = true; doc_num_bits = w; tf_num_bits = width_of skip_info freqs; tf_sum = sum_of skip_info freqs; block_wand_fieldnorm_id = 0; block_wand_term_freq = 0 }
+entry_read : (norms : Option Norms) (skip_info : IndexRecordOption) (d w : ℕ) (docs freqs later : List ℕ) → d < 2 ^ 32 → w < 32 → sum_of skip_info freqs < 2 ^ 32
+    → entry_at skip_info (le_bytes 4 d ++ code_of_width w ∷ [] ++ freq_part norms skip_info docs freqs ++ later)
+    ≡ record { last_doc = d; strict_delta = true; doc_num_bits = w; tf_num_bits = width_of skip_info freqs; tf_sum = sum_of skip_info freqs; block_wand_fieldnorm_id = norm_of norms skip_info docs; block_wand_term_freq = bound_of norms skip_info freqs }
 unfolding entry_at le_bytes
-entry_read Basic d w freqs later fits thin small = rw (four_bytes d fits, strict_code w thin, width_code w thin) refl
-entry_read WithFreqs d w freqs later fits thin small = rw (four_bytes d fits, strict_code w thin, width_code w thin) refl
-entry_read WithFreqsAndPositions d w freqs later fits thin small = rw (four_bytes d fits, four_bytes (sum freqs) small, strict_code w thin, width_code w thin) refl
+entry_read norms Basic d w docs freqs later fits thin small = rw (four_bytes d fits, strict_code w thin, width_code w thin) refl
+entry_read norms WithFreqs d w docs freqs later fits thin small = rw (four_bytes d fits, strict_code w thin, width_code w thin) refl
+entry_read norms WithFreqsAndPositions d w docs freqs later fits thin small = rw (four_bytes d fits, four_bytes (sum freqs) small, strict_code w thin, width_code w thin) refl
 
 -- counts of a block that may be written
 small_sum : (skip_info : IndexRecordOption) (docs freqs : List ℕ) (i : ℕ) → (IsTrue (has_freq skip_info) → AreFreqs skip_info docs freqs) → 128 * i + 128 ≤ length docs
@@ -107,7 +122,7 @@ small_sum Basic docs freqs i counts whole = omega arith
 small_sum WithFreqs docs freqs i counts whole = omega arith
 small_sum WithFreqsAndPositions docs freqs i counts whole = let many = (counts refl).many in (counts refl).sums refl i (omega arith)
 
-freqs_block : (skip_info : IndexRecordOption) (docs freqs : List ℕ) (i : ℕ) → AreFreqs skip_info docs freqs → 128 * i + 128 ≤ length docs → IsBlock (block_of freqs i)
+pub freqs_block : (skip_info : IndexRecordOption) (docs freqs : List ℕ) (i : ℕ) → AreFreqs skip_info docs freqs → 128 * i + 128 ≤ length docs → IsBlock (block_of freqs i)
 freqs_block skip_info docs freqs i counts whole =
     let many = counts.many in
     record {
@@ -185,6 +200,12 @@ sum_is Basic freqs = refl
 sum_is WithFreqs freqs = refl
 sum_is WithFreqsAndPositions freqs = eq-eqb (sum freqs) (sum freqs) refl
 
+-- no count is above the bound that is written
+bound_stands : (norms : Option Norms) (skip_info : IndexRecordOption) (freqs : List ℕ) → IsBlock freqs → bounds_counts (max_tf_of_code (bound_of norms skip_info freqs)) freqs ≡ true
+bound_stands norms Basic freqs block = refl
+bound_stands norms WithFreqs freqs block = bound_holds norms freqs block
+bound_stands norms WithFreqsAndPositions freqs block = bound_holds norms freqs block
+
 length-packed_freqs : (skip_info : IndexRecordOption) (freqs : List ℕ) → length (packed_freqs skip_info freqs) ≡ 16 * width_of skip_info freqs
 length-packed_freqs Basic freqs = refl
 length-packed_freqs WithFreqs freqs = length-packed (unsorted_width true freqs) (unsorted_entries true freqs)
@@ -227,15 +248,15 @@ rest_fits docs i h =
     let size = length-drop (128 * i) docs in
     fit_by (drop (128 * i) docs) (λ k within. let here = get_or-drop (128 * i) docs k 0 in let low = document_low docs (128 * i + k) h (omega arith) in omega arith)
 
-module _ (skip_info : IndexRecordOption) (docs freqs : List ℕ) where
+module _ (norms : Option Norms) (skip_info : IndexRecordOption) (docs freqs : List ℕ) where
   abbrev pub rows : ℕ → List ℕ
-  rows n = flat_map (entry_bytes skip_info docs freqs) (range_with_len 0 n)
+  rows n = flat_map (entry_bytes norms skip_info docs freqs) (range_with_len 0 n)
 
   abbrev pub blocks : ℕ → List ℕ
   blocks n = flat_map (block_bytes skip_info docs freqs) (range_with_len 0 n)
 
   abbrev pub entries : ℕ → List SkipEntry
-  entries n = map (entry_for skip_info docs freqs) (range_with_len 0 n)
+  entries n = map (entry_for norms skip_info docs freqs) (range_with_len 0 n)
 
   abbrev pub list_for : IndexRecordOption → ℕ → List ℕ → SkipList
   list_for shape n body = record { skip_info = shape; entries = entries n; body = body }
@@ -246,20 +267,20 @@ module _ (skip_info : IndexRecordOption) (docs freqs : List ℕ) where
   place_is (suc i) =
       let next : suc i ≡ i + 1 = omega arith in
       let here : 0 + i ≡ i = omega arith in
-      let total = sum_by-map-range_with_len_more block_size (entry_for skip_info docs freqs) 0 i i here in
+      let total = sum_by-map-range_with_len_more block_size (entry_for norms skip_info docs freqs) 0 i i here in
       let size = length-packed (sorted_width (last_before docs i) (block_of docs i)) (sorted_entries true (last_before docs i) (block_of docs i)) in
       let counts = length-packed_freqs skip_info (block_of freqs i) in
       let both = length-append (sorted_bytes (last_before docs i) (block_of docs i)) (packed_freqs skip_info (block_of freqs i)) in
       let all = ap length (flat_map-range (block_bytes skip_info docs freqs) i) in
       let ih = place_is i in
-      let sums = ap (λ (k : ℕ). sum_by block_size (map (entry_for skip_info docs freqs) (range_with_len 0 k))) next in
+      let sums = ap (λ (k : ℕ). sum_by block_size (map (entry_for norms skip_info docs freqs) (range_with_len 0 k))) next in
       omega (arith, length-append (flat_map (block_bytes skip_info docs freqs) (range_with_len 0 i)) (block_bytes skip_info docs freqs i))
 
   block_place-is : (n i : ℕ) → i ≤ n → block_place (entries n) i ≡ length (blocks i)
-  block_place-is n i h = ap (sum_by block_size) (take-map-range_with_len (entry_for skip_info docs freqs) 0 n i h) ∙ place_is i
+  block_place-is n i h = ap (sum_by block_size) (take-map-range_with_len (entry_for norms skip_info docs freqs) 0 n i h) ∙ place_is i
 
-  entry_of-is : (n i : ℕ) → i < n → skip_entry (entries n) i ≡ entry_for skip_info docs freqs i
-  entry_of-is n i h = get_or-map-range_with_len (entry_for skip_info docs freqs) 0 n i i no_entry h (omega arith)
+  pub entry_of-is : (n i : ℕ) → i < n → skip_entry (entries n) i ≡ entry_for norms skip_info docs freqs i
+  entry_of-is n i h = get_or-map-range_with_len (entry_for norms skip_info docs freqs) 0 n i i no_entry h (omega arith)
 
   last_doc_before-is : (n i : ℕ) → i ≤ n → last_doc_before (entries n) i ≡ last_before docs i
   last_doc_before-is n zero h = refl
@@ -276,34 +297,34 @@ module _ (skip_info : IndexRecordOption) (docs freqs : List ℕ) where
 
   module _ (are : are_documents docs ≡ true) (counts : IsTrue (has_freq skip_info) → AreFreqs skip_info docs freqs) where
     entry_found : (after : List ℕ) (n i : ℕ) → 128 * n ≤ length docs → i < n
-        → entry_at skip_info (drop (entry_size skip_info * i) (rows n ++ after)) ≡ entry_for skip_info docs freqs i
+        → entry_at skip_info (drop (entry_size skip_info * i) (rows n ++ after)) ≡ entry_for norms skip_info docs freqs i
     entry_found after n i whole within =
         let left = left_of i n within in
         let full = full_block docs i are (omega arith) in
         let low = full.low 127 (omega arith) in
         let thin = narrow (last_before docs i) (block_of docs i) full in
-        let place : entry_size skip_info * i ≡ length (rows i) = sym (length-entries skip_info docs freqs i) in
-        let row = row_at (entry_bytes skip_info docs freqs) i left.0 (entry_size skip_info * i) after place in
-        let all = ap (λ (k : ℕ). entry_at skip_info (drop (entry_size skip_info * i) (flat_map (entry_bytes skip_info docs freqs) (range_with_len 0 k) ++ after))) left.1 in
+        let place : entry_size skip_info * i ≡ length (rows i) = sym (length-entries norms skip_info docs freqs i) in
+        let row = row_at (entry_bytes norms skip_info docs freqs) i left.0 (entry_size skip_info * i) after place in
+        let all = ap (λ (k : ℕ). entry_at skip_info (drop (entry_size skip_info * i) (flat_map (entry_bytes norms skip_info docs freqs) (range_with_len 0 k) ++ after))) left.1 in
         all ∙ ap (entry_at skip_info) row
-        ∙ entry_read skip_info (get_or (block_of docs i) 127 0) (sorted_width (last_before docs i) (block_of docs i)) (block_of freqs i)
-        (flat_map (entry_bytes skip_info docs freqs) (range_with_len (i + 1) left.0) ++ after) (omega arith) thin (small_sum skip_info docs freqs i counts (omega arith))
+        ∙ entry_read norms skip_info (get_or (block_of docs i) 127 0) (sorted_width (last_before docs i) (block_of docs i)) (block_of docs i) (block_of freqs i)
+        (flat_map (entry_bytes norms skip_info docs freqs) (range_with_len (i + 1) left.0) ++ after) (omega arith) thin (small_sum skip_info docs freqs i counts (omega arith))
 
     entries_found : (after : List ℕ) (n : ℕ) → 128 * n ≤ length docs → entries_at skip_info n (rows n ++ after) ≡ entries n
     entries_found after n whole =
-        map-same (entry_for skip_info docs freqs) (λ i. entry_at skip_info (drop (entry_size skip_info * i) (rows n ++ after))) 0 n (λ k within. entry_found after n k whole (omega arith))
+        map-same (entry_for norms skip_info docs freqs) (λ i. entry_at skip_info (drop (entry_size skip_info * i) (rows n ++ after))) 0 n (λ k within. entry_found after n k whole (omega arith))
 
-    all_narrow : (a n : ℕ) → 128 * (a + n) ≤ length docs → list_all (λ (e : SkipEntry). nat_le e.tf_num_bits 32) (map (entry_for skip_info docs freqs) (range_with_len a n)) ≡ true
+    all_narrow : (a n : ℕ) → 128 * (a + n) ≤ length docs → list_all (λ (e : SkipEntry). nat_le e.tf_num_bits 32) (map (entry_for norms skip_info docs freqs) (range_with_len a n)) ≡ true
     all_narrow a zero whole = refl
     all_narrow a (suc n) whole =
         rw (le-leb (width_of skip_info (block_of freqs a)) 32 (narrow_width skip_info docs freqs a counts (omega arith))) (all_narrow (a + 1) n (omega arith))
 
     -- the skip list is read
     pub skip_list_read : (recorded : IndexRecordOption) (body : List ℕ) (n : ℕ) → TellsShape recorded skip_info → 128 * n ≤ length docs → length docs < 2 ^ 32
-        → skip_list recorded n (skip_bytes skip_info docs freqs n ++ body) ≡ Some (list_for (shape_at recorded skip_info n) n body)
+        → skip_list recorded n (skip_bytes norms skip_info docs freqs n ++ body) ≡ Some (list_for (shape_at recorded skip_info n) n body)
     skip_list_read recorded body zero tells whole few = refl
     skip_list_read recorded body (suc more) tells whole few =
-        let size = length-entries skip_info docs freqs (suc more) in
+        let size = length-entries norms skip_info docs freqs (suc more) in
         let read = u64_at-vint_u64 (entry_size skip_info * suc more) (rows (suc more) ++ body) (size_fits skip_info (suc more) (omega arith)) in
         let enough = le-leb (entry_size skip_info * suc more) (length (rows (suc more) ++ body)) (omega (arith, length-append (rows (suc more)) body)) in
         let exact = le-leb (entry_size skip_info * suc more) (entry_size skip_info * suc more) (omega arith) in
@@ -333,7 +354,7 @@ module _ (skip_info : IndexRecordOption) (docs freqs : List ℕ) where
         → rest_docs (list_for shape n (blocks n ++ (sorted_vints (last_before docs n) (drop (128 * n) docs) ++ after))) left ≡ Some (drop (128 * n) docs, after)
     rest_read shape after n left all =
         let body = sorted_vints (last_before docs n) (drop (128 * n) docs) ++ after in
-        let many = length-map-range_with_len (entry_for skip_info docs freqs) 0 n in
+        let many = length-map-range_with_len (entry_for norms skip_info docs freqs) 0 n in
         let before = last_doc_before-is n n (omega arith) in
         let place = drop_at (blocks n) (sorted_vints (last_before docs n) (drop (128 * n) docs) ++ after) (block_place (entries n) n) (sym (block_place-is n n (omega arith))) in
         let count : left ≡ length (drop (128 * n) docs) = omega (arith, length-drop (128 * n) docs) in
@@ -345,7 +366,7 @@ module _ (skip_info : IndexRecordOption) (docs freqs : List ℕ) where
         → documents_at (list_for shape n (blocks n ++ (sorted_vints (last_before docs n) (drop (128 * n) docs) ++ after))) left ≡ Some (docs, after)
     documents_read shape after n left all =
         let skip : SkipList = list_for shape n (blocks n ++ (sorted_vints (last_before docs n) (drop (128 * n) docs) ++ after)) in
-        let many = length-map-range_with_len (entry_for skip_info docs freqs) 0 n in
+        let many = length-map-range_with_len (entry_for norms skip_info docs freqs) 0 n in
         let found = ap (each (block_docs skip)) many
         ∙ each-some (block_docs skip) (block_of docs) n (λ k within. block_read shape (sorted_vints (last_before docs n) (drop (128 * n) docs) ++ after) n k (omega arith) within)
         in
@@ -373,7 +394,7 @@ module _ (skip_info : IndexRecordOption) (docs freqs : List ℕ) where
           (freqs_block skip_info docs freqs i (counts has) (omega arith)) some
           in
           let here : packed_freqs skip_info (block_of freqs i) ≡ unsorted_bytes true (block_of freqs i) = rw has refl in
-          rw (entry, place, after_docs, width_is skip_info (block_of freqs i) has, here, read, sum_is skip_info (block_of freqs i)) refl
+          rw (entry, place, after_docs, width_is skip_info (block_of freqs i) has, here, read, sum_is skip_info (block_of freqs i), bound_stands norms skip_info (block_of freqs i) (freqs_block skip_info docs freqs i (counts has) (omega arith))) refl
 
       freqs_fit : (n : ℕ) → AllByRecursion (λ v. v < 2 ^ 32) (drop (128 * n) freqs)
       freqs_fit n =
@@ -385,7 +406,7 @@ module _ (skip_info : IndexRecordOption) (docs freqs : List ℕ) where
       all_freqs_read more rest n left all =
           let skip : SkipList = list_for skip_info n (blocks n ++ more) in
           let many = (counts has).many in
-          let entries_many = length-map-range_with_len (entry_for skip_info docs freqs) 0 n in
+          let entries_many = length-map-range_with_len (entry_for norms skip_info docs freqs) 0 n in
           let found = ap (each (block_freqs skip)) entries_many
           ∙ each-some (block_freqs skip) (block_of freqs) n (λ k within. block_freqs_read more n k (omega arith) within)
           in

@@ -38,9 +38,9 @@ both_have Basic WithFreqs e = absurd (cc)
 both_have Basic WithFreqsAndPositions e = absurd (cc)
 
 pub reads_term_back : ReadsTermBack
-reads_term_back recorded requested docs freqs deltas bytes are few some counts located =
-    let read = ap (docs_and_freqs recorded requested (length docs)) (sym (append-nil (written_postings recorded docs freqs)))
-    ∙ docs_read recorded recorded docs freqs [] are few requested (freqs_read recorded requested freqs) (tells_same recorded) counts (freqs_found recorded requested docs freqs [] are few counts some)
+reads_term_back norms recorded requested docs freqs deltas bytes are few some counts located =
+    let read = ap (docs_and_freqs recorded requested (length docs)) (sym (append-nil (written_postings norms recorded docs freqs)))
+    ∙ docs_read norms recorded recorded docs freqs [] are few requested (freqs_read recorded requested freqs) (tells_same recorded) counts (freqs_found norms recorded requested docs freqs [] are few counts some)
     in
     let positions = located_read (has_positions (downgrade recorded requested)) (freqs_read recorded requested freqs) freqs deltas bytes
     (λ asked. rw ((both_have recorded requested asked).1) refl)
@@ -49,8 +49,8 @@ reads_term_back recorded requested docs freqs deltas bytes are few some counts l
     rw (read, positions) refl
 
 pub reads_uncounted_term_back : ReadsUncountedTermBack
-reads_uncounted_term_back recorded requested docs freqs positions are few =
-    let read = ap (docs_and_freqs recorded requested (length docs)) (sym (append-nil (written_postings Basic docs freqs)))
-    ∙ docs_read recorded Basic docs freqs [] are few requested None (tells_basic recorded) (λ has. absurd (cc)) (none_found recorded requested docs freqs are few)
+reads_uncounted_term_back norms recorded requested docs freqs positions are few =
+    let read = ap (docs_and_freqs recorded requested (length docs)) (sym (append-nil (written_postings norms Basic docs freqs)))
+    ∙ docs_read norms recorded Basic docs freqs [] are few requested None (tells_basic recorded) (λ has. absurd (cc)) (none_found norms recorded requested docs freqs are few)
     in
     rw (read, nothing_located (has_positions (downgrade recorded requested)) positions) refl

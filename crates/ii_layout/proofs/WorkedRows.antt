@@ -1,5 +1,5 @@
 -- Worked rows, each computed.
-use Rattle.std.specs.Prelude.{◌≡◌, ◌*◌, [], ◌∷◌, ◌++◌, replicate, refl, true, Ok, Err, map}
+use Rattle.std.specs.Prelude.{◌≡◌, ◌*◌, [], ◌∷◌, ◌++◌, replicate, refl, true, Ok, Err, map, None, Some}
 use Rattle.std.specs.List.{range_with_len}
 use Rattle.ii_base.specs.declared.schema.index_record_option.IndexRecordOption.TheVariants.{Basic, WithFreqs, WithFreqsAndPositions}
 use Rattle.ii_io.specs.declared.faults.Part.TheVariants.{Skip, Documents, Frequencies}
@@ -9,6 +9,8 @@ use Rattle.ii_base.specs.declared.doc_id.TheConstants.{TERMINATED}
 use Rattle.ii_codes.specs.Packed.{bits_in, entries_in, packed, unpacked, num_bits}
 use Rattle.ii_codes.specs.Blocks.{sorted_block_at, unsorted_block_at}
 use Rattle.ii_base.specs.Entries.{document, counted}
+use Rattle.ii_fieldnorm.specs.Readers.{norms_of_ids}
+use Rattle.ii_layout.specs.Bounds.{term_freq_bound}
 use Rattle.ii_layout.specs.declared.skip.BlockInfo.TheVariants.{BitPacked, VInt}
 use Rattle.ii_layout.specs.SkipList.{entry_at, entries_at}
 use Rattle.ii_layout.specs.SkipReader.{reader_at}
@@ -45,18 +47,34 @@ unfolding vint_u32 vint_u64 le_bytes packed num_bits entries_in bits_in
 row_two = refl
 
 -- counts after a short list
-pub row_with_counts : written_postings WithFreqs (0 ∷ 2 ∷ 10 ∷ []) (1 ∷ 2 ∷ 3 ∷ []) ≡ 0x80 ∷ 0x82 ∷ 0x88 ∷ 0x81 ∷ 0x82 ∷ 0x83 ∷ []
+pub row_with_counts : written_postings None WithFreqs (0 ∷ 2 ∷ 10 ∷ []) (1 ∷ 2 ∷ 3 ∷ []) ≡ 0x80 ∷ 0x82 ∷ 0x88 ∷ 0x81 ∷ 0x82 ∷ 0x83 ∷ []
 unfolding vint_u32
 row_with_counts = refl
 
 -- 128 documents in a row with the count 3, by entries of eight and of twelve bytes
-pub row_full_counts : written_postings WithFreqs (range_with_len 0 128) (replicate 128 3) ≡ 0x88 ∷ 0x7F ∷ 0 ∷ 0 ∷ 0 ∷ 0x40 ∷ 2 ∷ 0 ∷ 0 ∷ replicate 32 0xAA
+pub row_full_counts : written_postings None WithFreqs (range_with_len 0 128) (replicate 128 3) ≡ 0x88 ∷ 0x7F ∷ 0 ∷ 0 ∷ 0 ∷ 0x40 ∷ 2 ∷ 0 ∷ 0 ∷ replicate 32 0xAA
 unfolding vint_u32 vint_u64 le_bytes packed num_bits entries_in bits_in
 row_full_counts = refl
 
-pub row_full_sum : written_postings WithFreqsAndPositions (range_with_len 0 128) (replicate 128 3) ≡ 0x8C ∷ 0x7F ∷ 0 ∷ 0 ∷ 0 ∷ 0x40 ∷ 2 ∷ 0x80 ∷ 1 ∷ 0 ∷ 0 ∷ 0 ∷ 0 ∷ replicate 32 0xAA
+pub row_full_sum : written_postings None WithFreqsAndPositions (range_with_len 0 128) (replicate 128 3) ≡ 0x8C ∷ 0x7F ∷ 0 ∷ 0 ∷ 0 ∷ 0x40 ∷ 2 ∷ 0x80 ∷ 1 ∷ 0 ∷ 0 ∷ 0 ∷ 0 ∷ replicate 32 0xAA
 unfolding vint_u32 vint_u64 le_bytes packed num_bits entries_in bits_in
 row_full_sum = refl
+
+-- with norms the least id and the greatest count, which is at most 255
+pub row_bounds : written_postings (Some (record { num_docs = 128; ids = []; constant = Some 20 })) WithFreqs (range_with_len 0 128) (replicate 128 3) ≡ 0x88 ∷ 0x7F ∷ 0 ∷ 0 ∷ 0 ∷ 0x40 ∷ 2 ∷ 0x14 ∷ 3 ∷ replicate 32 0xAA
+unfolding vint_u32 vint_u64 le_bytes packed num_bits entries_in bits_in
+row_bounds = refl
+
+pub row_bounds_after_sum : written_postings (Some (norms_of_ids (range_with_len 0x14 128))) WithFreqsAndPositions (range_with_len 0 128) (replicate 128 3) ≡ 0x8C ∷ 0x7F ∷ 0 ∷ 0 ∷ 0 ∷ 0x40 ∷ 2 ∷ 0x80 ∷ 1 ∷ 0 ∷ 0 ∷ 0x14 ∷ 3 ∷ replicate 32 0xAA
+unfolding vint_u32 vint_u64 le_bytes packed num_bits entries_in bits_in
+row_bounds_after_sum = refl
+
+pub row_high_bound : written_postings (Some (record { num_docs = 128; ids = []; constant = Some 0 })) WithFreqs (range_with_len 0 128) (replicate 128 254) ≡ 0x88 ∷ 0x7F ∷ 0 ∷ 0 ∷ 0 ∷ 0x40 ∷ 8 ∷ 0 ∷ 0xFE ∷ replicate 128 0xFD
+unfolding vint_u32 vint_u64 le_bytes packed num_bits entries_in bits_in
+row_high_bound = refl
+
+pub row_any_bound : term_freq_bound (Some (norms_of_ids [])) (replicate 128 300) ≡ 255
+row_any_bound = refl
 
 -- a cut and an equal document
 pub row_cut : posting_list Basic Basic 3 (0x80 ∷ 0x82 ∷ []) ≡ Err Documents

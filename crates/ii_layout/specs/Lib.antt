@@ -3,7 +3,9 @@ pub mod SkipList
 pub mod Documents
 pub mod Frequencies
 pub mod Postings
+pub mod Bounds
 pub mod Written
+pub mod WrittenBounds
 pub mod Positions
 pub mod PositionReader
 pub mod PositionSerializer

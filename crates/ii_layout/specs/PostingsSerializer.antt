@@ -1,5 +1,5 @@
 -- A serializer of postings: the documents and counts of the open term, and what is kept of them.
-use Rattle.std.specs.Prelude.{◌≡◌, ℕ, ◌-◌, ◌/◌, ◌%◌, ◌^◌, ◌<◌, ◌≤◌, ◌↔◌, ◌⊎◌, Bool, List, [], ◌∷◌, ◌++◌, length, drop, slice_index, Result, IsTrue, OnOk, OnErr, IfErr, IsErrOf}
+use Rattle.std.specs.Prelude.{◌≡◌, ℕ, ◌-◌, ◌/◌, ◌%◌, ◌^◌, ◌<◌, ◌≤◌, ◌↔◌, ◌⊎◌, Bool, List, [], ◌∷◌, ◌++◌, length, drop, slice_index, Result, Option, IsTrue, OnOk, OnErr, IfErr, IsErrOf}
 use Rattle.std.specs.List.{flat_map, range_with_len, sum}
 use Rattle.std.specs.List.Sorted.{IsStrictlyIncreasing}
 use Rattle.ii_base.specs.declared.schema.index_record_option.IndexRecordOption.{IndexRecordOption}
@@ -10,9 +10,11 @@ use Rattle.ii_io.specs.declared.faults.Fault.TheVariants.{OutOfMemory, Limit}
 use Rattle.ii_io.specs.declared.faults.LimitName.TheVariants.{BlockFrequencySum}
 use Rattle.ii_layout.specs.Written.{last_before, entry_of_block, freq_part, packed_freqs, entry_bytes, block_bytes, written_postings}
 use Rattle.ii_codes.specs.Blocks.{sorted_bytes}
+use Rattle.ii_fieldnorm.specs.Readers.{Norms}
 
--- What the field records, as which option the entries of the open term stand, its documents and their counts so far, and whether an earlier call was refused.
+-- What the field records and its norms, as which option the entries of the open term stand, its documents and their counts so far, and whether an earlier call was refused.
 pub record PostingsSerializerState : Type 0 where
+  pub norms : Option Norms
   pub mode : IndexRecordOption
   pub skip_info : IndexRecordOption
   pub docs : List ℕ
@@ -43,11 +45,12 @@ abbrev pub joined : CountedDocs → CountedDocs → CountedDocs
 joined a b = record { docs = a.docs ++ b.docs; freqs = a.freqs ++ b.freqs }
 
 -- what is written of them
-abbrev pub written_docs : IndexRecordOption → CountedDocs → List ℕ
-written_docs skip_info term = written_postings skip_info term.docs term.freqs
+abbrev pub written_docs : Option Norms → IndexRecordOption → CountedDocs → List ℕ
+written_docs norms skip_info term = written_postings norms skip_info term.docs term.freqs
 
--- As which option the entries of the packed blocks stand, the documents of the blocks, and whether memory was refused.
+-- The norms of the field, as which option the entries of the packed blocks stand, the documents of the blocks, and whether memory was refused.
 pub record PackedBlocksState : Type 0 where
+  pub norms : Option Norms
   pub skip_info : IndexRecordOption
   pub term : CountedDocs
   pub closed : Bool
@@ -59,21 +62,21 @@ pub record KeptBlocks : Type 0 where
   pub postings : List ℕ
 
 -- what a serializer keeps of documents: the full blocks as bytes, and the others
-abbrev pub kept_of : IndexRecordOption → CountedDocs → KeptBlocks
-kept_of skip_info term =
+abbrev pub kept_of : Option Norms → IndexRecordOption → CountedDocs → KeptBlocks
+kept_of norms skip_info term =
     let blocks = length term.docs / 128 in
     record {
       last_doc = last_before term.docs blocks;
-      skip = flat_map (entry_bytes skip_info term.docs term.freqs) (range_with_len 0 blocks);
+      skip = flat_map (entry_bytes norms skip_info term.docs term.freqs) (range_with_len 0 blocks);
       postings = flat_map (block_bytes skip_info term.docs term.freqs) (range_with_len 0 blocks);
     }
 
 -- and with a block more
-abbrev pub kept_more : IndexRecordOption → KeptBlocks → CountedDocs → KeptBlocks
-kept_more skip_info kept block =
+abbrev pub kept_more : Option Norms → IndexRecordOption → KeptBlocks → CountedDocs → KeptBlocks
+kept_more norms skip_info kept block =
     record {
       last_doc = slice_index block.docs 127;
-      skip = kept.skip ++ (entry_of_block kept.last_doc block.docs ++ freq_part skip_info block.freqs);
+      skip = kept.skip ++ (entry_of_block kept.last_doc block.docs ++ freq_part norms skip_info block.docs block.freqs);
       postings = kept.postings ++ (sorted_bytes kept.last_doc block.docs ++ packed_freqs skip_info block.freqs);
     }
 
@@ -83,9 +86,9 @@ pub record AreWhole (term : CountedDocs) : Type 0 where
   pub even : length term.freqs ≡ length term.docs
 
 -- The documents are whole blocks, of which this is kept.
-pub record ArePacked (skip_info : IndexRecordOption) (term : CountedDocs) (kept : KeptBlocks) : Type 0 where
+pub record ArePacked (norms : Option Norms) (skip_info : IndexRecordOption) (term : CountedDocs) (kept : KeptBlocks) : Type 0 where
   pub whole : AreWhole term
-  pub kept_is : kept ≡ kept_of skip_info term
+  pub kept_is : kept ≡ kept_of norms skip_info term
 
 -- Where the option has counts, none of them is 0.
 abbrev pub ArePositive : IndexRecordOption → List ℕ → Type 0

@@ -10,6 +10,7 @@ use Rattle.ii_base.specs.declared.schema.index_record_option.IndexRecordOption.T
 use Rattle.std.specs.List.{sum, list_all, AllByRecursion}
 use Rattle.ii_codes.specs.Sums.{fit_u32}
 use Rattle.ii_base.specs.Entries.{Entry, are_documents}
+use Rattle.ii_fieldnorm.specs.Readers.{Norms}
 use Rattle.ii_layout.specs.Postings.{postings, entries_of}
 use Rattle.ii_layout.specs.Positions.{positions_of, deltas_at, written_positions}
 use Rattle.ii_layout.specs.Written.{written_postings, AreFreqs, freqs_read}
@@ -60,13 +61,13 @@ pub record AreDeltas (freqs deltas : List ℕ) : Type 0 where
 -- What is written of a term gives its list for each option that is requested.
 abbrev pub ReadsTermBack : Type 0
 ReadsTermBack =
-    (recorded requested : IndexRecordOption) (docs freqs deltas positions : List ℕ) → IsTrue (are_documents docs) → length docs < 2 ^ 32 → 0 < length docs
+    (norms : Option Norms) (recorded requested : IndexRecordOption) (docs freqs deltas positions : List ℕ) → IsTrue (are_documents docs) → length docs < 2 ^ 32 → 0 < length docs
     → (IsTrue (has_freq recorded) → AreFreqs recorded docs freqs) → (IsTrue (has_positions recorded) → (positions ≡ written_positions deltas) × AreDeltas freqs deltas)
-    → term_list recorded requested (length docs) (written_postings recorded docs freqs) (Some positions)
+    → term_list recorded requested (length docs) (written_postings norms recorded docs freqs) (Some positions)
     ≡ Ok (list_of docs (freqs_read recorded requested freqs) (if has_positions (downgrade recorded requested) then Some deltas else None))
 
 -- So does a term that is written without counts, whatever its field records.
 abbrev pub ReadsUncountedTermBack : Type 0
 ReadsUncountedTermBack =
-    (recorded requested : IndexRecordOption) (docs freqs : List ℕ) (positions : Option (List ℕ)) → IsTrue (are_documents docs) → length docs < 2 ^ 32
-    → term_list recorded requested (length docs) (written_postings Basic docs freqs) positions ≡ Ok (list_of docs None None)
+    (norms : Option Norms) (recorded requested : IndexRecordOption) (docs freqs : List ℕ) (positions : Option (List ℕ)) → IsTrue (are_documents docs) → length docs < 2 ^ 32
+    → term_list recorded requested (length docs) (written_postings norms Basic docs freqs) positions ≡ Ok (list_of docs None None)

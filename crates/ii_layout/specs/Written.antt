@@ -10,6 +10,8 @@ use Rattle.ii_codes.specs.Blocks.{sorted_width, sorted_bytes, unsorted_width, un
 use Rattle.ii_codes.specs.SortedVints.{sorted_vints}
 use Rattle.ii_codes.specs.UnsortedVints.{unsorted_vints}
 use Rattle.ii_base.specs.Entries.{document, are_documents}
+use Rattle.ii_fieldnorm.specs.Readers.{Norms}
+use Rattle.ii_layout.specs.Bounds.{fieldnorm_bound, term_freq_bound}
 use Rattle.ii_layout.specs.SkipList.{entry_size}
 use Rattle.ii_layout.specs.Postings.{entries_of, posting_list}
 
@@ -30,11 +32,15 @@ code_of_width width = 64 + width
 abbrev pub entry_of_block : ℕ → List ℕ → List ℕ
 entry_of_block last block = le_bytes 4 (slice_index block 127) ++ code_of_width (sorted_width last block) ∷ []
 
--- what it has beside them by the option: the width of the counts, their sum, and a bound's two bytes
-abbrev pub freq_part : IndexRecordOption → List ℕ → List ℕ
-freq_part Basic freqs = []
-freq_part WithFreqs freqs = unsorted_width true freqs ∷ 0 ∷ 0 ∷ []
-freq_part WithFreqsAndPositions freqs = unsorted_width true freqs ∷ (le_bytes 4 (sum freqs) ++ 0 ∷ 0 ∷ [])
+-- the two bytes of a block's bounds
+abbrev pub bound_bytes : Option Norms → List ℕ → List ℕ → List ℕ
+bound_bytes norms docs freqs = fieldnorm_bound norms docs ∷ term_freq_bound norms freqs ∷ []
+
+-- what it has beside them by the option: the width of the counts, their sum, and the bounds
+abbrev pub freq_part : Option Norms → IndexRecordOption → List ℕ → List ℕ → List ℕ
+freq_part norms Basic docs freqs = []
+freq_part norms WithFreqs docs freqs = unsorted_width true freqs ∷ bound_bytes norms docs freqs
+freq_part norms WithFreqsAndPositions docs freqs = unsorted_width true freqs ∷ (le_bytes 4 (sum freqs) ++ bound_bytes norms docs freqs)
 
 -- the counts of a full block, where the option has them
 abbrev pub packed_freqs : IndexRecordOption → List ℕ → List ℕ
@@ -49,29 +55,29 @@ abbrev pub rest_bytes : IndexRecordOption → ℕ → List ℕ → List ℕ → 
 rest_bytes skip_info last docs freqs = sorted_vints last docs ++ rest_freqs skip_info freqs
 
 -- the skip entry of block i
-abbrev pub entry_bytes : IndexRecordOption → List ℕ → List ℕ → ℕ → List ℕ
-entry_bytes skip_info docs freqs i = entry_of_block (last_before docs i) (block_of docs i) ++ freq_part skip_info (block_of freqs i)
+abbrev pub entry_bytes : Option Norms → IndexRecordOption → List ℕ → List ℕ → ℕ → List ℕ
+entry_bytes norms skip_info docs freqs i = entry_of_block (last_before docs i) (block_of docs i) ++ freq_part norms skip_info (block_of docs i) (block_of freqs i)
 
 -- the bytes of block i: its documents, and then its counts
 abbrev pub block_bytes : IndexRecordOption → List ℕ → List ℕ → ℕ → List ℕ
 block_bytes skip_info docs freqs i = sorted_bytes (last_before docs i) (block_of docs i) ++ packed_freqs skip_info (block_of freqs i)
 
 -- the skip list of so many blocks: the number of its bytes, and its entries
-abbrev pub skip_bytes : IndexRecordOption → List ℕ → List ℕ → ℕ → List ℕ
-skip_bytes skip_info docs freqs zero = []
-skip_bytes skip_info docs freqs (suc more) = vint_u64 (entry_size skip_info * suc more) ++ flat_map (entry_bytes skip_info docs freqs) (range_with_len 0 (suc more))
+abbrev pub skip_bytes : Option Norms → IndexRecordOption → List ℕ → List ℕ → ℕ → List ℕ
+skip_bytes norms skip_info docs freqs zero = []
+skip_bytes norms skip_info docs freqs (suc more) = vint_u64 (entry_size skip_info * suc more) ++ flat_map (entry_bytes norms skip_info docs freqs) (range_with_len 0 (suc more))
 
--- the one written form of a term: the skip list, the full blocks in their least widths, the documents after them in the shortest vints, and the counts of those
-abbrev pub written_postings : IndexRecordOption → List ℕ → List ℕ → List ℕ
-written_postings skip_info docs freqs =
+-- the one written form of a term in a field of these norms: the skip list, the full blocks in their least widths, the documents after them in the shortest vints, and the counts of those
+abbrev pub written_postings : Option Norms → IndexRecordOption → List ℕ → List ℕ → List ℕ
+written_postings norms skip_info docs freqs =
     let blocks = length docs / 128 in
-    skip_bytes skip_info docs freqs blocks
+    skip_bytes norms skip_info docs freqs blocks
     ++ flat_map (block_bytes skip_info docs freqs) (range_with_len 0 blocks)
     ++ rest_bytes skip_info (last_before docs blocks) (drop (128 * blocks) docs) (drop (128 * blocks) freqs)
 
 -- a term without counts
 abbrev pub written_documents : List ℕ → List ℕ
-written_documents docs = written_postings Basic docs []
+written_documents docs = written_postings None Basic docs []
 
 -- Counts that may be written: as many as documents, each from 1 on and of 32 bits, and of each full block with a sum of 32 bits where that is kept.
 pub record AreFreqs (recorded : IndexRecordOption) (docs freqs : List ℕ) : Type 0 where
@@ -87,15 +93,15 @@ freqs_read recorded requested freqs = if has_freq requested && has_freq recorded
 -- What is written gives its list for each option that is requested, whatever follows.
 abbrev pub ReadsPostingsBack : Type 0
 ReadsPostingsBack =
-    (recorded requested : IndexRecordOption) (docs freqs rest : List ℕ) → IsTrue (are_documents docs) → length docs < 2 ^ 32
+    (norms : Option Norms) (recorded requested : IndexRecordOption) (docs freqs rest : List ℕ) → IsTrue (are_documents docs) → length docs < 2 ^ 32
     → (IsTrue (has_freq recorded) → AreFreqs recorded docs freqs)
-    → posting_list recorded requested (length docs) (written_postings recorded docs freqs ++ rest) ≡ Ok (entries_of docs (freqs_read recorded requested freqs))
+    → posting_list recorded requested (length docs) (written_postings norms recorded docs freqs ++ rest) ≡ Ok (entries_of docs (freqs_read recorded requested freqs))
 
 -- So does a term that is written without counts, whatever its field records, where nothing follows.
 abbrev pub ReadsUncountedBack : Type 0
 ReadsUncountedBack =
-    (recorded requested : IndexRecordOption) (docs freqs : List ℕ) → IsTrue (are_documents docs) → length docs < 2 ^ 32
-    → posting_list recorded requested (length docs) (written_postings Basic docs freqs) ≡ Ok (map document docs)
+    (norms : Option Norms) (recorded requested : IndexRecordOption) (docs freqs : List ℕ) → IsTrue (are_documents docs) → length docs < 2 ^ 32
+    → posting_list recorded requested (length docs) (written_postings norms Basic docs freqs) ≡ Ok (map document docs)
 
 -- And documents alone, whatever follows.
 abbrev pub ReadsDocumentsBack : Type 0

@@ -2,6 +2,7 @@
 #![tactic(auto)]
 
 mod block;
+mod bounds;
 mod doc_list;
 pub mod positions;
 pub mod serializer;

@@ -1,5 +1,5 @@
 ghost use Rattle.std.specs.Prelude.{◌≡◌, ◌-◌, ◌^◌, ◌<◌, ◌↔◌, ◌⊎◌, ◌&&◌, if◌then◌else◌, [], ◌∷◌, ◌++◌, length, nat_lt, false, true, IsTrue, OnOk, OnErr, IfErr, IsErrOf};
-ghost use Rattle.std.specs.List.{sum};
+ghost use Rattle.std.specs.List.{sum, AllByRecursion};
 ghost use Rattle.ii_base.specs.declared.schema.index_record_option.IndexRecordOption.TheVariants.{Basic};
 ghost use Rattle.ii_base.specs.Options.{has_freq, has_positions};
 ghost use Rattle.ii_io.specs.CountingWriter.{Writes, WritesUnlessClosed, IsFull};
@@ -7,10 +7,12 @@ ghost use Rattle.ii_io.specs.Faults.{OnlyMemory};
 ghost use Rattle.ii_codes.specs.Blocks.{sorted_bytes, unsorted_width};
 ghost use Rattle.ii_codes.specs.Sums.{DoNotFall};
 ghost use Rattle.ii_base.specs.Entries.{are_documents};
+ghost use Rattle.ii_layout.specs.Bounds.{Covers};
 ghost use Rattle.ii_layout.specs.PostingsSerializer.{AreWhole, AreBlockFreqs, IsFullBlock, IsOpenBlock, IsSumTooLarge, AddsDocs, no_docs, one_doc, joined, sized, written_docs};
 ghost use Rattle.ii_layout.specs.Written.{entry_of_block, freq_part, packed_freqs, rest_bytes, written_postings};
 
 use super::block::Block;
+use super::bounds::BlockBounds;
 use super::doc_list::DocList;
 use super::skip::SkipSerializer;
 use ii_base::{CountingWriter, DocId, Fault, IndexRecordOption, LimitName};
@@ -29,6 +31,7 @@ struct PackedBlocks {
     skip_write: SkipSerializer,
     postings_write: Vec<u8>,
     last_doc_id_encoded: DocId,
+    bounds: BlockBounds,
     docs: DocList,
 }
 
@@ -37,14 +40,18 @@ impl Model for PackedBlocks {
 
     ghost Value = { PackedBlocksState };
 
-    ghost view = { λ b. record { skip_info = b.skip_info; term = b.docs.term; closed = b.skip_write.closed } };
+    ghost view = { λ b. record { norms = b.bounds; skip_info = b.skip_info; term = b.docs.term; closed = b.skip_write.closed } };
 
-    ghost invariant = { λ b. ArePacked b.skip_info b.docs.term (record { last_doc = b.last_doc_id_encoded; skip = b.skip_write.bytes; postings = b.postings_write.items }) };
+    ghost invariant = { λ b. ArePacked b.bounds b.skip_info b.docs.term (record { last_doc = b.last_doc_id_encoded; skip = b.skip_write.bytes; postings = b.postings_write.items }) };
 }
 
 impl PackedBlocks {
-    fn new(alloc: Global, skip_info: IndexRecordOption) -> PackedBlocks
-        ensures { result ≡ record { skip_info = skip_info; term = no_docs; closed = false } }
+    fn new(
+        alloc: Global,
+        skip_info: IndexRecordOption,
+        fieldnorm_reader: Option<FieldNormReader>,
+    ) -> PackedBlocks
+        ensures { result ≡ record { norms = fieldnorm_reader; skip_info = skip_info; term = no_docs; closed = false } }
     {
         PackedBlocks {
             block_encoder: BlockEncoder::new(),
@@ -52,13 +59,14 @@ impl PackedBlocks {
             skip_write: SkipSerializer::new(alloc),
             postings_write: Vec::new(alloc),
             last_doc_id_encoded: 0,
+            bounds: BlockBounds::new(fieldnorm_reader),
             docs: DocList::new(),
         }
     }
 
     // Drops all blocks, before a term whose entries stand as an option.
     fn begin(&mut self, skip_info: IndexRecordOption)
-        ensures { self.new ≡ record { skip_info = skip_info; term = no_docs; closed = self.old.closed } }
+        ensures { self.new ≡ record self.old { skip_info = skip_info; term = no_docs } }
     {
         self.skip_info = skip_info;
         self.skip_write.clear();
@@ -79,9 +87,10 @@ impl PackedBlocks {
     fn push(&mut self, block: &Block) -> Result<(), Fault>
         requires full { length block.now.docs ≡ 128 }
         requires freqs { AreBlockFreqs self.old.skip_info block.now.freqs }
+        requires covered { AllByRecursion (Covers self.old.norms) block.now.docs }
         requires ascending { IsTrue (are_documents (self.old.term.docs ++ block.now.docs)) }
         requires open { self.old.closed ≡ false }
-        ensures same { self.new.skip_info ≡ self.old.skip_info }
+        ensures same { (self.new.norms ≡ self.old.norms) × (self.new.skip_info ≡ self.old.skip_info) }
         ensures ok { OnOk result (self.new ≡ record self.old { term = joined self.old.term block.now }) }
         ensures err { OnErr result (self.new.term ≡ no_docs) }
         ensures only { OnlyMemory result }
@@ -90,6 +99,7 @@ impl PackedBlocks {
             self.skip_info,
             block,
             self.last_doc_id_encoded,
+            &self.bounds,
             &mut self.block_encoder,
             &mut self.skip_write,
             &mut self.postings_write,
@@ -119,8 +129,8 @@ impl PackedBlocks {
         requires rest { IsOpenBlock self.old.skip_info rest.now }
         requires ascending { IsTrue (are_documents (self.old.term.docs ++ rest.now.docs)) }
         ensures same { self.new ≡ self.old }
-        ensures written { Writes output_write.old output_write.new (written_docs self.old.skip_info (joined self.old.term rest.now)) result }
-        ensures fits { OnOk result (¬ IsFull output_write.old (length (written_docs self.old.skip_info (joined self.old.term rest.now)))) }
+        ensures written { Writes output_write.old output_write.new (written_docs self.old.norms self.old.skip_info (joined self.old.term rest.now)) result }
+        ensures fits { OnOk result (¬ IsFull output_write.old (length (written_docs self.old.norms self.old.skip_info (joined self.old.term rest.now)))) }
     {
         let skip_list = write_skip_list(self.skip_write.data(), output_write);
         if skip_list.is_err() {
@@ -145,15 +155,17 @@ fn write_block(
     skip_info: IndexRecordOption,
     block: &Block,
     last_doc: DocId,
+    bounds: &BlockBounds,
     block_encoder: &mut BlockEncoder,
     skip_write: &mut SkipSerializer,
     postings_write: &mut Vec<u8>,
 ) -> Result<(), Fault>
     requires docs { IsFullBlock last_doc block.now.docs }
+    requires covered { AllByRecursion (Covers bounds.now) block.now.docs }
     requires freqs { AreBlockFreqs skip_info block.now.freqs }
     requires open { skip_write.old.closed ≡ false }
     ensures skip { OnOk result (skip_write.new ≡ record {
-      bytes = skip_write.old.bytes ++ (entry_of_block last_doc block.now.docs ++ freq_part skip_info block.now.freqs);
+      bytes = skip_write.old.bytes ++ (entry_of_block last_doc block.now.docs ++ freq_part bounds.now skip_info block.now.docs block.now.freqs);
       closed = false;
     }) }
     ensures postings { OnOk result (postings_write.new.items
@@ -161,7 +173,14 @@ fn write_block(
     ensures only { OnlyMemory result }
 {
     write_block_docs(block, last_doc, block_encoder, skip_write, postings_write)?;
-    write_block_freqs(skip_info, block, block_encoder, skip_write, postings_write)
+    write_block_freqs(
+        skip_info,
+        block,
+        bounds,
+        block_encoder,
+        skip_write,
+        postings_write,
+    )
 }
 
 // Packs the documents of a full block, and adds what its skip entry has of them.
@@ -188,13 +207,15 @@ fn write_block_docs(
 fn write_block_freqs(
     skip_info: IndexRecordOption,
     block: &Block,
+    bounds: &BlockBounds,
     block_encoder: &mut BlockEncoder,
     skip_write: &mut SkipSerializer,
     postings_write: &mut Vec<u8>,
 ) -> Result<(), Fault>
+    requires covered { AllByRecursion (Covers bounds.now) block.now.docs }
     requires freqs { AreBlockFreqs skip_info block.now.freqs }
     requires open { skip_write.old.closed ≡ false }
-    ensures skip { OnOk result (skip_write.new ≡ record { bytes = skip_write.old.bytes ++ freq_part skip_info block.now.freqs; closed = false }) }
+    ensures skip { OnOk result (skip_write.new ≡ record { bytes = skip_write.old.bytes ++ freq_part bounds.now skip_info block.now.docs block.now.freqs; closed = false }) }
     ensures postings { OnOk result (postings_write.new.items ≡ postings_write.old.items ++ packed_freqs skip_info block.now.freqs) }
     ensures only { OnlyMemory result }
 {
@@ -202,35 +223,37 @@ fn write_block_freqs(
         return Ok(());
     }
     let (num_bits, bytes) = block_encoder.compress_block_unsorted(block.term_freqs(), true);
-    write_freq_part(skip_info, num_bits, block, skip_write)?;
+    write_freq_part(skip_info, num_bits, block, bounds, skip_write)?;
     postings_write.extend_from_slice(bytes)?;
     Ok(())
 }
 
-// Adds what a skip entry has beside the documents: the width of the counts, their sum, and a bound
-// that tells nothing.
+// Adds what a skip entry has beside the documents: the width of the counts, their sum, and the
+// block's bounds.
 fn write_freq_part(
     skip_info: IndexRecordOption,
     tf_num_bits: u8,
     block: &Block,
+    bounds: &BlockBounds,
     skip_write: &mut SkipSerializer,
 ) -> Result<(), Fault>
+    requires covered { AllByRecursion (Covers bounds.now) block.now.docs }
     requires width { tf_num_bits ≡ unsorted_width true block.now.freqs }
     requires small { IsTrue (has_positions skip_info) → sum block.now.freqs < 2 ^ 32 }
     requires open { skip_write.old.closed ≡ false }
-    ensures skip { OnOk result (skip_write.new ≡ record { bytes = skip_write.old.bytes ++ freq_part skip_info block.now.freqs; closed = false }) }
+    ensures skip { OnOk result (skip_write.new ≡ record { bytes = skip_write.old.bytes ++ freq_part bounds.now skip_info block.now.docs block.now.freqs; closed = false }) }
     ensures only { OnlyMemory result }
 {
     match skip_info {
         IndexRecordOption::Basic => Ok(()),
         IndexRecordOption::WithFreqs => {
             skip_write.write_term_freq(tf_num_bits)?;
-            skip_write.write_blockwand_max(0, 0)
+            skip_write.write_blockwand_max(bounds.fieldnorm_id(block), bounds.term_freq(block))
         }
         IndexRecordOption::WithFreqsAndPositions => {
             skip_write.write_term_freq(tf_num_bits)?;
             skip_write.write_total_term_freq(block.term_freq_sum() as u32)?;
-            skip_write.write_blockwand_max(0, 0)
+            skip_write.write_blockwand_max(bounds.fieldnorm_id(block), bounds.term_freq(block))
         }
     }
 }
@@ -298,11 +321,13 @@ fn append_doc(
     term_freq: u32,
 ) -> Result<(), Fault>
     requires block { IsOpenBlock blocks.old.skip_info block.old }
+    requires covered { AllByRecursion (Covers blocks.old.norms) (block.old.docs ++ doc_id ∷ []) }
     requires ascending { IsTrue (are_documents (blocks.old.term.docs ++ block.old.docs ++ doc_id ∷ [])) }
     requires positive { IsTrue (has_freq blocks.old.skip_info) → 0 < term_freq }
     requires open { blocks.old.closed ≡ false }
     ensures block { IsOpenBlock blocks.old.skip_info block.new }
-    ensures same { blocks.new.skip_info ≡ blocks.old.skip_info }
+    ensures covered { AllByRecursion (Covers blocks.old.norms) block.new.docs }
+    ensures same { (blocks.new.norms ≡ blocks.old.norms) × (blocks.new.skip_info ≡ blocks.old.skip_info) }
     ensures stays { OnOk result (blocks.new.closed ≡ false) }
     ensures added { AddsDocs blocks.old.skip_info (joined blocks.old.term block.old) (joined blocks.new.term block.new) (one_doc doc_id term_freq) result }
 {
@@ -327,7 +352,6 @@ fn append_doc(
 #[derive(Drop)]
 pub struct PostingsSerializer {
     mode: IndexRecordOption,
-    fieldnorm_reader: Option<FieldNormReader>,
     blocks: PackedBlocks,
     block: Block,
     is_closed: bool,
@@ -335,11 +359,14 @@ pub struct PostingsSerializer {
 
 impl Model for PostingsSerializer {
     ghost use Rattle.std.specs.Prelude.{◌≡◌, ◌++◌, false, IsTrue};
+    ghost use Rattle.std.specs.List.{AllByRecursion};
+    ghost use Rattle.ii_layout.specs.Bounds.{Covers};
     ghost use Rattle.ii_layout.specs.PostingsSerializer.{IsOpenBlock, PostingsSerializerState, joined, no_docs};
 
     ghost Value = { PostingsSerializerState };
 
     ghost view = { λ s. record {
+      norms = s.blocks.norms;
       mode = s.mode;
       skip_info = s.blocks.skip_info;
       docs = s.blocks.term.docs ++ s.block.docs;
@@ -347,23 +374,23 @@ impl Model for PostingsSerializer {
       closed = s.is_closed;
     } };
 
-    ghost invariant = { λ s. IsOpenBlock s.blocks.skip_info s.block × (IsTrue s.is_closed → joined s.blocks.term s.block ≡ no_docs) × (s.is_closed ≡ false → s.blocks.closed ≡ false) };
+    ghost invariant = { λ s. IsOpenBlock s.blocks.skip_info s.block × AllByRecursion (Covers s.blocks.norms) s.block.docs × (IsTrue s.is_closed → joined s.blocks.term s.block ≡ no_docs) × (s.is_closed ≡ false → s.blocks.closed ≡ false) };
 }
 
 impl PostingsSerializer {
-    /// A serializer of postings as the field records them. The norms of the field are kept for
-    /// bounds, which aren't written yet.
+    /// A serializer of postings as the field records them. With the norms of the field, the skip entry
+    /// of each full block tells the least norm id of its documents and their greatest count, at most
+    /// 255; without them both are 0.
     pub fn new(
         alloc: Global,
         mode: IndexRecordOption,
         fieldnorm_reader: Option<FieldNormReader>,
     ) -> PostingsSerializer
-        ensures { result ≡ record { mode = mode; skip_info = mode; docs = []; freqs = []; closed = false } }
+        ensures { result ≡ record { norms = fieldnorm_reader; mode = mode; skip_info = mode; docs = []; freqs = []; closed = false } }
     {
         PostingsSerializer {
             mode,
-            fieldnorm_reader,
-            blocks: PackedBlocks::new(alloc, mode),
+            blocks: PackedBlocks::new(alloc, mode, fieldnorm_reader),
             block: Block::new(),
             is_closed: false,
         }
@@ -391,7 +418,8 @@ impl PostingsSerializer {
     }
 
     /// Adds a document, above the ones before it and below `TERMINATED`, and how often the term
-    /// occurs there, which is at least once where the term has counts.
+    /// occurs there, which is at least once where the term has counts. The norms, where the field has
+    /// some, answer for it.
     ///
     /// `Limit(BlockFrequencySum)` where the document fills a block whose counts sum up above
     /// `u32::MAX`, in a term with positions. `OutOfMemory` where a growth was refused. The documents
@@ -399,6 +427,7 @@ impl PostingsSerializer {
     pub fn write_doc(&mut self, doc_id: DocId, term_freq: u32) -> Result<(), Fault>
         requires ascending { self.old.closed ≡ false → IsTrue (are_documents (self.old.docs ++ doc_id ∷ [])) }
         requires counted { self.old.closed ≡ false → IsTrue (has_freq self.old.skip_info) → 0 < term_freq }
+        requires covered { self.old.closed ≡ false → Covers self.old.norms doc_id }
         ensures ok { OnOk result (self.new ≡ record self.old { docs = self.old.docs ++ doc_id ∷ []; freqs = self.old.freqs ++ term_freq ∷ []; closed = false }) }
         ensures err { OnErr result (self.new ≡ record self.old { docs = []; freqs = []; closed = true }) }
         ensures limit { IsErrOf result (Fault.Limit LimitName.BlockFrequencySum)
@@ -427,8 +456,8 @@ impl PostingsSerializer {
         requires counted { self.old.closed ≡ false → doc_freq ≡ length self.old.docs }
         requires ascending { IsTrue (are_documents self.old.docs) }
         ensures written { WritesUnlessClosed self.old.closed output_write.old output_write.new
-            (written_postings self.old.skip_info self.old.docs self.old.freqs) result }
-        ensures fits { OnOk result (¬ IsFull output_write.old (length (written_postings self.old.skip_info self.old.docs self.old.freqs))) }
+            (written_postings self.old.norms self.old.skip_info self.old.docs self.old.freqs) result }
+        ensures fits { OnOk result (¬ IsFull output_write.old (length (written_postings self.old.norms self.old.skip_info self.old.docs self.old.freqs))) }
         ensures ok { OnOk result (self.new ≡ record self.old { docs = []; freqs = []; closed = false }) }
         ensures err { OnErr result (self.new ≡ record self.old { docs = []; freqs = []; closed = true }) }
     {

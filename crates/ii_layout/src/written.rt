@@ -1,6 +1,7 @@
 ghost use Rattle.ii_layout.specs.Positions.{ReadsPositionsBack};
 ghost use Rattle.ii_layout.specs.TermList.{ReadsTermBack, ReadsUncountedTermBack};
 ghost use Rattle.ii_layout.specs.Written.{ReadsPostingsBack, ReadsUncountedBack, ReadsDocumentsBack};
+ghost use Rattle.ii_layout.specs.WrittenBounds.{BoundsTakeNoRoom, BoundsWhatIsWritten, PlainTermsHaveNoBounds};
 
 /// The law of written postings: what is written gives its list for each option that is requested,
 /// whatever follows.
@@ -34,4 +35,12 @@ pub fn reads_term_back()
 /// records and whatever stands in its positions.
 pub fn reads_uncounted_term_back()
     ensures { ReadsUncountedTermBack }
+{}
+
+/// The laws of bounds: what is written with norms has, of each full block with counts, the least norm
+/// id and the greatest count; no length depends on them, and a term without counts has none.
+pub fn bounds_what_is_written()
+    ensures bounds { BoundsWhatIsWritten }
+    ensures room { BoundsTakeNoRoom }
+    ensures plain { PlainTermsHaveNoBounds }
 {}

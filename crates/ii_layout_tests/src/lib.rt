@@ -2,6 +2,8 @@
 #![tactic(auto)]
 
 #[cfg(test)]
+mod bounds_tests;
+#[cfg(test)]
 mod positions_tests;
 #[cfg(test)]
 mod tests;

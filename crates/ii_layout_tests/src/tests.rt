@@ -1,4 +1,5 @@
-ghost use Rattle.std.specs.Prelude.{◌≡◌, ◌<◌, ◌≤◌, [], IsTrue, OnOk};
+ghost use Rattle.std.specs.Prelude.{◌≡◌, ◌<◌, ◌≤◌, ℕ, [], IsTrue, None, OnOk};
+ghost use Rattle.ii_layout.specs.Bounds.{Covers};
 ghost use Rattle.ii_base.specs.Options.{has_freq};
 ghost use Rattle.std.specs.List.{range_with_len};
 
@@ -21,7 +22,9 @@ fn add_below(serializer: &mut PostingsSerializer, count: u32, term_freq: u32) ->
     requires few { count ≤ 256 }
     requires some { 0 < term_freq }
     requires new { serializer.old.docs ≡ [] }
-    ensures { OnOk result (serializer.new.docs ≡ range_with_len 0 count) }
+    requires plain { serializer.old.norms ≡ None }
+    ensures docs { OnOk result (serializer.new.docs ≡ range_with_len 0 count) }
+    ensures plain { OnOk result (serializer.new.norms ≡ None) }
 {
     for doc in 0..count {
         serializer.write_doc(doc, term_freq)?;
@@ -134,7 +137,9 @@ fn write_three<W: Write>(
 ) -> Result<(), Fault>
     requires new { serializer.old.docs ≡ [] }
     requires counted { IsTrue (has_freq serializer.old.skip_info) → 0 < first }
-    ensures { serializer.new.docs ≡ [] }
+    requires covered { (doc : ℕ) → Covers serializer.old.norms doc }
+    ensures docs { serializer.new.docs ≡ [] }
+    ensures norms { serializer.new.norms ≡ serializer.old.norms }
 {
     serializer.write_doc(0, first)?;
     serializer.write_doc(2, 2)?;
@@ -148,7 +153,8 @@ fn write_terms(
     serializer: &mut PostingsSerializer,
     output: &mut CountingWriter<Vec<u8>>,
 ) -> Result<(), Fault>
-    requires { serializer.old.docs ≡ [] }
+    requires new { serializer.old.docs ≡ [] }
+    requires covered { (doc : ℕ) → Covers serializer.old.norms doc }
 {
     serializer.write_doc(7, 1)?;
     serializer.new_term(3, false);

@@ -1,5 +1,5 @@
 -- Why terms, fields and contexts can't be written.
-use Rattle.std.proofs.Common.{◌≡◌, ℕ, zero, suc, ◌+◌, ◌-◌, ◌<◌, ◌⊎◌, inl, inr, Bool, false, List, [], ◌∷◌, ◌++◌, length, map, take, drop, get_or, Result, Ok, Err, refl, sym, ap, ◌∙◌, subst, arith, length-append, append-nil, append_assoc, add-zero, true≢false}
+use Rattle.std.proofs.Common.{Option, ◌≡◌, ℕ, zero, suc, ◌+◌, ◌-◌, ◌<◌, ◌⊎◌, inl, inr, Bool, false, List, [], ◌∷◌, ◌++◌, length, map, take, drop, get_or, Result, Ok, Err, refl, sym, ap, ◌∙◌, subst, arith, length-append, append-nil, append_assoc, add-zero, true≢false}
 use Rattle.std.specs.Prelude.{◌↔◌, IsTrue, slice_index_or, IsErrOf, IfErr}
 use Rattle.std.specs.List.{AllByRecursion, flat_map}
 use Rattle.std.proofs.lemmas.Grind.{flat_map-append}
@@ -21,7 +21,7 @@ use Rattle.ii_recorder.specs.IndexSerializer.{IndexSerializerState, IsFieldFault
 use Rattle.ii_recorder.specs.Terms.{IsShort, WrittenTerm, field_bodies, open_bodies, positions_body, positions_bytes, postings_bytes}
 use Rattle.ii_postings_writer.specs.FieldParts.{FieldPart, HasFields, HoldsPart, bodies_of, first_parts, parts_of, positions_of_part, postings_body, terms_body, tokens_in, written_terms}
 use Rattle.ii_postings_writer.specs.PostingsWriter.{PostingsWriterState}
-use Rattle.ii_postings_writer.specs.SortedTerms.{IsTold, SortedTerm, state_of, written_term}
+use Rattle.ii_postings_writer.specs.SortedTerms.{norms_in, IsTold, SortedTerm, state_of, written_term}
 use Rattle.ii_postings_writer.specs.declared.sorted_terms.TermOfField.{TermOfField}
 use Rattle.ii_definitions.specs.Fields.{option_of}
 use Rattle.ii_postings_writer.specs.TermLimits.{AreWithin, FirstOf, HasLargeSum, IsLong, IsWithin, PassEnds}
@@ -29,6 +29,7 @@ use Rattle.ii_postings_writer.specs.WriteFaults.{FirstPartEnds, IsFaultBy, IsPar
 use Rattle.ii_postings_writer.proofs.PartLemmas.{one_more_part, part_of, some_part}
 use Rattle.ii_postings_writer.proofs.SerializeLemmas.{all_written}
 use Rattle.ii_io.specs.CountingWriterLemmas.{full_before, full_more}
+use Rattle.ii_fieldnorm.specs.Readers.{Norms}
 
 module _ {X : Type 0} (Q P : X → Type 0) where
   -- the first of some is the first of more
@@ -97,11 +98,11 @@ closing_is : (s : FieldTermsState) → s.term_open ≡ false → closing_bytes s
 closing_is s between = rw between refl
 
 -- What is known where terms of a field were written.
-module _ (initial : IndexBodiesState) (s : IndexSerializerState) (field tokens : ℕ) (ts : List WrittenTerm) where
+module _ (initial : IndexBodiesState) (s : IndexSerializerState) (field tokens : ℕ) (norms : Option Norms) (ts : List WrittenTerm) where
   abbrev mode : IndexRecordOption
   mode = s.field.term.mode
 
-  no_room : (key : List ℕ) → IsWriting initial s field tokens ts (key ∷ []) → HasNoRoom s.field.term s.field.places s.bodies.postings.writer s.bodies.positions.writer
+  no_room : (key : List ℕ) → IsWriting initial s field tokens norms ts (key ∷ []) → HasNoRoom s.field.term s.field.places s.bodies.postings.writer s.bodies.positions.writer
       → let all = ts ++ term_under key s.field.term ∷ [] in OneIsFull initial (open_bodies mode tokens all) ⊎ PassEnds mode all
   no_room key w (inl full) =
       let t = term_under key s.field.term in
@@ -114,20 +115,20 @@ module _ (initial : IndexBodiesState) (s : IndexSerializerState) (field tokens :
   no_room key w (inr (inr (inl far))) = inr (inl (omega (arith, far, w.terms.postings, length-next postings_bytes ts (term_under key s.field.term))))
   no_room key w (inr (inr (inr far))) = inr (inr (omega (arith, far, w.terms.positions, length-next (located mode tokens) ts (term_under key s.field.term))))
 
-  own_fault : (key : List ℕ) (e : Fault) → IsWriting initial s field tokens ts (key ∷ []) → ¬ HasLargeSum (term_under key s.field.term) → IsTermFault s e → IsTermFaultAfter initial mode tokens ts (term_under key s.field.term) e
+  own_fault : (key : List ℕ) (e : Fault) → IsWriting initial s field tokens norms ts (key ∷ []) → ¬ HasLargeSum (term_under key s.field.term) → IsTermFault s e → IsTermFaultAfter initial mode tokens ts (term_under key s.field.term) e
   own_fault key e w small (inl memory) = inl memory
   own_fault key e w small (inr (inl write)) = inr (inl write)
   own_fault key e w small (inr (inr (inl full))) = inr (inr (inr (inr (full.0, no_room key w full.1))))
   own_fault key e w small (inr (inr (inr long))) = inr (inr (inr (inl (long.0, (small, long.1)))))
 
   -- the next term can't be ended
-  pub ended_fault : (kept : IndexRecordOption) (key : List ℕ) (t : WrittenTerm) (e : Fault) → IsWriting initial s field tokens ts (key ∷ []) → mode ≡ kept → term_under key s.field.term ≡ t → ¬ HasLargeSum t → IsTermFault s e
+  pub ended_fault : (kept : IndexRecordOption) (key : List ℕ) (t : WrittenTerm) (e : Fault) → IsWriting initial s field tokens norms ts (key ∷ []) → mode ≡ kept → term_under key s.field.term ≡ t → ¬ HasLargeSum t → IsTermFault s e
       → IsTermFaultAfter initial kept tokens ts t e
   ended_fault kept key t e w same is small fault =
       subst (λ (m : IndexRecordOption). IsTermFaultAfter initial m tokens ts t e) same
       (subst (λ (u : WrittenTerm). IsTermFaultAfter initial mode tokens ts u e) is (own_fault key e w (subst (λ (u : WrittenTerm). ¬ HasLargeSum u) (sym is) small) fault))
 
-  dictionary_full : IsWriting initial s field tokens ts [] → OneIsFull s.bodies (dictionary_of s.field) → OneIsFull initial (field_bodies mode tokens ts)
+  dictionary_full : IsWriting initial s field tokens norms ts [] → OneIsFull s.bodies (dictionary_of s.field) → OneIsFull initial (field_bodies mode tokens ts)
   dictionary_full w (inl full) =
       let keys = w.terms.keys ∙ append-nil (map (λ (t : WrittenTerm). t.key) ts) in
       let bytes : written_dictionary s.field.places.keys s.field.places.infos ≡ (field_bodies mode tokens ts).terms = rw (keys, w.terms.infos) refl in
@@ -139,27 +140,27 @@ module _ (initial : IndexBodiesState) (s : IndexSerializerState) (field tokens :
       inr (inr (full_before initial.positions.writer s.bodies.positions.writer (positions_body mode ts) 0 (length (positions_body mode ts)) w.bodies.positions.writer (omega (arith)) full))
 
   -- the field can't be ended
-  pub closed_fault : {A B : Type 0} (kept : IndexRecordOption) (e : Fault) → IsWriting initial s field tokens ts [] → s.field.term_open ≡ false → mode ≡ kept → IsFieldFault s e → IsFaultBy A B (NoRoom kept tokens initial ts) e
+  pub closed_fault : {A B : Type 0} (kept : IndexRecordOption) (e : Fault) → IsWriting initial s field tokens norms ts [] → s.field.term_open ≡ false → mode ≡ kept → IsFieldFault s e → IsFaultBy A B (NoRoom kept tokens initial ts) e
   closed_fault kept e w between same (inl inside) = absurd (true≢false (sym inside.0 ∙ between))
   closed_fault kept e w between same (inr (inl write)) = inr (inl write)
   closed_fault kept e w between same (inr (inr full)) =
       inr (inr (inr (inr (full.0, subst (λ (m : IndexRecordOption). NoRoom m tokens initial ts) same (inl (dictionary_full w (subst (OneIsFull s.bodies) (closing_is s.field between) full.1)))))))
 
-all_within_limits : (kept : IndexRecordOption) (us : List TermOfField) → AllByRecursion (IsTold kept) (map state_of us) → AllByRecursion (IsShort kept) (all_written kept us) → AllByRecursion (IsWithin kept) (all_written kept us)
-all_within_limits kept [] told short = tt
-all_within_limits kept (u ∷ us) told short = ((told.0.small, short.0), all_within_limits kept us told.1 short.1)
+all_within_limits : (norms : Option Norms) (kept : IndexRecordOption) (us : List TermOfField) → AllByRecursion (IsTold kept) (map state_of us) → AllByRecursion (IsShort kept) (all_written norms kept us) → AllByRecursion (IsWithin kept) (all_written norms kept us)
+all_within_limits norms kept [] told short = tt
+all_within_limits norms kept (u ∷ us) told short = ((told.0.small, short.0), all_within_limits norms kept us told.1 short.1)
 
 -- terms that were written pass no limit
-pub written_within : (initial : IndexBodiesState) (s : IndexSerializerState) (field tokens : ℕ) (kept : IndexRecordOption) (us : List TermOfField) → s.field.term.mode ≡ kept → IsWriting initial s field tokens (all_written kept us) [] → AllByRecursion (IsTold kept) (map state_of us)
-    → AreWithin kept (all_written kept us)
-written_within initial s field tokens kept us same w told = record {
-  terms = all_within_limits kept us told (subst (λ (m : IndexRecordOption). AllByRecursion (IsShort m) (all_written kept us)) same w.terms.short);
+pub written_within : (initial : IndexBodiesState) (s : IndexSerializerState) (field tokens : ℕ) (norms : Option Norms) (kept : IndexRecordOption) (us : List TermOfField) → s.field.term.mode ≡ kept → IsWriting initial s field tokens norms (all_written norms kept us) [] → AllByRecursion (IsTold kept) (map state_of us)
+    → AreWithin kept (all_written norms kept us)
+written_within initial s field tokens norms kept us same w told = record {
+  terms = all_within_limits norms kept us told (subst (λ (m : IndexRecordOption). AllByRecursion (IsShort m) (all_written norms kept us)) same w.terms.short);
   ends = none;
 }
   where
-    none : ¬ PassEnds kept (all_written kept us)
+    none : ¬ PassEnds kept (all_written norms kept us)
     none (inl far) = absurd (omega (arith, far, w.terms.postings, w.terms.within.0))
-    none (inr far) = absurd (omega (arith, far, w.terms.positions, ap (λ (m : IndexRecordOption). length (positions_body m (all_written kept us))) same, w.terms.within.1))
+    none (inr far) = absurd (omega (arith, far, w.terms.positions, ap (λ (m : IndexRecordOption). length (positions_body m (all_written norms kept us))) same, w.terms.within.1))
 
 -- The parts of an index.
 module _ (entries : List SchemaEntry) (initial : IndexBodiesState) where
@@ -215,12 +216,12 @@ module _ (entries : List SchemaEntry) (initial : IndexBodiesState) where
   parts_fault ps qs e fault = fault_more e (first_before (IsWithinPart entries) (ByTerm (λ mode. HasLargeSum)) ps qs) (first_before (IsWithinPart entries) (ByTerm IsLong) ps qs) (parts_room ps qs) fault
 
   -- nor can the first fields, and more of them
-  pub more_fault : (writers : List PostingsWriterState) (terms : List (List SortedTerm)) (k j : ℕ) (e : Fault) → IsPartsFault entries initial (first_parts entries writers terms k) e → IsPartsFault entries initial (first_parts entries writers terms (k + j)) e
-  more_fault writers terms k zero e fault = subst (λ (n : ℕ). IsPartsFault entries initial (first_parts entries writers terms n) e) (omega (arith)) fault
-  more_fault writers terms k (suc j) e fault =
-      let all = more_fault writers terms k j e fault in
-      let next = subst (λ (ps : List FieldPart). IsPartsFault entries initial ps e) (sym (one_more_part entries writers terms (k + j))) (parts_fault (first_parts entries writers terms (k + j)) _ e all) in
-      subst (λ (n : ℕ). IsPartsFault entries initial (first_parts entries writers terms n) e) (omega (arith)) next
+  pub more_fault : (writers : List PostingsWriterState) (readers : List Body) (terms : List (List SortedTerm)) (k j : ℕ) (e : Fault) → IsPartsFault entries initial (first_parts entries writers readers terms k) e → IsPartsFault entries initial (first_parts entries writers readers terms (k + j)) e
+  more_fault writers readers terms k zero e fault = subst (λ (n : ℕ). IsPartsFault entries initial (first_parts entries writers readers terms n) e) (omega (arith)) fault
+  more_fault writers readers terms k (suc j) e fault =
+      let all = more_fault writers readers terms k j e fault in
+      let next = subst (λ (ps : List FieldPart). IsPartsFault entries initial ps e) (sym (one_more_part entries writers readers terms (k + j))) (parts_fault (first_parts entries writers readers terms (k + j)) _ e all) in
+      subst (λ (n : ℕ). IsPartsFault entries initial (first_parts entries writers readers terms n) e) (omega (arith)) next
 
 -- The next field has terms.
 pub record IsNextField (first entries : List SchemaEntry) (lists : List (List SortedTerm)) (n field : ℕ) (terms : List SortedTerm) : Type 0 where
@@ -230,51 +231,51 @@ pub record IsNextField (first entries : List SchemaEntry) (lists : List (List So
   pub some : 0 < length terms
   pub low : n < length lists
 
-module _ (first entries : List SchemaEntry) (writers : List PostingsWriterState) (lists : List (List SortedTerm)) (n field : ℕ) (terms : List SortedTerm) (is : IsNextField first entries lists n field terms) where
+module _ (first entries : List SchemaEntry) (writers : List PostingsWriterState) (readers : List Body) (lists : List (List SortedTerm)) (n field : ℕ) (terms : List SortedTerm) (is : IsNextField first entries lists n field terms) where
   abbrev part : List SchemaEntry → FieldPart
-  part es = part_of es field (tokens_in writers field) terms
+  part es = part_of es field (tokens_in writers field) (norms_in readers field) terms
 
-  with_part : first_parts first writers lists (n + 1) ≡ first_parts first writers lists n ++ part first ∷ []
+  with_part : first_parts first writers readers lists (n + 1) ≡ first_parts first writers readers lists n ++ part first ∷ []
   with_part =
-      let at : parts_of first n (tokens_in writers n) (slice_index_or lists n []) ≡ part first ∷ [] = rw (← is.at, ← is.number) (some_part first field (tokens_in writers field) terms is.some) in
-      one_more_part first writers lists n ∙ ap (λ (ps : List FieldPart). first_parts first writers lists n ++ ps) at
+      let at : parts_of first n (tokens_in writers n) (norms_in readers n) (slice_index_or lists n []) ≡ part first ∷ [] = rw (← is.at, ← is.number) (some_part first field (tokens_in writers field) (norms_in readers field) terms is.some) in
+      one_more_part first writers readers lists n ∙ ap (λ (ps : List FieldPart). first_parts first writers readers lists n ++ ps) at
 
-  pub some_parts : (k : ℕ) → 0 < length (first_parts first writers lists (n + 1 + k))
-  some_parts zero = omega (arith, ap length with_part, length-append (first_parts first writers lists n) (part first ∷ []), ap (λ (m : ℕ). length (first_parts first writers lists m)) (add-zero (n + 1)))
+  pub some_parts : (k : ℕ) → 0 < length (first_parts first writers readers lists (n + 1 + k))
+  some_parts zero = omega (arith, ap length with_part, length-append (first_parts first writers readers lists n) (part first ∷ []), ap (λ (m : ℕ). length (first_parts first writers readers lists m)) (add-zero (n + 1)))
   some_parts (suc k) =
       let at = n + 1 + k in
-      let more : 0 < length (first_parts first writers lists (at + 1)) =
-      omega (arith, some_parts k, ap length (one_more_part first writers lists at), length-append (first_parts first writers lists at) (parts_of first at (tokens_in writers at) (slice_index_or lists at []))) in
-      subst (λ (m : ℕ). 0 < length (first_parts first writers lists m)) (omega (arith)) more
+      let more : 0 < length (first_parts first writers readers lists (at + 1)) =
+      omega (arith, some_parts k, ap length (one_more_part first writers readers lists at), length-append (first_parts first writers readers lists at) (parts_of first at (tokens_in writers at) (norms_in readers at) (slice_index_or lists at []))) in
+      subst (λ (m : ℕ). 0 < length (first_parts first writers readers lists m)) (omega (arith)) more
 
-  pub all_some : 0 < length (first_parts first writers lists (length lists))
+  pub all_some : 0 < length (first_parts first writers readers lists (length lists))
   all_some =
       let low = is.low in
-      subst (λ (m : ℕ). 0 < length (first_parts first writers lists m)) (omega (arith, low)) (some_parts (length lists - (n + 1)))
+      subst (λ (m : ℕ). 0 < length (first_parts first writers readers lists m)) (omega (arith, low)) (some_parts (length lists - (n + 1)))
 
   -- and can't be written
-  pub field_fault : (initial now : IndexBodiesState) (e : Fault) → HasFields first initial now (first_parts first writers lists n) → (e ≡ SerializerClosed) ⊎ IsPartFault entries now (part entries) e
-      → (e ≡ SerializerClosed) ⊎ IsPartsFault first initial (first_parts first writers lists (length lists)) e
+  pub field_fault : (initial now : IndexBodiesState) (e : Fault) → HasFields first initial now (first_parts first writers readers lists n) → (e ≡ SerializerClosed) ⊎ IsPartFault entries now (part entries) e
+      → (e ≡ SerializerClosed) ⊎ IsPartsFault first initial (first_parts first writers readers lists (length lists)) e
   field_fault initial now e has (inl closed) = inl closed
   field_fault initial now e has (inr fault) =
       let own = subst (λ (es : List SchemaEntry). IsPartFault es now (part es) e) is.schema fault in
-      let next = subst (λ (ps : List FieldPart). IsPartsFault first initial ps e) (sym with_part) (next_fault first initial now (first_parts first writers lists n) (part first) e has own) in
+      let next = subst (λ (ps : List FieldPart). IsPartsFault first initial ps e) (sym with_part) (next_fault first initial now (first_parts first writers readers lists n) (part first) e has own) in
       let low = is.low in
-      inr (subst (λ (m : ℕ). IsPartsFault first initial (first_parts first writers lists m) e) (omega (arith, low)) (more_fault first initial writers lists (n + 1) (length lists - (n + 1)) e next))
+      inr (subst (λ (m : ℕ). IsPartsFault first initial (first_parts first writers readers lists m) e) (omega (arith, low)) (more_fault first initial writers readers lists (n + 1) (length lists - (n + 1)) e next))
 
 -- a field without terms adds no part
-pub no_part : (first : List SchemaEntry) (writers : List PostingsWriterState) (lists : List (List SortedTerm)) (n : ℕ) (terms : List SortedTerm) → terms ≡ slice_index_or lists n [] → terms ≡ []
-    → first_parts first writers lists n ≡ [] → first_parts first writers lists (n + 1) ≡ []
-no_part first writers lists n terms at none before =
+pub no_part : (first : List SchemaEntry) (writers : List PostingsWriterState) (readers : List Body) (lists : List (List SortedTerm)) (n : ℕ) (terms : List SortedTerm) → terms ≡ slice_index_or lists n [] → terms ≡ []
+    → first_parts first writers readers lists n ≡ [] → first_parts first writers readers lists (n + 1) ≡ []
+no_part first writers readers lists n terms at none before =
     let here : slice_index_or lists n [] ≡ [] = sym at ∙ none in
-    one_more_part first writers lists n ∙ rw (before, here) refl
+    one_more_part first writers readers lists n ∙ rw (before, here) refl
 
 -- a term of a field, between the others
-pub split_written : (mode : IndexRecordOption) (terms : List TermOfField) (k : ℕ) (t : TermOfField) → k < length terms → t ≡ get_or terms k t
-    → all_written mode terms ≡ all_written mode (take k terms) ++ written_term mode (state_of t) ∷ all_written mode (drop (suc k) terms)
-split_written mode [] k t low is = absurd (omega (arith, low))
-split_written mode (u ∷ us) zero t low is = ap (λ (v : TermOfField). written_term mode (state_of v) ∷ all_written mode us) (sym is)
-split_written mode (u ∷ us) (suc k) t low is = ap (λ (ts : List WrittenTerm). written_term mode (state_of u) ∷ ts) (split_written mode us k t (omega (arith, low)) is)
+pub split_written : (norms : Option Norms) (mode : IndexRecordOption) (terms : List TermOfField) (k : ℕ) (t : TermOfField) → k < length terms → t ≡ get_or terms k t
+    → all_written norms mode terms ≡ all_written norms mode (take k terms) ++ written_term norms mode (state_of t) ∷ all_written norms mode (drop (suc k) terms)
+split_written norms mode [] k t low is = absurd (omega (arith, low))
+split_written norms mode (u ∷ us) zero t low is = ap (λ (v : TermOfField). written_term norms mode (state_of v) ∷ all_written norms mode us) (sym is)
+split_written norms mode (u ∷ us) (suc k) t low is = ap (λ (ts : List WrittenTerm). written_term norms mode (state_of u) ∷ ts) (split_written norms mode us k t (omega (arith, low)) is)
 
 -- the field can't be begun
 pub begun_fault : {A B : Type 0} (kept : IndexRecordOption) (tokens : ℕ) (initial : IndexBodiesState) (ts : List WrittenTerm) (e : Fault) → (e ≡ Limit limit.Offset → IsFull initial.postings.writer 8)

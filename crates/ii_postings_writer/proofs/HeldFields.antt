@@ -29,6 +29,7 @@ use Rattle.ii_postings_writer.specs.IndexingTerm.{AreTermBytes, field_bytes, fie
 use Rattle.ii_postings_writer.specs.SortedTerms.{IsTold, IsWritable, SortedTerm, terms_in, written_term}
 use Rattle.ii_postings_writer.proofs.SortedLemmas.{field_of_bytes, found_first, found_later, lies_in, split_bytes}
 use Rattle.ii_postings_writer.proofs.TermLemmas.{behind_field}
+use Rattle.ii_fieldnorm.specs.Readers.{Norms}
 
 -- a term is found under its own bytes where terms ascend
 still_found : (t : List ℕ × RecorderState) (ts us : TermIndex) → AllByRecursion (λ (y : List ℕ). slice_cmp nat_cmp t.0 y ≡ Less) (keys_of us) → AllByRecursion (λ (u : List ℕ × RecorderState). lookup (bytes_eq u.0) ts ≡ Some u.1) us
@@ -61,15 +62,15 @@ any_more true c is = refl
 any_more false c is = is
 
 -- a term that is found is among those of its field
-pub found_has_key : (mode : IndexRecordOption) (field : ℕ) (key : List ℕ) (r : RecorderState) (terms : TermIndex) → field < 2 ^ 32 → recorder_of terms (field_bytes field ++ key) ≡ Some r → has_key key (map (written_term mode) (terms_in field terms)) ≡ true
-found_has_key mode field key r [] small found = absurd (cc)
-found_has_key mode field key r (t ∷ ts) small found = by_case (bytes_eq (field_bytes field ++ key) t.0) refl (found_has_key mode field key r ts small)
+pub found_has_key : (norms : Option Norms) (mode : IndexRecordOption) (field : ℕ) (key : List ℕ) (r : RecorderState) (terms : TermIndex) → field < 2 ^ 32 → recorder_of terms (field_bytes field ++ key) ≡ Some r → has_key key (map (written_term norms mode) (terms_in field terms)) ≡ true
+found_has_key norms mode field key r [] small found = absurd (cc)
+found_has_key norms mode field key r (t ∷ ts) small found = by_case (bytes_eq (field_bytes field ++ key) t.0) refl (found_has_key norms mode field key r ts small)
   where
-    others : (b : Bool) → lies_in field t.0 ≡ b → has_key key (map (written_term mode) (terms_in field ts)) ≡ true → has_key key (map (written_term mode) (terms_in field (t ∷ ts))) ≡ true
-    others true is rest = rw is (any_more (bytes_eq key (drop 4 t.0)) (has_key key (map (written_term mode) (terms_in field ts))) rest)
+    others : (b : Bool) → lies_in field t.0 ≡ b → has_key key (map (written_term norms mode) (terms_in field ts)) ≡ true → has_key key (map (written_term norms mode) (terms_in field (t ∷ ts))) ≡ true
+    others true is rest = rw is (any_more (bytes_eq key (drop 4 t.0)) (has_key key (map (written_term norms mode) (terms_in field ts))) rest)
     others false is rest = rw is rest
 
-    by_case : (b : Bool) → bytes_eq (field_bytes field ++ key) t.0 ≡ b → (recorder_of ts (field_bytes field ++ key) ≡ Some r → has_key key (map (written_term mode) (terms_in field ts)) ≡ true) → has_key key (map (written_term mode) (terms_in field (t ∷ ts))) ≡ true
+    by_case : (b : Bool) → bytes_eq (field_bytes field ++ key) t.0 ≡ b → (recorder_of ts (field_bytes field ++ key) ≡ Some r → has_key key (map (written_term norms mode) (terms_in field ts)) ≡ true) → has_key key (map (written_term norms mode) (terms_in field (t ∷ ts))) ≡ true
     by_case true same rest =
         let here : field_bytes field ++ key ≡ t.0 = (bytes_decides (field_bytes field ++ key) t.0).0 same in
         let inside : lies_in field t.0 ≡ true = eq-eqb (field_in t.0) field (ap field_in (sym here) ∙ field_of_bytes field key small) in
@@ -78,26 +79,26 @@ found_has_key mode field key r (t ∷ ts) small found = by_case (bytes_eq (field
     by_case false other rest = others (lies_in field t.0) refl (rest (sym (found_later (field_bytes field ++ key) t ts other) ∙ found))
 
 -- Where a written term comes from.
-record Origin (mode : IndexRecordOption) (P : SortedTerm → Type 0) (t : WrittenTerm) : Type 0 where
+record Origin (norms : Option Norms) (mode : IndexRecordOption) (P : SortedTerm → Type 0) (t : WrittenTerm) : Type 0 where
   state : SortedTerm
-  is : written_term mode state ≡ t
+  is : written_term norms mode state ≡ t
   holds : P state
 
-origin_at : (mode : IndexRecordOption) (P : SortedTerm → Type 0) (states : List SortedTerm) (t : WrittenTerm) (k : ℕ) → AllByRecursion P states → k < length (map (written_term mode) states) → get_or (map (written_term mode) states) k t ≡ t → Origin mode P t
-origin_at mode P [] t k all inside is = absurd (omega (arith, inside))
-origin_at mode P (s ∷ ss) t zero all inside is = record { state = s; is = is; holds = all.0 }
-origin_at mode P (s ∷ ss) t (suc k) all inside is = origin_at mode P ss t k all.1 (omega (arith, inside)) is
+origin_at : (norms : Option Norms) (mode : IndexRecordOption) (P : SortedTerm → Type 0) (states : List SortedTerm) (t : WrittenTerm) (k : ℕ) → AllByRecursion P states → k < length (map (written_term norms mode) states) → get_or (map (written_term norms mode) states) k t ≡ t → Origin norms mode P t
+origin_at norms mode P [] t k all inside is = absurd (omega (arith, inside))
+origin_at norms mode P (s ∷ ss) t zero all inside is = record { state = s; is = is; holds = all.0 }
+origin_at norms mode P (s ∷ ss) t (suc k) all inside is = origin_at norms mode P ss t k all.1 (omega (arith, inside)) is
 
 -- What is known of each term of a field.
-pub record IsKnown (mode : IndexRecordOption) (field : ℕ) (sorted : TermIndex) (s : SortedTerm) : Type 0 where
+pub record IsKnown (norms : Option Norms) (mode : IndexRecordOption) (field : ℕ) (sorted : TermIndex) (s : SortedTerm) : Type 0 where
   pub found : recorder_of sorted (field_bytes field ++ s.key) ≡ Some s.recorder
-  pub writable : IsWritable s
+  pub writable : IsWritable norms s
   pub told : IsTold mode s
 
-pub all_known : (mode : IndexRecordOption) (field : ℕ) (sorted : TermIndex) (states : List SortedTerm) → AllByRecursion (λ (s : SortedTerm). recorder_of sorted (field_bytes field ++ s.key) ≡ Some s.recorder) states
-    → AllByRecursion IsWritable states → AllByRecursion (IsTold mode) states → AllByRecursion (IsKnown mode field sorted) states
-all_known mode field sorted [] found writable told = tt
-all_known mode field sorted (s ∷ ss) found writable told = (record { found = found.0; writable = writable.0; told = told.0 }, all_known mode field sorted ss found.1 writable.1 told.1)
+pub all_known : (norms : Option Norms) (mode : IndexRecordOption) (field : ℕ) (sorted : TermIndex) (states : List SortedTerm) → AllByRecursion (λ (s : SortedTerm). recorder_of sorted (field_bytes field ++ s.key) ≡ Some s.recorder) states
+    → AllByRecursion (IsWritable norms) states → AllByRecursion (IsTold mode) states → AllByRecursion (IsKnown norms mode field sorted) states
+all_known norms mode field sorted [] found writable told = tt
+all_known norms mode field sorted (s ∷ ss) found writable told = (record { found = found.0; writable = writable.0; told = told.0 }, all_known norms mode field sorted ss found.1 writable.1 told.1)
 
 pub none_occurred : (field : ℕ) (key : List ℕ) (ts : List IndexToken) → tokens_at field key ts ≡ [] → occurs field key ts ≡ false
 none_occurred field key ts none = by_case (occurs field key ts) refl
@@ -106,9 +107,9 @@ none_occurred field key ts none = by_case (occurs field key ts) refl
     by_case false is = is
     by_case true is = absurd (omega (arith, some_occurs field key ts is, ap (λ (us : List IndexToken). length (grouped us)) none))
 
-keyed_some : (mode : IndexRecordOption) (ss : List SortedTerm) (key : List ℕ) → has_key key (map (written_term mode) ss) ≡ true → 0 < length ss
-keyed_some mode [] key is = absurd (cc)
-keyed_some mode (s ∷ ss) key is = omega (arith)
+keyed_some : (norms : Option Norms) (mode : IndexRecordOption) (ss : List SortedTerm) (key : List ℕ) → has_key key (map (written_term norms mode) ss) ≡ true → 0 < length ss
+keyed_some norms mode [] key is = absurd (cc)
+keyed_some norms mode (s ∷ ss) key is = omega (arith)
 
 -- A key of a field that occurred.
 record SomeKey (field : ℕ) (ts : List IndexToken) : Type 0 where
@@ -136,33 +137,33 @@ count_some field key ts occurred = by_case (field_count field ts) refl
     by_case zero is = absurd (true≢false (sym occurred ∙ no_field field key ts is))
     by_case (suc n) is = omega (arith, is)
 
-module _ (law : ReadsEntriesBack) (uncounted : ReadsUncountedTermBack) (mode : IndexRecordOption) (field : ℕ) (small : field < 2 ^ 32) (sorted : TermIndex) (ts : List IndexToken)
+module _ (law : ReadsEntriesBack) (uncounted : ReadsUncountedTermBack) (norms : Option Norms) (mode : IndexRecordOption) (field : ℕ) (small : field < 2 ^ 32) (sorted : TermIndex) (ts : List IndexToken)
     (records : (key : List ℕ) → MatchOption (recorder_of sorted (field_bytes field ++ key)) (tokens_at field key ts ≡ []) (HasPostings (kind_of mode (tokens_at field key ts)) (tokens_at field key ts))) where
   abbrev written : List WrittenTerm
-  written = map (written_term mode) (terms_in field sorted)
+  written = map (written_term norms mode) (terms_in field sorted)
 
   no_key : (key : List ℕ) (o : Option RecorderState) → recorder_of sorted (field_bytes field ++ key) ≡ o → has_key key written ≡ false → occurs field key ts ≡ false
   no_key key None absent none = none_occurred field key ts (subst (λ (o : Option RecorderState). MatchOption o (tokens_at field key ts ≡ []) (HasPostings (kind_of mode (tokens_at field key ts)) (tokens_at field key ts))) absent (records key))
-  no_key key (Some r) found none = absurd (true≢false (sym (found_has_key mode field key r sorted small found) ∙ none))
+  no_key key (Some r) found none = absurd (true≢false (sym (found_has_key norms mode field key r sorted small found) ∙ none))
 
-  one_key : (key postings positions : List ℕ) (info : TermInfo) → AllByRecursion (IsKnown mode field sorted) (terms_in field sorted) → HoldsKey mode postings positions written key info → HoldsTerm mode field key postings positions ts info
+  one_key : (key postings positions : List ℕ) (info : TermInfo) → AllByRecursion (IsKnown norms mode field sorted) (terms_in field sorted) → HoldsKey mode postings positions written key info → HoldsTerm mode field key postings positions ts info
   one_key key postings positions info known k =
-      let o = origin_at mode (IsKnown mode field sorted) (terms_in field sorted) k.term k.written.0 known k.written.1 k.written.2 in
+      let o = origin_at norms mode (IsKnown norms mode field sorted) (terms_in field sorted) k.term k.written.0 known k.written.1 k.written.2 in
       let same : o.state.key ≡ key = ap (λ (t : WrittenTerm). t.key) o.is ∙ k.key_is in
       let found : recorder_of sorted (field_bytes field ++ key) ≡ Some o.state.recorder = subst (λ (bytes : List ℕ). recorder_of sorted (field_bytes field ++ bytes) ≡ Some o.state.recorder) same o.holds.found in
       let has = subst (λ (r : Option RecorderState). MatchOption r (tokens_at field key ts ≡ []) (HasPostings (kind_of mode (tokens_at field key ts)) (tokens_at field key ts))) found (records key) in
-      holds_term law uncounted mode field key postings positions ts o.state info has o.holds.told o.holds.writable (subst (λ (t : WrittenTerm). HoldsWritten mode postings positions t info) (sym o.is) k.held)
+      holds_term law uncounted norms mode field key postings positions ts o.state info has o.holds.told o.holds.writable (subst (λ (t : WrittenTerm). HoldsWritten mode postings positions t info) (sym o.is) k.held)
 
-  exact_key : (key postings positions : List ℕ) (o : Option TermInfo) → AllByRecursion (IsKnown mode field sorted) (terms_in field sorted) → MatchOption o (has_key key written ≡ false) (HoldsKey mode postings positions written key)
+  exact_key : (key postings positions : List ℕ) (o : Option TermInfo) → AllByRecursion (IsKnown norms mode field sorted) (terms_in field sorted) → MatchOption o (has_key key written ≡ false) (HoldsKey mode postings positions written key)
       → MatchOption o (occurs field key ts ≡ false) (HoldsTerm mode field key postings positions ts)
   exact_key key postings positions None known none = no_key key (recorder_of sorted (field_bytes field ++ key)) refl none
   exact_key key postings positions (Some info) known k = one_key key postings positions info known k
 
   -- a field with terms has tokens
-  pub some_tokens : AllByRecursion (IsKnown mode field sorted) (terms_in field sorted) → 0 < length (terms_in field sorted) → 0 < field_count field ts
+  pub some_tokens : AllByRecursion (IsKnown norms mode field sorted) (terms_in field sorted) → 0 < length (terms_in field sorted) → 0 < field_count field ts
   some_tokens known some = from_first (terms_in field sorted) known some
     where
-      from_first : (ss : List SortedTerm) → AllByRecursion (IsKnown mode field sorted) ss → 0 < length ss → 0 < field_count field ts
+      from_first : (ss : List SortedTerm) → AllByRecursion (IsKnown norms mode field sorted) ss → 0 < length ss → 0 < field_count field ts
       from_first [] all some = absurd (omega (arith, some))
       from_first (s ∷ ss) all some =
           let has = subst (λ (r : Option RecorderState). MatchOption r (tokens_at field s.key ts ≡ []) (HasPostings (kind_of mode (tokens_at field s.key ts)) (tokens_at field s.key ts))) all.0.found (records s.key) in
@@ -178,10 +179,10 @@ module _ (law : ReadsEntriesBack) (uncounted : ReadsUncountedTermBack) (mode : I
       by_case key is None absent =
           let none = subst (λ (o : Option RecorderState). MatchOption o (tokens_at field key ts ≡ []) (HasPostings (kind_of mode (tokens_at field key ts)) (tokens_at field key ts))) absent (records key) in
           absurd (true≢false (sym is ∙ none_occurred field key ts none))
-      by_case key is (Some r) found = keyed_some mode (terms_in field sorted) key (found_has_key mode field key r sorted small found)
+      by_case key is (Some r) found = keyed_some norms mode (terms_in field sorted) key (found_has_key norms mode field key r sorted small found)
 
   -- the bodies of a field that was written hold its tokens
-  pub holds_field : (tokens : ℕ) (bodies : FieldBodies) → tokens ≡ field_count field ts → HoldsTerms mode tokens bodies written → AllByRecursion (IsKnown mode field sorted) (terms_in field sorted)
+  pub holds_field : (tokens : ℕ) (bodies : FieldBodies) → tokens ≡ field_count field ts → HoldsTerms mode tokens bodies written → AllByRecursion (IsKnown norms mode field sorted) (terms_in field sorted)
       → HoldsField mode field bodies.terms bodies.postings bodies.positions ts
   holds_field tokens bodies counted h known = record {
     entries = h.entries;

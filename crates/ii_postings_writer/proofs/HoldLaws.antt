@@ -8,6 +8,7 @@ use Rattle.ii_base.specs.declared.schema.index_record_option.IndexRecordOption.T
 use Rattle.ii_base.specs.Options.{downgrade, has_freq, has_positions}
 use Rattle.ii_base.specs.Entries.{Entry, docs_of}
 use Rattle.ii_layout.specs.TermList.{ReadsUncountedTermBack, term_list}
+use Rattle.ii_fieldnorm.specs.Readers.{Norms}
 use Rattle.ii_layout.specs.Written.{written_postings}
 use Rattle.ii_definitions.specs.Cut.{cut_entry}
 use Rattle.ii_termstore.specs.declared.term_info.TermInfo.{TermInfo}
@@ -51,8 +52,8 @@ bytes_are WithFreqsAndPositions deltas = refl
 abbrev pub list_read : IndexRecordOption → IndexRecordOption → WrittenTerm → Result (List Entry) Part
 list_read mode requested t = term_list mode requested (length t.docs) (postings_bytes t) (Some (positions_bytes mode t.deltas))
 
-readable : (s : SortedTerm) → IsTold s.recorder.option s → IsWritable s → 0 < length (entries_of_recorder s.recorder) → AreReadable s.recorder.option (entries_of_recorder s.recorder)
-readable s told writable some = record {
+readable : (norms : Option Norms) (s : SortedTerm) → IsTold s.recorder.option s → IsWritable norms s → 0 < length (entries_of_recorder s.recorder) → AreReadable s.recorder.option (entries_of_recorder s.recorder)
+readable norms s told writable some = record {
   documents = writable.ascending;
   some = some;
   counted = writable.counted;
@@ -62,26 +63,26 @@ readable s told writable some = record {
 }
 
 -- a term that keeps what its field records
-whole_read : ReadsEntriesBack → (requested : IndexRecordOption) (s : SortedTerm) → IsTold s.recorder.option s → IsWritable s → 0 < length (entries_of_recorder s.recorder)
-    → list_read s.recorder.option requested (written_term s.recorder.option s) ≡ Ok (map (cut_entry (downgrade s.recorder.option requested)) (entries_of_recorder s.recorder))
-whole_read law requested s told writable some =
+whole_read : ReadsEntriesBack → (norms : Option Norms) (requested : IndexRecordOption) (s : SortedTerm) → IsTold s.recorder.option s → IsWritable norms s → 0 < length (entries_of_recorder s.recorder)
+    → list_read s.recorder.option requested (written_term norms s.recorder.option s) ≡ Ok (map (cut_entry (downgrade s.recorder.option requested)) (entries_of_recorder s.recorder))
+whole_read law norms requested s told writable some =
     let mode = s.recorder.option in
     let es = entries_of_recorder s.recorder in
-    let t = written_term mode s in
+    let t = written_term norms mode s in
     ap (λ (n : ℕ). term_list mode requested n (postings_bytes t) (Some (positions_bytes mode t.deltas))) (length-map es (λ (e : Entry). e.doc))
-    ∙ ap (λ (o : IndexRecordOption). term_list mode requested (length es) (written_postings o t.docs t.freqs) (Some (positions_bytes mode t.deltas))) (skip_is mode)
-    ∙ ap (λ (ps : List ℕ). term_list mode requested (length es) (written_postings mode t.docs t.freqs) (Some ps)) (bytes_are mode (pushed_deltas es))
-    ∙ law mode requested es (readable s told writable some)
+    ∙ ap (λ (o : IndexRecordOption). term_list mode requested (length es) (written_postings norms o t.docs t.freqs) (Some (positions_bytes mode t.deltas))) (skip_is mode)
+    ∙ ap (λ (ps : List ℕ). term_list mode requested (length es) (written_postings norms mode t.docs t.freqs) (Some ps)) (bytes_are mode (pushed_deltas es))
+    ∙ law norms mode requested es (readable norms s told writable some)
 
 -- one that keeps documents alone
-kept_documents_read : ReadsUncountedTermBack → (mode requested : IndexRecordOption) (s : SortedTerm) → s.recorder.option ≡ Basic → IsWritable s → length (entries_of_recorder s.recorder) < 2 ^ 32
-    → list_read mode requested (written_term mode s) ≡ Ok (map (cut_entry Basic) (entries_of_recorder s.recorder))
-kept_documents_read law mode requested s alone writable few =
+kept_documents_read : ReadsUncountedTermBack → (norms : Option Norms) (mode requested : IndexRecordOption) (s : SortedTerm) → s.recorder.option ≡ Basic → IsWritable norms s → length (entries_of_recorder s.recorder) < 2 ^ 32
+    → list_read mode requested (written_term norms mode s) ≡ Ok (map (cut_entry Basic) (entries_of_recorder s.recorder))
+kept_documents_read law norms mode requested s alone writable few =
     let es = entries_of_recorder s.recorder in
-    let t = written_term mode s in
+    let t = written_term norms mode s in
     let few_docs = subst (λ (n : ℕ). n < 2 ^ 32) (sym (length-map es (λ (e : Entry). e.doc))) few in
-    ap (λ (o : IndexRecordOption). term_list mode requested (length t.docs) (written_postings (if has_freq o then mode else Basic) t.docs t.freqs) (Some (positions_bytes mode t.deltas))) alone
-    ∙ law mode requested (docs_of es) t.freqs (Some (positions_bytes mode t.deltas)) writable.ascending few_docs
+    ap (λ (o : IndexRecordOption). term_list mode requested (length t.docs) (written_postings norms (if has_freq o then mode else Basic) t.docs t.freqs) (Some (positions_bytes mode t.deltas))) alone
+    ∙ law norms mode requested (docs_of es) t.freqs (Some (positions_bytes mode t.deltas)) writable.ascending few_docs
     ∙ ap Ok (documents_read es)
 
 -- a key with an entry occurred
@@ -115,42 +116,42 @@ kind_which mode (t ∷ ts) = by_case t.of_text refl
     by_case false is = rw is (inr refl)
 
 module _ (law : ReadsEntriesBack) (uncounted : ReadsUncountedTermBack) where
-  same_kind : (requested : IndexRecordOption) (es : List Entry) (s : SortedTerm) → entries_of_recorder s.recorder ≡ map (cut_entry s.recorder.option) es → IsTold s.recorder.option s → IsWritable s → 0 < length es
-      → list_read s.recorder.option requested (written_term s.recorder.option s) ≡ Ok (map (cut_entry (downgrade s.recorder.option requested)) es)
-  same_kind requested es s are told writable some =
+  same_kind : (norms : Option Norms) (requested : IndexRecordOption) (es : List Entry) (s : SortedTerm) → entries_of_recorder s.recorder ≡ map (cut_entry s.recorder.option) es → IsTold s.recorder.option s → IsWritable norms s → 0 < length es
+      → list_read s.recorder.option requested (written_term norms s.recorder.option s) ≡ Ok (map (cut_entry (downgrade s.recorder.option requested)) es)
+  same_kind norms requested es s are told writable some =
       let o = s.recorder.option in
       let some_kept : 0 < length (entries_of_recorder s.recorder) = subst (λ (fs : List Entry). 0 < length fs) (sym are) (subst (λ (n : ℕ). 0 < n) (sym (length-map es (cut_entry o))) some) in
-      whole_read law requested s told writable some_kept
+      whole_read law norms requested s told writable some_kept
       ∙ ap (λ (fs : List Entry). Ok (map (cut_entry (downgrade o requested)) fs)) are
       ∙ ap Ok (all_cut_twice o requested es)
 
-  documents_kind : (mode requested : IndexRecordOption) (es : List Entry) (s : SortedTerm) → s.recorder.option ≡ Basic → entries_of_recorder s.recorder ≡ map (cut_entry Basic) es → IsWritable s → length es < 2 ^ 32
-      → list_read mode requested (written_term mode s) ≡ Ok (map (cut_entry Basic) es)
-  documents_kind mode requested es s alone are writable few =
+  documents_kind : (norms : Option Norms) (mode requested : IndexRecordOption) (es : List Entry) (s : SortedTerm) → s.recorder.option ≡ Basic → entries_of_recorder s.recorder ≡ map (cut_entry Basic) es → IsWritable norms s → length es < 2 ^ 32
+      → list_read mode requested (written_term norms mode s) ≡ Ok (map (cut_entry Basic) es)
+  documents_kind norms mode requested es s alone are writable few =
       let few_kept : length (entries_of_recorder s.recorder) < 2 ^ 32 = subst (λ (fs : List Entry). length fs < 2 ^ 32) (sym are) (subst (λ (n : ℕ). n < 2 ^ 32) (sym (length-map es (cut_entry Basic))) few) in
-      kept_documents_read uncounted mode requested s alone writable few_kept
+      kept_documents_read uncounted norms mode requested s alone writable few_kept
       ∙ ap (λ (fs : List Entry). Ok (map (cut_entry Basic) fs)) are
       ∙ ap Ok (all_cut_twice Basic requested es)
 
   -- what is read of a recorder that has the postings of a key
-  pub lists_read : (mode kind requested : IndexRecordOption) (es : List Entry) (s : SortedTerm) → s.recorder.option ≡ kind → (kind ≡ mode) ⊎ (kind ≡ Basic) → entries_of_recorder s.recorder ≡ map (cut_entry kind) es → IsTold mode s → IsWritable s → 0 < length es → length es < 2 ^ 32
-      → list_read mode requested (written_term mode s) ≡ Ok (map (cut_entry (downgrade kind requested)) es)
-  lists_read mode kind requested es s kept which are told writable some few = ⊎_elim
+  pub lists_read : (norms : Option Norms) (mode kind requested : IndexRecordOption) (es : List Entry) (s : SortedTerm) → s.recorder.option ≡ kind → (kind ≡ mode) ⊎ (kind ≡ Basic) → entries_of_recorder s.recorder ≡ map (cut_entry kind) es → IsTold mode s → IsWritable norms s → 0 < length es → length es < 2 ^ 32
+      → list_read mode requested (written_term norms mode s) ≡ Ok (map (cut_entry (downgrade kind requested)) es)
+  lists_read norms mode kind requested es s kept which are told writable some few = ⊎_elim
       (λ same.
       let o_mode = kept ∙ same in
-      let here = same_kind requested es s (subst (λ (k : IndexRecordOption). entries_of_recorder s.recorder ≡ map (cut_entry k) es) (sym kept) are) (subst (λ (m : IndexRecordOption). IsTold m s) (sym o_mode) told) writable some in
-      subst (λ (k : IndexRecordOption). list_read mode requested (written_term mode s) ≡ Ok (map (cut_entry (downgrade k requested)) es)) kept
-      (subst (λ (m : IndexRecordOption). list_read m requested (written_term m s) ≡ Ok (map (cut_entry (downgrade s.recorder.option requested)) es)) o_mode here))
+      let here = same_kind norms requested es s (subst (λ (k : IndexRecordOption). entries_of_recorder s.recorder ≡ map (cut_entry k) es) (sym kept) are) (subst (λ (m : IndexRecordOption). IsTold m s) (sym o_mode) told) writable some in
+      subst (λ (k : IndexRecordOption). list_read mode requested (written_term norms mode s) ≡ Ok (map (cut_entry (downgrade k requested)) es)) kept
+      (subst (λ (m : IndexRecordOption). list_read m requested (written_term norms m s) ≡ Ok (map (cut_entry (downgrade s.recorder.option requested)) es)) o_mode here))
       (λ basic.
-      let here = documents_kind mode requested es s (kept ∙ basic) (subst (λ (k : IndexRecordOption). entries_of_recorder s.recorder ≡ map (cut_entry k) es) basic are) writable few in
-      subst (λ (k : IndexRecordOption). list_read mode requested (written_term mode s) ≡ Ok (map (cut_entry (downgrade k requested)) es)) (sym basic) here)
+      let here = documents_kind norms mode requested es s (kept ∙ basic) (subst (λ (k : IndexRecordOption). entries_of_recorder s.recorder ≡ map (cut_entry k) es) basic are) writable few in
+      subst (λ (k : IndexRecordOption). list_read mode requested (written_term norms mode s) ≡ Ok (map (cut_entry (downgrade k requested)) es)) (sym basic) here)
       which
 
   -- what is kept of a key holds its postings
-  pub holds_term : (mode : IndexRecordOption) (field : ℕ) (key postings positions : List ℕ) (ts : List IndexToken) (s : SortedTerm) (info : TermInfo)
-      → HasPostings (kind_of mode (tokens_at field key ts)) (tokens_at field key ts) s.recorder → IsTold mode s → IsWritable s → HoldsWritten mode postings positions (written_term mode s) info
+  pub holds_term : (norms : Option Norms) (mode : IndexRecordOption) (field : ℕ) (key postings positions : List ℕ) (ts : List IndexToken) (s : SortedTerm) (info : TermInfo)
+      → HasPostings (kind_of mode (tokens_at field key ts)) (tokens_at field key ts) s.recorder → IsTold mode s → IsWritable norms s → HoldsWritten mode postings positions (written_term norms mode s) info
       → HoldsTerm mode field key postings positions ts info
-  holds_term mode field key postings positions ts s info has told writable held =
+  holds_term norms mode field key postings positions ts s info has told writable held =
       let tokens = tokens_at field key ts in
       let es = grouped tokens in
       let count : length (entries_of_recorder s.recorder) ≡ length es = ap length has.entries ∙ length-map es (cut_entry (kind_of mode tokens)) in
@@ -165,7 +166,7 @@ module _ (law : ReadsEntriesBack) (uncounted : ReadsUncountedTermBack) where
         positions_range = held.positions_range;
         lists = λ requested.
             ap (λ (n : ℕ). term_list mode requested n (bytes_in postings info.postings_range) (Some (bytes_in positions info.positions_range))) held.doc_freq
-            ∙ ap (λ (ps : List ℕ). term_list mode requested (length (written_term mode s).docs) ps (Some (bytes_in positions info.positions_range))) held.postings_are
-            ∙ ap (λ (ps : List ℕ). term_list mode requested (length (written_term mode s).docs) (postings_bytes (written_term mode s)) (Some ps)) held.positions_are
-            ∙ lists_read mode (kind_of mode tokens) requested es s has.kept (kind_which mode tokens) has.entries told writable some (omega (arith, few, docs, count));
+            ∙ ap (λ (ps : List ℕ). term_list mode requested (length (written_term norms mode s).docs) ps (Some (bytes_in positions info.positions_range))) held.postings_are
+            ∙ ap (λ (ps : List ℕ). term_list mode requested (length (written_term norms mode s).docs) (postings_bytes (written_term norms mode s)) (Some ps)) held.positions_are
+            ∙ lists_read norms mode (kind_of mode tokens) requested es s has.kept (kind_which mode tokens) has.entries told writable some (omega (arith, few, docs, count));
       }

@@ -1,3 +1,4 @@
+pub mod BareParts
 pub mod ByFieldLemmas
 pub mod ByteKeys
 pub mod ContextFaults

@@ -20,19 +20,22 @@ use Rattle.ii_definitions.specs.Postings.{kind_of, tokens_at}
 use Rattle.ii_definitions.specs.Tokens.{IndexToken}
 use Rattle.ii_json.specs.PathRank.{path_ranks}
 use Rattle.ii_json.specs.Paths.{AreDistinct}
-use Rattle.ii_recorder.specs.Recorded.{RecorderState}
+use Rattle.ii_recorder.specs.Recorded.{entries_of_recorder, RecorderState}
 use Rattle.ii_postings_writer.specs.HeldBodies.{HaveTokens}
 use Rattle.ii_postings_writer.specs.IndexingContext.{TermIndex, recorder_of}
 use Rattle.ii_postings_writer.specs.IndexingTerm.{AreTermBytes, field_bytes, field_in}
 use Rattle.ii_postings_writer.specs.PostingsWriter.{PostingsWriterState}
 use Rattle.ii_postings_writer.specs.Records.{HasPostings}
 use Rattle.ii_postings_writer.specs.ResolvedTerms.{AreClean, AreSorted, HaveHeldTokens, HaveUnlessMemory, HoldIds, IsHeldTerm, IsKnownToken, held_token, is_json_field, json_fields, resolved, resolved_terms}
-use Rattle.ii_postings_writer.specs.SortedTerms.{AllMayBeWritten, MayBeWritten}
+use Rattle.ii_postings_writer.specs.SortedTerms.{norms_in, AllMayBeWritten, MayBeWritten}
 use Rattle.ii_postings_writer.proofs.ResolvedLaws.{json_resolved, plain_resolved}
 use Rattle.ii_postings_writer.proofs.ResolvedOrder.{none_apart}
 use Rattle.ii_postings_writer.proofs.ResolvedRecords.{resolved_records}
 use Rattle.ii_postings_writer.proofs.SortedLemmas.{field_of_bytes, found_first, found_later}
 use Rattle.ii_postings_writer.proofs.TermLemmas.{behind_field}
+use Rattle.ii_io.specs.Composite.{Body}
+use Rattle.ii_layout.specs.Bounds.{Covers}
+use Rattle.ii_base.specs.Entries.{docs_of}
 
 abbrev first_of : List ℕ × RecorderState → List ℕ
 first_of t = t.0
@@ -109,36 +112,39 @@ module _ (flags : List Bool) (paths : List (List ℕ)) (unlike : AreDistinct pat
   whole_keys = all_whole new sorted.held
 
   -- terms that may be written may be so under their keys
-  may_under_key : (n : ℕ) (term : List ℕ) (r : RecorderState) → IsHeldTerm flags paths term → MayBeWritten n term r → MayBeWritten n (resolved flags paths term) r
-  may_under_key n term r h may =
+  may_under_key : (n : ℕ) (readers : List Body) (term : List ℕ) (r : RecorderState) → IsHeldTerm flags paths term → MayBeWritten n readers term r → MayBeWritten n readers (resolved flags paths term) r
+  may_under_key n readers term r h may =
       let front = field_front term h in
       let field : field_in (resolved flags paths term) ≡ field_in term = ap field_in front.1 ∙ field_of_bytes h.field front.0 h.small ∙ sym (ap field_in h.is ∙ field_of_bytes h.field h.value h.small) in
-      record { known = omega (arith, field, may.known); writable = record { ascending = may.writable.ascending; counted = may.writable.counted } }
+      record {
+        known = omega (arith, field, may.known);
+        writable = record { ascending = may.writable.ascending; counted = may.writable.counted; covered = subst (λ (f : ℕ). AllByRecursion (Covers (norms_in readers f)) (docs_of (entries_of_recorder r))) (sym field) may.writable.covered };
+      }
 
-  all_under_keys : (n : ℕ) (ts : TermIndex) → AllByRecursion (λ (t : List ℕ × RecorderState). IsHeldTerm flags paths t.0) ts → AllByRecursion (λ (t : List ℕ × RecorderState). MayBeWritten n t.0 t.1) ts
-      → AllByRecursion (λ (t : List ℕ × RecorderState). MayBeWritten n t.0 t.1) (resolved_terms flags paths ts)
-  all_under_keys n [] held may = tt
-  all_under_keys n (t ∷ ts) held may = (may_under_key n t.0 t.1 held.0 may.0, all_under_keys n ts held.1 may.1)
+  all_under_keys : (n : ℕ) (readers : List Body) (ts : TermIndex) → AllByRecursion (λ (t : List ℕ × RecorderState). IsHeldTerm flags paths t.0) ts → AllByRecursion (λ (t : List ℕ × RecorderState). MayBeWritten n readers t.0 t.1) ts
+      → AllByRecursion (λ (t : List ℕ × RecorderState). MayBeWritten n readers t.0 t.1) (resolved_terms flags paths ts)
+  all_under_keys n readers [] held may = tt
+  all_under_keys n readers (t ∷ ts) held may = (may_under_key n readers t.0 t.1 held.0 may.0, all_under_keys n readers ts held.1 may.1)
 
-  all_may : (n : ℕ) → AllMayBeWritten n old → AllByRecursion (λ (t : List ℕ × RecorderState). MayBeWritten n t.0 t.1) new
-  all_may n may =
-      both_each (λ (t : List ℕ × RecorderState). IsHeldTerm flags paths t.0 → MayBeWritten n t.0 t.1) (λ (t : List ℕ × RecorderState). IsHeldTerm flags paths t.0) (λ (t : List ℕ × RecorderState). MayBeWritten n t.0 t.1) (λ t f h. f h) new
-      (each_by_distinct (λ bytes r. IsHeldTerm flags paths bytes → MayBeWritten n bytes r) new sorted.distinct (λ bytes. subst (λ (o : Option RecorderState). MatchOption o ⊤ (λ r. IsHeldTerm flags paths bytes → MayBeWritten n bytes r)) (sym (same_raw bytes)) (by bytes (recorder_of old bytes) refl)))
+  all_may : (n : ℕ) (readers : List Body) → AllMayBeWritten n readers old → AllByRecursion (λ (t : List ℕ × RecorderState). MayBeWritten n readers t.0 t.1) new
+  all_may n readers may =
+      both_each (λ (t : List ℕ × RecorderState). IsHeldTerm flags paths t.0 → MayBeWritten n readers t.0 t.1) (λ (t : List ℕ × RecorderState). IsHeldTerm flags paths t.0) (λ (t : List ℕ × RecorderState). MayBeWritten n readers t.0 t.1) (λ t f h. f h) new
+      (each_by_distinct (λ bytes r. IsHeldTerm flags paths bytes → MayBeWritten n readers bytes r) new sorted.distinct (λ bytes. subst (λ (o : Option RecorderState). MatchOption o ⊤ (λ r. IsHeldTerm flags paths bytes → MayBeWritten n readers bytes r)) (sym (same_raw bytes)) (by bytes (recorder_of old bytes) refl)))
       sorted.held
     where
-      by : (bytes : List ℕ) (o : Option RecorderState) → recorder_of old bytes ≡ o → MatchOption o ⊤ (λ r. IsHeldTerm flags paths bytes → MayBeWritten n bytes r)
+      by : (bytes : List ℕ) (o : Option RecorderState) → recorder_of old bytes ≡ o → MatchOption o ⊤ (λ r. IsHeldTerm flags paths bytes → MayBeWritten n readers bytes r)
       by bytes None is = tt
       by bytes (Some r) is = λ h.
           let there = may h.field h.value h.small in
           let found : recorder_of old (field_bytes h.field ++ h.value) ≡ Some r = ap (recorder_of old) (sym h.is) ∙ is in
-          subst (λ (b : List ℕ). MayBeWritten n b r) (sym h.is) (subst (λ (o : Option RecorderState). MatchOption o ⊤ (MayBeWritten n (field_bytes h.field ++ h.value))) found there)
+          subst (λ (b : List ℕ). MayBeWritten n readers b r) (sym h.is) (subst (λ (o : Option RecorderState). MatchOption o ⊤ (MayBeWritten n readers (field_bytes h.field ++ h.value))) found there)
 
-  pub may_be_under_keys : (n : ℕ) → AllMayBeWritten n old → AllByRecursion (λ (t : List ℕ × RecorderState). MayBeWritten n t.0 t.1) (resolved_terms flags paths new)
-  may_be_under_keys n may = all_under_keys n new sorted.held (all_may n may)
+  pub may_be_under_keys : (n : ℕ) (readers : List Body) → AllMayBeWritten n readers old → AllByRecursion (λ (t : List ℕ × RecorderState). MayBeWritten n readers t.0 t.1) (resolved_terms flags paths new)
+  may_be_under_keys n readers may = all_under_keys n readers new sorted.held (all_may n readers may)
 
   -- and so are the fields of terms
-  pub raw_fields : (n : ℕ) → AllMayBeWritten n old → AllByRecursion (λ (t : List ℕ × RecorderState). field_in t.0 < n) new
-  raw_fields n may = both_each (λ (t : List ℕ × RecorderState). MayBeWritten n t.0 t.1) (λ (t : List ℕ × RecorderState). MayBeWritten n t.0 t.1) (λ (t : List ℕ × RecorderState). field_in t.0 < n) (λ t m k. m.known) new (all_may n may) (all_may n may)
+  pub raw_fields : (n : ℕ) (readers : List Body) → AllMayBeWritten n readers old → AllByRecursion (λ (t : List ℕ × RecorderState). field_in t.0 < n) new
+  raw_fields n readers may = both_each (λ (t : List ℕ × RecorderState). MayBeWritten n readers t.0 t.1) (λ (t : List ℕ × RecorderState). MayBeWritten n readers t.0 t.1) (λ (t : List ℕ × RecorderState). field_in t.0 < n) (λ t m k. m.known) new (all_may n readers may) (all_may n readers may)
 
   held_keys : (ts : TermIndex) → AllByRecursion (λ (t : List ℕ × RecorderState). IsHeldTerm flags paths t.0) ts → AllByRecursion (IsHeldTerm flags paths) (keys_of ts)
   held_keys [] held = tt

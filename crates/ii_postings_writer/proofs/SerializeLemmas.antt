@@ -1,5 +1,5 @@
 -- Terms of a field that are written one after the other.
-use Rattle.std.proofs.Common.{Result, Ok, Err, OnOk, zero, suc, ◌+◌, ◌<◌, arith, append-nil, take, map, length, Ordering, Less, get_or, ◌≡◌, ℕ, Bool, List, [], ◌∷◌, ◌++◌, refl, sym, ap, ◌∙◌, subst}
+use Rattle.std.proofs.Common.{Option, Result, Ok, Err, OnOk, zero, suc, ◌+◌, ◌<◌, arith, append-nil, take, map, length, Ordering, Less, get_or, ◌≡◌, ℕ, Bool, List, [], ◌∷◌, ◌++◌, refl, sym, ap, ◌∙◌, subst}
 use Rattle.std.specs.Prelude.{if◌then◌else◌, IsTrue, ◌^◌}
 use Rattle.std.specs.List.{AllByRecursion}
 use Rattle.std.specs.List.Sorted.{IsStrictlySortedBy}
@@ -24,20 +24,21 @@ use Rattle.ii_recorder.specs.Recorded.{RecorderState, entries_of_recorder}
 use Rattle.ii_recorder.specs.Terms.{WrittenTerm}
 use Rattle.ii_postings_writer.specs.SortedTerms.{IsTold, IsWritable, state_of, written_term}
 use Rattle.ii_recorder.proofs.DeltaLemmas.{all_push}
+use Rattle.ii_fieldnorm.specs.Readers.{Norms}
 
 -- documents that are pushed change nothing of what is written
-pub pushed_writing : (option : IndexRecordOption) (es : List Entry) (initial : IndexBodiesState) (s new : IndexSerializerState) (field tokens : ℕ) (ts : List WrittenTerm) (pending : List (List ℕ))
-    → new ≡ with_entries option s es → IsWriting initial s field tokens ts pending → IsWriting initial new field tokens ts pending
-pushed_writing option es initial s new field tokens ts pending is w =
-    let same : IsWriting initial (with_entries option s es) field tokens ts pending = record { mode = w.mode; counted = w.counted; bodies = w.bodies; terms = w.terms } in
-    subst (λ (n : IndexSerializerState). IsWriting initial n field tokens ts pending) (sym is) same
+pub pushed_writing : (option : IndexRecordOption) (es : List Entry) (initial : IndexBodiesState) (s new : IndexSerializerState) (field tokens : ℕ) (norms : Option Norms) (ts : List WrittenTerm) (pending : List (List ℕ))
+    → new ≡ with_entries option s es → IsWriting initial s field tokens norms ts pending → IsWriting initial new field tokens norms ts pending
+pushed_writing option es initial s new field tokens norms ts pending is w =
+    let same : IsWriting initial (with_entries option s es) field tokens norms ts pending = record { mode = w.mode; norms_are = w.norms_are; counted = w.counted; bodies = w.bodies; terms = w.terms } in
+    subst (λ (n : IndexSerializerState). IsWriting initial n field tokens norms ts pending) (sym is) same
 
 -- a term that was begun
 abbrev pub begun_term : Bool → OpenTermState → OpenTermState
 begun_term counted t = record t { skip_info = if counted then t.mode else Basic; docs = []; freqs = []; deltas = [] }
 
 pub term_written : (key : List ℕ) (t : OpenTermState) (r : RecorderState) (s new : IndexSerializerState) (counted : Bool) → counted ≡ has_freq r.option → s.field.term ≡ begun_term counted t
-    → new ≡ with_entries r.option s (entries_of_recorder r) → term_under key new.field.term ≡ written_term t.mode (record { key = key; recorder = r })
+    → new ≡ with_entries r.option s (entries_of_recorder r) → term_under key new.field.term ≡ written_term t.norms t.mode (record { key = key; recorder = r })
 term_written key t r s new counted same begun is =
     ap (λ (n : IndexSerializerState). term_under key n.field.term) is ∙ rw (begun, same) refl
 
@@ -53,10 +54,10 @@ ascend_taken c zero ks sorted = tt
 ascend_taken c (suc n) [] sorted = tt
 ascend_taken c (suc n) (k ∷ ks) sorted = (all_taken (λ y. c k y ≡ Less) n ks sorted.0, ascend_taken c n ks sorted.1)
 
-module _ (mode : IndexRecordOption) where
+module _ (norms : Option Norms) (mode : IndexRecordOption) where
   -- terms as they are written
   abbrev pub all_written : List TermOfField → List WrittenTerm
-  all_written terms = map (written_term mode) (map state_of terms)
+  all_written terms = map (written_term norms mode) (map state_of terms)
 
   abbrev key_of : TermOfField → List ℕ
   key_of t = (state_of t).key
@@ -65,11 +66,11 @@ module _ (mode : IndexRecordOption) where
   written_keys [] = refl
   written_keys (t ∷ ts) = ap (λ (ks : List (List ℕ)). key_of t ∷ ks) (written_keys ts)
 
-  pub one_more_written : (terms : List TermOfField) (k : ℕ) (d : TermOfField) → k < length terms → all_written (take (k + 1) terms) ≡ all_written (take k terms) ++ written_term mode (state_of (get_or terms k d)) ∷ []
+  pub one_more_written : (terms : List TermOfField) (k : ℕ) (d : TermOfField) → k < length terms → all_written (take (k + 1) terms) ≡ all_written (take k terms) ++ written_term norms mode (state_of (get_or terms k d)) ∷ []
   one_more_written terms k d inside =
       ap all_written (take_more terms k d inside)
-      ∙ ap (map (written_term mode)) (map-append state_of (take k terms) (get_or terms k d ∷ []))
-      ∙ map-append (written_term mode) (map state_of (take k terms)) (state_of (get_or terms k d) ∷ [])
+      ∙ ap (map (written_term norms mode)) (map-append state_of (take k terms) (get_or terms k d ∷ []))
+      ∙ map-append (written_term norms mode) (map state_of (take k terms)) (state_of (get_or terms k d) ∷ [])
 
   -- the next key is above the ones before it
   pub next_above : (terms : List TermOfField) (k : ℕ) (d : TermOfField) (keys : List (List ℕ)) → k < length terms → AreAscending (map key_of terms)
@@ -80,18 +81,18 @@ module _ (mode : IndexRecordOption) where
       ap (map key_of) (take_more terms k d inside) ∙ map-append key_of (take k terms) (get_or terms k d ∷ []) ∙ ap (λ (ks : List (List ℕ)). ks ++ key_of (get_or terms k d) ∷ []) (sym before) in
       subst AreAscending (take-map key_of (k + 1) terms ∙ all) (ascend_taken (slice_cmp nat_cmp) (k + 1) (map key_of terms) ascending)
 
-pub writable_at : (terms : List TermOfField) (k : ℕ) (d : TermOfField) → k < length terms → AllByRecursion IsWritable (map state_of terms) → IsWritable (state_of (get_or terms k d))
-writable_at [] k d inside all = absurd (omega (arith, inside))
-writable_at (t ∷ ts) zero d inside all = all.0
-writable_at (t ∷ ts) (suc k) d inside all = writable_at ts k d (omega (arith, inside)) all.1
+pub writable_at : (norms : Option Norms) (terms : List TermOfField) (k : ℕ) (d : TermOfField) → k < length terms → AllByRecursion (IsWritable norms) (map state_of terms) → IsWritable norms (state_of (get_or terms k d))
+writable_at norms [] k d inside all = absurd (omega (arith, inside))
+writable_at norms (t ∷ ts) zero d inside all = all.0
+writable_at norms (t ∷ ts) (suc k) d inside all = writable_at norms ts k d (omega (arith, inside)) all.1
 
 -- and one more is written as its field records it
-pub next_written : (first entries : List SchemaEntry) (field : ℕ) (terms : List TermOfField) (k : ℕ) (t : TermOfField) → k < length terms → t ≡ get_or terms k t → entries ≡ first
-    → all_written (option_of first field) (take k terms) ++ written_term (option_of entries field) (state_of t) ∷ [] ≡ all_written (option_of first field) (take (k + 1) terms)
-next_written first entries field terms k t inside is same =
-    let here : written_term (option_of entries field) (state_of t) ≡ written_term (option_of first field) (state_of (get_or terms k t)) =
-    ap (λ (es : List SchemaEntry). written_term (option_of es field) (state_of t)) same ∙ ap (λ (u : TermOfField). written_term (option_of first field) (state_of u)) is in
-    ap (λ (u : WrittenTerm). all_written (option_of first field) (take k terms) ++ u ∷ []) here ∙ sym (one_more_written (option_of first field) terms k t inside)
+pub next_written : (norms : Option Norms) (first entries : List SchemaEntry) (field : ℕ) (terms : List TermOfField) (k : ℕ) (t : TermOfField) → k < length terms → t ≡ get_or terms k t → entries ≡ first
+    → all_written norms (option_of first field) (take k terms) ++ written_term norms (option_of entries field) (state_of t) ∷ [] ≡ all_written norms (option_of first field) (take (k + 1) terms)
+next_written norms first entries field terms k t inside is same =
+    let here : written_term norms (option_of entries field) (state_of t) ≡ written_term norms (option_of first field) (state_of (get_or terms k t)) =
+    ap (λ (es : List SchemaEntry). written_term norms (option_of es field) (state_of t)) same ∙ ap (λ (u : TermOfField). written_term norms (option_of first field) (state_of u)) is in
+    ap (λ (u : WrittenTerm). all_written norms (option_of first field) (take k terms) ++ u ∷ []) here ∙ sym (one_more_written norms (option_of first field) terms k t inside)
 
 pub one_more_told : (mode : IndexRecordOption) (terms : List TermOfField) (k : ℕ) (t : TermOfField) → k < length terms → t ≡ get_or terms k t → IsTold mode (state_of t) → AllByRecursion (IsTold mode) (map state_of (take k terms))
     → AllByRecursion (IsTold mode) (map state_of (take (k + 1) terms))

@@ -1,8 +1,8 @@
 -- Terms in the order of their bytes.
-use Rattle.std.proofs.Common.{length, length-append, ◌≤◌, Option, Some, Result, Ok, Err, IfOk, None, zero, suc, ◌+◌, ◌<◌, ◌^◌, ◌++◌, drop, filter, nat_eq, arith, ◌≡◌, ℕ, Bool, true, false, List, [], ◌∷◌, map, refl, sym, ap, ◌∙◌, subst, Vec}
+use Rattle.std.proofs.Common.{zero-add, length, length-append, ◌≤◌, Option, Some, Result, Ok, Err, IfOk, None, zero, suc, ◌+◌, ◌<◌, ◌^◌, ◌++◌, drop, filter, nat_eq, arith, ◌≡◌, ℕ, Bool, true, false, List, [], ◌∷◌, map, refl, sym, ap, ◌∙◌, subst, Vec}
 use Rattle.std.proofs.Common.{Ordering, Less, Equal, Greater}
 use Rattle.std.specs.Ordering.{ordering_reverse}
-use Rattle.std.specs.Prelude.{bytes_eq}
+use Rattle.std.specs.Prelude.{slice_index_or, bytes_eq}
 use Rattle.std.proofs.lemmas.List.Elements.{All-tail}
 use Rattle.std.specs.Prelude.{All, MatchOption, ⊤}
 use Rattle.std.specs.Ordering.{is_eq}
@@ -15,7 +15,7 @@ use Rattle.std.proofs.lemmas.Cmp.{nat_list_eq_equiv}
 use Rattle.std.specs.Cmp.Lexicographic.{bytes_decides, slice_cmp}
 use Rattle.std.specs.Ordering.{nat_cmp}
 use Rattle.ii_postings_writer.specs.IndexingContext.{TermIndex, recorder_of}
-use Rattle.ii_postings_writer.specs.SortedTerms.{AllMayBeWritten, IsTermBelow, IsWritable, MayBeWritten, SortedTerm, terms_in}
+use Rattle.ii_postings_writer.specs.SortedTerms.{norms_in, term_of, AllMayBeWritten, IsTermBelow, IsWritable, MayBeWritten, SortedTerm, terms_in}
 use Rattle.ii_postings_writer.proofs.TermLemmas.{length_field}
 use Rattle.ii_postings_writer.specs.IndexingTerm.{AreTermBytes, field_bytes, field_in}
 use Rattle.std.specs.Map.{lookup}
@@ -26,6 +26,8 @@ use Rattle.std.proofs.lemmas.Map.Text.{is_eq-slice_cmp}
 use Rattle.std.proofs.lemmas.List.Kept.{IsStrictlySortedBy-dedup, IsStrictlySortedBy-filter}
 use Rattle.std.proofs.lemmas.Bool.{eqb-true}
 use Rattle.std.proofs.lemmas.Map.Keys.{IsDistinct-head, IsDistinct-tail}
+use Rattle.ii_io.specs.Composite.{Body}
+use Rattle.std.proofs.lemmas.List.FromFn.{get_or-map-range_with_len}
 
 module _ {K : Type 0} (E : K → K → Bool) (flips : (x y : K) → E x y ≡ E y x) where
   dedup_from_distinct : (k : K) (ks : List K) → IsDistinct E (k ∷ ks) → dedup_from E k ks ≡ k ∷ ks
@@ -224,34 +226,34 @@ all_mapped P Q f [] all = tt
 all_mapped P Q f (x ∷ xs) all = (f x all.0, all_mapped P Q f xs all.1)
 
 -- the fields of terms that may be written
-pub fields_known : (n : ℕ) (terms : TermIndex) → AllByRecursion (λ (t : List ℕ × RecorderState). MayBeWritten n t.0 t.1) terms → AllByRecursion (λ (t : List ℕ × RecorderState). field_in t.0 < n) terms
-fields_known n terms all = all_mapped (λ (t : List ℕ × RecorderState). MayBeWritten n t.0 t.1) (λ t. field_in t.0 < n) (λ t may. may.known) terms all
+pub fields_known : (n : ℕ) (readers : List Body) (terms : TermIndex) → AllByRecursion (λ (t : List ℕ × RecorderState). MayBeWritten n readers t.0 t.1) terms → AllByRecursion (λ (t : List ℕ × RecorderState). field_in t.0 < n) terms
+fields_known n readers terms all = all_mapped (λ (t : List ℕ × RecorderState). MayBeWritten n readers t.0 t.1) (λ t. field_in t.0 < n) (λ t may. may.known) terms all
 
-pub kept_writable : (n field : ℕ) (terms : TermIndex) → AllByRecursion (λ (t : List ℕ × RecorderState). MayBeWritten n t.0 t.1) terms → AllByRecursion IsWritable (terms_in field terms)
-kept_writable n field [] all = tt
-kept_writable n field (t ∷ ts) all = by_case (lies_in field t.0) refl (kept_writable n field ts all.1)
+pub kept_writable : (n field : ℕ) (readers : List Body) (terms : TermIndex) → AllByRecursion (λ (t : List ℕ × RecorderState). MayBeWritten n readers t.0 t.1) terms → AllByRecursion (IsWritable (norms_in readers field)) (terms_in field terms)
+kept_writable n field readers [] all = tt
+kept_writable n field readers (t ∷ ts) all = by_case (lies_in field t.0) refl (kept_writable n field readers ts all.1)
   where
-    by_case : (b : Bool) → lies_in field t.0 ≡ b → AllByRecursion IsWritable (terms_in field ts) → AllByRecursion IsWritable (terms_in field (t ∷ ts))
-    by_case true is rest = rw is (all.0.writable, rest)
+    by_case : (b : Bool) → lies_in field t.0 ≡ b → AllByRecursion (IsWritable (norms_in readers field)) (terms_in field ts) → AllByRecursion (IsWritable (norms_in readers field)) (terms_in field (t ∷ ts))
+    by_case true is rest = rw is (subst (λ (f : ℕ). IsWritable (norms_in readers f) (term_of t)) (eqb-true (field_in t.0) field is) all.0.writable, rest)
     by_case false is rest = rw is rest
 
 -- and the terms of each field
-pub all_writable : (n first count : ℕ) (terms : TermIndex) → AllByRecursion (λ (t : List ℕ × RecorderState). MayBeWritten n t.0 t.1) terms
-    → AllByRecursion (λ (ts : List SortedTerm). AllByRecursion IsWritable ts) (map (λ (field : ℕ). terms_in field terms) (range_with_len first count))
-all_writable n first zero terms all = tt
-all_writable n first (suc count) terms all = (kept_writable n first terms all, all_writable n (first + 1) count terms all)
+pub all_writable : (n count field : ℕ) (readers : List Body) (terms : TermIndex) → AllByRecursion (λ (t : List ℕ × RecorderState). MayBeWritten n readers t.0 t.1) terms → field < count
+    → AllByRecursion (IsWritable (norms_in readers field)) (slice_index_or (map (λ (field : ℕ). terms_in field terms) (range_with_len 0 count)) field [])
+all_writable n count field readers terms all inside =
+    subst (AllByRecursion (IsWritable (norms_in readers field))) (sym (get_or-map-range_with_len (λ (f : ℕ). terms_in f terms) 0 count field field [] inside (zero-add field))) (kept_writable n field readers terms all)
 
 -- terms that may be written may be so in their order
-pub each_may_be : (n : ℕ) (terms sorted : TermIndex) → ((bytes : List ℕ) → recorder_of sorted bytes ≡ recorder_of terms bytes) → IsStrictlySortedBy (slice_cmp nat_cmp) (map (λ (t : List ℕ × RecorderState). t.0) sorted)
-    → AllByRecursion AreTermBytes (keys_of sorted) → AllMayBeWritten n terms → AllByRecursion (λ (t : List ℕ × RecorderState). MayBeWritten n t.0 t.1) sorted
-each_may_be n terms sorted same ascending whole may = both sorted (each_by_lookup (λ bytes r. AreTermBytes bytes → MayBeWritten n bytes r) sorted ascending (λ bytes. where_found bytes (recorder_of sorted bytes) (same bytes))) whole
+pub each_may_be : (n : ℕ) (readers : List Body) (terms sorted : TermIndex) → ((bytes : List ℕ) → recorder_of sorted bytes ≡ recorder_of terms bytes) → IsStrictlySortedBy (slice_cmp nat_cmp) (map (λ (t : List ℕ × RecorderState). t.0) sorted)
+    → AllByRecursion AreTermBytes (keys_of sorted) → AllMayBeWritten n readers terms → AllByRecursion (λ (t : List ℕ × RecorderState). MayBeWritten n readers t.0 t.1) sorted
+each_may_be n readers terms sorted same ascending whole may = both sorted (each_by_lookup (λ bytes r. AreTermBytes bytes → MayBeWritten n readers bytes r) sorted ascending (λ bytes. where_found bytes (recorder_of sorted bytes) (same bytes))) whole
   where
-    where_found : (bytes : List ℕ) (o : Option RecorderState) → o ≡ recorder_of terms bytes → MatchOption o ⊤ (λ r. AreTermBytes bytes → MayBeWritten n bytes r)
+    where_found : (bytes : List ℕ) (o : Option RecorderState) → o ≡ recorder_of terms bytes → MatchOption o ⊤ (λ r. AreTermBytes bytes → MayBeWritten n readers bytes r)
     where_found bytes None is = tt
     where_found bytes (Some r) is = λ are.
-        let here : MatchOption (recorder_of terms bytes) ⊤ (MayBeWritten n bytes) = subst (λ (bs : List ℕ). MatchOption (recorder_of terms bs) ⊤ (MayBeWritten n bs)) (sym are.are) (may are.field (drop 4 bytes) are.small) in
-        subst (λ (o : Option RecorderState). MatchOption o ⊤ (MayBeWritten n bytes)) (sym is) here
+        let here : MatchOption (recorder_of terms bytes) ⊤ (MayBeWritten n readers bytes) = subst (λ (bs : List ℕ). MatchOption (recorder_of terms bs) ⊤ (MayBeWritten n readers bs)) (sym are.are) (may are.field (drop 4 bytes) are.small) in
+        subst (λ (o : Option RecorderState). MatchOption o ⊤ (MayBeWritten n readers bytes)) (sym is) here
 
-    both : (ts : TermIndex) → AllByRecursion (λ (t : List ℕ × RecorderState). AreTermBytes t.0 → MayBeWritten n t.0 t.1) ts → AllByRecursion AreTermBytes (keys_of ts) → AllByRecursion (λ (t : List ℕ × RecorderState). MayBeWritten n t.0 t.1) ts
+    both : (ts : TermIndex) → AllByRecursion (λ (t : List ℕ × RecorderState). AreTermBytes t.0 → MayBeWritten n readers t.0 t.1) ts → AllByRecursion AreTermBytes (keys_of ts) → AllByRecursion (λ (t : List ℕ × RecorderState). MayBeWritten n readers t.0 t.1) ts
     both [] each are = tt
     both (t ∷ ts) each are = (each.0 are.0, both ts each.1 are.1)

@@ -101,11 +101,11 @@ occurs_among field key (t ∷ ts) = by_case (nat_eq t.field field) refl (occurs_
 
 -- a term with these deltas
 abbrev with_deltas : List ℕ → IndexRecordOption → List Entry → List ℕ → WrittenTerm
-with_deltas key kept es deltas = record { key = key; skip_info = kept; docs = docs_of es; freqs = pushed_freqs kept es; deltas = deltas }
+with_deltas key kept es deltas = record { key = key; norms = None; skip_info = kept; docs = docs_of es; freqs = pushed_freqs kept es; deltas = deltas }
 
 -- a term of a field, by what its recorder keeps and has
 abbrev made : IndexRecordOption → List ℕ → IndexRecordOption → List Entry → WrittenTerm
-made mode key kept es = record { key = key; skip_info = if has_freq kept then mode else Basic; docs = docs_of es; freqs = pushed_freqs kept es; deltas = if has_positions mode then pushed_deltas es else [] }
+made mode key kept es = record { key = key; norms = None; skip_info = if has_freq kept then mode else Basic; docs = docs_of es; freqs = pushed_freqs kept es; deltas = if has_positions mode then pushed_deltas es else [] }
 
 documents_alone : (es : List Entry) → pushed_deltas (map (cut_entry Basic) es) ≡ []
 documents_alone [] = refl
@@ -132,7 +132,7 @@ made_of_kind mode kind key es (inr basic) =
     subst (λ (k : IndexRecordOption). made mode key k (map (cut_entry k) es) ≡ with_deltas key k (map (cut_entry k) es) (pushed_deltas (map (cut_entry k) es))) (sym basic) (made_of_documents mode key es)
 
 -- a recorder with the postings of a key is written as that key
-key_written : (mode : IndexRecordOption) (field : ℕ) (ts : List IndexToken) (s : SortedTerm) → HasPostings (kind_of mode (tokens_at field s.key ts)) (tokens_at field s.key ts) s.recorder → written_term mode s ≡ key_term mode field ts s.key
+key_written : (mode : IndexRecordOption) (field : ℕ) (ts : List IndexToken) (s : SortedTerm) → HasPostings (kind_of mode (tokens_at field s.key ts)) (tokens_at field s.key ts) s.recorder → written_term None mode s ≡ key_term mode field ts s.key
 key_written mode field ts s has =
     let tokens = tokens_at field s.key ts in
     ap (λ (o : IndexRecordOption). made mode s.key o (entries_of_recorder s.recorder)) has.kept
@@ -160,13 +160,13 @@ module _ (mode : IndexRecordOption) (field : ℕ) (sorted : TermIndex) (ts : Lis
   all_found : AllByRecursion IsFound (terms_in field sorted)
   all_found = found_in field sorted sorted h.whole (each_found sorted h.ascending)
 
-  terms_written : (ss : List SortedTerm) → AllByRecursion IsFound ss → map (written_term mode) ss ≡ map (key_term mode field ts) (keys_in ss)
+  terms_written : (ss : List SortedTerm) → AllByRecursion IsFound ss → map (written_term None mode) ss ≡ map (key_term mode field ts) (keys_in ss)
   terms_written [] found = refl
   terms_written (s ∷ ss) found =
-      let here : written_term mode s ≡ key_term mode field ts s.key = key_written mode field ts s (subst (Has s.key) found.0 (h.records s.key)) in
+      let here : written_term None mode s ≡ key_term mode field ts s.key = key_written mode field ts s (subst (Has s.key) found.0 (h.records s.key)) in
       rw (here, terms_written ss found.1) refl
 
-  any_key : (key : List ℕ) (ss : List SortedTerm) → list_any (λ (t : WrittenTerm). bytes_eq key t.key) (map (written_term mode) ss) ≡ list_any (bytes_eq key) (keys_in ss)
+  any_key : (key : List ℕ) (ss : List SortedTerm) → list_any (λ (t : WrittenTerm). bytes_eq key t.key) (map (written_term None mode) ss) ≡ list_any (bytes_eq key) (keys_in ss)
   any_key key [] = refl
   any_key key (s ∷ ss) = ap (λ (b : Bool). bytes_eq key s.key || b) (any_key key ss)
 
@@ -190,7 +190,7 @@ module _ (mode : IndexRecordOption) (field : ℕ) (sorted : TermIndex) (ts : Lis
       by_case None absent = no_key key (terms_in field sorted) absent all_found ∙ sym (none_occurred field key ts (subst (Has key) absent (h.records key)))
       by_case (Some r) found =
           let occurred : occurs field key ts ≡ true = recorder_occurred mode field key ts r (subst (Has key) found (h.records key)) in
-          sym (any_key key (terms_in field sorted)) ∙ found_has_key mode field key r sorted h.small found ∙ sym occurred
+          sym (any_key key (terms_in field sorted)) ∙ found_has_key None mode field key r sorted h.small found ∙ sym occurred
 
   pub keys_written : keys_in (terms_in field sorted) ≡ field_keys field ts
   keys_written =
@@ -199,5 +199,5 @@ module _ (mode : IndexRecordOption) (field : ℕ) (sorted : TermIndex) (ts : Lis
       ∙ field_keys_are field ts
 
   -- the terms of a field are written as its tokens say
-  pub field_written : map (written_term mode) (terms_in field sorted) ≡ map (key_term mode field ts) (field_keys field ts)
+  pub field_written : map (written_term None mode) (terms_in field sorted) ≡ map (key_term mode field ts) (field_keys field ts)
   field_written = terms_written (terms_in field sorted) all_found ∙ ap (map (key_term mode field ts)) keys_written

@@ -1,11 +1,12 @@
 -- The fields of an index as they are written, one after the other.
-use Rattle.std.specs.Prelude.{◌≡◌, ℕ, ◌<◌, ◌^◌, List, [], ◌∷◌, length, map, MatchOption, ⊤, slice_get, slice_index_or, unwrap_or}
+use Rattle.std.specs.Prelude.{◌≡◌, ℕ, ◌<◌, ◌^◌, List, [], ◌∷◌, length, map, MatchOption, Option, ⊤, slice_get, slice_index_or, unwrap_or}
 use Rattle.std.specs.List.{AllByRecursion, flat_map, range_with_len}
 use Rattle.std.specs.Option.{option_map}
 use Rattle.ii_io.specs.Composite.{Body, body_of}
 use Rattle.ii_io.specs.CompositeWrite.{HasBodies}
 use Rattle.ii_base.specs.Schema.{SchemaEntry}
 use Rattle.ii_definitions.specs.Fields.{option_of}
+use Rattle.ii_fieldnorm.specs.Readers.{Norms}
 use Rattle.ii_recorder.specs.HeldTerms.{HoldsTerms}
 use Rattle.ii_recorder.specs.IndexBodies.{IndexBodiesState}
 use Rattle.ii_recorder.specs.Terms.{FieldBodies, WrittenTerm, field_bodies}
@@ -15,18 +16,19 @@ use Rattle.ii_recorder.specs.Recorded.{RecorderState}
 use Rattle.ii_postings_writer.specs.IndexingContext.{TermIndex, recorder_of}
 use Rattle.ii_postings_writer.specs.IndexingTerm.{AreTermBytes}
 use Rattle.ii_postings_writer.specs.PostingsWriter.{PostingsWriterState}
-use Rattle.ii_postings_writer.specs.SortedTerms.{IsTold, SortedTerm, terms_in, written_term}
+use Rattle.ii_postings_writer.specs.SortedTerms.{IsTold, SortedTerm, norms_in, terms_in, written_term}
 use Rattle.ii_postings_writer.specs.TermLimits.{AreWithin}
 
--- A field that is written: how many tokens it has, and its terms.
+-- A field that is written: how many tokens it has, its norms, and its terms.
 pub record FieldPart : Type 0 where
   pub field : ℕ
   pub tokens : ℕ
+  pub norms : Option Norms
   pub terms : List SortedTerm
 
 -- the terms of a field, as they are written
 abbrev pub written_terms : List SchemaEntry → FieldPart → List WrittenTerm
-written_terms entries p = map (written_term (option_of entries p.field)) p.terms
+written_terms entries p = map (written_term p.norms (option_of entries p.field)) p.terms
 
 -- the three bodies of a field
 abbrev pub bodies_of : List SchemaEntry → FieldPart → FieldBodies
@@ -58,30 +60,30 @@ pub record HasFields (entries : List SchemaEntry) (initial now : IndexBodiesStat
   pub held : AllByRecursion (HoldsPart entries) fs
 
 -- a field is written where it has terms
-abbrev pub parts_of : List SchemaEntry → ℕ → ℕ → List SortedTerm → List FieldPart
-parts_of entries field tokens [] = []
-parts_of entries field tokens (t ∷ ts) = record { field = field; tokens = tokens; terms = t ∷ ts } ∷ []
+abbrev pub parts_of : List SchemaEntry → ℕ → ℕ → Option Norms → List SortedTerm → List FieldPart
+parts_of entries field tokens norms [] = []
+parts_of entries field tokens norms (t ∷ ts) = record { field = field; tokens = tokens; norms = norms; terms = t ∷ ts } ∷ []
 
 -- how many tokens the writer of a field had
 abbrev pub tokens_in : List PostingsWriterState → ℕ → ℕ
 tokens_in writers field = unwrap_or (option_map (λ (w : PostingsWriterState). w.total_num_tokens) (slice_get writers field)) 0
 
 -- the first so many fields as they are written
-abbrev pub first_parts : List SchemaEntry → List PostingsWriterState → List (List SortedTerm) → ℕ → List FieldPart
-first_parts entries writers terms n = flat_map (λ (field : ℕ). parts_of entries field (tokens_in writers field) (slice_index_or terms field [])) (range_with_len 0 n)
+abbrev pub first_parts : List SchemaEntry → List PostingsWriterState → List Body → List (List SortedTerm) → ℕ → List FieldPart
+first_parts entries writers readers terms n = flat_map (λ (field : ℕ). parts_of entries field (tokens_in writers field) (norms_in readers field) (slice_index_or terms field [])) (range_with_len 0 n)
 
 -- Norms for which each count of documents has 32 bits.
 abbrev pub AreShortNorms : List Body → Type 0
 AreShortNorms norms = (field : ℕ) → MatchOption (body_of field norms) ⊤ (λ ids. length ids < 2 ^ 32)
 
 -- The terms of a context were written in this order, those of each field in the order of their keys.
-pub record WroteTerms (old new : IndexSerializerState) (writers : List PostingsWriterState) (terms sorted : TermIndex) : Type 0 where
+pub record WroteTerms (old new : IndexSerializerState) (writers : List PostingsWriterState) (readers : List Body) (terms sorted : TermIndex) : Type 0 where
   pub same : (bytes : List ℕ) → recorder_of sorted bytes ≡ recorder_of terms bytes
   pub ascending : AreAscending (map (λ (t : List ℕ × RecorderState). t.0) sorted)
   pub whole : AllByRecursion AreTermBytes (map (λ (t : List ℕ × RecorderState). t.0) sorted)
-  pub fields : HasFields old.entries old.bodies new.bodies (first_parts old.entries writers (map (λ (field : ℕ). terms_in field sorted) (range_with_len 0 (length old.entries))) (length old.entries))
+  pub fields : HasFields old.entries old.bodies new.bodies (first_parts old.entries writers readers (map (λ (field : ℕ). terms_in field sorted) (range_with_len 0 (length old.entries))) (length old.entries))
 
 -- So they were in some order.
-pub record WroteContext (old new : IndexSerializerState) (writers : List PostingsWriterState) (terms : TermIndex) : Type 0 where
+pub record WroteContext (old new : IndexSerializerState) (writers : List PostingsWriterState) (readers : List Body) (terms : TermIndex) : Type 0 where
   pub sorted : TermIndex
-  pub wrote : WroteTerms old new writers terms sorted
+  pub wrote : WroteTerms old new writers readers terms sorted

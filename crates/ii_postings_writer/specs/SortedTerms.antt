@@ -9,6 +9,10 @@ use Rattle.ii_base.specs.declared.schema.index_record_option.IndexRecordOption.{
 use Rattle.ii_base.specs.declared.schema.index_record_option.IndexRecordOption.TheVariants.{Basic}
 use Rattle.ii_base.specs.Options.{has_freq, has_positions}
 use Rattle.ii_base.specs.Entries.{are_documents, docs_of}
+use Rattle.ii_fieldnorm.specs.Readers.{Norms, norms_of_ids}
+use Rattle.ii_io.specs.Composite.{Body, body_of}
+use Rattle.ii_layout.specs.Bounds.{Covers}
+use Rattle.std.specs.Option.{option_map}
 use Rattle.ii_recorder.specs.Pushed.{FillTooLarge, HaveDeltas, pushed_deltas, pushed_freqs}
 use Rattle.ii_recorder.specs.Recorded.{RecorderState, entries_of_recorder}
 use Rattle.ii_recorder.specs.Terms.{WrittenTerm}
@@ -47,34 +51,44 @@ pub record IsTermBelow (num_fields : ℕ) (t : List ℕ × RecorderState) : Type
   pub long : 4 ≤ length t.0
   pub known : field_in t.0 < num_fields
 
--- a term as it is written in a field that records by a mode
-abbrev pub written_term : IndexRecordOption → SortedTerm → WrittenTerm
-written_term mode t =
+-- as which option the entries of a term stand, in a field that records by a mode
+abbrev pub term_option : IndexRecordOption → SortedTerm → IndexRecordOption
+term_option mode t = if has_freq t.recorder.option then mode else Basic
+
+-- a term as it is written in a field of these norms that records by a mode
+abbrev pub written_term : Option Norms → IndexRecordOption → SortedTerm → WrittenTerm
+written_term norms mode t =
     let es = entries_of_recorder t.recorder in
     record {
       key = t.key;
-      skip_info = if has_freq t.recorder.option then mode else Basic;
+      norms = norms;
+      skip_info = term_option mode t;
       docs = docs_of es;
       freqs = pushed_freqs t.recorder.option es;
       deltas = if has_positions mode then pushed_deltas es else [];
     }
 
--- A term may be written: its documents ascend, and have counts where these are kept.
-pub record IsWritable (t : SortedTerm) : Type 0 where
+-- the norms of a field, if it has some
+abbrev pub norms_in : List Body → ℕ → Option Norms
+norms_in readers field = option_map norms_of_ids (body_of field readers)
+
+-- A term may be written in a field of these norms: its documents ascend, have counts where these are kept, and the norms answer for them.
+pub record IsWritable (norms : Option Norms) (t : SortedTerm) : Type 0 where
   pub ascending : IsTrue (are_documents (docs_of (entries_of_recorder t.recorder)))
   pub counted : IsTrue (has_freq t.recorder.option) → AllByRecursion (λ n. 0 < n) (pushed_freqs t.recorder.option (entries_of_recorder t.recorder))
+  pub covered : AllByRecursion (Covers norms) (docs_of (entries_of_recorder t.recorder))
 
 -- What was told of a term that was written: its counts have 32 bits, no block of them is too large, and its deltas give its positions back.
 pub record IsTold (mode : IndexRecordOption) (t : SortedTerm) : Type 0 where
-  pub small : ¬ FillTooLarge (written_term mode t).skip_info [] (pushed_freqs t.recorder.option (entries_of_recorder t.recorder))
+  pub small : ¬ FillTooLarge (term_option mode t) [] (pushed_freqs t.recorder.option (entries_of_recorder t.recorder))
   pub fit : AllByRecursion (λ n. n < 2 ^ 32) (pushed_freqs t.recorder.option (entries_of_recorder t.recorder))
   pub located : IsTrue (has_positions t.recorder.option) → HaveDeltas (entries_of_recorder t.recorder)
 
--- What a context keeps of a term may be written, in one of so many fields.
-pub record MayBeWritten (num_fields : ℕ) (bytes : List ℕ) (r : RecorderState) : Type 0 where
+-- What a context keeps of a term may be written, in one of so many fields, whose norms are given.
+pub record MayBeWritten (num_fields : ℕ) (readers : List Body) (bytes : List ℕ) (r : RecorderState) : Type 0 where
   pub known : field_in bytes < num_fields
-  pub writable : IsWritable (record { key = drop 4 bytes; recorder = r })
+  pub writable : IsWritable (norms_in readers (field_in bytes)) (record { key = drop 4 bytes; recorder = r })
 
 -- Each term of the context may be written.
-abbrev pub AllMayBeWritten : ℕ → TermIndex → Type 0
-AllMayBeWritten num_fields terms = (field : ℕ) (key : List ℕ) → field < 2 ^ 32 → MatchOption (recorder_of terms (field_bytes field ++ key)) ⊤ (MayBeWritten num_fields (field_bytes field ++ key))
+abbrev pub AllMayBeWritten : ℕ → List Body → TermIndex → Type 0
+AllMayBeWritten num_fields readers terms = (field : ℕ) (key : List ℕ) → field < 2 ^ 32 → MatchOption (recorder_of terms (field_bytes field ++ key)) ⊤ (MayBeWritten num_fields readers (field_bytes field ++ key))

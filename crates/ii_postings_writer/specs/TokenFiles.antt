@@ -1,5 +1,5 @@
 -- What is written of tokens, and which limits it passes.
-use Rattle.std.specs.Prelude.{ℕ, ◌==◌, List, filter, length, map, nat_lt}
+use Rattle.std.specs.Prelude.{ℕ, ◌==◌, List, filter, length, map, nat_lt, None}
 use Rattle.std.specs.Cmp.Lexicographic.{slice_cmp}
 use Rattle.std.specs.FinMap.{from_entries, keys}
 use Rattle.std.specs.List.{range_with_len}
@@ -20,13 +20,13 @@ use Rattle.ii_postings_writer.specs.TermLimits.{AreWithin, FirstOf, IsWithin, Pa
 abbrev pub field_keys : ℕ → List IndexToken → List (List ℕ)
 field_keys field ts = keys (from_entries {X = Unit {0}} {R = slice_cmp nat_cmp} (map (λ (t : IndexToken). (t.key, tt)) (filter (λ (t : IndexToken). t.field == field) ts)))
 
--- a key of a field that records by a mode, as it is written: its postings, as far as they are kept
+-- a key of a field that records by a mode, as it is written but for bounds, on which no length depends: its postings, as far as they are kept
 abbrev pub key_term : IndexRecordOption → ℕ → List IndexToken → List ℕ → WrittenTerm
 key_term mode field ts key =
     let tokens = tokens_at field key ts in
     let kind = kind_of mode tokens in
     let es = map (cut_entry kind) (grouped tokens) in
-    record { key = key; skip_info = kind; docs = docs_of es; freqs = pushed_freqs kind es; deltas = pushed_deltas es }
+    record { key = key; norms = None; skip_info = kind; docs = docs_of es; freqs = pushed_freqs kind es; deltas = pushed_deltas es }
 
 -- the terms of a field
 abbrev pub field_terms : List SchemaEntry → List IndexToken → ℕ → List WrittenTerm

@@ -4,7 +4,7 @@ use Rattle.std.specs.List.{AllByRecursion, range_with_len}
 use Rattle.ii_io.specs.declared.faults.Fault.{Fault}
 use Rattle.ii_io.specs.declared.faults.Fault.TheVariants.{Limit, OutOfMemory, SerializerClosed, Write}
 use Rattle.ii_io.specs.declared.faults.LimitName.TheVariants as limit
-use Rattle.ii_io.specs.Composite.{bodies_bytes}
+use Rattle.ii_io.specs.Composite.{Body, bodies_bytes}
 use Rattle.ii_base.specs.Schema.{SchemaEntry}
 use Rattle.ii_base.specs.declared.schema.index_record_option.IndexRecordOption.{IndexRecordOption}
 use Rattle.ii_definitions.specs.Fields.{option_of}
@@ -65,12 +65,12 @@ IsPartsFault entries initial ps fault =
     IsFaultBy (FirstInParts (λ mode. HasLargeSum) entries ps) (FirstInParts IsLong entries ps) (OneIsFull initial (all_bodies entries ps) ⊎ FirstPartEnds entries ps) fault
 
 -- Why the terms of a context can't be written: its parts, in the order in which WroteTerms has them, can't be.
-pub record IsContextFault (old : IndexSerializerState) (writers : List PostingsWriterState) (terms : TermIndex) (fault : Fault) : Type 0 where
+pub record IsContextFault (old : IndexSerializerState) (writers : List PostingsWriterState) (readers : List Body) (terms : TermIndex) (fault : Fault) : Type 0 where
   pub sorted : TermIndex
   pub same : (bytes : List ℕ) → recorder_of sorted bytes ≡ recorder_of terms bytes
   pub ascending : AreAscending (map (λ (t : List ℕ × RecorderState). t.0) sorted)
   pub whole : AllByRecursion AreTermBytes (map (λ (t : List ℕ × RecorderState). t.0) sorted)
-  pub cause : IsPartsFault old.entries old.bodies (first_parts old.entries writers (map (λ (field : ℕ). terms_in field sorted) (range_with_len 0 (length old.entries))) (length old.entries)) fault
+  pub cause : IsPartsFault old.entries old.bodies (first_parts old.entries writers readers (map (λ (field : ℕ). terms_in field sorted) (range_with_len 0 (length old.entries))) (length old.entries)) fault
 
 -- the bodies that are written of tokens, in each of the three files
 abbrev pub bodies_of_tokens : List SchemaEntry → List IndexToken → FieldBodies

@@ -1,6 +1,7 @@
-ghost use Rattle.std.specs.Prelude.{◌≡◌, ◌≤◌, ◌<◌, ◌++◌, ◌∷◌, ◌^◌, ◌⊎◌, ◌↔◌, ℕ, List, [], false, length, map, IsTrue, IfErr, IfOk, IsErrOf, OnErr, OnOk};
+ghost use Rattle.std.specs.Prelude.{◌≡◌, ◌≤◌, ◌<◌, ◌++◌, ◌∷◌, ◌^◌, ◌⊎◌, ◌↔◌, ℕ, List, [], false, length, map, IsTrue, IfErr, IfOk, IsErrOf, OnErr, OnOk, Option, slice_index_or};
 ghost use Rattle.std.specs.List.{AllByRecursion};
 ghost use Rattle.ii_io.specs.CountingWriter.{Closes};
+ghost use Rattle.ii_fieldnorm.specs.Readers.{Norms};
 ghost use Rattle.ii_termdict.specs.ReadBack.{AreAscending};
 ghost use Rattle.ii_definitions.specs.Fields.{option_of};
 ghost use Rattle.ii_recorder.specs.AnyRecorder.{any_state};
@@ -14,7 +15,7 @@ ghost use Rattle.ii_definitions.specs.JsonKeys.{is_json};
 ghost use Rattle.ii_io.specs.Faults.{OnlyMemory};
 ghost use Rattle.ii_postings_writer.specs.HeldBodies.{HaveTokens, WroteTokens};
 ghost use Rattle.ii_postings_writer.specs.ResolvedTerms.{AreClean, HaveHeldTokens, HaveUnlessMemory, HoldIds, json_fields, resolved_terms};
-ghost use Rattle.ii_postings_writer.specs.SortedTerms.{AllMayBeWritten, IsTold, IsWritable, SortedTerm, state_of, written_term};
+ghost use Rattle.ii_postings_writer.specs.SortedTerms.{AllMayBeWritten, IsTold, IsWritable, SortedTerm, norms_in, state_of, written_term};
 ghost use Rattle.ii_postings_writer.specs.TermLimits.{AreWithin};
 ghost use Rattle.ii_postings_writer.specs.WriteFaults.{ClosesOrStays, IsContextFault, IsPartFault, IsPartsFault, IsTermFaultAfter, StaysClosed};
 
@@ -41,10 +42,10 @@ fn serialize_under_key<W: Write>(
     requires open { serializer.old.index.now.closed ≡ false }
     requires between { serializer.old.index.now.field.term_open ≡ false }
     requires ascending { AreAscending (serializer.old.index.now.field.places.keys ++ key.now ∷ []) }
-    requires writable { IsWritable (record { key = key.now; recorder = any_state recorder.now }) }
+    requires writable { IsWritable serializer.old.index.now.field.term.norms (record { key = key.now; recorder = any_state recorder.now }) }
     ensures same_reference { serializer.new.index.ghost_name ≡ serializer.old.index.ghost_name }
-    ensures writing { (initial : IndexBodiesState) (field tokens : ℕ) (ts : List WrittenTerm) → IsWriting initial serializer.old.index.now field tokens ts []
-        → OnOk result (IsWriting initial serializer.new.index.now field tokens (ts ++ written_term (option_of serializer.old.index.now.entries field) (record { key = key.now; recorder = any_state recorder.now }) ∷ []) []) }
+    ensures writing { (initial : IndexBodiesState) (field tokens : ℕ) (norms : Option Norms) (ts : List WrittenTerm) → IsWriting initial serializer.old.index.now field tokens norms ts []
+        → OnOk result (IsWriting initial serializer.new.index.now field tokens norms (ts ++ written_term norms (option_of serializer.old.index.now.entries field) (record { key = key.now; recorder = any_state recorder.now }) ∷ []) []) }
     ensures told { OnOk result (IsTold serializer.old.index.now.field.term.mode (record { key = key.now; recorder = any_state recorder.now })) }
     ensures between { OnOk result (serializer.new.index.now.field.term_open ≡ false) }
     ensures closes { Closes result serializer.new.index.now.closed }
@@ -52,9 +53,9 @@ fn serialize_under_key<W: Write>(
     // where it is refused
     ensures failures { CountsFailures serializer.old.index.now.bodies serializer.new.index.now.bodies result }
     ensures grow { AllGrow serializer.old.index.now.bodies serializer.new.index.now.bodies }
-    ensures fault { (initial : IndexBodiesState) (field tokens : ℕ) (ts : List WrittenTerm) → IsWriting initial serializer.old.index.now field tokens ts []
+    ensures fault { (initial : IndexBodiesState) (field tokens : ℕ) (norms : Option Norms) (ts : List WrittenTerm) → IsWriting initial serializer.old.index.now field tokens norms ts []
         → IfErr result (IsTermFaultAfter initial (option_of serializer.old.index.now.entries field) tokens ts
-        (written_term (option_of serializer.old.index.now.entries field) (record { key = key.now; recorder = any_state recorder.now }))) }
+        (written_term norms (option_of serializer.old.index.now.entries field) (record { key = key.now; recorder = any_state recorder.now }))) }
     ensures none { ¬ IsErrOf result Fault.SerializerClosed }
 {
     let doc_freq = recorder.term_doc_freq().unwrap_or(0);
@@ -73,10 +74,10 @@ fn serialize_one_term<W: Write>(
     requires open { serializer.old.index.now.closed ≡ false }
     requires between { serializer.old.index.now.field.term_open ≡ false }
     requires ascending { AreAscending (serializer.old.index.now.field.places.keys ++ (state_of term).key ∷ []) }
-    requires writable { IsWritable (state_of term) }
+    requires writable { IsWritable serializer.old.index.now.field.term.norms (state_of term) }
     ensures same_reference { serializer.new.index.ghost_name ≡ serializer.old.index.ghost_name }
-    ensures writing { (initial : IndexBodiesState) (field tokens : ℕ) (ts : List WrittenTerm) → IsWriting initial serializer.old.index.now field tokens ts []
-        → OnOk result (IsWriting initial serializer.new.index.now field tokens (ts ++ written_term (option_of serializer.old.index.now.entries field) (state_of term.entry) ∷ []) []) }
+    ensures writing { (initial : IndexBodiesState) (field tokens : ℕ) (norms : Option Norms) (ts : List WrittenTerm) → IsWriting initial serializer.old.index.now field tokens norms ts []
+        → OnOk result (IsWriting initial serializer.new.index.now field tokens norms (ts ++ written_term norms (option_of serializer.old.index.now.entries field) (state_of term.entry) ∷ []) []) }
     ensures told { OnOk result (IsTold serializer.old.index.now.field.term.mode (state_of term.entry)) }
     ensures between { OnOk result (serializer.new.index.now.field.term_open ≡ false) }
     ensures closes { Closes result serializer.new.index.now.closed }
@@ -84,9 +85,9 @@ fn serialize_one_term<W: Write>(
     // where it is refused
     ensures failures { CountsFailures serializer.old.index.now.bodies serializer.new.index.now.bodies result }
     ensures grow { AllGrow serializer.old.index.now.bodies serializer.new.index.now.bodies }
-    ensures fault { (initial : IndexBodiesState) (field tokens : ℕ) (ts : List WrittenTerm) → IsWriting initial serializer.old.index.now field tokens ts []
+    ensures fault { (initial : IndexBodiesState) (field tokens : ℕ) (norms : Option Norms) (ts : List WrittenTerm) → IsWriting initial serializer.old.index.now field tokens norms ts []
         → IfErr result (IsTermFaultAfter initial (option_of serializer.old.index.now.entries field) tokens ts
-        (written_term (option_of serializer.old.index.now.entries field) (state_of term.entry))) }
+        (written_term norms (option_of serializer.old.index.now.entries field) (state_of term.entry))) }
     ensures none { ¬ IsErrOf result Fault.SerializerClosed }
 {
     let Some(path) = term.path else {
@@ -113,22 +114,22 @@ fn serialize_field<W: Write>(
     requires known { field < length serializer.old.entries }
     requires lacks { serializer.old.closed ≡ false → LacksField field serializer.old.bodies }
     requires ascending { AreAscending (map (λ t. (state_of t).key) terms.now) }
-    requires writable { AllByRecursion IsWritable (map state_of terms.now) }
+    requires writable { AllByRecursion (IsWritable fieldnorm_reader) (map state_of terms.now) }
     ensures entries { serializer.new.entries ≡ serializer.old.entries }
     ensures closes { Closes result serializer.new.closed }
     ensures closed { IsErrOf result Fault.SerializerClosed ↔ IsTrue serializer.old.closed }
     ensures wrote { OnOk result (AddsBodies serializer.old.bodies serializer.new.bodies field
-        (field_bodies (option_of serializer.old.entries field) total_num_tokens (map (written_term (option_of serializer.old.entries field)) (map state_of terms.now)))) }
+        (field_bodies (option_of serializer.old.entries field) total_num_tokens (map (written_term fieldnorm_reader (option_of serializer.old.entries field)) (map state_of terms.now)))) }
     ensures holds { OnOk result (HoldsTerms (option_of serializer.old.entries field) total_num_tokens
-        (field_bodies (option_of serializer.old.entries field) total_num_tokens (map (written_term (option_of serializer.old.entries field)) (map state_of terms.now)))
-        (map (written_term (option_of serializer.old.entries field)) (map state_of terms.now))) }
+        (field_bodies (option_of serializer.old.entries field) total_num_tokens (map (written_term fieldnorm_reader (option_of serializer.old.entries field)) (map state_of terms.now)))
+        (map (written_term fieldnorm_reader (option_of serializer.old.entries field)) (map state_of terms.now))) }
     ensures told { OnOk result (AllByRecursion (IsTold (option_of serializer.old.entries field)) (map state_of terms.now)) }
-    ensures within { OnOk result (AreWithin (option_of serializer.old.entries field) (map (written_term (option_of serializer.old.entries field)) (map state_of terms.now))) }
+    ensures within { OnOk result (AreWithin (option_of serializer.old.entries field) (map (written_term fieldnorm_reader (option_of serializer.old.entries field)) (map state_of terms.now))) }
     // where it is refused
     ensures failures { CountsFailures serializer.old.bodies serializer.new.bodies result }
     ensures grow { AllGrow serializer.old.bodies serializer.new.bodies }
     ensures fault { IfErr result (λ e. (e ≡ Fault.SerializerClosed)
-        ⊎ IsPartFault serializer.old.entries serializer.old.bodies (record { field = field; tokens = total_num_tokens; terms = map state_of terms.now }) e) }
+        ⊎ IsPartFault serializer.old.entries serializer.old.bodies (record { field = field; tokens = total_num_tokens; norms = fieldnorm_reader; terms = map state_of terms.now }) e) }
     ensures refused { IsTrue serializer.old.closed → serializer.new ≡ serializer.old }
 {
     let mut serializer = serializer.new_field(field, total_num_tokens, fieldnorm_reader)?;
@@ -154,16 +155,16 @@ fn serialize_if_any<W: Write>(
     requires lacks { serializer.old.closed ≡ false → LacksField field serializer.old.bodies }
     requires norms { AreShortNorms norms.now }
     requires ascending { AreAscending (map (λ t. t.key) terms.now) }
-    requires writable { AllByRecursion IsWritable terms.now }
+    requires writable { AllByRecursion (IsWritable (norms_in norms.now field)) terms.now }
     ensures entries { serializer.new.entries ≡ serializer.old.entries }
     ensures closes { OnOk result (serializer.new.closed ≡ serializer.old.closed) }
     ensures wrote { (initial : IndexBodiesState) (fs : List FieldPart) → HasFields serializer.old.entries initial serializer.old.bodies fs
-        → OnOk result (HasFields serializer.old.entries initial serializer.new.bodies (fs ++ parts_of serializer.old.entries field (tokens_in writers.now field) terms.now)) }
+        → OnOk result (HasFields serializer.old.entries initial serializer.new.bodies (fs ++ parts_of serializer.old.entries field (tokens_in writers.now field) (norms_in norms.now field) terms.now)) }
     // where it is refused
     ensures failures { CountsFailures serializer.old.bodies serializer.new.bodies result }
     ensures grow { AllGrow serializer.old.bodies serializer.new.bodies }
     ensures fault { IfErr result (λ e. (e ≡ Fault.SerializerClosed)
-        ⊎ IsPartFault serializer.old.entries serializer.old.bodies (record { field = field; tokens = tokens_in writers.now field; terms = terms.now }) e) }
+        ⊎ IsPartFault serializer.old.entries serializer.old.bodies (record { field = field; tokens = tokens_in writers.now field; norms = norms_in norms.now field; terms = terms.now }) e) }
     ensures some { OnErr result (0 < length terms.now) }
     ensures closed { IsErrOf result Fault.SerializerClosed → IsTrue serializer.old.closed }
     ensures refused { IsTrue serializer.old.closed → StaysClosed (terms.now ≡ []) serializer.old serializer.new result }
@@ -200,17 +201,17 @@ fn serialize_fields<W: Write>(
     requires fresh { HasFields serializer.old.entries serializer.old.bodies serializer.old.bodies [] }
     requires norms { AreShortNorms norms.now }
     requires ascending { AllByRecursion (λ ts. AreAscending (map (λ t. t.key) ts)) terms.now.items }
-    requires writable { AllByRecursion (λ ts. AllByRecursion IsWritable ts) terms.now.items }
+    requires writable { (field : ℕ) → field < length terms.now.items → AllByRecursion (IsWritable (norms_in norms.now field)) (slice_index_or terms.now.items field []) }
     ensures entries { serializer.new.entries ≡ serializer.old.entries }
-    ensures wrote { OnOk result (HasFields serializer.old.entries serializer.old.bodies serializer.new.bodies (first_parts serializer.old.entries writers.now terms.now.items (length terms.now.items))) }
+    ensures wrote { OnOk result (HasFields serializer.old.entries serializer.old.bodies serializer.new.bodies (first_parts serializer.old.entries writers.now norms.now terms.now.items (length terms.now.items))) }
     ensures closes { OnOk result (serializer.new.closed ≡ serializer.old.closed) }
     // where it is refused
     ensures failures { CountsFailures serializer.old.bodies serializer.new.bodies result }
     ensures grow { AllGrow serializer.old.bodies serializer.new.bodies }
     ensures fault { IfErr result (λ e. (e ≡ Fault.SerializerClosed)
-        ⊎ IsPartsFault serializer.old.entries serializer.old.bodies (first_parts serializer.old.entries writers.now terms.now.items (length terms.now.items)) e) }
-    ensures closed { IsErrOf result Fault.SerializerClosed → IsTrue serializer.old.closed × (0 < length (first_parts serializer.old.entries writers.now terms.now.items (length terms.now.items))) }
-    ensures refused { IsTrue serializer.old.closed → StaysClosed (first_parts serializer.old.entries writers.now terms.now.items (length terms.now.items) ≡ []) serializer.old serializer.new result }
+        ⊎ IsPartsFault serializer.old.entries serializer.old.bodies (first_parts serializer.old.entries writers.now norms.now terms.now.items (length terms.now.items)) e) }
+    ensures closed { IsErrOf result Fault.SerializerClosed → IsTrue serializer.old.closed × (0 < length (first_parts serializer.old.entries writers.now norms.now terms.now.items (length terms.now.items))) }
+    ensures refused { IsTrue serializer.old.closed → StaysClosed (first_parts serializer.old.entries writers.now norms.now terms.now.items (length terms.now.items) ≡ []) serializer.old serializer.new result }
     ensures err { IfErr result (ClosesOrStays serializer.old serializer.new) }
 {
     let mut keys = JsonTermSerializer::new(alloc);
@@ -250,8 +251,9 @@ fn holds_json(entry: &FieldEntry) -> bool
 }
 
 /// Writes the terms of a context, the fields that have some in ascending order, with the numbers of
-/// tokens that their writers had. The schema is that of the serializer and of the writers; no field was written yet; each term lies in a field of it, and its documents may be
-/// written.
+/// tokens that their writers had. By the norms of a field, if it has some, the bounds of full blocks are
+/// written. The schema is that of the serializer and of the writers; no field was written yet; each term
+/// lies in a field of it, its documents may be written, and the norms of its field answer for them.
 ///
 /// `Write` where a writer fails, `Limit(Offset)` where a count of a writer would pass `u64::MAX` or the
 /// bytes of all terms of a field pass 2^56, `Limit(TermBytes)` where the postings or the positions of a
@@ -271,11 +273,11 @@ pub fn serialize_postings<W: Write>(
     requires writers { length per_field_postings_writers.now ≡ length schema.now }
     requires fresh { HasFields serializer.old.entries serializer.old.bodies serializer.old.bodies [] }
     requires norms { AreShortNorms fieldnorm_readers.now }
-    requires terms { AllMayBeWritten (length schema.now) ctx.term_index }
+    requires terms { AllMayBeWritten (length schema.now) fieldnorm_readers.now ctx.term_index }
     requires ids { HoldIds (json_fields schema.now) ctx.path_to_unordered_id ctx.term_index }
     requires clean { AreClean ctx.path_to_unordered_id }
     ensures entries { serializer.new.entries ≡ serializer.old.entries }
-    ensures wrote { OnOk result (WroteContext serializer.old serializer.new per_field_postings_writers.now (resolved_terms (json_fields schema.now) ctx.path_to_unordered_id ctx.term_index)) }
+    ensures wrote { OnOk result (WroteContext serializer.old serializer.new per_field_postings_writers.now fieldnorm_readers.now (resolved_terms (json_fields schema.now) ctx.path_to_unordered_id ctx.term_index)) }
     ensures holds { (ts : List IndexToken) → HaveHeldTokens serializer.old.entries ctx.path_to_unordered_id ctx.term_index per_field_postings_writers.now ts → OnOk result (WroteTokens serializer.old serializer.new ts) }
     ensures tokens { (ts : List IndexToken) → HaveHeldTokens serializer.old.entries ctx.path_to_unordered_id ctx.term_index per_field_postings_writers.now ts
         → HaveUnlessMemory (HaveTokens serializer.old.entries (resolved_terms (json_fields schema.now) ctx.path_to_unordered_id ctx.term_index) per_field_postings_writers.now ts) result }
@@ -283,7 +285,7 @@ pub fn serialize_postings<W: Write>(
     // where it is refused
     ensures failures { CountsFailures serializer.old.bodies serializer.new.bodies result }
     ensures grow { AllGrow serializer.old.bodies serializer.new.bodies }
-    ensures fault { IfErr result (λ e. (e ≡ Fault.OutOfMemory) ⊎ (e ≡ Fault.SerializerClosed) ⊎ IsContextFault serializer.old per_field_postings_writers.now (resolved_terms (json_fields schema.now) ctx.path_to_unordered_id ctx.term_index) e) }
+    ensures fault { IfErr result (λ e. (e ≡ Fault.OutOfMemory) ⊎ (e ≡ Fault.SerializerClosed) ⊎ IsContextFault serializer.old per_field_postings_writers.now fieldnorm_readers.now (resolved_terms (json_fields schema.now) ctx.path_to_unordered_id ctx.term_index) e) }
     ensures closed { IsErrOf result Fault.SerializerClosed → IsTrue serializer.old.closed × (0 < length ctx.term_index) }
     ensures refused { IsTrue serializer.old.closed → StaysClosed (ctx.term_index ≡ []) serializer.old serializer.new result }
     ensures err { IfErr result (ClosesOrStays serializer.old serializer.new) }

@@ -1,9 +1,16 @@
 // What bounds blocks, and what a seek by count decodes.
-ghost use Rattle.std.specs.Prelude.{◌≡◌, ◌+◌, ◌-◌, ◌*◌, ◌<◌, ◌≤◌, ◌&&◌, ◌==◌, ℕ, List, drop, filter, not, nat_le, nat_lt, take, true, if◌then◌else◌, Some};
+ghost use Rattle.std.specs.Prelude.{◌≡◌, ◌+◌, ◌-◌, ◌*◌, ◌/◌, ◌<◌, ◌≤◌, ◌⊎◌, ◌&&◌, ◌==◌, ◌++◌, ℕ, List, drop, filter, length, not, nat_le, nat_lt, slice_index, take, true, if◌then◌else◌, IsTrue, Some};
 ghost use Rattle.std.specs.List.{list_all, range_with_len, slice_index_or, sum_by};
 ghost use Rattle.ii_docset.specs.Cursor.{IsTarget, doc_at};
-ghost use Rattle.ii_base.specs.Entries.{Entry};
+ghost use Rattle.ii_base.specs.Entries.{Entry, are_documents};
+ghost use Rattle.ii_base.specs.declared.schema.index_record_option.IndexRecordOption.TheVariants.{WithFreqs};
+ghost use Rattle.ii_fieldnorm.specs.Readers.{id_of_doc};
+ghost use Rattle.ii_layout.specs.Documents.{skip_entry};
+ghost use Rattle.ii_layout.specs.SkipList.{SkipList, skip_list};
+ghost use Rattle.ii_layout.specs.Written.{AreFreqs, written_postings};
 
+use ii_fieldnorm::FieldNormReader;
+use ii_layout::written::bounds_what_is_written;
 use nequllpa::{BlockSegmentPostings, DocId, SegmentPostings};
 
 /// No count of a full block is above the count that bounds it, of which 0 and 255 say nothing.
@@ -25,4 +32,16 @@ pub fn counts_are_sought(cursor: &mut SegmentPostings, target: DocId, least: u32
         (range_with_len (cursor.old.block + 1) (cursor.new.block - cursor.old.block)) }
 {
     cursor.seek_with_freq(target, least)
+}
+
+/// What is written of a term with norms has in the entry of each full block a norm id that isn't above
+/// that of any of its documents, and a count that isn't below any of theirs, or 255.
+pub fn norms_stay_within_bounds(norms: &FieldNormReader)
+    ensures { (docs freqs rest : List ℕ) (skip : SkipList) → IsTrue (are_documents docs) → length docs < 4294967296 → AreFreqs WithFreqs docs freqs
+        → skip_list WithFreqs (length docs / 128) (written_postings (Some norms.now) WithFreqs docs freqs ++ rest) ≡ Some skip
+        → (i k : ℕ) → 128 * i + 128 ≤ length docs → k < 128
+        → ((skip_entry skip.entries i).block_wand_fieldnorm_id ≤ id_of_doc norms.now (slice_index docs (128 * i + k)))
+        × (((skip_entry skip.entries i).block_wand_term_freq ≡ 255) ⊎ (slice_index freqs (128 * i + k) ≤ (skip_entry skip.entries i).block_wand_term_freq)) }
+{
+    bounds_what_is_written();
 }

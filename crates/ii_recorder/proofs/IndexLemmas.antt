@@ -1,5 +1,5 @@
 -- What stands in the files of an index after a term is ended.
-use Rattle.std.proofs.Common.{◌≡◌, ℕ, ◌+◌, ◌^◌, ◌<◌, List, [], ◌∷◌, ◌++◌, length, map, refl, sym, ◌∙◌, ap, arith, length-append, append_assoc, Result, Ok, Err}
+use Rattle.std.proofs.Common.{◌≡◌, ℕ, ◌+◌, ◌^◌, ◌<◌, List, [], ◌∷◌, ◌++◌, length, map, refl, sym, ◌∙◌, ap, arith, length-append, append_assoc, Option, Result, Ok, Err}
 use Rattle.std.specs.Prelude.{OnOk}
 use Rattle.ii_io.specs.declared.faults.Fault.{Fault}
 use Rattle.std.proofs.lemmas.List.{append-nil}
@@ -9,6 +9,7 @@ use Rattle.ii_base.specs.declared.schema.index_record_option.IndexRecordOption.{
 use Rattle.ii_io.specs.CompositeWrite.{CompositeWriteState, AddsBody}
 use Rattle.ii_io.specs.CountingWriterLemmas.{Wrote-trans}
 use Rattle.ii_io.specs.Numbers.{le_bytes}
+use Rattle.ii_fieldnorm.specs.Readers.{Norms}
 use Rattle.ii_termstore.specs.declared.term_info.TermInfo.{TermInfo}
 use Rattle.ii_termstore.specs.TermInfos.{term_info_from}
 use Rattle.ii_recorder.specs.Terms.{IsShort, WrittenTerm, postings_bytes, positions_bytes, positions_body, infos_from, open_bodies, field_bodies}
@@ -91,13 +92,14 @@ bodies_more initial old new field tokens mode ts t h more =
       positions = rw (more_bytes (λ (u : WrittenTerm). positions_bytes mode u.deltas) ts t) positions;
     }
 
-pub term_ended : (initial : IndexBodiesState) (old new : IndexSerializerState) (field tokens : ℕ) (ts : List WrittenTerm) (key : List ℕ) → IsWriting initial old field tokens ts (key ∷ [])
-    → EndsTerm old.field new.field → AddsMore old.bodies new.bodies (bytes_of old.field.term) → new.entries ≡ old.entries → IsWriting initial new field tokens (ts ++ term_under key old.field.term ∷ []) []
-term_ended initial old new field tokens ts key h ends more same =
+pub term_ended : (initial : IndexBodiesState) (old new : IndexSerializerState) (field tokens : ℕ) (norms : Option Norms) (ts : List WrittenTerm) (key : List ℕ) → IsWriting initial old field tokens norms ts (key ∷ [])
+    → EndsTerm old.field new.field → AddsMore old.bodies new.bodies (bytes_of old.field.term) → new.entries ≡ old.entries → IsWriting initial new field tokens norms (ts ++ term_under key old.field.term ∷ []) []
+term_ended initial old new field tokens norms ts key h ends more same =
     let t = term_under key old.field.term in
     record {
       counted = h.counted;
       mode = rw (ends.mode, same) h.mode;
+      norms_are = ends.norms ∙ h.norms_are;
       bodies = rw ends.mode (bodies_more initial old.bodies new.bodies field tokens old.field.term.mode ts t h.bodies more);
       terms = rw ends.mode (has_terms_more old.field.term.mode old.field.places new.field.places ts t h.terms ends.places ends.short ends.within);
     }

@@ -1,7 +1,7 @@
 -- Entries that are pushed one after the other.
 use Rattle.std.proofs.Common.{◌^◌, ◌≡◌, ℕ, ◌+◌, ◌-◌, ◌<◌, ◌≤◌, Bool, true, false, if◌then◌else◌, List, [], ◌∷◌, ◌++◌, length, take, Result, Ok, Err, is_err, refl, sym, ap, subst, ◌∙◌, arith, append_assoc, length-append, ⊎_elim}
 use Rattle.std.proofs.lemmas.Bool.{and_parts, cases_lt, ltb-true}
-use Rattle.std.specs.Prelude.{◌&&◌, nat_le, nat_lt, IsTrue, IsErrOf, OnOk}
+use Rattle.std.specs.Prelude.{◌&&◌, nat_le, nat_lt, Option, IsTrue, IsErrOf, OnOk}
 use Rattle.std.specs.List.{AllByRecursion}
 use Rattle.std.proofs.lemmas.Grind.{flat_map-append}
 use Rattle.std.proofs.lemmas.List.{map-append, take-append-le}
@@ -11,6 +11,8 @@ use Rattle.ii_io.specs.declared.faults.Fault.TheVariants.{SerializerClosed}
 use Rattle.ii_base.specs.declared.schema.index_record_option.IndexRecordOption.{IndexRecordOption}
 use Rattle.ii_base.specs.Options.{has_freq, has_positions}
 use Rattle.ii_base.specs.declared.doc_id.TheConstants.{TERMINATED}
+use Rattle.ii_fieldnorm.specs.Readers.{Norms}
+use Rattle.ii_layout.specs.Bounds.{Covers}
 use Rattle.ii_codes.specs.Sums.{differences}
 use Rattle.ii_base.specs.Entries.{Entry, ascend_from, docs_of}
 use Rattle.ii_recorder.specs.IndexBodies.{IndexBodiesState}
@@ -129,6 +131,7 @@ may_push_first option s xs ys h = record {
       let all = rw (map-append (λ (e : Entry). e.doc) xs ys, ← append_assoc s.field.term.docs (docs_of xs) (docs_of ys)) at (h.ascending e) in
       ascend_front 0 (s.field.term.docs ++ docs_of xs) (docs_of ys) all;
   counted = λ e has. all_front (λ n. 0 < n) (pushed_freqs option xs) (pushed_freqs option ys) (rw (map-append (λ (e : Entry). if has_freq option then e.term_freq else 0) xs ys) at (h.counted e has));
+  covered = λ e. all_front (Covers s.field.term.norms) (docs_of xs) (docs_of ys) (rw (map-append (λ (e : Entry). e.doc) xs ys) at (h.covered e));
 }
 
 pub may_push_then : (option : IndexRecordOption) (s b : IndexSerializerState) (xs ys : List Entry) → MayPush option s (xs ++ ys) → Pushes option s b xs (Ok tt) → MayPush option b ys
@@ -138,6 +141,7 @@ may_push_then option s b xs ys h k =
       inside = h.inside;
       ascending = λ e. rw (append_assoc s.field.term.docs (docs_of xs) (docs_of ys), ← map-append (λ (e : Entry). e.doc) xs ys) (h.ascending e);
       counted = λ e has. all_back (λ n. 0 < n) (pushed_freqs option xs) (pushed_freqs option ys) (rw (map-append (λ (e : Entry). if has_freq option then e.term_freq else 0) xs ys) at (h.counted e has));
+      covered = λ e. all_back (Covers s.field.term.norms) (docs_of xs) (docs_of ys) (rw (map-append (λ (e : Entry). e.doc) xs ys) at (h.covered e));
     })
 
 -- the next entry may be pushed
@@ -205,6 +209,6 @@ went_ok (Ok u) went h = h
 went_ok (Err e) went h = absurd (cc)
 
 -- what was written of a field stays as it is
-pub writing_pushed : (option : IndexRecordOption) (initial : IndexBodiesState) (s : IndexSerializerState) (es : List Entry) (field tokens : ℕ) (ts : List WrittenTerm) (pending : List (List ℕ)) → IsWriting initial s field tokens ts pending
-    → IsWriting initial (with_entries option s es) field tokens ts pending
-writing_pushed option initial s es field tokens ts pending h = record { counted = h.counted; mode = h.mode; bodies = h.bodies; terms = h.terms }
+pub writing_pushed : (option : IndexRecordOption) (initial : IndexBodiesState) (s : IndexSerializerState) (es : List Entry) (field tokens : ℕ) (norms : Option Norms) (ts : List WrittenTerm) (pending : List (List ℕ)) → IsWriting initial s field tokens norms ts pending
+    → IsWriting initial (with_entries option s es) field tokens norms ts pending
+writing_pushed option initial s es field tokens norms ts pending h = record { counted = h.counted; mode = h.mode; norms_are = h.norms_are; bodies = h.bodies; terms = h.terms }

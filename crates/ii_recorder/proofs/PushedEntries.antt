@@ -73,15 +73,15 @@ counts_are WithFreqs es e = absurd (cc)
 counts_are WithFreqsAndPositions es e = refl
 
 pub reads_entries_back : ReadsTermBack → ReadsEntriesBack
-reads_entries_back law mode requested es h =
+reads_entries_back law norms mode requested es h =
     let many : length (docs_of es) ≡ length es = length-map es (λ (e : Entry). e.doc) in
     let counts : length (pushed_freqs mode es) ≡ length (docs_of es) = length-map es (λ (e : Entry). if has_freq mode then e.term_freq else 0) ∙ sym many in
     let few = few_documents (docs_of es) h.documents in
     let some = h.some in
-    let read = law mode requested (docs_of es) (pushed_freqs mode es) (pushed_deltas es) (positions_bytes mode (pushed_deltas es)) h.documents (omega arith) (omega (arith, many))
+    let read = law norms mode requested (docs_of es) (pushed_freqs mode es) (pushed_deltas es) (positions_bytes mode (pushed_deltas es)) h.documents (omega arith) (omega (arith, many))
     (λ has. pushed_are_freqs mode (docs_of es) (pushed_freqs mode es) counts (h.counted has) h.fit h.small) (λ has. (located_bytes mode (pushed_deltas es) has, rw (counts_are mode es has) (h.located has).deltas))
     in
     let as_ok : List Entry → Result (List Entry) Part = λ es. Ok es in
-    sym (ap (λ (n : ℕ). term_list mode requested n (written_postings mode (docs_of es) (pushed_freqs mode es)) (Some (positions_bytes mode (pushed_deltas es)))) many)
+    sym (ap (λ (n : ℕ). term_list mode requested n (written_postings norms mode (docs_of es) (pushed_freqs mode es)) (Some (positions_bytes mode (pushed_deltas es)))) many)
     ∙ read
     ∙ ap as_ok (entries_read mode requested es h.located)

@@ -1,5 +1,5 @@
 -- What recorders hold and push of document 0 at 0 and 4 and of document 3 at 1, and a term that is found by its key.
-use Rattle.std.proofs.Common.{◌≡◌, List, [], ◌∷◌, true, false, Some, refl}
+use Rattle.std.proofs.Common.{◌≡◌, List, [], ◌∷◌, true, false, Some, None, refl}
 use Rattle.ii_base.specs.declared.schema.index_record_option.IndexRecordOption.TheVariants.{Basic, WithFreqs, WithFreqsAndPositions}
 use Rattle.ii_base.specs.Entries.{Entry, counted, docs_of, document}
 use Rattle.ii_recorder.specs.HeldTerms.{has_key}
@@ -28,7 +28,7 @@ pub deltas_are : pushed_deltas two_documents ≡ 0 ∷ 4 ∷ 1 ∷ []
 deltas_are = refl
 
 abbrev one_term : List WrittenTerm
-one_term = record { key = 97 ∷ []; skip_info = Basic; docs = 0 ∷ []; freqs = 0 ∷ []; deltas = [] } ∷ []
+one_term = record { key = 97 ∷ []; norms = None; skip_info = Basic; docs = 0 ∷ []; freqs = 0 ∷ []; deltas = [] } ∷ []
 
 pub is_there : has_key (97 ∷ []) one_term ≡ true
 is_there = refl

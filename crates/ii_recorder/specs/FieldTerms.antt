@@ -33,12 +33,13 @@ pub record IsUnrefused (s : FieldTermsState) : Type 0 where
 pub record IsLeft (old new : OpenTermState) : Type 0 where
   pub unrefused : new.closed ≡ false
   pub mode : new.mode ≡ old.mode
+  pub norms : new.norms ≡ old.norms
   pub located : has_positions old.mode ≡ true → new.deltas ≡ []
   pub plain : has_positions old.mode ≡ false → new.deltas ≡ old.deltas
 
 -- the open term as it is written under a key
 abbrev pub term_under : List ℕ → OpenTermState → WrittenTerm
-term_under key t = record { key = key; skip_info = t.skip_info; docs = t.docs; freqs = t.freqs; deltas = t.deltas }
+term_under key t = record { key = key; norms = t.norms; skip_info = t.skip_info; docs = t.docs; freqs = t.freqs; deltas = t.deltas }
 
 -- These terms were written, each of fewer than 2 ^ 32 bytes and all ends below 2 ^ 56, and then come the keys of terms that are not.
 pub record HasTerms (mode : IndexRecordOption) (places : TermPlacesState) (ts : List WrittenTerm) (pending : List (List ℕ)) : Type 0 where
@@ -52,15 +53,15 @@ pub record HasTerms (mode : IndexRecordOption) (places : TermPlacesState) (ts : 
 
 -- the bytes that go out where the open term is ended
 abbrev pub bytes_of : OpenTermState → FieldBodies
-bytes_of t = record { terms = []; postings = written_postings t.skip_info t.docs t.freqs; positions = positions_bytes t.mode t.deltas }
+bytes_of t = record { terms = []; postings = written_postings t.norms t.skip_info t.docs t.freqs; positions = positions_bytes t.mode t.deltas }
 
 -- The postings or the positions of a term have more bytes than 32 bits count.
 abbrev pub IsTooLong : OpenTermState → Type 0
-IsTooLong t = (2 ^ 32 ≤ length (written_postings t.skip_info t.docs t.freqs)) ⊎ (2 ^ 32 ≤ length (positions_bytes t.mode t.deltas))
+IsTooLong t = (2 ^ 32 ≤ length (written_postings t.norms t.skip_info t.docs t.freqs)) ⊎ (2 ^ 32 ≤ length (positions_bytes t.mode t.deltas))
 
 -- The postings or the positions of all terms would end at 2 ^ 56 or after with this one.
 abbrev pub PassOffsets : TermPlacesState → OpenTermState → Type 0
-PassOffsets p t = (2 ^ 56 ≤ p.postings_end + length (written_postings t.skip_info t.docs t.freqs)) ⊎ (2 ^ 56 ≤ p.positions_end + length (positions_bytes t.mode t.deltas))
+PassOffsets p t = (2 ^ 56 ≤ p.postings_end + length (written_postings t.norms t.skip_info t.docs t.freqs)) ⊎ (2 ^ 56 ≤ p.positions_end + length (positions_bytes t.mode t.deltas))
 
 -- Neither limit of a term is passed.
 abbrev pub IsWithinLimits : FieldTermsState → Type 0
@@ -69,7 +70,7 @@ IsWithinLimits s = (¬ IsTooLong s.term) × (¬ PassOffsets s.places s.term)
 -- There is no room for a term: a count of a writer would pass its type, or an end 2 ^ 56.
 abbrev pub HasNoRoom : OpenTermState → TermPlacesState → CountingWriterState → CountingWriterState → Type 0
 HasNoRoom t p postings positions =
-    IsFull postings (length (written_postings t.skip_info t.docs t.freqs)) ⊎ (IsTrue (has_positions t.mode) × IsFull positions (length (positions_bytes t.mode t.deltas))) ⊎ PassOffsets p t
+    IsFull postings (length (written_postings t.norms t.skip_info t.docs t.freqs)) ⊎ (IsTrue (has_positions t.mode) × IsFull positions (length (positions_bytes t.mode t.deltas))) ⊎ PassOffsets p t
 
 -- Why a term can't be ended.
 abbrev pub IsEndFault : OpenTermState → TermPlacesState → CountingWriterState → CountingWriterState → Fault → Type 0
@@ -79,7 +80,7 @@ IsEndFault t p postings positions fault =
 -- what is kept of the terms where the open one is ended, if there is one
 abbrev pub places_after : FieldTermsState → TermPlacesState
 places_after s =
-    if s.term_open then with_term s.places (length s.term.docs) (length (written_postings s.term.skip_info s.term.docs s.term.freqs)) (length (positions_bytes s.term.mode s.term.deltas))
+    if s.term_open then with_term s.places (length s.term.docs) (length (written_postings s.term.norms s.term.skip_info s.term.docs s.term.freqs)) (length (positions_bytes s.term.mode s.term.deltas))
     else s.places
 
 -- the bytes that go out where a field is ended in which no term is open
@@ -97,9 +98,10 @@ closing_bytes s = record {
 -- A term was ended: its place is kept, and no limit was passed.
 pub record EndsTerm (old new : FieldTermsState) : Type 0 where
   pub places : new.places ≡ with_term old.places (length old.term.docs)
-      (length (written_postings old.term.skip_info old.term.docs old.term.freqs)) (length (positions_bytes old.term.mode old.term.deltas))
+      (length (written_postings old.term.norms old.term.skip_info old.term.docs old.term.freqs)) (length (positions_bytes old.term.mode old.term.deltas))
   pub short : IsShort old.term.mode (term_under [] old.term)
   pub within : (new.places.postings_end < 2 ^ 56) × (new.places.positions_end < 2 ^ 56)
   pub mode : new.term.mode ≡ old.term.mode
+  pub norms : new.term.norms ≡ old.term.norms
   pub ended : new.term_open ≡ false
   pub unrefused : new.closed ≡ false

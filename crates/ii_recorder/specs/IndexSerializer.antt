@@ -1,9 +1,10 @@
 -- What writes the fields of an index, one after the other.
-use Rattle.std.specs.Prelude.{◌≡◌, ℕ, ◌^◌, ◌<◌, ◌⊎◌, Bool, IsTrue, List}
+use Rattle.std.specs.Prelude.{◌≡◌, ℕ, ◌^◌, ◌<◌, ◌⊎◌, Bool, IsTrue, List, Option}
 use Rattle.ii_io.specs.declared.faults.Fault.{Fault}
 use Rattle.ii_io.specs.declared.faults.Fault.TheVariants.{Limit, Write}
 use Rattle.ii_io.specs.declared.faults.LimitName.TheVariants as limit
 use Rattle.ii_base.specs.Schema.{SchemaEntry}
+use Rattle.ii_fieldnorm.specs.Readers.{Norms}
 use Rattle.ii_definitions.specs.Fields.{option_of}
 use Rattle.ii_recorder.specs.Terms.{WrittenTerm, open_bodies}
 use Rattle.ii_recorder.specs.FieldTerms.{FieldTermsState, HasTerms, IsEndFault, closing_bytes}
@@ -16,10 +17,11 @@ pub record IndexSerializerState : Type 0 where
   pub field : FieldTermsState
   pub closed : Bool
 
--- A field with so many tokens was begun after what stood in the files at first: these terms of it were written, and then come the keys of terms that are not.
-pub record IsWriting (initial : IndexBodiesState) (now : IndexSerializerState) (field tokens : ℕ) (ts : List WrittenTerm) (pending : List (List ℕ)) : Type 0 where
+-- A field with so many tokens and these norms was begun after what stood in the files at first: these terms of it were written, and then come the keys of terms that are not.
+pub record IsWriting (initial : IndexBodiesState) (now : IndexSerializerState) (field tokens : ℕ) (norms : Option Norms) (ts : List WrittenTerm) (pending : List (List ℕ)) : Type 0 where
   pub counted : tokens < 2 ^ 64
   pub mode : now.field.term.mode ≡ option_of now.entries field
+  pub norms_are : now.field.term.norms ≡ norms
   pub bodies : AddsBodies initial now.bodies field (open_bodies now.field.term.mode tokens ts)
   pub terms : HasTerms now.field.term.mode now.field.places ts pending
 

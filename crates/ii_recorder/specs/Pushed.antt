@@ -1,5 +1,5 @@
 -- What a recorder pushes to the serializer of a field, and how that ends.
-use Rattle.std.specs.Prelude.{◌≡◌, ℕ, ◌+◌, ◌^◌, ◌<◌, ◌↔◌, ◌⊎◌, true, false, if◌then◌else◌, IsTrue, List, [], ◌++◌, Ok, Some, length, map, take, Result, OnOk, IfErr, IsErrOf}
+use Rattle.std.specs.Prelude.{◌≡◌, ℕ, ◌+◌, ◌^◌, ◌<◌, ◌↔◌, ◌⊎◌, true, false, if◌then◌else◌, IsTrue, List, [], ◌++◌, Ok, Option, Some, length, map, take, Result, OnOk, IfErr, IsErrOf}
 use Rattle.std.specs.List.{AllByRecursion, flat_map}
 use Rattle.ii_io.specs.declared.faults.Fault.{Fault}
 use Rattle.ii_io.specs.declared.faults.Fault.TheVariants.{Limit, OutOfMemory, SerializerClosed}
@@ -9,6 +9,8 @@ use Rattle.ii_base.specs.declared.schema.index_record_option.IndexRecordOption.{
 use Rattle.ii_base.specs.Options.{downgrade, has_freq, has_positions}
 use Rattle.ii_codes.specs.Sums.{differences}
 use Rattle.ii_base.specs.Entries.{Entry, are_documents, docs_of}
+use Rattle.ii_fieldnorm.specs.Readers.{Norms}
+use Rattle.ii_layout.specs.Bounds.{Covers}
 use Rattle.ii_layout.specs.Positions.{positions_of}
 use Rattle.ii_layout.specs.PostingsSerializer.{IsSumTooLarge}
 use Rattle.ii_layout.specs.TermList.{AreDeltas, term_list}
@@ -52,11 +54,12 @@ pub record HaveDeltas (es : List Entry) : Type 0 where
 abbrev pub FillTooLarge : IndexRecordOption → List ℕ → List ℕ → Type 0
 FillTooLarge skip_info old added = (n : ℕ) × (n < length added) × IsSumTooLarge skip_info (old ++ take (n + 1) added)
 
--- Entries may be pushed: a term is open, the documents follow its own, and each has a count where the term has counts.
+-- Entries may be pushed: a term is open, the documents follow its own, each has a count where the term has counts, and the field's norms answer for it.
 pub record MayPush (option : IndexRecordOption) (s : IndexSerializerState) (es : List Entry) : Type 0 where
   pub inside : s.closed ≡ false → s.field.term_open ≡ true
   pub ascending : s.closed ≡ false → IsTrue (are_documents (s.field.term.docs ++ docs_of es))
   pub counted : s.closed ≡ false → IsTrue (has_freq s.field.term.skip_info) → AllByRecursion (λ n. 0 < n) (pushed_freqs option es)
+  pub covered : s.closed ≡ false → AllByRecursion (Covers s.field.term.norms) (docs_of es)
 
 -- How a call ends that pushes entries.
 pub record Pushes (option : IndexRecordOption) (old new : IndexSerializerState) (es : List Entry) (result : Result (Unit {0}) Fault) : Type 0 where
@@ -83,5 +86,5 @@ pub record AreReadable (mode : IndexRecordOption) (es : List Entry) : Type 0 whe
 -- What is written of pushed entries gives them, as far as they are requested.
 abbrev pub ReadsEntriesBack : Type 0
 ReadsEntriesBack =
-    (mode requested : IndexRecordOption) (es : List Entry) → AreReadable mode es
-    → term_list mode requested (length es) (written_postings mode (docs_of es) (pushed_freqs mode es)) (Some (positions_bytes mode (pushed_deltas es))) ≡ Ok (map (cut_entry (downgrade mode requested)) es)
+    (norms : Option Norms) (mode requested : IndexRecordOption) (es : List Entry) → AreReadable mode es
+    → term_list mode requested (length es) (written_postings norms mode (docs_of es) (pushed_freqs mode es)) (Some (positions_bytes mode (pushed_deltas es))) ≡ Ok (map (cut_entry (downgrade mode requested)) es)

@@ -1,8 +1,9 @@
 -- The terms of a field: the bytes that go out for each, and what is kept of it.
-use Rattle.std.specs.Prelude.{ℕ, ◌+◌, ◌^◌, ◌<◌, if◌then◌else◌, List, [], ◌∷◌, ◌++◌, length, map}
+use Rattle.std.specs.Prelude.{ℕ, ◌+◌, ◌^◌, ◌<◌, if◌then◌else◌, List, [], ◌∷◌, ◌++◌, length, map, Option}
 use Rattle.std.specs.List.{flat_map}
 use Rattle.ii_base.specs.declared.schema.index_record_option.IndexRecordOption.{IndexRecordOption}
 use Rattle.ii_base.specs.Options.{has_positions}
+use Rattle.ii_fieldnorm.specs.Readers.{Norms}
 use Rattle.ii_io.specs.Numbers.{le_bytes}
 use Rattle.ii_layout.specs.Written.{written_postings}
 use Rattle.ii_layout.specs.Positions.{written_positions}
@@ -10,9 +11,10 @@ use Rattle.ii_termstore.specs.declared.term_info.TermInfo.{TermInfo}
 use Rattle.ii_termstore.specs.TermInfos.{term_info_from}
 use Rattle.ii_termdict.specs.Written.{written_dictionary}
 
--- A term: its key, as which option its entries stand, its documents with their counts, and the deltas of all its positions.
+-- A term: its key, the norms of its field, as which option its entries stand, its documents with their counts, and the deltas of all its positions.
 pub record WrittenTerm : Type 0 where
   pub key : List ℕ
+  pub norms : Option Norms
   pub skip_info : IndexRecordOption
   pub docs : List ℕ
   pub freqs : List ℕ
@@ -20,7 +22,7 @@ pub record WrittenTerm : Type 0 where
 
 -- the bytes of its postings
 abbrev pub postings_bytes : WrittenTerm → List ℕ
-postings_bytes t = written_postings t.skip_info t.docs t.freqs
+postings_bytes t = written_postings t.norms t.skip_info t.docs t.freqs
 
 -- the bytes of positions by their deltas: none in a field that doesn't record them
 abbrev pub positions_bytes : IndexRecordOption → List ℕ → List ℕ

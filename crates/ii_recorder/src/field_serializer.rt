@@ -1,9 +1,11 @@
-ghost use Rattle.std.specs.Prelude.{◌≡◌, ◌+◌, ◌^◌, ◌<◌, ◌≤◌, ◌⊎◌, ◌↔◌, if◌then◌else◌, ℕ, List, [], ◌∷◌, ◌++◌, true, false, length, Ok, Err, OnOk, OnErr, IfOk, IfErr, IsErrOf, IsTrue};
+ghost use Rattle.std.specs.Prelude.{◌≡◌, ◌+◌, ◌^◌, ◌<◌, ◌≤◌, ◌⊎◌, ◌↔◌, if◌then◌else◌, ℕ, List, [], ◌∷◌, ◌++◌, true, false, length, Ok, Err, OnOk, OnErr, IfOk, IfErr, IsErrOf, IsTrue, Option};
 ghost use Rattle.std.specs.Borrow.{sem, RestsIfErr};
 ghost use Rattle.ii_base.specs.declared.schema.index_record_option.IndexRecordOption.TheVariants.{Basic};
 ghost use Rattle.ii_base.specs.Options.{has_freq, has_positions};
 ghost use Rattle.ii_io.specs.CountingWriter.{Closes, IsFull};
 ghost use Rattle.ii_base.specs.Entries.{are_documents};
+ghost use Rattle.ii_fieldnorm.specs.Readers.{Norms};
+ghost use Rattle.ii_layout.specs.Bounds.{Covers};
 ghost use Rattle.ii_layout.specs.PostingsSerializer.{IsSumTooLarge};
 ghost use Rattle.ii_termdict.specs.ReadBack.{AreAscending};
 ghost use Rattle.ii_recorder.specs.Terms.{WrittenTerm, field_bodies};
@@ -29,8 +31,8 @@ pub struct FieldSerializer<'a, W: Write> {
 }
 
 impl<W: Write> InvertedIndexSerializer<W> {
-    /// Begins a field of the schema, which wasn't written yet, with the number of all its tokens. The
-    /// norms of the field are kept for bounds, which aren't written yet.
+    /// Begins a field of the schema, which wasn't written yet, with the number of all its tokens. By its
+    /// norms, if it has some, the bounds of full blocks are written.
     ///
     /// `Write` where a writer fails, `Limit(Offset)` where a count of a writer would pass `u64::MAX`,
     /// `OutOfMemory` where a table can't grow; `SerializerClosed` after an earlier refusal.
@@ -43,7 +45,7 @@ impl<W: Write> InvertedIndexSerializer<W> {
         requires known { field < length self.old.entries }
         requires lacks { self.old.closed ≡ false → LacksField field self.old.bodies }
         ensures same_reference { IfOk result (λ f. f.index.ghost_name ≡ self.entry.ghost_name) }
-        ensures begins { IfOk result (λ f. IsWriting self.old.bodies f.index.now field total_num_tokens [] []) }
+        ensures begins { IfOk result (λ f. IsWriting self.old.bodies f.index.now field total_num_tokens fieldnorm_reader [] []) }
         ensures between { IfOk result (λ f. f.index.now.field.term_open ≡ false) }
         ensures entries { IfOk result (λ f. f.index.now.entries ≡ self.old.entries) }
         ensures open { IfOk result (λ f. f.index.now.closed ≡ false) }
@@ -78,8 +80,8 @@ impl<'a, W: Write> FieldSerializer<'a, W> {
         requires between { self.old.index.now.closed ≡ false → self.old.index.now.field.term_open ≡ false }
         requires ascending { self.old.index.now.closed ≡ false → AreAscending (self.old.index.now.field.places.keys ++ term.now ∷ []) }
         ensures same_reference { self.new.index.ghost_name ≡ self.old.index.ghost_name }
-        ensures writing { (initial : IndexBodiesState) (field tokens : ℕ) (ts : List WrittenTerm) → IsWriting initial self.old.index.now field tokens ts []
-            → OnOk result (IsWriting initial self.new.index.now field tokens ts (term.now ∷ [])) }
+        ensures writing { (initial : IndexBodiesState) (field tokens : ℕ) (norms : Option Norms) (ts : List WrittenTerm) → IsWriting initial self.old.index.now field tokens norms ts []
+            → OnOk result (IsWriting initial self.new.index.now field tokens norms ts (term.now ∷ [])) }
         ensures term { OnOk result (self.new.index.now.field.term
             ≡ record self.old.index.now.field.term { skip_info = if record_term_freq then self.old.index.now.field.term.mode else Basic; docs = []; freqs = []; deltas = [] }) }
         ensures inside { OnOk result (self.new.index.now.field.term_open ≡ true) }
@@ -102,8 +104,8 @@ impl<'a, W: Write> FieldSerializer<'a, W> {
         requires between { self.old.index.now.closed ≡ false → self.old.index.now.field.term_open ≡ false }
         requires ascending { self.old.index.now.closed ≡ false → AreAscending (self.old.index.now.field.places.keys ++ term.now ∷ []) }
         ensures same_reference { self.new.index.ghost_name ≡ self.old.index.ghost_name }
-        ensures writing { (initial : IndexBodiesState) (field tokens : ℕ) (ts : List WrittenTerm) → IsWriting initial self.old.index.now field tokens ts []
-            → OnOk result (IsWriting initial self.new.index.now field tokens ts (term.now ∷ [])) }
+        ensures writing { (initial : IndexBodiesState) (field tokens : ℕ) (norms : Option Norms) (ts : List WrittenTerm) → IsWriting initial self.old.index.now field tokens norms ts []
+            → OnOk result (IsWriting initial self.new.index.now field tokens norms ts (term.now ∷ [])) }
         ensures term { OnOk result (self.new.index.now.field.term
             ≡ record self.old.index.now.field.term { skip_info = Basic; docs = []; freqs = []; deltas = [] }) }
         ensures inside { OnOk result (self.new.index.now.field.term_open ≡ true) }
@@ -121,7 +123,7 @@ impl<'a, W: Write> FieldSerializer<'a, W> {
 
     /// Adds a document of the open term, above the ones before it and below `TERMINATED`, with its
     /// count, at least 1 where the term has counts, and the deltas of its positions, which are left
-    /// out where the field doesn't record positions.
+    /// out where the field doesn't record positions. The norms, where the field has some, answer for it.
     ///
     /// `Limit(BlockFrequencySum)` where the document fills a block whose counts sum up above
     /// `u32::MAX`, in a term with positions; `OutOfMemory` where a growth was refused;
@@ -135,6 +137,7 @@ impl<'a, W: Write> FieldSerializer<'a, W> {
         requires inside { self.old.index.now.closed ≡ false → self.old.index.now.field.term_open ≡ true }
         requires ascending { self.old.index.now.closed ≡ false → IsTrue (are_documents (self.old.index.now.field.term.docs ++ doc_id ∷ [])) }
         requires counted { self.old.index.now.closed ≡ false → IsTrue (has_freq self.old.index.now.field.term.skip_info) → 0 < term_freq }
+        requires covered { self.old.index.now.closed ≡ false → Covers self.old.index.now.field.term.norms doc_id }
         ensures same_reference { self.new.index.ghost_name ≡ self.old.index.ghost_name }
         ensures ok { OnOk result (self.new.index.now ≡ record self.old.index.now {
           field = record self.old.index.now.field {
@@ -184,9 +187,9 @@ impl<'a, W: Write> FieldSerializer<'a, W> {
     /// `SerializerClosed` after an earlier refusal, and nothing is written.
     pub fn close_term(&mut self) -> Result<(), Fault>
         ensures same_reference { self.new.index.ghost_name ≡ self.old.index.ghost_name }
-        ensures writing { (initial : IndexBodiesState) (field tokens : ℕ) (ts : List WrittenTerm) (key : List ℕ) → IsTrue self.old.index.now.field.term_open
-            → IsWriting initial self.old.index.now field tokens ts (key ∷ [])
-            → OnOk result (IsWriting initial self.new.index.now field tokens (ts ++ term_under key self.old.index.now.field.term ∷ []) []) }
+        ensures writing { (initial : IndexBodiesState) (field tokens : ℕ) (norms : Option Norms) (ts : List WrittenTerm) (key : List ℕ) → IsTrue self.old.index.now.field.term_open
+            → IsWriting initial self.old.index.now field tokens norms ts (key ∷ [])
+            → OnOk result (IsWriting initial self.new.index.now field tokens norms (ts ++ term_under key self.old.index.now.field.term ∷ []) []) }
         ensures none { self.old.index.now.closed ≡ false → self.old.index.now.field.term_open ≡ false
             → (result ≡ Ok tt) × (self.new.index.now ≡ self.old.index.now) }
         ensures between { OnOk result (self.new.index.now.field.term_open ≡ false) }
@@ -210,17 +213,17 @@ impl<'a, W: Write> FieldSerializer<'a, W> {
     ///
     /// The faults are those of `close_term`.
     pub fn close(self) -> Result<(), Fault>
-        ensures wrote { (initial : IndexBodiesState) (field tokens : ℕ) (ts : List WrittenTerm) → self.entry.index.now.field.term_open ≡ false
-            → IsWriting initial self.entry.index.now field tokens ts []
+        ensures wrote { (initial : IndexBodiesState) (field tokens : ℕ) (norms : Option Norms) (ts : List WrittenTerm) → self.entry.index.now.field.term_open ≡ false
+            → IsWriting initial self.entry.index.now field tokens norms ts []
             → OnOk result (AddsBodies initial self.exit.0.now.bodies field (field_bodies self.entry.index.now.field.term.mode tokens ts)) }
-        ensures holds { (initial : IndexBodiesState) (field tokens : ℕ) (ts : List WrittenTerm) → self.entry.index.now.field.term_open ≡ false
-            → IsWriting initial self.entry.index.now field tokens ts []
+        ensures holds { (initial : IndexBodiesState) (field tokens : ℕ) (norms : Option Norms) (ts : List WrittenTerm) → self.entry.index.now.field.term_open ≡ false
+            → IsWriting initial self.entry.index.now field tokens norms ts []
             → OnOk result (HoldsTerms self.entry.index.now.field.term.mode tokens (field_bodies self.entry.index.now.field.term.mode tokens ts) ts) }
-        ensures wrote_last { (initial : IndexBodiesState) (field tokens : ℕ) (ts : List WrittenTerm) (key : List ℕ) → self.entry.index.now.field.term_open ≡ true
-            → IsWriting initial self.entry.index.now field tokens ts (key ∷ [])
+        ensures wrote_last { (initial : IndexBodiesState) (field tokens : ℕ) (norms : Option Norms) (ts : List WrittenTerm) (key : List ℕ) → self.entry.index.now.field.term_open ≡ true
+            → IsWriting initial self.entry.index.now field tokens norms ts (key ∷ [])
             → OnOk result (AddsBodies initial self.exit.0.now.bodies field (field_bodies self.entry.index.now.field.term.mode tokens (ts ++ term_under key self.entry.index.now.field.term ∷ []))) }
-        ensures holds_last { (initial : IndexBodiesState) (field tokens : ℕ) (ts : List WrittenTerm) (key : List ℕ) → self.entry.index.now.field.term_open ≡ true
-            → IsWriting initial self.entry.index.now field tokens ts (key ∷ [])
+        ensures holds_last { (initial : IndexBodiesState) (field tokens : ℕ) (norms : Option Norms) (ts : List WrittenTerm) (key : List ℕ) → self.entry.index.now.field.term_open ≡ true
+            → IsWriting initial self.entry.index.now field tokens norms ts (key ∷ [])
             → OnOk result (HoldsTerms self.entry.index.now.field.term.mode tokens (field_bodies self.entry.index.now.field.term.mode tokens (ts ++ term_under key self.entry.index.now.field.term ∷ [])) (ts ++ term_under key self.entry.index.now.field.term ∷ [])) }
         ensures entries { self.exit.0.now.entries ≡ self.entry.index.now.entries }
         ensures closes { Closes result self.exit.0.now.closed }

@@ -4,6 +4,7 @@ ghost use Rattle.ii_base.specs.declared.schema.index_record_option.IndexRecordOp
 ghost use Rattle.ii_base.specs.Options.{has_freq, has_positions};
 ghost use Rattle.ii_io.specs.CountingWriter.{Grows, Wrote, WritesUnlessClosed, Closes};
 ghost use Rattle.ii_base.specs.Entries.{are_documents};
+ghost use Rattle.ii_layout.specs.Bounds.{Covers};
 ghost use Rattle.ii_layout.specs.PostingsSerializer.{IsSumTooLarge};
 ghost use Rattle.ii_layout.specs.Written.{written_postings};
 ghost use Rattle.ii_termdict.specs.Dictionary.{dictionary};
@@ -47,15 +48,15 @@ impl Model for FieldTerms {
 }
 
 impl FieldTerms {
-    /// No terms of a field that records `mode`. The norms of the field are kept for bounds, which
-    /// aren't written yet.
+    /// No terms of a field that records `mode`. By the norms of the field, if it has some, the bounds of
+    /// full blocks are written.
     pub fn new(
         alloc: Global,
         mode: IndexRecordOption,
         fieldnorm_reader: Option<FieldNormReader>,
     ) -> FieldTerms
         ensures { result ≡ record {
-          term = record { mode = mode; skip_info = mode; docs = []; freqs = []; deltas = []; closed = false };
+          term = record { norms = fieldnorm_reader; mode = mode; skip_info = mode; docs = []; freqs = []; deltas = []; closed = false };
           places = record { keys = []; infos = []; postings_end = 0; positions_end = 0; closed = false };
           term_open = false;
           closed = false;
@@ -103,7 +104,7 @@ impl FieldTerms {
 
     /// Adds a document of the open term, above the ones before it and below `TERMINATED`, with its
     /// count, at least 1 where the term has counts, and the deltas of its positions, which are left
-    /// out where the field doesn't record positions.
+    /// out where the field doesn't record positions. The norms, where the field has some, answer for it.
     ///
     /// `Limit(BlockFrequencySum)` where the document fills a block whose counts sum up above
     /// `u32::MAX`, in a term with positions; `OutOfMemory` where a growth was refused;
@@ -117,6 +118,7 @@ impl FieldTerms {
         requires inside { self.old.closed ≡ false → self.old.term_open ≡ true }
         requires ascending { self.old.closed ≡ false → IsTrue (are_documents (self.old.term.docs ++ doc_id ∷ [])) }
         requires counted { self.old.closed ≡ false → IsTrue (has_freq self.old.term.skip_info) → 0 < term_freq }
+        requires covered { self.old.closed ≡ false → Covers self.old.term.norms doc_id }
         ensures ok { OnOk result (self.new ≡ record self.old {
           term = record self.old.term {
             docs = self.old.term.docs ++ doc_id ∷ [];
@@ -154,7 +156,7 @@ impl FieldTerms {
         positions_write: &mut CountingWriter<W>,
     ) -> Result<(), Fault>
         ensures ends { IsTrue self.old.term_open → OnOk result (EndsTerm self.old self.new) }
-        ensures postings { IsTrue self.old.term_open → OnOk result (Wrote postings_write.old postings_write.new (written_postings self.old.term.skip_info self.old.term.docs self.old.term.freqs)) }
+        ensures postings { IsTrue self.old.term_open → OnOk result (Wrote postings_write.old postings_write.new (written_postings self.old.term.norms self.old.term.skip_info self.old.term.docs self.old.term.freqs)) }
         ensures positions { IsTrue self.old.term_open → OnOk result (Wrote positions_write.old positions_write.new (positions_bytes self.old.term.mode self.old.term.deltas)) }
         ensures none { self.old.closed ≡ false → self.old.term_open ≡ false
             → (result ≡ Ok tt) × (self.new ≡ self.old) × (postings_write.new ≡ postings_write.old) × (positions_write.new ≡ positions_write.old) }
@@ -221,10 +223,10 @@ fn put_term<W: Write>(
     requires term { term.old.closed ≡ false }
     requires places { places.old.closed ≡ false }
     requires key { length places.old.keys ≡ length places.old.infos + 1 }
-    ensures postings { OnOk result (Wrote postings_write.old postings_write.new (written_postings term.old.skip_info term.old.docs term.old.freqs)) }
+    ensures postings { OnOk result (Wrote postings_write.old postings_write.new (written_postings term.old.norms term.old.skip_info term.old.docs term.old.freqs)) }
     ensures positions { OnOk result (Wrote positions_write.old positions_write.new (positions_bytes term.old.mode term.old.deltas)) }
     ensures place { OnOk result (places.new ≡ with_term places.old (length term.old.docs)
-        (length (written_postings term.old.skip_info term.old.docs term.old.freqs)) (length (positions_bytes term.old.mode term.old.deltas))) }
+        (length (written_postings term.old.norms term.old.skip_info term.old.docs term.old.freqs)) (length (positions_bytes term.old.mode term.old.deltas))) }
     ensures short { OnOk result (IsShort term.old.mode (term_under [] term.old)) }
     ensures within { OnOk result ((places.new.postings_end < 2 ^ 56) × (places.new.positions_end < 2 ^ 56)) }
     ensures left { OnOk result (IsLeft term.old term.new) }

@@ -3,6 +3,7 @@ ghost use Rattle.ii_base.specs.declared.schema.index_record_option.IndexRecordOp
 ghost use Rattle.ii_base.specs.Options.{has_freq, has_positions};
 ghost use Rattle.ii_io.specs.CountingWriter.{Grows, IsFull, Wrote};
 ghost use Rattle.ii_base.specs.Entries.{are_documents};
+ghost use Rattle.ii_layout.specs.Bounds.{Covers};
 ghost use Rattle.ii_layout.specs.PostingsSerializer.{IsSumTooLarge};
 ghost use Rattle.ii_layout.specs.Written.{written_postings};
 ghost use Rattle.ii_recorder.specs.Terms.{positions_bytes};
@@ -33,6 +34,7 @@ impl Model for OpenTerm {
     ghost Value = { OpenTermState };
 
     ghost view = { λ t. record {
+      norms = t.postings.norms;
       mode = t.mode;
       skip_info = t.postings.skip_info;
       docs = t.postings.docs;
@@ -50,7 +52,7 @@ impl OpenTerm {
         mode: IndexRecordOption,
         fieldnorm_reader: Option<FieldNormReader>,
     ) -> OpenTerm
-        ensures { result ≡ record { mode = mode; skip_info = mode; docs = []; freqs = []; deltas = []; closed = false } }
+        ensures { result ≡ record { norms = fieldnorm_reader; mode = mode; skip_info = mode; docs = []; freqs = []; deltas = []; closed = false } }
     {
         OpenTerm {
             mode,
@@ -85,6 +87,7 @@ impl OpenTerm {
         requires open { self.old.closed ≡ false }
         requires ascending { IsTrue (are_documents (self.old.docs ++ doc_id ∷ [])) }
         requires counted { IsTrue (has_freq self.old.skip_info) → 0 < term_freq }
+        requires covered { Covers self.old.norms doc_id }
         ensures ok { OnOk result (self.new ≡ record self.old {
           docs = self.old.docs ++ doc_id ∷ [];
           freqs = self.old.freqs ++ term_freq ∷ [];
@@ -112,10 +115,10 @@ impl OpenTerm {
     // Writes the postings, and answers how many bytes they have.
     pub fn write_postings<W: Write>(&mut self, writer: &mut CountingWriter<W>) -> Result<u32, Fault>
         requires open { self.old.closed ≡ false }
-        ensures ok { IfOk result (λ len. len ≡ length (written_postings self.old.skip_info self.old.docs self.old.freqs)) }
-        ensures wrote { OnOk result (Wrote writer.old writer.new (written_postings self.old.skip_info self.old.docs self.old.freqs)) }
+        ensures ok { IfOk result (λ len. len ≡ length (written_postings self.old.norms self.old.skip_info self.old.docs self.old.freqs)) }
+        ensures wrote { OnOk result (Wrote writer.old writer.new (written_postings self.old.norms self.old.skip_info self.old.docs self.old.freqs)) }
         ensures rest { OnOk result (self.new ≡ record self.old { docs = []; freqs = [] }) }
-        ensures short { OnOk result (length (written_postings self.old.skip_info self.old.docs self.old.freqs) < 2 ^ 32) }
+        ensures short { OnOk result (length (written_postings self.old.norms self.old.skip_info self.old.docs self.old.freqs) < 2 ^ 32) }
         ensures mode { self.new.mode ≡ self.old.mode }
 
         // How it ends for the writers: a failed call is counted once, and each keeps what it had.
@@ -125,8 +128,8 @@ impl OpenTerm {
         ensures grows { Grows writer.old writer.new }
 
         // When it is refused, and by which fault.
-        ensures full { IsErrOf result (Fault.Limit LimitName.Offset) → IsFull writer.old (length (written_postings self.old.skip_info self.old.docs self.old.freqs)) }
-        ensures long { IsErrOf result (Fault.Limit LimitName.TermBytes) → 2 ^ 32 ≤ length (written_postings self.old.skip_info self.old.docs self.old.freqs) }
+        ensures full { IsErrOf result (Fault.Limit LimitName.Offset) → IsFull writer.old (length (written_postings self.old.norms self.old.skip_info self.old.docs self.old.freqs)) }
+        ensures long { IsErrOf result (Fault.Limit LimitName.TermBytes) → 2 ^ 32 ≤ length (written_postings self.old.norms self.old.skip_info self.old.docs self.old.freqs) }
         ensures only { IfErr result (λ e. (e ≡ Fault.Write) ⊎ (e ≡ Fault.Limit LimitName.Offset) ⊎ (e ≡ Fault.Limit LimitName.TermBytes)) }
     {
         let start = writer.written_bytes();

@@ -61,7 +61,7 @@ pub trait Recorder: Drop {
 
     /// Pushes all documents, the open one last, to the open term of a field, each with its count, 0
     /// where counts aren't kept, and with the position deltas that are kept. The documents follow those
-    /// of the term, and have counts where it has.
+    /// of the term, have counts where it has, and the norms of the field, if it has some, answer for them.
     ///
     /// `Limit(BlockFrequencySum)` where a document fills a block whose counts sum up above `u32::MAX`, in
     /// a term with positions; `OutOfMemory` where a growth was refused; `SerializerClosed` after an

@@ -1,10 +1,12 @@
-ghost use Rattle.std.specs.Prelude.{◌≡◌, ◌+◌, ◌^◌, ◌<◌, ◌≤◌, ◌⊎◌, ◌↔◌, if◌then◌else◌, ℕ, List, [], ◌∷◌, ◌++◌, true, false, length, Ok, Err, OnOk, OnErr, IfErr, IsErrOf, IsTrue};
+ghost use Rattle.std.specs.Prelude.{◌≡◌, ◌+◌, ◌^◌, ◌<◌, ◌≤◌, ◌⊎◌, ◌↔◌, if◌then◌else◌, ℕ, List, [], ◌∷◌, ◌++◌, true, false, length, Ok, Err, OnOk, OnErr, IfErr, IsErrOf, IsTrue, Option};
 ghost use Rattle.ii_base.specs.declared.schema.index_record_option.IndexRecordOption.TheVariants.{Basic};
 ghost use Rattle.ii_base.specs.Options.{has_freq, has_positions};
 ghost use Rattle.ii_io.specs.CountingWriter.{Closes, CountingWriterState, Grows, IsFull};
 ghost use Rattle.ii_io.specs.Composite.{Body, fit_fields};
 ghost use Rattle.ii_io.specs.CompositeWrite.{HasBodies, WroteComposite};
 ghost use Rattle.ii_base.specs.Entries.{are_documents};
+ghost use Rattle.ii_fieldnorm.specs.Readers.{Norms};
+ghost use Rattle.ii_layout.specs.Bounds.{Covers};
 ghost use Rattle.ii_layout.specs.PostingsSerializer.{IsSumTooLarge};
 ghost use Rattle.ii_termdict.specs.ReadBack.{AreAscending};
 ghost use Rattle.ii_recorder.specs.Terms.{WrittenTerm, field_bodies};
@@ -140,7 +142,7 @@ impl<W: Write> InvertedIndexSerializer<W> {
     ) -> Result<(), Fault>
         requires known { field < length self.old.entries }
         requires lacks { self.old.closed ≡ false → LacksField field self.old.bodies }
-        ensures begins { OnOk result (IsWriting self.old.bodies self.new field total_num_tokens [] []) }
+        ensures begins { OnOk result (IsWriting self.old.bodies self.new field total_num_tokens fieldnorm_reader [] []) }
         ensures begun { OnOk result (AreBegun self.new.bodies) }
         ensures between { OnOk result (self.new.field.term_open ≡ false) }
         ensures entries { self.new.entries ≡ self.old.entries }
@@ -176,8 +178,8 @@ impl<W: Write> InvertedIndexSerializer<W> {
     ) -> Result<(), Fault>
         requires between { self.old.closed ≡ false → self.old.field.term_open ≡ false }
         requires ascending { self.old.closed ≡ false → AreAscending (self.old.field.places.keys ++ key.now ∷ []) }
-        ensures writing { (initial : IndexBodiesState) (field tokens : ℕ) (ts : List WrittenTerm) → IsWriting initial self.old field tokens ts []
-            → OnOk result (IsWriting initial self.new field tokens ts (key.now ∷ [])) }
+        ensures writing { (initial : IndexBodiesState) (field tokens : ℕ) (norms : Option Norms) (ts : List WrittenTerm) → IsWriting initial self.old field tokens norms ts []
+            → OnOk result (IsWriting initial self.new field tokens norms ts (key.now ∷ [])) }
         ensures term { OnOk result (self.new.field.term
             ≡ record self.old.field.term { skip_info = if record_term_freq then self.old.field.term.mode else Basic; docs = []; freqs = []; deltas = [] }) }
         ensures inside { OnOk result (self.new.field.term_open ≡ true) }
@@ -208,6 +210,7 @@ impl<W: Write> InvertedIndexSerializer<W> {
         requires inside { self.old.closed ≡ false → self.old.field.term_open ≡ true }
         requires ascending { self.old.closed ≡ false → IsTrue (are_documents (self.old.field.term.docs ++ doc_id ∷ [])) }
         requires counted { self.old.closed ≡ false → IsTrue (has_freq self.old.field.term.skip_info) → 0 < term_freq }
+        requires covered { self.old.closed ≡ false → Covers self.old.field.term.norms doc_id }
         ensures ok { OnOk result (self.new ≡ record self.old {
           field = record self.old.field {
             term = record self.old.field.term {
@@ -257,9 +260,9 @@ impl<W: Write> InvertedIndexSerializer<W> {
     #[tactic(auto, using(crate::proofs::TermLemmas::ends_within))]
     pub(crate) fn end_term(&mut self) -> Result<(), Fault>
         requires begun { self.old.closed ≡ false → AreBegun self.old.bodies }
-        ensures writing { (initial : IndexBodiesState) (field tokens : ℕ) (ts : List WrittenTerm) (key : List ℕ) → IsTrue self.old.field.term_open
-            → IsWriting initial self.old field tokens ts (key ∷ [])
-            → OnOk result (IsWriting initial self.new field tokens (ts ++ term_under key self.old.field.term ∷ []) []) }
+        ensures writing { (initial : IndexBodiesState) (field tokens : ℕ) (norms : Option Norms) (ts : List WrittenTerm) (key : List ℕ) → IsTrue self.old.field.term_open
+            → IsWriting initial self.old field tokens norms ts (key ∷ [])
+            → OnOk result (IsWriting initial self.new field tokens norms (ts ++ term_under key self.old.field.term ∷ []) []) }
         ensures none { self.old.closed ≡ false → self.old.field.term_open ≡ false → (result ≡ Ok tt) × (self.new ≡ self.old) }
         ensures between { OnOk result (self.new.field.term_open ≡ false) }
         ensures begun { self.old.closed ≡ false → AreBegun self.new.bodies }
@@ -291,9 +294,9 @@ impl<W: Write> InvertedIndexSerializer<W> {
     pub(crate) fn finish_field(&mut self) -> Result<(), Fault>
         requires begun { self.old.closed ≡ false → AreBegun self.old.bodies }
         requires between { self.old.closed ≡ false → self.old.field.term_open ≡ false }
-        ensures wrote { (initial : IndexBodiesState) (field tokens : ℕ) (ts : List WrittenTerm) → IsWriting initial self.old field tokens ts []
+        ensures wrote { (initial : IndexBodiesState) (field tokens : ℕ) (norms : Option Norms) (ts : List WrittenTerm) → IsWriting initial self.old field tokens norms ts []
             → OnOk result (AddsBodies initial self.new.bodies field (field_bodies self.old.field.term.mode tokens ts)) }
-        ensures holds { (initial : IndexBodiesState) (field tokens : ℕ) (ts : List WrittenTerm) → IsWriting initial self.old field tokens ts []
+        ensures holds { (initial : IndexBodiesState) (field tokens : ℕ) (norms : Option Norms) (ts : List WrittenTerm) → IsWriting initial self.old field tokens norms ts []
             → OnOk result (HoldsTerms self.old.field.term.mode tokens (field_bodies self.old.field.term.mode tokens ts) ts) }
         ensures entries { self.new.entries ≡ self.old.entries }
         ensures begun { self.old.closed ≡ false → AreBegun self.new.bodies }
@@ -319,17 +322,17 @@ impl<W: Write> InvertedIndexSerializer<W> {
     // Ends the open term, if there is one, and the field.
     pub(crate) fn end_field(&mut self) -> Result<(), Fault>
         requires begun { self.old.closed ≡ false → AreBegun self.old.bodies }
-        ensures wrote { (initial : IndexBodiesState) (field tokens : ℕ) (ts : List WrittenTerm) → self.old.field.term_open ≡ false
-            → IsWriting initial self.old field tokens ts []
+        ensures wrote { (initial : IndexBodiesState) (field tokens : ℕ) (norms : Option Norms) (ts : List WrittenTerm) → self.old.field.term_open ≡ false
+            → IsWriting initial self.old field tokens norms ts []
             → OnOk result (AddsBodies initial self.new.bodies field (field_bodies self.old.field.term.mode tokens ts)) }
-        ensures holds { (initial : IndexBodiesState) (field tokens : ℕ) (ts : List WrittenTerm) → self.old.field.term_open ≡ false
-            → IsWriting initial self.old field tokens ts []
+        ensures holds { (initial : IndexBodiesState) (field tokens : ℕ) (norms : Option Norms) (ts : List WrittenTerm) → self.old.field.term_open ≡ false
+            → IsWriting initial self.old field tokens norms ts []
             → OnOk result (HoldsTerms self.old.field.term.mode tokens (field_bodies self.old.field.term.mode tokens ts) ts) }
-        ensures wrote_last { (initial : IndexBodiesState) (field tokens : ℕ) (ts : List WrittenTerm) (key : List ℕ) → self.old.field.term_open ≡ true
-            → IsWriting initial self.old field tokens ts (key ∷ [])
+        ensures wrote_last { (initial : IndexBodiesState) (field tokens : ℕ) (norms : Option Norms) (ts : List WrittenTerm) (key : List ℕ) → self.old.field.term_open ≡ true
+            → IsWriting initial self.old field tokens norms ts (key ∷ [])
             → OnOk result (AddsBodies initial self.new.bodies field (field_bodies self.old.field.term.mode tokens (ts ++ term_under key self.old.field.term ∷ []))) }
-        ensures holds_last { (initial : IndexBodiesState) (field tokens : ℕ) (ts : List WrittenTerm) (key : List ℕ) → self.old.field.term_open ≡ true
-            → IsWriting initial self.old field tokens ts (key ∷ [])
+        ensures holds_last { (initial : IndexBodiesState) (field tokens : ℕ) (norms : Option Norms) (ts : List WrittenTerm) (key : List ℕ) → self.old.field.term_open ≡ true
+            → IsWriting initial self.old field tokens norms ts (key ∷ [])
             → OnOk result (HoldsTerms self.old.field.term.mode tokens (field_bodies self.old.field.term.mode tokens (ts ++ term_under key self.old.field.term ∷ [])) (ts ++ term_under key self.old.field.term ∷ [])) }
         ensures entries { self.new.entries ≡ self.old.entries }
         ensures begun { self.new.closed ≡ false → AreBegun self.new.bodies }

@@ -1,5 +1,5 @@
 -- The term that the tests write of a recorder.
-use Rattle.std.specs.Prelude.{[], ◌∷◌, if◌then◌else◌}
+use Rattle.std.specs.Prelude.{[], ◌∷◌, if◌then◌else◌, None}
 use Rattle.ii_base.specs.declared.schema.index_record_option.IndexRecordOption.{IndexRecordOption}
 use Rattle.ii_base.specs.declared.schema.index_record_option.IndexRecordOption.TheVariants.{Basic}
 use Rattle.ii_base.specs.Options.{has_freq, has_positions}
@@ -12,6 +12,7 @@ use Rattle.ii_recorder.specs.Terms.{WrittenTerm}
 abbrev pub recorded_term : IndexRecordOption → RecorderState → WrittenTerm
 recorded_term mode r = record {
   key = 97 ∷ [];
+  norms = None;
   skip_info = if has_freq r.option then mode else Basic;
   docs = docs_of (entries_of_recorder r);
   freqs = pushed_freqs r.option (entries_of_recorder r);

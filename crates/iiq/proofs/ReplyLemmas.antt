@@ -117,8 +117,8 @@ few_documents docs h =
     omega arith
 
 -- what is written of documents alone
-pub written_alone : (shape : IndexRecordOption) (docs freqs want : List ℕ) → shape ≡ Basic → docs ≡ want → written_postings shape docs freqs ≡ written_documents want
-written_alone shape docs freqs want shape_is docs_are = λ j. written_postings (shape_is j) (docs_are j) freqs
+pub written_alone : (shape : IndexRecordOption) (docs freqs want : List ℕ) → shape ≡ Basic → docs ≡ want → written_postings None shape docs freqs ≡ written_documents want
+written_alone shape docs freqs want shape_is docs_are = λ j. written_postings None (shape_is j) (docs_are j) freqs
 
 -- what is written opens as its list
 pub opens_written : (docs bytes : List ℕ) → ReadsDocumentsBack → are_documents docs ≡ true → bytes ≡ written_documents docs → term_list Basic Basic (length docs) bytes None ≡ Ok (map document docs)

@@ -2,6 +2,8 @@
 #![tactic(auto)]
 
 #[cfg(test)]
+mod bound_tests;
+#[cfg(test)]
 mod call_tests;
 #[cfg(test)]
 mod fault_tests;

@@ -18,7 +18,7 @@ returns-in-Ok-clause-failures g c =
 
 pub returns-in-Ok-clause-fault : goal.returns-in-Ok-clause-fault
 returns-in-Ok-clause-fault g c ts has =
-    table_fault c.args.serializer c.serialize_postings.new.serializer c.args.postings_writers.now (resolved_terms (json_fields c.args.schema.now) c.args.ctx.path_to_unordered_id c.args.ctx.term_index) ts c.close.result.3
+    table_fault c.args.serializer c.serialize_postings.new.serializer c.args.postings_writers.now c.args.fieldnorm_readers.now (resolved_terms (json_fields c.args.schema.now) c.args.ctx.path_to_unordered_id c.args.ctx.term_index) ts c.close.result.3
     (subst (λ (es : List SchemaEntry). length es < 2 ^ 32) c.requires.schema c.requires.few) (c.in-Ok.ensures.tokens ts has)
     (c.in-Ok.ensures.closes ∙ c.requires.open) c.in-Ok.ensures.wrote (record { full = c.close.ensures.full; closed = c.close.ensures.closed; only = c.close.ensures.only })
 
@@ -26,7 +26,7 @@ pub returns-in-Err-clause-fault : goal.returns-in-Err-clause-fault
 returns-in-Err-clause-fault g c ts has =
     ⊎_elim (λ memory. inl memory)
     (λ have. subst (λ r. IfErr r (PassesBehind c.args.serializer.entries c.args.serializer.bodies ts)) c.in-Err.is
-    (terms_fault c.args.serializer c.args.postings_writers.now (resolved_terms (json_fields c.args.schema.now) c.args.ctx.path_to_unordered_id c.args.ctx.term_index) ts c.serialize_postings.result
+    (terms_fault c.args.serializer c.args.postings_writers.now c.args.fieldnorm_readers.now (resolved_terms (json_fields c.args.schema.now) c.args.ctx.path_to_unordered_id c.args.ctx.term_index) ts c.serialize_postings.result
     (subst (λ (es : List SchemaEntry). length es < 2 ^ 32) c.requires.schema c.requires.few) have c.requires.open (λ is. (c.serialize_postings.ensures.closed is).0) c.serialize_postings.ensures.fault)) (c.in-Err.ensures.tokens ts has)
 
 pub returns-in-Ok-clause-grow : goal.returns-in-Ok-clause-grow

@@ -1,4 +1,4 @@
-use Rattle.std.proofs.Common.{rules, take, drop, suc, inr, Err, length, List, ◌≤◌, ◌++◌, ◌∷◌, [], ◌∙◌, ap, sym, subst}
+use Rattle.std.proofs.Common.{rules, get_or, take, drop, suc, inr, Err, length, List, ◌≤◌, ◌++◌, ◌∷◌, [], ◌∙◌, ap, sym, subst}
 use Rattle.std.proofs.lemmas.List.{take_all}
 use Rattle.std.proofs.lemmas.Result.{err_from_is_err_and}
 use Rattle.ii_definitions.specs.Fields.{option_of}
@@ -17,12 +17,12 @@ pub serialize_one_term-requires-clause-ascending :
     goal.serialize_one_term-requires-clause-ascending
 serialize_one_term-requires-clause-ascending g c =
     subst (λ t. AreAscending (c.loop-place.serializer.index.now.field.places.keys ++ (state_of t).key ∷ [])) (sym c.index-terms-place.is)
-    (next_above (option_of c.args.serializer.now.entries c.args.field) c.args.terms.now c.loop-place.place c.index-terms-place.result c.loop-place.serializer.index.now.field.places.keys
+    (next_above c.args.fieldnorm_reader (option_of c.args.serializer.now.entries c.args.field) c.args.terms.now c.loop-place.place c.index-terms-place.result c.loop-place.serializer.index.now.field.places.keys
     (search rules) c.requires.ascending c.loop-place.invariant.0.terms.keys)
 
 pub serialize_one_term-requires-clause-writable : goal.serialize_one_term-requires-clause-writable
 serialize_one_term-requires-clause-writable g c =
-    subst (λ t. IsWritable (state_of t)) (sym c.index-terms-place.is) (writable_at c.args.terms.now c.loop-place.place c.index-terms-place.result (search rules) c.requires.writable)
+    subst (λ t. IsWritable c.loop-place.serializer.index.now.field.term.norms (state_of t)) (sym c.index-terms-place.is) (subst (λ n. IsWritable n (state_of (get_or c.args.terms.now c.loop-place.place c.index-terms-place.result))) (sym c.loop-place.invariant.0.norms_are) (writable_at c.args.fieldnorm_reader c.args.terms.now c.loop-place.place c.index-terms-place.result (search rules) c.requires.writable))
 
 pub loop-place-preserved : goal.loop-place-preserved
 loop-place-preserved g c =
@@ -30,9 +30,10 @@ loop-place-preserved g c =
     let terms = c.args.terms.now in
     let k = c.loop-place.place in
     let mode = option_of c.args.serializer.now.entries c.args.field in
-    let wrote = c.in_ok-serialize_one_term.ensures.writing c.args.serializer.now.bodies c.args.field c.args.total_num_tokens (all_written mode (take k terms)) w.0 in
-    let more = next_written c.args.serializer.now.entries c.loop-place.serializer.index.now.entries c.args.field terms k c.index-terms-place.result (search rules) c.index-terms-place.is w.3 in (
-      subst (λ (ts : List WrittenTerm). IsWriting c.args.serializer.now.bodies c.serialize_one_term.new.serializer.index.now c.args.field c.args.total_num_tokens ts []) more wrote,
+    let norms = c.args.fieldnorm_reader in
+    let wrote = c.in_ok-serialize_one_term.ensures.writing c.args.serializer.now.bodies c.args.field c.args.total_num_tokens norms (all_written norms mode (take k terms)) w.0 in
+    let more = next_written norms c.args.serializer.now.entries c.loop-place.serializer.index.now.entries c.args.field terms k c.index-terms-place.result (search rules) c.index-terms-place.is w.3 in (
+      subst (λ (ts : List WrittenTerm). IsWriting c.args.serializer.now.bodies c.serialize_one_term.new.serializer.index.now c.args.field c.args.total_num_tokens norms ts []) more wrote,
       c.in_ok-serialize_one_term.ensures.closes.ok,
       c.in_ok-serialize_one_term.ensures.between,
       c.serialize_one_term.ensures.entries ∙ w.3,
@@ -44,7 +45,8 @@ pub returns-in_err-serializer-clause-fault : goal.returns-in_err-serializer-clau
 returns-in_err-serializer-clause-fault g c =
     let p = err_from_is_err_and c.from_residual.result c.from_residual.ensures.1 in
     let mode = option_of c.args.serializer.now.entries c.args.field in
-    rw (p.1, p.2) (begun_fault mode c.args.total_num_tokens c.args.serializer.now.bodies (all_written mode c.args.terms.now) c.in_err-serializer.field-0.0 (λ is. c.in_err-serializer.ensures.full (ap Err is)) c.in_err-serializer.ensures.only)
+    let norms = c.args.fieldnorm_reader in
+    rw (p.1, p.2) (begun_fault mode c.args.total_num_tokens c.args.serializer.now.bodies (all_written norms mode c.args.terms.now) c.in_err-serializer.field-0.0 (λ is. c.in_err-serializer.ensures.full (ap Err is)) c.in_err-serializer.ensures.only)
 
 pub returns-in_err-serialize_one_term-clause-fault : goal.returns-in_err-serialize_one_term-clause-fault
 returns-in_err-serialize_one_term-clause-fault g c =
@@ -56,23 +58,25 @@ returns-in_err-serialize_one_term-clause-fault g c =
     let initial = c.args.serializer.now.bodies in
     let tokens = c.args.total_num_tokens in
     let mode = option_of c.args.serializer.now.entries c.args.field in
-    let before = all_written mode (take k terms) in
+    let norms = c.args.fieldnorm_reader in
+    let before = all_written norms mode (take k terms) in
     let state = state_of c.index-terms-place.result in
-    let fault = c.in_err-serialize_one_term.ensures.fault initial c.args.field tokens before w.0 in
-    let own = subst (λ es. IsTermFaultAfter initial (option_of es c.args.field) tokens before (written_term (option_of es c.args.field) state) e) w.3 fault in
-    let within = written_within initial c.loop-place.serializer.index.now c.args.field tokens mode (take k terms) (w.0.mode ∙ ap (λ es. option_of es c.args.field) w.3) w.0 w.5 in
-    rw (p.1, p.2) (inr (term_of_part mode tokens initial before (written_term mode state) (all_written mode (drop (suc k) terms)) (all_written mode terms) e
-    (split_written mode terms k c.index-terms-place.result (search rules) c.index-terms-place.is) within.terms own))
+    let fault = c.in_err-serialize_one_term.ensures.fault initial c.args.field tokens norms before w.0 in
+    let own = subst (λ es. IsTermFaultAfter initial (option_of es c.args.field) tokens before (written_term norms (option_of es c.args.field) state) e) w.3 fault in
+    let within = written_within initial c.loop-place.serializer.index.now c.args.field tokens norms mode (take k terms) (w.0.mode ∙ ap (λ es. option_of es c.args.field) w.3) w.0 w.5 in
+    rw (p.1, p.2) (inr (term_of_part mode tokens initial before (written_term norms mode state) (all_written norms mode (drop (suc k) terms)) (all_written norms mode terms) e
+    (split_written norms mode terms k c.index-terms-place.result (search rules) c.index-terms-place.is) within.terms own))
 
 pub returns-clause-within : goal.returns-clause-within
 returns-clause-within g c =
     let w = c.loop-place.invariant in
     let terms = c.args.terms.now in
     let mode = option_of c.args.serializer.now.entries c.args.field in
+    let norms = c.args.fieldnorm_reader in
     let many : length terms ≤ c.loop-place.place = search rules in
     let all = take_all c.loop-place.place terms many in
-    let within = written_within c.args.serializer.now.bodies c.loop-place.serializer.index.now c.args.field c.args.total_num_tokens mode (take c.loop-place.place terms) (w.0.mode ∙ ap (λ es. option_of es c.args.field) w.3) w.0 w.5 in
-    always_on_ok c.close.result _ (subst (λ ts. AreWithin mode (all_written mode ts)) all within)
+    let within = written_within c.args.serializer.now.bodies c.loop-place.serializer.index.now c.args.field c.args.total_num_tokens norms mode (take c.loop-place.place terms) (w.0.mode ∙ ap (λ es. option_of es c.args.field) w.3) w.0 w.5 in
+    always_on_ok c.close.result _ (subst (λ ts. AreWithin mode (all_written norms mode ts)) all within)
 
 pub returns-clause-fault : goal.returns-clause-fault
 returns-clause-fault g c =
@@ -81,12 +85,13 @@ returns-clause-fault g c =
     let initial = c.args.serializer.now.bodies in
     let tokens = c.args.total_num_tokens in
     let mode = option_of c.args.serializer.now.entries c.args.field in
+    let norms = c.args.fieldnorm_reader in
     let s = c.loop-place.serializer.index.now in
     let many : length terms ≤ c.loop-place.place = search rules in
     let all = take_all c.loop-place.place terms many in
-    let whole = subst (λ ts. IsWriting initial s c.args.field tokens (all_written mode ts) []) all w.0 in
+    let whole = subst (λ ts. IsWriting initial s c.args.field tokens norms (all_written norms mode ts) []) all w.0 in
     let kept = w.0.mode ∙ ap (λ es. option_of es c.args.field) w.3 in
-    unless_closed c.close.result s.closed _ _ c.close.ensures.closed w.1 (λ e fault. inr (closed_fault initial s c.args.field tokens (all_written mode terms) mode e whole w.2 kept fault)) c.close.ensures.fault
+    unless_closed c.close.result s.closed _ _ c.close.ensures.closed w.1 (λ e fault. inr (closed_fault initial s c.args.field tokens norms (all_written norms mode terms) mode e whole w.2 kept fault)) c.close.ensures.fault
 
 pub returns-in_err-serialize_one_term-clause-grow : goal.returns-in_err-serialize_one_term-clause-grow
 returns-in_err-serialize_one_term-clause-grow g c =

@@ -7,7 +7,7 @@ use Rattle.ii_postings_writer.proofs.serialize_postings.serialize_field.Given as
 
 abbrev pub invariant-loop-place : goal.invariant-loop-place
 invariant-loop-place g l =
-    IsWriting l.fn.serializer.bodies l.serializer.index.now l.fn.field l.fn.total_num_tokens (map (written_term (option_of l.fn.serializer.entries l.fn.field)) (map state_of (take l.place l.fn.terms))) []
+    IsWriting l.fn.serializer.bodies l.serializer.index.now l.fn.field l.fn.total_num_tokens l.fn.fieldnorm_reader (map (written_term l.fn.fieldnorm_reader (option_of l.fn.serializer.entries l.fn.field)) (map state_of (take l.place l.fn.terms))) []
     × (l.serializer.index.now.closed ≡ false)
     × (l.serializer.index.now.field.term_open ≡ false)
     × (l.serializer.index.now.entries ≡ l.fn.serializer.entries)

@@ -2,6 +2,9 @@ use Rattle.std.proofs.Common.{rules, length, ◌≡◌, ◌<◌, [], ◌∙◌, 
 use Rattle.std.proofs.lemmas.List.{get_or_default}
 use Rattle.std.proofs.lemmas.Result.{err_from_is_err_and}
 use Rattle.ii_recorder.specs.IndexBodies.{LacksField}
+use Rattle.std.specs.Prelude.{slice_index_or}
+use Rattle.std.specs.List.{AllByRecursion}
+use Rattle.ii_postings_writer.specs.SortedTerms.{IsWritable, norms_in}
 use Rattle.ii_postings_writer.proofs.FaultLemmas.{IsNextField, all_some, field_fault, no_part}
 use Rattle.ii_postings_writer.proofs.PartLemmas.{lacks_next, next_part}
 use Rattle.ii_postings_writer.specs.FieldParts.{HasFields, first_parts}
@@ -14,24 +17,32 @@ serialize_if_any-requires-clause-lacks g c _ =
     let few = c.requires.few in
     let low = c.loop-place-test.true in
     subst (λ (field : ℕ). LacksField field c.loop-place.serializer.bodies) (sym c.from_field_id-field.ensures)
-    (lacks_next c.args.serializer.now.entries c.args.writers.now c.args.terms.now.items c.loop-place.place c.args.serializer.now.bodies c.loop-place.serializer.bodies
+    (lacks_next c.args.serializer.now.entries c.args.writers.now c.args.norms.now c.args.terms.now.items c.loop-place.place c.args.serializer.now.bodies c.loop-place.serializer.bodies
     (omega (arith, few, low, c.len-place-end.ensures)) c.loop-place.invariant.0)
+
+pub serialize_if_any-requires-clause-writable : goal.serialize_if_any-requires-clause-writable
+serialize_if_any-requires-clause-writable g c =
+    let low = c.loop-place-test.true in
+    let inside : c.loop-place.place < length c.args.terms.now.items = omega (arith, low, c.len-place-end.ensures) in
+    let at = c.index.ensures ∙ get_or_default c.args.terms.now.items c.loop-place.place c.index.result.now [] inside in
+    subst (AllByRecursion (IsWritable (norms_in c.args.norms.now c.from_field_id-field.result))) (sym at)
+    (subst (λ (f : ℕ). AllByRecursion (IsWritable (norms_in c.args.norms.now f)) (slice_index_or c.args.terms.now.items c.loop-place.place [])) (sym c.from_field_id-field.ensures) (c.requires.writable c.loop-place.place inside))
 
 pub loop-place-preserved : goal.loop-place-preserved
 loop-place-preserved g c =
     let w = c.loop-place.invariant in
     let low = c.loop-place-test.true in
     let at = c.index.ensures ∙ get_or_default c.args.terms.now.items c.loop-place.place c.index.result.now [] (omega (arith, low, c.len-place-end.ensures)) in
-    let fs = first_parts c.args.serializer.now.entries c.args.writers.now c.args.terms.now.items c.loop-place.place in
+    let fs = first_parts c.args.serializer.now.entries c.args.writers.now c.args.norms.now c.args.terms.now.items c.loop-place.place in
     let wrote = c.in_ok-serialize_if_any.ensures.wrote c.args.serializer.now.bodies fs (subst (λ es. HasFields es c.args.serializer.now.bodies c.loop-place.serializer.bodies fs) (sym w.2) w.0) in (
-      next_part c.args.serializer.now.entries c.loop-place.serializer.entries c.args.writers.now c.args.terms.now.items c.loop-place.place c.from_field_id-field.result c.index.result.now c.args.serializer.now.bodies c.serialize_if_any.new.serializer.bodies
+      next_part c.args.serializer.now.entries c.loop-place.serializer.entries c.args.writers.now c.args.norms.now c.args.terms.now.items c.loop-place.place c.from_field_id-field.result c.index.result.now c.args.serializer.now.bodies c.serialize_if_any.new.serializer.bodies
           w.2 c.from_field_id-field.ensures at wrote,
       c.in_ok-serialize_if_any.ensures.closes ∙ w.1,
       c.serialize_if_any.ensures.entries ∙ w.2,
       λ closed.
           (let before = w.3 closed in
           let stays = c.in_ok-serialize_if_any.ensures.refused (w.1 ∙ closed) in
-          (stays.same ∙ before.0, no_part c.args.serializer.now.entries c.args.writers.now c.args.terms.now.items c.loop-place.place c.index.result.now at stays.none before.1)),
+          (stays.same ∙ before.0, no_part c.args.serializer.now.entries c.args.writers.now c.args.norms.now c.args.terms.now.items c.loop-place.place c.index.result.now at stays.none before.1)),
     )
 
 pub returns-in_err-serialize_if_any-clause-fault : goal.returns-in_err-serialize_if_any-clause-fault
@@ -42,7 +53,7 @@ returns-in_err-serialize_if_any-clause-fault g c =
     let inside : c.loop-place.place < length c.args.terms.now.items = omega (arith, low, c.len-place-end.ensures) in
     let at = c.index.ensures ∙ get_or_default c.args.terms.now.items c.loop-place.place c.index.result.now [] inside in
     let next : IsNextField c.args.serializer.now.entries c.loop-place.serializer.entries c.args.terms.now.items c.loop-place.place c.from_field_id-field.result c.index.result.now = record { schema = w.2; number = c.from_field_id-field.ensures; at = at; some = c.in_err-serialize_if_any.ensures.some; low = inside } in
-    rw (p.1, p.2) (field_fault c.args.serializer.now.entries c.loop-place.serializer.entries c.args.writers.now c.args.terms.now.items c.loop-place.place c.from_field_id-field.result c.index.result.now next
+    rw (p.1, p.2) (field_fault c.args.serializer.now.entries c.loop-place.serializer.entries c.args.writers.now c.args.norms.now c.args.terms.now.items c.loop-place.place c.from_field_id-field.result c.index.result.now next
     c.args.serializer.now.bodies c.loop-place.serializer.bodies c.in_err-serialize_if_any.field-0.0 w.0 c.in_err-serialize_if_any.ensures.fault)
 
 pub returns-in_err-serialize_if_any-clause-closed : goal.returns-in_err-serialize_if_any-clause-closed
@@ -54,7 +65,7 @@ returns-in_err-serialize_if_any-clause-closed g c is =
     let at = c.index.ensures ∙ get_or_default c.args.terms.now.items c.loop-place.place c.index.result.now [] inside in
     let next : IsNextField c.args.serializer.now.entries c.loop-place.serializer.entries c.args.terms.now.items c.loop-place.place c.from_field_id-field.result c.index.result.now = record { schema = w.2; number = c.from_field_id-field.ensures; at = at; some = c.in_err-serialize_if_any.ensures.some; low = inside } in (
       sym w.1 ∙ c.in_err-serialize_if_any.ensures.closed (rw (← p.2) (sym p.1 ∙ is)),
-      all_some c.args.serializer.now.entries c.loop-place.serializer.entries c.args.writers.now c.args.terms.now.items c.loop-place.place c.from_field_id-field.result c.index.result.now next,
+      all_some c.args.serializer.now.entries c.loop-place.serializer.entries c.args.writers.now c.args.norms.now c.args.terms.now.items c.loop-place.place c.from_field_id-field.result c.index.result.now next,
     )
 
 pub returns-in_err-serialize_if_any-clause-refused : goal.returns-in_err-serialize_if_any-clause-refused
@@ -68,7 +79,7 @@ pub returns-clause-refused : goal.returns-clause-refused
 returns-clause-refused g c closed =
     let before = c.loop-place.invariant.3 closed in
     let all : c.loop-place.place ≡ length c.args.terms.now.items = search rules in
-    record { same = before.0; none = subst (λ (n : ℕ). first_parts c.args.serializer.now.entries c.args.writers.now c.args.terms.now.items n ≡ []) all before.1; only = tt }
+    record { same = before.0; none = subst (λ (n : ℕ). first_parts c.args.serializer.now.entries c.args.writers.now c.args.norms.now c.args.terms.now.items n ≡ []) all before.1; only = tt }
 
 pub returns-in_err-serialize_if_any-clause-grow : goal.returns-in_err-serialize_if_any-clause-grow
 returns-in_err-serialize_if_any-clause-grow g c =

@@ -5,7 +5,7 @@ use Rattle.ii_postings_writer.proofs.serialize_postings.serialize_fields.Given a
 
 abbrev pub invariant-loop-place : goal.invariant-loop-place
 invariant-loop-place g l =
-    HasFields l.fn.serializer.entries l.fn.serializer.bodies l.serializer.bodies (first_parts l.fn.serializer.entries l.fn.writers l.fn.terms.items l.place)
+    HasFields l.fn.serializer.entries l.fn.serializer.bodies l.serializer.bodies (first_parts l.fn.serializer.entries l.fn.writers l.fn.norms l.fn.terms.items l.place)
     × (l.serializer.closed ≡ l.fn.serializer.closed)
     × (l.serializer.entries ≡ l.fn.serializer.entries)
-    × (IsTrue l.fn.serializer.closed → (l.serializer ≡ l.fn.serializer) × (first_parts l.fn.serializer.entries l.fn.writers l.fn.terms.items l.place ≡ []))
+    × (IsTrue l.fn.serializer.closed → (l.serializer ≡ l.fn.serializer) × (first_parts l.fn.serializer.entries l.fn.writers l.fn.norms l.fn.terms.items l.place ≡ []))

@@ -1,4 +1,5 @@
-use Rattle.std.proofs.Common.{◌<◌, ◌∙◌, ap, sym, subst, length, map, Bool, List, ℕ, arith}
+use Rattle.std.proofs.Common.{◌≡◌, [], ◌<◌, ◌∙◌, ap, sym, subst, length, map, Bool, List, ℕ, arith}
+use Rattle.std.specs.Prelude.{slice_index_or}
 use Rattle.std.specs.List.{AllByRecursion, range_with_len}
 use Rattle.std.proofs.lemmas.List.{length-map}
 use Rattle.std.proofs.lemmas.Result.{IfErr-weaker}
@@ -7,7 +8,7 @@ use Rattle.ii_recorder.specs.Recorded.{RecorderState}
 use Rattle.ii_termdict.specs.ReadBack.{AreAscending}
 use Rattle.ii_postings_writer.specs.IndexingTerm.{field_in}
 use Rattle.ii_postings_writer.specs.ResolvedTerms.{json_fields, resolved_terms}
-use Rattle.ii_postings_writer.specs.SortedTerms.{IsWritable, MayBeWritten, SortedTerm, terms_in}
+use Rattle.ii_postings_writer.specs.SortedTerms.{IsWritable, MayBeWritten, SortedTerm, norms_in, terms_in}
 use Rattle.ii_postings_writer.proofs.ContextFaults.{context_fault, no_terms, some_terms}
 use Rattle.ii_postings_writer.proofs.TermIndexLemmas.{on_ok}
 use Rattle.ii_postings_writer.proofs.PartLemmas.{AreLists, wrote_context, wrote_terms}
@@ -27,7 +28,7 @@ terms_by_field-requires g c =
     let clean = c.requires.clean in
     let moved = c.sort.ensures.moved in
     let sorted = sorted_by flags paths old new c.deref.result.now c.deref-2.result.now unlike clean (c.deref.ensures.value ∙ c.in_ok-flags.ensures.ok) (c.deref-2.ensures.value ∙ c.in_ok-ranks.ensures.ranks) c.requires.ids c.in_ok-sort.ensures.sorted in
-    record { known = subst (λ (n : ℕ). AllByRecursion (λ (t : List ℕ × RecorderState). field_in t.0 < n) new) (sym c.num_fields.ensures.value) (raw_fields flags paths unlike clean few old new moved sorted (length c.args.schema.now) c.requires.terms) }
+    record { known = subst (λ (n : ℕ). AllByRecursion (λ (t : List ℕ × RecorderState). field_in t.0 < n) new) (sym c.num_fields.ensures.value) (raw_fields flags paths unlike clean few old new moved sorted (length c.args.schema.now) c.args.fieldnorm_readers.now c.requires.terms) }
 
 pub serialize_fields-requires-clause-known : goal.serialize_fields-requires-clause-known
 serialize_fields-requires-clause-known g c =
@@ -64,7 +65,7 @@ serialize_fields-requires-clause-ascending g c =
     subst (AllByRecursion (λ (ts : List SortedTerm). AreAscending (map (λ (t : SortedTerm). t.key) ts))) (sym are) (lists_ascend 0 many keyed (whole_keys flags paths unlike clean few old new moved sorted) sorted.ascending)
 
 pub serialize_fields-requires-clause-writable : goal.serialize_fields-requires-clause-writable
-serialize_fields-requires-clause-writable g c =
+serialize_fields-requires-clause-writable g c field inside =
     let flags = json_fields c.args.schema.now in
     let paths = c.args.ctx.path_to_unordered_id in
     let old = c.args.ctx.term_index in
@@ -77,8 +78,10 @@ serialize_fields-requires-clause-writable g c =
     let keyed = resolved_terms flags paths new in
     let many = c.num_fields.result in
     let are = c.in_ok-terms.ensures.ok ∙ ap (λ (fs : List Bool). map (λ (field : ℕ). terms_in field (resolved_terms fs paths new)) (range_with_len 0 many)) (c.deref-3.ensures.value ∙ c.in_ok-flags.ensures.ok) in
-    subst (AllByRecursion (λ (ts : List SortedTerm). AllByRecursion IsWritable ts)) (sym are)
-    (all_writable (length c.args.schema.now) 0 many keyed (may_be_under_keys flags paths unlike clean few old new moved sorted (length c.args.schema.now) c.requires.terms))
+    let readers = c.args.fieldnorm_readers.now in
+    let count : length c.in_ok-terms.terms.items ≡ many = ap length are ∙ length-map-range_with_len (λ (f : ℕ). terms_in f keyed) 0 many in
+    subst (λ (lists : List (List SortedTerm)). AllByRecursion (IsWritable (norms_in readers field)) (slice_index_or lists field [])) (sym are)
+    (all_writable (length c.args.schema.now) many field readers keyed (may_be_under_keys flags paths unlike clean few old new moved sorted (length c.args.schema.now) readers c.requires.terms) (omega (arith, count, inside)))
 
 pub returns-clause-wrote : goal.returns-clause-wrote
 returns-clause-wrote g c =
@@ -105,7 +108,7 @@ returns-clause-wrote g c =
       whole = whole_keys flags paths unlike clean few old new moved sorted;
       are = are ∙ ap (λ (m : ℕ). map (λ (field : ℕ). terms_in field keyed) (range_with_len 0 m)) (c.num_fields.ensures.value ∙ ap length c.requires.schema);
     } in
-    wrote_context c.serialize_fields.result first last writers terms keyed (wrote_terms c.serialize_fields.result first last writers terms keyed fields lists c.serialize_fields.ensures.wrote)
+    wrote_context c.serialize_fields.result first last writers c.args.fieldnorm_readers.now terms keyed (wrote_terms c.serialize_fields.result first last writers c.args.fieldnorm_readers.now terms keyed fields lists c.serialize_fields.ensures.wrote)
 
 pub returns-clause-holds : goal.returns-clause-holds
 returns-clause-holds g c ts has =
@@ -132,16 +135,16 @@ returns-clause-holds g c ts has =
       whole = whole_keys flags paths unlike clean few old new moved sorted;
       are = are ∙ ap (λ (m : ℕ). map (λ (field : ℕ). terms_in field keyed) (range_with_len 0 m)) (c.num_fields.ensures.value ∙ ap length c.requires.schema);
     } in
-    let may = subst (λ (n : ℕ). AllByRecursion (λ (t : List ℕ × RecorderState). MayBeWritten n t.0 t.1) keyed) (ap length c.requires.schema) (may_be_under_keys flags paths unlike clean few old new moved sorted (length c.args.schema.now) c.requires.terms) in
-    let written : IsWritten first.entries writers keyed ts = record {
+    let may = subst (λ (n : ℕ). AllByRecursion (λ (t : List ℕ × RecorderState). MayBeWritten n c.args.fieldnorm_readers.now t.0 t.1) keyed) (ap length c.requires.schema) (may_be_under_keys flags paths unlike clean few old new moved sorted (length c.args.schema.now) c.args.fieldnorm_readers.now c.requires.terms) in
+    let written : IsWritten first.entries writers c.args.fieldnorm_readers.now keyed ts = record {
       few = omega (arith, c.num_fields.ensures.value, c.num_fields.ensures.bound, ap length c.requires.schema);
       whole = lists.whole;
       ascending = sorted.ascending;
       may = may;
       tokens = have_resolved flags paths unlike clean few old new moved sorted first.entries writers ts (ap json_fields (sym c.requires.schema)) has;
     } in
-    wrote_tokens c.serialize_fields.result c.reads_entries_back.ensures c.reads_uncounted_term_back.ensures first last writers terms keyed ts written
-    (wrote_terms c.serialize_fields.result first last writers terms keyed fields lists c.serialize_fields.ensures.wrote)
+    wrote_tokens c.serialize_fields.result c.reads_entries_back.ensures c.reads_uncounted_term_back.ensures first last writers c.args.fieldnorm_readers.now terms keyed ts written
+    (wrote_terms c.serialize_fields.result first last writers c.args.fieldnorm_readers.now terms keyed fields lists c.serialize_fields.ensures.wrote)
 
 pub returns-clause-tokens : goal.returns-clause-tokens
 returns-clause-tokens g c ts has =
@@ -195,7 +198,7 @@ returns-clause-fault g c =
       whole = whole_keys flags paths unlike clean few old new moved sorted;
       are = are ∙ ap (λ (m : ℕ). map (λ (field : ℕ). terms_in field keyed) (range_with_len 0 m)) (c.num_fields.ensures.value ∙ ap length c.requires.schema);
     } in
-    IfErr-weaker c.serialize_fields.result _ _ (λ e fault. context_fault first writers terms keyed fields e lists fault) c.serialize_fields.ensures.fault
+    IfErr-weaker c.serialize_fields.result _ _ (λ e fault. context_fault first writers c.args.fieldnorm_readers.now terms keyed fields e lists fault) c.serialize_fields.ensures.fault
 
 pub returns-clause-closed : goal.returns-clause-closed
 returns-clause-closed g c is =
@@ -223,7 +226,7 @@ returns-clause-closed g c is =
       are = are ∙ ap (λ (m : ℕ). map (λ (field : ℕ). terms_in field keyed) (range_with_len 0 m)) (c.num_fields.ensures.value ∙ ap length c.requires.schema);
     } in
     let closed = c.serialize_fields.ensures.closed is in
-    (closed.0, omega (arith, some_terms first.entries writers (length first.entries) terms keyed fields lists closed.1, length-map old (resolve flags paths)))
+    (closed.0, omega (arith, some_terms first.entries writers c.args.fieldnorm_readers.now (length first.entries) terms keyed fields lists closed.1, length-map old (resolve flags paths)))
 
 pub returns-clause-refused : goal.returns-clause-refused
 returns-clause-refused g c closed =
@@ -250,10 +253,10 @@ returns-clause-refused g c closed =
       whole = whole_keys flags paths unlike clean few old new moved sorted;
       are = are ∙ ap (λ (m : ℕ). map (λ (field : ℕ). terms_in field keyed) (range_with_len 0 m)) (c.num_fields.ensures.value ∙ ap length c.requires.schema);
     } in
-    let may = subst (λ (n : ℕ). AllByRecursion (λ (t : List ℕ × RecorderState). MayBeWritten n t.0 t.1) keyed) (ap length c.requires.schema) (may_be_under_keys flags paths unlike clean few old new moved sorted (length c.args.schema.now) c.requires.terms) in
+    let may = subst (λ (n : ℕ). AllByRecursion (λ (t : List ℕ × RecorderState). MayBeWritten n c.args.fieldnorm_readers.now t.0 t.1) keyed) (ap length c.requires.schema) (may_be_under_keys flags paths unlike clean few old new moved sorted (length c.args.schema.now) c.args.fieldnorm_readers.now c.requires.terms) in
     let stays = c.serialize_fields.ensures.refused closed in
     record {
       same = stays.same;
-      none = on_ok c.serialize_fields.result _ _ (λ none. no_resolved flags paths old (no_terms first.entries writers (length first.entries) terms keyed fields lists (fields_known (length first.entries) keyed may) none)) stays.none;
+      none = on_ok c.serialize_fields.result _ _ (λ none. no_resolved flags paths old (no_terms first.entries writers c.args.fieldnorm_readers.now (length first.entries) terms keyed fields lists (fields_known (length first.entries) c.args.fieldnorm_readers.now keyed may) none)) stays.none;
       only = stays.only;
     }

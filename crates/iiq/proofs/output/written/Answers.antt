@@ -11,7 +11,7 @@ overflow_cast-docs c = omega (arith, few_documents c.args.docs.now c.requires)
 
 pub write_doc-requires : goal.write_doc-requires
 write_doc-requires c =
-    record { ascending = λ _. rw c.loop-doc.invariant.docs_are (documents_take c.loop-doc.doc-index c.args.docs.now c.loop-doc-test.true c.requires); counted = λ _ _. omega arith }
+    record { ascending = λ _. rw c.loop-doc.invariant.docs_are (documents_take c.loop-doc.doc-index c.args.docs.now c.loop-doc-test.true c.requires); counted = λ _ _. omega arith; covered = λ _. rw c.loop-doc.invariant.plain tt }
 
 pub overflow_cast-docs-2 : goal.overflow_cast-docs-2
 overflow_cast-docs-2 c = omega (arith, few_documents c.args.docs.now c.requires)
@@ -21,6 +21,6 @@ returns c =
     let most = c.loop-doc-test.false in
     let all = c.loop-doc.invariant.docs_are ∙ take_all c.loop-doc.doc-index c.args.docs.now (omega arith) in
     let bytes = written_alone c.loop-doc.serializer.skip_info c.loop-doc.serializer.docs c.loop-doc.serializer.freqs c.args.docs.now c.loop-doc.invariant.shape all in
-    let wrote = writes_went _ _ _ _ (sym c.if-is_err-2.false ∙ c.is_err-2.ensures.value) (c.close_term.ensures.written.writes c.loop-doc.invariant.going) in
+    let wrote = writes_went _ _ _ _ (sym c.if-is_err-2.false ∙ c.is_err-2.ensures.value) (rw c.loop-doc.invariant.plain at (c.close_term.ensures.written.writes c.loop-doc.invariant.going)) in
     let start = ap (λ (s : CountingWriterState). s.contents) c.wrap-output.ensures ∙ ap (λ (xs : List ℕ). Some xs) c.new.ensures.items in
     holds_all c.wrap-output.result c.close_term.new.output_write c.finish.result.items _ start c.finish.ensures wrote ∙ bytes

@@ -7,7 +7,7 @@ use Rattle.ii_definitions.specs.Tokens.{tokens_after}
 use Rattle.ii_indexing.specs.Indexer.{IndexedFieldsState, StoresPieces}
 use Rattle.ii_definitions.specs.Norms.{norm_file}
 use Rattle.ii_indexing.specs.OpenDocuments.{TellsAll, with_norms}
-use Rattle.ii_indexing.proofs.FinishLaws.{none_of, short_bodies}
+use Rattle.ii_indexing.proofs.FinishLaws.{counted_bodies, none_of, short_bodies}
 use Rattle.ii_indexing.proofs.indexed_fields.IndexedFields.finish.Goals as goal
 
 pub returns-in_err-readers-clause-only : goal.returns-in_err-readers-clause-only
@@ -34,3 +34,11 @@ returns-clause-short c =
     let same = subst (λ (s : IndexedFieldsState). with_norms s.opened.norms ≡ map keeps_norms c.args.schema.now) (sym c.self.view_is) c.requires.norms in
     let held = c.in_ok-norms.ensures.holds c.args.schema.now c.requires.some.pieces ts same st.documents in
     short_bodies c.args.schema.now c.args.num_docs c.in_ok-norms.norms ts c.in_ok-readers.readers c.requires.docs held (sym (ap composite c.in_ok-clone.ensures.cases) ∙ c.in_ok-readers.ensures.opened)
+
+pub returns-clause-many : goal.returns-clause-many
+returns-clause-many c =
+    let ts = tokens_after [] c.requires.some.pieces in
+    let st = subst (λ (s : IndexedFieldsState). StoresPieces c.args.schema.now s c.requires.some.pieces) (sym c.self.view_is) c.requires.some.stored.pieces in
+    let same = subst (λ (s : IndexedFieldsState). with_norms s.opened.norms ≡ map keeps_norms c.args.schema.now) (sym c.self.view_is) c.requires.norms in
+    let held = c.in_ok-norms.ensures.holds c.args.schema.now c.requires.some.pieces ts same st.documents in
+    counted_bodies c.args.schema.now c.args.num_docs c.in_ok-norms.norms ts c.in_ok-readers.readers held (sym (ap composite c.in_ok-clone.ensures.cases) ∙ c.in_ok-readers.ensures.opened)

@@ -12,8 +12,8 @@ use Rattle.ii_indexing.proofs.indexer.Indexer.finish.Goals as goal
 pub write-requires-clause-terms : goal.write-requires-clause-terms
 write-requires-clause-terms g c =
     let running = c.self.invariant.1 c.if-failed.false in
-    subst (λ (t : IndexedTermsState). AllMayBeWritten (length c.self.inside.schema) t.terms) (sym c.in-Ok.ensures.terms)
-    (may_be_written c.self.inside.schema c.self.inside.fields.indexed (tokens_after [] running.some.pieces) running.some.stored.pieces.tokens c.self.inside.last_doc running.ends.terms)
+    subst (λ (t : IndexedTermsState). AllMayBeWritten (length c.self.inside.schema) c.in-Ok.finished.readers t.terms) (sym c.in-Ok.ensures.terms)
+    (may_be_written c.self.inside.schema c.self.inside.fields.indexed (tokens_after [] running.some.pieces) running.some.stored.pieces.tokens c.self.inside.num_docs c.self.inside.last_doc c.in-Ok.finished.readers running.ends.terms running.below c.in-Ok.ensures.many)
 
 pub write-requires-clause-ids : goal.write-requires-clause-ids
 write-requires-clause-ids g c =

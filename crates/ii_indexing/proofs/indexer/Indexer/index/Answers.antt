@@ -1,4 +1,4 @@
-use Rattle.std.proofs.Common.{◌≡◌, ◌≤◌, ◌++◌, ℕ, Bool, false, sym, ap, ◌∙◌, subst}
+use Rattle.std.proofs.Common.{◌<◌, ◌≡◌, ◌≤◌, ◌++◌, ℕ, Bool, false, sym, ap, ◌∙◌, subst}
 use Rattle.std.proofs.lemmas.Result.{err_from_is_err_and}
 use Rattle.ii_definitions.specs.Fields.{option_of}
 use Rattle.ii_json.specs.LeafVisit.{IsRefusedBy}
@@ -56,6 +56,7 @@ invariant_of-self-2 g c =
       λ fine. record {
         few = old.few;
         ends = subst (λ (doc : ℕ). EndsAt doc c.index_call.new.self) (sym c.doc-doc.ensures) c.in_ok-index_call.ensures.ends;
+        below = λ some. rw c.doc-doc.ensures (subst (λ (s : IndexerState). doc_of c.args.call < s.num_docs) (sym now) (c.requires.below running));
         writers = c.in_ok-index_call.ensures.fields ∙ old.writers;
         norms = c.in_ok-index_call.ensures.norms ∙ old.norms;
         some = record { pieces = old.some.pieces ++ call_pieces (g.A.TextAnalyzer.words c.args.analyzer.now) (call_with c.expands_dots-expand_dots.result c.args.call); stored = c.in_ok-index_call.ensures.stored c.self.inside.schema old.some.pieces takes old.some.stored };
