@@ -8,7 +8,7 @@ use bytes::Bytes;
 use ii_base::{AsciiTokenizer, Field, FieldEntry, IndexRecordOption, Schema, Term};
 use ii_indexing::{IndexCall, IndexWriters, Indexer};
 use ii_io::{CountingWriter, Fault};
-use ii_reader::{OpenIndex, open_index};
+use ii_reader::{OpenIndex, SegmentPostings, open_index};
 use std::alloc::Global;
 use std::time::{Duration, Instant};
 
@@ -19,6 +19,9 @@ const WORDS: u32 = 100;
 
 /// How many different words there are.
 const TERMS: u64 = 50_000;
+
+/// How many different ones there are where phrases are sought, so that each stands in most documents.
+const FREQUENT_TERMS: u64 = 50;
 
 const LOOK_UPS: u64 = 100_000;
 
@@ -60,7 +63,7 @@ struct Figures {
 
 fn round(rt: &HostRuntime) -> Result<Figures> {
     let alloc = rt.alloc();
-    let (texts, text_bytes) = texts(alloc)?;
+    let (texts, text_bytes) = texts(alloc, TERMS)?;
     let start = Instant::now(rt)?;
     let files = written(alloc, indexed(alloc, texts)?)?;
     let indexing = start.elapsed(rt)?;
@@ -92,15 +95,17 @@ impl Drawn {
     }
 }
 
-// The texts, and how many bytes they have.
-fn texts(alloc: Global) -> Result<(Vec<String>, u64)> {
+// The texts, of so many different words, and how many bytes they have.
+fn texts(alloc: Global, terms: u64) -> Result<(Vec<String>, u64)>
+    requires { 0 < terms }
+{
     let mut drawn = Drawn(1);
     let mut texts = Vec::new(alloc);
     let mut bytes = 0u64;
     for _ in 0..DOCS {
         let mut text = String::new(alloc);
         for _ in 0..WORDS {
-            write!(text, "w{} ", drawn.next())?;
+            write!(text, "w{} ", drawn.next() % terms)?;
         }
         bytes = bytes.saturating_add(text.len() as u64);
         texts.push(text)?;
@@ -207,11 +212,33 @@ fn look_up(rt: &HostRuntime, index: &OpenIndex) -> Result<Duration>
 fn terms(alloc: Global) -> Result<Vec<Term>> {
     let mut drawn = Drawn(7);
     let mut terms = Vec::new(alloc);
-    let field = Field::from_field_id(0);
     for _ in 0..LOOK_UPS {
-        let mut word = String::new(alloc);
-        write!(word, "w{}", drawn.next())?;
-        terms.push(Term::from_field_text(alloc, field, word.as_str())?)?;
+        terms.push(word_term(alloc, drawn.next())?)?;
     }
     Ok(terms)
+}
+
+/// The term of a word.
+pub fn word_term(alloc: Global, number: u64) -> Result<Term> {
+    let mut word = String::new(alloc);
+    write!(word, "w{number}")?;
+    let field = Field::from_field_id(0);
+    Ok(Term::from_field_text(alloc, field, word.as_str())?)
+}
+
+/// An index of texts of few different words.
+pub fn opened_words(alloc: Global) -> Result<OpenIndex>
+    ensures { IfOk result (λ index. 0 < length index.readers) }
+{
+    let (texts, _) = texts(alloc, FREQUENT_TERMS)?;
+    let files = written(alloc, indexed(alloc, texts)?)?;
+    Ok(opened(alloc, files)?)
+}
+
+/// A cursor over the postings of a word, with positions.
+pub fn read_word(index: &OpenIndex, term: &Term) -> Result<Option<SegmentPostings>>
+    requires { 0 < length index.now.readers }
+{
+    let reader = index.reader(Field::from_field_id(0));
+    Ok(reader.read_postings(term, IndexRecordOption::WithFreqsAndPositions)?)
 }

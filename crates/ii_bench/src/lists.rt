@@ -18,19 +18,19 @@ const DOCS: u32 = 1_000_000;
 
 /// Prints what it takes to write, open and walk lists of a million documents, of three densities.
 pub fn measure(rt: &HostRuntime) -> Result<()> {
-    measure_list(rt, "1", &documents(rt.alloc(), 1)?)?;
-    measure_list(rt, "1/15", &documents(rt.alloc(), 29)?)?;
-    measure_list(rt, "1/1000", &documents(rt.alloc(), 1999)?)
+    measure_list(rt, "1", &documents(rt.alloc(), 1, DOCS)?)?;
+    measure_list(rt, "1/15", &documents(rt.alloc(), 29, DOCS)?)?;
+    measure_list(rt, "1/1000", &documents(rt.alloc(), 1999, DOCS)?)
 }
 
-// The documents of a list, each by a random number below `spread` and 1 above the one before it.
-fn documents(alloc: Global, spread: u32) -> Result<Vec<DocId>, AllocError>
+/// So many documents of a list, each by a random number below `spread` and 1 above the one before it.
+pub fn documents(alloc: Global, spread: u32, count: u32) -> Result<Vec<DocId>, AllocError>
     requires { 0 < spread }
 {
     let mut docs = Vec::new(alloc);
     let mut state = 88_172_645_463_325_252u64;
     let mut next = 0u32;
-    for _ in 0..DOCS {
+    for _ in 0..count {
         state ^= state << 13;
         state ^= state >> 7;
         state ^= state << 17;
@@ -107,8 +107,8 @@ fn walk(rt: &HostRuntime, bytes: &Bytes) -> Result<Measured> {
     Ok(of_documents(least))
 }
 
-// The bytes of documents that ascend.
-fn written(alloc: Global, docs: &[DocId]) -> Result<Bytes, Fault> {
+/// The bytes of documents that ascend.
+pub fn written(alloc: Global, docs: &[DocId]) -> Result<Bytes, Fault> {
     if !ascend(docs) {
         return Err(Fault::SerializerClosed);
     }

@@ -9,6 +9,7 @@ mod dictionaries;
 mod indexes;
 mod json_values;
 mod lists;
+mod queries;
 mod table;
 
 use anyhow::Result;
@@ -24,6 +25,7 @@ fn main(rt: HostRuntime) -> Result<()> {
     json_values::measure(&rt)?;
     blocks::measure(&rt)?;
     lists::measure(&rt)?;
+    queries::measure(&rt)?;
     dictionaries::measure(&rt)?;
     costly::measure(&rt)?;
     indexes::measure(&rt)

@@ -1,0 +1,167 @@
+ghost use Rattle.std.specs.Prelude.{◌<◌, length};
+
+use crate::indexes::{opened_words, read_word, word_term};
+use crate::lists::{documents, written};
+use crate::table::{Measured, ROUNDS, print_row};
+use anyhow::Result;
+use bytes::Bytes;
+use ii_base::IndexRecordOption;
+use ii_docset::{DocSet, TERMINATED, intersect};
+use ii_query::{PhraseMatch, PhrasePart, QueryCursor};
+use ii_reader::{OpenIndex, SegmentPostings};
+use std::time::{Duration, Instant};
+
+const BASIC: IndexRecordOption = IndexRecordOption::Basic;
+
+/// How many documents a frequent term has, and a rare one, both spread over 15,000,000.
+const FREQUENT: u32 = 1_000_000;
+
+const RARE: u32 = 10_000;
+
+/// A list of documents, as it is written, and how many they are.
+#[derive(Drop)]
+struct List {
+    bytes: Bytes,
+    doc_freq: u32,
+}
+
+impl List {
+    fn new(rt: &HostRuntime, spread: u32, doc_freq: u32) -> Result<List>
+        requires { 0 < spread }
+    {
+        let docs = documents(rt.alloc(), spread, doc_freq)?;
+        let bytes = written(rt.alloc(), &docs)?;
+        Ok(List { bytes, doc_freq })
+    }
+
+    fn open(&self) -> Result<SegmentPostings> {
+        let bytes = self.bytes.clone()?;
+        Ok(SegmentPostings::open(self.doc_freq, bytes, None, BASIC, BASIC)?)
+    }
+}
+
+/// Prints what it takes to go over the documents of queries, beside loops by hand over the same cursors.
+pub fn measure(rt: &HostRuntime) -> Result<()> {
+    let frequent = List::new(rt, 29, FREQUENT)?;
+    let rare = List::new(rt, 2999, RARE)?;
+    let row = "a frequent and a rare term: a document of the rare one";
+    print_row(rt, row, &of(both(rt, &frequent, &rare)?, RARE))?;
+    let row = "the same by a loop of seeks";
+    print_row(rt, row, &of(both_by_hand(rt, &frequent, &rare)?, RARE))?;
+    let other = List::new(rt, 31, FREQUENT)?;
+    let row = "one of two frequent terms: a document of either";
+    print_row(rt, row, &of(either(rt, &frequent, &other)?, 2 * FREQUENT))?;
+    let row = "the same by a loop that merges";
+    print_row(
+        rt,
+        row,
+        &of(either_by_hand(rt, &frequent, &other)?, 2 * FREQUENT),
+    )?;
+    let index = opened_words(rt.alloc())?;
+    let row = "a phrase of two frequent words: a document of the first";
+    print_row(rt, row, &phrase(rt, &index)?)?;
+    Ok(())
+}
+
+fn of(took: Duration, docs: u32) -> Measured {
+    Measured {
+        took,
+        items: u64::from(docs),
+        bytes: 4 * u64::from(docs),
+    }
+}
+
+fn both(rt: &HostRuntime, frequent: &List, rare: &List) -> Result<Duration> {
+    let mut least = Duration::MAX;
+    for _ in 0..ROUNDS {
+        let first = QueryCursor::one(frequent.open()?);
+        let other = QueryCursor::one(rare.open()?);
+        let start = Instant::now(rt)?;
+        let mut found = QueryCursor::both(rt.alloc(), first, other)?;
+        let _count = found.count_including_deleted();
+        least = least.min(start.elapsed(rt)?);
+    }
+    Ok(least)
+}
+
+fn both_by_hand(rt: &HostRuntime, frequent: &List, rare: &List) -> Result<Duration> {
+    let mut least = Duration::MAX;
+    for _ in 0..ROUNDS {
+        let mut first = rare.open()?;
+        let mut other = frequent.open()?;
+        let start = Instant::now(rt)?;
+        let _docs = intersect(rt.alloc(), &mut first, &mut other)?;
+        least = least.min(start.elapsed(rt)?);
+    }
+    Ok(least)
+}
+
+fn either(rt: &HostRuntime, first: &List, other: &List) -> Result<Duration> {
+    let mut least = Duration::MAX;
+    for _ in 0..ROUNDS {
+        let first = QueryCursor::one(first.open()?);
+        let other = QueryCursor::one(other.open()?);
+        let start = Instant::now(rt)?;
+        let mut found = QueryCursor::either(rt.alloc(), first, other)?;
+        let _count = found.count_including_deleted();
+        least = least.min(start.elapsed(rt)?);
+    }
+    Ok(least)
+}
+
+fn either_by_hand(rt: &HostRuntime, first: &List, other: &List) -> Result<Duration> {
+    let mut least = Duration::MAX;
+    for _ in 0..ROUNDS {
+        let mut first = first.open()?;
+        let mut other = other.open()?;
+        let start = Instant::now(rt)?;
+        let _count = merge(&mut first, &mut other);
+        least = least.min(start.elapsed(rt)?);
+    }
+    Ok(least)
+}
+
+// How many documents one of two cursors has left.
+fn merge(first: &mut SegmentPostings, other: &mut SegmentPostings) -> u32 {
+    let mut count = 0u32;
+    let mut doc = first.doc();
+    let mut other_doc = other.doc();
+    for _ in 0..2 * FREQUENT {
+        let least = doc.min(other_doc);
+        if least == TERMINATED {
+            return count;
+        }
+        if doc == least {
+            doc = first.advance();
+        }
+        if other_doc == least {
+            other_doc = other.advance();
+        }
+        count = count.saturating_add(1);
+    }
+    count
+}
+
+fn phrase(rt: &HostRuntime, index: &OpenIndex) -> Result<Measured>
+    requires { 0 < length index.now.readers }
+{
+    let (first, other) = (word_term(rt.alloc(), 1)?, word_term(rt.alloc(), 2)?);
+    let mut least = Duration::MAX;
+    let mut docs = 0;
+    for _ in 0..ROUNDS {
+        let Some(first) = read_word(index, &first)? else {
+            return Ok(of(least, docs));
+        };
+        let Some(other) = read_word(index, &other)? else {
+            return Ok(of(least, docs));
+        };
+        docs = first.doc_freq();
+        let mut others = Vec::new(rt.alloc());
+        others.push(PhrasePart::new(1, other))?;
+        let start = Instant::now(rt)?;
+        let mut found = PhraseMatch::new(first, others);
+        let _count = found.count_including_deleted();
+        least = least.min(start.elapsed(rt)?);
+    }
+    Ok(of(least, docs))
+}
