@@ -74,14 +74,18 @@ fn of(took: Duration, docs: u32) -> Measured {
 fn both(rt: &HostRuntime, frequent: &List, rare: &List) -> Result<Duration> {
     let mut least = Duration::MAX;
     for _ in 0..ROUNDS {
-        let first = QueryCursor::one(frequent.open()?);
-        let other = QueryCursor::one(rare.open()?);
-        let start = Instant::now(rt)?;
-        let mut found = QueryCursor::both(rt.alloc(), first, other)?;
-        let _count = found.count_including_deleted();
-        least = least.min(start.elapsed(rt)?);
+        least = least.min(both_once(rt, frequent, rare)?);
     }
     Ok(least)
+}
+
+fn both_once(rt: &HostRuntime, frequent: &List, rare: &List) -> Result<Duration> {
+    let first = QueryCursor::one(frequent.open()?);
+    let other = QueryCursor::one(rare.open()?);
+    let start = Instant::now(rt)?;
+    let mut found = QueryCursor::both(rt.alloc(), first, other)?;
+    let _count = found.count_including_deleted();
+    Ok(start.elapsed(rt)?)
 }
 
 fn both_by_hand(rt: &HostRuntime, frequent: &List, rare: &List) -> Result<Duration> {
@@ -99,14 +103,18 @@ fn both_by_hand(rt: &HostRuntime, frequent: &List, rare: &List) -> Result<Durati
 fn either(rt: &HostRuntime, first: &List, other: &List) -> Result<Duration> {
     let mut least = Duration::MAX;
     for _ in 0..ROUNDS {
-        let first = QueryCursor::one(first.open()?);
-        let other = QueryCursor::one(other.open()?);
-        let start = Instant::now(rt)?;
-        let mut found = QueryCursor::either(rt.alloc(), first, other)?;
-        let _count = found.count_including_deleted();
-        least = least.min(start.elapsed(rt)?);
+        least = least.min(either_once(rt, first, other)?);
     }
     Ok(least)
+}
+
+fn either_once(rt: &HostRuntime, first: &List, other: &List) -> Result<Duration> {
+    let one = QueryCursor::one(first.open()?);
+    let two = QueryCursor::one(other.open()?);
+    let start = Instant::now(rt)?;
+    let mut found = QueryCursor::either(rt.alloc(), one, two)?;
+    let _count = found.count_including_deleted();
+    Ok(start.elapsed(rt)?)
 }
 
 fn either_by_hand(rt: &HostRuntime, first: &List, other: &List) -> Result<Duration> {
