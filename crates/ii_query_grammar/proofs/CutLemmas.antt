@@ -7,7 +7,7 @@ use Rattle.std.proofs.Math.Seq.{drop-append_seam}
 use Rattle.std.proofs.lemmas.List.Folds.{length-prefix_len}
 use Rattle.std.proofs.lemmas.List.Sums.{prefix_len-le-length, prefix_len_passes, prefix_len_stops, take_while-cons}
 use Rattle.std.proofs.lemmas.Str.{IsCharBoundary-after_ascii, IsCharBoundary-before_ascii, IsCharBoundary-end, IsCharBoundary-start}
-use Rattle.ii_query_grammar.specs.Lexemes.{behind, begins, is_empty, is_phrase_byte, is_space, is_word_byte}
+use Rattle.ii_query_grammar.specs.Lexemes.{behind, begins, is_empty, is_phrase_byte, is_space, is_query_word_byte}
 
 -- whether no byte in front passes a test
 abbrev pub stops : (ℕ → Bool) → List ℕ → Bool
@@ -60,7 +60,7 @@ space_low b h =
     (low b 13 (lit< tt)) h
 
 -- a byte that ends a word, or a phrase, is a character of its own
-pub word_end_low : (b : ℕ) → is_word_byte b ≡ false → b < 128
+pub word_end_low : (b : ℕ) → is_query_word_byte b ≡ false → b < 128
 word_end_low b h =
     or_by (is_space b || b == 34 || b == 40 || b == 41) (b == 58) (b < 128)
     (or_by (is_space b || b == 34 || b == 40) (b == 41) (b < 128)
