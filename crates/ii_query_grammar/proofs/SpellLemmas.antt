@@ -2,20 +2,16 @@
 use Rattle.std.proofs.Common.{◌≡◌, ◌∙◌, ℕ, zero, suc, ◌+◌, ◌-◌, ◌≤◌, Bool, true, false, ◌||◌, ◌==◌, not, List, [], ◌∷◌, ◌++◌, append_assoc, append-nil, cond, length, nat_lt, Option, None, Some, Ok, refl, sym, ap, subst, arith}
 use Rattle.std.specs.Prelude.{bytes_eq, codes}
 use Rattle.std.specs.List.{list_all, take_while}
-use Rattle.std.proofs.lemmas.Bool.{eqb-true, not-true}
+use Rattle.std.proofs.lemmas.Bool.{and_parts, eqb-true, not-true, or_parts}
 use Rattle.ii_query_grammar.specs.declared.user_input_ast.Delimiter.{Delimiter}
 use Rattle.ii_query_grammar.specs.declared.user_input_ast.Delimiter.TheVariants as delimiters
 use Rattle.ii_query_grammar.specs.Grammar.{Kind, Spells, all, alone, and, and_not, beside, chain, in_parentheses, nothing, one, or, part, query, token, wanted}
-use Rattle.ii_query_grammar.specs.Lexemes.{Front, Token, and_word, behind, begins, closing, ended_phrase, front_at, front_with, is_empty, is_phrase_byte, is_space, is_query_word_byte, literal, literal_with, minus, one_more, opening, or_word, phrase_front, tokens, value_front, word_front, word_lexeme}
+use Rattle.ii_query_grammar.specs.Lexemes.{Front, Token, and_word, begins, behind, closing, ended_phrase, front_at, front_with, is_empty, is_phrase_byte, is_query_word_byte, is_space, literal, literal_with, minus, one_more, opening, or_word, phrase_front, tokens, value_front, word_front, word_lexeme}
 use Rattle.ii_query_grammar.specs.Parsed.{parsed}
-use Rattle.ii_query_grammar.specs.Spelling.{delimited, field_text, has_spelling, may_stand_alone, is_literal, is_no_operator, is_plain_word, is_value, is_word, literal_text, num_lexemes, num_parentheses, part_text, spelled}
+use Rattle.ii_query_grammar.specs.Spelling.{delimited, field_text, has_spelling, is_literal, is_no_operator, is_plain_word, is_value, is_word, literal_text, may_stand_alone, num_lexemes, num_parentheses, part_text, spelled}
 use Rattle.ii_query_grammar.specs.Trees.{Ast, Literal, both, either, leaf, without}
 use Rattle.ii_query_grammar.proofs.CompleteLemmas.{reads_query}
-use Rattle.ii_query_grammar.proofs.CutLemmas.{and_parts, left, left_space, stops, taken}
-
-or_false : (a b : Bool) → (a || b) ≡ false → (a ≡ false) × (b ≡ false)
-or_false true b h = absurd (cc)
-or_false false b h = (refl, h)
+use Rattle.ii_query_grammar.proofs.CutLemmas.{left, left_space, stops, taken}
 
 -- whether what is spelled may end before this: nothing, a space or a parenthesis that closes
 abbrev ends : List ℕ → Bool
@@ -43,10 +39,10 @@ record IsPlain (b : ℕ) : Type 0 where
 
 is_plain : (b : ℕ) → is_query_word_byte b ≡ true → IsPlain b
 is_plain b h =
-    let colon = or_false (is_space b || b == 34 || b == 40 || b == 41) (b == 58) (not-true _ h) in
-    let closing = or_false (is_space b || b == 34 || b == 40) (b == 41) colon.0 in
-    let opening = or_false (is_space b || b == 34) (b == 40) closing.0 in
-    let quote = or_false (is_space b) (b == 34) opening.0 in
+    let colon = or_parts (is_space b || b == 34 || b == 40 || b == 41) (b == 58) (not-true _ h) in
+    let closing = or_parts (is_space b || b == 34 || b == 40) (b == 41) colon.0 in
+    let opening = or_parts (is_space b || b == 34) (b == 40) closing.0 in
+    let quote = or_parts (is_space b) (b == 34) opening.0 in
     record { no_space = quote.0; no_quote = quote.1; no_opening = opening.1; no_closing = closing.1 }
 
 -- four tests that fail

@@ -1,5 +1,5 @@
 ghost use Rattle.std.specs.Prelude.{◌≡◌, ◌<◌, ◌≤◌, drop, false, true, length, take_while, IfSome, MatchOption};
-ghost use Rattle.ii_query_grammar.specs.Lexemes.{Strips, behind, begins, is_empty, is_phrase_byte, is_space, is_query_word_byte};
+ghost use Rattle.ii_query_grammar.specs.Lexemes.{Strips, begins, behind, is_empty, is_phrase_byte, is_query_word_byte, is_space};
 
 /// What comes after the spaces in front.
 pub(crate) fn behind_spaces(text: &str) -> &str

@@ -1,7 +1,7 @@
 ghost use Rattle.std.specs.Prelude.{◌≡◌, IfOk, List, string_bytes};
 ghost use Rattle.std.specs.Option.{option_copied, option_map};
 ghost use Rattle.ii_query_grammar.specs.Lexemes.{literal_seen, token_seen};
-ghost use Rattle.ii_query_grammar.specs.Parsed.{IsReadAs, GoesOn, GroupState, OnlyMemoryRefuses, parsed, read_closing, read_end, read_one, read_sign, group_of, stack_of, whole_of};
+ghost use Rattle.ii_query_grammar.specs.Parsed.{GoesOn, GroupState, IsReadAs, OnlyMemoryRefuses, group_of, parsed, read_closing, read_end, read_one, read_sign, stack_of, whole_of};
 ghost use Rattle.ii_query_grammar.specs.Trees.{ast_of, leaf};
 
 use crate::group::Group;
