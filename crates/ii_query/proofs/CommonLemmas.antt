@@ -1,5 +1,6 @@
 -- What two lists have in common is the same whichever leads.
 use Rattle.std.proofs.Common.{◌≡◌, ◌≢◌, ℕ, ◌<◌, ◌≤◌, Bool, true, false, ◌&&◌, List, [], ◌∷◌, inl, inr, refl, sym, ap, ◌∙◌, arith}
+use Rattle.std.proofs.Math.Bool.{and_comm}
 use Rattle.std.proofs.lemmas.Bool.{eq-eqb, ne_eqb}
 use Rattle.std.proofs.lemmas.Bool.Decides.{eqb_tells}
 use Rattle.std.specs.Prelude.{filter, map}
@@ -10,13 +11,8 @@ use Rattle.ii_query.specs.Combined.{common, picked}
 use Rattle.ii_query.proofs.MatchLaws.{common_has}
 use Rattle.ii_query.proofs.PickedLemmas.{has_below, picked_sound}
 
-and_swap : (a b : Bool) → (a && b) ≡ (b && a)
-and_swap true true = refl
-and_swap true false = refl
-and_swap false true = refl
-and_swap false false = refl
-
-has_first : (e : Entry) (es : List Entry) → has_doc (e ∷ es) e.doc ≡ true
+-- a list has its first document
+pub has_first : (e : Entry) (es : List Entry) → has_doc (e ∷ es) e.doc ≡ true
 has_first e es = rw (eq-eqb e.doc e.doc refl) refl
 
 -- the first document of one list is not below that of another one with the same documents
@@ -57,5 +53,5 @@ picked_again holds es = ap (map document) (docs_again (filter holds (docs_of es)
 
 pub common_swaps : (es fs : List Entry) → IsSound es → IsSound fs → common es fs ≡ common fs es
 common_swaps es fs sound also =
-    let same = same_docs (common es fs) (common fs es) (picked_sound (has_doc fs) es sound).ascending (picked_sound (has_doc es) fs also).ascending (λ d. common_has es fs d ∙ and_swap (has_doc es d) (has_doc fs d) ∙ sym (common_has fs es d)) in
+    let same = same_docs (common es fs) (common fs es) (picked_sound (has_doc fs) es sound).ascending (picked_sound (has_doc es) fs also).ascending (λ d. common_has es fs d ∙ and_comm (has_doc es d) (has_doc fs d) ∙ sym (common_has fs es d)) in
     sym (picked_again (has_doc fs) es) ∙ ap (map document) same ∙ picked_again (has_doc es) fs

@@ -1,5 +1,6 @@
 -- Which documents combined lists have.
-use Rattle.std.proofs.Common.{◌≡◌, ◌≢◌, ℕ, ◌<◌, Bool, true, false, ◌&&◌, ◌||◌, List, [], ◌∷◌, inl, inr, refl, ap, ◌∙◌, arith}
+use Rattle.std.proofs.Common.{◌≡◌, ◌≢◌, ℕ, ◌<◌, Bool, true, false, ◌&&◌, ◌||◌, List, [], ◌∷◌, inl, inr, refl, sym, ap, ◌∙◌, arith}
+use Rattle.std.proofs.Math.Bool.{and-false, or_assoc, or_self_left}
 use Rattle.std.proofs.lemmas.Bool.{eq-eqb, ne_eqb}
 use Rattle.std.proofs.lemmas.Bool.Decides.{eqb_tells, leb_tells}
 use Rattle.std.specs.Prelude.{map, nat_eq, not}
@@ -9,10 +10,6 @@ use Rattle.ii_docset.specs.Cursor.{doc_at, IsAscending, from_doc}
 use Rattle.ii_docset.specs.Intersection.{has_doc}
 use Rattle.ii_query.specs.Combined.{common, either, picked, put_all, put_in, without}
 use Rattle.ii_query.proofs.PickedLemmas.{has_below}
-
-and_false : (a : Bool) → (a && false) ≡ false
-and_false true = refl
-and_false false = refl
 
 -- a picked document is in the list, and what picks holds of it
 picked_has : (holds : ℕ → Bool) (es : List Entry) (doc : ℕ) → has_doc (picked holds es) doc ≡ (has_doc es doc && holds doc)
@@ -24,7 +21,7 @@ picked_has holds (e ∷ es) doc = elim (eqb_tells e.doc doc) [
   where
     here : (nat_eq e.doc doc ≡ true) × (e.doc ≡ doc) → has_doc (picked holds es) doc ≡ (has_doc es doc && holds doc) → (b : Bool) → holds e.doc ≡ b → holds e.doc ≡ holds doc → has_doc (picked holds (e ∷ es)) doc ≡ (has_doc (e ∷ es) doc && holds doc)
     here h later true is same = rw (is, h.0, ← same, is) refl
-    here h later false is same = rw (is, h.0, later, ← same, is) (and_false (has_doc es doc))
+    here h later false is same = rw (is, h.0, later, ← same, is) (and-false (has_doc es doc))
 
     there : (nat_eq e.doc doc ≡ false) × (e.doc ≢ doc) → has_doc (picked holds es) doc ≡ (has_doc es doc && holds doc) → (b : Bool) → holds e.doc ≡ b → has_doc (picked holds (e ∷ es)) doc ≡ (has_doc (e ∷ es) doc && holds doc)
     there h later true is = rw (is, h.0) later
@@ -43,19 +40,11 @@ or_swap true true c = refl
 or_swap true false c = refl
 or_swap false b c = refl
 
-or_twice : (a c : Bool) → (a || c) ≡ (a || (a || c))
-or_twice true c = refl
-or_twice false c = refl
-
-or_same : (a b c : Bool) → (a || (b || c)) ≡ ((a || b) || c)
-or_same true b c = refl
-or_same false b c = refl
-
 put_has : (d : ℕ) (ds : List ℕ) (doc : ℕ) → has_doc (map document (put_in d ds)) doc ≡ (nat_eq d doc || has_doc (map document ds) doc)
 put_has d [] doc = refl
 put_has d (x ∷ xs) doc = elim (leb_tells d x) [
   | inl a ↦ elim (leb_tells x d) [
-    | inl b ↦ let up = a.1 in let low = b.1 in let same : d ≡ x = omega (arith, up, low) in rw (a.0, b.0, same) (or_twice (nat_eq x doc) (has_doc (map document xs) doc))
+    | inl b ↦ let up = a.1 in let low = b.1 in let same : d ≡ x = omega (arith, up, low) in rw (a.0, b.0, same) (sym (or_self_left (nat_eq x doc) (has_doc (map document xs) doc)))
     | inr b ↦ rw (a.0, b.0) refl
   ]
   | inr a ↦ rw (a.0, put_has d xs doc) (or_swap (nat_eq x doc) (nat_eq d doc) (has_doc (map document xs) doc))
@@ -71,7 +60,7 @@ either_has [] fs doc = docs_has fs doc
 either_has (e ∷ es) fs doc =
     put_has e.doc (put_all (docs_of es) (docs_of fs)) doc
     ∙ ap (λ (b : Bool). nat_eq e.doc doc || b) (either_has es fs doc)
-    ∙ or_same (nat_eq e.doc doc) (has_doc es doc) (has_doc fs doc)
+    ∙ sym (or_assoc (nat_eq e.doc doc) (has_doc es doc) (has_doc fs doc))
 
 -- a list has the document that it begins with from there on
 pub has_found : (es : List Entry) (doc : ℕ) → doc < TERMINATED → doc_at (from_doc doc es) ≡ doc → has_doc es doc ≡ true

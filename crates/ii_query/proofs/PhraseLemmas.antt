@@ -2,6 +2,7 @@
 use Rattle.std.proofs.Common.{◌≡◌, ◌≢◌, ◌∙◌, ℕ, ◌+◌, ◌-◌, ◌<◌, ◌≤◌, Bool, true, false, ◌&&◌, ◌||◌, List, [], ◌∷◌, drop, inl, inr, refl, sym, ap, subst, arith}
 use Rattle.std.specs.Prelude.{filter, map, nat_eq}
 use Rattle.std.specs.List.{AllByRecursion, list_any}
+use Rattle.std.proofs.Math.Bool.{or-false}
 use Rattle.std.proofs.lemmas.Bool.{cases_lt, eq-eqb, ne_eqb}
 use Rattle.std.proofs.lemmas.Bool.Decides.{eqb_tells, leb_tells}
 use Rattle.ii_base.specs.declared.doc_id.TheConstants.{TERMINATED}
@@ -12,10 +13,6 @@ use Rattle.ii_docset.specs.Intersection.{has_doc}
 use Rattle.ii_query.specs.Combined.{IsAtFirst}
 use Rattle.ii_query.specs.Phrase.{IsAtDoc, MeetsAt, PhrasePartState, begins_phrase, has_position, is_among, phrase_docs, stand_from, stand_here}
 use Rattle.ii_query.proofs.PickedLemmas.{fit}
-
-or_false : (b : Bool) → (b || false) ≡ b
-or_false true = refl
-or_false false = refl
 
 -- the documents of the entries of a list for which something holds
 abbrev pub kept : (Entry → Bool) → List Entry → List Entry
@@ -121,7 +118,7 @@ has_here : (doc position : ℕ) (es : List Entry) → IsAscending es → doc_at 
 has_here doc position [] ascend here low = absurd (omega (arith, here, low))
 has_here doc position (e ∷ es) ascend here low =
     let next = ascend.0 in
-    rw (eq-eqb e.doc doc here, has_below doc position es ascend.1 (omega (arith, here, next))) (or_false (is_among e.positions position))
+    rw (eq-eqb e.doc doc here, has_below doc position es ascend.1 (omega (arith, here, next))) (or-false (is_among e.positions position))
 
 -- the other terms stand where they are
 stand_at : (others : List PhrasePartState) (doc start : ℕ) → AllByRecursion (IsAtDoc doc) others → doc < TERMINATED → stand_here others start ≡ stand_from others doc start

@@ -141,9 +141,6 @@ reading_before positions from count buffer r some =
 pub reading_within : (positions : List ℕ) (from count : ℕ) (buffer : List ℕ) → IsReading positions from count buffer → from + count ≤ length positions
 reading_within positions from count buffer r = let count_is = r.count_is in let within = r.within in omega (arith, count_is, within)
 
-pub reading_smaller : (positions : List ℕ) (from count : ℕ) (buffer : List ℕ) → IsReading positions from count buffer → 0 < count → length positions - (from + count) < length positions - from
-reading_smaller positions from count buffer r some = let count_is = r.count_is in let within = r.within in omega (arith, count_is, within, some)
-
 -- what is left of the positions: those read, and those to come
 left_is : (f : ℕ → Bool) (positions : List ℕ) (from count : ℕ) (buffer : List ℕ) → IsReading positions from count buffer → list_any f (drop from positions) ≡ (list_any f (take count buffer) || list_any f (drop (from + count) positions))
 left_is f positions from count buffer r =
@@ -162,11 +159,6 @@ reading_on f positions from count buffer r none left = sym (left_is f positions 
 
 pub reading_found : (f : ℕ → Bool) (positions : List ℕ) (from count : ℕ) (buffer : List ℕ) → IsReading positions from count buffer → list_any f (take count buffer) ≡ true → list_any f (drop from positions) ≡ list_any f positions → true ≡ list_any f positions
 reading_found f positions from count buffer r some left = sym (left_is f positions from count buffer r ∙ rw some refl) ∙ left
-
-pub reading_all : (f : ℕ → Bool) (positions : List ℕ) (from count : ℕ) (buffer : List ℕ) → IsReading positions from count buffer → count ≤ 0 → list_any f (drop from positions) ≡ list_any f positions → false ≡ list_any f positions
-reading_all f positions from count buffer r none left =
-    let count_is = r.count_is in
-    sym (ap (list_any f) (drop_all from positions (omega (arith, count_is, none)))) ∙ left
 
 -- a position of 32 bits isn't a greater number
 none_among : (ps : List ℕ) (n : ℕ) → All (λ (p : ℕ). p < 2 ^ 32) ps → 2 ^ 32 ≤ n → is_among ps n ≡ false

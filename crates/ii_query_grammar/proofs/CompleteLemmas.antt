@@ -3,7 +3,7 @@ use Rattle.std.proofs.Common.{◌≡◌, ◌∙◌, ℕ, List, [], ◌∷◌, �
 use Rattle.std.specs.Prelude.{⊤}
 use Rattle.ii_query_grammar.specs.Grammar.{Kind, Spells, all, alone, and, and_not, beside, chain, clauses, excluded, in_parentheses, nothing, one, or, part, query, token, wanted, wants}
 use Rattle.ii_query_grammar.specs.Lexemes.{Token, and_word, closing, minus, opening, or_word}
-use Rattle.ii_query_grammar.specs.Parsed.{GroupState, PlaceState, begins, behind_and, behind_and_minus, behind_minus, behind_or, chained, empty, joined, minus_at, put, put_at, read, read_closing, read_end, read_sign, whole, whole_at, whole_of}
+use Rattle.ii_query_grammar.specs.Parsed.{GroupState, PlaceState, begins, behind_and, behind_and_minus, behind_minus, behind_or, chained, empty, joined_by_or, minus_at, put, put_at, read, read_closing, read_end, read_sign, whole, whole_at, whole_of}
 use Rattle.ii_query_grammar.specs.Trees.{Ast, both, either, without}
 
 -- A chain may begin here.
@@ -18,7 +18,7 @@ MayBegin behind_minus = ⊥
 -- what is wanted before a chain that begins here
 abbrev before : Option Ast → PlaceState → Option Ast
 before w begins = w
-before w (chained c) = Some (joined w c)
+before w (chained c) = Some (joined_by_or w c)
 before w (behind_and c) = w
 before w (behind_and_minus c) = w
 before w behind_or = w
@@ -39,7 +39,7 @@ put_begins w e behind_minus t may = absurd may
 -- A group wants and excludes this, where it stands between two clauses.
 abbrev IsBetween : Option Ast → Option Ast → Option Ast → Option Ast → PlaceState → Type 0
 IsBetween w e v f begins = (v ≡ w) × (f ≡ e)
-IsBetween w e v f (chained c) = (Some (joined v c) ≡ w) × (f ≡ e)
+IsBetween w e v f (chained c) = (Some (joined_by_or v c) ≡ w) × (f ≡ e)
 IsBetween w e v f (behind_and c) = ⊥
 IsBetween w e v f (behind_and_minus c) = ⊥
 IsBetween w e v f behind_or = ⊥
@@ -86,7 +86,7 @@ abbrev GoesOver : Kind → List Token → Type 0
 GoesOver (part t) ls = (size : ℕ) (opened : List GroupState) (g : GroupState) (rest : List Token) → read size opened g (ls ++ rest) ≡ read size opened (put g t) rest
 GoesOver (chain t) ls = (size : ℕ) (opened : List GroupState) (g : GroupState) (rest : List Token) → MayBegin g.place → read size opened g (ls ++ rest) ≡ read size opened (with_chain (before g.wanted g.place) g.excluded t) rest
 GoesOver (clauses w e) ls = (g : GroupState) × IsBetween w e g.wanted g.excluded g.place × LeadsTo g ls
-GoesOver (wants w e) ls = (v : Option Ast) × (c : Ast) × (w ≡ joined v c) × LeadsTo (with_chain v e c) ls
+GoesOver (wants w e) ls = (v : Option Ast) × (c : Ast) × (w ≡ joined_by_or v c) × LeadsTo (with_chain v e c) ls
 GoesOver (query t) ls = (g : GroupState) × (whole_of g ≡ Ok t) × LeadsTo g ls
 
 over_parentheses : (t : Ast) (ls : List Token) (at end : ℕ) → GoesOver (query t) ls → GoesOver (part t) (token at opening ∷ (ls ++ token end closing ∷ []))
@@ -116,7 +116,7 @@ leads_behind : (g : GroupState) (ks ls : List Token) (h : GroupState) → LeadsT
 leads_behind g ks ls h leads over = λ size opened rest.
     ap (read size opened empty) (append_assoc ks ls rest) ∙ leads size opened (ls ++ rest) ∙ over size opened rest
 
-over_beside : (w e : Option Ast) (t : Ast) (ks ls : List Token) → GoesOver (clauses w e) ks → GoesOver (chain t) ls → GoesOver (wants (joined w t) e) (ks ++ ls)
+over_beside : (w e : Option Ast) (t : Ast) (ks ls : List Token) → GoesOver (clauses w e) ks → GoesOver (chain t) ls → GoesOver (wants (joined_by_or w t) e) (ks ++ ls)
 over_beside w e t ks ls (g, is, leads) other =
     let may = may_between w e g.wanted g.excluded g.place is in (
       w,
@@ -129,21 +129,21 @@ over_beside w e t ks ls (g, is, leads) other =
 
 over_or : (w t : Ast) (e : Option Ast) (ks ls : List Token) (at : ℕ) → GoesOver (wants w e) ks → GoesOver (chain t) ls → GoesOver (wants (either w t) e) (ks ++ token at or_word ∷ ls)
 over_or w t e ks ls at (v, c, is, leads) other = (
-  Some (joined v c),
+  Some (joined_by_or v c),
   t,
   ap (λ (a : Ast). either a t) is,
-  leads_behind (with_chain v e c) ks (token at or_word ∷ ls) (with_chain (Some (joined v c)) e t) leads (λ size opened rest.
-      other size opened (record { wanted = Some (joined v c); excluded = e; place = behind_or }) rest tt),
+  leads_behind (with_chain v e c) ks (token at or_word ∷ ls) (with_chain (Some (joined_by_or v c)) e t) leads (λ size opened rest.
+      other size opened (record { wanted = Some (joined_by_or v c); excluded = e; place = behind_or }) rest tt),
 )
 
 over_wanted : (w : Ast) (e : Option Ast) (ls : List Token) → GoesOver (wants w e) ls → GoesOver (clauses (Some w) e) ls
 over_wanted w e ls (v, c, is, leads) = (with_chain v e c, (ap Some (sym is), refl), leads)
 
-over_excluded : (w e : Option Ast) (t : Ast) (ks ls : List Token) (at : ℕ) → GoesOver (clauses w e) ks → GoesOver (part t) ls → GoesOver (clauses w (Some (joined e t))) (ks ++ token at minus ∷ ls)
+over_excluded : (w e : Option Ast) (t : Ast) (ks ls : List Token) (at : ℕ) → GoesOver (clauses w e) ks → GoesOver (part t) ls → GoesOver (clauses w (Some (joined_by_or e t))) (ks ++ token at minus ∷ ls)
 over_excluded w e t ks ls at (g, is, leads) other = (
-  record { wanted = w; excluded = Some (joined e t); place = begins },
+  record { wanted = w; excluded = Some (joined_by_or e t); place = begins },
   (refl, refl),
-  leads_behind g ks (token at minus ∷ ls) (record { wanted = w; excluded = Some (joined e t); place = begins }) leads (λ size opened rest.
+  leads_behind g ks (token at minus ∷ ls) (record { wanted = w; excluded = Some (joined_by_or e t); place = begins }) leads (λ size opened rest.
       ap (read_sign (λ others inner. read size others inner (ls ++ rest)) opened at) (minus_between w e g.wanted g.excluded g.place is)
       ∙ other size opened (record { wanted = w; excluded = e; place = behind_minus }) rest),
 )

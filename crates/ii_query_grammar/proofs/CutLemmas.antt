@@ -2,21 +2,17 @@
 use Rattle.std.proofs.Common.{◌≡◌, ◌∙◌, ℕ, zero, suc, add-one, lit<, ◌<◌, Bool, true, false, ◌&&◌, ◌||◌, ◌==◌, not, List, [], ◌∷◌, ◌++◌, drop, get_or, length, refl, ap, arith, eqb, ⊎_elim}
 use Rattle.std.specs.List.{list_all, prefix_len, take_while}
 use Rattle.std.specs.Str.{IsCharBoundary, IsUtf8}
-use Rattle.std.proofs.lemmas.Bool.{cases_lt, eq-eqb, eqb-true, ne_eqb, not-false, not-true}
+use Rattle.std.proofs.lemmas.Bool.{and_parts, cases_lt, eq-eqb, eqb-true, ne_eqb, not-false, not-true}
 use Rattle.std.proofs.Math.Seq.{drop-append_seam}
 use Rattle.std.proofs.lemmas.List.Folds.{length-prefix_len}
 use Rattle.std.proofs.lemmas.List.Sums.{prefix_len-le-length, prefix_len_passes, prefix_len_stops, take_while-cons}
 use Rattle.std.proofs.lemmas.Str.{IsCharBoundary-after_ascii, IsCharBoundary-before_ascii, IsCharBoundary-end, IsCharBoundary-start}
-use Rattle.ii_query_grammar.specs.Lexemes.{behind, begins, is_empty, is_phrase_byte, is_space, is_word_byte}
+use Rattle.ii_query_grammar.specs.Lexemes.{begins, behind, is_empty, is_phrase_byte, is_query_word_byte, is_space}
 
 -- whether no byte in front passes a test
 abbrev pub stops : (ℕ → Bool) → List ℕ → Bool
 stops test [] = true
 stops test (b ∷ bs) = not (test b)
-
-pub and_parts : (a b : Bool) → (a && b) ≡ true → (a ≡ true) × (b ≡ true)
-and_parts true b h = (refl, h)
-and_parts false b h = absurd (cc)
 
 none_taken : (test : ℕ → Bool) (ys : List ℕ) → stops test ys ≡ true → take_while test ys ≡ []
 none_taken test [] stop = refl
@@ -60,7 +56,7 @@ space_low b h =
     (low b 13 (lit< tt)) h
 
 -- a byte that ends a word, or a phrase, is a character of its own
-pub word_end_low : (b : ℕ) → is_word_byte b ≡ false → b < 128
+pub word_end_low : (b : ℕ) → is_query_word_byte b ≡ false → b < 128
 word_end_low b h =
     or_by (is_space b || b == 34 || b == 40 || b == 41) (b == 58) (b < 128)
     (or_by (is_space b || b == 34 || b == 40) (b == 41) (b < 128)
@@ -83,16 +79,7 @@ spaces_end text (suc k) is utf8 =
 pub space_boundary : (text : List ℕ) → IsUtf8 text → IsCharBoundary text (length (take_while is_space text))
 space_boundary text utf8 = rw (length-prefix_len is_space text) (spaces_end text (prefix_len is_space text) refl utf8)
 
--- whether a text is empty, by its length
-pub empty_by_length : (text : List ℕ) → (eqb (length text) 0) ≡ is_empty text
-empty_by_length [] = refl
-empty_by_length (b ∷ bs) = ne_eqb (length (b ∷ bs)) 0 (λ is. omega (arith, is))
-
 -- whether it begins with a byte, by that byte
 pub begins_by : (c : ℕ) (text : List ℕ) → 0 < length text → get_or text 0 0 ≡ c → begins c text ≡ true
 begins_by c [] some is = absurd (omega (arith, some))
 begins_by c (b ∷ bs) some is = eq-eqb b c is
-
-pub begins_not : (c : ℕ) (text : List ℕ) → (get_or text 0 0 ≡ c → ⊥) → begins c text ≡ false
-begins_not c [] other = refl
-begins_not c (b ∷ bs) other = ne_eqb b c other

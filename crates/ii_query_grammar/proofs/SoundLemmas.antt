@@ -3,7 +3,7 @@ use Rattle.std.proofs.Common.{◌≡◌, ◌∙◌, ℕ, List, [], ◌∷◌, �
 use Rattle.ii_query_grammar.specs.declared.parse_error.Wanted.{Wanted}
 use Rattle.ii_query_grammar.specs.Grammar.{Spells, all, alone, and, and_not, beside, chain, clauses, excluded, in_parentheses, nothing, one, or, part, query, token, wanted, wants}
 use Rattle.ii_query_grammar.specs.Lexemes.{Lexeme, Token, and_word, broken, closing, literal, minus, opening, or_word}
-use Rattle.ii_query_grammar.specs.Parsed.{GroupState, PlaceState, SyntaxError, and_at, begins, behind_and, behind_and_minus, behind_minus, behind_or, chained, empty, joined, minus_at, or_at, put, put_and, put_at, put_minus, put_or, read, read_closing, read_end, read_sign, whole_at, whole_of}
+use Rattle.ii_query_grammar.specs.Parsed.{GroupState, PlaceState, SyntaxError, and_at, begins, behind_and, behind_and_minus, behind_minus, behind_or, chained, empty, joined_by_or, minus_at, or_at, put, put_and, put_at, put_minus, put_or, read, read_closing, read_end, read_sign, whole_at, whole_of}
 use Rattle.ii_query_grammar.specs.Trees.{Ast, leaf}
 
 -- Lexemes end where a chain may begin: behind clauses, or behind an OR.
@@ -35,16 +35,16 @@ moved : (js : List Token) (x : Token) (ls : List Token) → (js ++ x ∷ []) ++ 
 moved js x ls = append_assoc js (x ∷ []) ls
 
 -- a chain that ends is wanted
-chain_wants : (w e : Option Ast) (c : Ast) (done : List Token) → Chains w e c done → Spells (wants (joined w c) e) done
+chain_wants : (w e : Option Ast) (c : Ast) (done : List Token) → Chains w e c done → Spells (wants (joined_by_or w c) e) done
 chain_wants w e c done is = by is.ready
   where
-    by : Ready w e is.front → Spells (wants (joined w c) e) done
-    by (inl spells) = subst (λ (l : List Token). Spells (wants (joined w c) e) l) (sym is.done_is) (beside spells is.chains)
+    by : Ready w e is.front → Spells (wants (joined_by_or w c) e) done
+    by (inl spells) = subst (λ (l : List Token). Spells (wants (joined_by_or w c) e) l) (sym is.done_is) (beside spells is.chains)
     by (inr (v, js, at, w_is, front_is, spells)) =
-        subst (λ (l : List Token). Spells (wants (joined w c) e) l) (sym (is.done_is ∙ ap (λ (l : List Token). l ++ is.last) front_is ∙ moved js (token at or_word) is.last))
-        (subst (λ (o : Option Ast). Spells (wants (joined o c) e) (js ++ token at or_word ∷ is.last)) (sym w_is) (or at spells is.chains))
+        subst (λ (l : List Token). Spells (wants (joined_by_or w c) e) l) (sym (is.done_is ∙ ap (λ (l : List Token). l ++ is.last) front_is ∙ moved js (token at or_word) is.last))
+        (subst (λ (o : Option Ast). Spells (wants (joined_by_or o c) e) (js ++ token at or_word ∷ is.last)) (sym w_is) (or at spells is.chains))
 
-chain_clauses : (w e : Option Ast) (c : Ast) (done : List Token) → Chains w e c done → Spells (clauses (Some (joined w c)) e) done
+chain_clauses : (w e : Option Ast) (c : Ast) (done : List Token) → Chains w e c done → Spells (clauses (Some (joined_by_or w c)) e) done
 chain_clauses w e c done is = wanted (chain_wants w e c done is)
 
 -- a part behind lexemes
@@ -67,7 +67,7 @@ put_stands w e (behind_and_minus c) t done ls (js, at, next, done_is, is) spells
 }
 put_stands w e behind_or t done ls is spells = record { front = done; last = ls; done_is = refl; ready = inr is; chains = one spells }
 put_stands w e behind_minus t done ls (js, at, done_is, is) spells =
-    subst (λ (l : List Token). Spells (clauses w (Some (joined e t))) l) (sym (ap (λ (l : List Token). l ++ ls) done_is ∙ moved js (token at minus) ls)) (excluded at is spells)
+    subst (λ (l : List Token). Spells (clauses w (Some (joined_by_or e t))) l) (sym (ap (λ (l : List Token). l ++ ls) done_is ∙ moved js (token at minus) ls)) (excluded at is spells)
 
 -- two constructors of an option
 none_is_no_some : {A : Type 0} (x : A) → None ≡ Some x → ⊥
@@ -88,7 +88,7 @@ and_stands w e behind_minus done at g is put = absurd (none_is_no_some g put)
 -- an OR behind lexemes
 or_stands : (w e : Option Ast) (p : PlaceState) (done : List Token) (at : ℕ) (g : GroupState) → StandsAt w e p done → or_at w e p ≡ Some g → Stands g (done ++ token at or_word ∷ [])
 or_stands w e begins done at g is put = absurd (none_is_no_some g put)
-or_stands w e (chained c) done at g is put = subst (λ (h : GroupState). Stands h (done ++ token at or_word ∷ [])) (some_is _ g put) (joined w c, done, at, refl, refl, chain_wants w e c done is)
+or_stands w e (chained c) done at g is put = subst (λ (h : GroupState). Stands h (done ++ token at or_word ∷ [])) (some_is _ g put) (joined_by_or w c, done, at, refl, refl, chain_wants w e c done is)
 or_stands w e (behind_and c) done at g is put = absurd (none_is_no_some g put)
 or_stands w e (behind_and_minus c) done at g is put = absurd (none_is_no_some g put)
 or_stands w e behind_or done at g is put = absurd (none_is_no_some g put)

@@ -2,35 +2,31 @@
 use Rattle.std.proofs.Common.{◌≡◌, ◌∙◌, ℕ, zero, suc, ◌+◌, ◌-◌, ◌≤◌, Bool, true, false, ◌||◌, ◌==◌, not, List, [], ◌∷◌, ◌++◌, append_assoc, append-nil, cond, length, nat_lt, Option, None, Some, Ok, refl, sym, ap, subst, arith}
 use Rattle.std.specs.Prelude.{bytes_eq, codes}
 use Rattle.std.specs.List.{list_all, take_while}
-use Rattle.std.proofs.lemmas.Bool.{eqb-true, not-true}
+use Rattle.std.proofs.lemmas.Bool.{and_parts, eqb-true, not-true, or_parts}
 use Rattle.ii_query_grammar.specs.declared.user_input_ast.Delimiter.{Delimiter}
 use Rattle.ii_query_grammar.specs.declared.user_input_ast.Delimiter.TheVariants as delimiters
 use Rattle.ii_query_grammar.specs.Grammar.{Kind, Spells, all, alone, and, and_not, beside, chain, in_parentheses, nothing, one, or, part, query, token, wanted}
-use Rattle.ii_query_grammar.specs.Lexemes.{Front, Token, and_word, behind, begins, closing, ended_phrase, front_at, front_with, is_empty, is_phrase_byte, is_space, is_word_byte, literal, literal_with, minus, one_more, opening, or_word, phrase_front, tokens, value_front, word_front, word_lexeme}
+use Rattle.ii_query_grammar.specs.Lexemes.{Front, Token, and_word, begins, behind, closing, ended_phrase, front_at, front_with, is_empty, is_phrase_byte, is_query_word_byte, is_space, literal, literal_with, minus, one_more, opening, or_word, phrase_front, tokens, value_front, word_front, word_lexeme}
 use Rattle.ii_query_grammar.specs.Parsed.{parsed}
-use Rattle.ii_query_grammar.specs.Spelling.{delimited, field_text, has_spelling, is_alone, is_literal, is_no_operator, is_plain_word, is_value, is_word, literal_text, num_lexemes, num_parentheses, part_text, spelled}
+use Rattle.ii_query_grammar.specs.Spelling.{delimited, field_text, has_spelling, is_literal, is_no_operator, is_plain_word, is_value, is_word, literal_text, may_stand_alone, num_lexemes, num_parentheses, part_text, spelled}
 use Rattle.ii_query_grammar.specs.Trees.{Ast, Literal, both, either, leaf, without}
 use Rattle.ii_query_grammar.proofs.CompleteLemmas.{reads_query}
-use Rattle.ii_query_grammar.proofs.CutLemmas.{and_parts, left, left_space, stops, taken}
-
-or_false : (a b : Bool) → (a || b) ≡ false → (a ≡ false) × (b ≡ false)
-or_false true b h = absurd (cc)
-or_false false b h = (refl, h)
+use Rattle.ii_query_grammar.proofs.CutLemmas.{left, left_space, stops, taken}
 
 -- whether what is spelled may end before this: nothing, a space or a parenthesis that closes
 abbrev ends : List ℕ → Bool
 ends [] = true
 ends (b ∷ bs) = b == 32 || b == 41
 
-ends_by : (b c : ℕ) (bs : List ℕ) → b ≡ c → not (is_word_byte c) ≡ true → (c == 58) ≡ false → (stops is_word_byte (b ∷ bs) ≡ true) × (begins 58 (b ∷ bs) ≡ false)
-ends_by b c bs is stop other = (ap (λ (d : ℕ). not (is_word_byte d)) is ∙ stop, ap (λ (d : ℕ). d == 58) is ∙ other)
+ends_by : (b c : ℕ) (bs : List ℕ) → b ≡ c → not (is_query_word_byte c) ≡ true → (c == 58) ≡ false → (stops is_query_word_byte (b ∷ bs) ≡ true) × (begins 58 (b ∷ bs) ≡ false)
+ends_by b c bs is stop other = (ap (λ (d : ℕ). not (is_query_word_byte d)) is ∙ stop, ap (λ (d : ℕ). d == 58) is ∙ other)
 
-ends_either : (b : ℕ) (bs : List ℕ) (space : Bool) → (b == 32) ≡ space → (space || b == 41) ≡ true → (stops is_word_byte (b ∷ bs) ≡ true) × (begins 58 (b ∷ bs) ≡ false)
+ends_either : (b : ℕ) (bs : List ℕ) (space : Bool) → (b == 32) ≡ space → (space || b == 41) ≡ true → (stops is_query_word_byte (b ∷ bs) ≡ true) × (begins 58 (b ∷ bs) ≡ false)
 ends_either b bs true is h = ends_by b 32 bs (eqb-true b 32 is) refl refl
 ends_either b bs false is h = ends_by b 41 bs (eqb-true b 41 h) refl refl
 
 -- a word ends there, and is no name
-word_ends : (rest : List ℕ) → ends rest ≡ true → (stops is_word_byte rest ≡ true) × (begins 58 rest ≡ false)
+word_ends : (rest : List ℕ) → ends rest ≡ true → (stops is_query_word_byte rest ≡ true) × (begins 58 rest ≡ false)
 word_ends [] h = (refl, refl)
 word_ends (b ∷ bs) h = ends_either b bs (b == 32) refl h
 
@@ -41,12 +37,12 @@ record IsPlain (b : ℕ) : Type 0 where
   no_opening : (b == 40) ≡ false
   no_closing : (b == 41) ≡ false
 
-is_plain : (b : ℕ) → is_word_byte b ≡ true → IsPlain b
+is_plain : (b : ℕ) → is_query_word_byte b ≡ true → IsPlain b
 is_plain b h =
-    let colon = or_false (is_space b || b == 34 || b == 40 || b == 41) (b == 58) (not-true _ h) in
-    let closing = or_false (is_space b || b == 34 || b == 40) (b == 41) colon.0 in
-    let opening = or_false (is_space b || b == 34) (b == 40) closing.0 in
-    let quote = or_false (is_space b) (b == 34) opening.0 in
+    let colon = or_parts (is_space b || b == 34 || b == 40 || b == 41) (b == 58) (not-true _ h) in
+    let closing = or_parts (is_space b || b == 34 || b == 40) (b == 41) colon.0 in
+    let opening = or_parts (is_space b || b == 34) (b == 40) closing.0 in
+    let quote = or_parts (is_space b) (b == 34) opening.0 in
     record { no_space = quote.0; no_quote = quote.1; no_opening = opening.1; no_closing = closing.1 }
 
 -- four tests that fail
@@ -57,14 +53,14 @@ both_fail : (p q : Bool) (a b c : Front) → p ≡ false → q ≡ false → con
 both_fail p q a b c h i = rw (h, i) refl
 
 -- a word that begins without a minus
-plain_front : (size at b : ℕ) (bs rest : List ℕ) → is_plain_word (b ∷ bs) ≡ true → stops is_word_byte rest ≡ true → front_at size at ((b ∷ bs) ++ rest) ≡ word_front size at (b ∷ bs) rest
+plain_front : (size at b : ℕ) (bs rest : List ℕ) → is_plain_word (b ∷ bs) ≡ true → stops is_query_word_byte rest ≡ true → front_at size at ((b ∷ bs) ++ rest) ≡ word_front size at (b ∷ bs) rest
 plain_front size at b bs rest h stop =
     let word = and_parts (is_word (b ∷ bs)) (not (b == 45)) h in
-    let bytes = and_parts (nat_lt 0 (length (b ∷ bs))) (list_all is_word_byte (b ∷ bs)) word.0 in
-    let plain = is_plain b (and_parts (is_word_byte b) (list_all is_word_byte bs) bytes.1).0 in
+    let bytes = and_parts (nat_lt 0 (length (b ∷ bs))) (list_all is_query_word_byte (b ∷ bs)) word.0 in
+    let plain = is_plain b (and_parts (is_query_word_byte b) (list_all is_query_word_byte bs) bytes.1).0 in
     all_fail (b == 40) (b == 41) (b == 45) (b == 34) _ _ _ _ _ plain.no_opening plain.no_closing (not-true (b == 45) word.1) plain.no_quote
-    ∙ ap (λ (w : List ℕ). word_front size at w (behind is_word_byte ((b ∷ bs) ++ rest))) (taken is_word_byte (b ∷ bs) rest bytes.1 stop)
-    ∙ ap (word_front size at (b ∷ bs)) (left is_word_byte (b ∷ bs) rest bytes.1 stop)
+    ∙ ap (λ (w : List ℕ). word_front size at w (behind is_query_word_byte ((b ∷ bs) ++ rest))) (taken is_query_word_byte (b ∷ bs) rest bytes.1 stop)
+    ∙ ap (word_front size at (b ∷ bs)) (left is_query_word_byte (b ∷ bs) rest bytes.1 stop)
 
 -- a word that is searched for
 word_literal : (word : List ℕ) → is_no_operator word ≡ true → word_lexeme word ≡ literal_with None word delimiters.None
@@ -79,16 +75,16 @@ quoted_front size at field phrase rest h =
     ∙ ap (ended_phrase size at field phrase) (left is_phrase_byte phrase (34 ∷ rest) h refl)
 
 -- a word or a phrase behind a name
-named_value : (size at : ℕ) (name : List ℕ) (delimiter : Delimiter) (phrase rest : List ℕ) → is_value delimiter phrase ≡ true → stops is_word_byte rest ≡ true
+named_value : (size at : ℕ) (name : List ℕ) (delimiter : Delimiter) (phrase rest : List ℕ) → is_value delimiter phrase ≡ true → stops is_query_word_byte rest ≡ true
     → value_front size at name (delimited delimiter phrase ++ rest) ≡ front_with at (literal_with (Some name) phrase delimiter) rest
 named_value size at name delimiters.None [] rest h stop = absurd (cc)
 named_value size at name delimiters.None (b ∷ bs) rest h stop =
-    let bytes = and_parts (nat_lt 0 (length (b ∷ bs))) (list_all is_word_byte (b ∷ bs)) h in
-    let plain = is_plain b (and_parts (is_word_byte b) (list_all is_word_byte bs) bytes.1).0 in
-    let word = taken is_word_byte (b ∷ bs) rest bytes.1 stop in
-    both_fail (b == 34) (is_empty (take_while is_word_byte ((b ∷ bs) ++ rest))) _ _ _ plain.no_quote (ap is_empty word)
-    ∙ ap (λ (w : List ℕ). front_with at (literal_with (Some name) w delimiters.None) (behind is_word_byte ((b ∷ bs) ++ rest))) word
-    ∙ ap (front_with at (literal_with (Some name) (b ∷ bs) delimiters.None)) (left is_word_byte (b ∷ bs) rest bytes.1 stop)
+    let bytes = and_parts (nat_lt 0 (length (b ∷ bs))) (list_all is_query_word_byte (b ∷ bs)) h in
+    let plain = is_plain b (and_parts (is_query_word_byte b) (list_all is_query_word_byte bs) bytes.1).0 in
+    let word = taken is_query_word_byte (b ∷ bs) rest bytes.1 stop in
+    both_fail (b == 34) (is_empty (take_while is_query_word_byte ((b ∷ bs) ++ rest))) _ _ _ plain.no_quote (ap is_empty word)
+    ∙ ap (λ (w : List ℕ). front_with at (literal_with (Some name) w delimiters.None) (behind is_query_word_byte ((b ∷ bs) ++ rest))) word
+    ∙ ap (front_with at (literal_with (Some name) (b ∷ bs) delimiters.None)) (left is_query_word_byte (b ∷ bs) rest bytes.1 stop)
 named_value size at name delimiters.DoubleQuotes phrase rest h stop =
     ap (phrase_front size at (Some name)) (append_assoc phrase (34 ∷ []) rest) ∙ quoted_front size at (Some name) phrase rest h
 
@@ -98,14 +94,14 @@ record Begins (size : ℕ) (text : List ℕ) (l : Literal) (rest : List ℕ) : T
   some : is_empty text ≡ false
   front_is : (at : ℕ) → front_at size at text ≡ front_with at (literal l) rest
 
-begins_alone : (size : ℕ) (delimiter : Delimiter) (phrase rest : List ℕ) → is_alone delimiter phrase ≡ true → ends rest ≡ true
+begins_alone : (size : ℕ) (delimiter : Delimiter) (phrase rest : List ℕ) → may_stand_alone delimiter phrase ≡ true → ends rest ≡ true
     → Begins size (delimited delimiter phrase ++ rest) (record { field_name = None; phrase = phrase; delimiter = delimiter }) rest
 begins_alone size delimiters.None [] rest h end = absurd (cc)
 begins_alone size delimiters.None (b ∷ bs) rest h end =
     let parts = and_parts (is_plain_word (b ∷ bs)) (is_no_operator (b ∷ bs)) h in
     let word = and_parts (is_word (b ∷ bs)) (not (b == 45)) parts.0 in
-    let bytes = and_parts (nat_lt 0 (length (b ∷ bs))) (list_all is_word_byte (b ∷ bs)) word.0 in
-    let plain = is_plain b (and_parts (is_word_byte b) (list_all is_word_byte bs) bytes.1).0 in
+    let bytes = and_parts (nat_lt 0 (length (b ∷ bs))) (list_all is_query_word_byte (b ∷ bs)) word.0 in
+    let plain = is_plain b (and_parts (is_query_word_byte b) (list_all is_query_word_byte bs) bytes.1).0 in
     let stop = word_ends rest end in
     record {
       no_space = rw (plain.no_space) refl;
@@ -123,8 +119,8 @@ begins_named : (size : ℕ) (name : List ℕ) (delimiter : Delimiter) (phrase re
 begins_named size [] delimiter phrase rest h value end = absurd (cc)
 begins_named size (b ∷ bs) delimiter phrase rest h value end =
     let word = and_parts (is_word (b ∷ bs)) (not (b == 45)) h in
-    let bytes = and_parts (nat_lt 0 (length (b ∷ bs))) (list_all is_word_byte (b ∷ bs)) word.0 in
-    let plain = is_plain b (and_parts (is_word_byte b) (list_all is_word_byte bs) bytes.1).0 in
+    let bytes = and_parts (nat_lt 0 (length (b ∷ bs))) (list_all is_query_word_byte (b ∷ bs)) word.0 in
+    let plain = is_plain b (and_parts (is_query_word_byte b) (list_all is_query_word_byte bs) bytes.1).0 in
     record {
       no_space = rw (plain.no_space) refl;
       some = refl;

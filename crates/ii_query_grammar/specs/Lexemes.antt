@@ -37,8 +37,8 @@ abbrev pub is_space : ℕ → Bool
 is_space b = b == 32 || b == 9 || b == 10 || b == 13
 
 -- what words are made of: all but spaces, quotes, parentheses and colons
-abbrev pub is_word_byte : ℕ → Bool
-is_word_byte b = not (is_space b || b == 34 || b == 40 || b == 41 || b == 58)
+abbrev pub is_query_word_byte : ℕ → Bool
+is_query_word_byte b = not (is_space b || b == 34 || b == 40 || b == 41 || b == 58)
 
 -- what stands between quotes
 abbrev pub is_phrase_byte : ℕ → Bool
@@ -82,8 +82,8 @@ phrase_front size at field text = ended_phrase size at field (take_while is_phra
 abbrev pub value_front : ℕ → ℕ → List ℕ → List ℕ → Front
 value_front size at name text =
     if begins 34 text then phrase_front size at (Some name) (drop 1 text)
-    else if is_empty (take_while is_word_byte text) then broken_front (size - length text) Value
-    else front_with at (literal_with (Some name) (take_while is_word_byte text) delimiters.None) (behind is_word_byte text)
+    else if is_empty (take_while is_query_word_byte text) then broken_front (size - length text) Value
+    else front_with at (literal_with (Some name) (take_while is_query_word_byte text) delimiters.None) (behind is_query_word_byte text)
 
 -- what a word is by itself: one of the two that join others, or a word that is searched for
 abbrev pub word_lexeme : List ℕ → Lexeme
@@ -106,7 +106,7 @@ front_at size at text =
     else if begins 41 text then front_with at closing (drop 1 text)
     else if begins 45 text then front_with at minus (drop 1 text)
     else if begins 34 text then phrase_front size at None (drop 1 text)
-    else word_front size at (take_while is_word_byte text) (behind is_word_byte text)
+    else word_front size at (take_while is_query_word_byte text) (behind is_query_word_byte text)
 
 -- so it is for a text that is the end of one of so many bytes
 abbrev pub front : ℕ → List ℕ → Front
@@ -125,10 +125,11 @@ unfoldable pub tokens : ℕ → ℕ → List ℕ → List Token
 tokens zero size text = no_more size (behind is_space text)
 tokens (suc n) size text = one_more (λ rest. tokens n size rest) size (behind is_space text)
 
--- what the program's values tell
+-- what the program's word or phrase tells
 abbrev pub literal_seen : LiteralView → Literal
 literal_seen l = record { field_name = option_copied l.field_name; phrase = l.phrase.now; delimiter = l.delimiter }
 
+-- what the program's lexeme tells
 abbrev pub lexeme_seen : SeenLexeme → Lexeme
 lexeme_seen (seen.Literal l) = literal (literal_seen l)
 lexeme_seen seen.Opening = opening
@@ -138,6 +139,7 @@ lexeme_seen seen.And = and_word
 lexeme_seen seen.Or = or_word
 lexeme_seen (seen.Broken wanted) = broken wanted
 
+-- the program's lexeme at its place
 abbrev pub token_seen : SeenToken → Token
 token_seen t = record { at = t.at; lexeme = lexeme_seen t.lexeme }
 

@@ -37,23 +37,24 @@ abbrev pub empty : GroupState
 empty = record { wanted = None; excluded = None; place = begins }
 
 -- what was wanted or excluded, or else this too
-abbrev pub joined : Option Ast → Ast → Ast
-joined None ast = ast
-joined (Some first) ast = either first ast
+abbrev pub joined_by_or : Option Ast → Ast → Ast
+joined_by_or None ast = ast
+joined_by_or (Some first) ast = either first ast
 
--- a group with one part more
+-- a group with one part more, by where it stands
 abbrev pub put_at : Option Ast → Option Ast → PlaceState → Ast → GroupState
 put_at wanted excluded begins ast = record { wanted = wanted; excluded = excluded; place = chained ast }
-put_at wanted excluded (chained chain) ast = record { wanted = Some (joined wanted chain); excluded = excluded; place = chained ast }
+put_at wanted excluded (chained chain) ast = record { wanted = Some (joined_by_or wanted chain); excluded = excluded; place = chained ast }
 put_at wanted excluded (behind_and chain) ast = record { wanted = wanted; excluded = excluded; place = chained (both chain ast) }
 put_at wanted excluded (behind_and_minus chain) ast = record { wanted = wanted; excluded = excluded; place = chained (without chain ast) }
 put_at wanted excluded behind_or ast = record { wanted = wanted; excluded = excluded; place = chained ast }
-put_at wanted excluded behind_minus ast = record { wanted = wanted; excluded = Some (joined excluded ast); place = begins }
+put_at wanted excluded behind_minus ast = record { wanted = wanted; excluded = Some (joined_by_or excluded ast); place = begins }
 
+-- a group with one part more
 abbrev pub put : GroupState → Ast → GroupState
 put g ast = put_at g.wanted g.excluded g.place ast
 
--- a group behind an AND, which stands behind a chain
+-- a group behind an AND, which stands behind a chain, by where it stood
 abbrev pub and_at : Option Ast → Option Ast → PlaceState → Option GroupState
 and_at wanted excluded begins = None
 and_at wanted excluded (chained chain) = Some (record { wanted = wanted; excluded = excluded; place = behind_and chain })
@@ -62,30 +63,33 @@ and_at wanted excluded (behind_and_minus chain) = None
 and_at wanted excluded behind_or = None
 and_at wanted excluded behind_minus = None
 
+-- a group behind an AND, if one may stand there
 abbrev pub put_and : GroupState → Option GroupState
 put_and g = and_at g.wanted g.excluded g.place
 
--- a group behind an OR, which stands behind a chain
+-- a group behind an OR, which stands behind a chain, by where it stood
 abbrev pub or_at : Option Ast → Option Ast → PlaceState → Option GroupState
 or_at wanted excluded begins = None
-or_at wanted excluded (chained chain) = Some (record { wanted = Some (joined wanted chain); excluded = excluded; place = behind_or })
+or_at wanted excluded (chained chain) = Some (record { wanted = Some (joined_by_or wanted chain); excluded = excluded; place = behind_or })
 or_at wanted excluded (behind_and chain) = None
 or_at wanted excluded (behind_and_minus chain) = None
 or_at wanted excluded behind_or = None
 or_at wanted excluded behind_minus = None
 
+-- a group behind an OR, if one may stand there
 abbrev pub put_or : GroupState → Option GroupState
 put_or g = or_at g.wanted g.excluded g.place
 
 -- a group behind a minus, which stands where a part may, but for one behind OR, or behind an AND
 abbrev pub minus_at : Option Ast → Option Ast → PlaceState → Option GroupState
 minus_at wanted excluded begins = Some (record { wanted = wanted; excluded = excluded; place = behind_minus })
-minus_at wanted excluded (chained chain) = Some (record { wanted = Some (joined wanted chain); excluded = excluded; place = behind_minus })
+minus_at wanted excluded (chained chain) = Some (record { wanted = Some (joined_by_or wanted chain); excluded = excluded; place = behind_minus })
 minus_at wanted excluded (behind_and chain) = Some (record { wanted = wanted; excluded = excluded; place = behind_and_minus chain })
 minus_at wanted excluded (behind_and_minus chain) = None
 minus_at wanted excluded behind_or = None
 minus_at wanted excluded behind_minus = None
 
+-- a group behind a minus, if one may stand there
 abbrev pub put_minus : GroupState → Option GroupState
 put_minus g = minus_at g.wanted g.excluded g.place
 
@@ -95,15 +99,16 @@ whole None excluded = Err Included
 whole (Some wanted) None = Ok wanted
 whole (Some wanted) (Some excluded) = Ok (without wanted excluded)
 
--- the tree of a group that ends
+-- the tree of a group that ends, by where it stands
 abbrev pub whole_at : Option Ast → Option Ast → PlaceState → Result Ast Wanted
 whole_at wanted excluded begins = whole wanted excluded
-whole_at wanted excluded (chained chain) = whole (Some (joined wanted chain)) excluded
+whole_at wanted excluded (chained chain) = whole (Some (joined_by_or wanted chain)) excluded
 whole_at wanted excluded (behind_and chain) = Err Operand
 whole_at wanted excluded (behind_and_minus chain) = Err Operand
 whole_at wanted excluded behind_or = Err Operand
 whole_at wanted excluded behind_minus = Err Operand
 
+-- the tree of a group that ends, or what was wanted
 abbrev pub whole_of : GroupState → Result Ast Wanted
 whole_of g = whole_at g.wanted g.excluded g.place
 
@@ -148,16 +153,16 @@ abbrev pub parsed : ℕ → List ℕ → Result Ast SyntaxError
 parsed limit text = read (length text) [] empty (tokens limit (length text) text)
 
 -- A text was read as it is to be, unless memory ran out.
-abbrev pub Gives : Result UserInputAst ParseError → Result Ast SyntaxError → Type 0
-Gives (Ok ast) read = read ≡ Ok (ast_of ast)
-Gives (Err (Syntax wanted at)) read = read ≡ Err (record { wanted = wanted; at = at })
-Gives (Err OutOfMemory) read = ⊤
+abbrev pub IsReadAs : Result UserInputAst ParseError → Result Ast SyntaxError → Type 0
+IsReadAs (Ok ast) read = read ≡ Ok (ast_of ast)
+IsReadAs (Err (Syntax wanted at)) read = read ≡ Err (record { wanted = wanted; at = at })
+IsReadAs (Err OutOfMemory) read = ⊤
 
 -- A call is refused for want of memory alone.
-abbrev pub OnlyMemory : {A : Type 0} → Result A ParseError → Type 0
-OnlyMemory result = IfErr result (λ e. e ≡ OutOfMemory)
+abbrev pub OnlyMemoryRefuses : {A : Type 0} → Result A ParseError → Type 0
+OnlyMemoryRefuses result = IfErr result (λ e. e ≡ OutOfMemory)
 
--- what the program's values stand for
+-- what the program's place stands for
 abbrev pub place_of : Place → PlaceState
 place_of places.Begins = begins
 place_of (places.Chained chain) = chained (ast_of chain)
@@ -166,6 +171,7 @@ place_of (places.BehindAndMinus chain) = behind_and_minus (ast_of chain)
 place_of places.BehindOr = behind_or
 place_of places.BehindMinus = behind_minus
 
+-- what the program's group stands for
 abbrev pub group_of : Group → GroupState
 group_of g = record { wanted = option_map ast_of g.wanted; excluded = option_map ast_of g.excluded; place = place_of g.place }
 

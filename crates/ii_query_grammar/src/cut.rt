@@ -1,5 +1,5 @@
 ghost use Rattle.std.specs.Prelude.{◌≡◌, ◌<◌, ◌≤◌, drop, false, true, length, take_while, IfSome, MatchOption};
-ghost use Rattle.ii_query_grammar.specs.Lexemes.{Strips, behind, begins, is_empty, is_phrase_byte, is_space, is_word_byte};
+ghost use Rattle.ii_query_grammar.specs.Lexemes.{Strips, begins, behind, is_empty, is_phrase_byte, is_query_word_byte, is_space};
 
 /// What comes after the spaces in front.
 pub(crate) fn behind_spaces(text: &str) -> &str
@@ -11,8 +11,8 @@ pub(crate) fn behind_spaces(text: &str) -> &str
 
 /// The word in front, and what comes after it.
 pub(crate) fn cut_word(text: &str) -> (&str, &str)
-    ensures word { result.0.now ≡ take_while is_word_byte text.now }
-    ensures rest { result.1.now ≡ behind is_word_byte text.now }
+    ensures word { result.0.now ≡ take_while is_query_word_byte text.now }
+    ensures rest { result.1.now ≡ behind is_query_word_byte text.now }
     ensures shorter { length result.1.now ≤ length text.now }
 {
     text.split_at(word_len(text.as_bytes()))
@@ -59,9 +59,9 @@ fn spaces_len(text: &[u8]) -> usize
 
 // How many bytes the word in front has.
 fn word_len(text: &[u8]) -> usize
-    ensures { result ≡ length (take_while is_word_byte text.now) }
+    ensures { result ≡ length (take_while is_query_word_byte text.now) }
 {
-    text.iter().take_while(|b| is_word_byte(**b)).count()
+    text.iter().take_while(|b| is_query_word_byte(**b)).count()
 }
 
 // How many bytes stand before the first quote.
@@ -77,8 +77,8 @@ fn is_space(byte: u8) -> bool
     matches!(byte, b' ' | b'\t' | b'\n' | b'\r')
 }
 
-fn is_word_byte(byte: u8) -> bool
-    ensures { result ≡ is_word_byte byte }
+fn is_query_word_byte(byte: u8) -> bool
+    ensures { result ≡ is_query_word_byte byte }
 {
     !matches!(
         byte,

@@ -1,6 +1,6 @@
 ghost use Rattle.std.specs.Prelude.{◌≡◌, IfOk};
 ghost use Rattle.std.specs.Option.{option_map};
-ghost use Rattle.ii_query_grammar.specs.Parsed.{IsWhole, OnlyMemory, chained, empty, group_of, joined, put, put_and, put_minus, put_or, whole, whole_of};
+ghost use Rattle.ii_query_grammar.specs.Parsed.{IsWhole, OnlyMemoryRefuses, chained, empty, group_of, joined_by_or, put, put_and, put_minus, put_or, whole, whole_of};
 ghost use Rattle.ii_query_grammar.specs.Trees.{ast_of};
 
 use crate::parse_error::{ParseError, Wanted};
@@ -41,7 +41,7 @@ impl Group {
     /// The group with one part more. `OutOfMemory` where there is no room for two boxes.
     pub(crate) fn put(self, alloc: Global, ast: UserInputAst) -> Result<Group, ParseError>
         ensures put { IfOk result (λ group. group_of group ≡ put (group_of self) (ast_of ast)) }
-        ensures only { OnlyMemory result }
+        ensures only { OnlyMemoryRefuses result }
     {
         let Group {
             wanted,
@@ -51,7 +51,7 @@ impl Group {
         match place {
             Place::Begins => Ok(Group::behind_part(wanted, excluded, ast)),
             Place::Chained(chain) => {
-                let wanted = joined(alloc, wanted, chain)?;
+                let wanted = joined_by_or(alloc, wanted, chain)?;
                 Ok(Group::behind_part(Some(wanted), excluded, ast))
             }
             Place::BehindAnd(chain) => {
@@ -64,7 +64,7 @@ impl Group {
             }
             Place::BehindOr => Ok(Group::behind_part(wanted, excluded, ast)),
             Place::BehindMinus => {
-                let excluded = joined(alloc, excluded, ast)?;
+                let excluded = joined_by_or(alloc, excluded, ast)?;
                 Ok(Group {
                     wanted,
                     excluded: Some(excluded),
@@ -112,7 +112,7 @@ impl Group {
     /// where there is no room for two boxes.
     pub(crate) fn put_or(self, alloc: Global) -> Result<Option<Group>, ParseError>
         ensures put { IfOk result (λ group. option_map group_of group ≡ put_or (group_of self)) }
-        ensures only { OnlyMemory result }
+        ensures only { OnlyMemoryRefuses result }
     {
         let Group {
             wanted,
@@ -122,7 +122,7 @@ impl Group {
         let Place::Chained(chain) = place else {
             return Ok(None);
         };
-        let wanted = joined(alloc, wanted, chain)?;
+        let wanted = joined_by_or(alloc, wanted, chain)?;
         Ok(Some(Group {
             wanted: Some(wanted),
             excluded,
@@ -134,7 +134,7 @@ impl Group {
     /// where there is no room for two boxes.
     pub(crate) fn put_minus(self, alloc: Global) -> Result<Option<Group>, ParseError>
         ensures put { IfOk result (λ group. option_map group_of group ≡ put_minus (group_of self)) }
-        ensures only { OnlyMemory result }
+        ensures only { OnlyMemoryRefuses result }
     {
         let Group {
             wanted,
@@ -148,7 +148,7 @@ impl Group {
                 place: Place::BehindMinus,
             })),
             Place::Chained(chain) => {
-                let wanted = joined(alloc, wanted, chain)?;
+                let wanted = joined_by_or(alloc, wanted, chain)?;
                 Ok(Some(Group {
                     wanted: Some(wanted),
                     excluded,
@@ -177,7 +177,7 @@ impl Group {
         match place {
             Place::Begins => whole(alloc, wanted, excluded, at),
             Place::Chained(chain) => {
-                let wanted = joined(alloc, wanted, chain)?;
+                let wanted = joined_by_or(alloc, wanted, chain)?;
                 whole(alloc, Some(wanted), excluded, at)
             }
             _ => Err(ParseError::Syntax(Wanted::Operand, at)),
@@ -204,13 +204,13 @@ fn whole(
 }
 
 // What was wanted or excluded, or else this too.
-fn joined(
+fn joined_by_or(
     alloc: Global,
     first: Option<UserInputAst>,
     ast: UserInputAst,
 ) -> Result<UserInputAst, ParseError>
-    ensures joined { IfOk result (λ all. ast_of all ≡ joined (option_map ast_of first) (ast_of ast)) }
-    ensures only { OnlyMemory result }
+    ensures joined { IfOk result (λ all. ast_of all ≡ joined_by_or (option_map ast_of first) (ast_of ast)) }
+    ensures only { OnlyMemoryRefuses result }
 {
     match first {
         None => Ok(ast),

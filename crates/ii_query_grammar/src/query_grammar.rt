@@ -1,7 +1,7 @@
 ghost use Rattle.std.specs.Prelude.{◌≡◌, IfOk, List, string_bytes};
 ghost use Rattle.std.specs.Option.{option_copied, option_map};
 ghost use Rattle.ii_query_grammar.specs.Lexemes.{literal_seen, token_seen};
-ghost use Rattle.ii_query_grammar.specs.Parsed.{Gives, GoesOn, GroupState, OnlyMemory, parsed, read_closing, read_end, read_one, read_sign, group_of, stack_of, whole_of};
+ghost use Rattle.ii_query_grammar.specs.Parsed.{GoesOn, GroupState, IsReadAs, OnlyMemoryRefuses, group_of, parsed, read_closing, read_end, read_one, read_sign, stack_of, whole_of};
 ghost use Rattle.ii_query_grammar.specs.Trees.{ast_of, leaf};
 
 use crate::group::Group;
@@ -28,7 +28,7 @@ pub const MAX_LEXEMES: usize = 128;
 /// `Syntax` by what was wanted where the text first goes wrong, `OutOfMemory` where there is no room for
 /// the tree.
 pub fn parse(alloc: Global, text: &str) -> Result<UserInputAst, ParseError>
-    ensures { Gives result (parsed MAX_LEXEMES text.now) }
+    ensures { IsReadAs result (parsed MAX_LEXEMES text.now) }
 {
     let mut lexer = Lexer::new(text, MAX_LEXEMES);
     let mut opened = Vec::new(alloc);
@@ -101,7 +101,7 @@ fn behind_sign(group: Option<Group>, at: usize) -> Result<Group, ParseError>
 // A word or a phrase as a tree. `OutOfMemory` where there is no room for it.
 fn leaf(alloc: Global, literal: LiteralView<'_>) -> Result<UserInputAst, ParseError>
     ensures ok { IfOk result (λ ast. ast_of ast ≡ leaf (literal_seen literal.entry)) }
-    ensures only { OnlyMemory result }
+    ensures only { OnlyMemoryRefuses result }
 {
     let field_name = name_of(alloc, literal.field_name)?;
     let phrase = String::from_str(alloc, literal.phrase)?;
@@ -115,7 +115,7 @@ fn leaf(alloc: Global, literal: LiteralView<'_>) -> Result<UserInputAst, ParseEr
 // The name of a field, if there is one. `OutOfMemory` where there is no room for it.
 fn name_of(alloc: Global, name: Option<&str>) -> Result<Option<String>, ParseError>
     ensures ok { IfOk result (λ found. option_map (λ text. string_bytes text) found ≡ option_copied name.entry) }
-    ensures only { OnlyMemory result }
+    ensures only { OnlyMemoryRefuses result }
 {
     match name {
         Some(text) => Ok(Some(String::from_str(alloc, text)?)),
@@ -130,7 +130,7 @@ fn read_end(
     group: Group,
     size: usize,
 ) -> Result<UserInputAst, ParseError>
-    ensures { Gives result (read_end size (stack_of opened.now.items) (whole_of (group_of group))) }
+    ensures { IsReadAs result (read_end size (stack_of opened.now.items) (whole_of (group_of group))) }
 {
     let ast = match group.whole(alloc, size) {
         Ok(ast) => ast,

@@ -1,5 +1,5 @@
 ghost use Rattle.std.specs.Prelude.{◌≡◌, ◌++◌, IfOk, OnOk, string_bytes};
-ghost use Rattle.ii_query_grammar.specs.Parsed.{OnlyMemory};
+ghost use Rattle.ii_query_grammar.specs.Parsed.{OnlyMemoryRefuses};
 ghost use Rattle.ii_query_grammar.specs.Spelling.{literal_text, part_text, phrase_text, spelled};
 ghost use Rattle.ii_query_grammar.specs.Trees.{ast_of, both, either, literal_of, without};
 
@@ -75,7 +75,7 @@ impl UserInputAst {
         other: UserInputAst,
     ) -> Result<UserInputAst, ParseError>
         ensures ok { IfOk result (λ ast. ast_of ast ≡ both (ast_of first) (ast_of other)) }
-        ensures only { OnlyMemory result }
+        ensures only { OnlyMemoryRefuses result }
     {
         let first = Box::new(alloc, first)?;
         let other = Box::new(alloc, other)?;
@@ -89,7 +89,7 @@ impl UserInputAst {
         other: UserInputAst,
     ) -> Result<UserInputAst, ParseError>
         ensures ok { IfOk result (λ ast. ast_of ast ≡ either (ast_of first) (ast_of other)) }
-        ensures only { OnlyMemory result }
+        ensures only { OnlyMemoryRefuses result }
     {
         let first = Box::new(alloc, first)?;
         let other = Box::new(alloc, other)?;
@@ -104,7 +104,7 @@ impl UserInputAst {
         other: UserInputAst,
     ) -> Result<UserInputAst, ParseError>
         ensures ok { IfOk result (λ ast. ast_of ast ≡ without (ast_of first) (ast_of other)) }
-        ensures only { OnlyMemory result }
+        ensures only { OnlyMemoryRefuses result }
     {
         let first = Box::new(alloc, first)?;
         let other = Box::new(alloc, other)?;

@@ -6,7 +6,7 @@ use Rattle.ii_store.specs.declared.name.Name.TheVariants.{Meta, NewMeta, File}
 use Rattle.ii_store.specs.declared.name.Slot.{Slot}
 use Rattle.ii_store.specs.declared.name.Slot.TheVariants.{First, Second}
 use Rattle.ii_store.specs.Directory.{Elapses, Elsewhere, Files, IsOther, IsPut, IsRenamed, MayBeRenamed, Same}
-use Rattle.ii_store.specs.Index.{Index, bytes_of, guard, index_in, index_of, slot_in, used_slot}
+use Rattle.ii_store.specs.Index.{Index, bytes_of_file, guard, index_in, index_of, slot_in, used_slot}
 use Rattle.ii_store.specs.Names.{kind_at, kind_number, other_slot}
 use Rattle.ii_store.specs.Save.{HoldsFiles, IsOldOrNew, IsOutside, LeavesOne, LeavesSame}
 use Rattle.std.proofs.Math.Nat.{eq-or-lt_of_le}
@@ -112,7 +112,7 @@ pub index_of_new : (slot : Slot) (i : Index) (files : Files) → i.num_docs < 2 
 unfolding index_of
 index_of_new slot i files small holds at =
     ap (λ meta. index_in meta (λ kind. files (File (used_slot meta) kind))) at
-    ∙ index_in_same (Some (guard slot i)) (λ kind. files (File (slot_in (guard slot i)) kind)) (λ kind. Some (bytes_of i kind))
+    ∙ index_in_same (Some (guard slot i)) (λ kind. files (File (slot_in (guard slot i)) kind)) (λ kind. Some (bytes_of_file i kind))
     (λ kind. ap (λ s. files (File s kind)) (slot_of_guard slot i) ∙ holds kind)
     ∙ index_of_guard slot i small
 

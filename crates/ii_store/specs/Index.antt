@@ -36,12 +36,12 @@ view s = record {
 }
 
 -- the bytes of one kind
-abbrev pub bytes_of : Index → Kind → List ℕ
-bytes_of i Schema = i.schema
-bytes_of i Terms = i.terms
-bytes_of i Postings = i.postings
-bytes_of i Positions = i.positions
-bytes_of i FieldNorms = i.fieldnorms
+abbrev pub bytes_of_file : Index → Kind → List ℕ
+bytes_of_file i Schema = i.schema
+bytes_of_file i Terms = i.terms
+bytes_of_file i Postings = i.postings
+bytes_of_file i Positions = i.positions
+bytes_of_file i FieldNorms = i.fieldnorms
 
 -- "nequllpa", and the version
 unfoldable pub format : List ℕ
@@ -132,6 +132,6 @@ Fails (faults.Directory fault) wanted = ⊤
 Fails (faults.Index fault) wanted = wanted ≡ Err fault
 
 -- what a call answered, by a view, is this, unless the directory refused or there was no memory
-abbrev pub Gives : {X Y : Type 0} → (X → Y) → Result X StoreFault → Result Y IndexFault → Type 0
-Gives view (Ok x) wanted = wanted ≡ Ok (view x)
-Gives view (Err e) wanted = Fails e wanted
+abbrev pub AnswersFromFiles : {X Y : Type 0} → (X → Y) → Result X StoreFault → Result Y IndexFault → Type 0
+AnswersFromFiles view (Ok x) wanted = wanted ≡ Ok (view x)
+AnswersFromFiles view (Err e) wanted = Fails e wanted

@@ -5,7 +5,7 @@ use Rattle.ii_store.specs.declared.name.Kind.{Kind}
 use Rattle.ii_store.specs.declared.name.Name.TheVariants.{Meta, File}
 use Rattle.ii_store.specs.declared.faults.IndexFault.{IndexFault}
 use Rattle.ii_store.specs.Directory.{Elapses, Files}
-use Rattle.ii_store.specs.Index.{Index, bytes_of, index_of}
+use Rattle.ii_store.specs.Index.{Index, bytes_of_file, index_of}
 use Rattle.ii_store.specs.Names.{other_slot}
 
 -- the guard and the files of the other slot are as they were
@@ -15,7 +15,7 @@ pub record IsOutside (slot : Slot) (old new : Files) : Type 0 where
 
 -- the files of a slot are those of an index
 abbrev pub HoldsFiles : Slot → Index → Files → Type 0
-HoldsFiles slot i files = (kind : Kind) → files (File slot kind) ≡ Some (bytes_of i kind)
+HoldsFiles slot i files = (kind : Kind) → files (File slot kind) ≡ Some (bytes_of_file i kind)
 
 -- the files are the index that was there, or the new one
 abbrev pub IsOldOrNew : Result Index IndexFault → Index → Files → Type 0

@@ -1,7 +1,7 @@
 //! What is left of an index whose files may have been cut, changed or taken away.
 ghost use Rattle.std.specs.Prelude.{◌≡◌, ◌≤◌, ◌+◌, IfOk, Some, drop, length};
 ghost use Rattle.ii_store.specs.declared.name.Name.TheVariants.{File};
-ghost use Rattle.ii_store.specs.Index.{Gives, slot_in, view};
+ghost use Rattle.ii_store.specs.Index.{AnswersFromFiles, slot_in, view};
 ghost use Rattle.ii_store.specs.LeftIndex.{file_of, file_view, index_left, left_by, left_in, left_of, left_view};
 
 use crate::directory::Directory;
@@ -66,7 +66,7 @@ impl LeftIndex {
 /// Refused as `load` is where there is no guard, or none of this version; no fault of a file is a refusal.
 #[tactic(auto, unfolding(crate::specs::LeftIndex::left_of))]
 pub fn load_left<D: Directory>(alloc: Global, directory: &D) -> Result<LeftIndex, StoreFault>
-    ensures { D.is_known directory.now → Gives left_view result (left_of (D.seen directory.now)) }
+    ensures { D.is_known directory.now → AnswersFromFiles left_view result (left_of (D.seen directory.now)) }
 {
     let Some(meta) = directory.read(alloc, Name::Meta)? else {
         return Err(StoreFault::Index(IndexFault::NoIndex));
@@ -77,7 +77,7 @@ pub fn load_left<D: Directory>(alloc: Global, directory: &D) -> Result<LeftIndex
 // What is left of the index of a guard.
 #[tactic(auto, unfolding(crate::specs::LeftIndex::left_at))]
 fn left_by<D: Directory>(alloc: Global, directory: &D, meta: &[u8]) -> Result<LeftIndex, StoreFault>
-    ensures { D.is_known directory.now → Gives left_view result (left_by (Some meta.now) (λ kind. D.seen directory.now (File (slot_in meta.now) kind))) }
+    ensures { D.is_known directory.now → AnswersFromFiles left_view result (left_by (Some meta.now) (λ kind. D.seen directory.now (File (slot_in meta.now) kind))) }
 {
     let num_docs = checked_num_docs(meta)?;
     let slot = slot_named(meta);

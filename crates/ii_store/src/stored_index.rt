@@ -1,7 +1,7 @@
 //! An index as its bytes, and how they are loaded.
 ghost use Rattle.std.specs.Prelude.{◌≡◌, ◌≤◌, ◌+◌, Some, drop, length};
 ghost use Rattle.ii_store.specs.declared.name.Name.TheVariants.{File};
-ghost use Rattle.ii_store.specs.Index.{Gives, bytes_of, file_in, index_in, index_of, slot_in, view};
+ghost use Rattle.ii_store.specs.Index.{AnswersFromFiles, bytes_of_file, file_in, index_in, index_of, slot_in, view};
 
 use crate::directory::Directory;
 use crate::faults::{IndexFault, StoreFault};
@@ -25,7 +25,7 @@ pub struct StoredIndex {
 impl StoredIndex {
     /// The bytes of one kind.
     pub fn bytes_of(&self, kind: Kind) -> &[u8]
-        ensures { result.now ≡ bytes_of (view self.now) kind }
+        ensures { result.now ≡ bytes_of_file (view self.now) kind }
     {
         match kind {
             Kind::Schema => self.schema.as_slice(),
@@ -44,7 +44,7 @@ impl StoredIndex {
 /// guard says, its length before its checksum.
 #[tactic(auto, unfolding(crate::specs::Index::index_of))]
 pub fn load<D: Directory>(alloc: Global, directory: &D) -> Result<StoredIndex, StoreFault>
-    ensures { D.is_known directory.now → Gives view result (index_of (D.seen directory.now)) }
+    ensures { D.is_known directory.now → AnswersFromFiles view result (index_of (D.seen directory.now)) }
 {
     let Some(meta) = directory.read(alloc, Name::Meta)? else {
         return Err(StoreFault::Index(IndexFault::NoIndex));
@@ -59,7 +59,7 @@ fn load_by<D: Directory>(
     directory: &D,
     meta: &[u8],
 ) -> Result<StoredIndex, StoreFault>
-    ensures { D.is_known directory.now → Gives view result (index_in (Some meta.now) (λ kind. D.seen directory.now (File (slot_in meta.now) kind))) }
+    ensures { D.is_known directory.now → AnswersFromFiles view result (index_in (Some meta.now) (λ kind. D.seen directory.now (File (slot_in meta.now) kind))) }
 {
     let num_docs = checked_num_docs(meta)?;
     let slot = slot_named(meta);
@@ -89,7 +89,7 @@ fn load_file<D: Directory>(
     place: usize,
 ) -> Result<Vec<u8>, StoreFault>
     requires { place + 40 ≤ length meta.now }
-    ensures { D.is_known directory.now → Gives (λ v. v.items) result (file_in kind (drop place meta.now) (D.seen directory.now (File slot kind))) }
+    ensures { D.is_known directory.now → AnswersFromFiles (λ v. v.items) result (file_in kind (drop place meta.now) (D.seen directory.now (File slot kind))) }
 {
     let Some(bytes) = directory.read(alloc, Name::File(slot, kind))? else {
         return Err(StoreFault::Index(IndexFault::Missing(kind)));
