@@ -8,6 +8,7 @@ mod costly;
 mod dictionaries;
 mod indexes;
 mod json_values;
+mod known_lists;
 mod lists;
 mod table;
 
@@ -24,6 +25,7 @@ fn main(rt: HostRuntime) -> Result<()> {
     json_values::measure(&rt)?;
     blocks::measure(&rt)?;
     lists::measure(&rt)?;
+    known_lists::measure(&rt)?;
     dictionaries::measure(&rt)?;
     costly::measure(&rt)?;
     indexes::measure(&rt)

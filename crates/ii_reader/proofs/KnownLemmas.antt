@@ -1,5 +1,5 @@
 -- Terms that are known to open.
-use Rattle.std.proofs.Common.{◌≡◌, ◌∙◌, ◌<◌, ℕ, zero, suc, subst, Bool, true, false, ◌&&◌, List, [], ◌∷◌, length, Option, None, Some, Ok, Err, is_some, refl, sym, ap, arith}
+use Rattle.std.proofs.Common.{◌≡◌, ◌<◌, ℕ, zero, suc, subst, Bool, true, false, List, [], ◌∷◌, length, Option, None, Some, Ok, Err, refl, sym, ap, arith}
 use Rattle.std.specs.Prelude.{Result, IfSome, IsOk, IsSome, IsSomeAnd, MatchOption, is_ok, ok_or, slice_get, slice_index_or}
 use Rattle.std.specs.List.{All}
 use Rattle.std.proofs.lemmas.Bool.{and_parts}
