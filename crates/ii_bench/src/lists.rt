@@ -77,7 +77,7 @@ fn write(rt: &HostRuntime, docs: &[DocId]) -> Result<(Bytes, Measured)> {
     let mut least = Duration::MAX;
     for _ in 0..ROUNDS {
         let start = Instant::now(rt)?;
-        bytes = written(rt.alloc(), docs)?;
+        bytes = written(rt.alloc(), docs, BASIC)?;
         least = least.min(start.elapsed(rt)?);
     }
     Ok((bytes, of_documents(least)))
@@ -107,8 +107,12 @@ fn walk(rt: &HostRuntime, bytes: &Bytes) -> Result<Measured> {
     Ok(of_documents(least))
 }
 
-/// The bytes of documents that ascend.
-pub fn written(alloc: Global, docs: &[DocId]) -> Result<Bytes, Fault> {
+/// The bytes of documents that ascend, each with a count of 1 where counts are recorded.
+pub fn written(
+    alloc: Global,
+    docs: &[DocId],
+    record_option: IndexRecordOption,
+) -> Result<Bytes, Fault> {
     if !ascend(docs) {
         return Err(Fault::SerializerClosed);
     }
@@ -116,7 +120,7 @@ pub fn written(alloc: Global, docs: &[DocId]) -> Result<Bytes, Fault> {
         return Err(Fault::SerializerClosed);
     };
     let mut output = CountingWriter::wrap(Vec::new(alloc));
-    let mut serializer = PostingsSerializer::new(alloc, BASIC, None);
+    let mut serializer = PostingsSerializer::new(alloc, record_option, None);
     for doc in docs {
         serializer.write_doc(*doc, 1)?;
     }

@@ -8,6 +8,7 @@ mod costly;
 mod dictionaries;
 mod indexes;
 mod json_values;
+mod known_lists;
 mod lists;
 mod queries;
 mod table;
@@ -25,6 +26,7 @@ fn main(rt: HostRuntime) -> Result<()> {
     json_values::measure(&rt)?;
     blocks::measure(&rt)?;
     lists::measure(&rt)?;
+    known_lists::measure(&rt)?;
     queries::measure(&rt)?;
     dictionaries::measure(&rt)?;
     costly::measure(&rt)?;

@@ -30,7 +30,7 @@ impl List {
         requires { 0 < spread }
     {
         let docs = documents(rt.alloc(), spread, doc_freq)?;
-        let bytes = written(rt.alloc(), &docs)?;
+        let bytes = written(rt.alloc(), &docs, BASIC)?;
         Ok(List { bytes, doc_freq })
     }
 

@@ -1,5 +1,6 @@
 -- Laws of postings that were checked.
 use Rattle.std.proofs.Common.{◌≡◌, ℕ, zero, suc, ◌*◌, ◌/◌, ◌%◌, ◌<◌, ◌≤◌, Bool, true, false, ◌&&◌, List, [], length, drop, Option, Some, None, Result, Ok, Err, refl, sym, ap, ◌∙◌, arith, is_some, length-drop, nat_lt, nat_le, if◌then◌else◌}
+use Rattle.std.specs.Prelude.{IsOk, is_ok}
 use Rattle.std.specs.List.{list_all}
 use Rattle.std.proofs.lemmas.Bool.{and_parts}
 use Rattle.std.proofs.Math.Bool.{and-false}
@@ -138,23 +139,25 @@ if_flag true skip n after o e =
 abbrev pub Finds : Asked → Type 0
 Finds a = (docs : List ℕ) × (after : List ℕ) × (freqs : Option (List ℕ)) × Found a docs after freqs
 
-freqs_cases : (a : Asked) (reading : FreqReadingOption) (docs after : List ℕ) (o : Option (Option (List ℕ))) → Checks a reading → documents_at (skip_of a) (a.doc_freq % 128) ≡ Some (docs, after)
-    → freqs_if (reads a after) (skip_of a) (a.doc_freq % 128) after ≡ o → Finds a
-freqs_cases a reading docs after None c documents e =
-    let none = no_freqs_cases a docs after c.split documents e in
-    let there = c.there in
-    absurd (cc)
-freqs_cases a reading docs after (Some freqs) c documents e = (docs, after, freqs, record { split = c.split; documents = documents; freqs_are = e })
+freqs_cases : (a : Asked) (docs after : List ℕ) (o : Option (Option (List ℕ))) → IsOk (postings a.recorded a.requested a.doc_freq a.bytes) → IsSplit a.recorded (a.doc_freq / 128) a.bytes a.skip_info a.entries a.body
+    → documents_at (skip_of a) (a.doc_freq % 128) ≡ Some (docs, after) → freqs_if (reads a after) (skip_of a) (a.doc_freq % 128) after ≡ o → Finds a
+freqs_cases a docs after None known split documents e =
+    let none = no_freqs_cases a docs after split documents e in
+    absurd (let err = rw none at known in cc)
+freqs_cases a docs after (Some freqs) known split documents e = (docs, after, freqs, record { split = split; documents = documents; freqs_are = e })
 
-found_cases : (a : Asked) (reading : FreqReadingOption) (o : Option (List ℕ × List ℕ)) → Checks a reading → documents_at (skip_of a) (a.doc_freq % 128) ≡ o → Finds a
-found_cases a reading None c e =
-    let none = no_documents a c.split e in
-    let there = c.there in
-    absurd (cc)
-found_cases a reading (Some (docs, after)) c e = freqs_cases a reading docs after (freqs_if (reads a after) (skip_of a) (a.doc_freq % 128) after) c e refl
+found_cases : (a : Asked) (o : Option (List ℕ × List ℕ)) → IsOk (postings a.recorded a.requested a.doc_freq a.bytes) → IsSplit a.recorded (a.doc_freq / 128) a.bytes a.skip_info a.entries a.body → documents_at (skip_of a) (a.doc_freq % 128) ≡ o → Finds a
+found_cases a None known split e =
+    let none = no_documents a split e in
+    absurd (let err = rw none at known in cc)
+found_cases a (Some (docs, after)) known split e = freqs_cases a docs after (freqs_if (reads a after) (skip_of a) (a.doc_freq % 128) after) known split e refl
 
-pub finds : (a : Asked) (reading : FreqReadingOption) → Checks a reading → Finds a
-finds a reading c = found_cases a reading (documents_at (skip_of a) (a.doc_freq % 128)) c refl
+-- all parts of what is known to give postings are there
+pub finds_known : (a : Asked) → IsOk (postings a.recorded a.requested a.doc_freq a.bytes) → IsSplit a.recorded (a.doc_freq / 128) a.bytes a.skip_info a.entries a.body → Finds a
+finds_known a known split = found_cases a (documents_at (skip_of a) (a.doc_freq % 128)) known split refl
+
+finds : (a : Asked) (reading : FreqReadingOption) → Checks a reading → Finds a
+finds a reading c = finds_known a (ap is_ok c.there) c.split
 
 -- entries that have room for counts stand as the field records
 info_cases : (t : Bool) (recorded : IndexRecordOption) → has_freq (if t then Basic else recorded) ≡ true → (if t then Basic else recorded) ≡ recorded

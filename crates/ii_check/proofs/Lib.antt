@@ -2,6 +2,7 @@ pub mod CheckLemmas
 pub mod FrequencyLemmas
 pub mod LoadLemmas
 pub mod CheckedPostingsLemmas
+pub mod KnownLemmas
 pub mod PartLemmas
 pub mod SeekLemmas
 pub mod StrictLemmas

@@ -1,4 +1,4 @@
-ghost use Rattle.std.specs.Prelude.{◌≡◌, ◌+◌, ◌/◌, ◌<◌, ◌≤◌, ◌&&◌, ◌==◌, ⊤, [], length, min, nat_lt, true, is_some, None, Some, Ok, Err, IfOk, IfErr, OnErr, IfSome, IsSome, MatchOption};
+ghost use Rattle.std.specs.Prelude.{◌≡◌, ◌+◌, ◌/◌, ◌<◌, ◌≤◌, ◌&&◌, ◌==◌, ⊤, [], length, min, nat_lt, true, is_some, None, Some, Ok, Err, IfOk, IfErr, OnErr, IfSome, IsOk, IsSome, MatchOption};
 ghost use Rattle.std.specs.List.{sum, list_all};
 ghost use Rattle.ii_io.specs.Faults.{OnlyMemory};
 ghost use Rattle.ii_io.specs.Parts.{part_of};
@@ -14,6 +14,7 @@ ghost use Rattle.ii_check.specs.FreqReading.{freq_reading_of, reading_of_none};
 
 use super::check::{check_postings, freq_reading_option};
 use super::freq_reading_option::FreqReadingOption;
+use super::known::known_postings;
 use super::load::{NO_FREQ, decode_docs, decode_freqs, is_passed};
 use super::positions::end_of_positions;
 use bytes::Bytes;
@@ -96,6 +97,48 @@ impl CheckedPostings {
         };
         checked.first_block(doc_decoder, freq_decoder);
         Ok(checked)
+    }
+
+    /// The postings of a term in `doc_freq` documents that `bytes` are known to begin with, by the
+    /// option that its field records and the one that is requested. Two new decoders are lent: they
+    /// then hold the documents and the counts of the first block. No other block is looked at, however
+    /// long the list is, and memory is never taken.
+    pub fn open_known(
+        doc_freq: u32,
+        bytes: Bytes,
+        record_option: IndexRecordOption,
+        requested_option: IndexRecordOption,
+        doc_decoder: &mut BlockDecoder,
+        freq_decoder: &mut BlockDecoder,
+    ) -> CheckedPostings
+        requires known { IsOk (postings record_option requested_option doc_freq bytes) }
+        requires new_docs { doc_decoder.old ≡ new_decoder TERMINATED }
+        requires new_freqs { freq_decoder.old ≡ new_decoder 1 }
+        ensures ok { postings record_option requested_option doc_freq bytes ≡ Ok result.postings }
+        ensures options { (result.recorded ≡ record_option) × (result.requested ≡ requested_option) }
+        ensures doc_freq { result.doc_freq ≡ doc_freq }
+        ensures reading { result.freq_reading ≡ freq_reading_of requested_option result.postings }
+        ensures documents { HasDocuments result }
+        ensures first { LoadsBlock result.postings 0 (new_decoder TERMINATED) doc_decoder.new (new_decoder 1) freq_decoder.new }
+    {
+        let (places, freq_reading_option) = known_postings(
+            doc_freq,
+            bytes.as_slice(),
+            record_option,
+            requested_option,
+            doc_decoder,
+            freq_decoder,
+        );
+        let checked = CheckedPostings {
+            bytes,
+            record_option,
+            requested_option,
+            doc_freq,
+            places,
+            freq_reading_option,
+        };
+        checked.first_block(doc_decoder, freq_decoder);
+        checked
     }
 
     /// The postings of a term in no documents, by the option that its field records and the one that
@@ -301,6 +344,27 @@ impl CheckedPostings {
             return Err(LayoutFault::Damaged(Part::Positions));
         }
         Ok(Some(reader.anew()))
+    }
+
+    /// A reader of the positions that `bytes` are known to hold, where both options have them, counts
+    /// are read and bytes are given. The width of each of its blocks is looked at, and no positions but
+    /// the last ones; memory is never taken. Elsewhere the bytes aren't looked at.
+    pub fn open_known_positions(&self, bytes: Option<Bytes>) -> Option<PositionReader>
+        requires { IsSome (deltas_if (has_positions (downgrade self.now.recorded self.now.requested)) self.now.postings.freqs bytes) }
+        ensures ok { deltas_if (has_positions (downgrade self.now.recorded self.now.requested)) self.now.postings.freqs bytes
+            ≡ Some (deltas_read result) }
+        ensures decodes { MatchOption result ⊤ (λ reader. reader.decodes ≤ 1) }
+    {
+        let Some(bytes) = bytes else {
+            return None;
+        };
+        if !self.reads_positions() {
+            return None;
+        }
+        match PositionReader::open(bytes) {
+            Ok(reader) => Some(reader),
+            Err(_) => unreachable!(),
+        }
     }
 
     // How many positions the counts say: the skip entries tell it of the full blocks, to which come

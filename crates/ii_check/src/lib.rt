@@ -4,6 +4,7 @@
 mod check;
 pub mod checked_postings;
 pub mod freq_reading_option;
+mod known;
 mod load;
 mod positions;
 

@@ -1,5 +1,5 @@
 -- Laws of what bounds blocks, and of seeks by count.
-use Rattle.std.proofs.Common.{◌≡◌, ℕ, zero, suc, ◌+◌, ◌-◌, ◌*◌, ◌/◌, ◌<◌, ◌≤◌, Bool, true, false, ◌&&◌, ◌||◌, not, ◌==◌, List, [], ◌∷◌, ◌++◌, length, drop, map, get_or, nat_le, nat_lt, max, slice_get, Option, Some, None, option_map, IfSome, IsSome, is_some, Result, Ok, Err, refl, sym, ap, ◌∙◌, arith, length-take, length-drop, if◌then◌else◌}
+use Rattle.std.proofs.Common.{◌≡◌, ℕ, zero, suc, ◌+◌, ◌-◌, ◌*◌, ◌/◌, ◌<◌, ◌≤◌, Bool, true, false, ◌&&◌, ◌==◌, List, [], ◌∷◌, ◌++◌, length, drop, map, get_or, nat_le, nat_lt, max, slice_get, Option, Some, None, option_map, IfSome, IsSome, is_some, Result, Ok, Err, refl, sym, ap, ◌∙◌, arith, length-take, length-drop, if◌then◌else◌}
 use Rattle.std.specs.List.{list_all, range_with_len, sum_by}
 use Rattle.std.proofs.lemmas.Bool.{and_parts, or_parts, le-leb, lt-leb, leb-true, ltb-true, ltb-false}
 use Rattle.std.proofs.Math.Bool.{and-false}
@@ -10,10 +10,10 @@ use Rattle.std.proofs.lemmas.List.FromFn.{length-range_with_len}
 use Rattle.ii_base.specs.declared.schema.index_record_option.IndexRecordOption.{IndexRecordOption}
 use Rattle.ii_base.specs.Options.{has_freq}
 use Rattle.ii_base.specs.declared.doc_id.TheConstants.{TERMINATED}
-use Rattle.ii_base.specs.Entries.{Entry, document, are_documents}
+use Rattle.ii_base.specs.Entries.{Entry, document}
 use Rattle.ii_docset.specs.Cursor.{doc_at, from_doc, IsAscending, term_freq_at}
 use Rattle.ii_docset.proofs.CursorLemmas.{advanced, doc_below, from_doc_here}
-use Rattle.ii_layout.specs.SkipList.{SkipEntry, SkipList, no_entry}
+use Rattle.ii_layout.specs.SkipList.{SkipList, no_entry}
 use Rattle.ii_layout.specs.declared.skip.BlockInfo.{BlockInfo}
 use Rattle.ii_layout.specs.declared.skip.BlockInfo.TheVariants.{BitPacked, VInt}
 use Rattle.ii_layout.specs.SkipReader.{SkipReaderState, code_of_max_tf, max_tf_of_code}
@@ -29,7 +29,7 @@ use Rattle.ii_layout.specs.TermList.{list_of, positions_if}
 use Rattle.ii_layout.proofs.BlockDocs.{get_or-block_of}
 use Rattle.ii_check.specs.declared.freq_reading_option.FreqReadingOption.{FreqReadingOption}
 use Rattle.ii_check.specs.CheckedPostings.{CheckedPostingsState, HasDocuments, IsAtBlock, SeeksFreq, excludes, is_passed, is_read}
-use Rattle.ii_reader.specs.Bounds.{AreUnwanted, IsFirstWanted, IsPlaced, PassesBlocks, blocks_with_freq, bound_bytes, bounds_of, bounds_read, bounds_trusted, entry_bounds, freq_bound, is_wanted, is_wanted_at, sought_with_freq, trusted}
+use Rattle.ii_reader.specs.Bounds.{AreUnwanted, IsFirstWanted, IsPlaced, PassesBlocks, blocks_with_freq, bound_bytes, bounds_of, bounds_read, bounds_trusted, entry_bounds, freq_bound, is_wanted_at, sought_with_freq, trusted}
 use Rattle.ii_reader.specs.BlockSegmentPostings.{AreEntries, BlockSegmentPostingsState, GoesTo, IsLazy, LooksFor, doc_in_block, freq_in_block}
 use Rattle.ii_reader.specs.SegmentPostings.{WentLazily}
 use Rattle.ii_reader.proofs.CursorLemmas.{doc_at_drop, freq_at, list_docs, length-list}

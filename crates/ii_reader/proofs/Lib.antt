@@ -5,6 +5,7 @@ pub mod CursorLemmas
 pub mod IndexLemmas
 pub mod JsonLemmas
 pub mod JsonOrderLemmas
+pub mod KnownLemmas
 pub mod LoadedLemmas
 pub mod PieceLemmas
 pub mod PositionLemmas

@@ -1,7 +1,6 @@
 -- Positions that are read from a place on.
-use Rattle.std.proofs.Common.{◌≡◌, ◌∙◌, ℕ, zero, suc, ◌+◌, ◌-◌, ◌<◌, ◌≤◌, Bool, true, false, ◌&&◌, List, [], ◌∷◌, ◌++◌, drop, get_or, length, take, inl, inr, refl, sym, ap, arith, length-take, length-drop}
+use Rattle.std.proofs.Common.{◌≡◌, ◌∙◌, ℕ, zero, suc, ◌+◌, ◌-◌, ◌<◌, ◌≤◌, true, List, [], ◌∷◌, ◌++◌, drop, get_or, length, take, inl, inr, refl, sym, ap, arith, length-take, length-drop}
 use Rattle.std.specs.Prelude.{min, nat_lt}
-use Rattle.std.specs.List.{list_all}
 use Rattle.std.proofs.lemmas.Bool.{and_parts, cases_lt}
 use Rattle.std.proofs.lemmas.List.{drop-drop, drop_all, take_all}
 use Rattle.ii_docset.specs.Cursor.{position_before}

@@ -1,5 +1,5 @@
 -- The terms of a field, as its bodies in the three files have them.
-use Rattle.std.specs.Prelude.{◌≡◌, ℕ, ◌≤◌, ◌⊎◌, Bool, true, false, not, ◌&&◌, ◌||◌, IsTrue, List, [], length, min, ◌/◌, nat_le, Option, None, Some, Result, Ok, Err, MatchOption}
+use Rattle.std.specs.Prelude.{◌≡◌, ℕ, ◌≤◌, ◌⊎◌, Bool, true, false, not, ◌&&◌, ◌||◌, IsTrue, List, [], length, min, ◌/◌, nat_le, Option, None, Some, IfSome, IsOk, Result, Ok, Err, MatchOption}
 use Rattle.std.specs.Option.{option_map}
 use Rattle.std.specs.declared.ops.Range.{Range}
 use Rattle.ii_io.specs.declared.faults.Fault.{Fault}
@@ -71,6 +71,10 @@ term_of_file reader requested info =
 abbrev pub docs_of_file : List ℕ → IndexRecordOption → IndexRecordOption → TermInfo → Result (List ℕ × Option (List ℕ)) Part
 docs_of_file postings recorded requested info =
     if_they_lie (lies_in postings info.postings_range) (docs_and_freqs recorded requested info.doc_freq (bytes_in postings info.postings_range))
+
+-- Each term opens, however much of its list is requested.
+abbrev pub AllOpen : InvertedIndexReaderState → Type 0
+AllOpen reader = (key : List ℕ) (requested : IndexRecordOption) → IfSome (info_under key reader.terms) (λ info. IsOk (term_of_file reader requested info))
 
 -- Why something wasn't read: there was no memory, or the first part that fails is damaged.
 abbrev pub IsRefusal : {A : Type 0} → Result A Part → Fault → Type 0

@@ -1,4 +1,4 @@
-ghost use Rattle.std.specs.Prelude.{◌≡◌, ◌+◌, ◌*◌, ◌/◌, ◌<◌, ◌≤◌, ⊤, ℕ, List, [], length, min, option_map, slice_get, slice_index, true, false, is_some, None, Some, Ok, Err, IfOk, IfErr, IfSome, OnOk, OnErr, IsSome, MatchOption};
+ghost use Rattle.std.specs.Prelude.{◌≡◌, ◌+◌, ◌*◌, ◌/◌, ◌<◌, ◌≤◌, ⊤, ℕ, List, [], length, min, option_map, slice_get, slice_index, true, false, is_some, None, Some, Ok, Err, IfOk, IfErr, IfSome, OnOk, OnErr, IsOk, IsSome, MatchOption};
 ghost use Rattle.ii_io.specs.Faults.{OnlyMemory};
 ghost use Rattle.ii_base.specs.declared.doc_id.TheConstants.{TERMINATED};
 ghost use Rattle.ii_io.specs.Parts.{part_of};
@@ -171,6 +171,59 @@ impl BlockSegmentPostings {
         }
     }
 
+    /// A cursor at the first block of the list of `doc_freq` documents that `bytes` are known to begin
+    /// with, by the option that its field records and the one that is requested. No other block is
+    /// looked at, and memory is never taken.
+    pub fn open_known(
+        doc_freq: u32,
+        bytes: Bytes,
+        record_option: IndexRecordOption,
+        requested_option: IndexRecordOption,
+    ) -> BlockSegmentPostings
+        requires { IsOk (docs_and_freqs record_option requested_option doc_freq bytes) }
+        ensures ok { docs_and_freqs record_option requested_option doc_freq bytes ≡ Ok (result.docs, result.freqs) }
+        ensures options { (result.recorded ≡ record_option) × (result.requested ≡ requested_option) }
+        ensures reading { (freq_reading record_option requested_option doc_freq bytes ≡ Ok result.freq_reading)
+            × (bounds_read record_option requested_option doc_freq bytes ≡ Ok result.bounds) }
+        ensures entries { AreEntries doc_freq result.docs result.freqs }
+        ensures first { result.block ≡ 0 }
+        // what was decoded and read for it
+        ensures doc_decodes { result.doc_decodes ≡ min 1 doc_freq }
+        ensures freq_decodes { result.freq_decodes ≡ first_decodes result.freqs doc_freq }
+        ensures entries_read { result.entries_read ≡ min 1 (doc_freq / 128) }
+    {
+        let mut cursor = BlockSegmentPostings::empty_by(record_option, requested_option);
+        cursor.fill_known(doc_freq, bytes);
+        cursor
+    }
+
+    // Puts a list that bytes are known to begin with in place of no documents.
+    #[tactic(auto, using(crate::proofs::KnownLemmas::postings_known))]
+    pub(crate) fn fill_known(&mut self, doc_freq: u32, bytes: Bytes)
+        requires none { self.old ≡ cursor_of_none self.old.recorded self.old.requested }
+        requires known { IsOk (docs_and_freqs self.old.recorded self.old.requested doc_freq bytes) }
+        ensures ok { docs_and_freqs self.old.recorded self.old.requested doc_freq bytes ≡ Ok (self.new.docs, self.new.freqs) }
+        ensures options { (self.new.recorded ≡ self.old.recorded) × (self.new.requested ≡ self.old.requested) }
+        ensures reading { (freq_reading self.old.recorded self.old.requested doc_freq bytes ≡ Ok self.new.freq_reading)
+            × (bounds_read self.old.recorded self.old.requested doc_freq bytes ≡ Ok self.new.bounds) }
+        ensures entries { AreEntries doc_freq self.new.docs self.new.freqs }
+        ensures first { self.new.block ≡ 0 }
+        // what was decoded and read for it
+        ensures doc_decodes { self.new.doc_decodes ≡ min 1 doc_freq }
+        ensures freq_decodes { self.new.freq_decodes ≡ first_decodes self.new.freqs doc_freq }
+        ensures entries_read { self.new.entries_read ≡ min 1 (doc_freq / 128) }
+    {
+        let recorded = self.checked.record_option();
+        let requested = self.checked.requested_option();
+        let docs = &mut self.doc_decoder;
+        let freqs = &mut self.freq_decoder;
+        let checked = CheckedPostings::open_known(
+            doc_freq, bytes, recorded, requested, docs, freqs,
+        );
+        self.skip = checked.skip_reader();
+        self.checked = checked;
+    }
+
     // Puts no documents in place of the list, and keeps the two options.
     pub(crate) fn clear(&mut self)
         ensures { self.new ≡ cursor_of_none self.old.recorded self.old.requested }
@@ -328,6 +381,16 @@ impl BlockSegmentPostings {
             }
         }
         self.checked.open_positions(bytes)
+    }
+
+    // A reader of the positions that bytes are known to hold, where these are read.
+    pub(crate) fn open_known_positions(&self, bytes: Option<Bytes>) -> Option<PositionReader>
+        requires { IsSome (deltas_if (has_positions (downgrade self.now.recorded self.now.requested)) self.now.freqs bytes) }
+        ensures ok { deltas_if (has_positions (downgrade self.now.recorded self.now.requested)) self.now.freqs bytes
+            ≡ Some (deltas_read result) }
+        ensures decodes { MatchOption result ⊤ (λ reader. reader.decodes ≤ 1) }
+    {
+        self.checked.open_known_positions(bytes)
     }
 
     /// Goes on to the first block, from the current one on, whose last document isn't below `target`,

@@ -1,4 +1,5 @@
 ghost use Rattle.std.specs.Prelude.{◌≡◌, ◌↔◌, ◌⊎◌, ◌<◌, ◌≤◌, ◌^◌, ℕ, List, length, Some, IfOk, IfErr, IsErrOf, IsOkAnd, IsSome, IsSomeAnd, ok_or, slice_get};
+ghost use Rattle.std.specs.List.{All};
 ghost use Rattle.std.specs.Option.{option_map};
 ghost use Rattle.ii_io.specs.Composite.{body_of, composite};
 ghost use Rattle.ii_io.specs.declared.faults.Part.{Part};
@@ -8,7 +9,7 @@ ghost use Rattle.ii_definitions.specs.Tokens.{IndexToken};
 ghost use Rattle.ii_definitions.specs.Fields.{option_of};
 ghost use Rattle.ii_definitions.specs.Files.{HoldTokens};
 ghost use Rattle.ii_definitions.specs.Norms.{HoldNorms};
-ghost use Rattle.ii_reader.specs.InvertedIndexReader.{IsRefusal};
+ghost use Rattle.ii_reader.specs.InvertedIndexReader.{AllOpen, IsRefusal};
 ghost use Rattle.ii_reader.specs.OpenIndex.{GivesNorms, GivesReaders, NormsHold, field_readers, index_bodies, index_of_files, reader_of_bodies, reader_of_field};
 
 use super::inverted_index_reader::InvertedIndexReader;
@@ -44,6 +45,15 @@ impl OpenIndex {
         &self.readers[field.field_id() as usize]
     }
 
+    /// From now on the look-ups by a term of each reader open cursors without looking at lists whole,
+    /// since each term is known to open.
+    pub fn trust(&mut self)
+        requires { All AllOpen self.old.readers }
+        ensures { self.new ≡ self.old }
+    {
+        trust_all(&mut self.readers);
+    }
+
     /// The norms of a field, or nothing where the file of norms has none of it.
     ///
     /// `Damaged(FieldNorms)` where it has more than `u32::MAX` of them; `OutOfMemory` where the file's
@@ -58,6 +68,16 @@ impl OpenIndex {
             → NormsHold schema num_docs self.now.fieldnorms tokens → GivesNorms schema num_docs field tokens result }
     {
         self.fieldnorms.get_field(field)
+    }
+}
+
+// Each of these readers, all of whose terms are known to open.
+fn trust_all(readers: &mut [InvertedIndexReader])
+    requires { All AllOpen readers.old }
+    ensures { readers.new ≡ readers.old }
+{
+    for reader in readers {
+        reader.trust();
     }
 }
 

@@ -1,4 +1,4 @@
-ghost use Rattle.std.specs.Prelude.{◌≡◌, ◌↔◌, ◌⊎◌, ◌≤◌, ℕ, List, false, true, length, drop, None, Some, Ok, Err, IfNone, IfOk, IfErr, IfSome, IsErrOf, IsSomeAnd, MatchOption, OnOk, OnErr};
+ghost use Rattle.std.specs.Prelude.{◌≡◌, ◌↔◌, ◌⊎◌, ◌≤◌, ℕ, List, false, true, length, drop, None, Some, Ok, Err, IfNone, IfOk, IfErr, IfSome, IsErrOf, IsOk, IsSomeAnd, MatchOption, OnOk, OnErr};
 ghost use Rattle.std.specs.Option.{option_map, option_map_or};
 ghost use Rattle.ii_io.specs.Numbers.{number_at};
 ghost use Rattle.ii_base.specs.declared.schema.index_record_option.IndexRecordOption.TheVariants.{Basic};
@@ -8,7 +8,7 @@ ghost use Rattle.ii_definitions.specs.Postings.{field_count, key_postings, occur
 ghost use Rattle.ii_definitions.specs.Files.{HoldsTerm, bytes_in};
 ghost use Rattle.ii_reader.specs.BlockSegmentPostings.{cursor_of_none};
 ghost use Rattle.ii_reader.specs.SegmentPostings.{postings_of_none};
-ghost use Rattle.ii_reader.specs.InvertedIndexReader.{GivesList, GivesPostings, IsRefusal, OpensBlocks, OpensTerm, PutsList, ReaderHolds, docs_of_file, given_if, lies_in, ranges_lie, reader_of_none, reader_over, reads_positions, term_of_file};
+ghost use Rattle.ii_reader.specs.InvertedIndexReader.{AllOpen, GivesList, GivesPostings, IsRefusal, OpensBlocks, OpensTerm, PutsList, ReaderHolds, docs_of_file, given_if, lies_in, ranges_lie, reader_of_none, reader_over, reads_positions, term_of_file};
 
 use super::block_segment_postings::BlockSegmentPostings;
 use super::segment_postings::SegmentPostings;
@@ -26,10 +26,13 @@ pub struct InvertedIndexReader {
     positions: Bytes,
     option: IndexRecordOption,
     num_tokens: u64,
+    // whether each term is known to open
+    is_known: bool,
 }
 
 impl Model for InvertedIndexReader {
-    ghost use Rattle.ii_reader.specs.InvertedIndexReader.{InvertedIndexReaderState};
+    ghost use Rattle.std.specs.Prelude.{◌≡◌, true};
+    ghost use Rattle.ii_reader.specs.InvertedIndexReader.{AllOpen, InvertedIndexReaderState};
 
     ghost Value = { InvertedIndexReaderState };
 
@@ -40,6 +43,14 @@ impl Model for InvertedIndexReader {
       option = r.option;
       num_tokens = r.num_tokens;
     } };
+
+    ghost invariant = { λ r. r.is_known ≡ true → AllOpen (record {
+      terms = r.terms;
+      postings = r.postings;
+      positions = r.positions;
+      option = r.option;
+      num_tokens = r.num_tokens;
+    }) };
 }
 
 impl InvertedIndexReader {
@@ -67,6 +78,7 @@ impl InvertedIndexReader {
             positions,
             option,
             num_tokens,
+            is_known: false,
         })
     }
 
@@ -80,7 +92,17 @@ impl InvertedIndexReader {
             positions: Bytes::new(),
             option,
             num_tokens: 0,
+            is_known: false,
         }
+    }
+
+    /// From now on the look-ups by a term, `read_postings` and `read_block_postings`, open cursors
+    /// without looking at lists whole, since each term is known to open.
+    pub fn trust(&mut self)
+        requires { AllOpen self.old }
+        ensures { self.new ≡ self.old }
+    {
+        self.is_known = true;
     }
 
     /// The terms of the field: its dictionary.
@@ -152,6 +174,12 @@ impl InvertedIndexReader {
         let Some(term_info) = self.get_term_info(term) else {
             return Ok(None);
         };
+        if self.is_known {
+            return match self.read_known_postings_from_terminfo(&term_info, option) {
+                Ok(cursor) => Ok(Some(cursor)),
+                Err(fault) => Err(fault),
+            };
+        }
         match self.read_postings_from_terminfo(&term_info, option) {
             Ok(cursor) => Ok(Some(cursor)),
             Err(fault) => Err(fault),
@@ -186,6 +214,30 @@ impl InvertedIndexReader {
         }
     }
 
+    /// A cursor over the postings of a term of which this is kept and which is known to open, as far as
+    /// they are requested. Its lists aren't looked at whole (`SegmentPostings::open_known`).
+    /// `OutOfMemory` where the files' buffer can't be shared once more.
+    #[tactic(auto, using(crate::proofs::KnownLemmas::ranges_known, crate::proofs::KnownLemmas::list_known, crate::proofs::ReaderLemmas::file_list))]
+    pub fn read_known_postings_from_terminfo(
+        &self,
+        term_info: &TermInfo,
+        option: IndexRecordOption,
+    ) -> Result<SegmentPostings, Fault>
+        requires { IsOk (term_of_file self.now option term_info.now) }
+        ensures ok { IfOk result (OpensTerm self.now option term_info.now) }
+        ensures lie { ranges_lie self.now option term_info.now ≡ true }
+        ensures only { IfErr result (λ fault. fault ≡ Fault.OutOfMemory) }
+        // where the files hold tokens
+        ensures holds { (field : ℕ) (key : List ℕ) (tokens : List IndexToken) → HoldsTerm self.now.option field key self.now.postings self.now.positions tokens term_info.now
+            → GivesList (key_postings self.now.option field key option tokens) result }
+    {
+        let postings = self.postings_of(term_info)?;
+        let positions = self.positions_of(term_info, option)?;
+        let record_option = self.record_option();
+        let doc_freq = term_info.doc_freq;
+        Ok(SegmentPostings::open_known(doc_freq, postings, positions, record_option, option))
+    }
+
     /// A block cursor over the postings of a term as far as they are requested, or nothing where the
     /// field has no such term.
     ///
@@ -205,6 +257,12 @@ impl InvertedIndexReader {
         let Some(term_info) = self.get_term_info(term) else {
             return Ok(None);
         };
+        if self.is_known {
+            return match self.read_known_block_postings_from_terminfo(&term_info, option) {
+                Ok(cursor) => Ok(Some(cursor)),
+                Err(fault) => Err(fault),
+            };
+        }
         match self.read_block_postings_from_terminfo(&term_info, option) {
             Ok(cursor) => Ok(Some(cursor)),
             Err(fault) => Err(fault),
@@ -229,6 +287,25 @@ impl InvertedIndexReader {
             Ok(cursor) => Ok(cursor),
             Err(fault) => Err(Fault::from(fault)),
         }
+    }
+
+    /// A block cursor over the postings of a term of which this is kept and which is known to open, as
+    /// far as they are requested. No block but the first is looked at. `OutOfMemory` where the file's
+    /// buffer can't be shared once more.
+    #[tactic(auto, using(crate::proofs::KnownLemmas::range_known, crate::proofs::KnownLemmas::docs_lie))]
+    pub fn read_known_block_postings_from_terminfo(
+        &self,
+        term_info: &TermInfo,
+        option: IndexRecordOption,
+    ) -> Result<BlockSegmentPostings, Fault>
+        requires { IsOk (docs_of_file self.now.postings self.now.option option term_info.now) }
+        ensures ok { IfOk result (OpensBlocks self.now.postings self.now.option option term_info.now) }
+        ensures lie { lies_in self.now.postings term_info.now.postings_range ≡ true }
+        ensures only { IfErr result (λ fault. fault ≡ Fault.OutOfMemory) }
+    {
+        let postings = self.postings_of(term_info)?;
+        let record_option = self.record_option();
+        Ok(BlockSegmentPostings::open_known(term_info.doc_freq, postings, record_option, option))
     }
 
     /// Puts the postings of a term of which this is kept in place of those of a block cursor, which

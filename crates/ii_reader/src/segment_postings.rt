@@ -1,4 +1,4 @@
-ghost use Rattle.std.specs.Prelude.{◌≡◌, ◌+◌, ◌*◌, ◌/◌, ◌^◌, ◌<◌, ◌≤◌, ◌⊎◌, ◌++◌, ◌-◌, ◌∷◌, false, not, [], drop, get_or, take, length, map, min, Ok, Err, IfOk, IfErr, OnOk, OnErr, IsTrue};
+ghost use Rattle.std.specs.Prelude.{◌≡◌, ◌+◌, ◌*◌, ◌/◌, ◌^◌, ◌<◌, ◌≤◌, ◌⊎◌, ◌++◌, ◌-◌, ◌∷◌, false, not, [], drop, get_or, take, length, map, min, Ok, Err, IfOk, IfErr, OnOk, OnErr, IsOk, IsTrue};
 ghost use Rattle.std.specs.List.{All};
 ghost use Rattle.ii_io.specs.Faults.{OnlyMemory};
 ghost use Rattle.ii_io.specs.Parts.{part_of};
@@ -107,6 +107,42 @@ impl SegmentPostings {
             cur: 0,
             position_reader,
         })
+    }
+
+    /// A cursor over the list of `doc_freq` documents that `postings` is known to begin with, with the
+    /// positions that `positions` are known to hold, by the option that its field records and the one
+    /// that is requested. No block but the first is looked at, and of positions the width of each of
+    /// their blocks and the last ones. Memory is never taken.
+    pub fn open_known(
+        doc_freq: u32,
+        postings: Bytes,
+        positions: Option<Bytes>,
+        record_option: IndexRecordOption,
+        requested_option: IndexRecordOption,
+    ) -> SegmentPostings
+        requires { IsOk (term_list record_option requested_option doc_freq postings positions) }
+        ensures ok { term_list record_option requested_option doc_freq postings positions ≡ Ok result.rest }
+        ensures doc_freq { result.doc_freq ≡ doc_freq }
+        ensures many { length result.rest ≡ doc_freq }
+        ensures reading { (freq_reading record_option requested_option doc_freq postings ≡ Ok result.freq_reading)
+            × (bounds_trusted record_option requested_option doc_freq postings ≡ Ok result.bounds) }
+        ensures first { result.block ≡ 0 }
+        ensures doc_decodes { result.doc_decodes ≤ 1 }
+        ensures freq_decodes { result.freq_decodes ≤ 1 }
+        ensures entries_read { result.entries_read ≤ 1 }
+        ensures position_decodes { result.position_decodes ≤ 1 }
+    {
+        let mut block_cursor = BlockSegmentPostings::empty_by(record_option, requested_option);
+        block_cursor.fill_known(doc_freq, postings);
+        // what the cursor tells of its list and of its block
+        let _docs = block_cursor.docs();
+        let _reading = block_cursor.freq_reading_option();
+        let position_reader = block_cursor.open_known_positions(positions);
+        SegmentPostings {
+            block_cursor,
+            cur: 0,
+            position_reader,
+        }
     }
 
     /// Puts another list in place of this one, as `open` does with the same arguments: the list of

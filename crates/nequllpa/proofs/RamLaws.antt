@@ -1,6 +1,7 @@
 -- What is written to files in memory, and why it can't be.
 use Rattle.std.proofs.Common.{inl, inr, ◌≡◌, ℕ, List, [], Option, Some, None, Result, Ok, Err, refl, sym, ap, ◌∙◌, subst, ⊎_elim}
-use Rattle.std.specs.Prelude.{◌⊎◌, IfErr, IfOk}
+use Rattle.std.specs.Prelude.{◌⊎◌, IfErr, IfOk, length}
+use Rattle.std.specs.List.{All}
 use Rattle.std.specs.Io.KnownBytes.{Appends}
 use Rattle.ii_io.specs.declared.faults.Fault.{Fault}
 use Rattle.ii_io.specs.declared.faults.Fault.TheVariants.{OutOfMemory, Write, SerializerClosed, IndexerFailed, UnsupportedLeaf, DecreasingPosition, Limit, Damaged}
@@ -10,6 +11,8 @@ use Rattle.ii_definitions.specs.Tokens.{IndexToken}
 use Rattle.ii_indexing.specs.IndexFiles.{IsIndexFault, WroteIndex}
 use Rattle.ii_indexing.specs.declared.index_writers.IndexWriters.{IndexWriters}
 use Rattle.ii_reader.specs.OpenIndex.{GivesReaders, IndexHolds, NormsHold, OpenIndexState}
+use Rattle.ii_reader.specs.InvertedIndexReader.{AllOpen}
+use Rattle.ii_reader.proofs.KnownLemmas.{readers_open}
 use Rattle.nequllpa.specs.Ram.{IsRamFault, empty_files}
 
 pub appended : (bytes : List ℕ) (o : Option (List ℕ)) → Appends (Some []) o bytes → o ≡ Some bytes
@@ -33,6 +36,11 @@ GivesAll entries n ts r = GivesReaders entries ts r × IfOk r (λ index. NormsHo
 pub index_holds : (entries : List SchemaEntry) (n : ℕ) (ts : List IndexToken) (r : Result OpenIndexState Fault) → GivesAll entries n ts r → IfOk r (λ index. IndexHolds entries n index ts)
 index_holds entries n ts (Ok index) h = record { readers = h.0; norms = h.1 }
 index_holds entries n ts (Err e) h = tt
+
+-- each term of an index that was just written opens
+pub all_open : (entries : List SchemaEntry) (n : ℕ) (ts : List IndexToken) (index : OpenIndexState) (r : Result OpenIndexState Fault) → r ≡ Ok index → GivesAll entries n ts r → length index.readers ≡ length entries → All AllOpen index.readers
+all_open entries n ts index r is gives many =
+    readers_open entries index.readers ts (subst (λ (r : Result OpenIndexState Fault). GivesAll entries n ts r) is gives).0 many
 
 pub readers_fault : (entries : List SchemaEntry) (ts : List IndexToken) (P : Fault → Type 0) (r : Result OpenIndexState Fault) → GivesReaders entries ts r → IfErr r (λ e. (e ≡ OutOfMemory) ⊎ P e)
 readers_fault entries ts P (Ok index) h = tt

@@ -1,5 +1,6 @@
 //! An index in memory: index calls go in, and readers of its fields come out.
 ghost use Rattle.std.specs.Prelude.{◌≡◌, ◌≤◌, ◌⊎◌, [], ℕ, List, length, map, None, Err, IfErr, IfOk, IfSome, OnOk, Some};
+ghost use Rattle.std.specs.List.{All};
 ghost use Rattle.ii_base.specs.declared.doc_id.TheConstants.{TERMINATED};
 ghost use Rattle.ii_definitions.specs.Fields.{option_of};
 ghost use Rattle.ii_definitions.specs.Files.{HoldTokens};
@@ -8,6 +9,7 @@ ghost use Rattle.ii_definitions.specs.Tokens.{IndexToken, tokens_of};
 ghost use Rattle.ii_indexing.specs.IndexCalls.{MayAllBeIndexed, call_of};
 ghost use Rattle.ii_indexing.specs.Refusals.{calls_fault};
 ghost use Rattle.nequllpa.specs.Ram.{IsRamFault, empty_files};
+ghost use Rattle.ii_reader.specs.InvertedIndexReader.{AllOpen};
 ghost use Rattle.ii_reader.specs.OpenIndex.{GivesReaders, IndexHolds, NormsHold};
 
 use bytes::Bytes;
@@ -21,7 +23,8 @@ use std::alloc::Global;
 /// the fields hold exactly the tokens of the calls, and the norms how many of them each document has of
 /// each field that keeps norms. No call has a document below that of the one before,
 /// each one's is below `num_docs`, at most `TERMINATED`, and each one's field is indexed and has values
-/// of its type.
+/// of its type. What was just written is known to open, so a look-up by a term doesn't look at a list
+/// whole.
 ///
 /// The first fault of the calls (`Indexer::index`) is answered, else a limit of what is written
 /// (`Indexer::finish`), or `OutOfMemory`; never `Write`, since what can't be written to memory wants memory.
@@ -44,9 +47,22 @@ pub fn index_in_ram<A: TextAnalyzer>(
     let files = files_in_ram(alloc);
     let (files, written) = write_index(alloc, schema, num_docs, calls, analyzer, files);
     match written {
-        Ok(()) => open_files(alloc, files, &copy),
+        Ok(()) => match open_files(alloc, files, &copy) {
+            Ok(index) => Ok(trusted(index)),
+            Err(fault) => Err(fault),
+        },
         Err(fault) => Err(fault.in_memory()),
     }
+}
+
+// An index each of whose terms is known to open, as those do that were just written.
+fn trusted(index: OpenIndex) -> OpenIndex
+    requires { All AllOpen index.readers }
+    ensures { result ≡ index }
+{
+    let mut index = index;
+    index.trust();
+    index
 }
 
 // Files that have no bytes yet.

@@ -1,4 +1,4 @@
-use Rattle.std.proofs.Common.{◌≡◌, ◌+◌, ◌-◌, ◌++◌, arith, ap, ◌∙◌, drop, length, take, List, ℕ, rules}
+use Rattle.std.proofs.Common.{◌≡◌, ◌+◌, ◌++◌, ap, ◌∙◌, drop, length, take, ℕ, rules}
 use Rattle.ii_codes.specs.Sums.{fit_u32, running_sums}
 use Rattle.ii_reader.proofs.PieceLemmas.{IsPiece, piece_fits, piece_past, piece_read}
 use Rattle.ii_reader.proofs.segment_postings.read_piece.Goals as goal

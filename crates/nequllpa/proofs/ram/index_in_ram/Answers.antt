@@ -1,4 +1,4 @@
-use Rattle.std.proofs.Common.{List, map, Result, sym, subst}
+use Rattle.std.proofs.Common.{List, map, Result, Ok, Err, sym, subst}
 use Rattle.std.specs.Prelude.{IfErr, OnOk}
 use Rattle.ii_io.specs.declared.faults.Fault.{Fault}
 use Rattle.ii_base.specs.Schema.{SchemaEntry}
@@ -8,12 +8,13 @@ use Rattle.ii_definitions.specs.Norms.{HoldNorms}
 use Rattle.ii_definitions.specs.Tokens.{tokens_of}
 use Rattle.ii_indexing.specs.IndexCalls.{call_of}
 use Rattle.ii_indexing.specs.IndexFiles.{IsIndexFault, WroteIndex}
+use Rattle.ii_reader.specs.OpenIndex.{GivesReaders, OpenIndexState}
 use Rattle.nequllpa.specs.Ram.{IsRamFault}
-use Rattle.nequllpa.proofs.RamLaws.{GivesAll, fault_in_ram, in_ram, index_holds, readers_fault}
+use Rattle.nequllpa.proofs.RamLaws.{GivesAll, all_open, fault_in_ram, in_ram, index_holds, readers_fault}
 use Rattle.nequllpa.proofs.ram.index_in_ram.Goals as goal
 
-pub returns-in-Ok-clause-holds : goal.returns-in-Ok-clause-holds
-returns-in-Ok-clause-holds g c =
+pub trusted-requires : goal.trusted-requires
+trusted-requires g c =
     let ts = tokens_of (g.A.TextAnalyzer.words c.args.analyzer.now) (map (call_of c.args.schema) c.args.calls.items) in
     let files = c.files_in_ram-files.result in
     let new = c.write_index-files.result.0 in
@@ -23,8 +24,21 @@ returns-in-Ok-clause-holds g c =
     let hold = subst (λ (es : List SchemaEntry). HoldTokens (option_of es) wrote.terms.terms wrote.terms.postings wrote.terms.positions ts) same wrote.terms.hold in
     let norms = subst (λ (es : List SchemaEntry). HoldNorms es c.args.num_docs wrote.norms.fieldnorms ts) same wrote.norms.hold in
     let gives = c.open_files.ensures.holds wrote.terms.terms wrote.terms.postings wrote.terms.positions wrote.norms.fieldnorms c.args.num_docs ts ram.0 ram.1 ram.2 ram.3 hold norms in
-    index_holds c.args.schema c.args.num_docs ts c.open_files.result
-    (subst (λ (es : List SchemaEntry). GivesAll es c.args.num_docs ts c.open_files.result) c.in_ok-copy.ensures.same gives)
+    all_open c.in_ok-copy.copy c.args.num_docs ts c.in-Ok-open_files.index c.open_files.result c.in-Ok-open_files.is gives c.in-Ok-open_files.ensures.many
+
+pub returns-in-Ok-open_files-clause-holds : goal.returns-in-Ok-open_files-clause-holds
+returns-in-Ok-open_files-clause-holds g c =
+    let ts = tokens_of (g.A.TextAnalyzer.words c.args.analyzer.now) (map (call_of c.args.schema) c.args.calls.items) in
+    let files = c.files_in_ram-files.result in
+    let new = c.write_index-files.result.0 in
+    let wrote : WroteIndex c.args.schema c.args.num_docs files new ts = subst (λ (r : Result (Unit {0}) Fault). OnOk r (WroteIndex c.args.schema c.args.num_docs files new ts)) c.in-Ok.is c.write_index-files.ensures.wrote in
+    let ram = in_ram c.args.schema c.args.num_docs files new ts c.files_in_ram-files.ensures wrote in
+    let same = sym c.in_ok-copy.ensures.same in
+    let hold = subst (λ (es : List SchemaEntry). HoldTokens (option_of es) wrote.terms.terms wrote.terms.postings wrote.terms.positions ts) same wrote.terms.hold in
+    let norms = subst (λ (es : List SchemaEntry). HoldNorms es c.args.num_docs wrote.norms.fieldnorms ts) same wrote.norms.hold in
+    let gives = c.open_files.ensures.holds wrote.terms.terms wrote.terms.postings wrote.terms.positions wrote.norms.fieldnorms c.args.num_docs ts ram.0 ram.1 ram.2 ram.3 hold norms in
+    let all = subst (λ (es : List SchemaEntry). GivesAll es c.args.num_docs ts c.open_files.result) c.in_ok-copy.ensures.same gives in
+    rw c.trusted.ensures (index_holds c.args.schema c.args.num_docs ts (Ok c.in-Ok-open_files.index) (subst (λ (r : Result OpenIndexState Fault). GivesAll c.args.schema c.args.num_docs ts r) c.in-Ok-open_files.is all))
 
 pub returns-in-Ok-clause-fault : goal.returns-in-Ok-clause-fault
 returns-in-Ok-clause-fault g c none =
@@ -37,7 +51,7 @@ returns-in-Ok-clause-fault g c none =
     let hold = subst (λ (es : List SchemaEntry). HoldTokens (option_of es) wrote.terms.terms wrote.terms.postings wrote.terms.positions ts) same wrote.terms.hold in
     let norms = subst (λ (es : List SchemaEntry). HoldNorms es c.args.num_docs wrote.norms.fieldnorms ts) same wrote.norms.hold in
     let gives = c.open_files.ensures.holds wrote.terms.terms wrote.terms.postings wrote.terms.positions wrote.norms.fieldnorms c.args.num_docs ts ram.0 ram.1 ram.2 ram.3 hold norms in
-    readers_fault c.in_ok-copy.copy ts (IsRamFault c.args.schema c.args.num_docs ts) c.open_files.result gives.0
+    readers_fault c.in_ok-copy.copy ts (IsRamFault c.args.schema c.args.num_docs ts) (Err c.in-Err-open_files.fault) (subst (λ (r : Result OpenIndexState Fault). GivesReaders c.in_ok-copy.copy ts r) c.in-Err-open_files.is gives.0)
 
 pub returns-clause-fault : goal.returns-clause-fault
 returns-clause-fault g c none =

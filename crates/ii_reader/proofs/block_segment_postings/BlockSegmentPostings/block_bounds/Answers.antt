@@ -1,5 +1,4 @@
-use Rattle.std.proofs.Common.{None, refl, sym, ap, ◌∙◌, option_map, slice_get}
-use Rattle.ii_reader.specs.Bounds.{bound_bytes}
+use Rattle.std.proofs.Common.{sym, ◌∙◌}
 use Rattle.ii_reader.proofs.BoundLemmas.{bounds_told, bounds_untold}
 use Rattle.ii_reader.proofs.block_segment_postings.BlockSegmentPostings.block_bounds.Goals as goal
 

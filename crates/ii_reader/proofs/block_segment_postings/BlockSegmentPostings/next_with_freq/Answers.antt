@@ -1,4 +1,4 @@
-use Rattle.std.proofs.Common.{◌≡◌, ◌/◌, ◌<◌, length, arith}
+use Rattle.std.proofs.Common.{arith}
 use Rattle.ii_reader.proofs.BlockLemmas.{GoesOn, on_loaded, on_goes}
 use Rattle.ii_reader.proofs.BoundLemmas.{lands, passes}
 use Rattle.ii_reader.proofs.block_segment_postings.BlockSegmentPostings.next_with_freq.Goals as goal

@@ -1,4 +1,4 @@
-use Rattle.std.proofs.Common.{◌+◌, ◌*◌, ap, length, ◌∙◌, arith}
+use Rattle.std.proofs.Common.{◌+◌, ◌*◌, ap, length, arith}
 use Rattle.ii_reader.proofs.BoundLemmas.{placed_behind, placed_here, unwanted_first, unwanted_next}
 use Rattle.ii_reader.proofs.block_segment_postings.BlockSegmentPostings.place_with_freq.Goals as goal
 

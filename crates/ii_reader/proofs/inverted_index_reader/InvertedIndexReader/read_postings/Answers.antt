@@ -1,4 +1,14 @@
+use Rattle.std.proofs.Common.{subst}
+use Rattle.ii_reader.specs.InvertedIndexReader.{AllOpen, InvertedIndexReaderState}
+use Rattle.ii_reader.proofs.KnownLemmas.{key_known}
 use Rattle.ii_reader.proofs.inverted_index_reader.InvertedIndexReader.read_postings.Goals as goal
 
-pub returns-in-Err-clause-holds : goal.returns-in-Err-clause-holds
-returns-in-Err-clause-holds c = λ field tokens held. c.in-Err.ensures.holds field c.args.term.now.value tokens (c.in-Some.ensures.holds field tokens held)
+pub read_known_postings_from_terminfo-requires : goal.read_known_postings_from_terminfo-requires
+read_known_postings_from_terminfo-requires c =
+    let all = subst (λ (r : InvertedIndexReaderState). AllOpen r) c.self.view_is (c.self.invariant c.if-self.true) in
+    key_known c.args.self.now c.args.term.now.value c.args.option c.in-Some.term_info all c.in-Some.ensures.value
+
+pub returns-in-Err-read_postings_from_terminfo-clause-holds :
+    goal.returns-in-Err-read_postings_from_terminfo-clause-holds
+returns-in-Err-read_postings_from_terminfo-clause-holds c = λ field tokens held.
+    c.in-Err-read_postings_from_terminfo.ensures.holds field c.args.term.now.value tokens (c.in-Some.ensures.holds field tokens held)

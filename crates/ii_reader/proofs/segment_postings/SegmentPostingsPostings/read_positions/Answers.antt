@@ -1,8 +1,7 @@
-use Rattle.std.proofs.Common.{◌≡◌, ◌+◌, ◌-◌, ◌*◌, ◌<◌, ◌^◌, ◌++◌, [], length, ap, sym, refl, ◌∙◌, arith, drop, take, List, ℕ, subst}
+use Rattle.std.proofs.Common.{◌+◌, ◌-◌, ◌*◌, ◌++◌, length, ap, sym, refl, ◌∙◌, arith, drop, take, List, ℕ}
 use Rattle.std.specs.Prelude.{min}
 use Rattle.ii_docset.specs.Cursor.{position_before, positions_at}
 use Rattle.ii_docset.proofs.CursorLemmas.{positions_fit}
-use Rattle.ii_codes.specs.Sums.{running_sums}
 use Rattle.ii_layout.specs.TermList.{list_of}
 use Rattle.ii_check.specs.Positions.{deltas_read}
 use Rattle.ii_reader.specs.SegmentPostings.{decodes_read}

@@ -1,0 +1,110 @@
+-- Terms that are known to open.
+use Rattle.std.proofs.Common.{◌≡◌, ◌<◌, ℕ, zero, suc, subst, Bool, true, false, List, [], ◌∷◌, length, Option, None, Some, Ok, Err, refl, sym, ap, arith}
+use Rattle.std.specs.Prelude.{Result, IfSome, IsOk, IsSome, IsSomeAnd, MatchOption, is_ok, ok_or, slice_get, slice_index_or}
+use Rattle.std.specs.List.{All}
+use Rattle.std.proofs.lemmas.Bool.{and_parts}
+use Rattle.ii_io.specs.declared.faults.Part.{Part}
+use Rattle.ii_io.specs.declared.faults.Part.TheVariants.{Positions}
+use Rattle.ii_io.specs.Parts.{◌>>=◌}
+use Rattle.ii_base.specs.declared.schema.index_record_option.IndexRecordOption.{IndexRecordOption}
+use Rattle.ii_base.specs.Options.{downgrade, has_positions}
+use Rattle.ii_base.specs.Entries.{Entry}
+use Rattle.ii_layout.specs.Postings.{Postings, postings}
+use Rattle.ii_layout.specs.TermList.{deltas_if, docs_and_freqs, list_of, term_list}
+use Rattle.ii_termstore.specs.declared.term_info.TermInfo.{TermInfo}
+use Rattle.ii_termdict.specs.Dictionary.{info_under}
+use Rattle.ii_definitions.specs.Tokens.{IndexToken}
+use Rattle.ii_definitions.specs.Postings.{occurs}
+use Rattle.ii_definitions.specs.Files.{HoldsTerm, bytes_in}
+use Rattle.ii_reader.specs.InvertedIndexReader.{AllOpen, InvertedIndexReaderState, ReaderHolds, docs_of_file, given_if, if_they_lie, lies_in, ranges_lie, reads_positions, term_of_file}
+use Rattle.ii_base.specs.Schema.{SchemaEntry}
+use Rattle.ii_reader.specs.OpenIndex.{FieldReaderHolds, ReadersHold}
+use Rattle.ii_reader.proofs.ReaderLemmas.{list_held, term_list_given}
+
+-- what comes first is well where all is
+first_known : {A B : Type 0} (found : Result A Part) (f : A → Result B Part) → IsOk (found >>= f) → IsOk found
+first_known (Ok x) f known = refl
+first_known (Err part) f known = absurd (cc)
+
+then_known : {A B : Type 0} (found : Result A Part) (f : A → Result B Part) (x : A) → IsOk (found >>= f) → found ≡ Ok x → IsOk (f x)
+then_known (Ok y) f x known is = let same : y ≡ x = cc in rw (← same) known
+then_known (Err part) f x known is = absurd (cc)
+
+some_known : {A : Type 0} (o : Option A) (part : Part) → IsOk (ok_or o part) → IsSome o
+some_known (Some x) part known = refl
+some_known None part known = absurd (cc)
+
+pub postings_known : (recorded requested : IndexRecordOption) (n : ℕ) (bytes : List ℕ) → IsOk (docs_and_freqs recorded requested n bytes) → IsOk (postings recorded requested n bytes)
+postings_known recorded requested n bytes known = first_known (postings recorded requested n bytes) (λ (p : Postings). Ok (p.docs, p.freqs)) known
+
+-- what is left of a term's list once its documents and counts are there
+abbrev with_deltas : Bool → Option (List ℕ) → List ℕ × Option (List ℕ) → Result (List Entry) Part
+with_deltas t positions read = ok_or (deltas_if t read.1 positions) Positions >>= λ (deltas : Option (List ℕ)). Ok (list_of read.0 read.1 deltas)
+
+pub docs_known : (recorded requested : IndexRecordOption) (n : ℕ) (bytes : List ℕ) (positions : Option (List ℕ)) → IsOk (term_list recorded requested n bytes positions) → IsOk (docs_and_freqs recorded requested n bytes)
+docs_known recorded requested n bytes positions known = first_known (docs_and_freqs recorded requested n bytes) (with_deltas (has_positions (downgrade recorded requested)) positions) known
+
+pub deltas_known : (recorded requested : IndexRecordOption) (n : ℕ) (bytes docs : List ℕ) (freqs positions : Option (List ℕ)) → IsOk (term_list recorded requested n bytes positions) → docs_and_freqs recorded requested n bytes ≡ Ok (docs, freqs)
+    → IsSome (deltas_if (has_positions (downgrade recorded requested)) freqs positions)
+deltas_known recorded requested n bytes docs freqs positions known read =
+    let t = has_positions (downgrade recorded requested) in
+    let there = then_known (docs_and_freqs recorded requested n bytes) (with_deltas t positions) (docs, freqs) known read in
+    some_known (deltas_if t freqs positions) Positions (first_known (ok_or (deltas_if t freqs positions) Positions) (λ (deltas : Option (List ℕ)). Ok (list_of docs freqs deltas)) there)
+
+-- so its ranges lie in the bodies
+lie_known : {A : Type 0} (t : Bool) (found : Result A Part) → IsOk (if_they_lie t found) → (t ≡ true) × IsOk found
+lie_known true found known = (refl, known)
+lie_known false found known = absurd (cc)
+
+pub ranges_known : (reader : InvertedIndexReaderState) (requested : IndexRecordOption) (info : TermInfo) → IsOk (term_of_file reader requested info) → ranges_lie reader requested info ≡ true
+ranges_known reader requested info known = (lie_known (ranges_lie reader requested info) _ known).0
+
+pub range_known : (bytes : List ℕ) (recorded requested : IndexRecordOption) (info : TermInfo) → IsOk (docs_of_file bytes recorded requested info) → lies_in bytes info.postings_range ≡ true
+range_known bytes recorded requested info known = (lie_known (lies_in bytes info.postings_range) _ known).0
+
+pub docs_lie : (bytes : List ℕ) (recorded requested : IndexRecordOption) (info : TermInfo) → IsOk (docs_of_file bytes recorded requested info) → IsOk (docs_and_freqs recorded requested info.doc_freq (bytes_in bytes info.postings_range))
+docs_lie bytes recorded requested info known = (lie_known (lies_in bytes info.postings_range) _ known).1
+
+-- the list of a term from the bytes that are handed over
+pub list_known : (reader : InvertedIndexReaderState) (requested : IndexRecordOption) (info : TermInfo) → IsOk (term_of_file reader requested info)
+    → IsOk (term_list reader.option requested info.doc_freq (bytes_in reader.postings info.postings_range) (given_if (reads_positions reader requested) (bytes_in reader.positions info.positions_range)))
+list_known reader requested info known =
+    let given = term_list_given reader.option requested info.doc_freq (bytes_in reader.postings info.postings_range) (bytes_in reader.positions info.positions_range) (reads_positions reader requested) refl in
+    rw given (lie_known (ranges_lie reader requested info) _ known).1
+
+-- its documents and counts open as well
+pub file_docs_known : (reader : InvertedIndexReaderState) (requested : IndexRecordOption) (info : TermInfo) → IsOk (term_of_file reader requested info) → IsOk (docs_of_file reader.postings reader.option requested info)
+file_docs_known reader requested info known =
+    let lie = lie_known (ranges_lie reader requested info) _ known in
+    let postings = and_parts (lies_in reader.postings info.postings_range) _ lie.0 in
+    rw postings.0 (docs_known reader.option requested info.doc_freq (bytes_in reader.postings info.postings_range) (Some (bytes_in reader.positions info.positions_range)) lie.1)
+
+-- what is known of a key
+pub key_known : (reader : InvertedIndexReaderState) (key : List ℕ) (requested : IndexRecordOption) (info : TermInfo) → AllOpen reader → Some info ≡ info_under key reader.terms → IsOk (term_of_file reader requested info)
+key_known reader key requested info all is = subst (λ (o : Option TermInfo). IfSome o (λ info. IsOk (term_of_file reader requested info))) (sym is) (all key requested)
+
+pub key_docs_known : (reader : InvertedIndexReaderState) (key : List ℕ) (requested : IndexRecordOption) (info : TermInfo) → AllOpen reader → Some info ≡ info_under key reader.terms → IsOk (docs_of_file reader.postings reader.option requested info)
+key_docs_known reader key requested info all is = file_docs_known reader requested info (key_known reader key requested info all is)
+
+-- the terms of a reader that has the tokens of a field
+held_cases : (reader : InvertedIndexReaderState) (field : ℕ) (key : List ℕ) (requested : IndexRecordOption) (ts : List IndexToken) (o : Option TermInfo) → MatchOption o (occurs field key ts ≡ false) (HoldsTerm reader.option field key reader.postings reader.positions ts)
+    → IfSome o (λ info. IsOk (term_of_file reader requested info))
+held_cases reader field key requested ts None held = tt
+held_cases reader field key requested ts (Some info) held = ap is_ok (list_held reader field key requested ts info held)
+
+pub held_open : (reader : InvertedIndexReaderState) (field : ℕ) (ts : List IndexToken) → ReaderHolds field reader ts → AllOpen reader
+held_open reader field ts holds key requested = held_cases reader field key requested ts (info_under key reader.terms) (holds.exact key)
+
+-- the readers of an index that has tokens
+at_place : {A : Type 0} (P : A → Type 0) (xs : List A) (k : ℕ) (d : A) → k < length xs → IsSomeAnd (slice_get xs k) P → P (slice_index_or xs k d)
+at_place P [] k d within there = absurd (omega arith)
+at_place P (x ∷ xs) zero d within there = there
+at_place P (x ∷ xs) (suc k) d within there = at_place P xs k d (omega arith) there
+
+held_reader : (entries : List SchemaEntry) (field : ℕ) (ts : List IndexToken) (o : Option InvertedIndexReaderState) → IsSomeAnd o (λ reader. FieldReaderHolds entries field reader ts) → IsSomeAnd o AllOpen
+held_reader entries field ts None held = absurd held
+held_reader entries field ts (Some reader) held = held_open reader field ts held.holds
+
+pub readers_open : (entries : List SchemaEntry) (readers : List InvertedIndexReaderState) (ts : List IndexToken) → ReadersHold entries readers ts → length readers ≡ length entries → All AllOpen readers
+readers_open entries readers ts holds many k d within =
+    at_place AllOpen readers k d within (held_reader entries k ts (slice_get readers k) (holds k (omega (arith, many, within))))

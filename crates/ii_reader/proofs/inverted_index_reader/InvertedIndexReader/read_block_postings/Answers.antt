@@ -1,0 +1,10 @@
+use Rattle.std.proofs.Common.{subst}
+use Rattle.ii_reader.specs.InvertedIndexReader.{AllOpen, InvertedIndexReaderState}
+use Rattle.ii_reader.proofs.KnownLemmas.{key_docs_known}
+use Rattle.ii_reader.proofs.inverted_index_reader.InvertedIndexReader.read_block_postings.Goals as goal
+
+pub read_known_block_postings_from_terminfo-requires :
+    goal.read_known_block_postings_from_terminfo-requires
+read_known_block_postings_from_terminfo-requires c =
+    let all = subst (λ (r : InvertedIndexReaderState). AllOpen r) c.self.view_is (c.self.invariant c.if-self.true) in
+    key_docs_known c.args.self.now c.args.term.now.value c.args.option c.in-Some.term_info all c.in-Some.ensures.value
