@@ -14,18 +14,18 @@ build = programs.build
 def shim(folder, source='memory/refuse.c'):
     """The library that refuses an allocation, or another that is loaded before the C library, made by the kit's compiler."""
     kit = os.path.dirname(subprocess.run(['rt', 'doc'], capture_output=True, text=True).stdout.split()[0])
-    made = os.path.join(folder, 'shim.so')
+    made = os.path.join(folder, os.path.basename(source) + '.so')
     tools = os.path.join(kit, 'toolchain', 'bin')
     subprocess.run([os.path.join(tools, 'clang'), '-shared', '-fPIC', '-O1', '-fno-builtin', '-nostdlib',
                     '-fuse-ld=' + os.path.join(tools, 'ld.lld'), '-o', made, os.path.join(HERE, source)], check=True)
     return made
 
 
-def run(crate, text, library, refused, folder, variable='REFUSE'):
-    """What the program writes, its status, and whether the call was refused whose number the variable gives."""
+def run(crate, text, library, refused, folder, variable='REFUSE', **others):
+    """What the program writes, its status, and how many calls were refused whose numbers the variable and others give."""
     told = os.path.join(folder, 'told')
     with open(told, 'wb') as sink:
         os.dup2(sink.fileno(), 3)
         done = subprocess.run([programs.program_of(crate)], input=text, stdout=subprocess.PIPE, stderr=subprocess.PIPE,
-                              timeout=60, pass_fds=(3,), env={'LD_PRELOAD': library, variable: str(refused)})
-    return done, os.path.getsize(told) > 0
+                              timeout=60, pass_fds=(3,), env={'LD_PRELOAD': library, variable: str(refused), **others})
+    return done, os.path.getsize(told)

@@ -1,6 +1,7 @@
 #!/usr/bin/env python3
 """Runs the program with each read of its input and each write of its output failing in turn: it writes nothing after a
-failed read, and the beginning of the right lines where a write failed, and ends with status 2."""
+failed read, and the beginning of the right lines where a write failed, and ends with status 2. Where it was refused the
+memory of its buffer, each answer is a write of its own, and none is begun after a failed one."""
 import os
 import sys
 import tempfile
@@ -8,6 +9,10 @@ import tempfile
 sys.dont_write_bytecode = True
 sys.path.insert(0, os.path.dirname(os.path.dirname(os.path.abspath(__file__))))
 import refusing
+
+# Lines of each kind, and the answers of those that have one.
+LINES = b'ids 0 2 10\ntext 0 a b a\nleaf 0 n i 5\n? text p a\n? leaf p n i 5\nids 1 0\n'
+ANSWERS = (b'808288\n0 2 10\n', b'0:2:0,2\n', b'0:1:\n', b'error line\n')
 
 
 def is_lawful(done, most, right, was_refused):
@@ -29,6 +34,18 @@ def failed_calls(variable, text, right, most, library, folder):
     return None
 
 
+def failed_answers(calls, memory, folder):
+    """How many answers failed in turn to be written without a buffer, or None where one wasn't told or was written."""
+    for call in range(1, len(ANSWERS) + 2):
+        done, refused = refusing.run('iiq', LINES, f'{calls}:{memory}', call, folder, 'FAIL_WRITE', REFUSE='1')
+        fails = call <= len(ANSWERS)
+        wanted = b''.join(ANSWERS[:call - 1]), b'', 2 if fails else 1, 2 if fails else 1
+        if (done.stdout, done.stderr, done.returncode, refused) != wanted:
+            print(f'tests/calls: FAIL_WRITE={call} without a buffer: status {done.returncode}, {done.stdout!r}, {done.stderr!r}, {refused} refused')
+            return None
+    return len(ANSWERS)
+
+
 def main():
     if not refusing.build('iiq'):
         print('tests/calls: the program was not built')
@@ -45,9 +62,10 @@ def main():
         library = refusing.shim(folder, 'calls/fail.c')
         reads = failed_calls('FAIL_READ', text, right, b'', library, folder)
         writes = failed_calls('FAIL_WRITE', text, right, right, library, folder)
-    if not reads or not writes:
+        answers = failed_answers(library, refusing.shim(folder), folder)
+    if not reads or not writes or not answers:
         return 1
-    print(f'tests/calls: {reads} reads and {writes} writes of the program failed in turn')
+    print(f'tests/calls: {reads} reads and {writes} writes of the program failed in turn, and {answers} answers without a buffer')
     return 0
 
 

@@ -1,7 +1,7 @@
 // Bounds of blocks, and seeks by count.
 use crate::position_tests::sought;
 use bytes::Bytes;
-use ii_base::{Fault, IndexRecordOption};
+use ii_base::{Fault, IndexRecordOption, LayoutFault};
 use ii_docset::{DocId, DocSet, Postings, TERMINATED};
 use ii_reader::{BlockSegmentPostings, SegmentPostings};
 use std::alloc::Global;
@@ -11,51 +11,100 @@ const FREQS: IndexRecordOption = IndexRecordOption::WithFreqs;
 
 const BASIC: IndexRecordOption = IndexRecordOption::Basic;
 
-// Documents 0 to 383: those of the first block have a count of 1 each, those of the second one of 5, and
-// those of the third one of 1, but for document 300, which has 9. The norm of each has the id 20.
-fn three_blocks(alloc: Global, norm: u8, counts: [u8; 3]) -> Result<Bytes, Fault> {
-    let [first, second, third] = counts;
+// The entries of three full blocks of documents 0 to 383: those of the first block have a count of 1 each,
+// those of the second one of 5, and those of the third one of 1, but for document 300, which has 9. The norm
+// of each has the id 20.
+static BOUNDED: [u8; 25] = [
+    0x98, 0x7F, 0, 0, 0, 0x40, 0, 20, 1, 0xFF, 0, 0, 0, 0x40, 3, 20, 5, 0x7F, 1, 0, 0, 0x40, 4, 20,
+    9,
+];
+
+// The same where nothing is known of norms and counts.
+static UNKNOWN: [u8; 25] = [
+    0x98, 0x7F, 0, 0, 0, 0x40, 0, 0, 0, 0xFF, 0, 0, 0, 0x40, 3, 0, 0, 0x7F, 1, 0, 0, 0x40, 4, 0, 0,
+];
+
+// The same where a greatest count is taken for any.
+static ANY: [u8; 25] = [
+    0x98, 0x7F, 0, 0, 0, 0x40, 0, 0, 0xFF, 0xFF, 0, 0, 0, 0x40, 3, 0, 0xFF, 0x7F, 1, 0, 0, 0x40, 4,
+    0, 0xFF,
+];
+
+// Their counts: 128 times 5 - 1 in three bits, and 128 numbers of four bits, all of them 0 but the one of
+// document 300, the 45th of its block.
+static COUNTS: [u8; 112] = [
+    0x24, 0x49, 0x92, 0x24, 0x49, 0x92, 0x24, 0x49, 0x92, 0x24, 0x49, 0x92, 0x24, 0x49, 0x92, 0x24,
+    0x49, 0x92, 0x24, 0x49, 0x92, 0x24, 0x49, 0x92, 0x24, 0x49, 0x92, 0x24, 0x49, 0x92, 0x24, 0x49,
+    0x92, 0x24, 0x49, 0x92, 0x24, 0x49, 0x92, 0x24, 0x49, 0x92, 0x24, 0x49, 0x92, 0x24, 0x49, 0x92,
+    0, 0, 0, 0, 0, 0, 0, 0, 0, 0, 0, 0, 0, 0, 0, 0, 0, 0, 0, 0, 0, 0, 0x08, 0, 0, 0, 0, 0, 0, 0, 0,
+    0, 0, 0, 0, 0, 0, 0, 0, 0, 0, 0, 0, 0, 0, 0, 0, 0, 0, 0, 0, 0, 0, 0, 0, 0, 0, 0, 0, 0, 0, 0, 0,
+    0,
+];
+
+// A list of such entries.
+fn three_blocks(alloc: Global, entries: &'static [u8]) -> Result<Bytes, Fault> {
     let mut bytes = Vec::new(alloc);
-    bytes.extend_from_slice(&[0x98, 0x7F, 0, 0, 0, 0x40, 0, norm, first])?;
-    bytes.extend_from_slice(&[0xFF, 0, 0, 0, 0x40, 3, norm, second])?;
-    bytes.extend_from_slice(&[0x7F, 1, 0, 0, 0x40, 4, norm, third])?;
-    // 128 times 5 - 1 in three bits
-    for _ in 0..16 {
-        bytes.extend_from_slice(&[0x24, 0x49, 0x92])?;
-    }
-    // 128 numbers of four bits, all of them 0 but the one of document 300, the 45th of its block
-    let mut block = [0u8; 64];
-    block[22] = 0x08;
-    bytes.extend_from_slice(&block)?;
+    bytes.extend_from_slice(entries)?;
+    bytes.extend_from_slice(&COUNTS)?;
     Ok(Bytes::from_vec(bytes)?)
 }
 
 // With their true bounds.
 fn bounded(alloc: Global) -> Result<Bytes, Fault> {
-    three_blocks(alloc, 20, [1, 5, 9])
+    three_blocks(alloc, &BOUNDED)
+}
+
+// The bounds of the block that a cursor is at; it then goes on.
+fn next_bounds(blocks: &mut BlockSegmentPostings) -> Option<(u8, u8)> {
+    let bounds = blocks.block_bounds();
+    blocks.advance();
+    bounds
+}
+
+// The bounds of the blocks that a cursor over such bytes comes to, and twice behind them.
+fn bounds_of(
+    bytes: Bytes,
+    requested_option: IndexRecordOption,
+) -> Result<[Option<(u8, u8)>; 5], LayoutFault> {
+    let mut blocks = BlockSegmentPostings::open(384, bytes, FREQS, requested_option)?;
+    Ok([
+        next_bounds(&mut blocks),
+        next_bounds(&mut blocks),
+        next_bounds(&mut blocks),
+        next_bounds(&mut blocks),
+        next_bounds(&mut blocks),
+    ])
+}
+
+// The same of true bounds.
+fn bounds_read(
+    alloc: Global,
+    requested_option: IndexRecordOption,
+) -> Result<[Option<(u8, u8)>; 5], Fault> {
+    Ok(bounds_of(bounded(alloc)?, requested_option)?)
 }
 
 #[test]
 fn full_blocks_have_bounds(rt: HostRuntime) -> Result<(), Fail> {
-    let bytes = bounded(rt.alloc())?;
-    let mut blocks = BlockSegmentPostings::open(384, bytes.clone()?, FREQS, FREQS)?;
-    for bounds in [(20, 1), (20, 5), (20, 9)] {
-        assert!(rt; blocks.block_bounds() == Some(bounds));
-        blocks.advance();
-    }
-    assert!(rt; blocks.block_bounds() == None);
-    blocks.advance();
-    assert!(rt; blocks.block_bounds() == None);
-    let unread = BlockSegmentPostings::open(384, bytes, FREQS, BASIC)?;
-    assert!(rt; unread.block_bounds() == Some((20, 1)));
+    let want = [Some((20, 1)), Some((20, 5)), Some((20, 9)), None, None];
+    assert!(rt; bounds_read(rt.alloc(), FREQS)? == want);
+    // counts need not be read for them
+    assert!(rt; bounds_read(rt.alloc(), BASIC)? == want);
     Ok(())
+}
+
+// A block of documents alone.
+static DOCUMENTS: [u8; 6] = [0x85, 0x7F, 0, 0, 0, 0x40];
+
+// The bounds of that block.
+fn bounds_without_counts() -> Result<Option<(u8, u8)>, LayoutFault> {
+    let documents = Bytes::from_static(&DOCUMENTS);
+    Ok(BlockSegmentPostings::open(128, documents, FREQS, FREQS)?.block_bounds())
 }
 
 #[test]
 fn terms_without_counts_have_no_bounds(rt: HostRuntime) -> Result<(), Fail> {
-    let documents = Bytes::from_static(&[0x85, 0x7F, 0, 0, 0, 0x40]);
-    let blocks = BlockSegmentPostings::open(128, documents, FREQS, FREQS)?;
-    assert!(rt; blocks.block_bounds() == None);
+    assert!(rt; bounds_without_counts()? == None);
     Ok(())
 }
 
@@ -72,64 +121,93 @@ fn sought_with_freq(cursor: &mut SegmentPostings, target: DocId, least: u32) -> 
     }
 }
 
-// The answers of three cursors over these bytes.
-fn told(alloc: Global, bytes: &Bytes) -> Result<String, Fault> {
-    let mut text = String::new(alloc);
-    let runs: [&[(DocId, u32)]; 2] = [
-        &[(0, 6), (300, 9), (300, 10)],
-        &[(130, 0), (130, 5), (256, 2)],
-    ];
-    for run in runs {
-        let mut cursor = SegmentPostings::open(384, bytes.clone()?, None, FREQS, FREQS)?;
-        for (target, least) in run {
-            let (doc, count) = sought_with_freq(&mut cursor, *target, *least);
-            write!(text, "{doc}:{count} ")?;
-        }
-    }
-    Ok(text)
+// The same of three seeks.
+fn sought_thrice(cursor: &mut SegmentPostings, seeks: [(DocId, u32); 3]) -> [(DocId, u32); 3] {
+    let [first, second, third] = seeks;
+    [
+        sought_with_freq(cursor, first.0, first.1),
+        sought_with_freq(cursor, second.0, second.1),
+        sought_with_freq(cursor, third.0, third.1),
+    ]
+}
+
+// The same of a new cursor over such bytes.
+fn sought_in(
+    bytes: Bytes,
+    requested_option: IndexRecordOption,
+    seeks: [(DocId, u32); 3],
+) -> Result<[(DocId, u32); 3], LayoutFault> {
+    let mut cursor = SegmentPostings::open(384, bytes, None, FREQS, requested_option)?;
+    Ok(sought_thrice(&mut cursor, seeks))
+}
+
+// Where seeks by count leave two new cursors over such entries.
+fn sought_twice(alloc: Global, entries: &'static [u8]) -> Result<[[(DocId, u32); 3]; 2], Fault> {
+    let first = [(0, 6), (300, 9), (300, 10)];
+    let other = [(130, 0), (130, 5), (256, 2)];
+    Ok([
+        sought_in(three_blocks(alloc, entries)?, FREQS, first)?,
+        sought_in(three_blocks(alloc, entries)?, FREQS, other)?,
+    ])
 }
 
 #[test]
 fn seeks_by_count_pass_blocks(rt: HostRuntime) -> Result<(), Fail> {
-    let want = "300:9 300:9 2147483647:0 130:5 130:5 300:9 ";
-    assert!(rt; told(rt.alloc(), &bounded(rt.alloc())?)?.as_str() == want);
-    // where nothing is known, and where a greatest count is taken for any
-    let unbounded = three_blocks(rt.alloc(), 0, [0; 3])?;
-    assert!(rt; told(rt.alloc(), &unbounded)?.as_str() == want);
-    let any = three_blocks(rt.alloc(), 0, [255; 3])?;
-    assert!(rt; told(rt.alloc(), &any)?.as_str() == want);
+    let first = [(300, 9), (300, 9), (TERMINATED, 0)];
+    let want = [first, [(130, 5), (130, 5), (300, 9)]];
+    assert!(rt; sought_twice(rt.alloc(), &BOUNDED)? == want);
+    assert!(rt; sought_twice(rt.alloc(), &UNKNOWN)? == want);
+    assert!(rt; sought_twice(rt.alloc(), &ANY)? == want);
     Ok(())
+}
+
+// Where a seek leaves a cursor, and one by count behind it.
+fn sought_both_ways(bytes: Bytes) -> Result<(DocId, (DocId, u32)), LayoutFault> {
+    let mut cursor = SegmentPostings::open(384, bytes, None, FREQS, FREQS)?;
+    Ok((
+        sought(&mut cursor, 200),
+        sought_with_freq(&mut cursor, 200, 6),
+    ))
 }
 
 #[test]
 fn seeks_by_count_go_by_one_where_counts_are_not_read(rt: HostRuntime) -> Result<(), Fail> {
-    let bytes = bounded(rt.alloc())?;
-    let mut cursor = SegmentPostings::open(384, bytes.clone()?, None, FREQS, BASIC)?;
-    assert!(rt; sought_with_freq(&mut cursor, 5, 1) == (5, 1));
-    assert!(rt; sought_with_freq(&mut cursor, 5, 2) == (TERMINATED, 0));
-    let mut other = SegmentPostings::open(384, bytes, None, FREQS, FREQS)?;
-    assert!(rt; sought(&mut other, 200) == 200);
-    assert!(rt; sought_with_freq(&mut other, 200, 6) == (300, 9));
+    let by_one = sought_in(
+        bounded(rt.alloc())?,
+        BASIC,
+        [(5, 1), (5, 2), (TERMINATED, 0)],
+    )?;
+    assert!(rt; by_one == [(5, 1), (TERMINATED, 0), (TERMINATED, 0)]);
+    let both_ways = sought_both_ways(bounded(rt.alloc())?)?;
+    assert!(rt; both_ways == (200, (300, 9)));
     Ok(())
 }
 
-// Documents 0 to 127 with a count of 300 each, whose greatest count is taken for any.
-fn often(alloc: Global) -> Result<Bytes, Fault> {
-    let mut bytes = Vec::new(alloc);
-    bytes.extend_from_slice(&[0x88, 0x7F, 0, 0, 0, 0x40, 9, 0x48, 0xFF])?;
-    // 128 times 300 - 1 in nine bits, which repeat after nine bytes
-    for _ in 0..16 {
-        bytes.extend_from_slice(&[0x2B, 0x57, 0xAE, 0x5C, 0xB9, 0x72, 0xE5, 0xCA, 0x95])?;
-    }
-    Ok(Bytes::from_vec(bytes)?)
+// Documents 0 to 127 with a count of 300 each, whose greatest count is taken for any: 128 times 300 - 1 in nine
+// bits, which repeat after nine bytes.
+static OFTEN: [u8; 153] = [
+    0x88, 0x7F, 0, 0, 0, 0x40, 0x09, 0x48, 0xFF, 0x2B, 0x57, 0xAE, 0x5C, 0xB9, 0x72, 0xE5, 0xCA,
+    0x95, 0x2B, 0x57, 0xAE, 0x5C, 0xB9, 0x72, 0xE5, 0xCA, 0x95, 0x2B, 0x57, 0xAE, 0x5C, 0xB9, 0x72,
+    0xE5, 0xCA, 0x95, 0x2B, 0x57, 0xAE, 0x5C, 0xB9, 0x72, 0xE5, 0xCA, 0x95, 0x2B, 0x57, 0xAE, 0x5C,
+    0xB9, 0x72, 0xE5, 0xCA, 0x95, 0x2B, 0x57, 0xAE, 0x5C, 0xB9, 0x72, 0xE5, 0xCA, 0x95, 0x2B, 0x57,
+    0xAE, 0x5C, 0xB9, 0x72, 0xE5, 0xCA, 0x95, 0x2B, 0x57, 0xAE, 0x5C, 0xB9, 0x72, 0xE5, 0xCA, 0x95,
+    0x2B, 0x57, 0xAE, 0x5C, 0xB9, 0x72, 0xE5, 0xCA, 0x95, 0x2B, 0x57, 0xAE, 0x5C, 0xB9, 0x72, 0xE5,
+    0xCA, 0x95, 0x2B, 0x57, 0xAE, 0x5C, 0xB9, 0x72, 0xE5, 0xCA, 0x95, 0x2B, 0x57, 0xAE, 0x5C, 0xB9,
+    0x72, 0xE5, 0xCA, 0x95, 0x2B, 0x57, 0xAE, 0x5C, 0xB9, 0x72, 0xE5, 0xCA, 0x95, 0x2B, 0x57, 0xAE,
+    0x5C, 0xB9, 0x72, 0xE5, 0xCA, 0x95, 0x2B, 0x57, 0xAE, 0x5C, 0xB9, 0x72, 0xE5, 0xCA, 0x95, 0x2B,
+    0x57, 0xAE, 0x5C, 0xB9, 0x72, 0xE5, 0xCA, 0x95,
+];
+
+// Where a seek by count leaves a new cursor over them.
+fn sought_often(least: u32) -> Result<(DocId, u32), LayoutFault> {
+    let often = Bytes::from_static(&OFTEN);
+    let mut cursor = SegmentPostings::open(128, often, None, FREQS, FREQS)?;
+    Ok(sought_with_freq(&mut cursor, 0, least))
 }
 
 #[test]
 fn great_counts_have_no_known_bound(rt: HostRuntime) -> Result<(), Fail> {
-    let bytes = often(rt.alloc())?;
-    let mut cursor = SegmentPostings::open(128, bytes.clone()?, None, FREQS, FREQS)?;
-    assert!(rt; sought_with_freq(&mut cursor, 0, 301) == (TERMINATED, 0));
-    let mut fresh = SegmentPostings::open(128, bytes, None, FREQS, FREQS)?;
-    assert!(rt; sought_with_freq(&mut fresh, 0, 300) == (0, 300));
+    assert!(rt; sought_often(301)? == (TERMINATED, 0));
+    assert!(rt; sought_often(300)? == (0, 300));
     Ok(())
 }

@@ -8,8 +8,6 @@ mod output;
 mod parts;
 mod replies;
 mod run;
-#[cfg(test)]
-mod run_tests;
 mod session;
 mod words;
 
