@@ -1,3 +1,4 @@
+use crate::index_tests::text_of;
 use crate::memory_index::{FULL, Index, opened, texts, written};
 use ii_base::{Fault, Field, Schema, Term};
 use ii_indexing::IndexCall;
@@ -10,11 +11,7 @@ const DOCS: u32 = 130;
 fn falling_calls(alloc: Global) -> Result<Vec<IndexCall>, Fault> {
     let mut calls = Vec::new(alloc);
     for doc in 0..DOCS {
-        let mut text = String::new(alloc);
-        for _ in doc + 1..DOCS {
-            text.push_str("e ")?;
-        }
-        text.push('a')?;
+        let text = text_of(alloc, DOCS - 1 - doc)?;
         calls.push(IndexCall::Text(doc, Field::from_field_id(0), text))?;
     }
     Ok(calls)

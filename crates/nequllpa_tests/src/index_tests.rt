@@ -176,7 +176,7 @@ fn fields_have_the_norms_that_they_want(rt: HostRuntime) -> Result<(), Fail> {
 }
 
 // So many times `e`, and an `a`.
-fn text_of(alloc: Global, count: u32) -> Result<String, Fault> {
+pub(crate) fn text_of(alloc: Global, count: u32) -> Result<String, Fault> {
     let mut text = String::new(alloc);
     for _ in 0..count {
         text.push_str("e ")?;

@@ -3,7 +3,7 @@ ghost use Rattle.std.specs.Prelude.{◌≡◌, IfOk, length, true};
 ghost use Rattle.ii_search.specs.Queries.{has_fields};
 
 use crate::memory_index::{
-    FULL, checked, term_cursor, text_calls, texts, two_texts, written_texts,
+    FULL, Index, checked, term_cursor, text_calls, texts, two_texts, written_texts,
 };
 use ii_base::{AsciiTokenizer, Fault, Field, Schema, Term};
 use ii_docset::{DocId, DocSet, TERMINATED};
@@ -322,18 +322,28 @@ static OFTEN: [(DocId, u32, &str); 5] = [
     (5, 0, "b"),
 ];
 
-// The documents in which it occurs most often, with their counts.
-fn most_often(alloc: Global, n: usize) -> Result<String, Fault> {
-    let index = written_texts(alloc, texts(alloc, true)?, 6, &OFTEN)?;
-    let word = Term::from_field_text(alloc, Field::from_field_id(0), "a")?;
+// The documents of a cursor with the greatest counts, each with its count.
+fn top_of(alloc: Global, cursor: &mut SegmentPostings, n: usize) -> Result<String, Fault> {
     let mut text = String::new(alloc);
-    let Some(mut cursor) = term_cursor(alloc, &index, &word, FULL)? else {
-        return Ok(text);
-    };
-    for (doc, count) in top_by_count(alloc, &mut cursor, n)? {
+    for (doc, count) in top_by_count(alloc, cursor, n)? {
         write!(text, "{doc}:{count} ")?;
     }
     Ok(text)
+}
+
+// The same of a word in an index.
+fn top_of_word(alloc: Global, index: &Index, word: &str, n: usize) -> Result<String, Fault> {
+    let term = Term::from_field_text(alloc, Field::from_field_id(0), word)?;
+    match term_cursor(alloc, index, &term, FULL)? {
+        Some(mut cursor) => top_of(alloc, &mut cursor, n),
+        None => Ok(String::new(alloc)),
+    }
+}
+
+// The documents in which it occurs most often, with their counts.
+fn most_often(alloc: Global, n: usize) -> Result<String, Fault> {
+    let index = written_texts(alloc, texts(alloc, true)?, 6, &OFTEN)?;
+    top_of_word(alloc, &index, "a", n)
 }
 
 #[test]
