@@ -1,4 +1,4 @@
-ghost use Rattle.std.specs.Prelude.{◌<◌, ◌≡◌, [], false, length, IfOk};
+ghost use Rattle.std.specs.Prelude.{◌<◌, ◌≡◌, [], None, false, length, IfOk};
 ghost use Rattle.ii_recorder.specs.IndexBodies.{LacksField};
 
 use bytes::Bytes;
@@ -30,6 +30,7 @@ fn texts(alloc: Global) -> Result<Schema, Fault>
 fn put_text(field: &mut FieldSerializer<'_, Vec<u8>>) -> Result<(), Fault>
     requires between { field.old.index.now.closed ≡ false → field.old.index.now.field.term_open ≡ false }
     requires first { field.old.index.now.closed ≡ false → field.old.index.now.field.places.keys ≡ [] }
+    requires norms { field.old.index.now.field.term.norms ≡ None }
 {
     field.new_term(b"a", 1, true)?;
     field.write_doc(0, 2, &[0, 4])
@@ -49,6 +50,7 @@ fn write_text(index: &mut InvertedIndexSerializer<Vec<u8>>) -> Result<(), Fault>
 fn put_uncounted(field: &mut FieldSerializer<'_, Vec<u8>>) -> Result<(), Fault>
     requires between { field.old.index.now.closed ≡ false → field.old.index.now.field.term_open ≡ false }
     requires first { field.old.index.now.closed ≡ false → field.old.index.now.field.places.keys ≡ [] }
+    requires norms { field.old.index.now.field.term.norms ≡ None }
 {
     field.new_term_without_freq(b"c")?;
     field.write_doc(1, 1, &[])?;
