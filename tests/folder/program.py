@@ -367,15 +367,27 @@ def stopped(user, docs):
         user.wants(['check', 'new'], 1, 'new: no index here\n')
 
 
+def most_memory(user, words):
+    """Runs the program, which has to end well, and answers how many bytes of memory it had at most."""
+    run, peak = subprocess.Popen([user.program, *words], cwd=user.folder, stdout=subprocess.DEVNULL, stderr=subprocess.DEVNULL), 0
+    while run.poll() is None:
+        with open(f'/proc/{run.pid}/status', encoding='utf-8') as status:
+            found = [line.split() for line in status if line.startswith('VmHWM:')]
+        peak = max([peak] + [int(words[1]) << 10 for words in found])
+        time.sleep(0.05)
+    if run.returncode != 0:
+        raise Failed(f'{" ".join(words)}: status {run.returncode}')
+    return peak
+
+
 def measured(user, docs):
     """How long it takes to index, to open and to search, which is printed."""
     text = lines(docs)
     size = len(text.encode())
     path, schema = user.write('all.jsonl', text), user.path('schema.toml')
     begun = time.time()
-    user.wants(['index', 'large', '--schema', schema, path], 0)
+    peak = most_memory(user, ['index', 'large', '--schema', schema, path])
     indexed = time.time() - begun
-    peak = resource.getrusage(resource.RUSAGE_CHILDREN).ru_maxrss << 10
     bytes_of = sum(os.path.getsize(os.path.join(user.path('large'), name)) for name in os.listdir(user.path('large')))
     word = max(texts.lists_of(docs[:200], 'body').items(), key=lambda item: len(item[1]))[0]
     times = []

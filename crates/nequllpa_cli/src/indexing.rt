@@ -15,8 +15,8 @@ use std::time::Instant;
 // After so many bytes of input it is told how far it came.
 const STEP: u64 = 16 << 20;
 
-// Indexing takes about so many bytes of memory for each byte of input: its lines, and then the index.
-const MEMORY_MULTIPLE: u32 = 11;
+// Indexing takes up to about so many bytes of memory for each byte of input: its lines, and then the index.
+const MEMORY_MULTIPLE: u32 = 5;
 
 // What is done while input is read.
 #[derive(Drop)]
@@ -55,7 +55,7 @@ pub fn answer_index(
         begun: Instant::now(rt)?,
     };
     eprintln!(rt;
-        "nequllpa: this takes about {MEMORY_MULTIPLE} bytes of memory for each byte of input"
+        "nequllpa: this takes up to about {MEMORY_MULTIPLE} bytes of memory for each byte of input"
     )?;
     if let Err(status) = take_inputs(rt, given, &mut intake)? {
         return Ok(ExitCode::from(status));

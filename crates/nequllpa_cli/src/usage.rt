@@ -49,7 +49,7 @@ fn index_command<'a>(alloc: Global) -> Result<Command<'a>, AllocError> {
     of_folder(
         alloc,
         "index",
-        "Indexes JSON lines: the folder then has the index of these, in place of the one that it had. Takes about 11 bytes of memory for each byte of input",
+        "Indexes JSON lines: the folder then has the index of these, in place of the one that it had. Takes 3 to 5 bytes of memory for each byte of input",
     )?
     .arg(files)?
     .arg(schema)?
