@@ -9,7 +9,7 @@ use Rattle.ii_indexing.specs.IndexCalls.{call_of}
 use Rattle.ii_indexing.specs.declared.index_call.IndexCall.{IndexCall}
 use Rattle.serde_json.specs.Data.{Data, Items, item, no_items}
 use Rattle.ii_documents.specs.declared.faults.LineFault.{LineFault}
-use Rattle.ii_documents.specs.JsonLines.{Adds, Refusal, Tells, items_calls, told, value_call}
+use Rattle.ii_documents.specs.JsonLines.{Adds, Refusal, TellsOfLine, items_calls, told_of_line, value_call}
 use Rattle.ii_documents.specs.Steps.{◌>>=◌}
 
 -- calls before those that a step gives
@@ -57,10 +57,10 @@ module _ (es : List SchemaEntry) (doc : ℕ) where
     }
 
     -- a step that was refused
-    pub stops : (e : LineFault) → Tells (told e) step → Tells (told e) all
-    stops e tells = refused (told e) tells
+    pub stops : (e : LineFault) → TellsOfLine (told_of_line e) step → TellsOfLine (told_of_line e) all
+    stops e tells = refused (told_of_line e) tells
       where
-        refused : (r : Option Refusal) → Tells r step → Tells r all
+        refused : (r : Option Refusal) → TellsOfLine r step → TellsOfLine r all
         refused None tells = tt
         refused (Some why) tells = t.whole ∙ ap (λ s. in_front t.done (both s rest)) tells
 

@@ -15,8 +15,9 @@ use Rattle.ii_base.specs.Schema.{SchemaEntry}
 use Rattle.ii_definitions.specs.Tokens.{Call, Content}
 use Rattle.ii_indexing.specs.IndexCalls.{Takes, call_of, call_with, field_of, type_of}
 use Rattle.ii_indexing.specs.declared.index_call.IndexCall.{IndexCall}
+use Rattle.ii_indexing.proofs.HeldLaws.{all_both}
 use Rattle.ii_documents.specs.declared.faults.ValueFault.{ValueFault}
-use Rattle.ii_documents.specs.JsonLines.{Adds, IsOf, Refusal, call_with_content, field_calls, fields_calls, items_calls, unknown_in, value_call}
+use Rattle.ii_documents.specs.JsonLines.{Adds, IsOf, Refusal, call_with_content, field_calls, fields_calls, items_calls, unknown_name_in, value_call}
 use Rattle.ii_documents.proofs.AddingLemmas.{both}
 
 abbrev pub Entry : Type 0
@@ -26,10 +27,10 @@ Entry = String Global × Value
 abbrev pub named_so : List SchemaEntry → List ℕ → Bool
 named_so es key = list_any (λ (e : SchemaEntry). bytes_eq e.name key) es
 
-pub stranger : (es : List SchemaEntry) (m : Entry) (rest : List Entry) → named_so es (string_bytes m.0) ≡ false → unknown_in es (members_view (m ∷ rest)) ≡ Some (string_bytes m.0)
+pub stranger : (es : List SchemaEntry) (m : Entry) (rest : List Entry) → named_so es (string_bytes m.0) ≡ false → unknown_name_in es (members_view (m ∷ rest)) ≡ Some (string_bytes m.0)
 stranger es m rest e = rw e refl
 
-pub known : (es : List SchemaEntry) (m : Entry) (rest : List Entry) → named_so es (string_bytes m.0) ≡ true → unknown_in es (members_view (m ∷ rest)) ≡ unknown_in es (members_view rest)
+pub known : (es : List SchemaEntry) (m : Entry) (rest : List Entry) → named_so es (string_bytes m.0) ≡ true → unknown_name_in es (members_view (m ∷ rest)) ≡ unknown_name_in es (members_view rest)
 known es m rest e = rw e refl
 
 -- what stands under a key
@@ -48,11 +49,6 @@ call_at doc field (Ok content) k e = (sym (ap (λ (c : Call). c.doc) (inside e))
     inside e = cc
 call_at doc field (Err fault) k e = absurd (cc)
 
--- one more call of a document
-all_push : {A : Type 0} (P : A → Type 0) (xs : List A) (x : A) → AllByRecursion P xs → P x → AllByRecursion P (xs ++ x ∷ [])
-all_push P [] x all p = (p, tt)
-all_push P (y ∷ ys) x all p = (all.0, all_push P ys x all.1 p)
-
 -- the call of a value was added
 pub adds_value : (es : List SchemaEntry) (doc field : ℕ) (old new : List IndexCall) (e : SchemaEntry) (d : Data) (c : IndexCall) → slice_get es field ≡ Some e → e.is_indexed ≡ true
     → value_call doc field e d ≡ Ok (call_with e.expands_dots c) → type_of c ≡ e.value_type → new ≡ old ++ c ∷ []
@@ -66,7 +62,7 @@ adds_value es doc field old new e d c found indexed is typed pushed =
       rw is refl,
       record {
         calls = ap (map (call_of es)) pushed ∙ map-append (call_of es) old (c ∷ []) ∙ ap (λ k. map (call_of es) old ++ k ∷ []) same;
-        each = λ each. subst (AllByRecursion (IsOf es doc)) (sym pushed) (all_push (IsOf es doc) old c each (record { doc_is = at.0; takes = takes }));
+        each = λ each. subst (AllByRecursion (IsOf es doc)) (sym pushed) (all_both (IsOf es doc) old (c ∷ []) each (record { doc_is = at.0; takes = takes }, tt));
       },
     )
 

@@ -1,5 +1,5 @@
 -- Which index calls a line of JSON says, by a schema.
-use Rattle.std.specs.Prelude.{◌≡◌, ◌+◌, ℕ, Bool, true, false, List, [], ◌∷◌, ◌++◌, bytes_eq, map, if◌then◌else◌, Option, None, Some, option_map, Result, Ok, Err, ⊤, string_bytes}
+use Rattle.std.specs.Prelude.{◌≡◌, ◌+◌, ℕ, Bool, true, false, List, [], ◌∷◌, ◌++◌, bytes_eq, map, if◌then◌else◌, Option, None, Some, option_map, ok_or, Result, Ok, Err, ⊤, string_bytes}
 use Rattle.std.specs.List.{AllByRecursion, list_any}
 use Rattle.std.specs.Int.{bytes_high_first}
 use Rattle.hex.specs.Hex.{decode_of}
@@ -12,6 +12,7 @@ use Rattle.ii_base.specs.Schema.{SchemaEntry}
 use Rattle.ii_base.specs.Values.{flipped, number_of_bool, u64_bytes}
 use Rattle.ii_base.specs.declared.schema.value_type.ValueType.{ValueType}
 use Rattle.ii_base.specs.declared.schema.value_type.ValueType.TheVariants as types
+use Rattle.ii_definitions.specs.JsonKeys.{is_json}
 use Rattle.ii_definitions.specs.Tokens.{Call, Content, leaves, text, value}
 use Rattle.ii_indexing.specs.IndexCalls.{Takes, call_of, doc_of, field_of, type_of}
 use Rattle.ii_indexing.specs.declared.index_call.IndexCall.{IndexCall}
@@ -21,7 +22,7 @@ use Rattle.ii_documents.specs.declared.faults.ValueFault.{ValueFault}
 use Rattle.ii_documents.specs.declared.faults.ValueFault.TheVariants as value_faults
 use Rattle.ii_documents.specs.Addresses.{address_in}
 use Rattle.ii_documents.specs.JsonValues.{json_from}
-use Rattle.ii_documents.specs.Steps.{◌>>=◌, needs}
+use Rattle.ii_documents.specs.Steps.{◌>>=◌}
 
 -- Why a line is no document.
 pub data Refusal : Type 0 where
@@ -32,23 +33,23 @@ pub data Refusal : Type 0 where
   wrong_value : ℕ → ValueFault → Refusal
 
 -- what a fault tells of the line
-abbrev pub told : LineFault → Option Refusal
-told faults.OutOfMemory = None
-told faults.TooManyDocuments = Some too_many_documents
-told (faults.NotJson e) = Some not_json
-told faults.NotAnObject = Some not_an_object
-told (faults.UnknownKey key) = Some (unknown_key (string_bytes key))
-told (faults.WrongValue field fault) = Some (wrong_value field fault)
+abbrev pub told_of_line : LineFault → Option Refusal
+told_of_line faults.OutOfMemory = None
+told_of_line faults.TooManyDocuments = Some too_many_documents
+told_of_line (faults.NotJson e) = Some not_json
+told_of_line faults.NotAnObject = Some not_an_object
+told_of_line (faults.UnknownKey key) = Some (unknown_key (string_bytes key))
+told_of_line (faults.WrongValue field fault) = Some (wrong_value field fault)
 
 -- nothing is told, or that this is the answer
-abbrev pub Tells : {Y : Type 0} → Option Refusal → Result Y Refusal → Type 0
-Tells None wanted = ⊤
-Tells (Some refusal) wanted = wanted ≡ Err refusal
+abbrev pub TellsOfLine : {Y : Type 0} → Option Refusal → Result Y Refusal → Type 0
+TellsOfLine None wanted = ⊤
+TellsOfLine (Some refusal) wanted = wanted ≡ Err refusal
 
 -- a call answered this, by a view, unless there was no memory
-abbrev pub Gives : {X Y : Type 0} → (X → Y) → Result X LineFault → Result Y Refusal → Type 0
-Gives view (Ok x) wanted = wanted ≡ Ok (view x)
-Gives view (Err e) wanted = Tells (told e) wanted
+abbrev pub AnswersFromLine : {X Y : Type 0} → (X → Y) → Result X LineFault → Result Y Refusal → Type 0
+AnswersFromLine view (Ok x) wanted = wanted ≡ Ok (view x)
+AnswersFromLine view (Err e) wanted = TellsOfLine (told_of_line e) wanted
 
 -- a number of 64 bits
 abbrev pub number_content : ℕ → Content
@@ -56,11 +57,11 @@ number_content n = value (u64_bytes n)
 
 -- an unsigned number, and a signed one
 abbrev pub u64_content : Num → Result Content ValueFault
-u64_content n = needs value_faults.OutOfRange (option_map number_content (as_u64 n))
+u64_content n = ok_or (option_map number_content (as_u64 n)) value_faults.OutOfRange
 
 -- a signed number
 abbrev pub i64_content : Num → Result Content ValueFault
-i64_content n = needs value_faults.OutOfRange (option_map (λ z. number_content (flipped z)) (as_i64 n))
+i64_content n = ok_or (option_map (λ z. number_content (flipped z)) (as_i64 n)) value_faults.OutOfRange
 
 -- bytes, as pairs of hexadecimal digits
 abbrev pub bytes_from : {E : Type 0} → Result (List ℕ) E → Result Content ValueFault
@@ -69,7 +70,7 @@ bytes_from (Err e) = Err value_faults.NotHex
 
 -- an address
 abbrev pub address_content : List ℕ → Result Content ValueFault
-address_content t = needs value_faults.NotAnAddress (option_map (λ n. value (bytes_high_first 16 n)) (address_in t))
+address_content t = ok_or (option_map (λ n. value (bytes_high_first 16 n)) (address_in t)) value_faults.NotAnAddress
 
 -- a JSON value, where no number in it is a floating-point number
 abbrev pub json_content : Bool → Data → Result Content ValueFault
@@ -77,12 +78,12 @@ json_content expand_dots d = if has_float d then Err value_faults.Float else Ok 
 
 -- what a value is to a field of a type
 abbrev pub content_in : ValueType → Bool → Data → Result Content ValueFault
-content_in types.Str dots d = needs value_faults.WrongType (as_str d) >>= λ t. Ok (text t)
-content_in types.U64 dots d = needs value_faults.WrongType (as_number d) >>= u64_content
-content_in types.I64 dots d = needs value_faults.WrongType (as_number d) >>= i64_content
-content_in types.Bool dots d = needs value_faults.WrongType (as_bool d) >>= λ b. Ok (number_content (number_of_bool b))
-content_in types.Bytes dots d = needs value_faults.WrongType (as_str d) >>= λ t. bytes_from (decode_of t)
-content_in types.IpAddr dots d = needs value_faults.WrongType (as_str d) >>= address_content
+content_in types.Str dots d = ok_or (as_str d) value_faults.WrongType >>= λ t. Ok (text t)
+content_in types.U64 dots d = ok_or (as_number d) value_faults.WrongType >>= u64_content
+content_in types.I64 dots d = ok_or (as_number d) value_faults.WrongType >>= i64_content
+content_in types.Bool dots d = ok_or (as_bool d) value_faults.WrongType >>= λ b. Ok (number_content (number_of_bool b))
+content_in types.Bytes dots d = ok_or (as_str d) value_faults.WrongType >>= λ t. bytes_from (decode_of t)
+content_in types.IpAddr dots d = ok_or (as_str d) value_faults.WrongType >>= address_content
 content_in types.Json dots d = json_content dots d
 content_in types.Date dots d = Err value_faults.WrongType
 
@@ -94,17 +95,6 @@ call_with_content doc field (Err fault) = Err (wrong_value field fault)
 -- the call of a document for a value of a field
 abbrev pub value_call : ℕ → ℕ → SchemaEntry → Data → Result Call Refusal
 value_call doc field e d = call_with_content doc field (content_in e.value_type e.expands_dots d)
-
--- whether a type is that of JSON values
-abbrev pub is_json : ValueType → Bool
-is_json types.Json = true
-is_json types.Str = false
-is_json types.U64 = false
-is_json types.I64 = false
-is_json types.Bool = false
-is_json types.Date = false
-is_json types.Bytes = false
-is_json types.IpAddr = false
 
 -- The values of a field: null is none, and an array has several, but for a field of JSON values.
 abbrev pub values_of : Bool → Data → Items
@@ -137,26 +127,26 @@ fields_calls doc ms field (e ∷ es) = do
   Ok (cs ++ more)
 
 -- the first key that no field has as its name
-abbrev pub unknown_in : List SchemaEntry → Members → Option (List ℕ)
-unknown_in es no_members = None
-unknown_in es (member key d ms) = if list_any (λ (e : SchemaEntry). bytes_eq e.name key) es then unknown_in es ms else Some key
+abbrev pub unknown_name_in : List SchemaEntry → Members → Option (List ℕ)
+unknown_name_in es no_members = None
+unknown_name_in es (member key d ms) = if list_any (λ (e : SchemaEntry). bytes_eq e.name key) es then unknown_name_in es ms else Some key
 
 -- an unknown key is refused
-abbrev pub knows : Option (List ℕ) → Result (Unit {0}) Refusal
-knows None = Ok tt
-knows (Some key) = Err (unknown_key key)
+abbrev pub knows_names : Option (List ℕ) → Result (Unit {0}) Refusal
+knows_names None = Ok tt
+knows_names (Some key) = Err (unknown_key key)
 
 -- the calls of a document whose members these are
 unfoldable pub members_calls : List SchemaEntry → ℕ → Members → Result (List Call) Refusal
 members_calls es doc ms = do
-  _ ← knows (unknown_in es ms)
+  _ ← knows_names (unknown_name_in es ms)
   fields_calls doc ms 0 es
 
 -- the calls of a document that a line says
 unfoldable pub line_calls : List SchemaEntry → ℕ → List ℕ → Result (List Call) Refusal
 line_calls es doc line = do
-  d ← needs not_json (read line)
-  ms ← needs not_an_object (as_object d)
+  d ← ok_or (read line) not_json
+  ms ← ok_or (as_object d) not_an_object
   members_calls es doc ms
 
 -- A call is of a document, and its field takes its value.
@@ -172,4 +162,4 @@ pub record Adds (es : List SchemaEntry) (doc : ℕ) (old new : List IndexCall) (
 -- a call added what was wanted, unless there was no memory or it was refused
 abbrev pub AddsAs : List SchemaEntry → ℕ → List IndexCall → List IndexCall → Result (Unit {0}) LineFault → Result (List Call) Refusal → Type 0
 AddsAs es doc old new (Ok _) wanted = (cs : List Call) × (wanted ≡ Ok cs) × Adds es doc old new cs
-AddsAs es doc old new (Err e) wanted = Tells (told e) wanted
+AddsAs es doc old new (Err e) wanted = TellsOfLine (told_of_line e) wanted

@@ -1,11 +1,11 @@
 //! Documents that are to be indexed.
-ghost use Rattle.std.specs.Prelude.{◌≡◌, [], IfErr, IfOk, None, OnErr, OnOk};
+ghost use Rattle.std.specs.Prelude.{◌≡◌, ◌⊎◌, [], Err, IfErr, IfOk, IfSome, None, OnErr, OnOk};
 ghost use Rattle.ii_definitions.specs.Fields.{option_of};
 ghost use Rattle.ii_definitions.specs.Tokens.{tokens_of};
-ghost use Rattle.ii_indexing.specs.IndexFiles.{IsIndexFault, WroteIndex};
+ghost use Rattle.ii_indexing.specs.IndexFiles.{CountsIndexFailures, FilesGrow, IsIndexFault, WroteIndex};
 ghost use Rattle.ii_indexing.specs.Refusals.{calls_fault};
 ghost use Rattle.ii_documents.specs.Documents.{AddsLine, DocumentsState, next_calls};
-ghost use Rattle.ii_documents.specs.JsonLines.{Tells, told};
+ghost use Rattle.ii_documents.specs.JsonLines.{TellsOfLine, told_of_line};
 
 use crate::faults::LineFault;
 use crate::json_lines::line_calls;
@@ -83,7 +83,7 @@ impl Documents {
     pub fn push_line(&mut self, alloc: Global, line: &str) -> Result<(), LineFault>
         ensures ok { OnOk result (AddsLine self.old self.new line.now) }
         ensures err { OnErr result (self.new ≡ self.old) }
-        ensures refused { IfErr result (λ e. Tells (told e) (next_calls self.old line.now)) }
+        ensures refused { IfErr result (λ e. TellsOfLine (told_of_line e) (next_calls self.old line.now)) }
     {
         if self.num_docs >= TERMINATED {
             return Err(LineFault::TooManyDocuments);
@@ -95,7 +95,7 @@ impl Documents {
     }
 
     /// Writes the files of an index of the documents, whose texts an analyzer cuts, and hands the writers
-    /// back. See `write_index` for the faults.
+    /// back: as they were where the first fault of the calls is answered. See `write_index` for the faults.
     pub fn write<A: TextAnalyzer, W: Write>(
         self,
         alloc: Global,
@@ -103,6 +103,10 @@ impl Documents {
         writers: IndexWriters<W>,
     ) -> (IndexWriters<W>, Result<(), Fault>)
         ensures wrote { OnOk result.1 (WroteIndex self.schema self.num_docs writers result.0 (tokens_of (A.words analyzer.now) self.calls)) }
+        ensures failures { CountsIndexFailures writers result.0 result.1 }
+        ensures grow { FilesGrow writers result.0 }
+        ensures refused { IfSome (calls_fault (A.words analyzer.now) (option_of self.schema) [] self.calls)
+            (λ fault. ((result.1 ≡ Err fault) ⊎ (result.1 ≡ Err Fault.OutOfMemory)) × (result.0 ≡ writers)) }
         ensures fault { calls_fault (A.words analyzer.now) (option_of self.schema) [] self.calls ≡ None
             → IfErr result.1 (IsIndexFault self.schema self.num_docs writers (tokens_of (A.words analyzer.now) self.calls)) }
     {

@@ -1,7 +1,7 @@
 ghost use Rattle.std.specs.Prelude.{◌≡◌, ◌≢◌, Err, List, Result};
 ghost use Rattle.serde_json.specs.Errors.{IsMemory};
 ghost use Rattle.ii_definitions.specs.Tokens.{Call};
-ghost use Rattle.ii_documents.specs.JsonLines.{Refusal, Tells, not_json, told, wrong_value};
+ghost use Rattle.ii_documents.specs.JsonLines.{Refusal, TellsOfLine, not_json, told_of_line, wrong_value};
 ghost use Rattle.ii_documents.specs.declared.faults.LineFault.TheVariants as faults;
 
 use hex::FromHexError;
@@ -56,7 +56,7 @@ pub enum LineFault {
 impl LineFault {
     // Why a line wasn't read as JSON: it isn't JSON, or no memory was found.
     pub(crate) fn of_json(error: JsonError) -> LineFault
-        ensures { (wanted : Result (List Call) Refusal) → (¬ IsMemory error → wanted ≡ Err not_json) → Tells (told result) wanted }
+        ensures { (wanted : Result (List Call) Refusal) → (¬ IsMemory error → wanted ≡ Err not_json) → TellsOfLine (told_of_line result) wanted }
     {
         if error.is_memory() {
             return LineFault::OutOfMemory;
@@ -66,7 +66,7 @@ impl LineFault {
 
     // Why the bytes of a field weren't read: they aren't hexadecimal digits, or no memory was found.
     pub(crate) fn of_hex(field: Field, error: FromHexError) -> LineFault
-        ensures { (wanted : Result Call Refusal) → (error ≢ FromHexError.OutOfMemory → wanted ≡ Err (wrong_value field ValueFault.NotHex)) → Tells (told result) wanted }
+        ensures { (wanted : Result Call Refusal) → (error ≢ FromHexError.OutOfMemory → wanted ≡ Err (wrong_value field ValueFault.NotHex)) → TellsOfLine (told_of_line result) wanted }
     {
         match error {
             FromHexError::OutOfMemory => LineFault::OutOfMemory,

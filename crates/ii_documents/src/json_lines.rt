@@ -4,8 +4,9 @@ ghost use Rattle.std.specs.List.{AllByRecursion, list_any};
 ghost use Rattle.serde_json.specs.Data.{item, no_items};
 ghost use Rattle.serde_json.specs.View.{items_view, members_view, view};
 ghost use Rattle.ii_base.specs.Schema.{SchemaEntry};
+ghost use Rattle.ii_definitions.specs.JsonKeys.{is_json};
 ghost use Rattle.ii_indexing.specs.IndexCalls.{call_of};
-ghost use Rattle.ii_documents.specs.JsonLines.{AddsAs, Gives, IsOf, field_calls, fields_calls, is_json, items_calls, line_calls, members_calls, unknown_in};
+ghost use Rattle.ii_documents.specs.JsonLines.{AddsAs, AnswersFromLine, IsOf, field_calls, fields_calls, items_calls, line_calls, members_calls, unknown_name_in};
 
 use crate::faults::LineFault;
 use crate::values::value_call;
@@ -23,7 +24,7 @@ pub(crate) fn line_calls(
     doc: DocId,
     line: &str,
 ) -> Result<Vec<IndexCall>, LineFault>
-    ensures gives { Gives (λ v. map (call_of schema.now) v.items) result (line_calls schema.now doc line.now) }
+    ensures gives { AnswersFromLine (λ v. map (call_of schema.now) v.items) result (line_calls schema.now doc line.now) }
     ensures each { IfOk result (λ v. AllByRecursion (IsOf schema.now doc) v.items) }
 {
     let value = match Value::from_str(alloc, line) {
@@ -44,7 +45,7 @@ fn members_calls(
     doc: DocId,
     members: &Map<String, Value>,
 ) -> Result<Vec<IndexCall>, LineFault>
-    ensures gives { Gives (λ v. map (call_of schema.now) v.items) result (members_calls schema.now doc (members_view members.now.entries)) }
+    ensures gives { AnswersFromLine (λ v. map (call_of schema.now) v.items) result (members_calls schema.now doc (members_view members.now.entries)) }
     ensures each { IfOk result (λ v. AllByRecursion (IsOf schema.now doc) v.items) }
 {
     if let Some(key) = unknown_key(schema, members) {
@@ -58,7 +59,7 @@ fn members_calls(
 
 // The first key that no field has as its name.
 fn unknown_key<'a>(schema: &Schema, members: &'a Map<String, Value>) -> Option<&'a str>
-    ensures { option_map (λ key. key.now) result ≡ unknown_in schema.now (members_view members.now.entries) }
+    ensures { option_map (λ key. key.now) result ≡ unknown_name_in schema.now (members_view members.now.entries) }
 {
     for (key, _) in members.iter() {
         if !has_name(schema, key.as_str()) {

@@ -3,7 +3,7 @@ ghost use Rattle.std.specs.Prelude.{◌≡◌, IfOk, Bool};
 ghost use Rattle.serde_json.specs.View.{view};
 ghost use Rattle.ii_base.specs.Schema.{SchemaEntry};
 ghost use Rattle.ii_base.specs.declared.schema.value_type.ValueType.TheVariants as types;
-ghost use Rattle.ii_documents.specs.JsonLines.{Gives, call_with_content, content_in, value_call};
+ghost use Rattle.ii_documents.specs.JsonLines.{AnswersFromLine, call_with_content, content_in, value_call};
 ghost use Rattle.ii_indexing.specs.IndexCalls.{call_with, type_of};
 
 use crate::addresses::address_of;
@@ -23,7 +23,7 @@ pub(crate) fn value_call(
     entry: &FieldEntry,
     value: &Value,
 ) -> Result<IndexCall, LineFault>
-    ensures gives { Gives (λ c. call_with entry.now.expands_dots c) result (value_call doc field entry.now (view value.now)) }
+    ensures gives { AnswersFromLine (λ c. call_with entry.now.expands_dots c) result (value_call doc field entry.now (view value.now)) }
     ensures typed { IfOk result (λ c. type_of c ≡ entry.now.value_type) }
 {
     match entry.value_type() {
@@ -40,7 +40,7 @@ pub(crate) fn value_call(
 
 // A text.
 fn text_call(alloc: Global, doc: DocId, field: Field, value: &Value) -> Result<IndexCall, LineFault>
-    ensures gives { (dots : Bool) → Gives (λ c. call_with dots c) result (call_with_content doc field (content_in types.Str dots (view value.now))) }
+    ensures gives { (dots : Bool) → AnswersFromLine (λ c. call_with dots c) result (call_with_content doc field (content_in types.Str dots (view value.now))) }
     ensures typed { IfOk result (λ c. type_of c ≡ types.Str) }
 {
     let Some(text) = value.as_str() else {
@@ -52,7 +52,7 @@ fn text_call(alloc: Global, doc: DocId, field: Field, value: &Value) -> Result<I
 
 // An unsigned number.
 fn u64_call(doc: DocId, field: Field, value: &Value) -> Result<IndexCall, LineFault>
-    ensures gives { (dots : Bool) → Gives (λ c. call_with dots c) result (call_with_content doc field (content_in types.U64 dots (view value.now))) }
+    ensures gives { (dots : Bool) → AnswersFromLine (λ c. call_with dots c) result (call_with_content doc field (content_in types.U64 dots (view value.now))) }
     ensures typed { IfOk result (λ c. type_of c ≡ types.U64) }
 {
     let Some(number) = value.as_number() else {
@@ -66,7 +66,7 @@ fn u64_call(doc: DocId, field: Field, value: &Value) -> Result<IndexCall, LineFa
 
 // A signed number.
 fn i64_call(doc: DocId, field: Field, value: &Value) -> Result<IndexCall, LineFault>
-    ensures gives { (dots : Bool) → Gives (λ c. call_with dots c) result (call_with_content doc field (content_in types.I64 dots (view value.now))) }
+    ensures gives { (dots : Bool) → AnswersFromLine (λ c. call_with dots c) result (call_with_content doc field (content_in types.I64 dots (view value.now))) }
     ensures typed { IfOk result (λ c. type_of c ≡ types.I64) }
 {
     let Some(number) = value.as_number() else {
@@ -80,7 +80,7 @@ fn i64_call(doc: DocId, field: Field, value: &Value) -> Result<IndexCall, LineFa
 
 // A truth value.
 fn bool_call(doc: DocId, field: Field, value: &Value) -> Result<IndexCall, LineFault>
-    ensures gives { (dots : Bool) → Gives (λ c. call_with dots c) result (call_with_content doc field (content_in types.Bool dots (view value.now))) }
+    ensures gives { (dots : Bool) → AnswersFromLine (λ c. call_with dots c) result (call_with_content doc field (content_in types.Bool dots (view value.now))) }
     ensures typed { IfOk result (λ c. type_of c ≡ types.Bool) }
 {
     match value.as_bool() {
@@ -96,7 +96,7 @@ fn bytes_call(
     field: Field,
     value: &Value,
 ) -> Result<IndexCall, LineFault>
-    ensures gives { (dots : Bool) → Gives (λ c. call_with dots c) result (call_with_content doc field (content_in types.Bytes dots (view value.now))) }
+    ensures gives { (dots : Bool) → AnswersFromLine (λ c. call_with dots c) result (call_with_content doc field (content_in types.Bytes dots (view value.now))) }
     ensures typed { IfOk result (λ c. type_of c ≡ types.Bytes) }
 {
     let Some(text) = value.as_str() else {
@@ -110,7 +110,7 @@ fn bytes_call(
 
 // An address, as a text.
 fn address_call(doc: DocId, field: Field, value: &Value) -> Result<IndexCall, LineFault>
-    ensures gives { (dots : Bool) → Gives (λ c. call_with dots c) result (call_with_content doc field (content_in types.IpAddr dots (view value.now))) }
+    ensures gives { (dots : Bool) → AnswersFromLine (λ c. call_with dots c) result (call_with_content doc field (content_in types.IpAddr dots (view value.now))) }
     ensures typed { IfOk result (λ c. type_of c ≡ types.IpAddr) }
 {
     let Some(text) = value.as_str() else {
@@ -124,7 +124,7 @@ fn address_call(doc: DocId, field: Field, value: &Value) -> Result<IndexCall, Li
 
 // A JSON value with no floating-point number in it.
 fn json_call(alloc: Global, doc: DocId, field: Field, value: &Value) -> Result<IndexCall, LineFault>
-    ensures gives { (dots : Bool) → Gives (λ c. call_with dots c) result (call_with_content doc field (content_in types.Json dots (view value.now))) }
+    ensures gives { (dots : Bool) → AnswersFromLine (λ c. call_with dots c) result (call_with_content doc field (content_in types.Json dots (view value.now))) }
     ensures typed { IfOk result (λ c. type_of c ≡ types.Json) }
 {
     if has_float(value) {

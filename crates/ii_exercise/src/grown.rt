@@ -15,16 +15,20 @@ const LONG: &str = "a text of sixty-four letters and more, so that no first room
 /// to be what it was after the first one.
 pub fn read_back(alloc: Global) -> Result<String, Fault> {
     let mut text = String::new(alloc);
-    push(&mut text, "path", path(alloc)?)?;
-    push(&mut text, "term of a path", json_term(alloc)?)?;
-    push(&mut text, "term", term(alloc)?)?;
-    push(&mut text, "indexed term", indexing_term(alloc)?)?;
-    push(&mut text, "paths", paths(alloc)?)?;
-    push(&mut text, "dots", dots(alloc)?)?;
-    push(&mut text, "bodies", composite::begun(alloc)?)?;
-    push(&mut text, "norms", norms::grown(alloc)?)?;
-    push(&mut text, "recorder", recorder(alloc)?)?;
+    push_all(alloc, &mut text)?;
     Ok(text)
+}
+
+fn push_all(alloc: Global, text: &mut String) -> Result<(), Fault> {
+    push(text, "path", path(alloc)?)?;
+    push(text, "term of a path", json_term(alloc)?)?;
+    push(text, "term", term(alloc)?)?;
+    push(text, "indexed term", indexing_term(alloc)?)?;
+    push(text, "paths", paths(alloc)?)?;
+    push(text, "dots", dots(alloc)?)?;
+    push(text, "bodies", composite::begun(alloc)?)?;
+    push(text, "norms", norms::grown(alloc)?)?;
+    push(text, "recorder", recorder(alloc)?)
 }
 
 // Adds how many bytes a thing has, or that it changed although memory was refused.

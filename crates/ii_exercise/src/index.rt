@@ -19,21 +19,44 @@ const FULL: IndexRecordOption = IndexRecordOption::WithFreqsAndPositions;
 pub fn read_back(alloc: Global) -> Result<String, Fault> {
     let index = opened(alloc)?;
     let mut text = String::new(alloc);
-    let (words, numbers) = (Field::from_field_id(0), Field::from_field_id(1));
-    let bytes = Field::from_field_id(2);
-    push_postings(alloc, &mut text, index.reader(words), &word(alloc, "be")?)?;
-    let seven = Term::from_field_u64(alloc, numbers, 7)?;
-    push_postings(alloc, &mut text, index.reader(numbers), &seven)?;
-    let tag = Term::from_field_bytes(alloc, bytes, b"ab")?;
-    push_postings(alloc, &mut text, index.reader(bytes), &tag)?;
-    push_postings(
-        alloc,
-        &mut text,
-        index.reader(words),
-        &word(alloc, "question")?,
-    )?;
-    push_json(alloc, &mut text, index.reader(Field::from_field_id(3)))?;
+    push_found(alloc, &mut text, &index)?;
     Ok(text)
+}
+
+// Adds what is found in each of four fields.
+fn push_found(alloc: Global, text: &mut String, index: &OpenIndex) -> Result<(), Fault>
+    requires { length index.now.readers ≡ 4 }
+{
+    let words = index.reader(Field::from_field_id(0));
+    push_word(alloc, text, words, "be")?;
+    push_number(alloc, text, index.reader(Field::from_field_id(1)))?;
+    push_tag(alloc, text, index.reader(Field::from_field_id(2)))?;
+    push_word(alloc, text, words, "question")?;
+    push_json(alloc, text, index.reader(Field::from_field_id(3)))
+}
+
+fn push_word(
+    alloc: Global,
+    text: &mut String,
+    reader: &InvertedIndexReader,
+    of: &str,
+) -> Result<(), Fault> {
+    let term = word(alloc, of)?;
+    push_postings(alloc, text, reader, &term)
+}
+
+fn push_number(
+    alloc: Global,
+    text: &mut String,
+    reader: &InvertedIndexReader,
+) -> Result<(), Fault> {
+    let seven = Term::from_field_u64(alloc, Field::from_field_id(1), 7)?;
+    push_postings(alloc, text, reader, &seven)
+}
+
+fn push_tag(alloc: Global, text: &mut String, reader: &InvertedIndexReader) -> Result<(), Fault> {
+    let tag = Term::from_field_bytes(alloc, Field::from_field_id(2), b"ab")?;
+    push_postings(alloc, text, reader, &tag)
 }
 
 // Adds a word at a path, and the paths of a field with how many terms they have.

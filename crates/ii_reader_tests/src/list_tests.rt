@@ -76,19 +76,30 @@ fn docs_below(alloc: Global, end: u32) -> Result<Vec<DocId>, Fault> {
     Ok(docs)
 }
 
+// Whether a block cursor comes to these documents, 128 at a time, and then to none.
+fn comes_to(blocks: &mut BlockSegmentPostings, docs: &[DocId]) -> bool {
+    for chunk in docs.chunks(128) {
+        if !shows(blocks, chunk) {
+            return false;
+        }
+        blocks.advance();
+    }
+    blocks.block_len() == 0
+}
+
+// Whether one over 100,000 documents does.
+fn are_read(alloc: Global, docs: &[DocId]) -> Result<bool, Fault> {
+    let Some(bytes) = written(alloc, docs) else {
+        return Ok(false);
+    };
+    let mut blocks = BlockSegmentPostings::open(100_000, bytes, BASIC, BASIC)?;
+    Ok(comes_to(&mut blocks, docs))
+}
+
 #[test]
 fn long_lists_are_read_block_by_block(rt: HostRuntime) -> Result<(), Fail> {
     let docs = docs_below(rt.alloc(), 100_000)?;
-    let Some(bytes) = written(rt.alloc(), docs.as_slice()) else {
-        assert!(rt; false, "a list of 100,000");
-        return Ok(());
-    };
-    let mut blocks = BlockSegmentPostings::open(100_000, bytes, BASIC, BASIC)?;
-    for chunk in docs.as_slice().chunks(128) {
-        assert!(rt; shows(&blocks, chunk));
-        blocks.advance();
-    }
-    assert!(rt; blocks.block_len() == 0);
+    assert!(rt; are_read(rt.alloc(), docs.as_slice())?);
     Ok(())
 }
 
@@ -114,6 +125,17 @@ fn finds_block(blocks: &mut BlockSegmentPostings, target: DocId) -> bool {
     target <= blocks.doc(127)
 }
 
+// Whether it does for three targets, and the last document where one behind all was sought.
+fn found_blocks(blocks: &mut BlockSegmentPostings) -> ([bool; 3], DocId) {
+    let found = [
+        finds_block(blocks, 0),
+        finds_block(blocks, 424),
+        finds_block(blocks, 10_000),
+    ];
+    let _below = blocks.seek(100_000);
+    (found, blocks.doc(127))
+}
+
 #[test]
 fn seeks_find_blocks_around_targets(rt: HostRuntime) -> Result<(), Fail> {
     let Some(bytes) = growing(rt.alloc()) else {
@@ -121,11 +143,7 @@ fn seeks_find_blocks_around_targets(rt: HostRuntime) -> Result<(), Fail> {
         return Ok(());
     };
     let mut blocks = BlockSegmentPostings::open(1300, bytes, BASIC, BASIC)?;
-    for target in [0, 424, 10_000] {
-        assert!(rt; finds_block(&mut blocks, target), "{target}");
-    }
-    let _below = blocks.seek(100_000);
-    assert!(rt; blocks.doc(127) == TERMINATED);
+    assert!(rt; found_blocks(&mut blocks) == ([true; 3], TERMINATED));
     Ok(())
 }
 
@@ -167,16 +185,39 @@ fn each_is_found_from(all: &SegmentPostings, doc: DocId) -> Result<bool, Fault> 
     Ok(sought(&mut once, 300) == TERMINATED)
 }
 
+// The same of each document below 300.
+fn each_is_found(all: &SegmentPostings) -> Result<bool, Fault> {
+    for doc in 0..300 {
+        if !each_is_found_from(all, doc)? {
+            return Ok(false);
+        }
+    }
+    Ok(true)
+}
+
 #[test]
 fn seeks_find_each_document(rt: HostRuntime) -> Result<(), Fail> {
     let Some(all) = all_documents(rt.alloc()) else {
         assert!(rt; false, "a list of 300");
         return Ok(());
     };
-    for i in 0..300 {
-        assert!(rt; each_is_found_from(&all, i)?, "{i}");
-    }
+    assert!(rt; each_is_found(&all)?);
     Ok(())
+}
+
+// Whether a seek among the even documents finds the next one, for each document below 300.
+fn next_is_found(even: &SegmentPostings) -> Result<bool, Fault> {
+    for doc in 0..300 {
+        let above = if doc < 299 {
+            (doc + 1) / 2 * 2
+        } else {
+            TERMINATED
+        };
+        if found_by_copy(even, doc)? != above {
+            return Ok(false);
+        }
+    }
+    Ok(true)
 }
 
 #[test]
@@ -185,10 +226,7 @@ fn seeks_find_the_next_document(rt: HostRuntime) -> Result<(), Fail> {
         assert!(rt; false, "a list of 150");
         return Ok(());
     };
-    for i in 0..300 {
-        let above = if i < 299 { (i + 1) / 2 * 2 } else { TERMINATED };
-        assert!(rt; found_by_copy(&even, i)? == above, "{i}");
-    }
+    assert!(rt; next_is_found(&even)?);
     Ok(())
 }
 
@@ -209,23 +247,39 @@ fn threes(alloc: Global) -> Option<SegmentPostings> {
     }
 }
 
+// How many documents a cursor has, and where moves leave it.
+fn moved(loaded: &mut LoadedPostings) -> (u32, [DocId; 5]) {
+    let places = [
+        loaded.doc(),
+        loaded.advance(),
+        sought(loaded, 14),
+        sought(loaded, 300),
+        sought(loaded, 6000),
+    ];
+    (loaded.size_hint(), places)
+}
+
+// The same of what a cursor is loaded into.
+fn moved_over(alloc: Global, source: &mut SegmentPostings) -> Result<(u32, [DocId; 5]), Fault> {
+    let mut loaded = LoadedPostings::load(alloc, source)?;
+    Ok(moved(&mut loaded))
+}
+
 #[test]
 fn lists_are_loaded(rt: HostRuntime) -> Result<(), Fail> {
     let Some(mut source) = threes(rt.alloc()) else {
         assert!(rt; false, "a list of 1,024");
         return Ok(());
     };
-    let mut loaded = LoadedPostings::load(rt.alloc(), &mut source)?;
-    assert!(rt; loaded.size_hint() == 1024);
-    let found = [
-        loaded.doc(),
-        loaded.advance(),
-        sought(&mut loaded, 14),
-        sought(&mut loaded, 300),
-        sought(&mut loaded, 6000),
-    ];
-    assert!(rt; found.as_slice() == [0, 3, 15, 300, TERMINATED].as_slice());
+    let moved = moved_over(rt.alloc(), &mut source)?;
+    assert!(rt; moved == (1024, [0, 3, 15, 300, TERMINATED]));
     Ok(())
+}
+
+// How many documents what is left of a cursor has, and where it goes.
+fn left_of(alloc: Global, source: &mut SegmentPostings) -> Result<(u32, [DocId; 5]), Fault> {
+    let mut loaded = LoadedPostings::load(alloc, source)?;
+    Ok((loaded.size_hint(), walked(&mut loaded)))
 }
 
 #[test]
@@ -235,12 +289,10 @@ fn what_is_left_is_loaded(rt: HostRuntime) -> Result<(), Fail> {
         return Ok(());
     };
     assert!(rt; sought(&mut source, 3065) == 3066);
-    let mut loaded = LoadedPostings::load(rt.alloc(), &mut source)?;
+    let left = left_of(rt.alloc(), &mut source)?;
+    assert!(rt; left == (2, [3066, 3069, TERMINATED, TERMINATED, TERMINATED]));
     // the source is then at its end
     assert!(rt; source.doc() == TERMINATED);
-    assert!(rt; loaded.size_hint() == 2);
-    let docs = [3066, 3069, TERMINATED, TERMINATED, TERMINATED];
-    assert!(rt; walked(&mut loaded).as_slice() == docs.as_slice());
     Ok(())
 }
 
@@ -254,16 +306,29 @@ fn passes(alloc: Global, cursor: &mut LoadedPostings, doc: DocId, positions: &[u
     has
 }
 
+// Documents 0, in which a term stands three times, and 3, in which it stands once.
+static POSTINGS: [u8; 4] = [0x80, 0x83, 0x83, 0x81];
+
+static POSITIONS: [u8; 5] = [0x80, 0x81, 0x81, 0x81, 0x9E];
+
+// Whether what they are loaded into has these positions, and where the source and it then are.
+fn passed_by(
+    alloc: Global,
+    source: &mut SegmentPostings,
+) -> Result<([bool; 2], [DocId; 2]), Fault> {
+    let mut loaded = LoadedPostings::load(alloc, source)?;
+    let passed = [
+        passes(alloc, &mut loaded, 0, &[1, 2, 3]),
+        passes(alloc, &mut loaded, 3, &[30]),
+    ];
+    Ok((passed, [source.doc(), loaded.doc()]))
+}
+
 #[test]
 fn positions_are_loaded(rt: HostRuntime) -> Result<(), Fail> {
-    let postings: &'static [u8] = &[0x80, 0x83, 0x83, 0x81];
-    let positions: &'static [u8] = &[0x80, 0x81, 0x81, 0x81, 0x9E];
-    let mut source = opened(2, postings, positions, FULL)?;
-    let mut loaded = LoadedPostings::load(rt.alloc(), &mut source)?;
-    assert!(rt; source.doc() == TERMINATED);
-    assert!(rt; passes(rt.alloc(), &mut loaded, 0, &[1, 2, 3]));
-    assert!(rt; passes(rt.alloc(), &mut loaded, 3, &[30]));
-    assert!(rt; loaded.doc() == TERMINATED);
+    let mut source = opened(2, &POSTINGS, &POSITIONS, FULL)?;
+    let passed = passed_by(rt.alloc(), &mut source)?;
+    assert!(rt; passed == ([true; 2], [TERMINATED; 2]));
     Ok(())
 }
 
@@ -304,6 +369,24 @@ fn loaded_comes_to_its_end(
     Ok(comes_to_its_end(alloc, &mut loaded, next))
 }
 
+// Whether both do.
+fn both_come_to_their_end(
+    alloc: Global,
+    cursor: &mut SegmentPostings,
+    next: DocId,
+) -> Result<[bool; 2], Fault> {
+    let loaded = loaded_comes_to_its_end(alloc, cursor, next)?;
+    Ok([loaded, comes_to_its_end(alloc, cursor, next)])
+}
+
+// Whether both over multiples of 3 do.
+fn threes_come_to_their_end(alloc: Global) -> Result<[bool; 2], Fault> {
+    let Some(mut cursor) = threes(alloc) else {
+        return Ok([false; 2]);
+    };
+    both_come_to_their_end(alloc, &mut cursor, 3)
+}
+
 #[test]
 fn walks_come_to_their_end(rt: HostRuntime) -> Result<(), Fail> {
     let Some(mut cursor) = two_blocks(rt.alloc()) else {
@@ -311,13 +394,7 @@ fn walks_come_to_their_end(rt: HostRuntime) -> Result<(), Fail> {
         return Ok(());
     };
     assert!(rt; found_by_copy(&cursor, 131)? == TERMINATED);
-    assert!(rt; loaded_comes_to_its_end(rt.alloc(), &cursor, 1)?);
-    assert!(rt; comes_to_its_end(rt.alloc(), &mut cursor, 1));
-    let Some(mut threes) = threes(rt.alloc()) else {
-        assert!(rt; false, "a list of 1,024");
-        return Ok(());
-    };
-    assert!(rt; loaded_comes_to_its_end(rt.alloc(), &threes, 3)?);
-    assert!(rt; comes_to_its_end(rt.alloc(), &mut threes, 3));
+    assert!(rt; both_come_to_their_end(rt.alloc(), &mut cursor, 1)? == [true; 2]);
+    assert!(rt; threes_come_to_their_end(rt.alloc())? == [true; 2]);
     Ok(())
 }

@@ -1,5 +1,5 @@
 -- Which schema a text in TOML says.
-use Rattle.std.specs.Prelude.{◌≡◌, Bool, ◌&&◌, ◌||◌, not, ◌^◌, ℕ, List, [], ◌∷◌, ◌++◌, bytes_eq, codes, if◌then◌else◌, length, nat_lt, Option, None, Some, Result, Ok, Err, ⊤, string_bytes}
+use Rattle.std.specs.Prelude.{◌≡◌, Bool, ◌&&◌, ◌||◌, not, ◌^◌, ℕ, List, [], ◌∷◌, ◌++◌, bytes_eq, codes, if◌then◌else◌, length, nat_lt, Option, None, Some, ok_or, Result, Ok, Err, ⊤, string_bytes}
 use Rattle.std.specs.List.{list_any}
 use Rattle.toml.specs.Data.{Data, Items, Members, get, get_member, as_array, as_str, item, no_items, member, no_members, table}
 use Rattle.toml.specs.Parse.{parse_document}
@@ -16,8 +16,8 @@ use Rattle.ii_schema_text.specs.declared.field_type.FieldType.TheVariants as typ
 use Rattle.ii_schema_text.specs.declared.keys.KnownKeys.{KnownKeys}
 use Rattle.ii_schema_text.specs.declared.keys.KnownKeys.TheVariants.{OfText, OfField}
 use Rattle.ii_schema_text.specs.declared.settings.Settings.{Settings}
-use Rattle.ii_schema_text.specs.Settings.{has_texts, is_json, named, settings_in}
-use Rattle.ii_schema_text.specs.Steps.{◌>>=◌, needs}
+use Rattle.ii_schema_text.specs.Settings.{has_texts, is_json_type, named, settings_in}
+use Rattle.ii_schema_text.specs.Steps.{◌>>=◌}
 
 -- Why a text is no schema.
 pub data Refusal : Type 0 where
@@ -29,41 +29,41 @@ pub data Refusal : Type 0 where
   wrong_key : ℕ → FieldKey → Refusal
 
 -- what a fault tells of the text
-abbrev pub told : SchemaFault → Option Refusal
-told faults.OutOfMemory = None
-told (faults.NotToml e) = Some not_toml
-told (faults.UnknownKey key) = Some (unknown_key (string_bytes key))
-told faults.NoFields = Some no_fields
-told faults.TooManyFields = Some too_many_fields
-told (faults.UnknownFieldKey place key) = Some (unknown_field_key place (string_bytes key))
-told (faults.WrongKey place key) = Some (wrong_key place key)
+abbrev pub told_of_text : SchemaFault → Option Refusal
+told_of_text faults.OutOfMemory = None
+told_of_text (faults.NotToml e) = Some not_toml
+told_of_text (faults.UnknownKey key) = Some (unknown_key (string_bytes key))
+told_of_text faults.NoFields = Some no_fields
+told_of_text faults.TooManyFields = Some too_many_fields
+told_of_text (faults.UnknownFieldKey place key) = Some (unknown_field_key place (string_bytes key))
+told_of_text (faults.WrongKey place key) = Some (wrong_key place key)
 
 -- nothing is told, or that this is the answer
-abbrev pub Tells : {Y : Type 0} → Option Refusal → Result Y Refusal → Type 0
-Tells None wanted = ⊤
-Tells (Some refusal) wanted = wanted ≡ Err refusal
+abbrev pub TellsOfText : {Y : Type 0} → Option Refusal → Result Y Refusal → Type 0
+TellsOfText None wanted = ⊤
+TellsOfText (Some refusal) wanted = wanted ≡ Err refusal
 
 -- a call answered this, by a view, unless there was no memory
-abbrev pub Gives : {X Y : Type 0} → (X → Y) → Result X SchemaFault → Result Y Refusal → Type 0
-Gives view (Ok x) wanted = wanted ≡ Ok (view x)
-Gives view (Err e) wanted = Tells (told e) wanted
+abbrev pub AnswersFromText : {X Y : Type 0} → (X → Y) → Result X SchemaFault → Result Y Refusal → Type 0
+AnswersFromText view (Ok x) wanted = wanted ≡ Ok (view x)
+AnswersFromText view (Err e) wanted = TellsOfText (told_of_text e) wanted
 
 -- the keys that a text may have, and those of a field's table
-unfoldable pub is_known : KnownKeys → List ℕ → Bool
-is_known OfText key = bytes_eq key (codes "field")
-is_known OfField key =
+unfoldable pub is_known_key : KnownKeys → List ℕ → Bool
+is_known_key OfText key = bytes_eq key (codes "field")
+is_known_key OfField key =
     bytes_eq key (codes "name") || (bytes_eq key (codes "type") || (bytes_eq key (codes "indexed")
     || (bytes_eq key (codes "record") || (bytes_eq key (codes "fieldnorms") || bytes_eq key (codes "expand_dots")))))
 
 -- the first key that isn't known
-abbrev pub unknown_in : KnownKeys → Members → Option (List ℕ)
-unknown_in known no_members = None
-unknown_in known (member key d ms) = if is_known known key then unknown_in known ms else Some key
+abbrev pub unknown_key_in : KnownKeys → Members → Option (List ℕ)
+unknown_key_in known no_members = None
+unknown_key_in known (member key d ms) = if is_known_key known key then unknown_key_in known ms else Some key
 
 -- an unknown key is refused
-abbrev pub knows : (List ℕ → Refusal) → Option (List ℕ) → Result (Unit {0}) Refusal
-knows refusal None = Ok tt
-knows refusal (Some key) = Err (refusal key)
+abbrev pub knows_keys : (List ℕ → Refusal) → Option (List ℕ) → Result (Unit {0}) Refusal
+knows_keys refusal None = Ok tt
+knows_keys refusal (Some key) = Err (refusal key)
 
 -- a name that isn't empty
 abbrev pub not_empty : List ℕ → Option (List ℕ)
@@ -92,8 +92,8 @@ entry_with name s = record {
   value_type = value_type_of s.value_type;
   option = if s.is_indexed && has_texts s.value_type then s.option else Basic;
   is_indexed = s.is_indexed;
-  has_fieldnorms = (s.is_indexed && not (is_json s.value_type)) && s.has_fieldnorms;
-  expands_dots = (s.is_indexed && is_json s.value_type) && s.expands_dots;
+  has_fieldnorms = (s.is_indexed && not (is_json_type s.value_type)) && s.has_fieldnorms;
+  expands_dots = (s.is_indexed && is_json_type s.value_type) && s.expands_dots;
 }
 
 -- the members of a table
@@ -109,15 +109,15 @@ right place (Err key) = Err (wrong_key place key)
 -- the entry of a field behind others
 unfoldable pub entry_in : List SchemaEntry → Data → Result SchemaEntry Refusal
 entry_in before d = do
-  _ ← knows (unknown_field_key (length before)) (unknown_in OfField (members_in d))
-  name ← needs (wrong_key (length before) keys.Name) (name_in before (get (codes "name") d))
+  _ ← knows_keys (unknown_field_key (length before)) (unknown_key_in OfField (members_in d))
+  name ← ok_or (name_in before (get (codes "name") d)) (wrong_key (length before) keys.Name)
   settings ← right (length before) (settings_in d)
   Ok (entry_with name settings)
 
 -- the entries of fields behind others, one after the other
-abbrev pub entries_from : List SchemaEntry → Items → Result (List SchemaEntry) Refusal
-entries_from before no_items = Ok before
-entries_from before (item d ds) = entry_in before d >>= λ e. entries_from (before ++ e ∷ []) ds
+abbrev pub schema_entries_from : List SchemaEntry → Items → Result (List SchemaEntry) Refusal
+schema_entries_from before no_items = Ok before
+schema_entries_from before (item d ds) = entry_in before d >>= λ e. schema_entries_from (before ++ e ∷ []) ds
 
 -- a schema has fewer than 2^32 fields
 abbrev pub few : List SchemaEntry → Result (List SchemaEntry) Refusal
@@ -131,11 +131,11 @@ fields_in (Some d) = as_array d
 -- the schema that a table says
 unfoldable pub table_schema : Members → Result (List SchemaEntry) Refusal
 table_schema ms = do
-  _ ← knows unknown_key (unknown_in OfText ms)
-  fields ← needs no_fields (fields_in (get_member (codes "field") ms))
-  entries ← entries_from [] fields
+  _ ← knows_keys unknown_key (unknown_key_in OfText ms)
+  fields ← ok_or (fields_in (get_member (codes "field") ms)) no_fields
+  entries ← schema_entries_from [] fields
   few entries
 
 -- the schema that a text says
 unfoldable pub text_schema : List ℕ → Result (List SchemaEntry) Refusal
-text_schema text = needs not_toml (parse_document text) >>= table_schema
+text_schema text = ok_or (parse_document text) not_toml >>= table_schema

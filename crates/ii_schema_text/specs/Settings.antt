@@ -1,5 +1,5 @@
 -- What the table of a field says beside its name.
-use Rattle.std.specs.Prelude.{Bool, true, false, ◌&&◌, not, List, ℕ, bytes_eq, codes, if◌then◌else◌, Option, None, Some, Result, Ok}
+use Rattle.std.specs.Prelude.{Bool, true, false, ◌&&◌, not, List, ℕ, bytes_eq, codes, if◌then◌else◌, Option, None, Some, ok_or, Result, Ok}
 use Rattle.toml.specs.Data.{Data, as_bool, as_str, get}
 use Rattle.ii_base.specs.declared.schema.index_record_option.IndexRecordOption.{IndexRecordOption}
 use Rattle.ii_base.specs.declared.schema.index_record_option.IndexRecordOption.TheVariants.{Basic, WithFreqs, WithFreqsAndPositions}
@@ -8,7 +8,7 @@ use Rattle.ii_schema_text.specs.declared.faults.FieldKey.TheVariants as keys
 use Rattle.ii_schema_text.specs.declared.field_type.FieldType.{FieldType}
 use Rattle.ii_schema_text.specs.declared.field_type.FieldType.TheVariants as types
 use Rattle.ii_schema_text.specs.declared.settings.Settings.{Settings}
-use Rattle.ii_schema_text.specs.Steps.{◌>>=◌, needs}
+use Rattle.ii_schema_text.specs.Steps.{◌>>=◌}
 
 -- whether values of a type are texts
 abbrev pub is_text : FieldType → Bool
@@ -21,14 +21,14 @@ is_text types.IpAddr = false
 is_text types.Json = false
 
 -- whether they are JSON values
-abbrev pub is_json : FieldType → Bool
-is_json types.Text = false
-is_json types.U64 = false
-is_json types.I64 = false
-is_json types.Bool = false
-is_json types.Bytes = false
-is_json types.IpAddr = false
-is_json types.Json = true
+abbrev pub is_json_type : FieldType → Bool
+is_json_type types.Text = false
+is_json_type types.U64 = false
+is_json_type types.I64 = false
+is_json_type types.Bool = false
+is_json_type types.Bytes = false
+is_json_type types.IpAddr = false
+is_json_type types.Json = true
 
 -- whether they are texts or have texts in them
 abbrev pub has_texts : FieldType → Bool
@@ -66,9 +66,9 @@ named by None = None
 named by (Some name) = by name
 
 -- the type of a field, which has to be named
-abbrev pub type_in : Option Data → Option FieldType
-type_in None = None
-type_in (Some d) = named type_named (as_str d)
+abbrev pub field_type_in : Option Data → Option FieldType
+field_type_in None = None
+field_type_in (Some d) = named type_named (as_str d)
 
 -- what is kept of a term, positions too where nothing is said
 abbrev pub option_in : Bool → Option Data → Option IndexRecordOption
@@ -83,9 +83,9 @@ flag_in allowed default (Some d) = if allowed then as_bool d else None
 -- what a table says, or the first key at which it doesn't say what it has to
 unfoldable pub settings_in : Data → Result Settings FieldKey
 settings_in d = do
-  value_type ← needs keys.Type (type_in (get (codes "type") d))
-  is_indexed ← needs keys.Indexed (flag_in true true (get (codes "indexed") d))
-  option ← needs keys.Record (option_in (is_indexed && has_texts value_type) (get (codes "record") d))
-  norms ← needs keys.FieldNorms (flag_in (is_indexed && not (is_json value_type)) (is_text value_type) (get (codes "fieldnorms") d))
-  dots ← needs keys.ExpandDots (flag_in (is_indexed && is_json value_type) false (get (codes "expand_dots") d))
+  value_type ← ok_or (field_type_in (get (codes "type") d)) keys.Type
+  is_indexed ← ok_or (flag_in true true (get (codes "indexed") d)) keys.Indexed
+  option ← ok_or (option_in (is_indexed && has_texts value_type) (get (codes "record") d)) keys.Record
+  norms ← ok_or (flag_in (is_indexed && not (is_json_type value_type)) (is_text value_type) (get (codes "fieldnorms") d)) keys.FieldNorms
+  dots ← ok_or (flag_in (is_indexed && is_json_type value_type) false (get (codes "expand_dots") d)) keys.ExpandDots
   Ok (record { value_type = value_type; is_indexed = is_indexed; option = option; has_fieldnorms = norms; expands_dots = dots })

@@ -2,7 +2,7 @@ ghost use Rattle.std.specs.Prelude.{◌≡◌, ◌&&◌, not, bytes_eq, option_m
 ghost use Rattle.std.specs.List.{list_any};
 ghost use Rattle.ii_base.specs.Schema.{SchemaEntry};
 ghost use Rattle.toml.specs.View.{view};
-ghost use Rattle.ii_schema_text.specs.SchemaText.{Gives, entry_in, entry_with, members_in, name_in, unknown_in};
+ghost use Rattle.ii_schema_text.specs.SchemaText.{AnswersFromText, entry_in, entry_with, members_in, name_in, unknown_key_in};
 ghost use Rattle.ii_schema_text.specs.declared.keys.KnownKeys.TheVariants.{OfField};
 
 use crate::faults::{FieldKey, SchemaFault};
@@ -46,7 +46,7 @@ fn name_of<'a>(before: &[FieldEntry], value: Option<&'a Value>) -> Option<&'a st
 
 // The first key of a field's table that isn't known.
 fn unknown_key(field: &Value) -> Option<&str>
-    ensures { option_map (λ key. key.now) result ≡ unknown_in OfField (members_in (view field.now)) }
+    ensures { option_map (λ key. key.now) result ≡ unknown_key_in OfField (members_in (view field.now)) }
 {
     match field.as_table() {
         Some(table) => KnownKeys::OfField.unknown(table),
@@ -80,7 +80,7 @@ pub(crate) fn entry_of(
     before: &[FieldEntry],
     field: &Value,
 ) -> Result<FieldEntry, SchemaFault>
-    ensures { Gives (λ (e : SchemaEntry). e) result (entry_in before.now (view field.now)) }
+    ensures { AnswersFromText (λ (e : SchemaEntry). e) result (entry_in before.now (view field.now)) }
 {
     let place = before.len();
     if let Some(key) = unknown_key(field) {

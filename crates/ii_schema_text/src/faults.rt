@@ -1,7 +1,7 @@
 ghost use Rattle.std.specs.Prelude.{◌≡◌, Err, List, Result};
 ghost use Rattle.toml.specs.Errors.{IsMemory};
 ghost use Rattle.ii_base.specs.Schema.{SchemaEntry};
-ghost use Rattle.ii_schema_text.specs.SchemaText.{Refusal, Tells, not_toml, told};
+ghost use Rattle.ii_schema_text.specs.SchemaText.{Refusal, TellsOfText, not_toml, told_of_text};
 ghost use Rattle.ii_schema_text.specs.declared.faults.SchemaFault.TheVariants as faults;
 
 use std::alloc::{AllocError, AllocFailed};
@@ -60,7 +60,7 @@ pub enum SchemaFault {
 impl SchemaFault {
     // Why a text wasn't read as TOML: it isn't TOML, or no memory was found.
     pub(crate) fn of_toml(error: TomlError) -> SchemaFault
-        ensures { (wanted : Result (List SchemaEntry) Refusal) → (¬ IsMemory error → wanted ≡ Err not_toml) → Tells (told result) wanted }
+        ensures { (wanted : Result (List SchemaEntry) Refusal) → (¬ IsMemory error → wanted ≡ Err not_toml) → TellsOfText (told_of_text result) wanted }
     {
         if error.is_memory() {
             return SchemaFault::OutOfMemory;

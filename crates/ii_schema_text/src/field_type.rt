@@ -1,7 +1,7 @@
 ghost use Rattle.std.specs.Prelude.{◌≡◌, option_map};
 ghost use Rattle.toml.specs.View.{view};
 ghost use Rattle.ii_schema_text.specs.SchemaText.{value_type_of};
-ghost use Rattle.ii_schema_text.specs.Settings.{has_texts, is_json, is_text, type_in, type_named};
+ghost use Rattle.ii_schema_text.specs.Settings.{field_type_in, has_texts, is_json_type, is_text, type_named};
 
 use ii_base::ValueType;
 use toml::Value;
@@ -65,7 +65,7 @@ impl FieldType {
 
     // Whether its values are JSON values.
     pub(crate) fn is_json(self) -> bool
-        ensures { result ≡ is_json self }
+        ensures { result ≡ is_json_type self }
     {
         match self {
             FieldType::Json => true,
@@ -110,7 +110,7 @@ fn type_named(name: &str) -> Option<FieldType>
 
 // The type that a value names.
 pub(crate) fn type_of(value: Option<&Value>) -> Option<FieldType>
-    ensures { result ≡ type_in (option_map (λ v. view v.now) value.entry) }
+    ensures { result ≡ field_type_in (option_map (λ v. view v.now) value.entry) }
 {
     let Some(value) = value else {
         return None;

@@ -1,7 +1,7 @@
 ghost use Rattle.std.specs.Prelude.{◌≡◌, option_map};
 ghost use Rattle.toml.specs.View.{table_view};
 ghost use Rattle.ii_schema_text.specs.declared.keys.KnownKeys.TheVariants.{OfField};
-ghost use Rattle.ii_schema_text.specs.SchemaText.{is_known, unknown_in};
+ghost use Rattle.ii_schema_text.specs.SchemaText.{is_known_key, unknown_key_in};
 
 use toml::Table;
 
@@ -16,9 +16,9 @@ pub enum KnownKeys {
 
 impl KnownKeys {
     // Whether this is one of them.
-    #[tactic(auto, unfolding(crate::specs::SchemaText::is_known))]
+    #[tactic(auto, unfolding(crate::specs::SchemaText::is_known_key))]
     fn has(self, key: &str) -> bool
-        ensures { result ≡ is_known self key.now }
+        ensures { result ≡ is_known_key self key.now }
     {
         match self {
             KnownKeys::OfText => key == "field",
@@ -28,7 +28,7 @@ impl KnownKeys {
 
     // The first key of a table that isn't one of them.
     pub(crate) fn unknown(self, table: &Table) -> Option<&str>
-        ensures { option_map (λ key. key.now) result ≡ unknown_in self (table_view table.now) }
+        ensures { option_map (λ key. key.now) result ≡ unknown_key_in self (table_view table.now) }
     {
         for (key, _) in table.iter() {
             if !self.has(key.as_str()) {
@@ -40,9 +40,9 @@ impl KnownKeys {
 }
 
 // Whether a field's table may have this key.
-#[tactic(auto, unfolding(crate::specs::SchemaText::is_known))]
+#[tactic(auto, unfolding(crate::specs::SchemaText::is_known_key))]
 fn is_field_key(key: &str) -> bool
-    ensures { result ≡ is_known OfField key.now }
+    ensures { result ≡ is_known_key OfField key.now }
 {
     if key == "name" {
         return true;

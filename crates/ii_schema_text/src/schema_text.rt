@@ -3,7 +3,7 @@ ghost use Rattle.toml.specs.View.{items_view, table_view, view};
 ghost use Rattle.toml.specs.Data.{get_member};
 ghost use Rattle.std.specs.Prelude.{codes, List};
 ghost use Rattle.ii_base.specs.Schema.{SchemaEntry};
-ghost use Rattle.ii_schema_text.specs.SchemaText.{Gives, entries_from, fields_in, table_schema, text_schema};
+ghost use Rattle.ii_schema_text.specs.SchemaText.{AnswersFromText, fields_in, schema_entries_from, table_schema, text_schema};
 
 use crate::entry_table::entry_of;
 use crate::faults::SchemaFault;
@@ -28,7 +28,7 @@ use toml::{Table, Value};
 /// the order of `FieldKey`, that isn't as above; `TooManyFields`. `OutOfMemory` where there is no room.
 #[tactic(auto, unfolding(crate::specs::SchemaText::text_schema))]
 pub fn read_schema(alloc: Global, text: &str) -> Result<Schema, SchemaFault>
-    ensures { Gives (λ (s : List SchemaEntry). s) result (text_schema text.now) }
+    ensures { AnswersFromText (λ (s : List SchemaEntry). s) result (text_schema text.now) }
 {
     match toml::table_from_str(alloc, text) {
         Ok(table) => schema_of(alloc, &table),
@@ -39,7 +39,7 @@ pub fn read_schema(alloc: Global, text: &str) -> Result<Schema, SchemaFault>
 // The schema that a table says.
 #[tactic(auto, unfolding(crate::specs::SchemaText::table_schema))]
 fn schema_of(alloc: Global, table: &Table) -> Result<Schema, SchemaFault>
-    ensures { Gives (λ (s : List SchemaEntry). s) result (table_schema (table_view table.now)) }
+    ensures { AnswersFromText (λ (s : List SchemaEntry). s) result (table_schema (table_view table.now)) }
 {
     if let Some(key) = KnownKeys::OfText.unknown(table) {
         let key = String::from_str(alloc, key)?;
@@ -67,7 +67,7 @@ fn fields_of(table: &Table) -> Option<&Vec<Value>>
 
 // The entries of the fields.
 fn entries_of(alloc: Global, fields: &Vec<Value>) -> Result<Vec<FieldEntry>, SchemaFault>
-    ensures { Gives (λ v. v.items) result (entries_from [] (items_view fields.now.items)) }
+    ensures { AnswersFromText (λ v. v.items) result (schema_entries_from [] (items_view fields.now.items)) }
 {
     let mut entries = Vec::new(alloc);
     for field in fields {

@@ -1,6 +1,6 @@
 ghost use Rattle.std.specs.Prelude.{◌≡◌, ◌&&◌, not, option_map};
 ghost use Rattle.toml.specs.View.{view};
-ghost use Rattle.ii_schema_text.specs.Settings.{flag_in, has_texts, is_json, option_in, option_named, settings_in};
+ghost use Rattle.ii_schema_text.specs.Settings.{flag_in, has_texts, is_json_type, option_in, option_named, settings_in};
 
 use crate::faults::FieldKey;
 use crate::field_type::{FieldType, type_of};
@@ -78,7 +78,7 @@ fn allows_record(is_indexed: bool, value_type: FieldType) -> bool
 
 // Whether an indexed field may have norms.
 fn allows_norms(is_indexed: bool, value_type: FieldType) -> bool
-    ensures { result ≡ (is_indexed && not (is_json value_type)) }
+    ensures { result ≡ (is_indexed && not (is_json_type value_type)) }
 {
     if !is_indexed {
         return false;
@@ -88,7 +88,7 @@ fn allows_norms(is_indexed: bool, value_type: FieldType) -> bool
 
 // Whether an indexed field has JSON values.
 fn allows_dots(is_indexed: bool, value_type: FieldType) -> bool
-    ensures { result ≡ (is_indexed && is_json value_type) }
+    ensures { result ≡ (is_indexed && is_json_type value_type) }
 {
     if !is_indexed {
         return false;

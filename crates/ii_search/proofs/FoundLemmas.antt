@@ -3,7 +3,8 @@ use Rattle.std.proofs.Common.{◌≡◌, ◌∙◌, ℕ, Bool, true, false, ◌&
 use Rattle.std.specs.Prelude.{IsSomeAnd, MatchOption, filter, min, nat_lt, slice_get}
 use Rattle.std.specs.List.{list_all, list_any}
 use Rattle.std.specs.Result.{result_unwrap_or}
-use Rattle.std.proofs.lemmas.Bool.{le-leb, ltb-true}
+use Rattle.std.proofs.Math.Bool.{and-false, and-true, or-false, or_self_left}
+use Rattle.std.proofs.lemmas.Bool.{and_parts, le-leb, ltb-true}
 use Rattle.std.proofs.lemmas.Bool.Decides.{eqb_tells}
 use Rattle.ii_io.specs.declared.faults.Fault.{Fault}
 use Rattle.ii_io.specs.declared.faults.Fault.TheVariants.{OutOfMemory}
@@ -35,30 +36,14 @@ use Rattle.ii_reader.specs.OpenIndex.{FieldReaderHolds, IndexHolds, OpenIndexSta
 use Rattle.ii_reader.proofs.ReaderLemmas.{list_held}
 use Rattle.ii_search.specs.declared.query.PhraseTerm.{PhraseTerm}
 use Rattle.ii_search.specs.declared.query.Query.{Query, Empty, All, Term, Phrase, And', Or', AndNot'}
-use Rattle.ii_search.specs.Found.{AreMatches, combined, docs_kept, docs_of_term, docs_under, found_in, parts_of, phrase_of, with_part}
+use Rattle.ii_search.specs.Found.{AreMatches, combined, docs_kept, docs_of_term, docs_under, found_in, phrase_of, phrase_parts_of, with_part}
 use Rattle.ii_search.specs.Queries.{are_of_texts, follow, has_fields, has_phrase, has_positions_in, is_text_key, is_token_of, keeps_positions, matches, stands_at}
-
-or_twice : (a c : Bool) → (a || c) ≡ (a || (a || c))
-or_twice true c = refl
-or_twice false c = refl
-
-and_true : (a : Bool) → (a && true) ≡ a
-and_true true = refl
-and_true false = refl
-
-and_false : (a : Bool) → (a && false) ≡ false
-and_false true = refl
-and_false false = refl
-
-both_true : (a b : Bool) → (a && b) ≡ true → (a ≡ true) × (b ≡ true)
-both_true true b h = (refl, h)
-both_true false b h = absurd (cc)
 
 -- a token in front of entries
 with_has : (t : IndexToken) (es : List Entry) (doc : ℕ) → has_doc (with_token t es) doc ≡ (nat_eq t.doc doc || has_doc es doc)
 with_has t [] doc = refl
 with_has t (e ∷ es) doc = elim (eqb_tells e.doc t.doc) [
-  | inl h ↦ rw (h.0, h.1) (or_twice (nat_eq t.doc doc) (has_doc es doc))
+  | inl h ↦ rw (h.0, h.1) (sym (or_self_left (nat_eq t.doc doc) (has_doc es doc)))
   | inr h ↦ rw (h.0) refl
 ]
 
@@ -77,8 +62,8 @@ any_of p q [] = refl
 any_of p q (t ∷ ts) = by (q t) refl (any_of p q ts)
   where
     by : (b : Bool) → q t ≡ b → list_any p (filter q ts) ≡ list_any (λ (u : IndexToken). p u && q u) ts → list_any p (filter q (t ∷ ts)) ≡ list_any (λ (u : IndexToken). p u && q u) (t ∷ ts)
-    by true is later = rw (is, and_true (p t), later) refl
-    by false is later = rw (is, and_false (p t), later) refl
+    by true is later = rw (is, and-true (p t), later) refl
+    by false is later = rw (is, and-false (p t), later) refl
 
 -- a key's postings have the documents of its tokens
 term_has : (option : IndexRecordOption) (field : ℕ) (key : List ℕ) (requested : IndexRecordOption) (ts : List IndexToken) (doc : ℕ)
@@ -135,15 +120,11 @@ both_or true true c d = refl
 both_or true false c d = refl
 both_or false b c d = refl
 
-or_none : (b : Bool) → (b || false) ≡ b
-or_none true = refl
-or_none false = refl
-
 with_placed : (doc : ℕ) (holds : ℕ → Bool) (t : IndexToken) (es : List Entry) → placed_in doc holds (with_token t es) ≡ (token_in doc holds t || placed_in doc holds es)
-with_placed doc holds t [] = ap (λ (b : Bool). (nat_eq t.doc doc && b) || false) (or_none (holds t.position))
+with_placed doc holds t [] = ap (λ (b : Bool). (nat_eq t.doc doc && b) || false) (or-false (holds t.position))
 with_placed doc holds t (e ∷ es) = elim (eqb_tells e.doc t.doc) [
   | inl h ↦ rw (h.0, h.1) (both_or (nat_eq t.doc doc) (holds t.position) (list_any holds e.positions) (placed_in doc holds es))
-  | inr h ↦ rw (h.0) (ap (λ (b : Bool). (nat_eq t.doc doc && b) || placed_in doc holds (e ∷ es)) (or_none (holds t.position)))
+  | inr h ↦ rw (h.0) (ap (λ (b : Bool). (nat_eq t.doc doc && b) || placed_in doc holds (e ∷ es)) (or-false (holds t.position)))
 ]
 
 grouped_placed : (doc : ℕ) (holds : ℕ → Bool) (ts : List IndexToken) → placed_in doc holds (grouped ts) ≡ list_any (token_in doc holds) ts
@@ -153,15 +134,15 @@ grouped_placed doc holds (t ∷ ts) = with_placed doc holds t (grouped ts) ∙ a
 -- where positions are cut there are none
 cut_placed : (doc : ℕ) (holds : ℕ → Bool) (option : IndexRecordOption) (es : List Entry) → placed_in doc holds (map (cut_entry option) es) ≡ (has_positions option && placed_in doc holds es)
 cut_placed doc holds Basic [] = refl
-cut_placed doc holds Basic (e ∷ es) = rw (and_false (nat_eq e.doc doc)) (cut_placed doc holds Basic es)
+cut_placed doc holds Basic (e ∷ es) = rw (and-false (nat_eq e.doc doc)) (cut_placed doc holds Basic es)
 cut_placed doc holds WithFreqs [] = refl
-cut_placed doc holds WithFreqs (e ∷ es) = rw (and_false (nat_eq e.doc doc)) (cut_placed doc holds WithFreqs es)
+cut_placed doc holds WithFreqs (e ∷ es) = rw (and-false (nat_eq e.doc doc)) (cut_placed doc holds WithFreqs es)
 cut_placed doc holds WithFreqsAndPositions [] = refl
 cut_placed doc holds WithFreqsAndPositions (e ∷ es) = ap (λ (b : Bool). (nat_eq e.doc doc && list_any holds e.positions) || b) (cut_placed doc holds WithFreqsAndPositions es)
 
 -- what is kept of a key's tokens in a field with positions
 kept_placed : (option : IndexRecordOption) (us : List IndexToken) (b : Bool) → has_positions option ≡ true → (us ≡ [] → b ≡ false) → (has_positions (downgrade (kind_of option us) WithFreqsAndPositions) && b) ≡ (are_of_texts us && b)
-kept_placed option [] b keeps none = rw (none refl) (and_false _)
+kept_placed option [] b keeps none = rw (none refl) (and-false _)
 kept_placed option (t ∷ us) b keeps none = by option t.of_text keeps
   where
     by : (o : IndexRecordOption) (texts : Bool) → has_positions o ≡ true → (has_positions (downgrade (cond texts o Basic) WithFreqsAndPositions) && b) ≡ (texts && b)
@@ -232,11 +213,11 @@ gives_part ts o others first found f g = rw (f.is, g.is) (record {
 })
 
 gives_parts : (entries : List SchemaEntry) (n : ℕ) (index : OpenIndexState) (ts : List IndexToken) (others : List PhraseTerm) → IndexHolds entries n index ts
-    → list_all (λ (o : PhraseTerm). nat_lt o.term.field (length entries)) others ≡ true → list_all (λ (o : PhraseTerm). has_positions_in entries o.term) others ≡ true → GivesParts ts others (parts_of index others)
+    → list_all (λ (o : PhraseTerm). nat_lt o.term.field (length entries)) others ≡ true → list_all (λ (o : PhraseTerm). has_positions_in entries o.term) others ≡ true → GivesParts ts others (phrase_parts_of index others)
 gives_parts entries n index ts [] holds fields keeps = record { parts = []; is = refl; exact = λ doc start. refl }
 gives_parts entries n index ts (o ∷ os) holds fields keeps =
-    let h = both_true (nat_lt o.term.field (length entries)) (list_all (λ (p : PhraseTerm). nat_lt p.term.field (length entries)) os) fields in
-    let k = both_true (has_positions_in entries o.term) (list_all (λ (p : PhraseTerm). has_positions_in entries p.term) os) keeps in
+    let h = and_parts (nat_lt o.term.field (length entries)) (list_all (λ (p : PhraseTerm). nat_lt p.term.field (length entries)) os) fields in
+    let k = and_parts (has_positions_in entries o.term) (list_all (λ (p : PhraseTerm). has_positions_in entries p.term) os) keeps in
     gives_part ts o os _ _ (positions_under entries o.term ts (slice_get index.readers o.term.field) k.0 (holds.readers o.term.field (ltb-true o.term.field (length entries) h.0)))
     (gives_parts entries n index ts os holds h.1 k.1)
 
@@ -261,21 +242,21 @@ gives_matches entries n index ts (All m) holds fields keeps = record { es = all_
 gives_matches entries n index ts (Term term) holds fields keeps =
     gives_under entries term.field term.value ts (slice_get index.readers term.field) (holds.readers term.field (ltb-true term.field (length entries) fields))
 gives_matches entries n index ts (Phrase first others) holds fields keeps =
-    let h = both_true (nat_lt first.field (length entries)) _ fields in
-    let k = both_true (has_positions_in entries first) _ keeps in
+    let h = and_parts (nat_lt first.field (length entries)) _ fields in
+    let k = and_parts (has_positions_in entries first) _ keeps in
     gives_phrase ts first others.items _ _ (positions_under entries first ts (slice_get index.readers first.field) k.0 (holds.readers first.field (ltb-true first.field (length entries) h.0)))
     (gives_parts entries n index ts others.items holds h.1 k.1)
 gives_matches entries n index ts (And' p first q other) holds fields keeps =
-    let h = both_true (has_fields (length entries) first) (has_fields (length entries) other) fields in
-    let k = both_true (keeps_positions entries first) (keeps_positions entries other) keeps in
+    let h = and_parts (has_fields (length entries) first) (has_fields (length entries) other) fields in
+    let k = and_parts (keeps_positions entries first) (keeps_positions entries other) keeps in
     gives_common _ _ _ _ (gives_matches entries n index ts first holds h.0 k.0) (gives_matches entries n index ts other holds h.1 k.1)
 gives_matches entries n index ts (Or' p first q other) holds fields keeps =
-    let h = both_true (has_fields (length entries) first) (has_fields (length entries) other) fields in
-    let k = both_true (keeps_positions entries first) (keeps_positions entries other) keeps in
+    let h = and_parts (has_fields (length entries) first) (has_fields (length entries) other) fields in
+    let k = and_parts (keeps_positions entries first) (keeps_positions entries other) keeps in
     gives_either _ _ _ _ (gives_matches entries n index ts first holds h.0 k.0) (gives_matches entries n index ts other holds h.1 k.1)
 gives_matches entries n index ts (AndNot' p first q other) holds fields keeps =
-    let h = both_true (has_fields (length entries) first) (has_fields (length entries) other) fields in
-    let k = both_true (keeps_positions entries first) (keeps_positions entries other) keeps in
+    let h = and_parts (has_fields (length entries) first) (has_fields (length entries) other) fields in
+    let k = and_parts (keeps_positions entries first) (keeps_positions entries other) keeps in
     gives_without _ _ _ _ (gives_matches entries n index ts first holds h.0 k.0) (gives_matches entries n index ts other holds h.1 k.1)
 
 -- so what is found are the documents that match

@@ -16,7 +16,7 @@ use Rattle.ii_reader.specs.OpenIndex.{OpenIndexState}
 use Rattle.ii_reader.specs.SegmentPostings.{SegmentPostingsState}
 use Rattle.ii_search.specs.declared.query.PhraseTerm.{PhraseTerm}
 use Rattle.ii_search.specs.Decodes.{DecodesFew}
-use Rattle.ii_search.specs.Found.{docs_kept, docs_of_term, parts_of, with_part}
+use Rattle.ii_search.specs.Found.{docs_kept, docs_of_term, phrase_parts_of, with_part}
 
 -- a term that is refused
 pub refused_kept : (option : IndexRecordOption) (reader : InvertedIndexReaderState) (kept : Option TermInfo) (r : Result (Option SegmentPostingsState) Fault) (fault : Fault) → r ≡ Err fault → IfNone kept (r ≡ Ok None)
@@ -31,7 +31,7 @@ in_front parts (Err part) = Err part
 
 -- The parts so far, in front of those of the terms that are left, are all.
 pub record IsListing (index : OpenIndexState) (all left : List PhraseTerm) (parts : List PhrasePartState) : Type 0 where
-  pub listed : parts_of index all ≡ in_front parts (parts_of index left)
+  pub listed : phrase_parts_of index all ≡ in_front parts (phrase_parts_of index left)
   pub fields : list_all (λ (o : PhraseTerm). nat_lt o.term.field (length index.readers)) left ≡ true
 
 none_in_front : (found : Result (List PhrasePartState) Part) → found ≡ in_front [] found
@@ -39,7 +39,7 @@ none_in_front (Ok parts) = refl
 none_in_front (Err part) = refl
 
 pub listing_first : (index : OpenIndexState) (all : List PhraseTerm) → list_all (λ (o : PhraseTerm). nat_lt o.term.field (length index.readers)) all ≡ true → IsListing index all all []
-listing_first index all fields = record { listed = none_in_front (parts_of index all); fields = fields }
+listing_first index all fields = record { listed = none_in_front (phrase_parts_of index all); fields = fields }
 
 -- a place among the terms
 pub term_at : (all : List PhraseTerm) (i : ℕ) (o : PhraseTerm) → i < length all → o ≡ get_or all i o → drop i all ≡ o ∷ drop (i + 1) all
@@ -58,22 +58,22 @@ one_more distance es parts (Err part) = refl
 pub listing_next : (index : OpenIndexState) (all left others : List PhraseTerm) (parts more : List PhrasePartState) (o : PhraseTerm) (p : PhrasePartState) → IsListing index all left parts → left ≡ o ∷ others → p.distance ≡ o.distance → docs_of_term WithFreqsAndPositions index o.term ≡ Ok p.rest
     → more ≡ parts ++ p ∷ [] → IsListing index all others more
 listing_next index all left others parts more o p l is distance_is found more_is = record {
-  listed = l.listed ∙ ap (λ (os : List PhraseTerm). in_front parts (parts_of index os)) is
-      ∙ (λ j. in_front parts (with_part (sym distance_is j) (found j) (parts_of index others)))
-      ∙ one_more p.distance p.rest parts (parts_of index others)
-      ∙ ap (λ (ps : List PhrasePartState). in_front ps (parts_of index others)) (sym more_is);
+  listed = l.listed ∙ ap (λ (os : List PhraseTerm). in_front parts (phrase_parts_of index os)) is
+      ∙ (λ j. in_front parts (with_part (sym distance_is j) (found j) (phrase_parts_of index others)))
+      ∙ one_more p.distance p.rest parts (phrase_parts_of index others)
+      ∙ ap (λ (ps : List PhrasePartState). in_front ps (phrase_parts_of index others)) (sym more_is);
   fields = (and_parts (nat_lt o.term.field (length index.readers)) (list_all (λ (q : PhraseTerm). nat_lt q.term.field (length index.readers)) others) (rw is at l.fields)).1;
 }
 
 -- a term is refused
 pub listing_refused : (index : OpenIndexState) (all left others : List PhraseTerm) (parts : List PhrasePartState) (o : PhraseTerm) (fault : Fault) → IsListing index all left parts → left ≡ o ∷ others → IsRefusal (docs_of_term WithFreqsAndPositions index o.term) fault
-    → IsRefusal (parts_of index all) fault
+    → IsRefusal (phrase_parts_of index all) fault
 listing_refused index all left others parts o fault l is (inl memory) = inl memory
 listing_refused index all left others parts o fault l is (inr (part, why, err)) =
-    inr (part, why, l.listed ∙ ap (λ (os : List PhraseTerm). in_front parts (parts_of index os)) is ∙ ap (λ (found : Result (List Entry) Part). in_front parts (with_part o.distance found (parts_of index others))) err)
+    inr (part, why, l.listed ∙ ap (λ (os : List PhraseTerm). in_front parts (phrase_parts_of index os)) is ∙ ap (λ (found : Result (List Entry) Part). in_front parts (with_part o.distance found (phrase_parts_of index others))) err)
 
-pub listing_all : (index : OpenIndexState) (all left : List PhraseTerm) (parts : List PhrasePartState) → IsListing index all left parts → left ≡ [] → parts_of index all ≡ Ok parts
-listing_all index all left parts l is = l.listed ∙ ap (λ (os : List PhraseTerm). in_front parts (parts_of index os)) is ∙ ap (λ (ps : List PhrasePartState). Ok ps) (append-nil parts)
+pub listing_all : (index : OpenIndexState) (all left : List PhraseTerm) (parts : List PhrasePartState) → IsListing index all left parts → left ≡ [] → phrase_parts_of index all ≡ Ok parts
+listing_all index all left parts l is = l.listed ∙ ap (λ (os : List PhraseTerm). in_front parts (phrase_parts_of index os)) is ∙ ap (λ (ps : List PhrasePartState). Ok ps) (append-nil parts)
 
 -- a test of all terms, at the place of one
 pub all_from : (test : PhraseTerm → Bool) (all : List PhraseTerm) (i : ℕ) (o : PhraseTerm) → i < length all → o ≡ get_or all i o → list_all test (drop i all) ≡ (test o && list_all test (drop (i + 1) all))

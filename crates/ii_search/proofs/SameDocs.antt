@@ -5,15 +5,12 @@ use Rattle.std.proofs.lemmas.Bool.Decides.{eqb_tells, leb_tells}
 use Rattle.ii_docset.specs.Cursor.{IsAscending}
 use Rattle.ii_base.specs.Entries.{Entry}
 use Rattle.ii_docset.specs.Intersection.{has_doc}
+use Rattle.ii_query.proofs.CommonLemmas.{has_first}
 use Rattle.ii_query.proofs.PickedLemmas.{has_below}
-
--- a list has its first document
-first_has : (e : Entry) (es : List Entry) → has_doc (e ∷ es) e.doc ≡ true
-first_has e es = rw (eq-eqb e.doc e.doc refl) refl
 
 -- a list that begins with a greater one hasn't
 later_has : (e f : Entry) (es fs : List Entry) → IsAscending (f ∷ fs) → e.doc < f.doc → has_doc (e ∷ es) e.doc ≡ has_doc (f ∷ fs) e.doc → ⊥
-later_has e f es fs ascend low same = true≢false (sym (first_has e es) ∙ same ∙ has_below e.doc (f ∷ fs) ascend low)
+later_has e f es fs ascend low same = true≢false (sym (has_first e es) ∙ same ∙ has_below e.doc (f ∷ fs) ascend low)
 
 same_first : (e f : Entry) (es fs : List Entry) → IsAscending (e ∷ es) → IsAscending (f ∷ fs) → ((doc : ℕ) → has_doc (e ∷ es) doc ≡ has_doc (f ∷ fs) doc) → e.doc ≡ f.doc
 same_first e f es fs first other same = elim (leb_tells e.doc f.doc) [
@@ -36,8 +33,8 @@ same_later e f es fs doc first other at same = elim (eqb_tells e.doc doc) [
 
 pub same_length : (es fs : List Entry) → IsAscending es → IsAscending fs → ((doc : ℕ) → has_doc es doc ≡ has_doc fs doc) → length es ≡ length fs
 same_length [] [] first other same = refl
-same_length [] (f ∷ fs) first other same = absurd (true≢false (sym (first_has f fs) ∙ sym (same f.doc)))
-same_length (e ∷ es) [] first other same = absurd (true≢false (sym (first_has e es) ∙ same e.doc))
+same_length [] (f ∷ fs) first other same = absurd (true≢false (sym (has_first f fs) ∙ sym (same f.doc)))
+same_length (e ∷ es) [] first other same = absurd (true≢false (sym (has_first e es) ∙ same e.doc))
 same_length (e ∷ es) (f ∷ fs) first other same =
     let at = same_first e f es fs first other same in
     ap suc (same_length es fs first.1 other.1 (λ doc. same_later e f es fs doc first other at (same doc)))

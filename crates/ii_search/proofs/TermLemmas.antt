@@ -27,7 +27,7 @@ use Rattle.ii_definitions.specs.Tokens.{IndexToken}
 use Rattle.ii_query_grammar.specs.Trees.{Literal, leaf}
 use Rattle.ii_search.specs.declared.query.Query.{Query}
 use Rattle.ii_search.specs.Queries.{has_fields, has_positions_in, keeps_positions, matches}
-use Rattle.ii_search.specs.QueryTexts.{Adds, AddsIn, AddsMaybe, AddsText, IsPhraseIn, IsRefusedBy, Means, PhraseState, QueryFields, TextFields, Terms, are_in, default_terms, field_terms, has_one, has_term, is_alone, joined_terms, one_term, path_key, path_value, phrase_kept, phrase_within, refused, some_default, stand_after, terms_after, terms_of, text_terms, typed_terms, value_term, words_phrase}
+use Rattle.ii_search.specs.QueryTexts.{Adds, AddsIn, AddsMaybe, AddsText, IsPhraseIn, IsWhyRefused, Means, PhraseState, QueryFields, Terms, TextFields, are_in, default_terms, has_one, has_term, is_alone, joined_terms, one_term, path_key, path_value, phrase_kept, phrase_within, refused, some_default, stand_after, terms_after, terms_in_field, terms_of, text_terms, typed_terms, value_term, words_phrase}
 
 -- Terms of the fields so far were added, and those of the fields that are left come after them.
 pub record IsGathering (q : TextFields) (phrase all fields : List ℕ) (old now : List PhraseState) : Type 0 where
@@ -52,7 +52,7 @@ all_append entries ts us first other = list_all-append (λ (p : PhraseState). ph
 
 -- one field more
 pub gathering_next : (q : TextFields) (phrase all : List ℕ) (field : ℕ) (fields left : List ℕ) (old now new : List PhraseState) → IsGathering q phrase all left old now → left ≡ field ∷ fields
-    → Adds (field_terms q field [] phrase) q.entries now new (Ok tt) → IsGathering q phrase all fields old new
+    → Adds (terms_in_field q field [] phrase) q.entries now new (Ok tt) → IsGathering q phrase all fields old new
 gathering_next q phrase all field fields left old now new is left_is (ts, terms_is, new_is, within) = record {
   found = is.found ++ ts;
   now_is = new_is ∙ ap (λ (l : List PhraseState). l ++ ts) is.now_is ∙ append_assoc old is.found ts;
@@ -77,11 +77,11 @@ refused_first found (Err e) others f is = is
 
 -- a field is refused
 pub gathering_refused : (q : TextFields) (phrase all : List ℕ) (field : ℕ) (fields left : List ℕ) (old now new : List PhraseState) (e : QueryParserError) → eqb (length all) 0 ≡ false → IsGathering q phrase all left old now → left ≡ field ∷ fields
-    → Adds (field_terms q field [] phrase) q.entries now new (Err e) → Adds (some_default q phrase all) q.entries old new (Err e)
+    → Adds (terms_in_field q field [] phrase) q.entries now new (Err e) → Adds (some_default q phrase all) q.entries old new (Err e)
 gathering_refused q phrase all field fields left old now new e some is left_is (inl memory) = inl memory
 gathering_refused q phrase all field fields left old now new e some is left_is (inr why) =
     inr (ap refused (some_default_is q phrase all some ∙ is.whole ∙ ap (λ (l : List ℕ). joined_terms (Ok is.found) (default_terms q phrase l)) left_is)
-    ∙ refused_first is.found (field_terms q field [] phrase) (default_terms q phrase fields) e why)
+    ∙ refused_first is.found (terms_in_field q field [] phrase) (default_terms q phrase fields) e why)
 
 -- a place among the fields
 pub field_at : (all : List ℕ) (i field : ℕ) → i < length all → field ≡ get_or all i 0 → drop i all ≡ field ∷ drop (i + 1) all
@@ -136,7 +136,7 @@ adds_by terms entries field e old new (Err error) here why = why
 pub entry_adds : (analyze : List ℕ → List Word) (entries : List SchemaEntry) (field : ℕ) (path phrase : List ℕ) (e : SchemaEntry) (t : ValueType) (option : IndexRecordOption) (expand_dots : Bool) (old new : List PhraseState) (r : Result (Unit {0}) QueryParserError)
     → slice_get entries field ≡ Some e → e.is_indexed ≡ true → t ≡ e.value_type → option ≡ e.option → expand_dots ≡ e.expands_dots
     → AddsIn (typed_terms (record { analyze = analyze; entries = [] }) field (has_positions option) expand_dots path phrase t) field (has_positions option) old new r
-    → Adds (field_terms (record { analyze = analyze; entries = entries }) field path phrase) entries old new r
+    → Adds (terms_in_field (record { analyze = analyze; entries = entries }) field path phrase) entries old new r
 entry_adds analyze entries field path phrase e t option expand_dots old new r here indexed type_is option_is dots_is adds =
     subst (λ (terms : Terms). Adds terms entries old new r)
     (typed_same analyze entries field (has_positions e.option) expand_dots path phrase t
@@ -223,7 +223,7 @@ json_adds q field keeps expand_dots path phrase start prefix value words old new
     rw no_zero all
 
 -- a path that holds byte 0
-pub zero_refused : (q : TextFields) (field : ℕ) (keeps expand_dots : Bool) (path phrase : List ℕ) → has_zero path ≡ true → IsRefusedBy (refused (typed_terms q field keeps expand_dots path phrase types.Json)) errors.UnsupportedPath
+pub zero_refused : (q : TextFields) (field : ℕ) (keeps expand_dots : Bool) (path phrase : List ℕ) → has_zero path ≡ true → IsWhyRefused (refused (typed_terms q field keeps expand_dots path phrase types.Json)) errors.UnsupportedPath
 zero_refused q field keeps expand_dots path phrase has = inr (rw has refl)
 
 entry_at : (entries : List SchemaEntry) (i : ℕ) (e : SchemaEntry) → slice_get entries i ≡ Some e → drop i entries ≡ e ∷ drop (i + 1) entries

@@ -132,10 +132,13 @@ shorter doc least (e ∷ es) later here below on =
     let less = sought_short (doc + 1) least es in
     rw on_is (omega arith)
 
+-- nothing is left at the end
+pub at_end : (n doc : ℕ) (initial now : List Entry) (bs : List (ℕ × ℕ)) → IsTopping n doc initial now bs → TERMINATED ≤ doc → now ≡ []
+at_end n doc initial now bs t end = let here = t.doc_is in sym (nothing_left now t.sound.ascending (omega arith))
+
 -- all documents were looked at
 pub tops_all : (n doc : ℕ) (initial now : List Entry) (bs : List (ℕ × ℕ)) → IsTopping n doc initial now bs → TERMINATED ≤ doc → bs ≡ top n initial
 tops_all n doc initial now bs t end =
-    let here = t.doc_is in
     let few = t.few in
-    let none = nothing_left now t.sound.ascending (omega arith) in
-    sym (t.top_is ∙ ap (λ (r : List Entry). take n (after bs r)) (sym none) ∙ take_all n bs (omega arith))
+    let none = at_end n doc initial now bs t end in
+    sym (t.top_is ∙ ap (λ (r : List Entry). take n (after bs r)) none ∙ take_all n bs (omega arith))

@@ -1,5 +1,6 @@
 -- A query, or a term or a phrase.
 use Rattle.std.proofs.Common.{◌≡◌, ◌∙◌, ℕ, Bool, true, false, ◌&&◌, ◌||◌, List, Result, Ok, Err, refl, ap}
+use Rattle.std.proofs.Math.Bool.{and_assoc, or_assoc}
 use Rattle.std.specs.Prelude.{IfOk}
 use Rattle.ii_base.specs.Schema.{SchemaEntry}
 use Rattle.ii_definitions.specs.Tokens.{IndexToken}
@@ -21,17 +22,9 @@ pub or_positions : {E : Type 0} (r : Result Query E) (first other : Query) (has 
 or_positions (Ok both) first other has both_is other_is = λ entries. both_is entries ∙ ap (λ (b : Bool). keeps_positions entries first && b) (other_is entries)
 or_positions (Err e) first other has both_is other_is = tt
 
-and_three : (a q r : Bool) → ((a && q) && r) ≡ (a && (q && r))
-and_three true q r = refl
-and_three false q r = refl
-
-or_three : (a q r : Bool) → ((a || q) || r) ≡ (a || (q || r))
-or_three true q r = refl
-or_three false q r = refl
-
 -- one query more of several
 pub and_on : (a q r all whole : Bool) → whole ≡ (a && q) → (a && (q && r)) ≡ all → (whole && r) ≡ all
-and_on a q r all whole is left = ap (λ (b : Bool). b && r) is ∙ and_three a q r ∙ left
+and_on a q r all whole is left = ap (λ (b : Bool). b && r) is ∙ and_assoc a q r ∙ left
 
 pub or_on : (a q r all whole : Bool) → whole ≡ (a || q) → (a || (q || r)) ≡ all → (whole || r) ≡ all
-or_on a q r all whole is left = ap (λ (b : Bool). b || r) is ∙ or_three a q r ∙ left
+or_on a q r all whole is left = ap (λ (b : Bool). b || r) is ∙ or_assoc a q r ∙ left

@@ -31,6 +31,7 @@ all_kept R P kept [] (y ∷ ys) moved all = elim moved [ ]
 all_kept R P kept (x ∷ xs) [] moved all = elim moved [ ]
 all_kept R P kept (x ∷ xs) (y ∷ ys) moved all = (kept x y moved.0 all.0, all_kept R P kept xs ys moved.1 all.1)
 
+-- reading positions of the cursors of a phrase
 pub all_spent : (xs ys : List SegmentPostingsState) → AllZip (Spent SpentLazily) xs ys → AllByRecursion DecodesFew xs → AllByRecursion DecodesFew ys
 all_spent xs ys spent all = all_kept (Spent SpentLazily) DecodesFew few_spent xs ys spent all
 

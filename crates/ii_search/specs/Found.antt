@@ -42,9 +42,9 @@ with_part distance (Ok es) (Err part) = Err part
 with_part distance (Ok es) (Ok others) = Ok (record { distance = distance; rest = es } ∷ others)
 
 -- the documents of the other terms of a phrase, with their positions
-abbrev pub parts_of : OpenIndexState → List PhraseTerm → Result (List PhrasePartState) Part
-parts_of index [] = Ok []
-parts_of index (o ∷ os) = with_part o.distance (docs_of_term WithFreqsAndPositions index o.term) (parts_of index os)
+abbrev pub phrase_parts_of : OpenIndexState → List PhraseTerm → Result (List PhrasePartState) Part
+phrase_parts_of index [] = Ok []
+phrase_parts_of index (o ∷ os) = with_part o.distance (docs_of_term WithFreqsAndPositions index o.term) (phrase_parts_of index os)
 
 -- the documents of a phrase, or the first part that fails
 abbrev pub phrase_of : Result (List Entry) Part → Result (List PhrasePartState) Part → Result (List Entry) Part
@@ -63,7 +63,7 @@ abbrev pub found_in : OpenIndexState → Query → Result (List Entry) Part
 found_in index Empty = Ok []
 found_in index (All n) = Ok (all_from 0 (min n TERMINATED))
 found_in index (Term term) = docs_of_term Basic index term
-found_in index (Phrase first others) = phrase_of (docs_of_term WithFreqsAndPositions index first) (parts_of index others.items)
+found_in index (Phrase first others) = phrase_of (docs_of_term WithFreqsAndPositions index first) (phrase_parts_of index others.items)
 found_in index (And' p first q other) = combined common (found_in index first) (found_in index other)
 found_in index (Or' p first q other) = combined either (found_in index first) (found_in index other)
 found_in index (AndNot' p first q other) = combined without (found_in index first) (found_in index other)

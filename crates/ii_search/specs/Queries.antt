@@ -20,6 +20,7 @@ abbrev pub are_of_texts : List IndexToken → Bool
 are_of_texts [] = false
 are_of_texts (t ∷ ts) = t.of_text
 
+-- whether the tokens with the field and the key of a term are of texts
 abbrev pub is_text_key : TermState → List IndexToken → Bool
 is_text_key term ts = are_of_texts (tokens_at term.field term.value ts)
 

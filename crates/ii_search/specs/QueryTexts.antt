@@ -13,6 +13,7 @@ use Rattle.ii_base.specs.Words.{Word}
 use Rattle.ii_base.specs.declared.schema.value_type.ValueType.{ValueType}
 use Rattle.ii_base.specs.declared.schema.value_type.ValueType.TheVariants as types
 use Rattle.ii_json.specs.FastValues.{bool_in, fast_value_in, i64_in, u64_in}
+use Rattle.ii_definitions.specs.JsonKeys.{is_json}
 use Rattle.ii_definitions.specs.Tokens.{IndexToken}
 use Rattle.ii_query_grammar.specs.Parsed.{SyntaxError, parsed}
 use Rattle.ii_query_grammar.specs.Trees.{Ast, Literal, both, either, leaf, without}
@@ -42,6 +43,7 @@ pub record PhraseState : Type 0 where
 abbrev pub one_term : TermState → PhraseState
 one_term t = record { first = t; others = [] }
 
+-- whether no term follows the first
 abbrev pub is_alone : PhraseState → Bool
 is_alone p = nat_eq (length p.others) 0
 
@@ -104,32 +106,23 @@ abbrev pub entry_terms : TextFields → ℕ → List ℕ → List ℕ → Option
 entry_terms q field path phrase None = Err errors.FieldDoesNotExist
 entry_terms q field path phrase (Some e) = if e.is_indexed then typed_terms q field (has_positions e.option) e.expands_dots path phrase e.value_type else Err errors.FieldNotIndexed
 
-abbrev pub field_terms : TextFields → ℕ → List ℕ → List ℕ → Terms
-field_terms q field path phrase = entry_terms q field path phrase (slice_get q.entries field)
+-- the terms of a text in a field of the schema, at a path where it has JSON values
+abbrev pub terms_in_field : TextFields → ℕ → List ℕ → List ℕ → Terms
+terms_in_field q field path phrase = entry_terms q field path phrase (slice_get q.entries field)
 
 -- the field of a name, the first that has it
 abbrev pub field_named : List SchemaEntry → List ℕ → Option ℕ
 field_named entries name = position_from (λ (e : SchemaEntry). bytes_eq e.name name) 0 entries
 
-abbrev pub is_json_type : ValueType → Bool
-is_json_type types.Json = true
-is_json_type types.Str = false
-is_json_type types.U64 = false
-is_json_type types.I64 = false
-is_json_type types.Bool = false
-is_json_type types.Date = false
-is_json_type types.Bytes = false
-is_json_type types.IpAddr = false
-
 -- whether a field has JSON values
-abbrev pub is_json : Option SchemaEntry → Bool
-is_json None = false
-is_json (Some e) = is_json_type e.value_type
+abbrev pub has_json_values : Option SchemaEntry → Bool
+has_json_values None = false
+has_json_values (Some e) = is_json e.value_type
 
 -- the terms at a path in a field of JSON values
 abbrev pub path_terms : TextFields → List ℕ → List ℕ → Option ℕ → Terms
 path_terms q path phrase None = Err errors.FieldDoesNotExist
-path_terms q path phrase (Some field) = if is_json (slice_get q.entries field) then field_terms q field path phrase else Err errors.FieldDoesNotExist
+path_terms q path phrase (Some field) = if has_json_values (slice_get q.entries field) then terms_in_field q field path phrase else Err errors.FieldDoesNotExist
 
 -- those of a name that is cut at its first dot, if it has one
 abbrev pub dotted_terms : TextFields → List ℕ → List ℕ → Option ℕ → Terms
@@ -138,7 +131,7 @@ dotted_terms q name phrase (Some i) = path_terms q (drop (i + 1) name) phrase (f
 
 -- those of a name: that of a field, or of one of JSON values and a path behind a dot
 abbrev pub named_terms : TextFields → List ℕ → List ℕ → Option ℕ → Terms
-named_terms q name phrase (Some field) = field_terms q field [] phrase
+named_terms q name phrase (Some field) = terms_in_field q field [] phrase
 named_terms q name phrase None = dotted_terms q name phrase (position (λ b. b == 46) name)
 
 -- two lists of terms together, or the first refusal
@@ -150,7 +143,7 @@ joined_terms (Ok ts) (Ok us) = Ok (ts ++ us)
 -- the terms of a text in each of some fields
 abbrev pub default_terms : TextFields → List ℕ → List ℕ → Terms
 default_terms q phrase [] = Ok []
-default_terms q phrase (field ∷ fields) = joined_terms (field_terms q field [] phrase) (default_terms q phrase fields)
+default_terms q phrase (field ∷ fields) = joined_terms (terms_in_field q field [] phrase) (default_terms q phrase fields)
 
 -- those of the fields that are meant, where there is one
 abbrev pub some_default : TextFields → List ℕ → List ℕ → Terms
@@ -162,6 +155,7 @@ abbrev pub literal_terms : TextFields → List ℕ → Option (List ℕ) → Lis
 literal_terms q defaults None phrase = some_default q phrase defaults
 literal_terms q defaults (Some name) phrase = named_terms q name phrase (field_named q.entries name)
 
+-- those of a word or a phrase of a tree
 abbrev pub terms_of : QueryFields → Literal → Terms
 terms_of q l = literal_terms q.texts q.defaults l.field_name l.phrase
 
@@ -206,27 +200,29 @@ pub record Means (q : QueryFields) (ast : Ast) (query : Query) : Type 0 where
   pub positions : keeps_positions q.texts.entries query ≡ true
 
 -- Memory was missing, or this is why.
-abbrev pub IsRefusedBy : Option QueryParserError → QueryParserError → Type 0
-IsRefusedBy refusal e = (e ≡ errors.Fault OutOfMemory) ⊎ (refusal ≡ Some e)
+abbrev pub IsWhyRefused : Option QueryParserError → QueryParserError → Type 0
+IsWhyRefused refusal e = (e ≡ errors.Fault OutOfMemory) ⊎ (refusal ≡ Some e)
 
 -- A query means what a tree does, or it is refused.
 abbrev pub IsQueryOf : QueryFields → Ast → Result Query QueryParserError → Type 0
 IsQueryOf q ast (Ok query) = Means q ast query
-IsQueryOf q ast (Err e) = IsRefusedBy (ast_refusal q ast) e
+IsQueryOf q ast (Err e) = IsWhyRefused (ast_refusal q ast) e
 
 -- why the tree of a text is refused, or why it has none
 abbrev pub read_refusal : QueryFields → Result Ast SyntaxError → Option QueryParserError
 read_refusal q (Ok ast) = ast_refusal q ast
 read_refusal q (Err e) = Some (errors.SyntaxError e.wanted e.at)
 
+-- why a text is refused
 abbrev pub text_refusal : QueryFields → List ℕ → Option QueryParserError
 text_refusal q text = read_refusal q (parsed MAX_LEXEMES text)
 
--- whether a document matches a text
+-- whether a document matches the tree of a text, if it has one
 abbrev pub read_matches : QueryFields → Result Ast SyntaxError → List IndexToken → ℕ → Bool
 read_matches q (Ok ast) ts doc = ast_matches q ast ts doc
 read_matches q (Err e) ts doc = false
 
+-- whether a document matches a text
 abbrev pub text_matches : QueryFields → List ℕ → List IndexToken → ℕ → Bool
 text_matches q text ts doc = read_matches q (parsed MAX_LEXEMES text) ts doc
 
@@ -240,7 +236,7 @@ pub record MeansText (q : QueryFields) (text : List ℕ) (query : Query) : Type 
 -- A query means what a text does, or it is refused.
 abbrev pub IsQueryOfText : QueryFields → List ℕ → Result Query QueryParserError → Type 0
 IsQueryOfText q text (Ok query) = MeansText q text query
-IsQueryOfText q text (Err e) = IsRefusedBy (text_refusal q text) e
+IsQueryOfText q text (Err e) = IsWhyRefused (text_refusal q text) e
 
 -- whether the fields of a phrase are among so many
 abbrev pub phrase_within : ℕ → PhraseState → Bool
@@ -263,12 +259,12 @@ pub record IsPhraseIn (field : ℕ) (keeps : Bool) (p : PhraseState) : Type 0 wh
 -- Terms were added, or they are refused.
 abbrev pub Adds : Terms → List SchemaEntry → List PhraseState → List PhraseState → Result (Unit {0}) QueryParserError → Type 0
 Adds terms entries old new (Ok done) = (ts : List PhraseState) × (terms ≡ Ok ts) × (new ≡ old ++ ts) × (are_in entries ts ≡ true)
-Adds terms entries old new (Err e) = IsRefusedBy (refused terms) e
+Adds terms entries old new (Err e) = IsWhyRefused (refused terms) e
 
 -- Terms of a field were added, or they are refused.
 abbrev pub AddsIn : Terms → ℕ → Bool → List PhraseState → List PhraseState → Result (Unit {0}) QueryParserError → Type 0
 AddsIn terms field keeps old new (Ok done) = (ts : List PhraseState) × (terms ≡ Ok ts) × (new ≡ old ++ ts) × AllByRecursion (IsPhraseIn field keeps) ts
-AddsIn terms field keeps old new (Err e) = IsRefusedBy (refused terms) e
+AddsIn terms field keeps old new (Err e) = IsWhyRefused (refused terms) e
 
 -- A term was added, or there is none.
 abbrev pub AddsMaybe : Option TermState → QueryParserError → List PhraseState → List PhraseState → Result (Unit {0}) QueryParserError → Type 0
@@ -280,7 +276,7 @@ AddsMaybe (Some term) error old new (Err e) = e ≡ errors.Fault OutOfMemory
 -- What a text is looked up by was added, or it is refused.
 abbrev pub AddsText : Bool → Option TermState → Option PhraseState → List PhraseState → List PhraseState → Result (Unit {0}) QueryParserError → Type 0
 AddsText keeps value words old new (Ok done) = (ts : List PhraseState) × (text_terms keeps value words ≡ Ok ts) × (new ≡ old ++ ts)
-AddsText keeps value words old new (Err e) = IsRefusedBy (refused (text_terms keeps value words)) e
+AddsText keeps value words old new (Err e) = IsWhyRefused (refused (text_terms keeps value words)) e
 
 -- A name was cut at its first dot, or has none.
 abbrev pub CutsAtDot : List ℕ → Option (Bor (List ℕ) × Bor (List ℕ)) → Type 0
@@ -288,6 +284,6 @@ CutsAtDot name None = position (λ b. b == 46) name ≡ None
 CutsAtDot name (Some parts) = (i : ℕ) × (position (λ b. b == 46) name ≡ Some i) × (parts.0.now ≡ take i name) × (parts.1.now ≡ drop (i + 1) name)
 
 -- The queries of two trees, or the first refusal.
-abbrev pub AreParts : QueryFields → Ast → Ast → Result (Query × Query) QueryParserError → Type 0
-AreParts q first other (Ok parts) = Means q first parts.0 × Means q other parts.1
-AreParts q first other (Err e) = IsRefusedBy (option_or (ast_refusal q first) (ast_refusal q other)) e
+abbrev pub AreQueriesOfTrees : QueryFields → Ast → Ast → Result (Query × Query) QueryParserError → Type 0
+AreQueriesOfTrees q first other (Ok parts) = Means q first parts.0 × Means q other parts.1
+AreQueriesOfTrees q first other (Err e) = IsWhyRefused (option_or (ast_refusal q first) (ast_refusal q other)) e

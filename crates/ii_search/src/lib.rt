@@ -13,6 +13,7 @@ pub use ii_query::{QueryCursor, TermOrPhrase};
 pub use ii_query_grammar::{
     Delimiter, MAX_LEXEMES, ParseError, UserInputAst, UserInputLiteral, Wanted, parse,
 };
+pub use literal::field_named;
 pub use most_frequent::top_by_count;
 pub use query::{PhraseTerm, Query};
 pub use query_parser::{parse_query, query_of};

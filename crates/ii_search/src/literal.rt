@@ -1,4 +1,4 @@
-ghost use Rattle.std.specs.Prelude.{◌≡◌, ◌==◌, ◌++◌, [], false, None, position, slice_get, IfOk};
+ghost use Rattle.std.specs.Prelude.{◌≡◌, ◌==◌, ◌<◌, ◌++◌, [], false, None, length, position, slice_get, IfOk, IfSome};
 ghost use Rattle.std.specs.Option.{option_map};
 ghost use Rattle.ii_io.specs.Faults.{OnlyMemory};
 ghost use Rattle.ii_base.specs.Options.{has_positions};
@@ -6,7 +6,7 @@ ghost use Rattle.ii_base.specs.Values.{flipped, number_of_bool, text_key, u64_by
 ghost use Rattle.ii_base.specs.declared.schema.value_type.ValueType.TheVariants as types;
 ghost use Rattle.ii_json.specs.FastValues.{bool_in, i64_in, u64_in};
 ghost use Rattle.ii_query_grammar.specs.Trees.{literal_of};
-ghost use Rattle.ii_search.specs.QueryTexts.{Adds, AddsIn, AddsMaybe, AddsText, CutsAtDot, field_named, field_terms, is_json, named_terms, some_default, terms_of, typed_terms, words_phrase};
+ghost use Rattle.ii_search.specs.QueryTexts.{Adds, AddsIn, AddsMaybe, AddsText, CutsAtDot, field_named, has_json_values, named_terms, some_default, terms_in_field, terms_of, typed_terms, words_phrase};
 
 use crate::phrase_words::{PhraseWords, words_phrase};
 use crate::query_parser_error::QueryParserError;
@@ -82,9 +82,10 @@ fn push_named<A: TextAnalyzer>(
     push_in_field(alloc, schema, analyzer, field, path, phrase, terms)
 }
 
-// The field of a name.
-fn field_named(schema: &Schema, name: &str) -> Option<Field>
-    ensures { result ≡ field_named schema.now name.now }
+/// The field of a name, the first that has it.
+pub fn field_named(schema: &Schema, name: &str) -> Option<Field>
+    ensures named { result ≡ field_named schema.now name.now }
+    ensures inside { IfSome result (λ field. field < length schema.now) }
 {
     for id in 0..schema.num_fields() as u32 {
         let field = Field::from_field_id(id);
@@ -97,7 +98,7 @@ fn field_named(schema: &Schema, name: &str) -> Option<Field>
 
 // Whether a field of the schema has JSON values.
 fn has_json(schema: &Schema, field: Field) -> bool
-    ensures { result ≡ is_json (slice_get schema.now field) }
+    ensures { result ≡ has_json_values (slice_get schema.now field) }
 {
     if field.field_id() as usize >= schema.num_fields() {
         return false;
@@ -131,7 +132,7 @@ fn push_in_field<A: TextAnalyzer>(
     phrase: &str,
     terms: &mut Vec<PhraseWords>,
 ) -> Result<(), QueryParserError>
-    ensures { Adds (field_terms (record { analyze = A.words analyzer.now; entries = schema.now }) field path.now phrase.now) schema.now terms.old.items terms.new.items result }
+    ensures { Adds (terms_in_field (record { analyze = A.words analyzer.now; entries = schema.now }) field path.now phrase.now) schema.now terms.old.items terms.new.items result }
 {
     if field.field_id() as usize >= schema.num_fields() {
         return Err(QueryParserError::FieldDoesNotExist);

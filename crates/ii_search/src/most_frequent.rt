@@ -1,5 +1,5 @@
 // The documents of a term with the greatest counts.
-ghost use Rattle.std.specs.Prelude.{◌≡◌, ◌+◌, ◌<◌, ◌≤◌, ℕ, insert, length, take, IfOk, OnOk};
+ghost use Rattle.std.specs.Prelude.{◌≡◌, ◌+◌, ◌<◌, ◌≤◌, ℕ, [], insert, length, take, IfOk, OnOk};
 ghost use Rattle.std.specs.List.{slice_index_or};
 ghost use Rattle.ii_io.specs.Faults.{OnlyMemory};
 ghost use Rattle.ii_search.specs.TopByCount.{placed, top};
@@ -19,6 +19,7 @@ pub fn top_by_count(
     n: usize,
 ) -> Result<Vec<(DocId, u32)>, Fault>
     ensures top { IfOk result (λ best. best.items ≡ top n cursor.old.rest) }
+    ensures ends { OnOk result (cursor.new.rest ≡ []) }
     ensures only { OnlyMemory result }
 {
     let mut best = Vec::new(alloc);

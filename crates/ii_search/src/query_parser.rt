@@ -5,7 +5,7 @@ ghost use Rattle.ii_base.specs.Schema.{SchemaEntry};
 ghost use Rattle.ii_definitions.specs.Tokens.{IndexToken};
 ghost use Rattle.ii_query_grammar.specs.Trees.{ast_of, leaf, literal_of};
 ghost use Rattle.ii_search.specs.Queries.{has_fields, keeps_positions, matches};
-ghost use Rattle.ii_search.specs.QueryTexts.{AreParts, IsQueryOf, IsQueryOfText, has_term, has_words, phrase_kept, phrase_within};
+ghost use Rattle.ii_search.specs.QueryTexts.{AreQueriesOfTrees, IsQueryOf, IsQueryOfText, has_term, has_words, phrase_kept, phrase_within};
 
 use crate::literal::push_literal;
 use crate::phrase_words::PhraseWords;
@@ -64,45 +64,15 @@ pub fn query_of<A: TextAnalyzer>(
             literal_query(alloc, schema, default_fields, analyzer, literal)
         }
         UserInputAst::And(first, other) => {
-            let (first, other) = match queries_of(
-                alloc,
-                schema,
-                default_fields,
-                analyzer,
-                first,
-                other,
-            ) {
-                Ok(parts) => parts,
-                Err(error) => return Err(error),
-            };
+            let (first, other) = queries_of(alloc, schema, default_fields, analyzer, first, other)?;
             Ok(Query::and(alloc, first, other)?)
         }
         UserInputAst::Or(first, other) => {
-            let (first, other) = match queries_of(
-                alloc,
-                schema,
-                default_fields,
-                analyzer,
-                first,
-                other,
-            ) {
-                Ok(parts) => parts,
-                Err(error) => return Err(error),
-            };
+            let (first, other) = queries_of(alloc, schema, default_fields, analyzer, first, other)?;
             Ok(Query::or(alloc, first, other)?)
         }
         UserInputAst::AndNot(first, other) => {
-            let (first, other) = match queries_of(
-                alloc,
-                schema,
-                default_fields,
-                analyzer,
-                first,
-                other,
-            ) {
-                Ok(parts) => parts,
-                Err(error) => return Err(error),
-            };
+            let (first, other) = queries_of(alloc, schema, default_fields, analyzer, first, other)?;
             Ok(Query::and_not(alloc, first, other)?)
         }
     }
@@ -118,7 +88,7 @@ fn queries_of<A: TextAnalyzer>(
     first: &UserInputAst,
     other: &UserInputAst,
 ) -> Result<(Query, Query), QueryParserError>
-    ensures { AreParts (record { texts = record { analyze = A.words analyzer.now; entries = schema.now }; defaults = default_fields.now }) (ast_of first.now) (ast_of other.now) result }
+    ensures { AreQueriesOfTrees (record { texts = record { analyze = A.words analyzer.now; entries = schema.now }; defaults = default_fields.now }) (ast_of first.now) (ast_of other.now) result }
 {
     let first = match query_of(alloc, schema, default_fields, analyzer, first) {
         Ok(first) => first,

@@ -9,7 +9,7 @@ ghost use Rattle.ii_reader.specs.InvertedIndexReader.{IsRefusal};
 ghost use Rattle.ii_reader.specs.OpenIndex.{IndexHolds};
 ghost use Rattle.ii_query.specs.Phrase.{cursors_in, parts_in};
 ghost use Rattle.ii_search.specs.Decodes.{DecodesFew, EachDecodesFew};
-ghost use Rattle.ii_search.specs.Found.{GivesCount, GivesMatches, combined, docs_of_term, found_in, parts_of, phrase_of};
+ghost use Rattle.ii_search.specs.Found.{GivesCount, GivesMatches, combined, docs_of_term, found_in, phrase_of, phrase_parts_of};
 ghost use Rattle.ii_search.specs.Queries.{has_fields, keeps_positions};
 
 use crate::query::{PhraseTerm, Query};
@@ -53,7 +53,7 @@ pub fn search(
 /// How many documents match a query. See `search` for what is asked and for the faults.
 pub fn count(alloc: Global, index: &OpenIndex, query: &Query) -> Result<u32, Fault>
     requires fields { has_fields (length index.now.readers) query.now ≡ true }
-    ensures listed { IfOk result (λ count. (es : List Entry) → found_in index.now query.now ≡ Ok es → count ≡ length es) }
+    ensures listed { IfOk result (λ count. (es : List Entry) × (found_in index.now query.now ≡ Ok es) × (count ≡ length es)) }
     ensures refused { IfErr result (IsRefusal (found_in index.now query.now)) }
     // where the index holds tokens
     ensures holds { (schema : List SchemaEntry) (num_docs : ℕ) (tokens : List IndexToken) → IndexHolds schema num_docs index.now tokens
@@ -154,9 +154,9 @@ fn find_phrase(
 ) -> Result<QueryCursor<TermOrPhrase<SegmentPostings>>, Fault>
     requires first { first.now.field < length index.now.readers }
     requires others { list_all (λ o. nat_lt o.term.field (length index.now.readers)) others.now ≡ true }
-    ensures listed { IfOk result (λ cursor. phrase_of (docs_of_term WithFreqsAndPositions index.now first.now) (parts_of index.now others.now) ≡ Ok cursor.rest) }
+    ensures listed { IfOk result (λ cursor. phrase_of (docs_of_term WithFreqsAndPositions index.now first.now) (phrase_parts_of index.now others.now) ≡ Ok cursor.rest) }
     ensures lazy { IfOk result (λ cursor. AllByRecursion EachDecodesFew cursor.cursors) }
-    ensures refused { IfErr result (IsRefusal (phrase_of (docs_of_term WithFreqsAndPositions index.now first.now) (parts_of index.now others.now))) }
+    ensures refused { IfErr result (IsRefusal (phrase_of (docs_of_term WithFreqsAndPositions index.now first.now) (phrase_parts_of index.now others.now))) }
 {
     let first = match postings_of(index, first, IndexRecordOption::WithFreqsAndPositions) {
         Ok(first) => first,
@@ -175,9 +175,9 @@ fn phrase_parts(
     others: &[PhraseTerm],
 ) -> Result<Vec<PhrasePart<SegmentPostings>>, Fault>
     requires others { list_all (λ o. nat_lt o.term.field (length index.now.readers)) others.now ≡ true }
-    ensures listed { IfOk result (λ parts. parts_of index.now others.now ≡ Ok (parts_in parts.items)) }
+    ensures listed { IfOk result (λ parts. phrase_parts_of index.now others.now ≡ Ok (parts_in parts.items)) }
     ensures lazy { IfOk result (λ parts. AllByRecursion DecodesFew (cursors_in parts.items)) }
-    ensures refused { IfErr result (IsRefusal (parts_of index.now others.now)) }
+    ensures refused { IfErr result (IsRefusal (phrase_parts_of index.now others.now)) }
 {
     let mut parts = Vec::new(alloc);
     for other in others {

@@ -9,7 +9,7 @@ use Rattle.ii_definitions.specs.Tokens.{IndexToken}
 use Rattle.ii_reader.specs.OpenIndex.{IndexHolds, OpenIndexState}
 use Rattle.ii_search.specs.Found.{GivesMatches}
 use Rattle.ii_search.specs.Queries.{has_fields, keeps_positions}
-use Rattle.ii_search.specs.QueryTexts.{IsRefusedBy, MeansText, text_refusal}
+use Rattle.ii_search.specs.QueryTexts.{IsWhyRefused, MeansText, text_refusal}
 use Rattle.ii_search.specs.declared.query.Query.{Query as QueryOf}
 use Rattle.ii_search.specs.declared.query_parser_error.QueryParserError.{QueryParserError}
 use Rattle.ii_search.specs.declared.query_parser_error.QueryParserError.TheVariants as errors
@@ -20,7 +20,7 @@ use Rattle.iiq.specs.Output.{FindsText, found_text}
 use Rattle.iiq.specs.Session.{Indexes, Session, fields, gathering, opened, refused}
 
 -- a text that is refused is no query
-pub no_query_is : {E : Type 0} (r : Result (Option QueryOf) E) (text : List ℕ) (error : QueryParserError) → IsRefusedBy (text_refusal asked text) error → IfOk r (λ query. is_none query ≡ true)
+pub no_query_is : {E : Type 0} (r : Result (Option QueryOf) E) (text : List ℕ) (error : QueryParserError) → IsWhyRefused (text_refusal asked text) error → IfOk r (λ query. is_none query ≡ true)
     → ((fault : Fault) → error ≡ errors.Fault fault → IsErr r) → IfOk r (IsQuery text)
 no_query_is (Ok None) text error (inl memory) none err = let h = err OutOfMemory memory in absurd (cc)
 no_query_is (Ok None) text error (inr why) none err = rw why refl

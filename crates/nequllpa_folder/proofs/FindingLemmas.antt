@@ -12,7 +12,7 @@ use Rattle.ii_base.specs.declared.doc_id.TheConstants.{TERMINATED}
 use Rattle.ii_base.specs.Entries.{Entry, docs_of, document}
 use Rattle.ii_docset.specs.Cursor.{IsAscending, IsSound, doc_at, from_doc, positions_at}
 use Rattle.ii_docset.proofs.CursorLemmas.{doc_below, from_doc_here, nothing_left}
-use Rattle.nequllpa_folder.specs.Positions.{positions_of}
+use Rattle.nequllpa_folder.specs.Positions.{positions_in_doc}
 
 -- the documents taken so far, in front of those that are still taken of what is left, are all
 abbrev pub IsTaking : List Entry → ℕ → ℕ → List ℕ → List Entry → Type 0
@@ -65,8 +65,8 @@ eqb_of a b e = grind (arith)
 neqb_of : (a b : ℕ) → (a ≡ b → ⊥) → (a == b) ≡ false
 neqb_of a b e = grind (arith)
 
-found_by : (doc : ℕ) (e : Entry) (es : List Entry) (t : Bool) → nat_le doc e.doc ≡ t → (doc_at (from_doc doc es) ≡ doc → Some (positions_at (from_doc doc es)) ≡ positions_of es doc)
-    → doc_at (from_doc doc (e ∷ es)) ≡ doc → Some (positions_at (from_doc doc (e ∷ es))) ≡ positions_of (e ∷ es) doc
+found_by : (doc : ℕ) (e : Entry) (es : List Entry) (t : Bool) → nat_le doc e.doc ≡ t → (doc_at (from_doc doc es) ≡ doc → Some (positions_at (from_doc doc es)) ≡ positions_in_doc es doc)
+    → doc_at (from_doc doc (e ∷ es)) ≡ doc → Some (positions_at (from_doc doc (e ∷ es))) ≡ positions_in_doc (e ∷ es) doc
 found_by doc e es true at_least later here =
     let f : e.doc ≡ doc = rw at_least at here in
     let g : (e.doc == doc) ≡ true = eqb_of e.doc doc f in
@@ -78,17 +78,17 @@ found_by doc e es false below later here =
     rw (below, g) (later f)
 
 -- the document that is sought stands at the front of the rest
-found_front : (doc : ℕ) (es : List Entry) → doc < TERMINATED → doc_at (from_doc doc es) ≡ doc → Some (positions_at (from_doc doc es)) ≡ positions_of es doc
+found_front : (doc : ℕ) (es : List Entry) → doc < TERMINATED → doc_at (from_doc doc es) ≡ doc → Some (positions_at (from_doc doc es)) ≡ positions_in_doc es doc
 found_front doc [] low here = absurd (omega arith)
 found_front doc (e ∷ es) low here = found_by doc e es (nat_le doc e.doc) refl (found_front doc es low) here
 
-pub place_found : (doc : ℕ) (es now : List Entry) (ps : List ℕ) → doc < TERMINATED → doc_at now ≡ doc → now ≡ from_doc doc es → ps ≡ positions_at now → Some ps ≡ positions_of es doc
+pub place_found : (doc : ℕ) (es now : List Entry) (ps : List ℕ) → doc < TERMINATED → doc_at now ≡ doc → now ≡ from_doc doc es → ps ≡ positions_at now → Some ps ≡ positions_in_doc es doc
 place_found doc es now ps low here now_is ps_is =
     let f : doc_at (from_doc doc es) ≡ doc = ap doc_at (sym now_is) ∙ here in
     ap (λ (xs : List ℕ). Some xs) (ps_is ∙ ap positions_at now_is) ∙ found_front doc es low f
 
-missed_by : (doc : ℕ) (e : Entry) (es : List Entry) (t : Bool) → nat_le doc e.doc ≡ t → IsAscending (e ∷ es) → (doc_at (from_doc doc es) ≢ doc → None ≡ positions_of es doc)
-    → doc_at (from_doc doc (e ∷ es)) ≢ doc → None ≡ positions_of (e ∷ es) doc
+missed_by : (doc : ℕ) (e : Entry) (es : List Entry) (t : Bool) → nat_le doc e.doc ≡ t → IsAscending (e ∷ es) → (doc_at (from_doc doc es) ≢ doc → None ≡ positions_in_doc es doc)
+    → doc_at (from_doc doc (e ∷ es)) ≢ doc → None ≡ positions_in_doc (e ∷ es) doc
 missed_by doc e es true at_least h later other =
     let f : (e.doc ≡ doc → ⊥) = rw at_least at other in
     let g : (e.doc == doc) ≡ false = neqb_of e.doc doc f in
@@ -107,18 +107,18 @@ missed_by doc e es false below h later other =
     rw g (later f)
 
 -- another document stands there, so the list hasn't it
-missed_front : (doc : ℕ) (es : List Entry) → IsAscending es → doc_at (from_doc doc es) ≢ doc → None ≡ positions_of es doc
+missed_front : (doc : ℕ) (es : List Entry) → IsAscending es → doc_at (from_doc doc es) ≢ doc → None ≡ positions_in_doc es doc
 missed_front doc [] h other = refl
 missed_front doc (e ∷ es) h other = missed_by doc e es (nat_le doc e.doc) refl h (missed_front doc es h.1) other
 
-pub place_missed : (doc : ℕ) (es now : List Entry) → IsSound es → now ≡ from_doc doc es → doc_at now ≢ doc → None ≡ positions_of es doc
+pub place_missed : (doc : ℕ) (es now : List Entry) → IsSound es → now ≡ from_doc doc es → doc_at now ≢ doc → None ≡ positions_in_doc es doc
 place_missed doc es now sound now_is other = missed_front doc es sound.ascending (λ here. other (ap doc_at now_is ∙ here))
 
-same_by : (least doc : ℕ) (e : Entry) (es : List Entry) (t : Bool) → nat_le least e.doc ≡ t → least ≤ doc → positions_of (from_doc least es) doc ≡ positions_of es doc
-    → positions_of (from_doc least (e ∷ es)) doc ≡ positions_of (e ∷ es) doc
+same_by : (least doc : ℕ) (e : Entry) (es : List Entry) (t : Bool) → nat_le least e.doc ≡ t → least ≤ doc → positions_in_doc (from_doc least es) doc ≡ positions_in_doc es doc
+    → positions_in_doc (from_doc least (e ∷ es)) doc ≡ positions_in_doc (e ∷ es) doc
 same_by least doc e es true at_least le later = rw at_least (same_front (e.doc == doc) e (from_doc least es) es doc later)
   where
-    same_front : (t : Bool) (e : Entry) (xs ys : List Entry) (doc : ℕ) → positions_of xs doc ≡ positions_of ys doc
+    same_front : (t : Bool) (e : Entry) (xs ys : List Entry) (doc : ℕ) → positions_in_doc xs doc ≡ positions_in_doc ys doc
         → option_map (λ (e : Entry). e.positions) (cond t (Some e) (find (λ (e : Entry). e.doc == doc) xs)) ≡ option_map (λ (e : Entry). e.positions) (cond t (Some e) (find (λ (e : Entry). e.doc == doc) ys))
     same_front true e xs ys doc later = refl
     same_front false e xs ys doc later = later
@@ -128,17 +128,17 @@ same_by least doc e es false below le later =
     rw (below, g) later
 
 -- what lies below a target isn't missed at documents from the target on
-pub from_same : (least doc : ℕ) (es : List Entry) → least ≤ doc → positions_of (from_doc least es) doc ≡ positions_of es doc
+pub from_same : (least doc : ℕ) (es : List Entry) → least ≤ doc → positions_in_doc (from_doc least es) doc ≡ positions_in_doc es doc
 from_same least doc [] le = refl
 from_same least doc (e ∷ es) le = same_by least doc e es (nat_le least e.doc) refl le (from_same least doc es le)
 
 -- nor at those of a list that ascends from there
-pub later_same : (least : ℕ) (es : List Entry) (docs : List ℕ) → IsAscending (map document docs) → least ≤ doc_at (map document docs) → map (positions_of (from_doc least es)) docs ≡ map (positions_of es) docs
+pub later_same : (least : ℕ) (es : List Entry) (docs : List ℕ) → IsAscending (map document docs) → least ≤ doc_at (map document docs) → map (positions_in_doc (from_doc least es)) docs ≡ map (positions_in_doc es) docs
 later_same least es [] h le = refl
 later_same least es (d ∷ ds) h le =
     let first = h.0 in
-    let tail : map (positions_of (from_doc least es)) ds ≡ map (positions_of es) ds = later_same least es ds h.1 (omega arith) in
-    let head : positions_of (from_doc least es) d ≡ positions_of es d = from_same least d es le in
+    let tail : map (positions_in_doc (from_doc least es)) ds ≡ map (positions_in_doc es) ds = later_same least es ds h.1 (omega arith) in
+    let head : positions_in_doc (from_doc least es) d ≡ positions_in_doc es d = from_same least d es le in
     rw (head, tail) refl
 
 -- what is found, without where it lies in memory
@@ -150,7 +150,7 @@ place_view place = option_map (λ v. v.items) place
 
 -- What was found of the documents before a place, in front of what is left to be found, is all; and the documents from there on ascend.
 pub record IsPlacing (all : List Entry) (docs : List ℕ) (i : ℕ) (rest : List Entry) (places : List Place) : Type 0 where
-  pub placed : map place_view places ++ map (positions_of rest) (drop i docs) ≡ map (positions_of all) docs
+  pub placed : map place_view places ++ map (positions_in_doc rest) (drop i docs) ≡ map (positions_in_doc all) docs
   pub ascending : IsAscending (map document (drop i docs))
 
 pub placing_first : (all : List Entry) (docs : List ℕ) → IsAscending (map document docs) → IsPlacing all docs 0 all []
@@ -167,22 +167,22 @@ placing_low all rest docs i doc d places inside is placing =
     let up = doc_below (map document (drop (i + 1) docs)) h.1 in
     omega arith
 
-pub placing_next : (all rest now : List Entry) (docs : List ℕ) (i doc d : ℕ) (places more : List Place) (place : Place) → i < length docs → doc ≡ get_or docs i d → now ≡ from_doc doc rest → place_view place ≡ positions_of rest doc
+pub placing_next : (all rest now : List Entry) (docs : List ℕ) (i doc d : ℕ) (places more : List Place) (place : Place) → i < length docs → doc ≡ get_or docs i d → now ≡ from_doc doc rest → place_view place ≡ positions_in_doc rest doc
     → more ≡ places ++ place ∷ [] → IsPlacing all docs i rest places → IsPlacing all docs (i + 1) now more
 placing_next all rest now docs i doc d places more place inside is now_is place_is more_is placing =
     let others = drop (i + 1) docs in
     let h : IsAscending (map document (doc ∷ others)) = rw (at_place docs i doc d inside is) at placing.ascending in
     let first = h.0 in
-    let same : map (positions_of (from_doc doc rest)) others ≡ map (positions_of rest) others = later_same doc rest others h.1 (omega arith) in
-    let e : map place_view places ++ positions_of rest doc ∷ map (positions_of rest) others ≡ map (positions_of all) docs = rw (at_place docs i doc d inside is) at placing.placed in
+    let same : map (positions_in_doc (from_doc doc rest)) others ≡ map (positions_in_doc rest) others = later_same doc rest others h.1 (omega arith) in
+    let e : map place_view places ++ positions_in_doc rest doc ∷ map (positions_in_doc rest) others ≡ map (positions_in_doc all) docs = rw (at_place docs i doc d inside is) at placing.placed in
     record {
-      placed = rw (more_is, now_is, same, map-append place_view places (place ∷ []), place_is) (append_assoc (map place_view places) (positions_of rest doc ∷ []) (map (positions_of rest) others) ∙ e);
+      placed = rw (more_is, now_is, same, map-append place_view places (place ∷ []), place_is) (append_assoc (map place_view places) (positions_in_doc rest doc ∷ []) (map (positions_in_doc rest) others) ∙ e);
       ascending = h.1;
     }
 
-pub placing_all : (all rest : List Entry) (docs : List ℕ) (i : ℕ) (places : List Place) → length docs ≤ i → IsPlacing all docs i rest places → map place_view places ≡ map (positions_of all) docs
+pub placing_all : (all rest : List Entry) (docs : List ℕ) (i : ℕ) (places : List Place) → length docs ≤ i → IsPlacing all docs i rest places → map place_view places ≡ map (positions_in_doc all) docs
 placing_all all rest docs i places end placing =
-    let e : map place_view places ++ [] ≡ map (positions_of all) docs = ap (λ (ds : List ℕ). map place_view places ++ map (positions_of rest) ds) (sym (drop-end i docs end)) ∙ placing.placed in
+    let e : map place_view places ++ [] ≡ map (positions_in_doc all) docs = ap (λ (ds : List ℕ). map place_view places ++ map (positions_in_doc rest) ds) (sym (drop-end i docs end)) ∙ placing.placed in
     sym (append-nil (map place_view places)) ∙ e
   where
     drop-end : (i : ℕ) (docs : List ℕ) → length docs ≤ i → drop i docs ≡ []

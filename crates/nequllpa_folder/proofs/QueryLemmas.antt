@@ -23,7 +23,7 @@ use Rattle.ii_search.specs.Queries.{has_fields}
 use Rattle.nequllpa_folder.specs.declared.finding.TermPlaces.{TermPlaces}
 use Rattle.nequllpa_folder.specs.Finding.{FoundState, first_docs, found_places, places_view, term_places, wanted_terms}
 use Rattle.nequllpa_folder.proofs.FindingLemmas.{docs_ascend}
-use Rattle.nequllpa_folder.specs.Positions.{positions_of}
+use Rattle.nequllpa_folder.specs.Positions.{positions_in_doc}
 
 -- what is refused, is refused with all that comes after it
 pub refused_then : {A B : Type 0} (found : Result A Part) (after : A → Result B Part) (fault : Fault) → IsRefusal found fault → IsRefusal (found >>= after) fault
@@ -45,11 +45,11 @@ pub docs_refused : (index : OpenIndexState) (query : Query) (limit : ℕ) (fault
 docs_refused index query limit fault refused = refused_then (found_in index query) (λ (es : List Entry). Ok (docs_of (take limit es))) fault refused
 
 -- where a term stands, by its list
-pub term_found : (index : OpenIndexState) (docs : List ℕ) (term : TermState) (es : List Entry) (places : List (Option (List ℕ))) → docs_of_term WithFreqsAndPositions index term ≡ Ok es → places ≡ map (positions_of es) docs → term_places index docs term ≡ Ok places
+pub term_found : (index : OpenIndexState) (docs : List ℕ) (term : TermState) (es : List Entry) (places : List (Option (List ℕ))) → docs_of_term WithFreqsAndPositions index term ≡ Ok es → places ≡ map (positions_in_doc es) docs → term_places index docs term ≡ Ok places
 term_found index docs term es places found places_is = rw (found, places_is) refl
 
 pub term_refused : (index : OpenIndexState) (docs : List ℕ) (term : TermState) (fault : Fault) → IsRefusal (docs_of_term WithFreqsAndPositions index term) fault → IsRefusal (term_places index docs term) fault
-term_refused index docs term fault refused = refused_then (docs_of_term WithFreqsAndPositions index term) (λ (es : List Entry). Ok (map (positions_of es) docs)) fault refused
+term_refused index docs term fault refused = refused_then (docs_of_term WithFreqsAndPositions index term) (λ (es : List Entry). Ok (map (positions_in_doc es) docs)) fault refused
 
 -- the fields of the wanted terms are those of an index
 fields_of : (n : ℕ) (others : List PhraseTerm) → list_all (λ (o : PhraseTerm). nat_lt o.term.field n) others ≡ list_all (λ (t : TermState). nat_lt t.field n) (map (λ (o : PhraseTerm). o.term) others)

@@ -10,7 +10,7 @@ use Rattle.ii_reader.specs.OpenIndex.{OpenIndexState, all_or_first}
 use Rattle.ii_search.specs.declared.query.PhraseTerm.{PhraseTerm}
 use Rattle.ii_search.specs.declared.query.Query.{Query, Empty, All, Term, Phrase, And', Or', AndNot'}
 use Rattle.ii_search.specs.Found.{docs_of_term, found_in}
-use Rattle.nequllpa_folder.specs.Positions.{positions_of}
+use Rattle.nequllpa_folder.specs.Positions.{positions_in_doc}
 use Rattle.nequllpa_folder.specs.declared.finding.FoundPlaces.{FoundPlaces}
 use Rattle.nequllpa_folder.specs.declared.finding.TermPlaces.{TermPlaces}
 
@@ -28,7 +28,7 @@ wanted_terms (AndNot' p first q other) = wanted_terms first
 abbrev pub term_places : OpenIndexState → List ℕ → TermState → Result (List (Option (List ℕ))) Part
 term_places index docs term = do
   es ← docs_of_term WithFreqsAndPositions index term
-  Ok (map (positions_of es) docs)
+  Ok (map (positions_in_doc es) docs)
 
 -- the first documents that a query gives, so many at most, or the first part that fails
 abbrev pub first_docs : OpenIndexState → Query → ℕ → Result (List ℕ) Part

@@ -5,5 +5,5 @@ use Rattle.std.specs.Option.{option_map}
 use Rattle.ii_base.specs.Entries.{Entry}
 
 -- the positions that a list has of a document; nothing where it hasn't the document
-abbrev pub positions_of : List Entry → ℕ → Option (List ℕ)
-positions_of es doc = option_map (λ (e : Entry). e.positions) (find (λ (e : Entry). e.doc == doc) es)
+abbrev pub positions_in_doc : List Entry → ℕ → Option (List ℕ)
+positions_in_doc es doc = option_map (λ (e : Entry). e.positions) (find (λ (e : Entry). e.doc == doc) es)

@@ -11,7 +11,7 @@ ghost use Rattle.ii_reader.specs.OpenIndex.{all_or_first};
 ghost use Rattle.ii_search.specs.Found.{docs_of_term};
 ghost use Rattle.ii_search.specs.Queries.{has_fields};
 ghost use Rattle.nequllpa_folder.specs.Finding.{first_docs, found_places, found_view, places_view, term_places, wanted_terms};
-ghost use Rattle.nequllpa_folder.specs.Positions.{positions_of};
+ghost use Rattle.nequllpa_folder.specs.Positions.{positions_in_doc};
 
 use ii_base::{Fault, IndexRecordOption, Term};
 use ii_docset::{DocId, DocSet, Postings, SeekDangerResult, TERMINATED};
@@ -243,7 +243,7 @@ fn places_in<C: Postings>(
     docs: &[DocId],
 ) -> Result<Vec<Option<Vec<u32>>>, Fault>
     requires { IsAscending (map document docs.now) }
-    ensures found { IfOk result (λ places. map (option_map (λ v. v.items)) places.items ≡ map (positions_of (C.rest cursor.old)) docs.now) }
+    ensures found { IfOk result (λ places. map (option_map (λ v. v.items)) places.items ≡ map (positions_in_doc (C.rest cursor.old)) docs.now) }
     ensures only { OnlyMemory result }
 {
     let mut places = Vec::new(alloc);
@@ -262,7 +262,7 @@ fn positions_at<C: Postings>(
     doc: DocId,
 ) -> Result<Option<Vec<u32>>, Fault>
     requires { doc < TERMINATED }
-    ensures found { IfOk result (λ positions. option_map (λ v. v.items) positions ≡ positions_of (C.rest cursor.old) doc) }
+    ensures found { IfOk result (λ positions. option_map (λ v. v.items) positions ≡ positions_in_doc (C.rest cursor.old) doc) }
     ensures rest { C.rest cursor.new ≡ from_doc doc (C.rest cursor.old) }
     ensures only { OnlyMemory result }
 {

@@ -1,5 +1,5 @@
 //! An index that is open.
-ghost use Rattle.std.specs.Prelude.{◌≡◌, ◌<◌, ℕ, IfOk, IfSome, List, Ok, length};
+ghost use Rattle.std.specs.Prelude.{◌≡◌, ◌<◌, ℕ, IfOk, IfSome, List, Ok, Some, length, slice_get};
 ghost use Rattle.ii_base.specs.Schema.{SchemaEntry};
 ghost use Rattle.ii_definitions.specs.Fields.{option_of};
 ghost use Rattle.ii_definitions.specs.Files.{HoldTokens};
@@ -7,6 +7,7 @@ ghost use Rattle.ii_definitions.specs.Norms.{HoldNorms};
 ghost use Rattle.ii_definitions.specs.Tokens.{IndexToken};
 ghost use Rattle.ii_reader.specs.OpenIndex.{IndexHolds};
 ghost use Rattle.ii_schema_text.specs.SchemaText.{text_schema};
+ghost use Rattle.ii_search.specs.QueryTexts.{field_named};
 ghost use Rattle.ii_store.specs.Index.{view};
 ghost use Rattle.nequllpa_folder.specs.Stored.{HoldsTokens};
 
@@ -15,6 +16,7 @@ use bytes::Bytes;
 use ii_base::{Fault, Field, FieldEntry, Schema};
 use ii_reader::{InvertedIndexReader, OpenIndex, open_index};
 use ii_schema_text::read_schema;
+use ii_search::field_named;
 use ii_store::StoredIndex;
 use std::alloc::Global;
 
@@ -64,7 +66,9 @@ impl Opened {
     }
 
     /// How many documents there are.
-    pub fn num_docs(&self) -> u32 {
+    pub fn num_docs(&self) -> u32
+        ensures { result ≡ self.now.num_docs }
+    {
         self.num_docs
     }
 
@@ -77,7 +81,8 @@ impl Opened {
 
     /// The readers.
     pub fn index(&self) -> &OpenIndex
-        ensures { length result.now.readers ≡ length self.now.schema }
+        ensures same { result.now ≡ self.now.index }
+        ensures many { length result.now.readers ≡ length self.now.schema }
     {
         &self.index
     }
@@ -85,6 +90,7 @@ impl Opened {
     /// The entry of a field.
     pub fn entry(&self, field: Field) -> &FieldEntry
         requires { field < length self.now.schema }
+        ensures { slice_get self.now.schema field ≡ Some result.now }
     {
         self.schema.get_field_entry(field)
     }
@@ -92,27 +98,24 @@ impl Opened {
     /// The reader of a field.
     pub fn reader(&self, field: Field) -> &InvertedIndexReader
         requires { field < length self.now.schema }
+        ensures { slice_get self.now.index.readers field ≡ Some result.now }
     {
         self.index.reader(field)
     }
 
     /// The field of a name, if there is one.
     pub fn field_named(&self, name: &str) -> Option<Field>
-        ensures { IfSome result (λ field. field < length self.now.schema) }
+        ensures named { result ≡ field_named self.now.schema name.now }
+        ensures inside { IfSome result (λ field. field < length self.now.schema) }
     {
-        for id in 0..self.schema.num_fields() {
-            let field = Field::from_field_id(id as u32);
-            if self.schema.get_field_entry(field).name() == name {
-                return Some(field);
-            }
-        }
-        None
+        field_named(&self.schema, name)
     }
 }
 
 /// The schema that the bytes of an index say, or why they say none.
 pub fn schema_of(alloc: Global, bytes: &[u8]) -> Result<Schema, OpenFault>
-    ensures { (entries : List SchemaEntry) → text_schema bytes.now ≡ Ok entries → IfOk result (λ schema. schema ≡ entries) }
+    ensures says { IfOk result (λ schema. text_schema bytes.now ≡ Ok schema) }
+    ensures taken { (entries : List SchemaEntry) → text_schema bytes.now ≡ Ok entries → IfOk result (λ schema. schema ≡ entries) }
 {
     let Ok(text) = std::str::from_utf8(bytes) else {
         return Err(OpenFault::SchemaBytes);

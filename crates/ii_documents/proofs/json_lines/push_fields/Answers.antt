@@ -4,7 +4,7 @@ use Rattle.std.specs.Option.{option_map}
 use Rattle.std.proofs.lemmas.Result.{err_from_is_err_and}
 use Rattle.serde_json.specs.Find.{get_member}
 use Rattle.serde_json.specs.View.{members_view, view}
-use Rattle.ii_documents.specs.JsonLines.{AddsAs, Tells, field_calls, fields_calls, told}
+use Rattle.ii_documents.specs.JsonLines.{AddsAs, TellsOfLine, field_calls, fields_calls, told_of_line}
 use Rattle.ii_documents.proofs.AddingLemmas.{IsAdding, drop_at, goes_on, stops}
 use Rattle.ii_documents.proofs.LineLemmas.{fields_first, map_get}
 use Rattle.ii_documents.proofs.json_lines.push_fields.Goals as goal
@@ -21,8 +21,8 @@ returns-in_err-push_field c =
     let step = fields_first doc ms l.id (drop l.id schema) e (drop (l.id + 1) schema) (drop_at schema l.id e found) in
     let t = subst (λ r. IsAdding schema doc c.args.calls.now.items l.calls.items (fields_calls doc ms 0 schema) r) step l.invariant in
     let p = err_from_is_err_and c.from_residual.result c.from_residual.ensures.1 in
-    let tells : Tells (told c.in_err-push_field.field-0.0) (field_calls doc l.id e (get_member e.name ms)) =
-    subst (λ v. Tells (told c.in_err-push_field.field-0.0) (field_calls doc l.id e v)) value (search rules) in
+    let tells : TellsOfLine (told_of_line c.in_err-push_field.field-0.0) (field_calls doc l.id e (get_member e.name ms)) =
+    subst (λ v. TellsOfLine (told_of_line c.in_err-push_field.field-0.0) (field_calls doc l.id e v)) value (search rules) in
     rw (p.1, p.2) (stops schema doc c.args.calls.now.items l.calls.items c.push_field.new.calls.items (fields_calls doc ms 0 schema) (field_calls doc l.id e (get_member e.name ms)) (fields_calls doc ms (l.id + 1) (drop (l.id + 1) schema)) t c.in_err-push_field.field-0.0 tells)
 
 pub loop-id-preserved : goal.loop-id-preserved

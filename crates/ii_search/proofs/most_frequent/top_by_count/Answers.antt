@@ -1,5 +1,5 @@
 use Rattle.std.proofs.Common.{◌≡◌, sym, ap, ◌∙◌, refl, arith}
-use Rattle.ii_search.proofs.TopLemmas.{AreBest, shorter, tops_all, tops_on}
+use Rattle.ii_search.proofs.TopLemmas.{AreBest, at_end, shorter, tops_all, tops_on}
 use Rattle.ii_search.proofs.most_frequent.top_by_count.Goals as goal
 
 pub loop-doc-smaller : goal.loop-doc-smaller
@@ -21,3 +21,8 @@ pub returns-clause-top : goal.returns-clause-top
 returns-clause-top c =
     let over = c.loop-doc-test.false in
     tops_all c.args.n c.loop-doc.doc c.args.cursor.now.rest c.loop-doc.cursor.rest c.loop-doc.best.items c.loop-doc.invariant (omega arith)
+
+pub returns-clause-ends : goal.returns-clause-ends
+returns-clause-ends c =
+    let over = c.loop-doc-test.false in
+    at_end c.args.n c.loop-doc.doc c.args.cursor.now.rest c.loop-doc.cursor.rest c.loop-doc.best.items c.loop-doc.invariant (omega arith)
