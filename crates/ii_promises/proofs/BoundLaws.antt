@@ -16,7 +16,7 @@ use Rattle.ii_layout.specs.Written.{AreFreqs, written_postings}
 use Rattle.ii_layout.specs.WrittenBounds.{BoundsWhatIsWritten}
 use Rattle.ii_layout.proofs.BlockDocs.{get_or-block_of, length-block_of}
 use Rattle.ii_layout.specs.Frequencies.{bounds_counts}
-use Rattle.ii_reader.specs.Bounds.{bound_bytes, freq_bound, is_wanted, sought_with_freq}
+use Rattle.ii_reader.specs.Bounds.{stored_bounds, freq_bound, is_wanted, sought_with_freq}
 
 -- the first that is wanted is the first of all that are
 pub first_sought : (target least : ℕ) (es : List Entry) → doc_at (sought_with_freq target least es) ≡ doc_at (filter (λ (e : Entry). nat_le target e.doc && nat_le least e.term_freq) es)
@@ -29,14 +29,14 @@ first_sought target least (e ∷ es) = by (is_wanted target least e) refl (first
     by false here later = rw here later
 
 -- a known bound bounds
-pub known_bounds : (all : List (ℕ × ℕ)) (block : ℕ) (freqs : List ℕ) (told : Option (ℕ × ℕ)) (b : ℕ × ℕ) → told ≡ option_map bound_bytes (slice_get all block) → told ≡ Some b → 0 < b.1 → b.1 < 255 → bounds_counts (freq_bound all block) freqs ≡ true
+pub known_bounds : (all : List (ℕ × ℕ)) (block : ℕ) (freqs : List ℕ) (told : Option (ℕ × ℕ)) (b : ℕ × ℕ) → told ≡ option_map stored_bounds (slice_get all block) → told ≡ Some b → 0 < b.1 → b.1 < 255 → bounds_counts (freq_bound all block) freqs ≡ true
     → list_all (λ (c : ℕ). nat_le c b.1) freqs ≡ true
 known_bounds all block freqs told b e f some known bounds = by (slice_get all block) refl (sym e ∙ f)
   where
-    by : (o : Option (ℕ × ℕ)) → slice_get all block ≡ o → option_map bound_bytes o ≡ Some b → list_all (λ (c : ℕ). nat_le c b.1) freqs ≡ true
+    by : (o : Option (ℕ × ℕ)) → slice_get all block ≡ o → option_map stored_bounds o ≡ Some b → list_all (λ (c : ℕ). nat_le c b.1) freqs ≡ true
     by None found g = absurd (cc)
     by (Some x) found g =
-        let both : bound_bytes x ≡ b = some-same g in
+        let both : stored_bounds x ≡ b = some-same g in
         let code : min x.1 255 ≡ b.1 = ap (λ (p : ℕ × ℕ). p.1) both in
         let same : x.1 ≡ b.1 = omega arith in
         let here : freq_bound all block ≡ b.1 = ap (λ (p : ℕ × ℕ). p.1) (get_or_from_slice_get all block x (0, 0) found) ∙ same in

@@ -29,7 +29,7 @@ use Rattle.ii_layout.specs.TermList.{list_of, positions_if}
 use Rattle.ii_layout.proofs.BlockDocs.{get_or-block_of}
 use Rattle.ii_check.specs.declared.freq_reading_option.FreqReadingOption.{FreqReadingOption}
 use Rattle.ii_check.specs.CheckedPostings.{CheckedPostingsState, HasDocuments, IsAtBlock, SeeksFreq, excludes, is_passed, is_read}
-use Rattle.ii_reader.specs.Bounds.{AreUnwanted, IsFirstWanted, IsPlaced, PassesBlocks, blocks_with_freq, bound_bytes, bounds_of, bounds_read, bounds_trusted, entry_bounds, freq_bound, is_wanted_at, sought_with_freq, trusted}
+use Rattle.ii_reader.specs.Bounds.{AreUnwanted, IsFirstWanted, IsPlaced, PassesBlocks, blocks_with_freq, stored_bounds, bounds_of, bounds_read, bounds_trusted, entry_bounds, freq_bound, is_wanted_at, sought_with_freq, trusted}
 use Rattle.ii_reader.specs.BlockSegmentPostings.{AreEntries, BlockSegmentPostingsState, GoesTo, IsLazy, LooksFor, doc_in_block, freq_in_block}
 use Rattle.ii_reader.specs.SegmentPostings.{WentLazily}
 use Rattle.ii_reader.proofs.CursorLemmas.{doc_at_drop, freq_at, list_docs, length-list}
@@ -472,7 +472,7 @@ tf_in (BitPacked w s f sum norm tf) = tf
 tf_in (VInt n) = 0
 
 told_cases : (p : CheckedPostingsState) (skip : SkipReaderState) (w f sum norm tf : ℕ) (strict t : Bool) → HasDocuments p → IsAtBlock p skip → has_freq p.postings.skip.skip_info ≡ true → skip.block_info ≡ BitPacked w strict f sum norm tf → nat_lt skip.block (p.doc_freq / 128) ≡ t
-    → Some (norm, code_of_max_tf tf) ≡ option_map bound_bytes (slice_get (bounds_of p.postings.skip) skip.block)
+    → Some (norm, code_of_max_tf tf) ≡ option_map stored_bounds (slice_get (bounds_of p.postings.skip) skip.block)
 told_cases p skip w f sum norm tf strict true has at info e test =
     let entries = has.entries in
     let full = ltb-true skip.block (p.doc_freq / 128) test in
@@ -481,17 +481,17 @@ told_cases p skip w f sum norm tf strict true has at info e test =
     let norm_is = ap norm_in told in
     let tf_is = ap tf_in told in
     let whole : slice_get (bounds_of p.postings.skip) skip.block ≡ Some (entry_bounds (skip_entry p.postings.skip.entries skip.block)) = rw info found in
-    (λ j. Some (norm_is j, code_of_max_tf (tf_is j))) ∙ sym (ap (option_map bound_bytes) whole)
+    (λ j. Some (norm_is j, code_of_max_tf (tf_is j))) ∙ sym (ap (option_map stored_bounds) whole)
 told_cases p skip w f sum norm tf strict false has at info e test =
     let told = sym e ∙ (rw test at (ap (λ (r : SkipReaderState). r.block_info) at.reader)) in
     absurd (cc)
 
 pub bounds_told : (p : CheckedPostingsState) (skip : SkipReaderState) (w f sum norm tf : ℕ) (strict : Bool) → HasDocuments p → IsAtBlock p skip → has_freq p.postings.skip.skip_info ≡ true → skip.block_info ≡ BitPacked w strict f sum norm tf
-    → Some (norm, code_of_max_tf tf) ≡ option_map bound_bytes (slice_get (bounds_of p.postings.skip) skip.block)
+    → Some (norm, code_of_max_tf tf) ≡ option_map stored_bounds (slice_get (bounds_of p.postings.skip) skip.block)
 bounds_told p skip w f sum norm tf strict has at info e = told_cases p skip w f sum norm tf strict (nat_lt skip.block (p.doc_freq / 128)) has at info e refl
 
 untold_cases : (p : CheckedPostingsState) (skip : SkipReaderState) (n : ℕ) (t : Bool) → HasDocuments p → IsAtBlock p skip → has_freq p.postings.skip.skip_info ≡ true → skip.block_info ≡ VInt n → nat_lt skip.block (p.doc_freq / 128) ≡ t
-    → None ≡ option_map bound_bytes (slice_get (bounds_of p.postings.skip) skip.block)
+    → None ≡ option_map stored_bounds (slice_get (bounds_of p.postings.skip) skip.block)
 untold_cases p skip n true has at info e test =
     let told = sym e ∙ (rw test at (ap (λ (r : SkipReaderState). r.block_info) at.reader)) in
     absurd (cc)
@@ -499,9 +499,9 @@ untold_cases p skip n false has at info e test =
     let entries = has.entries in
     let past = ltb-false skip.block (p.doc_freq / 128) test in
     let many = bounds_many p.postings.skip info in
-    sym (ap (option_map bound_bytes) (slice_get_past (bounds_of p.postings.skip) skip.block (omega arith)))
+    sym (ap (option_map stored_bounds) (slice_get_past (bounds_of p.postings.skip) skip.block (omega arith)))
 
-pub bounds_untold : (p : CheckedPostingsState) (skip : SkipReaderState) (n : ℕ) → HasDocuments p → IsAtBlock p skip → has_freq p.postings.skip.skip_info ≡ true → skip.block_info ≡ VInt n → None ≡ option_map bound_bytes (slice_get (bounds_of p.postings.skip) skip.block)
+pub bounds_untold : (p : CheckedPostingsState) (skip : SkipReaderState) (n : ℕ) → HasDocuments p → IsAtBlock p skip → has_freq p.postings.skip.skip_info ≡ true → skip.block_info ≡ VInt n → None ≡ option_map stored_bounds (slice_get (bounds_of p.postings.skip) skip.block)
 bounds_untold p skip n has at info e = untold_cases p skip n (nat_lt skip.block (p.doc_freq / 128)) has at info e refl
 
 -- counts don't pass the bound of their block

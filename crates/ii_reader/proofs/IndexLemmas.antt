@@ -30,6 +30,10 @@ abbrev pub in_front : {A : Type 0} → List A → Result (List A) Part → Resul
 in_front done (Ok others) = Ok (done ++ others)
 in_front done (Err part) = Err part
 
+pub in_front_of_none : {A : Type 0} (all : Result (List A) Part) → all ≡ in_front [] all
+in_front_of_none (Ok xs) = refl
+in_front_of_none (Err part) = refl
+
 in_front_of : {A : Type 0} (done : List A) (x : A) (others : Result (List A) Part) → in_front done (others >>= λ (xs : List A). Ok (x ∷ xs)) ≡ in_front (done ++ x ∷ []) others
 in_front_of done x (Ok others) = ap Ok (sym (append_assoc done (x ∷ []) others))
 in_front_of done x (Err part) = refl
@@ -51,7 +55,7 @@ readers_length give n [] xs is = let e : [] ≡ xs = cc in rw (← e) refl
 readers_length give n (e ∷ es) xs is =
     length_more (give (n, e)) (all_or_first (map give (enumerate_from (n + 1) es))) (length es) xs (λ ys. readers_length give (n + 1) es ys) is
 
-many_fields : (bodies : IndexBodies) (entries : List SchemaEntry) (readers : List InvertedIndexReaderState) → field_readers bodies entries ≡ Ok readers → length readers ≡ length entries
+pub many_fields : (bodies : IndexBodies) (entries : List SchemaEntry) (readers : List InvertedIndexReaderState) → field_readers bodies entries ≡ Ok readers → length readers ≡ length entries
 many_fields bodies entries readers is = readers_length (λ (f : ℕ × SchemaEntry). reader_of_field bodies f.0 f.1.option) 0 entries readers is
 
 -- the readers of three files, or the first part that fails

@@ -38,7 +38,7 @@ pub postings_known : (recorded requested : IndexRecordOption) (n : ℕ) (bytes :
 postings_known recorded requested n bytes known = first_known (postings recorded requested n bytes) (λ (p : Postings). Ok (p.docs, p.freqs)) known
 
 -- what is left of a term's list once its documents and counts are there
-abbrev with_deltas : Bool → Option (List ℕ) → List ℕ × Option (List ℕ) → Result (List Entry) Part
+abbrev pub with_deltas : Bool → Option (List ℕ) → List ℕ × Option (List ℕ) → Result (List Entry) Part
 with_deltas t positions read = ok_or (deltas_if t read.1 positions) Positions >>= λ (deltas : Option (List ℕ)). Ok (list_of read.0 read.1 deltas)
 
 pub docs_known : (recorded requested : IndexRecordOption) (n : ℕ) (bytes : List ℕ) (positions : Option (List ℕ)) → IsOk (term_list recorded requested n bytes positions) → IsOk (docs_and_freqs recorded requested n bytes)
@@ -52,7 +52,7 @@ deltas_known recorded requested n bytes docs freqs positions known read =
     some_known (deltas_if t freqs positions) Positions (first_known (ok_or (deltas_if t freqs positions) Positions) (λ (deltas : Option (List ℕ)). Ok (list_of docs freqs deltas)) there)
 
 -- so its ranges lie in the bodies
-lie_known : {A : Type 0} (t : Bool) (found : Result A Part) → IsOk (if_they_lie t found) → (t ≡ true) × IsOk found
+pub lie_known : {A : Type 0} (t : Bool) (found : Result A Part) → IsOk (if_they_lie t found) → (t ≡ true) × IsOk found
 lie_known true found known = (refl, known)
 lie_known false found known = absurd (cc)
 

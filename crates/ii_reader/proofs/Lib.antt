@@ -2,6 +2,7 @@ pub mod BlockLemmas
 pub mod BoundLemmas
 pub mod BlockSearchLemmas
 pub mod CursorLemmas
+pub mod DamageLemmas
 pub mod IndexLemmas
 pub mod JsonLemmas
 pub mod JsonOrderLemmas

@@ -37,9 +37,9 @@ bounds_trusted recorded requested doc_freq bytes = do
   p ← postings recorded requested doc_freq bytes
   Ok (trusted (freq_reading_of requested p) (bounds_of p.skip))
 
--- the two bytes of an entry
-abbrev pub bound_bytes : ℕ × ℕ → ℕ × ℕ
-bound_bytes b = (b.0, code_of_max_tf b.1)
+-- what bounds a block, as the two bytes of its entry say it
+abbrev pub stored_bounds : ℕ × ℕ → ℕ × ℕ
+stored_bounds b = (b.0, code_of_max_tf b.1)
 
 -- the count that bounds a block
 abbrev pub freq_bound : List (ℕ × ℕ) → ℕ → ℕ

@@ -1,5 +1,6 @@
 pub mod BlockSegmentPostings
 pub mod Bounds
+pub mod Damage
 pub mod InvertedIndexReader
 pub mod JsonFields
 pub mod LoadedPostings

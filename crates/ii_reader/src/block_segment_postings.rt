@@ -9,7 +9,7 @@ ghost use Rattle.ii_layout.specs.Frequencies.{bounds_counts};
 ghost use Rattle.ii_check.specs.CheckedPostings.{SeeksBlock, excludes, is_read};
 ghost use Rattle.ii_check.specs.FreqReading.{freq_reading};
 ghost use Rattle.ii_check.specs.Positions.{deltas_read};
-ghost use Rattle.ii_reader.specs.Bounds.{IsFirstWanted, IsPlaced, PassesBlocks, bound_bytes, bounds_read, freq_bound, is_wanted_at};
+ghost use Rattle.ii_reader.specs.Bounds.{IsFirstWanted, IsPlaced, PassesBlocks, stored_bounds, bounds_read, freq_bound, is_wanted_at};
 ghost use Rattle.ii_reader.specs.BlockSegmentPostings.{AreEntries, ComeBefore, GoesTo, IsBelow, IsLazy, IsSought, LooksFor, cursor_of_none, doc_in_block, first_decodes, freq_in_block, freqs_of_block};
 
 use bytes::Bytes;
@@ -322,7 +322,7 @@ impl BlockSegmentPostings {
     /// that of any of its documents, and a count that isn't below any of its counts, where 0 and 255 say
     /// nothing. The count was looked at where counts are read; the norm id is what the bytes say.
     pub fn block_bounds(&self) -> Option<(u8, u8)>
-        ensures bounds { result ≡ option_map bound_bytes (slice_get self.now.bounds self.now.block) }
+        ensures bounds { result ≡ option_map stored_bounds (slice_get self.now.bounds self.now.block) }
         ensures bounded { (freqs : List ℕ) → self.now.freqs ≡ Some freqs → bounds_counts (freq_bound self.now.bounds self.now.block) (block_of freqs self.now.block) ≡ true }
     {
         if !self.checked.has_freq() {

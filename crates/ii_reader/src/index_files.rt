@@ -1,4 +1,4 @@
-ghost use Rattle.std.specs.Prelude.{◌≡◌, ◌↔◌, ◌⊎◌, ◌<◌, ◌≤◌, ◌^◌, ℕ, List, length, Some, IfOk, IfErr, IsErrOf, IsOkAnd, IsSome, IsSomeAnd, ok_or, slice_get};
+ghost use Rattle.std.specs.Prelude.{◌≡◌, ◌↔◌, ◌⊎◌, ◌<◌, ◌≤◌, ◌^◌, ℕ, List, length, None, Some, IfOk, IfErr, IsErrOf, IsOkAnd, IsSome, IsSomeAnd, ok_or, slice_get};
 ghost use Rattle.std.specs.List.{All};
 ghost use Rattle.std.specs.Option.{option_map};
 ghost use Rattle.ii_io.specs.Composite.{body_of, composite};
@@ -9,9 +9,12 @@ ghost use Rattle.ii_definitions.specs.Tokens.{IndexToken};
 ghost use Rattle.ii_definitions.specs.Fields.{option_of};
 ghost use Rattle.ii_definitions.specs.Files.{HoldTokens};
 ghost use Rattle.ii_definitions.specs.Norms.{HoldNorms};
+ghost use Rattle.ii_io.specs.Faults.{OnlyMemory};
+ghost use Rattle.ii_reader.specs.Damage.{first_damaged_field};
 ghost use Rattle.ii_reader.specs.InvertedIndexReader.{AllOpen, IsRefusal};
 ghost use Rattle.ii_reader.specs.OpenIndex.{GivesNorms, GivesReaders, NormsHold, field_readers, index_bodies, index_of_files, reader_of_bodies, reader_of_field};
 
+use super::damage::DamagedTerm;
 use super::inverted_index_reader::InvertedIndexReader;
 use bytes::Bytes;
 use ii_base::{CompositeFile, Fault, Field, IndexRecordOption, Part, Schema};
@@ -29,11 +32,14 @@ pub struct OpenIndex {
 }
 
 impl Model for OpenIndex {
+    ghost use Rattle.std.specs.Prelude.{◌<◌, ◌^◌, length};
     ghost use Rattle.ii_reader.specs.OpenIndex.{OpenIndexState};
 
     ghost Value = { OpenIndexState };
 
     ghost view = { λ index. record { readers = index.readers.items; fieldnorms = index.fieldnorms } };
+
+    ghost invariant = { λ index. length index.readers.items < 2 ^ 32 };
 }
 
 impl OpenIndex {
@@ -52,6 +58,20 @@ impl OpenIndex {
         ensures { self.new ≡ self.old }
     {
         trust_all(&mut self.readers);
+    }
+
+    /// Opens each term of each field once, with all that the field records, and answers the first field
+    /// that has one which doesn't open, with the first such term. Where each of them opens, look-ups go on
+    /// as after `trust`.
+    ///
+    /// `OutOfMemory` where the files' buffer can't be shared once more.
+    pub fn check(&mut self) -> Result<Option<(Field, DamagedTerm)>, Fault>
+        ensures found { IfOk result (λ damage. damage ≡ first_damaged_field self.old.readers) }
+        ensures opens { IfOk result (λ damage. (damage ≡ None) ↔ All AllOpen self.old.readers) }
+        ensures same { self.new ≡ self.old }
+        ensures only { OnlyMemory result }
+    {
+        check_all(&mut self.readers)
     }
 
     /// The norms of a field, or nothing where the file of norms has none of it.
@@ -79,6 +99,24 @@ fn trust_all(readers: &mut [InvertedIndexReader])
     for reader in readers {
         reader.trust();
     }
+}
+
+// The first field with a term that doesn't open; those before it are trusted from now on.
+fn check_all(readers: &mut [InvertedIndexReader]) -> Result<Option<(Field, DamagedTerm)>, Fault>
+    requires { length readers.old < 2 ^ 32 }
+    ensures found { IfOk result (λ damage. damage ≡ first_damaged_field readers.old) }
+    ensures opens { IfOk result (λ damage. (damage ≡ None) ↔ All AllOpen readers.old) }
+    ensures same { readers.new ≡ readers.old }
+    ensures only { OnlyMemory result }
+{
+    let mut field_id = 0;
+    for reader in readers {
+        if let Some(term) = reader.check()? {
+            return Ok(Some((Field::from_field_id(field_id), term)));
+        }
+        field_id += 1;
+    }
+    Ok(None)
 }
 
 /// Opens an index: its files of terms, postings and positions, each of which has a body for each field
@@ -182,9 +220,10 @@ impl IndexFiles {
     // The readers of all fields, in order.
     fn open_fields(&self, alloc: Global, schema: &Schema) -> Result<Vec<InvertedIndexReader>, Fault>
         ensures ok { IfOk result (λ readers. field_readers self.now schema.now ≡ Ok readers.items) }
+        ensures few { IfOk result (λ readers. length readers.items < 2 ^ 32) }
         ensures err { IfErr result (IsRefusal (field_readers self.now schema.now)) }
     {
-        let mut readers = Vec::new(alloc);
+        let mut readers = Vec::with_capacity(alloc, schema.num_fields())?;
         for (field, entry) in schema.fields() {
             let reader = self.open_field(field, entry.index_record_option())?;
             readers.push(reader)?;

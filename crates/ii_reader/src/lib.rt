@@ -2,6 +2,7 @@
 #![tactic(auto)]
 
 pub mod block_segment_postings;
+pub mod damage;
 pub mod field_space;
 pub mod index_files;
 pub mod inverted_index_reader;
@@ -9,6 +10,7 @@ pub mod loaded_postings;
 pub mod segment_postings;
 
 pub use block_segment_postings::BlockSegmentPostings;
+pub use damage::DamagedTerm;
 pub use field_space::InvertedIndexFieldSpace;
 pub use ii_check::FreqReadingOption;
 pub use index_files::{OpenIndex, open_index};

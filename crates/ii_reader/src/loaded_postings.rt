@@ -89,9 +89,11 @@ fn load_positions<P: Postings>(source: &mut P, positions: &mut Vec<u32>) -> Resu
     ensures ok { OnOk result (positions.new.items ≡ positions.old.items ++ positions_at (P.rest source.old)) }
     ensures end { IfOk result (λ end. end ≡ length positions.new.items) }
     ensures few { OnOk result (length positions.new.items < 2 ^ 32) }
+    // what is left of the source
     ensures rest { P.rest source.new ≡ P.rest source.old }
     ensures kind { P.always_one source.new ≡ P.always_one source.old }
     ensures work { P.spent 1 (term_freq_at (P.always_one source.old) (P.rest source.old)) source.old source.new }
+    // a refusal
     ensures err { IfErr result (λ fault. IsLoadFault (length positions.old.items + length (positions_at (P.rest source.old))) fault) }
 {
     // The current document tells that its positions have 32 bits.

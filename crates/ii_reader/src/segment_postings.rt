@@ -78,10 +78,12 @@ impl SegmentPostings {
         ensures reading { IfOk result (λ cursor. (freq_reading record_option requested_option doc_freq postings ≡ Ok cursor.freq_reading)
             × (bounds_trusted record_option requested_option doc_freq postings ≡ Ok cursor.bounds)) }
         ensures first { IfOk result (λ cursor. cursor.block ≡ 0) }
+        // what was decoded and read for it
         ensures doc_decodes { IfOk result (λ cursor. cursor.doc_decodes ≤ 1) }
         ensures freq_decodes { IfOk result (λ cursor. cursor.freq_decodes ≤ 1) }
         ensures entries_read { IfOk result (λ cursor. cursor.entries_read ≤ 1) }
         ensures position_decodes { IfOk result (λ cursor. cursor.position_decodes ≤ 1) }
+        // a refusal
         ensures err { IfErr result (λ fault. term_list record_option requested_option doc_freq postings positions ≡ Err (part_of fault)) }
     {
         let mut block_cursor = BlockSegmentPostings::empty_by(record_option, requested_option);
@@ -127,6 +129,7 @@ impl SegmentPostings {
         ensures reading { (freq_reading record_option requested_option doc_freq postings ≡ Ok result.freq_reading)
             × (bounds_trusted record_option requested_option doc_freq postings ≡ Ok result.bounds) }
         ensures first { result.block ≡ 0 }
+        // what was decoded and read for it
         ensures doc_decodes { result.doc_decodes ≤ 1 }
         ensures freq_decodes { result.freq_decodes ≤ 1 }
         ensures entries_read { result.entries_read ≤ 1 }
@@ -230,6 +233,7 @@ impl SegmentPostings {
         ensures doc_freq { result.doc_freq ≡ length segment_block_postings.docs }
         ensures reading { (result.freq_reading ≡ segment_block_postings.freq_reading) × (result.bounds ≡ trusted segment_block_postings.freq_reading segment_block_postings.bounds) }
         ensures block { result.block ≡ segment_block_postings.block }
+        // what was decoded and read for it
         ensures doc_decodes { result.doc_decodes ≡ segment_block_postings.doc_decodes }
         ensures freq_decodes { result.freq_decodes ≡ segment_block_postings.freq_decodes }
         ensures entries_read { result.entries_read ≡ segment_block_postings.entries_read }
@@ -512,6 +516,7 @@ fn read_piece(
     requires low { start + count < 2 ^ 64 }
     requires fits { IsTrue (fit_u32 (running_sums 0 (take count (drop start reader.old.deltas)))) }
     requires before { before ≡ position_before from (running_sums 0 (take count (drop start reader.old.deltas))) }
+    // what is read, and what stays
     ensures count { result ≡ min (length output.old) (count - from) }
     ensures read { output.new ≡ take (length output.old) (drop from (running_sums 0 (take count (drop start reader.old.deltas)))) ++ drop (count - from) output.old }
     ensures deltas { reader.new.deltas ≡ reader.old.deltas }

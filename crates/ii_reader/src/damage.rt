@@ -1,0 +1,56 @@
+ghost use Rattle.std.specs.Prelude.{◌≡◌, ◌↔◌, None, IfOk};
+ghost use Rattle.ii_io.specs.Faults.{OnlyMemory};
+ghost use Rattle.ii_reader.specs.Damage.{first_damaged_term};
+ghost use Rattle.ii_reader.specs.InvertedIndexReader.{AllOpen};
+
+use super::inverted_index_reader::InvertedIndexReader;
+use ii_base::{Fault, Part};
+use ii_termdict::TermOrdinal;
+
+/// A term whose list doesn't open.
+#[derive(Clone, Copy, Debug, PartialEq, Eq)]
+pub struct DamagedTerm {
+    /// Its place in the order of the keys, from 0.
+    pub ord: TermOrdinal,
+    /// The first part of its list that the bytes fail to hold.
+    pub part: Part,
+}
+
+impl InvertedIndexReader {
+    /// Opens each term of the field once, with all that the field records, and answers the first one that
+    /// doesn't open. Where each of them does, look-ups go on as after `trust`.
+    ///
+    /// `OutOfMemory` where the files' buffer can't be shared once more.
+    pub fn check(&mut self) -> Result<Option<DamagedTerm>, Fault>
+        ensures found { IfOk result (λ damage. damage ≡ first_damaged_term self.old) }
+        ensures opens { IfOk result (λ damage. (damage ≡ None) ↔ AllOpen self.old) }
+        ensures same { self.new ≡ self.old }
+        ensures only { OnlyMemory result }
+    {
+        let damage = self.first_damaged_term()?;
+        if damage.is_some() {
+            return Ok(damage);
+        }
+        self.trust();
+        Ok(None)
+    }
+
+    // The first term that doesn't open.
+    fn first_damaged_term(&self) -> Result<Option<DamagedTerm>, Fault>
+        ensures found { IfOk result (λ damage. damage ≡ first_damaged_term self.now) }
+        ensures opens { IfOk result (λ damage. (damage ≡ None) ↔ AllOpen self.now) }
+        ensures only { OnlyMemory result }
+    {
+        let option = self.record_option();
+        let mut terms = self.terms().stream();
+        for ord in 0..self.terms().num_terms() as u64 {
+            terms.advance();
+            match self.read_postings_from_terminfo(&terms.value(), option) {
+                Ok(_) => {}
+                Err(Fault::Damaged(part)) => return Ok(Some(DamagedTerm { ord, part })),
+                Err(fault) => return Err(fault),
+            }
+        }
+        Ok(None)
+    }
+}
