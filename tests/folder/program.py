@@ -271,7 +271,8 @@ def refusals(user, docs):
                           (['search', 'folder', 'a AND'], 'a AND: '), (['search', 'folder', 'nofield:a'], 'no such field'), (['search', 'folder', 'a', '--field', 'nofield'], 'no field nofield'), (['terms', 'folder', 'body', '--top', 'x'], '--top x'),
                           (['about', 'file.name'], ''), ([], 'Usage')):
         user.wants(words, 2, '', reason)
-    user.wants(['check', 'nowhere'], 1, 'nowhere: no index here\n')
+    user.wants(['check', 'nowhere'], 1, 'nowhere: no index here\n', 'the command index makes one')
+    user.wants(['search', 'nowhere', 'word'], 1, 'nowhere: no index here\n', 'the command index makes one')
     user.wants(['check', '.'], 1, '.: no index here\n')
     told = user.wants(['check', 'folder'], 0)
     if not told.startswith(f'{len(docs)} documents; '):
@@ -305,6 +306,8 @@ def damages(user, chosen, places):
         told = user.wants(['check', 'folder'], 1)
         if not told.startswith(f'folder: the file of {kind} is missing\n' if kind else 'folder: no index here\n'):
             raise Failed(f'{name} taken away: {told!r}')
+        if kind:
+            user.wants(['search', 'folder', 'word'], 1, f'folder: the file of {kind} is missing\n', 'the command check tells what is damaged')
         with open(os.path.join(whole, name), 'wb') as file:
             file.write(text)
     user.wants(['check', 'folder'], 0)

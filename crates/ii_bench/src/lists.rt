@@ -1,11 +1,13 @@
-ghost use Rattle.std.specs.Prelude.{◌≡◌, ◌<◌};
+ghost use Rattle.std.specs.Prelude.{◌≡◌, ◌<◌, ℕ};
 ghost use Rattle.ii_base.specs.Entries.{are_documents};
+ghost use Rattle.ii_layout.specs.Bounds.{Covers};
 
 use crate::table::{Measured, ROUNDS, print_row};
 use anyhow::Result;
 use bytes::Bytes;
 use ii_base::{CountingWriter, Fault, IndexRecordOption};
 use ii_docset::{DocId, DocSet, TERMINATED};
+use ii_fieldnorm::FieldNormReader;
 use ii_layout::PostingsSerializer;
 use ii_reader::SegmentPostings;
 use std::alloc::{AllocError, Global};
@@ -18,7 +20,9 @@ const DOCS: u32 = 1_000_000;
 
 /// Prints what it takes to write, open and walk lists of a million documents, of three densities.
 pub fn measure(rt: &HostRuntime) -> Result<()> {
-    measure_list(rt, "1", &documents(rt.alloc(), 1, DOCS)?)?;
+    let dense = documents(rt.alloc(), 1, DOCS)?;
+    measure_list(rt, "1", &dense)?;
+    measure_counts(rt, &dense)?;
     measure_list(rt, "1/15", &documents(rt.alloc(), 29, DOCS)?)?;
     measure_list(rt, "1/1000", &documents(rt.alloc(), 1999, DOCS)?)
 }
@@ -83,6 +87,57 @@ fn write(rt: &HostRuntime, docs: &[DocId]) -> Result<(Bytes, Measured)> {
     Ok((bytes, of_documents(least)))
 }
 
+// Writes documents with their counts, without norms and with them.
+fn measure_counts(rt: &HostRuntime, docs: &[DocId]) -> Result<()> {
+    let plain = write_counts(rt, docs, None)?;
+    print_row(rt, "writing with counts, density 1: a document", &plain)?;
+    let ids = Bytes::from_vec(norm_ids(rt.alloc())?)?;
+    let normed = write_counts(rt, docs, Some(ids))?;
+    print_row(rt, "the same with norms", &normed)?;
+    Ok(())
+}
+
+// A norm id for each document below their number.
+fn norm_ids(alloc: Global) -> Result<Vec<u8>, AllocError> {
+    let mut ids = Vec::new(alloc);
+    for doc in 0..DOCS {
+        ids.push((doc % 97) as u8)?;
+    }
+    Ok(ids)
+}
+
+fn write_counts(rt: &HostRuntime, docs: &[DocId], ids: Option<Bytes>) -> Result<Measured> {
+    let mut least = Duration::MAX;
+    for _ in 0..ROUNDS {
+        let took = match &ids {
+            None => write_plain(rt, docs)?,
+            Some(ids) => write_normed(rt, docs, ids)?,
+        };
+        least = least.min(took);
+    }
+    Ok(of_documents(least))
+}
+
+fn write_plain(rt: &HostRuntime, docs: &[DocId]) -> Result<Duration> {
+    let start = Instant::now(rt)?;
+    let _bytes = written(rt.alloc(), docs, IndexRecordOption::WithFreqs)?;
+    Ok(start.elapsed(rt)?)
+}
+
+fn write_normed(rt: &HostRuntime, docs: &[DocId], ids: &Bytes) -> Result<Duration> {
+    let norms = FieldNormReader::open(ids.clone()?)?;
+    let limit = norms.num_docs();
+    let start = Instant::now(rt)?;
+    let _bytes = written_by(
+        rt.alloc(),
+        docs,
+        IndexRecordOption::WithFreqs,
+        Some(norms),
+        limit,
+    )?;
+    Ok(start.elapsed(rt)?)
+}
+
 fn open(rt: &HostRuntime, bytes: &Bytes) -> Result<Measured> {
     let mut least = Duration::MAX;
     for _ in 0..ROUNDS {
@@ -113,6 +168,19 @@ pub fn written(
     docs: &[DocId],
     record_option: IndexRecordOption,
 ) -> Result<Bytes, Fault> {
+    written_by(alloc, docs, record_option, None, TERMINATED)
+}
+
+// The same with norms, if there are some, which answer for the documents below a limit.
+fn written_by(
+    alloc: Global,
+    docs: &[DocId],
+    record_option: IndexRecordOption,
+    norms: Option<FieldNormReader>,
+    limit: DocId,
+) -> Result<Bytes, Fault>
+    requires { (doc : ℕ) → doc < limit → Covers norms doc }
+{
     if !ascend(docs) {
         return Err(Fault::SerializerClosed);
     }
@@ -120,8 +188,11 @@ pub fn written(
         return Err(Fault::SerializerClosed);
     };
     let mut output = CountingWriter::wrap(Vec::new(alloc));
-    let mut serializer = PostingsSerializer::new(alloc, record_option, None);
+    let mut serializer = PostingsSerializer::new(alloc, record_option, norms);
     for doc in docs {
+        if *doc >= limit {
+            return Err(Fault::SerializerClosed);
+        }
         serializer.write_doc(*doc, 1)?;
     }
     serializer.close_term(doc_freq, &mut output)?;

@@ -124,85 +124,33 @@ static MANY_AT: [u8; 196] = [
 /// All of them.
 pub fn rows() -> [Row; 16] {
     [
-        Row {
-            doc_freq: 3,
-            postings: &THREE,
-            positions: &[],
-        },
-        Row {
-            doc_freq: 3,
-            postings: &TWO,
-            positions: &[],
-        },
-        Row {
-            doc_freq: 3,
-            postings: &TWICE,
-            positions: &[],
-        },
-        Row {
-            doc_freq: 3,
-            postings: &BAD_COUNT,
-            positions: &[],
-        },
-        Row {
-            doc_freq: 3,
-            postings: &COUNTED,
-            positions: &COUNTED_AT,
-        },
-        Row {
-            doc_freq: 128,
-            postings: &FULL,
-            positions: &[],
-        },
-        Row {
-            doc_freq: 128,
-            postings: &OTHER_LAST,
-            positions: &[],
-        },
-        Row {
-            doc_freq: 128,
-            postings: &PLAIN,
-            positions: &[],
-        },
-        Row {
-            doc_freq: 130,
-            postings: &MORE,
-            positions: &[],
-        },
-        Row {
-            doc_freq: 1,
-            postings: &NUMBER,
-            positions: &NUMBER_AT,
-        },
-        Row {
-            doc_freq: 128,
-            postings: &EVEN,
-            positions: &[],
-        },
-        Row {
-            doc_freq: 128,
-            postings: &FROM_ONE,
-            positions: &[],
-        },
-        Row {
-            doc_freq: 256,
-            postings: &TWO_BLOCKS,
-            positions: &[],
-        },
-        Row {
-            doc_freq: 128,
-            postings: &WITH_COUNTS,
-            positions: &[],
-        },
-        Row {
-            doc_freq: 128,
-            postings: &WITH_POSITIONS,
-            positions: &WITH_POSITIONS_AT,
-        },
-        Row {
-            doc_freq: 120,
-            postings: &MANY,
-            positions: &MANY_AT,
-        },
+        plain(3, &THREE),
+        plain(3, &TWO),
+        plain(3, &TWICE),
+        plain(3, &BAD_COUNT),
+        with_positions(3, &COUNTED, &COUNTED_AT),
+        plain(128, &FULL),
+        plain(128, &OTHER_LAST),
+        plain(128, &PLAIN),
+        plain(130, &MORE),
+        with_positions(1, &NUMBER, &NUMBER_AT),
+        plain(128, &EVEN),
+        plain(128, &FROM_ONE),
+        plain(256, &TWO_BLOCKS),
+        plain(128, &WITH_COUNTS),
+        with_positions(128, &WITH_POSITIONS, &WITH_POSITIONS_AT),
+        with_positions(120, &MANY, &MANY_AT),
     ]
+}
+
+fn plain(doc_freq: u32, postings: &'static [u8]) -> Row {
+    with_positions(doc_freq, postings, &[])
+}
+
+fn with_positions(doc_freq: u32, postings: &'static [u8], positions: &'static [u8]) -> Row {
+    Row {
+        doc_freq,
+        postings,
+        positions,
+    }
 }

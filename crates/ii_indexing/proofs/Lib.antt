@@ -10,6 +10,7 @@ pub mod LeafLaws
 pub mod PathLaws
 mod PathPositions
 pub mod PieceLaws
+pub mod RamLaws
 pub mod RefusalLaws
 pub mod StoreLaws
 pub mod StoredLaws

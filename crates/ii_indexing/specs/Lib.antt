@@ -5,4 +5,5 @@ pub mod IndexedTerms
 pub mod Indexer
 pub mod OpenDocuments
 pub mod OpenPaths
+pub mod RamFiles
 pub mod Refusals

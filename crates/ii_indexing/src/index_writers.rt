@@ -5,6 +5,7 @@ ghost use Rattle.ii_definitions.specs.Tokens.{pieces_of, tokens_of};
 ghost use Rattle.ii_indexing.specs.IndexCalls.{MayAllBeIndexed, call_of};
 ghost use Rattle.ii_indexing.specs.IndexFiles.{CountsIndexFailures, FilesGrow, IsIndexFault, WroteIndex};
 ghost use Rattle.ii_indexing.specs.Indexer.{Stores};
+ghost use Rattle.ii_indexing.specs.RamFiles.{empty_files};
 ghost use Rattle.ii_indexing.specs.Refusals.{calls_fault};
 ghost use Rattle.ii_json.specs.LeafVisit.{IsRefusedBy};
 
@@ -25,6 +26,20 @@ pub struct IndexWriters<W: Write> {
     pub positions: CountingWriter<W>,
     /// The norms of its fields.
     pub fieldnorms: CountingWriter<W>,
+}
+
+impl IndexWriters<Vec<u8>> {
+    /// Writers to memory, to which nothing was written yet.
+    pub fn in_memory(alloc: Global) -> IndexWriters<Vec<u8>>
+        ensures { result ≡ empty_files }
+    {
+        IndexWriters {
+            terms: CountingWriter::wrap(Vec::new(alloc)),
+            postings: CountingWriter::wrap(Vec::new(alloc)),
+            positions: CountingWriter::wrap(Vec::new(alloc)),
+            fieldnorms: CountingWriter::wrap(Vec::new(alloc)),
+        }
+    }
 }
 
 /// Indexes calls, and writes the files of the index that they give; hands the writers back. No call has

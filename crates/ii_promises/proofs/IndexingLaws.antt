@@ -15,7 +15,7 @@ use Rattle.ii_definitions.specs.Tokens.{IndexToken, tokens_of}
 use Rattle.ii_indexing.specs.IndexCalls.{call_of}
 use Rattle.ii_indexing.specs.Refusals.{calls_fault}
 use Rattle.ii_indexing.specs.declared.index_call.IndexCall.{IndexCall}
-use Rattle.nequllpa.specs.Ram.{IsRamFault}
+use Rattle.ii_indexing.specs.RamFiles.{IsRamFault}
 use Rattle.nequllpa.proofs.NoTokens.{no_tokens_no_limit}
 use Rattle.ii_reader.specs.InvertedIndexReader.{GivesPostings, InvertedIndexReaderState, ReaderHolds}
 use Rattle.ii_reader.specs.OpenIndex.{FieldReaderHolds, GivesNorms, GivesReaders, IndexHolds, NormsHold, OpenIndexState}

@@ -11,7 +11,7 @@ use Rattle.ii_definitions.specs.Tokens.{IndexToken}
 use Rattle.ii_search.specs.declared.query.Query.{Query}
 use Rattle.ii_search.specs.Found.{GivesMatches}
 use Rattle.ii_search.specs.Queries.{has_fields, matches}
-use Rattle.nequllpa.specs.Ram.{IsRamFault}
+use Rattle.ii_indexing.specs.RamFiles.{IsRamFault}
 
 -- the documents that match
 pub matches_are_found : {T : Type 0} (query : Query) (ts : List IndexToken) (answer : Result (QueryCursorState T) Fault) → GivesMatches query ts answer → IfOk answer (λ cursor. (doc : ℕ) → has_doc cursor.rest doc ≡ matches query ts doc)

@@ -10,7 +10,7 @@ ghost use Rattle.ii_indexing.specs.IndexFiles.{HaveNoRoom};
 ghost use Rattle.ii_indexing.specs.Refusals.{calls_fault};
 ghost use Rattle.ii_postings_writer.specs.TermLimits.{AreWithin};
 ghost use Rattle.ii_postings_writer.specs.TokenFiles.{field_terms};
-ghost use Rattle.nequllpa.specs.Ram.{IsRamFault, empty_file};
+ghost use Rattle.ii_indexing.specs.RamFiles.{IsRamFault, empty_file};
 ghost use Rattle.ii_reader.specs.OpenIndex.{IndexHolds};
 
 use nequllpa::{

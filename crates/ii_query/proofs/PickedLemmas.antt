@@ -1,5 +1,5 @@
 -- Documents that are picked of a list.
-use Rattle.std.proofs.Common.{◌≡◌, ◌≢◌, ℕ, ◌<◌, ◌≤◌, Bool, true, false, List, [], ◌∷◌, drop, lit<, inl, inr, refl, sym, ap, arith}
+use Rattle.std.proofs.Common.{◌≡◌, ◌≢◌, ℕ, ◌<◌, ◌≤◌, Bool, true, false, List, [], ◌∷◌, drop, lit<, inl, inr, refl, sym, ap, ◌∙◌, arith}
 use Rattle.std.proofs.lemmas.Bool.{eq-eqb, ne_eqb}
 use Rattle.std.proofs.lemmas.List.Elements.{All-map}
 use Rattle.std.proofs.lemmas.Bool.Decides.{leb_tells}
@@ -11,7 +11,7 @@ use Rattle.ii_docset.specs.Cursor.{doc_at, FitsU32, IsAscending, IsSound, from_d
 use Rattle.ii_docset.specs.Intersection.{common_docs, has_doc}
 use Rattle.ii_docset.proofs.CursorLemmas.{from_doc_here}
 use Rattle.ii_docset.proofs.IntersectionLemmas.{Asked, bound_more, bound_target}
-use Rattle.ii_query.specs.Combined.{IsAtFirst, common, picked, without}
+use Rattle.ii_query.specs.Combined.{IsAtFirst, StandsAt, common, picked, without}
 
 -- they ascend, from the first document of the list on
 picked_ascends : (holds : ℕ → Bool) (es : List Entry) → IsAscending es → IsAscending (picked holds es) × (doc_at es ≤ doc_at (picked holds es))
@@ -27,6 +27,10 @@ fit docs = All-map FitsU32 document docs (λ k d within. (lit< tt, λ j p none. 
 
 pub picked_sound : (holds : ℕ → Bool) (es : List Entry) → IsSound es → IsSound (picked holds es)
 picked_sound holds es sound = record { ascending = (picked_ascends holds es sound.ascending).0; fits = fit (filter holds (docs_of es)) }
+
+-- the first document of the list is picked, or there is none
+pub picked_at : (holds : ℕ → Bool) (es : List Entry) (doc : ℕ) → IsAtFirst es (picked holds es) → doc ≡ doc_at es → StandsAt doc (picked holds es)
+picked_at holds es doc at here = record { sound = picked_sound holds es at.sound; here = here ∙ sym at.here }
 
 -- without the first document, which is picked
 pub picked_drop : (holds : ℕ → Bool) (es : List Entry) → IsAtFirst es (picked holds es) → picked holds (drop 1 es) ≡ drop 1 (picked holds es)

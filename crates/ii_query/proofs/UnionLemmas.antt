@@ -127,7 +127,7 @@ either_least : (least : ℕ) (es fs : List Entry) → IsAscending es → least �
 either_least least [] fs h low up = rw (docs_at fs) up
 either_least least (e ∷ es) fs h low up = let next = h.0 in put_least least e.doc (put_all (docs_of es) (docs_of fs)) low (either_least least es fs h.1 (omega (arith, low, next)) up)
 
-either_at_most : (es fs : List Entry) → IsAscending es → IsAscending fs → (doc_at (either es fs) ≤ doc_at es) × (doc_at (either es fs) ≤ doc_at fs)
+pub either_at_most : (es fs : List Entry) → IsAscending es → IsAscending fs → (doc_at (either es fs) ≤ doc_at es) × (doc_at (either es fs) ≤ doc_at fs)
 either_at_most [] fs first other = (rw (docs_at fs) (doc_below fs other), rw (docs_at fs) (omega arith))
 either_at_most (e ∷ es) fs first other =
     let low = first_low e es first in

@@ -50,3 +50,8 @@ either es fs = map document (put_all (docs_of es) (docs_of fs))
 pub record IsAtFirst (es combined : List Entry) : Type 0 where
   pub sound : IsSound es
   pub here : doc_at combined ≡ doc_at es
+
+-- What is left begins with this document, or with none where it is TERMINATED.
+pub record StandsAt (doc : ℕ) (es : List Entry) : Type 0 where
+  pub sound : IsSound es
+  pub here : doc ≡ doc_at es

@@ -1,7 +1,7 @@
 -- The documents of a cursor that is nested.
-use Rattle.std.specs.Prelude.{ℕ, ◌+◌, ◌-◌, ◌++◌, max, List, [], ◌∷◌, ⊤}
+use Rattle.std.specs.Prelude.{ℕ, ◌+◌, ◌-◌, ◌++◌, max, List, [], ◌∷◌}
 use Rattle.ii_base.specs.Entries.{Entry}
-use Rattle.ii_query.specs.Combined.{IsAtFirst, all_from, common, either, without}
+use Rattle.ii_query.specs.Combined.{all_from, common, either, without}
 use Rattle.ii_query.specs.declared.query_cursor.QueryParts.{QueryParts}
 use Rattle.ii_query.specs.declared.query_cursor.QueryParts.TheVariants.{Nothing, One, All, Both, Either, Without}
 
@@ -31,12 +31,3 @@ cursors_of (All docs) = []
 cursors_of (Both first other) = first.value.cursors ++ other.value.cursors
 cursors_of (Either first other) = first.value.cursors ++ other.value.cursors
 cursors_of (Without first other) = first.value.cursors ++ other.value.cursors
-
--- The first of two parts stands at a document that belongs to both, or to it alone.
-abbrev pub AreParts : {T : Type 0} → QueryParts T → Type 0
-AreParts Nothing = ⊤
-AreParts (One cursor) = ⊤
-AreParts (All docs) = ⊤
-AreParts (Both first other) = IsAtFirst first.value.rest (common first.value.rest other.value.rest)
-AreParts (Either first other) = ⊤
-AreParts (Without first other) = IsAtFirst first.value.rest (without first.value.rest other.value.rest)

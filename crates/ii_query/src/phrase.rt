@@ -4,7 +4,6 @@ ghost use Rattle.ii_docset.specs.Cursor.{IsCurrent, IsSound, doc_at, from_doc, p
 ghost use Rattle.ii_query.specs.Combined.{IsAtFirst};
 ghost use Rattle.ii_query.specs.Phrase.{IsAtDoc, MeetsAt, PhrasePartState, Spent, cursors_in, is_among, parts_in, phrase_docs, stand_from, stand_here};
 
-use crate::query_cursor::go_on_to;
 use ii_docset::{DocId, DocSet, Postings, TERMINATED};
 use std::marker::Model;
 
@@ -64,6 +63,23 @@ impl<P: Postings> PhrasePart<P> {
             None => false,
         }
     }
+}
+
+// Drops the documents of a cursor below a target, which may lie below the current one.
+#[tactic(auto, using(ii_docset::proofs::CursorLemmas::doc_below))]
+fn go_on_to<T: DocSet>(cursor: &mut T, target: DocId) -> DocId
+    requires { target ≤ TERMINATED }
+    ensures doc { result ≡ doc_at (T.rest cursor.new) }
+    ensures rest { T.rest cursor.new ≡ from_doc target (T.rest cursor.old) }
+    ensures sound { IsSound (T.rest cursor.new) }
+    ensures up_to { result ≤ TERMINATED }
+    ensures work { T.went cursor.old cursor.new }
+{
+    let doc = cursor.doc();
+    if doc < target {
+        return cursor.seek(target);
+    }
+    doc
 }
 
 // Whether a cursor's current document has a position, which is looked for piece by piece.

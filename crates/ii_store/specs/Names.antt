@@ -1,5 +1,5 @@
 -- The names of files, and their numbers.
-use Rattle.std.specs.Prelude.{ℕ, zero, suc, ◌+◌, ◌*◌}
+use Rattle.std.specs.Prelude.{ℕ, zero, suc, ◌+◌, ◌*◌, List, codes}
 use Rattle.ii_store.specs.declared.name.Slot.{Slot}
 use Rattle.ii_store.specs.declared.name.Slot.TheVariants.{First, Second}
 use Rattle.ii_store.specs.declared.name.Kind.{Kind}
@@ -38,3 +38,18 @@ abbrev pub name_number : Name → ℕ
 name_number Meta = 0
 name_number NewMeta = 1
 name_number (File slot kind) = 2 + 5 * slot_number slot + kind_number kind
+
+-- how the file of a name is called in a folder
+abbrev pub name_text : Name → List ℕ
+name_text Meta = codes "meta"
+name_text NewMeta = codes "meta.new"
+name_text (File First Schema) = codes "schema.0"
+name_text (File First Terms) = codes "term.0"
+name_text (File First Postings) = codes "idx.0"
+name_text (File First Positions) = codes "pos.0"
+name_text (File First FieldNorms) = codes "fieldnorm.0"
+name_text (File Second Schema) = codes "schema.1"
+name_text (File Second Terms) = codes "term.1"
+name_text (File Second Postings) = codes "idx.1"
+name_text (File Second Positions) = codes "pos.1"
+name_text (File Second FieldNorms) = codes "fieldnorm.1"

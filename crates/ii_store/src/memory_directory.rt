@@ -1,5 +1,5 @@
 //! A directory in memory, for tests and for those who want no files.
-ghost use Rattle.std.specs.Prelude.{◌≡◌, ◌++◌, [], ◌∷◌, IfOk, OnErr, OnOk, length};
+ghost use Rattle.std.specs.Prelude.{false, ◌≡◌, ◌++◌, [], ◌∷◌, IfOk, OnErr, OnOk, length};
 ghost use Rattle.ii_store.specs.Directory.{found_bytes};
 ghost use Rattle.ii_store.specs.MemoryDirectory.{MayBePut, files_after, files_of};
 
@@ -48,7 +48,7 @@ impl MemoryDirectory {
 
     /// Lets so many changes through from now on, and stops in the next one. Reads go on.
     pub fn stop_after(&mut self, calls: u64)
-        ensures { files_of self.new ≡ files_of self.old }
+        ensures { self.new ≡ record self.old { calls_left = calls; is_stopped = false } }
     {
         self.calls_left = calls;
         self.is_stopped = false;

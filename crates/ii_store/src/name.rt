@@ -1,6 +1,6 @@
 //! The files of a folder that holds an index.
 ghost use Rattle.std.specs.Prelude.{◌≡◌, ◌<◌};
-ghost use Rattle.ii_store.specs.Names.{kind_at, kind_number, name_number, other_slot, slot_number};
+ghost use Rattle.ii_store.specs.Names.{kind_at, kind_number, name_number, name_text, other_slot, slot_number};
 
 use thiserror::Error;
 
@@ -109,8 +109,10 @@ impl Name {
         }
     }
 
-    /// The name of the file in a folder.
-    pub fn as_str(self) -> &'static str {
+    /// How the file is called in a folder.
+    pub fn as_str(self) -> &'static str
+        ensures { result.now ≡ name_text self }
+    {
         match self {
             Name::Meta => "meta",
             Name::NewMeta => "meta.new",
@@ -131,3 +133,8 @@ impl Name {
         }
     }
 }
+
+/// A law: files of different names are called differently.
+pub fn names_differ()
+    ensures differ { (first : Name) (other : Name) → name_text first ≡ name_text other → first ≡ other }
+{}

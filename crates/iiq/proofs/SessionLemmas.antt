@@ -21,7 +21,7 @@ use Rattle.ii_indexing.specs.declared.index_call.IndexCall.{IndexCall}
 use Rattle.ii_indexing.specs.declared.index_call.IndexCall.TheVariants as calls
 use Rattle.ii_indexing.specs.IndexCalls.{MayBeIndexed, call_of, doc_of}
 use Rattle.ii_indexing.specs.Refusals.{calls_fault}
-use Rattle.nequllpa.specs.Ram.{IsRamFault}
+use Rattle.ii_indexing.specs.RamFiles.{IsRamFault}
 use Rattle.ii_reader.specs.InvertedIndexReader.{GivesPostings, InvertedIndexReaderState, ReaderHolds}
 use Rattle.ii_reader.specs.OpenIndex.{FieldReaderHolds, IndexHolds, OpenIndexState}
 use Rattle.ii_reader.specs.SegmentPostings.{SegmentPostingsState}

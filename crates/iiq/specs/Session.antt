@@ -10,7 +10,7 @@ use Rattle.ii_base.specs.declared.schema.value_type.ValueType.TheVariants.{Json,
 use Rattle.ii_definitions.specs.Fields.{option_of}
 use Rattle.ii_definitions.specs.Tokens.{Call, IndexToken, tokens_of}
 use Rattle.ii_indexing.specs.Refusals.{calls_fault}
-use Rattle.nequllpa.specs.Ram.{IsRamFault}
+use Rattle.ii_indexing.specs.RamFiles.{IsRamFault}
 
 -- the schema: texts with positions, numbers, and JSON values whose texts have positions
 abbrev pub fields : List SchemaEntry

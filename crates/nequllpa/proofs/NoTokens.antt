@@ -20,7 +20,7 @@ use Rattle.ii_postings_writer.specs.TermLimits.{AreWithin, FirstOf, HasLargeSum,
 use Rattle.ii_postings_writer.specs.TokenFiles.{FirstEnds, FirstTerm, field_keys, field_terms, fields_of, file_bodies, key_term, token_bodies}
 use Rattle.ii_postings_writer.proofs.TokenTerms.{no_keys}
 use Rattle.ii_indexing.specs.IndexFiles.{PassLimits}
-use Rattle.nequllpa.specs.Ram.{IsRamFault, empty_file}
+use Rattle.ii_indexing.specs.RamFiles.{IsRamFault, empty_file}
 
 no_terms : (es : List SchemaEntry) (field : ℕ) → field_terms es [] field ≡ []
 no_terms es field = ap (map (key_term (option_of es field) field [])) (no_keys field)

@@ -13,7 +13,7 @@ use Rattle.ii_indexing.specs.declared.index_writers.IndexWriters.{IndexWriters}
 use Rattle.ii_reader.specs.OpenIndex.{GivesReaders, IndexHolds, NormsHold, OpenIndexState}
 use Rattle.ii_reader.specs.InvertedIndexReader.{AllOpen}
 use Rattle.ii_reader.proofs.KnownLemmas.{readers_open}
-use Rattle.nequllpa.specs.Ram.{IsRamFault, empty_files}
+use Rattle.ii_indexing.specs.RamFiles.{IsRamFault, empty_files}
 
 pub appended : (bytes : List ℕ) (o : Option (List ℕ)) → Appends (Some []) o bytes → o ≡ Some bytes
 appended bytes None h = absurd h
@@ -45,31 +45,6 @@ all_open entries n ts index r is gives many =
 pub readers_fault : (entries : List SchemaEntry) (ts : List IndexToken) (P : Fault → Type 0) (r : Result OpenIndexState Fault) → GivesReaders entries ts r → IfErr r (λ e. (e ≡ OutOfMemory) ⊎ P e)
 readers_fault entries ts P (Ok index) h = tt
 readers_fault entries ts P (Err e) h = inl h
-
-pub memory_or : (f : Fault) → (memory_fault f ≡ f) ⊎ (memory_fault f ≡ OutOfMemory)
-memory_or OutOfMemory = inl refl
-memory_or Write = inr refl
-memory_or SerializerClosed = inl refl
-memory_or IndexerFailed = inl refl
-memory_or (UnsupportedLeaf kind) = inl refl
-memory_or DecreasingPosition = inl refl
-memory_or (Limit name) = inl refl
-memory_or (Damaged part) = inl refl
-
-memory_limits : (W : Type 0) (entries : List SchemaEntry) (n : ℕ) (ts : List IndexToken) (fault : Fault) → IsIndexFault {W = W} entries n empty_files ts fault → (memory_fault fault ≡ OutOfMemory) ⊎ IsRamFault entries n ts fault
-memory_limits W entries n ts fault cause =
-    ⊎_elim (λ (memory : fault ≡ OutOfMemory). inl (ap memory_fault memory))
-    (λ later. ⊎_elim (λ (write : fault ≡ Write). inl (ap memory_fault write)) (λ last. inr last) later)
-    cause
-
--- why they can't be written
-pub fault_in_ram : {W : Type 0} (entries : List SchemaEntry) (n : ℕ) (files : IndexWriters W) (ts : List IndexToken) (fault : Fault) → files ≡ empty_files → IsIndexFault entries n files ts fault
-    → (memory_fault fault ≡ OutOfMemory) ⊎ IsRamFault entries n ts (memory_fault fault)
-fault_in_ram {W} entries n files ts fault empty cause =
-    ⊎_elim inl
-    (λ (limit : IsRamFault entries n ts fault).
-    ⊎_elim (λ (same : memory_fault fault ≡ fault). inr (subst (IsRamFault entries n ts) (sym same) limit)) inl (memory_or fault))
-    (memory_limits W entries n ts fault (subst (λ (f : IndexWriters W). IsIndexFault entries n f ts fault) empty cause))
 
 -- a file that was taken out of its writer
 pub same_file : (bytes items known : List ℕ) (o : Option (List ℕ)) → bytes ≡ items → Some items ≡ o → o ≡ Some known → known ≡ bytes

@@ -13,7 +13,7 @@ use Rattle.ii_postings_writer.specs.TermLimits.{AreWithin, FirstOf, HasLargeSum,
 use Rattle.ii_postings_writer.specs.TokenFiles.{FirstEnds, FirstTerm, field_terms}
 use Rattle.ii_indexing.specs.IndexFiles.{HaveNoRoom, PassLimits}
 use Rattle.ii_reader.specs.OpenIndex.{OpenIndexState}
-use Rattle.nequllpa.specs.Ram.{IsRamFault, empty_file}
+use Rattle.ii_indexing.specs.RamFiles.{IsRamFault, empty_file}
 use Rattle.nequllpa.proofs.NoTokens.{norms_have_room}
 
 none_of_terms : (mode : IndexRecordOption) (P : WrittenTerm → Type 0) → ((t : WrittenTerm) → IsWithin mode t → P t → ⊥) → (ts : List WrittenTerm) → AllByRecursion (IsWithin mode) ts → FirstOf (IsWithin mode) P ts → ⊥

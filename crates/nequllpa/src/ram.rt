@@ -8,12 +8,12 @@ ghost use Rattle.ii_definitions.specs.Norms.{HoldNorms};
 ghost use Rattle.ii_definitions.specs.Tokens.{IndexToken, tokens_of};
 ghost use Rattle.ii_indexing.specs.IndexCalls.{MayAllBeIndexed, call_of};
 ghost use Rattle.ii_indexing.specs.Refusals.{calls_fault};
-ghost use Rattle.nequllpa.specs.Ram.{IsRamFault, empty_files};
+ghost use Rattle.ii_indexing.specs.RamFiles.{IsRamFault};
 ghost use Rattle.ii_reader.specs.InvertedIndexReader.{AllOpen};
 ghost use Rattle.ii_reader.specs.OpenIndex.{GivesReaders, IndexHolds, NormsHold};
 
 use bytes::Bytes;
-use ii_base::{CountingWriter, Fault, Schema, TextAnalyzer};
+use ii_base::{Fault, Schema, TextAnalyzer};
 use ii_docset::DocId;
 use ii_indexing::{IndexCall, IndexWriters, write_index};
 use ii_reader::{OpenIndex, open_index};
@@ -44,7 +44,7 @@ pub fn index_in_ram<A: TextAnalyzer>(
         → IfErr result (λ e. (e ≡ Fault.OutOfMemory) ⊎ IsRamFault schema num_docs (tokens_of (A.words analyzer.now) (map (call_of schema) calls.items)) e) }
 {
     let copy = schema.clone()?;
-    let files = files_in_ram(alloc);
+    let files = IndexWriters::in_memory(alloc);
     let (files, written) = write_index(alloc, schema, num_docs, calls, analyzer, files);
     match written {
         Ok(()) => match open_files(alloc, files, &copy) {
@@ -63,18 +63,6 @@ fn trusted(index: OpenIndex) -> OpenIndex
     let mut index = index;
     index.trust();
     index
-}
-
-// Files that have no bytes yet.
-fn files_in_ram(alloc: Global) -> IndexWriters<Vec<u8>>
-    ensures { result ≡ empty_files }
-{
-    IndexWriters {
-        terms: CountingWriter::wrap(Vec::new(alloc)),
-        postings: CountingWriter::wrap(Vec::new(alloc)),
-        positions: CountingWriter::wrap(Vec::new(alloc)),
-        fieldnorms: CountingWriter::wrap(Vec::new(alloc)),
-    }
 }
 
 // The readers of the fields of a schema, and their norms.

@@ -1,5 +1,5 @@
 //! How the files of a folder are looked through for damage.
-use crate::commands::{NO, ended, refuse_path};
+use crate::commands::{NO, ended, refuse_path, tell_no_index};
 use ii_base::Schema;
 use ii_store::{Folder, IndexFault, Kind, LeftFile, LeftIndex, StoreFault, load_left};
 use nequllpa_folder::{Checked, check, schema_of};
@@ -11,8 +11,7 @@ pub fn answer_check(rt: &HostRuntime, path: &str) -> anyhow::Result<ExitCode> {
     let left = match load_left(rt.alloc(), &Folder::new(rt, path)) {
         Ok(left) => left,
         Err(StoreFault::Index(fault)) => {
-            println!(rt; "{path}: {fault}")?;
-            return Ok(ExitCode::from(NO));
+            return Ok(ExitCode::from(tell_no_index(rt, path, fault)?));
         }
         Err(StoreFault::Directory(fault)) => {
             return Ok(ExitCode::from(refuse_path(rt, path, fault)?));

@@ -4,7 +4,7 @@ ghost use Rattle.std.specs.Prelude.{◌<◌, IfOk, length};
 use clap::ArgMatches;
 use ii_base::{AsciiTokenizer, Field, Term, ValueType};
 use ii_search::{Query, parse_query};
-use ii_store::{Folder, Kind, StoreFault, StoredIndex, load};
+use ii_store::{Folder, IndexFault, Kind, StoreFault, StoredIndex, load};
 use nequllpa_folder::{
     AnswerFault, Listing, Opened, TermChoice, term_of, write_count, write_fields, write_listing,
     write_postings, write_stats, write_terms,
@@ -199,12 +199,27 @@ fn print_files(rt: &HostRuntime, index: &StoredIndex) -> anyhow::Result<()> {
 fn loaded_at(rt: &HostRuntime, path: &str) -> anyhow::Result<Result<StoredIndex, u8>> {
     match load(rt.alloc(), &Folder::new(rt, path)) {
         Ok(stored) => Ok(Ok(stored)),
-        Err(StoreFault::Index(fault)) => {
-            println!(rt; "{path}: {fault}")?;
-            Ok(Err(NO))
-        }
+        Err(StoreFault::Index(fault)) => Ok(Err(tell_no_index(rt, path, fault)?)),
         Err(StoreFault::Directory(fault)) => Ok(Err(refuse_path(rt, path, fault)?)),
     }
+}
+
+/// Prints why a folder has no index, tells on standard error what to do, and gives the status.
+pub fn tell_no_index(rt: &HostRuntime, path: &str, fault: IndexFault) -> anyhow::Result<u8> {
+    println!(rt; "{path}: {fault}")?;
+    match fault {
+        IndexFault::NoIndex => eprintln!(rt; "nequllpa: the command index makes one")?,
+        IndexFault::OtherVersion(_) => {
+            eprintln!(rt; "nequllpa: index the lines again by this program")?
+        }
+        IndexFault::DamagedMeta
+        | IndexFault::Missing(_)
+        | IndexFault::WrongLength(_)
+        | IndexFault::WrongChecksum(_) => eprintln!(rt;
+            "nequllpa: the command check tells what is damaged; index the lines again, or take the folder from a copy"
+        )?,
+    }
+    Ok(NO)
 }
 
 // The index of these bytes, or the status where they aren't one.
@@ -220,6 +235,7 @@ fn opened_of(
                 return Ok(Err(refuse_path(rt, path, fault)?));
             }
             println!(rt; "{path}: {fault}")?;
+            eprintln!(rt; "nequllpa: the command check tells what is damaged")?;
             Ok(Err(NO))
         }
     }

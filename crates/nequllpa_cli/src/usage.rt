@@ -79,21 +79,6 @@ fn search_command<'a>(alloc: Global) -> Result<Command<'a>, AllocError> {
         .long("count")
         .action(ArgAction::SetTrue)
         .help("Prints how many documents there are, alone");
-    let positions = flag(
-        alloc,
-        "positions",
-        "Prints behind each document the terms of the query that stand in it, each with its positions: parted by tabs, as FIELD:TERM P P",
-    );
-    let ids = flag(
-        alloc,
-        "ids",
-        "Prints the value of the field id, where the schema has one, in place of the number of a document",
-    );
-    let json = flag(
-        alloc,
-        "json",
-        "Prints an object of JSON for each document: doc, its number; with --ids id; with --positions terms, each with field, term and positions",
-    );
     of_folder(
         alloc,
         "search",
@@ -103,9 +88,33 @@ fn search_command<'a>(alloc: Global) -> Result<Command<'a>, AllocError> {
     .arg(field)?
     .arg(limit)?
     .arg(count)?
-    .arg(positions)?
-    .arg(ids)?
-    .arg(json)
+    .arg(positions_flag(alloc))?
+    .arg(ids_flag(alloc))?
+    .arg(json_flag(alloc))
+}
+
+fn positions_flag<'a>(alloc: Global) -> Arg<'a> {
+    flag(
+        alloc,
+        "positions",
+        "Prints behind each document the terms of the query that stand in it, each with its positions: parted by tabs, as FIELD:TERM P P",
+    )
+}
+
+fn ids_flag<'a>(alloc: Global) -> Arg<'a> {
+    flag(
+        alloc,
+        "ids",
+        "Prints the value of the field id, where the schema has one, in place of the number of a document",
+    )
+}
+
+fn json_flag<'a>(alloc: Global) -> Arg<'a> {
+    flag(
+        alloc,
+        "json",
+        "Prints an object of JSON for each document: doc, its number; with --ids id; with --positions terms, each with field, term and positions",
+    )
 }
 
 // A word that is given or not.

@@ -12,10 +12,11 @@ use Rattle.ii_termstore.specs.declared.term_info.TermInfo.{TermInfo}
 use Rattle.ii_io.specs.declared.faults.Fault.TheVariants.{Damaged}
 use Rattle.ii_base.specs.declared.schema.index_record_option.IndexRecordOption.{IndexRecordOption}
 use Rattle.ii_termdict.specs.TermStreamer.{TermStreamerState}
+use Rattle.ii_reader.specs.declared.damage.DamagedTerm.{DamagedTerm}
+use Rattle.ii_reader.specs.Damage.{damage_of, damaged_term, damaged_terms}
 use Rattle.ii_reader.specs.InvertedIndexReader.{InvertedIndexReaderState, IsRefusal, OpensTerm, term_of_file}
 use Rattle.ii_reader.specs.SegmentPostings.{SegmentPostingsState}
-use Rattle.nequllpa_folder.specs.declared.walking.DamagedTerm.{DamagedTerm}
-use Rattle.nequllpa_folder.specs.Located.{damage_of, damaged_from, damaged_term, damaged_terms, damages_at}
+use Rattle.nequllpa_folder.specs.Located.{damaged_from, damages_at}
 
 -- The damaged ones so far, in front of those of the terms that are left, are all; the terms are read in their order, by what the field records.
 pub record IsLocating (reader : InvertedIndexReaderState) (option : IndexRecordOption) (terms : TermStreamerState) (ord : ℕ) (damaged : List DamagedTerm) : Type 0 where

@@ -10,6 +10,7 @@ use Rattle.ii_definitions.specs.Norms.{HoldNorms}
 use Rattle.ii_definitions.specs.Tokens.{IndexToken}
 use Rattle.ii_indexing.specs.IndexFiles.{WroteIndex}
 use Rattle.ii_indexing.specs.declared.index_writers.IndexWriters.{IndexWriters}
+use Rattle.ii_indexing.specs.RamFiles.{empty_files}
 use Rattle.ii_reader.specs.OpenIndex.{GivesReaders, IndexHolds, NormsHold, OpenIndexState}
 use Rattle.ii_store.specs.Index.{Index}
 use Rattle.nequllpa_folder.specs.Stored.{HoldsTokens}
@@ -25,15 +26,14 @@ appended bytes items old (Some xs) empty is h = inside (sym (whole xs (subst (λ
     whole : (xs : List ℕ) → Appends (Some []) (Some xs) bytes → Some xs ≡ Some bytes
     whole xs h = ap (λ (xs : List ℕ). Some xs) h
 
-pub holds_written : {W : Type 0} (entries : List SchemaEntry) (n : ℕ) (old new : IndexWriters W) (ts : List IndexToken) (i : Index) → WroteIndex entries n old new ts → i.num_docs ≡ n
-    → (old.terms.contents ≡ Some []) × (old.postings.contents ≡ Some []) × (old.positions.contents ≡ Some []) × (old.fieldnorms.contents ≡ Some [])
+pub holds_written : {W : Type 0} (entries : List SchemaEntry) (n : ℕ) (old new : IndexWriters W) (ts : List IndexToken) (i : Index) → WroteIndex entries n old new ts → i.num_docs ≡ n → old ≡ empty_files
     → (Some i.terms ≡ new.terms.contents) × (Some i.postings ≡ new.postings.contents) × (Some i.positions ≡ new.positions.contents) × (Some i.fieldnorms ≡ new.fieldnorms.contents)
     → HoldsTokens entries i ts
-holds_written entries n old new ts i w docs empty is =
-    let a = appended w.terms.terms i.terms old.terms.contents new.terms.contents empty.0 is.0 w.terms.wrote_terms.appends in
-    let b = appended w.terms.postings i.postings old.postings.contents new.postings.contents empty.1 is.1 w.terms.wrote_postings.appends in
-    let c = appended w.terms.positions i.positions old.positions.contents new.positions.contents empty.2 is.2 w.terms.wrote_positions.appends in
-    let d = appended w.norms.fieldnorms i.fieldnorms old.fieldnorms.contents new.fieldnorms.contents empty.3 is.3 w.norms.wrote.appends in
+holds_written {W} entries n old new ts i w docs empty is =
+    let a = appended w.terms.terms i.terms old.terms.contents new.terms.contents (ap (λ (f : IndexWriters W). f.terms.contents) empty) is.0 w.terms.wrote_terms.appends in
+    let b = appended w.terms.postings i.postings old.postings.contents new.postings.contents (ap (λ (f : IndexWriters W). f.postings.contents) empty) is.1 w.terms.wrote_postings.appends in
+    let c = appended w.terms.positions i.positions old.positions.contents new.positions.contents (ap (λ (f : IndexWriters W). f.positions.contents) empty) is.2 w.terms.wrote_positions.appends in
+    let d = appended w.norms.fieldnorms i.fieldnorms old.fieldnorms.contents new.fieldnorms.contents (ap (λ (f : IndexWriters W). f.fieldnorms.contents) empty) is.3 w.norms.wrote.appends in
     record {
       tokens = subst (λ (x : List ℕ). HoldTokens (option_of entries) x i.postings i.positions ts) a
           (subst (λ (x : List ℕ). HoldTokens (option_of entries) w.terms.terms x i.positions ts) b

@@ -2,10 +2,10 @@
 use crate::faults::AnswerFault;
 use crate::keys::push_key;
 use crate::walked_files::{OpenedField, WalkedFiles};
-use crate::walking::{DamagedTerm, StrayTerm, Walk};
+use crate::walking::{StrayTerm, Walk};
 use ii_base::{Field, FieldEntry, Part, Schema};
 use ii_fieldnorm::{FieldNormReader, fieldnorm_to_id};
-use ii_reader::InvertedIndexReader;
+use ii_reader::{DamagedTerm, InvertedIndexReader};
 use ii_store::{Kind, StoredIndex};
 use ii_termdict::TermInfo;
 use std::alloc::Global;

@@ -1,12 +1,17 @@
 //! How the index of lines is made.
-ghost use Rattle.std.specs.Prelude.{◌≡◌, [], IfOk, Some};
+ghost use Rattle.std.specs.Prelude.{◌≡◌, ◌⊎◌, [], Err, IfErr, IfOk, IfSome, None, Some};
+ghost use Rattle.std.specs.Str.{IsUtf8};
 ghost use Rattle.ii_base.specs.AsciiWords.{ascii_words};
+ghost use Rattle.ii_definitions.specs.Fields.{option_of};
 ghost use Rattle.ii_definitions.specs.Tokens.{tokens_of};
+ghost use Rattle.ii_indexing.specs.RamFiles.{IsRamFault};
+ghost use Rattle.ii_indexing.specs.Refusals.{calls_fault};
 ghost use Rattle.ii_store.specs.Index.{view};
+ghost use Rattle.nequllpa_folder.specs.Inputs.{AddsInput};
 ghost use Rattle.nequllpa_folder.specs.Stored.{HoldsTokens};
 
 use crate::faults::InputFault;
-use ii_base::{AsciiTokenizer, CountingWriter, Fault};
+use ii_base::{AsciiTokenizer, Fault};
 use ii_documents::Documents;
 use ii_indexing::IndexWriters;
 use ii_store::StoredIndex;
@@ -14,7 +19,13 @@ use std::alloc::Global;
 
 /// Adds the document of a line, given as bytes with or without the end of the line. A line of white space
 /// alone says none. Answers whether there was a document.
-pub fn add_line(alloc: Global, documents: &mut Documents, line: &[u8]) -> Result<bool, InputFault> {
+///
+/// `NotUtf8` where the bytes aren't UTF-8, else the fault of the line (`Documents::push_line`); the
+/// documents are then as they were.
+pub fn add_line(alloc: Global, documents: &mut Documents, line: &[u8]) -> Result<bool, InputFault>
+    ensures added { IsUtf8 line.now → AddsInput documents.old documents.new line.now result }
+    ensures kept { ¬ IsUtf8 line.now → (result ≡ Err InputFault.NotUtf8) × (documents.new ≡ documents.old) }
+{
     let Ok(text) = std::str::from_utf8(line) else {
         return Err(InputFault::NotUtf8);
     };
@@ -36,28 +47,16 @@ pub fn add_line(alloc: Global, documents: &mut Documents, line: &[u8]) -> Result
 pub fn store(alloc: Global, documents: Documents, schema: Vec<u8>) -> Result<StoredIndex, Fault>
     ensures says { IfOk result (λ s. (s.num_docs ≡ documents.num_docs) × (s.schema.items ≡ schema.items)) }
     ensures holds { IfOk result (λ s. HoldsTokens documents.schema (view s) (tokens_of ascii_words documents.calls)) }
+    ensures refused { IfSome (calls_fault ascii_words (option_of documents.schema) [] documents.calls) (λ fault. (result ≡ Err fault) ⊎ (result ≡ Err Fault.OutOfMemory)) }
+    ensures fault { calls_fault ascii_words (option_of documents.schema) [] documents.calls ≡ None
+        → IfErr result (λ e. (e ≡ Fault.OutOfMemory) ⊎ IsRamFault documents.schema documents.num_docs (tokens_of ascii_words documents.calls) e) }
 {
     let num_docs = documents.num_docs();
-    let files = files_in_memory(alloc);
+    let files = IndexWriters::in_memory(alloc);
     let (files, written) = documents.write(alloc, &AsciiTokenizer, files);
     match written {
         Ok(()) => Ok(stored(num_docs, schema, files)),
         Err(fault) => Err(fault.in_memory()),
-    }
-}
-
-// Files that have no bytes yet.
-fn files_in_memory(alloc: Global) -> IndexWriters<Vec<u8>>
-    ensures terms { result.terms.contents ≡ Some [] }
-    ensures postings { result.postings.contents ≡ Some [] }
-    ensures positions { result.positions.contents ≡ Some [] }
-    ensures fieldnorms { result.fieldnorms.contents ≡ Some [] }
-{
-    IndexWriters {
-        terms: CountingWriter::wrap(Vec::new(alloc)),
-        postings: CountingWriter::wrap(Vec::new(alloc)),
-        positions: CountingWriter::wrap(Vec::new(alloc)),
-        fieldnorms: CountingWriter::wrap(Vec::new(alloc)),
     }
 }
 

@@ -2,23 +2,15 @@
 ghost use Rattle.std.specs.Prelude.{◌≡◌, ◌++◌, IfOk, OnOk};
 ghost use Rattle.ii_docset.specs.Cursor.{IsCurrent};
 ghost use Rattle.ii_io.specs.Faults.{OnlyMemory};
+ghost use Rattle.ii_reader.specs.Damage.{damaged_terms};
 ghost use Rattle.ii_reader.specs.InvertedIndexReader.{term_of_file};
-ghost use Rattle.nequllpa_folder.specs.Located.{damaged_terms, damages_at};
+ghost use Rattle.nequllpa_folder.specs.Located.{damages_at};
 
-use ii_base::{Fault, IndexRecordOption, Part};
+use ii_base::{Fault, IndexRecordOption};
 use ii_docset::{DocSet, Postings, TERMINATED};
-use ii_reader::{InvertedIndexReader, SegmentPostings};
+use ii_reader::{DamagedTerm, InvertedIndexReader, SegmentPostings};
 use ii_termdict::TermInfo;
 use std::alloc::{AllocError, Global};
-
-/// A term whose list is damaged.
-#[derive(Clone, Copy, Debug, PartialEq, Eq)]
-pub struct DamagedTerm {
-    /// Its place in the order of the keys.
-    pub ord: u64,
-    /// The first part of its list that the bytes fail to hold.
-    pub part: Part,
-}
 
 /// A term whose list has a document that is none of the index.
 #[derive(Clone, Copy, Debug, PartialEq, Eq)]

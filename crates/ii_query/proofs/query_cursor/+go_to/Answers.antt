@@ -4,50 +4,56 @@ use Rattle.std.specs.List.{AllZip}
 use Rattle.ii_base.specs.Entries.{document}
 use Rattle.ii_docset.specs.Cursor.{doc_at, from_doc}
 use Rattle.ii_docset.specs.Intersection.{has_doc}
-use Rattle.ii_docset.proofs.CursorLemmas.{doc_below}
+use Rattle.ii_docset.proofs.CursorLemmas.{doc_below, from_doc_here}
 use Rattle.ii_docset.proofs.IntersectionLemmas.{asked_for, at_end, bound_above, bound_more}
 use Rattle.ii_query.specs.Combined.{common, without}
-use Rattle.ii_query.proofs.NestedLemmas.{least_of}
-use Rattle.ii_query.proofs.PickedLemmas.{common_at, common_found, picked_from, picked_sound, without_asked, without_at, without_found}
-use Rattle.ii_query.proofs.UnionLemmas.{either_from, either_sound, next_from}
+use Rattle.ii_query.proofs.NestedLemmas.{either_at}
+use Rattle.ii_query.proofs.PickedLemmas.{common_at, common_found, picked_at, picked_from, without_asked, without_at, without_found}
+use Rattle.ii_query.proofs.UnionLemmas.{either_from, next_from}
 use Rattle.ii_query.specs.WorkLaws.{all_went_on, none_went}
 use Rattle.ii_query.proofs.WorkLemmas.{all_beside}
 use Rattle.ii_query.proofs.query_cursor.+go_to.Goals as goal
 
-pub QueryCursor::go_to-returns-in-Both-clause-rest : goal.QueryCursor::go_to-returns-in-Both-clause-rest
-QueryCursor::go_to-returns-in-Both-clause-rest g t c =
+pub QueryCursor::go_to-returns-then-target-doc-clause-rest : goal.QueryCursor::go_to-returns-then-target-doc-clause-rest
+QueryCursor::go_to-returns-then-target-doc-clause-rest g t c =
+    let here = c.current-doc.ensures.doc in
+    let low = c.if-target-doc.true in
+    sym (from_doc_here c.args.target c.args.self.now.rest c.current-doc.ensures.sound.ascending (omega (arith, here, low)))
+
+pub QueryCursor::go_to-returns-then-target-doc-clause-work : goal.QueryCursor::go_to-returns-then-target-doc-clause-work
+QueryCursor::go_to-returns-then-target-doc-clause-work g t c = none_went g.T.DocSet.went g.met.T.DocSet.went_nowhere c.args.self.now.cursors
+
+pub move_to-returns-in-Both-clause-rest : goal.move_to-returns-in-Both-clause-rest
+move_to-returns-in-Both-clause-rest g t c =
     let es = c.in-Both.first.value.rest in
     let fs = c.in-Both.other.value.rest in
     let gone : common c.meet.new.first.rest c.meet.new.other.rest ≡ common (from_doc c.args.target es) fs = search rules in
-    rw (← c.self.view_is, c.in-Both.is) (gone ∙ picked_from (has_doc fs) c.args.target es)
+    rw (c.in-Both.is) (gone ∙ picked_from (has_doc fs) c.args.target es)
 
-pub QueryCursor::go_to-returns-in-Both-clause-sound : goal.QueryCursor::go_to-returns-in-Both-clause-sound
-QueryCursor::go_to-returns-in-Both-clause-sound g t c = picked_sound (has_doc c.meet.new.other.rest) c.meet.new.first.rest c.meet.ensures.at.sound
+pub move_to-returns-in-Both-clause-at : goal.move_to-returns-in-Both-clause-at
+move_to-returns-in-Both-clause-at g t c = picked_at (has_doc c.meet.new.other.rest) c.meet.new.first.rest c.meet.result c.meet.ensures.at c.meet.ensures.doc
 
-pub QueryCursor::go_to-returns-in-Either-clause-doc : goal.QueryCursor::go_to-returns-in-Either-clause-doc
-QueryCursor::go_to-returns-in-Either-clause-doc g t c =
-    c.min.ensures ∙ least_of c.go_to-one.new.self.rest c.go_to-two.new.self.rest c.go_to-one.result c.go_to-two.result c.go_to-one.ensures.sound c.go_to-two.ensures.sound c.go_to-one.ensures.doc c.go_to-two.ensures.doc
+pub move_to-returns-in-Either-clause-at : goal.move_to-returns-in-Either-clause-at
+move_to-returns-in-Either-clause-at g t c =
+    rw (c.min.ensures) (either_at c.go_to-one.new.self.rest c.go_to-two.new.self.rest c.go_to-one.result c.go_to-two.result c.go_to-one.ensures.sound c.go_to-two.ensures.sound c.go_to-one.ensures.doc c.go_to-two.ensures.doc)
 
-pub QueryCursor::go_to-returns-in-Either-clause-rest : goal.QueryCursor::go_to-returns-in-Either-clause-rest
-QueryCursor::go_to-returns-in-Either-clause-rest g t c =
+pub move_to-returns-in-Either-clause-rest : goal.move_to-returns-in-Either-clause-rest
+move_to-returns-in-Either-clause-rest g t c =
     let es = c.in-Either.first.value.rest in
     let fs = c.in-Either.other.value.rest in
     let one : c.go_to-one.new.self.rest ≡ from_doc c.args.target es = search rules in
     let two : c.go_to-two.new.self.rest ≡ from_doc c.args.target fs = search rules in
-    rw (← c.self.view_is, c.in-Either.is, one, two) (either_from c.args.target es fs)
+    rw (c.in-Either.is, one, two) (either_from c.args.target es fs)
 
-pub QueryCursor::go_to-returns-in-Either-clause-sound : goal.QueryCursor::go_to-returns-in-Either-clause-sound
-QueryCursor::go_to-returns-in-Either-clause-sound g t c = either_sound c.go_to-one.new.self.rest c.go_to-two.new.self.rest c.go_to-one.ensures.sound c.go_to-two.ensures.sound
-
-pub QueryCursor::go_to-returns-in-Without-clause-rest : goal.QueryCursor::go_to-returns-in-Without-clause-rest
-QueryCursor::go_to-returns-in-Without-clause-rest g t c =
+pub move_to-returns-in-Without-clause-rest : goal.move_to-returns-in-Without-clause-rest
+move_to-returns-in-Without-clause-rest g t c =
     let es = c.in-Without.first.value.rest in
     let fs = c.in-Without.other.value.rest in
     let gone : without c.leave_out.new.first.rest c.leave_out.new.other.rest ≡ without (from_doc c.args.target es) fs = search rules in
-    rw (← c.self.view_is, c.in-Without.is) (gone ∙ picked_from (λ (d : ℕ). not (has_doc fs d)) c.args.target es)
+    rw (c.in-Without.is) (gone ∙ picked_from (λ (d : ℕ). not (has_doc fs d)) c.args.target es)
 
-pub QueryCursor::go_to-returns-in-Without-clause-sound : goal.QueryCursor::go_to-returns-in-Without-clause-sound
-QueryCursor::go_to-returns-in-Without-clause-sound g t c = picked_sound (λ (d : ℕ). not (has_doc c.leave_out.new.other.rest d)) c.leave_out.new.first.rest c.leave_out.ensures.at.sound
+pub move_to-returns-in-Without-clause-at : goal.move_to-returns-in-Without-clause-at
+move_to-returns-in-Without-clause-at g t c = picked_at (λ (d : ℕ). not (has_doc c.leave_out.new.other.rest d)) c.leave_out.new.first.rest c.leave_out.result c.leave_out.ensures.at c.leave_out.ensures.doc
 
 pub leave_out-returns-then-go_to-doc-clause-at : goal.leave_out-returns-then-go_to-doc-clause-at
 leave_out-returns-then-go_to-doc-clause-at g t c =
@@ -139,25 +145,25 @@ meet-returns-clause-up_to g t c =
     let below = doc_below c.loop-doc.first.rest c.loop-doc.invariant.sound.ascending in
     omega (arith, here, below)
 
-pub QueryCursor::go_to-returns-in-Both-clause-work : goal.QueryCursor::go_to-returns-in-Both-clause-work
-QueryCursor::go_to-returns-in-Both-clause-work g t c =
+pub move_to-returns-in-Both-clause-work : goal.move_to-returns-in-Both-clause-work
+move_to-returns-in-Both-clause-work g t c =
     let gone : AllZip g.T.DocSet.went c.in-Both.first.value.cursors c.go_to.new.self.cursors = search rules in
     let met : AllZip g.T.DocSet.went c.go_to.new.self.cursors c.meet.new.first.cursors = search rules in
     let other : AllZip g.T.DocSet.went c.in-Both.other.value.cursors c.meet.new.other.cursors = search rules in
-    rw (← c.self.view_is, c.in-Both.is) (all_beside g.T.DocSet.went c.in-Both.first.value.cursors c.in-Both.other.value.cursors c.meet.new.first.cursors c.meet.new.other.cursors (all_went_on g.T.DocSet.went g.met.T.DocSet.went_on _ _ _ gone met) other)
+    rw (c.in-Both.is) (all_beside g.T.DocSet.went c.in-Both.first.value.cursors c.in-Both.other.value.cursors c.meet.new.first.cursors c.meet.new.other.cursors (all_went_on g.T.DocSet.went g.met.T.DocSet.went_on _ _ _ gone met) other)
 
-pub QueryCursor::go_to-returns-in-Either-clause-work : goal.QueryCursor::go_to-returns-in-Either-clause-work
-QueryCursor::go_to-returns-in-Either-clause-work g t c =
+pub move_to-returns-in-Either-clause-work : goal.move_to-returns-in-Either-clause-work
+move_to-returns-in-Either-clause-work g t c =
     let one : AllZip g.T.DocSet.went c.in-Either.first.value.cursors c.go_to-one.new.self.cursors = search rules in
     let two : AllZip g.T.DocSet.went c.in-Either.other.value.cursors c.go_to-two.new.self.cursors = search rules in
-    rw (← c.self.view_is, c.in-Either.is) (all_beside g.T.DocSet.went c.in-Either.first.value.cursors c.in-Either.other.value.cursors c.go_to-one.new.self.cursors c.go_to-two.new.self.cursors one two)
+    rw (c.in-Either.is) (all_beside g.T.DocSet.went c.in-Either.first.value.cursors c.in-Either.other.value.cursors c.go_to-one.new.self.cursors c.go_to-two.new.self.cursors one two)
 
-pub QueryCursor::go_to-returns-in-Without-clause-work : goal.QueryCursor::go_to-returns-in-Without-clause-work
-QueryCursor::go_to-returns-in-Without-clause-work g t c =
+pub move_to-returns-in-Without-clause-work : goal.move_to-returns-in-Without-clause-work
+move_to-returns-in-Without-clause-work g t c =
     let gone : AllZip g.T.DocSet.went c.in-Without.first.value.cursors c.go_to-in-Without.new.self.cursors = search rules in
     let left : AllZip g.T.DocSet.went c.go_to-in-Without.new.self.cursors c.leave_out.new.first.cursors = search rules in
     let other : AllZip g.T.DocSet.went c.in-Without.other.value.cursors c.leave_out.new.other.cursors = search rules in
-    rw (← c.self.view_is, c.in-Without.is) (all_beside g.T.DocSet.went c.in-Without.first.value.cursors c.in-Without.other.value.cursors c.leave_out.new.first.cursors c.leave_out.new.other.cursors (all_went_on g.T.DocSet.went g.met.T.DocSet.went_on _ _ _ gone left) other)
+    rw (c.in-Without.is) (all_beside g.T.DocSet.went c.in-Without.first.value.cursors c.in-Without.other.value.cursors c.leave_out.new.first.cursors c.leave_out.new.other.cursors (all_went_on g.T.DocSet.went g.met.T.DocSet.went_on _ _ _ gone left) other)
 
 pub leave_out-loop-doc-init : goal.leave_out-loop-doc-init
 leave_out-loop-doc-init g t c = record {

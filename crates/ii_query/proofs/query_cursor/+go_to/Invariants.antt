@@ -5,16 +5,23 @@ use Rattle.ii_base.specs.declared.doc_id.TheConstants.{TERMINATED}
 use Rattle.ii_docset.specs.Cursor.{doc_at, IsSound}
 use Rattle.ii_docset.specs.Intersection.{common_docs}
 use Rattle.ii_query.specs.Combined.{without}
+use Rattle.ii_query.specs.QueryCursor.{depth_of}
 use Rattle.ii_query.proofs.query_cursor.+go_to.Given as goal
 
 abbrev pub decreases-QueryCursor::go_to : goal.decreases-QueryCursor::go_to
-decreases-QueryCursor::go_to g l = 2 * l.self.now.depth
+decreases-QueryCursor::go_to g l = 4 * l.self.now.depth + 2
+
+abbrev pub decreases-QueryCursor::go_on : goal.decreases-QueryCursor::go_on
+decreases-QueryCursor::go_on g l = 4 * l.self.now.depth + 1
+
+abbrev pub decreases-move_to : goal.decreases-move_to
+decreases-move_to g l = 4 * depth_of l.parts.now
 
 abbrev pub decreases-meet : goal.decreases-meet
-decreases-meet g l = 2 * max l.first.now.depth l.other.now.depth + 1
+decreases-meet g l = 4 * max l.first.now.depth l.other.now.depth + 3
 
 abbrev pub decreases-leave_out : goal.decreases-leave_out
-decreases-leave_out g l = 2 * max l.first.now.depth l.other.now.depth + 1
+decreases-leave_out g l = 4 * max l.first.now.depth l.other.now.depth + 3
 
 abbrev pub invariant-meet-loop-doc : goal.invariant-meet-loop-doc
 invariant-meet-loop-doc g l = record {

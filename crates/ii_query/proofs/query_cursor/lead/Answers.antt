@@ -1,10 +1,15 @@
 use Rattle.std.proofs.Common.{rules}
 use Rattle.std.specs.List.{AllZip}
+use Rattle.ii_docset.specs.Intersection.{has_doc}
+use Rattle.ii_query.proofs.PickedLemmas.{picked_at}
 use Rattle.ii_query.proofs.WorkLemmas.{all_beside}
 use Rattle.ii_query.proofs.query_cursor.lead.Goals as goal
 
 pub returns-clause-work : goal.returns-clause-work
 returns-clause-work g c =
-    let one : AllZip g.T.DocSet.went c.args.first.cursors c.meet.new.first.cursors = search rules in
-    let two : AllZip g.T.DocSet.went c.args.other.cursors c.meet.new.other.cursors = search rules in
-    all_beside g.T.DocSet.went c.args.first.cursors c.args.other.cursors c.meet.new.first.cursors c.meet.new.other.cursors one two
+    let one : AllZip g.T.DocSet.went c.args.first.cursors c.meet-doc.new.first.cursors = search rules in
+    let two : AllZip g.T.DocSet.went c.args.other.cursors c.meet-doc.new.other.cursors = search rules in
+    all_beside g.T.DocSet.went c.args.first.cursors c.args.other.cursors c.meet-doc.new.first.cursors c.meet-doc.new.other.cursors one two
+
+pub invariant_of-result : goal.invariant_of-result
+invariant_of-result g c = picked_at (has_doc c.meet-doc.new.other.rest) c.meet-doc.new.first.rest c.meet-doc.result c.meet-doc.ensures.at c.meet-doc.ensures.doc

@@ -8,18 +8,19 @@ use Rattle.ii_definitions.specs.Norms.{HoldNorms}
 use Rattle.ii_definitions.specs.Tokens.{tokens_of}
 use Rattle.ii_indexing.specs.IndexCalls.{call_of}
 use Rattle.ii_indexing.specs.IndexFiles.{IsIndexFault, WroteIndex}
+use Rattle.ii_indexing.specs.RamFiles.{IsRamFault}
 use Rattle.ii_reader.specs.OpenIndex.{GivesReaders, OpenIndexState}
-use Rattle.nequllpa.specs.Ram.{IsRamFault}
-use Rattle.nequllpa.proofs.RamLaws.{GivesAll, all_open, fault_in_ram, in_ram, index_holds, readers_fault}
+use Rattle.ii_indexing.proofs.RamLaws.{fault_in_ram}
+use Rattle.nequllpa.proofs.RamLaws.{GivesAll, all_open, in_ram, index_holds, readers_fault}
 use Rattle.nequllpa.proofs.ram.index_in_ram.Goals as goal
 
 pub trusted-requires : goal.trusted-requires
 trusted-requires g c =
     let ts = tokens_of (g.A.TextAnalyzer.words c.args.analyzer.now) (map (call_of c.args.schema) c.args.calls.items) in
-    let files = c.files_in_ram-files.result in
+    let files = c.in_memory-files.result in
     let new = c.write_index-files.result.0 in
     let wrote : WroteIndex c.args.schema c.args.num_docs files new ts = subst (λ (r : Result (Unit {0}) Fault). OnOk r (WroteIndex c.args.schema c.args.num_docs files new ts)) c.in-Ok.is c.write_index-files.ensures.wrote in
-    let ram = in_ram c.args.schema c.args.num_docs files new ts c.files_in_ram-files.ensures wrote in
+    let ram = in_ram c.args.schema c.args.num_docs files new ts c.in_memory-files.ensures wrote in
     let same = sym c.in_ok-copy.ensures.same in
     let hold = subst (λ (es : List SchemaEntry). HoldTokens (option_of es) wrote.terms.terms wrote.terms.postings wrote.terms.positions ts) same wrote.terms.hold in
     let norms = subst (λ (es : List SchemaEntry). HoldNorms es c.args.num_docs wrote.norms.fieldnorms ts) same wrote.norms.hold in
@@ -29,10 +30,10 @@ trusted-requires g c =
 pub returns-in-Ok-open_files-clause-holds : goal.returns-in-Ok-open_files-clause-holds
 returns-in-Ok-open_files-clause-holds g c =
     let ts = tokens_of (g.A.TextAnalyzer.words c.args.analyzer.now) (map (call_of c.args.schema) c.args.calls.items) in
-    let files = c.files_in_ram-files.result in
+    let files = c.in_memory-files.result in
     let new = c.write_index-files.result.0 in
     let wrote : WroteIndex c.args.schema c.args.num_docs files new ts = subst (λ (r : Result (Unit {0}) Fault). OnOk r (WroteIndex c.args.schema c.args.num_docs files new ts)) c.in-Ok.is c.write_index-files.ensures.wrote in
-    let ram = in_ram c.args.schema c.args.num_docs files new ts c.files_in_ram-files.ensures wrote in
+    let ram = in_ram c.args.schema c.args.num_docs files new ts c.in_memory-files.ensures wrote in
     let same = sym c.in_ok-copy.ensures.same in
     let hold = subst (λ (es : List SchemaEntry). HoldTokens (option_of es) wrote.terms.terms wrote.terms.postings wrote.terms.positions ts) same wrote.terms.hold in
     let norms = subst (λ (es : List SchemaEntry). HoldNorms es c.args.num_docs wrote.norms.fieldnorms ts) same wrote.norms.hold in
@@ -43,10 +44,10 @@ returns-in-Ok-open_files-clause-holds g c =
 pub returns-in-Ok-clause-fault : goal.returns-in-Ok-clause-fault
 returns-in-Ok-clause-fault g c none =
     let ts = tokens_of (g.A.TextAnalyzer.words c.args.analyzer.now) (map (call_of c.args.schema) c.args.calls.items) in
-    let files = c.files_in_ram-files.result in
+    let files = c.in_memory-files.result in
     let new = c.write_index-files.result.0 in
     let wrote : WroteIndex c.args.schema c.args.num_docs files new ts = subst (λ (r : Result (Unit {0}) Fault). OnOk r (WroteIndex c.args.schema c.args.num_docs files new ts)) c.in-Ok.is c.write_index-files.ensures.wrote in
-    let ram = in_ram c.args.schema c.args.num_docs files new ts c.files_in_ram-files.ensures wrote in
+    let ram = in_ram c.args.schema c.args.num_docs files new ts c.in_memory-files.ensures wrote in
     let same = sym c.in_ok-copy.ensures.same in
     let hold = subst (λ (es : List SchemaEntry). HoldTokens (option_of es) wrote.terms.terms wrote.terms.postings wrote.terms.positions ts) same wrote.terms.hold in
     let norms = subst (λ (es : List SchemaEntry). HoldNorms es c.args.num_docs wrote.norms.fieldnorms ts) same wrote.norms.hold in
@@ -56,7 +57,7 @@ returns-in-Ok-clause-fault g c none =
 pub returns-clause-fault : goal.returns-clause-fault
 returns-clause-fault g c none =
     let ts = tokens_of (g.A.TextAnalyzer.words c.args.analyzer.now) (map (call_of c.args.schema) c.args.calls.items) in
-    let files = c.files_in_ram-files.result in
+    let files = c.in_memory-files.result in
     rw c.in_memory.ensures
-    (fault_in_ram c.args.schema c.args.num_docs files ts c.in-Err.fault c.files_in_ram-files.ensures
+    (fault_in_ram c.args.schema c.args.num_docs files ts c.in-Err.fault c.in_memory-files.ensures
     (subst (λ (r : Result (Unit {0}) Fault). IfErr r (IsIndexFault c.args.schema c.args.num_docs files ts)) c.in-Err.is (c.write_index-files.ensures.fault none)))

@@ -1,6 +1,6 @@
 use Rattle.std.proofs.Common.{arith, sym}
 use Rattle.ii_docset.proofs.CursorLemmas.{from_doc_here}
-use Rattle.ii_query.proofs.query_cursor.go_on_to.Goals as goal
+use Rattle.ii_query.proofs.phrase.go_on_to.Goals as goal
 
 pub returns-clause-rest : goal.returns-clause-rest
 returns-clause-rest g c =
