@@ -37,17 +37,22 @@ found_is entries n index ts field key requested reader answer below holds at giv
     by (Err fault) option g = tt
 
 -- a look-up is refused for memory alone
-pub refused_is : (entries : List SchemaEntry) (n : ℕ) (index : OpenIndexState) (ts : List IndexToken) (field : ℕ) (key : List ℕ) (requested : IndexRecordOption) (reader : InvertedIndexReaderState) (answer : Result (Option SegmentPostingsState) Fault)
+pub refused_alone : (entries : List SchemaEntry) (n : ℕ) (index : OpenIndexState) (ts : List IndexToken) (field : ℕ) (key : List ℕ) (requested : IndexRecordOption) (reader : InvertedIndexReaderState) (answer : Result (Option SegmentPostingsState) Fault)
     → field < length entries → IndexHolds entries n index ts → slice_get index.readers field ≡ Some reader
     → ((f : ℕ) (tokens : List IndexToken) → ReaderHolds f reader tokens → GivesPostings reader.option f key requested tokens answer)
-    → IfErr answer (λ e. (e ≡ OutOfMemory) ⊎ IsRamFault entries n ts e)
-refused_is entries n index ts field key requested reader answer below holds at gives =
+    → IfErr answer (λ e. e ≡ OutOfMemory)
+refused_alone entries n index ts field key requested reader answer below holds at gives =
     let held : FieldReaderHolds entries field reader ts = rw at at (holds.readers field below) in
     by answer (gives field ts held.holds)
   where
-    by : (a : Result (Option SegmentPostingsState) Fault) → GivesPostings reader.option field key requested ts a → IfErr a (λ e. (e ≡ OutOfMemory) ⊎ IsRamFault entries n ts e)
+    by : (a : Result (Option SegmentPostingsState) Fault) → GivesPostings reader.option field key requested ts a → IfErr a (λ e. e ≡ OutOfMemory)
     by (Ok found) g = tt
-    by (Err fault) g = inl g
+    by (Err fault) g = g
+
+-- so it is where what was indexed may be refused as well
+pub refused_is : (entries : List SchemaEntry) (n : ℕ) (ts : List IndexToken) (answer : Result (Option SegmentPostingsState) Fault) → IfErr answer (λ e. e ≡ OutOfMemory) → IfErr answer (λ e. (e ≡ OutOfMemory) ⊎ IsRamFault entries n ts e)
+refused_is entries n ts (Ok found) memory = tt
+refused_is entries n ts (Err fault) memory = inl memory
 
 -- the norm of a document
 pub norm_is : (entries : List SchemaEntry) (n field doc id : ℕ) (ts : List IndexToken) (answer : Option Norms) (norms : Norms) → doc < n → answer ≡ Some norms → GivesNorms entries n field ts (Ok answer) → id ≡ id_of_doc norms doc

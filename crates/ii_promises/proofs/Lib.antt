@@ -1,3 +1,4 @@
+mod CheckingLaws
 mod IndexingLaws
 pub mod BoundLaws
 pub mod DecodesLaws

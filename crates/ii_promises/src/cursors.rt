@@ -1,5 +1,5 @@
 // A cursor over a term: what it answers, and how often it decodes.
-ghost use Rattle.std.specs.Prelude.{◌≡◌, ◌+◌, ◌*◌, ◌/◌, ◌^◌, ◌<◌, ◌≤◌, ◌++◌, ◌↔◌, [], drop, length, map, min, not, take, Ok, Err, IfOk, IfErr, IsTrue, OnOk, OnErr};
+ghost use Rattle.std.specs.Prelude.{◌≡◌, ◌+◌, ◌*◌, ◌/◌, ◌^◌, ◌<◌, ◌≤◌, ◌++◌, ◌↔◌, [], drop, length, map, min, not, take, Ok, Err, IfOk, IfErr, IsOk, IsTrue, OnOk, OnErr};
 ghost use Rattle.std.specs.List.{All};
 ghost use Rattle.ii_io.specs.Faults.{OnlyMemory};
 ghost use Rattle.ii_io.specs.Parts.{part_of};
@@ -33,6 +33,23 @@ pub fn any_bytes_open_as_their_list(
     ensures entries { IfOk result (λ cursor. cursor.entries_read ≤ 1) }
 {
     SegmentPostings::open(doc_freq, postings, positions, recorded, requested)
+}
+
+/// A list that the bytes are known to give is opened as that list, and never refused: all its documents are
+/// left, and at most one block was decoded of documents, of counts and of positions.
+pub fn known_lists_are_never_refused(
+    doc_freq: u32,
+    postings: Bytes,
+    positions: Option<Bytes>,
+    recorded: IndexRecordOption,
+    requested: IndexRecordOption,
+) -> SegmentPostings
+    requires { IsOk (term_list recorded requested doc_freq postings positions) }
+    ensures list { term_list recorded requested doc_freq postings positions ≡ Ok result.rest }
+    ensures many { length result.rest ≡ doc_freq }
+    ensures decodes { (result.doc_decodes ≤ 1) × (result.freq_decodes ≤ 1) × (result.position_decodes ≤ 1) }
+{
+    SegmentPostings::open_known(doc_freq, postings, positions, recorded, requested)
 }
 
 /// At every moment documents and counts were decoded at most once for each block up to the current one,

@@ -43,6 +43,25 @@ pub fn what_is_indexed_is_found<A: TextAnalyzer>(
     index.reader(term.field()).read_postings(term, requested)
 }
 
+/// What is indexed in memory is known to open: no look-up in it tells of damage, memory alone is refused.
+pub fn what_is_indexed_is_never_damaged<A: TextAnalyzer>(
+    alloc: Global,
+    schema: Schema,
+    num_docs: DocId,
+    calls: Vec<IndexCall>,
+    analyzer: &A,
+    term: &Term,
+    requested: IndexRecordOption,
+) -> Result<Result<Option<SegmentPostings>, Fault>, Fault>
+    requires docs { num_docs ≤ 2147483647 }
+    requires calls { MayAllBeIndexed schema num_docs calls.items }
+    requires field { term.now.field < length schema }
+    ensures { IfOk result (λ answer. IfErr answer (λ fault. fault ≡ Fault.OutOfMemory)) }
+{
+    let index = index_in_ram(alloc, schema, num_docs, calls, analyzer)?;
+    Ok(index.reader(term.field()).read_postings(term, requested))
+}
+
 /// The number of a field's tokens, and in how many documents a key is.
 pub fn what_is_indexed_is_counted<A: TextAnalyzer>(
     alloc: Global,

@@ -6,7 +6,7 @@ use ii_base::{
 };
 use ii_docset::{DocId, DocSet, TERMINATED};
 use ii_reader::{
-    BlockSegmentPostings, InvertedIndexReader, OpenIndex, SegmentPostings, open_index,
+    BlockSegmentPostings, DamagedTerm, InvertedIndexReader, OpenIndex, SegmentPostings, open_index,
 };
 use ii_termdict::{TermDictionary, TermInfo};
 use std::alloc::Global;
@@ -242,6 +242,39 @@ fn its_postings_are_read(rt: HostRuntime) -> Result<(), Fail> {
         assert!(rt; second == TERMINATED);
         assert!(rt; is_block);
     }
+    Ok(())
+}
+
+// What a check of the index of the number 5 tells, over a body of postings, and what is read after it.
+fn checked(
+    alloc: Global,
+    postings: &'static [u8],
+) -> Result<(Option<(Field, DamagedTerm)>, DocId, DocId), Fault> {
+    let mut index = opened(alloc, &TERMS, postings, &POSITIONS)?;
+    let damage = index.check()?;
+    if damage.is_some() {
+        return Ok((damage, TERMINATED, TERMINATED));
+    }
+    let five = term_of(alloc, 5)?;
+    let (first, second) = walked(index.reader(Field::from_field_id(0)), &five, FULL)?;
+    Ok((damage, first, second))
+}
+
+// The same file with a document that doesn't end, behind the number of tokens.
+static DAMAGED_POSTINGS: [u8; 33] = [
+    1, 0, 0, 0, 0, 0, 0, 0, 0, 0, 0, 0, 0, 0, 0, 0, 0, 0, 0, 0, 0, 9, 0, 0, 0, 0, 0, 0, 0, 1, 0, 0,
+    0,
+];
+
+#[test]
+fn indexes_are_checked_once(rt: HostRuntime) -> Result<(), Fail> {
+    assert!(rt; checked(rt.alloc(), &POSTINGS)? == (None, 0, TERMINATED));
+    let damage = DamagedTerm {
+        ord: 0,
+        part: Part::Documents,
+    };
+    let (found, _, _) = checked(rt.alloc(), &DAMAGED_POSTINGS)?;
+    assert!(rt; found == Some((Field::from_field_id(0), damage)));
     Ok(())
 }
 

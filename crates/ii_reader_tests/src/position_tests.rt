@@ -210,3 +210,44 @@ fn damaged_positions_are_named(rt: HostRuntime) {
     // documents come before positions
     assert!(rt; damaged(1, &[0x7F], &[], FULL) == Some(Part::Documents));
 }
+
+// The first document of a cursor with its count, where it then comes for 127, and its last position there.
+fn told(alloc: Global, cursor: &mut SegmentPostings) -> [u32; 4] {
+    let first = [cursor.doc(), counted(cursor)];
+    let last = sought(cursor, 127);
+    let positions = gathered(alloc, cursor);
+    let position = positions.last().copied().unwrap_or(0);
+    [first[0], first[1], last, position]
+}
+
+// The same of the first list, opened with a check.
+fn told_checked(alloc: Global, requested_option: IndexRecordOption) -> [u32; 4] {
+    match opened(128, &POSTINGS, &POSITIONS[..52], requested_option) {
+        Ok(mut cursor) => told(alloc, &mut cursor),
+        Err(_) => [0; 4],
+    }
+}
+
+// The same of that list once it is known to open.
+fn told_known(alloc: Global, requested_option: IndexRecordOption) -> [u32; 4] {
+    let postings = Bytes::from_static(&POSTINGS);
+    let positions = Some(Bytes::from_static(&POSITIONS[..52]));
+    let Ok(_) = SegmentPostings::open(128, postings, positions, FULL, requested_option) else {
+        return [0; 4];
+    };
+    let postings = Bytes::from_static(&POSTINGS);
+    let positions = Some(Bytes::from_static(&POSITIONS[..52]));
+    let mut cursor = SegmentPostings::open_known(128, postings, positions, FULL, requested_option);
+    told(alloc, &mut cursor)
+}
+
+#[test]
+fn a_known_list_is_opened_as_a_checked_one(rt: HostRuntime) -> Result<(), Fail> {
+    let full = told_known(rt.alloc(), FULL);
+    assert!(rt; full == [0, 3, 127, 2]);
+    assert!(rt; full == told_checked(rt.alloc(), FULL));
+    let basic = told_known(rt.alloc(), IndexRecordOption::Basic);
+    assert!(rt; basic == [0, 1, 127, 0]);
+    assert!(rt; basic == told_checked(rt.alloc(), IndexRecordOption::Basic));
+    Ok(())
+}

@@ -20,7 +20,9 @@ pub use ii_base::{
 pub use crate::ram::index_in_ram;
 pub use ii_base::{CountingWriter, HasLen};
 pub use ii_indexing::{IndexWriters, Indexer, write_index};
-pub use ii_reader::{InvertedIndexFieldSpace, InvertedIndexReader, OpenIndex, open_index};
+pub use ii_reader::{
+    DamagedTerm, InvertedIndexFieldSpace, InvertedIndexReader, OpenIndex, open_index,
+};
 
 // how postings are walked
 pub use ii_base::AliveBitSet;

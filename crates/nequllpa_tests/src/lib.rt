@@ -6,6 +6,8 @@ mod bound_tests;
 #[cfg(test)]
 mod call_tests;
 #[cfg(test)]
+mod check_tests;
+#[cfg(test)]
 mod fault_tests;
 #[cfg(test)]
 mod index_tests;

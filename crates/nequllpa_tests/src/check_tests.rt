@@ -1,0 +1,97 @@
+// Whole indexes that are checked once, term by term.
+ghost use Rattle.std.specs.Prelude.{◌<◌, length};
+
+use crate::memory_index::{FULL, Index, opened, two_texts, written_texts};
+use bytes::Bytes;
+use ii_base::{Fault, Field, Part, Term};
+use ii_docset::{DocId, DocSet, TERMINATED};
+use ii_reader::{DamagedTerm, InvertedIndexReader};
+use std::alloc::Global;
+use std::test::Fail;
+
+static TEXTS: [(DocId, u32, &str); 4] = [
+    (0, 0, "a b"),
+    (1, 0, "b"),
+    (2, 0, "a a"),
+    (2, 1, "c c d"),
+];
+
+// The files of three texts in a field, and of one in another.
+fn files(alloc: Global) -> Result<Index, Fault> {
+    written_texts(alloc, two_texts(alloc)?, 3, &TEXTS)
+}
+
+// Bytes of which one is another.
+fn changed(alloc: Global, bytes: &Bytes, place: usize, byte: u8) -> Result<Bytes, Fault> {
+    let mut copy = Vec::from_slice(alloc, bytes.as_slice())?;
+    if let Some(found) = copy.get_mut(place) {
+        *found = byte;
+    }
+    Ok(Bytes::from_vec(copy)?)
+}
+
+// The files where a byte of the postings is another.
+fn changed_files(alloc: Global, place: usize, byte: u8) -> Result<Index, Fault> {
+    let mut files = files(alloc)?;
+    files.postings = changed(alloc, &files.postings, place, byte)?;
+    Ok(files)
+}
+
+// What a check of files tells.
+fn damage(alloc: Global, files: &Index) -> Result<Option<(Field, DamagedTerm)>, Fault> {
+    let mut index = opened(alloc, files)?;
+    index.check()
+}
+
+// The same of the files with another byte.
+fn damage_by(alloc: Global, place: usize, byte: u8) -> Result<Option<(Field, DamagedTerm)>, Fault> {
+    damage(alloc, &changed_files(alloc, place, byte)?)
+}
+
+// A term of a field.
+fn place(field: u32, ord: u64, part: Part) -> Option<(Field, DamagedTerm)> {
+    Some((Field::from_field_id(field), DamagedTerm { ord, part }))
+}
+
+#[test]
+fn the_first_damaged_term_is_told(rt: HostRuntime) -> Result<(), Fail> {
+    // of the second field, the count of `d`, which doesn't end
+    let last = place(1, 1, Part::Frequencies);
+    assert!(rt; damage_by(rt.alloc(), 27, 0x01)? == last);
+    // of the first field, the documents of `b`, the second of which comes to no end
+    let second = place(0, 1, Part::Documents);
+    assert!(rt; damage_by(rt.alloc(), 15, 0x01)? == second);
+    Ok(())
+}
+
+// The first two documents of a word, after a check that finds nothing.
+fn docs_of(
+    alloc: Global,
+    reader: &InvertedIndexReader,
+    word: &str,
+) -> Result<(DocId, DocId), Fault> {
+    let term = Term::from_field_text(alloc, Field::from_field_id(0), word)?;
+    match reader.read_postings(&term, FULL)? {
+        Some(mut cursor) => Ok((cursor.doc(), cursor.advance())),
+        None => Ok((TERMINATED, TERMINATED)),
+    }
+}
+
+// Those in the files, once they were checked.
+fn checked_docs(alloc: Global, files: &Index, word: &str) -> Result<(DocId, DocId), Fault> {
+    let num_fields = files.schema.num_fields();
+    let mut index = opened(alloc, files)?;
+    if index.check()?.is_some() || num_fields == 0 {
+        return Ok((TERMINATED, 0));
+    }
+    docs_of(alloc, index.reader(Field::from_field_id(0)), word)
+}
+
+#[test]
+fn checked_indexes_are_looked_up(rt: HostRuntime) -> Result<(), Fail> {
+    let files = files(rt.alloc())?;
+    assert!(rt; checked_docs(rt.alloc(), &files, "a")? == (0, 2));
+    assert!(rt; checked_docs(rt.alloc(), &files, "b")? == (0, 1));
+    assert!(rt; checked_docs(rt.alloc(), &files, "c")? == (TERMINATED, TERMINATED));
+    Ok(())
+}
