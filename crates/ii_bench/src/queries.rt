@@ -49,8 +49,14 @@ pub fn measure(rt: &HostRuntime) -> Result<()> {
     let row = "the same by a loop of seeks";
     print_row(rt, row, &of(both_by_hand(rt, &frequent, &rare)?, RARE))?;
     let other = List::new(rt, 31, FREQUENT)?;
-    let row = "one of two frequent terms: a document of either";
+    let row = "one of two frequent terms: a document of either, all counted";
     print_row(rt, row, &of(either(rt, &frequent, &other)?, 2 * FREQUENT))?;
+    let row = "the same, asked for one document after the other";
+    print_row(
+        rt,
+        row,
+        &of(either_in_turn(rt, &frequent, &other)?, 2 * FREQUENT),
+    )?;
     let row = "the same by a loop that merges";
     print_row(
         rt,
@@ -115,6 +121,37 @@ fn either_once(rt: &HostRuntime, first: &List, other: &List) -> Result<Duration>
     let mut found = QueryCursor::either(rt.alloc(), one, two)?;
     let _count = found.count_including_deleted();
     Ok(start.elapsed(rt)?)
+}
+
+fn either_in_turn(rt: &HostRuntime, first: &List, other: &List) -> Result<Duration> {
+    let mut least = Duration::MAX;
+    for _ in 0..ROUNDS {
+        least = least.min(either_in_turn_once(rt, first, other)?);
+    }
+    Ok(least)
+}
+
+fn either_in_turn_once(rt: &HostRuntime, first: &List, other: &List) -> Result<Duration> {
+    let one = QueryCursor::one(first.open()?);
+    let two = QueryCursor::one(other.open()?);
+    let start = Instant::now(rt)?;
+    let mut found = QueryCursor::either(rt.alloc(), one, two)?;
+    let _count = count_in_turn(&mut found);
+    Ok(start.elapsed(rt)?)
+}
+
+// How many documents a cursor has left.
+fn count_in_turn<C: DocSet>(cursor: &mut C) -> u32 {
+    let mut count = 0u32;
+    let mut doc = cursor.doc();
+    for _ in 0..2 * FREQUENT {
+        if doc == TERMINATED {
+            return count;
+        }
+        doc = cursor.advance();
+        count = count.saturating_add(1);
+    }
+    count
 }
 
 fn either_by_hand(rt: &HostRuntime, first: &List, other: &List) -> Result<Duration> {
