@@ -101,8 +101,11 @@ calls_other analyze option earlier (c ∷ cs) =
 pub none_written : {W : Type 0} (analyze : List ℕ → List Word) (option : ℕ → IndexRecordOption) (cs : List Call) (writers : IndexWriters W) (fault : Fault) → (fault ≡ OutOfMemory) ⊎ (calls_fault analyze option [] cs ≡ Some fault)
     → CountsIndexFailures writers writers (Err fault)
 none_written {W} analyze option cs writers fault why = record {
-  write = (λ is. absurd (not_write (inside is)), λ more. absurd (omega (arith, more)));
-  by_one = λ is. absurd (not_write (inside is));
+  once = record {
+    ok = tt;
+    write = (λ is. absurd (not_write (inside is)), λ more. absurd (omega (arith, more)));
+    by_one = λ is. absurd (not_write (inside is));
+  };
   terms = omega arith;
   postings = omega arith;
   positions = omega arith;

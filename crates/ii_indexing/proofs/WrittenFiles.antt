@@ -1,8 +1,8 @@
 -- What the files of an index hold once they were closed.
-use Rattle.std.proofs.Common.{Bool, Err, List, Ok, Result, [], ap, arith, false, inl, inr, length, length-append, map, refl, subst, sym, true, true≢false, ℕ, ⊎_elim, ◌+◌, ◌<◌, ◌^◌, ◌∙◌, ◌∷◌, ◌≡◌, ◌≤◌}
+use Rattle.std.proofs.Common.{Err, List, Ok, Result, [], ap, arith, false, inl, inr, is_err, length, length-append, map, refl, subst, sym, true, true≢false, ℕ, ⊎_elim, ◌+◌, ◌<◌, ◌^◌, ◌∙◌, ◌∷◌, ◌≡◌}
 use Rattle.std.specs.Prelude.{◌⊎◌, ◌↔◌, IsTrue, IfErr, IsErrOf, OnOk, nat_le}
 use Rattle.std.specs.List.{AllByRecursion}
-use Rattle.std.proofs.lemmas.Bool.{le-leb, leb-true}
+use Rattle.std.proofs.lemmas.Bool.{le-leb}
 use Rattle.ii_io.specs.declared.faults.Fault.{Fault}
 use Rattle.ii_io.specs.declared.faults.Fault.TheVariants.{Limit, OutOfMemory, SerializerClosed, Write}
 use Rattle.ii_io.specs.declared.faults.LimitName.TheVariants as limit
@@ -11,14 +11,16 @@ use Rattle.ii_io.specs.declared.composite_file.place.Place.{Place}
 use Rattle.ii_io.specs.CompositeWrite.{CompositeWriteState, HasBodies, WroteComposite, places_of}
 use Rattle.ii_io.specs.CompositeWriteLemmas.{places_of-bodies}
 use Rattle.ii_io.specs.CountingWriterLemmas.{full_before, full_more}
-use Rattle.ii_io.specs.CountingWriter.{CountingWriterState, IsFull}
+use Rattle.ii_io.specs.CountingWriter.{CountingWriterState, IsFull, Writes}
 use Rattle.ii_base.specs.Schema.{SchemaEntry}
 use Rattle.ii_definitions.specs.Tokens.{IndexToken}
-use Rattle.ii_recorder.specs.IndexBodies.{CountsFailures, OneIsFull, IndexBodiesState, failed_calls, tables_of}
+use Rattle.ii_recorder.specs.Endings.{CountsOnce}
+use Rattle.ii_recorder.specs.IndexBodies.{CountsFailures, CountsFailuresOf, OneIsFull, IndexBodiesState, failed_calls, tables_of}
 use Rattle.ii_recorder.specs.IndexSerializer.{IndexSerializerState}
 use Rattle.ii_postings_writer.specs.FieldParts.{FieldPart, HasFields, WroteContext, positions_of_part, postings_body, terms_body}
 use Rattle.ii_postings_writer.specs.HeldBodies.{HaveTokens, WroteTokens}
-use Rattle.ii_indexing.specs.IndexFiles.{ClosedFiles, CountsThreeFailures, HaveNoRoom, PassLimits, begun_file}
+use Rattle.ii_indexing.specs.IndexFiles.{ClosedFiles, CountsIndexFailures, HaveNoRoom, PassLimits, begun_file, index_failed_calls}
+use Rattle.ii_indexing.specs.declared.index_writers.IndexWriters.{IndexWriters}
 use Rattle.ii_postings_writer.specs.IndexingContext.{TermIndex}
 use Rattle.ii_postings_writer.specs.PostingsWriter.{PostingsWriterState}
 use Rattle.ii_postings_writer.specs.WriteFaults.{IsContextFault, IsTokensFault}
@@ -74,36 +76,51 @@ closed_files old now t p q result ts few wrote terms postings positions =
       };
     }
 
--- How the three writers are closed.
-pub record ClosesThree (b : IndexBodiesState) (t p q : CountingWriterState) (result : Result (Unit {0}) Fault) : Type 0 where
-  pub write : IsErrOf result Write ↔ (failed_calls b < t.failed_calls + p.failed_calls + q.failed_calls)
-  pub by_one : IsErrOf result Write → t.failed_calls + p.failed_calls + q.failed_calls ≡ failed_calls b + 1
-  pub kept : (b.terms.writer.failed_calls ≤ t.failed_calls) × (b.postings.writer.failed_calls ≤ p.failed_calls) × (b.positions.writer.failed_calls ≤ q.failed_calls)
-
-no_failure : (old new : IndexBodiesState) (written : Result (Unit {0}) Fault) (x : Unit {0}) → written ≡ Ok x → CountsFailures old new written → failed_calls new ≡ failed_calls old
-no_failure old new written x is h = by_cases (nat_le (failed_calls new) (failed_calls old)) refl
-  where
-    none : failed_calls old < failed_calls new → ⊥
-    none more =
-        let refused : written ≡ Err Write = h.write.1 more in
-        absurd (cc)
-
-    by_cases : (b : Bool) → nat_le (failed_calls new) (failed_calls old) ≡ b → failed_calls new ≡ failed_calls old
-    by_cases true low = omega (arith, h.kept.terms, h.kept.postings, h.kept.positions, leb-true (failed_calls new) (failed_calls old) low)
-    by_cases false high = absurd (none (grind (arith, high)))
-
 -- all failures, once the terms were written
-pub three_counted : (old new : IndexBodiesState) (written : Result (Unit {0}) Fault) (x : Unit {0}) (t p q : CountingWriterState) (result : Result (Unit {0}) Fault) → written ≡ Ok x → CountsFailures old new written → ClosesThree new t p q result
-    → CountsThreeFailures old t p q result
+pub three_counted : (old new : IndexBodiesState) (written : Result (Unit {0}) Fault) (x : Unit {0}) (t p q : CountingWriterState) (result : Result (Unit {0}) Fault) → written ≡ Ok x → CountsFailures old new written → CountsFailuresOf new t p q result
+    → CountsFailuresOf old t p q result
 three_counted old new written x t p q result is first last =
-    let same = no_failure old new written x is first in
+    let none : failed_calls new ≡ failed_calls old = rw is at first.once.ok in
     record {
-      write = (λ e. subst (λ (n : ℕ). n < t.failed_calls + p.failed_calls + q.failed_calls) same (last.write.0 e), λ more. last.write.1 (subst (λ (n : ℕ). n < t.failed_calls + p.failed_calls + q.failed_calls) (sym same) more));
-      by_one = λ e. last.by_one e ∙ ap (λ (n : ℕ). n + 1) same;
-      terms = omega (arith, first.kept.terms, last.kept.0);
-      postings = omega (arith, first.kept.postings, last.kept.1);
-      positions = omega (arith, first.kept.positions, last.kept.2);
+      once = subst (λ (n : ℕ). CountsOnce n (t.failed_calls + p.failed_calls + q.failed_calls) result) none last.once;
+      terms_kept = omega (arith, first.terms_kept, last.terms_kept);
+      postings_kept = omega (arith, first.postings_kept, last.postings_kept);
+      positions_kept = omega (arith, first.positions_kept, last.positions_kept);
     }
+
+-- norms that were refused, before anything else was written
+pub norms_refused : {W : Type 0} (old : IndexWriters W) (now : CountingWriterState) (bytes : List ℕ) (written : Result (Unit {0}) Fault) → Writes old.fieldnorms now bytes written → CountsIndexFailures old (record old { fieldnorms = now }) written
+norms_refused old now bytes (Ok x) h =
+    let same = h.ok.failed_calls in
+    record {
+      once = record { ok = omega (arith, same); write = (λ is. absurd (cc), λ more. absurd (omega (arith, same, more))); by_one = λ is. absurd (cc) };
+      terms = omega arith;
+      postings = omega arith;
+      positions = omega arith;
+      fieldnorms = omega (arith, same);
+    }
+norms_refused old now bytes (Err e) h = record {
+  once = record { ok = tt; write = (λ is. let more = h.write.0 is in omega (arith, more), λ more. h.write.1 (omega (arith, more))); by_one = λ is. let one = h.by_one is in omega (arith, one) };
+  terms = omega arith;
+  postings = omega arith;
+  positions = omega arith;
+  fieldnorms = h.prefix.failed_calls;
+}
+
+-- and the other files, after norms that were written
+pub norms_before : {W : Type 0} (old new : IndexWriters W) (now : CountingWriterState) (bytes : List ℕ) (written result : Result (Unit {0}) Fault) → false ≡ is_err written → Writes old.fieldnorms now bytes written
+    → CountsIndexFailures (record old { fieldnorms = now }) new result → CountsIndexFailures old new result
+norms_before old new now bytes (Ok x) result went h last =
+    let same = h.ok.failed_calls in
+    let none = ap (λ (n : ℕ). old.terms.failed_calls + old.postings.failed_calls + old.positions.failed_calls + n) same in
+    record {
+      once = subst (λ (n : ℕ). CountsOnce n (index_failed_calls new) result) none last.once;
+      terms = last.terms;
+      postings = last.postings;
+      positions = last.positions;
+      fieldnorms = omega (arith, same, last.fieldnorms);
+    }
+norms_before old new now bytes (Err e) result went h last = absurd (cc)
 
 -- Why the tables can't be written.
 pub record ClosesBy (s : IndexSerializerState) (result : Result (Unit {0}) Fault) : Type 0 where

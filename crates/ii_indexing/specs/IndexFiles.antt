@@ -1,5 +1,5 @@
 -- The files of an index as they are written.
-use Rattle.std.specs.Prelude.{◌≡◌, ℕ, ◌+◌, ◌<◌, ◌≤◌, ◌⊎◌, ◌↔◌, false, List, [], length, Result, IsErrOf}
+use Rattle.std.specs.Prelude.{◌≡◌, ℕ, ◌+◌, ◌≤◌, ◌⊎◌, false, List, [], length, Result}
 use Rattle.ii_io.specs.declared.faults.Fault.{Fault}
 use Rattle.ii_io.specs.declared.faults.Fault.TheVariants.{Limit, OutOfMemory, Write}
 use Rattle.ii_io.specs.declared.faults.LimitName.TheVariants as limit
@@ -10,7 +10,7 @@ use Rattle.ii_base.specs.Schema.{SchemaEntry}
 use Rattle.ii_definitions.specs.Fields.{option_of}
 use Rattle.ii_definitions.specs.Files.{HoldTokens}
 use Rattle.ii_definitions.specs.Tokens.{IndexToken}
-use Rattle.ii_recorder.specs.IndexBodies.{IndexBodiesState, failed_calls}
+use Rattle.ii_recorder.specs.Endings.{CountsOnce}
 use Rattle.ii_recorder.specs.IndexSerializer.{IndexSerializerState}
 use Rattle.ii_definitions.specs.Norms.{HoldNorms}
 use Rattle.ii_postings_writer.specs.TermLimits.{HasLargeSum, IsLong}
@@ -59,22 +59,13 @@ pub record FilesGrow {W : Type 0} (old new : IndexWriters W) : Type 0 where
 abbrev pub index_failed_calls : {W : Type 0} → IndexWriters W → ℕ
 index_failed_calls w = w.terms.failed_calls + w.postings.failed_calls + w.positions.failed_calls + w.fieldnorms.failed_calls
 
--- How a call ends for the four writers: a refusal by one of them is counted once, and nothing else is.
+-- How a call ends for the four writers: a refusal by one of them is counted once, nothing else is, and no writer's count falls.
 pub record CountsIndexFailures {W : Type 0} (old new : IndexWriters W) (result : Result (Unit {0}) Fault) : Type 0 where
-  pub write : IsErrOf result Write ↔ (index_failed_calls old < index_failed_calls new)
-  pub by_one : IsErrOf result Write → index_failed_calls new ≡ index_failed_calls old + 1
+  pub once : CountsOnce (index_failed_calls old) (index_failed_calls new) result
   pub terms : old.terms.failed_calls ≤ new.terms.failed_calls
   pub postings : old.postings.failed_calls ≤ new.postings.failed_calls
   pub positions : old.positions.failed_calls ≤ new.positions.failed_calls
   pub fieldnorms : old.fieldnorms.failed_calls ≤ new.fieldnorms.failed_calls
-
--- And so it is for three of them.
-pub record CountsThreeFailures (old : IndexBodiesState) (new_terms new_postings new_positions : CountingWriterState) (result : Result (Unit {0}) Fault) : Type 0 where
-  pub write : IsErrOf result Write ↔ (failed_calls old < new_terms.failed_calls + new_postings.failed_calls + new_positions.failed_calls)
-  pub by_one : IsErrOf result Write → new_terms.failed_calls + new_postings.failed_calls + new_positions.failed_calls ≡ failed_calls old + 1
-  pub terms : old.terms.writer.failed_calls ≤ new_terms.failed_calls
-  pub postings : old.postings.writer.failed_calls ≤ new_postings.failed_calls
-  pub positions : old.positions.writer.failed_calls ≤ new_positions.failed_calls
 
 -- a file that is begun where a writer stands
 abbrev pub begun_file : CountingWriterState → CompositeWriteState

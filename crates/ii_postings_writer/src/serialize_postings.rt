@@ -1,12 +1,11 @@
-ghost use Rattle.std.specs.Prelude.{◌≡◌, ◌≤◌, ◌<◌, ◌++◌, ◌∷◌, ◌^◌, ◌⊎◌, ◌↔◌, ℕ, List, [], false, length, map, IsTrue, IfErr, IfOk, IsErrOf, OnErr, OnOk, Option, slice_index_or};
+ghost use Rattle.std.specs.Prelude.{◌≡◌, ◌≤◌, ◌<◌, ◌++◌, ◌∷◌, ◌^◌, ◌⊎◌, ℕ, List, [], false, length, map, IsTrue, IfErr, IfOk, IsErrOf, OnErr, OnOk, Option, slice_index_or};
 ghost use Rattle.std.specs.List.{AllByRecursion};
-ghost use Rattle.ii_io.specs.CountingWriter.{Closes};
 ghost use Rattle.ii_fieldnorm.specs.Readers.{Norms};
 ghost use Rattle.ii_termdict.specs.ReadBack.{AreAscending};
 ghost use Rattle.ii_definitions.specs.Fields.{option_of};
 ghost use Rattle.ii_recorder.specs.AnyRecorder.{any_state};
 ghost use Rattle.ii_recorder.specs.IndexBodies.{AddsBodies, AllGrow, IndexBodiesState, LacksField, CountsFailures};
-ghost use Rattle.ii_recorder.specs.IndexSerializer.{IsWriting};
+ghost use Rattle.ii_recorder.specs.IndexSerializer.{EndsWriting, IsWriting};
 ghost use Rattle.ii_recorder.specs.Terms.{WrittenTerm, field_bodies};
 ghost use Rattle.ii_recorder.specs.HeldTerms.{HoldsTerms};
 ghost use Rattle.ii_postings_writer.specs.FieldParts.{AreShortNorms, FieldPart, HasFields, WroteContext, first_parts, parts_of, tokens_in};
@@ -15,7 +14,7 @@ ghost use Rattle.ii_definitions.specs.JsonKeys.{is_json};
 ghost use Rattle.ii_io.specs.Faults.{OnlyMemory};
 ghost use Rattle.ii_postings_writer.specs.HeldBodies.{HaveTokens, WroteTokens};
 ghost use Rattle.ii_postings_writer.specs.ResolvedTerms.{AreClean, HaveHeldTokens, HaveUnlessMemory, HoldIds, json_fields, resolved_terms};
-ghost use Rattle.ii_postings_writer.specs.SortedTerms.{AllMayBeWritten, IsTold, IsWritable, SortedTerm, norms_in, state_of, written_term};
+ghost use Rattle.ii_postings_writer.specs.SortedTerms.{AllMayBeWritten, IsTold, IsWritable, norms_in, state_of, written_term};
 ghost use Rattle.ii_postings_writer.specs.TermLimits.{AreWithin};
 ghost use Rattle.ii_postings_writer.specs.WriteFaults.{ClosesOrStays, IsContextFault, IsPartFault, IsPartsFault, IsTermFaultAfter, StaysClosed};
 
@@ -48,15 +47,13 @@ fn serialize_under_key<W: Write>(
         → OnOk result (IsWriting initial serializer.new.index.now field tokens norms (ts ++ written_term norms (option_of serializer.old.index.now.entries field) (record { key = key.now; recorder = any_state recorder.now }) ∷ []) []) }
     ensures told { OnOk result (IsTold serializer.old.index.now.field.term.mode (record { key = key.now; recorder = any_state recorder.now })) }
     ensures between { OnOk result (serializer.new.index.now.field.term_open ≡ false) }
-    ensures closes { Closes result serializer.new.index.now.closed }
-    ensures entries { serializer.new.index.now.entries ≡ serializer.old.index.now.entries }
-    // where it is refused
-    ensures failures { CountsFailures serializer.old.index.now.bodies serializer.new.index.now.bodies result }
+
+    // How it ends, and by which fault it is refused.
+    ensures ends { EndsWriting serializer.old.index.now serializer.new.index.now result }
     ensures grow { AllGrow serializer.old.index.now.bodies serializer.new.index.now.bodies }
     ensures fault { (initial : IndexBodiesState) (field tokens : ℕ) (norms : Option Norms) (ts : List WrittenTerm) → IsWriting initial serializer.old.index.now field tokens norms ts []
         → IfErr result (IsTermFaultAfter initial (option_of serializer.old.index.now.entries field) tokens ts
         (written_term norms (option_of serializer.old.index.now.entries field) (record { key = key.now; recorder = any_state recorder.now }))) }
-    ensures none { ¬ IsErrOf result Fault.SerializerClosed }
 {
     let doc_freq = recorder.term_doc_freq().unwrap_or(0);
     serializer.new_term(key, doc_freq, recorder.has_term_freq())?;
@@ -80,15 +77,13 @@ fn serialize_one_term<W: Write>(
         → OnOk result (IsWriting initial serializer.new.index.now field tokens norms (ts ++ written_term norms (option_of serializer.old.index.now.entries field) (state_of term.entry) ∷ []) []) }
     ensures told { OnOk result (IsTold serializer.old.index.now.field.term.mode (state_of term.entry)) }
     ensures between { OnOk result (serializer.new.index.now.field.term_open ≡ false) }
-    ensures closes { Closes result serializer.new.index.now.closed }
-    ensures entries { serializer.new.index.now.entries ≡ serializer.old.index.now.entries }
-    // where it is refused
-    ensures failures { CountsFailures serializer.old.index.now.bodies serializer.new.index.now.bodies result }
+
+    // How it ends, and by which fault it is refused.
+    ensures ends { EndsWriting serializer.old.index.now serializer.new.index.now result }
     ensures grow { AllGrow serializer.old.index.now.bodies serializer.new.index.now.bodies }
     ensures fault { (initial : IndexBodiesState) (field tokens : ℕ) (norms : Option Norms) (ts : List WrittenTerm) → IsWriting initial serializer.old.index.now field tokens norms ts []
         → IfErr result (IsTermFaultAfter initial (option_of serializer.old.index.now.entries field) tokens ts
         (written_term norms (option_of serializer.old.index.now.entries field) (state_of term.entry))) }
-    ensures none { ¬ IsErrOf result Fault.SerializerClosed }
 {
     let Some(path) = term.path else {
         return serialize_under_key(term.value, term.recorder, buffer_lender, serializer);
@@ -115,9 +110,6 @@ fn serialize_field<W: Write>(
     requires lacks { serializer.old.closed ≡ false → LacksField field serializer.old.bodies }
     requires ascending { AreAscending (map (λ t. (state_of t).key) terms.now) }
     requires writable { AllByRecursion (IsWritable fieldnorm_reader) (map state_of terms.now) }
-    ensures entries { serializer.new.entries ≡ serializer.old.entries }
-    ensures closes { Closes result serializer.new.closed }
-    ensures closed { IsErrOf result Fault.SerializerClosed ↔ IsTrue serializer.old.closed }
     ensures wrote { OnOk result (AddsBodies serializer.old.bodies serializer.new.bodies field
         (field_bodies (option_of serializer.old.entries field) total_num_tokens (map (written_term fieldnorm_reader (option_of serializer.old.entries field)) (map state_of terms.now)))) }
     ensures holds { OnOk result (HoldsTerms (option_of serializer.old.entries field) total_num_tokens
@@ -125,12 +117,12 @@ fn serialize_field<W: Write>(
         (map (written_term fieldnorm_reader (option_of serializer.old.entries field)) (map state_of terms.now))) }
     ensures told { OnOk result (AllByRecursion (IsTold (option_of serializer.old.entries field)) (map state_of terms.now)) }
     ensures within { OnOk result (AreWithin (option_of serializer.old.entries field) (map (written_term fieldnorm_reader (option_of serializer.old.entries field)) (map state_of terms.now))) }
-    // where it is refused
-    ensures failures { CountsFailures serializer.old.bodies serializer.new.bodies result }
+
+    // How it ends, and by which fault it is refused.
+    ensures ends { EndsWriting serializer.old serializer.new result }
     ensures grow { AllGrow serializer.old.bodies serializer.new.bodies }
     ensures fault { IfErr result (λ e. (e ≡ Fault.SerializerClosed)
         ⊎ IsPartFault serializer.old.entries serializer.old.bodies (record { field = field; tokens = total_num_tokens; norms = fieldnorm_reader; terms = map state_of terms.now }) e) }
-    ensures refused { IsTrue serializer.old.closed → serializer.new ≡ serializer.old }
 {
     let mut serializer = serializer.new_field(field, total_num_tokens, fieldnorm_reader)?;
     for place in 0..terms.len() {
@@ -160,7 +152,8 @@ fn serialize_if_any<W: Write>(
     ensures closes { OnOk result (serializer.new.closed ≡ serializer.old.closed) }
     ensures wrote { (initial : IndexBodiesState) (fs : List FieldPart) → HasFields serializer.old.entries initial serializer.old.bodies fs
         → OnOk result (HasFields serializer.old.entries initial serializer.new.bodies (fs ++ parts_of serializer.old.entries field (tokens_in writers.now field) (norms_in norms.now field) terms.now)) }
-    // where it is refused
+
+    // How it ends, and by which fault it is refused.
     ensures failures { CountsFailures serializer.old.bodies serializer.new.bodies result }
     ensures grow { AllGrow serializer.old.bodies serializer.new.bodies }
     ensures fault { IfErr result (λ e. (e ≡ Fault.SerializerClosed)
@@ -205,7 +198,8 @@ fn serialize_fields<W: Write>(
     ensures entries { serializer.new.entries ≡ serializer.old.entries }
     ensures wrote { OnOk result (HasFields serializer.old.entries serializer.old.bodies serializer.new.bodies (first_parts serializer.old.entries writers.now norms.now terms.now.items (length terms.now.items))) }
     ensures closes { OnOk result (serializer.new.closed ≡ serializer.old.closed) }
-    // where it is refused
+
+    // How it ends, and by which fault it is refused.
     ensures failures { CountsFailures serializer.old.bodies serializer.new.bodies result }
     ensures grow { AllGrow serializer.old.bodies serializer.new.bodies }
     ensures fault { IfErr result (λ e. (e ≡ Fault.SerializerClosed)
@@ -282,7 +276,8 @@ pub fn serialize_postings<W: Write>(
     ensures tokens { (ts : List IndexToken) → HaveHeldTokens serializer.old.entries ctx.path_to_unordered_id ctx.term_index per_field_postings_writers.now ts
         → HaveUnlessMemory (HaveTokens serializer.old.entries (resolved_terms (json_fields schema.now) ctx.path_to_unordered_id ctx.term_index) per_field_postings_writers.now ts) result }
     ensures closes { OnOk result (serializer.new.closed ≡ serializer.old.closed) }
-    // where it is refused
+
+    // How it ends, and by which fault it is refused.
     ensures failures { CountsFailures serializer.old.bodies serializer.new.bodies result }
     ensures grow { AllGrow serializer.old.bodies serializer.new.bodies }
     ensures fault { IfErr result (λ e. (e ≡ Fault.OutOfMemory) ⊎ (e ≡ Fault.SerializerClosed) ⊎ IsContextFault serializer.old per_field_postings_writers.now fieldnorm_readers.now (resolved_terms (json_fields schema.now) ctx.path_to_unordered_id ctx.term_index) e) }

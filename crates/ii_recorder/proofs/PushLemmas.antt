@@ -16,7 +16,7 @@ use Rattle.ii_layout.specs.Bounds.{Covers}
 use Rattle.ii_codes.specs.Sums.{differences}
 use Rattle.ii_base.specs.Entries.{Entry, ascend_from, docs_of}
 use Rattle.ii_recorder.specs.IndexBodies.{IndexBodiesState}
-use Rattle.ii_recorder.specs.IndexSerializer.{IndexSerializerState, IsWriting}
+use Rattle.ii_recorder.specs.IndexSerializer.{EndsInMemory, IndexSerializerState, IsWriting}
 use Rattle.ii_recorder.specs.Terms.{WrittenTerm}
 use Rattle.ii_recorder.specs.Pushed.{FillTooLarge, MayPush, Pushes, pushed_deltas, pushed_freqs, with_entries}
 
@@ -53,6 +53,27 @@ all_both : (P : ℕ → Type 0) (xs ys : List ℕ) → AllByRecursion P xs → A
 all_both P [] ys h k = k
 all_both P (x ∷ xs) ys h k = (h.0, all_both P xs ys h.1 k)
 
+-- how a call ends after one that went well
+ends_then : (a b c : IndexSerializerState) (result : Result (Unit {0}) Fault) → EndsInMemory {A = Unit {0}} a b (Ok tt) → EndsInMemory b c result → EndsInMemory a c result
+ends_then a b c (Ok u) h k = record {
+  entries = k.entries ∙ h.entries;
+  bodies = k.bodies ∙ h.bodies;
+  closing = record {
+    closes = k.closing.closes;
+    refused = λ closed. let open_still = h.closing.closed.1 closed in absurd (cc);
+    closed = (λ e. absurd (cc), λ closed. let not_closed = h.closing.closed.1 closed in absurd (cc));
+  };
+}
+ends_then a b c (Err e) h k = record {
+  entries = k.entries ∙ h.entries;
+  bodies = k.bodies ∙ h.bodies;
+  closing = record {
+    closes = k.closing.closes;
+    refused = λ closed. let open_still = h.closing.closed.1 closed in absurd (cc);
+    closed = (λ is. let was = k.closing.closed.0 is in let still = h.closing.closes.ok in absurd (cc), λ closed. let not_closed = h.closing.closed.1 closed in absurd (cc));
+  };
+}
+
 -- what is pushed after what was
 pub pushes_then : (option : IndexRecordOption) (a b c : IndexSerializerState) (xs ys : List Entry) (result : Result (Unit {0}) Fault) → Pushes option a b xs (Ok tt) → Pushes option b c ys result → Pushes option a c (xs ++ ys) result
 pushes_then option a b c xs ys (Ok u) h k =
@@ -62,12 +83,8 @@ pushes_then option a b c xs ys (Ok u) h k =
       ok = k.ok ∙ ap (λ (s : IndexSerializerState). with_entries option s ys) same ∙ with_both option a xs ys;
       small = rw (map-append (λ (e : Entry). if has_freq option then e.term_freq else 0) xs ys) (small_both a.field.term.skip_info a.field.term.freqs (pushed_freqs option xs) (pushed_freqs option ys) h.small later);
       fit = rw (map-append (λ (e : Entry). if has_freq option then e.term_freq else 0) xs ys) (all_both (λ n. n < 2 ^ 32) (pushed_freqs option xs) (pushed_freqs option ys) h.fit k.fit);
-      bodies = k.bodies ∙ h.bodies;
-      entries = k.entries ∙ h.entries;
-      closes = k.closes;
-      refused = λ closed. let open_still = h.closed.1 closed in absurd (cc);
+      ends = ends_then a b c (Ok u) h.ends k.ends;
       limit = λ e. absurd (cc);
-      closed = (λ e. absurd (cc), λ closed. let not_closed = h.closed.1 closed in absurd (cc));
       only = tt;
     }
 pushes_then option a b c xs ys (Err e) h k =
@@ -76,12 +93,8 @@ pushes_then option a b c xs ys (Err e) h k =
       ok = tt;
       small = tt;
       fit = tt;
-      bodies = k.bodies ∙ h.bodies;
-      entries = k.entries ∙ h.entries;
-      closes = k.closes;
-      refused = λ closed. let open_still = h.closed.1 closed in absurd (cc);
+      ends = ends_then a b c (Err e) h.ends k.ends;
       limit = λ is. rw (map-append (λ (e : Entry). if has_freq option then e.term_freq else 0) xs ys) (large_later a.field.term.skip_info a.field.term.freqs (pushed_freqs option xs) (pushed_freqs option ys) (rw same at (k.limit is)));
-      closed = (λ is. let was = k.closed.0 is in let still = h.closes.ok in absurd (cc), λ closed. let not_closed = h.closed.1 closed in absurd (cc));
       only = k.only;
     }
 
@@ -90,12 +103,8 @@ pushes_refused option a b xs ys e h = record {
   ok = tt;
   small = tt;
   fit = tt;
-  bodies = h.bodies;
-  entries = h.entries;
-  closes = h.closes;
-  refused = h.refused;
+  ends = h.ends;
   limit = λ is. rw (map-append (λ (e : Entry). if has_freq option then e.term_freq else 0) xs ys) (large_more a.field.term.skip_info a.field.term.freqs (pushed_freqs option xs) (pushed_freqs option ys) (h.limit is));
-  closed = h.closed;
   only = h.only;
 }
 
@@ -190,7 +199,7 @@ ascend_one least (x ∷ xs) d ys h = ascend_one (x + 1) xs d ys (and_parts (nat_
 -- a document that is left lies below the end
 pub pushing_below : (option : IndexRecordOption) (s b : IndexSerializerState) (es rest : List Entry) (e : Entry) (more : List Entry) → IsPushing option s b es rest → rest ≡ e ∷ more → MayPush option s es → e.doc < TERMINATED
 pushing_below option s b es rest e more h is may =
-    let still_open : s.closed ≡ false = open_before s.closed h.pushed.closed.1 in
+    let still_open : s.closed ≡ false = open_before s.closed h.pushed.ends.closing.closed.1 in
     let parts = h.parts ∙ ap (λ (xs : List Entry). h.done ++ xs) is in
     let docs : docs_of es ≡ docs_of h.done ++ e.doc ∷ docs_of more = ap docs_of parts ∙ map-append (λ (f : Entry). f.doc) h.done (e ∷ more) in
     let all : s.field.term.docs ++ docs_of es ≡ (s.field.term.docs ++ docs_of h.done) ++ e.doc ∷ docs_of more = ap (λ (ds : List ℕ). s.field.term.docs ++ ds) docs ∙ sym (append_assoc s.field.term.docs (docs_of h.done) (e.doc ∷ docs_of more)) in

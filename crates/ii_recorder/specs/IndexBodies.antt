@@ -1,10 +1,10 @@
 -- The three composites of an index as they are written: terms, postings and positions.
-use Rattle.std.specs.Prelude.{List, ◌≡◌, ℕ, ◌+◌, ◌-◌, ◌^◌, ◌<◌, ◌≤◌, ◌⊎◌, ◌↔◌, false, length, Result, IsErrOf}
+use Rattle.std.specs.Prelude.{List, ◌≡◌, ℕ, ◌+◌, ◌-◌, ◌^◌, ◌<◌, ◌≤◌, ◌⊎◌, false, length, Result}
 use Rattle.ii_io.specs.declared.faults.Fault.{Fault}
-use Rattle.ii_io.specs.declared.faults.Fault.TheVariants.{Write}
 use Rattle.ii_io.specs.Composite.{table_bytes}
-use Rattle.ii_io.specs.CountingWriter.{Grows, IsFull, Wrote}
+use Rattle.ii_io.specs.CountingWriter.{CountingWriterState, Grows, IsFull, Wrote}
 use Rattle.ii_io.specs.CompositeWrite.{CompositeWriteState, AddsBody, has_start, places_of}
+use Rattle.ii_recorder.specs.Endings.{CountsOnce}
 use Rattle.ii_recorder.specs.Terms.{FieldBodies}
 
 pub record IndexBodiesState : Type 0 where
@@ -16,17 +16,16 @@ pub record IndexBodiesState : Type 0 where
 abbrev pub failed_calls : IndexBodiesState → ℕ
 failed_calls b = b.terms.writer.failed_calls + b.postings.writer.failed_calls + b.positions.writer.failed_calls
 
--- No writer's count of failed calls fell.
-pub record NoneFalls (old new : IndexBodiesState) : Type 0 where
-  pub terms : old.terms.writer.failed_calls ≤ new.terms.writer.failed_calls
-  pub postings : old.postings.writer.failed_calls ≤ new.postings.writer.failed_calls
-  pub positions : old.positions.writer.failed_calls ≤ new.positions.writer.failed_calls
+-- How a call ends for the three writers, which then stand so: a refusal by one of them is counted once, nothing else is, and no writer's count falls.
+pub record CountsFailuresOf {A : Type 0} (old : IndexBodiesState) (terms postings positions : CountingWriterState) (result : Result A Fault) : Type 0 where
+  pub once : CountsOnce (failed_calls old) (terms.failed_calls + postings.failed_calls + positions.failed_calls) result
+  pub terms_kept : old.terms.writer.failed_calls ≤ terms.failed_calls
+  pub postings_kept : old.postings.writer.failed_calls ≤ postings.failed_calls
+  pub positions_kept : old.positions.writer.failed_calls ≤ positions.failed_calls
 
--- How a call ends for the three writers: a refusal by one of them is counted once, and nothing else is.
-pub record CountsFailures (old new : IndexBodiesState) (result : Result (Unit {0}) Fault) : Type 0 where
-  pub write : IsErrOf result Write ↔ (failed_calls old < failed_calls new)
-  pub by_one : IsErrOf result Write → failed_calls new ≡ failed_calls old + 1
-  pub kept : NoneFalls old new
+-- And where they stay in their files.
+abbrev pub CountsFailures : {A : Type 0} → IndexBodiesState → IndexBodiesState → Result A Fault → Type 0
+CountsFailures old new result = CountsFailuresOf old new.terms.writer new.postings.writer new.positions.writer result
 
 -- Each writer has what it had, and maybe more behind it.
 pub record AllGrow (old new : IndexBodiesState) : Type 0 where

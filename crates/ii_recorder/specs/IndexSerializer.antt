@@ -1,14 +1,15 @@
 -- What writes the fields of an index, one after the other.
-use Rattle.std.specs.Prelude.{◌≡◌, ℕ, ◌^◌, ◌<◌, ◌⊎◌, Bool, IsTrue, List, Option}
+use Rattle.std.specs.Prelude.{◌≡◌, ℕ, ◌^◌, ◌<◌, ◌⊎◌, Bool, IsTrue, List, Option, Result}
 use Rattle.ii_io.specs.declared.faults.Fault.{Fault}
 use Rattle.ii_io.specs.declared.faults.Fault.TheVariants.{Limit, Write}
 use Rattle.ii_io.specs.declared.faults.LimitName.TheVariants as limit
 use Rattle.ii_base.specs.Schema.{SchemaEntry}
 use Rattle.ii_fieldnorm.specs.Readers.{Norms}
 use Rattle.ii_definitions.specs.Fields.{option_of}
+use Rattle.ii_recorder.specs.Endings.{EndsUnlessClosed}
 use Rattle.ii_recorder.specs.Terms.{WrittenTerm, open_bodies}
 use Rattle.ii_recorder.specs.FieldTerms.{FieldTermsState, HasTerms, IsEndFault, closing_bytes}
-use Rattle.ii_recorder.specs.IndexBodies.{IndexBodiesState, AddsBodies, OneIsFull}
+use Rattle.ii_recorder.specs.IndexBodies.{IndexBodiesState, AddsBodies, CountsFailures, OneIsFull}
 
 -- The fields of the schema, the three files, the terms of the field that was begun last, and whether a call was refused.
 pub record IndexSerializerState : Type 0 where
@@ -32,3 +33,15 @@ IsTermFault s fault = IsEndFault s.field.term s.field.places s.bodies.postings.w
 -- Why a field can't be ended.
 abbrev pub IsFieldFault : IndexSerializerState → Fault → Type 0
 IsFieldFault s fault = (IsTrue s.field.term_open × IsTermFault s fault) ⊎ (fault ≡ Write) ⊎ ((fault ≡ Limit limit.Offset) × OneIsFull s.bodies (closing_bytes s.field))
+
+-- How a call ends that writes.
+pub record EndsWriting {A : Type 0} (old new : IndexSerializerState) (result : Result A Fault) : Type 0 where
+  pub entries : new.entries ≡ old.entries
+  pub failures : CountsFailures old.bodies new.bodies result
+  pub closing : EndsUnlessClosed old.closed new.closed old new result
+
+-- And one that writes nothing.
+pub record EndsInMemory {A : Type 0} (old new : IndexSerializerState) (result : Result A Fault) : Type 0 where
+  pub entries : new.entries ≡ old.entries
+  pub bodies : new.bodies ≡ old.bodies
+  pub closing : EndsUnlessClosed old.closed new.closed old new result

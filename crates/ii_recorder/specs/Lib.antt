@@ -1,3 +1,4 @@
+pub mod Endings
 pub mod Terms
 pub mod HeldTerms
 pub mod OpenTerm

@@ -1,10 +1,9 @@
 -- What a recorder pushes to the serializer of a field, and how that ends.
-use Rattle.std.specs.Prelude.{◌≡◌, ℕ, ◌+◌, ◌^◌, ◌<◌, ◌↔◌, ◌⊎◌, true, false, if◌then◌else◌, IsTrue, List, [], ◌++◌, Ok, Option, Some, length, map, take, Result, OnOk, IfErr, IsErrOf}
+use Rattle.std.specs.Prelude.{◌≡◌, ℕ, ◌+◌, ◌^◌, ◌<◌, ◌⊎◌, true, false, if◌then◌else◌, IsTrue, List, [], ◌++◌, Ok, Option, Some, length, map, take, Result, OnOk, IfErr, IsErrOf}
 use Rattle.std.specs.List.{AllByRecursion, flat_map}
 use Rattle.ii_io.specs.declared.faults.Fault.{Fault}
 use Rattle.ii_io.specs.declared.faults.Fault.TheVariants.{Limit, OutOfMemory, SerializerClosed}
 use Rattle.ii_io.specs.declared.faults.LimitName.TheVariants.{BlockFrequencySum}
-use Rattle.ii_io.specs.CountingWriter.{Closes}
 use Rattle.ii_base.specs.declared.schema.index_record_option.IndexRecordOption.{IndexRecordOption}
 use Rattle.ii_base.specs.Options.{downgrade, has_freq, has_positions}
 use Rattle.ii_codes.specs.Sums.{differences}
@@ -17,7 +16,7 @@ use Rattle.ii_layout.specs.TermList.{AreDeltas, term_list}
 use Rattle.ii_layout.specs.Written.{written_postings}
 use Rattle.ii_definitions.specs.Cut.{cut_entry}
 use Rattle.ii_recorder.specs.Terms.{positions_bytes}
-use Rattle.ii_recorder.specs.IndexSerializer.{IndexSerializerState}
+use Rattle.ii_recorder.specs.IndexSerializer.{EndsInMemory, IndexSerializerState}
 
 -- the counts of entries, 0 where the option keeps none
 abbrev pub pushed_freqs : IndexRecordOption → List Entry → List ℕ
@@ -66,12 +65,8 @@ pub record Pushes (option : IndexRecordOption) (old new : IndexSerializerState) 
   pub ok : OnOk result (new ≡ with_entries option old es)
   pub small : OnOk result (¬ FillTooLarge old.field.term.skip_info old.field.term.freqs (pushed_freqs option es))
   pub fit : OnOk result (AllByRecursion (λ n. n < 2 ^ 32) (pushed_freqs option es))
-  pub bodies : new.bodies ≡ old.bodies
-  pub entries : new.entries ≡ old.entries
-  pub closes : Closes result new.closed
-  pub refused : IsTrue old.closed → new ≡ old
+  pub ends : EndsInMemory old new result
   pub limit : IsErrOf result (Limit BlockFrequencySum) → FillTooLarge old.field.term.skip_info old.field.term.freqs (pushed_freqs option es)
-  pub closed : IsErrOf result SerializerClosed ↔ IsTrue old.closed
   pub only : IfErr result (λ e. (e ≡ OutOfMemory) ⊎ (e ≡ SerializerClosed) ⊎ (e ≡ Limit BlockFrequencySum))
 
 -- Entries that a term of a field may have, where the term's counts and positions are those that the field records.

@@ -1,8 +1,8 @@
-ghost use Rattle.std.specs.Prelude.{◌≡◌, ◌+◌, ◌^◌, ◌<◌, ◌≤◌, ◌⊎◌, ◌↔◌, if◌then◌else◌, ℕ, List, [], ◌∷◌, ◌++◌, true, false, length, Ok, Err, OnOk, OnErr, IfOk, IfErr, IsErrOf, IsTrue, Option};
+ghost use Rattle.std.specs.Prelude.{◌≡◌, ◌+◌, ◌^◌, ◌<◌, ◌⊎◌, ◌↔◌, if◌then◌else◌, ℕ, List, [], ◌∷◌, ◌++◌, true, false, length, Ok, Err, OnOk, IfOk, IfErr, IsErrOf, IsTrue, Option};
 ghost use Rattle.std.specs.Borrow.{sem, RestsIfErr};
 ghost use Rattle.ii_base.specs.declared.schema.index_record_option.IndexRecordOption.TheVariants.{Basic};
 ghost use Rattle.ii_base.specs.Options.{has_freq, has_positions};
-ghost use Rattle.ii_io.specs.CountingWriter.{Closes, IsFull};
+ghost use Rattle.ii_io.specs.CountingWriter.{IsFull};
 ghost use Rattle.ii_base.specs.Entries.{are_documents};
 ghost use Rattle.ii_fieldnorm.specs.Readers.{Norms};
 ghost use Rattle.ii_layout.specs.Bounds.{Covers};
@@ -11,8 +11,8 @@ ghost use Rattle.ii_termdict.specs.ReadBack.{AreAscending};
 ghost use Rattle.ii_recorder.specs.Terms.{WrittenTerm, field_bodies};
 ghost use Rattle.ii_recorder.specs.HeldTerms.{HoldsTerms};
 ghost use Rattle.ii_recorder.specs.FieldTerms.{IsWithinLimits, term_under};
-ghost use Rattle.ii_recorder.specs.IndexBodies.{IndexBodiesState, AddsBodies, AllGrow, AreBegun, LacksField, NoneFalls, failed_calls, CountsFailures};
-ghost use Rattle.ii_recorder.specs.IndexSerializer.{IsFieldFault, IsTermFault, IsWriting};
+ghost use Rattle.ii_recorder.specs.IndexBodies.{IndexBodiesState, AddsBodies, AllGrow, AreBegun, LacksField};
+ghost use Rattle.ii_recorder.specs.IndexSerializer.{EndsInMemory, EndsWriting, IsFieldFault, IsTermFault, IsWriting};
 ghost use Rattle.ii_recorder.specs.contracts.serializer.InvertedIndexSerializer.{the_row};
 
 use super::serializer::InvertedIndexSerializer;
@@ -52,10 +52,7 @@ impl<W: Write> InvertedIndexSerializer<W> {
 
         // When it is refused, and by which fault.
         ensures* refused { sem 𝓛 (RestsIfErr (the_row W.row W.Write) self.entry (λ f. f.index.ghost_name) result
-            (λ n. IsTrue n.closed × (n.entries ≡ self.old.entries) × NoneFalls self.old.bodies n.bodies × AllGrow self.old.bodies n.bodies
-            × (IsErrOf result Fault.Write ↔ (failed_calls self.old.bodies < failed_calls n.bodies))
-            × (IsErrOf result Fault.Write → failed_calls n.bodies ≡ failed_calls self.old.bodies + 1)
-            × (IsTrue self.old.closed → n ≡ self.old))) }
+            (λ n. EndsWriting self.old n result × AllGrow self.old.bodies n.bodies)) }
         ensures full { IsErrOf result (Fault.Limit LimitName.Offset) → IsFull self.old.bodies.postings.writer 8 }
         ensures closed { IsErrOf result Fault.SerializerClosed ↔ IsTrue self.old.closed }
         ensures only { IfErr result (λ e. (e ≡ Fault.OutOfMemory) ⊎ (e ≡ Fault.Write) ⊎ (e ≡ Fault.Limit LimitName.Offset) ⊎ (e ≡ Fault.SerializerClosed)) }
@@ -85,13 +82,9 @@ impl<'a, W: Write> FieldSerializer<'a, W> {
         ensures term { OnOk result (self.new.index.now.field.term
             ≡ record self.old.index.now.field.term { skip_info = if record_term_freq then self.old.index.now.field.term.mode else Basic; docs = []; freqs = []; deltas = [] }) }
         ensures inside { OnOk result (self.new.index.now.field.term_open ≡ true) }
-        ensures entries { self.new.index.now.entries ≡ self.old.index.now.entries }
-        ensures bodies { self.new.index.now.bodies ≡ self.old.index.now.bodies }
-        ensures closes { Closes result self.new.index.now.closed }
 
-        // When it is refused, and by which fault.
-        ensures refused { IsTrue self.old.index.now.closed → self.new.index.now ≡ self.old.index.now }
-        ensures closed { IsErrOf result Fault.SerializerClosed ↔ IsTrue self.old.index.now.closed }
+        // How it ends, and by which fault it is refused.
+        ensures ends { EndsInMemory self.old.index.now self.new.index.now result }
         ensures only { IfErr result (λ e. (e ≡ Fault.OutOfMemory) ⊎ (e ≡ Fault.SerializerClosed)) }
     {
         self.index.new_term(term, term_doc_freq, record_term_freq)
@@ -109,13 +102,9 @@ impl<'a, W: Write> FieldSerializer<'a, W> {
         ensures term { OnOk result (self.new.index.now.field.term
             ≡ record self.old.index.now.field.term { skip_info = Basic; docs = []; freqs = []; deltas = [] }) }
         ensures inside { OnOk result (self.new.index.now.field.term_open ≡ true) }
-        ensures entries { self.new.index.now.entries ≡ self.old.index.now.entries }
-        ensures bodies { self.new.index.now.bodies ≡ self.old.index.now.bodies }
-        ensures closes { Closes result self.new.index.now.closed }
 
-        // When it is refused, and by which fault.
-        ensures refused { IsTrue self.old.index.now.closed → self.new.index.now ≡ self.old.index.now }
-        ensures closed { IsErrOf result Fault.SerializerClosed ↔ IsTrue self.old.index.now.closed }
+        // How it ends, and by which fault it is refused.
+        ensures ends { EndsInMemory self.old.index.now self.new.index.now result }
         ensures only { IfErr result (λ e. (e ≡ Fault.OutOfMemory) ⊎ (e ≡ Fault.SerializerClosed)) }
     {
         self.new_term(term, 0, false)
@@ -148,15 +137,11 @@ impl<'a, W: Write> FieldSerializer<'a, W> {
             };
           };
         }) }
-        ensures entries { self.new.index.now.entries ≡ self.old.index.now.entries }
-        ensures bodies { self.new.index.now.bodies ≡ self.old.index.now.bodies }
-        ensures closes { Closes result self.new.index.now.closed }
 
-        // When it is refused, and by which fault.
-        ensures refused { IsTrue self.old.index.now.closed → self.new.index.now ≡ self.old.index.now }
+        // How it ends, and by which fault it is refused.
+        ensures ends { EndsInMemory self.old.index.now self.new.index.now result }
         ensures limit { IsErrOf result (Fault.Limit LimitName.BlockFrequencySum)
             ↔ (self.old.index.now.closed ≡ false) × IsSumTooLarge self.old.index.now.field.term.skip_info (self.old.index.now.field.term.freqs ++ term_freq ∷ []) }
-        ensures closed { IsErrOf result Fault.SerializerClosed ↔ IsTrue self.old.index.now.closed }
         ensures only { IfErr result (λ e. (e ≡ Fault.OutOfMemory) ⊎ (e ≡ Fault.SerializerClosed) ⊎ (e ≡ Fault.Limit LimitName.BlockFrequencySum)) }
     {
         self.index.write_doc(doc_id, term_freq, position_deltas)
@@ -193,18 +178,14 @@ impl<'a, W: Write> FieldSerializer<'a, W> {
         ensures none { self.old.index.now.closed ≡ false → self.old.index.now.field.term_open ≡ false
             → (result ≡ Ok tt) × (self.new.index.now ≡ self.old.index.now) }
         ensures between { OnOk result (self.new.index.now.field.term_open ≡ false) }
-        ensures closes { Closes result self.new.index.now.closed }
-        ensures entries { self.new.index.now.entries ≡ self.old.index.now.entries }
 
-        // How it ends for the writers: a failed call is counted once, and each keeps what it had.
-        ensures failures { CountsFailures self.old.index.now.bodies self.new.index.now.bodies result }
+        // How it ends: a failed call is counted once, and each writer keeps what it had.
+        ensures ends { EndsWriting self.old.index.now self.new.index.now result }
         ensures grow { AllGrow self.old.index.now.bodies self.new.index.now.bodies }
 
         // When it is refused, and by which fault.
-        ensures refused { IsTrue self.old.index.now.closed → self.new.index.now ≡ self.old.index.now }
         ensures limits { IsTrue self.old.index.now.field.term_open → OnOk result (IsWithinLimits self.old.index.now.field) }
         ensures fault { IfErr result (λ e. (e ≡ Fault.SerializerClosed) ⊎ IsTermFault self.old.index.now e) }
-        ensures closed { IsErrOf result Fault.SerializerClosed ↔ IsTrue self.old.index.now.closed }
     {
         self.index.end_term()
     }
@@ -225,18 +206,14 @@ impl<'a, W: Write> FieldSerializer<'a, W> {
         ensures holds_last { (initial : IndexBodiesState) (field tokens : ℕ) (norms : Option Norms) (ts : List WrittenTerm) (key : List ℕ) → self.entry.index.now.field.term_open ≡ true
             → IsWriting initial self.entry.index.now field tokens norms ts (key ∷ [])
             → OnOk result (HoldsTerms self.entry.index.now.field.term.mode tokens (field_bodies self.entry.index.now.field.term.mode tokens (ts ++ term_under key self.entry.index.now.field.term ∷ [])) (ts ++ term_under key self.entry.index.now.field.term ∷ [])) }
-        ensures entries { self.exit.0.now.entries ≡ self.entry.index.now.entries }
-        ensures closes { Closes result self.exit.0.now.closed }
 
-        // How it ends for the writers: a failed call is counted once, and each keeps what it had.
-        ensures failures { CountsFailures self.entry.index.now.bodies self.exit.0.now.bodies result }
+        // How it ends: a failed call is counted once, and each writer keeps what it had.
+        ensures ends { EndsWriting self.entry.index.now self.exit.0.now result }
         ensures grow { AllGrow self.entry.index.now.bodies self.exit.0.now.bodies }
 
         // When it is refused, and by which fault.
-        ensures refused { IsTrue self.entry.index.now.closed → self.exit.0.now ≡ self.entry.index.now }
         ensures limits { IsTrue self.entry.index.now.field.term_open → OnOk result (IsWithinLimits self.entry.index.now.field) }
         ensures fault { IfErr result (λ e. (e ≡ Fault.SerializerClosed) ⊎ IsFieldFault self.entry.index.now e) }
-        ensures closed { IsErrOf result Fault.SerializerClosed ↔ IsTrue self.entry.index.now.closed }
     {
         let FieldSerializer { index } = self;
         index.end_field()

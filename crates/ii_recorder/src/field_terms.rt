@@ -1,8 +1,8 @@
-ghost use Rattle.std.specs.Prelude.{◌≡◌, ◌+◌, ◌^◌, ◌<◌, ◌≤◌, ◌↔◌, ◌⊎◌, if◌then◌else◌, [], ◌∷◌, ◌++◌, true, false, length, Ok, OnOk, OnErr, IfErr, IsErrOf, IsTrue, List, ℕ};
+ghost use Rattle.std.specs.Prelude.{◌≡◌, ◌+◌, ◌^◌, ◌<◌, ◌≤◌, ◌↔◌, ◌⊎◌, if◌then◌else◌, [], ◌∷◌, ◌++◌, true, false, length, Ok, OnOk, IfErr, IsErrOf, IsTrue};
 ghost use Rattle.std.specs.List.{zip};
 ghost use Rattle.ii_base.specs.declared.schema.index_record_option.IndexRecordOption.TheVariants.{Basic};
 ghost use Rattle.ii_base.specs.Options.{has_freq, has_positions};
-ghost use Rattle.ii_io.specs.CountingWriter.{Grows, Wrote, WritesUnlessClosed, Closes};
+ghost use Rattle.ii_io.specs.CountingWriter.{Grows, Wrote, WritesUnlessClosed};
 ghost use Rattle.ii_base.specs.Entries.{are_documents};
 ghost use Rattle.ii_layout.specs.Bounds.{Covers};
 ghost use Rattle.ii_layout.specs.PostingsSerializer.{IsSumTooLarge};
@@ -10,6 +10,7 @@ ghost use Rattle.ii_layout.specs.Written.{written_postings};
 ghost use Rattle.ii_termdict.specs.Dictionary.{dictionary};
 ghost use Rattle.ii_termdict.specs.ReadBack.{AreAscending};
 ghost use Rattle.ii_termdict.specs.Written.{written_dictionary};
+ghost use Rattle.ii_recorder.specs.Endings.{CountsOnce, EndsUnlessClosed};
 ghost use Rattle.ii_recorder.specs.Terms.{IsShort, positions_bytes};
 ghost use Rattle.ii_recorder.specs.FieldTerms.{EndsTerm, IsEndFault, IsLeft, term_under};
 ghost use Rattle.ii_recorder.specs.TermPlaces.{with_term};
@@ -87,9 +88,7 @@ impl FieldTerms {
           places = record self.old.places { keys = self.old.places.keys ++ key.now ∷ [] };
           term_open = true;
         }) }
-        ensures err { OnErr result (IsTrue self.new.closed) }
-        ensures refused { IsTrue self.old.closed → self.new ≡ self.old }
-        ensures closed { IsErrOf result Fault.SerializerClosed ↔ IsTrue self.old.closed }
+        ensures closing { EndsUnlessClosed self.old.closed self.new.closed self.old self.new result }
         ensures only { IfErr result (λ e. (e ≡ Fault.OutOfMemory) ⊎ (e ≡ Fault.SerializerClosed)) }
     {
         if self.is_closed {
@@ -126,13 +125,11 @@ impl FieldTerms {
             deltas = if has_positions self.old.term.mode then self.old.term.deltas ++ position_deltas.now else self.old.term.deltas;
           };
         }) }
-        ensures err { OnErr result (IsTrue self.new.closed) }
 
-        // When it is refused, and by which fault.
-        ensures refused { IsTrue self.old.closed → self.new ≡ self.old }
+        // How it ends, and by which fault it is refused.
+        ensures closing { EndsUnlessClosed self.old.closed self.new.closed self.old self.new result }
         ensures limit { IsErrOf result (Fault.Limit LimitName.BlockFrequencySum)
             ↔ (self.old.closed ≡ false) × IsSumTooLarge self.old.term.skip_info (self.old.term.freqs ++ term_freq ∷ []) }
-        ensures closed { IsErrOf result Fault.SerializerClosed ↔ IsTrue self.old.closed }
         ensures only { IfErr result (λ e. (e ≡ Fault.OutOfMemory) ⊎ (e ≡ Fault.SerializerClosed) ⊎ (e ≡ Fault.Limit LimitName.BlockFrequencySum)) }
     {
         if self.is_closed {
@@ -160,20 +157,17 @@ impl FieldTerms {
         ensures positions { IsTrue self.old.term_open → OnOk result (Wrote positions_write.old positions_write.new (positions_bytes self.old.term.mode self.old.term.deltas)) }
         ensures none { self.old.closed ≡ false → self.old.term_open ≡ false
             → (result ≡ Ok tt) × (self.new ≡ self.old) × (postings_write.new ≡ postings_write.old) × (positions_write.new ≡ positions_write.old) }
-        ensures err { OnErr result (IsTrue self.new.closed) }
+        ensures closing { EndsUnlessClosed self.old.closed self.new.closed self.old self.new result }
 
         // How it ends for the writers: a failed call is counted once, and each keeps what it had.
-        ensures write { IsErrOf result Fault.Write
-            ↔ (postings_write.old.failed_calls + positions_write.old.failed_calls < postings_write.new.failed_calls + positions_write.new.failed_calls) }
-        ensures by_one { IsErrOf result Fault.Write
-            → postings_write.new.failed_calls + positions_write.new.failed_calls ≡ postings_write.old.failed_calls + positions_write.old.failed_calls + 1 }
+        ensures once { CountsOnce (postings_write.old.failed_calls + positions_write.old.failed_calls)
+            (postings_write.new.failed_calls + positions_write.new.failed_calls) result }
         ensures kept { (postings_write.old.failed_calls ≤ postings_write.new.failed_calls) × (positions_write.old.failed_calls ≤ positions_write.new.failed_calls) }
         ensures grow { Grows postings_write.old postings_write.new × Grows positions_write.old positions_write.new }
 
         // When it is refused, and by which fault.
         ensures fault { IfErr result (λ e. (e ≡ Fault.SerializerClosed) ⊎ IsEndFault self.old.term self.old.places postings_write.old positions_write.old e) }
-        ensures refused { IsTrue self.old.closed → (self.new ≡ self.old) × (postings_write.new ≡ postings_write.old) × (positions_write.new ≡ positions_write.old) }
-        ensures closed { IsErrOf result Fault.SerializerClosed ↔ IsTrue self.old.closed }
+        ensures refused { IsTrue self.old.closed → (postings_write.new ≡ postings_write.old) × (positions_write.new ≡ positions_write.old) }
     {
         if self.is_closed {
             return Err(Fault::SerializerClosed);
@@ -201,8 +195,7 @@ impl FieldTerms {
         requires between { self.old.closed ≡ false → self.old.term_open ≡ false }
         ensures written { WritesUnlessClosed self.old.closed terms_write.old terms_write.new (written_dictionary self.old.places.keys self.old.places.infos) result }
         ensures holds { OnOk result (dictionary (written_dictionary self.old.places.keys self.old.places.infos) ≡ Ok (zip self.old.places.keys self.old.places.infos)) }
-        ensures refused { IsTrue self.old.closed → self.new ≡ self.old }
-        ensures closes { Closes result self.new.closed }
+        ensures closing { EndsUnlessClosed self.old.closed self.new.closed self.old self.new result }
     {
         if self.is_closed {
             return Err(Fault::SerializerClosed);
@@ -220,8 +213,7 @@ fn put_term<W: Write>(
     postings_write: &mut CountingWriter<W>,
     positions_write: &mut CountingWriter<W>,
 ) -> Result<(), Fault>
-    requires term { term.old.closed ≡ false }
-    requires places { places.old.closed ≡ false }
+    requires open { (term.old.closed ≡ false) × (places.old.closed ≡ false) }
     requires key { length places.old.keys ≡ length places.old.infos + 1 }
     ensures postings { OnOk result (Wrote postings_write.old postings_write.new (written_postings term.old.norms term.old.skip_info term.old.docs term.old.freqs)) }
     ensures positions { OnOk result (Wrote positions_write.old positions_write.new (positions_bytes term.old.mode term.old.deltas)) }
@@ -232,10 +224,8 @@ fn put_term<W: Write>(
     ensures left { OnOk result (IsLeft term.old term.new) }
 
     // How it ends for the writers: a failed call is counted once, and each keeps what it had.
-    ensures write { IsErrOf result Fault.Write
-        ↔ (postings_write.old.failed_calls + positions_write.old.failed_calls < postings_write.new.failed_calls + positions_write.new.failed_calls) }
-    ensures by_one { IsErrOf result Fault.Write
-        → postings_write.new.failed_calls + positions_write.new.failed_calls ≡ postings_write.old.failed_calls + positions_write.old.failed_calls + 1 }
+    ensures once { CountsOnce (postings_write.old.failed_calls + positions_write.old.failed_calls)
+        (postings_write.new.failed_calls + positions_write.new.failed_calls) result }
     ensures kept { (postings_write.old.failed_calls ≤ postings_write.new.failed_calls) × (positions_write.old.failed_calls ≤ positions_write.new.failed_calls) }
     ensures grow { Grows postings_write.old postings_write.new × Grows positions_write.old positions_write.new }
 

@@ -1,11 +1,12 @@
-ghost use Rattle.std.specs.Prelude.{◌≡◌, ◌+◌, ◌-◌, ◌^◌, ◌<◌, ◌≤◌, ◌⊎◌, ◌↔◌, List, [], ◌∷◌, ◌++◌, true, false, length, Ok, OnOk, OnErr, IfErr, IsErrOf, IsTrue};
+ghost use Rattle.std.specs.Prelude.{◌≡◌, ◌-◌, ◌^◌, ◌<◌, ◌⊎◌, ◌↔◌, List, [], true, false, length, Ok, OnOk, IfErr, IsErrOf, IsTrue};
 ghost use Rattle.std.specs.List.{zip};
 ghost use Rattle.ii_io.specs.CountingWriter.{CountingWriterState, Grows, IsFull};
 ghost use Rattle.ii_io.specs.CompositeWrite.{AddsBody, HasBodies, WroteComposite, has_start};
 ghost use Rattle.ii_io.specs.Composite.{Body, fit_fields};
 ghost use Rattle.ii_io.specs.Faults.{OnlyMemory};
 ghost use Rattle.ii_io.specs.Numbers.{le_bytes};
-ghost use Rattle.ii_recorder.specs.IndexBodies.{AddsBodies, AddsMore, AllGrow, AreBegun, OneIsFull, AreUnclosed, LacksField, NoneFalls, failed_calls, tables_of, CountsFailures};
+ghost use Rattle.ii_recorder.specs.IndexBodies.{AddsBodies, AddsMore, AllGrow, AreBegun, OneIsFull, AreUnclosed, LacksField, tables_of, CountsFailures, CountsFailuresOf};
+ghost use Rattle.ii_recorder.specs.Endings.{EndsUnlessClosed};
 ghost use Rattle.ii_recorder.specs.FieldTerms.{EndsTerm, IsEndFault, bytes_of, dictionary_of};
 ghost use Rattle.ii_termdict.specs.Dictionary.{dictionary};
 ghost use Rattle.ii_termdict.specs.Written.{written_dictionary};
@@ -83,18 +84,16 @@ impl<W: Write> IndexBodies<W> {
         ensures wrote { IsTrue terms.old.term_open → OnOk result (AddsMore self.old self.new (bytes_of terms.old.term)) }
         ensures unclosed { AreUnclosed self.old → AreUnclosed self.new }
         ensures begun { AreBegun self.new }
-        ensures failed { OnOk result (failed_calls self.new ≡ failed_calls self.old) }
         ensures none { terms.old.closed ≡ false → terms.old.term_open ≡ false → (result ≡ Ok tt) × (terms.new ≡ terms.old) × (self.new ≡ self.old) }
-        ensures err { OnErr result (IsTrue terms.new.closed) }
+        ensures closing { EndsUnlessClosed terms.old.closed terms.new.closed terms.old terms.new result }
 
         // How it ends for the writers: a failed call is counted once, and each keeps what it had.
         ensures failures { CountsFailures self.old self.new result }
         ensures grow { AllGrow self.old self.new }
 
         // When it is refused, and by which fault.
-        ensures refused { IsTrue terms.old.closed → (terms.new ≡ terms.old) × (self.new ≡ self.old) }
+        ensures refused { IsTrue terms.old.closed → self.new ≡ self.old }
         ensures fault { IfErr result (λ e. (e ≡ Fault.SerializerClosed) ⊎ IsEndFault terms.old.term terms.old.places self.old.postings.writer self.old.positions.writer e) }
-        ensures closed { IsErrOf result Fault.SerializerClosed ↔ IsTrue terms.old.closed }
     {
         terms.close_term(self.postings.writer(), self.positions.writer())
     }
@@ -114,9 +113,7 @@ impl<W: Write> IndexBodies<W> {
         ensures grow { AllGrow self.old self.new }
 
         // When it is refused, and by which fault.
-        ensures full { IsErrOf result (Fault.Limit LimitName.Offset)
-            → OneIsFull self.old (dictionary_of terms.old) }
-        ensures only { IfErr result (λ e. (e ≡ Fault.Write) ⊎ (e ≡ Fault.Limit LimitName.Offset) ⊎ (e ≡ Fault.SerializerClosed)) }
+        ensures fault { IfErr result (λ e. (e ≡ Fault.SerializerClosed) ⊎ (e ≡ Fault.Write) ⊎ ((e ≡ Fault.Limit LimitName.Offset) × OneIsFull self.old (dictionary_of terms.old))) }
         ensures refused { IsTrue terms.old.closed → (terms.new ≡ terms.old) × (self.new ≡ self.old) }
         ensures closed { IsErrOf result Fault.SerializerClosed ↔ IsTrue terms.old.closed }
     {
@@ -180,9 +177,7 @@ impl<W: Write> IndexBodies<W> {
         ensures positions { (initial : CountingWriterState) (bodies : List Body) → HasBodies initial self.positions bodies → fit_fields bodies ≡ true → OnOk result.3 (WroteComposite initial result.2 bodies) }
 
         // How it ends for the writers: a failed call is counted once, and each keeps what it had.
-        ensures write { IsErrOf result.3 Fault.Write ↔ (failed_calls self < result.0.failed_calls + result.1.failed_calls + result.2.failed_calls) }
-        ensures by_one { IsErrOf result.3 Fault.Write → result.0.failed_calls + result.1.failed_calls + result.2.failed_calls ≡ failed_calls self + 1 }
-        ensures kept { (self.terms.writer.failed_calls ≤ result.0.failed_calls) × (self.postings.writer.failed_calls ≤ result.1.failed_calls) × (self.positions.writer.failed_calls ≤ result.2.failed_calls) }
+        ensures failures { CountsFailuresOf self result.0 result.1 result.2 result.3 }
         ensures grow { Grows self.terms.writer result.0 × Grows self.postings.writer result.1 × Grows self.positions.writer result.2 }
 
         // When it is refused, and by which fault.

@@ -1,4 +1,4 @@
-ghost use Rattle.std.specs.Prelude.{◌≡◌, ◌+◌, ◌^◌, ◌<◌, ◌≤◌, ◌↔◌, ◌⊎◌, if◌then◌else◌, [], ◌∷◌, ◌++◌, true, false, length, OnOk, OnErr, IfOk, IfErr, IsErrOf, IsTrue};
+ghost use Rattle.std.specs.Prelude.{◌≡◌, ◌+◌, ◌^◌, ◌<◌, ◌≤◌, ◌↔◌, ◌⊎◌, if◌then◌else◌, [], ◌∷◌, ◌++◌, false, length, OnOk, OnErr, IfOk, IfErr, IsErrOf, IsTrue};
 ghost use Rattle.ii_base.specs.declared.schema.index_record_option.IndexRecordOption.TheVariants.{Basic};
 ghost use Rattle.ii_base.specs.Options.{has_freq, has_positions};
 ghost use Rattle.ii_io.specs.CountingWriter.{Grows, IsFull, Wrote};
@@ -6,6 +6,7 @@ ghost use Rattle.ii_base.specs.Entries.{are_documents};
 ghost use Rattle.ii_layout.specs.Bounds.{Covers};
 ghost use Rattle.ii_layout.specs.PostingsSerializer.{IsSumTooLarge};
 ghost use Rattle.ii_layout.specs.Written.{written_postings};
+ghost use Rattle.ii_recorder.specs.Endings.{CountsOnce};
 ghost use Rattle.ii_recorder.specs.Terms.{positions_bytes};
 
 use ii_base::{DocId, IndexRecordOption};
@@ -121,9 +122,8 @@ impl OpenTerm {
         ensures short { OnOk result (length (written_postings self.old.norms self.old.skip_info self.old.docs self.old.freqs) < 2 ^ 32) }
         ensures mode { self.new.mode ≡ self.old.mode }
 
-        // How it ends for the writers: a failed call is counted once, and each keeps what it had.
-        ensures write { IsErrOf result Fault.Write ↔ (writer.old.failed_calls < writer.new.failed_calls) }
-        ensures by_one { IsErrOf result Fault.Write → writer.new.failed_calls ≡ writer.old.failed_calls + 1 }
+        // How it ends for the writer: a failed call is counted once, and it keeps what it had.
+        ensures once { CountsOnce writer.old.failed_calls writer.new.failed_calls result }
         ensures kept { writer.old.failed_calls ≤ writer.new.failed_calls }
         ensures grows { Grows writer.old writer.new }
 
@@ -153,9 +153,8 @@ impl OpenTerm {
         ensures short { OnOk result (length (positions_bytes self.old.mode self.old.deltas) < 2 ^ 32) }
         ensures mode { self.new.mode ≡ self.old.mode }
 
-        // How it ends for the writers: a failed call is counted once, and each keeps what it had.
-        ensures write { IsErrOf result Fault.Write ↔ (writer.old.failed_calls < writer.new.failed_calls) }
-        ensures by_one { IsErrOf result Fault.Write → writer.new.failed_calls ≡ writer.old.failed_calls + 1 }
+        // How it ends for the writer: a failed call is counted once, and it keeps what it had.
+        ensures once { CountsOnce writer.old.failed_calls writer.new.failed_calls result }
         ensures kept { writer.old.failed_calls ≤ writer.new.failed_calls }
         ensures grows { Grows writer.old writer.new }
 

@@ -1,7 +1,7 @@
-ghost use Rattle.std.specs.Prelude.{◌≡◌, ◌+◌, ◌^◌, ◌<◌, ◌≤◌, ◌⊎◌, ◌↔◌, if◌then◌else◌, ℕ, List, [], ◌∷◌, ◌++◌, true, false, length, Ok, Err, OnOk, OnErr, IfErr, IsErrOf, IsTrue, Option};
+ghost use Rattle.std.specs.Prelude.{◌≡◌, ◌+◌, ◌<◌, ◌⊎◌, ◌↔◌, if◌then◌else◌, ℕ, List, [], ◌∷◌, ◌++◌, true, false, length, Ok, Err, OnOk, IfErr, IsErrOf, IsTrue, Option};
 ghost use Rattle.ii_base.specs.declared.schema.index_record_option.IndexRecordOption.TheVariants.{Basic};
 ghost use Rattle.ii_base.specs.Options.{has_freq, has_positions};
-ghost use Rattle.ii_io.specs.CountingWriter.{Closes, CountingWriterState, Grows, IsFull};
+ghost use Rattle.ii_io.specs.CountingWriter.{CountingWriterState, Grows, IsFull};
 ghost use Rattle.ii_io.specs.Composite.{Body, fit_fields};
 ghost use Rattle.ii_io.specs.CompositeWrite.{HasBodies, WroteComposite};
 ghost use Rattle.ii_base.specs.Entries.{are_documents};
@@ -12,8 +12,8 @@ ghost use Rattle.ii_termdict.specs.ReadBack.{AreAscending};
 ghost use Rattle.ii_recorder.specs.Terms.{WrittenTerm, field_bodies};
 ghost use Rattle.ii_recorder.specs.HeldTerms.{HoldsTerms};
 ghost use Rattle.ii_recorder.specs.FieldTerms.{IsWithinLimits, closing_bytes, dictionary_of, term_under};
-ghost use Rattle.ii_recorder.specs.IndexBodies.{IndexBodiesState, AddsBodies, AllGrow, AreBegun, OneIsFull, LacksField, NoneFalls, failed_calls, tables_of, CountsFailures};
-ghost use Rattle.ii_recorder.specs.IndexSerializer.{IsFieldFault, IsTermFault, IsWriting};
+ghost use Rattle.ii_recorder.specs.IndexBodies.{IndexBodiesState, AddsBodies, AllGrow, AreBegun, OneIsFull, LacksField, tables_of, CountsFailuresOf};
+ghost use Rattle.ii_recorder.specs.IndexSerializer.{EndsInMemory, EndsWriting, IsFieldFault, IsTermFault, IsWriting};
 
 use super::field_terms::FieldTerms;
 use super::index_bodies::IndexBodies;
@@ -94,9 +94,7 @@ impl<W: Write> InvertedIndexSerializer<W> {
         ensures positions { (initial : CountingWriterState) (bodies : List Body) → HasBodies initial self.bodies.positions bodies → fit_fields bodies ≡ true → OnOk result.3 (WroteComposite initial result.2 bodies) }
 
         // How it ends for the writers: a failed call is counted once, and each keeps what it had.
-        ensures write { IsErrOf result.3 Fault.Write ↔ (failed_calls self.bodies < result.0.failed_calls + result.1.failed_calls + result.2.failed_calls) }
-        ensures by_one { IsErrOf result.3 Fault.Write → result.0.failed_calls + result.1.failed_calls + result.2.failed_calls ≡ failed_calls self.bodies + 1 }
-        ensures kept { (self.bodies.terms.writer.failed_calls ≤ result.0.failed_calls) × (self.bodies.postings.writer.failed_calls ≤ result.1.failed_calls) × (self.bodies.positions.writer.failed_calls ≤ result.2.failed_calls) }
+        ensures failures { CountsFailuresOf self.bodies result.0 result.1 result.2 result.3 }
         ensures grow { Grows self.bodies.terms.writer result.0 × Grows self.bodies.postings.writer result.1 × Grows self.bodies.positions.writer result.2 }
 
         // When it is refused, and by which fault.
@@ -145,18 +143,13 @@ impl<W: Write> InvertedIndexSerializer<W> {
         ensures begins { OnOk result (IsWriting self.old.bodies self.new field total_num_tokens fieldnorm_reader [] []) }
         ensures begun { OnOk result (AreBegun self.new.bodies) }
         ensures between { OnOk result (self.new.field.term_open ≡ false) }
-        ensures entries { self.new.entries ≡ self.old.entries }
-        ensures closes { OnOk result (self.new.closed ≡ false) }
-        ensures err { OnErr result (IsTrue self.new.closed) }
 
-        // How it ends for the writers: a failed call is counted once, and each keeps what it had.
-        ensures failures { CountsFailures self.old.bodies self.new.bodies result }
+        // How it ends: a failed call is counted once, and each writer keeps what it had.
+        ensures ends { EndsWriting self.old self.new result }
         ensures grow { AllGrow self.old.bodies self.new.bodies }
 
         // When it is refused, and by which fault.
         ensures full { IsErrOf result (Fault.Limit LimitName.Offset) → IsFull self.old.bodies.postings.writer 8 }
-        ensures refused { IsTrue self.old.closed → self.new ≡ self.old }
-        ensures closed { IsErrOf result Fault.SerializerClosed ↔ IsTrue self.old.closed }
         ensures only { IfErr result (λ e. (e ≡ Fault.OutOfMemory) ⊎ (e ≡ Fault.Write) ⊎ (e ≡ Fault.Limit LimitName.Offset) ⊎ (e ≡ Fault.SerializerClosed)) }
     {
         if self.is_closed {
@@ -183,13 +176,9 @@ impl<W: Write> InvertedIndexSerializer<W> {
         ensures term { OnOk result (self.new.field.term
             ≡ record self.old.field.term { skip_info = if record_term_freq then self.old.field.term.mode else Basic; docs = []; freqs = []; deltas = [] }) }
         ensures inside { OnOk result (self.new.field.term_open ≡ true) }
-        ensures entries { self.new.entries ≡ self.old.entries }
-        ensures bodies { self.new.bodies ≡ self.old.bodies }
-        ensures closes { Closes result self.new.closed }
 
-        // When it is refused, and by which fault.
-        ensures refused { IsTrue self.old.closed → self.new ≡ self.old }
-        ensures closed { IsErrOf result Fault.SerializerClosed ↔ IsTrue self.old.closed }
+        // How it ends, and by which fault it is refused.
+        ensures ends { EndsInMemory self.old self.new result }
         ensures only { IfErr result (λ e. (e ≡ Fault.OutOfMemory) ⊎ (e ≡ Fault.SerializerClosed)) }
     {
         if self.is_closed {
@@ -220,15 +209,11 @@ impl<W: Write> InvertedIndexSerializer<W> {
             };
           };
         }) }
-        ensures entries { self.new.entries ≡ self.old.entries }
-        ensures bodies { self.new.bodies ≡ self.old.bodies }
-        ensures closes { Closes result self.new.closed }
 
-        // When it is refused, and by which fault.
-        ensures refused { IsTrue self.old.closed → self.new ≡ self.old }
+        // How it ends, and by which fault it is refused.
+        ensures ends { EndsInMemory self.old self.new result }
         ensures limit { IsErrOf result (Fault.Limit LimitName.BlockFrequencySum)
             ↔ (self.old.closed ≡ false) × IsSumTooLarge self.old.field.term.skip_info (self.old.field.term.freqs ++ term_freq ∷ []) }
-        ensures closed { IsErrOf result Fault.SerializerClosed ↔ IsTrue self.old.closed }
         ensures only { IfErr result (λ e. (e ≡ Fault.OutOfMemory) ⊎ (e ≡ Fault.SerializerClosed) ⊎ (e ≡ Fault.Limit LimitName.BlockFrequencySum)) }
     {
         if self.is_closed {
@@ -267,20 +252,15 @@ impl<W: Write> InvertedIndexSerializer<W> {
         ensures between { OnOk result (self.new.field.term_open ≡ false) }
         ensures begun { self.old.closed ≡ false → AreBegun self.new.bodies }
         ensures mode { OnOk result (self.new.field.term.mode ≡ self.old.field.term.mode) }
-        ensures failed { OnOk result (failed_calls self.new.bodies ≡ failed_calls self.old.bodies) }
-        ensures entries { self.new.entries ≡ self.old.entries }
-        ensures closes { Closes result self.new.closed }
 
-        // How it ends for the writers: a failed call is counted once, and each keeps what it had.
-        ensures failures { CountsFailures self.old.bodies self.new.bodies result }
+        // How it ends: a failed call is counted once, and each writer keeps what it had.
+        ensures ends { EndsWriting self.old self.new result }
         ensures grow { AllGrow self.old.bodies self.new.bodies }
 
         // When it is refused, and by which fault.
-        ensures refused { IsTrue self.old.closed → self.new ≡ self.old }
         ensures limits { IsTrue self.old.field.term_open → OnOk result (IsWithinLimits self.old.field) }
         ensures fault { IfErr result (λ e. (e ≡ Fault.SerializerClosed) ⊎ IsTermFault self.old e) }
         ensures room { OnOk result (OneIsFull self.new.bodies (dictionary_of self.new.field) → OneIsFull self.old.bodies (closing_bytes self.old.field)) }
-        ensures closed { IsErrOf result Fault.SerializerClosed ↔ IsTrue self.old.closed }
     {
         if self.is_closed {
             return Err(Fault::SerializerClosed);
@@ -298,18 +278,14 @@ impl<W: Write> InvertedIndexSerializer<W> {
             → OnOk result (AddsBodies initial self.new.bodies field (field_bodies self.old.field.term.mode tokens ts)) }
         ensures holds { (initial : IndexBodiesState) (field tokens : ℕ) (norms : Option Norms) (ts : List WrittenTerm) → IsWriting initial self.old field tokens norms ts []
             → OnOk result (HoldsTerms self.old.field.term.mode tokens (field_bodies self.old.field.term.mode tokens ts) ts) }
-        ensures entries { self.new.entries ≡ self.old.entries }
         ensures begun { self.old.closed ≡ false → AreBegun self.new.bodies }
-        ensures closes { Closes result self.new.closed }
 
-        // How it ends for the writers: a failed call is counted once, and each keeps what it had.
-        ensures failures { CountsFailures self.old.bodies self.new.bodies result }
+        // How it ends: a failed call is counted once, and each writer keeps what it had.
+        ensures ends { EndsWriting self.old self.new result }
         ensures grow { AllGrow self.old.bodies self.new.bodies }
 
         // When it is refused, and by which fault.
-        ensures refused { IsTrue self.old.closed → self.new ≡ self.old }
         ensures fault { IfErr result (λ e. (e ≡ Fault.SerializerClosed) ⊎ (e ≡ Fault.Write) ⊎ ((e ≡ Fault.Limit LimitName.Offset) × OneIsFull self.old.bodies (dictionary_of self.old.field))) }
-        ensures closed { IsErrOf result Fault.SerializerClosed ↔ IsTrue self.old.closed }
     {
         if self.is_closed {
             return Err(Fault::SerializerClosed);
@@ -334,19 +310,15 @@ impl<W: Write> InvertedIndexSerializer<W> {
         ensures holds_last { (initial : IndexBodiesState) (field tokens : ℕ) (norms : Option Norms) (ts : List WrittenTerm) (key : List ℕ) → self.old.field.term_open ≡ true
             → IsWriting initial self.old field tokens norms ts (key ∷ [])
             → OnOk result (HoldsTerms self.old.field.term.mode tokens (field_bodies self.old.field.term.mode tokens (ts ++ term_under key self.old.field.term ∷ [])) (ts ++ term_under key self.old.field.term ∷ [])) }
-        ensures entries { self.new.entries ≡ self.old.entries }
         ensures begun { self.new.closed ≡ false → AreBegun self.new.bodies }
-        ensures closes { Closes result self.new.closed }
 
-        // How it ends for the writers: a failed call is counted once, and each keeps what it had.
-        ensures failures { CountsFailures self.old.bodies self.new.bodies result }
+        // How it ends: a failed call is counted once, and each writer keeps what it had.
+        ensures ends { EndsWriting self.old self.new result }
         ensures grow { AllGrow self.old.bodies self.new.bodies }
 
         // When it is refused, and by which fault.
-        ensures refused { IsTrue self.old.closed → self.new ≡ self.old }
         ensures limits { IsTrue self.old.field.term_open → OnOk result (IsWithinLimits self.old.field) }
         ensures fault { IfErr result (λ e. (e ≡ Fault.SerializerClosed) ⊎ IsFieldFault self.old e) }
-        ensures closed { IsErrOf result Fault.SerializerClosed ↔ IsTrue self.old.closed }
     {
         let ended = self.end_term();
         if ended.is_err() {

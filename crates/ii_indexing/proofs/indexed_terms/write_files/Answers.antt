@@ -14,7 +14,7 @@ returns-in-Ok-clause-holds g c ts has =
 pub returns-in-Ok-clause-failures : goal.returns-in-Ok-clause-failures
 returns-in-Ok-clause-failures g c =
     three_counted c.args.serializer.bodies c.serialize_postings.new.serializer.bodies c.serialize_postings.result c.in-Ok.field-0 c.close.result.0 c.close.result.1 c.close.result.2 c.close.result.3 c.in-Ok.is c.serialize_postings.ensures.failures
-    (record { write = c.close.ensures.write; by_one = c.close.ensures.by_one; kept = c.close.ensures.kept })
+    c.close.ensures.failures
 
 pub returns-in-Ok-clause-fault : goal.returns-in-Ok-clause-fault
 returns-in-Ok-clause-fault g c ts has =

@@ -34,9 +34,9 @@ loop-place-preserved g c =
     let wrote = c.in_ok-serialize_one_term.ensures.writing c.args.serializer.now.bodies c.args.field c.args.total_num_tokens norms (all_written norms mode (take k terms)) w.0 in
     let more = next_written norms c.args.serializer.now.entries c.loop-place.serializer.index.now.entries c.args.field terms k c.index-terms-place.result (search rules) c.index-terms-place.is w.3 in (
       subst (λ (ts : List WrittenTerm). IsWriting c.args.serializer.now.bodies c.serialize_one_term.new.serializer.index.now c.args.field c.args.total_num_tokens norms ts []) more wrote,
-      c.in_ok-serialize_one_term.ensures.closes.ok,
+      c.in_ok-serialize_one_term.ensures.ends.closing.closes.ok,
       c.in_ok-serialize_one_term.ensures.between,
-      c.serialize_one_term.ensures.entries ∙ w.3,
+      c.serialize_one_term.ensures.ends.entries ∙ w.3,
       c.serialize_one_term.ensures.same_reference ∙ w.4,
       one_more_told mode terms k c.index-terms-place.result (search rules) c.index-terms-place.is (subst (λ m. IsTold m (state_of c.index-terms-place.result)) (w.0.mode ∙ ap (λ es. option_of es c.args.field) w.3) c.in_ok-serialize_one_term.ensures.told) w.5,
     )
@@ -91,7 +91,7 @@ returns-clause-fault g c =
     let all = take_all c.loop-place.place terms many in
     let whole = subst (λ ts. IsWriting initial s c.args.field tokens norms (all_written norms mode ts) []) all w.0 in
     let kept = w.0.mode ∙ ap (λ es. option_of es c.args.field) w.3 in
-    unless_closed c.close.result s.closed _ _ c.close.ensures.closed w.1 (λ e fault. inr (closed_fault initial s c.args.field tokens norms (all_written norms mode terms) mode e whole w.2 kept fault)) c.close.ensures.fault
+    unless_closed c.close.result s.closed _ _ c.close.ensures.ends.closing.closed w.1 (λ e fault. inr (closed_fault initial s c.args.field tokens norms (all_written norms mode terms) mode e whole w.2 kept fault)) c.close.ensures.fault
 
 pub returns-in_err-serialize_one_term-clause-grow : goal.returns-in_err-serialize_one_term-clause-grow
 returns-in_err-serialize_one_term-clause-grow g c =

@@ -42,9 +42,9 @@ returns-clause-fault g c initial field tokens norms ts writing =
     let same = term_written c.args.key.now c.args.serializer.now.index.now.field.term r c.new_term.new.self.index.now c.serialize.new.serializer.index.now c.has_term_freq.result c.has_term_freq.ensures c.in_ok-new_term.ensures.term pushed
     ∙ ap (λ (n : Option Norms). written_term n c.args.serializer.now.index.now.field.term.mode (record { key = c.args.key.now; recorder = r })) writing.norms_are
     ∙ ap (λ (mode : IndexRecordOption). written_term norms mode (record { key = c.args.key.now; recorder = r })) writing.mode in
-    let kept = whole.mode ∙ ap (λ es. option_of es field) (c.in_ok-serialize.ensures.pushes.entries ∙ c.in_ok-new_term.ensures.entries) in
+    let kept = whole.mode ∙ ap (λ es. option_of es field) (c.in_ok-serialize.ensures.pushes.ends.entries ∙ c.in_ok-new_term.ensures.ends.entries) in
     let told = was_told c.args.serializer.now.index.now.field.term c.args.key.now r c.new_term.new.self.index.now.field.term c.has_term_freq.result c.has_term_freq.ensures c.in_ok-new_term.ensures.term
     c.in_ok-serialize.ensures.pushes.small c.in_ok-serialize.ensures.pushes.fit c.in_ok-serialize.ensures.located in
     let small = subst (λ mode. ¬ HasLargeSum (written_term norms mode (record { key = c.args.key.now; recorder = r }))) writing.mode told.small in
-    unless_closed c.close_term.result c.serialize.new.serializer.index.now.closed _ _ c.close_term.ensures.closed c.in_ok-serialize.ensures.pushes.closes.ok
+    unless_closed c.close_term.result c.serialize.new.serializer.index.now.closed _ _ c.close_term.ensures.ends.closing.closed c.in_ok-serialize.ensures.pushes.ends.closing.closes.ok
     (λ e fault. ended_fault initial c.serialize.new.serializer.index.now field tokens norms ts (option_of c.args.serializer.now.index.now.entries field) c.args.key.now _ e whole kept same small fault) c.close_term.ensures.fault

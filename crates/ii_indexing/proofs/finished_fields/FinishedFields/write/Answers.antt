@@ -3,6 +3,7 @@ use Rattle.std.proofs.lemmas.Result.{IfErr-weaker}
 use Rattle.ii_io.specs.CountingWriter.{CountingWriterState, Writes, Wrote}
 use Rattle.ii_io.specs.CountingWriterLemmas.{Grows-trans, grows_not, writes_grows, writes_went}
 use Rattle.ii_postings_writer.proofs.TermIndexLemmas.{on_ok}
+use Rattle.ii_indexing.proofs.WrittenFiles.{norms_before, norms_refused}
 use Rattle.ii_indexing.proofs.finished_fields.FinishedFields.write.Goals as goal
 
 pub returns-clause-fault : goal.returns-clause-fault
@@ -34,3 +35,10 @@ returns-clause-holds g c ts norms have =
       norms = record { fieldnorms = bytes; wrote = subst (λ (w : CountingWriterState). Wrote c.args.writers.fieldnorms w bytes) (sym c.write.ensures.norms) wrote; hold = norms };
     })
     (c.write.ensures.holds ts have)
+
+pub returns-then-is_err-clause-failures : goal.returns-then-is_err-clause-failures
+returns-then-is_err-clause-failures g c = norms_refused c.args.writers c.write_norms-written.new.writer _ c.write_norms-written.result c.write_norms-written.ensures.written
+
+pub returns-clause-failures : goal.returns-clause-failures
+returns-clause-failures g c =
+    norms_before c.args.writers c.write.result.0 c.write_norms-written.new.writer _ c.write_norms-written.result c.write.result.1 (sym c.if-is_err.false ∙ c.is_err.ensures.value) c.write_norms-written.ensures.written c.write.ensures.failures
