@@ -1,7 +1,7 @@
 -- What a check of an index tells, and what is left to refuse after it.
 use Rattle.std.proofs.Common.{◌≡◌, ◌∙◌, ◌+◌, ◌<◌, ℕ, zero, suc, List, [], ◌∷◌, length, Option, None, Some, Result, Ok, Err, zero-add, inl, inr, refl, sym, ap, subst, arith}
 use Rattle.std.specs.Prelude.{◌⊎◌, IfErr, IfNone, IfOk, IfSome, IsOk, IsSomeAnd, slice_get}
-use Rattle.std.specs.List.{All, cons_option, enumerate_from, filter_map, slice_index_or}
+use Rattle.std.specs.List.{All, cons_option, enumerate_from, filter_map}
 use Rattle.std.specs.Option.{option_map}
 use Rattle.std.specs.Result.{result_err}
 use Rattle.std.proofs.lemmas.Option.{get_or_from_slice_get}
