@@ -1,7 +1,7 @@
 -- What a check of an index tells, and what is left to refuse after it.
 use Rattle.std.proofs.Common.{◌≡◌, ◌∙◌, ◌+◌, ◌<◌, ℕ, zero, suc, List, [], ◌∷◌, length, Option, None, Some, Result, Ok, Err, zero-add, inl, inr, refl, sym, ap, subst, arith}
 use Rattle.std.specs.Prelude.{◌⊎◌, IfErr, IfNone, IfOk, IfSome, IsOk, IsSomeAnd, slice_get}
-use Rattle.std.specs.List.{All, cons_option, enumerate_from, filter_map, slice_index_or}
+use Rattle.std.specs.List.{All, cons_option, enumerate_from, filter_map}
 use Rattle.std.specs.Option.{option_map}
 use Rattle.std.specs.Result.{result_err}
 use Rattle.std.proofs.lemmas.Option.{get_or_from_slice_get}
@@ -11,7 +11,6 @@ use Rattle.ii_io.specs.declared.faults.Part.{Part}
 use Rattle.ii_base.specs.Entries.{Entry}
 use Rattle.ii_base.specs.declared.schema.index_record_option.IndexRecordOption.{IndexRecordOption}
 use Rattle.ii_termdict.specs.Dictionary.{TermEntry, info_under}
-use Rattle.ii_termstore.specs.declared.term_info.TermInfo.{TermInfo}
 use Rattle.ii_reader.specs.declared.damage.DamagedTerm.{DamagedTerm}
 use Rattle.ii_reader.specs.Damage.{damage_of, damage_of_field, damaged_term, first_damaged_field, first_damaged_term}
 use Rattle.ii_reader.specs.InvertedIndexReader.{AllOpen, InvertedIndexReaderState, IsRefusal, term_of_file}
@@ -150,12 +149,12 @@ not_refused (Err other) fault opens (inr (part, is, err)) = absurd (cc)
 -- so is a look-up where each term opens
 pub look_up_opens : {A : Type 0} (reader : InvertedIndexReaderState) (key : List ℕ) (requested : IndexRecordOption) (answer : Result (Option A) Fault) → AllOpen reader
     → IfNone (info_under key reader.terms) (answer ≡ Ok None) → IfSome (info_under key reader.terms) (λ info. IfErr answer (IsRefusal (term_of_file reader requested info))) → IfErr answer (λ fault. fault ≡ OutOfMemory)
-look_up_opens reader key requested answer all none err = by_case (info_under key reader.terms) answer (all key requested) none err
+look_up_opens reader key requested answer all none err = by_case (term_of_file reader requested) (info_under key reader.terms) answer (all key requested) none err
   where
-    by_case : {A : Type 0} (o : Option TermInfo) (a : Result (Option A) Fault) → IfSome o (λ info. IsOk (term_of_file reader requested info)) → IfNone o (a ≡ Ok None) → IfSome o (λ info. IfErr a (IsRefusal (term_of_file reader requested info))) → IfErr a (λ fault. fault ≡ OutOfMemory)
-    by_case o (Ok found) opens none err = tt
-    by_case None (Err fault) opens none err = absurd (cc)
-    by_case (Some info) (Err fault) opens none err = not_refused (term_of_file reader requested info) fault opens err
+    by_case : {I A : Type 0} (list : I → Result (List Entry) Part) (o : Option I) (a : Result (Option A) Fault) → IfSome o (λ info. IsOk (list info)) → IfNone o (a ≡ Ok None) → IfSome o (λ info. IfErr a (IsRefusal (list info))) → IfErr a (λ fault. fault ≡ OutOfMemory)
+    by_case list o (Ok found) opens none err = tt
+    by_case list None (Err fault) opens none err = absurd (cc)
+    by_case list (Some info) (Err fault) opens none err = not_refused (list info) fault opens err
 
 -- the reader of a field, of readers each of which opens its terms
 pub field_opens : (readers : List InvertedIndexReaderState) (field : ℕ) (reader : InvertedIndexReaderState) → All AllOpen readers → slice_get readers field ≡ Some reader → AllOpen reader

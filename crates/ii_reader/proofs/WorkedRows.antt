@@ -10,6 +10,7 @@ use Rattle.ii_termstore.specs.declared.term_info.TermInfo.{TermInfo}
 use Rattle.ii_termstore.specs.TermInfos.{term_info_from}
 use Rattle.ii_termstore.specs.TermStore.{store_parts, term_store}
 use Rattle.ii_termdict.specs.Dictionary.{dictionary, end_of, key_parts, keys_at}
+use Rattle.ii_reader.specs.Damage.{damaged_term, damaged_terms, first_damaged_field}
 use Rattle.ii_reader.specs.InvertedIndexReader.{InvertedIndexReaderState, docs_of_file, reader_of_none, reader_over, term_of_file}
 use Rattle.ii_reader.specs.OpenIndex.{all_or_first, index_of_files, reader_if, reader_of_bodies}
 use Rattle.ii_base.specs.Entries.{document}
@@ -121,3 +122,19 @@ row_cut = refl
 pub row_norms_cut : index_of_files (replicate 4 0) (replicate 4 0) (replicate 4 0) (replicate 3 0) one_field ≡ Err Composite
 unfolding number_at
 row_norms_cut = refl
+
+-- three terms, the last two of which have ranges that don't lie in the body
+abbrev damaged_reader : InvertedIndexReaderState
+damaged_reader = record plain_reader { terms = (1 ∷ [], plain_info) ∷ (2 ∷ [], term_info_from 2 1 4 0 0) ∷ (3 ∷ [], term_info_from 2 3 1 0 0) ∷ [] }
+
+pub row_damaged : damaged_terms damaged_reader ≡ damaged_term 1 Range ∷ damaged_term 2 Range ∷ []
+unfolding u32_at
+row_damaged = refl
+
+-- the first field with a damaged term, with the first one
+pub row_first_damaged : first_damaged_field (plain_reader ∷ damaged_reader ∷ damaged_reader ∷ []) ≡ Some (1, damaged_term 1 Range)
+unfolding u32_at
+row_first_damaged = refl
+
+pub row_no_damage : first_damaged_field (plain_reader ∷ plain_reader ∷ []) ≡ None
+row_no_damage = refl
