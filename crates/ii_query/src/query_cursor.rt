@@ -197,10 +197,13 @@ impl<T: DocSet> QueryCursor<T> {
         requires here { doc ≡ doc_at self.old.rest }
         requires above { doc < target }
         requires up_to { target ≤ TERMINATED }
+
+        // where it stands then
         ensures doc { result ≡ doc_at self.new.rest }
         ensures rest { self.new.rest ≡ from_doc target self.old.rest }
         ensures sound { IsSound self.new.rest }
         ensures up_to { result ≤ TERMINATED }
+        // what stays, and what its cursors did
         ensures depth { self.new.depth ≡ self.old.depth }
         ensures work { AllZip T.went self.old.cursors self.new.cursors }
     {

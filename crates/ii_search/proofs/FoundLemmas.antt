@@ -27,8 +27,7 @@ use Rattle.ii_termdict.specs.Dictionary.{info_under}
 use Rattle.ii_termstore.specs.declared.term_info.TermInfo.{TermInfo}
 use Rattle.ii_definitions.specs.Cut.{cut_entry}
 use Rattle.ii_definitions.specs.Files.{HoldsTerm}
-use Rattle.ii_definitions.specs.Fields.{option_of}
-use Rattle.ii_definitions.specs.Postings.{entry_of, grouped, is_at, key_postings, kind_of, occurs, postings_from, tokens_at, with_token}
+use Rattle.ii_definitions.specs.Postings.{grouped, is_at, key_postings, kind_of, occurs, tokens_at, with_token}
 use Rattle.ii_definitions.specs.Tokens.{IndexToken}
 use Rattle.ii_definitions.proofs.GroupedLaws.{none_occurs}
 use Rattle.ii_reader.specs.InvertedIndexReader.{InvertedIndexReaderState, IsRefusal}
@@ -36,8 +35,8 @@ use Rattle.ii_reader.specs.OpenIndex.{FieldReaderHolds, IndexHolds, OpenIndexSta
 use Rattle.ii_reader.proofs.ReaderLemmas.{list_held}
 use Rattle.ii_search.specs.declared.query.PhraseTerm.{PhraseTerm}
 use Rattle.ii_search.specs.declared.query.Query.{Query, Empty, All, Term, Phrase, And', Or', AndNot'}
-use Rattle.ii_search.specs.Found.{AreMatches, combined, docs_kept, docs_of_term, docs_under, found_in, phrase_of, phrase_parts_of, with_part}
-use Rattle.ii_search.specs.Queries.{are_of_texts, follow, has_fields, has_phrase, has_positions_in, is_text_key, is_token_of, keeps_positions, matches, stands_at}
+use Rattle.ii_search.specs.Found.{AreMatches, combined, docs_kept, docs_under, found_in, phrase_of, phrase_parts_of, with_part}
+use Rattle.ii_search.specs.Queries.{are_of_texts, follow, has_fields, has_phrase, has_positions_in, is_text_key, is_token_of, keeps_positions, matches}
 
 -- a token in front of entries
 with_has : (t : IndexToken) (es : List Entry) (doc : ℕ) → has_doc (with_token t es) doc ≡ (nat_eq t.doc doc || has_doc es doc)

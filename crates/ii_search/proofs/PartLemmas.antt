@@ -1,9 +1,9 @@
 -- The lists of the terms of a phrase, one after the other.
-use Rattle.std.proofs.Common.{◌≡◌, ◌∙◌, ℕ, ◌+◌, ◌<◌, Bool, true, false, ◌&&◌, List, [], ◌∷◌, ◌++◌, append_assoc, append-nil, add-one, drop, get_or, length, nat_lt, Option, None, Some, Result, Ok, Err, inl, inr, refl, sym, ap}
+use Rattle.std.proofs.Common.{◌≡◌, ◌∙◌, ℕ, ◌+◌, ◌<◌, true, List, [], ◌∷◌, ◌++◌, append_assoc, add-one, drop, get_or, length, nat_lt, Option, None, Some, Result, Ok, Err, inl, inr, refl, sym, ap}
 use Rattle.std.specs.Prelude.{IfErr, IfNone, IfSome}
 use Rattle.std.specs.List.{AllByRecursion, list_all}
 use Rattle.std.proofs.Math.Seq.{drop-cons}
-use Rattle.std.proofs.lemmas.Bool.{and_parts, ltb-true}
+use Rattle.std.proofs.lemmas.Bool.{and_parts}
 use Rattle.ii_io.specs.declared.faults.Fault.{Fault}
 use Rattle.ii_io.specs.declared.faults.Part.{Part}
 use Rattle.ii_base.specs.Entries.{Entry}
@@ -45,11 +45,6 @@ listing_first index all fields = record { listed = none_in_front (phrase_parts_o
 pub term_at : (all : List PhraseTerm) (i : ℕ) (o : PhraseTerm) → i < length all → o ≡ get_or all i o → drop i all ≡ o ∷ drop (i + 1) all
 term_at all i o inside is = drop-cons all i o inside ∙ rw (← is, add-one i) refl
 
-pub listing_field : (index : OpenIndexState) (all left others : List PhraseTerm) (parts : List PhrasePartState) (o : PhraseTerm) → IsListing index all left parts → left ≡ o ∷ others → o.term.field < length index.readers
-listing_field index all left others parts o l is =
-    let fields = rw is at l.fields in
-    ltb-true o.term.field (length index.readers) (and_parts (nat_lt o.term.field (length index.readers)) (list_all (λ (p : PhraseTerm). nat_lt p.term.field (length index.readers)) others) fields).0
-
 one_more : (distance : ℕ) (es : List Entry) (parts : List PhrasePartState) (found : Result (List PhrasePartState) Part) → in_front parts (with_part distance (Ok es) found) ≡ in_front (parts ++ record { distance = distance; rest = es } ∷ []) found
 one_more distance es parts (Ok others) = ap (λ (ps : List PhrasePartState). Ok ps) (sym (append_assoc parts (record { distance = distance; rest = es } ∷ []) others))
 one_more distance es parts (Err part) = refl
@@ -71,19 +66,6 @@ pub listing_refused : (index : OpenIndexState) (all left others : List PhraseTer
 listing_refused index all left others parts o fault l is (inl memory) = inl memory
 listing_refused index all left others parts o fault l is (inr (part, why, err)) =
     inr (part, why, l.listed ∙ ap (λ (os : List PhraseTerm). in_front parts (phrase_parts_of index os)) is ∙ ap (λ (found : Result (List Entry) Part). in_front parts (with_part o.distance found (phrase_parts_of index others))) err)
-
-pub listing_all : (index : OpenIndexState) (all left : List PhraseTerm) (parts : List PhrasePartState) → IsListing index all left parts → left ≡ [] → phrase_parts_of index all ≡ Ok parts
-listing_all index all left parts l is = l.listed ∙ ap (λ (os : List PhraseTerm). in_front parts (phrase_parts_of index os)) is ∙ ap (λ (ps : List PhrasePartState). Ok ps) (append-nil parts)
-
--- a test of all terms, at the place of one
-pub all_from : (test : PhraseTerm → Bool) (all : List PhraseTerm) (i : ℕ) (o : PhraseTerm) → i < length all → o ≡ get_or all i o → list_all test (drop i all) ≡ (test o && list_all test (drop (i + 1) all))
-all_from test all i o inside is = ap (list_all test) (term_at all i o inside is)
-
-pub all_passed : (test : PhraseTerm → Bool) (all : List PhraseTerm) (i : ℕ) (o : PhraseTerm) → i < length all → o ≡ get_or all i o → list_all test all ≡ list_all test (drop i all) → test o ≡ true → list_all test all ≡ list_all test (drop (i + 1) all)
-all_passed test all i o inside is left passed = left ∙ all_from test all i o inside is ∙ ap (λ (b : Bool). b && list_all test (drop (i + 1) all)) passed
-
-pub one_failed : (test : PhraseTerm → Bool) (all : List PhraseTerm) (i : ℕ) (o : PhraseTerm) → i < length all → o ≡ get_or all i o → list_all test all ≡ list_all test (drop i all) → test o ≡ false → false ≡ list_all test all
-one_failed test all i o inside is left failed = sym (left ∙ all_from test all i o inside is ∙ ap (λ (b : Bool). b && list_all test (drop (i + 1) all)) failed)
 
 -- one cursor more
 pub parts_pushed : {P : Type 0} (terms : List (PhraseTermState P)) (t : PhraseTermState P) → parts_in (terms ++ t ∷ []) ≡ parts_in terms ++ t.part ∷ []

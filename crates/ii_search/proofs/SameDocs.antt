@@ -1,6 +1,6 @@
 -- Ascending lists that have the same documents are equally long.
-use Rattle.std.proofs.Common.{◌≡◌, ◌∙◌, ℕ, suc, true, true≢false, ◌<◌, List, [], ◌∷◌, inl, inr, length, refl, sym, ap, arith}
-use Rattle.std.proofs.lemmas.Bool.{eq-eqb, ne_eqb}
+use Rattle.std.proofs.Common.{◌≡◌, ◌∙◌, ℕ, suc, true≢false, ◌<◌, List, [], ◌∷◌, inl, inr, length, refl, sym, ap, arith}
+use Rattle.std.proofs.lemmas.Bool.{ne_eqb}
 use Rattle.std.proofs.lemmas.Bool.Decides.{eqb_tells, leb_tells}
 use Rattle.ii_docset.specs.Cursor.{IsAscending}
 use Rattle.ii_base.specs.Entries.{Entry}

@@ -1,12 +1,10 @@
 -- The terms of words and phrases.
-use Rattle.std.proofs.Common.{◌≡◌, ◌∙◌, ℕ, ◌+◌, ◌<◌, Bool, true, false, ◌&&◌, ◌||◌, true≢false, List, [], ◌∷◌, ◌++◌, append_assoc, append-nil, cond, drop, eqb, get_or, length, nat_lt, Option, None, Some, Result, Ok, Err, inl, inr, refl, sym, ap, arith, subst, add-one}
+use Rattle.std.proofs.Common.{◌≡◌, ◌∙◌, ℕ, ◌+◌, ◌<◌, Bool, true, false, ◌&&◌, ◌||◌, true≢false, List, [], ◌∷◌, ◌++◌, cond, drop, eqb, get_or, length, nat_lt, Option, None, Some, Result, Ok, Err, inr, refl, sym, ap, arith, subst, add-one}
 use Rattle.std.specs.Prelude.{IfSome, bytes_eq, option_map, position, slice_get, unwrap_or}
 use Rattle.std.specs.List.{AllByRecursion, list_all, position_from, position_or_len}
 use Rattle.std.specs.Result.{result_unwrap_or}
-use Rattle.std.specs.Option.{option_to_list}
 use Rattle.std.proofs.Math.Seq.{drop-cons}
 use Rattle.std.proofs.lemmas.Bool.{and_parts, eqb-true, lt-ltb, ltb-true}
-use Rattle.std.proofs.lemmas.List.Folds.{list_all-append}
 use Rattle.std.proofs.lemmas.List.Sums.{passes_at_first}
 use Rattle.std.proofs.lemmas.Option.{get_or_from_slice_get, slice_get_within}
 use Rattle.ii_base.specs.declared.schema.index_record_option.IndexRecordOption.{IndexRecordOption}
@@ -27,7 +25,7 @@ use Rattle.ii_definitions.specs.Tokens.{IndexToken}
 use Rattle.ii_query_grammar.specs.Trees.{Literal, leaf}
 use Rattle.ii_search.specs.declared.query.Query.{Query}
 use Rattle.ii_search.specs.Queries.{has_fields, has_positions_in, keeps_positions, matches}
-use Rattle.ii_search.specs.QueryTexts.{Adds, AddsIn, AddsMaybe, AddsText, IsPhraseIn, IsWhyRefused, Means, PhraseState, QueryFields, Terms, TextFields, are_in, default_terms, has_one, has_term, is_alone, joined_terms, one_term, path_key, path_value, phrase_kept, phrase_within, refused, some_default, stand_after, terms_after, terms_in_field, terms_of, text_terms, typed_terms, value_term, words_phrase}
+use Rattle.ii_search.specs.QueryTexts.{Adds, AddsIn, AddsText, IsPhraseIn, IsWhyRefused, Means, PhraseState, QueryFields, Terms, TextFields, are_in, default_terms, has_one, has_term, is_alone, joined_terms, one_term, path_key, path_value, phrase_kept, phrase_within, refused, stand_after, terms_after, terms_in_field, terms_of, text_terms, typed_terms, words_phrase}
 
 -- Terms of the fields so far were added, and those of the fields that are left come after them.
 pub record IsGathering (q : TextFields) (phrase all fields : List ℕ) (old now : List PhraseState) : Type 0 where
@@ -35,57 +33,6 @@ pub record IsGathering (q : TextFields) (phrase all fields : List ℕ) (old now 
   pub now_is : now ≡ old ++ found
   pub within : are_in q.entries found ≡ true
   pub whole : default_terms q phrase all ≡ joined_terms (Ok found) (default_terms q phrase fields)
-
-nothing_first : (terms : Terms) → terms ≡ joined_terms (Ok []) terms
-nothing_first (Ok ts) = refl
-nothing_first (Err e) = refl
-
-pub gathering_first : (q : TextFields) (phrase all : List ℕ) (old : List PhraseState) → IsGathering q phrase all all old old
-gathering_first q phrase all old = record { found = []; now_is = sym (append-nil old); within = refl; whole = nothing_first (default_terms q phrase all) }
-
-joined_twice : (ts us : List PhraseState) (terms : Terms) → joined_terms (Ok ts) (joined_terms (Ok us) terms) ≡ joined_terms (Ok (ts ++ us)) terms
-joined_twice ts us (Ok vs) = ap (λ (l : List PhraseState). Ok l) (sym (append_assoc ts us vs))
-joined_twice ts us (Err e) = refl
-
-all_append : (entries : List SchemaEntry) (ts us : List PhraseState) → are_in entries ts ≡ true → are_in entries us ≡ true → are_in entries (ts ++ us) ≡ true
-all_append entries ts us first other = list_all-append (λ (p : PhraseState). phrase_within (length entries) p && phrase_kept entries p) ts us ∙ rw (first, other) refl
-
--- one field more
-pub gathering_next : (q : TextFields) (phrase all : List ℕ) (field : ℕ) (fields left : List ℕ) (old now new : List PhraseState) → IsGathering q phrase all left old now → left ≡ field ∷ fields
-    → Adds (terms_in_field q field [] phrase) q.entries now new (Ok tt) → IsGathering q phrase all fields old new
-gathering_next q phrase all field fields left old now new is left_is (ts, terms_is, new_is, within) = record {
-  found = is.found ++ ts;
-  now_is = new_is ∙ ap (λ (l : List PhraseState). l ++ ts) is.now_is ∙ append_assoc old is.found ts;
-  within = all_append q.entries is.found ts is.within within;
-  whole = is.whole ∙ ap (λ (l : List ℕ). joined_terms (Ok is.found) (default_terms q phrase l)) left_is
-      ∙ ap (λ (t : Terms). joined_terms (Ok is.found) (joined_terms t (default_terms q phrase fields))) terms_is
-      ∙ joined_twice is.found ts (default_terms q phrase fields);
-}
-
-some_default_is : (q : TextFields) (phrase fields : List ℕ) → eqb (length fields) 0 ≡ false → some_default q phrase fields ≡ default_terms q phrase fields
-some_default_is q phrase [] some = absurd (cc)
-some_default_is q phrase (f ∷ fs) some = refl
-
--- all fields
-pub gathered : (q : TextFields) (phrase all : List ℕ) (old now : List PhraseState) → eqb (length all) 0 ≡ false → IsGathering q phrase all [] old now → Adds (some_default q phrase all) q.entries old now (Ok tt)
-gathered q phrase all old now some is =
-    (is.found, some_default_is q phrase all some ∙ is.whole ∙ ap (λ (l : List PhraseState). Ok l) (append-nil is.found), is.now_is, is.within)
-
-refused_first : (found : List PhraseState) (terms others : Terms) (e : QueryParserError) → refused terms ≡ Some e → refused (joined_terms (Ok found) (joined_terms terms others)) ≡ Some e
-refused_first found (Ok ts) others e is = absurd (cc)
-refused_first found (Err e) others f is = is
-
--- a field is refused
-pub gathering_refused : (q : TextFields) (phrase all : List ℕ) (field : ℕ) (fields left : List ℕ) (old now new : List PhraseState) (e : QueryParserError) → eqb (length all) 0 ≡ false → IsGathering q phrase all left old now → left ≡ field ∷ fields
-    → Adds (terms_in_field q field [] phrase) q.entries now new (Err e) → Adds (some_default q phrase all) q.entries old new (Err e)
-gathering_refused q phrase all field fields left old now new e some is left_is (inl memory) = inl memory
-gathering_refused q phrase all field fields left old now new e some is left_is (inr why) =
-    inr (ap refused (some_default_is q phrase all some ∙ is.whole ∙ ap (λ (l : List ℕ). joined_terms (Ok is.found) (default_terms q phrase l)) left_is)
-    ∙ refused_first is.found (terms_in_field q field [] phrase) (default_terms q phrase fields) e why)
-
--- a place among the fields
-pub field_at : (all : List ℕ) (i field : ℕ) → i < length all → field ≡ get_or all i 0 → drop i all ≡ field ∷ drop (i + 1) all
-field_at all i field inside is = drop-cons all i 0 inside ∙ rw (is, add-one) refl
 
 typed_same : (analyze : List ℕ → List Word) (entries : List SchemaEntry) (field : ℕ) (keeps expand_dots : Bool) (path phrase : List ℕ) (t : ValueType)
     → typed_terms (record { analyze = analyze; entries = [] }) field keeps expand_dots path phrase t ≡ typed_terms (record { analyze = analyze; entries = entries }) field keeps expand_dots path phrase t
@@ -193,17 +140,6 @@ text_adds field keeps value words old new (Err e) of_value of_words why = why
 pub str_adds : (q : TextFields) (field : ℕ) (keeps expand_dots : Bool) (path phrase : List ℕ) (old new : List PhraseState) (r : Result (Unit {0}) QueryParserError)
     → AddsText keeps None (words_phrase (record { field = field; value = [] }) (q.analyze phrase)) old new r → AddsIn (typed_terms q field keeps expand_dots path phrase types.Str) field keeps old new r
 str_adds q field keeps expand_dots path phrase old new r adds = text_adds field keeps None _ old new r tt (words_field (record { field = field; value = [] }) (q.analyze phrase)) adds
-
--- the term of a value
-pub value_adds : {A : Type 0} (field : ℕ) (keeps : Bool) (error : QueryParserError) (bytes : A → List ℕ) (o : Option A) (term : Option TermState) (old new : List PhraseState) (r : Result (Unit {0}) QueryParserError)
-    → term ≡ option_map (λ (a : A). record { field = field; value = bytes a }) o → AddsMaybe term error old new r → AddsIn (value_term field error (option_map bytes o)) field keeps old new r
-value_adds field keeps error bytes o term old new r is adds = by o r (subst (λ (t : Option TermState). AddsMaybe t error old new r) is adds)
-  where
-    by : (p : Option _) (s : Result (Unit {0}) QueryParserError) → AddsMaybe (option_map (λ a. record { field = field; value = bytes a }) p) error old new s → AddsIn (value_term field error (option_map bytes p)) field keeps old new s
-    by None (Ok done) adds = absurd adds
-    by None (Err e) adds = inr (ap (λ (x : QueryParserError). Some x) (sym adds))
-    by (Some a) (Ok done) adds = (one_term (record { field = field; value = bytes a }) ∷ [], refl, adds, (alone_in field keeps _ refl, tt))
-    by (Some a) (Err e) adds = inl adds
 
 value_field : (field : ℕ) (key : List ℕ) (o : Option (List ℕ)) → IfSome (option_map (λ (v : List ℕ). record { field = field; value = key ++ v }) o) (λ (t : TermState). t.field ≡ field)
 value_field field key None = tt

@@ -1,5 +1,5 @@
 -- A query, or a term or a phrase.
-use Rattle.std.proofs.Common.{◌≡◌, ◌∙◌, ℕ, Bool, true, false, ◌&&◌, ◌||◌, List, Result, Ok, Err, refl, ap}
+use Rattle.std.proofs.Common.{◌≡◌, ◌∙◌, ℕ, Bool, ◌&&◌, ◌||◌, List, Result, Ok, Err, ap}
 use Rattle.std.proofs.Math.Bool.{and_assoc, or_assoc}
 use Rattle.std.specs.Prelude.{IfOk}
 use Rattle.ii_base.specs.Schema.{SchemaEntry}

@@ -1,5 +1,5 @@
 -- Cursors that have decoded few blocks go on.
-use Rattle.std.proofs.Common.{◌≡◌, ℕ, ◌+◌, ◌≤◌, List, [], ◌∷◌, ◌++◌, arith}
+use Rattle.std.proofs.Common.{List, [], ◌∷◌, ◌++◌, arith}
 use Rattle.std.specs.List.{AllByRecursion, AllZip}
 use Rattle.ii_query.specs.Phrase.{Spent}
 use Rattle.ii_query.specs.TermOrPhrase.{WentOn}

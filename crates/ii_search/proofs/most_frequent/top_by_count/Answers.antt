@@ -1,4 +1,4 @@
-use Rattle.std.proofs.Common.{◌≡◌, sym, ap, ◌∙◌, refl, arith}
+use Rattle.std.proofs.Common.{arith}
 use Rattle.ii_search.proofs.TopLemmas.{AreBest, at_end, shorter, tops_all, tops_on}
 use Rattle.ii_search.proofs.most_frequent.top_by_count.Goals as goal
 

@@ -1,10 +1,10 @@
 use Rattle.std.proofs.Common.{◌≡◌, ◌∷◌, ◌&&◌, ℕ, List, rules}
-use Rattle.std.specs.List.{list_all, list_any}
+use Rattle.std.specs.List.{list_all}
 use Rattle.ii_base.specs.Schema.{SchemaEntry}
 use Rattle.ii_definitions.specs.Tokens.{IndexToken}
 use Rattle.ii_search.specs.declared.query.Query.{Query}
 use Rattle.ii_search.specs.Queries.{has_fields, keeps_positions, matches}
-use Rattle.ii_search.proofs.WordsQueryLemmas.{and_on, or_on}
+use Rattle.ii_search.proofs.WordsQueryLemmas.{and_on}
 use Rattle.ii_search.proofs.query.Query.and_all.Goals as goal
 
 pub loop-query-preserved : goal.loop-query-preserved

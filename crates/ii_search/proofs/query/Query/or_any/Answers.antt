@@ -1,4 +1,4 @@
-use Rattle.std.proofs.Common.{◌≡◌, ◌∷◌, ◌&&◌, ℕ, List, rules}
+use Rattle.std.proofs.Common.{◌≡◌, ◌∷◌, ℕ, List, rules}
 use Rattle.std.specs.List.{list_all, list_any}
 use Rattle.ii_base.specs.Schema.{SchemaEntry}
 use Rattle.ii_definitions.specs.Tokens.{IndexToken}
