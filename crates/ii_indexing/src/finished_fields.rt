@@ -44,8 +44,12 @@ impl FinishedFields {
         requires clean { AreClean self.terms.paths }
         ensures holds { (ts : List IndexToken) → HoldNorms schema.now num_docs self.norms ts → HaveHeldTokens schema.now self.terms.paths self.terms.terms self.terms.writers ts
             → OnOk result.1 (WroteIndex schema.now num_docs writers result.0 ts) }
+
+        // How it ends for the writers: a failed call is counted once, and each keeps what it had.
         ensures failures { CountsIndexFailures writers result.0 result.1 }
         ensures grow { FilesGrow writers result.0 }
+
+        // When it is refused, and by which fault.
         ensures fault { (ts : List IndexToken) → HoldNorms schema.now num_docs self.norms ts → HaveHeldTokens schema.now self.terms.paths self.terms.terms self.terms.writers ts
             → IfErr result.1 (IsIndexFault schema.now num_docs writers ts) }
     {

@@ -39,9 +39,13 @@ impl IndexedFields {
         requires ends { EndsAt (doc_of call) self.old }
         ensures stored { OnOk result ((entries : List SchemaEntry) (ps : List Piece) → Takes entries (field_of call) (type_of call) → StoresAll entries self.old ps
             → StoresAll entries self.new (ps ++ call_pieces (A.words analyzer.now) (call_with expand_dots call))) }
+
+        // What the next call needs.
         ensures ends { OnOk result (EndsAt (doc_of call) self.new) }
         ensures fields { OnOk result (length self.new.indexed.writers ≡ length self.old.indexed.writers) }
         ensures norms { OnOk result (with_norms self.new.opened.norms ≡ with_norms self.old.opened.norms) }
+
+        // When it is refused, and by which fault.
         ensures refused { (entries : List SchemaEntry) (ps : List Piece) → Takes entries (field_of call) (type_of call) → StoresAll entries self.old ps
             → IsRefusedBy (content_fault (A.words analyzer.now) (option_of entries (field_of call)) ps (call_with expand_dots call) (content_of expand_dots call)) result }
     {
@@ -88,10 +92,14 @@ impl IndexedFields {
         requires ends { EndsAt doc self.old }
         ensures stored { OnOk result ((entries : List SchemaEntry) (ps : List Piece) → TakesValue entries self.old.indexed.paths field (key_of_value value) (key_of_value value) → StoresPieces entries self.old ps
             → StoresPieces entries self.new (ps ++ value_at doc field (key_of_value value) ∷ [])) }
+
+        // What the next call needs.
         ensures ends { OnOk result (EndsAt doc self.new) }
         ensures fields { OnOk result (length self.new.indexed.writers ≡ length self.old.indexed.writers) }
         ensures norms { OnOk result (with_norms self.new.opened.norms ≡ with_norms self.old.opened.norms) }
         ensures same_paths { OnOk result (self.new.indexed.paths ≡ self.old.indexed.paths) }
+
+        // When it is refused, and by which fault.
         ensures refused { (entries : List SchemaEntry) (ps : List Piece) → TakesValue entries self.old.indexed.paths field (key_of_value value) (key_of_value value) → StoresPieces entries self.old ps
             → IsRefusedBy (piece_fault (option_of entries field) ps (value_at doc field (key_of_value value))) result }
     {

@@ -75,11 +75,15 @@ impl IndexedFields {
         requires documents { length self.opened.documents ≡ length schema.now }
         requires norms { with_norms self.opened.norms ≡ map keeps_norms schema.now }
         requires some { StoresSome schema.now self }
+
+        // What is held then.
         ensures schema { IfOk result (λ f. f.schema ≡ schema.now) }
         ensures terms { IfOk result (λ f. f.terms ≡ self.indexed) }
         ensures norms { IfOk result (λ f. (ps : List Piece) (ts : List IndexToken) → TellsAll ps ts self.opened → HoldNorms schema.now num_docs f.norms ts) }
         ensures short { IfOk result (λ f. AreShortNorms f.readers) }
         ensures many { IfOk result (λ f. HaveNormsOf num_docs f.readers) }
+
+        // When it is refused, and by which fault.
         ensures only { OnlyMemory result }
     {
         let IndexedFields {
@@ -108,10 +112,14 @@ impl IndexedFields {
         requires known { field < length self.old.indexed.writers }
         requires ends { EndsAt doc self.old }
         ensures stored { OnOk result ((entries : List SchemaEntry) (ps : List Piece) → TakesTexts entries self.old.indexed.paths field [] [] → StoresPieces entries self.old ps → StoresPieces entries self.new (ps ++ text_at doc field [] (S.to_come tokens.old) ∷ [])) }
+
+        // What the next call needs.
         ensures ends { OnOk result (EndsAt doc self.new) }
         ensures fields { OnOk result (length self.new.indexed.writers ≡ length self.old.indexed.writers) }
         ensures norms { OnOk result (with_norms self.new.opened.norms ≡ with_norms self.old.opened.norms) }
         ensures same_paths { OnOk result (self.new.indexed.paths ≡ self.old.indexed.paths) }
+
+        // When it is refused, and by which fault.
         ensures refused { (entries : List SchemaEntry) (ps : List Piece) → TakesTexts entries self.old.indexed.paths field [] [] → StoresPieces entries self.old ps → IsRefusedBy (piece_fault (option_of entries field) ps (text_at doc field [] (S.to_come tokens.old))) result }
     {
         let open = self.documents.open(doc, field)?;
@@ -147,10 +155,14 @@ impl IndexedFields {
         requires ends { EndsAt doc self.old }
         ensures stored { OnOk result ((entries : List SchemaEntry) (ps : List Piece) (path : List ℕ) → Takes entries field Json → IsKnownBy self.old.indexed.paths path path_id → StoresPieces entries self.old ps
             → StoresPieces entries self.new (ps ++ text_at doc field (text_prefix path) (S.to_come tokens.old) ∷ [])) }
+
+        // What the next call needs.
         ensures ends { OnOk result (EndsAt doc self.new) }
         ensures fields { OnOk result (length self.new.indexed.writers ≡ length self.old.indexed.writers) }
         ensures norms { OnOk result (with_norms self.new.opened.norms ≡ with_norms self.old.opened.norms) }
         ensures same_paths { OnOk result (self.new.indexed.paths ≡ self.old.indexed.paths) }
+
+        // When it is refused, and by which fault.
         ensures refused { (entries : List SchemaEntry) (ps : List Piece) (path : List ℕ) → Takes entries field Json → IsKnownBy self.old.indexed.paths path path_id → StoresPieces entries self.old ps
             → IsRefusedBy (piece_fault (option_of entries field) ps (text_at doc field (text_prefix path) (S.to_come tokens.old))) result }
     {
@@ -185,9 +197,13 @@ impl IndexedFields {
         requires path { has_zero path.now ≡ false }
         ensures stored { OnOk result ((entries : List SchemaEntry) (ps : List Piece) → Takes entries field Json → StoresAll entries self.old ps
             → StoresAll entries self.new (ps ++ at_path path.now (text_at doc field (text_prefix path.now) (S.to_come tokens.old)) ∷ [])) }
+
+        // What the next call needs.
         ensures ends { OnOk result (EndsAt doc self.new) }
         ensures fields { OnOk result (length self.new.indexed.writers ≡ length self.old.indexed.writers) }
         ensures norms { OnOk result (with_norms self.new.opened.norms ≡ with_norms self.old.opened.norms) }
+
+        // When it is refused, and by which fault.
         ensures refused { (entries : List SchemaEntry) (ps : List Piece) → Takes entries field Json → StoresAll entries self.old ps
             → IsRefusedBy (piece_fault (option_of entries field) ps (at_path path.now (text_at doc field (text_prefix path.now) (S.to_come tokens.old)))) result }
     {
@@ -212,9 +228,13 @@ impl IndexedFields {
         requires number { is_number_type value_type ≡ true }
         ensures stored { OnOk result ((entries : List SchemaEntry) (ps : List Piece) → Takes entries field Json → StoresAll entries self.old ps
             → StoresAll entries self.new (ps ++ at_path path.now (value_at doc field (json_key path.now (typed_key value_type number))) ∷ [])) }
+
+        // What the next call needs.
         ensures ends { OnOk result (EndsAt doc self.new) }
         ensures fields { OnOk result (length self.new.indexed.writers ≡ length self.old.indexed.writers) }
         ensures norms { OnOk result (with_norms self.new.opened.norms ≡ with_norms self.old.opened.norms) }
+
+        // When it is refused, and by which fault.
         ensures refused { (entries : List SchemaEntry) (ps : List Piece) → Takes entries field Json → StoresAll entries self.old ps
             → IsRefusedBy (piece_fault (option_of entries field) ps (at_path path.now (value_at doc field (json_key path.now (typed_key value_type number))))) result }
     {
@@ -230,10 +250,14 @@ impl IndexedFields {
         requires ends { EndsAt doc self.old }
         ensures stored { OnOk result ((entries : List SchemaEntry) (ps : List Piece) (key : List ℕ) → TakesValue entries self.old.indexed.paths field held.now key → StoresPieces entries self.old ps
             → StoresPieces entries self.new (ps ++ value_at doc field key ∷ [])) }
+
+        // What the next call needs.
         ensures ends { OnOk result (EndsAt doc self.new) }
         ensures fields { OnOk result (length self.new.indexed.writers ≡ length self.old.indexed.writers) }
         ensures norms { OnOk result (with_norms self.new.opened.norms ≡ with_norms self.old.opened.norms) }
         ensures same_paths { OnOk result (self.new.indexed.paths ≡ self.old.indexed.paths) }
+
+        // When it is refused, and by which fault.
         ensures refused { (entries : List SchemaEntry) (ps : List Piece) (key : List ℕ) → TakesValue entries self.old.indexed.paths field held.now key → StoresPieces entries self.old ps
             → IsRefusedBy (piece_fault (option_of entries field) ps (value_at doc field key)) result }
     {

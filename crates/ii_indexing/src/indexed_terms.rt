@@ -83,11 +83,15 @@ impl IndexedTerms {
         requires ends { AllEndBy doc self.old.terms }
         ensures stored { OnOk result ((entries : List SchemaEntry) (ts : List IndexToken) → (prefix : List ℕ) → TakesTexts entries self.old.paths field held.now prefix → StoresTokens entries self.old ts
             → StoresTokens entries self.new (ts ++ piece_tokens_from true position.old.end_position (text_at doc field prefix (S.to_come token_stream.old)))) }
+
+        // What the next call needs.
         ensures ends { OnOk result (AllEndBy doc self.new.terms) }
         ensures fields { length self.new.writers ≡ length self.old.writers }
         ensures paths { self.new.paths ≡ self.old.paths }
         ensures num_tokens { OnOk result (position.new.num_tokens ≡ position.old.num_tokens + length (kept_words (S.to_come token_stream.old))) }
         ensures end_position { OnOk result (position.new.end_position ≡ end_after position.old.end_position (S.to_come token_stream.old)) }
+
+        // When it is refused, and by which fault.
         ensures refused { (entries : List SchemaEntry) (ts : List IndexToken) → (prefix : List ℕ) → TakesTexts entries self.old.paths field held.now prefix → StoresTokens entries self.old ts
             → IsRefusedBy (text_fault (option_of entries field) (text_at doc field prefix (S.to_come token_stream.old)) position.old ts) result }
     {
@@ -104,9 +108,13 @@ impl IndexedTerms {
         requires ends { AllEndBy doc self.old.terms }
         ensures stored { OnOk result ((entries : List SchemaEntry) (ts : List IndexToken) → (key : List ℕ) → TakesValue entries self.old.paths field held.now key → StoresTokens entries self.old ts
             → StoresTokens entries self.new (ts ++ value_token (value_at doc field key) ∷ [])) }
+
+        // What the next call needs.
         ensures ends { OnOk result (AllEndBy doc self.new.terms) }
         ensures fields { length self.new.writers ≡ length self.old.writers }
         ensures paths { self.new.paths ≡ self.old.paths }
+
+        // When it is refused, and by which fault.
         ensures refused { (entries : List SchemaEntry) (ts : List IndexToken) → (key : List ℕ) → TakesValue entries self.old.paths field held.now key → StoresTokens entries self.old ts
             → IsRefusedBy (value_fault field ts) result }
     {
@@ -138,8 +146,12 @@ impl IndexedTerms {
         requires clean { AreClean self.paths }
         ensures holds { (ts : List IndexToken) → HaveHeldTokens schema.now self.paths self.terms self.writers ts → OnOk result.1 (WroteTermFiles schema.now writers result.0 ts) }
         ensures norms { result.0.fieldnorms ≡ writers.fieldnorms }
+
+        // How it ends for the writers: a failed call is counted once, and each keeps what it had.
         ensures failures { CountsIndexFailures writers result.0 result.1 }
         ensures grow { FilesGrow writers result.0 }
+
+        // When it is refused, and by which fault.
         ensures fault { (ts : List IndexToken) → HaveHeldTokens schema.now self.paths self.terms self.writers ts
             → IfErr result.1 (λ e. (e ≡ Fault.OutOfMemory) ⊎ (e ≡ Fault.Write) ⊎ PassLimits schema.now writers.terms writers.postings writers.positions ts e) }
     {
@@ -197,8 +209,12 @@ fn write_files<W: Write>(
     requires clean { AreClean ctx.path_to_unordered_id }
     ensures holds { (ts : List IndexToken) → HaveHeldTokens serializer.entries ctx.path_to_unordered_id ctx.term_index postings_writers.now ts
         → OnOk result.3 (ClosedFiles serializer result.0 result.1 result.2 ts) }
+
+    // How it ends for the writers: a failed call is counted once, and each keeps what it had.
     ensures failures { CountsFailuresOf serializer.bodies result.0 result.1 result.2 result.3 }
     ensures grow { Grows serializer.bodies.terms.writer result.0 × Grows serializer.bodies.postings.writer result.1 × Grows serializer.bodies.positions.writer result.2 }
+
+    // When it is refused, and by which fault.
     ensures fault { (ts : List IndexToken) → HaveHeldTokens serializer.entries ctx.path_to_unordered_id ctx.term_index postings_writers.now ts
         → IfErr result.3 (λ e. (e ≡ Fault.OutOfMemory) ⊎ (e ≡ Fault.Write) ⊎ PassLimits serializer.entries serializer.bodies.terms.writer serializer.bodies.postings.writer serializer.bodies.positions.writer ts e) }
 {

@@ -86,6 +86,8 @@ impl Indexer {
         requires takes { self.old.failed ≡ false → Takes self.old.schema (field_of call) (type_of call) }
         ensures stored { OnOk result ((ps : List Piece) → Stores self.old ps → Stores self.new (ps ++ call_pieces (A.words analyzer.now) (call_of self.old.schema call))) }
         ensures rest { OnOk result ((self.new.schema ≡ self.old.schema) × (self.new.num_docs ≡ self.old.num_docs) × (self.new.last_doc ≡ doc_of call) × (self.new.failed ≡ false)) }
+
+        // When it is refused, by which fault, and what holds after that.
         ensures refused { self.old.failed ≡ false → (ps : List Piece) → Stores self.old ps
             → IsRefusedBy (call_fault (A.words analyzer.now) (option_of self.old.schema (field_of call)) ps (call_of self.old.schema call)) result }
         ensures fails { OnErr result (self.new.failed ≡ true) }

@@ -93,9 +93,13 @@ pub(crate) fn index_json_value<A: TextAnalyzer>(
     requires ends { EndsAt doc fields.old }
     ensures stored { OnOk result ((entries : List SchemaEntry) (ps : List Piece) → Takes entries field Json → StoresAll entries fields.old ps
         → StoresAll entries fields.new (ps ++ flat_map (leaf_pieces (A.words analyzer.now) doc field) (json_leaves expand_dots (json_of value.now)))) }
+
+    // What the next call needs.
     ensures ends { OnOk result (EndsAt doc fields.new) }
     ensures fields { OnOk result (length fields.new.indexed.writers ≡ length fields.old.indexed.writers) }
     ensures norms { OnOk result (with_norms fields.new.opened.norms ≡ with_norms fields.old.opened.norms) }
+
+    // When it is refused, and by which fault.
     ensures refused { (entries : List SchemaEntry) (ps : List Piece) → Takes entries field Json → StoresAll entries fields.old ps
         → IsRefusedBy (leaves_fault (next_leaf_fault (A.words analyzer.now) (option_of entries field) ps doc field) [] (json_leaves expand_dots (json_of value.now))) result }
 {
@@ -120,9 +124,13 @@ fn index_leaves<A: TextAnalyzer>(
     requires ends { EndsAt doc fields.old }
     ensures stored { OnOk result ((entries : List SchemaEntry) (ps : List Piece) → Takes entries field Json → StoresAll entries fields.old ps
         → StoresAll entries fields.new (ps ++ flat_map (leaf_pieces (A.words analyzer.now) doc field) (leaves_below expand_dots [] (json_of value.now)))) }
+
+    // What the next call needs.
     ensures ends { OnOk result (EndsAt doc fields.new) }
     ensures fields { OnOk result (length fields.new.indexed.writers ≡ length fields.old.indexed.writers) }
     ensures norms { OnOk result (with_norms fields.new.opened.norms ≡ with_norms fields.old.opened.norms) }
+
+    // When it is refused, and by which fault.
     ensures refused { (entries : List SchemaEntry) (ps : List Piece) → Takes entries field Json → StoresAll entries fields.old ps
         → IsRefusedBy (leaves_fault (next_leaf_fault (A.words analyzer.now) (option_of entries field) ps doc field) [] (leaves_below expand_dots [] (json_of value.now))) result }
 {

@@ -70,10 +70,14 @@ impl OpenDocuments {
         requires reach { ReachTo doc self.old }
         ensures found { IfOk result (λ d. slice_get self.new.documents field ≡ Some d) }
         ensures at { IfOk result (λ d. d.doc ≡ doc) }
+
+        // What the next call needs.
         ensures told { OnOk result ((ps : List Piece) (ts : List IndexToken) → TellsAll ps ts self.old → TellsAll ps ts self.new) }
         ensures reach { OnOk result (ReachTo doc self.new) }
         ensures fields { OnOk result (length self.new.documents ≡ length self.old.documents) }
         ensures norms { OnOk result (with_norms self.new.norms ≡ with_norms self.old.norms) }
+
+        // When it is refused, and by which fault.
         ensures only { OnlyMemory result }
     {
         let index = field.field_id() as usize;

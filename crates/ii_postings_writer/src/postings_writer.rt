@@ -174,6 +174,8 @@ impl SpecializedPostingsWriter {
         ensures recorded { OnOk result (IsRecorded self.old.option doc pos (field_bytes term.old.field ++ (term.old.value ++ word.now)) terms.old terms.new) }
         ensures ends { OnOk result (AllEndBy doc terms.new) }
         ensures counted { OnOk result (self.new ≡ tokens_counted 1 self.old) }
+
+        // When it is refused, and by which fault.
         ensures uncounted { OnErr result (self.new ≡ self.old) }
         ensures refused { IsRefusedBy (subscribe_fault self.old.option self.old.total_num_tokens doc pos (field_bytes term.old.field ++ (term.old.value ++ word.now)) terms.old) result }
         ensures same_term { OnOk result (term.new ≡ term.old) }
