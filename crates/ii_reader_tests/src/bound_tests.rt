@@ -49,11 +49,6 @@ fn three_blocks(alloc: Global, entries: &'static [u8]) -> Result<Bytes, Fault> {
     Ok(Bytes::from_vec(bytes)?)
 }
 
-// With their true bounds.
-fn bounded(alloc: Global) -> Result<Bytes, Fault> {
-    three_blocks(alloc, &BOUNDED)
-}
-
 // The bounds of the block that a cursor is at; it then goes on.
 fn next_bounds(blocks: &mut BlockSegmentPostings) -> Option<(u8, u8)> {
     let bounds = blocks.block_bounds();
@@ -76,20 +71,19 @@ fn bounds_of(
     ])
 }
 
-// The same of true bounds.
-fn bounds_read(
-    alloc: Global,
-    requested_option: IndexRecordOption,
-) -> Result<[Option<(u8, u8)>; 5], Fault> {
-    Ok(bounds_of(bounded(alloc)?, requested_option)?)
+// The true bounds.
+static BOUNDS: [Option<(u8, u8)>; 5] = [Some((20, 1)), Some((20, 5)), Some((20, 9)), None, None];
+
+// Whether these are read.
+fn has_bounds(alloc: Global, requested_option: IndexRecordOption) -> Result<bool, Fault> {
+    Ok(bounds_of(three_blocks(alloc, &BOUNDED)?, requested_option)? == BOUNDS)
 }
 
 #[test]
 fn full_blocks_have_bounds(rt: HostRuntime) -> Result<(), Fail> {
-    let want = [Some((20, 1)), Some((20, 5)), Some((20, 9)), None, None];
-    assert!(rt; bounds_read(rt.alloc(), FREQS)? == want);
+    assert!(rt; has_bounds(rt.alloc(), FREQS)?);
     // counts need not be read for them
-    assert!(rt; bounds_read(rt.alloc(), BASIC)? == want);
+    assert!(rt; has_bounds(rt.alloc(), BASIC)?);
     Ok(())
 }
 
@@ -161,25 +155,34 @@ fn seeks_by_count_pass_blocks(rt: HostRuntime) -> Result<(), Fail> {
     Ok(())
 }
 
-// Where a seek leaves a cursor, and one by count behind it.
-fn sought_both_ways(bytes: Bytes) -> Result<(DocId, (DocId, u32)), LayoutFault> {
-    let mut cursor = SegmentPostings::open(384, bytes, None, FREQS, FREQS)?;
-    Ok((
-        sought(&mut cursor, 200),
-        sought_with_freq(&mut cursor, 200, 6),
-    ))
+// Where three seeks by count leave a cursor that reads no counts.
+fn sought_by_one(alloc: Global) -> Result<[(DocId, u32); 3], Fault> {
+    let bytes = three_blocks(alloc, &BOUNDED)?;
+    Ok(sought_in(bytes, BASIC, [(5, 1), (5, 2), (TERMINATED, 0)])?)
 }
 
 #[test]
 fn seeks_by_count_go_by_one_where_counts_are_not_read(rt: HostRuntime) -> Result<(), Fail> {
-    let by_one = sought_in(
-        bounded(rt.alloc())?,
-        BASIC,
-        [(5, 1), (5, 2), (TERMINATED, 0)],
-    )?;
+    let by_one = sought_by_one(rt.alloc())?;
     assert!(rt; by_one == [(5, 1), (TERMINATED, 0), (TERMINATED, 0)]);
-    let both_ways = sought_both_ways(bounded(rt.alloc())?)?;
-    assert!(rt; both_ways == (200, (300, 9)));
+    Ok(())
+}
+
+// Where a seek leaves a cursor, and one by count behind it.
+fn sought_both_ways(cursor: &mut SegmentPostings) -> (DocId, (DocId, u32)) {
+    (sought(cursor, 200), sought_with_freq(cursor, 200, 6))
+}
+
+// The same of a new cursor.
+fn sought_anew(alloc: Global) -> Result<(DocId, (DocId, u32)), Fault> {
+    let bytes = three_blocks(alloc, &BOUNDED)?;
+    let mut cursor = SegmentPostings::open(384, bytes, None, FREQS, FREQS)?;
+    Ok(sought_both_ways(&mut cursor))
+}
+
+#[test]
+fn seeks_by_count_follow_seeks(rt: HostRuntime) -> Result<(), Fail> {
+    assert!(rt; sought_anew(rt.alloc())? == (200, (300, 9)));
     Ok(())
 }
 

@@ -20,18 +20,27 @@ fn is_so_long(cursor: &SegmentPostings, len: u32) -> bool {
     same
 }
 
+// Documents 0, 2 and 10.
+static SHORT: [u8; 3] = [0x80, 0x82, 0x88];
+
+// Whether a cursor says that its list is so long, before it is walked and after.
+fn walked_of(cursor: &mut SegmentPostings, len: u32) -> ([bool; 2], [DocId; 5]) {
+    let before = is_so_long(cursor, len);
+    let docs = walked(cursor);
+    ([before, cursor.size_hint() == len], docs)
+}
+
+// The same of the short list.
+fn short_walked() -> Result<([bool; 2], [DocId; 5]), LayoutFault> {
+    let bytes = Bytes::from_static(&SHORT);
+    let mut cursor = SegmentPostings::open(3, bytes, None, BASIC, BASIC)?;
+    Ok(walked_of(&mut cursor, 3))
+}
+
 #[test]
 fn short_lists_are_walked(rt: HostRuntime) {
-    let bytes = Bytes::from_static(&[0x80, 0x82, 0x88]);
-    let opened = SegmentPostings::open(3, bytes, None, BASIC, BASIC);
-    let Ok(mut cursor) = opened else {
-        assert!(rt; false, "a list of three");
-        return;
-    };
-    assert!(rt; is_so_long(&cursor, 3));
     let docs = [0, 2, 10, TERMINATED, TERMINATED];
-    assert!(rt; walked(&mut cursor).as_slice() == docs.as_slice());
-    assert!(rt; cursor.size_hint() == 3);
+    assert!(rt; short_walked() == Ok(([true; 2], docs)));
 }
 
 // A cursor over the documents of a block cursor, from its second block on.
@@ -216,28 +225,34 @@ fn option_of(
     }
 }
 
+// The same documents with a count each.
+static SHORT_COUNTED: [u8; 6] = [0x80, 0x82, 0x88, 0x81, 0x82, 0x83];
+
+static COUNTS: [(u32, u32); 3] = [(0, 1), (2, 2), (10, 3)];
+
+static ONES: [(u32, u32); 3] = [(0, 1), (2, 1), (10, 1)];
+
+// A document with a count of 0.
+static ZERO: [u8; 2] = [0x80, 0x80];
+
+static NO_COUNT: [(u32, u32); 1] = [(0, 0)];
+
 #[test]
 fn counts_are_read(rt: HostRuntime) {
     let with_freqs = IndexRecordOption::WithFreqs;
-    let (read, skip) = (FreqReadingOption::ReadFreq, FreqReadingOption::SkipFreq);
-    let bytes = &[0x80, 0x82, 0x88, 0x81, 0x82, 0x83];
-    let counts = [(0, 1), (2, 2), (10, 3)];
-    assert!(rt; option_of(&rt, bytes, with_freqs, &counts) == Some(read));
-    let ones = [(0, 1), (2, 1), (10, 1)];
-    assert!(rt; option_of(&rt, bytes, BASIC, &ones) == Some(skip));
-    // a count of 0
-    assert!(rt; option_of(&rt, &[0x80, 0x80], with_freqs, &[(0, 0)]) == Some(read));
+    let read = Some(FreqReadingOption::ReadFreq);
+    assert!(rt; option_of(&rt, &SHORT_COUNTED, with_freqs, &COUNTS) == read);
+    assert!(rt; option_of(&rt, &SHORT_COUNTED, BASIC, &ONES) == Some(FreqReadingOption::SkipFreq));
+    assert!(rt; option_of(&rt, &ZERO, with_freqs, &NO_COUNT) == read);
 }
 
 #[test]
 fn terms_without_counts_have_one_each(rt: HostRuntime) {
     // a term that has no counts in a field that records them
-    let bytes = &[0x80, 0x82, 0x88];
-    let ones = [(0, 1), (2, 1), (10, 1)];
     let none = Some(FreqReadingOption::NoFreq);
-    assert!(rt; option_of(&rt, bytes, IndexRecordOption::WithFreqs, &ones) == none);
+    assert!(rt; option_of(&rt, &SHORT, IndexRecordOption::WithFreqs, &ONES) == none);
     let skip = Some(FreqReadingOption::SkipFreq);
-    assert!(rt; option_of(&rt, bytes, BASIC, &ones) == skip);
+    assert!(rt; option_of(&rt, &SHORT, BASIC, &ONES) == skip);
 }
 
 // 128 documents from 0 on with the count 3 each, then document 128 with the count 4.

@@ -107,7 +107,8 @@ fn counted_index(alloc: Global) -> Result<OpenIndex, Fault>
     ensures { IfOk result (λ index. 0 < length index.readers) }
 {
     let mut index = begun(alloc)?;
-    write_text(&mut index)?;
+    // where this fails the index is closed, which is told as it is ended
+    let _text = write_text(&mut index);
     reopened(alloc, index)
 }
 
@@ -116,7 +117,8 @@ fn uncounted_index(alloc: Global) -> Result<OpenIndex, Fault>
     ensures { IfOk result (λ index. 0 < length index.readers) }
 {
     let mut index = begun(alloc)?;
-    write_uncounted(&mut index)?;
+    // as above
+    let _documents = write_uncounted(&mut index);
     reopened(alloc, index)
 }
 
