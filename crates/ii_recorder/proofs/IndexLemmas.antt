@@ -98,10 +98,10 @@ term_ended initial old new field tokens norms ts key h ends more same =
     let t = term_under key old.field.term in
     record {
       counted = h.counted;
-      mode = rw (ends.mode, same) h.mode;
-      norms_are = ends.norms ∙ h.norms_are;
-      bodies = rw ends.mode (bodies_more initial old.bodies new.bodies field tokens old.field.term.mode ts t h.bodies more);
-      terms = rw ends.mode (has_terms_more old.field.term.mode old.field.places new.field.places ts t h.terms ends.places ends.short ends.within);
+      mode = rw (ends.left.mode, same) h.mode;
+      norms_are = ends.left.norms ∙ h.norms_are;
+      bodies = rw ends.left.mode (bodies_more initial old.bodies new.bodies field tokens old.field.term.mode ts t h.bodies more);
+      terms = rw ends.left.mode (has_terms_more old.field.term.mode old.field.places new.field.places ts t h.terms ends.places ends.short ends.within);
     }
 
 pub on_ok_both : {A B C : Type 0} (result : Result (Unit {0}) Fault) → (A → B → C) → OnOk result A → OnOk result B → OnOk result C

@@ -1,10 +1,9 @@
 -- What holds of a field's terms after one is ended.
-use Rattle.std.proofs.Common.{◌≡◌, ℕ, ◌+◌, ◌^◌, ◌<◌, Bool, true, false, [], length, ⊎_elim, refl, ◌∙◌, arith, length-append}
+use Rattle.std.proofs.Common.{◌≡◌, ◌+◌, ◌^◌, ◌<◌, Bool, true, false, [], length, ⊎_elim, refl, ◌∙◌, arith, length-append}
 use Rattle.ii_layout.specs.Written.{written_postings}
 use Rattle.ii_recorder.specs.Terms.{positions_bytes}
 use Rattle.ii_base.specs.Options.{has_positions}
 use Rattle.ii_recorder.specs.OpenTerm.{OpenTermState}
-use Rattle.ii_recorder.specs.TermPlaces.{TermPlacesState, with_term}
 use Rattle.ii_recorder.specs.FieldTerms.{EndsTerm, FieldTermsState, IsLeft, IsUnrefused, IsWithinLimits}
 
 no_deltas : (old : FieldTermsState) (new : OpenTermState) (b : Bool) → has_positions old.term.mode ≡ b → IsUnrefused old → IsLeft old.term new → new.deltas ≡ []
@@ -21,14 +20,15 @@ ends_within old new h =
     let low_too : old.places.positions_end + length (positions_bytes old.term.mode old.term.deltas) < 2 ^ 56 = rw place at h.within.1 in
     (λ long. ⊎_elim (λ a. absurd (omega arith)) (λ a. absurd (omega arith)) long, λ pass. ⊎_elim (λ a. absurd (omega arith)) (λ a. absurd (omega arith)) pass)
 
-pub ends_unrefused : (old : FieldTermsState) (term : OpenTermState) (places : TermPlacesState) (doc_freq postings positions : ℕ) → IsUnrefused old → old.term_open ≡ true
-    → places ≡ with_term old.places doc_freq postings positions → IsLeft old.term term → IsUnrefused (record { term = term; places = places; term_open = false; closed = false })
-ends_unrefused old term places doc_freq postings positions h inside e left =
-    let none = no_deltas old term (has_positions old.term.mode) refl h left in
-    rw e (record {
-      term = left.unrefused;
-      places = h.places;
-      between = λ _. (let keys = h.inside inside in omega (arith, length-append old.places.infos), none);
+pub ends_unrefused : (old new : FieldTermsState) → IsUnrefused old → old.term_open ≡ true → EndsTerm old new → IsUnrefused new
+ends_unrefused old new h inside ends =
+    let none = no_deltas old new.term (has_positions old.term.mode) refl h ends.left in
+    let closed = ends.ended in
+    let place = ends.places in
+    record {
+      term = ends.left.unrefused;
+      places = rw place h.places;
+      between = λ _. (rw place (let keys = h.inside inside in omega (arith, length-append old.places.infos)), none);
       plain = λ _. none;
       inside = λ e. absurd (cc);
-    })
+    }

@@ -14,12 +14,15 @@ use Rattle.ii_recorder.specs.Terms.{FieldBodies, IsShort, WrittenTerm, postings_
 use Rattle.ii_recorder.specs.OpenTerm.{OpenTermState}
 use Rattle.ii_recorder.specs.TermPlaces.{TermPlacesState, with_term}
 
--- The open term, what is kept of the others, whether a term is open, and whether a call was refused.
+-- The open term, what is kept of the others, and whether a term is open.
 pub record FieldTermsState : Type 0 where
   pub term : OpenTermState
   pub places : TermPlacesState
   pub term_open : Bool
-  pub closed : Bool
+
+-- these parts together
+abbrev pub field_terms : OpenTermState → TermPlacesState → Bool → FieldTermsState
+field_terms term places term_open = record { term = term; places = places; term_open = term_open }
 
 -- What holds until a call is refused: each key but that of an open term has its term, no deltas are left of an ended one, and there are none where the field doesn't record positions.
 pub record IsUnrefused (s : FieldTermsState) : Type 0 where
@@ -101,7 +104,5 @@ pub record EndsTerm (old new : FieldTermsState) : Type 0 where
       (length (written_postings old.term.norms old.term.skip_info old.term.docs old.term.freqs)) (length (positions_bytes old.term.mode old.term.deltas))
   pub short : IsShort old.term.mode (term_under [] old.term)
   pub within : (new.places.postings_end < 2 ^ 56) × (new.places.positions_end < 2 ^ 56)
-  pub mode : new.term.mode ≡ old.term.mode
-  pub norms : new.term.norms ≡ old.term.norms
+  pub left : IsLeft old.term new.term
   pub ended : new.term_open ≡ false
-  pub unrefused : new.closed ≡ false

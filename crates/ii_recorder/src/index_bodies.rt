@@ -1,17 +1,20 @@
-ghost use Rattle.std.specs.Prelude.{◌≡◌, ◌-◌, ◌^◌, ◌<◌, ◌⊎◌, ◌↔◌, List, [], true, false, length, Ok, OnOk, IfErr, IsErrOf, IsTrue};
+ghost use Rattle.std.specs.Prelude.{◌≡◌, ◌+◌, ◌-◌, ◌^◌, ◌<◌, ◌≤◌, ◌⊎◌, List, [], true, false, length, Ok, OnOk, IfErr, IsErrOf};
 ghost use Rattle.std.specs.List.{zip};
-ghost use Rattle.ii_io.specs.CountingWriter.{CountingWriterState, Grows, IsFull};
+ghost use Rattle.ii_io.specs.CountingWriter.{CountingWriterState, Grows, IsFull, Wrote};
 ghost use Rattle.ii_io.specs.CompositeWrite.{AddsBody, HasBodies, WroteComposite, has_start};
 ghost use Rattle.ii_io.specs.Composite.{Body, fit_fields};
 ghost use Rattle.ii_io.specs.Faults.{OnlyMemory};
 ghost use Rattle.ii_io.specs.Numbers.{le_bytes};
 ghost use Rattle.ii_recorder.specs.IndexBodies.{AddsBodies, AddsMore, AllGrow, AreBegun, OneIsFull, AreUnclosed, LacksField, tables_of, CountsFailures, CountsFailuresOf};
-ghost use Rattle.ii_recorder.specs.Endings.{EndsUnlessClosed};
-ghost use Rattle.ii_recorder.specs.FieldTerms.{EndsTerm, IsEndFault, bytes_of, dictionary_of};
+ghost use Rattle.ii_recorder.specs.Endings.{CountsOnce};
+ghost use Rattle.ii_recorder.specs.Terms.{positions_bytes};
+ghost use Rattle.ii_layout.specs.Written.{written_postings};
+ghost use Rattle.ii_recorder.specs.FieldTerms.{EndsTerm, IsEndFault, bytes_of, field_terms};
 ghost use Rattle.ii_termdict.specs.Dictionary.{dictionary};
 ghost use Rattle.ii_termdict.specs.Written.{written_dictionary};
 
-use super::field_terms::FieldTerms;
+use super::open_term::OpenTerm;
+use super::term_places::TermPlaces;
 use ii_io::{BinarySerializable, CompositeWrite, CountingWriter, Fault, Field, LimitName};
 use std::alloc::Global;
 use std::io::Write;
@@ -76,48 +79,52 @@ impl<W: Write> IndexBodies<W> {
         total_num_tokens.serialize(self.postings.writer())
     }
 
-    // Ends the open term of the field that was begun last, whose postings and positions follow what
-    // stands there.
-    pub fn end_term(&mut self, terms: &mut FieldTerms) -> Result<(), Fault>
+    // Ends a term of the field that was begun last, whose postings and positions follow what stands
+    // there, and keeps its place.
+    pub fn end_term(&mut self, term: &mut OpenTerm, places: &mut TermPlaces) -> Result<(), Fault>
         requires begun { AreBegun self.old }
-        ensures ends { IsTrue terms.old.term_open → OnOk result (EndsTerm terms.old terms.new) }
-        ensures wrote { IsTrue terms.old.term_open → OnOk result (AddsMore self.old self.new (bytes_of terms.old.term)) }
+        requires open { (term.old.closed ≡ false) × (places.old.closed ≡ false) }
+        requires key { length places.old.keys ≡ length places.old.infos + 1 }
+        ensures ends { OnOk result (EndsTerm (field_terms term.old places.old true) (field_terms term.new places.new false)) }
+        ensures wrote { OnOk result (AddsMore self.old self.new (bytes_of term.old)) }
         ensures unclosed { AreUnclosed self.old → AreUnclosed self.new }
         ensures begun { AreBegun self.new }
-        ensures none { terms.old.closed ≡ false → terms.old.term_open ≡ false → (result ≡ Ok tt) × (terms.new ≡ terms.old) × (self.new ≡ self.old) }
-        ensures closing { EndsUnlessClosed terms.old.closed terms.new.closed terms.old terms.new result }
 
         // How it ends for the writers: a failed call is counted once, and each keeps what it had.
         ensures failures { CountsFailures self.old self.new result }
         ensures grow { AllGrow self.old self.new }
 
         // When it is refused, and by which fault.
-        ensures refused { IsTrue terms.old.closed → self.new ≡ self.old }
-        ensures fault { IfErr result (λ e. (e ≡ Fault.SerializerClosed) ⊎ IsEndFault terms.old.term terms.old.places self.old.postings.writer self.old.positions.writer e) }
+        ensures fault { IfErr result (λ e. IsEndFault term.old places.old self.old.postings.writer self.old.positions.writer e) }
     {
-        terms.close_term(self.postings.writer(), self.positions.writer())
+        put_term(
+            term,
+            places,
+            self.postings.writer(),
+            self.positions.writer(),
+        )
     }
 
     // Writes the dictionary of the field that was begun last, and flushes.
-    pub fn finish_field(&mut self, terms: &mut FieldTerms) -> Result<(), Fault>
+    pub fn finish_field(&mut self, places: &mut TermPlaces) -> Result<(), Fault>
         requires begun { AreBegun self.old }
-        requires between { terms.old.closed ≡ false → terms.old.term_open ≡ false }
-        ensures wrote { OnOk result (AddsMore self.old self.new (dictionary_of terms.old)) }
-        ensures holds { OnOk result (dictionary (written_dictionary terms.old.places.keys terms.old.places.infos) ≡ Ok (zip terms.old.places.keys terms.old.places.infos)) }
+        requires open { places.old.closed ≡ false }
+        requires whole { length places.old.keys ≡ length places.old.infos }
+        ensures wrote { OnOk result (AddsMore self.old self.new (record { terms = written_dictionary places.old.keys places.old.infos; postings = []; positions = [] })) }
+        ensures holds { OnOk result (dictionary (written_dictionary places.old.keys places.old.infos) ≡ Ok (zip places.old.keys places.old.infos)) }
         ensures unclosed { AreUnclosed self.old → AreUnclosed self.new }
         ensures begun { AreBegun self.new }
-        ensures terms { OnOk result (terms.new.closed ≡ false) }
+        ensures places { OnOk result (places.new.closed ≡ false) × (places.new.keys ≡ places.old.keys) × (places.new.infos ≡ places.old.infos) }
 
         // How it ends for the writers: a failed call is counted once, and each keeps what it had.
         ensures failures { CountsFailures self.old self.new result }
         ensures grow { AllGrow self.old self.new }
 
         // When it is refused, and by which fault.
-        ensures fault { IfErr result (λ e. (e ≡ Fault.SerializerClosed) ⊎ (e ≡ Fault.Write) ⊎ ((e ≡ Fault.Limit LimitName.Offset) × OneIsFull self.old (dictionary_of terms.old))) }
-        ensures refused { IsTrue terms.old.closed → (terms.new ≡ terms.old) × (self.new ≡ self.old) }
-        ensures closed { IsErrOf result Fault.SerializerClosed ↔ IsTrue terms.old.closed }
+        ensures fault { IfErr result (λ e. (e ≡ Fault.Write)
+            ⊎ ((e ≡ Fault.Limit LimitName.Offset) × OneIsFull self.old (record { terms = written_dictionary places.old.keys places.old.infos; postings = []; positions = [] }))) }
     {
-        let written = terms.finish(self.terms.writer());
+        let written = places.finish(self.terms.writer());
         if written.is_err() {
             return written;
         }
@@ -227,4 +234,38 @@ fn begin_body<W: Write>(composite: &mut CompositeWrite<W>, field: Field) -> Resu
 {
     composite.for_field(field)?;
     Ok(())
+}
+
+// Writes the postings and the positions of a term, and keeps its place.
+fn put_term<W: Write>(
+    term: &mut OpenTerm,
+    places: &mut TermPlaces,
+    postings_write: &mut CountingWriter<W>,
+    positions_write: &mut CountingWriter<W>,
+) -> Result<(), Fault>
+    requires open { (term.old.closed ≡ false) × (places.old.closed ≡ false) }
+    requires key { length places.old.keys ≡ length places.old.infos + 1 }
+    ensures postings { OnOk result (Wrote postings_write.old postings_write.new (written_postings term.old.norms term.old.skip_info term.old.docs term.old.freqs)) }
+    ensures positions { OnOk result (Wrote positions_write.old positions_write.new (positions_bytes term.old.mode term.old.deltas)) }
+    ensures ends { OnOk result (EndsTerm (field_terms term.old places.old true) (field_terms term.new places.new false)) }
+
+    // How it ends for the writers: a failed call is counted once, and each keeps what it had.
+    ensures once { CountsOnce (postings_write.old.failed_calls + positions_write.old.failed_calls)
+        (postings_write.new.failed_calls + positions_write.new.failed_calls) result }
+    ensures kept { (postings_write.old.failed_calls ≤ postings_write.new.failed_calls) × (positions_write.old.failed_calls ≤ positions_write.new.failed_calls) }
+    ensures grow { Grows postings_write.old postings_write.new × Grows positions_write.old positions_write.new }
+
+    // When it is refused, and by which fault.
+    ensures fault { IfErr result (λ e. IsEndFault term.old places.old postings_write.old positions_write.old e) }
+{
+    let doc_freq = term.doc_freq();
+    let postings_len = match term.write_postings(postings_write) {
+        Ok(len) => len,
+        Err(fault) => return Err(fault),
+    };
+    let positions_len = match term.write_positions(positions_write) {
+        Ok(len) => len,
+        Err(fault) => return Err(fault),
+    };
+    places.insert_term(doc_freq, postings_len, positions_len)
 }

@@ -4,7 +4,6 @@
 
 pub mod buffer_lender;
 pub mod field_serializer;
-mod field_terms;
 pub mod held_terms;
 mod index_bodies;
 mod open_term;

@@ -15,8 +15,9 @@ ghost use Rattle.ii_recorder.specs.FieldTerms.{IsWithinLimits, closing_bytes, di
 ghost use Rattle.ii_recorder.specs.IndexBodies.{IndexBodiesState, AddsBodies, AllGrow, AreBegun, OneIsFull, LacksField, tables_of, CountsFailuresOf};
 ghost use Rattle.ii_recorder.specs.IndexSerializer.{EndsInMemory, EndsWriting, IsFieldFault, IsTermFault, IsWriting};
 
-use super::field_terms::FieldTerms;
 use super::index_bodies::IndexBodies;
+use super::open_term::OpenTerm;
+use super::term_places::TermPlaces;
 use ii_base::{DocId, IndexRecordOption, Schema};
 use ii_fieldnorm::FieldNormReader;
 use ii_io::{CountingWriter, Fault, Field, LimitName};
@@ -32,21 +33,29 @@ use std::marker::Model;
 pub struct InvertedIndexSerializer<W: Write> {
     schema: Schema,
     bodies: IndexBodies<W>,
-    field: FieldTerms,
+    term: OpenTerm,
+    places: TermPlaces,
+    is_term_open: bool,
     alloc: Global,
     is_closed: bool,
 }
 
 impl<W: Write> Model for InvertedIndexSerializer<W> {
     ghost use Rattle.std.specs.Prelude.{◌≡◌, false};
+    ghost use Rattle.ii_recorder.specs.FieldTerms.{IsUnrefused, field_terms};
     ghost use Rattle.ii_recorder.specs.IndexBodies.{AreUnclosed};
     ghost use Rattle.ii_recorder.specs.IndexSerializer.{IndexSerializerState};
 
     ghost Value = { IndexSerializerState };
 
-    ghost view = { λ s. record { entries = s.schema; bodies = s.bodies; field = s.field; closed = s.is_closed } };
+    ghost view = { λ s. record {
+      entries = s.schema;
+      bodies = s.bodies;
+      field = field_terms s.term s.places s.is_term_open;
+      closed = s.is_closed;
+    } };
 
-    ghost invariant = { λ s. s.is_closed ≡ false → AreUnclosed s.bodies × (s.field.closed ≡ false) };
+    ghost invariant = { λ s. s.is_closed ≡ false → AreUnclosed s.bodies × IsUnrefused (field_terms s.term s.places s.is_term_open) };
 }
 
 impl<W: Write> InvertedIndexSerializer<W> {
@@ -70,7 +79,9 @@ impl<W: Write> InvertedIndexSerializer<W> {
         InvertedIndexSerializer {
             schema,
             bodies: IndexBodies::wrap(alloc, terms, postings, positions),
-            field: FieldTerms::new(alloc, IndexRecordOption::Basic, None),
+            term: OpenTerm::new(alloc, IndexRecordOption::Basic, None),
+            places: TermPlaces::new(alloc),
+            is_term_open: false,
             alloc,
             is_closed: false,
         }
@@ -106,7 +117,9 @@ impl<W: Write> InvertedIndexSerializer<W> {
         let InvertedIndexSerializer {
             schema: _,
             bodies,
-            field: _,
+            term: _,
+            places: _,
+            is_term_open: _,
             alloc: _,
             is_closed,
         } = self;
@@ -124,7 +137,9 @@ impl<W: Write> InvertedIndexSerializer<W> {
         let InvertedIndexSerializer {
             schema: _,
             bodies,
-            field: _,
+            term: _,
+            places: _,
+            is_term_open: _,
             alloc: _,
             is_closed: _,
         } = self;
@@ -157,7 +172,9 @@ impl<W: Write> InvertedIndexSerializer<W> {
         }
         let option = self.schema.get_field_entry(field).index_record_option();
         let begun = self.bodies.begin_field(field, total_num_tokens);
-        self.field = FieldTerms::new(self.alloc, option, fieldnorm_reader);
+        self.term = OpenTerm::new(self.alloc, option, fieldnorm_reader);
+        self.places = TermPlaces::new(self.alloc);
+        self.is_term_open = false;
         self.is_closed = begun.is_err();
         begun
     }
@@ -184,8 +201,10 @@ impl<W: Write> InvertedIndexSerializer<W> {
         if self.is_closed {
             return Err(Fault::SerializerClosed);
         }
-        let added = self.field.new_term(key, term_doc_freq, record_term_freq);
+        let added = self.places.insert_key(key);
         self.is_closed = added.is_err();
+        self.term.begin(term_doc_freq, record_term_freq);
+        self.is_term_open = true;
         added
     }
 
@@ -219,7 +238,7 @@ impl<W: Write> InvertedIndexSerializer<W> {
         if self.is_closed {
             return Err(Fault::SerializerClosed);
         }
-        let added = self.field.write_doc(doc_id, term_freq, position_deltas);
+        let added = self.term.write_doc(doc_id, term_freq, position_deltas);
         self.is_closed = added.is_err();
         added
     }
@@ -265,7 +284,11 @@ impl<W: Write> InvertedIndexSerializer<W> {
         if self.is_closed {
             return Err(Fault::SerializerClosed);
         }
-        let ended = self.bodies.end_term(&mut self.field);
+        if !self.is_term_open {
+            return Ok(());
+        }
+        let ended = self.bodies.end_term(&mut self.term, &mut self.places);
+        self.is_term_open = false;
         self.is_closed = ended.is_err();
         ended
     }
@@ -290,7 +313,7 @@ impl<W: Write> InvertedIndexSerializer<W> {
         if self.is_closed {
             return Err(Fault::SerializerClosed);
         }
-        let finished = self.bodies.finish_field(&mut self.field);
+        let finished = self.bodies.finish_field(&mut self.places);
         self.is_closed = finished.is_err();
         finished
     }

@@ -4,8 +4,8 @@ use Rattle.ii_recorder.proofs.serializer.InvertedIndexSerializer.finish_field.Go
 
 pub returns-clause-wrote : goal.returns-clause-wrote
 returns-clause-wrote g c = rw (← c.self.view_is) (λ initial field tokens norms ts h.
-    on_ok_then c.finish_field-finished.result (λ more. field_finished initial c.self.inside.bodies c.finish_field-finished.new.self field tokens c.self.inside.field.term.mode ts c.self.inside.field.places h.bodies h.terms more) c.finish_field-finished.ensures.wrote)
+    on_ok_then c.finish_field-finished.result (λ more. field_finished initial c.self.inside.bodies c.finish_field-finished.new.self field tokens c.self.inside.term.mode ts c.self.inside.places h.bodies h.terms more) c.finish_field-finished.ensures.wrote)
 
 pub returns-clause-holds : goal.returns-clause-holds
 returns-clause-holds g c = rw (← c.self.view_is) (λ initial field tokens norms ts h.
-    on_ok_then c.finish_field-finished.result (λ sorted. field_holds c.self.inside.field.term.mode tokens ts c.self.inside.field.places h.counted h.terms sorted) c.finish_field-finished.ensures.holds)
+    on_ok_then c.finish_field-finished.result (λ sorted. field_holds c.self.inside.term.mode tokens ts c.self.inside.places h.counted h.terms sorted) c.finish_field-finished.ensures.holds)
