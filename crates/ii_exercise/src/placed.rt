@@ -2,7 +2,7 @@ ghost use Rattle.std.specs.Prelude.{◌≡◌, ◌∷◌, [], IfOk};
 
 use bytes::Bytes;
 use ii_base::{Fault, IndexRecordOption};
-use ii_docset::{DocSet, Postings, TERMINATED};
+use ii_docset::{DocSet, Postings};
 use ii_reader::SegmentPostings;
 use std::alloc::Global;
 
@@ -29,51 +29,21 @@ fn two_positions() -> Result<SegmentPostings, Fault>
 /// to be what it was, what was filled has to be empty, and the cursor has to stand where it stood.
 pub fn read_back(alloc: Global) -> Result<String, Fault> {
     let mut cursor = two_positions()?;
-    told_of(alloc, &mut cursor)
-}
-
-fn told_of(alloc: Global, cursor: &mut SegmentPostings) -> Result<String, Fault> {
-    let mut added = seven(alloc)?;
-    if !adds(cursor, &mut added)? {
-        return Ok(String::from_str(alloc, " changed")?);
-    }
-    let mut filled = seven(alloc)?;
-    if !fills(cursor, &mut filled)? {
-        return Ok(String::from_str(alloc, " changed")?);
-    }
-    told(alloc, &added, &filled)
-}
-
-fn seven(alloc: Global) -> Result<Vec<u32>, Fault> {
-    let mut numbers = Vec::with_capacity(alloc, 1)?;
-    numbers.push(7)?;
-    Ok(numbers)
-}
-
-// Adds positions to a number; false where a refusal changed something.
-fn adds(cursor: &mut SegmentPostings, added: &mut Vec<u32>) -> Result<bool, Fault> {
-    if cursor.doc() >= TERMINATED {
-        return Ok(false);
-    }
-    let step = cursor.append_positions_with_offset(10, added);
+    let mut added = Vec::with_capacity(alloc, 1)?;
+    added.push(7)?;
+    let step = cursor.append_positions_with_offset(10, &mut added);
     if step.is_err() && (added.as_slice() != [7].as_slice() || cursor.doc() != 0) {
-        return Ok(false);
+        return Ok(String::from_str(alloc, " changed")?);
     }
     step?;
-    Ok(true)
-}
-
-// Puts positions in place of a number; false where a refusal left it, or moved the cursor.
-fn fills(cursor: &mut SegmentPostings, filled: &mut Vec<u32>) -> Result<bool, Fault> {
-    if cursor.doc() >= TERMINATED {
-        return Ok(false);
-    }
-    let step = cursor.positions(filled);
+    let mut filled = Vec::with_capacity(alloc, 1)?;
+    filled.push(7)?;
+    let step = cursor.positions(&mut filled);
     if step.is_err() && (!filled.is_empty() || cursor.doc() != 0) {
-        return Ok(false);
+        return Ok(String::from_str(alloc, " changed")?);
     }
     step?;
-    Ok(true)
+    told(alloc, &added, &filled)
 }
 
 // The numbers of both.

@@ -1,5 +1,5 @@
 -- What a line of an input says, given as bytes.
-use Rattle.std.specs.Prelude.{◌≡◌, ◌≢◌, ℕ, Bool, true, false, List, [], Result, Ok, Err, ⊥}
+use Rattle.std.specs.Prelude.{◌≡◌, ◌≢◌, ℕ, Bool, true, false, List, [], Result, Ok, Err}
 use Rattle.std.specs.Str.{IsTrimAscii}
 use Rattle.ii_documents.specs.Documents.{AddsLine, DocumentsState, next_calls}
 use Rattle.ii_documents.specs.JsonLines.{TellsOfLine, told_of_line}

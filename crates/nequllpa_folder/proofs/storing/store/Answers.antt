@@ -1,10 +1,9 @@
-use Rattle.std.proofs.Common.{Result, ap, rules, subst}
-use Rattle.std.specs.Prelude.{IfErr, OnOk}
+use Rattle.std.proofs.Common.{Result, rules, subst}
+use Rattle.std.specs.Prelude.{OnOk}
 use Rattle.ii_io.specs.declared.faults.Fault.{Fault}
 use Rattle.ii_base.specs.AsciiWords.{ascii_words}
 use Rattle.ii_definitions.specs.Tokens.{tokens_of}
-use Rattle.ii_indexing.proofs.RamLaws.{fault_in_ram}
-use Rattle.ii_indexing.specs.IndexFiles.{IsIndexFault, WroteIndex}
+use Rattle.ii_indexing.specs.IndexFiles.{WroteIndex}
 use Rattle.ii_store.specs.Index.{view}
 use Rattle.nequllpa_folder.proofs.StoredLaws.{holds_written}
 use Rattle.nequllpa_folder.proofs.storing.store.Goals as goal
@@ -19,12 +18,3 @@ returns-in-Ok-clause-holds c =
     let s = c.stored.ensures in
     holds_written d.schema d.num_docs files.result new ts (view c.stored.result) wrote (search rules) files.ensures
     (s.terms, s.postings, s.positions, s.fieldnorms)
-
-pub returns-clause-fault : goal.returns-clause-fault
-returns-clause-fault c none =
-    let d = c.args.documents in
-    let ts = tokens_of ascii_words d.calls in
-    let files = c.in_memory-files in
-    rw c.in_memory.ensures
-    (fault_in_ram d.schema d.num_docs files.result ts c.in-Err.fault files.ensures
-    (subst (λ (r : Result (Unit {0}) Fault). IfErr r (IsIndexFault d.schema d.num_docs files.result ts)) c.in-Err.is (c.write-files.ensures.fault none)))
