@@ -1,13 +1,36 @@
--- The bytes of an index, and the tokens that they hold.
-use Rattle.std.specs.Prelude.{List}
+-- The bytes of an index: the tokens that they hold, and why they can't be opened.
+use Rattle.std.specs.Prelude.{◌≡◌, ℕ, List, Result, Ok}
+use Rattle.std.specs.Str.{IsUtf8}
+use Rattle.ii_io.specs.declared.faults.Part.{Part}
 use Rattle.ii_base.specs.Schema.{SchemaEntry}
 use Rattle.ii_definitions.specs.Fields.{option_of}
 use Rattle.ii_definitions.specs.Files.{HoldTokens}
 use Rattle.ii_definitions.specs.Norms.{HoldNorms}
 use Rattle.ii_definitions.specs.Tokens.{IndexToken}
+use Rattle.ii_reader.specs.InvertedIndexReader.{IsRefusal}
+use Rattle.ii_reader.specs.OpenIndex.{OpenIndexState, index_of_files}
+use Rattle.ii_schema_text.specs.SchemaText.{TellsOfText, text_schema, told_of_text}
 use Rattle.ii_store.specs.Index.{Index}
+use Rattle.nequllpa_folder.specs.declared.faults.OpenFault.{OpenFault}
+use Rattle.nequllpa_folder.specs.declared.faults.OpenFault.TheVariants.{Files, Schema, SchemaBytes}
 
 -- The files of an index hold tokens of the fields of a schema, and their norms.
 pub record HoldsTokens (entries : List SchemaEntry) (i : Index) (ts : List IndexToken) : Type 0 where
   pub tokens : HoldTokens (option_of entries) i.terms i.postings i.positions ts
   pub norms : HoldNorms entries i.num_docs i.fieldnorms ts
+
+-- The readers that the files of an index give by a schema, or the first part of them that fails.
+abbrev pub readers_of : Index → List SchemaEntry → Result OpenIndexState Part
+readers_of i entries = index_of_files i.terms i.postings i.positions i.fieldnorms entries
+
+-- Why bytes say no schema: they aren't UTF-8, or what their text says is none.
+abbrev pub IsSchemaRefusal : List ℕ → OpenFault → Type 0
+IsSchemaRefusal bytes SchemaBytes = IsUtf8 bytes → ⊥
+IsSchemaRefusal bytes (Schema fault) = TellsOfText (told_of_text fault) (text_schema bytes)
+IsSchemaRefusal bytes (Files fault) = ⊥
+
+-- Why an index can't be opened: its bytes say no schema, or by that schema its files give no readers.
+abbrev pub IsOpenRefusal : Index → OpenFault → Type 0
+IsOpenRefusal i SchemaBytes = IsSchemaRefusal i.schema SchemaBytes
+IsOpenRefusal i (Schema fault) = IsSchemaRefusal i.schema (Schema fault)
+IsOpenRefusal i (Files fault) = (entries : List SchemaEntry) × (text_schema i.schema ≡ Ok entries) × IsRefusal (readers_of i entries) fault

@@ -1,15 +1,16 @@
 //! An index that is open.
-ghost use Rattle.std.specs.Prelude.{◌≡◌, ◌<◌, ℕ, IfOk, IfSome, List, Ok, Some, length, slice_get};
+ghost use Rattle.std.specs.Prelude.{◌≡◌, ◌<◌, ℕ, IfErr, IfOk, IfSome, List, Ok, Some, length, slice_get};
 ghost use Rattle.ii_base.specs.Schema.{SchemaEntry};
 ghost use Rattle.ii_definitions.specs.Fields.{option_of};
 ghost use Rattle.ii_definitions.specs.Files.{HoldTokens};
 ghost use Rattle.ii_definitions.specs.Norms.{HoldNorms};
 ghost use Rattle.ii_definitions.specs.Tokens.{IndexToken};
-ghost use Rattle.ii_reader.specs.OpenIndex.{IndexHolds};
+ghost use Rattle.ii_reader.specs.InvertedIndexReader.{IsRefusal};
+ghost use Rattle.ii_reader.specs.OpenIndex.{IndexHolds, index_of_files};
 ghost use Rattle.ii_schema_text.specs.SchemaText.{text_schema};
 ghost use Rattle.ii_search.specs.QueryTexts.{field_named};
 ghost use Rattle.ii_store.specs.Index.{view};
-ghost use Rattle.nequllpa_folder.specs.Stored.{HoldsTokens};
+ghost use Rattle.nequllpa_folder.specs.Stored.{HoldsTokens, IsOpenRefusal, IsSchemaRefusal, readers_of};
 
 use crate::faults::OpenFault;
 use bytes::Bytes;
@@ -32,8 +33,14 @@ pub struct Opened {
 impl Opened {
     /// Opens an index of these bytes, by the schema that stands in them. Where they hold tokens of the
     /// fields of that schema, so do the readers.
+    ///
+    /// `SchemaBytes` where the bytes of the schema aren't UTF-8, `Schema` where they say none, and else
+    /// `Files`: `Damaged` by the first part of the files that fails, or `OutOfMemory`.
     pub fn open(alloc: Global, stored: StoredIndex) -> Result<Opened, OpenFault>
         ensures docs { IfOk result (λ o. o.num_docs ≡ stored.num_docs) }
+        ensures schema { IfOk result (λ o. text_schema stored.schema.items ≡ Ok o.schema) }
+        ensures readers { IfOk result (λ o. readers_of (view stored) o.schema ≡ Ok o.index) }
+        ensures refused { IfErr result (IsOpenRefusal (view stored)) }
         ensures holds { (entries : List SchemaEntry) (ts : List IndexToken) → text_schema stored.schema.items ≡ Ok entries → HoldsTokens entries (view stored) ts
             → IfOk result (λ o. (o.schema ≡ entries) × IndexHolds entries stored.num_docs o.index ts) }
     {
@@ -112,10 +119,12 @@ impl Opened {
     }
 }
 
-/// The schema that the bytes of an index say, or why they say none.
+/// The schema that the bytes of an index say, or why they say none: `SchemaBytes` where they aren't
+/// UTF-8, else `Schema`.
 pub fn schema_of(alloc: Global, bytes: &[u8]) -> Result<Schema, OpenFault>
     ensures says { IfOk result (λ schema. text_schema bytes.now ≡ Ok schema) }
     ensures taken { (entries : List SchemaEntry) → text_schema bytes.now ≡ Ok entries → IfOk result (λ schema. schema ≡ entries) }
+    ensures refused { IfErr result (IsSchemaRefusal bytes.now) }
 {
     let Ok(text) = std::str::from_utf8(bytes) else {
         return Err(OpenFault::SchemaBytes);
@@ -138,6 +147,8 @@ struct Files {
 impl Files {
     fn open(self, alloc: Global, schema: &Schema) -> Result<OpenIndex, Fault>
         ensures many { IfOk result (λ index. length index.readers ≡ length schema.now) }
+        ensures ok { IfOk result (λ index. index_of_files self.terms.items self.postings.items self.positions.items self.fieldnorms.items schema.now ≡ Ok index) }
+        ensures err { IfErr result (IsRefusal (index_of_files self.terms.items self.postings.items self.positions.items self.fieldnorms.items schema.now)) }
         ensures holds { (n : ℕ) (ts : List IndexToken) → HoldTokens (option_of schema.now) self.terms.items self.postings.items self.positions.items ts → HoldNorms schema.now n self.fieldnorms.items ts
             → IfOk result (λ index. IndexHolds schema.now n index ts) }
     {
