@@ -2,10 +2,9 @@ ghost use Rattle.std.specs.Prelude.{◌≡◌, ◌<◌, ◌^◌, List, length, O
 ghost use Rattle.ii_io.specs.CountingWriter.{Writes};
 ghost use Rattle.ii_definitions.specs.Tokens.{IndexToken};
 ghost use Rattle.ii_postings_writer.specs.FieldParts.{AreShortNorms};
-ghost use Rattle.ii_postings_writer.specs.ResolvedTerms.{AreClean, HaveHeldTokens, HoldIds, json_fields};
+ghost use Rattle.ii_postings_writer.specs.ResolvedTerms.{HaveHeldTokens, MayWriteTerms};
 ghost use Rattle.ii_indexing.specs.IndexFiles.{CountsIndexFailures, FilesGrow, IsIndexFault, WroteIndex};
 ghost use Rattle.ii_definitions.specs.Norms.{HoldNorms};
-ghost use Rattle.ii_postings_writer.specs.SortedTerms.{AllMayBeWritten};
 
 use crate::index_writers::IndexWriters;
 use crate::indexed_terms::IndexedTerms;
@@ -39,9 +38,7 @@ impl FinishedFields {
         requires few { length schema.now < 2 ^ 32 }
         requires writers { length self.terms.writers ≡ length schema.now }
         requires short { AreShortNorms self.readers }
-        requires terms { AllMayBeWritten (length schema.now) self.readers self.terms.terms }
-        requires ids { HoldIds (json_fields schema.now) self.terms.paths self.terms.terms }
-        requires clean { AreClean self.terms.paths }
+        requires terms { MayWriteTerms schema.now self.readers self.terms.paths self.terms.terms }
         ensures holds { (ts : List IndexToken) → HoldNorms schema.now num_docs self.norms ts → HaveHeldTokens schema.now self.terms.paths self.terms.terms self.terms.writers ts
             → OnOk result.1 (WroteIndex schema.now num_docs writers result.0 ts) }
 

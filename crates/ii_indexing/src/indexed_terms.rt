@@ -8,13 +8,12 @@ ghost use Rattle.ii_definitions.specs.Tokens.{IndexToken, end_after, kept_words,
 ghost use Rattle.ii_indexing.specs.IndexedTerms.{StoresTokens, TakesTexts, TakesValue, value_fault};
 ghost use Rattle.ii_recorder.specs.IndexBodies.{CountsFailuresOf};
 ghost use Rattle.ii_postings_writer.specs.FieldParts.{AreShortNorms, HasFields};
-ghost use Rattle.ii_postings_writer.specs.ResolvedTerms.{AreClean, HaveHeldTokens, HoldIds, json_fields};
+ghost use Rattle.ii_postings_writer.specs.ResolvedTerms.{HaveHeldTokens, MayWriteTerms};
 ghost use Rattle.ii_indexing.specs.IndexFiles.{ClosedFiles, CountsIndexFailures, FilesGrow, PassLimits, WroteTermFiles};
 ghost use Rattle.ii_postings_writer.specs.IndexingContext.{AllEndBy};
 ghost use Rattle.ii_postings_writer.specs.PostingsWriter.{text_fault, writers_of};
 ghost use Rattle.ii_json.specs.LeafVisit.{IsRefusedBy};
 ghost use Rattle.ii_json.specs.Paths.{AreDistinct, path_fault, path_id, with_path};
-ghost use Rattle.ii_postings_writer.specs.SortedTerms.{AllMayBeWritten};
 
 use crate::index_writers::IndexWriters;
 use ii_base::{CountingWriter, DocId, Fault, Field, Schema, TokenStream};
@@ -141,9 +140,7 @@ impl IndexedTerms {
         requires few { length schema.now < 2 ^ 32 }
         requires writers { length self.writers ≡ length schema.now }
         requires norms { AreShortNorms fieldnorm_readers.now }
-        requires terms { AllMayBeWritten (length schema.now) fieldnorm_readers.now self.terms }
-        requires ids { HoldIds (json_fields schema.now) self.paths self.terms }
-        requires clean { AreClean self.paths }
+        requires terms { MayWriteTerms schema.now fieldnorm_readers.now self.paths self.terms }
         ensures holds { (ts : List IndexToken) → HaveHeldTokens schema.now self.paths self.terms self.writers ts → OnOk result.1 (WroteTermFiles schema.now writers result.0 ts) }
         ensures norms { result.0.fieldnorms ≡ writers.fieldnorms }
 
@@ -204,9 +201,7 @@ fn write_files<W: Write>(
     requires writers { length postings_writers.now ≡ length schema.now }
     requires fresh { HasFields serializer.entries serializer.bodies serializer.bodies [] }
     requires norms { AreShortNorms fieldnorm_readers.now }
-    requires terms { AllMayBeWritten (length schema.now) fieldnorm_readers.now ctx.term_index }
-    requires ids { HoldIds (json_fields schema.now) ctx.path_to_unordered_id ctx.term_index }
-    requires clean { AreClean ctx.path_to_unordered_id }
+    requires terms { MayWriteTerms schema.now fieldnorm_readers.now ctx.path_to_unordered_id ctx.term_index }
     ensures holds { (ts : List IndexToken) → HaveHeldTokens serializer.entries ctx.path_to_unordered_id ctx.term_index postings_writers.now ts
         → OnOk result.3 (ClosedFiles serializer result.0 result.1 result.2 ts) }
 

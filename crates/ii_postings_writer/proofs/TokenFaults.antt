@@ -26,7 +26,7 @@ use Rattle.ii_postings_writer.specs.IndexingTerm.{AreTermBytes}
 use Rattle.ii_postings_writer.specs.PostingsWriter.{PostingsWriterState}
 use Rattle.ii_postings_writer.specs.SortedTerms.{SortedTerm, terms_in, written_term}
 use Rattle.ii_postings_writer.specs.TermLimits.{AreWithin, FirstOf, HasLargeSum, IsLong, IsWithin, PassEnds}
-use Rattle.ii_postings_writer.specs.TokenFiles.{FirstEnds, FirstTerm, field_keys, field_terms, file_bodies, token_bodies}
+use Rattle.ii_postings_writer.specs.TokenFiles.{FirstEnds, FirstTerm, field_keys, token_terms, file_bodies, token_bodies}
 use Rattle.ii_postings_writer.specs.WriteFaults.{FirstInParts, FirstPartEnds, IsContextFault, IsPartsFault, IsTokensFault, IsWithinPart, all_bodies, bodies_of_tokens}
 use Rattle.ii_postings_writer.proofs.FaultLemmas.{fault_more}
 use Rattle.ii_postings_writer.proofs.HeldBodies.{sorted_tokens}
@@ -79,7 +79,7 @@ module _ (entries : List SchemaEntry) (writers : List PostingsWriterState) (sort
       record { small = small; whole = h.whole; ascending = h.ascending; records = λ key. h.tokens.records field key small }
 
   -- the terms of a field are those of its tokens
-  terms_are : (field : ℕ) → field < n → map (written_term None (option_of entries field)) (list_at field) ≡ field_terms entries ts field
+  terms_are : (field : ℕ) → field < n → map (written_term None (option_of entries field)) (list_at field) ≡ token_terms entries ts field
   terms_are field inside =
       ap (map (written_term None (option_of entries field))) (list_is field inside) ∙ field_written (option_of entries field) field sorted ts (has_field field inside)
 
@@ -90,9 +90,9 @@ module _ (entries : List SchemaEntry) (writers : List PostingsWriterState) (sort
   bodies_are : (field : ℕ) → field < n → bodies_of entries (part_of entries field (tokens_in writers field) None (list_at field)) ≡ token_bodies entries ts field
   bodies_are field inside =
       ap (field_bodies (option_of entries field) (tokens_in writers field)) (terms_are field inside)
-      ∙ ap (λ (m : ℕ). field_bodies (option_of entries field) m (field_terms entries ts field)) (h.tokens.counted field inside)
+      ∙ ap (λ (m : ℕ). field_bodies (option_of entries field) m (token_terms entries ts field)) (h.tokens.counted field inside)
 
-  none_within : (field : ℕ) → field < n → list_at field ≡ [] → AreWithin (option_of entries field) (field_terms entries ts field)
+  none_within : (field : ℕ) → field < n → list_at field ≡ [] → AreWithin (option_of entries field) (token_terms entries ts field)
   none_within field inside none = subst (AreWithin (option_of entries field)) (ap (map (written_term None (option_of entries field))) (sym none) ∙ terms_are field inside) no_terms
     where
       no_ends : ¬ PassEnds (option_of entries field) []
@@ -108,7 +108,7 @@ module _ (entries : List SchemaEntry) (writers : List PostingsWriterState) (sort
   first_term : (P : IndexRecordOption → WrittenTerm → Type 0) → FirstInParts P entries all_parts → FirstTerm P entries ts
   first_term P found =
       first_field entries n (tokens_in writers) list_at (IsWithinPart entries) (λ (p : FieldPart). FirstOf (IsWithin (option_of entries p.field)) (P (option_of entries p.field)) (written_terms entries p))
-      (λ field. AreWithin (option_of entries field) (field_terms entries ts field)) (λ field. FirstOf (IsWithin (option_of entries field)) (P (option_of entries field)) (field_terms entries ts field))
+      (λ field. AreWithin (option_of entries field) (token_terms entries ts field)) (λ field. FirstOf (IsWithin (option_of entries field)) (P (option_of entries field)) (token_terms entries ts field))
       (λ field inside held. subst (AreWithin (option_of entries field)) (terms_are field inside) held)
       (λ field inside here. subst (FirstOf (IsWithin (option_of entries field)) (P (option_of entries field))) (terms_are field inside) here)
       none_within 0 n (omega (arith)) found
@@ -116,7 +116,7 @@ module _ (entries : List SchemaEntry) (writers : List PostingsWriterState) (sort
   first_ends : FirstPartEnds entries all_parts → FirstEnds entries ts
   first_ends found =
       first_field entries n (tokens_in writers) list_at (IsWithinPart entries) (λ (p : FieldPart). PassEnds (option_of entries p.field) (written_terms entries p))
-      (λ field. AreWithin (option_of entries field) (field_terms entries ts field)) (λ field. PassEnds (option_of entries field) (field_terms entries ts field))
+      (λ field. AreWithin (option_of entries field) (token_terms entries ts field)) (λ field. PassEnds (option_of entries field) (token_terms entries ts field))
       (λ field inside held. subst (AreWithin (option_of entries field)) (terms_are field inside) held)
       (λ field inside here. subst (PassEnds (option_of entries field)) (terms_are field inside) here)
       none_within 0 n (omega (arith)) found

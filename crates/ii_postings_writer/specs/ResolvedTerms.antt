@@ -5,6 +5,7 @@ use Rattle.std.specs.List.{AllByRecursion, IsDistinct}
 use Rattle.std.specs.Option.{option_map_or}
 use Rattle.std.specs.Ordering.{nat_cmp, ordering_then}
 use Rattle.std.specs.declared.cmp.Ordering.{Ordering}
+use Rattle.ii_io.specs.Composite.{Body}
 use Rattle.ii_io.specs.declared.faults.Fault.{Fault}
 use Rattle.ii_io.specs.declared.faults.Fault.TheVariants.{OutOfMemory}
 use Rattle.ii_base.specs.Paths.{has_zero}
@@ -22,6 +23,7 @@ use Rattle.ii_postings_writer.specs.IndexingContext.{TermIndex, recorder_of}
 use Rattle.ii_postings_writer.specs.IndexingTerm.{field_bytes, field_in}
 use Rattle.ii_postings_writer.specs.PostingsWriter.{PostingsWriterState}
 use Rattle.ii_postings_writer.specs.Records.{Records}
+use Rattle.ii_postings_writer.specs.SortedTerms.{AllMayBeWritten}
 
 -- which fields of a schema hold JSON values
 abbrev pub json_fields : List SchemaEntry → List Bool
@@ -128,6 +130,12 @@ pub record AreSorted (flags : List Bool) (paths : List (List ℕ)) (terms : Term
   pub held : AllByRecursion (λ (t : List ℕ × RecorderState). IsHeldTerm flags paths t.0) terms
   pub distinct : IsDistinct bytes_eq (map (λ (t : List ℕ × RecorderState). t.0) terms)
   pub ascending : AreAscending (map (λ (t : List ℕ × RecorderState). t.0) (resolved_terms flags paths terms))
+
+-- The terms of a context may be written in the fields of a schema, whose norms are given: each lies in one of them, has documents that may be written, and holds the id of a path without byte 0 where its field is a JSON one.
+pub record MayWriteTerms (entries : List SchemaEntry) (readers : List Body) (paths : List (List ℕ)) (terms : TermIndex) : Type 0 where
+  pub may : AllMayBeWritten (length entries) readers terms
+  pub ids : HoldIds (json_fields entries) paths terms
+  pub clean : AreClean paths
 
 -- A context and the writers of a schema have tokens, whose keys the terms hold with the ids of their paths.
 pub record HaveHeldTokens (entries : List SchemaEntry) (paths : List (List ℕ)) (terms : TermIndex) (writers : List PostingsWriterState) (ts : List IndexToken) : Type 0 where

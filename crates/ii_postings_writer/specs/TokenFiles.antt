@@ -29,8 +29,8 @@ key_term mode field ts key =
     record { key = key; norms = None; skip_info = kind; docs = docs_of es; freqs = pushed_freqs kind es; deltas = pushed_deltas es }
 
 -- the terms of a field
-abbrev pub field_terms : List SchemaEntry → List IndexToken → ℕ → List WrittenTerm
-field_terms entries ts field = map (key_term (option_of entries field) field ts) (field_keys field ts)
+abbrev pub token_terms : List SchemaEntry → List IndexToken → ℕ → List WrittenTerm
+token_terms entries ts field = map (key_term (option_of entries field) field ts) (field_keys field ts)
 
 -- the fields of a schema
 abbrev pub fields_of : List SchemaEntry → List ℕ
@@ -42,7 +42,7 @@ fields_with_terms entries ts = filter (λ (field : ℕ). nat_lt 0 (length (field
 
 -- the bodies of a field
 abbrev pub token_bodies : List SchemaEntry → List IndexToken → ℕ → FieldBodies
-token_bodies entries ts field = field_bodies (option_of entries field) (field_count field ts) (field_terms entries ts field)
+token_bodies entries ts field = field_bodies (option_of entries field) (field_count field ts) (token_terms entries ts field)
 
 -- the bodies of one of the three files, of each field that has terms
 abbrev pub file_bodies : (FieldBodies → List ℕ) → List SchemaEntry → List IndexToken → List Body
@@ -51,10 +51,10 @@ file_bodies part entries ts = map (λ (field : ℕ). record { field = field; byt
 -- The first term that passes a limit passes it in this way: none before it does, in the order of fields and keys.
 abbrev pub FirstTerm : (IndexRecordOption → WrittenTerm → Type 0) → List SchemaEntry → List IndexToken → Type 0
 FirstTerm P entries ts =
-    FirstOf (λ (field : ℕ). AreWithin (option_of entries field) (field_terms entries ts field))
-    (λ (field : ℕ). FirstOf (IsWithin (option_of entries field)) (P (option_of entries field)) (field_terms entries ts field)) (fields_of entries)
+    FirstOf (λ (field : ℕ). AreWithin (option_of entries field) (token_terms entries ts field))
+    (λ (field : ℕ). FirstOf (IsWithin (option_of entries field)) (P (option_of entries field)) (token_terms entries ts field)) (fields_of entries)
 
 -- The terms of a field end too late, and those of the fields before it pass no limit.
 abbrev pub FirstEnds : List SchemaEntry → List IndexToken → Type 0
 FirstEnds entries ts =
-    FirstOf (λ (field : ℕ). AreWithin (option_of entries field) (field_terms entries ts field)) (λ (field : ℕ). PassEnds (option_of entries field) (field_terms entries ts field)) (fields_of entries)
+    FirstOf (λ (field : ℕ). AreWithin (option_of entries field) (token_terms entries ts field)) (λ (field : ℕ). PassEnds (option_of entries field) (token_terms entries ts field)) (fields_of entries)

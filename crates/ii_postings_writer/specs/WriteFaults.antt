@@ -1,5 +1,5 @@
 -- Why the terms of an index can't be written, and what a refusal leaves.
-use Rattle.std.specs.Prelude.{◌≡◌, ℕ, ◌⊎◌, IsTrue, List, [], ◌∷◌, ◌++◌, length, map, Result, OnOk, IfErr}
+use Rattle.std.specs.Prelude.{◌≡◌, ℕ, ◌<◌, ◌⊎◌, IsErrOf, IsTrue, List, [], ◌∷◌, ◌++◌, length, map, Result, OnOk, IfErr}
 use Rattle.std.specs.List.{AllByRecursion, range_with_len}
 use Rattle.ii_io.specs.declared.faults.Fault.{Fault}
 use Rattle.ii_io.specs.declared.faults.Fault.TheVariants.{Limit, OutOfMemory, SerializerClosed, Write}
@@ -10,7 +10,7 @@ use Rattle.ii_base.specs.declared.schema.index_record_option.IndexRecordOption.{
 use Rattle.ii_definitions.specs.Fields.{option_of}
 use Rattle.ii_definitions.specs.Tokens.{IndexToken}
 use Rattle.ii_termdict.specs.ReadBack.{AreAscending}
-use Rattle.ii_recorder.specs.IndexBodies.{OneIsFull, IndexBodiesState}
+use Rattle.ii_recorder.specs.IndexBodies.{AllGrow, CountsFailures, OneIsFull, IndexBodiesState}
 use Rattle.ii_recorder.specs.IndexSerializer.{IndexSerializerState}
 use Rattle.ii_recorder.specs.Recorded.{RecorderState}
 use Rattle.ii_recorder.specs.Terms.{FieldBodies, WrittenTerm, open_bodies}
@@ -90,6 +90,15 @@ pub record StaysClosed (nothing : Type 0) (old new : IndexSerializerState) (resu
   pub same : new ≡ old
   pub none : OnOk result nothing
   pub only : IfErr result (λ e. (e ≡ OutOfMemory) ⊎ (e ≡ SerializerClosed))
+
+-- How a call ends that writes parts, if there are some, each as a whole: the entries stay, a refusal by a writer is counted once, and what was written is kept.
+pub record EndsParts {P : Type 0} (parts : List P) (old new : IndexSerializerState) (result : Result (Unit {0}) Fault) : Type 0 where
+  pub entries : new.entries ≡ old.entries
+  pub open : OnOk result (new.closed ≡ old.closed)
+  pub failures : CountsFailures old.bodies new.bodies result
+  pub grow : AllGrow old.bodies new.bodies
+  pub closed : IsErrOf result SerializerClosed → IsTrue old.closed × (0 < length parts)
+  pub refused : IsTrue old.closed → StaysClosed (parts ≡ []) old new result
 
 -- Some fields were written as a whole, and nothing else; a serializer that was open still is.
 pub record IsBetweenFields (old new : IndexSerializerState) : Type 0 where

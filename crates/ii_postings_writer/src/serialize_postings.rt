@@ -1,10 +1,10 @@
-ghost use Rattle.std.specs.Prelude.{◌≡◌, ◌≤◌, ◌<◌, ◌++◌, ◌∷◌, ◌^◌, ◌⊎◌, ℕ, List, [], false, length, map, IsTrue, IfErr, IfOk, IsErrOf, OnErr, OnOk, Option, slice_index_or};
+ghost use Rattle.std.specs.Prelude.{◌≡◌, ◌≤◌, ◌<◌, ◌++◌, ◌∷◌, ◌^◌, ◌⊎◌, ℕ, List, [], false, length, map, IsTrue, IfErr, IfOk, OnErr, OnOk, Option, slice_index_or};
 ghost use Rattle.std.specs.List.{AllByRecursion};
 ghost use Rattle.ii_fieldnorm.specs.Readers.{Norms};
 ghost use Rattle.ii_termdict.specs.ReadBack.{AreAscending};
 ghost use Rattle.ii_definitions.specs.Fields.{option_of};
 ghost use Rattle.ii_recorder.specs.AnyRecorder.{any_state};
-ghost use Rattle.ii_recorder.specs.IndexBodies.{AddsBodies, AllGrow, IndexBodiesState, LacksField, CountsFailures};
+ghost use Rattle.ii_recorder.specs.IndexBodies.{AddsBodies, AllGrow, IndexBodiesState, LacksField};
 ghost use Rattle.ii_recorder.specs.IndexSerializer.{EndsWriting, IsWriting};
 ghost use Rattle.ii_recorder.specs.Terms.{WrittenTerm, field_bodies};
 ghost use Rattle.ii_recorder.specs.HeldTerms.{HoldsTerms};
@@ -13,10 +13,10 @@ ghost use Rattle.ii_definitions.specs.Tokens.{IndexToken};
 ghost use Rattle.ii_definitions.specs.JsonKeys.{is_json};
 ghost use Rattle.ii_io.specs.Faults.{OnlyMemory};
 ghost use Rattle.ii_postings_writer.specs.HeldBodies.{HaveTokens, WroteTokens};
-ghost use Rattle.ii_postings_writer.specs.ResolvedTerms.{AreClean, HaveHeldTokens, HaveUnlessMemory, HoldIds, json_fields, resolved_terms};
-ghost use Rattle.ii_postings_writer.specs.SortedTerms.{AllMayBeWritten, IsTold, IsWritable, norms_in, state_of, written_term};
+ghost use Rattle.ii_postings_writer.specs.ResolvedTerms.{HaveHeldTokens, HaveUnlessMemory, MayWriteTerms, json_fields, resolved_terms};
+ghost use Rattle.ii_postings_writer.specs.SortedTerms.{IsTold, IsWritable, norms_in, state_of, written_term};
 ghost use Rattle.ii_postings_writer.specs.TermLimits.{AreWithin};
-ghost use Rattle.ii_postings_writer.specs.WriteFaults.{ClosesOrStays, IsContextFault, IsPartFault, IsPartsFault, IsTermFaultAfter, StaysClosed};
+ghost use Rattle.ii_postings_writer.specs.WriteFaults.{ClosesOrStays, EndsParts, IsContextFault, IsPartFault, IsPartsFault, IsTermFaultAfter};
 
 use crate::indexing_context::IndexingContext;
 use crate::per_field_postings_writer::PerFieldPostingsWriter;
@@ -148,19 +148,14 @@ fn serialize_if_any<W: Write>(
     requires norms { AreShortNorms norms.now }
     requires ascending { AreAscending (map (λ t. t.key) terms.now) }
     requires writable { AllByRecursion (IsWritable (norms_in norms.now field)) terms.now }
-    ensures entries { serializer.new.entries ≡ serializer.old.entries }
-    ensures closes { OnOk result (serializer.new.closed ≡ serializer.old.closed) }
     ensures wrote { (initial : IndexBodiesState) (fs : List FieldPart) → HasFields serializer.old.entries initial serializer.old.bodies fs
         → OnOk result (HasFields serializer.old.entries initial serializer.new.bodies (fs ++ parts_of serializer.old.entries field (tokens_in writers.now field) (norms_in norms.now field) terms.now)) }
 
     // How it ends, and by which fault it is refused.
-    ensures failures { CountsFailures serializer.old.bodies serializer.new.bodies result }
-    ensures grow { AllGrow serializer.old.bodies serializer.new.bodies }
+    ensures ends { EndsParts terms.now serializer.old serializer.new result }
     ensures fault { IfErr result (λ e. (e ≡ Fault.SerializerClosed)
         ⊎ IsPartFault serializer.old.entries serializer.old.bodies (record { field = field; tokens = tokens_in writers.now field; norms = norms_in norms.now field; terms = terms.now }) e) }
     ensures some { OnErr result (0 < length terms.now) }
-    ensures closed { IsErrOf result Fault.SerializerClosed → IsTrue serializer.old.closed }
-    ensures refused { IsTrue serializer.old.closed → StaysClosed (terms.now ≡ []) serializer.old serializer.new result }
     ensures err { IfErr result (λ e. IsTrue serializer.new.closed ⊎ ((e ≡ Fault.OutOfMemory) × (serializer.new ≡ serializer.old))) }
 {
     let terms = terms.as_slice();
@@ -195,17 +190,12 @@ fn serialize_fields<W: Write>(
     requires norms { AreShortNorms norms.now }
     requires ascending { AllByRecursion (λ ts. AreAscending (map (λ t. t.key) ts)) terms.now.items }
     requires writable { (field : ℕ) → field < length terms.now.items → AllByRecursion (IsWritable (norms_in norms.now field)) (slice_index_or terms.now.items field []) }
-    ensures entries { serializer.new.entries ≡ serializer.old.entries }
     ensures wrote { OnOk result (HasFields serializer.old.entries serializer.old.bodies serializer.new.bodies (first_parts serializer.old.entries writers.now norms.now terms.now.items (length terms.now.items))) }
-    ensures closes { OnOk result (serializer.new.closed ≡ serializer.old.closed) }
 
     // How it ends, and by which fault it is refused.
-    ensures failures { CountsFailures serializer.old.bodies serializer.new.bodies result }
-    ensures grow { AllGrow serializer.old.bodies serializer.new.bodies }
+    ensures ends { EndsParts (first_parts serializer.old.entries writers.now norms.now terms.now.items (length terms.now.items)) serializer.old serializer.new result }
     ensures fault { IfErr result (λ e. (e ≡ Fault.SerializerClosed)
         ⊎ IsPartsFault serializer.old.entries serializer.old.bodies (first_parts serializer.old.entries writers.now norms.now terms.now.items (length terms.now.items)) e) }
-    ensures closed { IsErrOf result Fault.SerializerClosed → IsTrue serializer.old.closed × (0 < length (first_parts serializer.old.entries writers.now norms.now terms.now.items (length terms.now.items))) }
-    ensures refused { IsTrue serializer.old.closed → StaysClosed (first_parts serializer.old.entries writers.now norms.now terms.now.items (length terms.now.items) ≡ []) serializer.old serializer.new result }
     ensures err { IfErr result (ClosesOrStays serializer.old serializer.new) }
 {
     let mut keys = JsonTermSerializer::new(alloc);
@@ -267,22 +257,15 @@ pub fn serialize_postings<W: Write>(
     requires writers { length per_field_postings_writers.now ≡ length schema.now }
     requires fresh { HasFields serializer.old.entries serializer.old.bodies serializer.old.bodies [] }
     requires norms { AreShortNorms fieldnorm_readers.now }
-    requires terms { AllMayBeWritten (length schema.now) fieldnorm_readers.now ctx.term_index }
-    requires ids { HoldIds (json_fields schema.now) ctx.path_to_unordered_id ctx.term_index }
-    requires clean { AreClean ctx.path_to_unordered_id }
-    ensures entries { serializer.new.entries ≡ serializer.old.entries }
+    requires terms { MayWriteTerms schema.now fieldnorm_readers.now ctx.path_to_unordered_id ctx.term_index }
     ensures wrote { OnOk result (WroteContext serializer.old serializer.new per_field_postings_writers.now fieldnorm_readers.now (resolved_terms (json_fields schema.now) ctx.path_to_unordered_id ctx.term_index)) }
     ensures holds { (ts : List IndexToken) → HaveHeldTokens serializer.old.entries ctx.path_to_unordered_id ctx.term_index per_field_postings_writers.now ts → OnOk result (WroteTokens serializer.old serializer.new ts) }
     ensures tokens { (ts : List IndexToken) → HaveHeldTokens serializer.old.entries ctx.path_to_unordered_id ctx.term_index per_field_postings_writers.now ts
         → HaveUnlessMemory (HaveTokens serializer.old.entries (resolved_terms (json_fields schema.now) ctx.path_to_unordered_id ctx.term_index) per_field_postings_writers.now ts) result }
-    ensures closes { OnOk result (serializer.new.closed ≡ serializer.old.closed) }
 
     // How it ends, and by which fault it is refused.
-    ensures failures { CountsFailures serializer.old.bodies serializer.new.bodies result }
-    ensures grow { AllGrow serializer.old.bodies serializer.new.bodies }
+    ensures ends { EndsParts ctx.term_index serializer.old serializer.new result }
     ensures fault { IfErr result (λ e. (e ≡ Fault.OutOfMemory) ⊎ (e ≡ Fault.SerializerClosed) ⊎ IsContextFault serializer.old per_field_postings_writers.now fieldnorm_readers.now (resolved_terms (json_fields schema.now) ctx.path_to_unordered_id ctx.term_index) e) }
-    ensures closed { IsErrOf result Fault.SerializerClosed → IsTrue serializer.old.closed × (0 < length ctx.term_index) }
-    ensures refused { IsTrue serializer.old.closed → StaysClosed (ctx.term_index ≡ []) serializer.old serializer.new result }
     ensures err { IfErr result (ClosesOrStays serializer.old serializer.new) }
 {
     reads_entries_back();

@@ -9,7 +9,7 @@ ghost use Rattle.ii_indexing.specs.IndexCalls.{MayAllBeIndexed, call_of};
 ghost use Rattle.ii_indexing.specs.IndexFiles.{HaveNoRoom};
 ghost use Rattle.ii_indexing.specs.Refusals.{calls_fault};
 ghost use Rattle.ii_postings_writer.specs.TermLimits.{AreWithin};
-ghost use Rattle.ii_postings_writer.specs.TokenFiles.{field_terms};
+ghost use Rattle.ii_postings_writer.specs.TokenFiles.{token_terms};
 ghost use Rattle.ii_indexing.specs.RamFiles.{IsRamFault, empty_file};
 ghost use Rattle.ii_reader.specs.OpenIndex.{IndexHolds};
 
@@ -138,7 +138,7 @@ pub fn terms_within_limits_are_indexed<A: TextAnalyzer>(
     requires docs { num_docs ≤ 2147483647 }
     requires calls { MayAllBeIndexed schema num_docs calls.items }
     requires taken { calls_fault (A.words analyzer.now) (option_of schema) [] (map (call_of schema) calls.items) ≡ None }
-    requires within { (field : ℕ) → field < length schema → AreWithin (option_of schema field) (field_terms schema (tokens_of (A.words analyzer.now) (map (call_of schema) calls.items)) field) }
+    requires within { (field : ℕ) → field < length schema → AreWithin (option_of schema field) (token_terms schema (tokens_of (A.words analyzer.now) (map (call_of schema) calls.items)) field) }
     requires room { ¬ HaveNoRoom schema empty_file empty_file empty_file (tokens_of (A.words analyzer.now) (map (call_of schema) calls.items)) }
     ensures { IfErr result (λ fault. fault ≡ Fault.OutOfMemory) }
 {

@@ -17,12 +17,12 @@ use Rattle.ii_definitions.specs.Postings.{doc_count}
 use Rattle.ii_definitions.specs.Tokens.{IndexToken}
 use Rattle.ii_recorder.specs.Terms.{FieldBodies, WrittenTerm}
 use Rattle.ii_postings_writer.specs.TermLimits.{AreWithin, FirstOf, HasLargeSum, IsLong, IsWithin, PassEnds}
-use Rattle.ii_postings_writer.specs.TokenFiles.{FirstEnds, FirstTerm, field_keys, field_terms, fields_of, file_bodies, key_term, token_bodies}
+use Rattle.ii_postings_writer.specs.TokenFiles.{FirstEnds, FirstTerm, field_keys, token_terms, fields_of, file_bodies, key_term, token_bodies}
 use Rattle.ii_postings_writer.proofs.TokenTerms.{no_keys}
 use Rattle.ii_indexing.specs.IndexFiles.{PassLimits}
 use Rattle.ii_indexing.specs.RamFiles.{IsRamFault, empty_file}
 
-no_terms : (es : List SchemaEntry) (field : ℕ) → field_terms es [] field ≡ []
+no_terms : (es : List SchemaEntry) (field : ℕ) → token_terms es [] field ≡ []
 no_terms es field = ap (map (key_term (option_of es field) field [])) (no_keys field)
 
 none_of_first : {X : Type 0} (Q P : X → Type 0) → ((x : X) → P x → ⊥) → (xs : List X) → FirstOf Q P xs → ⊥
@@ -32,7 +32,7 @@ none_of_first Q P none (x ∷ xs) (inr later) = none_of_first Q P none xs later.
 
 no_first_term : (P : IndexRecordOption → WrittenTerm → Type 0) (es : List SchemaEntry) → FirstTerm P es [] → ⊥
 no_first_term P es found =
-    none_of_first (λ field. AreWithin (option_of es field) (field_terms es [] field)) (λ field. FirstOf (IsWithin (option_of es field)) (P (option_of es field)) (field_terms es [] field))
+    none_of_first (λ field. AreWithin (option_of es field) (token_terms es [] field)) (λ field. FirstOf (IsWithin (option_of es field)) (P (option_of es field)) (token_terms es [] field))
     (λ field here. absurd (subst (FirstOf (IsWithin (option_of es field)) (P (option_of es field))) (no_terms es field) here)) (fields_of es) found
 
 no_ends : (mode : IndexRecordOption) → PassEnds mode [] → ⊥
@@ -41,7 +41,7 @@ no_ends mode (inr far) = absurd (omega (arith, far))
 
 no_first_ends : (es : List SchemaEntry) → FirstEnds es [] → ⊥
 no_first_ends es found =
-    none_of_first (λ field. AreWithin (option_of es field) (field_terms es [] field)) (λ field. PassEnds (option_of es field) (field_terms es [] field))
+    none_of_first (λ field. AreWithin (option_of es field) (token_terms es [] field)) (λ field. PassEnds (option_of es field) (token_terms es [] field))
     (λ field here. no_ends (option_of es field) (subst (PassEnds (option_of es field)) (no_terms es field) here)) (fields_of es) found
 
 none_with_terms : (fs : List ℕ) → filter (λ (field : ℕ). nat_lt 0 (length (field_keys field []))) fs ≡ []

@@ -10,7 +10,7 @@ use Rattle.ii_definitions.specs.Fields.{option_of}
 use Rattle.ii_definitions.specs.Tokens.{IndexToken}
 use Rattle.ii_recorder.specs.Terms.{WrittenTerm}
 use Rattle.ii_postings_writer.specs.TermLimits.{AreWithin, FirstOf, HasLargeSum, IsLong, IsWithin, PassEnds}
-use Rattle.ii_postings_writer.specs.TokenFiles.{FirstEnds, FirstTerm, field_terms}
+use Rattle.ii_postings_writer.specs.TokenFiles.{FirstEnds, FirstTerm, token_terms}
 use Rattle.ii_indexing.specs.IndexFiles.{HaveNoRoom, PassLimits}
 use Rattle.ii_reader.specs.OpenIndex.{OpenIndexState}
 use Rattle.ii_indexing.specs.RamFiles.{IsRamFault, empty_file}
@@ -33,15 +33,15 @@ not_long : (mode : IndexRecordOption) (t : WrittenTerm) → IsWithin mode t → 
 not_long mode t within (small, inl long) = absurd (omega (arith, long, within.1.0))
 not_long mode t within (small, inr long) = absurd (omega (arith, long, within.1.1))
 
-module _ (es : List SchemaEntry) (ts : List IndexToken) (within : (field : ℕ) → field < length es → AreWithin (option_of es field) (field_terms es ts field)) where
+module _ (es : List SchemaEntry) (ts : List IndexToken) (within : (field : ℕ) → field < length es → AreWithin (option_of es field) (token_terms es ts field)) where
   no_first_term : (P : IndexRecordOption → WrittenTerm → Type 0) → ((mode : IndexRecordOption) (t : WrittenTerm) → IsWithin mode t → P mode t → ⊥) → FirstTerm P es ts → ⊥
   no_first_term P none found =
-      none_of_fields (λ field. AreWithin (option_of es field) (field_terms es ts field)) (λ field. FirstOf (IsWithin (option_of es field)) (P (option_of es field)) (field_terms es ts field)) (length es)
-      (λ field inside here. none_of_terms (option_of es field) (P (option_of es field)) (none (option_of es field)) (field_terms es ts field) (within field inside).terms here) 0 (length es) (omega (arith)) found
+      none_of_fields (λ field. AreWithin (option_of es field) (token_terms es ts field)) (λ field. FirstOf (IsWithin (option_of es field)) (P (option_of es field)) (token_terms es ts field)) (length es)
+      (λ field inside here. none_of_terms (option_of es field) (P (option_of es field)) (none (option_of es field)) (token_terms es ts field) (within field inside).terms here) 0 (length es) (omega (arith)) found
 
   no_first_ends : FirstEnds es ts → ⊥
   no_first_ends found =
-      none_of_fields (λ field. AreWithin (option_of es field) (field_terms es ts field)) (λ field. PassEnds (option_of es field) (field_terms es ts field)) (length es) (λ field inside far. (within field inside).ends far) 0 (length es) (omega (arith)) found
+      none_of_fields (λ field. AreWithin (option_of es field) (token_terms es ts field)) (λ field. PassEnds (option_of es field) (token_terms es ts field)) (length es) (λ field inside far. (within field inside).ends far) 0 (length es) (omega (arith)) found
 
   module _ (room : ¬ HaveNoRoom es empty_file empty_file empty_file ts) where
     no_limit : (fault : Fault) → PassLimits es empty_file empty_file empty_file ts fault → ⊥

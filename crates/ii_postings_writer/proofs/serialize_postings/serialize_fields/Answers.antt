@@ -37,11 +37,11 @@ loop-place-preserved g c =
     let wrote = c.in_ok-serialize_if_any.ensures.wrote c.args.serializer.now.bodies fs (subst (λ es. HasFields es c.args.serializer.now.bodies c.loop-place.serializer.bodies fs) (sym w.2) w.0) in (
       next_part c.args.serializer.now.entries c.loop-place.serializer.entries c.args.writers.now c.args.norms.now c.args.terms.now.items c.loop-place.place c.from_field_id-field.result c.index.result.now c.args.serializer.now.bodies c.serialize_if_any.new.serializer.bodies
           w.2 c.from_field_id-field.ensures at wrote,
-      c.in_ok-serialize_if_any.ensures.closes ∙ w.1,
-      c.serialize_if_any.ensures.entries ∙ w.2,
+      c.in_ok-serialize_if_any.ensures.ends.open ∙ w.1,
+      c.serialize_if_any.ensures.ends.entries ∙ w.2,
       λ closed.
           (let before = w.3 closed in
-          let stays = c.in_ok-serialize_if_any.ensures.refused (w.1 ∙ closed) in
+          let stays = c.in_ok-serialize_if_any.ensures.ends.refused (w.1 ∙ closed) in
           (stays.same ∙ before.0, no_part c.args.serializer.now.entries c.args.writers.now c.args.norms.now c.args.terms.now.items c.loop-place.place c.index.result.now at stays.none before.1)),
     )
 
@@ -56,32 +56,37 @@ returns-in_err-serialize_if_any-clause-fault g c =
     rw (p.1, p.2) (field_fault c.args.serializer.now.entries c.loop-place.serializer.entries c.args.writers.now c.args.norms.now c.args.terms.now.items c.loop-place.place c.from_field_id-field.result c.index.result.now next
     c.args.serializer.now.bodies c.loop-place.serializer.bodies c.in_err-serialize_if_any.field-0.0 w.0 c.in_err-serialize_if_any.ensures.fault)
 
-pub returns-in_err-serialize_if_any-clause-closed : goal.returns-in_err-serialize_if_any-clause-closed
-returns-in_err-serialize_if_any-clause-closed g c is =
+pub returns-in_err-serialize_if_any-clause-ends : goal.returns-in_err-serialize_if_any-clause-ends
+returns-in_err-serialize_if_any-clause-ends g c =
     let p = err_from_is_err_and c.from_residual.result c.from_residual.ensures.1 in
     let w = c.loop-place.invariant in
     let low = c.loop-place-test.true in
     let inside : c.loop-place.place < length c.args.terms.now.items = omega (arith, low, c.len-place-end.ensures) in
     let at = c.index.ensures ∙ get_or_default c.args.terms.now.items c.loop-place.place c.index.result.now [] inside in
-    let next : IsNextField c.args.serializer.now.entries c.loop-place.serializer.entries c.args.terms.now.items c.loop-place.place c.from_field_id-field.result c.index.result.now = record { schema = w.2; number = c.from_field_id-field.ensures; at = at; some = c.in_err-serialize_if_any.ensures.some; low = inside } in (
-      sym w.1 ∙ c.in_err-serialize_if_any.ensures.closed (rw (← p.2) (sym p.1 ∙ is)),
-      all_some c.args.serializer.now.entries c.loop-place.serializer.entries c.args.writers.now c.args.norms.now c.args.terms.now.items c.loop-place.place c.from_field_id-field.result c.index.result.now next,
-    )
-
-pub returns-in_err-serialize_if_any-clause-refused : goal.returns-in_err-serialize_if_any-clause-refused
-returns-in_err-serialize_if_any-clause-refused g c closed =
-    let p = err_from_is_err_and c.from_residual.result c.from_residual.ensures.1 in
-    let w = c.loop-place.invariant in
-    let stays = c.in_err-serialize_if_any.ensures.refused (w.1 ∙ closed) in
-    record { same = stays.same ∙ (w.3 closed).0; none = rw p.1 tt; only = rw (p.1, p.2) stays.only }
-
-pub returns-clause-refused : goal.returns-clause-refused
-returns-clause-refused g c closed =
-    let before = c.loop-place.invariant.3 closed in
-    let all : c.loop-place.place ≡ length c.args.terms.now.items = search rules in
-    record { same = before.0; none = subst (λ (n : ℕ). first_parts c.args.serializer.now.entries c.args.writers.now c.args.norms.now c.args.terms.now.items n ≡ []) all before.1; only = tt }
-
-pub returns-in_err-serialize_if_any-clause-grow : goal.returns-in_err-serialize_if_any-clause-grow
-returns-in_err-serialize_if_any-clause-grow g c =
+    let next : IsNextField c.args.serializer.now.entries c.loop-place.serializer.entries c.args.terms.now.items c.loop-place.place c.from_field_id-field.result c.index.result.now = record { schema = w.2; number = c.from_field_id-field.ensures; at = at; some = c.in_err-serialize_if_any.ensures.some; low = inside } in
     let now = c.loop-place.serializer.bodies in
-    AllGrow-trans c.args.serializer.now.bodies now c.serialize_if_any.new.serializer.bodies (fields_grow c.args.serializer.now.entries c.args.serializer.now.bodies now _ c.loop-place.invariant.0) c.serialize_if_any.ensures.grow
+    let ends = c.in_err-serialize_if_any.ensures.ends in
+    record {
+      entries = ends.entries ∙ w.2;
+      open = rw p.1 tt;
+      failures = search rules;
+      grow = AllGrow-trans c.args.serializer.now.bodies now c.serialize_if_any.new.serializer.bodies (fields_grow c.args.serializer.now.entries c.args.serializer.now.bodies now _ w.0) ends.grow;
+      closed = λ is. (
+        sym w.1 ∙ (ends.closed (rw (← p.2) (sym p.1 ∙ is))).0,
+        all_some c.args.serializer.now.entries c.loop-place.serializer.entries c.args.writers.now c.args.norms.now c.args.terms.now.items c.loop-place.place c.from_field_id-field.result c.index.result.now next,
+      );
+      refused = λ closed. (let stays = ends.refused (w.1 ∙ closed) in record { same = stays.same ∙ (w.3 closed).0; none = rw p.1 tt; only = rw (p.1, p.2) stays.only });
+    }
+
+pub returns-clause-ends : goal.returns-clause-ends
+returns-clause-ends g c =
+    let w = c.loop-place.invariant in
+    let all : c.loop-place.place ≡ length c.args.terms.now.items = search rules in
+    record {
+      entries = w.2;
+      open = w.1;
+      failures = search rules;
+      grow = search rules;
+      closed = search rules;
+      refused = λ closed. record { same = (w.3 closed).0; none = subst (λ (n : ℕ). first_parts c.args.serializer.now.entries c.args.writers.now c.args.norms.now c.args.terms.now.items n ≡ []) all (w.3 closed).1; only = tt };
+    }

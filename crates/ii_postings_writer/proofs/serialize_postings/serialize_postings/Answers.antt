@@ -25,10 +25,10 @@ terms_by_field-requires g c =
     let new = c.sort.new.self in
     let unlike = c.unordered_id_to_ordered_id.ensures.distinct in
     let few = c.unordered_id_to_ordered_id.ensures.few in
-    let clean = c.requires.clean in
+    let clean = c.requires.terms.clean in
     let moved = c.sort.ensures.moved in
-    let sorted = sorted_by flags paths old new c.deref.result.now c.deref-2.result.now unlike clean (c.deref.ensures.value ∙ c.in_ok-flags.ensures.ok) (c.deref-2.ensures.value ∙ c.in_ok-ranks.ensures.ranks) c.requires.ids c.in_ok-sort.ensures.sorted in
-    record { known = subst (λ (n : ℕ). AllByRecursion (λ (t : List ℕ × RecorderState). field_in t.0 < n) new) (sym c.num_fields.ensures.value) (raw_fields flags paths unlike clean few old new moved sorted (length c.args.schema.now) c.args.fieldnorm_readers.now c.requires.terms) }
+    let sorted = sorted_by flags paths old new c.deref.result.now c.deref-2.result.now unlike clean (c.deref.ensures.value ∙ c.in_ok-flags.ensures.ok) (c.deref-2.ensures.value ∙ c.in_ok-ranks.ensures.ranks) c.requires.terms.ids c.in_ok-sort.ensures.sorted in
+    record { known = subst (λ (n : ℕ). AllByRecursion (λ (t : List ℕ × RecorderState). field_in t.0 < n) new) (sym c.num_fields.ensures.value) (raw_fields flags paths unlike clean few old new moved sorted (length c.args.schema.now) c.args.fieldnorm_readers.now c.requires.terms.may) }
 
 pub serialize_fields-requires-clause-known : goal.serialize_fields-requires-clause-known
 serialize_fields-requires-clause-known g c =
@@ -56,9 +56,9 @@ serialize_fields-requires-clause-ascending g c =
     let new = c.sort.new.self in
     let unlike = c.unordered_id_to_ordered_id.ensures.distinct in
     let few = c.unordered_id_to_ordered_id.ensures.few in
-    let clean = c.requires.clean in
+    let clean = c.requires.terms.clean in
     let moved = c.sort.ensures.moved in
-    let sorted = sorted_by flags paths old new c.deref.result.now c.deref-2.result.now unlike clean (c.deref.ensures.value ∙ c.in_ok-flags.ensures.ok) (c.deref-2.ensures.value ∙ c.in_ok-ranks.ensures.ranks) c.requires.ids c.in_ok-sort.ensures.sorted in
+    let sorted = sorted_by flags paths old new c.deref.result.now c.deref-2.result.now unlike clean (c.deref.ensures.value ∙ c.in_ok-flags.ensures.ok) (c.deref-2.ensures.value ∙ c.in_ok-ranks.ensures.ranks) c.requires.terms.ids c.in_ok-sort.ensures.sorted in
     let keyed = resolved_terms flags paths new in
     let many = c.num_fields.result in
     let are = c.in_ok-terms.ensures.ok ∙ ap (λ (fs : List Bool). map (λ (field : ℕ). terms_in field (resolved_terms fs paths new)) (range_with_len 0 many)) (c.deref-3.ensures.value ∙ c.in_ok-flags.ensures.ok) in
@@ -72,16 +72,16 @@ serialize_fields-requires-clause-writable g c field inside =
     let new = c.sort.new.self in
     let unlike = c.unordered_id_to_ordered_id.ensures.distinct in
     let few = c.unordered_id_to_ordered_id.ensures.few in
-    let clean = c.requires.clean in
+    let clean = c.requires.terms.clean in
     let moved = c.sort.ensures.moved in
-    let sorted = sorted_by flags paths old new c.deref.result.now c.deref-2.result.now unlike clean (c.deref.ensures.value ∙ c.in_ok-flags.ensures.ok) (c.deref-2.ensures.value ∙ c.in_ok-ranks.ensures.ranks) c.requires.ids c.in_ok-sort.ensures.sorted in
+    let sorted = sorted_by flags paths old new c.deref.result.now c.deref-2.result.now unlike clean (c.deref.ensures.value ∙ c.in_ok-flags.ensures.ok) (c.deref-2.ensures.value ∙ c.in_ok-ranks.ensures.ranks) c.requires.terms.ids c.in_ok-sort.ensures.sorted in
     let keyed = resolved_terms flags paths new in
     let many = c.num_fields.result in
     let are = c.in_ok-terms.ensures.ok ∙ ap (λ (fs : List Bool). map (λ (field : ℕ). terms_in field (resolved_terms fs paths new)) (range_with_len 0 many)) (c.deref-3.ensures.value ∙ c.in_ok-flags.ensures.ok) in
     let readers = c.args.fieldnorm_readers.now in
     let count : length c.in_ok-terms.terms.items ≡ many = ap length are ∙ length-map-range_with_len (λ (f : ℕ). terms_in f keyed) 0 many in
     subst (λ (lists : List (List SortedTerm)). AllByRecursion (IsWritable (norms_in readers field)) (slice_index_or lists field [])) (sym are)
-    (all_writable (length c.args.schema.now) many field readers keyed (may_be_under_keys flags paths unlike clean few old new moved sorted (length c.args.schema.now) readers c.requires.terms) (omega (arith, count, inside)))
+    (all_writable (length c.args.schema.now) many field readers keyed (may_be_under_keys flags paths unlike clean few old new moved sorted (length c.args.schema.now) readers c.requires.terms.may) (omega (arith, count, inside)))
 
 pub returns-clause-wrote : goal.returns-clause-wrote
 returns-clause-wrote g c =
@@ -91,9 +91,9 @@ returns-clause-wrote g c =
     let new = c.sort.new.self in
     let unlike = c.unordered_id_to_ordered_id.ensures.distinct in
     let few = c.unordered_id_to_ordered_id.ensures.few in
-    let clean = c.requires.clean in
+    let clean = c.requires.terms.clean in
     let moved = c.sort.ensures.moved in
-    let sorted = sorted_by flags paths old new c.deref.result.now c.deref-2.result.now unlike clean (c.deref.ensures.value ∙ c.in_ok-flags.ensures.ok) (c.deref-2.ensures.value ∙ c.in_ok-ranks.ensures.ranks) c.requires.ids c.in_ok-sort.ensures.sorted in
+    let sorted = sorted_by flags paths old new c.deref.result.now c.deref-2.result.now unlike clean (c.deref.ensures.value ∙ c.in_ok-flags.ensures.ok) (c.deref-2.ensures.value ∙ c.in_ok-ranks.ensures.ranks) c.requires.terms.ids c.in_ok-sort.ensures.sorted in
     let keyed = resolved_terms flags paths new in
     let many = c.num_fields.result in
     let are = c.in_ok-terms.ensures.ok ∙ ap (λ (fs : List Bool). map (λ (field : ℕ). terms_in field (resolved_terms fs paths new)) (range_with_len 0 many)) (c.deref-3.ensures.value ∙ c.in_ok-flags.ensures.ok) in
@@ -118,9 +118,9 @@ returns-clause-holds g c ts has =
     let new = c.sort.new.self in
     let unlike = c.unordered_id_to_ordered_id.ensures.distinct in
     let few = c.unordered_id_to_ordered_id.ensures.few in
-    let clean = c.requires.clean in
+    let clean = c.requires.terms.clean in
     let moved = c.sort.ensures.moved in
-    let sorted = sorted_by flags paths old new c.deref.result.now c.deref-2.result.now unlike clean (c.deref.ensures.value ∙ c.in_ok-flags.ensures.ok) (c.deref-2.ensures.value ∙ c.in_ok-ranks.ensures.ranks) c.requires.ids c.in_ok-sort.ensures.sorted in
+    let sorted = sorted_by flags paths old new c.deref.result.now c.deref-2.result.now unlike clean (c.deref.ensures.value ∙ c.in_ok-flags.ensures.ok) (c.deref-2.ensures.value ∙ c.in_ok-ranks.ensures.ranks) c.requires.terms.ids c.in_ok-sort.ensures.sorted in
     let keyed = resolved_terms flags paths new in
     let many = c.num_fields.result in
     let are = c.in_ok-terms.ensures.ok ∙ ap (λ (fs : List Bool). map (λ (field : ℕ). terms_in field (resolved_terms fs paths new)) (range_with_len 0 many)) (c.deref-3.ensures.value ∙ c.in_ok-flags.ensures.ok) in
@@ -135,7 +135,7 @@ returns-clause-holds g c ts has =
       whole = whole_keys flags paths unlike clean few old new moved sorted;
       are = are ∙ ap (λ (m : ℕ). map (λ (field : ℕ). terms_in field keyed) (range_with_len 0 m)) (c.num_fields.ensures.value ∙ ap length c.requires.schema);
     } in
-    let may = subst (λ (n : ℕ). AllByRecursion (λ (t : List ℕ × RecorderState). MayBeWritten n c.args.fieldnorm_readers.now t.0 t.1) keyed) (ap length c.requires.schema) (may_be_under_keys flags paths unlike clean few old new moved sorted (length c.args.schema.now) c.args.fieldnorm_readers.now c.requires.terms) in
+    let may = subst (λ (n : ℕ). AllByRecursion (λ (t : List ℕ × RecorderState). MayBeWritten n c.args.fieldnorm_readers.now t.0 t.1) keyed) (ap length c.requires.schema) (may_be_under_keys flags paths unlike clean few old new moved sorted (length c.args.schema.now) c.args.fieldnorm_readers.now c.requires.terms.may) in
     let written : IsWritten first.entries writers c.args.fieldnorm_readers.now keyed ts = record {
       few = omega (arith, c.num_fields.ensures.value, c.num_fields.ensures.bound, ap length c.requires.schema);
       whole = lists.whole;
@@ -154,9 +154,9 @@ returns-clause-tokens g c ts has =
     let new = c.sort.new.self in
     let unlike = c.unordered_id_to_ordered_id.ensures.distinct in
     let few = c.unordered_id_to_ordered_id.ensures.few in
-    let clean = c.requires.clean in
+    let clean = c.requires.terms.clean in
     let moved = c.sort.ensures.moved in
-    let sorted = sorted_by flags paths old new c.deref.result.now c.deref-2.result.now unlike clean (c.deref.ensures.value ∙ c.in_ok-flags.ensures.ok) (c.deref-2.ensures.value ∙ c.in_ok-ranks.ensures.ranks) c.requires.ids c.in_ok-sort.ensures.sorted in
+    let sorted = sorted_by flags paths old new c.deref.result.now c.deref-2.result.now unlike clean (c.deref.ensures.value ∙ c.in_ok-flags.ensures.ok) (c.deref-2.ensures.value ∙ c.in_ok-ranks.ensures.ranks) c.requires.terms.ids c.in_ok-sort.ensures.sorted in
     let keyed = resolved_terms flags paths new in
     let many = c.num_fields.result in
     let are = c.in_ok-terms.ensures.ok ∙ ap (λ (fs : List Bool). map (λ (field : ℕ). terms_in field (resolved_terms fs paths new)) (range_with_len 0 many)) (c.deref-3.ensures.value ∙ c.in_ok-flags.ensures.ok) in
@@ -181,9 +181,9 @@ returns-clause-fault g c =
     let new = c.sort.new.self in
     let unlike = c.unordered_id_to_ordered_id.ensures.distinct in
     let few = c.unordered_id_to_ordered_id.ensures.few in
-    let clean = c.requires.clean in
+    let clean = c.requires.terms.clean in
     let moved = c.sort.ensures.moved in
-    let sorted = sorted_by flags paths old new c.deref.result.now c.deref-2.result.now unlike clean (c.deref.ensures.value ∙ c.in_ok-flags.ensures.ok) (c.deref-2.ensures.value ∙ c.in_ok-ranks.ensures.ranks) c.requires.ids c.in_ok-sort.ensures.sorted in
+    let sorted = sorted_by flags paths old new c.deref.result.now c.deref-2.result.now unlike clean (c.deref.ensures.value ∙ c.in_ok-flags.ensures.ok) (c.deref-2.ensures.value ∙ c.in_ok-ranks.ensures.ranks) c.requires.terms.ids c.in_ok-sort.ensures.sorted in
     let keyed = resolved_terms flags paths new in
     let many = c.num_fields.result in
     let are = c.in_ok-terms.ensures.ok ∙ ap (λ (fs : List Bool). map (λ (field : ℕ). terms_in field (resolved_terms fs paths new)) (range_with_len 0 many)) (c.deref-3.ensures.value ∙ c.in_ok-flags.ensures.ok) in
@@ -200,17 +200,17 @@ returns-clause-fault g c =
     } in
     IfErr-weaker c.serialize_fields.result _ _ (λ e fault. context_fault first writers c.args.fieldnorm_readers.now terms keyed fields e lists fault) c.serialize_fields.ensures.fault
 
-pub returns-clause-closed : goal.returns-clause-closed
-returns-clause-closed g c is =
+pub returns-clause-ends : goal.returns-clause-ends
+returns-clause-ends g c =
     let flags = json_fields c.args.schema.now in
     let paths = c.args.ctx.path_to_unordered_id in
     let old = c.args.ctx.term_index in
     let new = c.sort.new.self in
     let unlike = c.unordered_id_to_ordered_id.ensures.distinct in
     let few = c.unordered_id_to_ordered_id.ensures.few in
-    let clean = c.requires.clean in
+    let clean = c.requires.terms.clean in
     let moved = c.sort.ensures.moved in
-    let sorted = sorted_by flags paths old new c.deref.result.now c.deref-2.result.now unlike clean (c.deref.ensures.value ∙ c.in_ok-flags.ensures.ok) (c.deref-2.ensures.value ∙ c.in_ok-ranks.ensures.ranks) c.requires.ids c.in_ok-sort.ensures.sorted in
+    let sorted = sorted_by flags paths old new c.deref.result.now c.deref-2.result.now unlike clean (c.deref.ensures.value ∙ c.in_ok-flags.ensures.ok) (c.deref-2.ensures.value ∙ c.in_ok-ranks.ensures.ranks) c.requires.terms.ids c.in_ok-sort.ensures.sorted in
     let keyed = resolved_terms flags paths new in
     let many = c.num_fields.result in
     let are = c.in_ok-terms.ensures.ok ∙ ap (λ (fs : List Bool). map (λ (field : ℕ). terms_in field (resolved_terms fs paths new)) (range_with_len 0 many)) (c.deref-3.ensures.value ∙ c.in_ok-flags.ensures.ok) in
@@ -225,38 +225,20 @@ returns-clause-closed g c is =
       whole = whole_keys flags paths unlike clean few old new moved sorted;
       are = are ∙ ap (λ (m : ℕ). map (λ (field : ℕ). terms_in field keyed) (range_with_len 0 m)) (c.num_fields.ensures.value ∙ ap length c.requires.schema);
     } in
-    let closed = c.serialize_fields.ensures.closed is in
-    (closed.0, omega (arith, some_terms first.entries writers c.args.fieldnorm_readers.now (length first.entries) terms keyed fields lists closed.1, length-map old (resolve flags paths)))
-
-pub returns-clause-refused : goal.returns-clause-refused
-returns-clause-refused g c closed =
-    let flags = json_fields c.args.schema.now in
-    let paths = c.args.ctx.path_to_unordered_id in
-    let old = c.args.ctx.term_index in
-    let new = c.sort.new.self in
-    let unlike = c.unordered_id_to_ordered_id.ensures.distinct in
-    let few = c.unordered_id_to_ordered_id.ensures.few in
-    let clean = c.requires.clean in
-    let moved = c.sort.ensures.moved in
-    let sorted = sorted_by flags paths old new c.deref.result.now c.deref-2.result.now unlike clean (c.deref.ensures.value ∙ c.in_ok-flags.ensures.ok) (c.deref-2.ensures.value ∙ c.in_ok-ranks.ensures.ranks) c.requires.ids c.in_ok-sort.ensures.sorted in
-    let keyed = resolved_terms flags paths new in
-    let many = c.num_fields.result in
-    let are = c.in_ok-terms.ensures.ok ∙ ap (λ (fs : List Bool). map (λ (field : ℕ). terms_in field (resolved_terms fs paths new)) (range_with_len 0 many)) (c.deref-3.ensures.value ∙ c.in_ok-flags.ensures.ok) in
-    let terms = resolved_terms flags paths old in
-    let first = c.args.serializer.now in
-    let last = c.serialize_fields.new.serializer in
-    let writers = c.args.per_field_postings_writers.now in
-    let fields = c.in_ok-terms.terms.items in
-    let lists : AreLists (length first.entries) terms keyed fields = record {
-      same = same_keys flags paths unlike clean few old new moved sorted;
-      ascending = sorted.ascending;
-      whole = whole_keys flags paths unlike clean few old new moved sorted;
-      are = are ∙ ap (λ (m : ℕ). map (λ (field : ℕ). terms_in field keyed) (range_with_len 0 m)) (c.num_fields.ensures.value ∙ ap length c.requires.schema);
-    } in
-    let may = subst (λ (n : ℕ). AllByRecursion (λ (t : List ℕ × RecorderState). MayBeWritten n c.args.fieldnorm_readers.now t.0 t.1) keyed) (ap length c.requires.schema) (may_be_under_keys flags paths unlike clean few old new moved sorted (length c.args.schema.now) c.args.fieldnorm_readers.now c.requires.terms) in
-    let stays = c.serialize_fields.ensures.refused closed in
+    let may = subst (λ (n : ℕ). AllByRecursion (λ (t : List ℕ × RecorderState). MayBeWritten n c.args.fieldnorm_readers.now t.0 t.1) keyed) (ap length c.requires.schema) (may_be_under_keys flags paths unlike clean few old new moved sorted (length c.args.schema.now) c.args.fieldnorm_readers.now c.requires.terms.may) in
+    let ends = c.serialize_fields.ensures.ends in
+    let none = no_terms first.entries writers c.args.fieldnorm_readers.now (length first.entries) terms keyed fields lists (fields_known (length first.entries) c.args.fieldnorm_readers.now keyed may) in
     record {
-      same = stays.same;
-      none = on_ok c.serialize_fields.result _ _ (λ none. no_resolved flags paths old (no_terms first.entries writers c.args.fieldnorm_readers.now (length first.entries) terms keyed fields lists (fields_known (length first.entries) c.args.fieldnorm_readers.now keyed may) none)) stays.none;
-      only = stays.only;
+      entries = ends.entries;
+      open = ends.open;
+      failures = ends.failures;
+      grow = ends.grow;
+      closed = λ is. (let closed = ends.closed is in (closed.0, omega (arith, some_terms first.entries writers c.args.fieldnorm_readers.now (length first.entries) terms keyed fields lists closed.1, length-map old (resolve flags paths))));
+      refused = λ closed.
+          (let stays = ends.refused closed in
+          record {
+            same = stays.same;
+            none = on_ok c.serialize_fields.result _ _ (λ empty. no_resolved flags paths old (none empty)) stays.none;
+            only = stays.only;
+          });
     }

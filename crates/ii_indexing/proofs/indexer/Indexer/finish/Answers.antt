@@ -1,30 +1,26 @@
-use Rattle.std.proofs.Common.{[], length, sym, subst}
+use Rattle.std.proofs.Common.{[], sym, subst}
 use Rattle.std.specs.Prelude.{IfErr, OnOk}
 use Rattle.ii_definitions.specs.Tokens.{tokens_after}
-use Rattle.ii_postings_writer.specs.ResolvedTerms.{AreClean, HaveHeldTokens, HoldIds, json_fields}
+use Rattle.ii_postings_writer.specs.ResolvedTerms.{HaveHeldTokens, MayWriteTerms}
 use Rattle.ii_indexing.specs.IndexFiles.{IsIndexFault, WroteIndex}
 use Rattle.ii_indexing.specs.IndexedTerms.{IndexedTermsState}
 use Rattle.ii_indexing.specs.Indexer.{IndexerState, StoresAll}
-use Rattle.ii_postings_writer.specs.SortedTerms.{AllMayBeWritten}
 use Rattle.ii_indexing.proofs.StoredLaws.{have_tokens, hold_ids, may_be_written}
 use Rattle.ii_indexing.proofs.indexer.Indexer.finish.Goals as goal
 
 pub write-requires-clause-terms : goal.write-requires-clause-terms
 write-requires-clause-terms g c =
     let running = c.self.invariant.1 c.if-failed.false in
-    subst (λ (t : IndexedTermsState). AllMayBeWritten (length c.self.inside.schema) c.in-Ok.finished.readers t.terms) (sym c.in-Ok.ensures.terms)
-    (may_be_written c.self.inside.schema c.self.inside.fields.indexed (tokens_after [] running.some.pieces) running.some.stored.pieces.tokens c.self.inside.num_docs c.self.inside.last_doc c.in-Ok.finished.readers running.ends.terms running.below c.in-Ok.ensures.many)
-
-pub write-requires-clause-ids : goal.write-requires-clause-ids
-write-requires-clause-ids g c =
-    let running = c.self.invariant.1 c.if-failed.false in
-    subst (λ (t : IndexedTermsState). HoldIds (json_fields c.self.inside.schema) t.paths t.terms) (sym c.in-Ok.ensures.terms)
-    (hold_ids c.self.inside.schema c.self.inside.fields.indexed (tokens_after [] running.some.pieces) running.some.stored.pieces.tokens)
-
-pub write-requires-clause-clean : goal.write-requires-clause-clean
-write-requires-clause-clean g c =
-    let running = c.self.invariant.1 c.if-failed.false in
-    subst (λ (t : IndexedTermsState). AreClean t.paths) (sym c.in-Ok.ensures.terms) running.some.stored.pieces.tokens.known_paths.clean
+    let schema = c.self.inside.schema in
+    let fields = c.self.inside.fields.indexed in
+    let ts = tokens_after [] running.some.pieces in
+    let tokens = running.some.stored.pieces.tokens in
+    subst (λ (t : IndexedTermsState). MayWriteTerms schema c.in-Ok.finished.readers t.paths t.terms) (sym c.in-Ok.ensures.terms)
+    (record {
+      may = may_be_written schema fields ts tokens c.self.inside.num_docs c.self.inside.last_doc c.in-Ok.finished.readers running.ends.terms running.below c.in-Ok.ensures.many;
+      ids = hold_ids schema fields ts tokens;
+      clean = tokens.known_paths.clean;
+    })
 
 pub returns-in-Ok-clause-wrote : goal.returns-in-Ok-clause-wrote
 returns-in-Ok-clause-wrote g c ps stored =
