@@ -94,7 +94,7 @@ pub record StaysClosed (nothing : Type 0) (old new : IndexSerializerState) (resu
 -- How a call ends that writes parts, if there are some, each as a whole: the entries stay, a refusal by a writer is counted once, and what was written is kept.
 pub record EndsParts {P : Type 0} (parts : List P) (old new : IndexSerializerState) (result : Result (Unit {0}) Fault) : Type 0 where
   pub entries : new.entries ≡ old.entries
-  pub open : OnOk result (new.closed ≡ old.closed)
+  pub closes : OnOk result (new.closed ≡ old.closed)
   pub failures : CountsFailures old.bodies new.bodies result
   pub grow : AllGrow old.bodies new.bodies
   pub closed : IsErrOf result SerializerClosed → IsTrue old.closed × (0 < length parts)

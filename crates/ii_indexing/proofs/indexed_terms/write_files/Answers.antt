@@ -20,7 +20,7 @@ pub returns-in-Ok-clause-fault : goal.returns-in-Ok-clause-fault
 returns-in-Ok-clause-fault g c ts has =
     table_fault c.args.serializer c.serialize_postings.new.serializer c.args.postings_writers.now c.args.fieldnorm_readers.now (resolved_terms (json_fields c.args.schema.now) c.args.ctx.path_to_unordered_id c.args.ctx.term_index) ts c.close.result.3
     (subst (λ (es : List SchemaEntry). length es < 2 ^ 32) c.requires.schema c.requires.few) (c.in-Ok.ensures.tokens ts has)
-    (c.in-Ok.ensures.ends.open ∙ c.requires.open) c.in-Ok.ensures.wrote (record { full = c.close.ensures.full; closed = c.close.ensures.closed; only = c.close.ensures.only })
+    (c.in-Ok.ensures.ends.closes ∙ c.requires.open) c.in-Ok.ensures.wrote (record { full = c.close.ensures.full; closed = c.close.ensures.closed; only = c.close.ensures.only })
 
 pub returns-in-Err-clause-fault : goal.returns-in-Err-clause-fault
 returns-in-Err-clause-fault g c ts has =

@@ -37,7 +37,7 @@ loop-place-preserved g c =
     let wrote = c.in_ok-serialize_if_any.ensures.wrote c.args.serializer.now.bodies fs (subst (λ es. HasFields es c.args.serializer.now.bodies c.loop-place.serializer.bodies fs) (sym w.2) w.0) in (
       next_part c.args.serializer.now.entries c.loop-place.serializer.entries c.args.writers.now c.args.norms.now c.args.terms.now.items c.loop-place.place c.from_field_id-field.result c.index.result.now c.args.serializer.now.bodies c.serialize_if_any.new.serializer.bodies
           w.2 c.from_field_id-field.ensures at wrote,
-      c.in_ok-serialize_if_any.ensures.ends.open ∙ w.1,
+      c.in_ok-serialize_if_any.ensures.ends.closes ∙ w.1,
       c.serialize_if_any.ensures.ends.entries ∙ w.2,
       λ closed.
           (let before = w.3 closed in
@@ -68,7 +68,7 @@ returns-in_err-serialize_if_any-clause-ends g c =
     let ends = c.in_err-serialize_if_any.ensures.ends in
     record {
       entries = ends.entries ∙ w.2;
-      open = rw p.1 tt;
+      closes = rw p.1 tt;
       failures = search rules;
       grow = AllGrow-trans c.args.serializer.now.bodies now c.serialize_if_any.new.serializer.bodies (fields_grow c.args.serializer.now.entries c.args.serializer.now.bodies now _ w.0) ends.grow;
       closed = λ is. (
@@ -84,7 +84,7 @@ returns-clause-ends g c =
     let all : c.loop-place.place ≡ length c.args.terms.now.items = search rules in
     record {
       entries = w.2;
-      open = w.1;
+      closes = w.1;
       failures = search rules;
       grow = search rules;
       closed = search rules;

@@ -230,7 +230,7 @@ returns-clause-ends g c =
     let none = no_terms first.entries writers c.args.fieldnorm_readers.now (length first.entries) terms keyed fields lists (fields_known (length first.entries) c.args.fieldnorm_readers.now keyed may) in
     record {
       entries = ends.entries;
-      open = ends.open;
+      closes = ends.closes;
       failures = ends.failures;
       grow = ends.grow;
       closed = λ is. (let closed = ends.closed is in (closed.0, omega (arith, some_terms first.entries writers c.args.fieldnorm_readers.now (length first.entries) terms keyed fields lists closed.1, length-map old (resolve flags paths))));
