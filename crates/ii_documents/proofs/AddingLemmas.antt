@@ -7,9 +7,8 @@ use Rattle.ii_base.specs.Schema.{SchemaEntry}
 use Rattle.ii_definitions.specs.Tokens.{Call}
 use Rattle.ii_indexing.specs.IndexCalls.{call_of}
 use Rattle.ii_indexing.specs.declared.index_call.IndexCall.{IndexCall}
-use Rattle.serde_json.specs.Data.{Data, Items, item, no_items}
 use Rattle.ii_documents.specs.declared.faults.LineFault.{LineFault}
-use Rattle.ii_documents.specs.JsonLines.{Adds, Refusal, TellsOfLine, items_calls, told_of_line, value_call}
+use Rattle.ii_documents.specs.JsonLines.{Adds, Refusal, TellsOfLine, told_of_line}
 use Rattle.ii_documents.specs.Steps.{◌>>=◌}
 
 -- calls before those that a step gives
@@ -67,14 +66,6 @@ module _ (es : List SchemaEntry) (doc : ℕ) where
   -- all steps were made
   pub ends : (old now : List IndexCall) (all : Result (List Call) Refusal) → IsAdding es doc old now all (Ok []) → (cs : List Call) × (all ≡ Ok cs) × Adds es doc old now cs
   ends old now all t = (t.done ++ [], t.whole, subst (λ cs. Adds es doc old now cs) (sym (append-nil t.done)) t.added)
-
--- the first value's call, and those of the others
-pub items_first : (doc field : ℕ) (e : SchemaEntry) (d : Data) (ds : Items) → items_calls doc field e (item d ds) ≡ both (items_calls doc field e (item d no_items)) (items_calls doc field e ds)
-items_first doc field e d ds = by (value_call doc field e d)
-  where
-    by : (r : Result Call Refusal) → (r >>= λ c. items_calls doc field e ds >>= λ cs. Ok (c ∷ cs)) ≡ both (r >>= λ c. Ok (c ∷ [])) (items_calls doc field e ds)
-    by (Ok c) = refl
-    by (Err why) = refl
 
 -- what stands at a place, and what is behind it
 pub drop_at : {A : Type 0} (xs : List A) (i : ℕ) (x : A) → slice_get xs i ≡ Some x → drop i xs ≡ x ∷ drop (i + 1) xs

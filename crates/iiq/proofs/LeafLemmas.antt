@@ -1,6 +1,6 @@
 -- A value of one leaf at a path, as one member of an object.
-use Rattle.std.proofs.Common.{◌≡◌, ◌∙◌, ◌<◌, ℕ, Bool, true, false, ◌||◌, ◌&&◌, not, ◌==◌, List, [], ◌∷◌, ◌++◌, map, Option, Some, None, refl, sym, ap, cond, subst, append_assoc, append-nil, String, Global, Vec}
-use Rattle.std.specs.Prelude.{if◌then◌else◌, is_none, string_bytes, unwrap_or}
+use Rattle.std.proofs.Common.{◌≡◌, ◌∙◌, ◌<◌, ℕ, Bool, true, false, ◌||◌, ◌&&◌, not, ◌==◌, List, [], ◌∷◌, ◌++◌, map, Option, Some, None, refl, sym, ap, cond, subst, append_assoc, String, Global, Vec}
+use Rattle.std.specs.Prelude.{is_none, string_bytes, unwrap_or}
 use Rattle.std.specs.Option.{option_map}
 use Rattle.std.specs.List.{list_any, onto_first, slice_split}
 use Rattle.std.proofs.lemmas.Bool.{eqb-true}
@@ -10,22 +10,19 @@ use Rattle.ii_base.specs.declared.json_value.JsonValue.TheOpen.{JsonValue-F}
 use Rattle.ii_base.specs.declared.json_value.JsonValue.TheVariants.{rolls-Object}
 use Rattle.ii_base.specs.declared.json_value.JsonValue.TheVariants as values
 use Rattle.ii_base.specs.declared.json_value.JsonValue.TheFolds.{fold-roll-JsonValue}
-use Rattle.ii_base.specs.Json.{Json, Leaf, json_leaves, json_of, json_step, leaf, leaves_below, member, members_from, no_members, object}
+use Rattle.ii_base.specs.Json.{Json, Leaf, json_leaves, json_of, json_step, leaf, member, members_from, no_members, object}
 use Rattle.ii_base.specs.Paths.{acts_as, has_zero, joined_segments, kept_bytes, marked, path_bytes, segment_bytes, segments_of}
 use Rattle.ii_base.specs.Terms.{TermState}
 use Rattle.ii_base.specs.Values.{json_key}
 use Rattle.ii_base.specs.declared.doc_id.TheConstants.{TERMINATED}
 use Rattle.ii_indexing.specs.declared.index_call.IndexCall.TheVariants as calls
+use Rattle.iiq.proofs.WordLemmas.{and_right}
 use Rattle.iiq.specs.Commands.{leaf_key, leaf_term, leaf_under}
 use Rattle.iiq.specs.Known.{IsCall, json_alone}
 
 -- a byte that is no zero, by what it is
 no_zero : (k c : ℕ) → (c == k) ≡ true → (k == 0) ≡ false → (c == 0) ≡ false
 no_zero k c e none = subst (λ (b : ℕ). (b == 0) ≡ false) (sym (eqb-true c k e)) none
-
-and_right : (a b : Bool) → (a && b) ≡ true → b ≡ true
-and_right true b p = p
-and_right false b p = absurd (cc)
 
 or_false : (a : Bool) → (a || false) ≡ a
 or_false true = refl
@@ -116,24 +113,3 @@ leaf_term_is path (Some l) field begun term zero some field_is begun_is term_is 
     let bytes : (path_bytes false (segments_of path) ++ 0 ∷ []) ++ leaf_key l ≡ json_key (joined_segments (segments_of path)) (leaf_key l) =
     append_assoc (path_bytes false (segments_of path)) (0 ∷ []) (leaf_key l) ∙ ap (λ (ss : List (List ℕ)). joined_segments ss ++ 0 ∷ leaf_key l) (plain_segments (segments_of path)) in
     rw (zero, term_is, begun_is, field_is) (ap (λ (key : List ℕ). Some (term_at 2 key)) bytes)
-
--- a value in an object in an object and so on, one for each segment
-abbrev pub value_under : List (List ℕ) → Json → Json
-value_under [] j = j
-value_under (s ∷ ss) j = one_member s (value_under ss j)
-
-under_by : (s : List ℕ) (ss : List (List ℕ)) (zero more : Bool) (front : List (List ℕ)) (l : Leaf) → has_zero s ≡ zero → list_any has_zero ss ≡ more
-    → leaves_below false (front ++ s ∷ []) (value_under ss (leaf l)) ≡ (if more then [] else (joined_segments ((front ++ s ∷ []) ++ ss), l) ∷ [])
-    → leaves_below false front (value_under (s ∷ ss) (leaf l)) ≡ (if zero || more then [] else (joined_segments (front ++ s ∷ ss), l) ∷ [])
-under_by s ss true more front l e same below = rw e refl
-under_by s ss false more front l e same below = rw (e, append-nil) (below ∙ ap (λ (path : List (List ℕ)). if more then [] else (joined_segments path, l) ∷ []) (append_assoc front (s ∷ []) ss))
-
-leaves_under : (segments front : List (List ℕ)) (l : Leaf) → leaves_below false front (value_under segments (leaf l)) ≡ (if list_any has_zero segments then [] else (joined_segments (front ++ segments), l) ∷ [])
-leaves_under [] front l = ap (λ (path : List (List ℕ)). (joined_segments path, l) ∷ []) (sym (append-nil front))
-leaves_under (s ∷ ss) front l = under_by s ss (has_zero s) (list_any has_zero ss) front l refl refl (leaves_under ss (front ++ s ∷ []) l)
-
--- a leaf at a path is that of the value which has an object for each segment of it
-pub leaves_of_nested : (path : List ℕ) (l : Leaf) → leaves_below false [] (value_under (segments_of path) (leaf l)) ≡ leaf_under path (Some l)
-leaves_of_nested path l =
-    leaves_under (segments_of path) [] l
-    ∙ ap (λ (zero : Bool). if zero then [] else (joined_segments (segments_of path), l) ∷ []) (split_zero false path)

@@ -73,7 +73,7 @@ and_left : (a b : Bool) → (a && b) ≡ true → a ≡ true
 and_left true b p = refl
 and_left false b p = absurd (cc)
 
-and_right : (a b : Bool) → (a && b) ≡ true → b ≡ true
+pub and_right : (a b : Bool) → (a && b) ≡ true → b ≡ true
 and_right true b p = p
 and_right false b p = absurd (cc)
 

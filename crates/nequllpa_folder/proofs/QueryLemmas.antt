@@ -1,5 +1,5 @@
 -- The terms that a query wants, and where each stands.
-use Rattle.std.proofs.Common.{◌≡◌, ◌∙◌, ◌<◌, ◌≤◌, ◌+◌, ℕ, zero, suc, Bool, Bor, true, false, ◌&&◌, List, [], ◌∷◌, ◌++◌, add-one, append-nil, append_assoc, arith, get_or, map, take, drop, length, nat_lt, Option, None, Some, Result, Ok, Err, inl, inr, refl, sym, ap}
+use Rattle.std.proofs.Common.{◌≡◌, ◌∙◌, ◌<◌, ◌≤◌, ◌+◌, ℕ, zero, suc, Bool, Bor, true, ◌&&◌, List, [], ◌∷◌, ◌++◌, add-one, append-nil, arith, get_or, map, take, drop, length, nat_lt, Option, Result, Ok, Err, inl, inr, refl, sym, ap}
 use Rattle.std.specs.List.{list_all}
 use Rattle.std.proofs.Math.Seq.{drop-cons}
 use Rattle.std.proofs.lemmas.Bool.{and_parts, ltb-true}
@@ -15,13 +15,13 @@ use Rattle.ii_base.specs.declared.schema.index_record_option.IndexRecordOption.T
 use Rattle.ii_docset.specs.Cursor.{IsAscending, IsSound}
 use Rattle.ii_reader.specs.InvertedIndexReader.{IsRefusal}
 use Rattle.ii_reader.specs.OpenIndex.{OpenIndexState, all_or_first}
-use Rattle.ii_reader.proofs.IndexLemmas.{in_front, one_more}
+use Rattle.ii_reader.proofs.IndexLemmas.{in_front, in_front_of_none, one_more}
 use Rattle.ii_search.specs.declared.query.PhraseTerm.{PhraseTerm}
 use Rattle.ii_search.specs.declared.query.Query.{Query, Empty, All, Term, Phrase, And', Or', AndNot'}
 use Rattle.ii_search.specs.Found.{docs_of_term, found_in}
 use Rattle.ii_search.specs.Queries.{has_fields}
 use Rattle.nequllpa_folder.specs.declared.finding.TermPlaces.{TermPlaces}
-use Rattle.nequllpa_folder.specs.Finding.{FoundState, first_docs, found_places, places_view, term_places, wanted_terms}
+use Rattle.nequllpa_folder.specs.Finding.{first_docs, found_places, places_view, term_places, wanted_terms}
 use Rattle.nequllpa_folder.proofs.FindingLemmas.{docs_ascend}
 use Rattle.nequllpa_folder.specs.Positions.{positions_in_doc}
 
@@ -86,12 +86,8 @@ pub record IsPlacingTerms (index : OpenIndexState) (docs : List ℕ) (terms : Li
   pub placed : all_or_first (map (term_places index docs) (lent terms)) ≡ in_front (map places_view places) (all_or_first (map (term_places index docs) (lent (drop i terms))))
   pub fields : list_all (λ (t : TermState). nat_lt t.field (length index.readers)) (lent (drop i terms)) ≡ true
 
-none_in_front : {A : Type 0} (found : Result (List A) Part) → found ≡ in_front [] found
-none_in_front (Ok xs) = refl
-none_in_front (Err part) = refl
-
 pub terms_first : (index : OpenIndexState) (docs : List ℕ) (terms : List (Bor TermState)) → list_all (λ (t : TermState). nat_lt t.field (length index.readers)) (lent terms) ≡ true → IsPlacingTerms index docs terms 0 []
-terms_first index docs terms fields = record { placed = none_in_front (all_or_first (map (term_places index docs) (lent terms))); fields = fields }
+terms_first index docs terms fields = record { placed = in_front_of_none (all_or_first (map (term_places index docs) (lent terms))); fields = fields }
 
 -- the term at a place
 at_place : (terms : List (Bor TermState)) (i : ℕ) (t d : Bor TermState) → i < length terms → t ≡ get_or terms i d → drop i terms ≡ t ∷ drop (i + 1) terms
