@@ -18,18 +18,30 @@ pub fn answer_check(rt: &HostRuntime, path: &str) -> anyhow::Result<ExitCode> {
         }
     };
     let changed = print_changed(rt, path, &left)?;
+    match schema_left(rt, path, &left)? {
+        Ok(schema) => check_lists(rt, path, &schema, left, changed),
+        Err(status) => Ok(ExitCode::from(status)),
+    }
+}
+
+// The schema that is left of an index, or the status where there is none.
+fn schema_left(
+    rt: &HostRuntime,
+    path: &str,
+    left: &LeftIndex,
+) -> anyhow::Result<Result<Schema, u8>> {
     if left.schema.fault.is_some() {
         println!(rt; "the lists were not looked at, since they can be read by the schema alone")?;
-        return Ok(ExitCode::from(NO));
+        return Ok(Err(NO));
     }
     match schema_of(rt.alloc(), left.schema.bytes.as_slice()) {
-        Ok(schema) => check_lists(rt, path, &schema, left, changed),
+        Ok(schema) => Ok(Ok(schema)),
         Err(fault) => {
             if fault.is_memory() {
-                return Ok(ExitCode::from(refuse_path(rt, path, fault)?));
+                return Ok(Err(refuse_path(rt, path, fault)?));
             }
             println!(rt; "{path}: {fault}")?;
-            Ok(ExitCode::from(NO))
+            Ok(Err(NO))
         }
     }
 }

@@ -28,20 +28,41 @@ pub fn answer_search(
         Ok(limit) => limit.unwrap_or(u32::MAX),
         Err(status) => return Ok(ExitCode::from(status)),
     };
-    let opened = match opened_at(rt, path)? {
-        Ok(opened) => opened,
-        Err(status) => return Ok(ExitCode::from(status)),
-    };
-    let query = match query_given(rt, &opened, given)? {
-        Ok(query) => query,
-        Err(status) => return Ok(ExitCode::from(status)),
-    };
+    match opened_at(rt, path)? {
+        Ok(opened) => search(rt, path, &opened, given, limit),
+        Err(status) => Ok(ExitCode::from(status)),
+    }
+}
+
+// Prints the documents of an open index that match a query, so many at most.
+fn search(
+    rt: &HostRuntime,
+    path: &str,
+    opened: &Opened,
+    given: &ArgMatches<'_>,
+    limit: u32,
+) -> anyhow::Result<ExitCode> {
+    match query_given(rt, opened, given)? {
+        Ok(query) => print_found(rt, path, opened, &query, given, limit),
+        Err(status) => Ok(ExitCode::from(status)),
+    }
+}
+
+// Prints what a query finds.
+fn print_found(
+    rt: &HostRuntime,
+    path: &str,
+    opened: &Opened,
+    query: &Query,
+    given: &ArgMatches<'_>,
+    limit: u32,
+) -> anyhow::Result<ExitCode> {
     if !query.has_fields(opened.schema()) {
         return Ok(ExitCode::from(REFUSED));
     }
     let mut out = BufWriter::new(rt.alloc(), io::writer(rt))?;
     let found = if given.get_flag("count") {
-        write_count(rt.alloc(), &mut out, &opened, &query)
+        write_count(rt.alloc(), &mut out, opened, query)
     } else {
         let how = Listing {
             limit,
@@ -49,7 +70,7 @@ pub fn answer_search(
             with_positions: given.get_flag("positions"),
             by_id: given.get_flag("ids"),
         };
-        write_listing(rt.alloc(), &mut out, &opened, &query, how)
+        write_listing(rt.alloc(), &mut out, opened, query, how)
     };
     out.flush()?;
     ended(rt, path, found)
@@ -113,16 +134,26 @@ pub fn answer_terms(
         prefix: given.get_str("prefix").unwrap_or(""),
         top: top.map(|top| top as usize),
     };
-    let opened = match opened_at(rt, path)? {
-        Ok(opened) => opened,
-        Err(status) => return Ok(ExitCode::from(status)),
-    };
-    let field = match field_given(rt, &opened, given)? {
+    match opened_at(rt, path)? {
+        Ok(opened) => print_terms(rt, path, &opened, given, choice),
+        Err(status) => Ok(ExitCode::from(status)),
+    }
+}
+
+// Prints the terms of a field of an open index.
+fn print_terms(
+    rt: &HostRuntime,
+    path: &str,
+    opened: &Opened,
+    given: &ArgMatches<'_>,
+    choice: TermChoice<'_>,
+) -> anyhow::Result<ExitCode> {
+    let field = match field_given(rt, opened, given)? {
         Ok(field) => field,
         Err(status) => return Ok(ExitCode::from(status)),
     };
     let mut out = BufWriter::new(rt.alloc(), io::writer(rt))?;
-    let written = write_terms(rt.alloc(), &mut out, &opened, field, choice);
+    let written = write_terms(rt.alloc(), &mut out, opened, field, choice);
     out.flush()?;
     ended(rt, path, written.map(|()| true))
 }
@@ -133,37 +164,62 @@ pub fn answer_postings(
     path: &str,
     given: &ArgMatches<'_>,
 ) -> anyhow::Result<ExitCode> {
-    let opened = match opened_at(rt, path)? {
-        Ok(opened) => opened,
-        Err(status) => return Ok(ExitCode::from(status)),
-    };
-    let field = match field_given(rt, &opened, given)? {
+    match opened_at(rt, path)? {
+        Ok(opened) => print_postings(rt, path, &opened, given),
+        Err(status) => Ok(ExitCode::from(status)),
+    }
+}
+
+// Prints the documents of a term of an open index.
+fn print_postings(
+    rt: &HostRuntime,
+    path: &str,
+    opened: &Opened,
+    given: &ArgMatches<'_>,
+) -> anyhow::Result<ExitCode> {
+    let field = match field_given(rt, opened, given)? {
         Ok(field) => field,
         Err(status) => return Ok(ExitCode::from(status)),
     };
     let Some(text) = given.get_str("TERM") else {
         return Ok(ExitCode::from(REFUSED));
     };
-    let term = match term_given(rt, &opened, field, text)? {
-        Ok(term) => term,
-        Err(status) => return Ok(ExitCode::from(status)),
-    };
+    match term_given(rt, opened, field, text)? {
+        Ok(term) => print_list(rt, path, opened, field, &term, given.get_flag("positions")),
+        Err(status) => Ok(ExitCode::from(status)),
+    }
+}
+
+// Prints the list of a term of a field.
+fn print_list(
+    rt: &HostRuntime,
+    path: &str,
+    opened: &Opened,
+    field: Field,
+    term: &Term,
+    positions: bool,
+) -> anyhow::Result<ExitCode>
+    requires { field < length opened.now.schema }
+{
     let reader = opened.reader(field);
-    let positions = given.get_flag("positions");
     let mut out = BufWriter::new(rt.alloc(), io::writer(rt))?;
-    let written = write_postings(rt.alloc(), &mut out, reader, &term, positions);
+    let written = write_postings(rt.alloc(), &mut out, reader, term, positions);
     out.flush()?;
     ended(rt, path, written)
 }
 
 /// Tells of the fields.
 pub fn answer_fields(rt: &HostRuntime, path: &str) -> anyhow::Result<ExitCode> {
-    let opened = match opened_at(rt, path)? {
-        Ok(opened) => opened,
-        Err(status) => return Ok(ExitCode::from(status)),
-    };
+    match opened_at(rt, path)? {
+        Ok(opened) => print_fields(rt, path, &opened),
+        Err(status) => Ok(ExitCode::from(status)),
+    }
+}
+
+// Tells of the fields of an open index.
+fn print_fields(rt: &HostRuntime, path: &str, opened: &Opened) -> anyhow::Result<ExitCode> {
     let mut out = BufWriter::new(rt.alloc(), io::writer(rt))?;
-    let written = write_fields(rt.alloc(), &mut out, &opened);
+    let written = write_fields(rt.alloc(), &mut out, opened);
     out.flush()?;
     ended(rt, path, written.map(|()| true))
 }
@@ -175,12 +231,16 @@ pub fn answer_stats(rt: &HostRuntime, path: &str) -> anyhow::Result<ExitCode> {
         Err(status) => return Ok(ExitCode::from(status)),
     };
     print_files(rt, &stored)?;
-    let opened = match opened_of(rt, path, stored)? {
-        Ok(opened) => opened,
-        Err(status) => return Ok(ExitCode::from(status)),
-    };
+    match opened_of(rt, path, stored)? {
+        Ok(opened) => print_stats(rt, path, &opened),
+        Err(status) => Ok(ExitCode::from(status)),
+    }
+}
+
+// Tells what the lists of an open index take.
+fn print_stats(rt: &HostRuntime, path: &str, opened: &Opened) -> anyhow::Result<ExitCode> {
     let mut out = BufWriter::new(rt.alloc(), io::writer(rt))?;
-    let written = write_stats(&mut out, &opened);
+    let written = write_stats(&mut out, opened);
     out.flush()?;
     ended(rt, path, written.map(|()| true))
 }

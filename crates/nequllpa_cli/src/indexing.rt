@@ -46,21 +46,27 @@ pub fn answer_index(
         Ok(schema) => schema,
         Err(status) => return Ok(ExitCode::from(status)),
     };
-    let mut intake = Intake {
+    let mut intake = begun(rt, given, schema)?;
+    if let Err(status) = take_inputs(rt, given, &mut intake)? {
+        return Ok(ExitCode::from(status));
+    }
+    save_index(rt, path, intake, text)
+}
+
+// Nothing is read yet; it is told how much memory it takes.
+fn begun(rt: &HostRuntime, given: &ArgMatches<'_>, schema: Schema) -> anyhow::Result<Intake> {
+    let begun = Instant::now(rt)?;
+    eprintln!(rt;
+        "nequllpa: this takes up to about {MEMORY_MULTIPLE} bytes of memory for each byte of input"
+    )?;
+    Ok(Intake {
         documents: Documents::new(rt.alloc(), schema),
         skips_bad: given.get_flag("skip-bad"),
         bad_lines: 0,
         bytes: 0,
         told: 0,
-        begun: Instant::now(rt)?,
-    };
-    eprintln!(rt;
-        "nequllpa: this takes up to about {MEMORY_MULTIPLE} bytes of memory for each byte of input"
-    )?;
-    if let Err(status) = take_inputs(rt, given, &mut intake)? {
-        return Ok(ExitCode::from(status));
-    }
-    save_index(rt, path, intake, text)
+        begun,
+    })
 }
 
 // The schema of a text.
@@ -212,25 +218,36 @@ fn save_index(
         Ok(stored) => stored,
         Err(fault) => return Ok(ExitCode::from(refuse(rt, fault)?)),
     };
-    if let Err(e) = fs::create_dir_all(rt, path) {
-        return Ok(ExitCode::from(refuse_path(rt, path, e.kind())?));
-    }
-    if let Err(fault) = put(rt, path, &stored) {
-        let status = refuse_path(rt, path, fault)?;
-        eprintln!(rt;
-            "nequllpa: the folder has a whole index still, if it had one; make room, or let it be written, and index again"
-        )?;
+    if let Err(status) = save_at(rt, path, &stored)? {
         return Ok(ExitCode::from(status));
     }
-    if bad_lines > 0 {
-        println!(rt;
-            "{} documents indexed, {bad_lines} lines left out",
-            stored.num_docs
-        )?;
-    } else {
-        println!(rt; "{} documents indexed", stored.num_docs)?;
-    }
+    tell_indexed(rt, stored.num_docs, bad_lines)?;
     Ok(ExitCode::SUCCESS)
+}
+
+// Saves an index in a folder, which is made if it isn't there, or gives the status.
+fn save_at(rt: &HostRuntime, path: &str, stored: &StoredIndex) -> anyhow::Result<Result<(), u8>> {
+    if let Err(e) = fs::create_dir_all(rt, path) {
+        return Ok(Err(refuse_path(rt, path, e.kind())?));
+    }
+    let Err(fault) = put(rt, path, stored) else {
+        return Ok(Ok(()));
+    };
+    let status = refuse_path(rt, path, fault)?;
+    eprintln!(rt;
+        "nequllpa: the folder has a whole index still, if it had one; make room, or let it be written, and index again"
+    )?;
+    Ok(Err(status))
+}
+
+// Tells how many documents were indexed, and how many lines were left out.
+fn tell_indexed(rt: &HostRuntime, num_docs: u32, bad_lines: u64) -> anyhow::Result<()> {
+    if bad_lines > 0 {
+        println!(rt; "{num_docs} documents indexed, {bad_lines} lines left out")?;
+    } else {
+        println!(rt; "{num_docs} documents indexed")?;
+    }
+    Ok(())
 }
 
 // Saves an index, and removes the files of the one before.

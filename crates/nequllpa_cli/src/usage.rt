@@ -32,89 +32,121 @@ pub fn command<'a>(alloc: Global) -> Result<Command<'a>, AllocError> {
 }
 
 fn index_command<'a>(alloc: Global) -> Result<Command<'a>, AllocError> {
-    let schema = Arg::new(alloc, "schema")
-        .long("schema")
-        .value_name("FILE")
-        .required(true)
-        .action(ArgAction::Set)
-        .help("The schema, in TOML: a table [[field]] with name and type for each field");
-    let skip_bad = Arg::new(alloc, "skip-bad")
-        .long("skip-bad")
-        .action(ArgAction::SetTrue)
-        .help("Leaves lines out that are no documents, tells of each, and counts them");
-    let files = Arg::new(alloc, "FILE")
-        .action(ArgAction::Append)
-        .num_args(0..)
-        .help("Files of JSON lines, an object on each line; standard input where there is none");
     of_folder(
         alloc,
         "index",
         "Indexes JSON lines: the folder then has the index of these, in place of the one that it had. Takes 3 to 5 bytes of memory for each byte of input",
     )?
-    .arg(files)?
-    .arg(schema)?
-    .arg(skip_bad)
+    .arg(files_argument(alloc))?
+    .arg(schema_option(alloc))?
+    .arg(flag(
+        alloc,
+        "skip-bad",
+        "Leaves lines out that are no documents, tells of each, and counts them",
+    ))
+}
+
+fn files_argument<'a>(alloc: Global) -> Arg<'a> {
+    Arg::new(alloc, "FILE")
+        .action(ArgAction::Append)
+        .num_args(0..)
+        .help("Files of JSON lines, an object on each line; standard input where there is none")
+}
+
+fn schema_option<'a>(alloc: Global) -> Arg<'a> {
+    Arg::new(alloc, "schema")
+        .long("schema")
+        .value_name("FILE")
+        .required(true)
+        .action(ArgAction::Set)
+        .help("The schema, in TOML: a table [[field]] with name and type for each field")
 }
 
 fn search_command<'a>(alloc: Global) -> Result<Command<'a>, AllocError> {
-    let query = Arg::new(alloc, "QUERY")
-        .required(true)
-        .action(ArgAction::Set)
-        .help(
-            "Words, also behind the name of a field and a colon, with AND, OR, - and parentheses: sea AND -title:\"new\"",
-        );
-    let field = Arg::new(alloc, "field")
-        .long("field")
-        .value_name("FIELD")
-        .action(ArgAction::Append)
-        .help(
-            "A field for words that name none, given once or more; all fields of texts if it is not given",
-        );
-    let limit = Arg::new(alloc, "limit")
-        .long("limit")
-        .value_name("N")
-        .action(ArgAction::Set)
-        .help("Prints so many documents at most");
-    let count = Arg::new(alloc, "count")
-        .long("count")
-        .action(ArgAction::SetTrue)
-        .help("Prints how many documents there are, alone");
     of_folder(
         alloc,
         "search",
         "Prints the documents that match a query, numbered from 0 in the order of their lines; status 1 where there are none",
     )?
-    .arg(query)?
-    .arg(field)?
-    .arg(limit)?
-    .arg(count)?
-    .arg(positions_flag(alloc))?
-    .arg(ids_flag(alloc))?
-    .arg(json_flag(alloc))
-}
-
-fn positions_flag<'a>(alloc: Global) -> Arg<'a> {
-    flag(
+    .arg(required(
+        alloc,
+        "QUERY",
+        "Words, also behind the name of a field and a colon, with AND, OR, - and parentheses: sea AND -title:\"new\"",
+    ))?
+    .arg(fields_option(alloc))?
+    .arg(valued(alloc, "limit", "N", "Prints so many documents at most"))?
+    .arg(flag(alloc, "count", "Prints how many documents there are, alone"))?
+    .arg(flag(
         alloc,
         "positions",
         "Prints behind each document the terms of the query that stand in it, each with its positions: parted by tabs, as FIELD:TERM P P",
-    )
-}
-
-fn ids_flag<'a>(alloc: Global) -> Arg<'a> {
-    flag(
+    ))?
+    .arg(flag(
         alloc,
         "ids",
         "Prints the value of the field id, where the schema has one, in place of the number of a document",
-    )
-}
-
-fn json_flag<'a>(alloc: Global) -> Arg<'a> {
-    flag(
+    ))?
+    .arg(flag(
         alloc,
         "json",
         "Prints an object of JSON for each document: doc, its number; with --ids id; with --positions terms, each with field, term and positions",
-    )
+    ))
+}
+
+fn fields_option<'a>(alloc: Global) -> Arg<'a> {
+    Arg::new(alloc, "field")
+        .long("field")
+        .value_name("FIELD")
+        .action(ArgAction::Append)
+        .help(
+            "A field for words that name none, given once or more; all fields of texts if it is not given",
+        )
+}
+
+fn terms_command<'a>(alloc: Global) -> Result<Command<'a>, AllocError> {
+    of_folder(
+        alloc,
+        "terms",
+        "Prints the terms of a field in order, each behind the number of its documents",
+    )?
+    .arg(field_argument(alloc))?
+    .arg(valued(alloc, "prefix", "P", "Prints terms alone that begin so"))?
+    .arg(valued(
+        alloc,
+        "top",
+        "N",
+        "Prints the N terms that are in the most documents, these first",
+    ))
+}
+
+fn postings_command<'a>(alloc: Global) -> Result<Command<'a>, AllocError> {
+    of_folder(
+        alloc,
+        "postings",
+        "Prints the documents of a term, each with how often the term occurs if the field records that; status 1 where there is no such term",
+    )?
+    .arg(field_argument(alloc))?
+    .arg(required(alloc, "TERM", "The term, as the command terms prints it").allow_negative_numbers(
+        true,
+    ))?
+    .arg(flag(
+        alloc,
+        "positions",
+        "Prints where it occurs too, if the field records that",
+    ))
+}
+
+// The name of a field.
+fn field_argument<'a>(alloc: Global) -> Arg<'a> {
+    required(alloc, "FIELD", "The name of a field")
+}
+
+// A word that has to be given.
+fn required<'a>(alloc: Global, name: &'a str, help: &'a str) -> Arg<'a> {
+    Arg::new(alloc, name)
+        .required(true)
+        .action(ArgAction::Set)
+        .help(help)
 }
 
 // A word that is given or not.
@@ -125,60 +157,18 @@ fn flag<'a>(alloc: Global, name: &'a str, help: &'a str) -> Arg<'a> {
         .help(help)
 }
 
-fn terms_command<'a>(alloc: Global) -> Result<Command<'a>, AllocError> {
-    let prefix = Arg::new(alloc, "prefix")
-        .long("prefix")
-        .value_name("P")
+// An option with a value.
+fn valued<'a>(alloc: Global, name: &'a str, value: &'a str, help: &'a str) -> Arg<'a> {
+    Arg::new(alloc, name)
+        .long(name)
+        .value_name(value)
         .action(ArgAction::Set)
-        .help("Prints terms alone that begin so");
-    let top = Arg::new(alloc, "top")
-        .long("top")
-        .value_name("N")
-        .action(ArgAction::Set)
-        .help("Prints the N terms that are in the most documents, these first");
-    of_folder(
-        alloc,
-        "terms",
-        "Prints the terms of a field in order, each behind the number of its documents",
-    )?
-    .arg(field_argument(alloc))?
-    .arg(prefix)?
-    .arg(top)
-}
-
-fn postings_command<'a>(alloc: Global) -> Result<Command<'a>, AllocError> {
-    let term = Arg::new(alloc, "TERM")
-        .required(true)
-        .action(ArgAction::Set)
-        .allow_negative_numbers(true)
-        .help("The term, as the command terms prints it");
-    let positions = Arg::new(alloc, "positions")
-        .long("positions")
-        .action(ArgAction::SetTrue)
-        .help("Prints where it occurs too, if the field records that");
-    of_folder(
-        alloc,
-        "postings",
-        "Prints the documents of a term, each with how often the term occurs if the field records that; status 1 where there is no such term",
-    )?
-    .arg(field_argument(alloc))?
-    .arg(term)?
-    .arg(positions)
-}
-
-// The name of a field.
-fn field_argument<'a>(alloc: Global) -> Arg<'a> {
-    Arg::new(alloc, "FIELD")
-        .required(true)
-        .action(ArgAction::Set)
-        .help("The name of a field")
+        .help(help)
 }
 
 // A command that is given a folder.
 fn of_folder<'a>(alloc: Global, name: &'a str, about: &'a str) -> Result<Command<'a>, AllocError> {
-    let folder = Arg::new(alloc, "DIR")
-        .required(true)
-        .action(ArgAction::Set)
-        .help("The folder of the index");
-    Command::new(alloc, name).about(about).arg(folder)
+    Command::new(alloc, name)
+        .about(about)
+        .arg(required(alloc, "DIR", "The folder of the index"))
 }
