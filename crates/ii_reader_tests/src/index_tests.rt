@@ -110,7 +110,12 @@ fn norms_refused(alloc: Global, terms: &'static [u8], fieldnorms: &'static [u8])
 // How many norms a field of the number 5 has in a file of norms, if it has any.
 fn num_norms(alloc: Global, fieldnorms: &'static [u8], field: u32) -> Result<Option<u32>, Fault> {
     let index = opened_with_norms(alloc, &TERMS, &POSTINGS, &POSITIONS, fieldnorms)?;
-    match index.get_fieldnorms_reader(Field::from_field_id(field))? {
+    num_norms_in(&index, Field::from_field_id(field))
+}
+
+// How many norms a field has in an index, if it has any.
+fn num_norms_in(index: &OpenIndex, field: Field) -> Result<Option<u32>, Fault> {
+    match index.get_fieldnorms_reader(field)? {
         Some(norms) => Ok(Some(norms.num_docs())),
         None => Ok(None),
     }
@@ -152,10 +157,16 @@ fn has_blocks(
 // Whether a number has neither.
 fn is_not_read(alloc: Global, reader: &InvertedIndexReader, number: u64) -> Result<bool, Fault> {
     let term = term_of(alloc, number)?;
-    if has_cursor(reader, &term, BASIC)? || has_cursor(reader, &term, FULL)? {
-        return Ok(false);
-    }
-    Ok(!has_blocks(reader, &term, BASIC)? && !has_blocks(reader, &term, FULL)?)
+    Ok(!is_read(reader, &term, BASIC)? && !is_read(reader, &term, FULL)?)
+}
+
+// Whether a term has either.
+fn is_read(
+    reader: &InvertedIndexReader,
+    term: &Term,
+    option: IndexRecordOption,
+) -> Result<bool, Fault> {
+    Ok(has_cursor(reader, term, option)? || has_blocks(reader, term, option)?)
 }
 
 // How many tokens and how many terms a reader has.
@@ -166,7 +177,15 @@ fn sizes(reader: &InvertedIndexReader) -> (u64, usize) {
 // What is kept of a number in the index of the number 5, with the sizes of its reader.
 fn kept_of(alloc: Global, number: u64) -> Result<((u64, usize), u32, Option<TermInfo>), Fault> {
     let index = opened(alloc, &TERMS, &POSTINGS, &POSITIONS)?;
-    let reader = index.reader(Field::from_field_id(0));
+    kept_with_sizes(alloc, index.reader(Field::from_field_id(0)), number)
+}
+
+// The same in a reader.
+fn kept_with_sizes(
+    alloc: Global,
+    reader: &InvertedIndexReader,
+    number: u64,
+) -> Result<((u64, usize), u32, Option<TermInfo>), Fault> {
     let (doc_freq, info) = kept(alloc, reader, number)?;
     Ok((sizes(reader), doc_freq, info))
 }
@@ -184,10 +203,8 @@ fn a_number_is_looked_up(rt: HostRuntime) -> Result<(), Fail> {
         postings_range: 0..1,
         positions_range: 0..0,
     };
-    let (sizes, doc_freq, found) = kept_of(rt.alloc(), 5)?;
-    assert!(rt; sizes == (1, 1));
-    assert!(rt; doc_freq == 1);
-    assert!(rt; found == Some(info));
+    let found = kept_of(rt.alloc(), 5)?;
+    assert!(rt; found == ((1, 1), 1, Some(info)));
     Ok(())
 }
 
@@ -232,19 +249,33 @@ fn block_is(
 // The first two documents of the number 5, and whether its block is document 0.
 fn read_as(alloc: Global, option: IndexRecordOption) -> Result<(DocId, DocId, bool), Fault> {
     let index = opened(alloc, &TERMS, &POSTINGS, &POSITIONS)?;
-    let reader = index.reader(Field::from_field_id(0));
+    five_read_as(alloc, index.reader(Field::from_field_id(0)), option)
+}
+
+// The same in a reader.
+fn five_read_as(
+    alloc: Global,
+    reader: &InvertedIndexReader,
+    option: IndexRecordOption,
+) -> Result<(DocId, DocId, bool), Fault> {
     let five = term_of(alloc, 5)?;
-    let (first, second) = walked(reader, &five, option)?;
-    Ok((first, second, block_is(reader, &five, option, &[0])?))
+    term_read_as(reader, &five, option)
+}
+
+// The same of a term.
+fn term_read_as(
+    reader: &InvertedIndexReader,
+    term: &Term,
+    option: IndexRecordOption,
+) -> Result<(DocId, DocId, bool), Fault> {
+    let (first, second) = walked(reader, term, option)?;
+    Ok((first, second, block_is(reader, term, option, &[0])?))
 }
 
 #[test]
 fn its_postings_are_read(rt: HostRuntime) -> Result<(), Fail> {
     for option in [BASIC, IndexRecordOption::WithFreqs, FULL] {
-        let (first, second, is_block) = read_as(rt.alloc(), option)?;
-        assert!(rt; first == 0);
-        assert!(rt; second == TERMINATED);
-        assert!(rt; is_block);
+        assert!(rt; read_as(rt.alloc(), option)? == (0, TERMINATED, true));
     }
     Ok(())
 }
@@ -255,13 +286,28 @@ fn checked(
     postings: &'static [u8],
 ) -> Result<(Option<(Field, DamagedTerm)>, DocId, DocId), Fault> {
     let mut index = opened(alloc, &TERMS, postings, &POSITIONS)?;
+    checked_in(alloc, &mut index)
+}
+
+// The same in an index.
+fn checked_in(
+    alloc: Global,
+    index: &mut OpenIndex,
+) -> Result<(Option<(Field, DamagedTerm)>, DocId, DocId), Fault>
+    requires { 0 < length index.old.readers }
+{
     let damage = index.check()?;
     if damage.is_some() {
         return Ok((damage, TERMINATED, TERMINATED));
     }
-    let five = term_of(alloc, 5)?;
-    let (first, second) = walked(index.reader(Field::from_field_id(0)), &five, FULL)?;
+    let (first, second) = five_walked(alloc, index.reader(Field::from_field_id(0)))?;
     Ok((damage, first, second))
+}
+
+// The first two documents of the number 5 in a reader.
+fn five_walked(alloc: Global, reader: &InvertedIndexReader) -> Result<(DocId, DocId), Fault> {
+    let five = term_of(alloc, 5)?;
+    walked(reader, &five, FULL)
 }
 
 // The same file with a document that doesn't end, behind the number of tokens.
@@ -284,11 +330,8 @@ fn indexes_are_checked_once(rt: HostRuntime) -> Result<(), Fail> {
 
 // Whether a reader has no terms and no tokens.
 fn has_nothing(alloc: Global, reader: &InvertedIndexReader) -> Result<bool, Fault> {
-    if sizes(reader) != (0, 0) {
-        return Ok(false);
-    }
-    let (doc_freq, info) = kept(alloc, reader, 5)?;
-    if doc_freq != 0 || info.is_some() {
+    let (sizes, doc_freq, info) = kept_with_sizes(alloc, reader, 5)?;
+    if sizes != (0, 0) || doc_freq != 0 || info.is_some() {
         return Ok(false);
     }
     is_not_read(alloc, reader, 5)
@@ -305,47 +348,73 @@ fn index_has_nothing(
     has_nothing(alloc, index.reader(Field::from_field_id(0)))
 }
 
+// Whether a reader of no terms has nothing.
+fn empty_has_nothing(alloc: Global) -> Result<bool, Fault> {
+    let reader = InvertedIndexReader::empty(FULL);
+    has_nothing(alloc, &reader)
+}
+
 #[test]
 fn readers_of_no_terms_have_nothing(rt: HostRuntime) -> Result<(), Fail> {
-    assert!(rt; has_nothing(rt.alloc(), &InvertedIndexReader::empty(FULL))?);
-    assert!(rt; index_has_nothing(rt.alloc(), &NONE, &NONE, &NONE)?);
+    let have = [
+        empty_has_nothing(rt.alloc()),
+        index_has_nothing(rt.alloc(), &NONE, &NONE, &NONE),
+    ];
+    assert!(rt; have == [Ok(true); 2]);
     Ok(())
 }
 
 #[test]
 fn bodies_that_are_missing_are_told(rt: HostRuntime) -> Result<(), Fail> {
-    let composite = Some(Fault::Damaged(Part::Composite));
-    assert!(rt; refused(rt.alloc(), &TERMS, &NONE, &POSITIONS) == composite);
-    assert!(rt; refused(rt.alloc(), &TERMS, &POSTINGS, &NONE) == composite);
+    let faults = [
+        refused(rt.alloc(), &TERMS, &NONE, &POSITIONS),
+        refused(rt.alloc(), &TERMS, &POSTINGS, &NONE),
+    ];
     // a field that the file of terms lacks has no terms
-    assert!(rt; index_has_nothing(rt.alloc(), &NONE, &POSTINGS, &POSITIONS)?);
+    let has_nothing = index_has_nothing(rt.alloc(), &NONE, &POSTINGS, &POSITIONS);
+    let composite = Some(Fault::Damaged(Part::Composite));
+    assert!(rt; (faults, has_nothing) == ([composite; 2], Ok(true)));
     Ok(())
 }
 
 #[test]
 fn damaged_files_are_told(rt: HostRuntime) {
-    let composite = Some(Fault::Damaged(Part::Composite));
-    assert!(rt; refused(rt.alloc(), &TERMS[..103], &POSTINGS, &POSITIONS) == composite);
-    assert!(rt; refused(rt.alloc(), &TERMS, &POSTINGS[..3], &POSITIONS) == composite);
-    assert!(rt; refused(rt.alloc(), &TERMS, &POSTINGS, &POSITIONS[..20]) == composite);
-    let count = Some(Fault::Damaged(Part::TokenCount));
-    assert!(rt; refused(rt.alloc(), &TERMS, &SHORT, &POSITIONS) == count);
     // the dictionary comes before the number of tokens, and a missing body before both
+    let faults = [
+        refused(rt.alloc(), &TERMS[..103], &POSTINGS, &POSITIONS),
+        refused(rt.alloc(), &TERMS, &POSTINGS[..3], &POSITIONS),
+        refused(rt.alloc(), &TERMS, &POSTINGS, &POSITIONS[..20]),
+        refused(rt.alloc(), &TERMS, &SHORT, &POSITIONS),
+        refused(rt.alloc(), &SHORT, &SHORT, &POSITIONS),
+        refused(rt.alloc(), &SHORT, &SHORT, &NONE),
+    ];
+    let composite = Some(Fault::Damaged(Part::Composite));
+    let count = Some(Fault::Damaged(Part::TokenCount));
     let dictionary = Some(Fault::Damaged(Part::Dictionary));
-    assert!(rt; refused(rt.alloc(), &SHORT, &SHORT, &POSITIONS) == dictionary);
-    assert!(rt; refused(rt.alloc(), &SHORT, &SHORT, &NONE) == composite);
+    assert!(rt;
+        faults
+            == [
+                composite, composite, composite, count, dictionary, composite
+            ]
+    );
 }
 
 #[test]
 fn files_of_norms_are_opened(rt: HostRuntime) -> Result<(), Fail> {
-    let composite = Some(Fault::Damaged(Part::Composite));
-    assert!(rt; norms_refused(rt.alloc(), &TERMS, &NONE[..3]) == composite);
     // their table comes before a dictionary
-    assert!(rt; norms_refused(rt.alloc(), &SHORT, &NONE[..3]) == composite);
-    assert!(rt; norms_refused(rt.alloc(), &TERMS, &NONE) == None);
-    assert!(rt; num_norms(rt.alloc(), &SHORT, 0)? == Some(7));
-    assert!(rt; num_norms(rt.alloc(), &SHORT, 1)? == None);
-    assert!(rt; num_norms(rt.alloc(), &NONE, 0)? == None);
+    let faults = [
+        norms_refused(rt.alloc(), &TERMS, &NONE[..3]),
+        norms_refused(rt.alloc(), &SHORT, &NONE[..3]),
+        norms_refused(rt.alloc(), &TERMS, &NONE),
+    ];
+    let composite = Some(Fault::Damaged(Part::Composite));
+    let norms = [
+        num_norms(rt.alloc(), &SHORT, 0),
+        num_norms(rt.alloc(), &SHORT, 1),
+        num_norms(rt.alloc(), &NONE, 0),
+    ];
+    let found = [Ok(Some(7)), Ok(None), Ok(None)];
+    assert!(rt; (faults, norms) == ([composite, composite, None], found));
     Ok(())
 }
 
@@ -358,23 +427,27 @@ fn tokens_in(body: &'static [u8]) -> Result<u64, Fault> {
 
 #[test]
 fn short_bodies_have_no_number_of_tokens(rt: HostRuntime) {
-    assert!(rt; tokens_in(&SHORT[..7]) == Err(Fault::Damaged(Part::TokenCount)));
-    assert!(rt; tokens_in(&SHORT[..8]) == Ok(1));
+    let counts = [tokens_in(&SHORT[..7]), tokens_in(&SHORT[..8])];
+    assert!(rt; counts == [Err(Fault::Damaged(Part::TokenCount)), Ok(1)]);
 }
 
-#[test]
-fn fields_that_the_schema_lacks_are_left(rt: HostRuntime) -> Result<(), Fail> {
-    let schema = Schema::new(Vec::new(rt.alloc()));
-    let terms = Bytes::from_static(&TERMS);
+// Whether files of a field are opened as an index of no fields.
+fn is_opened_without_fields(alloc: Global) -> bool {
+    let schema = Schema::new(Vec::new(alloc));
     let opened = open_index(
-        rt.alloc(),
-        terms,
+        alloc,
+        Bytes::from_static(&TERMS),
         Bytes::from_static(&SHORT),
         Bytes::from_static(&NONE),
         Bytes::from_static(&NONE),
         &schema,
     );
-    assert!(rt; opened.is_ok());
+    opened.is_ok()
+}
+
+#[test]
+fn fields_that_the_schema_lacks_are_left(rt: HostRuntime) -> Result<(), Fail> {
+    assert!(rt; is_opened_without_fields(rt.alloc()));
     Ok(())
 }
 
@@ -419,8 +492,7 @@ fn block_fault(info: &TermInfo, option: IndexRecordOption) -> Option<Fault> {
 fn ranges_lie_in_their_bodies(rt: HostRuntime) {
     let range = Some(Fault::Damaged(Part::Range));
     for info in [info_at(0, 2), info_at(1, 0)] {
-        assert!(rt; cursor_fault(&info, BASIC) == range);
-        assert!(rt; block_fault(&info, FULL) == range);
+        assert!(rt; [cursor_fault(&info, BASIC), block_fault(&info, FULL)] == [range; 2]);
     }
     // no document, and one too many
     let documents = Some(Fault::Damaged(Part::Documents));
@@ -430,14 +502,19 @@ fn ranges_lie_in_their_bodies(rt: HostRuntime) {
 #[test]
 fn ranges_of_positions_are_looked_at_where_requested(rt: HostRuntime) {
     let info = info_at(0, 1);
-    assert!(rt; cursor_fault(&info, FULL) == Some(Fault::Damaged(Part::Range)));
-    assert!(rt; cursor_fault(&info, BASIC) == None);
-    assert!(rt; block_fault(&info, FULL) == None);
+    let faults = [
+        cursor_fault(&info, FULL),
+        cursor_fault(&info, BASIC),
+        block_fault(&info, FULL),
+    ];
+    assert!(rt; faults == [Some(Fault::Damaged(Part::Range)), None, None]);
 }
+
+static SEVEN: [u8; 1] = [0x87];
 
 // A block cursor over document 7.
 fn seven() -> Result<BlockSegmentPostings, LayoutFault> {
-    BlockSegmentPostings::open(1, Bytes::from_static(&[0x87]), BASIC, BASIC)
+    BlockSegmentPostings::open(1, Bytes::from_static(&SEVEN), BASIC, BASIC)
 }
 
 // Resets a block cursor to what is kept of a term.
@@ -459,24 +536,42 @@ fn reset_to(start: usize, end: usize, blocks: &mut BlockSegmentPostings) -> Resu
     reset(&one_byte()?, &info_at(start, end), blocks)
 }
 
+// How a reset of a block cursor to the byte between two places ends, and whether it then has these documents.
+fn reset_shows(
+    start: usize,
+    end: usize,
+    blocks: &mut BlockSegmentPostings,
+    docs: &[DocId],
+) -> (Result<(), Fault>, bool) {
+    let answer = reset_to(start, end, blocks);
+    (answer, shows(blocks, docs))
+}
+
+// Whether the cursor over document 7 shows it, and the same of two resets that leave these documents.
+fn seven_reset(
+    first: (usize, usize, &[DocId]),
+    other: (usize, usize, &[DocId]),
+) -> Result<(bool, [(Result<(), Fault>, bool); 2]), Fault> {
+    let mut blocks = seven()?;
+    let before = shows(&blocks, &[7]);
+    let first = reset_shows(first.0, first.1, &mut blocks, first.2);
+    let other = reset_shows(other.0, other.1, &mut blocks, other.2);
+    Ok((before, [first, other]))
+}
+
 #[test]
 fn refused_resets_leave_no_documents(rt: HostRuntime) -> Result<(), Fail> {
-    let mut blocks = seven()?;
-    assert!(rt; shows(&blocks, &[7]));
-    assert!(rt; reset_to(0, 2, &mut blocks) == Err(Fault::Damaged(Part::Range)));
-    assert!(rt; shows(&blocks, &[]));
-    assert!(rt; reset_to(0, 1, &mut blocks) == Ok(()));
-    assert!(rt; shows(&blocks, &[0]));
+    let refused = Err(Fault::Damaged(Part::Range));
+    let reset = seven_reset((0, 2, &[]), (0, 1, &[0]))?;
+    assert!(rt; reset == (true, [(refused, true), (Ok(()), true)]));
     Ok(())
 }
 
 #[test]
 fn resets_are_refused_for_documents(rt: HostRuntime) -> Result<(), Fail> {
-    let mut blocks = seven()?;
-    assert!(rt; reset_to(0, 1, &mut blocks) == Ok(()));
-    assert!(rt; shows(&blocks, &[0]));
-    assert!(rt; reset_to(0, 0, &mut blocks) == Err(Fault::Damaged(Part::Documents)));
-    assert!(rt; shows(&blocks, &[]));
+    let refused = Err(Fault::Damaged(Part::Documents));
+    let reset = seven_reset((0, 1, &[0]), (0, 0, &[]))?;
+    assert!(rt; reset == (true, [(Ok(()), true), (refused, true)]));
     Ok(())
 }
 
@@ -503,13 +598,23 @@ fn blocks_at(reader: &InvertedIndexReader, info: &TermInfo) -> Result<BlockSegme
     reader.read_block_postings_from_terminfo(info, BASIC)
 }
 
+// Whether a block cursor has the even documents, how its reset to the odd ones ends, and whether it has these.
+fn blocks_reset(reader: &InvertedIndexReader) -> Result<(bool, Result<(), Fault>, bool), Fault> {
+    let mut blocks = blocks_at(reader, &three_at(0, 3))?;
+    let before = shows(&blocks, &[0, 2, 4]);
+    let answer = reset(reader, &three_at(3, 6), &mut blocks);
+    Ok((before, answer, shows(&blocks, &[1, 3, 5])))
+}
+
+// The same of a new reader.
+fn even_reset() -> Result<(bool, Result<(), Fault>, bool), Fault> {
+    let reader = even_and_odd()?;
+    blocks_reset(&reader)
+}
+
 #[test]
 fn block_cursors_are_reset_to_other_terms(rt: HostRuntime) -> Result<(), Fail> {
-    let reader = even_and_odd()?;
-    let mut blocks = blocks_at(&reader, &three_at(0, 3))?;
-    assert!(rt; shows(&blocks, &[0, 2, 4]));
-    reset(&reader, &three_at(3, 6), &mut blocks)?;
-    assert!(rt; shows(&blocks, &[1, 3, 5]));
+    assert!(rt; even_reset() == Ok((true, Ok(()), true)));
     Ok(())
 }
 
@@ -530,17 +635,38 @@ fn next_four(postings: &mut SegmentPostings) -> [DocId; 4] {
     [first, second, third, postings.advance()]
 }
 
+// How that ends, and the next four documents of the cursor.
+fn four_at(
+    reader: &InvertedIndexReader,
+    start: usize,
+    end: usize,
+    postings: &mut SegmentPostings,
+) -> (Result<(), Fault>, [DocId; 4]) {
+    let answer = put_at(reader, &three_at(start, end), postings);
+    (answer, next_four(postings))
+}
+
+// The same of an empty cursor at three places.
+fn put_thrice(reader: &InvertedIndexReader) -> [(Result<(), Fault>, [DocId; 4]); 3] {
+    let mut postings = SegmentPostings::empty();
+    [
+        four_at(reader, 3, 6, &mut postings),
+        four_at(reader, 3, 7, &mut postings),
+        four_at(reader, 0, 3, &mut postings),
+    ]
+}
+
+// The same of a new reader.
+fn three_put() -> Result<[(Result<(), Fault>, [DocId; 4]); 3], Fault> {
+    let reader = even_and_odd()?;
+    Ok(put_thrice(&reader))
+}
+
 #[test]
 fn cursors_are_reset_in_place(rt: HostRuntime) -> Result<(), Fail> {
-    let reader = even_and_odd()?;
-    let mut postings = SegmentPostings::empty();
-    assert!(rt; put_at(&reader, &three_at(3, 6), &mut postings) == Ok(()));
-    assert!(rt; next_four(&mut postings) == [1, 3, 5, TERMINATED]);
-    assert!(rt;
-        put_at(&reader, &three_at(3, 7), &mut postings) == Err(Fault::Damaged(Part::Range))
-    );
-    assert!(rt; next_four(&mut postings) == [TERMINATED; 4]);
-    assert!(rt; put_at(&reader, &three_at(0, 3), &mut postings) == Ok(()));
-    assert!(rt; next_four(&mut postings) == [0, 2, 4, TERMINATED]);
+    let odd = (Ok(()), [1, 3, 5, TERMINATED]);
+    let refused = (Err(Fault::Damaged(Part::Range)), [TERMINATED; 4]);
+    let even = (Ok(()), [0, 2, 4, TERMINATED]);
+    assert!(rt; three_put() == Ok([odd, refused, even]));
     Ok(())
 }

@@ -96,10 +96,15 @@ fn are_read(alloc: Global, docs: &[DocId]) -> Result<bool, Fault> {
     Ok(comes_to(&mut blocks, docs))
 }
 
+// Whether so many from 0 on are read.
+fn all_are_read(alloc: Global) -> Result<bool, Fault> {
+    let docs = docs_below(alloc, 100_000)?;
+    are_read(alloc, docs.as_slice())
+}
+
 #[test]
 fn long_lists_are_read_block_by_block(rt: HostRuntime) -> Result<(), Fail> {
-    let docs = docs_below(rt.alloc(), 100_000)?;
-    assert!(rt; are_read(rt.alloc(), docs.as_slice())?);
+    assert!(rt; all_are_read(rt.alloc())?);
     Ok(())
 }
 
@@ -178,15 +183,20 @@ fn found_by_copy(cursor: &SegmentPostings, target: DocId) -> Result<DocId, Fault
 // Whether a seek to a document below 300, and one from there to each document above, finds it.
 fn each_is_found_from(all: &SegmentPostings, doc: DocId) -> Result<bool, Fault> {
     let mut once = all.clone()?;
-    if sought(&mut once, doc) != doc {
+    each_above_is_found(&mut once, doc)
+}
+
+// Whether a cursor finds a document below 300 and from there each one above, and then the end.
+fn each_above_is_found(once: &mut SegmentPostings, doc: DocId) -> Result<bool, Fault> {
+    if sought(once, doc) != doc {
         return Ok(false);
     }
     for above in doc..300 {
-        if found_by_copy(&once, above)? != above {
+        if found_by_copy(once, above)? != above {
             return Ok(false);
         }
     }
-    Ok(sought(&mut once, 300) == TERMINATED)
+    Ok(sought(once, 300) == TERMINATED)
 }
 
 // The same of each document below 300.
@@ -199,13 +209,17 @@ fn each_is_found(all: &SegmentPostings) -> Result<bool, Fault> {
     Ok(true)
 }
 
+// The same of a new cursor.
+fn all_are_found(alloc: Global) -> Result<bool, Fault> {
+    match all_documents(alloc) {
+        Some(all) => each_is_found(&all),
+        None => Ok(false),
+    }
+}
+
 #[test]
 fn seeks_find_each_document(rt: HostRuntime) -> Result<(), Fail> {
-    let Some(all) = all_documents(rt.alloc()) else {
-        assert!(rt; false, "a list of 300");
-        return Ok(());
-    };
-    assert!(rt; each_is_found(&all)?);
+    assert!(rt; all_are_found(rt.alloc())?);
     Ok(())
 }
 
@@ -224,13 +238,17 @@ fn next_is_found(even: &SegmentPostings) -> Result<bool, Fault> {
     Ok(true)
 }
 
+// The same of a new cursor.
+fn next_ones_are_found(alloc: Global) -> Result<bool, Fault> {
+    match even_documents(alloc) {
+        Some(even) => next_is_found(&even),
+        None => Ok(false),
+    }
+}
+
 #[test]
 fn seeks_find_the_next_document(rt: HostRuntime) -> Result<(), Fail> {
-    let Some(even) = even_documents(rt.alloc()) else {
-        assert!(rt; false, "a list of 150");
-        return Ok(());
-    };
-    assert!(rt; next_is_found(&even)?);
+    assert!(rt; next_ones_are_found(rt.alloc())?);
     Ok(())
 }
 
@@ -269,13 +287,17 @@ fn moved_over(alloc: Global, source: &mut SegmentPostings) -> Result<(u32, [DocI
     Ok(moved(&mut loaded))
 }
 
+// The same of a cursor over multiples of 3.
+fn threes_moved(alloc: Global) -> Result<(u32, [DocId; 5]), Fault> {
+    match threes(alloc) {
+        Some(mut source) => moved_over(alloc, &mut source),
+        None => Ok((0, [0; 5])),
+    }
+}
+
 #[test]
 fn lists_are_loaded(rt: HostRuntime) -> Result<(), Fail> {
-    let Some(mut source) = threes(rt.alloc()) else {
-        assert!(rt; false, "a list of 1,024");
-        return Ok(());
-    };
-    let moved = moved_over(rt.alloc(), &mut source)?;
+    let moved = threes_moved(rt.alloc())?;
     assert!(rt; moved == (1024, [0, 3, 15, 300, TERMINATED]));
     Ok(())
 }
@@ -286,17 +308,29 @@ fn left_of(alloc: Global, source: &mut SegmentPostings) -> Result<(u32, [DocId; 
     Ok((loaded.size_hint(), walked(&mut loaded)))
 }
 
+// Where a seek leaves a cursor, what is left of it then, and where it is when that is loaded.
+fn left_behind(
+    alloc: Global,
+    source: &mut SegmentPostings,
+) -> Result<(DocId, (u32, [DocId; 5]), DocId), Fault> {
+    let found = sought(source, 3065);
+    let left = left_of(alloc, source)?;
+    Ok((found, left, source.doc()))
+}
+
+// The same of a cursor over multiples of 3, if there is one.
+fn threes_left(alloc: Global) -> Result<Option<(DocId, (u32, [DocId; 5]), DocId)>, Fault> {
+    match threes(alloc) {
+        Some(mut source) => Ok(Some(left_behind(alloc, &mut source)?)),
+        None => Ok(None),
+    }
+}
+
 #[test]
 fn what_is_left_is_loaded(rt: HostRuntime) -> Result<(), Fail> {
-    let Some(mut source) = threes(rt.alloc()) else {
-        assert!(rt; false, "a list of 1,024");
-        return Ok(());
-    };
-    assert!(rt; sought(&mut source, 3065) == 3066);
-    let left = left_of(rt.alloc(), &mut source)?;
-    assert!(rt; left == (2, [3066, 3069, TERMINATED, TERMINATED, TERMINATED]));
+    let left = (2, [3066, 3069, TERMINATED, TERMINATED, TERMINATED]);
     // the source is then at its end
-    assert!(rt; source.doc() == TERMINATED);
+    assert!(rt; threes_left(rt.alloc())? == Some((3066, left, TERMINATED)));
     Ok(())
 }
 
@@ -328,10 +362,15 @@ fn passed_by(
     Ok((passed, [source.doc(), loaded.doc()]))
 }
 
+// The same of a new cursor.
+fn two_passed(alloc: Global) -> Result<([bool; 2], [DocId; 2]), Fault> {
+    let mut source = opened(2, &POSTINGS, &POSITIONS, FULL)?;
+    passed_by(alloc, &mut source)
+}
+
 #[test]
 fn positions_are_loaded(rt: HostRuntime) -> Result<(), Fail> {
-    let mut source = opened(2, &POSTINGS, &POSITIONS, FULL)?;
-    let passed = passed_by(rt.alloc(), &mut source)?;
+    let passed = two_passed(rt.alloc())?;
     assert!(rt; passed == ([true; 2], [TERMINATED; 2]));
     Ok(())
 }
@@ -385,20 +424,29 @@ fn both_come_to_their_end(
 
 // Whether both over multiples of 3 do.
 fn threes_come_to_their_end(alloc: Global) -> Result<[bool; 2], Fault> {
-    let Some(mut cursor) = threes(alloc) else {
-        return Ok([false; 2]);
-    };
-    both_come_to_their_end(alloc, &mut cursor, 3)
+    match threes(alloc) {
+        Some(mut cursor) => both_come_to_their_end(alloc, &mut cursor, 3),
+        None => Ok([false; 2]),
+    }
+}
+
+// What a copy of a cursor finds behind 130, and whether both come to their end.
+fn ends_of(alloc: Global, cursor: &mut SegmentPostings) -> Result<(DocId, [bool; 2]), Fault> {
+    let behind = found_by_copy(cursor, 131)?;
+    Ok((behind, both_come_to_their_end(alloc, cursor, 1)?))
+}
+
+// The same of a cursor over two blocks.
+fn two_blocks_end(alloc: Global) -> Result<(DocId, [bool; 2]), Fault> {
+    match two_blocks(alloc) {
+        Some(mut cursor) => ends_of(alloc, &mut cursor),
+        None => Ok((0, [false; 2])),
+    }
 }
 
 #[test]
 fn walks_come_to_their_end(rt: HostRuntime) -> Result<(), Fail> {
-    let Some(mut cursor) = two_blocks(rt.alloc()) else {
-        assert!(rt; false, "a list of 130");
-        return Ok(());
-    };
-    assert!(rt; found_by_copy(&cursor, 131)? == TERMINATED);
-    assert!(rt; both_come_to_their_end(rt.alloc(), &mut cursor, 1)? == [true; 2]);
+    assert!(rt; two_blocks_end(rt.alloc())? == (TERMINATED, [true; 2]));
     assert!(rt; threes_come_to_their_end(rt.alloc())? == [true; 2]);
     Ok(())
 }

@@ -69,23 +69,64 @@ fn two_positions() -> Option<SegmentPostings>
     }
 }
 
+// Whether the positions of such a cursor are appended, each 10 more.
+fn are_appended(cursor: &mut SegmentPostings, output: &mut Vec<u32>) -> bool
+    requires { cursor.old.rest ≡ record { doc = 0; term_freq = 2; positions = 0 ∷ 4 ∷ [] } ∷ [] }
+    ensures { cursor.new.rest ≡ cursor.old.rest }
+{
+    let appended = cursor.append_positions_with_offset(10, output);
+    appended.is_ok() && output.as_slice() == SEVEN_AND_TEN_MORE.as_slice()
+}
+
+// Whether they are put in place of what was there, each 1 more.
+fn are_put(cursor: &mut SegmentPostings, output: &mut Vec<u32>) -> bool
+    requires { cursor.old.rest ≡ record { doc = 0; term_freq = 2; positions = 0 ∷ 4 ∷ [] } ∷ [] }
+    ensures { cursor.new.rest ≡ cursor.old.rest }
+{
+    let put = cursor.positions_with_offset(1, output);
+    put.is_ok() && output.as_slice() == ONE_MORE.as_slice()
+}
+
+// Whether they are put there as they are.
+fn are_put_plainly(cursor: &mut SegmentPostings, output: &mut Vec<u32>) -> bool {
+    if cursor.doc() >= TERMINATED {
+        return false;
+    }
+    let put = cursor.positions(output);
+    put.is_ok() && output.as_slice() == ZERO_AND_FOUR.as_slice()
+}
+
+static SEVEN_AND_TEN_MORE: [u32; 3] = [7, 10, 14];
+
+static ONE_MORE: [u32; 2] = [1, 5];
+
+static ZERO_AND_FOUR: [u32; 2] = [0, 4];
+
+// Whether each of these is so behind a 7, where the cursor is then, its count, and where it goes.
+fn asked(cursor: &mut SegmentPostings, output: &mut Vec<u32>) -> ([bool; 3], [u32; 3])
+    requires { cursor.old.rest ≡ record { doc = 0; term_freq = 2; positions = 0 ∷ 4 ∷ [] } ∷ [] }
+{
+    let are_told = [
+        are_appended(cursor, output),
+        are_put(cursor, output),
+        are_put_plainly(cursor, output),
+    ];
+    (are_told, [cursor.doc(), counted(cursor), cursor.advance()])
+}
+
+// The same of a new cursor, if there is one.
+fn asked_of_two(output: &mut Vec<u32>) -> Option<([bool; 3], [u32; 3])> {
+    match two_positions() {
+        Some(mut cursor) => Some(asked(&mut cursor, output)),
+        None => None,
+    }
+}
+
 #[test]
 fn positions_are_appended(rt: HostRuntime) -> Result<(), Fail> {
-    let Some(mut cursor) = two_positions() else {
-        assert!(rt; false, "a document with two positions");
-        return Ok(());
-    };
-    let mut output = Vec::new(rt.alloc());
-    output.push(7)?;
-    assert!(rt; cursor.append_positions_with_offset(10, &mut output).is_ok());
-    assert!(rt; output.as_slice() == [7, 10, 14].as_slice());
-    assert!(rt; cursor.positions_with_offset(1, &mut output).is_ok());
-    assert!(rt; output.as_slice() == [1, 5].as_slice());
-    assert!(rt; cursor.positions(&mut output).is_ok());
-    assert!(rt; output.as_slice() == [0, 4].as_slice());
-    assert!(rt; cursor.doc() == 0);
-    assert!(rt; cursor.term_freq() == 2);
-    assert!(rt; cursor.advance() == TERMINATED);
+    let mut output = Vec::from_slice(rt.alloc(), &[7])?;
+    let asked = asked_of_two(&mut output);
+    assert!(rt; asked == Some(([true; 3], [0, 2, TERMINATED])));
     Ok(())
 }
 
@@ -155,18 +196,28 @@ pub(crate) fn has_positions<P: Postings>(alloc: Global, cursor: &mut P, want: &[
     gathered(alloc, cursor).as_slice() == want
 }
 
+// The positions of each document.
+static EACH: [u32; 3] = [0, 1, 2];
+
+// Whether a cursor has these, and after each of two seeks, where these leave it, and the count after the first.
+fn positions_sought(alloc: Global, cursor: &mut SegmentPostings) -> ([bool; 3], [u32; 3]) {
+    let before = has_positions(alloc, cursor, &EACH);
+    let first = [sought(cursor, 42), counted(cursor)];
+    let after = has_positions(alloc, cursor, &EACH);
+    let other = sought(cursor, 127);
+    let has = [before, after, has_positions(alloc, cursor, &EACH)];
+    (has, [first[0], first[1], other])
+}
+
+// The same of a new cursor.
+fn three_positions_sought(alloc: Global) -> Result<([bool; 3], [u32; 3]), LayoutFault> {
+    let mut cursor = opened(128, &POSTINGS, &POSITIONS[..52], FULL)?;
+    Ok(positions_sought(alloc, &mut cursor))
+}
+
 #[test]
 fn positions_follow_a_seek(rt: HostRuntime) {
-    let Ok(mut cursor) = opened(128, &POSTINGS, &POSITIONS[..52], FULL) else {
-        assert!(rt; false, "a block of documents with three positions each");
-        return;
-    };
-    assert!(rt; has_positions(rt.alloc(), &mut cursor, &[0, 1, 2]));
-    assert!(rt; sought(&mut cursor, 42) == 42);
-    assert!(rt; counted(&cursor) == 3);
-    assert!(rt; has_positions(rt.alloc(), &mut cursor, &[0, 1, 2]));
-    assert!(rt; sought(&mut cursor, 127) == 127);
-    assert!(rt; has_positions(rt.alloc(), &mut cursor, &[0, 1, 2]));
+    assert!(rt; three_positions_sought(rt.alloc()) == Ok(([true; 3], [42, 3, 127])));
 }
 
 // Whether the first document of a term has no positions, and this count.
@@ -176,39 +227,61 @@ fn has_none(
     requested_option: IndexRecordOption,
     count: u32,
 ) -> bool {
-    let Ok(mut cursor) = opened(1, bytes.0, bytes.1, requested_option) else {
-        return false;
-    };
-    if counted(&cursor) != count {
-        return false;
+    match opened(1, bytes.0, bytes.1, requested_option) {
+        Ok(mut cursor) => has_count_alone(alloc, &mut cursor, count),
+        Err(_) => false,
     }
-    has_positions(alloc, &mut cursor, &[])
 }
+
+// Whether the current document has no positions, and this count.
+fn has_count_alone(alloc: Global, cursor: &mut SegmentPostings, count: u32) -> bool {
+    counted(cursor) == count && has_positions(alloc, cursor, &[])
+}
+
+// A number in document 0, which is also a list of no positions.
+static ONE: [u8; 1] = [0x80];
+
+// A list of no bytes.
+static NOTHING: [u8; 0] = [];
 
 #[test]
 fn terms_without_positions_have_none(rt: HostRuntime) {
     // not requested, and a term without counts: the bytes aren't looked at
-    let unasked: (&'static [u8], &'static [u8]) = (&[0x80, 0x82], &[]);
-    assert!(rt; has_none(rt.alloc(), unasked, IndexRecordOption::WithFreqs, 2));
-    let number: (&'static [u8], &'static [u8]) = (&[0x80], &[0x80]);
-    assert!(rt; has_none(rt.alloc(), number, FULL, 1));
-    assert!(rt; has_positions(rt.alloc(), &mut SegmentPostings::empty(), &[]));
+    let have_none = [
+        has_none(
+            rt.alloc(),
+            (&TWO_POSTINGS, &NOTHING),
+            IndexRecordOption::WithFreqs,
+            2,
+        ),
+        has_none(rt.alloc(), (&ONE, &ONE), FULL, 1),
+        has_positions(rt.alloc(), &mut SegmentPostings::empty(), &[]),
+    ];
+    assert!(rt; have_none == [true; 3]);
 }
+
+// One position in place of two, one above 32 bits, and a document that doesn't end.
+static FEW: [u8; 2] = [0x80, 0x80];
+
+static LARGE: [u8; 7] = [0x80, 0x81, 0x7F, 0x7F, 0x7F, 0x7F, 0x8F];
+
+static UNENDED: [u8; 1] = [0x7F];
 
 #[test]
 fn damaged_positions_are_named(rt: HostRuntime) {
+    let named = [
+        damaged(1, &TWO_POSTINGS, &FEW, FULL),
+        damaged(1, &TWO_POSTINGS, &NOTHING, FULL),
+        damaged(128, &POSTINGS, &POSITIONS[..51], FULL),
+        damaged(128, &POSTINGS, &POSITIONS, FULL),
+        damaged(1, &TWO_POSTINGS, &LARGE, FULL),
+    ];
+    assert!(rt; named == [Some(Part::Positions); 5]);
     let with_freqs = IndexRecordOption::WithFreqs;
-    let positions = Some(Part::Positions);
-    assert!(rt; damaged(1, &[0x80, 0x82], &[0x80, 0x80], FULL) == positions);
-    assert!(rt; damaged(1, &[0x80, 0x82], &[], FULL) == positions);
-    assert!(rt; damaged(128, &POSTINGS, &POSITIONS[..51], FULL) == positions);
-    assert!(rt; damaged(128, &POSTINGS, &POSITIONS, FULL) == positions);
-    assert!(rt; damaged(128, &POSTINGS, &POSITIONS[..51], with_freqs) == None);
-    // a position above 32 bits
-    let large = &[0x80, 0x81, 0x7F, 0x7F, 0x7F, 0x7F, 0x8F];
-    assert!(rt; damaged(1, &[0x80, 0x82], large, FULL) == positions);
+    let unasked = damaged(128, &POSTINGS, &POSITIONS[..51], with_freqs);
     // documents come before positions
-    assert!(rt; damaged(1, &[0x7F], &[], FULL) == Some(Part::Documents));
+    let documents = damaged(1, &UNENDED, &NOTHING, FULL);
+    assert!(rt; [unasked, documents] == [None, Some(Part::Documents)]);
 }
 
 // The first document of a cursor with its count, where it then comes for 127, and its last position there.
@@ -243,11 +316,13 @@ fn told_known(alloc: Global, requested_option: IndexRecordOption) -> [u32; 4] {
 
 #[test]
 fn a_known_list_is_opened_as_a_checked_one(rt: HostRuntime) -> Result<(), Fail> {
-    let full = told_known(rt.alloc(), FULL);
-    assert!(rt; full == [0, 3, 127, 2]);
-    assert!(rt; full == told_checked(rt.alloc(), FULL));
-    let basic = told_known(rt.alloc(), IndexRecordOption::Basic);
-    assert!(rt; basic == [0, 1, 127, 0]);
-    assert!(rt; basic == told_checked(rt.alloc(), IndexRecordOption::Basic));
+    let full = [told_known(rt.alloc(), FULL), told_checked(rt.alloc(), FULL)];
+    assert!(rt; full == [[0, 3, 127, 2]; 2]);
+    let option = IndexRecordOption::Basic;
+    let basic = [
+        told_known(rt.alloc(), option),
+        told_checked(rt.alloc(), option),
+    ];
+    assert!(rt; basic == [[0, 1, 127, 0]; 2]);
     Ok(())
 }

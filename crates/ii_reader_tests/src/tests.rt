@@ -53,19 +53,34 @@ fn from_second_block(bytes: &'static [u8]) -> Option<SegmentPostings> {
     Some(SegmentPostings::from_block_postings(blocks, None))
 }
 
-#[test]
-fn cursors_begin_where_a_block_cursor_is(rt: HostRuntime) {
-    let Some(mut cursor) = from_second_block(&LONG) else {
-        assert!(rt; false, "a list of 130");
-        return;
-    };
-    let docs = [129, 130, TERMINATED, TERMINATED, TERMINATED];
-    assert!(rt; walked(&mut cursor).as_slice() == docs.as_slice());
-    assert!(rt; is_so_long(&cursor, 130));
+// What a cursor comes to, and whether it then says that its list is so long.
+fn walked_and_long(cursor: &mut SegmentPostings, len: u32) -> ([DocId; 5], bool) {
+    let docs = walked(cursor);
+    (docs, is_so_long(cursor, len))
 }
 
+// The same of that cursor, if there is one.
+fn walked_from_second_block() -> Option<([DocId; 5], bool)> {
+    match from_second_block(&LONG) {
+        Some(mut cursor) => Some(walked_and_long(&mut cursor, 130)),
+        None => None,
+    }
+}
+
+#[test]
+fn cursors_begin_where_a_block_cursor_is(rt: HostRuntime) {
+    let docs = [129, 130, TERMINATED, TERMINATED, TERMINATED];
+    assert!(rt; walked_from_second_block() == Some((docs, true)));
+}
+
+// The documents of the second block of the long list.
+static LAST_TWO: [DocId; 2] = [129, 130];
+
 // How many documents a block has, and what stands at its first places and at its last.
-fn places(blocks: &BlockSegmentPostings) -> (usize, DocId, DocId, DocId, DocId) {
+type Places = (usize, DocId, DocId, DocId, DocId);
+
+// The same of a block.
+fn places(blocks: &BlockSegmentPostings) -> Places {
     let (first, second) = (blocks.doc(0), blocks.doc(1));
     (
         blocks.block_len(),
@@ -76,23 +91,27 @@ fn places(blocks: &BlockSegmentPostings) -> (usize, DocId, DocId, DocId, DocId) 
     )
 }
 
+// The next block of a cursor: whether it has these documents, and its places.
+fn next_block(blocks: &mut BlockSegmentPostings, docs: &[DocId]) -> (bool, Places) {
+    blocks.advance();
+    (shows(blocks, docs), places(blocks))
+}
+
+// The length of the long list, its first block, and the three that a cursor then comes to.
+fn blocks_walked() -> Result<(u32, Places, [(bool, Places); 3]), LayoutFault> {
+    let mut blocks = BlockSegmentPostings::open(130, Bytes::from_static(&LONG), BASIC, BASIC)?;
+    let (doc_freq, first) = (blocks.doc_freq(), places(&blocks));
+    let second = next_block(&mut blocks, &LAST_TWO);
+    let end = next_block(&mut blocks, &[]);
+    Ok((doc_freq, first, [second, end, next_block(&mut blocks, &[])]))
+}
+
 #[test]
 fn blocks_are_walked(rt: HostRuntime) {
-    let opened = BlockSegmentPostings::open(130, Bytes::from_static(&LONG), BASIC, BASIC);
-    let Ok(mut cursor) = opened else {
-        assert!(rt; false, "a list of 130");
-        return;
-    };
-    assert!(rt; cursor.doc_freq() == 130);
-    assert!(rt; places(&cursor) == (128, 0, 1, 2, 127));
-    cursor.advance();
-    assert!(rt; shows(&cursor, &[129, 130]));
-    assert!(rt; places(&cursor) == (2, 129, 130, TERMINATED, TERMINATED));
-    cursor.advance();
-    let end = (0, TERMINATED, TERMINATED, TERMINATED, TERMINATED);
-    assert!(rt; places(&cursor) == end);
-    cursor.advance();
-    assert!(rt; shows(&cursor, &[]));
+    let first = (128, 0, 1, 2, 127);
+    let second = (true, (2, 129, 130, TERMINATED, TERMINATED));
+    let end = (true, (0, TERMINATED, TERMINATED, TERMINATED, TERMINATED));
+    assert!(rt; blocks_walked() == Ok((130, first, [second, end, end])));
 }
 
 // Where a cursor is and how often its term stands there; it then goes on.
@@ -102,36 +121,53 @@ fn passed(cursor: &mut SegmentPostings) -> (DocId, u32) {
     at
 }
 
+// Whether a cursor passes documents 0 to 127, in each of which its term stands so often.
+fn passes_first(cursor: &mut SegmentPostings, count: u32) -> bool {
+    for doc in 0..128 {
+        if passed(cursor) != (doc, count) {
+            return false;
+        }
+    }
+    true
+}
+
+// Whether a cursor over the long list does, and what it then comes to.
+fn long_walked() -> Result<(bool, [DocId; 5]), LayoutFault> {
+    let bytes = Bytes::from_static(&LONG);
+    let mut cursor = SegmentPostings::open(130, bytes, None, BASIC, BASIC)?;
+    Ok((passes_first(&mut cursor, 1), walked(&mut cursor)))
+}
+
 #[test]
 fn long_lists_are_walked(rt: HostRuntime) {
-    let opened = SegmentPostings::open(130, Bytes::from_static(&LONG), None, BASIC, BASIC);
-    let Ok(mut cursor) = opened else {
-        assert!(rt; false, "a list of 130");
-        return;
-    };
-    for doc in 0..128 {
-        assert!(rt; passed(&mut cursor) == (doc, 1));
-    }
     let docs = [129, 130, TERMINATED, TERMINATED, TERMINATED];
-    assert!(rt; walked(&mut cursor).as_slice() == docs.as_slice());
+    assert!(rt; long_walked() == Ok((true, docs)));
+}
+
+// The count of a cursor over nothing, whether it says that it has nothing, and what it comes to.
+fn empty_walked() -> (u32, [bool; 2], [DocId; 5]) {
+    let mut cursor = SegmentPostings::empty();
+    let count = cursor.term_freq();
+    let has_nothing = [is_so_long(&cursor, 0), cursor.is_empty()];
+    (count, has_nothing, walked(&mut cursor))
 }
 
 #[test]
 fn empty_cursors_have_nothing(rt: HostRuntime) {
-    let mut cursor = SegmentPostings::empty();
-    assert!(rt; cursor.term_freq() == 1);
-    assert!(rt; is_so_long(&cursor, 0));
-    assert!(rt; cursor.is_empty());
-    assert!(rt; walked(&mut cursor).as_slice() == [TERMINATED; 5].as_slice());
+    assert!(rt; empty_walked() == (1, [true; 2], [TERMINATED; 5]));
+}
+
+// Whether a block cursor has no documents, before it goes on and after, and where a seek then leaves it.
+fn has_no_blocks(blocks: &mut BlockSegmentPostings) -> ([bool; 2], usize) {
+    let before = shows(blocks, &[]);
+    blocks.advance();
+    let after = shows(blocks, &[]);
+    ([before, after], sought_in_block(blocks, TERMINATED))
 }
 
 #[test]
 fn empty_block_cursors_have_nothing(rt: HostRuntime) {
-    let mut blocks = BlockSegmentPostings::empty();
-    assert!(rt; shows(&blocks, &[]));
-    blocks.advance();
-    assert!(rt; shows(&blocks, &[]));
-    assert!(rt; sought_in_block(&mut blocks, TERMINATED) == 0);
+    assert!(rt; has_no_blocks(&mut BlockSegmentPostings::empty()) == ([true; 2], 0));
 }
 
 // How many documents are counted in a list of documents alone, in a field with counts.
@@ -144,11 +180,16 @@ fn count_of(doc_freq: u32, bytes: &'static [u8]) -> Option<u32> {
     }
 }
 
+// Three documents and a count that doesn't end.
+static UNENDED: [u8; 4] = [0x80, 0x82, 0x88, 0xFF];
+
+// A block whose counts take their place, and aren't there after its entry.
+static UNCOUNTED: [u8; 9] = [0x88, 0x7F, 0, 0, 0, 0x40, 2, 0, 0];
+
 #[test]
 fn counts_that_are_not_asked_for_are_not_read(rt: HostRuntime) {
-    assert!(rt; count_of(3, &[0x80, 0x82, 0x88, 0xFF]) == Some(3));
-    // the counts of a block take their place, and need not be there after the last one
-    assert!(rt; count_of(128, &[0x88, 0x7F, 0, 0, 0, 0x40, 2, 0, 0]) == Some(128));
+    let counts = [count_of(3, &UNENDED), count_of(128, &UNCOUNTED)];
+    assert!(rt; counts == [Some(3), Some(128)]);
 }
 
 // What a refused opening names.
@@ -165,26 +206,42 @@ fn damaged(doc_freq: u32, bytes: &'static [u8], record_option: IndexRecordOption
     }
 }
 
+// Lists of so many documents with what their field records, and what their opening names.
+static DAMAGED: [(u32, &[u8], IndexRecordOption, Part); 9] = [
+    (3, &[0x80, 0x82], BASIC, Part::Documents),
+    (3, &[0x80, 0x80, 0x88], BASIC, Part::Documents),
+    (
+        4_294_967_295,
+        &[0x85, 0x7F, 0, 0, 0, 0x40],
+        BASIC,
+        Part::Skip,
+    ),
+    // a block that is too short, one that is cut, one that isn't there, and one with another end
+    (128, &[0x84, 0x7F, 0, 0, 0, 0x40], BASIC, Part::Skip),
+    (128, &[0x85, 0x7F, 0, 0, 0], BASIC, Part::Skip),
+    (128, &[0x85, 0x7F, 0, 0, 0, 0x41], BASIC, Part::Documents),
+    (128, &[0x85, 0x80, 0, 0, 0, 0x40], BASIC, Part::Documents),
+    // counts that are too wide, and too few for positions
+    (
+        128,
+        &[0x88, 0x7F, 0, 0, 0, 0x40, 0x21, 0, 0],
+        IndexRecordOption::WithFreqs,
+        Part::Skip,
+    ),
+    (
+        128,
+        &[0x88, 0x7F, 0, 0, 0, 0x40, 0, 0, 0],
+        IndexRecordOption::WithFreqsAndPositions,
+        Part::Skip,
+    ),
+];
+
 #[test]
 fn damage_is_named(rt: HostRuntime) {
-    let with_freqs = IndexRecordOption::WithFreqs;
-    let with_positions = IndexRecordOption::WithFreqsAndPositions;
-    assert!(rt; damaged(3, &[0x80, 0x82], BASIC) == Some(Part::Documents));
-    assert!(rt; damaged(3, &[0x80, 0x80, 0x88], BASIC) == Some(Part::Documents));
-    let many = damaged(4_294_967_295, &[0x85, 0x7F, 0, 0, 0, 0x40], BASIC);
-    assert!(rt; many == Some(Part::Skip));
-    let short = damaged(128, &[0x84, 0x7F, 0, 0, 0, 0x40], BASIC);
-    assert!(rt; short == Some(Part::Skip));
-    let cut = damaged(128, &[0x85, 0x7F, 0, 0, 0], BASIC);
-    assert!(rt; cut == Some(Part::Skip));
-    let unpacked = damaged(128, &[0x85, 0x7F, 0, 0, 0, 0x41], BASIC);
-    assert!(rt; unpacked == Some(Part::Documents));
-    let other = damaged(128, &[0x85, 0x80, 0, 0, 0, 0x40], BASIC);
-    assert!(rt; other == Some(Part::Documents));
-    let wide = damaged(128, &[0x88, 0x7F, 0, 0, 0, 0x40, 0x21, 0, 0], with_freqs);
-    assert!(rt; wide == Some(Part::Skip));
-    let few = damaged(128, &[0x88, 0x7F, 0, 0, 0, 0x40, 0, 0, 0], with_positions);
-    assert!(rt; few == Some(Part::Skip));
+    for row in &DAMAGED {
+        let (doc_freq, bytes, record_option, part) = *row;
+        assert!(rt; damaged(doc_freq, bytes, record_option) == Some(part));
+    }
 }
 
 // The documents and counts of a list as an item each, and what is done with counts.
@@ -240,19 +297,24 @@ static NO_COUNT: [(u32, u32); 1] = [(0, 0)];
 #[test]
 fn counts_are_read(rt: HostRuntime) {
     let with_freqs = IndexRecordOption::WithFreqs;
+    let options = [
+        option_of(&rt, &SHORT_COUNTED, with_freqs, &COUNTS),
+        option_of(&rt, &SHORT_COUNTED, BASIC, &ONES),
+        option_of(&rt, &ZERO, with_freqs, &NO_COUNT),
+    ];
     let read = Some(FreqReadingOption::ReadFreq);
-    assert!(rt; option_of(&rt, &SHORT_COUNTED, with_freqs, &COUNTS) == read);
-    assert!(rt; option_of(&rt, &SHORT_COUNTED, BASIC, &ONES) == Some(FreqReadingOption::SkipFreq));
-    assert!(rt; option_of(&rt, &ZERO, with_freqs, &NO_COUNT) == read);
+    assert!(rt; options == [read, Some(FreqReadingOption::SkipFreq), read]);
 }
 
 #[test]
 fn terms_without_counts_have_one_each(rt: HostRuntime) {
     // a term that has no counts in a field that records them
+    let options = [
+        option_of(&rt, &SHORT, IndexRecordOption::WithFreqs, &ONES),
+        option_of(&rt, &SHORT, BASIC, &ONES),
+    ];
     let none = Some(FreqReadingOption::NoFreq);
-    assert!(rt; option_of(&rt, &SHORT, IndexRecordOption::WithFreqs, &ONES) == none);
-    let skip = Some(FreqReadingOption::SkipFreq);
-    assert!(rt; option_of(&rt, &SHORT, BASIC, &ONES) == skip);
+    assert!(rt; options == [none, Some(FreqReadingOption::SkipFreq)]);
 }
 
 // 128 documents from 0 on with the count 3 each, then document 128 with the count 4.
@@ -262,20 +324,19 @@ static COUNTED: [u8; 43] = [
     0xAA, 0xAA, 0xAA, 0xAA, 0xAA, 0xAA, 0x81, 0x84,
 ];
 
-#[test]
-fn counts_of_blocks_are_read(rt: HostRuntime) {
+// Whether a cursor over them passes the first ones, the last one with its count, and where it then is.
+fn counted_walked() -> Result<(bool, (DocId, u32), DocId), LayoutFault> {
     let with_freqs = IndexRecordOption::WithFreqs;
     let bytes = Bytes::from_static(&COUNTED);
-    let opened = SegmentPostings::open(129, bytes, None, with_freqs, with_freqs);
-    let Ok(mut cursor) = opened else {
-        assert!(rt; false, "a block with counts");
-        return;
-    };
-    for doc in 0..128 {
-        assert!(rt; passed(&mut cursor) == (doc, 3));
-    }
-    assert!(rt; passed(&mut cursor) == (128, 4));
-    assert!(rt; cursor.doc() == TERMINATED);
+    let mut cursor = SegmentPostings::open(129, bytes, None, with_freqs, with_freqs)?;
+    let first = passes_first(&mut cursor, 3);
+    let last = passed(&mut cursor);
+    Ok((first, last, cursor.doc()))
+}
+
+#[test]
+fn counts_of_blocks_are_read(rt: HostRuntime) {
+    assert!(rt; counted_walked() == Ok((true, (128, 4), TERMINATED)));
 }
 
 // The same without the last count.
@@ -292,16 +353,22 @@ fn counts_that_are_missing_are_told(rt: HostRuntime) {
     assert!(rt; matches!(opened, Err(LayoutFault::Damaged(Part::Frequencies))));
 }
 
+// How many counts the first block of a cursor has, whether its second one is document 128, and the count there.
+fn second_block(blocks: &mut BlockSegmentPostings) -> (usize, bool, u32) {
+    let freqs = blocks.freqs().len();
+    blocks.advance();
+    (freqs, shows(blocks, &[128]), first_freq(blocks))
+}
+
+// The same of the documents alone.
+fn second_block_of_documents() -> Result<(usize, bool, u32), LayoutFault> {
+    let mut blocks = without_last_count(BASIC)?;
+    Ok(second_block(&mut blocks))
+}
+
 #[test]
 fn documents_are_read_without_their_counts(rt: HostRuntime) {
-    let Ok(mut blocks) = without_last_count(BASIC) else {
-        assert!(rt; false, "documents alone");
-        return;
-    };
-    assert!(rt; blocks.freqs().len() == 0);
-    blocks.advance();
-    assert!(rt; shows(&blocks, &[128]));
-    assert!(rt; first_freq(&blocks) == 1);
+    assert!(rt; second_block_of_documents() == Ok((0, true, 1)));
 }
 
 // 256 documents from 0 on with the count 1 each, in a field with positions; the first sum, and the
@@ -331,29 +398,38 @@ fn sums(
 #[test]
 fn documents_are_looked_at_before_counts(rt: HostRuntime) {
     let with_freqs = IndexRecordOption::WithFreqs;
-    assert!(rt; sums(rt.alloc(), 0x80, 0xFF, with_freqs) == None);
-    assert!(rt; sums(rt.alloc(), 0x7F, 0xFF, with_freqs) == Some(Part::Frequencies));
-    assert!(rt; sums(rt.alloc(), 0x7F, 0xFF, BASIC) == None);
-    assert!(rt; sums(rt.alloc(), 0x7F, 0xFE, with_freqs) == Some(Part::Documents));
+    let named = [
+        sums(rt.alloc(), 0x80, 0xFF, with_freqs),
+        sums(rt.alloc(), 0x7F, 0xFF, with_freqs),
+        sums(rt.alloc(), 0x7F, 0xFF, BASIC),
+        sums(rt.alloc(), 0x7F, 0xFE, with_freqs),
+    ];
+    assert!(rt; named == [None, Some(Part::Frequencies), None, Some(Part::Documents)]);
+}
+
+// Where a cursor is, and where seeks and a step leave it.
+fn sought_over_blocks(cursor: &mut SegmentPostings) -> [DocId; 7] {
+    [
+        cursor.doc(),
+        sought(cursor, 0),
+        sought(cursor, 100),
+        sought(cursor, 128),
+        cursor.advance(),
+        sought(cursor, TERMINATED),
+        sought_at_end(cursor),
+    ]
+}
+
+// The same of a cursor over the long list.
+fn long_sought() -> Result<[DocId; 7], LayoutFault> {
+    let bytes = Bytes::from_static(&LONG);
+    let mut cursor = SegmentPostings::open(130, bytes, None, BASIC, BASIC)?;
+    Ok(sought_over_blocks(&mut cursor))
 }
 
 #[test]
 fn seeks_pass_over_blocks(rt: HostRuntime) {
-    let opened = SegmentPostings::open(130, Bytes::from_static(&LONG), None, BASIC, BASIC);
-    let Ok(mut cursor) = opened else {
-        assert!(rt; false, "a list of 130");
-        return;
-    };
-    assert!(rt; cursor.doc() == 0);
-    let found = [
-        sought(&mut cursor, 0),
-        sought(&mut cursor, 100),
-        sought(&mut cursor, 128),
-        cursor.advance(),
-        sought(&mut cursor, TERMINATED),
-        sought_at_end(&mut cursor),
-    ];
-    assert!(rt; found.as_slice() == [0, 100, 129, 130, TERMINATED, TERMINATED].as_slice());
+    assert!(rt; long_sought() == Ok([0, 0, 100, 129, 130, TERMINATED, TERMINATED]));
 }
 
 // Where a seek leaves a block cursor, if it may be made.
@@ -365,19 +441,26 @@ fn sought_in_block(blocks: &mut BlockSegmentPostings, target: DocId) -> usize {
     }
 }
 
+// How long the first block of a cursor is, where seeks leave it, and whether the last two blocks are as they should be.
+fn sought_in_blocks(blocks: &mut BlockSegmentPostings) -> ([usize; 5], [bool; 2]) {
+    let len = blocks.block_len();
+    let first = sought_in_block(blocks, 5);
+    let second = sought_in_block(blocks, 129);
+    let is_second = shows(blocks, &LAST_TWO);
+    let behind = sought_in_block(blocks, 131);
+    blocks.advance();
+    let is_end = shows(blocks, &[]);
+    let end = sought_in_block(blocks, 0);
+    ([len, first, second, behind, end], [is_second, is_end])
+}
+
+// The same of a cursor over the long list.
+fn long_sought_in_blocks() -> Result<([usize; 5], [bool; 2]), LayoutFault> {
+    let mut blocks = BlockSegmentPostings::open(130, Bytes::from_static(&LONG), BASIC, BASIC)?;
+    Ok(sought_in_blocks(&mut blocks))
+}
+
 #[test]
 fn blocks_are_sought(rt: HostRuntime) {
-    let opened = BlockSegmentPostings::open(130, Bytes::from_static(&LONG), BASIC, BASIC);
-    let Ok(mut cursor) = opened else {
-        assert!(rt; false, "a list of 130");
-        return;
-    };
-    assert!(rt; cursor.block_len() == 128);
-    assert!(rt; sought_in_block(&mut cursor, 5) == 5);
-    assert!(rt; sought_in_block(&mut cursor, 129) == 0);
-    assert!(rt; shows(&cursor, &[129, 130]));
-    assert!(rt; sought_in_block(&mut cursor, 131) == 2);
-    cursor.advance();
-    assert!(rt; shows(&cursor, &[]));
-    assert!(rt; sought_in_block(&mut cursor, 0) == 0);
+    assert!(rt; long_sought_in_blocks() == Ok(([128, 5, 0, 2, 0], [true; 2])));
 }

@@ -151,20 +151,23 @@ fn cursor_of(
     reader.read_postings(&term, option)
 }
 
-// Where a term's first document is, how often the term stands there and where; the document is the end
-// where there is no such term.
+// Where a cursor is, how often its term stands there, and whether these are the positions.
+fn at(alloc: Global, cursor: &mut SegmentPostings, positions: &[u32]) -> (DocId, u32, bool) {
+    let (doc, freq) = (cursor.doc(), counted(cursor));
+    (doc, freq, gathered(alloc, cursor).as_slice() == positions)
+}
+
+// The same of a term's first document; the document is the end where there is no such term.
 fn first(
     alloc: Global,
     reader: &InvertedIndexReader,
     key: &str,
     option: IndexRecordOption,
-) -> Result<(DocId, u32, Vec<u32>), Fault> {
+    positions: &[u32],
+) -> Result<(DocId, u32, bool), Fault> {
     match cursor_of(alloc, reader, key, option)? {
-        Some(mut cursor) => {
-            let freq = counted(&cursor);
-            Ok((cursor.doc(), freq, gathered(alloc, &mut cursor)))
-        }
-        None => Ok((TERMINATED, 0, Vec::new(alloc))),
+        Some(mut cursor) => Ok(at(alloc, &mut cursor, positions)),
+        None => Ok((TERMINATED, 0, positions.is_empty())),
     }
 }
 
@@ -173,9 +176,11 @@ fn first_of_text(
     alloc: Global,
     key: &str,
     option: IndexRecordOption,
-) -> Result<(DocId, u32, Vec<u32>), Fault> {
+    positions: &[u32],
+) -> Result<(DocId, u32, bool), Fault> {
     let index = counted_index(alloc)?;
-    first(alloc, index.reader(Field::from_field_id(0)), key, option)
+    let reader = index.reader(Field::from_field_id(0));
+    first(alloc, reader, key, option, positions)
 }
 
 // How many tokens the text's index has.
@@ -187,22 +192,17 @@ fn tokens_of_text(alloc: Global) -> Result<u64, Fault> {
 #[test]
 fn written_positions_are_read(rt: HostRuntime) -> Result<(), Fail> {
     assert!(rt; tokens_of_text(rt.alloc())? == 2);
-    let (doc, freq, positions) = first_of_text(rt.alloc(), "a", FULL)?;
-    assert!(rt; doc == 0 && freq == 2);
-    assert!(rt; positions.as_slice() == [0, 4].as_slice());
-    let (doc, _, _) = first_of_text(rt.alloc(), "b", FULL)?;
+    assert!(rt; first_of_text(rt.alloc(), "a", FULL, &[0, 4])? == (0, 2, true));
+    let (doc, _, _) = first_of_text(rt.alloc(), "b", FULL, &[])?;
     assert!(rt; doc == TERMINATED);
     Ok(())
 }
 
 #[test]
 fn what_is_not_requested_is_not_read(rt: HostRuntime) -> Result<(), Fail> {
-    let (doc, freq, positions) = first_of_text(rt.alloc(), "a", IndexRecordOption::WithFreqs)?;
-    assert!(rt; doc == 0 && freq == 2);
-    assert!(rt; positions.is_empty());
-    let (doc, freq, positions) = first_of_text(rt.alloc(), "a", IndexRecordOption::Basic)?;
-    assert!(rt; doc == 0 && freq == 1);
-    assert!(rt; positions.is_empty());
+    let counted = first_of_text(rt.alloc(), "a", IndexRecordOption::WithFreqs, &[])?;
+    let basic = first_of_text(rt.alloc(), "a", IndexRecordOption::Basic, &[])?;
+    assert!(rt; [counted, basic] == [(0, 2, true), (0, 1, true)]);
     Ok(())
 }
 
@@ -222,7 +222,11 @@ fn four_of(cursor: &mut SegmentPostings) -> [DocId; 4] {
 // where its cursor goes.
 fn walked_uncounted(alloc: Global) -> Result<(u32, u32, [DocId; 4]), Fault> {
     let index = uncounted_index(alloc)?;
-    let reader = index.reader(Field::from_field_id(0));
+    walked_in(alloc, index.reader(Field::from_field_id(0)))
+}
+
+// The same in a reader.
+fn walked_in(alloc: Global, reader: &InvertedIndexReader) -> Result<(u32, u32, [DocId; 4]), Fault> {
     let doc_freq = doc_freq_of(alloc, reader, "c")?;
     match cursor_of(alloc, reader, "c", FULL)? {
         Some(mut cursor) => Ok((doc_freq, counted(&cursor), four_of(&mut cursor))),
@@ -232,10 +236,8 @@ fn walked_uncounted(alloc: Global) -> Result<(u32, u32, [DocId; 4]), Fault> {
 
 #[test]
 fn written_documents_are_walked(rt: HostRuntime) -> Result<(), Fail> {
-    let (doc_freq, count, docs) = walked_uncounted(rt.alloc())?;
-    assert!(rt; doc_freq == 3);
-    assert!(rt; count == 1);
-    assert!(rt; docs.as_slice() == [1, 3, 5, TERMINATED].as_slice());
+    let walked = walked_uncounted(rt.alloc())?;
+    assert!(rt; walked == (3, 1, [1, 3, 5, TERMINATED]));
     Ok(())
 }
 
@@ -281,15 +283,26 @@ fn shows(blocks: &BlockSegmentPostings, docs: &[DocId], freqs: &[u32]) -> bool {
     blocks.freqs() == freqs
 }
 
+// Whether a block cursor has the text's document, whether it is then put over `c` and has its documents, and
+// whether it is put over `a` of the same index.
+fn go_on(alloc: Global, blocks: &mut BlockSegmentPostings) -> Result<[bool; 4], Fault> {
+    let has_text = shows(blocks, &[0], &[2]);
+    let is_put = put_from_uncounted(alloc, "c", blocks)?;
+    let has_documents = shows(blocks, &[1, 3, 5], &[]);
+    let is_put_again = put_from_uncounted(alloc, "a", blocks)?;
+    Ok([has_text, is_put, has_documents, is_put_again])
+}
+
+// The same of a new cursor, if there is one.
+fn go_on_from_text(alloc: Global) -> Result<Option<[bool; 4]>, Fault> {
+    match blocks_of_text(alloc)? {
+        Some(mut blocks) => Ok(Some(go_on(alloc, &mut blocks)?)),
+        None => Ok(None),
+    }
+}
+
 #[test]
 fn block_cursors_go_from_term_to_term(rt: HostRuntime) -> Result<(), Fail> {
-    let Some(mut blocks) = blocks_of_text(rt.alloc())? else {
-        assert!(rt; false, "a term in a document");
-        return Ok(());
-    };
-    assert!(rt; shows(&blocks, &[0], &[2]));
-    assert!(rt; put_from_uncounted(rt.alloc(), "c", &mut blocks)?);
-    assert!(rt; shows(&blocks, &[1, 3, 5], &[]));
-    assert!(rt; !put_from_uncounted(rt.alloc(), "a", &mut blocks)?);
+    assert!(rt; go_on_from_text(rt.alloc())? == Some([true, true, true, false]));
     Ok(())
 }
