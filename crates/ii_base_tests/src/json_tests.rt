@@ -1,21 +1,29 @@
 ghost use Rattle.std.specs.Prelude.{◌≡◌, false};
 ghost use Rattle.ii_base.specs.Paths.{has_zero};
 
-use crate::tests::have_bytes;
+use crate::tests::{add, have_bytes};
 use ii_base::{
     Fault, Field, JsonLeaf, JsonPathWriter, JsonValue, LeafKind, Term, encode_column_name,
     split_json_path,
 };
-use std::alloc::Global;
+use std::alloc::{AllocError, Global};
 use std::test::Fail;
+
+// Adds segments, each in brackets.
+fn push_segments(spelled: &mut String, segments: &[String]) -> Result<(), AllocError> {
+    for segment in segments {
+        spelled.push_str("[")?;
+        spelled.push_str(segment.as_str())?;
+        spelled.push_str("]")?;
+    }
+    Ok(())
+}
 
 // The segments of a path, each in brackets.
 fn spell(alloc: Global, path: &str) -> Result<String, Fault> {
     let segments = split_json_path(alloc, path)?;
     let mut spelled = String::new(alloc);
-    for segment in &segments {
-        write!(spelled, "[{}]", segment.as_str())?;
-    }
+    push_segments(&mut spelled, segments.as_slice())?;
     Ok(spelled)
 }
 
@@ -43,10 +51,9 @@ fn paths_are_split(rt: HostRuntime) -> Result<(), Fail> {
 }
 
 // Adds a path as it stands, and a line's end.
-fn push_path(paths: &mut String, writer: &JsonPathWriter) -> Result<(), Fault> {
+fn push_path(paths: &mut String, writer: &JsonPathWriter) -> Result<(), AllocError> {
     paths.push_str(writer.as_str())?;
-    paths.push('\n')?;
-    Ok(())
+    paths.push_str("\n")
 }
 
 // Adds the paths that a writer goes through with dots as they are.
@@ -61,7 +68,7 @@ fn push_paths(paths: &mut String, writer: &mut JsonPathWriter) -> Result<(), Fau
     writer.pop();
     writer.push("")?;
     writer.push("b")?;
-    push_path(paths, writer)
+    Ok(push_path(paths, writer)?)
 }
 
 // Adds the paths that it goes through with dots expanded, and as they are again.
@@ -73,7 +80,7 @@ fn push_expanded(paths: &mut String, writer: &mut JsonPathWriter) -> Result<(), 
     writer.push("caf\u{e9}.\u{65e5}.")?;
     writer.set_expand_dots(false);
     writer.push("x.y")?;
-    push_path(paths, writer)
+    Ok(push_path(paths, writer)?)
 }
 
 fn written_paths(alloc: Global) -> Result<String, Fault> {
@@ -125,11 +132,10 @@ fn at(alloc: Global, path: &str, expand_dots: bool) -> Result<Term, Fault>
 
 // Adds terms of paths alone.
 fn push_at_paths(alloc: Global, terms: &mut Vec<Term>) -> Result<(), Fault> {
-    terms.push(at(alloc, "bands.band_name", false)?)?;
-    terms.push(at(alloc, r"k8s\.node", false)?)?;
-    terms.push(at(alloc, r"k8s\.node", true)?)?;
-    terms.push(at(alloc, "", true)?)?;
-    Ok(())
+    add(terms, at(alloc, "bands.band_name", false))?;
+    add(terms, at(alloc, r"k8s\.node", false))?;
+    add(terms, at(alloc, r"k8s\.node", true))?;
+    add(terms, at(alloc, "", true))
 }
 
 fn text_at(alloc: Global, text: &str) -> Result<Term, Fault> {
@@ -158,11 +164,10 @@ fn truth_at(alloc: Global, truth: bool) -> Result<Term, Fault> {
 
 // Adds terms of values at a path.
 fn push_values(alloc: Global, terms: &mut Vec<Term>) -> Result<(), Fault> {
-    terms.push(text_at(alloc, "red")?)?;
-    terms.push(unsigned_at(alloc, 4)?)?;
-    terms.push(signed_at(alloc, -4)?)?;
-    terms.push(truth_at(alloc, true)?)?;
-    Ok(())
+    add(terms, text_at(alloc, "red"))?;
+    add(terms, unsigned_at(alloc, 4))?;
+    add(terms, signed_at(alloc, -4))?;
+    add(terms, truth_at(alloc, true))
 }
 
 #[test]
@@ -193,17 +198,34 @@ fn values_at_paths_have_terms(rt: HostRuntime) -> Result<(), Fail> {
     Ok(())
 }
 
+// Adds a line.
+fn push_line(leaves: &mut String, line: &str) -> Result<(), AllocError> {
+    leaves.push_str(line)?;
+    leaves.push_str("\n")
+}
+
+// Adds a value's code and its number.
+fn push_value(leaves: &mut String, code: u8, number: u64) -> Result<(), Fault> {
+    write!(leaves, "{} {number:x}\n", code as char)?;
+    Ok(())
+}
+
+// Adds the kind of a leaf that isn't taken.
+fn push_kind(leaves: &mut String, kind: &LeafKind) -> Result<(), Fault> {
+    write!(leaves, "{kind}\n")?;
+    Ok(())
+}
+
 // Adds what leaf a value is, and a line's end.
 fn push_leaf(leaves: &mut String, value: &JsonValue) -> Result<(), Fault> {
     match value.leaf() {
-        None => write!(leaves, "none\n")?,
-        Some(JsonLeaf::Text(text)) => write!(leaves, "{text}\n")?,
+        None => Ok(push_line(leaves, "none")?),
+        Some(JsonLeaf::Text(text)) => Ok(push_line(leaves, text)?),
         Some(JsonLeaf::Value(value_type, number)) => {
-            write!(leaves, "{} {number:x}\n", value_type.to_code() as char)?
+            push_value(leaves, value_type.to_code(), number)
         }
-        Some(JsonLeaf::Unsupported(kind)) => write!(leaves, "{kind}\n")?,
+        Some(JsonLeaf::Unsupported(kind)) => push_kind(leaves, &kind),
     }
-    Ok(())
 }
 
 fn push_numbers(leaves: &mut String) -> Result<(), Fault> {

@@ -1,8 +1,8 @@
 ghost use Rattle.std.specs.Prelude.{◌≡◌};
 
 use ii_base::{
-    AliveBitSet, AsciiTokenizer, DateTime, FastValue, Fault, Field, FieldEntry, IndexRecordOption,
-    Schema, Term, TextAnalyzer, TokenStream, ValueType,
+    AliveBitSet, AsciiTokenizer, DateTime, DocId, FastValue, Fault, Field, FieldEntry,
+    IndexRecordOption, Schema, Term, TextAnalyzer, TokenStream, ValueType,
 };
 use std::alloc::{AllocError, Global};
 use std::test::Fail;
@@ -108,32 +108,45 @@ fn schemas_are_copied(rt: HostRuntime) -> Result<(), Fail> {
     Ok(())
 }
 
+// What of an option is recorded, and what it is when it is lowered to each of the three.
+fn told_of_option(one: IndexRecordOption) -> (bool, bool, [IndexRecordOption; 3]) {
+    let (freq, positions) = (one.has_freq(), one.has_positions());
+    let basic = one.downgrade(IndexRecordOption::Basic);
+    let counts = one.downgrade(IndexRecordOption::WithFreqs);
+    let all = one.downgrade(IndexRecordOption::WithFreqsAndPositions);
+    (freq, positions, [basic, counts, all])
+}
+
 #[test]
 fn options_are_ordered(rt: HostRuntime) {
-    let options = [
-        IndexRecordOption::Basic,
-        IndexRecordOption::WithFreqs,
-        IndexRecordOption::WithFreqsAndPositions,
-    ];
-    for (i, one) in options.iter().enumerate() {
-        assert!(rt; one.has_freq() == (i > 0));
-        assert!(rt; one.has_positions() == (i > 1));
-        for (j, other) in options.iter().enumerate() {
-            let lesser = if i < j { one } else { other };
-            assert!(rt; one.downgrade(*other) == *lesser);
-        }
-    }
+    let basic = IndexRecordOption::Basic;
+    let counts = IndexRecordOption::WithFreqs;
+    let all = IndexRecordOption::WithFreqsAndPositions;
+    assert!(rt; told_of_option(basic) == (false, false, [basic, basic, basic]));
+    assert!(rt; told_of_option(counts) == (true, false, [basic, counts, counts]));
+    assert!(rt; told_of_option(all) == (true, true, [basic, counts, all]));
+}
+
+static DELETED: [DocId; 3] = [2, 0, 2];
+
+// Which of three documents are alive where none is deleted.
+fn all_alive(alloc: Global) -> Result<[bool; 3], Fault> {
+    let all = AliveBitSet::full(alloc, 3)?;
+    Ok([all.is_alive(0), all.is_alive(1), all.is_alive(2)])
+}
+
+// Which of four are where the first and the third one are deleted.
+fn some_alive(alloc: Global) -> Result<[bool; 4], Fault> {
+    let some = AliveBitSet::from_deleted_docs(alloc, &DELETED, 4)?;
+    let two = (some.is_alive(0), some.is_alive(1));
+    Ok([two.0, two.1, some.is_alive(2), some.is_alive(3)])
 }
 
 #[test]
 fn documents_are_alive(rt: HostRuntime) -> Result<(), Fail> {
-    let all = AliveBitSet::full(rt.alloc(), 3)?;
-    let some = AliveBitSet::from_deleted_docs(rt.alloc(), &[2, 0, 2], 4)?;
-    for doc in 0..3 {
-        assert!(rt; all.is_alive(doc));
-        assert!(rt; some.is_alive(doc) == (doc == 1));
-    }
-    assert!(rt; some.is_alive(3));
+    let (all, some) = (all_alive(rt.alloc())?, some_alive(rt.alloc())?);
+    assert!(rt; all == [true; 3]);
+    assert!(rt; some == [false, true, false, true]);
     Ok(())
 }
 
@@ -212,26 +225,40 @@ fn appended<T: FastValue>(alloc: Global, val: T) -> Result<Term, Fault> {
     Ok(term)
 }
 
+// Adds a term that was made.
+pub(crate) fn add(terms: &mut Vec<Term>, made: Result<Term, Fault>) -> Result<(), Fault> {
+    terms.push(made?)?;
+    Ok(())
+}
+
 // Adds terms of values.
 fn push_values(alloc: Global, terms: &mut Vec<Term>) -> Result<(), Fault> {
     let field = Field::from_field_id(3);
-    terms.push(Term::from_field_u64(alloc, field, 983)?)?;
-    terms.push(Term::from_field_i64(alloc, field, -4)?)?;
-    terms.push(Term::from_field_bool(alloc, field, true)?)?;
-    terms.push(Term::from_field_bytes(alloc, field, b"ab")?)?;
-    Ok(())
+    add(terms, Term::from_field_u64(alloc, field, 983))?;
+    add(terms, Term::from_field_i64(alloc, field, -4))?;
+    add(terms, Term::from_field_bool(alloc, field, true))?;
+    add(terms, Term::from_field_bytes(alloc, field, b"ab"))
+}
+
+// The term of a text under a path.
+fn text_appended(alloc: Global) -> Result<Term, Fault> {
+    let mut term = Term::from_field_text(alloc, Field::from_field_id(3), "color")?;
+    term.append_type_and_str("red")?;
+    Ok(term)
 }
 
 // Adds terms of values under a path.
 fn push_appended(alloc: Global, terms: &mut Vec<Term>) -> Result<(), Fault> {
-    terms.push(appended(alloc, 4u64)?)?;
-    terms.push(appended(alloc, -4i64)?)?;
-    terms.push(appended(alloc, true)?)?;
-    terms.push(appended(alloc, DateTime(5))?)?;
-    let mut term = Term::from_field_text(alloc, Field::from_field_id(3), "color")?;
-    term.append_type_and_str("red")?;
-    terms.push(term)?;
-    Ok(())
+    add(terms, appended(alloc, 4u64))?;
+    add(terms, appended(alloc, -4i64))?;
+    add(terms, appended(alloc, true))?;
+    add(terms, appended(alloc, DateTime(5)))?;
+    add(terms, text_appended(alloc))
+}
+
+// Whether a term of field 3 has these bytes.
+fn has_bytes(term: &Term, row: &[u8]) -> bool {
+    (term.field() == Field::from_field_id(3)) & (term.serialized_value_bytes() == row)
 }
 
 // Whether terms of field 3 have these bytes, as many as there are.
@@ -239,12 +266,11 @@ pub(crate) fn have_bytes(terms: &[Term], rows: &[&'static [u8]]) -> bool {
     if terms.len() != rows.len() {
         return false;
     }
-    for (term, row) in terms.iter().zip(rows) {
-        if term.field() != Field::from_field_id(3) || term.serialized_value_bytes() != *row {
-            return false;
-        }
+    let mut all = true;
+    for i in 0..terms.len() {
+        all &= has_bytes(&terms[i], rows[i]);
     }
-    true
+    all
 }
 
 #[test]
