@@ -1,4 +1,4 @@
-use crate::table::{Measured, ROUNDS, print_row};
+use crate::table::{Measured, ROUNDS, print_numbered, print_parts};
 use anyhow::Result;
 use ii_codes::{BlockDecoder, BlockEncoder, VIntEncoder};
 use std::io;
@@ -36,26 +36,21 @@ fn measure_width(rt: &HostRuntime, width: u32) -> Result<()> {
     let block = entries(width);
     let mut encoder = BlockEncoder::new();
     let packing = pack(rt, &mut encoder, &block)?;
-    print_row(
-        rt,
-        &format!(in rt.alloc(); "packing, width {width}: a block")?,
-        &packing,
-    )?;
+    print_width(rt, "packing, width ", width, &packing)?;
     let (num_bits, packed) = encoder.compress_block_unsorted(&block, false);
-    let bytes = followed(packed);
-    let unsorted = unpack(rt, &bytes, num_bits)?;
-    print_row(
-        rt,
-        &format!(in rt.alloc(); "unpacking, width {width}: a block")?,
-        &unsorted,
-    )?;
-    let sorted = unpack_sorted(rt, &bytes, num_bits)?;
-    print_row(
-        rt,
-        &format!(in rt.alloc(); "unpacking sorted values, width {width}: a block")?,
-        &sorted,
-    )?;
-    Ok(())
+    measure_unpacking(rt, width, &followed(packed), num_bits)
+}
+
+fn measure_unpacking(rt: &HostRuntime, width: u32, bytes: &[u8], num_bits: u8) -> Result<()> {
+    let unsorted = unpack(rt, bytes, num_bits)?;
+    print_width(rt, "unpacking, width ", width, &unsorted)?;
+    let sorted = unpack_sorted(rt, bytes, num_bits)?;
+    print_width(rt, "unpacking sorted values, width ", width, &sorted)
+}
+
+fn print_width(rt: &HostRuntime, what: &str, width: u32, measured: &Measured) -> Result<()> {
+    let number = u64::from(width);
+    Ok(print_numbered(rt, what, number, [": a block", "", ""], measured)?)
 }
 
 // Bytes of a block and bytes after it, as it stands in a list.
@@ -120,12 +115,7 @@ fn measure_vints(rt: &HostRuntime, name: &str, difference: u32) -> Result<()> {
     let mut encoder = BlockEncoder::new();
     let bytes = encoder.compress_vint_unsorted(&differences);
     let measured = read_vints(rt, bytes)?;
-    print_row(
-        rt,
-        &format!(in rt.alloc(); "sorted vints of {name}: a value")?,
-        &measured,
-    )?;
-    Ok(())
+    Ok(print_parts(rt, ["sorted vints of ", name, ": a value"], &measured)?)
 }
 
 fn read_vints(rt: &HostRuntime, bytes: &[u8]) -> io::Result<Measured> {

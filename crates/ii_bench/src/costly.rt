@@ -1,4 +1,4 @@
-use crate::table::{Measured, ROUNDS, print_row};
+use crate::table::{Measured, ROUNDS, print_numbered, since};
 use anyhow::Result;
 use bytes::Bytes;
 use ii_base::{CompositeFile, Fault, IndexRecordOption, write_u32_vint};
@@ -39,16 +39,16 @@ pub fn measure(rt: &HostRuntime) -> Result<()> {
 
 fn measure_format(rt: &HostRuntime, name: &str, format: Format) -> Result<()> {
     for count in [FEW, MANY] {
-        let costly = Costly::made(rt.alloc(), format, count)?;
-        let measured = open(rt, format, &costly)?;
-        let len = measured.bytes;
-        print_row(
-            rt,
-            &format!(in rt.alloc(); "opening {len} bytes, {name}: a byte")?,
-            &measured,
-        )?;
+        let measured = measure_count(rt, format, count)?;
+        let after = [" bytes, ", name, ": a byte"];
+        print_numbered(rt, "opening ", measured.bytes, after, &measured)?;
     }
     Ok(())
+}
+
+fn measure_count(rt: &HostRuntime, format: Format, count: u32) -> Result<Measured> {
+    let costly = Costly::made(rt.alloc(), format, count)?;
+    open(rt, format, &costly)
 }
 
 /// Bytes, those of positions, and how many documents or terms they have.
@@ -61,24 +61,38 @@ struct Costly {
 
 impl Costly {
     fn made(alloc: Global, format: Format, count: u32) -> Result<Costly, Fault> {
-        let mut bytes = Vec::new(alloc);
-        let mut positions = Vec::new(alloc);
-        match format {
-            Format::Documents => push_blocks(&mut bytes, count, 5, &[])?,
-            Format::Counts => push_blocks(&mut bytes, count, 8, &[0; 3])?,
-            Format::Positions => {
-                push_blocks(&mut bytes, count, 12, &[0, 128, 0, 0, 0, 0, 0])?;
-                push_widths(&mut positions, count)?;
-            }
-            Format::Composite => push_fields(&mut bytes, count)?,
-            Format::Store => push_metas(&mut bytes, count)?,
-        }
+        let bytes = bytes_of(alloc, format, count)?;
         Ok(Costly {
-            bytes: Bytes::from_vec(bytes)?,
-            positions: Bytes::from_vec(positions)?,
+            bytes,
+            positions: positions_of(alloc, format, count)?,
             count: count.saturating_mul(128),
         })
     }
+}
+
+fn bytes_of(alloc: Global, format: Format, count: u32) -> Result<Bytes, Fault> {
+    let mut bytes = Vec::new(alloc);
+    push_bytes(&mut bytes, format, count)?;
+    Ok(Bytes::from_vec(bytes)?)
+}
+
+fn push_bytes(bytes: &mut Vec<u8>, format: Format, count: u32) -> Result<(), Fault> {
+    match format {
+        Format::Documents => push_blocks(bytes, count, 5, &[]),
+        Format::Counts => push_blocks(bytes, count, 8, &[0; 3]),
+        Format::Positions => push_blocks(bytes, count, 12, &[0, 128, 0, 0, 0, 0, 0]),
+        Format::Composite => push_fields(bytes, count),
+        Format::Store => push_metas(bytes, count),
+    }
+}
+
+// The bytes of positions, none where a format has none.
+fn positions_of(alloc: Global, format: Format, count: u32) -> Result<Bytes, Fault> {
+    let mut positions = Vec::new(alloc);
+    if matches!(format, Format::Positions) {
+        push_widths(&mut positions, count)?;
+    }
+    Ok(Bytes::from_vec(positions)?)
 }
 
 // Skip entries of full blocks without gaps, of so many bytes each, with these behind its code.
@@ -130,9 +144,9 @@ fn open(rt: &HostRuntime, format: Format, costly: &Costly) -> Result<Measured> {
     let mut least = Duration::MAX;
     for _ in 0..ROUNDS {
         let (bytes, positions) = (costly.bytes.clone()?, costly.positions.clone()?);
-        let start = Instant::now(rt)?;
+        let start = Instant::now(rt);
         open_once(rt.alloc(), format, bytes, positions, costly.count)?;
-        least = least.min(start.elapsed(rt)?);
+        least = least.min(since(rt, start)?);
     }
     let len = costly.bytes.as_slice().len() + costly.positions.as_slice().len();
     Ok(Measured {
@@ -149,19 +163,34 @@ fn open_once(
     positions: Bytes,
     count: u32,
 ) -> Result<(), Fault> {
-    let (option, positions) = match format {
-        Format::Composite => {
-            let _file = CompositeFile::open(alloc, bytes)?;
-            return Ok(());
+    match format {
+        Format::Composite => open_fields(alloc, bytes),
+        Format::Store => open_store(bytes),
+        Format::Documents => open_list(count, bytes, None, IndexRecordOption::Basic),
+        Format::Counts => open_list(count, bytes, None, IndexRecordOption::WithFreqs),
+        Format::Positions => {
+            let option = IndexRecordOption::WithFreqsAndPositions;
+            open_list(count, bytes, Some(positions), option)
         }
-        Format::Store => {
-            let _store = TermInfoStore::open(bytes)?;
-            return Ok(());
-        }
-        Format::Documents => (IndexRecordOption::Basic, None),
-        Format::Counts => (IndexRecordOption::WithFreqs, None),
-        Format::Positions => (IndexRecordOption::WithFreqsAndPositions, Some(positions)),
-    };
+    }
+}
+
+fn open_fields(alloc: Global, bytes: Bytes) -> Result<(), Fault> {
+    let _file = CompositeFile::open(alloc, bytes)?;
+    Ok(())
+}
+
+fn open_store(bytes: Bytes) -> Result<(), Fault> {
+    let _store = TermInfoStore::open(bytes)?;
+    Ok(())
+}
+
+fn open_list(
+    count: u32,
+    bytes: Bytes,
+    positions: Option<Bytes>,
+    option: IndexRecordOption,
+) -> Result<(), Fault> {
     let _cursor = SegmentPostings::open(count, bytes, positions, option, option)?;
     Ok(())
 }

@@ -1,5 +1,5 @@
 use crate::ascending_terms::AscendingTerms;
-use crate::table::{Measured, ROUNDS, print_row};
+use crate::table::{Measured, ROUNDS, print_row, since};
 use anyhow::Result;
 use bytes::Bytes;
 use ii_io::{CountingWriter, Fault};
@@ -15,11 +15,18 @@ const STEP: u32 = 7_919;
 
 /// Prints what it takes to build a dictionary of a million keys, to open it, and to look keys up.
 pub fn measure(rt: &HostRuntime) -> Result<()> {
-    let (bytes, building) = build(rt)?;
+    let bytes = built(rt.alloc())?;
+    let len = bytes.as_slice().len();
+    let building = of_keys(build(rt)?, len);
     print_row(rt, "building a dictionary: a key", &building)?;
-    let (terms, opening) = open(rt, &bytes)?;
+    measure_reading(rt, &bytes, len)
+}
+
+fn measure_reading(rt: &HostRuntime, bytes: &Bytes, len: usize) -> Result<()> {
+    let opening = of_keys(open(rt, bytes)?, len);
     print_row(rt, "opening a dictionary: a key", &opening)?;
-    print_row(rt, "looking a key up", &get(rt, &terms)?)?;
+    let looking = get_in(rt, bytes.clone()?)?;
+    print_row(rt, "looking a key up", &looking)?;
     Ok(())
 }
 
@@ -35,36 +42,50 @@ fn of_keys(took: Duration, bytes: usize) -> Measured {
 // The bytes of the dictionary.
 fn built(alloc: Global) -> Result<Bytes, Fault> {
     let mut terms = AscendingTerms::new(alloc, CountingWriter::wrap(Vec::new(alloc)));
-    for key in 0..KEYS {
-        terms.write(&key.to_be_bytes(), 5, 7, 21)?;
-    }
+    write_keys(&mut terms)?;
     let (writer, finished) = terms.finish();
     finished?;
     Ok(Bytes::from_vec(writer.finish())?)
 }
 
-fn build(rt: &HostRuntime) -> Result<(Bytes, Measured)> {
-    let mut bytes = Bytes::new();
-    let mut least = Duration::MAX;
-    for _ in 0..ROUNDS {
-        let start = Instant::now(rt)?;
-        bytes = built(rt.alloc())?;
-        least = least.min(start.elapsed(rt)?);
+fn write_keys(terms: &mut AscendingTerms<Vec<u8>>) -> Result<(), Fault> {
+    for key in 0..KEYS {
+        terms.write(&key.to_be_bytes(), 5, 7, 21)?;
     }
-    let len = bytes.as_slice().len();
-    Ok((bytes, of_keys(least, len)))
+    Ok(())
 }
 
-fn open(rt: &HostRuntime, bytes: &Bytes) -> Result<(TermDictionary, Measured)> {
-    let mut terms = TermDictionary::empty();
+fn build(rt: &HostRuntime) -> Result<Duration> {
     let mut least = Duration::MAX;
     for _ in 0..ROUNDS {
-        let bytes = bytes.clone()?;
-        let start = Instant::now(rt)?;
-        terms = TermDictionary::open(bytes)?;
-        least = least.min(start.elapsed(rt)?);
+        least = least.min(build_once(rt)?);
     }
-    Ok((terms, of_keys(least, bytes.as_slice().len())))
+    Ok(least)
+}
+
+fn build_once(rt: &HostRuntime) -> Result<Duration> {
+    let start = Instant::now(rt);
+    let _bytes = built(rt.alloc())?;
+    Ok(since(rt, start)?)
+}
+
+fn open(rt: &HostRuntime, bytes: &Bytes) -> Result<Duration> {
+    let mut least = Duration::MAX;
+    for _ in 0..ROUNDS {
+        least = least.min(open_once(rt, bytes.clone()?)?);
+    }
+    Ok(least)
+}
+
+fn open_once(rt: &HostRuntime, bytes: Bytes) -> Result<Duration> {
+    let start = Instant::now(rt);
+    let _terms = TermDictionary::open(bytes)?;
+    Ok(since(rt, start)?)
+}
+
+fn get_in(rt: &HostRuntime, bytes: Bytes) -> Result<Measured> {
+    let terms = TermDictionary::open(bytes)?;
+    get(rt, &terms)
 }
 
 fn get(rt: &HostRuntime, terms: &TermDictionary) -> Result<Measured> {

@@ -2,13 +2,13 @@ ghost use Rattle.std.specs.Prelude.{◌≡◌, ◌<◌, length, IfOk};
 ghost use Rattle.ii_base.specs.declared.schema.value_type.ValueType.TheVariants.{Str};
 ghost use Rattle.ii_indexing.specs.IndexCalls.{Takes};
 
-use crate::table::{Measured, print_row};
+use crate::table::{Measured, print_row, since};
 use anyhow::Result;
 use bytes::Bytes;
 use ii_base::{AsciiTokenizer, Field, FieldEntry, IndexRecordOption, Schema, Term};
 use ii_indexing::{IndexCall, IndexWriters, Indexer};
 use ii_io::{CountingWriter, Fault};
-use ii_reader::{OpenIndex, SegmentPostings, open_index};
+use ii_reader::{InvertedIndexReader, OpenIndex, SegmentPostings, open_index};
 use std::alloc::Global;
 use std::time::{Duration, Instant};
 
@@ -62,16 +62,10 @@ struct Figures {
 }
 
 fn round(rt: &HostRuntime) -> Result<Figures> {
-    let alloc = rt.alloc();
-    let (texts, text_bytes) = texts(alloc, TERMS)?;
-    let start = Instant::now(rt)?;
-    let files = written(alloc, indexed(alloc, texts)?)?;
-    let indexing = start.elapsed(rt)?;
+    let (texts, text_bytes) = texts(rt.alloc(), TERMS)?;
+    let (files, indexing) = index_once(rt, texts)?;
     let file_bytes = files.len();
-    let start = Instant::now(rt)?;
-    let index = opened(alloc, files)?;
-    let opening = start.elapsed(rt)?;
-    let looking = look_up(rt, &index)?;
+    let (opening, looking) = open_and_look_up(rt, files)?;
     Ok(Figures {
         indexing,
         opening,
@@ -79,6 +73,22 @@ fn round(rt: &HostRuntime) -> Result<Figures> {
         text_bytes,
         file_bytes,
     })
+}
+
+// What it takes to index texts, and their files.
+fn index_once(rt: &HostRuntime, texts: Vec<String>) -> Result<(Files, Duration)> {
+    let start = Instant::now(rt);
+    let files = written(rt.alloc(), indexed(rt.alloc(), texts)?)?;
+    let took = since(rt, start)?;
+    Ok((files, took))
+}
+
+// What it takes to open files, and to look words up.
+fn open_and_look_up(rt: &HostRuntime, files: Files) -> Result<(Duration, Duration)> {
+    let start = Instant::now(rt);
+    let index = opened(rt.alloc(), files)?;
+    let opening = since(rt, start)?;
+    Ok((opening, look_up(rt, &index)?))
 }
 
 // Numbers that look drawn at random.
@@ -103,14 +113,22 @@ fn texts(alloc: Global, terms: u64) -> Result<(Vec<String>, u64)>
     let mut texts = Vec::new(alloc);
     let mut bytes = 0u64;
     for _ in 0..DOCS {
-        let mut text = String::new(alloc);
-        for _ in 0..WORDS {
-            write!(text, "w{} ", drawn.next() % terms)?;
-        }
+        let text = text(alloc, &mut drawn, terms)?;
         bytes = bytes.saturating_add(text.len() as u64);
         texts.push(text)?;
     }
     Ok((texts, bytes))
+}
+
+// A text of words that are drawn.
+fn text(alloc: Global, drawn: &mut Drawn, terms: u64) -> Result<String>
+    requires { 0 < terms }
+{
+    let mut text = String::new(alloc);
+    for _ in 0..WORDS {
+        write!(text, "w{} ", drawn.next() % terms)?;
+    }
+    Ok(text)
 }
 
 fn schema(alloc: Global) -> Result<Schema, Fault>
@@ -200,13 +218,17 @@ fn opened(alloc: Global, files: Files) -> Result<OpenIndex, Fault>
 fn look_up(rt: &HostRuntime, index: &OpenIndex) -> Result<Duration>
     requires { 0 < length index.now.readers }
 {
-    let reader = index.reader(Field::from_field_id(0));
     let terms = terms(rt.alloc())?;
-    let start = Instant::now(rt)?;
-    for term in &terms {
+    look_up_all(rt, index.reader(Field::from_field_id(0)), &terms)
+}
+
+// The same of these terms.
+fn look_up_all(rt: &HostRuntime, reader: &InvertedIndexReader, terms: &[Term]) -> Result<Duration> {
+    let start = Instant::now(rt);
+    for term in terms {
         let _cursor = reader.read_postings(term, IndexRecordOption::WithFreqsAndPositions)?;
     }
-    Ok(start.elapsed(rt)?)
+    Ok(since(rt, start)?)
 }
 
 fn terms(alloc: Global) -> Result<Vec<Term>> {

@@ -3,7 +3,7 @@ ghost use Rattle.ii_base.specs.declared.schema.value_type.ValueType.TheVariants.
 ghost use Rattle.ii_indexing.specs.IndexCalls.{Takes};
 
 use crate::indexes::written;
-use crate::table::{Measured, ROUNDS, print_memory, print_row};
+use crate::table::{Measured, ROUNDS, print_memory, print_row, since};
 use anyhow::Result;
 use ii_base::{AsciiTokenizer, Field, FieldEntry, IndexRecordOption, JsonValue, Schema};
 use ii_indexing::{IndexCall, Indexer};
@@ -35,10 +35,9 @@ pub fn measure(rt: &HostRuntime) -> Result<()> {
     let mut least = Duration::MAX;
     let mut file_bytes = 0;
     for _ in 0..ROUNDS {
-        let start = Instant::now(rt)?;
-        let files = written(rt.alloc(), indexed(rt.alloc())?)?;
-        least = least.min(start.elapsed(rt)?);
-        file_bytes = files.len();
+        let (took, bytes) = index_once(rt)?;
+        least = least.min(took);
+        file_bytes = bytes;
     }
     let measured = Measured {
         took: least,
@@ -94,18 +93,29 @@ fn indexed(alloc: Global) -> Result<Indexer> {
     Ok(indexer)
 }
 
+// What it takes once, and how many bytes are written.
+fn index_once(rt: &HostRuntime) -> Result<(Duration, u64)> {
+    let start = Instant::now(rt);
+    let files = written(rt.alloc(), indexed(rt.alloc())?)?;
+    Ok((since(rt, start)?, files.len()))
+}
+
 // A value of five leaves: two texts of two words, and three numbers.
 fn value(alloc: Global, doc: u32) -> Result<JsonValue> {
-    let number = u64::from(doc);
     let mut leaves = Vec::new(alloc);
+    push_leaves(alloc, &mut leaves, doc)?;
+    let mut members = Vec::new(alloc);
+    members.push(member(alloc, OUTER, JsonValue::Object(leaves))?)?;
+    Ok(JsonValue::Object(members))
+}
+
+fn push_leaves(alloc: Global, leaves: &mut Vec<(String, JsonValue)>, doc: u32) -> Result<()> {
+    let number = u64::from(doc);
     leaves.push(text_at(alloc, TITLE, number % 5_000)?)?;
     leaves.push(text_at(alloc, AUTHOR, number % 300)?)?;
     leaves.push(member(alloc, VISITS, JsonValue::U64(number % 1_000))?)?;
     leaves.push(member(alloc, CHANGE, JsonValue::I64(-7))?)?;
-    leaves.push(member(alloc, PUBLIC, JsonValue::Bool(doc % 2 == 0))?)?;
-    let mut members = Vec::new(alloc);
-    members.push(member(alloc, OUTER, JsonValue::Object(leaves))?)?;
-    Ok(JsonValue::Object(members))
+    Ok(leaves.push(member(alloc, PUBLIC, JsonValue::Bool(doc % 2 == 0))?)?)
 }
 
 fn member(alloc: Global, key: &str, value: JsonValue) -> Result<(String, JsonValue)> {

@@ -2,10 +2,11 @@ ghost use Rattle.std.specs.Prelude.{IsOk, Some};
 ghost use Rattle.ii_layout.specs.TermList.{term_list};
 
 use crate::lists::{documents, written};
-use crate::table::{Measured, ROUNDS, print_row};
+use crate::table::{Measured, ROUNDS, print_numbered};
 use anyhow::Result;
 use bytes::Bytes;
 use ii_base::{CountingWriter, Fault, IndexRecordOption};
+use ii_docset::DocId;
 use ii_layout::PositionWriter;
 use ii_reader::SegmentPostings;
 use std::alloc::Global;
@@ -25,19 +26,32 @@ struct KnownList {
 /// open, without positions and with them.
 pub fn measure(rt: &HostRuntime) -> Result<()> {
     let docs = documents(rt.alloc(), 29, 1_000_000)?;
+    measure_lengths(rt, &docs)
+}
+
+fn measure_lengths(rt: &HostRuntime, docs: &[DocId]) -> Result<()> {
     for doc_freq in [1, 1_000, 1_000_000] {
         let Some(docs) = docs.get(..doc_freq as usize) else {
             continue;
         };
-        let list = KnownList {
-            doc_freq,
-            postings: written(rt.alloc(), docs, POSITIONS)?,
-            positions: positions(rt.alloc(), doc_freq)?,
-        };
-        measure_list(rt, "documents", &list, IndexRecordOption::Basic)?;
-        measure_list(rt, "positions", &list, POSITIONS)?;
+        measure_first(rt, docs, doc_freq)?;
     }
     Ok(())
+}
+
+// A list of so many documents, without positions and with them.
+fn measure_first(rt: &HostRuntime, docs: &[DocId], doc_freq: u32) -> Result<()> {
+    let list = known_list(rt.alloc(), docs, doc_freq)?;
+    measure_list(rt, "documents", &list, IndexRecordOption::Basic)?;
+    measure_list(rt, "positions", &list, POSITIONS)
+}
+
+fn known_list(alloc: Global, docs: &[DocId], doc_freq: u32) -> Result<KnownList, Fault> {
+    Ok(KnownList {
+        doc_freq,
+        postings: written(alloc, docs, POSITIONS)?,
+        positions: positions(alloc, doc_freq)?,
+    })
 }
 
 // The bytes of so many positions, each the first of its document.
@@ -57,23 +71,12 @@ fn measure_list(
     list: &KnownList,
     option: IndexRecordOption,
 ) -> Result<()> {
-    let count = list.doc_freq;
+    let count = u64::from(list.doc_freq);
+    let after = [", ", read, ": a list"];
     let checking = check(rt, list, option)?;
-    print_row(
-        rt,
-        &format!(in rt.alloc(); "checking a list of {count}, {read}: a list")?,
-        &checking,
-    )?;
-    // it opens, so it is known to
-    let postings = list.postings.clone()?;
-    let positions = Some(list.positions.clone()?);
-    let _cursor = SegmentPostings::open(count, postings, positions, POSITIONS, option)?;
+    print_numbered(rt, "checking a list of ", count, after, &checking)?;
     let opening = open_known(rt, list, option)?;
-    print_row(
-        rt,
-        &format!(in rt.alloc(); "opening a known list of {count}, {read}: a list")?,
-        &opening,
-    )?;
+    print_numbered(rt, "opening a known list of ", count, after, &opening)?;
     Ok(())
 }
 
@@ -89,31 +92,54 @@ fn of_list(took: Duration, list: &KnownList) -> Measured {
 fn check(rt: &HostRuntime, list: &KnownList, option: IndexRecordOption) -> Result<Measured> {
     let mut least = Duration::MAX;
     for _ in 0..ROUNDS {
-        let postings = list.postings.clone()?;
-        let positions = Some(list.positions.clone()?);
-        let start = Instant::now(rt)?;
-        let _cursor = SegmentPostings::open(list.doc_freq, postings, positions, POSITIONS, option)?;
-        least = least.min(start.elapsed(rt)?);
+        least = least.min(check_once(rt, list, option)?);
     }
     Ok(of_list(least, list))
 }
 
-fn open_known(rt: &HostRuntime, list: &KnownList, option: IndexRecordOption) -> Result<Measured>
+fn check_once(rt: &HostRuntime, list: &KnownList, option: IndexRecordOption) -> Result<Duration> {
+    let postings = list.postings.clone()?;
+    let positions = Some(list.positions.clone()?);
+    let start = Instant::now(rt)?;
+    let _cursor = SegmentPostings::open(list.doc_freq, postings, positions, POSITIONS, option)?;
+    Ok(start.elapsed(rt)?)
+}
+
+fn open_known(rt: &HostRuntime, list: &KnownList, option: IndexRecordOption) -> Result<Measured> {
+    // it opens, so it is known to
+    let postings = list.postings.clone()?;
+    let positions = Some(list.positions.clone()?);
+    let count = list.doc_freq;
+    let _cursor = SegmentPostings::open(count, postings, positions, POSITIONS, option)?;
+    open_again(rt, list, option)
+}
+
+fn open_again(rt: &HostRuntime, list: &KnownList, option: IndexRecordOption) -> Result<Measured>
     requires { IsOk (term_list POSITIONS option list.now.doc_freq list.now.postings (Some list.now.positions)) }
 {
     let mut least = Duration::MAX;
     for _ in 0..ROUNDS {
-        let postings = list.postings.clone()?;
-        let positions = Some(list.positions.clone()?);
-        let start = Instant::now(rt)?;
-        let _cursor = SegmentPostings::open_known(
-            list.doc_freq,
-            postings,
-            positions,
-            POSITIONS,
-            option,
-        );
-        least = least.min(start.elapsed(rt)?);
+        least = least.min(open_known_once(rt, list, option)?);
     }
     Ok(of_list(least, list))
+}
+
+fn open_known_once(
+    rt: &HostRuntime,
+    list: &KnownList,
+    option: IndexRecordOption,
+) -> Result<Duration>
+    requires { IsOk (term_list POSITIONS option list.now.doc_freq list.now.postings (Some list.now.positions)) }
+{
+    let postings = list.postings.clone()?;
+    let positions = Some(list.positions.clone()?);
+    let start = Instant::now(rt)?;
+    let _cursor = SegmentPostings::open_known(
+        list.doc_freq,
+        postings,
+        positions,
+        POSITIONS,
+        option,
+    );
+    Ok(start.elapsed(rt)?)
 }

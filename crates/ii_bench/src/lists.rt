@@ -2,7 +2,7 @@ ghost use Rattle.std.specs.Prelude.{◌≡◌, ◌<◌, ℕ};
 ghost use Rattle.ii_base.specs.Entries.{are_documents};
 ghost use Rattle.ii_layout.specs.Bounds.{Covers};
 
-use crate::table::{Measured, ROUNDS, print_row};
+use crate::table::{Measured, ROUNDS, print_parts, print_row, since};
 use anyhow::Result;
 use bytes::Bytes;
 use ii_base::{CountingWriter, Fault, IndexRecordOption};
@@ -20,11 +20,17 @@ const DOCS: u32 = 1_000_000;
 
 /// Prints what it takes to write, open and walk lists of a million documents, of three densities.
 pub fn measure(rt: &HostRuntime) -> Result<()> {
-    let dense = documents(rt.alloc(), 1, DOCS)?;
-    measure_list(rt, "1", &dense)?;
-    measure_counts(rt, &dense)?;
-    measure_list(rt, "1/15", &documents(rt.alloc(), 29, DOCS)?)?;
-    measure_list(rt, "1/1000", &documents(rt.alloc(), 1999, DOCS)?)
+    measure_density(rt, "1", 1)?;
+    measure_counts(rt)?;
+    measure_density(rt, "1/15", 29)?;
+    measure_density(rt, "1/1000", 1999)
+}
+
+fn measure_density(rt: &HostRuntime, density: &str, spread: u32) -> Result<()>
+    requires { 0 < spread }
+{
+    let docs = documents(rt.alloc(), spread, DOCS)?;
+    measure_list(rt, density, &docs)
 }
 
 /// So many documents of a list, each by a random number below `spread` and 1 above the one before it.
@@ -55,44 +61,51 @@ fn of_documents(took: Duration) -> Measured {
 }
 
 fn measure_list(rt: &HostRuntime, density: &str, docs: &[DocId]) -> Result<()> {
-    let (bytes, writing) = write(rt, docs)?;
-    print_row(
-        rt,
-        &format!(in rt.alloc(); "writing, density {density}: a document")?,
-        &writing,
-    )?;
-    let opening = open(rt, &bytes)?;
-    print_row(
-        rt,
-        &format!(in rt.alloc(); "opening, density {density}: a document")?,
-        &opening,
-    )?;
-    let walking = walk(rt, &bytes)?;
-    print_row(
-        rt,
-        &format!(in rt.alloc(); "walking, density {density}: a document")?,
-        &walking,
-    )?;
-    Ok(())
+    let writing = write(rt, docs, BASIC)?;
+    print_density(rt, "writing, density ", density, &writing)?;
+    let bytes = written(rt.alloc(), docs, BASIC)?;
+    measure_reading(rt, density, &bytes)
 }
 
-fn write(rt: &HostRuntime, docs: &[DocId]) -> Result<(Bytes, Measured)> {
-    let mut bytes = Bytes::new();
+fn measure_reading(rt: &HostRuntime, density: &str, bytes: &Bytes) -> Result<()> {
+    let opening = open(rt, bytes)?;
+    print_density(rt, "opening, density ", density, &opening)?;
+    let walking = walk(rt, bytes)?;
+    print_density(rt, "walking, density ", density, &walking)
+}
+
+fn print_density(rt: &HostRuntime, what: &str, density: &str, measured: &Measured) -> Result<()> {
+    Ok(print_parts(rt, [what, density, ": a document"], measured)?)
+}
+
+fn write(rt: &HostRuntime, docs: &[DocId], record_option: IndexRecordOption) -> Result<Measured> {
     let mut least = Duration::MAX;
     for _ in 0..ROUNDS {
-        let start = Instant::now(rt)?;
-        bytes = written(rt.alloc(), docs, BASIC)?;
-        least = least.min(start.elapsed(rt)?);
+        least = least.min(write_once(rt, docs, record_option)?);
     }
-    Ok((bytes, of_documents(least)))
+    Ok(of_documents(least))
+}
+
+fn write_once(
+    rt: &HostRuntime,
+    docs: &[DocId],
+    record_option: IndexRecordOption,
+) -> Result<Duration> {
+    let start = Instant::now(rt);
+    let _bytes = written(rt.alloc(), docs, record_option)?;
+    Ok(since(rt, start)?)
 }
 
 // Writes documents with their counts, without norms and with them.
-fn measure_counts(rt: &HostRuntime, docs: &[DocId]) -> Result<()> {
-    let plain = write_counts(rt, docs, None)?;
+fn measure_counts(rt: &HostRuntime) -> Result<()> {
+    let docs = documents(rt.alloc(), 1, DOCS)?;
+    measure_both_counts(rt, &docs)
+}
+
+fn measure_both_counts(rt: &HostRuntime, docs: &[DocId]) -> Result<()> {
+    let plain = write(rt, docs, IndexRecordOption::WithFreqs)?;
     print_row(rt, "writing with counts, density 1: a document", &plain)?;
-    let ids = Bytes::from_vec(norm_ids(rt.alloc())?)?;
-    let normed = write_counts(rt, docs, Some(ids))?;
+    let normed = write_with_norms(rt, docs)?;
     print_row(rt, "the same with norms", &normed)?;
     Ok(())
 }
@@ -106,28 +119,23 @@ fn norm_ids(alloc: Global) -> Result<Vec<u8>, AllocError> {
     Ok(ids)
 }
 
-fn write_counts(rt: &HostRuntime, docs: &[DocId], ids: Option<Bytes>) -> Result<Measured> {
+fn write_with_norms(rt: &HostRuntime, docs: &[DocId]) -> Result<Measured> {
+    let ids = Bytes::from_vec(norm_ids(rt.alloc())?)?;
+    write_normed(rt, docs, &ids)
+}
+
+fn write_normed(rt: &HostRuntime, docs: &[DocId], ids: &Bytes) -> Result<Measured> {
     let mut least = Duration::MAX;
     for _ in 0..ROUNDS {
-        let took = match &ids {
-            None => write_plain(rt, docs)?,
-            Some(ids) => write_normed(rt, docs, ids)?,
-        };
-        least = least.min(took);
+        let norms = FieldNormReader::open(ids.clone()?)?;
+        least = least.min(write_normed_once(rt, docs, norms)?);
     }
     Ok(of_documents(least))
 }
 
-fn write_plain(rt: &HostRuntime, docs: &[DocId]) -> Result<Duration> {
-    let start = Instant::now(rt)?;
-    let _bytes = written(rt.alloc(), docs, IndexRecordOption::WithFreqs)?;
-    Ok(start.elapsed(rt)?)
-}
-
-fn write_normed(rt: &HostRuntime, docs: &[DocId], ids: &Bytes) -> Result<Duration> {
-    let norms = FieldNormReader::open(ids.clone()?)?;
+fn write_normed_once(rt: &HostRuntime, docs: &[DocId], norms: FieldNormReader) -> Result<Duration> {
     let limit = norms.num_docs();
-    let start = Instant::now(rt)?;
+    let start = Instant::now(rt);
     let _bytes = written_by(
         rt.alloc(),
         docs,
@@ -135,31 +143,38 @@ fn write_normed(rt: &HostRuntime, docs: &[DocId], ids: &Bytes) -> Result<Duratio
         Some(norms),
         limit,
     )?;
-    Ok(start.elapsed(rt)?)
+    Ok(since(rt, start)?)
 }
 
 fn open(rt: &HostRuntime, bytes: &Bytes) -> Result<Measured> {
     let mut least = Duration::MAX;
     for _ in 0..ROUNDS {
-        let bytes = bytes.clone()?;
-        let start = Instant::now(rt)?;
-        let _cursor = SegmentPostings::open(DOCS, bytes, None, BASIC, BASIC)?;
-        least = least.min(start.elapsed(rt)?);
+        least = least.min(open_once(rt, bytes.clone()?)?);
     }
     Ok(of_documents(least))
+}
+
+fn open_once(rt: &HostRuntime, bytes: Bytes) -> Result<Duration> {
+    let start = Instant::now(rt);
+    let _cursor = SegmentPostings::open(DOCS, bytes, None, BASIC, BASIC)?;
+    Ok(since(rt, start)?)
 }
 
 fn walk(rt: &HostRuntime, bytes: &Bytes) -> Result<Measured> {
     let mut least = Duration::MAX;
     for _ in 0..ROUNDS {
-        let mut cursor = SegmentPostings::open(DOCS, bytes.clone()?, None, BASIC, BASIC)?;
-        let start = Instant::now(rt)?;
-        for _ in 0..DOCS {
-            let _doc = cursor.advance();
-        }
-        least = least.min(start.elapsed(rt)?);
+        least = least.min(walk_once(rt, bytes.clone()?)?);
     }
     Ok(of_documents(least))
+}
+
+fn walk_once(rt: &HostRuntime, bytes: Bytes) -> Result<Duration> {
+    let mut cursor = SegmentPostings::open(DOCS, bytes, None, BASIC, BASIC)?;
+    let start = Instant::now(rt);
+    for _ in 0..DOCS {
+        let _doc = cursor.advance();
+    }
+    Ok(since(rt, start)?)
 }
 
 /// The bytes of documents that ascend, each with a count of 1 where counts are recorded.

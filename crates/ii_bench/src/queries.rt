@@ -2,13 +2,14 @@ ghost use Rattle.std.specs.Prelude.{◌<◌, length};
 
 use crate::indexes::{opened_words, read_word, word_term};
 use crate::lists::{documents, written};
-use crate::table::{Measured, ROUNDS, print_row};
+use crate::table::{Measured, ROUNDS, print_row, since};
 use anyhow::Result;
 use bytes::Bytes;
-use ii_base::IndexRecordOption;
+use ii_base::{IndexRecordOption, Term};
 use ii_docset::{DocSet, TERMINATED, intersect};
 use ii_query::{PhraseMatch, PhrasePart, QueryCursor};
 use ii_reader::{OpenIndex, SegmentPostings};
+use std::alloc::Global;
 use std::time::{Duration, Instant};
 
 const BASIC: IndexRecordOption = IndexRecordOption::Basic;
@@ -43,29 +44,55 @@ impl List {
 /// Prints what it takes to go over the documents of queries, beside loops by hand over the same cursors.
 pub fn measure(rt: &HostRuntime) -> Result<()> {
     let frequent = List::new(rt, 29, FREQUENT)?;
+    measure_rare(rt, &frequent)?;
+    measure_frequent(rt, &frequent)?;
+    measure_phrase(rt)
+}
+
+fn measure_rare(rt: &HostRuntime, frequent: &List) -> Result<()> {
     let rare = List::new(rt, 2999, RARE)?;
-    let row = "a frequent and a rare term: a document of the rare one";
-    print_row(rt, row, &of(both(rt, &frequent, &rare)?, RARE))?;
-    let row = "the same by a loop of seeks";
-    print_row(rt, row, &of(both_by_hand(rt, &frequent, &rare)?, RARE))?;
+    measure_both(rt, frequent, &rare)
+}
+
+fn measure_both(rt: &HostRuntime, frequent: &List, rare: &List) -> Result<()> {
+    let took = of(both(rt, frequent, rare)?, RARE);
+    print_row(
+        rt,
+        "a frequent and a rare term: a document of the rare one",
+        &took,
+    )?;
+    let took = of(both_by_hand(rt, frequent, rare)?, RARE);
+    print_row(rt, "the same by a loop of seeks", &took)?;
+    Ok(())
+}
+
+fn measure_frequent(rt: &HostRuntime, frequent: &List) -> Result<()> {
     let other = List::new(rt, 31, FREQUENT)?;
+    measure_either(rt, frequent, &other)
+}
+
+fn measure_either(rt: &HostRuntime, first: &List, other: &List) -> Result<()> {
     let row = "one of two frequent terms: a document of either, all counted";
-    print_row(rt, row, &of(either(rt, &frequent, &other)?, 2 * FREQUENT))?;
-    let row = "the same, asked for one document after the other";
+    print_row(rt, row, &of(either(rt, first, other)?, 2 * FREQUENT))?;
+    let took = of(either_in_turn(rt, first, other)?, 2 * FREQUENT);
     print_row(
         rt,
-        row,
-        &of(either_in_turn(rt, &frequent, &other)?, 2 * FREQUENT),
+        "the same, asked for one document after the other",
+        &took,
     )?;
-    let row = "the same by a loop that merges";
-    print_row(
-        rt,
-        row,
-        &of(either_by_hand(rt, &frequent, &other)?, 2 * FREQUENT),
-    )?;
+    let took = of(either_by_hand(rt, first, other)?, 2 * FREQUENT);
+    print_row(rt, "the same by a loop that merges", &took)?;
+    Ok(())
+}
+
+fn measure_phrase(rt: &HostRuntime) -> Result<()> {
     let index = opened_words(rt.alloc())?;
-    let row = "a phrase of two frequent words: a document of the first";
-    print_row(rt, row, &phrase(rt, &index)?)?;
+    let took = phrase(rt, &index)?;
+    print_row(
+        rt,
+        "a phrase of two frequent words: a document of the first",
+        &took,
+    )?;
     Ok(())
 }
 
@@ -88,10 +115,10 @@ fn both(rt: &HostRuntime, frequent: &List, rare: &List) -> Result<Duration> {
 fn both_once(rt: &HostRuntime, frequent: &List, rare: &List) -> Result<Duration> {
     let first = QueryCursor::one(frequent.open()?);
     let other = QueryCursor::one(rare.open()?);
-    let start = Instant::now(rt)?;
+    let start = Instant::now(rt);
     let mut found = QueryCursor::both(rt.alloc(), first, other)?;
     let _count = found.count_including_deleted();
-    Ok(start.elapsed(rt)?)
+    Ok(since(rt, start)?)
 }
 
 fn both_by_hand(rt: &HostRuntime, frequent: &List, rare: &List) -> Result<Duration> {
@@ -99,11 +126,19 @@ fn both_by_hand(rt: &HostRuntime, frequent: &List, rare: &List) -> Result<Durati
     for _ in 0..ROUNDS {
         let mut first = rare.open()?;
         let mut other = frequent.open()?;
-        let start = Instant::now(rt)?;
-        let _docs = intersect(rt.alloc(), &mut first, &mut other)?;
-        least = least.min(start.elapsed(rt)?);
+        least = least.min(both_by_hand_once(rt, &mut first, &mut other)?);
     }
     Ok(least)
+}
+
+fn both_by_hand_once(
+    rt: &HostRuntime,
+    first: &mut SegmentPostings,
+    other: &mut SegmentPostings,
+) -> Result<Duration> {
+    let start = Instant::now(rt);
+    let _docs = intersect(rt.alloc(), first, other)?;
+    Ok(since(rt, start)?)
 }
 
 fn either(rt: &HostRuntime, first: &List, other: &List) -> Result<Duration> {
@@ -117,10 +152,10 @@ fn either(rt: &HostRuntime, first: &List, other: &List) -> Result<Duration> {
 fn either_once(rt: &HostRuntime, first: &List, other: &List) -> Result<Duration> {
     let one = QueryCursor::one(first.open()?);
     let two = QueryCursor::one(other.open()?);
-    let start = Instant::now(rt)?;
+    let start = Instant::now(rt);
     let mut found = QueryCursor::either(rt.alloc(), one, two)?;
     let _count = found.count_including_deleted();
-    Ok(start.elapsed(rt)?)
+    Ok(since(rt, start)?)
 }
 
 fn either_in_turn(rt: &HostRuntime, first: &List, other: &List) -> Result<Duration> {
@@ -134,10 +169,10 @@ fn either_in_turn(rt: &HostRuntime, first: &List, other: &List) -> Result<Durati
 fn either_in_turn_once(rt: &HostRuntime, first: &List, other: &List) -> Result<Duration> {
     let one = QueryCursor::one(first.open()?);
     let two = QueryCursor::one(other.open()?);
-    let start = Instant::now(rt)?;
+    let start = Instant::now(rt);
     let mut found = QueryCursor::either(rt.alloc(), one, two)?;
     let _count = count_in_turn(&mut found);
-    Ok(start.elapsed(rt)?)
+    Ok(since(rt, start)?)
 }
 
 // How many documents a cursor has left.
@@ -159,9 +194,9 @@ fn either_by_hand(rt: &HostRuntime, first: &List, other: &List) -> Result<Durati
     for _ in 0..ROUNDS {
         let mut first = first.open()?;
         let mut other = other.open()?;
-        let start = Instant::now(rt)?;
+        let start = Instant::now(rt);
         let _count = merge(&mut first, &mut other);
-        least = least.min(start.elapsed(rt)?);
+        least = least.min(since(rt, start)?);
     }
     Ok(least)
 }
@@ -191,22 +226,50 @@ fn phrase(rt: &HostRuntime, index: &OpenIndex) -> Result<Measured>
     requires { 0 < length index.now.readers }
 {
     let (first, other) = (word_term(rt.alloc(), 1)?, word_term(rt.alloc(), 2)?);
+    phrase_of(rt, index, &first, &other)
+}
+
+fn phrase_of(rt: &HostRuntime, index: &OpenIndex, first: &Term, other: &Term) -> Result<Measured>
+    requires { 0 < length index.now.readers }
+{
     let mut least = Duration::MAX;
     let mut docs = 0;
     for _ in 0..ROUNDS {
-        let Some(first) = read_word(index, &first)? else {
-            return Ok(of(least, docs));
-        };
-        let Some(other) = read_word(index, &other)? else {
+        let Some(first) = read_word(index, first)? else {
             return Ok(of(least, docs));
         };
         docs = first.doc_freq();
-        let mut others = Vec::new(rt.alloc());
-        others.push(PhrasePart::new(1, other))?;
-        let start = Instant::now(rt)?;
-        let mut found = PhraseMatch::new(first, others);
-        let _count = found.count_including_deleted();
-        least = least.min(start.elapsed(rt)?);
+        let Some(others) = other_parts(rt.alloc(), index, other)? else {
+            return Ok(of(least, docs));
+        };
+        least = least.min(phrase_once(rt, first, others)?);
     }
     Ok(of(least, docs))
+}
+
+// The second word as it stands in a phrase, if there is one.
+fn other_parts(
+    alloc: Global,
+    index: &OpenIndex,
+    other: &Term,
+) -> Result<Option<Vec<PhrasePart<SegmentPostings>>>>
+    requires { 0 < length index.now.readers }
+{
+    let Some(other) = read_word(index, other)? else {
+        return Ok(None);
+    };
+    let mut others = Vec::new(alloc);
+    others.push(PhrasePart::new(1, other))?;
+    Ok(Some(others))
+}
+
+fn phrase_once(
+    rt: &HostRuntime,
+    first: SegmentPostings,
+    others: Vec<PhrasePart<SegmentPostings>>,
+) -> Result<Duration> {
+    let start = Instant::now(rt);
+    let mut found = PhraseMatch::new(first, others);
+    let _count = found.count_including_deleted();
+    Ok(since(rt, start)?)
 }

@@ -2,6 +2,7 @@ use crate::index_tests::text_of;
 use crate::memory_index::{FULL, Index, opened, texts, written};
 use ii_base::{Fault, Field, Schema, Term};
 use ii_indexing::IndexCall;
+use ii_reader::InvertedIndexReader;
 use std::alloc::Global;
 use std::test::Fail;
 
@@ -26,13 +27,21 @@ fn falling(alloc: Global, norms: bool) -> Result<Index, Fault> {
 
 // What bounds the first block of a word.
 fn bounds_of(alloc: Global, index: &Index, word: &str) -> Result<Option<(u8, u8)>, Fault> {
-    let field = Field::from_field_id(0);
-    let term = Term::from_field_text(alloc, field, word)?;
     if index.schema.num_fields() == 0 {
         return Ok(None);
     }
     let opened = opened(alloc, index)?;
-    match opened.reader(field).read_block_postings(&term, FULL)? {
+    bounds_in(alloc, opened.reader(Field::from_field_id(0)), word)
+}
+
+// The same in a reader.
+fn bounds_in(
+    alloc: Global,
+    reader: &InvertedIndexReader,
+    word: &str,
+) -> Result<Option<(u8, u8)>, Fault> {
+    let term = Term::from_field_text(alloc, Field::from_field_id(0), word)?;
+    match reader.read_block_postings(&term, FULL)? {
         Some(blocks) => Ok(blocks.block_bounds()),
         None => Ok(None),
     }
@@ -41,15 +50,19 @@ fn bounds_of(alloc: Global, index: &Index, word: &str) -> Result<Option<(u8, u8)
 // What bounds the first block of either word.
 fn bounds(alloc: Global, norms: bool) -> Result<[Option<(u8, u8)>; 2], Fault> {
     let index = falling(alloc, norms)?;
-    let a = bounds_of(alloc, &index, "a")?;
-    Ok([a, bounds_of(alloc, &index, "e")?])
+    both_bounds(alloc, &index)
+}
+
+// The same in an index.
+fn both_bounds(alloc: Global, index: &Index) -> Result<[Option<(u8, u8)>; 2], Fault> {
+    let a = bounds_of(alloc, index, "a")?;
+    Ok([a, bounds_of(alloc, index, "e")?])
 }
 
 #[test]
 fn blocks_are_bounded_by_norms_and_counts(rt: HostRuntime) -> Result<(), Fail> {
-    let bounded = bounds(rt.alloc(), true)?;
-    assert!(rt; bounded == [Some((3, 1)), Some((3, 129))]);
-    let plain = bounds(rt.alloc(), false)?;
-    assert!(rt; plain == [Some((0, 0)), Some((0, 0))]);
+    let found = [bounds(rt.alloc(), true), bounds(rt.alloc(), false)];
+    let bounded = [Some((3, 1)), Some((3, 129))];
+    assert!(rt; found == [Ok(bounded), Ok([Some((0, 0)); 2])]);
     Ok(())
 }

@@ -29,12 +29,18 @@ fn token(alloc: Global, position: usize, position_length: usize) -> Result<Token
     })
 }
 
-// A token of so many bytes.
-fn long_token(alloc: Global, len: usize, position: usize) -> Result<Token, Fault> {
+// A text of so many bytes.
+fn long_text(alloc: Global, len: usize) -> Result<String, Fault> {
     let mut text = String::new(alloc);
     for _ in 0..len {
         text.push('A')?;
     }
+    Ok(text)
+}
+
+// A token of so many bytes.
+fn long_token(alloc: Global, len: usize, position: usize) -> Result<Token, Fault> {
+    let text = long_text(alloc, len)?;
     Ok(Token {
         offset_from: 0,
         offset_to: len,
@@ -110,41 +116,33 @@ fn index_long(
 #[test]
 fn limits_come_in_their_order(rt: HostRuntime) -> Result<(), Fail> {
     let (many, _) = index_one(rt.alloc(), u32::MAX, 0)?;
-    assert!(rt; many == LIMIT_TOKENS);
     let (far, _) = index_one(rt.alloc(), u32::MAX, 4294967296)?;
-    assert!(rt; far == LIMIT_POSITION);
+    assert!(rt; [many, far] == [LIMIT_TOKENS, LIMIT_POSITION]);
     Ok(())
 }
 
 #[test]
 fn gaps_have_a_limit(rt: HostRuntime) -> Result<(), Fail> {
     let (last, _) = index_none(rt.alloc(), u32::MAX)?;
-    assert!(rt; last == LIMIT_POSITION);
     let (fits, at) = index_none(rt.alloc(), u32::MAX - 1)?;
-    assert!(rt; fits == Ok(()));
-    assert!(rt; at.end_position == u32::MAX);
+    assert!(rt; (last, fits, at.end_position) == (LIMIT_POSITION, Ok(()), u32::MAX));
     Ok(())
 }
 
 #[test]
 fn gaps_after_tokens_have_a_limit(rt: HostRuntime) -> Result<(), Fail> {
     let (over, _) = index_one(rt.alloc(), 0, 4294967294)?;
-    assert!(rt; over == LIMIT_POSITION);
     let (below, end) = index_one(rt.alloc(), 0, 4294967293)?;
-    assert!(rt; below == Ok(()));
-    assert!(rt; end.end_position == u32::MAX);
+    assert!(rt; (over, below, end.end_position) == (LIMIT_POSITION, Ok(()), u32::MAX));
     Ok(())
 }
 
 #[test]
 fn long_tokens_are_left_out(rt: HostRuntime) -> Result<(), Fail> {
     let (dropped, at) = index_long(rt.alloc(), 65531, usize::MAX)?;
-    assert!(rt; dropped == Ok(()));
-    assert!(rt; at.num_tokens == 0);
-    assert!(rt; at.end_position == 1);
+    assert!(rt; (dropped, at.num_tokens, at.end_position) == (Ok(()), 0, 1));
     let (kept, end) = index_long(rt.alloc(), 65530, 0)?;
-    assert!(rt; kept == Ok(()));
-    assert!(rt; end.num_tokens == 1);
+    assert!(rt; (kept, end.num_tokens) == (Ok(()), 1));
     Ok(())
 }
 
@@ -179,9 +177,21 @@ fn answers(
     second: TokenList,
 ) -> Result<(Result<(), Fault>, Result<(), Fault>), Fault> {
     let mut indexer = texts(alloc, option)?;
-    match put(&mut indexer, 0, first) {
-        Ok(()) => Ok((Ok(()), put(&mut indexer, 8, second))),
-        Err(fault) => Ok((Err(fault), put(&mut indexer, 0, second))),
+    Ok(answers_of(&mut indexer, first, second))
+}
+
+// The same of an indexer that has taken nothing.
+fn answers_of(
+    indexer: &mut Indexer,
+    first: TokenList,
+    second: TokenList,
+) -> (Result<(), Fault>, Result<(), Fault>)
+    requires ready { (indexer.old.failed ≡ false) × (indexer.old.last_doc ≡ 0) × (indexer.old.num_docs ≡ 9) }
+    requires takes { Takes indexer.old.schema 0 types.Str }
+{
+    match put(indexer, 0, first) {
+        Ok(()) => (Ok(()), put(indexer, 8, second)),
+        Err(fault) => (Err(fault), put(indexer, 0, second)),
     }
 }
 
@@ -211,35 +221,31 @@ fn passes_end(alloc: Global) -> Result<(Result<(), Fault>, Result<(), Fault>), F
 
 #[test]
 fn a_refused_indexer_has_failed(rt: HostRuntime) -> Result<(), Fail> {
-    let (answer, next) = passes_end(rt.alloc())?;
-    assert!(rt; answer == LIMIT_POSITION);
-    assert!(rt; next == Err(Fault::IndexerFailed));
+    let answers = passes_end(rt.alloc())?;
+    assert!(rt; answers == (LIMIT_POSITION, Err(Fault::IndexerFailed)));
     Ok(())
 }
 
 #[test]
 fn positions_may_not_fall(rt: HostRuntime) -> Result<(), Fail> {
     let option = IndexRecordOption::WithFreqsAndPositions;
-    let (answer, next) = falls(rt.alloc(), option, 5, 4)?;
-    assert!(rt; answer == Err(Fault::DecreasingPosition));
-    assert!(rt; next == Err(Fault::IndexerFailed));
+    let answers = falls(rt.alloc(), option, 5, 4)?;
+    assert!(rt; answers == (Err(Fault::DecreasingPosition), Err(Fault::IndexerFailed)));
     Ok(())
 }
 
 #[test]
 fn positions_may_be_equal(rt: HostRuntime) -> Result<(), Fail> {
     let option = IndexRecordOption::WithFreqsAndPositions;
-    let (answer, next) = falls(rt.alloc(), option, 5, 5)?;
-    assert!(rt; answer == Ok(()));
-    assert!(rt; next == Ok(()));
+    let answers = falls(rt.alloc(), option, 5, 5)?;
+    assert!(rt; answers == (Ok(()), Ok(())));
     Ok(())
 }
 
 #[test]
 fn positions_that_are_not_kept_may_fall(rt: HostRuntime) -> Result<(), Fail> {
-    let (answer, next) = falls(rt.alloc(), IndexRecordOption::WithFreqs, 5, 4)?;
-    assert!(rt; answer == Ok(()));
-    assert!(rt; next == Ok(()));
+    let answers = falls(rt.alloc(), IndexRecordOption::WithFreqs, 5, 4)?;
+    assert!(rt; answers == (Ok(()), Ok(())));
     Ok(())
 }
 
@@ -308,12 +314,15 @@ fn take_text(alloc: Global) -> Result<(), Fault> {
 
 #[test]
 fn each_call_is_taken(rt: HostRuntime) -> Result<(), Fail> {
-    take_unsigned(rt.alloc())?;
-    take_signed(rt.alloc())?;
-    take_truth(rt.alloc())?;
-    take_address(rt.alloc())?;
-    take_bytes(rt.alloc())?;
-    take_text(rt.alloc())?;
+    let answers = [
+        take_unsigned(rt.alloc()),
+        take_signed(rt.alloc()),
+        take_truth(rt.alloc()),
+        take_address(rt.alloc()),
+        take_bytes(rt.alloc()),
+        take_text(rt.alloc()),
+    ];
+    assert!(rt; answers == [Ok(()); 6]);
     Ok(())
 }
 

@@ -5,7 +5,7 @@ use crate::memory_index::{FULL, Index, opened, two_texts, written_texts};
 use bytes::Bytes;
 use ii_base::{Fault, Field, Part, Term};
 use ii_docset::{DocId, DocSet, TERMINATED};
-use ii_reader::{DamagedTerm, InvertedIndexReader};
+use ii_reader::{DamagedTerm, InvertedIndexReader, OpenIndex};
 use std::alloc::Global;
 use std::test::Fail;
 
@@ -55,12 +55,15 @@ fn place(field: u32, ord: u64, part: Part) -> Option<(Field, DamagedTerm)> {
 
 #[test]
 fn the_first_damaged_term_is_told(rt: HostRuntime) -> Result<(), Fail> {
+    let damages = [
+        damage_by(rt.alloc(), 27, 0x01),
+        damage_by(rt.alloc(), 13, 0x80),
+    ];
     // of the second field, the count of `d`, which doesn't end
     let last = place(1, 1, Part::Frequencies);
-    assert!(rt; damage_by(rt.alloc(), 27, 0x01)? == last);
     // of the first field, the documents of `b`, the first of which stands twice
     let second = place(0, 1, Part::Documents);
-    assert!(rt; damage_by(rt.alloc(), 13, 0x80)? == second);
+    assert!(rt; damages == [Ok(last), Ok(second)]);
     Ok(())
 }
 
@@ -79,19 +82,43 @@ fn docs_of(
 
 // Those in the files, once they were checked.
 fn checked_docs(alloc: Global, files: &Index, word: &str) -> Result<(DocId, DocId), Fault> {
-    let num_fields = files.schema.num_fields();
+    if files.schema.num_fields() == 0 {
+        return Ok((TERMINATED, 0));
+    }
     let mut index = opened(alloc, files)?;
-    if index.check()?.is_some() || num_fields == 0 {
+    docs_after_check(alloc, &mut index, word)
+}
+
+// Those in an index, once it was checked.
+fn docs_after_check(
+    alloc: Global,
+    index: &mut OpenIndex,
+    word: &str,
+) -> Result<(DocId, DocId), Fault>
+    requires { 0 < length index.old.readers }
+{
+    if index.check()?.is_some() {
         return Ok((TERMINATED, 0));
     }
     docs_of(alloc, index.reader(Field::from_field_id(0)), word)
 }
 
+// Those of three words.
+fn docs_of_three(alloc: Global) -> Result<[(DocId, DocId); 3], Fault> {
+    let files = files(alloc)?;
+    checked_docs_of_three(alloc, &files)
+}
+
+// The same in files.
+fn checked_docs_of_three(alloc: Global, files: &Index) -> Result<[(DocId, DocId); 3], Fault> {
+    let a = checked_docs(alloc, files, "a")?;
+    let b = checked_docs(alloc, files, "b")?;
+    Ok([a, b, checked_docs(alloc, files, "c")?])
+}
+
 #[test]
 fn checked_indexes_are_looked_up(rt: HostRuntime) -> Result<(), Fail> {
-    let files = files(rt.alloc())?;
-    assert!(rt; checked_docs(rt.alloc(), &files, "a")? == (0, 2));
-    assert!(rt; checked_docs(rt.alloc(), &files, "b")? == (0, 1));
-    assert!(rt; checked_docs(rt.alloc(), &files, "c")? == (TERMINATED, TERMINATED));
+    let docs = docs_of_three(rt.alloc())?;
+    assert!(rt; docs == [(0, 2), (0, 1), (TERMINATED, TERMINATED)]);
     Ok(())
 }

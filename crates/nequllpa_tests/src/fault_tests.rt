@@ -1,11 +1,10 @@
 use crate::indexer_tests::last_token;
 use crate::json_tests::{json_entry, text_at};
 use crate::memory_index::{
-    FULL, Index, are_untouched, text_calls, text_entry, texts, write_to, writers, written,
+    FULL, Index, are_untouched, number_entry, text_calls, text_entry, texts, write_to, writers,
+    written,
 };
-use ii_base::{
-    CountingWriter, FailingWriter, Fault, Field, FieldEntry, LimitName, Schema, ValueType,
-};
+use ii_base::{CountingWriter, FailingWriter, Fault, Field, LimitName, Schema};
 use ii_indexing::{IndexCall, IndexWriters};
 use std::alloc::Global;
 use std::test::Fail;
@@ -14,19 +13,25 @@ use std::test::Fail;
 fn three_fields(alloc: Global) -> Result<Schema, Fault> {
     let mut entries = Vec::new(alloc);
     entries.push(text_entry(alloc, FULL, true)?)?;
-    let name = String::from_str(alloc, "number")?;
-    entries.push(FieldEntry::value(name, ValueType::U64, false))?;
+    entries.push(number_entry(alloc)?)?;
     entries.push(json_entry(alloc, false)?)?;
     Ok(Schema::new(entries))
 }
 
+static TEXT: [(u32, u32, &str); 1] = [(0, 0, "a b")];
+
 // Words in document 0, a number and a value with words in document 1.
 fn three_calls(alloc: Global) -> Result<Vec<IndexCall>, Fault> {
-    let mut calls = text_calls(alloc, &[(0, 0, "a b")])?;
+    let mut calls = text_calls(alloc, &TEXT)?;
+    push_others(alloc, &mut calls)?;
+    Ok(calls)
+}
+
+// Adds the calls of document 1.
+fn push_others(alloc: Global, calls: &mut Vec<IndexCall>) -> Result<(), Fault> {
     calls.push(IndexCall::U64(1, Field::from_field_id(1), 7))?;
     let value = text_at(alloc, "t", "c d")?;
-    calls.push(IndexCall::Json(1, Field::from_field_id(2), value))?;
-    Ok(calls)
+    Ok(calls.push(IndexCall::Json(1, Field::from_field_id(2), value))?)
 }
 
 // Their index.
@@ -154,10 +159,15 @@ fn a_failing_writer_is_told(rt: HostRuntime) -> Result<(), Fail> {
 
 // A text of document 0, and after it a token of no length at the last position.
 fn refused_calls(alloc: Global) -> Result<Vec<IndexCall>, Fault> {
-    let tokens = last_token(alloc)?;
-    let mut calls = text_calls(alloc, &[(0, 0, "a b")])?;
-    calls.push(IndexCall::Tokens(1, Field::from_field_id(0), tokens))?;
+    let mut calls = text_calls(alloc, &TEXT)?;
+    push_last(alloc, &mut calls)?;
     Ok(calls)
+}
+
+// Adds that token.
+fn push_last(alloc: Global, calls: &mut Vec<IndexCall>) -> Result<(), Fault> {
+    let tokens = last_token(alloc)?;
+    Ok(calls.push(IndexCall::Tokens(1, Field::from_field_id(0), tokens))?)
 }
 
 // The fault of these calls, and whether nothing was written.
@@ -169,8 +179,7 @@ fn refused(alloc: Global) -> Result<(bool, Result<(), Fault>), Fault> {
 
 #[test]
 fn refused_calls_write_nothing(rt: HostRuntime) -> Result<(), Fail> {
-    let (is_untouched, answer) = refused(rt.alloc())?;
-    assert!(rt; is_untouched);
-    assert!(rt; answer == Err(Fault::Limit(LimitName::Position)));
+    let refused = refused(rt.alloc())?;
+    assert!(rt; refused == (true, Err(Fault::Limit(LimitName::Position))));
     Ok(())
 }

@@ -1,6 +1,6 @@
 use crate::memory_index::{
-    FULL, Index, found, numbers, postings_of, push_counts, text_and_number, text_calls, texts,
-    told, two_texts, written, written_texts,
+    Index, found, numbers, push_counts, push_postings, push_told, text_and_number, text_calls,
+    texts, told, two_texts, written, written_texts,
 };
 use bytes::Bytes;
 use ii_base::{Fault, Field, Schema, Term};
@@ -14,10 +14,16 @@ const NONE: [u8; 4] = [0, 0, 0, 0];
 // One token, and document 0.
 const FIVE: [u8; 9] = [1, 0, 0, 0, 0, 0, 0, 0, 0x80];
 
-// The postings of a number in a field.
-fn found_number(alloc: Global, index: &Index, field: u32, number: u64) -> Result<String, Fault> {
+// Adds the postings of a number in a field.
+fn push_number(
+    alloc: Global,
+    text: &mut String,
+    index: &Index,
+    field: u32,
+    number: u64,
+) -> Result<(), Fault> {
     let term = Term::from_field_u64(alloc, Field::from_field_id(field), number)?;
-    postings_of(alloc, index, &term, FULL)
+    push_postings(alloc, text, index, &term)
 }
 
 // An index of no calls.
@@ -71,27 +77,36 @@ fn lengths(index: &Index) -> [usize; 4] {
     ]
 }
 
+// The lengths of its files, and whether its postings begin as they should.
+fn five_written(alloc: Global) -> Result<([usize; 4], bool), Fault> {
+    let index = five(alloc)?;
+    Ok((
+        lengths(&index),
+        index.postings.as_slice().starts_with(&FIVE),
+    ))
+}
+
 #[test]
 fn a_number_is_written(rt: HostRuntime) -> Result<(), Fail> {
-    let index = five(rt.alloc())?;
-    assert!(rt; lengths(&index) == [104, 33, 24, 4]);
-    assert!(rt; index.postings.as_slice().starts_with(&FIVE));
+    assert!(rt; five_written(rt.alloc())? == ([104, 33, 24, 4], true));
     Ok(())
 }
 
-// What is found of 5 and of 6, and how many tokens and terms there are.
-fn told_of_five_in(alloc: Global, index: &Index) -> Result<String, Fault> {
-    let mut text = found_number(alloc, index, 0, 5)?;
-    text.push_str("; ")?;
-    text.push_str(found_number(alloc, index, 0, 6)?.as_str())?;
-    text.push_str("; ")?;
-    push_counts(alloc, &mut text, index)?;
-    Ok(text)
+// Adds what is found of 5 and of 6, and how many tokens and terms there are.
+fn push_five(alloc: Global, text: &mut String, index: &Index) -> Result<(), Fault> {
+    for number in [5, 6] {
+        push_number(alloc, text, index, 0, number)?;
+        text.push_str("; ")?;
+    }
+    push_counts(alloc, text, index)
 }
 
 // The same of the number 5 in document 0.
 fn told_of_five(alloc: Global) -> Result<String, Fault> {
-    told_of_five_in(alloc, &five(alloc)?)
+    let index = five(alloc)?;
+    let mut text = String::new(alloc);
+    push_five(alloc, &mut text, &index)?;
+    Ok(text)
 }
 
 #[test]
@@ -103,22 +118,28 @@ fn a_number_is_found(rt: HostRuntime) -> Result<(), Fail> {
 
 // Texts of document 0, and a number of document 1.
 fn texts_and_number(alloc: Global) -> Result<Index, Fault> {
-    let mut calls = text_calls(alloc, &[(0, 0, "a b"), (0, 0, ""), (0, 0, "a")])?;
+    let mut calls = text_calls(alloc, &THREE)?;
     calls.push(IndexCall::U64(1, Field::from_field_id(1), 7))?;
     written(alloc, text_and_number(alloc)?, 2, calls)
 }
 
-// What is told of the texts, and found of the number.
-fn told_of_both_in(alloc: Global, index: &Index) -> Result<String, Fault> {
-    let mut text = told(alloc, index, &[(0, "a"), (0, "z")])?;
+static THREE: [(u32, u32, &str); 3] = [(0, 0, "a b"), (0, 0, ""), (0, 0, "a")];
+
+static WORDS: [(u32, &str); 2] = [(0, "a"), (0, "z")];
+
+// Adds what is told of the texts, and found of the number.
+fn push_both(alloc: Global, text: &mut String, index: &Index) -> Result<(), Fault> {
+    push_told(alloc, text, index, &WORDS)?;
     text.push_str("; ")?;
-    text.push_str(found_number(alloc, index, 1, 7)?.as_str())?;
-    Ok(text)
+    push_number(alloc, text, index, 1, 7)
 }
 
 // The same of both together.
 fn told_of_both(alloc: Global) -> Result<String, Fault> {
-    told_of_both_in(alloc, &texts_and_number(alloc)?)
+    let index = texts_and_number(alloc)?;
+    let mut text = String::new(alloc);
+    push_both(alloc, &mut text, &index)?;
+    Ok(text)
 }
 
 #[test]
@@ -140,19 +161,29 @@ fn norms_of(
 
 // The norm of a document in a field, and its id, if there are so many.
 fn norm_of(alloc: Global, index: &Index, field: u32, doc: u32) -> Result<Option<(u32, u8)>, Fault> {
-    let Some(norms) = norms_of(alloc, &index.fieldnorms, field)? else {
-        return Ok(None);
-    };
-    if doc >= norms.num_docs() {
-        return Ok(None);
+    match norms_of(alloc, &index.fieldnorms, field)? {
+        Some(norms) => Ok(norm_in(&norms, doc)),
+        None => Ok(None),
     }
-    Ok(Some((norms.fieldnorm(doc), norms.fieldnorm_id(doc))))
 }
+
+// The same in the norms of a field.
+fn norm_in(norms: &FieldNormReader, doc: u32) -> Option<(u32, u8)> {
+    if doc >= norms.num_docs() {
+        return None;
+    }
+    Some((norms.fieldnorm(doc), norms.fieldnorm_id(doc)))
+}
+
+static NORMED: [(u32, u32, &str); 3] = [
+    (0, 0, "a b a c a d a a."),
+    (0, 0, "d d d d a"),
+    (0, 1, "a"),
+];
 
 // Two fields of texts in two documents, the first field with norms.
 fn norms_wanted(alloc: Global) -> Result<Index, Fault> {
-    let texts = [(0, 0, "a b a c a d a a."), (0, 0, "d d d d a"), (0, 1, "a")];
-    written_texts(alloc, two_texts(alloc)?, 2, &texts)
+    written_texts(alloc, two_texts(alloc)?, 2, &NORMED)
 }
 
 // The norms of three documents in the first field, and of one in the second.
@@ -189,17 +220,24 @@ const DOCS: u32 = 1000;
 
 // Two texts in document 0, `b a` in 1, and in each other one as many `e` as its number, and an `a`.
 fn growing_calls(alloc: Global) -> Result<Vec<IndexCall>, Fault> {
-    let first = [
-        (0, 0, "a b a c a d a a."),
-        (0, 0, "d d d d a"),
-        (1, 0, "b a"),
-    ];
-    let mut calls = text_calls(alloc, &first)?;
+    let mut calls = text_calls(alloc, &FIRST)?;
+    push_growing(alloc, &mut calls)?;
+    Ok(calls)
+}
+
+static FIRST: [(u32, u32, &str); 3] = [
+    (0, 0, "a b a c a d a a."),
+    (0, 0, "d d d d a"),
+    (1, 0, "b a"),
+];
+
+// Adds the texts from document 2 on.
+fn push_growing(alloc: Global, calls: &mut Vec<IndexCall>) -> Result<(), Fault> {
     for doc in 2..DOCS {
         let text = text_of(alloc, doc)?;
         calls.push(IndexCall::Text(doc, Field::from_field_id(0), text))?;
     }
-    Ok(calls)
+    Ok(())
 }
 
 // Their index, with norms.
@@ -211,25 +249,35 @@ fn growing(alloc: Global) -> Result<Index, Fault> {
 
 // Where its `a` stand.
 fn wanted_last(alloc: Global) -> Result<String, Fault> {
-    let mut text = String::new(alloc);
-    text.push_str("0:6:0,2,4,6,7,13, 1:1:1, ")?;
+    let mut text = String::from_str(alloc, "0:6:0,2,4,6,7,13, 1:1:1, ")?;
+    push_last(&mut text)?;
+    Ok(text)
+}
+
+// Adds those from document 2 on.
+fn push_last(text: &mut String) -> Result<(), Fault> {
     for doc in 2..DOCS {
         write!(text, "{doc}:1:{doc}, ")?;
     }
-    Ok(text)
+    Ok(())
 }
 
 // And its `e`.
 fn wanted_many(alloc: Global) -> Result<String, Fault> {
     let mut text = String::new(alloc);
     for doc in 2..DOCS {
-        write!(text, "{doc}:{doc}:")?;
-        for position in 0..doc {
-            write!(text, "{position},")?;
-        }
-        text.push(' ')?;
+        push_many(&mut text, doc)?;
     }
     Ok(text)
+}
+
+// Adds those of a document.
+fn push_many(text: &mut String, doc: u32) -> Result<(), Fault> {
+    write!(text, "{doc}:{doc}:")?;
+    for position in 0..doc {
+        write!(text, "{position},")?;
+    }
+    Ok(text.push(' ')?)
 }
 
 // Whether a word is found as it is wanted.
@@ -237,12 +285,21 @@ fn is_found(alloc: Global, index: &Index, word: &str, want: &String) -> Result<b
     Ok(found(alloc, index, 0, word)?.as_str() == want.as_str())
 }
 
+// Whether its `a` are.
+fn last_are_found(alloc: Global, index: &Index) -> Result<bool, Fault> {
+    let wanted = wanted_last(alloc)?;
+    is_found(alloc, index, "a", &wanted)
+}
+
+// Whether its `e` are.
+fn many_are_found(alloc: Global, index: &Index) -> Result<bool, Fault> {
+    let wanted = wanted_many(alloc)?;
+    is_found(alloc, index, "e", &wanted)
+}
+
 // Whether both words are found, and one that isn't there isn't.
 fn are_found(alloc: Global, index: &Index) -> Result<bool, Fault> {
-    if !is_found(alloc, index, "a", &wanted_last(alloc)?)? {
-        return Ok(false);
-    }
-    if !is_found(alloc, index, "e", &wanted_many(alloc)?)? {
+    if !last_are_found(alloc, index)? || !many_are_found(alloc, index)? {
         return Ok(false);
     }
     is_found(alloc, index, "abcdef", &String::new(alloc))
@@ -250,18 +307,23 @@ fn are_found(alloc: Global, index: &Index) -> Result<bool, Fault> {
 
 // Whether the norm of each document from 2 on is that of one token more than its number.
 fn has_growing_norms(alloc: Global, index: &Index) -> Result<bool, Fault> {
-    let Some(norms) = norms_of(alloc, &index.fieldnorms, 0)? else {
-        return Ok(false);
-    };
+    match norms_of(alloc, &index.fieldnorms, 0)? {
+        Some(norms) => Ok(are_growing(&norms)),
+        None => Ok(false),
+    }
+}
+
+// Whether these norms are such.
+fn are_growing(norms: &FieldNormReader) -> bool {
     if norms.num_docs() != DOCS {
-        return Ok(false);
+        return false;
     }
     for doc in 2..DOCS {
         if norms.fieldnorm_id(doc) != FieldNormReader::fieldnorm_to_id(doc + 1) {
-            return Ok(false);
+            return false;
         }
     }
-    Ok(true)
+    true
 }
 
 // Whether the words are found, and the norms are right.

@@ -1,6 +1,6 @@
 // Indexes of JSON values, whose terms are looked up by the bytes of their keys.
 use crate::memory_index::{
-    FULL, Index, are_untouched, opened, postings_of, push_counts, write_to, writers, written,
+    FULL, Index, are_untouched, opened, push_counts, push_postings, write_to, writers, written,
 };
 use ii_base::{Fault, Field, FieldEntry, JsonValue, LeafKind, Schema, Term};
 use ii_indexing::IndexCall;
@@ -61,14 +61,35 @@ fn found_under(
     keys: &[(u32, &'static [u8])],
 ) -> Result<String, Fault> {
     let mut text = String::new(alloc);
+    push_keys(alloc, &mut text, index, keys)?;
+    Ok(text)
+}
+
+// Adds them.
+fn push_keys(
+    alloc: Global,
+    text: &mut String,
+    index: &Index,
+    keys: &[(u32, &'static [u8])],
+) -> Result<(), Fault> {
     for key in keys {
         let (field, bytes) = *key;
-        let term = Term::from_field_bytes(alloc, Field::from_field_id(field), bytes)?;
-        text.push_str(postings_of(alloc, index, &term, FULL)?.as_str())?;
-        text.push_str("; ")?;
+        push_key(alloc, text, index, field, bytes)?;
     }
-    push_counts(alloc, &mut text, index)?;
-    Ok(text)
+    push_counts(alloc, text, index)
+}
+
+// Adds the postings under one key.
+fn push_key(
+    alloc: Global,
+    text: &mut String,
+    index: &Index,
+    field: u32,
+    key: &[u8],
+) -> Result<(), Fault> {
+    let term = Term::from_field_bytes(alloc, Field::from_field_id(field), key)?;
+    push_postings(alloc, text, index, &term)?;
+    Ok(text.push_str("; ")?)
 }
 
 // The same of one value in one field.
@@ -88,25 +109,29 @@ fn bands(alloc: Global) -> Result<JsonValue, Fault> {
     object(alloc, "bands", JsonValue::Array(bands))
 }
 
+// The keys of their words.
+static BANDS: [(u32, &[u8]); 4] = [
+    (0, b"bands\x01band_name\0sElliot"),
+    (0, b"bands\x01band_name\0sSmith"),
+    (0, b"bands\x01band_name\0sThe"),
+    (0, b"bands\x01band_name\0sWho"),
+];
+
 #[test]
 fn texts_at_a_path_have_a_gap_between(rt: HostRuntime) -> Result<(), Fail> {
-    let keys: [(u32, &'static [u8]); 4] = [
-        (0, b"bands\x01band_name\0sElliot"),
-        (0, b"bands\x01band_name\0sSmith"),
-        (0, b"bands\x01band_name\0sThe"),
-        (0, b"bands\x01band_name\0sWho"),
-    ];
-    let told = told_of_one(rt.alloc(), bands(rt.alloc())?, &keys)?;
+    let told = told_of_one(rt.alloc(), bands(rt.alloc())?, &BANDS)?;
     let want = "0:1:0, ; 0:1:1, ; 0:1:3, ; 0:1:4, ; 4 tokens of 4 terms";
     assert!(rt; told.as_str() == want);
     Ok(())
 }
 
+// The key of the number 5 under `n`.
+static NUMBER_KEY: [(u32, &[u8]); 1] = [(0, b"n\0i\x80\0\0\0\0\0\0\x05")];
+
 #[test]
 fn a_number_is_of_its_document_alone(rt: HostRuntime) -> Result<(), Fail> {
     let value = object(rt.alloc(), "n", JsonValue::U64(5))?;
-    let keys: [(u32, &'static [u8]); 1] = [(0, &[0x6E, 0, 0x69, 0x80, 0, 0, 0, 0, 0, 0, 5])];
-    let told = told_of_one(rt.alloc(), value, &keys)?;
+    let told = told_of_one(rt.alloc(), value, &NUMBER_KEY)?;
     assert!(rt; told.as_str() == "0:1: ; 1 tokens of 1 terms");
     Ok(())
 }
@@ -114,24 +139,58 @@ fn a_number_is_of_its_document_alone(rt: HostRuntime) -> Result<(), Fail> {
 // The postings of one term of one token, and no counts: `01` in 8 bytes, and document 0.
 static ONE_TOKEN: [u8; 9] = [1, 0, 0, 0, 0, 0, 0, 0, 0x80];
 
+// No positions: a row of no numbers.
+static NO_POSITIONS: [u8; 1] = [0x80];
+
+// How long the postings and the positions of an index are, and whether they begin so.
+fn bytes_of(index: &Index) -> ([usize; 2], [bool; 2]) {
+    let lengths = [index.postings.len(), index.positions.len()];
+    let begin = [
+        index.postings.as_slice().starts_with(&ONE_TOKEN),
+        index.positions.as_slice().starts_with(&NO_POSITIONS),
+    ];
+    (lengths, begin)
+}
+
+// The same of the number 5.
+fn bytes_of_number(alloc: Global) -> Result<([usize; 2], [bool; 2]), Fault> {
+    let value = object(alloc, "n", JsonValue::U64(5))?;
+    Ok(bytes_of(&index_of_one(alloc, false, value)?))
+}
+
 #[test]
 fn a_number_has_its_bytes(rt: HostRuntime) -> Result<(), Fail> {
-    let value = object(rt.alloc(), "n", JsonValue::U64(5))?;
-    let index = index_of_one(rt.alloc(), false, value)?;
-    let lengths = [index.postings.len(), index.positions.len()];
-    assert!(rt; lengths.as_slice() == [33, 25].as_slice());
-    assert!(rt; index.postings.as_slice().starts_with(&ONE_TOKEN));
-    assert!(rt; index.positions.as_slice().starts_with(b"\x80"));
+    assert!(rt; bytes_of_number(rt.alloc())? == ([33, 25], [true; 2]));
     Ok(())
 }
 
 // A word that stands twice, and a number.
 fn word_and_number(alloc: Global) -> Result<Index, Fault> {
-    let text = JsonValue::Str(String::from_str(alloc, "x x")?);
     let mut members = Vec::new(alloc);
-    members.push(pair(alloc, "t", text)?)?;
-    members.push(pair(alloc, "n", JsonValue::U64(5))?)?;
+    push_text(alloc, &mut members, "t", "x x")?;
+    push_number(alloc, &mut members, "n", 5)?;
     index_of_one(alloc, false, JsonValue::Object(members))
+}
+
+// Adds a text under a key.
+fn push_text(
+    alloc: Global,
+    members: &mut Vec<(String, JsonValue)>,
+    key: &str,
+    text: &str,
+) -> Result<(), Fault> {
+    let text = String::from_str(alloc, text)?;
+    Ok(members.push(pair(alloc, key, JsonValue::Str(text))?)?)
+}
+
+// Adds a number under a key.
+fn push_number(
+    alloc: Global,
+    members: &mut Vec<(String, JsonValue)>,
+    key: &str,
+    number: u64,
+) -> Result<(), Fault> {
+    Ok(members.push(pair(alloc, key, JsonValue::U64(number))?)?)
 }
 
 // The count of the first document of a block, 0 where it has none.
@@ -144,18 +203,39 @@ fn first_count(blocks: &BlockSegmentPostings) -> u32 {
 
 // That of a block cursor over the word, and once it is reset to the number.
 fn counts_of_both(alloc: Global, reader: &InvertedIndexReader) -> Result<(u32, u32), Fault> {
-    let field = Field::from_field_id(0);
-    let word = Term::from_field_bytes(alloc, field, b"t\0sx")?;
-    let number = Term::from_field_bytes(alloc, field, b"n\0i\x80\0\0\0\0\0\0\x05")?;
-    let Some(mut blocks) = reader.read_block_postings(&word, FULL)? else {
+    let word = Term::from_field_bytes(alloc, Field::from_field_id(0), b"t\0sx")?;
+    match reader.read_block_postings(&word, FULL)? {
+        Some(mut blocks) => counts_after_reset(alloc, reader, &mut blocks),
+        None => Ok((0, 0)),
+    }
+}
+
+// That of a block cursor, and once it is reset to the number.
+fn counts_after_reset(
+    alloc: Global,
+    reader: &InvertedIndexReader,
+    blocks: &mut BlockSegmentPostings,
+) -> Result<(u32, u32), Fault> {
+    let count = first_count(blocks);
+    let (field, key) = NUMBER_KEY[0];
+    let number = Term::from_field_bytes(alloc, Field::from_field_id(field), key)?;
+    if !reset_to(reader, &number, blocks)? {
         return Ok((0, 0));
+    }
+    Ok((count, first_count(blocks)))
+}
+
+// Resets a block cursor to a term, if there is one.
+fn reset_to(
+    reader: &InvertedIndexReader,
+    term: &Term,
+    blocks: &mut BlockSegmentPostings,
+) -> Result<bool, Fault> {
+    let Some(info) = reader.get_term_info(term) else {
+        return Ok(false);
     };
-    let Some(info) = reader.get_term_info(&number) else {
-        return Ok((0, 0));
-    };
-    let count = first_count(&blocks);
-    reader.reset_block_postings_from_terminfo(&info, &mut blocks)?;
-    Ok((count, first_count(&blocks)))
+    reader.reset_block_postings_from_terminfo(&info, blocks)?;
+    Ok(true)
 }
 
 // The counts of both in a new index.
@@ -183,10 +263,17 @@ fn three_texts(alloc: Global) -> Result<Index, Fault> {
     written(alloc, two_jsons(alloc)?, 1, calls)
 }
 
+// The key of `x` under `a`, in two fields.
+static IN_TWO_FIELDS: [(u32, &[u8]); 2] = [(0, b"a\0sx"), (1, b"a\0sx")];
+
+// What is told of it.
+fn told_of_three(alloc: Global) -> Result<String, Fault> {
+    found_under(alloc, &three_texts(alloc)?, &IN_TWO_FIELDS)
+}
+
 #[test]
 fn fields_count_the_positions_of_a_path_apart(rt: HostRuntime) -> Result<(), Fail> {
-    let keys: [(u32, &'static [u8]); 2] = [(0, b"a\0sx"), (1, b"a\0sx")];
-    let told = found_under(rt.alloc(), &three_texts(rt.alloc())?, &keys)?;
+    let told = told_of_three(rt.alloc())?;
     assert!(rt; told.as_str() == "0:2:0,2, ; 0:1:0, ; 2 tokens of 1 terms");
     Ok(())
 }
@@ -196,23 +283,28 @@ fn texts_at_two_paths(alloc: Global) -> Result<JsonValue, Fault> {
     let mut members = Vec::new(alloc);
     for member in [("a", "x y"), ("b", "x"), ("a", "x")] {
         let (key, text) = member;
-        members.push(pair(alloc, key, JsonValue::Str(String::from_str(alloc, text)?))?)?;
+        push_text(alloc, &mut members, key, text)?;
     }
     Ok(JsonValue::Object(members))
 }
 
+// The key of `x` under either.
+static AT_TWO_PATHS: [(u32, &[u8]); 2] = [(0, b"a\0sx"), (0, b"b\0sx")];
+
 #[test]
 fn paths_count_their_positions_apart(rt: HostRuntime) -> Result<(), Fail> {
-    let keys: [(u32, &'static [u8]); 2] = [(0, b"a\0sx"), (0, b"b\0sx")];
-    let told = told_of_one(rt.alloc(), texts_at_two_paths(rt.alloc())?, &keys)?;
+    let told = told_of_one(rt.alloc(), texts_at_two_paths(rt.alloc())?, &AT_TWO_PATHS)?;
     assert!(rt; told.as_str() == "0:2:0,3, ; 0:1:0, ; 4 tokens of 3 terms");
     Ok(())
 }
 
+// The key of `x` at no path.
+static AT_THE_ROOT: [(u32, &[u8]); 1] = [(0, b"\0sx")];
+
 #[test]
 fn a_text_at_the_root_has_no_path(rt: HostRuntime) -> Result<(), Fail> {
     let value = JsonValue::Str(String::from_str(rt.alloc(), "x")?);
-    let told = told_of_one(rt.alloc(), value, &[(0, b"\0sx")])?;
+    let told = told_of_one(rt.alloc(), value, &AT_THE_ROOT)?;
     assert!(rt; told.as_str() == "0:1:0, ; 1 tokens of 1 terms");
     Ok(())
 }
@@ -222,56 +314,76 @@ fn is_term(
     alloc: Global,
     key: &str,
     value: JsonValue,
-    bytes: &'static [u8],
+    bytes: &'static [(u32, &'static [u8]); 1],
 ) -> Result<bool, Fault> {
     let value = object(alloc, key, value)?;
-    Ok(told_of_one(alloc, value, &[(0, bytes)])?.as_str() == "0:1: ; 1 tokens of 1 terms")
+    Ok(told_of_one(alloc, value, bytes)?.as_str() == "0:1: ; 1 tokens of 1 terms")
 }
+
+// The keys of a date, of an earlier one, and of a great number.
+static DATE: [(u32, &[u8]); 1] = [(0, &[0x64, 0, 0x64, 0x80, 0, 0, 0, 0, 0, 0, 0])];
+
+static EARLIER: [(u32, &[u8]); 1] = [(
+    0,
+    &[0x64, 0, 0x64, 0x7F, 0xFF, 0xFF, 0xFF, 0xC4, 0x65, 0x36, 0],
+)];
+
+static GREAT: [(u32, &[u8]); 1] = [(0, &[0x75, 0, 0x75, 0x80, 0, 0, 0, 0, 0, 0, 0])];
 
 #[test]
 fn values_stand_under_their_bytes(rt: HostRuntime) -> Result<(), Fail> {
-    let key: &'static [u8] = &[0x64, 0, 0x64, 0x80, 0, 0, 0, 0, 0, 0, 0];
-    let date = is_term(rt.alloc(), "d", JsonValue::Date(-1), key)?;
-    let key: &'static [u8] = &[0x64, 0, 0x64, 0x7F, 0xFF, 0xFF, 0xFF, 0xC4, 0x65, 0x36, 0];
-    let earlier = is_term(rt.alloc(), "d", JsonValue::Date(-1500000000), key)?;
-    let key: &'static [u8] = &[0x75, 0, 0x75, 0x80, 0, 0, 0, 0, 0, 0, 0];
-    let great = is_term(rt.alloc(), "u", JsonValue::U64(9223372036854775808), key)?;
-    assert!(rt; date && earlier && great);
+    let are_terms = [
+        is_term(rt.alloc(), "d", JsonValue::Date(-1), &DATE),
+        is_term(rt.alloc(), "d", JsonValue::Date(-1500000000), &EARLIER),
+        is_term(rt.alloc(), "u", JsonValue::U64(9223372036854775808), &GREAT),
+    ];
+    assert!(rt; are_terms == [Ok(true); 3]);
     Ok(())
 }
 
-// What is told of a key with a dot, under the path that it is and the one that its parts are.
-fn told_of_dots(alloc: Global, expand_dots: bool) -> Result<String, Fault> {
+// The path that a key with a dot is, and the one that its parts are.
+static DOTS: [(u32, &[u8]); 2] = [(0, b"k8s.node\0sx"), (0, b"k8s\x01node\0sx")];
+
+// Whether this is told of such a key under either.
+fn dots_are_told(alloc: Global, expand_dots: bool, want: &str) -> Result<bool, Fault> {
     let value = text_at(alloc, "k8s.node", "x")?;
-    let keys: [(u32, &'static [u8]); 2] = [(0, b"k8s.node\0sx"), (0, b"k8s\x01node\0sx")];
-    found_under(alloc, &index_of_one(alloc, expand_dots, value)?, &keys)
+    let index = index_of_one(alloc, expand_dots, value)?;
+    Ok(found_under(alloc, &index, &DOTS)?.as_str() == want)
 }
 
 #[test]
-fn dots_are_expanded_where_the_field_says_so(rt: HostRuntime) -> Result<(), Fail> {
-    let kept = told_of_dots(rt.alloc(), false)?;
-    assert!(rt; kept.as_str() == "0:1:0, ; ; 1 tokens of 1 terms");
-    let expanded = told_of_dots(rt.alloc(), true)?;
-    assert!(rt; expanded.as_str() == "; 0:1:0, ; 1 tokens of 1 terms");
-    Ok(())
+fn dots_are_expanded_where_the_field_says_so(rt: HostRuntime) {
+    let are_right = [
+        dots_are_told(rt.alloc(), false, "0:1:0, ; ; 1 tokens of 1 terms"),
+        dots_are_told(rt.alloc(), true, "; 0:1:0, ; 1 tokens of 1 terms"),
+    ];
+    assert!(rt; are_right == [Ok(true); 2]);
 }
 
 // A number below the path of another, and one under a key with byte 0.
 fn numbers(alloc: Global) -> Result<JsonValue, Fault> {
     let mut members = Vec::new(alloc);
-    members.push(pair(alloc, "a", object(alloc, "b", JsonValue::U64(1))?)?)?;
-    members.push(pair(alloc, "a", JsonValue::U64(2))?)?;
-    members.push(pair(alloc, "c\0", JsonValue::U64(3))?)?;
+    push_below(alloc, &mut members)?;
+    push_number(alloc, &mut members, "a", 2)?;
+    push_number(alloc, &mut members, "c\0", 3)?;
     Ok(JsonValue::Object(members))
 }
 
+// Adds the number 1 under `b`, under `a`.
+fn push_below(alloc: Global, members: &mut Vec<(String, JsonValue)>) -> Result<(), Fault> {
+    let value = object(alloc, "b", JsonValue::U64(1))?;
+    Ok(members.push(pair(alloc, "a", value)?)?)
+}
+
+// The keys of those two.
+static BELOW: [(u32, &[u8]); 2] = [
+    (0, &[0x61, 0, 0x69, 0x80, 0, 0, 0, 0, 0, 0, 2]),
+    (0, &[0x61, 1, 0x62, 0, 0x69, 0x80, 0, 0, 0, 0, 0, 0, 1]),
+];
+
 #[test]
 fn paths_keep_the_order_of_their_bytes(rt: HostRuntime) -> Result<(), Fail> {
-    let keys: [(u32, &'static [u8]); 2] = [
-        (0, &[0x61, 0, 0x69, 0x80, 0, 0, 0, 0, 0, 0, 2]),
-        (0, &[0x61, 1, 0x62, 0, 0x69, 0x80, 0, 0, 0, 0, 0, 0, 1]),
-    ];
-    let told = told_of_one(rt.alloc(), numbers(rt.alloc())?, &keys)?;
+    let told = told_of_one(rt.alloc(), numbers(rt.alloc())?, &BELOW)?;
     assert!(rt; told.as_str() == "0:1: ; 0:1: ; 2 tokens of 2 terms");
     Ok(())
 }
@@ -291,35 +403,55 @@ fn push_space(text: &mut String, space: &InvertedIndexFieldSpace) -> Result<(), 
 
 // The paths and types of the first field.
 fn told_of_spaces(alloc: Global, index: &Index) -> Result<String, Fault> {
-    let field = Field::from_field_id(0);
-    let mut text = String::new(alloc);
     if index.schema.num_fields() == 0 {
-        return Ok(text);
+        return Ok(String::new(alloc));
     }
     let opened = opened(alloc, index)?;
-    let spaces = opened.reader(field).list_encoded_json_fields(alloc)?;
-    for space in spaces.as_slice() {
-        push_space(&mut text, space)?;
-    }
+    told_of_spaces_in(alloc, opened.reader(Field::from_field_id(0)))
+}
+
+// Those of a reader.
+fn told_of_spaces_in(alloc: Global, reader: &InvertedIndexReader) -> Result<String, Fault> {
+    let spaces = reader.list_encoded_json_fields(alloc)?;
+    let mut text = String::new(alloc);
+    push_spaces(&mut text, spaces.as_slice())?;
     Ok(text)
+}
+
+// Adds each of some.
+fn push_spaces(text: &mut String, spaces: &[InvertedIndexFieldSpace]) -> Result<(), Fault> {
+    for space in spaces {
+        push_space(text, space)?;
+    }
+    Ok(())
+}
+
+// The paths and types of these numbers.
+fn spaces_of_numbers(alloc: Global) -> Result<String, Fault> {
+    let index = index_of_one(alloc, false, numbers(alloc)?)?;
+    told_of_spaces(alloc, &index)
 }
 
 #[test]
 fn paths_are_listed_with_their_types(rt: HostRuntime) -> Result<(), Fail> {
-    let index = index_of_one(rt.alloc(), false, numbers(rt.alloc())?)?;
-    let told = told_of_spaces(rt.alloc(), &index)?;
+    let told = spaces_of_numbers(rt.alloc())?;
     assert!(rt; told.as_str() == "97,i 1 1 1; 97,1,98,i 1 1 1; ");
     Ok(())
 }
 
 // A number, and a float under a key.
 fn with_float(alloc: Global, key: &str) -> Result<Vec<IndexCall>, Fault> {
-    let mut members = Vec::new(alloc);
-    members.push(pair(alloc, "a", JsonValue::U64(1))?)?;
-    members.push(pair(alloc, key, JsonValue::F64Bits(4607182418800017408))?)?;
     let mut calls = Vec::new(alloc);
-    calls.push(json_call(0, JsonValue::Object(members)))?;
+    calls.push(json_call(0, number_and_float(alloc, key)?))?;
     Ok(calls)
+}
+
+// The value of that call.
+fn number_and_float(alloc: Global, key: &str) -> Result<JsonValue, Fault> {
+    let mut members = Vec::new(alloc);
+    push_number(alloc, &mut members, "a", 1)?;
+    members.push(pair(alloc, key, JsonValue::F64Bits(4607182418800017408))?)?;
+    Ok(JsonValue::Object(members))
 }
 
 // How such a call ends, and whether nothing was written.
@@ -333,8 +465,11 @@ fn end_of_float(alloc: Global, key: &str) -> Result<(bool, Result<(), Fault>), F
 #[test]
 fn a_float_is_refused_where_it_is_reached(rt: HostRuntime) -> Result<(), Fail> {
     let refused = Err(Fault::UnsupportedLeaf(LeafKind::Float));
-    assert!(rt; end_of_float(rt.alloc(), "b")? == (true, refused));
-    assert!(rt; end_of_float(rt.alloc(), "b\0")? == (false, Ok(())));
+    let ends = [
+        end_of_float(rt.alloc(), "b"),
+        end_of_float(rt.alloc(), "b\0"),
+    ];
+    assert!(rt; ends == [Ok((true, refused)), Ok((false, Ok(())))]);
     Ok(())
 }
 
@@ -361,8 +496,11 @@ fn end_of_arrays(alloc: Global, number: usize) -> Result<Result<(), Fault>, Faul
 #[test]
 fn a_value_of_many_levels_is_refused(rt: HostRuntime) -> Result<(), Fail> {
     let refused = Err(Fault::UnsupportedLeaf(LeafKind::Deep));
-    assert!(rt; end_of_arrays(rt.alloc(), 128)? == Ok(()));
-    assert!(rt; end_of_arrays(rt.alloc(), 129)? == refused);
-    assert!(rt; end_of_arrays(rt.alloc(), 5_000)? == refused);
+    let ends = [
+        end_of_arrays(rt.alloc(), 128),
+        end_of_arrays(rt.alloc(), 129),
+        end_of_arrays(rt.alloc(), 5_000),
+    ];
+    assert!(rt; ends == [Ok(Ok(())), Ok(refused), Ok(refused)]);
     Ok(())
 }

@@ -60,16 +60,20 @@ pub fn two_texts(alloc: Global) -> Result<Schema, Fault> {
 pub fn text_and_number(alloc: Global) -> Result<Schema, Fault> {
     let mut entries = Vec::new(alloc);
     entries.push(text_entry(alloc, FULL, true)?)?;
-    let name = String::from_str(alloc, "number")?;
-    entries.push(FieldEntry::value(name, ValueType::U64, false))?;
+    entries.push(number_entry(alloc)?)?;
     Ok(Schema::new(entries))
+}
+
+/// A field of numbers without norms.
+pub fn number_entry(alloc: Global) -> Result<FieldEntry, Fault> {
+    let name = String::from_str(alloc, "number")?;
+    Ok(FieldEntry::value(name, ValueType::U64, false))
 }
 
 /// A number without norms.
 pub fn numbers(alloc: Global) -> Result<Schema, Fault> {
     let mut entries = Vec::new(alloc);
-    let name = String::from_str(alloc, "number")?;
-    entries.push(FieldEntry::value(name, ValueType::U64, false))?;
+    entries.push(number_entry(alloc)?)?;
     Ok(Schema::new(entries))
 }
 
@@ -277,8 +281,13 @@ fn push_positions(
     if cursor.doc() < TERMINATED {
         cursor.positions(&mut positions)?;
     }
-    for position in positions.as_slice() {
-        write!(text, "{position},")?;
+    push_numbers(text, positions.as_slice())
+}
+
+// Adds numbers, and a space.
+fn push_numbers(text: &mut String, numbers: &[u32]) -> Result<(), Fault> {
+    for number in numbers {
+        write!(text, "{number},")?;
     }
     Ok(text.push(' ')?)
 }
@@ -294,58 +303,79 @@ fn push_doc(alloc: Global, text: &mut String, cursor: &mut SegmentPostings) -> R
     push_positions(alloc, text, cursor)
 }
 
-// Each document of a cursor.
-fn walked(alloc: Global, cursor: &mut SegmentPostings) -> Result<String, Fault> {
-    let mut text = String::new(alloc);
+// Adds each document of a cursor.
+fn push_walked(
+    alloc: Global,
+    text: &mut String,
+    cursor: &mut SegmentPostings,
+) -> Result<(), Fault> {
     for _ in 0..cursor.doc_freq() {
-        push_doc(alloc, &mut text, cursor)?;
+        push_doc(alloc, text, cursor)?;
         let _next = cursor.advance();
     }
+    Ok(())
+}
+
+/// Adds the postings of a term: `DOC:COUNT:POS,POS, ` for each document; nothing where the field lacks it.
+pub fn push_postings(
+    alloc: Global,
+    text: &mut String,
+    index: &Index,
+    term: &Term,
+) -> Result<(), Fault> {
+    match term_cursor(alloc, index, term, FULL)? {
+        Some(mut cursor) => push_walked(alloc, text, &mut cursor),
+        None => Ok(()),
+    }
+}
+
+/// The same of a word in a field of texts.
+pub fn push_found(
+    alloc: Global,
+    text: &mut String,
+    index: &Index,
+    field: u32,
+    word: &str,
+) -> Result<(), Fault> {
+    let term = Term::from_field_text(alloc, Field::from_field_id(field), word)?;
+    push_postings(alloc, text, index, &term)
+}
+
+/// What is found of it alone.
+pub fn found(alloc: Global, index: &Index, field: u32, word: &str) -> Result<String, Fault> {
+    let mut text = String::new(alloc);
+    push_found(alloc, &mut text, index, field, word)?;
     Ok(text)
 }
 
-/// The postings of a term: `DOC:COUNT:POS,POS, ` for each document; nothing where the field lacks it.
-pub fn postings_of(
+// Adds the documents that a cursor stands on after each seek to some that ascend.
+fn push_sought(
     alloc: Global,
-    index: &Index,
-    term: &Term,
-    option: IndexRecordOption,
-) -> Result<String, Fault> {
-    match term_cursor(alloc, index, term, option)? {
-        Some(mut cursor) => walked(alloc, &mut cursor),
-        None => Ok(String::new(alloc)),
-    }
-}
-
-/// The same of a word in a field of texts, with all that is kept.
-pub fn found(alloc: Global, index: &Index, field: u32, word: &str) -> Result<String, Fault> {
-    let term = Term::from_field_text(alloc, Field::from_field_id(field), word)?;
-    postings_of(alloc, index, &term, FULL)
-}
-
-// The documents that a cursor stands on after each seek to some that ascend.
-fn sought(alloc: Global, cursor: &mut SegmentPostings, targets: &[DocId]) -> Result<String, Fault> {
-    let mut text = String::new(alloc);
+    text: &mut String,
+    cursor: &mut SegmentPostings,
+    targets: &[DocId],
+) -> Result<(), Fault> {
     for target in targets {
         if cursor.doc() <= *target && *target <= TERMINATED {
             let _doc = cursor.seek(*target);
         }
-        push_doc(alloc, &mut text, cursor)?;
+        push_doc(alloc, text, cursor)?;
     }
-    Ok(text)
+    Ok(())
 }
 
 /// The same over the postings of a word in field 0.
-pub fn found_by_seeks(
+pub fn push_found_by_seeks(
     alloc: Global,
+    text: &mut String,
     index: &Index,
     word: &str,
     targets: &[DocId],
-) -> Result<String, Fault> {
+) -> Result<(), Fault> {
     let term = Term::from_field_text(alloc, Field::from_field_id(0), word)?;
     match term_cursor(alloc, index, &term, FULL)? {
-        Some(mut cursor) => sought(alloc, &mut cursor, targets),
-        None => Ok(String::new(alloc)),
+        Some(mut cursor) => push_sought(alloc, text, &mut cursor, targets),
+        None => Ok(()),
     }
 }
 
@@ -355,15 +385,25 @@ pub fn push_counts(alloc: Global, text: &mut String, index: &Index) -> Result<()
     Ok(write!(text, "{tokens} tokens of {terms} terms")?)
 }
 
-/// What is found of words, each in a field, and how many tokens and terms field 0 has.
-pub fn told(alloc: Global, index: &Index, words: &[(u32, &str)]) -> Result<String, Fault> {
-    let mut text = String::new(alloc);
+/// Adds what is found of words, each in a field, and how many tokens and terms field 0 has.
+pub fn push_told(
+    alloc: Global,
+    text: &mut String,
+    index: &Index,
+    words: &[(u32, &str)],
+) -> Result<(), Fault> {
     for word in words {
         let (field, word) = *word;
-        text.push_str(found(alloc, index, field, word)?.as_str())?;
+        push_found(alloc, text, index, field, word)?;
         text.push_str("; ")?;
     }
-    push_counts(alloc, &mut text, index)?;
+    push_counts(alloc, text, index)
+}
+
+/// The same alone.
+pub fn told(alloc: Global, index: &Index, words: &[(u32, &str)]) -> Result<String, Fault> {
+    let mut text = String::new(alloc);
+    push_told(alloc, &mut text, index, words)?;
     Ok(text)
 }
 

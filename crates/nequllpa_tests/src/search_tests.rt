@@ -48,15 +48,24 @@ fn documents(
     cursor: &mut QueryCursor<TermOrPhrase<SegmentPostings>>,
 ) -> Result<String, Fault> {
     let mut text = String::new(alloc);
+    push_documents(&mut text, cursor)?;
+    Ok(text)
+}
+
+// Adds them.
+fn push_documents(
+    text: &mut String,
+    cursor: &mut QueryCursor<TermOrPhrase<SegmentPostings>>,
+) -> Result<(), Fault> {
     for _ in 0..cursor.size_hint() {
         let doc = cursor.doc();
         if doc >= TERMINATED {
-            return Ok(text);
+            return Ok(());
         }
         write!(text, "{doc},")?;
         cursor.advance();
     }
-    Ok(text)
+    Ok(())
 }
 
 // A cursor over what a query gives, where the index has its fields.
@@ -109,11 +118,15 @@ fn words(alloc: Global, pair: Pair, first: &str, other: &str) -> Result<Query, F
     pair_of(alloc, pair, first, other)
 }
 
+// Whether a query gives these documents.
+fn gives(alloc: Global, query: &Query, docs: &str) -> Result<bool, Fault> {
+    Ok(found(alloc, query)?.as_str() == docs)
+}
+
 // Whether a word in a field gives these documents.
 fn word_gives(alloc: Global, field: u32, text: &str, docs: &str) -> Result<bool, Fault> {
     let query = word(alloc, field, text)?;
-    let found = found(alloc, &query)?;
-    Ok(found.as_str() == docs)
+    gives(alloc, &query, docs)
 }
 
 // Whether two words of the first field do.
@@ -125,8 +138,7 @@ fn words_give(
     docs: &str,
 ) -> Result<bool, Fault> {
     let query = words(alloc, pair, first, other)?;
-    let found = found(alloc, &query)?;
-    Ok(found.as_str() == docs)
+    gives(alloc, &query, docs)
 }
 
 // Whether two words and a third do, put together from the left.
@@ -141,78 +153,86 @@ fn three_give(
     let first = words(alloc, pairs.0, first, other)?;
     let last = word(alloc, 0, last)?;
     let query = pair_of(alloc, pairs.1, first, last)?;
-    let found = found(alloc, &query)?;
-    Ok(found.as_str() == docs)
+    gives(alloc, &query, docs)
 }
 
 // Whether a word of the first field does, put together with no document.
 fn word_and_nothing_give(alloc: Global, pair: Pair, docs: &str) -> Result<bool, Fault> {
     let first = word(alloc, 0, "a")?;
     let query = pair_of(alloc, pair, first, Query::Empty)?;
-    let found = found(alloc, &query)?;
-    Ok(found.as_str() == docs)
+    gives(alloc, &query, docs)
 }
 
 #[test]
-fn a_word_gives_its_documents(rt: HostRuntime) -> Result<(), Fail> {
-    assert!(rt; word_gives(rt.alloc(), 0, "a", "0,1,4,")?);
-    assert!(rt; word_gives(rt.alloc(), 0, "b", "0,2,4,")?);
-    assert!(rt; word_gives(rt.alloc(), 1, "a", "3,")?);
-    assert!(rt; word_gives(rt.alloc(), 0, "x", "")?);
-    assert!(rt; word_gives(rt.alloc(), 1, "x", "0,4,")?);
-    Ok(())
+fn a_word_gives_its_documents(rt: HostRuntime) {
+    let are_right = [
+        word_gives(rt.alloc(), 0, "a", "0,1,4,"),
+        word_gives(rt.alloc(), 0, "b", "0,2,4,"),
+        word_gives(rt.alloc(), 1, "a", "3,"),
+        word_gives(rt.alloc(), 0, "x", ""),
+        word_gives(rt.alloc(), 1, "x", "0,4,"),
+    ];
+    assert!(rt; are_right == [Ok(true); 5]);
 }
 
 #[test]
-fn and_gives_the_documents_of_both(rt: HostRuntime) -> Result<(), Fail> {
-    assert!(rt; words_give(rt.alloc(), Pair::And, "a", "b", "0,4,")?);
-    assert!(rt; words_give(rt.alloc(), Pair::And, "c", "a", "0,1,")?);
-    assert!(rt; words_give(rt.alloc(), Pair::And, "a", "z", "")?);
-    assert!(rt; words_give(rt.alloc(), Pair::And, "b", "b", "0,2,4,")?);
-    Ok(())
+fn and_gives_the_documents_of_both(rt: HostRuntime) {
+    let are_right = [
+        words_give(rt.alloc(), Pair::And, "a", "b", "0,4,"),
+        words_give(rt.alloc(), Pair::And, "c", "a", "0,1,"),
+        words_give(rt.alloc(), Pair::And, "a", "z", ""),
+        words_give(rt.alloc(), Pair::And, "b", "b", "0,2,4,"),
+    ];
+    assert!(rt; are_right == [Ok(true); 4]);
 }
 
 #[test]
-fn or_gives_each_document_once(rt: HostRuntime) -> Result<(), Fail> {
-    assert!(rt; words_give(rt.alloc(), Pair::Or, "a", "b", "0,1,2,4,")?);
-    assert!(rt; words_give(rt.alloc(), Pair::Or, "z", "c", "0,1,")?);
-    assert!(rt; words_give(rt.alloc(), Pair::Or, "a", "a", "0,1,4,")?);
-    Ok(())
+fn or_gives_each_document_once(rt: HostRuntime) {
+    let are_right = [
+        words_give(rt.alloc(), Pair::Or, "a", "b", "0,1,2,4,"),
+        words_give(rt.alloc(), Pair::Or, "z", "c", "0,1,"),
+        words_give(rt.alloc(), Pair::Or, "a", "a", "0,1,4,"),
+    ];
+    assert!(rt; are_right == [Ok(true); 3]);
 }
 
 #[test]
-fn and_not_leaves_documents_out(rt: HostRuntime) -> Result<(), Fail> {
-    assert!(rt; words_give(rt.alloc(), Pair::AndNot, "a", "b", "1,")?);
-    assert!(rt; words_give(rt.alloc(), Pair::AndNot, "b", "a", "2,")?);
-    assert!(rt; words_give(rt.alloc(), Pair::AndNot, "a", "z", "0,1,4,")?);
-    assert!(rt; words_give(rt.alloc(), Pair::AndNot, "a", "a", "")?);
-    Ok(())
+fn and_not_leaves_documents_out(rt: HostRuntime) {
+    let are_right = [
+        words_give(rt.alloc(), Pair::AndNot, "a", "b", "1,"),
+        words_give(rt.alloc(), Pair::AndNot, "b", "a", "2,"),
+        words_give(rt.alloc(), Pair::AndNot, "a", "z", "0,1,4,"),
+        words_give(rt.alloc(), Pair::AndNot, "a", "a", ""),
+    ];
+    assert!(rt; are_right == [Ok(true); 4]);
 }
 
 #[test]
-fn queries_are_nested(rt: HostRuntime) -> Result<(), Fail> {
-    assert!(rt; three_give(rt.alloc(), (Pair::Or, Pair::And), "a", "b", "c", "0,1,")?);
-    assert!(rt; three_give(rt.alloc(), (Pair::Or, Pair::AndNot), "a", "b", "c", "2,4,")?);
-    assert!(rt; three_give(rt.alloc(), (Pair::And, Pair::Or), "a", "b", "c", "0,1,4,")?);
-    assert!(rt;
+fn queries_are_nested(rt: HostRuntime) {
+    let are_right = [
+        three_give(rt.alloc(), (Pair::Or, Pair::And), "a", "b", "c", "0,1,"),
+        three_give(rt.alloc(), (Pair::Or, Pair::AndNot), "a", "b", "c", "2,4,"),
+        three_give(rt.alloc(), (Pair::And, Pair::Or), "a", "b", "c", "0,1,4,"),
         three_give(
             rt.alloc(),
             (Pair::AndNot, Pair::Or),
             "a",
             "b",
             "b",
-            "0,1,2,4,"
-        )?
-    );
-    Ok(())
+            "0,1,2,4,",
+        ),
+    ];
+    assert!(rt; are_right == [Ok(true); 4]);
 }
 
 #[test]
-fn no_document_is_put_together(rt: HostRuntime) -> Result<(), Fail> {
-    assert!(rt; word_and_nothing_give(rt.alloc(), Pair::And, "")?);
-    assert!(rt; word_and_nothing_give(rt.alloc(), Pair::Or, "0,1,4,")?);
-    assert!(rt; word_and_nothing_give(rt.alloc(), Pair::AndNot, "0,1,4,")?);
-    Ok(())
+fn no_document_is_put_together(rt: HostRuntime) {
+    let are_right = [
+        word_and_nothing_give(rt.alloc(), Pair::And, ""),
+        word_and_nothing_give(rt.alloc(), Pair::Or, "0,1,4,"),
+        word_and_nothing_give(rt.alloc(), Pair::AndNot, "0,1,4,"),
+    ];
+    assert!(rt; are_right == [Ok(true); 3]);
 }
 
 // A phrase of two words, each of a field, the second one so many positions behind the first.
@@ -222,11 +242,21 @@ fn phrase(
     distance: u32,
     other: (u32, &'static str),
 ) -> Result<Query, Fault> {
+    let others = second(alloc, distance, other)?;
     let start = Term::from_field_text(alloc, Field::from_field_id(first.0), first.1)?;
+    Ok(Query::Phrase(start, others))
+}
+
+// The second word as it stands in a phrase.
+fn second(
+    alloc: Global,
+    distance: u32,
+    other: (u32, &'static str),
+) -> Result<Vec<PhraseTerm>, Fault> {
     let term = Term::from_field_text(alloc, Field::from_field_id(other.0), other.1)?;
     let mut others = Vec::new(alloc);
     others.push(PhraseTerm { distance, term })?;
-    Ok(Query::Phrase(start, others))
+    Ok(others)
 }
 
 // Whether a phrase gives these documents.
@@ -238,17 +268,18 @@ fn phrase_gives(
     docs: &str,
 ) -> Result<bool, Fault> {
     let query = phrase(alloc, first, distance, other)?;
-    let found = found(alloc, &query)?;
-    Ok(found.as_str() == docs)
+    gives(alloc, &query, docs)
 }
 
 #[test]
-fn phrases_give_documents(rt: HostRuntime) -> Result<(), Fail> {
-    assert!(rt; phrase_gives(rt.alloc(), (0, "a"), 1, (0, "b"), "0,4,")?);
-    assert!(rt; phrase_gives(rt.alloc(), (0, "b"), 1, (0, "a"), "")?);
-    assert!(rt; phrase_gives(rt.alloc(), (0, "a"), 2, (0, "c"), "0,")?);
-    assert!(rt; phrase_gives(rt.alloc(), (0, "a"), 0, (1, "x"), "0,4,")?);
-    Ok(())
+fn phrases_give_documents(rt: HostRuntime) {
+    let are_right = [
+        phrase_gives(rt.alloc(), (0, "a"), 1, (0, "b"), "0,4,"),
+        phrase_gives(rt.alloc(), (0, "b"), 1, (0, "a"), ""),
+        phrase_gives(rt.alloc(), (0, "a"), 2, (0, "c"), "0,"),
+        phrase_gives(rt.alloc(), (0, "a"), 0, (1, "x"), "0,4,"),
+    ];
+    assert!(rt; are_right == [Ok(true); 4]);
 }
 
 // Words of the first field.
@@ -263,41 +294,56 @@ fn listed(alloc: Global, texts: &[&'static str]) -> Result<Vec<Query>, Fault> {
 // Whether these documents have one of the words.
 fn any_gives(alloc: Global, texts: &[&'static str], docs: &str) -> Result<bool, Fault> {
     let query = Query::or_any(alloc, listed(alloc, texts)?)?;
-    let found = found(alloc, &query)?;
-    Ok(found.as_str() == docs)
+    gives(alloc, &query, docs)
 }
 
 // Whether these have a word and all the others.
 fn all_give(alloc: Global, first: &str, texts: &[&'static str], docs: &str) -> Result<bool, Fault> {
     let first = word(alloc, 0, first)?;
     let query = Query::and_all(alloc, first, listed(alloc, texts)?)?;
-    let found = found(alloc, &query)?;
-    Ok(found.as_str() == docs)
+    gives(alloc, &query, docs)
 }
 
 #[test]
-fn lists_of_queries_are_put_together(rt: HostRuntime) -> Result<(), Fail> {
-    assert!(rt; any_gives(rt.alloc(), &["c", "z", "b"], "0,1,2,4,")?);
-    assert!(rt; any_gives(rt.alloc(), &[], "")?);
-    assert!(rt; all_give(rt.alloc(), "a", &["b", "c"], "0,")?);
-    assert!(rt; all_give(rt.alloc(), "a", &[], "0,1,4,")?);
-    Ok(())
+fn lists_of_queries_are_put_together(rt: HostRuntime) {
+    let are_right = [
+        any_gives(rt.alloc(), &["c", "z", "b"], "0,1,2,4,"),
+        any_gives(rt.alloc(), &[], ""),
+        all_give(rt.alloc(), "a", &["b", "c"], "0,"),
+        all_give(rt.alloc(), "a", &[], "0,1,4,"),
+    ];
+    assert!(rt; are_right == [Ok(true); 4]);
 }
 
 // How many documents have one of two words, and how many the second one.
 fn counts(alloc: Global) -> Result<(u32, u32), Fault> {
+    let both = words_counted(alloc)?;
+    Ok((both, word_counted(alloc)?))
+}
+
+// How many documents have one of the two words.
+fn words_counted(alloc: Global) -> Result<u32, Fault> {
     let both = words(alloc, Pair::Or, "a", "b")?;
+    counted(alloc, &both)
+}
+
+// How many have the one.
+fn word_counted(alloc: Global) -> Result<u32, Fault> {
     let one = word(alloc, 1, "x")?;
-    Ok((counted(alloc, &both)?, counted(alloc, &one)?))
+    counted(alloc, &one)
 }
 
 // Whether a schema of two fields has the fields of a query.
 fn asked(alloc: Global, field: u32) -> Result<bool, Fault> {
+    let schema = two_texts(alloc)?;
+    Ok(three_words(alloc, field)?.has_fields(&schema))
+}
+
+// Two words of the first field, and one of a field.
+fn three_words(alloc: Global, field: u32) -> Result<Query, Fault> {
     let query = words(alloc, Pair::Or, "a", "b")?;
     let other = word(alloc, field, "a")?;
-    let query = Query::or(alloc, query, other)?;
-    let schema = two_texts(alloc)?;
-    Ok(query.has_fields(&schema))
+    Query::or(alloc, query, other)
 }
 
 #[test]
@@ -308,8 +354,8 @@ fn documents_are_counted(rt: HostRuntime) -> Result<(), Fail> {
 
 #[test]
 fn fields_are_asked_for(rt: HostRuntime) -> Result<(), Fail> {
-    assert!(rt; asked(rt.alloc(), 1)?);
-    assert!(rt; !asked(rt.alloc(), 2)?);
+    let are_there = [asked(rt.alloc(), 1), asked(rt.alloc(), 2)];
+    assert!(rt; are_there == [Ok(true), Ok(false)]);
     Ok(())
 }
 
@@ -324,11 +370,19 @@ static OFTEN: [(DocId, u32, &str); 5] = [
 
 // The documents of a cursor with the greatest counts, each with its count.
 fn top_of(alloc: Global, cursor: &mut SegmentPostings, n: usize) -> Result<String, Fault> {
+    let top = top_by_count(alloc, cursor, n)?;
     let mut text = String::new(alloc);
-    for (doc, count) in top_by_count(alloc, cursor, n)? {
+    push_counts(&mut text, top.as_slice())?;
+    Ok(text)
+}
+
+// Adds documents, each with its count.
+fn push_counts(text: &mut String, counts: &[(DocId, u32)]) -> Result<(), Fault> {
+    for row in counts {
+        let (doc, count) = *row;
         write!(text, "{doc}:{count} ")?;
     }
-    Ok(text)
+    Ok(())
 }
 
 // The same of a word in an index.
@@ -340,18 +394,20 @@ fn top_of_word(alloc: Global, index: &Index, word: &str, n: usize) -> Result<Str
     }
 }
 
-// The documents in which it occurs most often, with their counts.
-fn most_often(alloc: Global, n: usize) -> Result<String, Fault> {
+// Whether these are the documents in which it occurs most often, with their counts.
+fn are_most_often(alloc: Global, n: usize, docs: &str) -> Result<bool, Fault> {
     let index = written_texts(alloc, texts(alloc, true)?, 6, &OFTEN)?;
-    top_of_word(alloc, &index, "a", n)
+    Ok(top_of_word(alloc, &index, "a", n)?.as_str() == docs)
 }
 
 #[test]
-fn the_most_frequent_are_found(rt: HostRuntime) -> Result<(), Fail> {
-    assert!(rt; most_often(rt.alloc(), 0)?.as_str() == "");
-    assert!(rt; most_often(rt.alloc(), 1)?.as_str() == "2:3 ");
-    // of equal counts the smaller document comes first
-    assert!(rt; most_often(rt.alloc(), 2)?.as_str() == "2:3 0:2 ");
-    assert!(rt; most_often(rt.alloc(), 9)?.as_str() == "2:3 0:2 4:2 1:1 ");
-    Ok(())
+fn the_most_frequent_are_found(rt: HostRuntime) {
+    let are_right = [
+        are_most_often(rt.alloc(), 0, ""),
+        are_most_often(rt.alloc(), 1, "2:3 "),
+        // of equal counts the smaller document comes first
+        are_most_often(rt.alloc(), 2, "2:3 0:2 "),
+        are_most_often(rt.alloc(), 9, "2:3 0:2 4:2 1:1 "),
+    ];
+    assert!(rt; are_right == [Ok(true); 4]);
 }

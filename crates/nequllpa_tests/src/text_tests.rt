@@ -1,5 +1,5 @@
 use crate::memory_index::{
-    FULL, Index, found, found_by_seeks, text_call, text_calls, text_entry, texts, told,
+    FULL, Index, found, push_found_by_seeks, text_call, text_calls, text_entry, texts, told,
     told_of_calls, told_of_text, two_texts, written, written_texts,
 };
 use ii_base::{Fault, Field, IndexRecordOption, Schema, Token, TokenList};
@@ -8,18 +8,24 @@ use ii_indexing::IndexCall;
 use std::alloc::Global;
 use std::test::Fail;
 
+static THREE: [(DocId, u32, &str); 3] = [(0, 0, "a b"), (0, 0, ""), (0, 0, "a")];
+
+static A_AND_B: [(u32, &str); 2] = [(0, "a"), (0, "b")];
+
 #[test]
 fn texts_of_a_document_have_a_gap_between(rt: HostRuntime) -> Result<(), Fail> {
-    let texts = [(0, 0, "a b"), (0, 0, ""), (0, 0, "a")];
-    let told = told_of_text(rt.alloc(), 1, &texts, &[(0, "a"), (0, "b")])?;
+    let told = told_of_text(rt.alloc(), 1, &THREE, &A_AND_B)?;
     assert!(rt; told.as_str() == "0:2:0,4, ; 0:1:1, ; 3 tokens of 2 terms");
     Ok(())
 }
 
+static TWO: [(DocId, u32, &str); 2] = [(0, 0, "a b a c a d a a."), (0, 0, "d d d d a")];
+
+static A_AND_D: [(u32, &str); 2] = [(0, "a"), (0, "d")];
+
 #[test]
 fn two_texts_of_a_document_are_found(rt: HostRuntime) -> Result<(), Fail> {
-    let texts = [(0, 0, "a b a c a d a a."), (0, 0, "d d d d a")];
-    let told = told_of_text(rt.alloc(), 1, &texts, &[(0, "a"), (0, "d")])?;
+    let told = told_of_text(rt.alloc(), 1, &TWO, &A_AND_D)?;
     let want = "0:6:0,2,4,6,7,13, ; 0:5:5,9,10,11,12, ; 13 tokens of 4 terms";
     assert!(rt; told.as_str() == want);
     Ok(())
@@ -27,10 +33,13 @@ fn two_texts_of_a_document_are_found(rt: HostRuntime) -> Result<(), Fail> {
 
 // What is told of two fields of texts.
 fn told_of_two(alloc: Global) -> Result<String, Fault> {
-    let texts = [(0, 0, "a"), (0, 1, "b"), (0, 0, "a")];
-    let index = written_texts(alloc, two_texts(alloc)?, 1, &texts)?;
-    told(alloc, &index, &[(0, "a"), (1, "b"), (1, "a")])
+    let index = written_texts(alloc, two_texts(alloc)?, 1, &IN_TWO_FIELDS)?;
+    told(alloc, &index, &OF_TWO_FIELDS)
 }
+
+static IN_TWO_FIELDS: [(DocId, u32, &str); 3] = [(0, 0, "a"), (0, 1, "b"), (0, 0, "a")];
+
+static OF_TWO_FIELDS: [(u32, &str); 3] = [(0, "a"), (1, "b"), (1, "a")];
 
 #[test]
 fn fields_count_their_positions_apart(rt: HostRuntime) -> Result<(), Fail> {
@@ -39,9 +48,13 @@ fn fields_count_their_positions_apart(rt: HostRuntime) -> Result<(), Fail> {
     Ok(())
 }
 
+static ONE: [(DocId, u32, &str); 1] = [(0, 0, "g a b b a d c g c")];
+
+static A: [(u32, &str); 1] = [(0, "a")];
+
 #[test]
 fn words_of_a_text_are_found(rt: HostRuntime) -> Result<(), Fail> {
-    let told = told_of_text(rt.alloc(), 1, &[(0, 0, "g a b b a d c g c")], &[(0, "a")])?;
+    let told = told_of_text(rt.alloc(), 1, &ONE, &A)?;
     assert!(rt; told.as_str() == "0:2:1,4, ; 9 tokens of 5 terms");
     Ok(())
 }
@@ -57,11 +70,16 @@ fn long_word(alloc: Global, len: usize) -> Result<String, Fault> {
 
 // The index of such a word in document 0, and then `hello`.
 fn long_words(alloc: Global, len: usize) -> Result<Index, Fault> {
-    let word = long_word(alloc, len)?;
     let mut calls = Vec::new(alloc);
-    calls.push(IndexCall::Text(0, Field::from_field_id(0), word))?;
-    calls.push(text_call(alloc, 0, 0, "hello")?)?;
+    push_words(alloc, &mut calls, len)?;
     written(alloc, texts(alloc, false)?, 1, calls)
+}
+
+// Adds the calls.
+fn push_words(alloc: Global, calls: &mut Vec<IndexCall>, len: usize) -> Result<(), Fault> {
+    let word = long_word(alloc, len)?;
+    calls.push(IndexCall::Text(0, Field::from_field_id(0), word))?;
+    Ok(calls.push(text_call(alloc, 0, 0, "hello")?)?)
 }
 
 // What is told of that word.
@@ -107,16 +125,23 @@ fn placed(alloc: Global, places: &[(DocId, usize)]) -> Result<Vec<IndexCall>, Fa
     let mut calls = Vec::new(alloc);
     for place in places {
         let (doc, position) = *place;
-        let tokens = one_token(alloc, position, String::from_str(alloc, "a")?)?;
-        calls.push(IndexCall::Tokens(doc, Field::from_field_id(0), tokens))?;
+        calls.push(placed_call(alloc, doc, position)?)?;
     }
     Ok(calls)
 }
 
+// The call of one.
+fn placed_call(alloc: Global, doc: DocId, position: usize) -> Result<IndexCall, Fault> {
+    let tokens = one_token(alloc, position, String::from_str(alloc, "a")?)?;
+    Ok(IndexCall::Tokens(doc, Field::from_field_id(0), tokens))
+}
+
+static PLACES: [(DocId, usize); 2] = [(0, 5), (1, 0)];
+
 // What is told of `a` at these places.
 fn told_of_placed(alloc: Global) -> Result<String, Fault> {
-    let calls = placed(alloc, &[(0, 5), (1, 0)])?;
-    told_of_calls(alloc, texts(alloc, false)?, 2, calls, &[(0, "a")])
+    let calls = placed(alloc, &PLACES)?;
+    told_of_calls(alloc, texts(alloc, false)?, 2, calls, &A)
 }
 
 #[test]
@@ -128,20 +153,30 @@ fn positions_begin_anew_in_each_document(rt: HostRuntime) -> Result<(), Fail> {
 
 // Two tokens that say `a`, in one list of document 0.
 fn pair(alloc: Global, first: usize, second: usize) -> Result<Vec<IndexCall>, Fault> {
-    let mut tokens = Vec::new(alloc);
-    for position in [first, second] {
-        tokens.push(Token {
-            offset_from: 0,
-            offset_to: 1,
-            position,
-            text: String::from_str(alloc, "a")?,
-            position_length: 1,
-        })?;
-    }
-    let tokens = TokenList::new(tokens);
+    let tokens = two_tokens(alloc, first, second)?;
     let mut calls = Vec::new(alloc);
     calls.push(IndexCall::Tokens(0, Field::from_field_id(0), tokens))?;
     Ok(calls)
+}
+
+// Those tokens.
+fn two_tokens(alloc: Global, first: usize, second: usize) -> Result<TokenList, Fault> {
+    let mut tokens = Vec::new(alloc);
+    push_token(alloc, &mut tokens, first)?;
+    push_token(alloc, &mut tokens, second)?;
+    Ok(TokenList::new(tokens))
+}
+
+// Adds a token that says `a`.
+fn push_token(alloc: Global, tokens: &mut Vec<Token>, position: usize) -> Result<(), Fault> {
+    let token = Token {
+        offset_from: 0,
+        offset_to: 1,
+        position,
+        text: String::from_str(alloc, "a")?,
+        position_length: 1,
+    };
+    Ok(tokens.push(token)?)
 }
 
 // What is found of such tokens in a field that keeps of a term what an option says.
@@ -151,11 +186,16 @@ fn found_of_pair(
     first: usize,
     second: usize,
 ) -> Result<String, Fault> {
+    let calls = pair(alloc, first, second)?;
+    let index = written(alloc, texts_with(alloc, option)?, 1, calls)?;
+    found(alloc, &index, 0, "a")
+}
+
+// Such a field.
+fn texts_with(alloc: Global, option: IndexRecordOption) -> Result<Schema, Fault> {
     let mut entries = Vec::new(alloc);
     entries.push(text_entry(alloc, option, false)?)?;
-    let calls = pair(alloc, first, second)?;
-    let index = written(alloc, Schema::new(entries), 1, calls)?;
-    found(alloc, &index, 0, "a")
+    Ok(Schema::new(entries))
 }
 
 #[test]
@@ -174,15 +214,22 @@ fn positions_may_be_equal(rt: HostRuntime) -> Result<(), Fail> {
 
 // What is told of a long word at the last place.
 fn told_of_last(alloc: Global) -> Result<String, Fault> {
+    let calls = last_call(alloc)?;
+    told_of_calls(alloc, texts(alloc, false)?, 1, calls, &[])
+}
+
+// The call of that word.
+fn last_call(alloc: Global) -> Result<Vec<IndexCall>, Fault> {
     let tokens = one_token(alloc, usize::MAX, long_word(alloc, 65531)?)?;
     let mut calls = Vec::new(alloc);
     calls.push(IndexCall::Tokens(0, Field::from_field_id(0), tokens))?;
-    told_of_calls(alloc, texts(alloc, false)?, 1, calls, &[])
+    Ok(calls)
 }
 
 #[test]
 fn long_tokens_are_left_out_wherever_they_stand(rt: HostRuntime) -> Result<(), Fail> {
-    assert!(rt; told_of_last(rt.alloc())?.as_str() == "0 tokens of 0 terms");
+    let told = told_of_last(rt.alloc())?;
+    assert!(rt; told.as_str() == "0 tokens of 0 terms");
     Ok(())
 }
 
@@ -190,27 +237,37 @@ const LAST: DocId = 1002;
 
 // `abc be be be be abc` in documents 1 and 1002, `abc abc abc` in the others up to there.
 fn many_documents(alloc: Global) -> Result<Index, Fault> {
-    let mut said = Vec::new(alloc);
+    let mut calls = Vec::new(alloc);
     for doc in 0..LAST + 1 {
-        if doc == 1 || doc == LAST {
-            said.push((doc, 0, "abc be be be be abc"))?;
-        } else {
-            said.push((doc, 0, "abc abc abc"))?;
-        }
+        calls.push(text_call(alloc, doc, 0, said_in(doc))?)?;
     }
-    let calls = text_calls(alloc, said.as_slice())?;
     written(alloc, texts(alloc, false)?, LAST + 1, calls)
+}
+
+// The text of a document.
+fn said_in(doc: DocId) -> &'static str {
+    if doc == 1 || doc == LAST {
+        "abc be be be be abc"
+    } else {
+        "abc abc abc"
+    }
+}
+
+// How often `abc` stands in a document, and where.
+fn wanted_in(doc: DocId) -> &'static str {
+    if doc == 1 || doc == LAST {
+        "2:0,5,"
+    } else {
+        "3:0,1,2,"
+    }
 }
 
 // Where its `abc` stand.
 fn wanted_postings(alloc: Global) -> Result<String, Fault> {
     let mut text = String::new(alloc);
     for doc in 0..LAST + 1 {
-        if doc == 1 || doc == LAST {
-            write!(text, "{doc}:2:0,5, ")?;
-        } else {
-            write!(text, "{doc}:3:0,1,2, ")?;
-        }
+        let wanted = wanted_in(doc);
+        write!(text, "{doc}:{wanted} ")?;
     }
     Ok(text)
 }
@@ -234,10 +291,20 @@ fn many_documents_are_walked(rt: HostRuntime) -> Result<(), Fail> {
 
 // What is found by a seek, and by two.
 fn sought_twice_in(alloc: Global, index: &Index) -> Result<String, Fault> {
-    let mut text = found_by_seeks(alloc, index, "abc", &[1])?;
-    text.push_str("; ")?;
-    text.push_str(found_by_seeks(alloc, index, "abc", &[100, LAST])?.as_str())?;
+    let mut text = String::new(alloc);
+    push_sought(alloc, &mut text, index)?;
     Ok(text)
+}
+
+static SECOND: [DocId; 1] = [1];
+
+static LATER: [DocId; 2] = [100, LAST];
+
+// Adds both.
+fn push_sought(alloc: Global, text: &mut String, index: &Index) -> Result<(), Fault> {
+    push_found_by_seeks(alloc, text, index, "abc", &SECOND)?;
+    text.push_str("; ")?;
+    push_found_by_seeks(alloc, text, index, "abc", &LATER)
 }
 
 // The same of those documents.
