@@ -5,13 +5,13 @@ ghost use Rattle.ii_docset.specs.Cursor.{doc_at, from_doc, IsDangerAnswer, IsSou
 mod combined;
 mod list_postings;
 
-use ii_base::AliveBitSet;
+use ii_base::{AliveBitSet, Fault};
 use ii_docset::{
     COLLECT_BLOCK_BUFFER_LEN, CursorAnswer, CursorCall, DocId, DocSet, Lent, Postings,
     SeekDangerResult, TERMINATED, Walk, intersect, walk,
 };
 use list_postings::{ListPostings, Place};
-use std::alloc::Global;
+use std::alloc::{AllocError, Global};
 use std::marker::Model;
 use std::test::Fail;
 
@@ -94,17 +94,26 @@ fn counted<D: DocSet>(cursor: &mut D) -> u32
     cursor.count_including_deleted()
 }
 
-#[test]
-fn default_bodies_are_called(rt: HostRuntime) -> Result<(), Fail> {
+// The cost of the documents below 12, and then: the first one, the one sought from 7 on, the next, how
+// many are left, where the cursor stands, and how many are left then.
+fn default_answers() -> (u64, [u32; 6]) {
     let mut cursor = Below { next: 0, end: 12 };
-    assert!(rt; cost_of(&cursor) == 12);
-    assert!(rt; cursor.doc() == 0);
-    assert!(rt; sought(&mut cursor, 7) == 7);
-    assert!(rt; cursor.advance() == 8);
-    assert!(rt; counted(&mut cursor) == 4);
-    assert!(rt; cursor.doc() == TERMINATED);
-    assert!(rt; counted(&mut cursor) == 0);
-    Ok(())
+    let cost = cost_of(&cursor);
+    let first = cursor.doc();
+    let seventh = sought(&mut cursor, 7);
+    let next = cursor.advance();
+    let rest = counted(&mut cursor);
+    let end = cursor.doc();
+    (
+        cost,
+        [first, seventh, next, rest, end, counted(&mut cursor)],
+    )
+}
+
+#[test]
+fn default_bodies_are_called(rt: HostRuntime) {
+    let answers = default_answers();
+    assert!(rt; answers == (12, [0, 7, 8, 4, TERMINATED, 0]));
 }
 
 // Goes on by a cursor of any kind that is lent.
@@ -115,26 +124,30 @@ fn next_of(cursor: &mut dyn DocSet) -> DocId {
 #[test]
 fn a_lent_cursor_of_any_kind_goes_on(rt: HostRuntime) {
     let mut cursor = Below { next: 0, end: 2 };
-    assert!(rt; next_of(&mut cursor) == 1);
-    assert!(rt; next_of(&mut cursor) == TERMINATED);
-    assert!(rt; cursor.doc() == TERMINATED);
+    let next = next_of(&mut cursor);
+    let docs = [next, next_of(&mut cursor), cursor.doc()];
+    assert!(rt; docs == [1, TERMINATED, TERMINATED]);
+}
+
+// How many documents go into a buffer, and where the cursor stands then.
+fn fill<D: DocSet>(
+    cursor: &mut D,
+    buffer: &mut [DocId; COLLECT_BLOCK_BUFFER_LEN],
+) -> (usize, DocId) {
+    let count = filled(cursor, buffer);
+    (count, cursor.doc())
 }
 
 #[test]
 fn buffers_are_filled(rt: HostRuntime) -> Result<(), Fail> {
     let mut cursor: Box<dyn DocSet> = Box::new(rt.alloc(), Below { next: 0, end: 100 })?;
     let mut buffer = [7; COLLECT_BLOCK_BUFFER_LEN];
-    assert!(rt; filled(&mut cursor, &mut buffer) == 64);
-    assert!(rt; buffer[0] == 0);
-    assert!(rt; buffer[63] == 63);
-    assert!(rt; cursor.doc() == 64);
-    let mut lent = Lent { inner: &mut cursor };
-    assert!(rt; filled(&mut lent, &mut buffer) == 36);
-    assert!(rt; buffer[35] == 99);
-    assert!(rt; buffer[36] == 36);
-    assert!(rt; filled(&mut cursor, &mut buffer) == 0);
-    assert!(rt; buffer[35] == 99);
-    assert!(rt; cursor.doc() == TERMINATED);
+    let first = fill(&mut cursor, &mut buffer);
+    assert!(rt; (first, buffer[0], buffer[63]) == ((64, 64), 0, 63));
+    let (count, _) = fill(&mut Lent { inner: &mut cursor }, &mut buffer);
+    assert!(rt; (count, buffer[35], buffer[36]) == (36, 99, 36));
+    let last = fill(&mut cursor, &mut buffer);
+    assert!(rt; (last, buffer[35]) == ((0, TERMINATED), 99));
     Ok(())
 }
 
@@ -160,13 +173,27 @@ fn three() -> ListPostings
     ListPostings::new(&PLACES)
 }
 
+// What they answer of 1, 2 and no document, and where their cursor stands then.
+fn asked_thrice() -> ([SeekDangerResult; 3], DocId) {
+    let mut cursor = three();
+    let one = asked(&mut cursor, 1);
+    let two = asked(&mut cursor, 2);
+    let none = asked(&mut cursor, TERMINATED);
+    ([one, two, none], cursor.doc())
+}
+
 #[test]
 fn documents_are_asked_for(rt: HostRuntime) {
-    let mut cursor = three();
-    assert!(rt; asked(&mut cursor, 1) == SeekDangerResult::SeekLowerBound(2));
-    assert!(rt; asked(&mut cursor, 2) == SeekDangerResult::Found);
-    assert!(rt; asked(&mut cursor, TERMINATED) == SeekDangerResult::SeekLowerBound(TERMINATED));
-    assert!(rt; cursor.doc() == 2);
+    let (answers, doc) = asked_thrice();
+    assert!(rt;
+        answers
+            == [
+                SeekDangerResult::SeekLowerBound(2),
+                SeekDangerResult::Found,
+                SeekDangerResult::SeekLowerBound(TERMINATED)
+            ]
+    );
+    assert!(rt; doc == 2);
 }
 
 // Calls of a cursor over them.
@@ -185,66 +212,106 @@ fn row<P: Postings>(alloc: Global, cursor: &mut P) -> Walk
     walk(alloc, cursor, &calls)
 }
 
-#[test]
-fn cursors_are_walked(rt: HostRuntime) -> Result<(), Fail> {
+// These calls of a cursor in a box.
+fn row_boxed(alloc: Global) -> Result<Walk, AllocError> {
+    let mut boxed = Box::new(alloc, three())?;
+    Ok(row(alloc, &mut boxed))
+}
+
+// And of one of any kind.
+fn row_erased(alloc: Global) -> Result<Walk, AllocError> {
+    let mut erased: Box<dyn Postings> = Box::new(alloc, three())?;
+    Ok(row(alloc, &mut erased))
+}
+
+// Whether the walk is complete, and has the answers that are wanted.
+fn is_wanted(alloc: Global, walked: &Walk) -> Result<(bool, bool), AllocError> {
     let want = [
         CursorAnswer::Doc(2),
         CursorAnswer::Freq(1),
         CursorAnswer::Doc(10),
-        CursorAnswer::Positions(vec![in rt.alloc(); 9, 14]?),
+        CursorAnswer::Positions(vec![in alloc; 9, 14]?),
         CursorAnswer::Doc(TERMINATED),
         CursorAnswer::Doc(TERMINATED),
         CursorAnswer::Doc(TERMINATED),
     ];
-    let mut cursor = three();
-    let mut boxed = Box::new(rt.alloc(), three())?;
-    let mut erased: Box<dyn Postings> = Box::new(rt.alloc(), three())?;
-    let walks = [
-        row(rt.alloc(), &mut cursor),
-        row(rt.alloc(), &mut boxed),
-        row(rt.alloc(), &mut erased),
-    ];
-    for walked in &walks {
-        assert!(rt; walked.complete);
-        assert!(rt; walked.answers.as_slice() == want.as_slice());
-    }
+    Ok((
+        walked.complete,
+        walked.answers.as_slice() == want.as_slice(),
+    ))
+}
+
+#[test]
+fn cursors_are_walked(rt: HostRuntime) -> Result<(), Fail> {
+    let plain = is_wanted(rt.alloc(), &row(rt.alloc(), &mut three()))?;
+    let boxed = is_wanted(rt.alloc(), &row_boxed(rt.alloc())?)?;
+    let erased = is_wanted(rt.alloc(), &row_erased(rt.alloc())?)?;
+    assert!(rt; [plain, boxed, erased] == [(true, true); 3]);
     Ok(())
+}
+
+static ADDED: [u32; 2] = [8, 103];
+
+static FOUR_NINE: [u32; 2] = [4, 9];
+
+// Adds the positions of document 0 with 100 more to `added`, and puts those of document 10 in place of
+// what stands in `output`. Answers the document, and how many positions are then read from the second
+// one and from the first one on, each with three numbers of which these take the place.
+fn tell_positions(
+    added: &mut Vec<u32>,
+    output: &mut Vec<u32>,
+) -> Result<(DocId, [(usize, [u32; 3]); 2]), Fault> {
+    let mut cursor = three();
+    cursor.append_positions_with_offset(100, added)?;
+    let doc = cursor.seek(10);
+    cursor.positions(output)?;
+    let mut some = [7; 3];
+    let second = (cursor.read_positions(1, 4, &mut some), some);
+    let first = (cursor.read_positions(0, 0, &mut some), some);
+    Ok((doc, [second, first]))
 }
 
 #[test]
 fn positions_are_told(rt: HostRuntime) -> Result<(), Fail> {
-    let mut cursor = three();
-    let mut output = vec![in rt.alloc(); 8]?;
-    cursor.append_positions_with_offset(100, &mut output)?;
-    assert!(rt; output.as_slice() == [8, 103].as_slice());
-    assert!(rt; cursor.seek(10) == 10);
-    cursor.positions(&mut output)?;
-    assert!(rt; output.as_slice() == [4, 9].as_slice());
-    let mut some = [7; 3];
-    assert!(rt; cursor.read_positions(1, 4, &mut some) == 1);
-    assert!(rt; some == [9, 7, 7]);
-    assert!(rt; cursor.read_positions(0, 0, &mut some) == 2);
-    assert!(rt; some == [4, 9, 7]);
+    let mut added = vec![in rt.alloc(); 8]?;
+    let mut output = vec![in rt.alloc(); 8, 103]?;
+    let told = tell_positions(&mut added, &mut output)?;
+    assert!(rt; told == (10, [(1, [9, 7, 7]), (2, [4, 9, 7])]));
+    assert!(rt; (added.as_slice(), output.as_slice()) == (ADDED.as_slice(), FOUR_NINE.as_slice()));
     Ok(())
 }
+
+static TWO_TEN: [DocId; 2] = [2, 10];
 
 #[test]
 fn documents_are_common(rt: HostRuntime) -> Result<(), Fail> {
     let mut below = Below { next: 1, end: 12 };
     let common = intersect(rt.alloc(), &mut three(), &mut below)?;
-    assert!(rt; common.as_slice() == [2, 10].as_slice());
+    assert!(rt; common.as_slice() == TWO_TEN.as_slice());
     Ok(())
 }
 
-#[test]
-fn living_documents_are_counted(rt: HostRuntime) -> Result<(), Fail> {
-    let alive = AliveBitSet::from_deleted_docs(rt.alloc(), &[10, 4, 10], 12)?;
-    assert!(rt; alive.is_alive(0));
-    assert!(rt; !alive.is_alive(10));
+static DELETED: [DocId; 3] = [10, 4, 10];
+
+// Whether documents 0 and 10 are alive where some are deleted, how many of the three are, and where
+// their cursor stands then.
+fn some_living(alloc: Global) -> Result<([bool; 2], u32, DocId), Fault> {
+    let alive = AliveBitSet::from_deleted_docs(alloc, &DELETED, 12)?;
+    let two = [alive.is_alive(0), alive.is_alive(10)];
     let mut cursor = three();
-    assert!(rt; cursor.count(&alive) == 2);
-    assert!(rt; cursor.doc() == TERMINATED);
-    let all = AliveBitSet::full(rt.alloc(), 11)?;
-    assert!(rt; three().count(&all) == 3);
-    Ok(())
+    let count = cursor.count(&alive);
+    Ok((two, count, cursor.doc()))
+}
+
+// How many are where none is.
+fn all_living(alloc: Global) -> Result<u32, Fault> {
+    let all = AliveBitSet::full(alloc, 11)?;
+    Ok(three().count(&all))
+}
+
+#[test]
+fn living_documents_are_counted(rt: HostRuntime) {
+    let some = some_living(rt.alloc());
+    assert!(rt; some == Ok(([true, false], 2, TERMINATED)));
+    assert!(rt; all_living(rt.alloc()) == Ok(3));
 }

@@ -3,7 +3,7 @@ ghost use Rattle.ii_layout.specs.Bounds.{Covers};
 ghost use Rattle.ii_base.specs.Options.{has_freq};
 ghost use Rattle.std.specs.List.{range_with_len};
 
-use ii_base::{CountingWriter, Fault, IndexRecordOption, LimitName, TERMINATED};
+use ii_base::{CountingWriter, DocId, Fault, IndexRecordOption, LimitName, TERMINATED};
 use ii_fieldnorm::FieldNormReader;
 use ii_io::FailingWriter;
 use ii_layout::skip::{
@@ -53,10 +53,12 @@ fn block(alloc: Global, mode: IndexRecordOption) -> Result<Vec<u8>, Fault> {
     Ok(output.finish())
 }
 
+static BASIC_BLOCK: [u8; 6] = [0x85, 0x7F, 0, 0, 0, 0x40];
+
 #[test]
 fn blocks_are_written(rt: HostRuntime) -> Result<(), Fail> {
     let bytes = block(rt.alloc(), IndexRecordOption::Basic)?;
-    assert!(rt; bytes.as_slice() == [0x85, 0x7F, 0, 0, 0, 0x40].as_slice());
+    assert!(rt; bytes.as_slice() == BASIC_BLOCK.as_slice());
     reads_documents_back();
     reads_postings_back();
     reads_uncounted_back();
@@ -68,22 +70,33 @@ fn is_filled(bytes: &[u8], front: &[u8], len: usize) -> bool {
     if bytes.len() != len || !bytes.starts_with(front) {
         return false;
     }
+    let mut all = true;
     for byte in bytes.iter().skip(front.len()) {
-        if *byte != 0xAA {
-            return false;
-        }
+        all &= *byte == 0xAA;
     }
-    true
+    all
 }
 
+// Whether such a block is written of 128 documents.
+fn is_block(
+    alloc: Global,
+    mode: IndexRecordOption,
+    front: &[u8],
+    len: usize,
+) -> Result<bool, Fault> {
+    Ok(is_filled(&block(alloc, mode)?, front, len))
+}
+
+static COUNTS_BEGIN: [u8; 9] = [0x88, 0x7F, 0, 0, 0, 0x40, 2, 0, 0];
+
+static POSITIONS_BEGIN: [u8; 13] = [0x8C, 0x7F, 0, 0, 0, 0x40, 2, 0x80, 1, 0, 0, 0, 0];
+
 #[test]
-fn counts_of_a_block_are_written(rt: HostRuntime) -> Result<(), Fail> {
-    let bytes = block(rt.alloc(), IndexRecordOption::WithFreqs)?;
-    assert!(rt; is_filled(&bytes, &[0x88, 0x7F, 0, 0, 0, 0x40, 2, 0, 0], 41));
-    let bytes = block(rt.alloc(), IndexRecordOption::WithFreqsAndPositions)?;
-    let front = [0x8C, 0x7F, 0, 0, 0, 0x40, 2, 0x80, 1, 0, 0, 0, 0];
-    assert!(rt; is_filled(&bytes, &front, 45));
-    Ok(())
+fn counts_of_a_block_are_written(rt: HostRuntime) {
+    let counts = is_block(rt.alloc(), IndexRecordOption::WithFreqs, &COUNTS_BEGIN, 41);
+    assert!(rt; counts == Ok(true));
+    let mode = IndexRecordOption::WithFreqsAndPositions;
+    assert!(rt; is_block(rt.alloc(), mode, &POSITIONS_BEGIN, 45) == Ok(true));
 }
 
 // How writing 130 documents ends where a call fails, and what is written.
@@ -97,35 +110,55 @@ fn failing(
     (output.finish(), answer)
 }
 
+// The same, with how many bytes are written, if those are the first of these.
+fn told_of_failing(
+    alloc: Global,
+    mode: IndexRecordOption,
+    failing_call: u64,
+    right: &[u8],
+) -> (Result<(), Fault>, Option<usize>) {
+    let (writer, answer) = failing(alloc, mode, failing_call);
+    if !right.starts_with(writer.bytes()) {
+        return (answer, None);
+    }
+    (answer, Some(writer.bytes().len()))
+}
+
+static WRITTEN: [u8; 8] = [0x85, 0x7F, 0, 0, 0, 0x40, 0x81, 0x81];
+
 #[test]
 fn a_failing_writer_is_told(rt: HostRuntime) {
-    let right = [0x85, 0x7F, 0, 0, 0, 0x40, 0x81, 0x81];
+    let mode = IndexRecordOption::Basic;
     for (k, written) in [(1, 0), (2, 1), (3, 6)] {
-        let (writer, answer) = failing(rt.alloc(), IndexRecordOption::Basic, k);
-        assert!(rt; answer == Err(Fault::Write), "call {k}");
-        assert!(rt; writer.bytes() == &right[..written], "call {k}");
+        let told = told_of_failing(rt.alloc(), mode, k, &WRITTEN);
+        assert!(rt; told == (Err(Fault::Write), Some(written)), "call {k}");
     }
     for k in 4..6 {
-        let (writer, answer) = failing(rt.alloc(), IndexRecordOption::Basic, k);
-        assert!(rt; answer == Ok(()), "call {k}");
-        assert!(rt; writer.bytes() == right.as_slice(), "call {k}");
+        let told = told_of_failing(rt.alloc(), mode, k, &WRITTEN);
+        assert!(rt; told == (Ok(()), Some(8)), "call {k}");
     }
+}
+
+static COUNTS_END: [u8; 4] = [0x81, 0x81, 0x83, 0x83];
+
+// What is written of them with counts.
+fn written_with_counts() -> [u8; 45] {
+    let mut right = [0xAA; 45];
+    right[..9].copy_from_slice(&COUNTS_BEGIN);
+    right[41..].copy_from_slice(&COUNTS_END);
+    right
 }
 
 #[test]
 fn a_failing_writer_is_told_with_counts(rt: HostRuntime) {
-    let mut right = [0xAA; 45];
-    right[..9].copy_from_slice(&[0x88, 0x7F, 0, 0, 0, 0x40, 2, 0, 0]);
-    right[41..].copy_from_slice(&[0x81, 0x81, 0x83, 0x83]);
+    let (mode, right) = (IndexRecordOption::WithFreqs, written_with_counts());
     for (k, written) in [(1, 0), (2, 1), (3, 9), (4, 41), (5, 43)] {
-        let (writer, answer) = failing(rt.alloc(), IndexRecordOption::WithFreqs, k);
-        assert!(rt; answer == Err(Fault::Write), "call {k}");
-        assert!(rt; writer.bytes() == &right[..written], "call {k}");
+        let told = told_of_failing(rt.alloc(), mode, k, &right);
+        assert!(rt; told == (Err(Fault::Write), Some(written)), "call {k}");
     }
     for k in 6..8 {
-        let (writer, answer) = failing(rt.alloc(), IndexRecordOption::WithFreqs, k);
-        assert!(rt; answer == Ok(()), "call {k}");
-        assert!(rt; writer.bytes() == right.as_slice(), "call {k}");
+        let told = told_of_failing(rt.alloc(), mode, k, &right);
+        assert!(rt; told == (Ok(()), Some(45)), "call {k}");
     }
 }
 
@@ -164,28 +197,34 @@ fn write_terms(
     write_three(serializer, 1, output)
 }
 
+static TERMS: [u8; 9] = [0x80, 0x82, 0x88, 0x80, 0x82, 0x88, 0x81, 0x82, 0x83];
+
 #[test]
 fn terms_are_written_one_after_the_other(rt: HostRuntime) -> Result<(), Fail> {
     let norms = Some(FieldNormReader::constant(11, 10));
     let mut serializer = PostingsSerializer::new(rt.alloc(), IndexRecordOption::WithFreqs, norms);
     let mut output = CountingWriter::wrap(Vec::new(rt.alloc()));
     write_terms(&mut serializer, &mut output)?;
-    assert!(rt;
-        output.finish().as_slice()
-            == [0x80, 0x82, 0x88, 0x80, 0x82, 0x88, 0x81, 0x82, 0x83].as_slice()
-    );
+    assert!(rt; output.finish().as_slice() == TERMS.as_slice());
     Ok(())
+}
+
+// What is answered to the document that makes the sum of a block's counts too large, and to one more.
+fn answers_to_sum(alloc: Global) -> Result<[Result<(), Fault>; 2], Fault> {
+    let mode = IndexRecordOption::WithFreqsAndPositions;
+    let mut serializer = PostingsSerializer::new(alloc, mode, None);
+    add_below(&mut serializer, 127, 33_554_432)?;
+    let sum = serializer.write_doc(127, 33_554_432);
+    let Err(_) = sum else {
+        return Ok([sum, sum]);
+    };
+    Ok([sum, serializer.write_doc(128, 1)])
 }
 
 #[test]
 fn a_sum_of_counts_above_32_bits_is_refused(rt: HostRuntime) -> Result<(), Fail> {
-    let mode = IndexRecordOption::WithFreqsAndPositions;
-    let mut serializer = PostingsSerializer::new(rt.alloc(), mode, None);
-    add_below(&mut serializer, 127, 33_554_432)?;
-    let answer = serializer.write_doc(127, 33_554_432);
-    assert!(rt; answer == Err(Fault::Limit(LimitName::BlockFrequencySum)));
-    let answer = serializer.write_doc(128, 1);
-    assert!(rt; answer == Err(Fault::SerializerClosed));
+    let limit = Err(Fault::Limit(LimitName::BlockFrequencySum));
+    assert!(rt; answers_to_sum(rt.alloc())? == [limit, Err(Fault::SerializerClosed)]);
     Ok(())
 }
 
@@ -205,54 +244,89 @@ fn other_sums_are_taken(rt: HostRuntime) {
     assert!(rt; answer_to_block(rt.alloc(), mode, 33_554_432) == Ok(()));
 }
 
+// What is answered to a document, to the end of its term at which the writer fails, and to five calls
+// more.
+fn refusals(
+    alloc: Global,
+    output: &mut CountingWriter<FailingWriter>,
+) -> ([Result<(), Fault>; 2], [Result<(), Fault>; 5]) {
+    let mut serializer = PostingsSerializer::new(alloc, IndexRecordOption::Basic, None);
+    serializer.new_term(1, false);
+    let written = serializer.write_doc(1, 1);
+    let Ok(_) = written else {
+        return ([written; 2], [written; 5]);
+    };
+    let ended = serializer.close_term(1, output);
+    let Err(_) = ended else {
+        return ([written, ended], [ended; 5]);
+    };
+    let end = serializer.close_term(1, output);
+    let first = serializer.write_doc(0, 1);
+    let second = serializer.write_doc(0, 1);
+    serializer.new_term(1, false);
+    let third = serializer.write_doc(1, 1);
+    let other = serializer.close_term(7, output);
+    ([written, ended], [end, first, second, third, other])
+}
+
 #[test]
 fn a_refused_serializer_is_closed(rt: HostRuntime) {
-    let mut serializer = PostingsSerializer::new(rt.alloc(), IndexRecordOption::Basic, None);
     let mut output = CountingWriter::wrap(FailingWriter::new(rt.alloc(), 1));
-    serializer.new_term(1, false);
-    let answer = serializer.write_doc(1, 1);
-    assert!(rt; answer == Ok(()));
-    assert!(rt; serializer.close_term(1, &mut output) == Err(Fault::Write));
+    let (answers, later) = refusals(rt.alloc(), &mut output);
+    assert!(rt; answers == [Ok(()), Err(Fault::Write)]);
     // each further call can be made, and is refused
-    let answer = serializer.close_term(1, &mut output);
-    assert!(rt; answer == Err(Fault::SerializerClosed));
-    let answer = serializer.write_doc(0, 1);
-    assert!(rt; answer == Err(Fault::SerializerClosed));
-    let answer = serializer.write_doc(0, 1);
-    assert!(rt; answer == Err(Fault::SerializerClosed));
-    serializer.new_term(1, false);
-    assert!(rt; serializer.write_doc(1, 1) == Err(Fault::SerializerClosed));
-    let answer = serializer.close_term(7, &mut output);
-    assert!(rt; answer == Err(Fault::SerializerClosed));
+    assert!(rt; later == [Err(Fault::SerializerClosed); 5]);
     assert!(rt; output.failed_calls() == 1);
+}
+
+// Writes an entry with a width of counts and a bound.
+fn write_entry(
+    skip: &mut SkipSerializer,
+    last: (DocId, u8),
+    tf_num_bits: u8,
+    bound: (u8, u32),
+) -> Result<(), Fault>
+    requires { last.1 < 32 }
+{
+    skip.write_doc(last.0, last.1)?;
+    skip.write_term_freq(tf_num_bits)?;
+    skip.write_blockwand_max(bound.0, bound.1)
 }
 
 // Writes two entries with counts and bounds.
 fn write_bounded(skip: &mut SkipSerializer) -> Result<(), Fault> {
+    write_entry(skip, (1, 2), 3, (13, 3))?;
+    write_entry(skip, (5, 5), 2, (8, 2))
+}
+
+static TWO_ENTRIES: [u8; 10] = [1, 0, 0, 0, 0x42, 5, 0, 0, 0, 0x45];
+
+static BOUNDED_ENTRIES: [u8; 16] = [1, 0, 0, 0, 0x42, 3, 0x0D, 3, 5, 0, 0, 0, 0x45, 2, 8, 2];
+
+static TOTAL: [u8; 6] = [0x80, 1, 0, 0, 1, 255];
+
+// Whether two entries have their bytes, how many are left once they are cleared, and whether such with
+// counts and bounds, and a sum with a bound, have theirs.
+fn written_entries(skip: &mut SkipSerializer) -> Result<(bool, usize, [bool; 2]), Fault> {
     skip.write_doc(1, 2)?;
-    skip.write_term_freq(3)?;
-    skip.write_blockwand_max(13, 3)?;
     skip.write_doc(5, 5)?;
-    skip.write_term_freq(2)?;
-    skip.write_blockwand_max(8, 2)
+    let two = skip.data() == TWO_ENTRIES.as_slice();
+    skip.clear();
+    let left = skip.data().len();
+    write_bounded(skip)?;
+    let bounded = skip.data() == BOUNDED_ENTRIES.as_slice();
+    skip.clear();
+    skip.write_total_term_freq(384)?;
+    skip.write_blockwand_max(1, 256)?;
+    let total = skip.data() == TOTAL.as_slice();
+    Ok((two, left, [bounded, total]))
 }
 
 #[test]
 fn skip_entries_are_written(rt: HostRuntime) -> Result<(), Fail> {
     let mut skip = SkipSerializer::new(rt.alloc());
-    skip.write_doc(1, 2)?;
-    skip.write_doc(5, 5)?;
-    assert!(rt; skip.data() == [1, 0, 0, 0, 0x42, 5, 0, 0, 0, 0x45].as_slice());
-    skip.clear();
-    assert!(rt; skip.data().len() == 0);
-    write_bounded(&mut skip)?;
-    assert!(rt;
-        skip.data() == [1, 0, 0, 0, 0x42, 3, 0x0D, 3, 5, 0, 0, 0, 0x45, 2, 8, 2].as_slice()
-    );
-    skip.clear();
-    skip.write_total_term_freq(384)?;
-    skip.write_blockwand_max(1, 256)?;
-    assert!(rt; skip.data() == [0x80, 1, 0, 0, 1, 255].as_slice());
+    let told = written_entries(&mut skip)?;
+    assert!(rt; told == (true, 0, [true, true]));
     Ok(())
 }
 
@@ -266,75 +340,112 @@ fn widths_and_bounds_have_bytes(rt: HostRuntime) {
     assert!(rt; decode_bitwidth(0x9F) == (31, false));
 }
 
+// The last document of a block and of the one before it, and where its bytes begin.
+fn place_of(skip: &SkipReader) -> (DocId, DocId, usize) {
+    let (last, before) = (skip.last_doc_in_block(), skip.last_doc_in_previous_block());
+    (last, before, skip.byte_offset())
+}
+
+// What two blocks are told as, and what then four ends, the last of them after a reset to no blocks.
+fn read_entries() -> ([(DocId, DocId, usize); 4], [BlockInfo; 4]) {
+    let mut skip = SkipReader::new(&TWO_ENTRIES, 259, IndexRecordOption::Basic);
+    let first = place_of(&skip);
+    skip.advance(&TWO_ENTRIES);
+    let second = place_of(&skip);
+    skip.advance(&TWO_ENTRIES);
+    let (third, rest) = (place_of(&skip), skip.block_info());
+    skip.advance(&TWO_ENTRIES);
+    let (fourth, end) = (place_of(&skip), skip.block_info());
+    skip.advance(&TWO_ENTRIES);
+    let after = skip.block_info();
+    skip.reset(&[], 7);
+    (
+        [first, second, third, fourth],
+        [rest, end, after, skip.block_info()],
+    )
+}
+
 #[test]
 fn skip_entries_are_read(rt: HostRuntime) {
-    let bytes = [1, 0, 0, 0, 0x42, 5, 0, 0, 0, 0x45];
-    let mut skip = SkipReader::new(&bytes, 259, IndexRecordOption::Basic);
-    assert!(rt; skip.last_doc_in_block() == 1);
-    assert!(rt; skip.last_doc_in_previous_block() == 0);
-    assert!(rt; skip.byte_offset() == 0);
-    skip.advance(&bytes);
-    assert!(rt; skip.last_doc_in_block() == 5);
-    assert!(rt; skip.last_doc_in_previous_block() == 1);
-    assert!(rt; skip.byte_offset() == 32);
-    skip.advance(&bytes);
-    assert!(rt; skip.last_doc_in_block() == TERMINATED);
-    assert!(rt; skip.byte_offset() == 112);
-    assert!(rt; skip.block_info() == BlockInfo::VInt { num_docs: 3 });
-    skip.advance(&bytes);
-    assert!(rt; skip.byte_offset() == usize::MAX);
-    assert!(rt; skip.block_info() == BlockInfo::default());
-    skip.advance(&bytes);
-    assert!(rt; skip.block_info() == BlockInfo::VInt { num_docs: 0 });
-    skip.reset(&[], 7);
-    assert!(rt; skip.block_info() == BlockInfo::VInt { num_docs: 7 });
+    let ([first, second, third, fourth], infos) = read_entries();
+    assert!(rt; (first, second) == ((1, 0, 0), (5, 1, 32)));
+    assert!(rt; (third.0, third.2, fourth.2) == (TERMINATED, 112, usize::MAX));
+    assert!(rt;
+        infos
+            == [
+                BlockInfo::VInt { num_docs: 3 },
+                BlockInfo::default(),
+                BlockInfo::VInt { num_docs: 0 },
+                BlockInfo::VInt { num_docs: 7 }
+            ]
+    );
     assert!(rt; decode_block_wand_max_tf(254) == 254);
+}
+
+static ONE_ENTRY: [u8; 5] = [1, 0, 0, 0, 0x42];
+
+// The last document of one block, and what stands behind it.
+fn read_full_block() -> (DocId, BlockInfo) {
+    let mut skip = SkipReader::new(&ONE_ENTRY, 128, IndexRecordOption::Basic);
+    let last = skip.last_doc_in_block();
+    skip.advance(&ONE_ENTRY);
+    (last, skip.block_info())
 }
 
 #[test]
 fn no_documents_follow_one_full_block(rt: HostRuntime) {
-    let bytes = [1, 0, 0, 0, 0x42];
-    let mut skip = SkipReader::new(&bytes, 128, IndexRecordOption::Basic);
-    assert!(rt; skip.last_doc_in_block() == 1);
-    skip.advance(&bytes);
-    assert!(rt; skip.block_info() == BlockInfo::VInt { num_docs: 0 });
+    assert!(rt; read_full_block() == (1, BlockInfo::VInt { num_docs: 0 }));
+}
+
+// What two blocks with counts are told as, and what then three ends.
+fn read_counted() -> ([(DocId, DocId, usize); 3], [BlockInfo; 3]) {
+    let mut skip = SkipReader::new(&BOUNDED_ENTRIES, 259, IndexRecordOption::WithFreqs);
+    let first = place_of(&skip);
+    skip.advance(&BOUNDED_ENTRIES);
+    let second = place_of(&skip);
+    skip.advance(&BOUNDED_ENTRIES);
+    let (third, rest) = (place_of(&skip), skip.block_info());
+    skip.advance(&BOUNDED_ENTRIES);
+    let end = skip.block_info();
+    skip.advance(&BOUNDED_ENTRIES);
+    ([first, second, third], [rest, end, skip.block_info()])
 }
 
 #[test]
 fn entries_with_counts_are_read(rt: HostRuntime) {
-    let bytes = [1, 0, 0, 0, 0x42, 3, 0x0D, 3, 5, 0, 0, 0, 0x45, 2, 8, 2];
-    let mut skip = SkipReader::new(&bytes, 259, IndexRecordOption::WithFreqs);
-    assert!(rt; skip.last_doc_in_block() == 1);
-    assert!(rt; skip.byte_offset() == 0);
-    skip.advance(&bytes);
-    assert!(rt; skip.last_doc_in_block() == 5);
-    assert!(rt; skip.byte_offset() == 80);
-    skip.advance(&bytes);
-    assert!(rt; skip.block_info() == BlockInfo::VInt { num_docs: 3 });
-    assert!(rt; skip.byte_offset() == 192);
-    skip.advance(&bytes);
-    assert!(rt; skip.block_info() == BlockInfo::VInt { num_docs: 0 });
-    skip.advance(&bytes);
-    assert!(rt; skip.block_info() == BlockInfo::VInt { num_docs: 0 });
+    let ([first, second, third], infos) = read_counted();
+    assert!(rt; (first.0, first.2, second.0, second.2) == (1, 0, 5, 80));
+    assert!(rt; third.2 == 192);
+    assert!(rt;
+        infos
+            == [
+                BlockInfo::VInt { num_docs: 3 },
+                BlockInfo::VInt { num_docs: 0 },
+                BlockInfo::VInt { num_docs: 0 }
+            ]
+    );
 }
+
+static LONG_LIST: [u8; 14] = [0x8C, 0x7F, 0, 0, 0, 0x40, 2, 0x80, 1, 0, 0, 0, 0, 0xAA];
+
+static WIDE_COUNTS: [u8; 9] = [0x88, 0x7F, 0, 0, 0, 0x40, 0x21, 0, 0];
+
+static FEW_ENTRIES: [u8; 9] = [0x88, 0x7F, 0, 0, 0, 0x40, 0, 0, 0];
+
+static CUT_LIST: [u8; 5] = [0x85, 0x7F, 0, 0, 0];
 
 #[test]
 fn a_skip_list_is_split(rt: HostRuntime) {
-    let long = [0x8C, 0x7F, 0, 0, 0, 0x40, 2, 0x80, 1, 0, 0, 0, 0, 0xAA];
     let option = IndexRecordOption::WithFreqsAndPositions;
     let places = Some(SkipPlaces {
         skip_info: option,
         entries: 1,
         body: 13,
     });
-    assert!(rt; split_into_skips_and_postings(128, &long, option) == places);
+    assert!(rt; split_into_skips_and_postings(128, &LONG_LIST, option) == places);
     // a width of counts above 32, entries that are missing, and a size that passes the bytes
-    let wide = [0x88, 0x7F, 0, 0, 0, 0x40, 0x21, 0, 0];
-    let split = split_into_skips_and_postings(128, &wide, IndexRecordOption::WithFreqs);
-    assert!(rt; split == None);
-    let few = [0x88, 0x7F, 0, 0, 0, 0x40, 0, 0, 0];
-    assert!(rt; split_into_skips_and_postings(128, &few, option) == None);
-    let cut = [0x85, 0x7F, 0, 0, 0];
-    let split = split_into_skips_and_postings(128, &cut, IndexRecordOption::Basic);
-    assert!(rt; split == None);
+    let wide = split_into_skips_and_postings(128, &WIDE_COUNTS, IndexRecordOption::WithFreqs);
+    let few = split_into_skips_and_postings(128, &FEW_ENTRIES, option);
+    let cut = split_into_skips_and_postings(128, &CUT_LIST, IndexRecordOption::Basic);
+    assert!(rt; [wide, few, cut] == [None, None, None]);
 }
