@@ -2,7 +2,7 @@ ghost use Rattle.std.specs.Prelude.{◌≡◌};
 
 use ii_base::{
     AliveBitSet, AsciiTokenizer, DateTime, DocId, FastValue, Fault, Field, FieldEntry,
-    IndexRecordOption, Schema, Term, TextAnalyzer, TokenStream, ValueType,
+    IndexRecordOption, Schema, Term, TextAnalyzer, TokenStream, TokenView, ValueType,
 };
 use std::alloc::{AllocError, Global};
 use std::test::Fail;
@@ -21,8 +21,8 @@ const TYPES: [(ValueType, u8); 8] = [
 #[test]
 fn types_have_codes(rt: HostRuntime) {
     for (value_type, code) in TYPES {
-        assert!(rt; value_type.to_code() == code);
-        assert!(rt; ValueType::from_code(code) == Some(value_type));
+        let told = (value_type.to_code(), ValueType::from_code(code));
+        assert!(rt; told == (code, Some(value_type)));
     }
     for code in [0, b'f', b'h', b'S'] {
         assert!(rt; ValueType::from_code(code) == None);
@@ -62,24 +62,27 @@ fn told_of(entry: &FieldEntry) -> (bool, bool, bool) {
     (indexed, norms, entry.expands_dots())
 }
 
+// What is told of a field of the schema: its number, its name, and that.
+fn field_row(field: u32) -> Option<(u32, &'static str, (bool, bool, bool))> {
+    match field {
+        0 => Some((0, "text", (true, true, false))),
+        1 => Some((1, "number", (true, true, false))),
+        2 => Some((2, "json", (true, false, true))),
+        3 => Some((3, "stored", (false, false, false))),
+        _ => None,
+    }
+}
+
 #[test]
 fn schemas_tell_their_fields(rt: HostRuntime) -> Result<(), Fail> {
     let schema = four_fields(rt.alloc())?;
-    let rows = [
-        ("text", (true, true, false)),
-        ("number", (true, true, false)),
-        ("json", (true, false, true)),
-        ("stored", (false, false, false)),
-    ];
     let mut seen = 0;
-    for ((field, entry), (name, told)) in schema.fields().zip(rows) {
-        assert!(rt; field.field_id() == seen);
-        assert!(rt; entry.name() == name);
-        assert!(rt; told_of(entry) == told);
+    for (field, entry) in schema.fields() {
+        let told = (field.field_id(), entry.name(), told_of(entry));
+        assert!(rt; Some(told) == field_row(seen));
         seen = seen.saturating_add(1);
     }
-    assert!(rt; seen == 4);
-    assert!(rt; schema.num_fields() == 4);
+    assert!(rt; (seen, schema.num_fields()) == (4, 4));
     Ok(())
 }
 
@@ -95,8 +98,15 @@ fn kind_of(schema: &Schema, field: u32) -> Option<(ValueType, IndexRecordOption)
 #[test]
 fn schemas_tell_what_is_recorded(rt: HostRuntime) -> Result<(), Fail> {
     let schema = four_fields(rt.alloc())?;
-    assert!(rt; kind_of(&schema, 2) == Some((ValueType::Json, IndexRecordOption::WithFreqs)));
-    assert!(rt; kind_of(&schema, 3) == Some((ValueType::Date, IndexRecordOption::Basic)));
+    let kinds = [kind_of(&schema, 2), kind_of(&schema, 3)];
+    let json = (ValueType::Json, IndexRecordOption::WithFreqs);
+    assert!(rt;
+        kinds
+            == [
+                Some(json),
+                Some((ValueType::Date, IndexRecordOption::Basic))
+            ]
+    );
     Ok(())
 }
 
@@ -150,15 +160,20 @@ fn documents_are_alive(rt: HostRuntime) -> Result<(), Fail> {
     Ok(())
 }
 
+// Adds a token.
+fn push_token(spelled: &mut String, token: TokenView<'_>) -> Result<(), Fault> {
+    spelled.push_str(token.text)?;
+    write!(spelled, "@{}", token.position)?;
+    write!(spelled, "+{}", token.position_length)?;
+    write!(spelled, " {}..{}, ", token.offset_from, token.offset_to)?;
+    Ok(())
+}
+
 // The tokens that are still to come.
 fn spell_stream<S: TokenStream>(alloc: Global, tokens: &mut S) -> Result<String, Fault> {
     let mut spelled = String::new(alloc);
     while tokens.advance() {
-        let token = tokens.token();
-        spelled.push_str(token.text)?;
-        write!(spelled, "@{}", token.position)?;
-        write!(spelled, "+{}", token.position_length)?;
-        write!(spelled, " {}..{}, ", token.offset_from, token.offset_to)?;
+        push_token(&mut spelled, tokens.token())?;
     }
     Ok(spelled)
 }
@@ -173,6 +188,16 @@ fn spell<T: TextAnalyzer>(alloc: Global, analyzer: &T, text: &str) -> Result<Str
 fn spell_lent<T: TextAnalyzer>(alloc: Global, analyzer: &T, text: &str) -> Result<String, Fault> {
     let mut tokens = analyzer.token_stream(text);
     spell_stream(alloc, &mut tokens)
+}
+
+// Whether the tokens of a text are these.
+fn is_spelled(alloc: Global, text: &str, spelled: &str) -> Result<bool, Fault> {
+    Ok(spell(alloc, &AsciiTokenizer, text)?.as_str() == spelled)
+}
+
+// Whether they are when they are lent one by one.
+fn is_lent(alloc: Global, text: &str, spelled: &str) -> Result<bool, Fault> {
+    Ok(spell_lent(alloc, &AsciiTokenizer, text)?.as_str() == spelled)
 }
 
 #[test]
@@ -191,32 +216,46 @@ fn texts_are_cut(rt: HostRuntime) -> Result<(), Fail> {
         ),
     ];
     for (text, spelled) in rows {
-        let found = spell(rt.alloc(), &AsciiTokenizer, text)?;
-        assert!(rt; found.as_str() == spelled);
-        let lent = spell_lent(rt.alloc(), &AsciiTokenizer, text)?;
-        assert!(rt; lent.as_str() == spelled);
+        let found = (
+            is_spelled(rt.alloc(), text, spelled)?,
+            is_lent(rt.alloc(), text, spelled)?,
+        );
+        assert!(rt; found == (true, true));
     }
     Ok(())
+}
+
+// Whether the first token is `x`, at which position the second one is, and whether two more come.
+fn gone_over<S: TokenStream>(tokens: &mut S) -> Option<(bool, usize, [bool; 2])> {
+    let is_x = tokens.next().is_some_and(|token| token.text == "x");
+    if !tokens.advance() {
+        return None;
+    }
+    let position = tokens.token().position;
+    let third = tokens.advance();
+    Some((is_x, position, [third, tokens.advance()]))
 }
 
 #[test]
 fn tokens_are_gone_over(rt: HostRuntime) -> Result<(), Fail> {
     let mut tokens = AsciiTokenizer.token_list(rt.alloc(), "x y")?;
-    assert!(rt; tokens.next().is_some_and(|token| token.text == "x"));
-    assert!(rt; tokens.advance());
-    assert!(rt; tokens.token().position == 1);
-    assert!(rt; !tokens.advance());
-    assert!(rt; !tokens.advance());
+    let told = gone_over(&mut tokens);
+    assert!(rt; told == Some((true, 1, [false, false])));
     Ok(())
+}
+
+// Whether the first token is `x`, whether the second one begins at byte 2, and whether more come.
+fn lent_tokens<S: TokenStream>(tokens: &mut S) -> [bool; 4] {
+    let is_x = tokens.next().is_some_and(|token| token.text == "x");
+    let is_next = tokens.next().is_some_and(|token| token.offset_from == 2);
+    let third = tokens.next().is_some();
+    [is_x, is_next, third, tokens.advance()]
 }
 
 #[test]
 fn tokens_are_lent(rt: HostRuntime) {
-    let mut tokens = AsciiTokenizer.token_stream("x y");
-    assert!(rt; tokens.next().is_some_and(|token| token.text == "x"));
-    assert!(rt; tokens.next().is_some_and(|token| token.offset_from == 2));
-    assert!(rt; tokens.next().is_none());
-    assert!(rt; !tokens.advance());
+    let told = lent_tokens(&mut AsciiTokenizer.token_stream("x y"));
+    assert!(rt; told == [true, true, false, false]);
 }
 
 fn appended<T: FastValue>(alloc: Global, val: T) -> Result<Term, Fault> {
@@ -273,31 +312,33 @@ pub(crate) fn have_bytes(terms: &[Term], rows: &[&'static [u8]]) -> bool {
     all
 }
 
+static VALUES: [&'static [u8]; 4] = [
+    b"\x00\x00\x00\x00\x00\x00\x03\xd7",
+    b"\x7f\xff\xff\xff\xff\xff\xff\xfc",
+    b"\x00\x00\x00\x00\x00\x00\x00\x01",
+    b"ab",
+];
+
 #[test]
 fn values_have_terms(rt: HostRuntime) -> Result<(), Fail> {
     let mut terms = Vec::new(rt.alloc());
     push_values(rt.alloc(), &mut terms)?;
-    let rows: [&'static [u8]; 4] = [
-        b"\x00\x00\x00\x00\x00\x00\x03\xd7",
-        b"\x7f\xff\xff\xff\xff\xff\xff\xfc",
-        b"\x00\x00\x00\x00\x00\x00\x00\x01",
-        b"ab",
-    ];
-    assert!(rt; have_bytes(terms.as_slice(), &rows));
+    assert!(rt; have_bytes(terms.as_slice(), &VALUES));
     Ok(())
 }
+
+static VALUES_UNDER_PATHS: [&'static [u8]; 5] = [
+    b"nu\x00\x00\x00\x00\x00\x00\x00\x04",
+    b"ni\x7f\xff\xff\xff\xff\xff\xff\xfc",
+    b"no\x00\x00\x00\x00\x00\x00\x00\x01",
+    b"nd\x80\x00\x00\x00\x00\x00\x00\x05",
+    b"colorsred",
+];
 
 #[test]
 fn values_under_paths_have_terms(rt: HostRuntime) -> Result<(), Fail> {
     let mut terms = Vec::new(rt.alloc());
     push_appended(rt.alloc(), &mut terms)?;
-    let rows: [&'static [u8]; 5] = [
-        b"nu\x00\x00\x00\x00\x00\x00\x00\x04",
-        b"ni\x7f\xff\xff\xff\xff\xff\xff\xfc",
-        b"no\x00\x00\x00\x00\x00\x00\x00\x01",
-        b"nd\x80\x00\x00\x00\x00\x00\x00\x05",
-        b"colorsred",
-    ];
-    assert!(rt; have_bytes(terms.as_slice(), &rows));
+    assert!(rt; have_bytes(terms.as_slice(), &VALUES_UNDER_PATHS));
     Ok(())
 }

@@ -6,6 +6,12 @@ use ii_json::{
 use std::alloc::Global;
 use std::test::Fail;
 
+// Adds a path and its number.
+fn push_id(spelled: &mut String, path: &str, id: u32) -> Result<(), Fault> {
+    write!(spelled, "{path}{id} ")?;
+    Ok(())
+}
+
 // Makes paths known, and writes each with its unordered id.
 fn spell_ids(
     known: &mut PathToUnorderedId,
@@ -14,31 +20,51 @@ fn spell_ids(
 ) -> Result<(), Fault> {
     for path in paths {
         let id = known.get_or_allocate_unordered_id(*path)?;
-        write!(spelled, "{path}{id} ")?;
+        push_id(spelled, path, id)?;
     }
     Ok(())
 }
 
-// Writes the ordered ids of the known paths, and the paths in their order.
-fn spell_order(
+// Adds ordered ids.
+fn push_ordered(spelled: &mut String, ids: &[OrderedPathId]) -> Result<(), Fault> {
+    for id in ids {
+        write!(spelled, "{} ", id.path_id())?;
+    }
+    Ok(())
+}
+
+// Writes the ordered ids of the known paths.
+fn spell_ordered(
     alloc: Global,
     known: &PathToUnorderedId,
     spelled: &mut String,
 ) -> Result<(), Fault> {
-    for id in known.unordered_id_to_ordered_id(alloc)? {
-        write!(spelled, "{} ", id.path_id())?;
-    }
-    for path in known.ordered_id_to_path(alloc)? {
+    push_ordered(spelled, known.unordered_id_to_ordered_id(alloc)?.as_slice())
+}
+
+// Adds paths.
+fn push_paths(spelled: &mut String, paths: &[&str]) -> Result<(), Fault> {
+    for path in paths {
         write!(spelled, "{path} ")?;
     }
     Ok(())
+}
+
+// Writes the known paths in their order.
+fn spell_paths(
+    alloc: Global,
+    known: &PathToUnorderedId,
+    spelled: &mut String,
+) -> Result<(), Fault> {
+    push_paths(spelled, known.ordered_id_to_path(alloc)?.as_slice())
 }
 
 fn spell(alloc: Global, paths: &[&'static str]) -> Result<String, Fault> {
     let mut known = PathToUnorderedId::new(alloc);
     let mut spelled = String::new(alloc);
     spell_ids(&mut known, paths, &mut spelled)?;
-    spell_order(alloc, &known, &mut spelled)?;
+    spell_ordered(alloc, &known, &mut spelled)?;
+    spell_paths(alloc, &known, &mut spelled)?;
     Ok(spelled)
 }
 
@@ -110,11 +136,14 @@ fn terms_are_added_whole(rt: HostRuntime) -> Result<(), Fail> {
 }
 
 // The bytes that are lent for a value behind a path.
-fn lent_value(alloc: Global) -> Result<Vec<u8>, Fault> {
-    let mut term = JsonTermSerializer::new(alloc);
+fn lend_value(alloc: Global, term: &mut JsonTermSerializer) -> Result<Vec<u8>, Fault> {
     term.append_json_path("a")?;
     let lent = term.append_bytes(b"sred")?;
     Ok(Vec::from_slice(alloc, lent)?)
+}
+
+fn lent_value(alloc: Global) -> Result<Vec<u8>, Fault> {
+    lend_value(alloc, &mut JsonTermSerializer::new(alloc))
 }
 
 #[test]
@@ -159,33 +188,41 @@ fn converted(alloc: Global, text: &str) -> Result<Option<Vec<u8>>, Fault> {
 
 // Whether a text has a value of these bytes at the path.
 fn converts_to(alloc: Global, text: &str, bytes: &[u8]) -> Result<bool, Fault> {
-    let found = converted(alloc, text)?;
-    Ok(found.is_some_and(|value| value.as_slice() == bytes))
+    match converted(alloc, text)? {
+        Some(value) => Ok(value.as_slice() == bytes),
+        None => Ok(false),
+    }
 }
+
+static CONVERTED: [(&'static str, &'static [u8]); 4] = [
+    ("-4", b"color\x00i\x7f\xff\xff\xff\xff\xff\xff\xfc"),
+    ("+5", b"color\x00i\x80\x00\x00\x00\x00\x00\x00\x05"),
+    (
+        "18446744073709551615",
+        b"color\x00u\xff\xff\xff\xff\xff\xff\xff\xff",
+    ),
+    ("true", b"color\x00o\x00\x00\x00\x00\x00\x00\x00\x01"),
+];
 
 #[test]
 fn texts_become_values(rt: HostRuntime) -> Result<(), Fail> {
-    let rows: [(&'static str, &'static [u8]); 4] = [
-        ("-4", b"color\x00i\x7f\xff\xff\xff\xff\xff\xff\xfc"),
-        ("+5", b"color\x00i\x80\x00\x00\x00\x00\x00\x00\x05"),
-        (
-            "18446744073709551615",
-            b"color\x00u\xff\xff\xff\xff\xff\xff\xff\xff",
-        ),
-        ("true", b"color\x00o\x00\x00\x00\x00\x00\x00\x00\x01"),
-    ];
-    for (text, bytes) in rows {
+    for (text, bytes) in &CONVERTED {
         let converts = converts_to(rt.alloc(), text, bytes)?;
         assert!(rt; converts);
     }
     Ok(())
 }
 
+// Whether a text has a value at the path.
+fn has_value(alloc: Global, text: &str) -> Result<bool, Fault> {
+    Ok(converted(alloc, text)?.is_some())
+}
+
 #[test]
 fn other_texts_have_no_value(rt: HostRuntime) -> Result<(), Fail> {
     for text in ["1.5", "", "True", "-", "18446744073709551616"] {
-        let found = converted(rt.alloc(), text)?;
-        assert!(rt; found.is_none());
+        let has_value = has_value(rt.alloc(), text)?;
+        assert!(rt; !has_value);
     }
     Ok(())
 }
