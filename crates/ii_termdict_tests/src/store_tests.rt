@@ -194,7 +194,8 @@ fn are_numbered(infos: &TermInfoStore) -> bool {
     let mut all = true;
     for i in 0..infos.num_terms() {
         let info = infos.get(i as u64);
-        all &= (u64::from(info.doc_freq), info.postings_range.start) == (i as u64, 2 * i);
+        let start = info.postings_range.start;
+        all &= (u64::from(info.doc_freq), start / 2, start % 2) == (i as u64, i, 0);
     }
     all
 }
