@@ -80,11 +80,13 @@ fn built_of_none(alloc: Global) -> (Vec<u8>, Result<(), Fault>) {
     (writer.finish(), finished)
 }
 
+static NOTHING: [u8; 24] = [0; 24];
+
 #[test]
 fn writes_no_keys(rt: HostRuntime) {
     let (bytes, finished) = built_of_none(rt.alloc());
     assert!(rt; finished == Ok(()));
-    assert!(rt; bytes.as_slice() == [0; 24].as_slice());
+    assert!(rt; bytes.as_slice() == NOTHING.as_slice());
 }
 
 // Key `i` of keys that ascend.
@@ -104,16 +106,25 @@ fn kept(i: u32) -> TermInfo
     }
 }
 
-// A dictionary of 100,000 of them, each two above the one before.
-fn many(alloc: Global) -> Result<TermDictionary, Fault> {
-    let writer = CountingWriter::wrap(Vec::new(alloc));
-    let mut builder = AscendingTerms::new(alloc, writer);
+// Adds 100,000 of them, each two above the one before.
+fn write_many(builder: &mut AscendingTerms<Vec<u8>>) -> Result<(), Fault> {
     for i in 0..100_000u32 {
         builder.write(&numbered(2 * i + 1), i % 1000, 7, 21)?;
     }
+    Ok(())
+}
+
+// The bytes of their dictionary.
+fn written_many(alloc: Global) -> Result<Vec<u8>, Fault> {
+    let mut builder = AscendingTerms::new(alloc, CountingWriter::wrap(Vec::new(alloc)));
+    let written = write_many(&mut builder);
     let (writer, finished) = builder.finish();
-    finished?;
-    TermDictionary::open(Bytes::from_vec(writer.finish())?)
+    written.and(finished)?;
+    Ok(writer.finish())
+}
+
+fn many(alloc: Global) -> Result<TermDictionary, Fault> {
+    TermDictionary::open(Bytes::from_vec(written_many(alloc)?)?)
 }
 
 // Whether term `i` is found under its key, and nothing under the one below.
@@ -145,21 +156,19 @@ fn looks_a_hundred_thousand_keys_up(rt: HostRuntime) -> Result<(), Fail> {
     assert!(rt; terms.num_terms() == 100_000);
     let mut stream = terms.stream();
     for i in 0..100_000u32 {
-        assert!(rt; is_found(&terms, i), "term {i}");
-        assert!(rt; goes_on_to(&mut stream, i), "term {i}");
+        let found = (is_found(&terms, i), goes_on_to(&mut stream, i));
+        assert!(rt; found == (true, true), "term {i}");
     }
     assert!(rt; !stream.advance());
     Ok(())
 }
 
 // Whether the key stands at place 0, and none at 1.
-fn has_one_place(alloc: Global, terms: &TermDictionary) -> Result<bool, Fault> {
-    let mut key = Vec::new(alloc);
-    let mut all = terms.ord_to_term(0, &mut key)?;
-    all &= key.as_slice() == b"a".as_slice();
-    all &= !terms.ord_to_term(1, &mut key)?;
-    all &= key.is_empty();
-    Ok(all)
+fn has_one_place(terms: &TermDictionary, key: &mut Vec<u8>) -> Result<[bool; 4], Fault> {
+    let first = terms.ord_to_term(0, key)?;
+    let is_a = key.as_slice() == A.as_slice();
+    let second = terms.ord_to_term(1, key)?;
+    Ok([first, is_a, !second, key.is_empty()])
 }
 
 // The key at a place, if there is one.
@@ -180,32 +189,68 @@ fn streams_one(terms: &TermDictionary) -> bool {
     !stream.advance()
 }
 
+static A: [u8; 1] = *b"a";
+
+static B: [u8; 1] = *b"b";
+
+// The dictionary of that key.
+fn dictionary(alloc: Global) -> Result<TermDictionary, Fault> {
+    TermDictionary::open(Bytes::copy_from_slice(alloc, &one())?)
+}
+
+// What is kept of the keys `b`, the empty one and `a`.
+fn looked_up(terms: &TermDictionary) -> [Option<TermInfo>; 3] {
+    let (b, none) = (terms.get(&B), terms.get(&[]));
+    [b, none, terms.get(&A)]
+}
+
+// What is kept of the key.
+fn info() -> TermInfo {
+    TermInfo {
+        doc_freq: 3,
+        postings_range: 0..3,
+        positions_range: 0..0,
+    }
+}
+
+// Whether the key is at place 0, and none at place 1.
+fn has_one_key(terms: &TermDictionary) -> (bool, bool) {
+    let first = key_of(terms, 0) == Some(A.as_slice());
+    (first, key_of(terms, 1).is_none())
+}
+
 #[test]
 fn looks_keys_up(rt: HostRuntime) -> Result<(), Fail> {
-    let terms = TermDictionary::open(Bytes::copy_from_slice(rt.alloc(), &one())?)?;
-    assert!(rt; terms.num_terms() == 1);
-    assert!(rt; terms.get(b"b") == None);
-    assert!(rt; terms.get(b"") == None);
-    let info = terms.get(b"a").ok_or("lost")?;
-    assert!(rt; (info.doc_freq, info.postings_range) == (3, 0..3));
-    assert!(rt; has_one_place(rt.alloc(), &terms)?);
-    assert!(rt; key_of(&terms, 0) == Some(b"a".as_slice()));
-    assert!(rt; key_of(&terms, 1) == None);
-    assert!(rt; streams_one(&terms));
+    let terms = dictionary(rt.alloc())?;
+    let (places, keys) = (
+        has_one_place(&terms, &mut Vec::new(rt.alloc())),
+        has_one_key(&terms),
+    );
+    assert!(rt; looked_up(&terms) == [None, None, Some(info())]);
+    assert!(rt; (places, keys) == (Ok([true; 4]), (true, true)));
+    assert!(rt; (terms.num_terms(), streams_one(&terms)) == (1, true));
     assert!(rt; TermDictionary::empty().num_terms() == 0);
     reads_dictionary_back();
     Ok(())
 }
 
+// Where a stream has a first term: how it goes on twice after that, whether its key is then still `a`,
+// and what is kept of it.
+fn stream_past_end(terms: &TermDictionary) -> Option<([bool; 2], bool, TermInfo)> {
+    let mut stream = terms.stream();
+    if !stream.advance() {
+        return None;
+    }
+    let second = stream.advance();
+    let third = stream.advance();
+    let is_a = stream.key() == A.as_slice();
+    Some(([second, third], is_a, stream.value()))
+}
+
 #[test]
 fn answers_the_last_term_after_the_end(rt: HostRuntime) -> Result<(), Fail> {
-    let terms = TermDictionary::open(Bytes::copy_from_slice(rt.alloc(), &one())?)?;
-    let mut stream = terms.stream();
-    assert!(rt; stream.advance());
-    assert!(rt; !stream.advance());
-    assert!(rt; !stream.advance());
-    assert!(rt; stream.key() == b"a".as_slice());
-    assert!(rt; (stream.value().doc_freq, stream.value().postings_range) == (3, 0..3));
+    let terms = dictionary(rt.alloc())?;
+    assert!(rt; stream_past_end(&terms) == Some(([false, false], true, info())));
     Ok(())
 }
 
@@ -235,15 +280,15 @@ fn without_terms() -> [u8; 33] {
 fn refuses_damaged_dictionaries(rt: HostRuntime) {
     let (keys, store) = (Part::Dictionary, Part::TermStore);
     for (bytes, part) in [
-        (front(&[0u8; 24], 7), keys),
-        (front(&[0u8; 24], 23), store),
+        (front(&NOTHING, 7), keys),
+        (front(&NOTHING, 23), store),
         (front(&one(), 71), store),
         (front(&twice(), 42), keys),
         (front(&without_terms(), 33), keys),
     ] {
         assert!(rt; opened(rt.alloc(), bytes) == Err(Fault::Damaged(part)));
     }
-    assert!(rt; opened(rt.alloc(), &[0u8; 24]) == Ok(0));
+    assert!(rt; opened(rt.alloc(), &NOTHING) == Ok(0));
     assert!(rt; opened(rt.alloc(), front(&one(), 72)) == Ok(1));
 }
 
