@@ -192,13 +192,13 @@ fn ascend(docs: &[DocId], least: DocId) -> bool
     ensures { result ≡ ascend_from least docs.now }
 {
     let mut next = least;
+    let mut so_far = true;
+    // none ends the loop, so that several are compared at a time
     for doc in docs {
-        if *doc < next || *doc >= TERMINATED {
-            return false;
-        }
-        next = *doc + 1;
+        so_far = so_far & (*doc >= next) & (*doc < TERMINATED);
+        next = doc.wrapping_add(1);
     }
-    true
+    so_far
 }
 
 // What is done with the counts of a term: it has some where its entries have room for them or, in a

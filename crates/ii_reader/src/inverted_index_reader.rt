@@ -1,5 +1,6 @@
 ghost use Rattle.std.specs.Prelude.{◌≡◌, ◌↔◌, ◌⊎◌, ◌≤◌, ℕ, List, false, true, length, drop, None, Some, Ok, Err, IfNone, IfOk, IfErr, IfSome, IsErrOf, IsOk, IsSomeAnd, MatchOption, OnOk, OnErr};
 ghost use Rattle.std.specs.Option.{option_map, option_map_or};
+ghost use Rattle.ii_io.specs.Faults.{OnlyMemory};
 ghost use Rattle.ii_io.specs.Numbers.{number_at};
 ghost use Rattle.ii_base.specs.declared.schema.index_record_option.IndexRecordOption.TheVariants.{Basic};
 ghost use Rattle.ii_termdict.specs.Dictionary.{info_under};
@@ -226,7 +227,7 @@ impl InvertedIndexReader {
         requires { IsOk (term_of_file self.now option term_info.now) }
         ensures ok { IfOk result (OpensTerm self.now option term_info.now) }
         ensures lie { ranges_lie self.now option term_info.now ≡ true }
-        ensures only { IfErr result (λ fault. fault ≡ Fault.OutOfMemory) }
+        ensures only { OnlyMemory result }
         // where the files hold tokens
         ensures holds { (field : ℕ) (key : List ℕ) (tokens : List IndexToken) → HoldsTerm self.now.option field key self.now.postings self.now.positions tokens term_info.now
             → GivesList (key_postings self.now.option field key option tokens) result }
@@ -301,7 +302,7 @@ impl InvertedIndexReader {
         requires { IsOk (docs_of_file self.now.postings self.now.option option term_info.now) }
         ensures ok { IfOk result (OpensBlocks self.now.postings self.now.option option term_info.now) }
         ensures lie { lies_in self.now.postings term_info.now.postings_range ≡ true }
-        ensures only { IfErr result (λ fault. fault ≡ Fault.OutOfMemory) }
+        ensures only { OnlyMemory result }
     {
         let postings = self.postings_of(term_info)?;
         let record_option = self.record_option();
@@ -411,7 +412,7 @@ impl InvertedIndexReader {
     fn postings_of(&self, term_info: &TermInfo) -> Result<Bytes, Fault>
         requires { lies_in self.now.postings term_info.now.postings_range ≡ true }
         ensures ok { IfOk result (λ found. found ≡ bytes_in self.now.postings term_info.now.postings_range) }
-        ensures only { IfErr result (λ fault. fault ≡ Fault.OutOfMemory) }
+        ensures only { OnlyMemory result }
     {
         part_of(&self.postings, &term_info.postings_range)
     }
@@ -436,7 +437,7 @@ impl InvertedIndexReader {
     ) -> Result<Option<Bytes>, Fault>
         requires { ranges_lie self.now option term_info.now ≡ true }
         ensures ok { IfOk result (λ found. found ≡ given_if (reads_positions self.now option) (bytes_in self.now.positions term_info.now.positions_range)) }
-        ensures only { IfErr result (λ fault. fault ≡ Fault.OutOfMemory) }
+        ensures only { OnlyMemory result }
     {
         if !self.reads_positions(option) {
             return Ok(None);
@@ -470,7 +471,7 @@ fn does_lie_in(bytes: &Bytes, range: &Range<usize>) -> bool
 fn part_of(bytes: &Bytes, range: &Range<usize>) -> Result<Bytes, Fault>
     requires { lies_in bytes.now range.now ≡ true }
     ensures ok { IfOk result (λ part. part ≡ bytes_in bytes.now range.now) }
-    ensures only { IfErr result (λ fault. fault ≡ Fault.OutOfMemory) }
+    ensures only { OnlyMemory result }
 {
     let part = bytes.slice(range.start..range.end)?;
     Ok(part)

@@ -140,6 +140,13 @@ impl SegmentPostings {
         // what the cursor tells of its list and of its block
         let _docs = block_cursor.docs();
         let _reading = block_cursor.freq_reading_option();
+        if positions.is_none() {
+            return SegmentPostings {
+                block_cursor,
+                cur: 0,
+                position_reader: None,
+            };
+        }
         let position_reader = block_cursor.open_known_positions(positions);
         SegmentPostings {
             block_cursor,
