@@ -61,18 +61,13 @@ fn what_was_wanted_is_told(rt: HostRuntime) {
 // A text, a number, and JSON values in which dots part no keys.
 fn fields(alloc: Global) -> Result<Schema, Fault> {
     let mut entries = Vec::new(alloc);
-    push_fields(alloc, &mut entries)?;
-    Ok(Schema::new(entries))
-}
-
-// Adds them.
-fn push_fields(alloc: Global, entries: &mut Vec<FieldEntry>) -> Result<(), Fault> {
     let name = String::from_str(alloc, "title")?;
     entries.push(FieldEntry::text(name, FULL, false))?;
     let name = String::from_str(alloc, "price")?;
     entries.push(FieldEntry::value(name, ValueType::U64, false))?;
     let name = String::from_str(alloc, "attr")?;
-    Ok(entries.push(FieldEntry::json(name, FULL, false))?)
+    entries.push(FieldEntry::json(name, FULL, false))?;
+    Ok(Schema::new(entries))
 }
 
 // A JSON value with a text under a key.
