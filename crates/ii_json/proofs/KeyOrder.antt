@@ -94,16 +94,6 @@ pub sorted_alike : {X : Type 0} (P : X → Type 0) (c d : X → X → Ordering) 
 sorted_alike P c d same xs all sorted k e low high =
     ap is_lt (sym (same (get_or xs (k + 1) e) (get_or xs k e) (at_place P xs all (k + 1) e high) (at_place P xs all k e (omega (arith, high))))) ∙ sorted k e low high
 
--- terms that are sorted by the ranks of their paths, and then by what stands behind these, have sorted keys
-pub ranked_by_keys : {X : Type 0} (known : List (List ℕ)) (path typed_value : X → List ℕ) (xs : List X) → AllByRecursion (λ (x : X). Contains known (path x) × (has_zero (path x) ≡ false)) xs
-    → IsSorted (λ (x y : X). ordering_then (nat_cmp (path_rank known (path x)) (path_rank known (path y))) (slice_cmp nat_cmp (typed_value x) (typed_value y))) xs
-    → IsSorted (λ (x y : X). slice_cmp nat_cmp (json_key (path x) (typed_value x)) (json_key (path y) (typed_value y))) xs
-ranked_by_keys {X} known path typed_value xs all sorted =
-    sorted_alike (λ (x : X). Contains known (path x) × (has_zero (path x) ≡ false))
-    (λ (x y : X). ordering_then (nat_cmp (path_rank known (path x)) (path_rank known (path y))) (slice_cmp nat_cmp (typed_value x) (typed_value y)))
-    (λ (x y : X). slice_cmp nat_cmp (json_key (path x) (typed_value x)) (json_key (path y) (typed_value y)))
-    (λ x y x_has y_has. ranked_as_keys known (path x) (path y) (typed_value x) (typed_value y) x_has.0 y_has.0 x_has.1 y_has.1) xs all sorted
-
 module _ (known : List (List ℕ)) where
   path_is_known : (t : PathTerm) → HasPath known t → Contains known (path_of_term known t)
   path_is_known t has = (t.path_id, has.0, other_default known t.path_id (path_of_term known t) [] has.0)

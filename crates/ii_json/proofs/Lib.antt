@@ -6,5 +6,4 @@ pub mod LeafVisitLemmas
 mod NumberLeaves
 pub mod ParseLemmas
 mod RankLemmas
-pub mod TermLemmas
 mod WorkedRows

@@ -1,3 +1,4 @@
+mod AnchorLemmas
 pub mod BlockDocs
 pub mod BoundLaws
 pub mod BoundLemmas

@@ -1,9 +1,8 @@
 -- Laws of the deltas of a term's positions, block by block.
-use Rattle.std.proofs.Common.{◌≡◌, ◌≢◌, ℕ, zero, suc, ◌+◌, ◌-◌, ◌*◌, ◌/◌, ◌%◌, ◌<◌, ◌≤◌, min, Bool, true, false, cond, List, [], ◌++◌, length, take, drop, get_or, set, is_some, unwrap_or, Option, Some, None, MatchBool, eqb, nat_lt, refl, sym, ap, ◌∙◌, arith, length-append}
-use Rattle.std.proofs.Math.Nat.{mul-mod_left, mul-div_left, div-mul-le_self, div-lt_iff_lt-mul, mod-eq-sub-div-mul}
+use Rattle.std.proofs.Common.{◌≡◌, ℕ, zero, suc, ◌+◌, ◌-◌, ◌*◌, ◌/◌, ◌<◌, ◌≤◌, min, Bool, true, false, List, [], ◌++◌, length, take, drop, get_or, is_some, unwrap_or, Option, Some, None, MatchBool, nat_lt, refl, sym, ap, ◌∙◌, arith, length-append}
 use Rattle.std.proofs.Math.Seq.{take-add}
-use Rattle.std.proofs.lemmas.Bool.{lt-ltb, le-ltb, ltb-true, ltb-false, eqb-true, eqb-false}
-use Rattle.std.proofs.lemmas.List.{take_all, drop-drop, drop-take, take-take, length-drop, length-take, length-take-le, length-set, get_or-set_same, get_or-set_other}
+use Rattle.std.proofs.lemmas.Bool.{lt-ltb, le-ltb, ltb-true, ltb-false}
+use Rattle.std.proofs.lemmas.List.{take_all, drop-drop, drop-take, take-take, length-drop, length-take, length-take-le}
 use Rattle.std.proofs.lemmas.List.Sums.{sum_by_more}
 use Rattle.std.specs.List.{concat}
 use Rattle.ii_io.specs.Steps.{◌>>=◌}
@@ -14,7 +13,7 @@ use Rattle.ii_codes.specs.UnsortedVints.{u32s_until_end}
 use Rattle.ii_codes.proofs.BlockLemmas.{not_raised, unsorted-wide, unsorted-short, unsorted-plain}
 use Rattle.ii_layout.specs.Each.{each}
 use Rattle.ii_layout.specs.Positions.{PositionList, position_list, place_by_widths, block_deltas, rest_deltas, position_deltas}
-use Rattle.ii_layout.specs.PositionReader.{deltas_of, list_at, AreAnchors, anchored, rest_at, deltas_at_block, KeepsBlock, LieInBlock, block_kept}
+use Rattle.ii_layout.specs.PositionReader.{deltas_of, list_at, AreAnchors, rest_at, deltas_at_block, KeepsBlock, LieInBlock, block_kept}
 use Rattle.ii_layout.specs.Written.{block_of}
 use Rattle.ii_layout.proofs.DocumentLemmas.{each_gives, AreWhole, length-concat, concat_block, last_block}
 use Rattle.ii_layout.proofs.FrequencyLemmas.{block_fits}
@@ -43,58 +42,13 @@ more_cases : (f : ℕ → Option (List ℕ)) (n : ℕ) (x : List ℕ) (o : Optio
 more_cases f n x None last e some = absurd (cc)
 more_cases f n x (Some xs) last e some = rw (e, last) refl
 
-each_more : (f : ℕ → Option (List ℕ)) (n : ℕ) (x : List ℕ) → f n ≡ Some x → is_some (each f n) ≡ true → is_some (each f (n + 1)) ≡ true
+pub each_more : (f : ℕ → Option (List ℕ)) (n : ℕ) (x : List ℕ) → f n ≡ Some x → is_some (each f n) ≡ true → is_some (each f (n + 1)) ≡ true
 each_more f n x last some =
     let next : n + 1 ≡ suc n = omega arith in
     rw next (more_cases f n x (each f n) last refl some)
 
--- What a walk over widths has found up to a block: it and the blocks before it are there, and their anchors are kept.
-pub record FindsBlocks (widths body : List ℕ) (stride : ℕ) (anchors : List ℕ) (place block : ℕ) : Type 0 where
-  pub many : length anchors ≡ 64
-  pub place_is : place ≡ place_by_widths widths block
-  pub within : place ≤ length body
-  pub found : is_some (each (block_deltas (record { widths = widths; body = body })) block) ≡ true
-  pub anchors_are : (k : ℕ) → k * stride < block → get_or anchors k 0 ≡ place_by_widths widths (k * stride)
-
--- an anchor more
-anchor_here : (widths anchors : List ℕ) (stride place block k : ℕ) → length anchors ≡ 64 → block < 64 * stride → place ≡ place_by_widths widths block → k * stride ≡ block
-    → get_or (set anchors (block / stride) place) k 0 ≡ place_by_widths widths (k * stride)
-anchor_here widths anchors stride place block k many low place_is here =
-    let some : 0 < stride = omega arith in
-    let index : k ≡ block / stride = sym (mul-div_left k some) ∙ ap (λ (n : ℕ). n / stride) here in
-    let few : block / stride < 64 = (div-lt_iff_lt-mul some).1 (omega arith) in
-    ap (λ (j : ℕ). get_or (set anchors (block / stride) place) j 0) index ∙ get_or-set_same anchors (block / stride) place 0 (omega arith) ∙ place_is ∙ ap (place_by_widths widths) (sym here)
-
-anchored_cases : (widths anchors : List ℕ) (stride place block k : ℕ) (t u : Bool) → length anchors ≡ 64 → block < 64 * stride → place ≡ place_by_widths widths block
-    → ((k : ℕ) → k * stride < block → get_or anchors k 0 ≡ place_by_widths widths (k * stride)) → k * stride ≤ block → eqb (block % stride) 0 ≡ t → eqb (k * stride) block ≡ u
-    → get_or (cond t (set anchors (block / stride) place) anchors) k 0 ≡ place_by_widths widths (k * stride)
-anchored_cases widths anchors stride place block k true true many low place_is are h test same =
-    anchor_here widths anchors stride place block k many low place_is (eqb-true (k * stride) block same)
-anchored_cases widths anchors stride place block k true false many low place_is are h test other =
-    let apart = eqb-false (k * stride) block other in
-    let some : 0 < stride = omega arith in
-    let exact = eqb-true (block % stride) 0 test in
-    let whole : block / stride * stride ≡ block = omega (arith, mod-eq-sub-div-mul block stride, div-mul-le_self block stride) in
-    let differs : k ≢ block / stride = λ same. apart (ap (λ (n : ℕ). n * stride) same ∙ whole) in
-    get_or-set_other anchors (block / stride) k place 0 differs ∙ are k (omega arith)
-anchored_cases widths anchors stride place block k false true many low place_is are h test same =
-    let here = eqb-true (k * stride) block same in
-    absurd (eqb-false (block % stride) 0 test (ap (λ (n : ℕ). n % stride) (sym here) ∙ mul-mod_left k stride))
-anchored_cases widths anchors stride place block k false false many low place_is are h test other =
-    let apart = eqb-false (k * stride) block other in
-    are k (omega arith)
-
-pub anchors_more : (widths anchors : List ℕ) (stride place block : ℕ) → length anchors ≡ 64 → block < 64 * stride → place ≡ place_by_widths widths block
-    → ((k : ℕ) → k * stride < block → get_or anchors k 0 ≡ place_by_widths widths (k * stride)) → AreAnchors widths stride block (anchored anchors stride block place)
-anchors_more widths anchors stride place block many low place_is are k h =
-    anchored_cases widths anchors stride place block k (eqb (block % stride) 0) (eqb (k * stride) block) many low place_is are h refl refl
-
-length-anchored : (anchors : List ℕ) (stride place block : ℕ) (t : Bool) → length (cond t (set anchors (block / stride) place) anchors) ≡ length anchors
-length-anchored anchors stride place block true = length-set anchors (block / stride) place
-length-anchored anchors stride place block false = refl
-
 -- a block that is there
-block_there : (widths body : List ℕ) (place block : ℕ) → place ≡ place_by_widths widths block → get_or widths block 0 ≤ 32 → place + 16 * get_or widths block 0 ≤ length body
+pub block_there : (widths body : List ℕ) (place block : ℕ) → place ≡ place_by_widths widths block → get_or widths block 0 ≤ 32 → place + 16 * get_or widths block 0 ≤ length body
     → block_deltas (record { widths = widths; body = body }) block ≡ Some (unpacked (get_or widths block 0) (drop place body))
 block_there widths body place block place_is narrow enough =
     let w = get_or widths block 0 in
@@ -102,24 +56,7 @@ block_there widths body place block place_is narrow enough =
     let read = unsorted-plain false (get_or widths block 0) (16 * get_or widths block 0) (drop place body) (unpacked (get_or widths block 0) (drop place body)) narrow (omega (arith, length-drop place body)) refl plain refl in
     rw (← place_is, ← read) refl
 
-pub finds_more : (widths body : List ℕ) (stride place block size : ℕ) (anchors new : List ℕ) → FindsBlocks widths body stride anchors place block → block < length widths → length widths < 64 * stride
-    → new ≡ anchored anchors stride block place → get_or widths block 0 ≤ 32 → size ≡ 16 * get_or widths block 0 → size ≤ length body - place
-    → FindsBlocks widths body stride new (place + size) (block + 1)
-finds_more widths body stride place block size anchors new f h low new_is narrow size_is fits =
-    let within = f.within in
-    let place_is = f.place_is in
-    let all = length-anchored anchors stride place block (eqb (block % stride) 0) in
-    let many = f.many in
-    let one = block_there widths body place block f.place_is narrow (omega arith) in
-    record {
-      many = ap length new_is ∙ all ∙ many;
-      place_is = omega (arith, place_more widths block h);
-      within = omega arith;
-      found = each_more (block_deltas (record { widths = widths; body = body })) block _ one f.found;
-      anchors_are = λ k below. ap (λ (xs : List ℕ). get_or xs k 0) new_is ∙ anchors_more widths anchors stride place block many (omega arith) f.place_is f.anchors_are k (omega arith);
-    }
-
-none_is : (o : Option (List (List ℕ))) → o ≡ None → false ≡ is_some o
+pub none_is : (o : Option (List (List ℕ))) → o ≡ None → false ≡ is_some o
 none_is None e = refl
 none_is (Some x) e = absurd (cc)
 
@@ -136,12 +73,6 @@ short_none widths body place block size h place_is narrow size_is short =
     let left = length-drop place body in
     let none : block_deltas list block ≡ None = rw (← place_is, ← unsorted-short false (get_or widths block 0) (drop place body) narrow (omega arith)) refl in
     none_is (each (block_deltas list) (length widths)) (each_none (block_deltas list) block (length widths) (nat_lt (block + 1) (length widths)) none h refl)
-
-pub anchors_all : (widths body : List ℕ) (stride place block : ℕ) (anchors new : List ℕ) → FindsBlocks widths body stride anchors place block → block ≡ length widths → length widths < 64 * stride
-    → new ≡ anchored anchors stride (length widths) place → AreAnchors widths stride (length widths) new
-anchors_all widths body stride place block anchors new f end low new_is =
-    let place_is = f.place_is ∙ ap (place_by_widths widths) end in
-    rw new_is (anchors_more widths anchors stride place (length widths) f.many low place_is (λ k h. f.anchors_are k (omega arith)))
 
 -- the deltas of blocks and those after them
 abbrev pub all_deltas : PositionList → Option (List ℕ)

@@ -1,5 +1,5 @@
 -- A reader of the positions of a term: the deltas that its bytes hold, and the block of them that it keeps.
-use Rattle.std.specs.Prelude.{◌≡◌, ℕ, zero, suc, ◌+◌, ◌-◌, ◌*◌, ◌<◌, ◌≤◌, if◌then◌else◌, List, [], length, drop, slice_index, slice_set, nat_lt, ◌==◌, ◌%◌, ◌/◌, Option, unwrap_or, Some}
+use Rattle.std.specs.Prelude.{◌≡◌, ℕ, zero, suc, ◌+◌, ◌-◌, ◌*◌, ◌<◌, ◌≤◌, Bool, if◌then◌else◌, List, [], length, drop, slice_index, nat_le, nat_lt, ◌/◌, Option, unwrap_or, Some}
 use Rattle.std.specs.List.{slice_range}
 use Rattle.ii_io.specs.Steps.{◌>>=◌, needs}
 use Rattle.ii_codes.specs.UnsortedVints.{u32s_until_end}
@@ -43,13 +43,13 @@ pub record ArePositions (bytes : List ℕ) (widths body : ℕ) : Type 0 where
   pub list : position_list bytes ≡ Some (list_at bytes widths body)
   pub deltas : position_deltas bytes ≡ Some (deltas_of bytes)
 
+-- whether a block may have a width
+abbrev pub is_width : ℕ → Bool
+is_width width = nat_le width 32
+
 -- Each anchor up to a block is the place of the block that so many strides lead to.
 abbrev pub AreAnchors : List ℕ → ℕ → ℕ → List ℕ → Type 0
 AreAnchors widths stride last anchors = (k : ℕ) → k * stride ≤ last → slice_index anchors k ≡ place_by_widths widths (k * stride)
-
--- anchors with that of a block, if it has one
-abbrev pub anchored : List ℕ → ℕ → ℕ → ℕ → List ℕ
-anchored anchors stride block place = if block % stride == 0 then slice_set anchors (block / stride) place else anchors
 
 -- the deltas that bytes hold to their end, fewer than a block has
 abbrev pub rest_at : List ℕ → Option (List ℕ)

@@ -8,7 +8,7 @@ ghost use Rattle.ii_codes.specs.Blocks.{sorted_bytes, unsorted_width};
 ghost use Rattle.ii_codes.specs.Sums.{DoNotFall};
 ghost use Rattle.ii_base.specs.Entries.{are_documents};
 ghost use Rattle.ii_layout.specs.Bounds.{Covers};
-ghost use Rattle.ii_layout.specs.PostingsSerializer.{AreWhole, AreBlockFreqs, IsFullBlock, IsOpenBlock, IsSumTooLarge, AddsDocs, no_docs, one_doc, joined, sized, written_docs};
+ghost use Rattle.ii_layout.specs.PostingsSerializer.{AreWhole, AreBlockFreqs, IsFullBlock, IsOpenBlock, ArePositive, IsSumTooLarge, AddsDocs, no_docs, one_doc, joined, sized, written_docs};
 ghost use Rattle.ii_layout.specs.Written.{entry_of_block, freq_part, packed_freqs, rest_bytes, written_postings};
 
 use super::block::Block;
@@ -312,8 +312,40 @@ fn is_sum_too_large(skip_info: IndexRecordOption, block: &Block) -> bool
     block.term_freq_sum() > u64::from(u32::MAX)
 }
 
+// Packs the open block, which is full, and begins an empty one. Where that is refused no document is
+// left. Apart from what each document needs, whose call then saves few registers.
+#[cold]
+#[inline(never)]
+fn pack_full(
+    skip_info: IndexRecordOption,
+    blocks: &mut PackedBlocks,
+    block: &mut Block,
+) -> Result<(), Fault>
+    requires option { skip_info ≡ blocks.old.skip_info }
+    requires whole { AreWhole blocks.old.term }
+    requires full { length block.old.docs ≡ 128 }
+    requires freqs { (length block.old.freqs ≡ 128) × ArePositive blocks.old.skip_info block.old.freqs }
+    requires covered { AllByRecursion (Covers blocks.old.norms) block.old.docs }
+    requires ascending { IsTrue (are_documents (blocks.old.term.docs ++ block.old.docs)) }
+    requires open { blocks.old.closed ≡ false }
+    ensures block { block.new ≡ no_docs }
+    ensures same { (blocks.new.norms ≡ blocks.old.norms) × (blocks.new.skip_info ≡ blocks.old.skip_info) }
+    ensures stays { OnOk result (blocks.new.closed ≡ false) }
+    ensures added { AddsDocs blocks.old.skip_info blocks.old.term blocks.new.term block.old result }
+{
+    if is_sum_too_large(skip_info, block) {
+        blocks.begin(skip_info);
+        block.clear();
+        return Err(Fault::Limit(LimitName::BlockFrequencySum));
+    }
+    let packed = blocks.push(block);
+    block.clear();
+    packed
+}
+
 // Adds a document to the open block, and packs that once it is full. Where that is refused no
 // document is left.
+#[inline(always)]
 fn append_doc(
     blocks: &mut PackedBlocks,
     block: &mut Block,
@@ -336,14 +368,7 @@ fn append_doc(
     if !block.is_full() {
         return Ok(());
     }
-    if is_sum_too_large(skip_info, block) {
-        blocks.begin(skip_info);
-        block.clear();
-        return Err(Fault::Limit(LimitName::BlockFrequencySum));
-    }
-    let packed = blocks.push(block);
-    block.clear();
-    packed
+    pack_full(skip_info, blocks, block)
 }
 
 /// Writes the postings of one term after the other.
@@ -424,6 +449,7 @@ impl PostingsSerializer {
     /// `Limit(BlockFrequencySum)` where the document fills a block whose counts sum up above
     /// `u32::MAX`, in a term with positions. `OutOfMemory` where a growth was refused. The documents
     /// are then dropped. `SerializerClosed` after an earlier refusal, whatever the document is.
+    #[inline]
     pub fn write_doc(&mut self, doc_id: DocId, term_freq: u32) -> Result<(), Fault>
         requires ascending { self.old.closed ≡ false → IsTrue (are_documents (self.old.docs ++ doc_id ∷ [])) }
         requires counted { self.old.closed ≡ false → IsTrue (has_freq self.old.skip_info) → 0 < term_freq }

@@ -54,7 +54,8 @@ fn put_long(output: &mut [u8], end: usize, word: u64)
     requires { end + 8 ≤ length output.old }
     ensures { take (end + 8) output.new ≡ take end output.old ++ bytes_low_first 0 8 word }
 {
-    output[end..end + 8].copy_from_slice(&word.to_le_bytes());
+    let (_, room) = output.split_at_mut(end);
+    room[..8].copy_from_slice(&word.to_le_bytes());
 }
 
 /// Writes eight bytes at byte `end`: two numbers of `4 * W` bits, the first one lowest.

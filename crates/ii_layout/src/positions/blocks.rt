@@ -1,9 +1,9 @@
-ghost use Rattle.std.specs.Prelude.{◌≡◌, ◌+◌, ◌-◌, ◌*◌, ◌/◌, ◌^◌, ◌<◌, ◌≤◌, length, take, drop, Some, None, IsSome, IfOk, IfErr, OnOk, OnErr, MatchOption, MatchBool, IsTrue, is_some, IfSome, slice_index, nat_lt, ◌⊎◌};
-ghost use Rattle.std.specs.List.{sum};
+ghost use Rattle.std.specs.Prelude.{◌≡◌, ◌+◌, ◌-◌, ◌*◌, ◌/◌, ◌^◌, ◌<◌, ◌≤◌, length, take, drop, Some, None, IsSome, IfOk, IfErr, OnOk, OnErr, MatchOption, MatchBool, IsTrue, is_some, IfSome, slice_index, nat_le, nat_lt, ◌&&◌, ◌⊎◌};
+ghost use Rattle.std.specs.List.{list_all, sum};
 ghost use Rattle.ii_io.specs.Faults.{OnlyMemory};
 ghost use Rattle.ii_layout.specs.Each.{each};
 ghost use Rattle.ii_layout.specs.Positions.{position_list, place_by_widths, block_deltas, rest_deltas, position_deltas};
-ghost use Rattle.ii_layout.specs.PositionReader.{AreAnchors, anchored, list_at, rest_at, deltas_at_block};
+ghost use Rattle.ii_layout.specs.PositionReader.{AreAnchors, is_width, list_at, rest_at, deltas_at_block};
 ghost use Rattle.ii_layout.specs.Written.{block_of};
 
 use crate::block::sum_of;
@@ -15,6 +15,9 @@ use std::marker::Model;
 
 /// The greatest width of a block.
 const MAX_NUM_BITS: u8 = 32;
+
+/// How many bytes a block takes for each bit of its width.
+const BYTES_PER_BIT: usize = COMPRESSION_BLOCK_SIZE / 8;
 
 /// Of how many blocks the place is kept.
 const NUM_ANCHORS: usize = 64;
@@ -208,40 +211,47 @@ fn split(bytes: &[u8]) -> Option<(usize, usize)>
 // Where the full blocks end, if each width is at most 32 and the bytes have all blocks. Keeps the
 // place of each block that so many strides lead to.
 fn find_blocks(widths: &[u8], body: &[u8], stride: usize, anchors: &mut [usize]) -> Option<usize>
-    requires stride { length widths.now < 64 * stride }
+    requires stride { stride ≡ length widths.now / 64 + 1 }
     requires many { length anchors.old ≡ 64 }
     ensures found { is_some result ≡ is_some (each (block_deltas (record { widths = widths.now; body = body.now })) (length widths.now)) }
     ensures end { IfSome result (λ place. place ≡ place_by_widths widths.now (length widths.now)) }
     ensures within { IfSome result (λ place. place ≤ length body.now) }
     ensures anchors { IfSome result (λ place. AreAnchors widths.now stride (length widths.now) anchors.new) }
 {
+    let mut first = 0;
     let mut place = 0;
-    for block in 0..widths.len() {
-        anchor(anchors, stride, block, place);
-        let width = widths[block];
-        if width > MAX_NUM_BITS {
+    let mut anchor = 0;
+    while widths.len() - first >= stride {
+        anchors[anchor] = place;
+        let Some(end) = end_of(&widths[first..first + stride], body.len(), place) else {
             return None;
-        }
-        let size = compressed_block_size(width);
-        if size > body.len() - place {
-            return None;
-        }
-        place += size;
+        };
+        place = end;
+        first += stride;
+        anchor += 1;
     }
-    anchor(anchors, stride, widths.len(), place);
-    Some(place)
+    anchors[anchor] = place;
+    end_of(&widths[first..], body.len(), place)
 }
 
-// Keeps the place of a block, if a number of strides leads to it.
-fn anchor(anchors: &mut [usize], stride: usize, block: usize, place: usize)
-    requires stride { block < 64 * stride }
-    requires many { length anchors.old ≡ 64 }
-    ensures { anchors.new ≡ anchored anchors.old stride block place }
+// Where blocks of these widths end that begin at a place of a body, if each width is at most 32 and
+// the body has them all. None ends the loop, so that several are looked at at a time.
+fn end_of(widths: &[u8], len: usize, place: usize) -> Option<usize>
+    requires few { length widths.now ≤ 2 ^ 58 }
+    requires within { place ≤ len }
+    ensures found { is_some result ≡ (list_all is_width widths.now && nat_le (place + 16 * sum widths.now) len) }
+    ensures end { IfSome result (λ end. end ≡ place + 16 * sum widths.now) }
 {
-    if block % stride != 0 {
-        return;
+    let mut bits = 0;
+    let mut are_widths = true;
+    for width in widths {
+        are_widths = are_widths & (*width <= MAX_NUM_BITS);
+        bits += usize::from((*width).min(MAX_NUM_BITS));
     }
-    anchors[block / stride] = place;
+    if !are_widths || bits > (len - place) / BYTES_PER_BIT {
+        return None;
+    }
+    Some(place + BYTES_PER_BIT * bits)
 }
 
 // Decodes the deltas after the full blocks, to the end of the bytes. Answers whether they are fewer

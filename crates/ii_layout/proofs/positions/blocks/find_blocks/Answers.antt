@@ -1,18 +1,31 @@
-use Rattle.std.proofs.Common.{arith}
-use Rattle.ii_layout.proofs.PositionLemmas.{finds_more, wide_none, short_none, anchors_all}
+use Rattle.std.proofs.Common.{ℕ, ◌+◌, ◌-◌, length, take, drop, refl, ap, arith}
+use Rattle.std.proofs.lemmas.Option.{IfSome_then}
+use Rattle.ii_layout.proofs.AnchorLemmas.{anchors_all, finds_more, last_end, last_found, piece_found}
 use Rattle.ii_layout.proofs.positions.blocks.find_blocks.Goals as goal
 
-pub returns-then-width-gt-MAX_NUM_BITS-clause-found : goal.returns-then-width-gt-MAX_NUM_BITS-clause-found
-returns-then-width-gt-MAX_NUM_BITS-clause-found c = wide_none c.args.widths.now c.args.body.now c.loop-block.block (omega arith) (omega arith)
+pub returns-in_default-clause-found : goal.returns-in_default-clause-found
+returns-in_default-clause-found c =
+    let l = c.loop-first in
+    (piece_found c.args.widths.now c.args.body.now l.anchors c.args.stride l.place l.first l.anchor l.invariant (omega arith) _ c.args.stride _ (omega arith)
+    (ap (λ (n : ℕ). take n (drop l.first c.args.widths.now)) (omega arith)) c.in_default.ensures.found).1 refl
 
-pub returns-then-size-body-clause-found : goal.returns-then-size-body-clause-found
-returns-then-size-body-clause-found c =
-    short_none c.args.widths.now c.args.body.now c.loop-block.place c.loop-block.block c.compressed_block_size-size.result (omega arith) c.loop-block.invariant.place_is (omega arith) (omega arith) (omega arith)
+pub loop-first-preserved : goal.loop-first-preserved
+loop-first-preserved c =
+    let l = c.loop-first in
+    finds_more c.args.widths.now c.args.body.now l.anchors c.args.stride l.place l.first l.anchor l.invariant (omega arith) c.in-Some.end (take (l.first + c.args.stride - l.first) (drop l.first c.args.widths.now)) _ (omega arith)
+    (ap (λ (n : ℕ). take n (drop l.first c.args.widths.now)) (omega arith)) c.in-Some.ensures.found c.in-Some.ensures.end refl
 
-pub loop-block-preserved : goal.loop-block-preserved
-loop-block-preserved c =
-    finds_more c.args.widths.now c.args.body.now c.args.stride c.loop-block.place c.loop-block.block c.compressed_block_size-size.result c.loop-block.anchors c.anchor.new.anchors
-    c.loop-block.invariant (omega arith) (omega arith) c.anchor.ensures (omega arith) (omega arith) (omega arith)
+pub returns-clause-found : goal.returns-clause-found
+returns-clause-found c =
+    let l = c.loop-first in
+    last_found c.args.widths.now c.args.body.now l.anchors c.args.stride l.place l.first l.anchor l.invariant (omega arith) c.end_of-2.result (length c.args.widths.now - l.first) _ (let inside = l.invariant.inside in omega arith) refl c.end_of-2.ensures.found
+
+pub returns-clause-end : goal.returns-clause-end
+returns-clause-end c =
+    let l = c.loop-first in
+    last_end c.args.widths.now c.args.body.now l.anchors c.args.stride l.place l.first l.anchor l.invariant (omega arith) c.end_of-2.result (length c.args.widths.now - l.first) _ (let inside = l.invariant.inside in omega arith) refl c.end_of-2.ensures.end
 
 pub returns-clause-anchors : goal.returns-clause-anchors
-returns-clause-anchors c = anchors_all c.args.widths.now c.args.body.now c.args.stride c.loop-block.place c.loop-block.block c.loop-block.anchors c.anchor-2.new.anchors c.loop-block.invariant (omega arith) (omega arith) c.anchor-2.ensures
+returns-clause-anchors c =
+    let l = c.loop-first in
+    IfSome_then c.end_of-2.result c.end_of-2.ensures.end (λ end is. anchors_all c.args.widths.now c.args.body.now l.anchors c.args.stride l.place l.first l.anchor l.invariant (omega arith) (omega arith))
