@@ -1,23 +1,14 @@
 -- Bytes that are known to give postings.
-use Rattle.std.proofs.Common.{◌≡◌, ℕ, ◌/◌, ◌<◌, ◌≤◌, Bool, ◌&&◌, ◌||◌, List, [], length, drop, Option, Some, None, nat_lt, refl, ◌∙◌, arith}
-use Rattle.std.specs.Prelude.{IsOk, IsSome}
+use Rattle.std.proofs.Common.{◌≡◌, ℕ, ◌/◌, ◌<◌, ◌≤◌, Bool, ◌&&◌, ◌||◌, List, [], length, drop, nat_lt, refl, ◌∙◌, arith}
+use Rattle.std.specs.Prelude.{IsOk}
 use Rattle.std.proofs.lemmas.Bool.{lt-ltb}
-use Rattle.ii_base.specs.declared.schema.index_record_option.IndexRecordOption.{IndexRecordOption}
 use Rattle.ii_base.specs.Options.{has_freq}
-use Rattle.ii_layout.specs.SkipList.{SkipList, IsSplit, skip_list}
+use Rattle.ii_layout.specs.SkipList.{IsSplit}
 use Rattle.ii_layout.specs.Postings.{postings}
 use Rattle.ii_check.specs.declared.freq_reading_option.FreqReadingOption.{FreqReadingOption}
 use Rattle.ii_check.specs.FreqReading.{reading_by}
 use Rattle.ii_check.proofs.CheckLemmas.{many_entries}
 use Rattle.ii_check.proofs.CheckedPostingsLemmas.{Asked, Checks, finds_known, is_checked}
-
--- their skip list is there
-skip_cases : (recorded requested : IndexRecordOption) (n : ℕ) (bytes : List ℕ) (o : Option SkipList) → skip_list recorded (n / 128) bytes ≡ o → IsOk (postings recorded requested n bytes) → IsSome o
-skip_cases recorded requested n bytes None e known = absurd (let none = rw e at known in cc)
-skip_cases recorded requested n bytes (Some skip) e known = refl
-
-pub skip_known : (recorded requested : IndexRecordOption) (n : ℕ) (bytes : List ℕ) → IsOk (postings recorded requested n bytes) → IsSome (skip_list recorded (n / 128) bytes)
-skip_known recorded requested n bytes known = skip_cases recorded requested n bytes (skip_list recorded (n / 128) bytes) refl known
 
 -- a full block tells whether counts are read
 reads_there : (recorded requested : Bool) (blocks n : ℕ) (after : List ℕ) → 0 < blocks → n ≡ blocks

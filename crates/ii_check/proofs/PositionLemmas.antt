@@ -7,7 +7,7 @@ use Rattle.std.proofs.Math.Seq.{take-add}
 use Rattle.std.proofs.lemmas.Bool.{and_parts, ltb-true, ltb-false, leb-true, leb-false, lt-ltb, le-ltb, le-leb, lt-leb, eqb-true, eq-eqb, ne_eqb}
 use Rattle.std.proofs.lemmas.List.{drop-drop, take_more, take_all, take-append-drop}
 use Rattle.std.proofs.lemmas.List.Folds.{list_all-append}
-use Rattle.std.proofs.lemmas.List.Sums.{sum_by-append, sum_by-cons, sum_by_more}
+use Rattle.std.proofs.lemmas.List.Sums.{sum_by-cons, sum_by_more}
 use Rattle.ii_codes.specs.Sums.{running_sums, fit_u32}
 use Rattle.ii_layout.specs.Positions.{positions_of, position_deltas}
 use Rattle.ii_layout.specs.TermList.{deltas_if}
@@ -18,12 +18,10 @@ use Rattle.ii_io.specs.StepLemmas.{some-same}
 use Rattle.ii_codes.specs.BlockDecoder.{BlockDecoderState}
 use Rattle.ii_check.specs.CheckedPostings.{AreReadFreqs, AreLastFreqs, CheckedPostingsState, HasDocuments, IsAtBlock, LoadsFreqs}
 use Rattle.ii_check.specs.Positions.{suffice}
+use Rattle.ii_layout.proofs.PositionSums.{sum-append}
 
 sum_cons : (n : ℕ) (ns : List ℕ) → sum (n ∷ ns) ≡ n + sum ns
 sum_cons n ns = sum_by-cons (λ (x : ℕ). x) n ns
-
-sum_append : (ns ms : List ℕ) → sum (ns ++ ms) ≡ sum ns + sum ms
-sum_append ns ms = sum_by-append (λ (x : ℕ). x) ns ms
 
 -- sums of deltas from 0 on fit where the last one does
 sums_cases : (before d : ℕ) (ds : List ℕ) (t : Bool) → nat_lt (before + d) (2 ^ 32) ≡ t → (before + d < 2 ^ 32 → fit_u32 (running_sums (before + d) ds) ≡ nat_lt (before + d + sum ds) (2 ^ 32))
@@ -76,7 +74,7 @@ and_swap false b c d = refl
 pub suffice-append : (ns ms deltas : List ℕ) → suffice (ns ++ ms) deltas ≡ (suffice ns deltas && suffice ms (drop (sum ns) deltas))
 suffice-append ns ms deltas =
     let size = length-drop (sum ns) deltas in
-    let many = ap (λ (n : ℕ). nat_le n (length deltas)) (sum_append ns ms) ∙ many_cases (sum ns) (sum ms) (length deltas) (nat_le (sum ns) (length deltas)) refl
+    let many = ap (λ (n : ℕ). nat_le n (length deltas)) (sum-append ns ms) ∙ many_cases (sum ns) (sum ms) (length deltas) (nat_le (sum ns) (length deltas)) refl
     ∙ ap (λ (n : ℕ). nat_le (sum ns) (length deltas) && nat_le (sum ms) n) (sym size) in
     let fit = ap (list_all fit_u32) (positions-append ns ms deltas) ∙ list_all-append fit_u32 (positions_of ns deltas) (positions_of ms (drop (sum ns) deltas)) in
     (λ j. many j && fit j) ∙ and_swap (nat_le (sum ns) (length deltas)) (nat_le (sum ms) (length (drop (sum ns) deltas))) (list_all fit_u32 (positions_of ns deltas)) (list_all fit_u32 (positions_of ms (drop (sum ns) deltas)))
@@ -84,7 +82,7 @@ suffice-append ns ms deltas =
 -- the positions of one document, a part of its deltas after the other
 pub sum_more : (deltas chunk : List ℕ) (start done count : ℕ) → chunk ≡ take count (drop (start + done) deltas) → sum (take done (drop start deltas)) + sum chunk ≡ sum (take (done + count) (drop start deltas))
 sum_more deltas chunk start done count e =
-    let parted = ap sum (take-add done count (drop start deltas)) ∙ sum_append (take done (drop start deltas)) (take count (drop done (drop start deltas))) in
+    let parted = ap sum (take-add done count (drop start deltas)) ∙ sum-append (take done (drop start deltas)) (take count (drop done (drop start deltas))) in
     let here = ap sum (e ∙ ap (take count) (sym (drop-drop done start deltas))) in
     ap (λ (n : ℕ). sum (take done (drop start deltas)) + n) here ∙ sym parted
 
@@ -105,7 +103,7 @@ part_size deltas out buffer place count read there size few =
 sum_part : (deltas : List ℕ) (m n : ℕ) → m ≤ n → sum (take m deltas) ≤ sum (take n deltas)
 sum_part deltas m n h =
     let place : m + (n - m) ≡ n = omega arith in
-    let parted = ap (λ (k : ℕ). sum (take k deltas)) (sym place) ∙ ap sum (take-add m (n - m) deltas) ∙ sum_append (take m deltas) (take (n - m) (drop m deltas)) in
+    let parted = ap (λ (k : ℕ). sum (take k deltas)) (sym place) ∙ ap sum (take-add m (n - m) deltas) ∙ sum-append (take m deltas) (take (n - m) (drop m deltas)) in
     omega arith
 
 pub fits_not : (deltas : List ℕ) (start freq done : ℕ) → done ≤ freq → 2 ^ 32 ≤ sum (take done (drop start deltas)) → false ≡ fit_u32 (running_sums 0 (take freq (drop start deltas)))
@@ -174,7 +172,7 @@ suffices_next freqs block end deltas s h =
     record {
       counts = s.counts;
       are = s.are;
-      end_is = sym (ap sum (block_parted s.counts block) ∙ sum_append (take (128 * block) s.counts) (block_of s.counts block) ∙ ap (λ (n : ℕ). n + sum (block_of s.counts block)) (sym s.end_is));
+      end_is = sym (ap sum (block_parted s.counts block) ∙ sum-append (take (128 * block) s.counts) (block_of s.counts block) ∙ ap (λ (n : ℕ). n + sum (block_of s.counts block)) (sym s.end_is));
       enough = suffices_block freqs block end deltas s ∙ h;
     }
 
@@ -229,7 +227,7 @@ end_low freqs n block end deltas row s e all few =
     let are = all s.counts s.are in
     let low = sum_low s.counts are.low in
     let many = are.many in
-    let whole = ap sum (block_parted s.counts block) ∙ sum_append (take (128 * block) s.counts) (block_of s.counts block) in
+    let whole = ap sum (block_parted s.counts block) ∙ sum-append (take (128 * block) s.counts) (block_of s.counts block) in
     let part = sum_part s.counts (128 * (block + 1)) (128 * (block + 1) + length s.counts) (omega arith) in
     let all_of = ap sum (take_all (128 * (block + 1) + length s.counts) s.counts (omega arith)) in
     let end_is = s.end_is in
@@ -259,7 +257,7 @@ goes_on freqs block end next block' deltas row s e h next_is block_is =
 pub small_fits : (counts deltas : List ℕ) → sum deltas < 2 ^ 32 → list_all fit_u32 (positions_of counts deltas) ≡ true
 small_fits [] deltas small = refl
 small_fits (n ∷ ns) deltas small =
-    let parted = ap sum (sym (take-append-drop n deltas)) ∙ sum_append (take n deltas) (drop n deltas) in
+    let parted = ap sum (sym (take-append-drop n deltas)) ∙ sum-append (take n deltas) (drop n deltas) in
     let first = sums_fit (take n deltas) ∙ lt-ltb (sum (take n deltas)) (2 ^ 32) (omega arith) in
     rw first (small_fits ns (drop n deltas) (omega arith))
 
@@ -279,7 +277,7 @@ counted_all p skip fs row offset n has at end recorded e row_is offset_is n_is =
     let told = ap (λ (r : SkipReaderState). r.position_offset) at.reader in
     let before = has.sums fs e recorded skip.block (omega arith) in
     let last = n_is ∙ ap sum (row_is ∙ ap (block_of fs) (sym end)) in
-    let whole = ap sum (block_parted fs skip.block) ∙ sum_append (take (128 * skip.block) fs) (block_of fs skip.block) in
+    let whole = ap sum (block_parted fs skip.block) ∙ sum-append (take (128 * skip.block) fs) (block_of fs skip.block) in
     let all = ap sum (take_all (128 * (skip.block + 1)) fs (omega arith)) in
     omega arith
 

@@ -31,7 +31,7 @@ length-u32s_at (suc n) bytes vs rest e =
     let others = step-some (u32s_at n first.0.1) _ (vs, rest) first.2 in
     sym (ap (λ (p : List ℕ × List ℕ). length p.0) (some-same others.2)) ∙ ap suc (length-u32s_at n first.0.1 others.0.0 others.0.1 others.1)
 
-length-running_sums : (before : ℕ) (ds : List ℕ) → length (running_sums before ds) ≡ length ds
+pub length-running_sums : (before : ℕ) (ds : List ℕ) → length (running_sums before ds) ≡ length ds
 length-running_sums before [] = refl
 length-running_sums before (d ∷ ds) = ap suc (length-running_sums (before + d) ds)
 

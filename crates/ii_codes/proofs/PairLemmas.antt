@@ -5,7 +5,7 @@ use Rattle.std.proofs.Math.Pow.{pow_mono}
 use Rattle.std.proofs.lemmas.Nat.{shl_whole, pow-add}
 use Rattle.std.proofs.lemmas.List.{take-take}
 use Rattle.std.specs.Int.{byte_at, bytes_low_first}
-use Rattle.ii_codes.specs.Packed.{bits_in, entries_in, packed}
+use Rattle.ii_codes.specs.Packed.{bits_in, entries_in}
 use Rattle.ii_codes.proofs.PackedLemmas.{bits_in-lt, entries_in-more, length-entries_in}
 use Rattle.ii_codes.proofs.PackLemmas.{entry_bits, word_byte}
 use Rattle.ii_codes.proofs.WindowLemmas.{bits_in-split}
@@ -27,7 +27,7 @@ lane w x y narrow first second =
     let wide : 2 ^ (2 * w) ≤ 4294967296 = pow_mono {i = 2 * w} {j = 32} (omega arith) in
     rw (one, plain, moved, order) (mod-eq_of_lt (omega arith))
 
-four_same : (a b c d : ℕ) {a' b' c' d' : ℕ} → a ≡ a' → b ≡ b' → c ≡ c' → d ≡ d' → a ∷ b ∷ c ∷ d ∷ [] ≡ a' ∷ b' ∷ c' ∷ d' ∷ []
+pub four_same : (a b c d : ℕ) {a' b' c' d' : ℕ} → a ≡ a' → b ≡ b' → c ≡ c' → d ≡ d' → a ∷ b ∷ c ∷ d ∷ [] ≡ a' ∷ b' ∷ c' ∷ d' ∷ []
 four_same a b c d p q r s = rw (p, q, r, s) refl
 
 -- the lanes of pairs

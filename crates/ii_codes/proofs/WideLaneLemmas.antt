@@ -14,6 +14,7 @@ use Rattle.ii_codes.proofs.PackedLaws.{length-unpacked, get_or-unpacked}
 use Rattle.ii_codes.proofs.PrefixLemmas.{wrapped_from}
 use Rattle.ii_codes.proofs.WindowLemmas.{little_bits}
 use Rattle.ii_codes.proofs.LaneLemmas.{after, block_eight, cons_same, eight_same, chosen_small, lane_cut, loaded, taken_small, wrapped_same}
+use Rattle.ii_codes.proofs.PairLemmas.{four_same}
 
 quad_value : (b c d e : Bool) (x y z u : ℕ) {v w s t : ℕ} → b ≡ false → c ≡ false → d ≡ false → e ≡ false → x ≡ v → y ≡ w → z ≡ s → u ≡ t
     → cond b 0 x + 256 * (cond c 0 y + 256 * (cond d 0 z + 256 * (cond e 0 u + 256 * 0))) ≡ v + 256 * (w + 256 * (s + 256 * (t + 256 * 0)))
@@ -31,9 +32,6 @@ quad row at p h near =
     (lt-leb 128 p (omega arith)) (lt-leb 128 (p + 1) (omega arith)) (lt-leb 128 (p + 2) (omega arith)) (lt-leb 128 (p + 3) (omega arith))
     (loaded row at p (omega arith)) (loaded row at (p + 1) (omega arith) ∙ ap (λ (k : ℕ). get_or row k 0) one) (loaded row at (p + 2) (omega arith) ∙ ap (λ (k : ℕ). get_or row k 0) two) (loaded row at (p + 3) (omega arith) ∙ ap (λ (k : ℕ). get_or row k 0) three)
     ∙ little_bits row 4 (at + p) h
-
-four_same : (a b c d : ℕ) {a' b' c' d' : ℕ} → a ≡ a' → b ≡ b' → c ≡ c' → d ≡ d' → a ∷ b ∷ c ∷ d ∷ [] ≡ a' ∷ b' ∷ c' ∷ d' ∷ []
-four_same a b c d p q r s = rw (p, q, r, s) refl
 
 -- four times four bytes, as numbers
 pub words_of : (row : List ℕ) (at b c d : ℕ) → ((k : ℕ) → get_or row k 0 < 256) → at + 16 ≤ length row → b ≤ 12 → c ≤ 12 → d ≤ 12

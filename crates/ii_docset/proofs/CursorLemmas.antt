@@ -1,5 +1,5 @@
 -- Laws of cursors.
-use Rattle.std.proofs.Common.{◌≡◌, ℕ, zero, suc, ◌+◌, ◌<◌, ◌≤◌, Bool, true, false, ◌&&◌, List, [], ◌∷◌, ◌++◌, ◌^◌, length, take, drop, map, nat_le, nat_lt, get_or, lit<, ◌-◌, refl, sym, ap, arith, add-zero}
+use Rattle.std.proofs.Common.{◌≡◌, ℕ, zero, suc, ◌+◌, ◌<◌, ◌≤◌, true, List, [], ◌∷◌, ◌++◌, ◌^◌, length, take, drop, map, nat_le, nat_lt, get_or, lit<, ◌-◌, refl, sym, ap, arith, add-zero}
 use Rattle.std.proofs.lemmas.Bool.{lt-ltb, ltb-true, le-leb, lt-leb, leb-true}
 use Rattle.std.proofs.lemmas.List.{drop-drop, take_more}
 use Rattle.std.proofs.lemmas.List.Elements.{All-drop, All-map}
@@ -76,7 +76,7 @@ pub ascending : (docs : List ℕ) → are_documents docs ≡ true → IsAscendin
 ascending docs h = (ascending_from 0 docs h).0
 
 -- documents alone are sound, and so is what is left of a sound rest
-documents_fit : (docs : List ℕ) → All FitsU32 (map document docs)
+pub documents_fit : (docs : List ℕ) → All FitsU32 (map document docs)
 documents_fit docs = All-map FitsU32 document docs (λ k d within. (lit< tt, λ j p none. absurd (omega arith)))
 
 pub documents_sound : (docs : List ℕ) → are_documents docs ≡ true → IsSound (map document docs)

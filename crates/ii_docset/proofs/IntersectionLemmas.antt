@@ -10,7 +10,7 @@ use Rattle.ii_docset.specs.Intersection.{common_docs, has_doc}
 use Rattle.ii_docset.proofs.CursorLemmas.{doc_below, nothing_left}
 
 -- dropping documents below a target loses none from the target on
-has_doc-from_doc : (target doc : ℕ) (es : List Entry) → target ≤ doc → has_doc (from_doc target es) doc ≡ has_doc es doc
+pub has_doc-from_doc : (target doc : ℕ) (es : List Entry) → target ≤ doc → has_doc (from_doc target es) doc ≡ has_doc es doc
 has_doc-from_doc target doc [] up = refl
 has_doc-from_doc target doc (e ∷ es) up =
     let later = has_doc-from_doc target doc es up in
@@ -20,7 +20,7 @@ has_doc-from_doc target doc (e ∷ es) up =
     ]
 
 -- a document below the first of a list isn't in it
-has_doc_below : (doc : ℕ) (es : List Entry) → IsAscending es → doc < doc_at es → has_doc es doc ≡ false
+pub has_doc_below : (doc : ℕ) (es : List Entry) → IsAscending es → doc < doc_at es → has_doc es doc ≡ false
 has_doc_below doc [] ascend low = refl
 has_doc_below doc (e ∷ es) ascend low =
     let first = ascend.0 in
@@ -47,7 +47,7 @@ common-found [] fs low same = absurd (omega (arith, low))
 common-found (e ∷ es) [] low same = absurd (omega (arith, low, same))
 common-found (e ∷ es) (f ∷ fs) low same = rw (eq-eqb f.doc e.doc same) refl
 
-doc_at-from_doc : (target : ℕ) (es : List Entry) → target ≤ TERMINATED → target ≤ doc_at (from_doc target es)
+pub doc_at-from_doc : (target : ℕ) (es : List Entry) → target ≤ TERMINATED → target ≤ doc_at (from_doc target es)
 doc_at-from_doc target [] up = up
 doc_at-from_doc target (e ∷ es) up =
     elim (leb_tells target e.doc) [

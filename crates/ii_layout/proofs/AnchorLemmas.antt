@@ -5,18 +5,18 @@ use Rattle.std.proofs.Math.Seq.{take-add}
 use Rattle.std.proofs.lemmas.Bool.{and_cases, cases_Bool, cases_lt, leb-true, leb-false}
 use Rattle.std.proofs.lemmas.List.{get_or-drop, get_or-take, get_or-set_same, get_or-set_other, length-drop, length-take-le, length-set}
 use Rattle.std.proofs.lemmas.List.Folds.{list_all_at, list_all_more}
-use Rattle.std.proofs.lemmas.List.Sums.{sum_by-append}
 use Rattle.std.proofs.lemmas.Option.{IfSome_then}
 use Rattle.std.specs.List.{list_all, sum}
 use Rattle.ii_layout.specs.Each.{each}
 use Rattle.ii_layout.specs.Positions.{place_by_widths, block_deltas}
 use Rattle.ii_layout.specs.PositionReader.{AreAnchors, is_width}
 use Rattle.ii_layout.proofs.PositionLemmas.{place_more, each_more, block_there, wide_none, short_none}
+use Rattle.ii_layout.proofs.PositionSums.{sum-append}
 
 -- where so many blocks end that begin at one
 place_after : (widths : List ℕ) (first n : ℕ) → place_by_widths widths (first + n) ≡ place_by_widths widths first + 16 * sum (take n (drop first widths))
 place_after widths first n =
-    let cut = ap sum (take-add first n widths) ∙ sum_by-append (λ (w : ℕ). w) (take first widths) (take n (drop first widths)) in
+    let cut = ap sum (take-add first n widths) ∙ sum-append (take first widths) (take n (drop first widths)) in
     omega (arith, cut)
 
 no_more : (n : ℕ) → n + 0 ≡ n

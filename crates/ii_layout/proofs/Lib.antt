@@ -15,6 +15,6 @@ pub mod PositionLaws
 pub mod PositionLemmas
 pub mod PositionPacking
 pub mod PositionRows
-mod PositionSums
+pub mod PositionSums
 pub mod WrittenLaws
 mod TermLaws

@@ -17,7 +17,7 @@ pub record SumsUp (deltas widths : List ℕ) (block place total : ℕ) : Type 0 
   pub total_is : total ≡ sum (take (128 * block) deltas)
   pub small : total < 2 ^ 32
 
-sum-append : (xs ys : List ℕ) → sum (xs ++ ys) ≡ sum xs + sum ys
+pub sum-append : (xs ys : List ℕ) → sum (xs ++ ys) ≡ sum xs + sum ys
 sum-append xs ys = sum_by-append (λ (n : ℕ). n) xs ys
 
 pub sum_next : (deltas : List ℕ) (block : ℕ) → sum (take (128 * (block + 1)) deltas) ≡ sum (take (128 * block) deltas) + sum (block_of deltas block)

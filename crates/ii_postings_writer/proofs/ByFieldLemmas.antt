@@ -76,13 +76,6 @@ front_field (a ∷ b ∷ []) ys long = absurd (omega (arith, long))
 front_field (a ∷ b ∷ c ∷ []) ys long = absurd (omega (arith, long))
 front_field (a ∷ b ∷ c ∷ d ∷ xs) ys long = refl
 
-dropped_front : (xs ys : List ℕ) → 4 ≤ length xs → drop 4 (take 4 xs ++ ys) ≡ ys
-dropped_front [] ys long = absurd (omega (arith, long))
-dropped_front (a ∷ []) ys long = absurd (omega (arith, long))
-dropped_front (a ∷ b ∷ []) ys long = absurd (omega (arith, long))
-dropped_front (a ∷ b ∷ c ∷ []) ys long = absurd (omega (arith, long))
-dropped_front (a ∷ b ∷ c ∷ d ∷ xs) ys long = refl
-
 pub take_one_more : {X : Type 0} (xs : List X) (k : ℕ) (x : X) → slice_get xs k ≡ Some x → take (suc k) xs ≡ take k xs ++ x ∷ []
 take_one_more [] k x at = absurd (cc)
 take_one_more (y ∷ ys) zero x at = let same : y ≡ x = cc in ap (λ z. z ∷ []) same
@@ -95,9 +88,6 @@ seen_at n es k e all at = all_at (IsTermBelow n) (map seen es) k (seen e) all (s
 -- the field of a term is that of its key
 pub resolved_field : (flags : List Bool) (paths : List (List ℕ)) (term : List ℕ) → 4 ≤ length term → field_in (resolved flags paths term) ≡ field_in term
 resolved_field flags paths term long = front_field term (key_with paths (path_id_in flags term) (behind_id flags term)) long
-
-pub resolved_key : (flags : List Bool) (paths : List (List ℕ)) (term : List ℕ) → 4 ≤ length term → drop 4 (resolved flags paths term) ≡ key_with paths (path_id_in flags term) (behind_id flags term)
-resolved_key flags paths term long = dropped_front term (key_with paths (path_id_in flags term) (behind_id flags term)) long
 
 -- the lists of the fields once a term was added to its own
 pub added : {A : Type 0} (flags : List Bool) (paths : List (List ℕ)) (n : ℕ) (es : List (Vec ℕ A × AnyRecorder)) (k : ℕ) (e : Vec ℕ A × AnyRecorder) (fields new : List (List SortedTerm)) (bytes : List ℕ) → slice_get es k ≡ Some e

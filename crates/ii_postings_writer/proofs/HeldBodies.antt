@@ -25,11 +25,11 @@ use Rattle.ii_postings_writer.specs.HeldBodies.{BodiesHold, HaveTokens, WroteTok
 use Rattle.ii_postings_writer.specs.IndexingTerm.{AreTermBytes, field_bytes}
 use Rattle.ii_postings_writer.specs.Records.{HasPostings}
 use Rattle.ii_postings_writer.proofs.HeldFields.{IsKnown, all_known, each_found, found_in, holds_field, some_terms, some_tokens}
-use Rattle.ii_postings_writer.proofs.SortedLemmas.{each_may_be, kept_writable}
+use Rattle.ii_postings_writer.proofs.SortedLemmas.{kept_writable}
 use Rattle.ii_recorder.specs.IndexSerializer.{IndexSerializerState}
 use Rattle.ii_postings_writer.specs.IndexingContext.{TermIndex, recorder_of}
 use Rattle.ii_postings_writer.specs.PostingsWriter.{PostingsWriterState}
-use Rattle.ii_postings_writer.specs.SortedTerms.{norms_in, AllMayBeWritten, MayBeWritten, SortedTerm, terms_in}
+use Rattle.ii_postings_writer.specs.SortedTerms.{norms_in, MayBeWritten, SortedTerm, terms_in}
 use Rattle.ii_postings_writer.proofs.PartLemmas.{part_of}
 use Rattle.ii_fieldnorm.specs.Readers.{Norms}
 
@@ -257,11 +257,6 @@ parts_below entries writers readers terms first (suc count) limit low = by (slic
 
 parts_known : (entries : List SchemaEntry) (writers : List PostingsWriterState) (readers : List Body) (terms : List (List SortedTerm)) (n : ℕ) → AllByRecursion (λ (p : FieldPart). p.field < n) (first_parts entries writers readers terms n)
 parts_known entries writers readers terms n = parts_below entries writers readers terms 0 n n (omega arith)
-
--- a sorted context has what the context had
-pub sorted_written : (entries : List SchemaEntry) (terms sorted : TermIndex) (writers : List PostingsWriterState) (readers : List Body) (ts : List IndexToken) → length entries < 2 ^ 32 → ((bytes : List ℕ) → recorder_of sorted bytes ≡ recorder_of terms bytes)
-    → IsStrictlySortedBy (slice_cmp nat_cmp) (keys_of sorted) → AllByRecursion AreTermBytes (keys_of sorted) → AllMayBeWritten (length entries) readers terms → HaveTokens entries terms writers ts → IsWritten entries writers readers sorted ts
-sorted_written entries terms sorted writers readers ts few same ascending whole may has = record { few = few; whole = whole; ascending = ascending; may = each_may_be (length entries) readers terms sorted same ascending whole may; tokens = sorted_tokens entries terms sorted writers ts same has }
 
 -- how a call ends that writes the terms of a context with tokens
 pub wrote_tokens : {A E : Type 0} (result : Result A E) → ReadsEntriesBack → ReadsUncountedTermBack → (old new : IndexSerializerState) (writers : List PostingsWriterState) (readers : List Body) (terms sorted : TermIndex) (ts : List IndexToken) → IsWritten old.entries writers readers sorted ts

@@ -1,8 +1,8 @@
 -- What a recorder has after one more position of a document that isn't below its last one.
-use Rattle.std.proofs.Common.{◌≡◌, ◌≢◌, ℕ, ◌-◌, ◌<◌, ◌≤◌, ◌==◌, Bool, true, false, List, [], ◌∷◌, ◌++◌, length, nat_le, nat_lt, ◌+◌, refl, sym, ap, arith, ◌∙◌, Some, None, Option, Ok, Err, Result, inl, inr, subst, length-append}
-use Rattle.std.specs.Prelude.{slice_get, unwrap_or, IsTrue, IfErr, IfSome, MatchOption}
+use Rattle.std.proofs.Common.{◌≡◌, ◌≢◌, ℕ, ◌-◌, ◌<◌, ◌≤◌, ◌==◌, Bool, true, false, List, [], ◌∷◌, ◌++◌, nat_le, nat_lt, ◌+◌, refl, sym, ap, arith, ◌∙◌, Some, None, Option, Ok, Err, Result, inl, inr, subst}
+use Rattle.std.specs.Prelude.{unwrap_or, IsTrue, IfErr, IfSome, MatchOption}
 use Rattle.std.specs.Option.{option_to_list}
-use Rattle.std.proofs.lemmas.List.{length-map, map-append}
+use Rattle.std.proofs.lemmas.List.{map-append}
 use Rattle.ii_base.specs.declared.schema.index_record_option.IndexRecordOption.{IndexRecordOption}
 use Rattle.ii_base.specs.Entries.{Entry, are_documents, docs_of}
 use Rattle.ii_base.proofs.AscentLemmas.{ascend-append, least_after, least_after-append}
@@ -13,15 +13,10 @@ use Rattle.ii_io.specs.declared.faults.Fault.TheVariants.{OutOfMemory}
 use Rattle.ii_json.specs.LeafVisit.{IsRefusedBy}
 use Rattle.ii_base.specs.declared.doc_id.TheConstants.{TERMINATED}
 use Rattle.ii_postings_writer.specs.IndexingContext.{EndsBy, entry_for_doc, is_open, new_recorder, opened_at, recorded_at}
-use Rattle.ii_recorder.proofs.RecorderLemmas.{last_of_push}
+use Rattle.ii_recorder.proofs.RecorderLemmas.{last_doc_push}
 
 pub docs_of_push : (es : List Entry) (e : Entry) → docs_of (es ++ e ∷ []) ≡ docs_of es ++ e.doc ∷ []
 docs_of_push es e = map-append (λ (f : Entry). f.doc) es (e ∷ [])
-
-pub last_doc_of_push : (es : List Entry) (e : Entry) → last_doc (es ++ e ∷ []) ≡ Some e.doc
-last_doc_of_push es e =
-    let count : length (es ++ e ∷ []) - 1 ≡ length (docs_of es) = omega (arith, length-append es (e ∷ []), length-map es (λ (f : Entry). f.doc)) in
-    ap (λ (ds : List ℕ). slice_get ds (length (es ++ e ∷ []) - 1)) (docs_of_push es e) ∙ ap (slice_get (docs_of es ++ e.doc ∷ [])) count ∙ last_of_push (docs_of es) e.doc
 
 -- The open document of a recorder, its entries, and what is known of it.
 pub record IsOpenIn (doc : ℕ) (r : RecorderState) : Type 0 where
@@ -49,7 +44,7 @@ open_in doc r h = by r.pending refl h.last
 pub current_is : (doc : ℕ) (r : RecorderState) (h : EndsBy doc r) → current_doc r ≡ (open_in doc r h).entry.doc
 current_is doc r h =
     let o = open_in doc r h in
-    ap (λ (es : List Entry). unwrap_or (last_doc es) u32_max) o.entries ∙ ap (λ (d : Option ℕ). unwrap_or d u32_max) (last_doc_of_push r.closed o.entry)
+    ap (λ (es : List Entry). unwrap_or (last_doc es) u32_max) o.entries ∙ ap (λ (d : Option ℕ). unwrap_or d u32_max) (last_doc_push r.closed o.entry)
 
 -- the open document is the one
 pub opened_same : (doc : ℕ) (r : RecorderState) → EndsBy doc r → current_doc r ≡ doc → opened_at doc r ≡ r
@@ -68,7 +63,7 @@ opened_anew doc r h other =
 pub last_below : (doc : ℕ) (r : RecorderState) → EndsBy doc r → current_doc r ≢ doc → IfSome (last_doc (entries_of_recorder r)) (λ last. last < doc)
 last_below doc r h other =
     let o = open_in doc r h in
-    let last = last_doc_of_push r.closed o.entry in
+    let last = last_doc_push r.closed o.entry in
     let below : o.entry.doc < doc = omega (arith, current_is doc r h, other, o.within) in
     rw (o.entries, last) below
 

@@ -18,7 +18,7 @@ use Rattle.ii_json.specs.Paths.{AreDistinct, is_known, path_id}
 use Rattle.ii_json.proofs.KeyOrder.{ranked_as_keys}
 use Rattle.ii_postings_writer.specs.IndexingTerm.{field_bytes, field_in}
 use Rattle.ii_postings_writer.specs.ResolvedTerms.{AreClean, HoldsId, IsHeldTerm, behind_id, behind_path, front_of, held_cmp, held_key, held_value, is_json_field, key_with, path_id_in, rank_of, resolved, value_place}
-use Rattle.ii_postings_writer.proofs.SortedLemmas.{field_of_bytes}
+use Rattle.ii_postings_writer.proofs.SortedLemmas.{field_of_bytes, bytes_same}
 use Rattle.ii_postings_writer.proofs.TermLemmas.{behind_field, field_in_front, length_field}
 
 front_is : (field : ℕ) (value : List ℕ) → front_of (field_bytes field ++ value) ≡ field_bytes field
@@ -74,9 +74,6 @@ pub clean_at : (paths : List (List ℕ)) (i : ℕ) → AreClean paths → i < le
 clean_at [] i all within = absurd (omega (arith, within))
 clean_at (p ∷ ps) zero all within = all.0
 clean_at (p ∷ ps) (suc i) all within = clean_at ps i all.1 (omega (arith, within))
-
-bytes_same : (xs : List ℕ) → bytes_eq xs xs ≡ true
-bytes_same xs = nat_list_eq_equiv.refl xs
 
 apart_at : (p : List ℕ) (ps : List (List ℕ)) (i : ℕ) → AllByRecursion (λ (q : List ℕ). bytes_eq p q ≡ false) ps → i < length ps → bytes_eq (slice_index_or ps i []) p ≡ false
 apart_at p [] i all within = absurd (omega (arith, within))

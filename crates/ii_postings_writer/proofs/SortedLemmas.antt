@@ -1,10 +1,10 @@
 -- Terms in the order of their bytes.
-use Rattle.std.proofs.Common.{zero-add, length, length-append, ◌≤◌, Option, Some, Result, Ok, Err, IfOk, None, zero, suc, ◌+◌, ◌<◌, ◌^◌, ◌++◌, drop, filter, nat_eq, arith, ◌≡◌, ℕ, Bool, true, false, List, [], ◌∷◌, map, refl, sym, ap, ◌∙◌, subst, Vec}
+use Rattle.std.proofs.Common.{zero-add, length, length-append, ◌≤◌, Some, Result, Ok, Err, IfOk, None, zero, suc, ◌+◌, ◌<◌, ◌^◌, ◌++◌, drop, filter, nat_eq, arith, ◌≡◌, ℕ, Bool, true, false, List, [], ◌∷◌, map, refl, sym, ap, ◌∙◌, subst, Vec}
 use Rattle.std.proofs.Common.{Ordering, Less, Equal, Greater}
 use Rattle.std.specs.Ordering.{ordering_reverse}
 use Rattle.std.specs.Prelude.{slice_index_or, bytes_eq}
 use Rattle.std.proofs.lemmas.List.Elements.{All-tail}
-use Rattle.std.specs.Prelude.{All, MatchOption, ⊤}
+use Rattle.std.specs.Prelude.{All}
 use Rattle.std.specs.Ordering.{is_eq}
 use Rattle.ii_recorder.specs.Recorded.{RecorderState}
 use Rattle.std.specs.List.{range_with_len, AllByRecursion, IsDistinct, dedup, dedup_from}
@@ -12,10 +12,10 @@ use Rattle.std.specs.List.Sorted.{IsSorted, IsStrictlySortedBy}
 use Rattle.std.specs.Map.{keys_of}
 use Rattle.std.proofs.lemmas.Cmp.{nat_cmp_total, nat_list_cmp_total, on_total}
 use Rattle.std.proofs.lemmas.Cmp.{nat_list_eq_equiv}
-use Rattle.std.specs.Cmp.Lexicographic.{bytes_decides, slice_cmp}
+use Rattle.std.specs.Cmp.Lexicographic.{slice_cmp}
 use Rattle.std.specs.Ordering.{nat_cmp}
-use Rattle.ii_postings_writer.specs.IndexingContext.{TermIndex, recorder_of}
-use Rattle.ii_postings_writer.specs.SortedTerms.{norms_in, term_of, AllMayBeWritten, IsTermBelow, IsWritable, MayBeWritten, SortedTerm, terms_in}
+use Rattle.ii_postings_writer.specs.IndexingContext.{TermIndex}
+use Rattle.ii_postings_writer.specs.SortedTerms.{norms_in, term_of, IsTermBelow, IsWritable, MayBeWritten, SortedTerm, terms_in}
 use Rattle.ii_postings_writer.proofs.TermLemmas.{length_field}
 use Rattle.ii_postings_writer.specs.IndexingTerm.{AreTermBytes, field_bytes, field_in}
 use Rattle.std.specs.Map.{lookup}
@@ -171,15 +171,11 @@ fields_ascend f es n terms fields all same are sorted =
     subst (AllByRecursion (λ (ts : List SortedTerm). IsStrictlySortedBy (slice_cmp nat_cmp) (map (λ (t : SortedTerm). t.key) ts))) (sym are)
     (lists_ascend 0 n terms (subst (λ (ts : TermIndex). AllByRecursion AreTermBytes (keys_of ts)) (sym same) (each_key f es all)) sorted)
 
-pub if_ok : {X E : Type 0} (r : Result X E) (P Q : X → Type 0) → ((x : X) → P x → Q x) → IfOk r P → IfOk r Q
-if_ok (Ok x) P Q f h = f x h
-if_ok (Err e) P Q f h = tt
-
 pub if_both : {X E : Type 0} (r : Result X E) (P R Q : X → Type 0) → ((x : X) → P x → R x → Q x) → IfOk r P → IfOk r R → IfOk r Q
 if_both (Ok x) P R Q f h k = f x h k
 if_both (Err e) P R Q f h k = tt
 
-bytes_same : (bytes : List ℕ) → bytes_eq bytes bytes ≡ true
+pub bytes_same : (bytes : List ℕ) → bytes_eq bytes bytes ≡ true
 bytes_same bytes = nat_list_eq_equiv.refl bytes
 
 -- a key below all others is none of them
@@ -194,20 +190,6 @@ found_first t ts = rw (bytes_same t.0) refl
 
 pub found_later : (bytes : List ℕ) (t : List ℕ × RecorderState) (ts : TermIndex) → bytes_eq bytes t.0 ≡ false → lookup (bytes_eq bytes) (t ∷ ts) ≡ lookup (bytes_eq bytes) ts
 found_later bytes t ts other = rw other refl
-
--- what holds of each recorder by its term holds of all terms, where these ascend
-pub each_by_lookup : (P : List ℕ → RecorderState → Type 0) (terms : TermIndex) → IsStrictlySortedBy (slice_cmp nat_cmp) (keys_of terms) → ((bytes : List ℕ) → MatchOption (lookup (bytes_eq bytes) terms) ⊤ (P bytes))
-    → AllByRecursion (λ (t : List ℕ × RecorderState). P t.0 t.1) terms
-unfolding IsStrictlySortedBy
-each_by_lookup P [] sorted known = tt
-each_by_lookup P (t ∷ ts) sorted known =
-    (subst (λ (o : Option RecorderState). MatchOption o ⊤ (P t.0)) (found_first t ts) (known t.0), each_by_lookup P ts sorted.1 (λ bytes. later bytes (bytes_eq bytes t.0) refl))
-  where
-    later : (bytes : List ℕ) (b : Bool) → bytes_eq bytes t.0 ≡ b → MatchOption (lookup (bytes_eq bytes) ts) ⊤ (P bytes)
-    later bytes true same =
-        let here : bytes ≡ t.0 = (bytes_decides bytes t.0).0 same in
-        rw (here, none_above t.0 ts sorted.0) tt
-    later bytes false other = subst (λ (o : Option RecorderState). MatchOption o ⊤ (P bytes)) (found_later bytes t ts other) (known bytes)
 
 long_bytes : (bytes : List ℕ) → AreTermBytes bytes → 4 ≤ length bytes
 long_bytes bytes are = omega (arith, ap length are.are, length-append (field_bytes are.field) (drop 4 bytes), length_field are.field)
@@ -242,18 +224,3 @@ pub all_writable : (n count field : ℕ) (readers : List Body) (terms : TermInde
     → AllByRecursion (IsWritable (norms_in readers field)) (slice_index_or (map (λ (field : ℕ). terms_in field terms) (range_with_len 0 count)) field [])
 all_writable n count field readers terms all inside =
     subst (AllByRecursion (IsWritable (norms_in readers field))) (sym (get_or-map-range_with_len (λ (f : ℕ). terms_in f terms) 0 count field field [] inside (zero-add field))) (kept_writable n field readers terms all)
-
--- terms that may be written may be so in their order
-pub each_may_be : (n : ℕ) (readers : List Body) (terms sorted : TermIndex) → ((bytes : List ℕ) → recorder_of sorted bytes ≡ recorder_of terms bytes) → IsStrictlySortedBy (slice_cmp nat_cmp) (map (λ (t : List ℕ × RecorderState). t.0) sorted)
-    → AllByRecursion AreTermBytes (keys_of sorted) → AllMayBeWritten n readers terms → AllByRecursion (λ (t : List ℕ × RecorderState). MayBeWritten n readers t.0 t.1) sorted
-each_may_be n readers terms sorted same ascending whole may = both sorted (each_by_lookup (λ bytes r. AreTermBytes bytes → MayBeWritten n readers bytes r) sorted ascending (λ bytes. where_found bytes (recorder_of sorted bytes) (same bytes))) whole
-  where
-    where_found : (bytes : List ℕ) (o : Option RecorderState) → o ≡ recorder_of terms bytes → MatchOption o ⊤ (λ r. AreTermBytes bytes → MayBeWritten n readers bytes r)
-    where_found bytes None is = tt
-    where_found bytes (Some r) is = λ are.
-        let here : MatchOption (recorder_of terms bytes) ⊤ (MayBeWritten n readers bytes) = subst (λ (bs : List ℕ). MatchOption (recorder_of terms bs) ⊤ (MayBeWritten n readers bs)) (sym are.are) (may are.field (drop 4 bytes) are.small) in
-        subst (λ (o : Option RecorderState). MatchOption o ⊤ (MayBeWritten n readers bytes)) (sym is) here
-
-    both : (ts : TermIndex) → AllByRecursion (λ (t : List ℕ × RecorderState). AreTermBytes t.0 → MayBeWritten n readers t.0 t.1) ts → AllByRecursion AreTermBytes (keys_of ts) → AllByRecursion (λ (t : List ℕ × RecorderState). MayBeWritten n readers t.0 t.1) ts
-    both [] each are = tt
-    both (t ∷ ts) each are = (each.0 are.0, both ts each.1 are.1)

@@ -9,7 +9,8 @@ use Rattle.ii_docset.specs.Cursor.{doc_at, IsAscending, IsSound}
 use Rattle.ii_docset.specs.Intersection.{has_doc}
 use Rattle.ii_query.specs.Combined.{common, picked}
 use Rattle.ii_query.proofs.MatchLaws.{common_has}
-use Rattle.ii_query.proofs.PickedLemmas.{has_below, picked_sound}
+use Rattle.ii_query.proofs.PickedLemmas.{picked_sound}
+use Rattle.ii_docset.proofs.IntersectionLemmas.{has_doc_below}
 
 -- a list has its first document
 pub has_first : (e : Entry) (es : List Entry) → has_doc (e ∷ es) e.doc ≡ true
@@ -17,7 +18,7 @@ has_first e es = rw (eq-eqb e.doc e.doc refl) refl
 
 -- the first document of one list is not below that of another one with the same documents
 not_below : (e f : Entry) (es fs : List Entry) → IsAscending (f ∷ fs) → ((d : ℕ) → has_doc (e ∷ es) d ≡ has_doc (f ∷ fs) d) → f.doc ≤ e.doc
-not_below e f es fs ascend alike = grind (arith, alike e.doc, has_first e es, has_below e.doc (f ∷ fs) ascend)
+not_below e f es fs ascend alike = grind (arith, alike e.doc, has_first e es, has_doc_below e.doc (f ∷ fs) ascend)
 
 -- a document behind the first ones
 behind : (e f : Entry) (es fs : List Entry) → IsAscending (e ∷ es) → IsAscending (f ∷ fs) → e.doc ≡ f.doc → ((d : ℕ) → has_doc (e ∷ es) d ≡ has_doc (f ∷ fs) d) → (d : ℕ) → has_doc es d ≡ has_doc fs d
@@ -25,7 +26,7 @@ behind e f es fs up also same alike d = elim (eqb_tells e.doc d) [
   | inl h ↦
       let low : d < doc_at es = let here = h.1 in let first = up.0 in omega (arith, here, first) in
       let below : d < doc_at fs = let here = h.1 in let first = also.0 in omega (arith, here, first, same) in
-      has_below d es up.1 low ∙ sym (has_below d fs also.1 below)
+      has_doc_below d es up.1 low ∙ sym (has_doc_below d fs also.1 below)
   | inr h ↦
       let other : f.doc ≢ d = λ eq. h.1 (same ∙ eq) in
       let told = alike d in

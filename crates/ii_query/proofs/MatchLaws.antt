@@ -9,7 +9,7 @@ use Rattle.ii_base.specs.Entries.{Entry, docs_of, document}
 use Rattle.ii_docset.specs.Cursor.{doc_at, IsAscending, from_doc}
 use Rattle.ii_docset.specs.Intersection.{has_doc}
 use Rattle.ii_query.specs.Combined.{common, either, picked, put_all, put_in, without}
-use Rattle.ii_query.proofs.PickedLemmas.{has_below}
+use Rattle.ii_docset.proofs.IntersectionLemmas.{has_doc_below}
 
 -- a picked document is in the list, and what picks holds of it
 picked_has : (holds : ℕ → Bool) (es : List Entry) (doc : ℕ) → has_doc (picked holds es) doc ≡ (has_doc es doc && holds doc)
@@ -74,6 +74,6 @@ has_found (e ∷ es) doc low here = elim (leb_tells doc e.doc) [
 pub has_missed : (es : List Entry) (doc : ℕ) → IsAscending es → doc_at (from_doc doc es) ≢ doc → has_doc es doc ≡ false
 has_missed [] doc ascend other = refl
 has_missed (e ∷ es) doc ascend other = elim (leb_tells doc e.doc) [
-  | inl h ↦ let up = h.1 in let ne : e.doc ≢ doc = rw (h.0) at other in has_below doc (e ∷ es) ascend (omega (arith, up, ne))
+  | inl h ↦ let up = h.1 in let ne : e.doc ≢ doc = rw (h.0) at other in has_doc_below doc (e ∷ es) ascend (omega (arith, up, ne))
   | inr h ↦ let later : doc_at (from_doc doc es) ≢ doc = rw (h.0) at other in let below = h.1 in rw (ne_eqb e.doc doc (λ same. omega (arith, below, same))) (has_missed es doc ascend.1 later)
 ]

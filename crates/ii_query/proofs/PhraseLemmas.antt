@@ -8,11 +8,11 @@ use Rattle.std.proofs.lemmas.Bool.Decides.{eqb_tells, leb_tells}
 use Rattle.ii_base.specs.declared.doc_id.TheConstants.{TERMINATED}
 use Rattle.ii_base.specs.Entries.{Entry, docs_of, document}
 use Rattle.ii_docset.specs.Cursor.{IsAscending, IsCurrent, IsSound, IsTarget, doc_at, from_doc, positions_at}
-use Rattle.ii_docset.proofs.CursorLemmas.{doc_below, from_doc_here}
+use Rattle.ii_docset.proofs.CursorLemmas.{doc_below, from_doc_here, documents_fit}
 use Rattle.ii_docset.specs.Intersection.{has_doc}
 use Rattle.ii_query.specs.Combined.{IsAtFirst}
 use Rattle.ii_query.specs.Phrase.{IsAtDoc, MeetsAt, PhrasePartState, begins_phrase, has_position, is_among, phrase_docs, stand_from, stand_here}
-use Rattle.ii_query.proofs.PickedLemmas.{fit}
+use Rattle.ii_docset.proofs.IntersectionLemmas.{doc_at-from_doc}
 
 -- the documents of the entries of a list for which something holds
 abbrev pub kept : (Entry → Bool) → List Entry → List Entry
@@ -28,7 +28,7 @@ kept_ascends holds (e ∷ es) h = by (kept_ascends holds es h.1) (holds e) refl
     by later false is = let low = h.0 in let up = later.1 in rw (is) (later.0, omega (arith, low, up))
 
 kept_sound : (holds : Entry → Bool) (es : List Entry) → IsSound es → IsSound (kept holds es)
-kept_sound holds es sound = record { ascending = (kept_ascends holds es sound.ascending).0; fits = fit (docs_of (filter holds es)) }
+kept_sound holds es sound = record { ascending = (kept_ascends holds es sound.ascending).0; fits = documents_fit (docs_of (filter holds es)) }
 
 -- without the first document, which is kept
 kept_drop : (holds : Entry → Bool) (es : List Entry) → IsAtFirst es (kept holds es) → kept holds (drop 1 es) ≡ drop 1 (kept holds es)
@@ -171,17 +171,10 @@ pub phrase_on : (bound : ℕ) (es later : List Entry) (others : List PhrasePartS
 phrase_on bound es later others sound least is =
     ap (λ (l : List Entry). phrase_docs l others) is ∙ phrase_from bound es others ∙ from_doc_here bound (phrase_docs es others) (phrase_sound es others sound).ascending least
 
-pub up_from : (doc : ℕ) (es : List Entry) → doc ≤ TERMINATED → doc ≤ doc_at (from_doc doc es)
-up_from doc [] up = up
-up_from doc (e ∷ es) up = elim (leb_tells doc e.doc) [
-  | inl h ↦ rw (h.0) (h.1)
-  | inr h ↦ rw (h.0) (up_from doc es up)
-]
-
 pub phrase_smaller : (doc bound next : ℕ) (es later : List Entry) (others : List PhrasePartState) → IsSound es → doc < TERMINATED → doc ≤ bound → bound ≢ doc → bound ≤ doc_at (phrase_docs es others) → later ≡ from_doc bound es → next ≡ doc_at later
     → TERMINATED - next < TERMINATED - doc
 phrase_smaller doc bound next es later others sound low up other least is here =
-    let reached = subst (λ (l : List Entry). bound ≤ doc_at l) (sym is) (up_from bound es (phrase_bound bound es others sound least)) in
+    let reached = subst (λ (l : List Entry). bound ≤ doc_at l) (sym is) (doc_at-from_doc bound es (phrase_bound bound es others sound least)) in
     omega (arith, low, up, other, reached, here)
 
 -- a document has a phrase exactly where its entry has

@@ -12,7 +12,8 @@ use Rattle.ii_base.specs.Entries.{Entry}
 use Rattle.ii_docset.specs.Cursor.{IsSound, doc_at, from_doc, position_before, positions_at}
 use Rattle.ii_docset.proofs.CursorLemmas.{doc_below}
 use Rattle.ii_query.specs.Phrase.{IsAtDoc, MeetsAt, PhrasePartState, has_position, is_among, stand_from, stand_here}
-use Rattle.ii_query.proofs.PhraseLemmas.{has_below, has_from, up_from}
+use Rattle.ii_query.proofs.PhraseLemmas.{has_below, has_from}
+use Rattle.ii_docset.proofs.IntersectionLemmas.{doc_at-from_doc}
 
 -- The first terms so far were taken to a document.
 pub record IsMeeting (doc i : ℕ) (old now : List PhrasePartState) : Type 0 where
@@ -62,7 +63,7 @@ pub meeting_stops : (doc i bound : ℕ) (start now : List PhrasePartState) (old 
 meeting_stops doc i bound start now old new m inside is moved other low =
     let here = moved.here in
     let below = doc_below new.rest moved.sound.ascending in
-    let up = subst (λ (l : List Entry). doc ≤ doc_at l) (sym moved.rest_is) (up_from doc old.rest (omega (arith, low))) in
+    let up = subst (λ (l : List Entry). doc ≤ doc_at l) (sym moved.rest_is) (doc_at-from_doc doc old.rest (omega (arith, low))) in
     record {
       alike = λ d from high. part_set now i new old doc bound d from inside is moved high ∙ m.alike d from high;
       low = omega (arith, here, up);

@@ -1,16 +1,14 @@
 -- Documents that are picked of a list.
-use Rattle.std.proofs.Common.{◌≡◌, ◌≢◌, ℕ, ◌<◌, ◌≤◌, Bool, true, false, List, [], ◌∷◌, drop, lit<, inl, inr, refl, sym, ap, ◌∙◌, arith}
-use Rattle.std.proofs.lemmas.Bool.{eq-eqb, ne_eqb}
-use Rattle.std.proofs.lemmas.List.Elements.{All-map}
+use Rattle.std.proofs.Common.{◌≡◌, ◌≢◌, ℕ, ◌<◌, ◌≤◌, Bool, true, false, List, [], ◌∷◌, drop, inl, inr, refl, sym, ap, ◌∙◌, arith}
+use Rattle.std.proofs.lemmas.Bool.{eq-eqb}
 use Rattle.std.proofs.lemmas.Bool.Decides.{leb_tells}
 use Rattle.std.specs.Prelude.{filter, map, not}
-use Rattle.std.specs.List.{All}
 use Rattle.ii_base.specs.declared.doc_id.TheConstants.{TERMINATED}
 use Rattle.ii_base.specs.Entries.{Entry, docs_of, document}
-use Rattle.ii_docset.specs.Cursor.{doc_at, FitsU32, IsAscending, IsSound, from_doc}
+use Rattle.ii_docset.specs.Cursor.{doc_at, IsAscending, IsSound, from_doc}
 use Rattle.ii_docset.specs.Intersection.{common_docs, has_doc}
-use Rattle.ii_docset.proofs.CursorLemmas.{from_doc_here}
-use Rattle.ii_docset.proofs.IntersectionLemmas.{Asked, bound_more, bound_target}
+use Rattle.ii_docset.proofs.CursorLemmas.{from_doc_here, documents_fit}
+use Rattle.ii_docset.proofs.IntersectionLemmas.{Asked, bound_more, bound_target, has_doc-from_doc, has_doc_below}
 use Rattle.ii_query.specs.Combined.{IsAtFirst, StandsAt, common, picked, without}
 
 -- they ascend, from the first document of the list on
@@ -22,11 +20,8 @@ picked_ascends holds (e ∷ es) h = by (picked_ascends holds es h.1) (holds e.do
     by later true is = let low = h.0 in let up = later.1 in rw (is) ((omega (arith, low, up), later.0), omega arith)
     by later false is = let low = h.0 in let up = later.1 in rw (is) (later.0, omega (arith, low, up))
 
-pub fit : (docs : List ℕ) → All FitsU32 (map document docs)
-fit docs = All-map FitsU32 document docs (λ k d within. (lit< tt, λ j p none. absurd (omega arith)))
-
 pub picked_sound : (holds : ℕ → Bool) (es : List Entry) → IsSound es → IsSound (picked holds es)
-picked_sound holds es sound = record { ascending = (picked_ascends holds es sound.ascending).0; fits = fit (filter holds (docs_of es)) }
+picked_sound holds es sound = record { ascending = (picked_ascends holds es sound.ascending).0; fits = documents_fit (filter holds (docs_of es)) }
 
 -- the first document of the list is picked, or there is none
 pub picked_at : (holds : ℕ → Bool) (es : List Entry) (doc : ℕ) → IsAtFirst es (picked holds es) → doc ≡ doc_at es → StandsAt doc (picked holds es)
@@ -79,28 +74,11 @@ picked_alike holds alike least (e ∷ es) ascend low same =
     let next = ascend.0 in
     rw (same e.doc low, picked_alike holds alike least es ascend.1 (omega (arith, low, next)) same) refl
 
--- dropping documents below a target loses none from it on
-has_from : (target doc : ℕ) (fs : List Entry) → target ≤ doc → has_doc (from_doc target fs) doc ≡ has_doc fs doc
-has_from target doc [] up = refl
-has_from target doc (f ∷ fs) up =
-    let later = has_from target doc fs up in
-    elim (leb_tells target f.doc) [
-      | inl h ↦ rw (h.0, later) refl
-      | inr h ↦ rw (h.0, ne_eqb f.doc doc (λ same. omega (arith, h.1, same))) later
-    ]
-
--- a document below the first isn't there
-pub has_below : (doc : ℕ) (fs : List Entry) → IsAscending fs → doc < doc_at fs → has_doc fs doc ≡ false
-has_below doc [] ascend low = refl
-has_below doc (f ∷ fs) ascend low =
-    let first = ascend.0 in
-    rw (ne_eqb f.doc doc (λ same. omega (arith, low, same))) (has_below doc fs ascend.1 (omega (arith, low, first)))
-
 -- the other list is dropped up to a document
 pub without_asked : (es asked told : List Entry) (doc : ℕ) → Asked es asked told doc → without es told ≡ without es asked
 without_asked es asked told doc h =
     let here = h.here in
-    ap (λ (docs : List ℕ). map document docs) (picked_alike (λ (d : ℕ). not (has_doc told d)) (λ (d : ℕ). not (has_doc asked d)) doc es h.ascending (omega (arith, here)) (λ d low. rw (h.left, has_from doc d asked low) refl))
+    ap (λ (docs : List ℕ). map document docs) (picked_alike (λ (d : ℕ). not (has_doc told d)) (λ (d : ℕ). not (has_doc asked d)) doc es h.ascending (omega (arith, here)) (λ d low. rw (h.left, has_doc-from_doc doc d asked low) refl))
 
 -- the other list begins with the document: it isn't left
 pub without_found : (es fs : List Entry) → doc_at es < TERMINATED → doc_at fs ≡ doc_at es → without (drop 1 es) fs ≡ without es fs
@@ -111,7 +89,7 @@ without_found (e ∷ es) (f ∷ fs) low same = rw (eq-eqb f.doc e.doc same) refl
 -- the other list begins above the document
 without_below : (es fs : List Entry) → IsAscending fs → doc_at es < doc_at fs → doc_at (without es fs) ≡ doc_at es
 without_below [] fs ascend low = refl
-without_below (e ∷ es) fs ascend low = rw (has_below e.doc fs ascend low) refl
+without_below (e ∷ es) fs ascend low = rw (has_doc_below e.doc fs ascend low) refl
 
 pub without_at : (es asked told : List Entry) (doc bound : ℕ) → Asked es asked told doc → bound ≡ doc_at told → doc_at told ≢ doc → doc_at (without es told) ≡ doc_at es
 without_at es asked told doc bound h first other =

@@ -5,6 +5,7 @@ use Rattle.std.proofs.lemmas.Bool.{and_parts, cases_lt}
 use Rattle.std.proofs.lemmas.List.{drop-drop, drop_all, take_all}
 use Rattle.ii_docset.specs.Cursor.{position_before}
 use Rattle.ii_codes.specs.Sums.{fit_u32, running_sums}
+use Rattle.ii_codes.proofs.LengthLemmas.{length-running_sums}
 
 -- sums from a place on are those from the sum before them on
 pub sums_from : (from offset : ℕ) (ds : List ℕ) → from ≤ length ds → drop from (running_sums offset ds) ≡ running_sums (get_or (offset ∷ running_sums offset ds) from 0) (drop from ds)
@@ -17,10 +18,6 @@ pub first_sums : (n offset : ℕ) (ds : List ℕ) → take n (running_sums offse
 first_sums zero offset ds = refl
 first_sums (suc n) offset [] = refl
 first_sums (suc n) offset (d ∷ ds) = ap (λ (xs : List ℕ). (offset + d) ∷ xs) (first_sums n (offset + d) ds)
-
-many_sums : (offset : ℕ) (ds : List ℕ) → length (running_sums offset ds) ≡ length ds
-many_sums offset [] = refl
-many_sums offset (d ∷ ds) = ap suc (many_sums (offset + d) ds)
 
 -- values in the middle of the first ones
 middle : (n count start from : ℕ) (ds : List ℕ) → n + from ≤ count → take n (drop from (take count (drop start ds))) ≡ take n (drop (start + from) ds)
@@ -86,7 +83,7 @@ piece_read deltas out start count from before many p =
     let many_is = p.many_is in
     let left = length-drop start deltas in
     let size = length-take count (drop start deltas) in
-    let sums = many_sums 0 (take count (drop start deltas)) in
+    let sums = length-running_sums 0 (take count (drop start deltas)) in
     let rest = length-drop from ps in
     elim (cases_lt (length out) (count - from)) [
       | inl few ↦
@@ -106,7 +103,7 @@ pub piece_length : (deltas : List ℕ) (start count : ℕ) → start + count ≤
 piece_length deltas start count inside =
     let left = length-drop start deltas in
     let size = length-take count (drop start deltas) in
-    let sums = many_sums 0 (take count (drop start deltas)) in
+    let sums = length-running_sums 0 (take count (drop start deltas)) in
     omega (arith, inside, left, size, sums)
 
 -- nothing is read from the end on

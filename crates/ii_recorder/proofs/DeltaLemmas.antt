@@ -35,10 +35,6 @@ last_of_all : (ps : List ℕ) → last_from 0 ps ≡ last_position ps
 last_of_all [] = refl
 last_of_all (q ∷ qs) = sym (last_is q qs)
 
-pub all_push : {A : Type 0} (P : A → Type 0) (xs : List A) (x : A) → AllByRecursion P xs → P x → AllByRecursion P (xs ++ x ∷ [])
-all_push P [] x h last = (last, tt)
-all_push P (y ∷ ys) x h last = (h.0, all_push P ys x h.1 last)
-
 abbrev Fit : List ℕ → Type 0
 Fit ps = AllByRecursion (λ p. p < 2 ^ 32) ps
 

@@ -87,10 +87,6 @@ fewer_behind [] = omega arith
 fewer_behind (zero ∷ ns) = omega arith
 fewer_behind (suc p ∷ ns) = let rest = fewer_behind ns in omega (arith, rest)
 
-pub length_sums : (before : ℕ) (ds : List ℕ) → length (running_sums before ds) ≡ length ds
-length_sums before [] = refl
-length_sums before (d ∷ ds) = ap suc (length_sums (before + d) ds)
-
 -- documents by their deltas: those before the last one, and the last one
 pub sums_split : (before d : ℕ) (ds : List ℕ) → running_sums before (d ∷ ds) ≡ take (length ds) (running_sums before (d ∷ ds)) ++ (before + sum (d ∷ ds)) ∷ []
 sums_split before d [] =

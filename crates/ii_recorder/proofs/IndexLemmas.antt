@@ -18,7 +18,7 @@ use Rattle.ii_recorder.specs.TermPlaces.{TermPlacesState, with_term}
 use Rattle.ii_recorder.specs.FieldTerms.{EndsTerm, HasTerms, bytes_of, term_under}
 use Rattle.ii_recorder.specs.IndexSerializer.{IndexSerializerState, IsWriting}
 use Rattle.ii_recorder.specs.IndexBodies.{IndexBodiesState, AddsBodies, AddsBytes, AddsMore}
-use Rattle.ii_recorder.proofs.DeltaLemmas.{all_push}
+use Rattle.ii_layout.proofs.BoundLemmas.{all_push}
 
 -- a body with more bytes
 body_more : (initial old new : CompositeWriteState) (field : ℕ) (xs ys : List ℕ) → AddsBody initial old field xs → AddsBytes old new ys → AddsBody initial new field (xs ++ ys)

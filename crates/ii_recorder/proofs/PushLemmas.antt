@@ -1,7 +1,7 @@
 -- Entries that are pushed one after the other.
 use Rattle.std.proofs.Common.{◌^◌, ◌≡◌, ℕ, ◌+◌, ◌-◌, ◌<◌, ◌≤◌, Bool, true, false, if◌then◌else◌, List, [], ◌∷◌, ◌++◌, length, take, Result, Ok, Err, is_err, refl, sym, ap, subst, ◌∙◌, arith, append_assoc, length-append, ⊎_elim}
 use Rattle.std.proofs.lemmas.Bool.{and_parts, cases_lt, ltb-true}
-use Rattle.std.specs.Prelude.{◌&&◌, nat_le, nat_lt, Option, IsTrue, IsErrOf, OnOk}
+use Rattle.std.specs.Prelude.{◌&&◌, nat_le, nat_lt, Option, IsTrue, IsErrOf}
 use Rattle.std.specs.List.{AllByRecursion}
 use Rattle.std.proofs.lemmas.Grind.{flat_map-append}
 use Rattle.std.proofs.lemmas.List.{map-append, take-append-le}
@@ -212,10 +212,6 @@ all_at P (x ∷ xs) e more h = all_at P xs e more h.1
 -- what holds of all entries holds of the next one
 pub pushing_each : (P : Entry → Type 0) (option : IndexRecordOption) (s b : IndexSerializerState) (es rest : List Entry) (e : Entry) (more : List Entry) → IsPushing option s b es rest → rest ≡ e ∷ more → AllByRecursion P es → P e
 pushing_each P option s b es rest e more h is all = all_at P h.done e more (subst (AllByRecursion P) (h.parts ∙ ap (λ (xs : List Entry). h.done ++ xs) is) all)
-
-pub went_ok : {A : Type 0} (result : Result (Unit {0}) Fault) → false ≡ is_err result → OnOk result A → A
-went_ok (Ok u) went h = h
-went_ok (Err e) went h = absurd (cc)
 
 -- what was written of a field stays as it is
 pub writing_pushed : (option : IndexRecordOption) (initial : IndexBodiesState) (s : IndexSerializerState) (es : List Entry) (field tokens : ℕ) (norms : Option Norms) (ts : List WrittenTerm) (pending : List (List ℕ)) → IsWriting initial s field tokens norms ts pending

@@ -13,10 +13,12 @@ use Rattle.ii_recorder.specs.Gathered.{Gathered, counts_in, counts_state, docs_b
 use Rattle.ii_recorder.specs.Kept.{IsCount, IsLastDoc, IsLocated, KeepsCounts, KeepsDocs, KeepsPositions}
 use Rattle.ii_recorder.specs.Recorded.{RecorderState, begun, current_doc, entries_of_recorder, last_doc, last_position, u32_max, with_position}
 use Rattle.ii_recorder.specs.VintRows.{numbers}
-use Rattle.ii_recorder.proofs.DeltaLemmas.{all_push, last_position_more, located_more}
-use Rattle.ii_recorder.proofs.GatheredLemmas.{gathered_more, length_sums, sum_more, sums_more, sums_split}
+use Rattle.ii_recorder.proofs.DeltaLemmas.{last_position_more, located_more}
+use Rattle.ii_recorder.proofs.GatheredLemmas.{gathered_more, sum_more, sums_more, sums_split}
 use Rattle.ii_recorder.proofs.RecorderLemmas.{above_last, all_closed, closed_alone, count_begun, count_closed, count_moved, last_begun, last_closed, last_doc_push, last_moved, same_closed}
 use Rattle.ii_recorder.proofs.VintRowLemmas.{begins, longer}
+use Rattle.ii_codes.proofs.LengthLemmas.{length-running_sums}
+use Rattle.ii_layout.proofs.BoundLemmas.{all_push}
 
 if_some : {X : Type 0} (P : X → Type 0) (o : Option X) (x : X) → IfSome o P → o ≡ Some x → P x
 if_some P None x h e = absurd (cc)
@@ -35,7 +37,7 @@ docs_parts : (ns : List ℕ) → 0 < length ns → docs_by_deltas ns ≡ map doc
 docs_parts ns some = ap (map document) (docs_split ns some) ∙ map-append document (take (length ns - 1) (running_sums 0 ns)) (sum ns ∷ [])
 
 docs_all : (ns : List ℕ) → take (length ns) (running_sums 0 ns) ≡ running_sums 0 ns
-docs_all ns = take_all (length ns) (running_sums 0 ns) (omega (arith, length_sums 0 ns))
+docs_all ns = take_all (length ns) (running_sums 0 ns) (omega (arith, length-running_sums 0 ns))
 
 docs_by : (ns : List ℕ) (b : Bool) → (b ≡ true → 0 < length ns) → entries_of_recorder (docs_read ns b) ≡ docs_by_deltas ns
 docs_by ns false some = append-nil (map document (take (length ns) (running_sums 0 ns))) ∙ ap (map document) (docs_all ns)
@@ -63,7 +65,7 @@ low_by (d ∷ ds) last doc is above =
 docs_opened : (ns : List ℕ) (doc : ℕ) → sum ns ≤ doc → docs_read (ns ++ (doc - sum ns) ∷ []) true ≡ record { option = Basic; closed = docs_by_deltas ns; pending = Some (document doc) }
 docs_opened ns doc low =
     let ms = ns ++ (doc - sum ns) ∷ [] in
-    let place : length ms - 1 ≡ length (running_sums 0 ns) = omega (arith, length-append ns ((doc - sum ns) ∷ []), length_sums 0 ns) in
+    let place : length ms - 1 ≡ length (running_sums 0 ns) = omega (arith, length-append ns ((doc - sum ns) ∷ []), length-running_sums 0 ns) in
     let total : sum ms ≡ doc = omega (arith, low, sum_more ns (doc - sum ns)) in
     let front = ap (take (length ms - 1)) (sums_more 0 ns (doc - sum ns)) ∙ ap (λ (k : ℕ). take k (running_sums 0 ns ++ (0 + sum ns + (doc - sum ns)) ∷ [])) place ∙ take-append_seam (running_sums 0 ns) ((0 + sum ns + (doc - sum ns)) ∷ []) in
     ap (λ (xs : List ℕ). record { option = Basic; closed = map document xs; pending = Some (document (sum ms)) }) front ∙ ap (λ (n : ℕ). record { option = Basic; closed = docs_by_deltas ns; pending = Some (document n) }) total

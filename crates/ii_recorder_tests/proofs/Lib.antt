@@ -1,2 +1,2 @@
-mod FirstKey
+mod FirstDocs
 mod RecordedTermLemmas

@@ -4,3 +4,4 @@ pub mod SearchLemmas
 pub mod WriterLemmas
 pub mod ReadDictionaryLemmas
 pub mod OrderLemmas
+pub mod FirstKey

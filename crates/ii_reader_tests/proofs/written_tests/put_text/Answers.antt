@@ -1,6 +1,6 @@
 use Rattle.std.proofs.Common.{ap, ◌∙◌}
 use Rattle.ii_recorder.specs.OpenTerm.{OpenTermState}
-use Rattle.ii_reader_tests.proofs.FirstKey.{first_ascends}
+use Rattle.ii_termdict.proofs.FirstKey.{first_ascends}
 use Rattle.ii_reader_tests.proofs.written_tests.put_text.Goals as goal
 
 pub new_term-requires-clause-ascending : goal.new_term-requires-clause-ascending

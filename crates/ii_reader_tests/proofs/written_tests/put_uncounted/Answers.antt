@@ -1,7 +1,7 @@
 use Rattle.std.proofs.Common.{ap, ◌∙◌}
 use Rattle.ii_recorder.specs.IndexSerializer.{IndexSerializerState}
 use Rattle.ii_recorder.specs.OpenTerm.{OpenTermState}
-use Rattle.ii_reader_tests.proofs.FirstKey.{first_ascends}
+use Rattle.ii_termdict.proofs.FirstKey.{first_ascends}
 use Rattle.ii_reader_tests.proofs.written_tests.put_uncounted.Goals as goal
 
 pub new_term_without_freq-requires-clause-ascending : goal.new_term_without_freq-requires-clause-ascending

@@ -3,7 +3,7 @@ use Rattle.ii_base.specs.Schema.{SchemaEntry}
 use Rattle.ii_definitions.specs.Fields.{option_of}
 use Rattle.ii_recorder.specs.IndexSerializer.{IndexSerializerState}
 use Rattle.ii_recorder.specs.OpenTerm.{OpenTermState}
-use Rattle.ii_recorder_tests.proofs.FirstKey.{first_ascends}
+use Rattle.ii_termdict.proofs.FirstKey.{first_ascends}
 use Rattle.ii_recorder_tests.proofs.RecordedTermLemmas.{held_as, none_lacking, still_writing, term_is}
 use Rattle.ii_recorder_tests.proofs.recorder_tests.write_recorder.Goals as goal
 

@@ -1,7 +1,8 @@
 use Rattle.std.proofs.Common.{arith, sym, ap, ◌∙◌, List, ℕ, ◌∷◌, [], ◌++◌}
 use Rattle.ii_recorder.specs.IndexSerializer.{IndexSerializerState}
 use Rattle.ii_recorder.specs.OpenTerm.{OpenTermState}
-use Rattle.ii_recorder_tests.proofs.FirstKey.{first_ascends, next_ascends, next_doc}
+use Rattle.ii_recorder_tests.proofs.FirstDocs.{next_ascends, next_doc}
+use Rattle.ii_termdict.proofs.FirstKey.{first_ascends}
 use Rattle.ii_recorder_tests.proofs.refusal_tests.sum_closes.Goals as goal
 
 pub new_term-requires-clause-ascending : goal.new_term-requires-clause-ascending

@@ -1,4 +1,4 @@
-use Rattle.ii_recorder_tests.proofs.FirstKey.{first_ascends}
+use Rattle.ii_termdict.proofs.FirstKey.{first_ascends}
 use Rattle.ii_recorder_tests.proofs.refusal_tests.term_closes.Goals as goal
 
 pub new_term_without_freq-requires-clause-ascending : goal.new_term_without_freq-requires-clause-ascending

@@ -1,5 +1,5 @@
 use Rattle.std.proofs.Common.{◌≡◌, false, true, None}
-use Rattle.ii_recorder_tests.proofs.FirstKey.{first_docs}
+use Rattle.ii_recorder_tests.proofs.FirstDocs.{first_docs}
 use Rattle.ii_recorder_tests.proofs.tests.write_often.Given as goal
 
 abbrev pub invariant-loop-doc : goal.invariant-loop-doc

@@ -3,8 +3,9 @@ use Rattle.ii_base.specs.Entries.{Entry}
 use Rattle.ii_base.specs.declared.schema.index_record_option.IndexRecordOption.TheVariants.{WithFreqsAndPositions}
 use Rattle.ii_recorder.specs.Gathered.{all_of, behind_positions, first_positions, gathered, located_at, none_after, positions_in, with_number}
 use Rattle.ii_recorder.proofs.GatheredLemmas.{fewer_behind, positions_left}
-use Rattle.ii_recorder.proofs.PushLemmas.{pushing_below, pushing_each, pushing_may, pushing_next, pushing_refused, went_ok}
+use Rattle.ii_recorder.proofs.PushLemmas.{pushing_below, pushing_each, pushing_may, pushing_next, pushing_refused}
 use Rattle.ii_recorder.proofs.recorder.tf_and_position_recorder.push_located_docs.Goals as goal
+use Rattle.ii_io.specs.CountingWriterLemmas.{on_ok_went}
 
 pub overflow_add-doc : goal.overflow_add-doc
 overflow_add-doc g c =
@@ -55,7 +56,7 @@ returns-then-is_err-2-clause-pushes g c =
 pub loop-delta-smaller : goal.loop-delta-smaller
 loop-delta-smaller g c =
     let went = sym c.if-is_err-2.false ∙ c.is_err-in-Some.ensures.value in
-    let behind = went_ok c.push_located_doc-pushed.result went c.push_located_doc-pushed.ensures.rest in
+    let behind = on_ok_went c.push_located_doc-pushed.result went c.push_located_doc-pushed.ensures.rest in
     let fewer = fewer_behind c.next.new.self in
     rw (behind, c.in-Some.ensures.steps) (omega (arith, fewer))
 
@@ -67,7 +68,7 @@ loop-delta-preserved g c =
     let all = all_of (positions_in c.args.numbers.now) in
     let left = positions_left last delta c.loop-delta.numbers rest c.in-Some.ensures.steps in
     let went = sym c.if-is_err-2.false ∙ c.is_err-in-Some.ensures.value in
-    let behind = went_ok c.push_located_doc-pushed.result went c.push_located_doc-pushed.ensures.rest in
+    let behind = on_ok_went c.push_located_doc-pushed.result went c.push_located_doc-pushed.ensures.rest in
     let next = pushing_next WithFreqsAndPositions c.args.serializer.now.index.now c.loop-delta.serializer.index.now c.push_located_doc-pushed.new.serializer.index.now
     all (all_of (gathered with_number (none_after last) c.loop-delta.numbers)) (located_at (last + delta) (first_positions rest)) (all_of (gathered with_number (none_after (last + delta)) (behind_positions rest)))
     c.push_located_doc-pushed.result c.loop-delta.invariant.3 left went c.push_located_doc-pushed.ensures.pushes in

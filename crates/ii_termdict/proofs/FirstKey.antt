@@ -1,4 +1,4 @@
--- The first key of a field.
+-- The first key of a dictionary.
 use Rattle.std.proofs.Common.{◌≡◌, ℕ, List, [], ◌∷◌, ◌++◌}
 use Rattle.std.specs.List.Sorted.{IsStrictlySortedBy}
 use Rattle.ii_termdict.specs.ReadBack.{AreAscending}

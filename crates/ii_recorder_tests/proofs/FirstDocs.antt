@@ -1,16 +1,7 @@
--- The first key of a field.
+-- Documents from the first one on.
 use Rattle.std.proofs.Common.{◌≡◌, ℕ, zero, suc, ◌+◌, ◌<◌, ◌≤◌, true, List, [], ◌∷◌, ◌++◌, refl, sym, ap, ◌∙◌, arith}
 use Rattle.std.proofs.lemmas.Bool.{le-leb, lt-ltb}
 use Rattle.ii_base.specs.Entries.{ascend_from, are_documents}
-use Rattle.std.specs.List.Sorted.{IsStrictlySortedBy}
-use Rattle.ii_termdict.specs.ReadBack.{AreAscending}
-
-one_ascends : (key : List ℕ) → AreAscending (key ∷ [])
-unfolding IsStrictlySortedBy
-one_ascends key = (tt, tt)
-
-pub first_ascends : (keys : List (List ℕ)) (key : List ℕ) → keys ≡ [] → AreAscending (keys ++ key ∷ [])
-first_ascends keys key e = rw e (one_ascends key)
 
 -- so many documents from one on
 abbrev pub first_docs : ℕ → ℕ → List ℕ
