@@ -1,10 +1,14 @@
-//! Tests of `ii_base` and `ii_json`, by their public calls.
+//! Tests of `ii_store`, `ii_io`, `ii_base` and `ii_json`, by their public calls.
 #![tactic(auto)]
 
+#[cfg(test)]
+mod io_tests;
 #[cfg(test)]
 mod json_tests;
 #[cfg(test)]
 mod leaf_tests;
+#[cfg(test)]
+mod store_tests;
 #[cfg(test)]
 mod tests;
 #[cfg(test)]

@@ -1,9 +1,23 @@
-//! Tests of `ii_layout`, by its public calls.
+//! Tests of `ii_codes`, `ii_layout`, `ii_termstore` and `ii_termdict`, by their public calls.
 #![tactic(auto)]
 
 #[cfg(test)]
+mod bitpacker_tests;
+#[cfg(test)]
+mod block_search_tests;
+#[cfg(test)]
 mod bounds_tests;
+#[cfg(test)]
+mod dictionary_tests;
+#[cfg(test)]
+mod packed_tests;
+#[cfg(test)]
+mod plain_tests;
 #[cfg(test)]
 mod positions_tests;
 #[cfg(test)]
+mod store_tests;
+#[cfg(test)]
 mod tests;
+#[cfg(test)]
+mod vint_tests;

@@ -25,9 +25,9 @@ use Rattle.ii_postings_writer.specs.TermLimits.{AreWithin}
 use Rattle.ii_postings_writer.specs.SortedTerms.{norms_in, IsTold, SortedTerm, state_of, terms_in}
 use Rattle.ii_recorder.specs.HeldTerms.{HoldsTerms}
 use Rattle.ii_postings_writer.specs.declared.sorted_terms.TermOfField.{TermOfField}
-use Rattle.ii_recorder.proofs.DeltaLemmas.{all_push}
 use Rattle.ii_io.proofs.CompositeStartLemmas.{length-starts_from}
 use Rattle.ii_fieldnorm.specs.Readers.{Norms}
+use Rattle.ii_layout.proofs.BoundLemmas.{all_push}
 
 pushed_body : (body : FieldPart → Body) (initial : CountingWriterState) (c : CompositeWriteState) (fs : List FieldPart) (p : FieldPart) → HasBodies initial c (map body fs ++ body p ∷ []) → HasBodies initial c (map body (fs ++ p ∷ []))
 pushed_body body initial c fs p has = subst (HasBodies initial c) (sym (map-append body fs (p ∷ []))) has

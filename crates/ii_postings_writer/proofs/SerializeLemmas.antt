@@ -23,8 +23,8 @@ use Rattle.ii_recorder.specs.Pushed.{FillTooLarge, HaveDeltas, pushed_freqs, wit
 use Rattle.ii_recorder.specs.Recorded.{RecorderState, entries_of_recorder}
 use Rattle.ii_recorder.specs.Terms.{WrittenTerm}
 use Rattle.ii_postings_writer.specs.SortedTerms.{IsTold, IsWritable, state_of, written_term}
-use Rattle.ii_recorder.proofs.DeltaLemmas.{all_push}
 use Rattle.ii_fieldnorm.specs.Readers.{Norms}
+use Rattle.ii_layout.proofs.BoundLemmas.{all_push}
 
 -- documents that are pushed change nothing of what is written
 pub pushed_writing : (option : IndexRecordOption) (es : List Entry) (initial : IndexBodiesState) (s new : IndexSerializerState) (field tokens : ℕ) (norms : Option Norms) (ts : List WrittenTerm) (pending : List (List ℕ))

@@ -1,0 +1,2 @@
+mod FirstDocs
+mod RecordedTermLemmas

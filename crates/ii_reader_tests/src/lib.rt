@@ -1,8 +1,10 @@
-//! Tests of the cursors and the look-ups of `ii_reader`, by its public calls.
+//! Tests of `ii_recorder`, and of the cursors and the look-ups of `ii_reader`, by their public calls.
 #![tactic(auto)]
 
 #[cfg(test)]
 mod bound_tests;
+#[cfg(test)]
+mod buffer_tests;
 #[cfg(test)]
 mod cursor_tests;
 #[cfg(test)]
@@ -13,6 +15,12 @@ mod json_tests;
 mod list_tests;
 #[cfg(test)]
 mod position_tests;
+#[cfg(test)]
+mod recorder_tests;
+#[cfg(test)]
+mod refusal_tests;
+#[cfg(test)]
+mod serializer_tests;
 #[cfg(test)]
 mod tests;
 #[cfg(test)]

@@ -6,11 +6,11 @@ use Rattle.ii_docset.specs.Cursor.{IsAscending}
 use Rattle.ii_base.specs.Entries.{Entry}
 use Rattle.ii_docset.specs.Intersection.{has_doc}
 use Rattle.ii_query.proofs.CommonLemmas.{has_first}
-use Rattle.ii_query.proofs.PickedLemmas.{has_below}
+use Rattle.ii_docset.proofs.IntersectionLemmas.{has_doc_below}
 
 -- a list that begins with a greater one hasn't
 later_has : (e f : Entry) (es fs : List Entry) → IsAscending (f ∷ fs) → e.doc < f.doc → has_doc (e ∷ es) e.doc ≡ has_doc (f ∷ fs) e.doc → ⊥
-later_has e f es fs ascend low same = true≢false (sym (has_first e es) ∙ same ∙ has_below e.doc (f ∷ fs) ascend low)
+later_has e f es fs ascend low same = true≢false (sym (has_first e es) ∙ same ∙ has_doc_below e.doc (f ∷ fs) ascend low)
 
 same_first : (e f : Entry) (es fs : List Entry) → IsAscending (e ∷ es) → IsAscending (f ∷ fs) → ((doc : ℕ) → has_doc (e ∷ es) doc ≡ has_doc (f ∷ fs) doc) → e.doc ≡ f.doc
 same_first e f es fs first other same = elim (leb_tells e.doc f.doc) [
@@ -27,7 +27,7 @@ same_later e f es fs doc first other at same = elim (eqb_tells e.doc doc) [
       let here = h.1 in
       let one = first.0 in
       let two = other.0 in
-      has_below doc es first.1 (omega (arith, here, one)) ∙ sym (has_below doc fs other.1 (omega (arith, here, at, two)))
+      has_doc_below doc es first.1 (omega (arith, here, one)) ∙ sym (has_doc_below doc fs other.1 (omega (arith, here, at, two)))
   | inr h ↦ rw (h.0, ne_eqb f.doc doc (λ is. h.1 (at ∙ is))) at same
 ]
 

@@ -1,2 +1,0 @@
-mod FirstDocs
-mod RecordedTermLemmas

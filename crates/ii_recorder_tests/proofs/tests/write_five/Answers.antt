@@ -1,5 +1,0 @@
-use Rattle.ii_termdict.proofs.FirstKey.{first_ascends}
-use Rattle.ii_recorder_tests.proofs.tests.write_five.Goals as goal
-
-pub new_term_without_freq-requires-clause-ascending : goal.new_term_without_freq-requires-clause-ascending
-new_term_without_freq-requires-clause-ascending g c = λ _. first_ascends c.in_ok-field.field.index.now.field.places.keys _ c.in_ok-field.ensures.begins.terms.keys
