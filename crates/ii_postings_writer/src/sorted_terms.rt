@@ -44,11 +44,16 @@ impl TermRecorders {
 fn compare(flags: &[bool], ranks: &[OrderedPathId], left: &[u8], right: &[u8]) -> Ordering
     ensures { result ≡ held_cmp flags.now ranks.now left.now right.now }
 {
-    let (left_id, right_id) = (path_id_in(flags, left), path_id_in(flags, right));
     let fields = front_of(left).cmp(front_of(right));
+    if fields.is_ne() {
+        return fields;
+    }
+    let (left_id, right_id) = (path_id_in(flags, left), path_id_in(flags, right));
     let paths = rank_of(ranks, left_id).cmp(&rank_of(ranks, right_id));
-    let values = behind_id(left_id, left).cmp(behind_id(right_id, right));
-    fields.then(paths).then(values)
+    if paths.is_ne() {
+        return paths;
+    }
+    behind_id(left_id, left).cmp(behind_id(right_id, right))
 }
 
 // The bytes of a term's field.
