@@ -160,8 +160,3 @@ pub opened_tells : (ps : List Piece) (ts : List IndexToken) (s : OpenDocumentsSt
 opened_tells ps ts s field doc last found above behind h =
     each_field (λ (f : ℕ) (d : OpenDocument) (ids : Option (List ℕ)). Tells f ps ts d ids) s field last (empty_document doc)
     (tells_opened field ps ts last doc (buffer_of field s.norms) above (behind field last found) (h field last found)) h
-
-pub found_at : {A : Type 0} (xs : List A) (i : ℕ) (x : A) → i < length xs → x ≡ get_or xs i x → slice_get xs i ≡ Some x
-found_at [] i x inside is = absurd (omega (arith, inside))
-found_at (y ∷ xs) zero x inside is = ap (λ z. Some z) (sym is)
-found_at (y ∷ xs) (suc i) x inside is = found_at xs i x (omega (arith, inside)) is

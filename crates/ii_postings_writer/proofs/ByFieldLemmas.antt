@@ -1,5 +1,5 @@
 -- Terms that are put to their fields one after the other.
-use Rattle.std.proofs.Common.{add-one, eq-eqb, append-nil, zero-add, cond, ◌≡◌, ℕ, zero, suc, ◌+◌, ◌≤◌, ◌<◌, Bool, true, false, List, [], ◌∷◌, ◌++◌, length, map, take, drop, replicate, slice_index_or, slice_set, nat_eq, refl, sym, ap, ◌∙◌, subst, arith, Some}
+use Rattle.std.proofs.Common.{add-one, eq-eqb, append-nil, zero-add, cond, ◌≡◌, ℕ, zero, suc, ◌+◌, ◌≤◌, ◌<◌, Bool, true, false, List, [], ◌∷◌, ◌++◌, length, map, take, drop, replicate, slice_index_or, slice_set, get_or, nat_eq, refl, sym, ap, ◌∙◌, subst, arith, Some}
 use Rattle.std.specs.Prelude.{slice_get, filter, Vec}
 use Rattle.std.specs.List.{AllByRecursion, range_with_len}
 use Rattle.std.proofs.lemmas.Bool.{ne_eqb}
@@ -7,14 +7,14 @@ use Rattle.std.proofs.lemmas.List.{map-append}
 use Rattle.std.proofs.lemmas.List.Elements.{filter-append}
 use Rattle.std.proofs.lemmas.List.FromFn.{get_or-map-range_with_len, length-map-range_with_len}
 use Rattle.std.proofs.lemmas.Option.{slice_get-map}
-use Rattle.ii_recorder.specs.AnyRecorder.{any_state}
 use Rattle.std.specs.Option.{option_map}
 use Rattle.ii_recorder.specs.declared.recorder.any_recorder.AnyRecorder.{AnyRecorder}
 use Rattle.ii_recorder.specs.Recorded.{RecorderState}
 use Rattle.ii_postings_writer.specs.IndexingContext.{TermIndex}
 use Rattle.ii_postings_writer.specs.IndexingTerm.{field_in}
 use Rattle.ii_postings_writer.specs.ResolvedTerms.{behind_id, key_with, path_id_in, resolved, resolved_terms}
-use Rattle.ii_postings_writer.specs.SortedTerms.{IsTermBelow, SortedTerm, seen, term_of, terms_in}
+use Rattle.ii_postings_writer.specs.declared.sorted_terms.KeptTerm.{KeptTerm}
+use Rattle.ii_postings_writer.specs.SortedTerms.{IsTermBelow, SortedTerm, kept_state, seen, term_of, terms_in}
 
 module _ {X : Type 0} (f g : ℕ → X) where
   same_above : (at first n : ℕ) → at < first → ((k : ℕ) → (k ≡ at → ⊥) → g k ≡ f k) → map f (range_with_len first n) ≡ map g (range_with_len first n)
@@ -81,30 +81,43 @@ take_one_more [] k x at = absurd (cc)
 take_one_more (y ∷ ys) zero x at = let same : y ≡ x = cc in ap (λ z. z ∷ []) same
 take_one_more (y ∷ ys) (suc k) x at = ap (λ zs. y ∷ zs) (take_one_more ys k x at)
 
--- each entry of a term map lies in one of the fields
-pub seen_at : {A : Type 0} (n : ℕ) (es : List (Vec ℕ A × AnyRecorder)) (k : ℕ) (e : Vec ℕ A × AnyRecorder) → AllByRecursion (IsTermBelow n) (map seen es) → slice_get es k ≡ Some e → IsTermBelow n (seen e)
-seen_at n es k e all at = all_at (IsTermBelow n) (map seen es) k (seen e) all (slice_get-map seen es k ∙ ap (option_map seen) at)
+-- the terms of a map that were lent, and one more
+pub lent_more : {A : Type 0} (es : List (Vec ℕ A × AnyRecorder)) (k : ℕ) (e : Vec ℕ A × AnyRecorder) (ts new : List KeptTerm) (t : KeptTerm) → slice_get es k ≡ Some e → map kept_state ts ≡ map seen (take k es) → new ≡ ts ++ t ∷ [] → kept_state t ≡ seen e
+    → map kept_state new ≡ map seen (take (k + 1) es)
+lent_more es k e ts new t at before new_is same =
+    ap (map kept_state) new_is ∙ map-append kept_state ts (t ∷ []) ∙ (λ j. before j ++ same j ∷ [])
+    ∙ sym (ap (map seen) (ap (λ (m : ℕ). take m es) (add-one k) ∙ take_one_more es k e at) ∙ map-append seen (take k es) (e ∷ []))
+
+-- what is read at a place stands there
+pub got_at : {X : Type 0} (xs : List X) (k : ℕ) (x : X) → k < length xs → x ≡ get_or xs k x → slice_get xs k ≡ Some x
+got_at [] k x within is = absurd (omega (arith, within))
+got_at (y ∷ ys) zero x within is = ap Some (sym is)
+got_at (y ∷ ys) (suc k) x within is = got_at ys k x (omega (arith, within)) is
+
+-- each term lies in one of the fields
+pub kept_at : {E : Type 0} (state : E → List ℕ × RecorderState) (n : ℕ) (es : List E) (k : ℕ) (e : E) → AllByRecursion (IsTermBelow n) (map state es) → slice_get es k ≡ Some e → IsTermBelow n (state e)
+kept_at state n es k e all at = all_at (IsTermBelow n) (map state es) k (state e) all (slice_get-map state es k ∙ ap (option_map state) at)
 
 -- the field of a term is that of its key
 pub resolved_field : (flags : List Bool) (paths : List (List ℕ)) (term : List ℕ) → 4 ≤ length term → field_in (resolved flags paths term) ≡ field_in term
 resolved_field flags paths term long = front_field term (key_with paths (path_id_in flags term) (behind_id flags term)) long
 
 -- the lists of the fields once a term was added to its own
-pub added : {A : Type 0} (flags : List Bool) (paths : List (List ℕ)) (n : ℕ) (es : List (Vec ℕ A × AnyRecorder)) (k : ℕ) (e : Vec ℕ A × AnyRecorder) (fields new : List (List SortedTerm)) (bytes : List ℕ) → slice_get es k ≡ Some e
-    → AllByRecursion (IsTermBelow n) (map seen es) → bytes ≡ e.0.items → fields ≡ lists_of n (resolved_terms flags paths (map seen (take k es)))
-    → new ≡ slice_set fields (field_in bytes) (slice_index_or fields (field_in bytes) [] ++ record { key = drop 4 (resolved flags paths bytes); recorder = any_state e.1 } ∷ [])
-    → new ≡ lists_of n (resolved_terms flags paths (map seen (take (k + 1) es)))
-added flags paths n es k e fields new bytes at all same known put =
-    let t : List ℕ × RecorderState = (resolved flags paths e.0.items, any_state e.1) in
-    let terms = resolved_terms flags paths (map seen (take k es)) in
-    let more : resolved_terms flags paths (map seen (take (k + 1) es)) ≡ terms ++ t ∷ [] =
-    ap (resolved_terms flags paths) (ap (map seen) (ap (λ (m : ℕ). take m es) (add-one k) ∙ take_one_more es k e at) ∙ map-append seen (take k es) (e ∷ []))
-    ∙ map-append (λ (u : List ℕ × RecorderState). (resolved flags paths u.0, u.1)) (map seen (take k es)) (seen e ∷ []) in
-    let below = seen_at n es k e all at in
-    let field : field_in t.0 ≡ field_in e.0.items = resolved_field flags paths e.0.items below.long in
+pub added : {E : Type 0} (state : E → List ℕ × RecorderState) (flags : List Bool) (paths : List (List ℕ)) (n : ℕ) (es : List E) (k : ℕ) (e : E) (fields new : List (List SortedTerm)) → slice_get es k ≡ Some e
+    → AllByRecursion (IsTermBelow n) (map state es) → fields ≡ lists_of n (resolved_terms flags paths (map state (take k es)))
+    → new ≡ slice_set fields (field_in (state e).0) (slice_index_or fields (field_in (state e).0) [] ++ record { key = drop 4 (resolved flags paths (state e).0); recorder = (state e).1 } ∷ [])
+    → new ≡ lists_of n (resolved_terms flags paths (map state (take (k + 1) es)))
+added state flags paths n es k e fields new at all known put =
+    let t : List ℕ × RecorderState = (resolved flags paths (state e).0, (state e).1) in
+    let terms = resolved_terms flags paths (map state (take k es)) in
+    let more : resolved_terms flags paths (map state (take (k + 1) es)) ≡ terms ++ t ∷ [] =
+    ap (resolved_terms flags paths) (ap (map state) (ap (λ (m : ℕ). take m es) (add-one k) ∙ take_one_more es k e at) ∙ map-append state (take k es) (e ∷ []))
+    ∙ map-append (λ (u : List ℕ × RecorderState). (resolved flags paths u.0, u.1)) (map state (take k es)) (state e ∷ []) in
+    let below = kept_at state n es k e all at in
+    let field : field_in t.0 ≡ field_in (state e).0 = resolved_field flags paths (state e).0 below.long in
     let put_at : slice_set (lists_of n terms) (field_in t.0) (slice_index_or (lists_of n terms) (field_in t.0) [] ++ term_of t ∷ []) ≡ lists_of n (terms ++ t ∷ []) = one_more n terms t (omega (arith, field, below.known)) in
     let at_field = subst (λ (f : ℕ). slice_set (lists_of n terms) f (slice_index_or (lists_of n terms) f [] ++ term_of t ∷ []) ≡ lists_of n (terms ++ t ∷ [])) field put_at in
-    rw (put, same, known, more) at_field
+    rw (put, known, more) at_field
 
-pub known_at : (n : ℕ) (t : List ℕ × RecorderState) (terms : TermIndex) (fields : List (List SortedTerm)) (bytes : List ℕ) → IsTermBelow n t → bytes ≡ t.0 → fields ≡ lists_of n terms → field_in bytes < length fields
-known_at n t terms fields bytes below same known = rw (same, known, length-map-range_with_len (λ (field : ℕ). terms_in field terms) 0 n) below.known
+pub known_at : (n : ℕ) (t : List ℕ × RecorderState) (terms : TermIndex) (fields : List (List SortedTerm)) → IsTermBelow n t → fields ≡ lists_of n terms → field_in t.0 < length fields
+known_at n t terms fields below known = rw (known, length-map-range_with_len (λ (field : ℕ). terms_in field terms) 0 n) below.known

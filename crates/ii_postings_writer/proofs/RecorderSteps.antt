@@ -1,5 +1,5 @@
 -- What a recorder has after one more position of a document that isn't below its last one.
-use Rattle.std.proofs.Common.{◌≡◌, ◌≢◌, ℕ, ◌-◌, ◌<◌, ◌≤◌, ◌==◌, Bool, true, false, List, [], ◌∷◌, ◌++◌, nat_le, nat_lt, ◌+◌, refl, sym, ap, arith, ◌∙◌, Some, None, Option, Ok, Err, Result, inl, inr, subst}
+use Rattle.std.proofs.Common.{◌≡◌, ◌≢◌, ℕ, ◌<◌, ◌≤◌, ◌==◌, Bool, true, false, List, [], ◌∷◌, ◌++◌, nat_le, nat_lt, ◌+◌, refl, sym, ap, arith, ◌∙◌, Some, None, Option, Ok, Err, Result, inl, inr, subst}
 use Rattle.std.specs.Prelude.{unwrap_or, IsTrue, IfErr, IfSome, MatchOption}
 use Rattle.std.specs.Option.{option_to_list}
 use Rattle.std.proofs.lemmas.List.{map-append}

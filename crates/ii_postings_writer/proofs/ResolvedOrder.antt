@@ -4,10 +4,15 @@ use Rattle.std.specs.Prelude.{MatchOption, bytes_eq, ⊤}
 use Rattle.std.specs.Cmp.{IsStrictWeakOrder}
 use Rattle.std.specs.Cmp.Lexicographic.{slice_cmp}
 use Rattle.std.specs.List.{AllByRecursion, IsDistinct}
-use Rattle.std.specs.List.Sorted.{IsSorted, IsStrictlySortedBy}
+use Rattle.std.specs.List.Sorted.{IsPermutation, IsSorted, IsStrictlySortedBy}
 use Rattle.std.specs.Map.{keys_of, lookup}
 use Rattle.std.specs.Ordering.{is_lt, nat_cmp}
-use Rattle.std.proofs.lemmas.Cmp.{nat_cmp_total, nat_list_cmp_total, on_total, then_total}
+use Rattle.std.proofs.lemmas.Cmp.{nat_cmp_total, nat_list_cmp_total, nat_list_eq_equiv, on_total, then_total}
+use Rattle.std.proofs.lemmas.List.Sorted.{IsPermutation-map}
+use Rattle.std.proofs.lemmas.List.Elements.{All-from_recursion, recursion_from_All}
+use Rattle.std.proofs.lemmas.Map.Keys.{IsDistinct-IsPermutation}
+use Rattle.std.proofs.lemmas.Map.Views.{All-map-IsPermutation}
+use Rattle.indexmap.proofs.MapLemmas.{lookup_permutation}
 use Rattle.std.proofs.lemmas.List.MinMax.{ranks_by}
 use Rattle.std.proofs.lemmas.Slice.Eq.{bytes_eq-Decides}
 use Rattle.ii_json.specs.PathRank.{path_ranks}
@@ -52,13 +57,6 @@ abbrev Entry : Type 0 → Type 0
 Entry A = Vec ℕ A × AnyRecorder
 
 module _ {A : Type 0} where
-  -- the order of entries that is asked of a sort
-  pub held_order : (flags : List Bool) (ranks : List ℕ) → IsStrictWeakOrder (λ (e f : Entry A). is_lt (held_cmp flags ranks e.0.items f.0.items))
-  held_order flags ranks =
-      ranks_by
-      (then_total (then_total (on_total front_of nat_list_cmp_total) (on_total (λ (t : List ℕ). rank_of ranks (path_id_in flags t)) nat_cmp_total)) (on_total (behind_id flags) nat_list_cmp_total))
-      (λ (e : Entry A). e.0.items)
-
   seen_apart : (e : Entry A) (es : List (Entry A)) → AllByRecursion (λ (k : Vec ℕ A). bytes_eq e.0.items k.items ≡ false) (keys_of es) → AllByRecursion (λ (k : List ℕ). bytes_eq e.0.items k ≡ false) (keys_of (map seen es))
   seen_apart e [] apart = tt
   seen_apart e (f ∷ fs) apart = (apart.0, seen_apart e fs apart.1)
@@ -68,34 +66,54 @@ module _ {A : Type 0} where
   seen_distinct [] distinct = tt
   seen_distinct (e ∷ es) distinct = (seen_apart e es distinct.0, seen_distinct es distinct.1)
 
-  module _ (flags : List Bool) (paths : List (List ℕ)) (unlike : AreDistinct paths) (clean : AreClean paths) where
-    resolved_apart : (e : Entry A) (es : List (Entry A)) → IsHeldTerm flags paths e.0.items → AllByRecursion (λ (t : List ℕ × RecorderState). IsHeldTerm flags paths t.0) (map seen es)
-        → AllByRecursion (λ (k : Vec ℕ A). bytes_eq e.0.items k.items ≡ false) (keys_of es) → AllByRecursion (λ (f : Entry A). bytes_eq (resolved flags paths e.0.items) (resolved flags paths f.0.items) ≡ false) es
-    resolved_apart e [] he hs apart = tt
-    resolved_apart e (f ∷ fs) he hs apart = (resolved_alike flags paths unlike clean e.0.items f.0.items he hs.0 ∙ apart.0, resolved_apart e fs he hs.1 apart.1)
+-- What holds of each key holds where terms change places.
+each_moved : (P : List ℕ → Type 0) (old new : TermIndex) → IsPermutation old new → AllByRecursion P (keys_of old) → AllByRecursion P (keys_of new)
+each_moved P old new moved all = recursion_from_All P (keys_of new) (All-map-IsPermutation (λ (t : List ℕ × RecorderState). t.0) P old new moved (All-from_recursion P (keys_of old) all))
 
-    resolved_distinct : (es : List (Entry A)) → AllByRecursion (λ (t : List ℕ × RecorderState). IsHeldTerm flags paths t.0) (map seen es) → IsDistinct (λ (x y : Vec ℕ A). bytes_eq x.items y.items) (keys_of es)
-        → IsDistinct (λ (e f : Entry A). bytes_eq (resolved flags paths e.0.items) (resolved flags paths f.0.items)) es
+-- terms that changed places are kept as they were
+pub held_moved : (flags : List Bool) (paths : List (List ℕ)) (old new : TermIndex) → IsPermutation old new → IsDistinct bytes_eq (keys_of old) → AllByRecursion AreTermBytes (keys_of old) → HoldIds flags paths old
+    → AllByRecursion (λ (t : List ℕ × RecorderState). IsHeldTerm flags paths t.0) new × IsDistinct bytes_eq (keys_of new)
+held_moved flags paths old new moved distinct are ids =
+    let apart = IsDistinct-IsPermutation bytes_eq nat_list_eq_equiv.symm (keys_of old) (keys_of new) (IsPermutation-map (λ (t : List ℕ × RecorderState). t.0) old new moved) distinct in
+    let same : (bytes : List ℕ) → recorder_of new bytes ≡ recorder_of old bytes = λ bytes. lookup_permutation nat_list_eq_equiv old new moved apart (bytes_eq bytes) (λ x y. nat_list_eq_equiv.congr bytes x y) in
+    (held_each flags paths new apart (each_moved AreTermBytes old new moved are) (λ field key small. subst (λ (o : Option RecorderState). MatchOption o ⊤ (λ r. is_json_field flags field ≡ true → HoldsId paths key)) (sym (same (field_bytes field ++ key))) (ids field key small)), apart)
+
+module _ {E : Type 0} (state : E → List ℕ × RecorderState) where
+  -- the order of terms that is asked of a sort
+  pub held_order : (flags : List Bool) (ranks : List ℕ) → IsStrictWeakOrder (λ (e f : E). is_lt (held_cmp flags ranks (state e).0 (state f).0))
+  held_order flags ranks =
+      ranks_by
+      (then_total (then_total (on_total front_of nat_list_cmp_total) (on_total (λ (t : List ℕ). rank_of ranks (path_id_in flags t)) nat_cmp_total)) (on_total (behind_id flags) nat_list_cmp_total))
+      (λ (e : E). (state e).0)
+
+  module _ (flags : List Bool) (paths : List (List ℕ)) (unlike : AreDistinct paths) (clean : AreClean paths) where
+    resolved_apart : (e : E) (es : List E) → IsHeldTerm flags paths (state e).0 → AllByRecursion (λ (t : List ℕ × RecorderState). IsHeldTerm flags paths t.0) (map state es)
+        → AllByRecursion (λ (k : List ℕ). bytes_eq (state e).0 k ≡ false) (keys_of (map state es)) → AllByRecursion (λ (f : E). bytes_eq (resolved flags paths (state e).0) (resolved flags paths (state f).0) ≡ false) es
+    resolved_apart e [] he hs apart = tt
+    resolved_apart e (f ∷ fs) he hs apart = (resolved_alike flags paths unlike clean (state e).0 (state f).0 he hs.0 ∙ apart.0, resolved_apart e fs he hs.1 apart.1)
+
+    resolved_distinct : (es : List E) → AllByRecursion (λ (t : List ℕ × RecorderState). IsHeldTerm flags paths t.0) (map state es) → IsDistinct bytes_eq (keys_of (map state es))
+        → IsDistinct (λ (e f : E). bytes_eq (resolved flags paths (state e).0) (resolved flags paths (state f).0)) es
     unfolding IsDistinct
     resolved_distinct [] hs distinct = tt
     resolved_distinct (e ∷ es) hs distinct = (resolved_apart e es hs.0 hs.1 distinct.0, resolved_distinct es hs.1 distinct.1)
 
-    each_held : (es : List (Entry A)) → AllByRecursion (λ (t : List ℕ × RecorderState). IsHeldTerm flags paths t.0) (map seen es) → AllByRecursion (λ (e : Entry A). IsHeldTerm flags paths e.0.items) es
+    each_held : (es : List E) → AllByRecursion (λ (t : List ℕ × RecorderState). IsHeldTerm flags paths t.0) (map state es) → AllByRecursion (λ (e : E). IsHeldTerm flags paths (state e).0) es
     each_held [] hs = tt
     each_held (e ∷ es) hs = (hs.0, each_held es hs.1)
 
-    resolved_keys : (es : List (Entry A)) → map (λ (t : List ℕ × RecorderState). t.0) (resolved_terms flags paths (map seen es)) ≡ map (λ (e : Entry A). resolved flags paths e.0.items) es
+    resolved_keys : (es : List E) → map (λ (t : List ℕ × RecorderState). t.0) (resolved_terms flags paths (map state es)) ≡ map (λ (e : E). resolved flags paths (state e).0) es
     resolved_keys [] = refl
-    resolved_keys (e ∷ es) = ap (λ (ks : List (List ℕ)). resolved flags paths e.0.items ∷ ks) (resolved_keys es)
+    resolved_keys (e ∷ es) = ap (λ (ks : List (List ℕ)). resolved flags paths (state e).0 ∷ ks) (resolved_keys es)
 
-    -- entries that were sorted so are sorted by their keys
-    pub are_sorted : (es : List (Entry A)) → AllByRecursion (λ (t : List ℕ × RecorderState). IsHeldTerm flags paths t.0) (map seen es) → IsDistinct (λ (x y : Vec ℕ A). bytes_eq x.items y.items) (keys_of es)
-        → IsSorted (λ (e f : Entry A). held_cmp flags (path_ranks paths) e.0.items f.0.items) es → AreSorted flags paths (map seen es)
+    -- terms that were sorted so are sorted by their keys
+    pub are_sorted : (es : List E) → AllByRecursion (λ (t : List ℕ × RecorderState). IsHeldTerm flags paths t.0) (map state es) → IsDistinct bytes_eq (keys_of (map state es))
+        → IsSorted (λ (e f : E). held_cmp flags (path_ranks paths) (state e).0 (state f).0) es → AreSorted flags paths (map state es)
     are_sorted es hs distinct sorted =
-        let by_keys = sorted_alike (λ (e : Entry A). IsHeldTerm flags paths e.0.items) (λ (e f : Entry A). held_cmp flags (path_ranks paths) e.0.items f.0.items) (λ (e f : Entry A). slice_cmp nat_cmp (resolved flags paths e.0.items) (resolved flags paths f.0.items))
-        (λ e f he hf. held_as_keys flags paths clean e.0.items f.0.items he hf) es (each_held es hs) sorted in
+        let by_keys = sorted_alike (λ (e : E). IsHeldTerm flags paths (state e).0) (λ (e f : E). held_cmp flags (path_ranks paths) (state e).0 (state f).0) (λ (e f : E). slice_cmp nat_cmp (resolved flags paths (state e).0) (resolved flags paths (state f).0))
+        (λ e f he hf. held_as_keys flags paths clean (state e).0 (state f).0 he hf) es (each_held es hs) sorted in
         record {
           held = hs;
-          distinct = seen_distinct es distinct;
-          ascending = subst (IsStrictlySortedBy (slice_cmp nat_cmp)) (sym (resolved_keys es)) (sorted_distinct (λ (e : Entry A). resolved flags paths e.0.items) es by_keys (resolved_distinct es hs distinct));
+          distinct = distinct;
+          ascending = subst (IsStrictlySortedBy (slice_cmp nat_cmp)) (sym (resolved_keys es)) (sorted_distinct (λ (e : E). resolved flags paths (state e).0) es by_keys (resolved_distinct es hs distinct));
         }

@@ -1,5 +1,5 @@
 -- What is known of the terms of a context once they stand in the order of their keys.
-use Rattle.std.proofs.Common.{◌≡◌, ℕ, ◌<◌, ◌≤◌, ◌^◌, Bool, true, false, List, [], ◌∷◌, ◌++◌, map, length, drop, Option, Some, None, Ok, Err, Result, inr, refl, sym, ap, ◌∙◌, subst, arith}
+use Rattle.std.proofs.Common.{◌≡◌, ℕ, ◌<◌, ◌≤◌, ◌^◌, Bool, true, false, List, [], ◌∷◌, ◌++◌, map, length, drop, Option, Some, None, Ok, Err, Result, inr, refl, sym, ap, ◌∙◌, subst, arith, length-append}
 use Rattle.std.specs.Prelude.{MatchOption, bytes_eq, slice_index_or, ⊤}
 use Rattle.std.specs.List.{AllByRecursion, IsDistinct}
 use Rattle.std.specs.List.Sorted.{IsPermutation}
@@ -27,12 +27,12 @@ use Rattle.ii_postings_writer.specs.IndexingTerm.{AreTermBytes, field_bytes, fie
 use Rattle.ii_postings_writer.specs.PostingsWriter.{PostingsWriterState}
 use Rattle.ii_postings_writer.specs.Records.{HasPostings}
 use Rattle.ii_postings_writer.specs.ResolvedTerms.{AreClean, AreSorted, HaveHeldTokens, HaveUnlessMemory, HoldIds, IsHeldTerm, IsKnownToken, held_token, is_json_field, json_fields, resolved, resolved_terms}
-use Rattle.ii_postings_writer.specs.SortedTerms.{norms_in, AllMayBeWritten, MayBeWritten}
+use Rattle.ii_postings_writer.specs.SortedTerms.{norms_in, AllMayBeWritten, IsTermBelow, MayBeWritten}
 use Rattle.ii_postings_writer.proofs.ResolvedLaws.{json_resolved, plain_resolved}
 use Rattle.ii_postings_writer.proofs.ResolvedOrder.{none_apart}
 use Rattle.ii_postings_writer.proofs.ResolvedRecords.{resolved_records}
 use Rattle.ii_postings_writer.proofs.SortedLemmas.{field_of_bytes, found_first, found_later}
-use Rattle.ii_postings_writer.proofs.TermLemmas.{behind_field}
+use Rattle.ii_postings_writer.proofs.TermLemmas.{behind_field, length_field}
 use Rattle.ii_io.specs.Composite.{Body}
 use Rattle.ii_layout.specs.Bounds.{Covers}
 use Rattle.ii_base.specs.Entries.{docs_of}
@@ -75,6 +75,13 @@ pub sorted_by : (flags : List Bool) (paths : List (List ℕ)) (old new : TermInd
     → ((ps : List (List ℕ)) → AreDistinct ps → AreClean ps → ranks ≡ path_ranks ps → HoldIds lent ps old → AreSorted lent ps new) → AreSorted flags paths new
 sorted_by flags paths old new lent ranks unlike clean same order ids sorts =
     subst (λ (fs : List Bool). AreSorted fs paths new) same (sorts paths unlike clean order (subst (λ (fs : List Bool). HoldIds fs paths old) (sym same) ids))
+
+-- terms with the bytes of their field, which is one of some
+held_below : (flags : List Bool) (paths : List (List ℕ)) (n : ℕ) (ts : TermIndex) → AllByRecursion (λ (t : List ℕ × RecorderState). IsHeldTerm flags paths t.0) ts → AllByRecursion (λ (t : List ℕ × RecorderState). field_in t.0 < n) ts → AllByRecursion (IsTermBelow n) ts
+held_below flags paths n [] held known = tt
+held_below flags paths n (t ∷ ts) held known =
+    let one = held.0 in
+    (record { long = omega (arith, ap length one.is, length-append (field_bytes one.field) one.value, length_field one.field); known = known.0 }, held_below flags paths n ts held.1 known.1)
 
 module _ (flags : List Bool) (paths : List (List ℕ)) (unlike : AreDistinct paths) (clean : AreClean paths) (few : length paths ≤ 2 ^ 32) (old new : TermIndex) (moved : IsPermutation old new) (sorted : AreSorted flags paths new) where
   same_raw : (bytes : List ℕ) → recorder_of new bytes ≡ recorder_of old bytes
@@ -143,8 +150,11 @@ module _ (flags : List Bool) (paths : List (List ℕ)) (unlike : AreDistinct pat
   may_be_under_keys n readers may = all_under_keys n readers new sorted.held (all_may n readers may)
 
   -- and so are the fields of terms
-  pub raw_fields : (n : ℕ) (readers : List Body) → AllMayBeWritten n readers old → AllByRecursion (λ (t : List ℕ × RecorderState). field_in t.0 < n) new
+  raw_fields : (n : ℕ) (readers : List Body) → AllMayBeWritten n readers old → AllByRecursion (λ (t : List ℕ × RecorderState). field_in t.0 < n) new
   raw_fields n readers may = both_each (λ (t : List ℕ × RecorderState). MayBeWritten n readers t.0 t.1) (λ (t : List ℕ × RecorderState). MayBeWritten n readers t.0 t.1) (λ (t : List ℕ × RecorderState). field_in t.0 < n) (λ t m k. m.known) new (all_may n readers may) (all_may n readers may)
+
+  pub fields_below : (n : ℕ) (readers : List Body) → AllMayBeWritten n readers old → AllByRecursion (IsTermBelow n) new
+  fields_below n readers may = held_below flags paths n new sorted.held (raw_fields n readers may)
 
   held_keys : (ts : TermIndex) → AllByRecursion (λ (t : List ℕ × RecorderState). IsHeldTerm flags paths t.0) ts → AllByRecursion (IsHeldTerm flags paths) (keys_of ts)
   held_keys [] held = tt

@@ -1,5 +1,5 @@
 -- Terms in the order of their bytes.
-use Rattle.std.proofs.Common.{zero-add, length, length-append, ◌≤◌, Some, Result, Ok, Err, IfOk, None, zero, suc, ◌+◌, ◌<◌, ◌^◌, ◌++◌, drop, filter, nat_eq, arith, ◌≡◌, ℕ, Bool, true, false, List, [], ◌∷◌, map, refl, sym, ap, ◌∙◌, subst, Vec}
+use Rattle.std.proofs.Common.{zero-add, Some, Result, Ok, Err, IfOk, None, zero, suc, ◌+◌, ◌<◌, ◌^◌, ◌++◌, drop, filter, nat_eq, arith, ◌≡◌, ℕ, Bool, true, false, List, [], ◌∷◌, map, refl, sym, ap, ◌∙◌, subst, Vec}
 use Rattle.std.proofs.Common.{Ordering, Less, Equal, Greater}
 use Rattle.std.specs.Ordering.{ordering_reverse}
 use Rattle.std.specs.Prelude.{slice_index_or, bytes_eq}
@@ -15,13 +15,9 @@ use Rattle.std.proofs.lemmas.Cmp.{nat_list_eq_equiv}
 use Rattle.std.specs.Cmp.Lexicographic.{slice_cmp}
 use Rattle.std.specs.Ordering.{nat_cmp}
 use Rattle.ii_postings_writer.specs.IndexingContext.{TermIndex}
-use Rattle.ii_postings_writer.specs.SortedTerms.{norms_in, term_of, IsTermBelow, IsWritable, MayBeWritten, SortedTerm, terms_in}
-use Rattle.ii_postings_writer.proofs.TermLemmas.{length_field}
+use Rattle.ii_postings_writer.specs.SortedTerms.{norms_in, term_of, IsWritable, MayBeWritten, SortedTerm, terms_in}
 use Rattle.ii_postings_writer.specs.IndexingTerm.{AreTermBytes, field_bytes, field_in}
 use Rattle.std.specs.Map.{lookup}
-use Rattle.std.specs.List.Sorted.{IsPermutation}
-use Rattle.std.proofs.lemmas.List.Sorted.{IsPermutation-map}
-use Rattle.indexmap.proofs.MapLemmas.{lookup_permutation}
 use Rattle.std.proofs.lemmas.Map.Text.{is_eq-slice_cmp}
 use Rattle.std.proofs.lemmas.List.Kept.{IsStrictlySortedBy-dedup, IsStrictlySortedBy-filter}
 use Rattle.std.proofs.lemmas.Bool.{eqb-true}
@@ -58,35 +54,6 @@ sorted_distinct {K} f ks sorted distinct =
     let strict = IsStrictlySortedBy-dedup (on_total f nat_list_cmp_total) {E = λ (x y : K). bytes_eq (f x) (f y)} (λ x y. sym (is_eq-slice_cmp (f x) (f y))) ks sorted in
     let same = dedup_distinct (λ (x y : K). bytes_eq (f x) (f y)) (λ x y. nat_list_eq_equiv.symm (f x) (f y)) ks distinct in
     mapped_ascends (slice_cmp nat_cmp) f ks (subst (λ (zs : List K). IsStrictlySortedBy (λ (x y : K). slice_cmp nat_cmp (f x) (f y)) zs) same strict)
-
-module _ {K L : Type 0} (e : L → L → Bool) (f : K → L) where
-  apart_all : (k : K) (ks : List K) → AllByRecursion (λ (y : K). e (f k) (f y) ≡ false) ks → AllByRecursion (λ (y : L). e (f k) y ≡ false) (map f ks)
-  apart_all k [] apart = tt
-  apart_all k (y ∷ ys) apart = (apart.0, apart_all k ys apart.1)
-
-  distinct_mapped : (ks : List K) → IsDistinct (λ (x y : K). e (f x) (f y)) ks → IsDistinct e (map f ks)
-  unfolding IsDistinct
-  distinct_mapped [] distinct = tt
-  distinct_mapped (k ∷ ks) distinct = (apart_all k ks distinct.0, distinct_mapped ks distinct.1)
-
-module _ {K V W : Type 0} (f : K → List ℕ) (g : V → W) where
-  abbrev seen : K × V → List ℕ × W
-  seen p = (f p.0, g p.1)
-
-  seen_keys : (es : List (K × V)) → keys_of (map seen es) ≡ map f (keys_of es)
-  seen_keys [] = refl
-  seen_keys (p ∷ ps) = ap (λ (ks : List (List ℕ)). f p.0 ∷ ks) (seen_keys ps)
-
-  -- look-ups by bytes stay where entries change places
-  pub seen_lookup : (es fs : List (K × V)) → IsPermutation es fs → IsDistinct (λ (x y : K). bytes_eq (f x) (f y)) (keys_of fs) → (bytes : List ℕ)
-      → lookup (bytes_eq bytes) (map seen fs) ≡ lookup (bytes_eq bytes) (map seen es)
-  seen_lookup es fs moved distinct bytes =
-      lookup_permutation nat_list_eq_equiv (map seen es) (map seen fs) (IsPermutation-map seen es fs moved)
-      (subst (IsDistinct bytes_eq) (sym (seen_keys fs)) (distinct_mapped bytes_eq f (keys_of fs) distinct)) (bytes_eq bytes) (λ x y. nat_list_eq_equiv.congr bytes x y)
-
-  -- and ascend where the keys do
-  pub seen_ascends : (es : List (K × V)) → IsStrictlySortedBy (slice_cmp nat_cmp) (map f (keys_of es)) → IsStrictlySortedBy (slice_cmp nat_cmp) (map (λ (t : List ℕ × W). t.0) (map seen es))
-  seen_ascends es sorted = subst (IsStrictlySortedBy (slice_cmp nat_cmp)) (sym (seen_keys es)) sorted
 
 same_reversed : (o : Ordering) → o ≡ ordering_reverse o → o ≡ Equal
 same_reversed Less e = absurd (cc)
@@ -163,14 +130,6 @@ pub lists_ascend : (first n : ℕ) (terms : TermIndex) → AllByRecursion AreTer
 lists_ascend first zero terms all sorted = tt
 lists_ascend first (suc n) terms all sorted = (terms_in_ascend first terms all sorted, lists_ascend (first + 1) n terms all sorted)
 
--- the lists of terms of a context whose terms ascend
-pub fields_ascend : {A V : Type 0} (f : V → RecorderState) (es : List (Vec ℕ A × V)) (n : ℕ) (terms : TermIndex) (fields : List (List SortedTerm)) → All (λ (k : Vec ℕ A). AreTermBytes k.items) (keys_of es)
-    → terms ≡ map (λ (e : Vec ℕ A × V). (e.0.items, f e.1)) es → fields ≡ map (λ (field : ℕ). terms_in field terms) (range_with_len 0 n) → IsStrictlySortedBy (slice_cmp nat_cmp) (map (λ (t : List ℕ × RecorderState). t.0) terms)
-    → AllByRecursion (λ (ts : List SortedTerm). IsStrictlySortedBy (slice_cmp nat_cmp) (map (λ (t : SortedTerm). t.key) ts)) fields
-fields_ascend f es n terms fields all same are sorted =
-    subst (AllByRecursion (λ (ts : List SortedTerm). IsStrictlySortedBy (slice_cmp nat_cmp) (map (λ (t : SortedTerm). t.key) ts))) (sym are)
-    (lists_ascend 0 n terms (subst (λ (ts : TermIndex). AllByRecursion AreTermBytes (keys_of ts)) (sym same) (each_key f es all)) sorted)
-
 pub if_both : {X E : Type 0} (r : Result X E) (P R Q : X → Type 0) → ((x : X) → P x → R x → Q x) → IfOk r P → IfOk r R → IfOk r Q
 if_both (Ok x) P R Q f h k = f x h k
 if_both (Err e) P R Q f h k = tt
@@ -190,18 +149,6 @@ found_first t ts = rw (bytes_same t.0) refl
 
 pub found_later : (bytes : List ℕ) (t : List ℕ × RecorderState) (ts : TermIndex) → bytes_eq bytes t.0 ≡ false → lookup (bytes_eq bytes) (t ∷ ts) ≡ lookup (bytes_eq bytes) ts
 found_later bytes t ts other = rw other refl
-
-long_bytes : (bytes : List ℕ) → AreTermBytes bytes → 4 ≤ length bytes
-long_bytes bytes are = omega (arith, ap length are.are, length-append (field_bytes are.field) (drop 4 bytes), length_field are.field)
-
-all_below : (n : ℕ) (terms : TermIndex) → AllByRecursion AreTermBytes (keys_of terms) → AllByRecursion (λ (t : List ℕ × RecorderState). field_in t.0 < n) terms → AllByRecursion (IsTermBelow n) terms
-all_below n [] are known = tt
-all_below n (t ∷ ts) are known = (record { long = long_bytes t.0 are.0; known = known.0 }, all_below n ts are.1 known.1)
-
--- the terms of a context lie in these fields
-pub lie_below : {A V : Type 0} (f : V → RecorderState) (es : List (Vec ℕ A × V)) (n : ℕ) (terms : TermIndex) → All (λ (k : Vec ℕ A). AreTermBytes k.items) (keys_of es)
-    → terms ≡ map (λ (e : Vec ℕ A × V). (e.0.items, f e.1)) es → AllByRecursion (λ (t : List ℕ × RecorderState). field_in t.0 < n) terms → AllByRecursion (IsTermBelow n) (map (λ (e : Vec ℕ A × V). (e.0.items, f e.1)) es)
-lie_below f es n terms all same known = subst (AllByRecursion (IsTermBelow n)) same (all_below n terms (subst (λ (ts : TermIndex). AllByRecursion AreTermBytes (keys_of ts)) (sym same) (each_key f es all)) known)
 
 pub all_mapped : {X : Type 0} (P Q : X → Type 0) → ((x : X) → P x → Q x) → (xs : List X) → AllByRecursion P xs → AllByRecursion Q xs
 all_mapped P Q f [] all = tt

@@ -16,6 +16,7 @@ use Rattle.std.specs.Option.{option_map}
 use Rattle.ii_recorder.specs.Pushed.{FillTooLarge, HaveDeltas, pushed_deltas, pushed_freqs}
 use Rattle.ii_recorder.specs.Recorded.{RecorderState, entries_of_recorder}
 use Rattle.ii_recorder.specs.Terms.{WrittenTerm}
+use Rattle.ii_postings_writer.specs.declared.sorted_terms.KeptTerm.{KeptTerm}
 use Rattle.ii_postings_writer.specs.declared.sorted_terms.TermOfField.{TermOfField}
 use Rattle.ii_postings_writer.specs.IndexingContext.{TermIndex, recorder_of}
 use Rattle.ii_postings_writer.specs.IndexingTerm.{field_bytes, field_in}
@@ -45,6 +46,10 @@ terms_in field terms = map term_of (filter (λ (t : List ℕ × RecorderState). 
 -- an entry of a term map as its bytes and what is kept
 abbrev pub seen : {A : Type 0} → Vec ℕ A × AnyRecorder → List ℕ × RecorderState
 seen e = (e.0.items, any_state e.1)
+
+-- a term that is lent, as its bytes and what is kept
+abbrev pub kept_state : KeptTerm → List ℕ × RecorderState
+kept_state t = (t.term.now, any_state t.recorder.now)
 
 -- A term lies in one of so many fields.
 pub record IsTermBelow (num_fields : ℕ) (t : List ℕ × RecorderState) : Type 0 where

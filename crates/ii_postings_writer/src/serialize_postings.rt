@@ -270,16 +270,16 @@ pub fn serialize_postings<W: Write>(
 {
     reads_entries_back();
     reads_uncounted_term_back();
-    let mut ctx = ctx;
     let flags = json_fields(alloc, schema)?;
     let ranks = ctx.path_to_unordered_id.unordered_id_to_ordered_id(alloc)?;
-    ctx.term_index.sort(&flags, &ranks)?;
-    let terms = ctx.term_index.terms_by_field(
+    let sorted = ctx.term_index.sorted(alloc, &flags, &ranks)?;
+    let terms = sorted.by_field(
         alloc,
         &flags,
         &ctx.path_to_unordered_id,
         schema.num_fields(),
     )?;
+    drop(sorted);
     serialize_fields(
         alloc,
         per_field_postings_writers,

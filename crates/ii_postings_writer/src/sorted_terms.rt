@@ -1,13 +1,14 @@
-ghost use Rattle.std.specs.Prelude.{◌≡◌, ◌≤◌, ◌<◌, ◌++◌, ◌∷◌, ℕ, List, [], drop, length, map, replicate, slice_index_or, slice_set, OnOk, IfOk};
-ghost use Rattle.std.specs.List.{AllByRecursion, range_with_len};
+ghost use Rattle.std.specs.Prelude.{◌≡◌, ◌≤◌, ◌<◌, ◌++◌, ◌∷◌, ℕ, List, [], drop, length, map, replicate, slice_index_or, slice_set, bytes_eq, OnOk, IfOk};
+ghost use Rattle.std.specs.List.{AllByRecursion, IsDistinct, range_with_len};
 ghost use Rattle.std.specs.List.Sorted.{IsPermutation};
+ghost use Rattle.std.specs.Map.{keys_of};
 ghost use Rattle.ii_io.specs.Faults.{OnlyMemory};
 ghost use Rattle.ii_json.specs.PathRank.{path_ranks};
 ghost use Rattle.ii_json.specs.Paths.{AreDistinct};
 ghost use Rattle.ii_recorder.specs.AnyRecorder.{any_state};
 ghost use Rattle.ii_postings_writer.specs.IndexingTerm.{field_in};
 ghost use Rattle.ii_postings_writer.specs.ResolvedTerms.{AreClean, AreSorted, HoldIds, front_of, held_cmp, is_json_field, path_id_in, rank_of, resolved, resolved_terms, value_place};
-ghost use Rattle.ii_postings_writer.specs.SortedTerms.{IsTermBelow, SortedTerm, seen, state_of, terms_in};
+ghost use Rattle.ii_postings_writer.specs.SortedTerms.{IsTermBelow, SortedTerm, kept_state, seen, state_of, terms_in};
 
 use crate::term_recorders::TermRecorders;
 use ii_base::Fault;
@@ -23,21 +24,71 @@ const FIELD_LEN: usize = 4;
 
 const ID_LEN: usize = 4;
 
+/// A term of a context as it is kept, with what keeps its postings.
+#[derive(Clone, Copy)]
+pub struct KeptTerm<'a> {
+    /// Its bytes, which hold the id of a path in a JSON field.
+    pub term: &'a [u8],
+    /// What keeps its postings.
+    pub recorder: &'a AnyRecorder,
+}
+
+/// The terms of a context, lent in an order of their own.
+#[derive(Drop)]
+pub(crate) struct LentTerms<'a> {
+    terms: Vec<KeptTerm<'a>>,
+}
+
+impl<'a> Model for LentTerms<'a> {
+    ghost use Rattle.std.specs.Prelude.{map};
+    ghost use Rattle.ii_postings_writer.specs.IndexingContext.{TermIndex};
+    ghost use Rattle.ii_postings_writer.specs.SortedTerms.{kept_state};
+
+    ghost Value = { TermIndex };
+
+    ghost view = { λ l. map kept_state l.terms.items };
+}
+
 impl TermRecorders {
-    // Puts the terms in the order of their keys, where the terms of some fields hold ids of paths with
+    // The terms in the order of their keys, where the terms of some fields hold ids of paths with
     // these ranks.
-    pub(crate) fn sort(&mut self, flags: &[bool], ranks: &[OrderedPathId]) -> Result<(), Fault>
-        ensures moved { IsPermutation self.old self.new }
-        ensures sorted { (paths : List (List ℕ)) → AreDistinct paths → AreClean paths → ranks.now ≡ path_ranks paths → HoldIds flags.now paths self.old → OnOk result (AreSorted flags.now paths self.new) }
+    pub(crate) fn sorted<'a>(
+        &'a self,
+        alloc: Global,
+        flags: &[bool],
+        ranks: &[OrderedPathId],
+    ) -> Result<LentTerms<'a>, Fault>
+        ensures moved { IfOk result (IsPermutation self.entry.now) }
+        ensures sorted { (paths : List (List ℕ)) → AreDistinct paths → AreClean paths → ranks.entry.now ≡ path_ranks paths → HoldIds flags.entry.now paths self.entry.now → IfOk result (AreSorted flags.entry.now paths) }
         ensures only { OnlyMemory result }
     {
-        self.recorders.sort_unstable_by(
-            |left: &Vec<u8>, _: &AnyRecorder, right: &Vec<u8>, _: &AnyRecorder| -> Ordering
-                ensures { result ≡ held_cmp flags.entry.now ranks.entry.now left.now.items right.now.items }
-            { compare(flags, ranks, left, right) },
-        )?;
-        Ok(())
+        let mut terms = lent_terms(alloc, &self.recorders)?;
+        terms.sort_unstable_by(
+            |left: &KeptTerm, right: &KeptTerm| -> Ordering
+                ensures { result ≡ held_cmp flags.entry.now ranks.entry.now left.now.term.now right.now.term.now }
+            { compare(flags, ranks, left.term, right.term) },
+        );
+        Ok(LentTerms { terms })
     }
+}
+
+// The terms of a map, lent in its order.
+fn lent_terms<'a>(
+    alloc: Global,
+    recorders: &'a IndexMap<Vec<u8>, AnyRecorder>,
+) -> Result<Vec<KeptTerm<'a>>, Fault>
+    ensures ok { IfOk result (λ terms. map kept_state terms.items ≡ map seen recorders.entry.now.entries) }
+    ensures distinct { IsDistinct (λ x y. bytes_eq x.items y.items) (keys_of recorders.entry.now.entries) }
+    ensures only { OnlyMemory result }
+{
+    let mut terms = Vec::with_capacity(alloc, recorders.len())?;
+    for place in 0..recorders.len() {
+        let Some((term, recorder)) = recorders.get_index(place) else {
+            return Ok(terms);
+        };
+        terms.push(KeptTerm { term, recorder })?;
+    }
+    Ok(terms)
 }
 
 // Which of two terms goes out first.
@@ -226,41 +277,39 @@ fn no_terms<'a>(alloc: Global, num_fields: usize) -> Result<Vec<FieldTerms<'a>>,
     Ok(fields)
 }
 
-// The terms of each of so many fields.
+// The terms of each of so many fields, by their keys.
 fn by_field<'a>(
     alloc: Global,
-    terms: &'a IndexMap<Vec<u8>, AnyRecorder>,
+    terms: &[KeptTerm<'a>],
     flags: &[bool],
     paths: &'a PathToUnorderedId,
     num_fields: usize,
 ) -> Result<Vec<FieldTerms<'a>>, Fault>
-    requires known { AllByRecursion (IsTermBelow num_fields) (map seen terms.now.entries) }
-    ensures ok { IfOk result (λ fields. fields.items ≡ map (λ field. terms_in field (resolved_terms flags.now paths.entry.now (map seen terms.entry.now.entries))) (range_with_len 0 num_fields)) }
+    requires known { AllByRecursion (IsTermBelow num_fields) (map kept_state terms.now) }
+    ensures ok { IfOk result (λ fields. fields.items ≡ map (λ field. terms_in field (resolved_terms flags.now paths.entry.now (map kept_state terms.now))) (range_with_len 0 num_fields)) }
     ensures only { OnlyMemory result }
 {
     let mut fields = no_terms(alloc, num_fields)?;
     for place in 0..terms.len() {
-        let Some((term, recorder)) = terms.get_index(place) else {
-            return Ok(fields);
-        };
-        add_term(&mut fields, flags, paths, term, recorder)?;
+        let kept = terms[place];
+        add_term(&mut fields, flags, paths, kept.term, kept.recorder)?;
     }
     Ok(fields)
 }
 
-impl TermRecorders {
+impl<'a> LentTerms<'a> {
     // The terms of each of so many fields, by their keys.
-    pub(crate) fn terms_by_field<'a>(
-        &'a self,
+    pub(crate) fn by_field(
+        &self,
         alloc: Global,
         flags: &[bool],
         paths: &'a PathToUnorderedId,
         num_fields: usize,
     ) -> Result<Vec<FieldTerms<'a>>, Fault>
-        requires known { AllByRecursion (λ t. field_in t.0 < num_fields) self.now }
-        ensures ok { IfOk result (λ fields. fields.items ≡ map (λ field. terms_in field (resolved_terms flags.now paths.entry.now self.entry.now)) (range_with_len 0 num_fields)) }
+        requires known { AllByRecursion (IsTermBelow num_fields) self.now }
+        ensures ok { IfOk result (λ fields. fields.items ≡ map (λ field. terms_in field (resolved_terms flags.now paths.entry.now self.now)) (range_with_len 0 num_fields)) }
         ensures only { OnlyMemory result }
     {
-        by_field(alloc, &self.recorders, flags, paths, num_fields)
+        by_field(alloc, &self.terms, flags, paths, num_fields)
     }
 }

@@ -1,4 +1,4 @@
-use Rattle.std.proofs.Common.{◌≡◌, [], ◌<◌, ◌∙◌, ap, sym, subst, length, map, Bool, List, ℕ, arith}
+use Rattle.std.proofs.Common.{◌≡◌, [], ◌∙◌, ap, sym, subst, length, map, Bool, List, ℕ, arith}
 use Rattle.std.specs.Prelude.{slice_index_or}
 use Rattle.std.specs.List.{AllByRecursion, range_with_len}
 use Rattle.std.proofs.lemmas.List.{length-map}
@@ -6,46 +6,45 @@ use Rattle.std.proofs.lemmas.Result.{IfErr-weaker}
 use Rattle.std.proofs.lemmas.List.FromFn.{length-map-range_with_len}
 use Rattle.ii_recorder.specs.Recorded.{RecorderState}
 use Rattle.ii_termdict.specs.ReadBack.{AreAscending}
-use Rattle.ii_postings_writer.specs.IndexingTerm.{field_in}
 use Rattle.ii_postings_writer.specs.ResolvedTerms.{json_fields, resolved_terms}
-use Rattle.ii_postings_writer.specs.SortedTerms.{IsWritable, MayBeWritten, SortedTerm, norms_in, terms_in}
+use Rattle.ii_postings_writer.specs.SortedTerms.{IsTermBelow, IsWritable, MayBeWritten, SortedTerm, norms_in, terms_in}
 use Rattle.ii_postings_writer.proofs.ContextFaults.{context_fault, no_terms, some_terms}
 use Rattle.ii_postings_writer.proofs.TermIndexLemmas.{on_ok}
 use Rattle.ii_postings_writer.proofs.PartLemmas.{AreLists, wrote_context, wrote_terms}
 use Rattle.ii_postings_writer.proofs.HeldBodies.{IsWritten, wrote_tokens}
-use Rattle.ii_postings_writer.proofs.ResolvedParts.{had_resolved, have_resolved, have_unless, may_be_under_keys, no_resolved, raw_fields, resolve, same_keys, sorted_by, whole_keys}
+use Rattle.ii_postings_writer.proofs.ResolvedParts.{had_resolved, have_resolved, have_unless, may_be_under_keys, no_resolved, fields_below, resolve, same_keys, sorted_by, whole_keys}
 use Rattle.ii_postings_writer.proofs.SortedLemmas.{all_writable, fields_known, lists_ascend}
 use Rattle.ii_postings_writer.proofs.serialize_postings.serialize_postings.Goals as goal
 
-pub terms_by_field-requires : goal.terms_by_field-requires
-terms_by_field-requires g c =
+pub by_field-requires : goal.by_field-requires
+by_field-requires g c =
     let flags = json_fields c.args.schema.now in
     let paths = c.args.ctx.path_to_unordered_id in
     let old = c.args.ctx.term_index in
-    let new = c.sort.new.self in
+    let new = c.in_ok-sorted.sorted in
     let unlike = c.unordered_id_to_ordered_id.ensures.distinct in
     let few = c.unordered_id_to_ordered_id.ensures.few in
     let clean = c.requires.terms.clean in
-    let moved = c.sort.ensures.moved in
-    let sorted = sorted_by flags paths old new c.deref.result.now c.deref-2.result.now unlike clean (c.deref.ensures.value ∙ c.in_ok-flags.ensures.ok) (c.deref-2.ensures.value ∙ c.in_ok-ranks.ensures.ranks) c.requires.terms.ids c.in_ok-sort.ensures.sorted in
-    record { known = subst (λ (n : ℕ). AllByRecursion (λ (t : List ℕ × RecorderState). field_in t.0 < n) new) (sym c.num_fields.ensures.value) (raw_fields flags paths unlike clean few old new moved sorted (length c.args.schema.now) c.args.fieldnorm_readers.now c.requires.terms.may) }
+    let moved = c.in_ok-sorted.ensures.moved in
+    let sorted = sorted_by flags paths old new c.deref.result.now c.deref-2.result.now unlike clean (c.deref.ensures.value ∙ c.in_ok-flags.ensures.ok) (c.deref-2.ensures.value ∙ c.in_ok-ranks.ensures.ranks) c.requires.terms.ids c.in_ok-sorted.ensures.sorted in
+    record { known = subst (λ (n : ℕ). AllByRecursion (IsTermBelow n) new) (sym c.num_fields.ensures.value) (fields_below flags paths unlike clean few old new moved sorted (length c.args.schema.now) c.args.fieldnorm_readers.now c.requires.terms.may) }
 
 pub serialize_fields-requires-clause-known : goal.serialize_fields-requires-clause-known
 serialize_fields-requires-clause-known g c =
     let paths = c.args.ctx.path_to_unordered_id in
-    let lists = ap length c.in_ok-terms.ensures.ok ∙ length-map-range_with_len (λ (field : ℕ). terms_in field (resolved_terms c.deref-3.result.now paths c.sort.new.self)) 0 c.num_fields.result in
+    let lists = ap length c.in_ok-terms.ensures.ok ∙ length-map-range_with_len (λ (field : ℕ). terms_in field (resolved_terms c.deref-3.result.now paths c.in_ok-sorted.sorted)) 0 c.num_fields.result in
     omega (arith, lists, c.num_fields.ensures.value, ap length c.requires.schema)
 
 pub serialize_fields-requires-clause-few : goal.serialize_fields-requires-clause-few
 serialize_fields-requires-clause-few g c =
     let paths = c.args.ctx.path_to_unordered_id in
-    let lists = ap length c.in_ok-terms.ensures.ok ∙ length-map-range_with_len (λ (field : ℕ). terms_in field (resolved_terms c.deref-3.result.now paths c.sort.new.self)) 0 c.num_fields.result in
+    let lists = ap length c.in_ok-terms.ensures.ok ∙ length-map-range_with_len (λ (field : ℕ). terms_in field (resolved_terms c.deref-3.result.now paths c.in_ok-sorted.sorted)) 0 c.num_fields.result in
     omega (arith, lists, c.num_fields.ensures.bound)
 
 pub serialize_fields-requires-clause-writers : goal.serialize_fields-requires-clause-writers
 serialize_fields-requires-clause-writers g c =
     let paths = c.args.ctx.path_to_unordered_id in
-    let lists = ap length c.in_ok-terms.ensures.ok ∙ length-map-range_with_len (λ (field : ℕ). terms_in field (resolved_terms c.deref-3.result.now paths c.sort.new.self)) 0 c.num_fields.result in
+    let lists = ap length c.in_ok-terms.ensures.ok ∙ length-map-range_with_len (λ (field : ℕ). terms_in field (resolved_terms c.deref-3.result.now paths c.in_ok-sorted.sorted)) 0 c.num_fields.result in
     omega (arith, lists, c.num_fields.ensures.value, c.requires.writers)
 
 pub serialize_fields-requires-clause-ascending : goal.serialize_fields-requires-clause-ascending
@@ -53,12 +52,12 @@ serialize_fields-requires-clause-ascending g c =
     let flags = json_fields c.args.schema.now in
     let paths = c.args.ctx.path_to_unordered_id in
     let old = c.args.ctx.term_index in
-    let new = c.sort.new.self in
+    let new = c.in_ok-sorted.sorted in
     let unlike = c.unordered_id_to_ordered_id.ensures.distinct in
     let few = c.unordered_id_to_ordered_id.ensures.few in
     let clean = c.requires.terms.clean in
-    let moved = c.sort.ensures.moved in
-    let sorted = sorted_by flags paths old new c.deref.result.now c.deref-2.result.now unlike clean (c.deref.ensures.value ∙ c.in_ok-flags.ensures.ok) (c.deref-2.ensures.value ∙ c.in_ok-ranks.ensures.ranks) c.requires.terms.ids c.in_ok-sort.ensures.sorted in
+    let moved = c.in_ok-sorted.ensures.moved in
+    let sorted = sorted_by flags paths old new c.deref.result.now c.deref-2.result.now unlike clean (c.deref.ensures.value ∙ c.in_ok-flags.ensures.ok) (c.deref-2.ensures.value ∙ c.in_ok-ranks.ensures.ranks) c.requires.terms.ids c.in_ok-sorted.ensures.sorted in
     let keyed = resolved_terms flags paths new in
     let many = c.num_fields.result in
     let are = c.in_ok-terms.ensures.ok ∙ ap (λ (fs : List Bool). map (λ (field : ℕ). terms_in field (resolved_terms fs paths new)) (range_with_len 0 many)) (c.deref-3.ensures.value ∙ c.in_ok-flags.ensures.ok) in
@@ -69,12 +68,12 @@ serialize_fields-requires-clause-writable g c field inside =
     let flags = json_fields c.args.schema.now in
     let paths = c.args.ctx.path_to_unordered_id in
     let old = c.args.ctx.term_index in
-    let new = c.sort.new.self in
+    let new = c.in_ok-sorted.sorted in
     let unlike = c.unordered_id_to_ordered_id.ensures.distinct in
     let few = c.unordered_id_to_ordered_id.ensures.few in
     let clean = c.requires.terms.clean in
-    let moved = c.sort.ensures.moved in
-    let sorted = sorted_by flags paths old new c.deref.result.now c.deref-2.result.now unlike clean (c.deref.ensures.value ∙ c.in_ok-flags.ensures.ok) (c.deref-2.ensures.value ∙ c.in_ok-ranks.ensures.ranks) c.requires.terms.ids c.in_ok-sort.ensures.sorted in
+    let moved = c.in_ok-sorted.ensures.moved in
+    let sorted = sorted_by flags paths old new c.deref.result.now c.deref-2.result.now unlike clean (c.deref.ensures.value ∙ c.in_ok-flags.ensures.ok) (c.deref-2.ensures.value ∙ c.in_ok-ranks.ensures.ranks) c.requires.terms.ids c.in_ok-sorted.ensures.sorted in
     let keyed = resolved_terms flags paths new in
     let many = c.num_fields.result in
     let are = c.in_ok-terms.ensures.ok ∙ ap (λ (fs : List Bool). map (λ (field : ℕ). terms_in field (resolved_terms fs paths new)) (range_with_len 0 many)) (c.deref-3.ensures.value ∙ c.in_ok-flags.ensures.ok) in
@@ -88,12 +87,12 @@ returns-clause-wrote g c =
     let flags = json_fields c.args.schema.now in
     let paths = c.args.ctx.path_to_unordered_id in
     let old = c.args.ctx.term_index in
-    let new = c.sort.new.self in
+    let new = c.in_ok-sorted.sorted in
     let unlike = c.unordered_id_to_ordered_id.ensures.distinct in
     let few = c.unordered_id_to_ordered_id.ensures.few in
     let clean = c.requires.terms.clean in
-    let moved = c.sort.ensures.moved in
-    let sorted = sorted_by flags paths old new c.deref.result.now c.deref-2.result.now unlike clean (c.deref.ensures.value ∙ c.in_ok-flags.ensures.ok) (c.deref-2.ensures.value ∙ c.in_ok-ranks.ensures.ranks) c.requires.terms.ids c.in_ok-sort.ensures.sorted in
+    let moved = c.in_ok-sorted.ensures.moved in
+    let sorted = sorted_by flags paths old new c.deref.result.now c.deref-2.result.now unlike clean (c.deref.ensures.value ∙ c.in_ok-flags.ensures.ok) (c.deref-2.ensures.value ∙ c.in_ok-ranks.ensures.ranks) c.requires.terms.ids c.in_ok-sorted.ensures.sorted in
     let keyed = resolved_terms flags paths new in
     let many = c.num_fields.result in
     let are = c.in_ok-terms.ensures.ok ∙ ap (λ (fs : List Bool). map (λ (field : ℕ). terms_in field (resolved_terms fs paths new)) (range_with_len 0 many)) (c.deref-3.ensures.value ∙ c.in_ok-flags.ensures.ok) in
@@ -115,12 +114,12 @@ returns-clause-holds g c ts has =
     let flags = json_fields c.args.schema.now in
     let paths = c.args.ctx.path_to_unordered_id in
     let old = c.args.ctx.term_index in
-    let new = c.sort.new.self in
+    let new = c.in_ok-sorted.sorted in
     let unlike = c.unordered_id_to_ordered_id.ensures.distinct in
     let few = c.unordered_id_to_ordered_id.ensures.few in
     let clean = c.requires.terms.clean in
-    let moved = c.sort.ensures.moved in
-    let sorted = sorted_by flags paths old new c.deref.result.now c.deref-2.result.now unlike clean (c.deref.ensures.value ∙ c.in_ok-flags.ensures.ok) (c.deref-2.ensures.value ∙ c.in_ok-ranks.ensures.ranks) c.requires.terms.ids c.in_ok-sort.ensures.sorted in
+    let moved = c.in_ok-sorted.ensures.moved in
+    let sorted = sorted_by flags paths old new c.deref.result.now c.deref-2.result.now unlike clean (c.deref.ensures.value ∙ c.in_ok-flags.ensures.ok) (c.deref-2.ensures.value ∙ c.in_ok-ranks.ensures.ranks) c.requires.terms.ids c.in_ok-sorted.ensures.sorted in
     let keyed = resolved_terms flags paths new in
     let many = c.num_fields.result in
     let are = c.in_ok-terms.ensures.ok ∙ ap (λ (fs : List Bool). map (λ (field : ℕ). terms_in field (resolved_terms fs paths new)) (range_with_len 0 many)) (c.deref-3.ensures.value ∙ c.in_ok-flags.ensures.ok) in
@@ -151,12 +150,12 @@ returns-clause-tokens g c ts has =
     let flags = json_fields c.args.schema.now in
     let paths = c.args.ctx.path_to_unordered_id in
     let old = c.args.ctx.term_index in
-    let new = c.sort.new.self in
+    let new = c.in_ok-sorted.sorted in
     let unlike = c.unordered_id_to_ordered_id.ensures.distinct in
     let few = c.unordered_id_to_ordered_id.ensures.few in
     let clean = c.requires.terms.clean in
-    let moved = c.sort.ensures.moved in
-    let sorted = sorted_by flags paths old new c.deref.result.now c.deref-2.result.now unlike clean (c.deref.ensures.value ∙ c.in_ok-flags.ensures.ok) (c.deref-2.ensures.value ∙ c.in_ok-ranks.ensures.ranks) c.requires.terms.ids c.in_ok-sort.ensures.sorted in
+    let moved = c.in_ok-sorted.ensures.moved in
+    let sorted = sorted_by flags paths old new c.deref.result.now c.deref-2.result.now unlike clean (c.deref.ensures.value ∙ c.in_ok-flags.ensures.ok) (c.deref-2.ensures.value ∙ c.in_ok-ranks.ensures.ranks) c.requires.terms.ids c.in_ok-sorted.ensures.sorted in
     let keyed = resolved_terms flags paths new in
     let many = c.num_fields.result in
     let are = c.in_ok-terms.ensures.ok ∙ ap (λ (fs : List Bool). map (λ (field : ℕ). terms_in field (resolved_terms fs paths new)) (range_with_len 0 many)) (c.deref-3.ensures.value ∙ c.in_ok-flags.ensures.ok) in
@@ -178,12 +177,12 @@ returns-clause-fault g c =
     let flags = json_fields c.args.schema.now in
     let paths = c.args.ctx.path_to_unordered_id in
     let old = c.args.ctx.term_index in
-    let new = c.sort.new.self in
+    let new = c.in_ok-sorted.sorted in
     let unlike = c.unordered_id_to_ordered_id.ensures.distinct in
     let few = c.unordered_id_to_ordered_id.ensures.few in
     let clean = c.requires.terms.clean in
-    let moved = c.sort.ensures.moved in
-    let sorted = sorted_by flags paths old new c.deref.result.now c.deref-2.result.now unlike clean (c.deref.ensures.value ∙ c.in_ok-flags.ensures.ok) (c.deref-2.ensures.value ∙ c.in_ok-ranks.ensures.ranks) c.requires.terms.ids c.in_ok-sort.ensures.sorted in
+    let moved = c.in_ok-sorted.ensures.moved in
+    let sorted = sorted_by flags paths old new c.deref.result.now c.deref-2.result.now unlike clean (c.deref.ensures.value ∙ c.in_ok-flags.ensures.ok) (c.deref-2.ensures.value ∙ c.in_ok-ranks.ensures.ranks) c.requires.terms.ids c.in_ok-sorted.ensures.sorted in
     let keyed = resolved_terms flags paths new in
     let many = c.num_fields.result in
     let are = c.in_ok-terms.ensures.ok ∙ ap (λ (fs : List Bool). map (λ (field : ℕ). terms_in field (resolved_terms fs paths new)) (range_with_len 0 many)) (c.deref-3.ensures.value ∙ c.in_ok-flags.ensures.ok) in
@@ -205,12 +204,12 @@ returns-clause-ends g c =
     let flags = json_fields c.args.schema.now in
     let paths = c.args.ctx.path_to_unordered_id in
     let old = c.args.ctx.term_index in
-    let new = c.sort.new.self in
+    let new = c.in_ok-sorted.sorted in
     let unlike = c.unordered_id_to_ordered_id.ensures.distinct in
     let few = c.unordered_id_to_ordered_id.ensures.few in
     let clean = c.requires.terms.clean in
-    let moved = c.sort.ensures.moved in
-    let sorted = sorted_by flags paths old new c.deref.result.now c.deref-2.result.now unlike clean (c.deref.ensures.value ∙ c.in_ok-flags.ensures.ok) (c.deref-2.ensures.value ∙ c.in_ok-ranks.ensures.ranks) c.requires.terms.ids c.in_ok-sort.ensures.sorted in
+    let moved = c.in_ok-sorted.ensures.moved in
+    let sorted = sorted_by flags paths old new c.deref.result.now c.deref-2.result.now unlike clean (c.deref.ensures.value ∙ c.in_ok-flags.ensures.ok) (c.deref-2.ensures.value ∙ c.in_ok-ranks.ensures.ranks) c.requires.terms.ids c.in_ok-sorted.ensures.sorted in
     let keyed = resolved_terms flags paths new in
     let many = c.num_fields.result in
     let are = c.in_ok-terms.ensures.ok ∙ ap (λ (fs : List Bool). map (λ (field : ℕ). terms_in field (resolved_terms fs paths new)) (range_with_len 0 many)) (c.deref-3.ensures.value ∙ c.in_ok-flags.ensures.ok) in
