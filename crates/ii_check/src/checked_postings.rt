@@ -72,6 +72,8 @@ impl CheckedPostings {
         ensures options { IfOk result (λ checked. (checked.recorded ≡ record_option) × (checked.requested ≡ requested_option)) }
         ensures doc_freq { IfOk result (λ checked. checked.doc_freq ≡ doc_freq) }
         ensures reading { IfOk result (λ checked. checked.freq_reading ≡ freq_reading_of requested_option checked.postings) }
+
+        // What the skip entries say, and the first block, which is decoded.
         ensures documents { IfOk result (λ checked. HasDocuments checked) }
         ensures first { IfOk result (λ checked. LoadsBlock checked.postings 0 (new_decoder TERMINATED) doc_decoder.new (new_decoder 1) freq_decoder.new) }
         ensures err { IfErr result (λ fault. postings record_option requested_option doc_freq bytes ≡ Err (part_of fault)) }
@@ -118,6 +120,8 @@ impl CheckedPostings {
         ensures options { (result.recorded ≡ record_option) × (result.requested ≡ requested_option) }
         ensures doc_freq { result.doc_freq ≡ doc_freq }
         ensures reading { result.freq_reading ≡ freq_reading_of requested_option result.postings }
+
+        // What the skip entries say, and the first block, which is decoded.
         ensures documents { HasDocuments result }
         ensures first { LoadsBlock result.postings 0 (new_decoder TERMINATED) doc_decoder.new (new_decoder 1) freq_decoder.new }
     {

@@ -65,6 +65,8 @@ impl BitPacker {
         requires narrow { num_bits ≤ 64 }
         requires fits { val < 2 ^ num_bits }
         requires room { 8 ≤ length whole.old }
+
+        // The whole bytes, and the bits that are left.
         ensures bytes { take result whole.new ≡ whole_bytes (self.old ++ low_bits num_bits val) }
         ensures count { result ≡ (length self.old + num_bits) / 8 }
         ensures few { result ≤ 8 }

@@ -96,6 +96,8 @@ impl BlockDecoder {
         ensures padded { OnOk result (drop num_els self.new.output ≡ replicate (128 - num_els) padding) }
         ensures len { OnOk result (self.new.output_len ≡ num_els) }
         ensures decodes { OnOk result (self.new.decodes ≡ self.old.decodes + decodes_of num_els) }
+
+        // When it is refused, and what stands then.
         ensures refused { OnErr result (sorted_vints_at offset num_els compressed_data.now ≡ None) }
         ensures cleared { ClearsOnDamage Part.Documents self.old self.new result }
     {
@@ -125,6 +127,8 @@ impl BlockDecoder {
         ensures padded { OnOk result (drop num_els self.new.output ≡ replicate (128 - num_els) padding) }
         ensures len { OnOk result (self.new.output_len ≡ num_els) }
         ensures decodes { OnOk result (self.new.decodes ≡ self.old.decodes + decodes_of num_els) }
+
+        // When it is refused, and what stands then.
         ensures refused { OnErr result (u32s_at num_els compressed_data.now ≡ None) }
         ensures cleared { ClearsOnDamage Part.Frequencies self.old self.new result }
     {

@@ -514,6 +514,8 @@ pub(crate) fn pack_sorted(block: &[u32], offset: u32, output: &mut [u8]) -> (u8,
     requires ascending { IsStrictlyIncreasing block.now }
     requires after { 0 < offset → offset < slice_index block.now 0 }
     requires room { 512 ≤ length output.old }
+
+    // The least width, and the bytes of the block.
     ensures width { result.0 ≡ sorted_width offset block.now }
     ensures narrow { result.0 ≤ 32 }
     ensures length { result.1 ≡ 16 * result.0 }

@@ -51,6 +51,8 @@ pub trait Postings: DocSet {
         ensures ok { OnOk result (output.new.items ≡ map (λ p. p + offset) (positions_at (Self.rest self.old))) }
         ensures err { OnErr result (output.new.items ≡ []) }
         ensures only { OnlyMemory result }
+
+        // What stays, and what it cost.
         ensures rest { Self.rest self.new ≡ Self.rest self.old }
         ensures kind { Self.always_one self.new ≡ Self.always_one self.old }
         ensures work { spent 1 (term_freq_at (Self.always_one self.old) (Self.rest self.old)) self.old self.new }

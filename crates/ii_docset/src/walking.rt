@@ -19,6 +19,8 @@ pub fn walk<P: Postings>(alloc: Global, cursor: &mut P, calls: &[CursorCall]) ->
     ensures answers { IsTrue result.complete → answers_in result ≡ answers_to calls.now (P.always_one cursor.old) (P.rest cursor.old) }
     ensures complete { IsTrue result.complete ↔ (length (answers_in result) ≡ length calls.now) }
     ensures beginning { answers_in result ≡ take (length (answers_in result)) (answers_to calls.now (P.always_one cursor.old) (P.rest cursor.old)) }
+
+    // Where the cursor stands then, and what the run cost.
     ensures rest { IsTrue result.complete → P.rest cursor.new ≡ rest_after calls.now (P.rest cursor.old) }
     ensures left { P.rest cursor.new ≡ rest_after (take (length (answers_in result)) calls.now) (P.rest cursor.old) }
     ensures kind { P.always_one cursor.new ≡ P.always_one cursor.old }

@@ -90,6 +90,8 @@ impl PackedBlocks {
         requires covered { AllByRecursion (Covers self.old.norms) block.now.docs }
         requires ascending { IsTrue (are_documents (self.old.term.docs ++ block.now.docs)) }
         requires open { self.old.closed ≡ false }
+
+        // What stays, and how it ends.
         ensures same { (self.new.norms ≡ self.old.norms) × (self.new.skip_info ≡ self.old.skip_info) }
         ensures ok { OnOk result (self.new ≡ record self.old { term = joined self.old.term block.now }) }
         ensures err { OnErr result (self.new.term ≡ no_docs) }
@@ -329,6 +331,8 @@ fn pack_full(
     requires ascending { IsTrue (are_documents (blocks.old.term.docs ++ block.old.docs)) }
     requires open { blocks.old.closed ≡ false }
     ensures block { block.new ≡ no_docs }
+
+    // What stays, and how it ends.
     ensures same { (blocks.new.norms ≡ blocks.old.norms) × (blocks.new.skip_info ≡ blocks.old.skip_info) }
     ensures stays { OnOk result (blocks.new.closed ≡ false) }
     ensures added { AddsDocs blocks.old.skip_info blocks.old.term blocks.new.term block.old result }
@@ -358,6 +362,8 @@ fn append_doc(
     requires positive { IsTrue (has_freq blocks.old.skip_info) → 0 < term_freq }
     requires open { blocks.old.closed ≡ false }
     ensures block { IsOpenBlock blocks.old.skip_info block.new }
+
+    // What stays, and how it ends.
     ensures covered { AllByRecursion (Covers blocks.old.norms) block.new.docs }
     ensures same { (blocks.new.norms ≡ blocks.old.norms) × (blocks.new.skip_info ≡ blocks.old.skip_info) }
     ensures stays { OnOk result (blocks.new.closed ≡ false) }
@@ -456,6 +462,8 @@ impl PostingsSerializer {
         requires covered { self.old.closed ≡ false → Covers self.old.norms doc_id }
         ensures ok { OnOk result (self.new ≡ record self.old { docs = self.old.docs ++ doc_id ∷ []; freqs = self.old.freqs ++ term_freq ∷ []; closed = false }) }
         ensures err { OnErr result (self.new ≡ record self.old { docs = []; freqs = []; closed = true }) }
+
+        // By which fault it is refused.
         ensures limit { IsErrOf result (Fault.Limit LimitName.BlockFrequencySum)
             ↔ (self.old.closed ≡ false) × IsSumTooLarge self.old.skip_info (self.old.freqs ++ term_freq ∷ []) }
         ensures closed { IsErrOf result Fault.SerializerClosed ↔ IsTrue self.old.closed }

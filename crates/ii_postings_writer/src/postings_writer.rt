@@ -82,6 +82,8 @@ pub trait PostingsWriter: Drop {
         ensures counted { OnOk result (state self.new ≡ tokens_counted (length (kept_words (S.to_come token_stream.old))) (state self.old)) }
         ensures num_tokens { OnOk result (indexing_position.new.num_tokens ≡ indexing_position.old.num_tokens + length (kept_words (S.to_come token_stream.old))) }
         ensures end_position { OnOk result (indexing_position.new.end_position ≡ end_after indexing_position.old.end_position (S.to_come token_stream.old)) }
+
+        // What stays, and how it is refused.
         ensures same_term { OnOk result (term_buffer.new ≡ term_buffer.old) }
         ensures ended { OnOk result (S.to_come token_stream.new ≡ []) }
         ensures paths { ctx.new.path_to_unordered_id ≡ ctx.old.path_to_unordered_id }

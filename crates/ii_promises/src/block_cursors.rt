@@ -61,6 +61,8 @@ pub fn seek_decodes_one_block(cursor: &mut BlockSegmentPostings, target: DocId) 
     ensures before { (n : ℕ) → 128 * cursor.old.block ≤ n → n < 128 * cursor.new.block + result → slice_index cursor.old.docs n < target }
     ensures after { (n : ℕ) → 128 * cursor.new.block + result ≤ n → n < length cursor.old.docs → target ≤ slice_index cursor.old.docs n }
     ensures list { (cursor.new.docs ≡ cursor.old.docs) × (cursor.new.freqs ≡ cursor.old.freqs) }
+
+    // What it decodes.
     ensures docs { cursor.new.doc_decodes ≤ cursor.old.doc_decodes + 1 }
     ensures counts { cursor.new.freq_decodes ≤ cursor.old.freq_decodes + 1 }
     ensures stays { cursor.new.block ≡ cursor.old.block → (cursor.new.doc_decodes ≤ cursor.old.doc_decodes) × (cursor.new.freq_decodes ≤ cursor.old.freq_decodes) }

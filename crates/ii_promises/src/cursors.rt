@@ -71,6 +71,8 @@ pub fn advance_decodes_one_block(cursor: &mut SegmentPostings) -> DocId
     ensures doc { result ≡ doc_at cursor.new.rest }
     ensures rest { cursor.new.rest ≡ drop 1 cursor.old.rest }
     ensures block { cursor.new.block ≤ cursor.old.block + 1 }
+
+    // What it decodes.
     ensures docs { cursor.new.doc_decodes ≤ cursor.old.doc_decodes + 1 }
     ensures counts { cursor.new.freq_decodes ≤ cursor.old.freq_decodes + 1 }
     ensures positions { cursor.new.position_decodes ≡ cursor.old.position_decodes }
@@ -88,6 +90,8 @@ pub fn seek_decodes_one_block(cursor: &mut SegmentPostings, target: DocId) -> Do
     requires { IsTarget target cursor.old.rest }
     ensures doc { result ≡ doc_at cursor.new.rest }
     ensures rest { cursor.new.rest ≡ from_doc target cursor.old.rest }
+
+    // What it decodes.
     ensures docs { cursor.new.doc_decodes ≤ cursor.old.doc_decodes + 1 }
     ensures counts { cursor.new.freq_decodes ≤ cursor.old.freq_decodes + 1 }
     ensures positions { cursor.new.position_decodes ≡ cursor.old.position_decodes }
@@ -282,6 +286,8 @@ pub fn calls_are_answered_as_over_the_list(
     ensures beginning { answers_in result ≡ take (length (answers_in result)) (answers_to calls.now (not (is_read cursor.old.freq_reading)) cursor.old.rest) }
     ensures complete { IsTrue result.complete ↔ (length (answers_in result) ≡ length calls.now) }
     ensures rest { IsTrue result.complete → cursor.new.rest ≡ rest_after calls.now cursor.old.rest }
+
+    // Where the cursor goes, and what it decodes.
     ensures forward { cursor.old.block ≤ cursor.new.block }
     ensures docs { cursor.new.doc_decodes + cursor.old.block ≤ cursor.old.doc_decodes + cursor.new.block }
     ensures counts { cursor.new.freq_decodes + cursor.old.block ≤ cursor.old.freq_decodes + cursor.new.block }

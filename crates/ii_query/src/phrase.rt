@@ -183,6 +183,8 @@ fn candidate<P: Postings>(first: &mut P, others: &mut Vec<PhrasePart<P>>, doc: D
     ensures low { doc ≤ result }
     ensures least { result ≤ doc_at (phrase_docs (P.rest first.old) (parts_in others.new.items)) }
     ensures here { result ≡ doc → doc_at (phrase_docs (P.rest first.old) (parts_in others.new.items)) ≡ doc }
+
+    // What it cost.
     ensures first_work { Spent P.spent first.old first.new }
     ensures other_work { AllZip (Spent P.spent) (cursors_in others.old.items) (cursors_in others.new.items) }
 {

@@ -262,6 +262,8 @@ fn move_to<T: DocSet>(parts: &mut QueryParts<T>, doc: DocId, target: DocId) -> D
     ensures at { StandsAt result (rest_of T.rest parts.new) }
     ensures rest { rest_of T.rest parts.new ≡ from_doc target (rest_of T.rest parts.old) }
     ensures up_to { result ≤ TERMINATED }
+
+    // What stays, and what it cost.
     ensures depth { depth_of parts.new ≡ depth_of parts.old }
     ensures work { AllZip T.went (cursors_of parts.old) (cursors_of parts.new) }
 {

@@ -70,6 +70,8 @@ impl BlockSegmentPostings {
         ensures reading { IfOk result (λ cursor. (freq_reading record_option requested_option doc_freq bytes ≡ Ok cursor.freq_reading)
             × (bounds_read record_option requested_option doc_freq bytes ≡ Ok cursor.bounds)) }
         ensures entries { IfOk result (λ cursor. AreEntries doc_freq cursor.docs cursor.freqs) }
+
+        // It stands at its first block, and this was decoded and read for it.
         ensures first { IfOk result (λ cursor. cursor.block ≡ 0) }
         // what was decoded and read for it
         ensures doc_decodes { IfOk result (λ cursor. cursor.doc_decodes ≡ min 1 doc_freq) }
@@ -119,6 +121,8 @@ impl BlockSegmentPostings {
         ensures reading { OnOk result ((freq_reading self.old.recorded self.old.requested doc_freq bytes ≡ Ok self.new.freq_reading)
             × (bounds_read self.old.recorded self.old.requested doc_freq bytes ≡ Ok self.new.bounds)) }
         ensures entries { OnOk result (AreEntries doc_freq self.new.docs self.new.freqs) }
+
+        // It stands at its first block, and this was decoded and read for it.
         ensures first { self.new.block ≡ 0 }
         // what was decoded and read for it
         ensures doc_decodes { OnOk result (self.new.doc_decodes ≡ min 1 doc_freq) }
@@ -140,6 +144,8 @@ impl BlockSegmentPostings {
         ensures reading { OnOk result ((freq_reading self.old.recorded self.old.requested doc_freq bytes ≡ Ok self.new.freq_reading)
             × (bounds_read self.old.recorded self.old.requested doc_freq bytes ≡ Ok self.new.bounds)) }
         ensures entries { OnOk result (AreEntries doc_freq self.new.docs self.new.freqs) }
+
+        // It stands at its first block, and this was decoded and read for it.
         ensures first { self.new.block ≡ 0 }
         // what was decoded and read for it
         ensures doc_decodes { OnOk result (self.new.doc_decodes ≡ min 1 doc_freq) }
@@ -186,6 +192,8 @@ impl BlockSegmentPostings {
         ensures reading { (freq_reading record_option requested_option doc_freq bytes ≡ Ok result.freq_reading)
             × (bounds_read record_option requested_option doc_freq bytes ≡ Ok result.bounds) }
         ensures entries { AreEntries doc_freq result.docs result.freqs }
+
+        // It stands at its first block, and this was decoded and read for it.
         ensures first { result.block ≡ 0 }
         // what was decoded and read for it
         ensures doc_decodes { result.doc_decodes ≡ min 1 doc_freq }
@@ -207,6 +215,8 @@ impl BlockSegmentPostings {
         ensures reading { (freq_reading self.old.recorded self.old.requested doc_freq bytes ≡ Ok self.new.freq_reading)
             × (bounds_read self.old.recorded self.old.requested doc_freq bytes ≡ Ok self.new.bounds) }
         ensures entries { AreEntries doc_freq self.new.docs self.new.freqs }
+
+        // It stands at its first block, and this was decoded and read for it.
         ensures first { self.new.block ≡ 0 }
         // what was decoded and read for it
         ensures doc_decodes { self.new.doc_decodes ≡ min 1 doc_freq }

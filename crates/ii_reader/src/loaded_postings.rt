@@ -44,6 +44,8 @@ impl LoadedPostings {
         ensures num_docs { IfOk result (λ postings. postings.num_docs ≡ length (P.rest source.old)) }
         ensures few { OnOk result (num_positions (P.rest source.old) < 2 ^ 32) }
         // what is left of the source
+
+        // What is left of the source, and what it cost.
         ensures rest { OnOk result (P.rest source.new ≡ []) }
         ensures on_its_way { IsEndOf (P.rest source.old) (P.rest source.new) }
         ensures kind { P.always_one source.new ≡ P.always_one source.old }
@@ -90,6 +92,8 @@ fn load_positions<P: Postings>(source: &mut P, positions: &mut Vec<u32>) -> Resu
     ensures end { IfOk result (λ end. end ≡ length positions.new.items) }
     ensures few { OnOk result (length positions.new.items < 2 ^ 32) }
     // what is left of the source
+
+    // What is left of the source, and what it cost.
     ensures rest { P.rest source.new ≡ P.rest source.old }
     ensures kind { P.always_one source.new ≡ P.always_one source.old }
     ensures work { P.spent 1 (term_freq_at (P.always_one source.old) (P.rest source.old)) source.old source.new }

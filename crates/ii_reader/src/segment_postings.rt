@@ -77,6 +77,8 @@ impl SegmentPostings {
         ensures many { IfOk result (λ cursor. length cursor.rest ≡ doc_freq) }
         ensures reading { IfOk result (λ cursor. (freq_reading record_option requested_option doc_freq postings ≡ Ok cursor.freq_reading)
             × (bounds_trusted record_option requested_option doc_freq postings ≡ Ok cursor.bounds)) }
+
+        // It stands at its first block, and no more than this was decoded and read for it.
         ensures first { IfOk result (λ cursor. cursor.block ≡ 0) }
         // what was decoded and read for it
         ensures doc_decodes { IfOk result (λ cursor. cursor.doc_decodes ≤ 1) }
@@ -128,6 +130,8 @@ impl SegmentPostings {
         ensures many { length result.rest ≡ doc_freq }
         ensures reading { (freq_reading record_option requested_option doc_freq postings ≡ Ok result.freq_reading)
             × (bounds_trusted record_option requested_option doc_freq postings ≡ Ok result.bounds) }
+
+        // It stands at its first block, and no more than this was decoded and read for it.
         ensures first { result.block ≡ 0 }
         // what was decoded and read for it
         ensures doc_decodes { result.doc_decodes ≤ 1 }
@@ -172,6 +176,8 @@ impl SegmentPostings {
         ensures many { OnOk result (length self.new.rest ≡ doc_freq) }
         ensures reading { OnOk result ((freq_reading record_option requested_option doc_freq postings ≡ Ok self.new.freq_reading)
             × (bounds_trusted record_option requested_option doc_freq postings ≡ Ok self.new.bounds)) }
+
+        // It stands at its first block, and no more than this was decoded and read for it.
         ensures first { self.new.block ≡ 0 }
         // what was decoded and read for it
         ensures doc_decodes { self.new.doc_decodes ≤ 1 }
@@ -239,6 +245,8 @@ impl SegmentPostings {
             ≡ drop (128 * segment_block_postings.block) (list_of segment_block_postings.docs segment_block_postings.freqs (deltas_read position_reader)) }
         ensures doc_freq { result.doc_freq ≡ length segment_block_postings.docs }
         ensures reading { (result.freq_reading ≡ segment_block_postings.freq_reading) × (result.bounds ≡ trusted segment_block_postings.freq_reading segment_block_postings.bounds) }
+
+        // Where it stands, and what was decoded and read.
         ensures block { result.block ≡ segment_block_postings.block }
         // what was decoded and read for it
         ensures doc_decodes { result.doc_decodes ≡ segment_block_postings.doc_decodes }
@@ -340,6 +348,8 @@ impl DocSet for SegmentPostings {
     fn advance(&mut self) -> DocId
         ensures doc { result ≡ doc_at self.new.rest }
         ensures rest { self.new.rest ≡ drop 1 self.old.rest }
+
+        // What stays, and what it cost.
         ensures sound { IsSound self.new.rest }
         ensures kind { not (is_read self.new.freq_reading) ≡ not (is_read self.old.freq_reading) }
         ensures work { WentLazily self.old self.new }
@@ -375,6 +385,8 @@ impl DocSet for SegmentPostings {
         requires { IsTarget target self.old.rest }
         ensures doc { result ≡ doc_at self.new.rest }
         ensures rest { self.new.rest ≡ from_doc target self.old.rest }
+
+        // What stays, and what it cost.
         ensures sound { IsSound self.new.rest }
         ensures kind { not (is_read self.new.freq_reading) ≡ not (is_read self.old.freq_reading) }
         ensures work { WentLazily self.old self.new }
@@ -446,6 +458,8 @@ impl Postings for SegmentPostings {
         ensures ok { OnOk result (output.new.items ≡ output.old.items ++ map (λ p. p + offset) (positions_at self.old.rest)) }
         ensures err { OnErr result (output.new.items ≡ output.old.items) }
         ensures only { OnlyMemory result }
+
+        // What stays, and what it cost.
         ensures rest { self.new.rest ≡ self.old.rest }
         ensures kind { not (is_read self.new.freq_reading) ≡ not (is_read self.old.freq_reading) }
         ensures work { SpentLazily 1 (term_freq_at (not (is_read self.old.freq_reading)) self.old.rest) self.old self.new }
@@ -468,6 +482,8 @@ impl Postings for SegmentPostings {
         ensures count { result ≡ min (length output.old) (length (positions_at self.old.rest) - from) }
         ensures read { output.new ≡ take (length output.old) (drop from (positions_at self.old.rest)) ++ drop (length (positions_at self.old.rest) - from) output.old }
         ensures few { length (positions_at self.old.rest) < 2 ^ 32 }
+
+        // What stays, and what it cost.
         ensures rest { self.new.rest ≡ self.old.rest }
         ensures kind { not (is_read self.new.freq_reading) ≡ not (is_read self.old.freq_reading) }
         ensures work { SpentLazily 1 result self.old self.new }
@@ -526,6 +542,8 @@ fn read_piece(
     // what is read, and what stays
     ensures count { result ≡ min (length output.old) (count - from) }
     ensures read { output.new ≡ take (length output.old) (drop from (running_sums 0 (take count (drop start reader.old.deltas)))) ++ drop (count - from) output.old }
+
+    // What stays, and what it decodes.
     ensures deltas { reader.new.deltas ≡ reader.old.deltas }
     ensures decodes { reader.new.decodes ≤ reader.old.decodes + result / 128 + 2 }
 {

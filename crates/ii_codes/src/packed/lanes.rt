@@ -96,6 +96,8 @@ pub(crate) fn sorted_narrow<const W: usize>(
     requires room { length output.old ≡ 128 }
     requires gap { gap ≤ 1 }
     requires least { least < 2 ^ 32 + gap }
+
+    // Whether all values fit, and the values then.
     ensures fits { result ≡ fit_u32 (values_from gap least (unpacked W bytes.now)) }
     ensures values { OnTrue result (output.new ≡ values_from gap least (unpacked W bytes.now)) }
 {
@@ -200,6 +202,8 @@ fn put_sorted_four<const W: usize>(
     requires gap { gap ≤ 1 }
     requires before { before ≡ replicate 4 (slice_index before 0) }
     requires room { place + 4 ≤ length output.old }
+
+    // Four values more, and the last of them.
     ensures written { take (place + 4) output.new ≡ take place output.old ++ map (λ (s : ℕ). (slice_index before 0 + s) % 2 ^ 32) (values_from gap gap (bits_in 8 bytes.now (at * 8 + (first + 0 * W)) W ∷ bits_in 8 bytes.now (at * 8 + (first + 1 * W)) W ∷ bits_in 8 bytes.now (at * 8 + (first + 2 * W)) W ∷ bits_in 8 bytes.now (at * 8 + (first + 3 * W)) W ∷ [])) }
     ensures last { result ≡ replicate 4 (slice_index (map (λ (s : ℕ). (slice_index before 0 + s) % 2 ^ 32) (values_from gap gap (bits_in 8 bytes.now (at * 8 + (first + 0 * W)) W ∷ bits_in 8 bytes.now (at * 8 + (first + 1 * W)) W ∷ bits_in 8 bytes.now (at * 8 + (first + 2 * W)) W ∷ bits_in 8 bytes.now (at * 8 + (first + 3 * W)) W ∷ []))) 3) }
 {
@@ -223,6 +227,8 @@ pub(crate) fn sorted_wide<const W: usize>(
     requires room { length output.old ≡ 128 }
     requires gap { gap ≤ 1 }
     requires least { least < 2 ^ 32 + gap }
+
+    // Whether all values fit, and the values then.
     ensures fits { result ≡ fit_u32 (values_from gap least (unpacked W bytes.now)) }
     ensures values { OnTrue result (output.new ≡ values_from gap least (unpacked W bytes.now)) }
 {
