@@ -9,7 +9,7 @@ import threading
 import time
 
 TOP = os.path.dirname(os.path.dirname(os.path.abspath(__file__)))
-# What a check of one crate takes, in bytes, by the samples of whole runs: two crates of tests a tenth more, the others at most nine tenths.
+# What a check of one crate takes, in bytes, by the samples of whole runs: two crates of tests a tenth and a third more, the others at most nine tenths.
 ONE_CHECK = 4 << 30
 
 
