@@ -9,8 +9,8 @@ import threading
 import time
 
 TOP = os.path.dirname(os.path.dirname(os.path.abspath(__file__)))
-# What a check of one crate takes, in bytes, by the samples of whole runs: two crates of tests a tenth and a third more, the others at most nine tenths.
-ONE_CHECK = 4 << 30
+# What each of four checks side by side takes at most, in bytes, by the samples of whole runs (alone one takes up to 6 GB, most less than 4).
+ONE_CHECK = 9 << 29
 
 
 def libraries():
