@@ -1,6 +1,6 @@
 ghost use Rattle.std.specs.Prelude.{◌≡◌, ◌<◌, length, IfOk};
 ghost use Rattle.ii_base.specs.declared.schema.value_type.ValueType.TheVariants.{Str};
-ghost use Rattle.ii_indexing.specs.IndexCalls.{Takes};
+ghost use Rattle.ii_definitions.specs.IndexCalls.{Takes};
 
 use crate::table::{Measured, print_row, since};
 use anyhow::Result;

@@ -1,6 +1,6 @@
 ghost use Rattle.std.specs.Prelude.{◌≡◌, ◌<◌, length, IfOk};
 ghost use Rattle.ii_base.specs.declared.schema.value_type.ValueType.TheVariants.{Json};
-ghost use Rattle.ii_indexing.specs.IndexCalls.{Takes};
+ghost use Rattle.ii_definitions.specs.IndexCalls.{Takes};
 
 use crate::indexes::written;
 use crate::table::{Measured, ROUNDS, print_memory, print_row, since};

@@ -2,3 +2,4 @@ mod FileRows
 pub mod GroupedLaws
 mod JsonRows
 pub mod KeyLaws
+pub mod ListLaws

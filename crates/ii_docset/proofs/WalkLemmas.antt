@@ -1,6 +1,6 @@
 -- Laws of calls that are made one after the other.
 use Rattle.std.proofs.Common.{◌≡◌, ℕ, zero, suc, ◌+◌, ◌<◌, ◌≤◌, Bool, List, [], ◌∷◌, ◌++◌, length, take, drop, map, get_or, refl, sym, ap, ◌∙◌, arith}
-use Rattle.std.proofs.lemmas.List.{append_assoc, drop_more, length-append, map-append, take_more}
+use Rattle.std.proofs.lemmas.List.{append-nil, append_assoc, drop_all, drop_more, length-append, map-append, take_at, take_more}
 use Rattle.ii_docset.specs.declared.calls.CursorAnswer.{CursorAnswer}
 use Rattle.ii_docset.specs.declared.calls.CursorCall.{CursorCall}
 use Rattle.ii_docset.specs.Calls.{IsLawful, answer_of, answer_to, answers_to, asked_by, count_asked, counts_asked, num_asked, rest_after, rest_after_call}
@@ -47,6 +47,20 @@ walks_on calls one es i d answers answer here next w within is goes =
 pub may_walk : (calls : List CursorCall) (one : Bool) (es : List Entry) (i : ℕ) (d : CursorCall) (answers : List CursorAnswer) (here : List Entry)
     → IsWalking calls one es i answers here → i < length calls → IsLawful (get_or calls i d ∷ drop (i + 1) calls) one here
 may_walk calls one es i d answers here w within = rw (drop_more calls i d within) at w.lawful
+
+-- the answers so far are the first of those of all
+pub told_first : (calls : List CursorCall) (one : Bool) (es : List Entry) (i : ℕ) (answers : List CursorAnswer) (here : List Entry)
+    → IsWalking calls one es i answers here → map answer_of answers ≡ take (length (map answer_of answers)) (answers_to calls one es)
+told_first calls one es i answers here w =
+    let said = map answer_of answers in
+    sym (rw (← w.told) (take_at said (answers_to (drop i calls) one here) (length said) refl))
+
+-- where no call is left they are all of them
+pub told_all : (calls : List CursorCall) (one : Bool) (es : List Entry) (i : ℕ) (answers : List CursorAnswer) (here : List Entry)
+    → IsWalking calls one es i answers here → length calls ≤ i → map answer_of answers ≡ answers_to calls one es
+told_all calls one es i answers here w ended =
+    let none = drop_all i calls ended in
+    sym (append-nil (map answer_of answers)) ∙ (rw none at w.told)
 
 -- what one call more asks for
 asked_push : (calls : List CursorCall) (call : CursorCall) → num_asked (calls ++ call ∷ []) ≡ num_asked calls + asked_by call

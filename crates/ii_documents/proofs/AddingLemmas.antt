@@ -5,8 +5,8 @@ use Rattle.std.proofs.lemmas.Option.{get_or_from_slice_get, slice_get_within}
 use Rattle.std.specs.List.{slice_get}
 use Rattle.ii_base.specs.Schema.{SchemaEntry}
 use Rattle.ii_definitions.specs.Tokens.{Call}
-use Rattle.ii_indexing.specs.IndexCalls.{call_of}
-use Rattle.ii_indexing.specs.declared.index_call.IndexCall.{IndexCall}
+use Rattle.ii_definitions.specs.IndexCalls.{call_of}
+use Rattle.ii_definitions.specs.declared.index_call.IndexCall.{IndexCall}
 use Rattle.ii_documents.specs.declared.faults.LineFault.{LineFault}
 use Rattle.ii_documents.specs.JsonLines.{Adds, Refusal, TellsOfLine, told_of_line}
 use Rattle.ii_documents.specs.Steps.{◌>>=◌}

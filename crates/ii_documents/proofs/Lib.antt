@@ -1,6 +1,5 @@
 mod AddingLemmas
 mod AddressLemmas
-mod DocumentLemmas
 mod JsonLemmas
 mod LineLemmas
 mod WorkedRows

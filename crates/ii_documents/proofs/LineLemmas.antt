@@ -13,9 +13,9 @@ use Rattle.serde_json.specs.View.{members_view, view}
 use Rattle.serde_json.specs.declared.value.Value.{Value}
 use Rattle.ii_base.specs.Schema.{SchemaEntry}
 use Rattle.ii_definitions.specs.Tokens.{Call, Content}
-use Rattle.ii_indexing.specs.IndexCalls.{Takes, call_of, call_with, field_of, type_of}
-use Rattle.ii_indexing.specs.declared.index_call.IndexCall.{IndexCall}
-use Rattle.ii_indexing.proofs.HeldLaws.{all_both}
+use Rattle.ii_definitions.specs.IndexCalls.{Takes, call_of, call_with, field_of, type_of}
+use Rattle.ii_definitions.specs.declared.index_call.IndexCall.{IndexCall}
+use Rattle.ii_definitions.proofs.ListLaws.{all_both}
 use Rattle.ii_documents.specs.declared.faults.ValueFault.{ValueFault}
 use Rattle.ii_documents.specs.JsonLines.{Adds, IsOf, Refusal, call_with_content, field_calls, fields_calls, items_calls, unknown_name_in, value_call}
 use Rattle.ii_documents.proofs.AddingLemmas.{both}

@@ -14,8 +14,8 @@ use Rattle.ii_base.specs.declared.schema.value_type.ValueType.{ValueType}
 use Rattle.ii_base.specs.declared.schema.value_type.ValueType.TheVariants as types
 use Rattle.ii_definitions.specs.JsonKeys.{is_json}
 use Rattle.ii_definitions.specs.Tokens.{Call, Content, leaves, text, value}
-use Rattle.ii_indexing.specs.IndexCalls.{Takes, call_of, doc_of, field_of, type_of}
-use Rattle.ii_indexing.specs.declared.index_call.IndexCall.{IndexCall}
+use Rattle.ii_definitions.specs.IndexCalls.{Takes, call_of, doc_of, field_of, type_of}
+use Rattle.ii_definitions.specs.declared.index_call.IndexCall.{IndexCall}
 use Rattle.ii_documents.specs.declared.faults.LineFault.{LineFault}
 use Rattle.ii_documents.specs.declared.faults.LineFault.TheVariants as faults
 use Rattle.ii_documents.specs.declared.faults.ValueFault.{ValueFault}

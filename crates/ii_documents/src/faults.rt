@@ -8,26 +8,41 @@ use hex::FromHexError;
 use ii_base::Field;
 use serde_json::Error as JsonError;
 use std::alloc::{AllocError, AllocFailed};
+use std::fmt;
 use thiserror::Error;
 
 /// Why a value isn't one of its field.
-#[derive(Clone, Copy, Debug, PartialEq, Eq, Error)]
+#[derive(Clone, Copy, Debug, PartialEq, Eq)]
 pub enum ValueFault {
     /// It is of another kind than the values of the field.
-    #[error("not of the type of the field")]
     WrongType,
     /// A number that the type of the field doesn't have.
-    #[error("a number out of range")]
     OutOfRange,
     /// A text that isn't pairs of hexadecimal digits.
-    #[error("not pairs of hexadecimal digits")]
     NotHex,
     /// A text that writes no IP address.
-    #[error("not an IP address")]
     NotAnAddress,
     /// A JSON value with a floating-point number in it.
-    #[error("a floating-point number, which is not indexed")]
     Float,
+}
+
+impl ValueFault {
+    // What it is called.
+    fn name(self) -> &'static str {
+        match self {
+            ValueFault::WrongType => "not of the type of the field",
+            ValueFault::OutOfRange => "a number out of range",
+            ValueFault::NotHex => "not pairs of hexadecimal digits",
+            ValueFault::NotAnAddress => "not an IP address",
+            ValueFault::Float => "a floating-point number, which is not indexed",
+        }
+    }
+}
+
+impl fmt::Display for ValueFault {
+    fn fmt<W: fmt::Write>(&self, f: &mut fmt::Formatter<W>) -> fmt::Result {
+        f.write_str(self.name())
+    }
 }
 
 /// Why a line is no document.

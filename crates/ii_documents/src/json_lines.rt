@@ -5,20 +5,29 @@ ghost use Rattle.serde_json.specs.Data.{item, no_items};
 ghost use Rattle.serde_json.specs.View.{items_view, members_view, view};
 ghost use Rattle.ii_base.specs.Schema.{SchemaEntry};
 ghost use Rattle.ii_definitions.specs.JsonKeys.{is_json};
-ghost use Rattle.ii_indexing.specs.IndexCalls.{call_of};
+ghost use Rattle.ii_definitions.specs.IndexCalls.{call_of};
 ghost use Rattle.ii_documents.specs.JsonLines.{AddsAs, AnswersFromLine, IsOf, field_calls, fields_calls, items_calls, line_calls, members_calls, unknown_name_in};
 
 use crate::faults::LineFault;
 use crate::values::value_call;
 use ii_base::{Field, Schema, ValueType};
+use ii_definitions::IndexCall;
 use ii_docset::DocId;
-use ii_indexing::IndexCall;
 use serde_json::{Map, Value};
 use std::alloc::Global;
 
-// The calls of a document that a line says.
+/// The index calls of a document that a line says: an object, each of whose keys is the name of a field.
+/// Fields are taken in the order of the schema. `null` is no value; an array has several values of its
+/// field, one after the other, but for a field of JSON values, where it is one. A field that isn't indexed
+/// takes any value, and nothing is kept of it.
+///
+/// Values of a field of texts are texts, of bytes texts of hexadecimal digits, of addresses texts that
+/// write an IP address of either version, of numbers and truth values these.
+///
+/// `NotJson`, `NotAnObject`, `UnknownKey` by the first key in the order of their bytes, `WrongValue` by the
+/// first value, fields in order. `OutOfMemory` where there is no room.
 #[tactic(auto, unfolding(crate::specs::JsonLines::line_calls))]
-pub(crate) fn line_calls(
+pub fn line_calls(
     alloc: Global,
     schema: &Schema,
     doc: DocId,

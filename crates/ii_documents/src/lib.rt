@@ -2,12 +2,11 @@
 #![tactic(auto)]
 
 pub mod addresses;
-pub mod documents;
 pub mod faults;
-mod json_lines;
+pub mod json_lines;
 mod json_values;
 mod values;
 
 pub use addresses::address_of;
-pub use documents::Documents;
 pub use faults::{LineFault, ValueFault};
+pub use json_lines::line_calls;

@@ -4,14 +4,14 @@ ghost use Rattle.serde_json.specs.View.{view};
 ghost use Rattle.ii_base.specs.Schema.{SchemaEntry};
 ghost use Rattle.ii_base.specs.declared.schema.value_type.ValueType.TheVariants as types;
 ghost use Rattle.ii_documents.specs.JsonLines.{AnswersFromLine, call_with_content, content_in, value_call};
-ghost use Rattle.ii_indexing.specs.IndexCalls.{call_with, type_of};
+ghost use Rattle.ii_definitions.specs.IndexCalls.{call_with, type_of};
 
 use crate::addresses::address_of;
 use crate::faults::{LineFault, ValueFault};
 use crate::json_values::{has_float, json_value};
 use ii_base::{Field, FieldEntry, ValueType};
+use ii_definitions::IndexCall;
 use ii_docset::DocId;
-use ii_indexing::IndexCall;
 use serde_json::Value;
 use std::alloc::Global;
 

@@ -1,7 +1,7 @@
 ghost use Rattle.std.specs.Prelude.{◌≡◌, List, length, IfOk};
 ghost use Rattle.ii_base.specs.Schema.{SchemaEntry};
 ghost use Rattle.ii_base.specs.declared.schema.value_type.ValueType.TheVariants as types;
-ghost use Rattle.ii_indexing.specs.IndexCalls.{MayAllBeIndexed, Takes, doc_of, field_of, type_of};
+ghost use Rattle.ii_definitions.specs.IndexCalls.{MayAllBeIndexed, Takes, doc_of, field_of, type_of};
 
 use ii_base::{
     AsciiTokenizer, Fault, Field, FieldEntry, IndexRecordOption, JsonValue, Schema, Term, ValueType,

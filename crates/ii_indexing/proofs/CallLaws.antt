@@ -13,7 +13,7 @@ use Rattle.ii_base.specs.declared.schema.value_type.ValueType.{ValueType}
 use Rattle.ii_base.specs.declared.schema.value_type.ValueType.TheVariants.{Str}
 use Rattle.ii_definitions.specs.Fields.{option_of}
 use Rattle.ii_definitions.specs.Tokens.{Call, Piece, call_pieces, pieces_of, text, text_at, value, value_at, words}
-use Rattle.ii_indexing.specs.IndexCalls.{Takes}
+use Rattle.ii_definitions.specs.IndexCalls.{Takes}
 use Rattle.ii_indexing.specs.IndexedTerms.{TakesTexts, TakesValue}
 use Rattle.ii_indexing.specs.Indexer.{EndsAt, IndexedFieldsState, StoresAll, StoresPieces}
 use Rattle.ii_indexing.specs.Refusals.{content_fault, piece_fault, pieces_fault}

@@ -10,12 +10,12 @@ use Rattle.ii_base.specs.Schema.{SchemaEntry}
 use Rattle.ii_base.specs.Words.{Word}
 use Rattle.ii_definitions.specs.Fields.{option_of}
 use Rattle.ii_definitions.specs.Tokens.{Call, call_pieces, pieces_of}
-use Rattle.ii_indexing.specs.IndexCalls.{MayAllBeIndexed, MayBeIndexed, call_of, doc_of, field_of}
+use Rattle.ii_definitions.specs.IndexCalls.{MayAllBeIndexed, MayBeIndexed, call_of, doc_of, field_of}
 use Rattle.ii_indexing.specs.Indexer.{IndexerState, Stores}
 use Rattle.ii_indexing.specs.Refusals.{call_fault, calls_fault}
 use Rattle.ii_json.specs.LeafVisit.{first_fault}
 use Rattle.ii_indexing.proofs.CallLaws.{pieces_with}
-use Rattle.ii_indexing.specs.declared.index_call.IndexCall.{IndexCall}
+use Rattle.ii_definitions.specs.declared.index_call.IndexCall.{IndexCall}
 
 -- No document lies below the one before, or below a least one.
 abbrev pub FollowFrom : ℕ → List IndexCall → Type 0

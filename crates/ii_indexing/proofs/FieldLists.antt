@@ -13,7 +13,7 @@ use Rattle.ii_base.specs.declared.schema.value_type.ValueType.TheVariants.{Str, 
 use Rattle.ii_fieldnorm.specs.Buffers.{Buffers, buffer_of, empty_buffers}
 use Rattle.ii_definitions.specs.Fields.{option_of}
 use Rattle.ii_definitions.specs.Tokens.{Piece}
-use Rattle.ii_indexing.specs.IndexCalls.{Takes}
+use Rattle.ii_definitions.specs.IndexCalls.{Takes}
 use Rattle.ii_base.specs.Paths.{has_zero}
 use Rattle.ii_base.specs.ValueTypes.{code_of}
 use Rattle.ii_base.specs.Values.{json_key, text_key, typed_key, u64_bytes}

@@ -19,6 +19,7 @@ use Rattle.ii_base.specs.declared.schema.index_record_option.IndexRecordOption.T
 use Rattle.ii_base.specs.declared.schema.value_type.ValueType.{ValueType}
 use Rattle.ii_base.specs.Options.{downgrade}
 use Rattle.ii_base.specs.Entries.{Entry as DocEntry}
+use Rattle.ii_definitions.proofs.ListLaws.{all_both}
 use Rattle.ii_definitions.specs.Cut.{cut_entry}
 use Rattle.ii_definitions.specs.JsonKeys.{is_json, path_in, type_in, type_of_code, type_under}
 use Rattle.ii_definitions.specs.Postings.{field_count, grouped, kind_of, postings_from, tokens_at}
@@ -45,10 +46,6 @@ module _ (flags : List Bool) (paths : List (List ℕ)) where
   postings_held option requested ts =
       ap (λ (o : IndexRecordOption). map (cut_entry (downgrade o requested)) (grouped (map (held_token flags paths) ts))) (kind_held flags paths option ts)
       ∙ ap (map (cut_entry (downgrade (kind_of option ts) requested))) (grouped_held flags paths ts)
-
-pub all_both : {A : Type 0} (P : A → Type 0) (xs ys : List A) → AllByRecursion P xs → AllByRecursion P ys → AllByRecursion P (xs ++ ys)
-all_both P [] ys first second = second
-all_both P (x ∷ xs) ys first second = (first.0, all_both P xs ys first.1 second)
 
 -- A text's words, and what is held of them.
 module _ (entries : List SchemaEntry) (paths : List (List ℕ)) (ok : AreKnownPaths paths) (p q : Piece) (same_field : q.field ≡ p.field) (same_doc : q.doc ≡ p.doc) (takes : TakesTexts entries paths p.field q.prefix p.prefix) where

@@ -12,7 +12,7 @@ use Rattle.ii_base.specs.declared.schema.value_type.ValueType.TheVariants.{Json}
 use Rattle.ii_definitions.specs.Fields.{option_of}
 use Rattle.ii_definitions.specs.Tokens.{Piece, at_path, leaf_pieces, text_at, value_at}
 use Rattle.ii_json.specs.LeafVisit.{IsRefusedBy}
-use Rattle.ii_indexing.specs.IndexCalls.{Takes}
+use Rattle.ii_definitions.specs.IndexCalls.{Takes}
 use Rattle.ii_indexing.specs.Indexer.{IndexedFieldsState, LeafGiven, StoresAll}
 use Rattle.ii_indexing.specs.Refusals.{next_leaf_fault, piece_fault}
 use Rattle.ii_indexing.proofs.FieldLists.{one_fault}

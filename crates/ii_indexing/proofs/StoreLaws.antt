@@ -16,7 +16,8 @@ use Rattle.ii_definitions.specs.Tokens.{IndexToken, Piece, kept_words, text_at, 
 use Rattle.std.proofs.lemmas.List.{map-append}
 use Rattle.ii_postings_writer.specs.ResolvedTerms.{IsKnownToken, held_token, json_fields}
 use Rattle.ii_postings_writer.proofs.ResolvedRecords.{kind_held}
-use Rattle.ii_indexing.proofs.HeldLaws.{all_both, count_held, keys_held, words_held, words_known}
+use Rattle.ii_definitions.proofs.ListLaws.{all_both}
+use Rattle.ii_indexing.proofs.HeldLaws.{count_held, keys_held, words_held, words_known}
 use Rattle.ii_definitions.specs.Fields.{option_of}
 use Rattle.ii_definitions.specs.Postings.{field_count, is_at, kind_of, tokens_at}
 use Rattle.ii_indexing.specs.IndexedTerms.{IndexedTermsState, IsOfField, StoresTokens, TakesTexts, TakesValue, held_kept_at, kept_at, kept_in, value_fault, writer_in}

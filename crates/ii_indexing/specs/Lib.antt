@@ -1,5 +1,4 @@
 pub mod FieldValues
-pub mod IndexCalls
 pub mod IndexFiles
 pub mod IndexedTerms
 pub mod Indexer

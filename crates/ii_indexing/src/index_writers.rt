@@ -2,16 +2,16 @@ ghost use Rattle.std.specs.Prelude.{◌≡◌, ◌≤◌, ◌⊎◌, [], List, m
 ghost use Rattle.ii_base.specs.declared.doc_id.TheConstants.{TERMINATED};
 ghost use Rattle.ii_definitions.specs.Fields.{option_of};
 ghost use Rattle.ii_definitions.specs.Tokens.{pieces_of, tokens_of};
-ghost use Rattle.ii_indexing.specs.IndexCalls.{MayAllBeIndexed, call_of};
+ghost use Rattle.ii_definitions.specs.IndexCalls.{MayAllBeIndexed, call_of};
 ghost use Rattle.ii_indexing.specs.IndexFiles.{CountsIndexFailures, FilesGrow, IsIndexFault, WroteIndex};
 ghost use Rattle.ii_indexing.specs.Indexer.{Stores};
 ghost use Rattle.ii_indexing.specs.RamFiles.{empty_files};
 ghost use Rattle.ii_indexing.specs.Refusals.{calls_fault};
 ghost use Rattle.ii_json.specs.LeafVisit.{IsRefusedBy};
 
-use crate::index_call::IndexCall;
 use crate::indexer::Indexer;
 use ii_base::{CountingWriter, DocId, Fault, Schema, TextAnalyzer};
+use ii_definitions::IndexCall;
 use std::alloc::Global;
 use std::io::Write;
 

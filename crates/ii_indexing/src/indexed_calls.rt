@@ -5,16 +5,16 @@ ghost use Rattle.ii_definitions.specs.Fields.{option_of};
 ghost use Rattle.ii_definitions.specs.Tokens.{Piece, call_pieces, value_at};
 ghost use Rattle.ii_json.specs.LeafVisit.{IsRefusedBy};
 ghost use Rattle.ii_indexing.specs.FieldValues.{key_of_value};
-ghost use Rattle.ii_indexing.specs.IndexCalls.{Takes, call_with, content_of, doc_of, field_of, type_of};
+ghost use Rattle.ii_definitions.specs.IndexCalls.{Takes, call_with, content_of, doc_of, field_of, type_of};
 ghost use Rattle.ii_indexing.specs.IndexedTerms.{TakesValue};
 ghost use Rattle.ii_indexing.specs.Indexer.{EndsAt, StoresAll, StoresPieces};
 ghost use Rattle.ii_indexing.specs.OpenDocuments.{with_norms};
 ghost use Rattle.ii_indexing.specs.Refusals.{content_fault, piece_fault};
 
-use crate::index_call::IndexCall;
 use crate::indexed_fields::IndexedFields;
 use crate::json_utils::index_json_value;
 use ii_base::{DocId, Fault, Field, TextAnalyzer};
+use ii_definitions::IndexCall;
 use std::alloc::Global;
 
 /// A value that isn't text; a number or a truth value is the number of 64 bits that stands for it.

@@ -8,7 +8,7 @@ ghost use Rattle.ii_base.specs.Paths.{has_zero};
 ghost use Rattle.ii_base.specs.Values.{json_key, typed_key};
 ghost use Rattle.ii_base.specs.declared.schema.value_type.ValueType.TheVariants.{Json};
 ghost use Rattle.ii_json.specs.LeafVisit.{is_number_type};
-ghost use Rattle.ii_indexing.specs.IndexCalls.{Takes};
+ghost use Rattle.ii_definitions.specs.IndexCalls.{Takes};
 ghost use Rattle.ii_indexing.specs.IndexedTerms.{TakesTexts, TakesValue};
 ghost use Rattle.ii_postings_writer.specs.FieldParts.{AreShortNorms};
 ghost use Rattle.ii_indexing.specs.Indexer.{EndsAt, StoresAll, StoresPieces, StoresSome};

@@ -4,15 +4,15 @@ ghost use Rattle.ii_base.specs.declared.doc_id.TheConstants.{TERMINATED};
 ghost use Rattle.ii_definitions.specs.Fields.{option_of};
 ghost use Rattle.ii_definitions.specs.Tokens.{Piece, call_pieces, tokens_after};
 ghost use Rattle.ii_indexing.specs.IndexFiles.{CountsIndexFailures, FilesGrow, IsIndexFault, WroteIndex};
-ghost use Rattle.ii_indexing.specs.IndexCalls.{Takes, call_of, doc_of, expands_dots_in, field_of, type_of};
+ghost use Rattle.ii_definitions.specs.IndexCalls.{Takes, call_of, doc_of, expands_dots_in, field_of, type_of};
 ghost use Rattle.ii_indexing.specs.Indexer.{Stores};
 ghost use Rattle.ii_indexing.specs.Refusals.{call_fault};
 ghost use Rattle.ii_json.specs.LeafVisit.{IsRefusedBy};
 
-use crate::index_call::IndexCall;
 use crate::index_writers::IndexWriters;
 use crate::indexed_fields::IndexedFields;
 use ii_base::{DocId, Fault, Field, Schema, TextAnalyzer};
+use ii_definitions::IndexCall;
 use std::alloc::Global;
 use std::io::Write;
 use std::marker::Model;

@@ -7,7 +7,7 @@ ghost use Rattle.ii_base.specs.declared.doc_id.TheConstants.{TERMINATED};
 ghost use Rattle.ii_definitions.specs.Fields.{option_of};
 ghost use Rattle.ii_definitions.specs.Tokens.{Piece, leaf_pieces};
 ghost use Rattle.ii_json.specs.LeafVisit.{IsRefusedBy, leaves_fault};
-ghost use Rattle.ii_indexing.specs.IndexCalls.{Takes};
+ghost use Rattle.ii_definitions.specs.IndexCalls.{Takes};
 ghost use Rattle.ii_indexing.specs.Indexer.{EndsAt, StoresAll};
 ghost use Rattle.ii_indexing.specs.OpenDocuments.{with_norms};
 ghost use Rattle.ii_indexing.specs.Refusals.{next_leaf_fault};
@@ -37,7 +37,7 @@ impl<A: TextAnalyzer> LeafSink for LeafIndexer<'_, A> {
     ghost use Rattle.ii_base.specs.declared.doc_id.TheConstants.{TERMINATED};
     ghost use Rattle.ii_definitions.specs.Fields.{option_of};
     ghost use Rattle.ii_definitions.specs.Tokens.{leaf_pieces};
-    ghost use Rattle.ii_indexing.specs.IndexCalls.{Takes};
+    ghost use Rattle.ii_definitions.specs.IndexCalls.{Takes};
     ghost use Rattle.ii_indexing.specs.Indexer.{EndsAt, LeafConstant, LeafGiven, StoresAll};
     ghost use Rattle.ii_indexing.specs.OpenDocuments.{with_norms};
     ghost use Rattle.ii_indexing.specs.Refusals.{next_leaf_fault};

@@ -4,7 +4,6 @@
 #![tactic(auto)]
 
 mod finished_fields;
-pub mod index_call;
 pub mod index_writers;
 mod indexed_calls;
 mod indexed_fields;
@@ -17,6 +16,7 @@ mod open_documents;
 mod open_paths;
 
 pub use ii_base::{encode_column_name, split_json_path};
+pub use ii_definitions::IndexCall;
 pub use ii_json::{
     JsonTermSerializer, OrderedPathId, PathToUnorderedId,
     convert_to_fast_value_and_append_to_json_term, json_path_sep_to_dot,
@@ -30,7 +30,6 @@ pub use ii_recorder::{
     AnyRecorder, BufferLender, DocIdRecorder, FieldSerializer, InvertedIndexSerializer, Recorder,
     TermFrequencyRecorder, TfAndPositionRecorder,
 };
-pub use index_call::IndexCall;
 pub use index_writers::{IndexWriters, write_index};
 pub use indexer::Indexer;
 pub use indexing_positions_per_path::IndexingPositionsPerPath;

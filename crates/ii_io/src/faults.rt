@@ -1,92 +1,69 @@
-ghost use Rattle.std.specs.Prelude.{◌≡◌};
+ghost use Rattle.std.specs.Prelude.{◌≡◌, ◌↔◌, IsTrue};
+ghost use Rattle.ii_io.specs.declared.faults.Fault.TheVariants.{OutOfMemory};
 ghost use Rattle.ii_io.specs.Faults.{number_of, as_fault, memory_fault};
 
 use std::alloc::{AllocError, AllocFailed};
+use std::fmt;
 use thiserror::Error;
 
 /// The kind of a JSON leaf that the index doesn't take.
-#[derive(Clone, Copy, Debug, PartialEq, Eq, Error)]
+#[derive(Clone, Copy, Debug, PartialEq, Eq)]
 pub enum LeafKind {
-    #[error("float")]
     Float,
-    #[error("pre-tokenized text")]
     PreTok,
-    #[error("bytes")]
     Bytes,
-    #[error("facet")]
     Facet,
-    #[error("IP address")]
     Ip,
     /// A value in which more arrays and objects stand in one another than an index takes.
-    #[error("deep value")]
     Deep,
 }
 
 /// The limit that a number passed.
-#[derive(Clone, Copy, Debug, PartialEq, Eq, Error)]
+#[derive(Clone, Copy, Debug, PartialEq, Eq)]
 pub enum LimitName {
     /// The start or end of a kept token, the end of a text plus its gap, or a recorded position.
-    #[error("position")]
     Position,
     /// The tokens of a text group (at most `u32::MAX`) or of a field (at most `u64::MAX`).
-    #[error("number of tokens")]
     Tokens,
     /// A term's count in one document, at most `u32::MAX`.
-    #[error("count in a document")]
     Count,
     /// The sum of the counts of a full block, at most `u32::MAX`.
-    #[error("sum of the counts of a block")]
     BlockFrequencySum,
     /// The bytes of a term's postings or positions, at most `u32::MAX`.
-    #[error("bytes of a term")]
     TermBytes,
     /// A term's end offset, below 2^56; or the bytes that a writer counts, or its failed calls, at
     /// most `u64::MAX`.
-    #[error("offset")]
     Offset,
     /// The id of a JSON path, at most `u32::MAX`.
-    #[error("number of paths")]
     Paths,
     /// The positions of a loaded list, at most `u32::MAX`.
-    #[error("loaded positions")]
     LoadedPositions,
 }
 
 /// The part of an index that bytes fail to hold.
-#[derive(Clone, Copy, Debug, PartialEq, Eq, Error)]
+#[derive(Clone, Copy, Debug, PartialEq, Eq)]
 pub enum Part {
     /// The skip list of a term's postings.
-    #[error("skip list")]
     Skip,
     /// The documents of a term's postings.
-    #[error("documents")]
     Documents,
     /// The counts of a term's postings.
-    #[error("frequencies")]
     Frequencies,
     /// The positions of a term.
-    #[error("positions")]
     Positions,
     /// The ranges of a term, which have to lie in its field's files.
-    #[error("range")]
     Range,
     /// The table of a composite file.
-    #[error("composite file")]
     Composite,
     /// The keys of a dictionary.
-    #[error("dictionary")]
     Dictionary,
     /// The term infos of a dictionary.
-    #[error("term store")]
     TermStore,
     /// The number of tokens of a field.
-    #[error("number of tokens")]
     TokenCount,
     /// The norms of a field.
-    #[error("field norms")]
     FieldNorms,
     /// A key of a JSON field.
-    #[error("JSON key")]
     JsonKey,
 }
 
@@ -145,6 +122,13 @@ impl Fault {
         }
     }
 
+    /// Whether no memory was found.
+    pub fn is_memory(self) -> bool
+        ensures { IsTrue result ↔ (self ≡ OutOfMemory) }
+    {
+        matches!(self, Fault::OutOfMemory)
+    }
+
     /// The fault of a writer that writes to memory, and fails for want of it alone: `OutOfMemory` for
     /// `Write`, and any other as it is.
     pub fn in_memory(self) -> Fault
@@ -154,6 +138,73 @@ impl Fault {
             Fault::Write => Fault::OutOfMemory,
             fault => fault,
         }
+    }
+}
+
+impl LeafKind {
+    // What it is called.
+    fn name(self) -> &'static str {
+        match self {
+            LeafKind::Float => "float",
+            LeafKind::PreTok => "pre-tokenized text",
+            LeafKind::Bytes => "bytes",
+            LeafKind::Facet => "facet",
+            LeafKind::Ip => "IP address",
+            LeafKind::Deep => "deep value",
+        }
+    }
+}
+
+impl fmt::Display for LeafKind {
+    fn fmt<W: fmt::Write>(&self, f: &mut fmt::Formatter<W>) -> fmt::Result {
+        f.write_str(self.name())
+    }
+}
+
+impl LimitName {
+    // What it is called.
+    fn name(self) -> &'static str {
+        match self {
+            LimitName::Position => "position",
+            LimitName::Tokens => "number of tokens",
+            LimitName::Count => "count in a document",
+            LimitName::BlockFrequencySum => "sum of the counts of a block",
+            LimitName::TermBytes => "bytes of a term",
+            LimitName::Offset => "offset",
+            LimitName::Paths => "number of paths",
+            LimitName::LoadedPositions => "loaded positions",
+        }
+    }
+}
+
+impl fmt::Display for LimitName {
+    fn fmt<W: fmt::Write>(&self, f: &mut fmt::Formatter<W>) -> fmt::Result {
+        f.write_str(self.name())
+    }
+}
+
+impl Part {
+    // What it is called.
+    fn name(self) -> &'static str {
+        match self {
+            Part::Skip => "skip list",
+            Part::Documents => "documents",
+            Part::Frequencies => "frequencies",
+            Part::Positions => "positions",
+            Part::Range => "range",
+            Part::Composite => "composite file",
+            Part::Dictionary => "dictionary",
+            Part::TermStore => "term store",
+            Part::TokenCount => "number of tokens",
+            Part::FieldNorms => "field norms",
+            Part::JsonKey => "JSON key",
+        }
+    }
+}
+
+impl fmt::Display for Part {
+    fn fmt<W: fmt::Write>(&self, f: &mut fmt::Formatter<W>) -> fmt::Result {
+        f.write_str(self.name())
     }
 }
 

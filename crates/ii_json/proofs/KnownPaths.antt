@@ -1,10 +1,14 @@
 -- Known paths: a set's keys, seen as their bytes.
-use Rattle.std.proofs.Common.{◌≡◌, ℕ, ◌+◌, ◌<◌, ◌≤◌, ◌^◌, Bool, true, false, cond, not, ◌||◌, List, [], ◌∷◌, ◌++◌, map, length, Some, None, refl, sym, ap, arith, ◌∙◌, IsTrue}
+use Rattle.std.proofs.Common.{◌≡◌, ℕ, ◌+◌, ◌<◌, ◌≤◌, ◌^◌, Bool, true, false, cond, not, ◌||◌, List, [], ◌∷◌, ◌++◌, map, length, take, get_or, Some, None, refl, sym, ap, arith, ◌∙◌, IsTrue}
 use Rattle.std.specs.Prelude.{bytes_eq, position}
 use Rattle.std.specs.List.{AllByRecursion, IsDistinct, list_any, position_or_len}
-use Rattle.std.proofs.lemmas.List.{length-map, map-append}
+use Rattle.std.proofs.lemmas.List.{length-map, map-append, map_more}
 use Rattle.indexmap.specs.IndexSet.{insert_key}
 use Rattle.ii_json.specs.Paths.{is_known, path_fault, path_id, with_path}
+
+-- one more of what is seen as the first of a list
+pub more_seen : {X Y Z : Type 0} (f : X → Z) (g : Y → Z) (xs : List X) (ys : List Y) (i : ℕ) (x : X) (d : Y) → i < length ys → map f xs ≡ map g (take i ys) → f x ≡ g (get_or ys i d) → map f (xs ++ x ∷ []) ≡ map g (take (i + 1) ys)
+more_seen f g xs ys i x d within held is = rw (map-append f xs (x ∷ []), held, is) (sym (map_more g ys i d within))
 
 module _ {K L : Type 0} (f : K → L) (p : L → Bool) where
   any_mapped : (ks : List K) → list_any (λ (k : K). p (f k)) ks ≡ list_any p (map f ks)

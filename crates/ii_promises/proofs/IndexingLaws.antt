@@ -12,9 +12,9 @@ use Rattle.ii_definitions.specs.Fields.{option_of}
 use Rattle.ii_definitions.specs.Norms.{has_norms}
 use Rattle.ii_definitions.specs.Postings.{doc_count, key_postings, occurs}
 use Rattle.ii_definitions.specs.Tokens.{IndexToken, tokens_of}
-use Rattle.ii_indexing.specs.IndexCalls.{call_of}
+use Rattle.ii_definitions.specs.IndexCalls.{call_of}
 use Rattle.ii_indexing.specs.Refusals.{calls_fault}
-use Rattle.ii_indexing.specs.declared.index_call.IndexCall.{IndexCall}
+use Rattle.ii_definitions.specs.declared.index_call.IndexCall.{IndexCall}
 use Rattle.ii_indexing.specs.RamFiles.{IsRamFault}
 use Rattle.nequllpa.proofs.NoTokens.{no_tokens_no_limit}
 use Rattle.ii_reader.specs.InvertedIndexReader.{GivesPostings, InvertedIndexReaderState, ReaderHolds}

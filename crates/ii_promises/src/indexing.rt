@@ -5,7 +5,7 @@ ghost use Rattle.ii_definitions.specs.Fields.{option_of};
 ghost use Rattle.ii_definitions.specs.Norms.{has_norms};
 ghost use Rattle.ii_definitions.specs.Postings.{doc_count, field_count, key_postings, occurs};
 ghost use Rattle.ii_definitions.specs.Tokens.{tokens_of};
-ghost use Rattle.ii_indexing.specs.IndexCalls.{MayAllBeIndexed, call_of};
+ghost use Rattle.ii_definitions.specs.IndexCalls.{MayAllBeIndexed, call_of};
 ghost use Rattle.ii_indexing.specs.IndexFiles.{HaveNoRoom};
 ghost use Rattle.ii_indexing.specs.Refusals.{calls_fault};
 ghost use Rattle.ii_postings_writer.specs.TermLimits.{AreWithin};

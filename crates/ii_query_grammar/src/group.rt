@@ -19,11 +19,20 @@ enum Place {
 }
 
 /// What was read of a query, or of a part of one in parentheses.
-#[derive(Drop)]
 pub(crate) struct Group {
     wanted: Option<UserInputAst>,
     excluded: Option<UserInputAst>,
     place: Place,
+}
+
+impl Drop for Group {
+    fn drop(self) {
+        let Group {
+            wanted: _,
+            excluded: _,
+            place: _,
+        } = self;
+    }
 }
 
 impl Group {

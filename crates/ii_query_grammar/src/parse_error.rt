@@ -1,31 +1,46 @@
 use std::alloc::{AllocError, AllocFailed};
+use std::fmt;
 use thiserror::Error;
 
 /// What was wanted where the text of a query goes wrong.
-#[derive(Clone, Copy, Debug, PartialEq, Eq, Error)]
+#[derive(Clone, Copy, Debug, PartialEq, Eq)]
 pub enum Wanted {
     /// A word, a phrase or a parenthesis that opens.
-    #[error("a word, a phrase or an opening parenthesis")]
     Operand,
     /// A word, a phrase or a parenthesis without a minus: a query of excluded ones alone matches nothing.
-    #[error("something that is not excluded")]
     Included,
     /// A word or a phrase behind the name of a field and its colon.
-    #[error("a word or a phrase behind the colon")]
     Value,
     /// The quote that ends a phrase.
-    #[error("a closing quote")]
     Quote,
     /// The parenthesis that closes an open one.
-    #[error("a closing parenthesis")]
     Closing,
     /// The end of the text, in place of a parenthesis that closes none.
-    #[error("the end of the query")]
     End,
     /// The end of the text, since a query has no more words, phrases, signs and parentheses than
     /// `MAX_LEXEMES`.
-    #[error("a shorter query")]
     Shorter,
+}
+
+impl Wanted {
+    // What it is called.
+    fn name(self) -> &'static str {
+        match self {
+            Wanted::Operand => "a word, a phrase or an opening parenthesis",
+            Wanted::Included => "something that is not excluded",
+            Wanted::Value => "a word or a phrase behind the colon",
+            Wanted::Quote => "a closing quote",
+            Wanted::Closing => "a closing parenthesis",
+            Wanted::End => "the end of the query",
+            Wanted::Shorter => "a shorter query",
+        }
+    }
+}
+
+impl fmt::Display for Wanted {
+    fn fmt<W: fmt::Write>(&self, f: &mut fmt::Formatter<W>) -> fmt::Result {
+        f.write_str(self.name())
+    }
 }
 
 /// Why a text wasn't read as a query.

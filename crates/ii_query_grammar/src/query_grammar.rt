@@ -1,7 +1,7 @@
-ghost use Rattle.std.specs.Prelude.{◌≡◌, IfOk, List, string_bytes};
+ghost use Rattle.std.specs.Prelude.{◌≡◌, ◌∷◌, IfOk, List, Option, string_bytes};
 ghost use Rattle.std.specs.Option.{option_copied, option_map};
 ghost use Rattle.ii_query_grammar.specs.Lexemes.{literal_seen, token_seen};
-ghost use Rattle.ii_query_grammar.specs.Parsed.{GoesOn, GroupState, IsReadAs, OnlyMemoryRefuses, group_of, parsed, read_closing, read_end, read_one, read_sign, stack_of, whole_of};
+ghost use Rattle.ii_query_grammar.specs.Parsed.{GoesOn, GroupState, IsReadAs, OnlyMemoryRefuses, empty, group_of, parsed, put, read_closing, read_end, read_one, read_sign, stack_of, whole_of};
 ghost use Rattle.ii_query_grammar.specs.Trees.{ast_of, leaf};
 
 use crate::group::Group;
@@ -53,20 +53,31 @@ fn read_one(
 {
     let at = token.at;
     match token.lexeme {
-        Lexeme::Literal(literal) => {
-            let ast = leaf(alloc, literal)?;
-            group.put(alloc, ast)
-        }
-        Lexeme::Opening => {
-            opened.push(group)?;
-            Ok(Group::new())
-        }
+        Lexeme::Literal(literal) => put_leaf(alloc, group, literal),
+        Lexeme::Opening => open(opened, group),
         Lexeme::Closing => close(alloc, opened, group, at),
-        Lexeme::Minus => behind_sign(group.put_minus(alloc)?, at),
-        Lexeme::And => behind_sign(group.put_and(), at),
-        Lexeme::Or => behind_sign(group.put_or(alloc)?, at),
+        Lexeme::Minus => behind_sign(group.put_minus(alloc), at),
+        Lexeme::And => behind_sign(Ok(group.put_and()), at),
+        Lexeme::Or => behind_sign(group.put_or(alloc), at),
         Lexeme::Broken(wanted) => Err(ParseError::Syntax(wanted, at)),
     }
+}
+
+// A group with a word or a phrase more. `OutOfMemory` where there is no room for it.
+fn put_leaf(alloc: Global, group: Group, literal: LiteralView<'_>) -> Result<Group, ParseError>
+    ensures put { IfOk result (λ g. group_of g ≡ put (group_of group) (leaf (literal_seen literal.entry))) }
+    ensures only { OnlyMemoryRefuses result }
+{
+    let ast = leaf(alloc, literal)?;
+    group.put(alloc, ast)
+}
+
+// A group within the one at hand.
+fn open(opened: &mut Vec<Group>, group: Group) -> Result<Group, ParseError>
+    ensures { GoesOn result (stack_of opened.new.items) (λ others. others (group_of group ∷ stack_of opened.old.items) empty) }
+{
+    opened.push(group)?;
+    Ok(Group::new())
 }
 
 // The group around one that is closed.
@@ -89,12 +100,14 @@ fn close(
 }
 
 // A group behind a sign, if it may stand there.
-fn behind_sign(group: Option<Group>, at: usize) -> Result<Group, ParseError>
-    ensures { (opened : List GroupState) → GoesOn result opened (λ others. read_sign others opened at (option_map group_of group)) }
+fn behind_sign(group: Result<Option<Group>, ParseError>, at: usize) -> Result<Group, ParseError>
+    ensures { (opened : List GroupState) (behind : Option GroupState) → IfOk group (λ g. option_map group_of g ≡ behind) → OnlyMemoryRefuses group
+        → GoesOn result opened (λ others. read_sign others opened at behind) }
 {
     match group {
-        Some(group) => Ok(group),
-        None => Err(ParseError::Syntax(Wanted::Operand, at)),
+        Ok(Some(group)) => Ok(group),
+        Ok(None) => Err(ParseError::Syntax(Wanted::Operand, at)),
+        Err(error) => Err(error),
     }
 }
 

@@ -5,30 +5,48 @@ ghost use Rattle.ii_schema_text.specs.SchemaText.{Refusal, TellsOfText, not_toml
 ghost use Rattle.ii_schema_text.specs.declared.faults.SchemaFault.TheVariants as faults;
 
 use std::alloc::{AllocError, AllocFailed};
+use std::fmt;
 use thiserror::Error;
 use toml::de::Error as TomlError;
 
 /// A key that the table of a field may have.
-#[derive(Clone, Copy, Debug, PartialEq, Eq, Error)]
+#[derive(Clone, Copy, Debug, PartialEq, Eq)]
 pub enum FieldKey {
     /// The name of the field: a text that isn't empty, and that no field before has.
-    #[error("name: a text that is not empty, and that no field before has")]
     Name,
     /// The type of its values.
-    #[error("type: one of text, u64, i64, bool, bytes, ip_addr, json")]
     Type,
     /// Whether it is indexed.
-    #[error("indexed: true or false")]
     Indexed,
     /// What is kept of a term.
-    #[error("record: one of basic, freq, position, where an indexed field has texts or JSON values")]
     Record,
     /// Whether norms are kept.
-    #[error("fieldnorms: true or false, where an indexed field has no JSON values")]
     FieldNorms,
     /// Whether dots in the keys of its JSON values are expanded.
-    #[error("expand_dots: true or false, where an indexed field has JSON values")]
     ExpandDots,
+}
+
+impl FieldKey {
+    // What it is called.
+    fn name(self) -> &'static str {
+        match self {
+            FieldKey::Name => "name: a text that is not empty, and that no field before has",
+            FieldKey::Type => "type: one of text, u64, i64, bool, bytes, ip_addr, json",
+            FieldKey::Indexed => "indexed: true or false",
+            FieldKey::Record =>
+                "record: one of basic, freq, position, where an indexed field has texts or JSON values",
+            FieldKey::FieldNorms =>
+                "fieldnorms: true or false, where an indexed field has no JSON values",
+            FieldKey::ExpandDots =>
+                "expand_dots: true or false, where an indexed field has JSON values",
+        }
+    }
+}
+
+impl fmt::Display for FieldKey {
+    fn fmt<W: fmt::Write>(&self, f: &mut fmt::Formatter<W>) -> fmt::Result {
+        f.write_str(self.name())
+    }
 }
 
 /// Why a text is no schema. Fields are numbered from 0.

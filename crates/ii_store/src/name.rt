@@ -2,7 +2,7 @@
 ghost use Rattle.std.specs.Prelude.{◌≡◌, ◌<◌};
 ghost use Rattle.ii_store.specs.Names.{kind_at, kind_number, name_number, name_text, other_slot, slot_number};
 
-use thiserror::Error;
+use std::fmt;
 
 /// One of two sets of files. The guard names the one that is in use, and a save writes the other.
 #[derive(Clone, Copy, Debug, PartialEq, Eq)]
@@ -12,23 +12,37 @@ pub enum Slot {
 }
 
 /// What a file of an index holds.
-#[derive(Clone, Copy, Debug, PartialEq, Eq, Error)]
+#[derive(Clone, Copy, Debug, PartialEq, Eq)]
 pub enum Kind {
     /// The schema, as its program spells it.
-    #[error("schema")]
     Schema,
     /// The dictionaries of the fields.
-    #[error("terms")]
     Terms,
     /// The documents and counts of the terms.
-    #[error("postings")]
     Postings,
     /// The positions of the terms.
-    #[error("positions")]
     Positions,
     /// The norms of the documents.
-    #[error("field norms")]
     FieldNorms,
+}
+
+impl Kind {
+    // What it is called.
+    fn name(self) -> &'static str {
+        match self {
+            Kind::Schema => "schema",
+            Kind::Terms => "terms",
+            Kind::Postings => "postings",
+            Kind::Positions => "positions",
+            Kind::FieldNorms => "field norms",
+        }
+    }
+}
+
+impl fmt::Display for Kind {
+    fn fmt<W: fmt::Write>(&self, f: &mut fmt::Formatter<W>) -> fmt::Result {
+        f.write_str(self.name())
+    }
 }
 
 /// A file of a folder.

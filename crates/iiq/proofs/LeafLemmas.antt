@@ -15,7 +15,7 @@ use Rattle.ii_base.specs.Paths.{acts_as, has_zero, joined_segments, kept_bytes, 
 use Rattle.ii_base.specs.Terms.{TermState}
 use Rattle.ii_base.specs.Values.{json_key}
 use Rattle.ii_base.specs.declared.doc_id.TheConstants.{TERMINATED}
-use Rattle.ii_indexing.specs.declared.index_call.IndexCall.TheVariants as calls
+use Rattle.ii_definitions.specs.declared.index_call.IndexCall.TheVariants as calls
 use Rattle.iiq.proofs.WordLemmas.{and_right}
 use Rattle.iiq.specs.Commands.{leaf_key, leaf_term, leaf_under}
 use Rattle.iiq.specs.Known.{IsCall, json_alone}

@@ -17,9 +17,9 @@ use Rattle.ii_base.specs.declared.doc_id.TheConstants.{TERMINATED}
 use Rattle.ii_definitions.specs.Fields.{option_of}
 use Rattle.ii_definitions.specs.Postings.{key_postings}
 use Rattle.ii_definitions.specs.Tokens.{Call, IndexToken, tokens_of}
-use Rattle.ii_indexing.specs.declared.index_call.IndexCall.{IndexCall}
-use Rattle.ii_indexing.specs.declared.index_call.IndexCall.TheVariants as calls
-use Rattle.ii_indexing.specs.IndexCalls.{MayBeIndexed, call_of, doc_of}
+use Rattle.ii_definitions.specs.declared.index_call.IndexCall.{IndexCall}
+use Rattle.ii_definitions.specs.declared.index_call.IndexCall.TheVariants as calls
+use Rattle.ii_definitions.specs.IndexCalls.{MayBeIndexed, call_of, doc_of}
 use Rattle.ii_indexing.specs.Refusals.{calls_fault}
 use Rattle.ii_indexing.specs.RamFiles.{IsRamFault}
 use Rattle.ii_reader.specs.InvertedIndexReader.{GivesPostings, InvertedIndexReaderState, ReaderHolds}

@@ -11,8 +11,8 @@ use Rattle.ii_base.specs.declared.doc_id.TheConstants.{TERMINATED}
 use Rattle.ii_base.specs.Entries.{Entry}
 use Rattle.ii_layout.specs.TermList.{term_list}
 use Rattle.ii_definitions.specs.Tokens.{Call, IndexToken}
-use Rattle.ii_indexing.specs.declared.index_call.IndexCall.{IndexCall}
-use Rattle.ii_indexing.specs.IndexCalls.{MayAllBeIndexed, Takes, call_of, doc_of, field_of, type_of}
+use Rattle.ii_definitions.specs.declared.index_call.IndexCall.{IndexCall}
+use Rattle.ii_definitions.specs.IndexCalls.{MayAllBeIndexed, Takes, call_of, doc_of, field_of, type_of}
 use Rattle.ii_reader.specs.OpenIndex.{IndexHolds, OpenIndexState}
 use Rattle.iiq.specs.declared.commands.Opening.{Opening}
 use Rattle.iiq.specs.declared.commands.Query.{Query}

@@ -2,11 +2,11 @@
 use crate::commands::{NO, refuse, refuse_path};
 use clap::ArgMatches;
 use ii_base::Schema;
-use ii_documents::{Documents, LineFault};
+use ii_documents::LineFault;
 use ii_schema_text::read_schema;
 use ii_store::save::{remove_unused, save};
 use ii_store::{DirectoryFault, Folder, StoredIndex};
-use nequllpa_folder::{InputFault, add_line, store};
+use nequllpa_indexing::{Documents, InputFault, add_line, store};
 use std::fs;
 use std::io::{BufRead, BufReader, Input};
 use std::process::ExitCode;

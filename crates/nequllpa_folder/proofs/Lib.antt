@@ -1,5 +1,3 @@
 mod FindingLemmas
-mod LocatedLemmas
 mod QueryLemmas
 mod StoredLaws
-mod TableLemmas

@@ -1,9 +1,8 @@
 //! Looking into every list of the files of an index, whatever they hold.
 use crate::faults::AnswerFault;
 use crate::keys::push_key;
-use crate::walked_files::{OpenedField, WalkedFiles};
-use crate::walking::{StrayTerm, Walk};
 use ii_base::{Field, FieldEntry, Part, Schema};
+use ii_damage::{OpenedField, StrayTerm, Walk, WalkedFiles};
 use ii_fieldnorm::{FieldNormReader, fieldnorm_to_id};
 use ii_reader::{DamagedTerm, InvertedIndexReader};
 use ii_store::{Kind, StoredIndex};

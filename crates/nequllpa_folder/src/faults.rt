@@ -1,8 +1,5 @@
-ghost use Rattle.std.specs.Prelude.{◌≡◌, ◌↔◌, IsTrue};
-
 use hex::FromHexError;
 use ii_base::Fault;
-use ii_documents::LineFault;
 use ii_schema_text::SchemaFault;
 use std::alloc::{AllocError, AllocFailed};
 use std::io;
@@ -37,7 +34,7 @@ impl AnswerFault {
     /// Whether no memory was found.
     pub fn is_memory(&self) -> bool {
         match self {
-            AnswerFault::Index(fault) => is_memory(*fault),
+            AnswerFault::Index(fault) => fault.is_memory(),
             AnswerFault::Output(_) => false,
         }
     }
@@ -49,16 +46,9 @@ impl OpenFault {
         match self {
             OpenFault::SchemaBytes => false,
             OpenFault::Schema(fault) => matches!(fault, SchemaFault::OutOfMemory),
-            OpenFault::Files(fault) => is_memory(*fault),
+            OpenFault::Files(fault) => fault.is_memory(),
         }
     }
-}
-
-/// Whether no memory was found.
-pub fn is_memory(fault: Fault) -> bool
-    ensures { IsTrue result ↔ (fault ≡ Fault.OutOfMemory) }
-{
-    matches!(fault, Fault::OutOfMemory)
 }
 
 // A text isn't hexadecimal, or no memory was found.
@@ -66,24 +56,6 @@ pub(crate) fn not_hex(error: FromHexError) -> Result<(), Fault> {
     match error {
         FromHexError::OutOfMemory => Err(Fault::OutOfMemory),
         _ => Ok(()),
-    }
-}
-
-/// Why a line of an input is refused.
-#[derive(Debug, Drop, Error)]
-pub enum InputFault {
-    /// It isn't UTF-8.
-    #[error("not UTF-8")]
-    NotUtf8,
-    /// It is no document.
-    #[error("{0}")]
-    Line(LineFault),
-}
-
-impl InputFault {
-    /// Whether no memory was found.
-    pub fn is_memory(&self) -> bool {
-        matches!(self, InputFault::Line(LineFault::OutOfMemory))
     }
 }
 

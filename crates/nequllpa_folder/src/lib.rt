@@ -1,10 +1,9 @@
-//! An index of JSON lines, as it is kept in a folder: how it is made and opened, searched and looked into.
+//! An index of JSON lines, as it is kept in a folder: how it is opened, searched and looked into.
 //! What is answered is written as text, a line for each item.
 #![tactic(auto)]
 
 pub mod checking;
 pub mod faults;
-pub mod field_bodies;
 pub mod finding;
 pub mod ids;
 pub mod inspecting;
@@ -12,16 +11,12 @@ pub mod keys;
 pub mod listing;
 pub mod opened;
 pub mod stats;
-pub mod storing;
-pub mod walked_files;
-pub mod walking;
 
 pub use checking::{Checked, Damage, check};
-pub use faults::{AnswerFault, InputFault, OpenFault};
+pub use faults::{AnswerFault, OpenFault};
 pub use finding::{FoundPlaces, TermPlaces, find_places, first_docs, wanted_terms};
 pub use inspecting::{TermChoice, write_count, write_fields, write_postings, write_terms};
 pub use keys::{push_key, term_of};
 pub use listing::{Listing, write_listing};
 pub use opened::{Opened, schema_of};
 pub use stats::write_stats;
-pub use storing::{add_line, store};

@@ -4,8 +4,8 @@ use Rattle.std.specs.List.{AllByRecursion}
 use Rattle.std.proofs.lemmas.List.{get_or_push, length_push}
 use Rattle.std.proofs.lemmas.List.Sorted.{IsNonDecreasingBy-push}
 use Rattle.ii_base.specs.Schema.{SchemaEntry}
-use Rattle.ii_indexing.specs.IndexCalls.{MayAllBeIndexed, MayBeIndexed, doc_of}
-use Rattle.ii_indexing.specs.declared.index_call.IndexCall.{IndexCall}
+use Rattle.ii_definitions.specs.IndexCalls.{MayAllBeIndexed, MayBeIndexed, doc_of}
+use Rattle.ii_definitions.specs.declared.index_call.IndexCall.{IndexCall}
 
 -- Calls may be made one after the other, and the last document is at most this one.
 pub record AreChecked (entries : List SchemaEntry) (num_docs last : ℕ) (calls : List IndexCall) : Type 0 where

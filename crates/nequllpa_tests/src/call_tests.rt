@@ -1,7 +1,7 @@
 ghost use Rattle.std.specs.Prelude.{◌≡◌, ◌<◌, ◌≤◌, length, true, false, IfOk, OnErr, OnOk};
 ghost use Rattle.ii_base.specs.declared.schema.value_type.ValueType.TheVariants as types;
 ghost use Rattle.ii_base.specs.ValueTypes.{is_plain};
-ghost use Rattle.ii_indexing.specs.IndexCalls.{Takes};
+ghost use Rattle.ii_definitions.specs.IndexCalls.{Takes};
 
 use ii_base::{
     AsciiTokenizer, Fault, Field, FieldEntry, IndexRecordOption, LimitName, Schema, Token,

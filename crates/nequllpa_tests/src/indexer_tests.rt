@@ -1,6 +1,6 @@
 ghost use Rattle.std.specs.Prelude.{◌≡◌, ◌<◌, ◌≤◌, false, IfOk, OnOk};
 ghost use Rattle.ii_base.specs.declared.schema.value_type.ValueType.TheVariants as types;
-ghost use Rattle.ii_indexing.specs.IndexCalls.{Takes};
+ghost use Rattle.ii_definitions.specs.IndexCalls.{Takes};
 
 use crate::memory_index::{FULL, Index, are_untouched, index_of, texts, told, writers};
 use ii_base::{

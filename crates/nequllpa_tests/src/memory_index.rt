@@ -1,7 +1,7 @@
 // Indexes in memory: written, opened, and looked up.
 ghost use Rattle.std.specs.Prelude.{◌≡◌, ◌<◌, ◌≤◌, true, length, IfOk};
 ghost use Rattle.ii_base.specs.declared.doc_id.TheConstants.{TERMINATED};
-ghost use Rattle.ii_indexing.specs.IndexCalls.{MayAllBeIndexed, MayBeIndexed, type_of};
+ghost use Rattle.ii_definitions.specs.IndexCalls.{MayAllBeIndexed, MayBeIndexed, type_of};
 
 use bytes::Bytes;
 use ii_base::{

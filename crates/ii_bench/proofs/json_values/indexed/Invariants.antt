@@ -1,6 +1,6 @@
 use Rattle.std.proofs.Common.{◌≡◌, ◌≤◌, false}
 use Rattle.ii_base.specs.declared.schema.value_type.ValueType.TheVariants.{Json}
-use Rattle.ii_indexing.specs.IndexCalls.{Takes}
+use Rattle.ii_definitions.specs.IndexCalls.{Takes}
 use Rattle.ii_bench.specs.declared.json_values.TheConstants.{DOCS}
 use Rattle.ii_bench.proofs.json_values.indexed.Given as goal
 

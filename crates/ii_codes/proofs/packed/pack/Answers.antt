@@ -1,6 +1,63 @@
 use Rattle.std.proofs.Common.{◌≡◌, arith}
 use Rattle.ii_codes.proofs.packed.pack.Goals as goal
 
+pub returns-in-0 : goal.returns-in-0
+returns-in-0 c = rw c.in-0.is c.pack_width.ensures
+
+pub returns-in-1 : goal.returns-in-1
+returns-in-1 c = rw c.in-1.is c.pack_narrow.ensures
+
+pub returns-in-2 : goal.returns-in-2
+returns-in-2 c = rw c.in-2.is c.pack_narrow-in-2.ensures
+
+pub returns-in-3 : goal.returns-in-3
+returns-in-3 c = rw c.in-3.is c.pack_narrow-in-3.ensures
+
+pub returns-in-4 : goal.returns-in-4
+returns-in-4 c = rw c.in-4.is c.pack_narrow-in-4.ensures
+
+pub returns-in-5 : goal.returns-in-5
+returns-in-5 c = rw c.in-5.is c.pack_narrow-in-5.ensures
+
+pub returns-in-6 : goal.returns-in-6
+returns-in-6 c = rw c.in-6.is c.pack_narrow-in-6.ensures
+
+pub returns-in-7 : goal.returns-in-7
+returns-in-7 c = rw c.in-7.is c.pack_narrow-in-7.ensures
+
+pub returns-in-8 : goal.returns-in-8
+returns-in-8 c = rw c.in-8.is c.pack_narrow-in-8.ensures
+
+pub returns-in-9 : goal.returns-in-9
+returns-in-9 c = rw c.in-9.is c.pack_width-in-9.ensures
+
+pub returns-in-10 : goal.returns-in-10
+returns-in-10 c = rw c.in-10.is c.pack_width-in-10.ensures
+
+pub returns-in-11 : goal.returns-in-11
+returns-in-11 c = rw c.in-11.is c.pack_width-in-11.ensures
+
+pub returns-in-12 : goal.returns-in-12
+returns-in-12 c = rw c.in-12.is c.pack_width-in-12.ensures
+
+pub returns-in-13 : goal.returns-in-13
+returns-in-13 c = rw c.in-13.is c.pack_width-in-13.ensures
+
+pub returns-in-14 : goal.returns-in-14
+returns-in-14 c = rw c.in-14.is c.pack_width-in-14.ensures
+
+pub returns-in-15 : goal.returns-in-15
+returns-in-15 c = rw c.in-15.is c.pack_width-in-15.ensures
+
+pub returns-in-16 : goal.returns-in-16
+returns-in-16 c = rw c.in-16.is c.pack_width-in-16.ensures
+
+pub returns-in-17 : goal.returns-in-17
+returns-in-17 c = rw c.in-17.is c.pack_width-in-17.ensures
+
+pub returns-in-18 : goal.returns-in-18
+returns-in-18 c = rw c.in-18.is c.pack_width-in-18.ensures
+
 pub returns-in-19 : goal.returns-in-19
 returns-in-19 c = rw c.in-19.is c.pack_width-in-19.ensures
 

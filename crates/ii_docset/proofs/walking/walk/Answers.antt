@@ -1,6 +1,6 @@
-use Rattle.std.proofs.Common.{◌+◌, List, [], ◌∷◌, ◌++◌, ap, ◌∙◌, rules}
+use Rattle.std.proofs.Common.{◌+◌, List, [], ◌∷◌, ◌++◌, ap, ◌∙◌, arith, rules}
 use Rattle.ii_docset.specs.declared.calls.CursorAnswer.{CursorAnswer}
-use Rattle.ii_docset.proofs.WalkLemmas.{asked_part, counts_part, spent_next, walks_on}
+use Rattle.ii_docset.proofs.WalkLemmas.{asked_part, counts_part, spent_next, told_all, told_first, walks_on}
 use Rattle.ii_docset.proofs.walking.walk.Goals as goal
 
 pub loop-call-preserved : goal.loop-call-preserved
@@ -23,3 +23,15 @@ returns-in_default-make_call-clause-work g c =
 
 pub returns-clause-work : goal.returns-clause-work
 returns-clause-work g c = g.met.P.Postings.spent_more _ _ _ _ _ _ (asked_part c.loop-call.call-index c.args.calls.now) (counts_part c.loop-call.call-index c.args.calls.now _ _) c.loop-call.invariant.2
+
+pub returns-in_default-clause-beginning : goal.returns-in_default-clause-beginning
+returns-in_default-clause-beginning g c = rw c.reserve.ensures.items (told_first c.args.calls.now _ _ c.loop-call.call-index c.loop-call.answers.items _ c.loop-call.invariant.0)
+
+pub returns-in_default-make_call-clause-beginning : goal.returns-in_default-make_call-clause-beginning
+returns-in_default-make_call-clause-beginning g c = rw c.reserve.ensures.items (told_first c.args.calls.now _ _ c.loop-call.call-index c.loop-call.answers.items _ c.loop-call.invariant.0)
+
+pub returns-clause-answers : goal.returns-clause-answers
+returns-clause-answers g c _ = told_all c.args.calls.now _ _ c.loop-call.call-index c.loop-call.answers.items _ c.loop-call.invariant.0 (omega arith)
+
+pub returns-clause-beginning : goal.returns-clause-beginning
+returns-clause-beginning g c = told_first c.args.calls.now _ _ c.loop-call.call-index c.loop-call.answers.items _ c.loop-call.invariant.0

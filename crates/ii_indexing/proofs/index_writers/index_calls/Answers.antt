@@ -3,8 +3,8 @@ use Rattle.std.proofs.lemmas.List.{nil_from_length}
 use Rattle.ii_base.specs.Schema.{SchemaEntry}
 use Rattle.std.proofs.lemmas.Result.{err_from_is_err_and}
 use Rattle.ii_definitions.specs.Tokens.{pieces_of}
-use Rattle.ii_indexing.specs.IndexCalls.{Takes, call_of, doc_of, field_of, type_of}
-use Rattle.ii_indexing.specs.declared.index_call.IndexCall.{IndexCall}
+use Rattle.ii_definitions.specs.IndexCalls.{Takes, call_of, doc_of, field_of, type_of}
+use Rattle.ii_definitions.specs.declared.index_call.IndexCall.{IndexCall}
 use Rattle.ii_indexing.proofs.CallsLaws.{IsTaking, begins, takes_all, takes_more, takes_none}
 use Rattle.ii_indexing.proofs.index_writers.index_calls.Goals as goal
 

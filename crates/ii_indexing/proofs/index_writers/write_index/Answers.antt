@@ -1,7 +1,7 @@
 use Rattle.std.proofs.Common.{map}
 use Rattle.ii_definitions.specs.Fields.{option_of}
 use Rattle.ii_definitions.specs.Tokens.{pieces_of, tokens_of}
-use Rattle.ii_indexing.specs.IndexCalls.{call_of}
+use Rattle.ii_definitions.specs.IndexCalls.{call_of}
 use Rattle.ii_indexing.proofs.FaultLaws.{written_fault}
 use Rattle.ii_indexing.proofs.RefusalLaws.{none_written}
 use Rattle.ii_indexing.proofs.index_writers.write_index.Goals as goal

@@ -1,6 +1,6 @@
 use Rattle.std.proofs.Common.{arith, map}
 use Rattle.ii_definitions.specs.Tokens.{tokens_of}
-use Rattle.ii_indexing.specs.IndexCalls.{call_of}
+use Rattle.ii_definitions.specs.IndexCalls.{call_of}
 use Rattle.ii_promises.proofs.IndexingLaws.{norm_is}
 use Rattle.ii_promises.proofs.indexing.norms_count_the_tokens.Goals as goal
 

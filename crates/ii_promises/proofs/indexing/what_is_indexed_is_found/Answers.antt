@@ -1,6 +1,6 @@
 use Rattle.std.proofs.Common.{map}
 use Rattle.ii_definitions.specs.Tokens.{tokens_of}
-use Rattle.ii_indexing.specs.IndexCalls.{call_of}
+use Rattle.ii_definitions.specs.IndexCalls.{call_of}
 use Rattle.ii_promises.proofs.IndexingLaws.{found_is, refused_alone, refused_is}
 use Rattle.ii_promises.proofs.indexing.what_is_indexed_is_found.Goals as goal
 

@@ -1,6 +1,6 @@
 use Rattle.std.proofs.Common.{map}
 use Rattle.ii_definitions.specs.Tokens.{tokens_of}
-use Rattle.ii_indexing.specs.IndexCalls.{call_of}
+use Rattle.ii_definitions.specs.IndexCalls.{call_of}
 use Rattle.ii_promises.proofs.IndexingLaws.{refused_alone}
 use Rattle.ii_promises.proofs.indexing.what_is_indexed_is_never_damaged.Goals as goal
 

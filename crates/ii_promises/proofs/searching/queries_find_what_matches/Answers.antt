@@ -1,6 +1,6 @@
 use Rattle.std.proofs.Common.{map}
 use Rattle.ii_definitions.specs.Tokens.{tokens_of}
-use Rattle.ii_indexing.specs.IndexCalls.{call_of}
+use Rattle.ii_definitions.specs.IndexCalls.{call_of}
 use Rattle.ii_promises.proofs.SearchingLaws.{matches_are_found, refused_search}
 use Rattle.ii_promises.proofs.searching.queries_find_what_matches.Goals as goal
 

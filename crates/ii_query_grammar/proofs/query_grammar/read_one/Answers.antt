@@ -1,10 +1,13 @@
 use Rattle.ii_query_grammar.proofs.query_grammar.read_one.Goals as goal
 
-pub returns-in_ok-put_minus-in-Minus : goal.returns-in_ok-put_minus-in-Minus
-returns-in_ok-put_minus-in-Minus c = rw (c.in-Minus.is, ← c.in_ok-put_minus-in-Minus.ensures.put) (c.behind_sign.ensures _)
+pub returns-in-Opening : goal.returns-in-Opening
+returns-in-Opening c = rw (c.in-Opening.is) c.open.ensures
+
+pub returns-in-Minus : goal.returns-in-Minus
+returns-in-Minus c = rw (c.in-Minus.is) (c.behind_sign.ensures _ _ c.put_minus.ensures.put c.put_minus.ensures.only)
 
 pub returns-in-And : goal.returns-in-And
-returns-in-And c = rw (c.in-And.is, ← c.put_and.ensures) (c.behind_sign-in-And.ensures _)
+returns-in-And c = rw (c.in-And.is) (c.behind_sign-in-And.ensures _ _ c.put_and.ensures tt)
 
-pub returns-in_ok-put_or-in-Or : goal.returns-in_ok-put_or-in-Or
-returns-in_ok-put_or-in-Or c = rw (c.in-Or.is, ← c.in_ok-put_or-in-Or.ensures.put) (c.behind_sign-in-Or.ensures _)
+pub returns-in-Or : goal.returns-in-Or
+returns-in-Or c = rw (c.in-Or.is) (c.behind_sign-in-Or.ensures _ _ c.put_or.ensures.put c.put_or.ensures.only)

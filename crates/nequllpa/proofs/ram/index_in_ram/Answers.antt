@@ -6,7 +6,7 @@ use Rattle.ii_definitions.specs.Fields.{option_of}
 use Rattle.ii_definitions.specs.Files.{HoldTokens}
 use Rattle.ii_definitions.specs.Norms.{HoldNorms}
 use Rattle.ii_definitions.specs.Tokens.{tokens_of}
-use Rattle.ii_indexing.specs.IndexCalls.{call_of}
+use Rattle.ii_definitions.specs.IndexCalls.{call_of}
 use Rattle.ii_indexing.specs.IndexFiles.{IsIndexFault, WroteIndex}
 use Rattle.ii_indexing.specs.RamFiles.{IsRamFault}
 use Rattle.ii_reader.specs.OpenIndex.{GivesReaders, OpenIndexState}

@@ -4,7 +4,7 @@ use Rattle.ii_definitions.specs.Fields.{option_of}
 use Rattle.ii_json.specs.LeafVisit.{IsRefusedBy}
 use Rattle.ii_indexing.specs.Refusals.{call_fault, content_fault}
 use Rattle.ii_definitions.specs.Tokens.{call_pieces}
-use Rattle.ii_indexing.specs.IndexCalls.{Takes, call_of, call_with, content_of, doc_of, expands_dots_in, field_of, type_of}
+use Rattle.ii_definitions.specs.IndexCalls.{Takes, call_of, call_with, content_of, doc_of, expands_dots_in, field_of, type_of}
 use Rattle.ii_indexing.specs.Indexer.{EndsAt, IndexerState, StoresAll}
 use Rattle.ii_indexing.proofs.CallLaws.{ends_later}
 use Rattle.ii_indexing.proofs.FieldLists.{takes_inside}

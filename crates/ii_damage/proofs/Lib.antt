@@ -1,0 +1,2 @@
+mod LocatedLemmas
+mod TableLemmas

@@ -1,0 +1,71 @@
+ghost use Rattle.std.specs.Prelude.{◌≡◌};
+ghost use Rattle.ii_definitions.specs.IndexCalls.{doc_of, field_of, number_in};
+
+use ii_base::{DocId, FastValue, Field, JsonValue, TokenList};
+
+/// What is to be indexed: a document, a field, and a value of the field's type.
+#[derive(Drop)]
+pub enum IndexCall {
+    /// A text, which an analyzer cuts into tokens.
+    Text(DocId, Field, String),
+    /// The tokens that are still to come of a list, for a field of texts.
+    Tokens(DocId, Field, TokenList),
+    /// An unsigned number.
+    U64(DocId, Field, u64),
+    /// A signed number.
+    I64(DocId, Field, i64),
+    /// A truth value.
+    Bool(DocId, Field, bool),
+    /// Bytes.
+    Bytes(DocId, Field, Vec<u8>),
+    /// An IP address.
+    Ip(DocId, Field, u128),
+    /// A JSON value: its texts are cut by the analyzer, and stand with its other leaves under their paths.
+    Json(DocId, Field, JsonValue),
+}
+
+impl IndexCall {
+    /// The document.
+    pub fn doc(&self) -> DocId
+        ensures { result ≡ doc_of self.now }
+    {
+        match self {
+            IndexCall::Text(doc, _, _) => *doc,
+            IndexCall::Tokens(doc, _, _) => *doc,
+            IndexCall::U64(doc, _, _) => *doc,
+            IndexCall::I64(doc, _, _) => *doc,
+            IndexCall::Bool(doc, _, _) => *doc,
+            IndexCall::Bytes(doc, _, _) => *doc,
+            IndexCall::Ip(doc, _, _) => *doc,
+            IndexCall::Json(doc, _, _) => *doc,
+        }
+    }
+
+    /// The field.
+    pub fn field(&self) -> Field
+        ensures { result ≡ field_of self.now }
+    {
+        match self {
+            IndexCall::Text(_, field, _) => *field,
+            IndexCall::Tokens(_, field, _) => *field,
+            IndexCall::U64(_, field, _) => *field,
+            IndexCall::I64(_, field, _) => *field,
+            IndexCall::Bool(_, field, _) => *field,
+            IndexCall::Bytes(_, field, _) => *field,
+            IndexCall::Ip(_, field, _) => *field,
+            IndexCall::Json(_, field, _) => *field,
+        }
+    }
+
+    /// The number of 64 bits that stands for a number or a truth value, 0 for any other value.
+    pub fn number(&self) -> u64
+        ensures { result ≡ number_in self.now }
+    {
+        match self {
+            IndexCall::U64(_, _, number) => *number,
+            IndexCall::I64(_, _, number) => (*number).to_u64(),
+            IndexCall::Bool(_, _, truth) => (*truth).to_u64(),
+            _ => 0,
+        }
+    }
+}

@@ -1,5 +1,0 @@
-use Rattle.nequllpa_folder.proofs.TableLemmas.{IsSeeking}
-use Rattle.nequllpa_folder.proofs.field_bodies.place_in.Given as goal
-
-abbrev pub invariant-loop-i : goal.invariant-loop-i
-invariant-loop-i l = IsSeeking l.field l.count l.table l._i l.rest

@@ -1,0 +1,20 @@
+-- What a line of an input says, given as bytes.
+use Rattle.std.specs.Prelude.{◌≡◌, ◌≢◌, ℕ, Bool, true, false, List, [], Result, Ok, Err}
+use Rattle.std.specs.Str.{IsTrimAscii}
+use Rattle.nequllpa_indexing.specs.Documents.{AddsLine, DocumentsState, next_calls}
+use Rattle.ii_documents.specs.JsonLines.{TellsOfLine, told_of_line}
+use Rattle.nequllpa_indexing.specs.declared.faults.InputFault.{InputFault}
+use Rattle.nequllpa_indexing.specs.declared.faults.InputFault.TheVariants.{Line, NotUtf8}
+
+-- a text was added as a line, is no line, or was refused as one
+abbrev pub AddsTrimmed : DocumentsState → DocumentsState → List ℕ → Result Bool InputFault → Type 0
+AddsTrimmed old new text (Ok true) = AddsLine old new text
+AddsTrimmed old new text (Ok false) = (text ≡ []) × (new ≡ old)
+AddsTrimmed old new text (Err NotUtf8) = ⊥
+AddsTrimmed old new text (Err (Line fault)) = (text ≢ []) × (new ≡ old) × TellsOfLine (told_of_line fault) (next_calls old text)
+
+-- What stands between the white space of a line was added, is nothing, or was refused.
+pub record AddsInput (old new : DocumentsState) (line : List ℕ) (result : Result Bool InputFault) : Type 0 where
+  pub text : List ℕ
+  pub trimmed : IsTrimAscii line text
+  pub added : AddsTrimmed old new text result

@@ -1,0 +1,112 @@
+//! Documents that are to be indexed.
+ghost use Rattle.std.specs.Prelude.{◌≡◌, ◌⊎◌, [], Err, IfErr, IfOk, IfSome, None, OnErr, OnOk};
+ghost use Rattle.ii_definitions.specs.Fields.{option_of};
+ghost use Rattle.ii_definitions.specs.Tokens.{tokens_of};
+ghost use Rattle.ii_indexing.specs.IndexFiles.{CountsIndexFailures, FilesGrow, IsIndexFault, WroteIndex};
+ghost use Rattle.ii_indexing.specs.Refusals.{calls_fault};
+ghost use Rattle.nequllpa_indexing.specs.Documents.{AddsLine, DocumentsState, next_calls};
+ghost use Rattle.ii_documents.specs.JsonLines.{TellsOfLine, told_of_line};
+
+use ii_base::{Fault, Schema, TextAnalyzer};
+use ii_docset::{DocId, TERMINATED};
+use ii_documents::{LineFault, line_calls};
+use ii_indexing::{IndexCall, IndexWriters, write_index};
+use std::alloc::Global;
+use std::io::Write;
+use std::marker::Model;
+
+/// Documents that are to be indexed, as the index calls of their lines.
+///
+/// Clauses see the schema, how many documents there are, and the calls.
+#[derive(Drop)]
+pub struct Documents {
+    schema: Schema,
+    num_docs: DocId,
+    calls: Vec<IndexCall>,
+}
+
+impl Model for Documents {
+    ghost use Rattle.std.specs.Prelude.{◌≤◌, map};
+    ghost use Rattle.ii_base.specs.declared.doc_id.TheConstants.{TERMINATED};
+    ghost use Rattle.ii_definitions.specs.IndexCalls.{MayAllBeIndexed, call_of};
+    ghost use Rattle.nequllpa_indexing.specs.Documents.{DocumentsState};
+
+    ghost Value = { DocumentsState };
+
+    ghost view = { λ d. record {
+      schema = d.schema;
+      num_docs = d.num_docs;
+      calls = map (call_of d.schema) d.calls.items;
+    } };
+
+    ghost invariant = { λ d. (d.num_docs ≤ TERMINATED) × MayAllBeIndexed d.schema d.num_docs d.calls.items };
+}
+
+impl Documents {
+    /// No documents, with fields of a schema.
+    pub fn new(alloc: Global, schema: Schema) -> Documents
+        ensures { result ≡ record { schema = schema; num_docs = 0; calls = [] } }
+    {
+        Documents {
+            schema,
+            num_docs: 0,
+            calls: Vec::new(alloc),
+        }
+    }
+
+    /// The schema.
+    pub fn schema(&self) -> &Schema
+        ensures { result.now ≡ self.now.schema }
+    {
+        &self.schema
+    }
+
+    /// How many documents there are, at most `TERMINATED`.
+    pub fn num_docs(&self) -> DocId
+        ensures { result ≡ self.now.num_docs }
+    {
+        self.num_docs
+    }
+
+    /// Adds the document that a line of JSON says (`line_calls`).
+    ///
+    /// A refused line leaves the documents as they are: `TooManyDocuments` where there are `TERMINATED` of
+    /// them, else the fault of the line. `OutOfMemory` where there is no room.
+    pub fn push_line(&mut self, alloc: Global, line: &str) -> Result<(), LineFault>
+        ensures ok { OnOk result (AddsLine self.old self.new line.now) }
+        ensures err { OnErr result (self.new ≡ self.old) }
+        ensures refused { IfErr result (λ e. TellsOfLine (told_of_line e) (next_calls self.old line.now)) }
+    {
+        if self.num_docs >= TERMINATED {
+            return Err(LineFault::TooManyDocuments);
+        }
+        let mut calls = line_calls(alloc, &self.schema, self.num_docs, line)?;
+        self.calls.append(&mut calls)?;
+        self.num_docs += 1;
+        Ok(())
+    }
+
+    /// Writes the files of an index of the documents, whose texts an analyzer cuts, and hands the writers
+    /// back: as they were where the first fault of the calls is answered. See `write_index` for the faults.
+    pub fn write<A: TextAnalyzer, W: Write>(
+        self,
+        alloc: Global,
+        analyzer: &A,
+        writers: IndexWriters<W>,
+    ) -> (IndexWriters<W>, Result<(), Fault>)
+        ensures wrote { OnOk result.1 (WroteIndex self.schema self.num_docs writers result.0 (tokens_of (A.words analyzer.now) self.calls)) }
+        ensures failures { CountsIndexFailures writers result.0 result.1 }
+        ensures grow { FilesGrow writers result.0 }
+        ensures refused { IfSome (calls_fault (A.words analyzer.now) (option_of self.schema) [] self.calls)
+            (λ fault. ((result.1 ≡ Err fault) ⊎ (result.1 ≡ Err Fault.OutOfMemory)) × (result.0 ≡ writers)) }
+        ensures fault { calls_fault (A.words analyzer.now) (option_of self.schema) [] self.calls ≡ None
+            → IfErr result.1 (IsIndexFault self.schema self.num_docs writers (tokens_of (A.words analyzer.now) self.calls)) }
+    {
+        let Documents {
+            schema,
+            num_docs,
+            calls,
+        } = self;
+        write_index(alloc, schema, num_docs, calls, analyzer, writers)
+    }
+}

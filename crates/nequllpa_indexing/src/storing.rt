@@ -1,0 +1,87 @@
+//! How the index of lines is made.
+ghost use Rattle.std.specs.Prelude.{◌≡◌, ◌⊎◌, [], Err, IfErr, IfOk, IfSome, None, Some};
+ghost use Rattle.std.specs.Str.{IsUtf8};
+ghost use Rattle.ii_base.specs.AsciiWords.{ascii_words};
+ghost use Rattle.ii_definitions.specs.Fields.{option_of};
+ghost use Rattle.ii_definitions.specs.Files.{HoldTokens};
+ghost use Rattle.ii_definitions.specs.Norms.{HoldNorms};
+ghost use Rattle.ii_definitions.specs.Tokens.{tokens_of};
+ghost use Rattle.ii_indexing.specs.RamFiles.{IsRamFault};
+ghost use Rattle.ii_indexing.specs.Refusals.{calls_fault};
+ghost use Rattle.nequllpa_indexing.specs.Inputs.{AddsInput};
+
+use crate::documents::Documents;
+use crate::faults::InputFault;
+use ii_base::{AsciiTokenizer, Fault};
+use ii_indexing::IndexWriters;
+use ii_store::StoredIndex;
+use std::alloc::Global;
+
+/// Adds the document of a line, given as bytes with or without the end of the line. A line of white space
+/// alone says none. Answers whether there was a document.
+///
+/// `NotUtf8` where the bytes aren't UTF-8, else the fault of the line (`Documents::push_line`); the
+/// documents are then as they were.
+pub fn add_line(alloc: Global, documents: &mut Documents, line: &[u8]) -> Result<bool, InputFault>
+    ensures added { IsUtf8 line.now → AddsInput documents.old documents.new line.now result }
+    ensures kept { ¬ IsUtf8 line.now → (result ≡ Err InputFault.NotUtf8) × (documents.new ≡ documents.old) }
+{
+    let Ok(text) = std::str::from_utf8(line) else {
+        return Err(InputFault::NotUtf8);
+    };
+    let text = text.trim_ascii();
+    if text.is_empty() {
+        return Ok(false);
+    }
+    match documents.push_line(alloc, text) {
+        Ok(()) => Ok(true),
+        Err(fault) => Err(InputFault::Line(fault)),
+    }
+}
+
+/// The index of documents, whose texts are cut by `AsciiTokenizer`, with a schema's text: its files hold
+/// exactly the tokens of the documents' calls, and their norms.
+///
+/// The first fault of the calls is answered, else a limit of what is written (`write_index`), or
+/// `OutOfMemory`.
+pub fn store(alloc: Global, documents: Documents, schema: Vec<u8>) -> Result<StoredIndex, Fault>
+    ensures says { IfOk result (λ s. (s.num_docs ≡ documents.num_docs) × (s.schema.items ≡ schema.items)) }
+    ensures holds { IfOk result (λ s. HoldTokens (option_of documents.schema) s.terms.items s.postings.items s.positions.items (tokens_of ascii_words documents.calls)) }
+    ensures norms { IfOk result (λ s. HoldNorms documents.schema documents.num_docs s.fieldnorms.items (tokens_of ascii_words documents.calls)) }
+    ensures refused { IfSome (calls_fault ascii_words (option_of documents.schema) [] documents.calls) (λ fault. (result ≡ Err fault) ⊎ (result ≡ Err Fault.OutOfMemory)) }
+    ensures fault { calls_fault ascii_words (option_of documents.schema) [] documents.calls ≡ None
+        → IfErr result (λ e. (e ≡ Fault.OutOfMemory) ⊎ IsRamFault documents.schema documents.num_docs (tokens_of ascii_words documents.calls) e) }
+{
+    let num_docs = documents.num_docs();
+    let files = IndexWriters::in_memory(alloc);
+    let (files, written) = documents.write(alloc, &AsciiTokenizer, files);
+    match written {
+        Ok(()) => Ok(stored(num_docs, schema, files)),
+        Err(fault) => Err(fault.in_memory()),
+    }
+}
+
+// An index of these files.
+fn stored(num_docs: u32, schema: Vec<u8>, files: IndexWriters<Vec<u8>>) -> StoredIndex
+    ensures docs { result.num_docs ≡ num_docs }
+    ensures schema { result.schema.items ≡ schema.items }
+    ensures terms { Some result.terms.items ≡ files.terms.contents }
+    ensures postings { Some result.postings.items ≡ files.postings.contents }
+    ensures positions { Some result.positions.items ≡ files.positions.contents }
+    ensures fieldnorms { Some result.fieldnorms.items ≡ files.fieldnorms.contents }
+{
+    let IndexWriters {
+        terms,
+        postings,
+        positions,
+        fieldnorms,
+    } = files;
+    StoredIndex {
+        num_docs,
+        schema,
+        terms: terms.finish(),
+        postings: postings.finish(),
+        positions: positions.finish(),
+        fieldnorms: fieldnorms.finish(),
+    }
+}
