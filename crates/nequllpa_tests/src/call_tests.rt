@@ -108,10 +108,7 @@ fn answers_of(
 
 // The same of tokens and then one at 0, what it answers when it is finished, and how long the file of
 // postings is.
-fn run(
-    alloc: Global,
-    places: &[Place],
-) -> Result<([Result<(), Fault>; 3], u64), Fault> {
+fn run(alloc: Global, places: &[Place]) -> Result<([Result<(), Fault>; 3], u64), Fault> {
     let (first, second) = (tokens_at(alloc, places)?, tokens_at(alloc, &[(0, 1, 1)])?);
     let mut indexer = indexer(alloc)?;
     let (one, other) = answers_of(&mut indexer, first, second);

@@ -93,7 +93,10 @@ fn the_first_damaged_term_is_told(rt: HostRuntime) -> Result<(), Fail> {
         let (place, byte, field, ord, part) = *row;
         let (damage, _) = told_of_files(rt.alloc(), place, byte)?;
         let wanted = DamagedTerm { ord, part };
-        assert!(rt; damage == Some((Field::from_field_id(field), wanted)), "at {place}");
+        assert!(rt;
+            damage == Some((Field::from_field_id(field), wanted)),
+            "at {place}"
+        );
     }
     Ok(())
 }

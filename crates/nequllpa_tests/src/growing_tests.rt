@@ -25,7 +25,10 @@ fn push_many(
     Ok(calls.push(IndexCall::Text(doc, Field::from_field_id(field), text))?)
 }
 
-const DOCS: u32 = 1000;
+// This one has no text, and is the last.
+const LAST: DocId = 1000;
+
+const DOCS: u32 = 1001;
 
 static FIRST: [Call; 3] = [
     (0, 0, Said::Text("a b a c a d a a.")),
@@ -36,7 +39,7 @@ static FIRST: [Call; 3] = [
 // These texts, and in each later document as many `e` as its number, and an `a`.
 fn growing_calls(alloc: Global) -> Result<Vec<IndexCall>, Fault> {
     let mut calls = calls_of(alloc, &FIRST)?;
-    for doc in 2..DOCS {
+    for doc in 2..LAST {
         push_many(alloc, &mut calls, doc, 0, doc)?;
     }
     Ok(calls)
@@ -56,43 +59,46 @@ fn push_wanted(text: &mut String, doc: DocId) -> Result<(), Fault> {
 // Where these words stand.
 fn wanted(alloc: Global) -> Result<String, Fault> {
     let mut text = String::from_str(alloc, "0:6:0,2,4,6,7,13, 1:1:1, ")?;
-    for doc in 2..DOCS {
+    for doc in 2..LAST {
         write!(text, "{doc}:1:{doc}, ")?;
     }
     text.push_str("; ")?;
-    for doc in 2..DOCS {
+    for doc in 2..LAST {
         push_wanted(&mut text, doc)?;
     }
     text.push_str("; ; 500512 tokens of 5 terms")?;
     Ok(text)
 }
 
-// How many words a document has: the last one has none.
+// How many words a document has.
 fn length_of(doc: DocId) -> u32 {
     match doc {
         0 => 13,
         1 => 2,
-        DOCS => 0,
+        LAST => 0,
         _ => doc.saturating_add(1),
     }
 }
 
 // Whether each norm is that of so many words.
 fn are_growing(norms: &FieldNormReader) -> bool {
-    if norms.num_docs() != DOCS + 1 {
+    if norms.num_docs() != DOCS {
         return false;
     }
-    for doc in 0..DOCS + 1 {
+    for doc in 0..DOCS {
         if norms.fieldnorm_id(doc) != FieldNormReader::fieldnorm_to_id(length_of(doc)) {
             return false;
         }
     }
-    (norms.fieldnorm(0), norms.fieldnorm(DOCS)) == (13, 0)
+    (norms.fieldnorm(0), norms.fieldnorm(LAST)) == (13, 0)
 }
 
 // Whether the first field has such norms, and the other one none.
 fn have_norms(index: &OpenIndex) -> Result<bool, Fault> {
-    if index.get_fieldnorms_reader(Field::from_field_id(1))?.is_some() {
+    if index
+        .get_fieldnorms_reader(Field::from_field_id(1))?
+        .is_some()
+    {
         return Ok(false);
     }
     match index.get_fieldnorms_reader(Field::from_field_id(0))? {
@@ -104,7 +110,7 @@ fn have_norms(index: &OpenIndex) -> Result<bool, Fault> {
 // What is told of the words, and whether the norms are right.
 fn told_of_growing(alloc: Global) -> Result<(String, bool), Fault> {
     let calls = growing_calls(alloc)?;
-    let (num_fields, index) = indexed(alloc, &FIELDS, DOCS + 1, calls)?;
+    let (num_fields, index) = indexed(alloc, &FIELDS, DOCS, calls)?;
     let right = have_norms(&index)?;
     Ok((told(alloc, num_fields, &index, &WORDS)?, right))
 }
@@ -112,7 +118,8 @@ fn told_of_growing(alloc: Global) -> Result<(String, bool), Fault> {
 #[test]
 fn growing_texts_are_found_and_have_their_norms(rt: HostRuntime) -> Result<(), Fail> {
     let (told, right) = told_of_growing(rt.alloc())?;
-    assert!(rt; (told == wanted(rt.alloc())?, right) == (true, true));
+    let wanted = wanted(rt.alloc())?;
+    assert!(rt; (told == wanted, right) == (true, true));
     Ok(())
 }
 
@@ -151,19 +158,22 @@ fn bounds_of(
 }
 
 // What bounds those of the words.
-fn told_of_bounds(alloc: Global) -> Result<[Option<(u8, u8)>; 4], Fault> {
+fn all_bounds(alloc: Global) -> Result<Vec<Option<(u8, u8)>>, Fault> {
     let calls = falling_calls(alloc)?;
     let (num_fields, index) = indexed(alloc, &FIELDS, FALLING, calls)?;
-    let mut bounds = [None; 4];
-    for n in 0..4usize {
-        bounds[n] = bounds_of(alloc, num_fields, &index, &BOUNDED[n])?;
+    let mut bounds = Vec::new(alloc);
+    for word in &BOUNDED {
+        bounds.push(bounds_of(alloc, num_fields, &index, word)?)?;
     }
     Ok(bounds)
 }
 
+// Those of `a` and `e` where the field has norms, and where it has none.
+static BOUNDS: [Option<(u8, u8)>; 4] = [Some((3, 1)), Some((3, 129)), Some((0, 0)), Some((0, 0))];
+
 #[test]
 fn blocks_are_bounded_by_norms_and_counts(rt: HostRuntime) -> Result<(), Fail> {
-    let bounds = told_of_bounds(rt.alloc())?;
-    assert!(rt; bounds == [Some((3, 1)), Some((3, 129)), Some((0, 0)), Some((0, 0))]);
+    let bounds = all_bounds(rt.alloc())?;
+    assert!(rt; bounds.as_slice() == BOUNDS.as_slice());
     Ok(())
 }

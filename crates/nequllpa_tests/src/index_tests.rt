@@ -1,7 +1,5 @@
 // Calls of tables: what is found of them, what files they give, and how they are refused.
-use crate::memory_index::{
-    Call, Key, Kind, Leaf, Said, calls_of, indexed, told, write_calls,
-};
+use crate::memory_index::{Call, Key, Kind, Leaf, Said, calls_of, indexed, told, write_calls};
 use ii_base::{Fault, LeafKind, LimitName};
 use ii_docset::DocId;
 use ii_indexing::IndexWriters;
@@ -214,7 +212,11 @@ fn files_have_their_bytes(rt: HostRuntime) -> Result<(), Fail> {
     for row in &FILES {
         let files = IndexWriters::in_memory(rt.alloc());
         let (files, answer) = write_calls(rt.alloc(), row.0, row.1, row.2, files)?;
-        assert!(rt; (answer, are_as(files, &row.3)) == (Ok(()), true), "{} documents", row.1);
+        assert!(rt;
+            (answer, are_as(files, &row.3)) == (Ok(()), true),
+            "{} documents",
+            row.1
+        );
     }
     Ok(())
 }
@@ -247,11 +249,7 @@ static ENDS: [(&[Kind], &[Call], Result<(), Fault>); 7] = [
         Ok(()),
     ),
     // a value of many levels
-    (
-        &[Kind::Json(false)],
-        &[(0, 0, Said::Arrays(128))],
-        Ok(()),
-    ),
+    (&[Kind::Json(false)], &[(0, 0, Said::Arrays(128))], Ok(())),
     (
         &[Kind::Json(false)],
         &[(0, 0, Said::Arrays(129))],

@@ -263,14 +263,7 @@ pub fn write_calls<W: Write + Drop>(
 ) -> Result<(IndexWriters<W>, Result<(), Fault>), Fault> {
     let calls = calls_of(alloc, table)?;
     let (schema, calls) = ready(alloc, kinds, num_docs, calls)?;
-    Ok(write_index(
-        alloc,
-        schema,
-        num_docs,
-        calls,
-        &AsciiTokenizer,
-        writers,
-    ))
+    Ok(write_index(alloc, schema, num_docs, calls, &AsciiTokenizer, writers))
 }
 
 /// The index of calls in memory, and how many fields it has.

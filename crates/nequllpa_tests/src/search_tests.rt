@@ -59,36 +59,35 @@ fn found(alloc: Global, query: &Query) -> Result<String, Fault> {
     found_in(alloc, &index, query)
 }
 
-// A word of a field, and `*` for all documents.
-type Word = (u32, &'static str);
+// A field and a word of it, or `*` for all documents.
+type Asked = (u32, &'static str);
 
 // How queries are put together.
 enum Put {
     // One and all others.
-    All(&'static [Word]),
+    All(&'static [Asked]),
     // One, and one of the others.
-    And(&'static [Word]),
+    And(&'static [Asked]),
     // One, or one of the others.
-    Or(&'static [Word]),
+    Or(&'static [Asked]),
     // One, and none of the others.
-    Without(&'static [Word]),
+    Without(&'static [Asked]),
     // A phrase of one and another one, which stands so far behind.
-    Phrase(u32, Word),
+    Phrase(u32, Asked),
 }
 
-fn word(alloc: Global, word: &Word) -> Result<Query, Fault> {
-    let (field, text) = *word;
-    if text == "*" {
+fn term(alloc: Global, word: &Asked) -> Result<Term, Fault> {
+    Term::from_field_text(alloc, Field::from_field_id(word.0), word.1)
+}
+
+fn word(alloc: Global, word: &Asked) -> Result<Query, Fault> {
+    if word.1 == "*" {
         return Ok(Query::All(6));
     }
-    Ok(Query::Term(term(alloc, field, text)?))
+    Ok(Query::Term(term(alloc, word)?))
 }
 
-fn term(alloc: Global, field: u32, text: &str) -> Result<Term, Fault> {
-    Term::from_field_text(alloc, Field::from_field_id(field), text)
-}
-
-fn words(alloc: Global, listed: &[Word]) -> Result<Vec<Query>, Fault> {
+fn words(alloc: Global, listed: &[Asked]) -> Result<Vec<Query>, Fault> {
     let mut queries = Vec::new(alloc);
     for one in listed {
         queries.push(word(alloc, one)?)?;
@@ -97,22 +96,19 @@ fn words(alloc: Global, listed: &[Word]) -> Result<Vec<Query>, Fault> {
 }
 
 // One of some words.
-fn any(alloc: Global, listed: &[Word]) -> Result<Query, Fault> {
+fn any(alloc: Global, listed: &[Asked]) -> Result<Query, Fault> {
     Query::or_any(alloc, words(alloc, listed)?)
 }
 
-fn phrase(alloc: Global, first: &Word, distance: u32, other: &Word) -> Result<Query, Fault> {
-    let term_behind = term(alloc, other.0, other.1)?;
+fn phrase(alloc: Global, first: &Asked, distance: u32, other: &Asked) -> Result<Query, Fault> {
+    let (start, term) = (term(alloc, first)?, term(alloc, other)?);
     let mut others = Vec::new(alloc);
-    others.push(PhraseTerm {
-        distance,
-        term: term_behind,
-    })?;
-    Ok(Query::Phrase(term(alloc, first.0, first.1)?, others))
+    others.push(PhraseTerm { distance, term })?;
+    Ok(Query::Phrase(start, others))
 }
 
 // The query of a word and others.
-fn query_of(alloc: Global, first: &Word, others: &Put) -> Result<Query, Fault> {
+fn query_of(alloc: Global, first: &Asked, others: &Put) -> Result<Query, Fault> {
     if let Put::Phrase(distance, other) = others {
         return phrase(alloc, first, *distance, other);
     }
@@ -126,7 +122,7 @@ fn query_of(alloc: Global, first: &Word, others: &Put) -> Result<Query, Fault> {
     }
 }
 
-static QUERIES: [(Word, Put, &str); 28] = [
+static QUERIES: [(Asked, Put, &str); 28] = [
     // words
     ((0, "a"), Put::All(&[]), "0,1,4,3 in all"),
     ((0, "b"), Put::All(&[]), "0,2,4,3 in all"),

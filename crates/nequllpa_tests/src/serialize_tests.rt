@@ -5,8 +5,8 @@ use bytes::Bytes;
 use ii_base::{CountingWriter, Fault, Field, FieldEntry, IndexRecordOption, Schema, ValueType};
 use ii_fieldnorm::FieldNormReaders;
 use ii_indexing::{
-    IndexingContext, IndexingTerm, InvertedIndexSerializer, PerFieldPostingsWriter,
-    PostingsWriter, serialize_postings,
+    IndexingContext, IndexingTerm, InvertedIndexSerializer, PerFieldPostingsWriter, PostingsWriter,
+    serialize_postings,
 };
 use std::alloc::Global;
 use std::test::Fail;

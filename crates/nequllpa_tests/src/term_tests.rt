@@ -104,7 +104,12 @@ fn fields_of_terms(alloc: Global) -> Result<(bool, u32, u32, usize), Fault> {
     term.set_field(Field::from_field_id(3));
     let wrapped = IndexingTermRef::wrap(&WRAPPED);
     let len = wrapped.serialized_term().len();
-    Ok((is_empty, term.field().field_id(), wrapped.field().field_id(), len))
+    Ok((
+        is_empty,
+        term.field().field_id(),
+        wrapped.field().field_id(),
+        len,
+    ))
 }
 
 #[test]
