@@ -147,8 +147,9 @@ static RUNS: [(&[Place], [Result<(), Fault>; 3], u64); 3] = [
 #[test]
 fn an_indexer_that_refused_a_call_has_failed(rt: HostRuntime) -> Result<(), Fail> {
     for row in &RUNS {
-        let (answers, len) = run(rt.alloc(), row.0)?;
-        assert!(rt; (answers, len) == (row.1, row.2));
+        let (places, wanted, wanted_len) = *row;
+        let (answers, len) = run(rt.alloc(), places)?;
+        assert!(rt; (answers, len) == (wanted, wanted_len));
     }
     Ok(())
 }

@@ -15,7 +15,12 @@ static CALLS: [Call; 3] = [
 
 // The writer at a place, which fails at a call if it is this one.
 fn failing_writer(alloc: Global, place: u32, failing: (u32, u64)) -> CountingWriter<FailingWriter> {
-    let call = if place == failing.0 { failing.1 } else { 0 };
+    let (failing_place, failing_call) = failing;
+    let call = if place == failing_place {
+        failing_call
+    } else {
+        0
+    };
     CountingWriter::wrap(FailingWriter::new(alloc, call))
 }
 
@@ -43,11 +48,11 @@ fn is_left(
         return false;
     }
     let written_bytes = writer.written_bytes();
-    let writer = writer.finish();
+    let (writer, right) = (writer.finish(), right.finish());
     if writer.bytes().len() as u64 != written_bytes {
         return false;
     }
-    right.finish().bytes().starts_with(writer.bytes())
+    right.bytes().starts_with(writer.bytes())
 }
 
 // Whether the writers were handed back, and the one at a place alone has a failed call.
@@ -56,10 +61,22 @@ fn are_handed_back(
     place: u32,
     right: IndexWriters<FailingWriter>,
 ) -> bool {
-    let mut all = is_left(writers.terms, u64::from(place == 0), right.terms);
-    all &= is_left(writers.postings, u64::from(place == 1), right.postings);
-    all &= is_left(writers.positions, u64::from(place == 2), right.positions);
-    all &= is_left(writers.fieldnorms, u64::from(place == 3), right.fieldnorms);
+    let IndexWriters {
+        terms,
+        postings,
+        positions,
+        fieldnorms,
+    } = writers;
+    let IndexWriters {
+        terms: right_terms,
+        postings: right_postings,
+        positions: right_positions,
+        fieldnorms: right_norms,
+    } = right;
+    let mut all = is_left(terms, u64::from(place == 0), right_terms);
+    all &= is_left(postings, u64::from(place == 1), right_postings);
+    all &= is_left(positions, u64::from(place == 2), right_positions);
+    all &= is_left(fieldnorms, u64::from(place == 3), right_norms);
     all
 }
 

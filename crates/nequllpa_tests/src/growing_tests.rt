@@ -146,11 +146,12 @@ fn bounds_of(
 ) -> Result<Option<(u8, u8)>, Fault>
     requires { num_fields ≡ length index.now.readers }
 {
-    if word.0 as usize >= num_fields {
+    let (field, bytes) = *word;
+    if field as usize >= num_fields {
         return Ok(None);
     }
-    let field = Field::from_field_id(word.0);
-    let term = Term::from_field_bytes(alloc, field, word.1)?;
+    let field = Field::from_field_id(field);
+    let term = Term::from_field_bytes(alloc, field, bytes)?;
     match index.reader(field).read_block_postings(&term, FULL)? {
         Some(blocks) => Ok(blocks.block_bounds()),
         None => Ok(None),

@@ -153,8 +153,9 @@ fn told_of(
 #[test]
 fn calls_are_found(rt: HostRuntime) -> Result<(), Fail> {
     for row in &FOUND {
-        let told = told_of(rt.alloc(), row.0, row.1, row.2, row.3)?;
-        assert_eq!(rt; told.as_str(), row.4);
+        let (kinds, num_docs, table, keys, wanted) = *row;
+        let told = told_of(rt.alloc(), kinds, num_docs, table, keys)?;
+        assert_eq!(rt; told.as_str(), wanted);
     }
     Ok(())
 }
@@ -188,34 +189,35 @@ static FILES: [(&[Kind], DocId, &[Call], [(usize, &[u8]); 4]); 3] = [
 ];
 
 // Whether bytes are so many and begin so.
-fn is_as(bytes: &[u8], wanted: &(usize, &'static [u8])) -> bool {
-    bytes.len() == wanted.0 && bytes.starts_with(wanted.1)
+fn is_as(bytes: &[u8], wanted: (usize, &'static [u8])) -> bool {
+    let (len, start) = wanted;
+    bytes.len() == len && bytes.starts_with(start)
 }
 
 // Whether each file is.
-fn are_as(files: IndexWriters<Vec<u8>>, wanted: &[(usize, &'static [u8]); 4]) -> bool {
+fn are_as(files: IndexWriters<Vec<u8>>, wanted: [(usize, &'static [u8]); 4]) -> bool {
     let IndexWriters {
         terms,
         postings,
         positions,
         fieldnorms,
     } = files;
-    let mut all = is_as(terms.finish().as_slice(), &wanted[0]);
-    all &= is_as(postings.finish().as_slice(), &wanted[1]);
-    all &= is_as(positions.finish().as_slice(), &wanted[2]);
-    all &= is_as(fieldnorms.finish().as_slice(), &wanted[3]);
+    let mut all = is_as(terms.finish().as_slice(), wanted[0]);
+    all &= is_as(postings.finish().as_slice(), wanted[1]);
+    all &= is_as(positions.finish().as_slice(), wanted[2]);
+    all &= is_as(fieldnorms.finish().as_slice(), wanted[3]);
     all
 }
 
 #[test]
 fn files_have_their_bytes(rt: HostRuntime) -> Result<(), Fail> {
     for row in &FILES {
+        let (kinds, num_docs, table, wanted) = *row;
         let files = IndexWriters::in_memory(rt.alloc());
-        let (files, answer) = write_calls(rt.alloc(), row.0, row.1, row.2, files)?;
+        let (files, answer) = write_calls(rt.alloc(), kinds, num_docs, table, files)?;
         assert!(rt;
-            (answer, are_as(files, &row.3)) == (Ok(()), true),
-            "{} documents",
-            row.1
+            (answer, are_as(files, wanted)) == (Ok(()), true),
+            "of {num_docs} documents"
         );
     }
     Ok(())
@@ -289,9 +291,10 @@ fn are_untouched(writers: &IndexWriters<Vec<u8>>) -> bool {
 #[test]
 fn refused_calls_write_nothing(rt: HostRuntime) -> Result<(), Fail> {
     for row in &ENDS {
+        let (kinds, table, wanted) = *row;
         let files = IndexWriters::in_memory(rt.alloc());
-        let (files, answer) = write_calls(rt.alloc(), row.0, 2, row.1, files)?;
-        assert!(rt; (answer, are_untouched(&files)) == (row.2, row.2.is_err()));
+        let (files, answer) = write_calls(rt.alloc(), kinds, 2, table, files)?;
+        assert!(rt; (answer, are_untouched(&files)) == (wanted, wanted.is_err()));
     }
     Ok(())
 }

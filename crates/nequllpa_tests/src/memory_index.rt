@@ -135,8 +135,8 @@ fn member_of(alloc: Global, key: &str, leaf: &Leaf) -> Result<(String, JsonValue
 // An object of leaves.
 fn object_of(alloc: Global, leaves: &[(&'static str, Leaf)]) -> Result<JsonValue, Fault> {
     let mut members = Vec::new(alloc);
-    for leaf in leaves {
-        members.push(member_of(alloc, leaf.0, &leaf.1)?)?;
+    for (key, leaf) in leaves {
+        members.push(member_of(alloc, key, leaf)?)?;
     }
     Ok(JsonValue::Object(members))
 }
@@ -154,8 +154,9 @@ fn arrays_of(alloc: Global, number: usize) -> Result<JsonValue, Fault> {
 
 // A call.
 fn call_of(alloc: Global, call: &Call) -> Result<IndexCall, Fault> {
-    let (doc, field) = (call.0, Field::from_field_id(call.1));
-    Ok(match &call.2 {
+    let (doc, field, said) = call;
+    let (doc, field) = (*doc, Field::from_field_id(*field));
+    Ok(match said {
         Said::Text(text) => IndexCall::Text(doc, field, String::from_str(alloc, text)?),
         Said::Tokens(places) => IndexCall::Tokens(doc, field, tokens_at(alloc, places)?),
         Said::U64(number) => IndexCall::U64(doc, field, *number),

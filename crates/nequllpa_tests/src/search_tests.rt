@@ -6,7 +6,10 @@ use crate::memory_index::{Call, Kind, Said, calls_of, cursor_of, indexed, ready}
 use ii_base::{AsciiTokenizer, Fault, Field, Term};
 use ii_docset::{DocId, DocSet, TERMINATED};
 use ii_reader::{OpenIndex, SegmentPostings};
-use nequllpa::{AllDocs, PhraseTerm, Query, count, index_in_ram, search, top_by_count};
+use nequllpa::{
+    AllDocs, PhraseTerm, Query, QueryCursor, TermOrPhrase, count, index_in_ram, search,
+    top_by_count,
+};
 use std::alloc::Global;
 use std::test::Fail;
 
@@ -48,12 +51,20 @@ fn found_in(alloc: Global, index: &OpenIndex, query: &Query) -> Result<String, F
     Ok(text)
 }
 
+// What a cursor over no documents gives, where there is no such field.
+fn nothing(alloc: Global) -> Result<String, Fault> {
+    let mut cursor: QueryCursor<TermOrPhrase<SegmentPostings>> = QueryCursor::nothing();
+    let mut text = String::from_str(alloc, "no such field")?;
+    push_documents(&mut text, &mut cursor)?;
+    Ok(text)
+}
+
 // The same in the index of the texts, where it has the fields of the query.
 fn found(alloc: Global, query: &Query) -> Result<String, Fault> {
     let calls = calls_of(alloc, &TEXTS)?;
     let (schema, calls) = ready(alloc, &FIELDS, 6, calls)?;
     if !query.has_fields(&schema) {
-        return Ok(String::from_str(alloc, "no such field")?);
+        return nothing(alloc);
     }
     let index = index_in_ram(alloc, schema, 6, calls, &AsciiTokenizer)?;
     found_in(alloc, &index, query)
@@ -161,10 +172,10 @@ static QUERIES: [(Asked, Put, &str); 28] = [
 
 #[test]
 fn queries_give_documents(rt: HostRuntime) -> Result<(), Fail> {
-    for row in &QUERIES {
-        let query = query_of(rt.alloc(), &row.0, &row.1)?;
+    for (first, others, wanted) in &QUERIES {
+        let query = query_of(rt.alloc(), first, others)?;
         let found = found(rt.alloc(), &query)?;
-        assert_eq!(rt; found.as_str(), row.2);
+        assert_eq!(rt; found.as_str(), *wanted);
     }
     Ok(())
 }

@@ -71,18 +71,15 @@ fn has_bytes(term: &IndexingTerm, bytes: &[u8]) -> bool {
     term.serialized_term() == bytes && term.len_bytes() == bytes.len().saturating_sub(4)
 }
 
-// How many steps come out right, each with a copy of the term before it that stays.
+// How many steps come out right.
 fn right_steps(alloc: Global) -> Result<usize, Fault> {
     let mut term = IndexingTerm::with_capacity(alloc, 8)?;
-    let mut before: &'static [u8] = b"\0\0\0\0";
     let mut right = 0usize;
-    for row in &STEPS {
-        let copy = term.clone()?;
-        let is_right = done(&mut term, &row.0)?;
-        if is_right && has_bytes(&term, row.1) && has_bytes(&copy, before) {
+    for (step, bytes) in &STEPS {
+        let is_right = done(&mut term, step)?;
+        if is_right && has_bytes(&term, bytes) {
             right = right.saturating_add(1);
         }
-        before = row.1;
     }
     Ok(right)
 }
@@ -93,30 +90,33 @@ fn terms_have_bytes(rt: HostRuntime) -> Result<(), Fail> {
     Ok(())
 }
 
+// Of a new term whether it is empty, and the field that it is given; whether a copy stays when it is
+// shortened.
+fn copied(alloc: Global) -> Result<(bool, u32, bool), Fault> {
+    let mut term = IndexingTerm::with_capacity(alloc, 0)?;
+    let is_empty = term.is_empty();
+    term.set_field(Field::from_field_id(1));
+    term.set_bytes(b"testing")?;
+    let copy = term.clone()?;
+    term.truncate_value_bytes(2);
+    let stays = has_bytes(&copy, b"\0\0\0\x01testing");
+    Ok((is_empty, term.field().field_id(), stays))
+}
+
 // Field 7 and `test`.
 static WRAPPED: [u8; 8] = [0, 0, 0, 7, 0x74, 0x65, 0x73, 0x74];
 
-// Of a new term whether it is empty, and its field once that is set; the field of a term that is read
-// from bytes, and how many they are.
-fn fields_of_terms(alloc: Global) -> Result<(bool, u32, u32, usize), Fault> {
-    let mut term = IndexingTerm::with_capacity(alloc, 0)?;
-    let is_empty = term.is_empty();
-    term.set_field(Field::from_field_id(3));
+// The field of a term that is read from bytes, and how many they are.
+fn wrapped() -> (u32, usize) {
     let wrapped = IndexingTermRef::wrap(&WRAPPED);
-    let len = wrapped.serialized_term().len();
-    Ok((
-        is_empty,
-        term.field().field_id(),
-        wrapped.field().field_id(),
-        len,
-    ))
+    (wrapped.field().field_id(), wrapped.serialized_term().len())
 }
 
 #[test]
-fn terms_have_fields_and_positions_begin_at_zero(rt: HostRuntime) -> Result<(), Fail> {
-    let fields = fields_of_terms(rt.alloc())?;
-    let begun = IndexingPosition::default();
-    let begun = (begun.num_tokens, begun.end_position);
-    assert!(rt; (fields, begun) == ((true, 3, 7, 8), (0, 0)));
+fn terms_are_copied_and_read(rt: HostRuntime) -> Result<(), Fail> {
+    let position = IndexingPosition::default();
+    let begun = (position.num_tokens, position.end_position);
+    let copied = copied(rt.alloc());
+    assert!(rt; (copied, wrapped(), begun) == (Ok((true, 1, true)), (7, 8), (0, 0)));
     Ok(())
 }
