@@ -43,15 +43,18 @@ fn index_text(
     end_position: u32,
     places: &[Place],
 ) -> Result<Result<(u32, u32), Fault>, Fault> {
+    let mut term = IndexingTerm::with_capacity(alloc, 0)?;
     let mut tokens = tokens_at(alloc, places)?;
     let mut ctx = IndexingContext::new(alloc);
-    let mut term = IndexingTerm::with_capacity(alloc, 0)?;
     let mut position = IndexingPosition {
         num_tokens,
         end_position,
     };
     let mut writer = SpecializedPostingsWriter::new(FULL);
     let answer = writer.index_text(0, &mut tokens, &mut term, &mut ctx, &mut position);
+    drop(ctx);
+    drop(tokens);
+    drop(term);
     Ok(match answer {
         Ok(()) => Ok((position.num_tokens, position.end_position)),
         Err(fault) => Err(fault),
@@ -113,7 +116,9 @@ fn run(alloc: Global, places: &[Place]) -> Result<([Result<(), Fault>; 3], u64),
     let mut indexer = indexer(alloc)?;
     let (one, other) = answers_of(&mut indexer, first, second);
     let (files, finished) = indexer.finish(IndexWriters::in_memory(alloc));
-    Ok(([one, other, finished], files.postings.written_bytes()))
+    let len = files.postings.written_bytes();
+    drop(files);
+    Ok(([one, other, finished], len))
 }
 
 // The postings and counts of a document with two and one with one, behind the number of tokens, and the

@@ -1,7 +1,7 @@
 // Files whose terms are all checked once, and then looked up.
 ghost use Rattle.std.specs.Prelude.{◌≡◌, length, IfOk};
 
-use crate::memory_index::{Call, Key, Kind, Said, schema_of, told, write_calls};
+use crate::memory_index::{Call, Key, Kind, Said, files_of, schema_of, told};
 use bytes::Bytes;
 use ii_base::{Fault, Field, Part, Schema};
 use ii_indexing::IndexWriters;
@@ -71,12 +71,15 @@ fn told_of_files(
     place: usize,
     byte: u8,
 ) -> Result<(Option<(Field, DamagedTerm)>, String), Fault> {
-    let files = IndexWriters::in_memory(alloc);
-    let (files, answer) = write_calls(alloc, &FIELDS, 3, &TEXTS, files)?;
-    answer?;
     let schema = schema_of(alloc, &FIELDS)?;
-    let mut index = opened(alloc, files, &schema, place, byte)?;
-    told_after_check(alloc, schema.num_fields(), &mut index)
+    let (files, _written) = files_of(alloc, &FIELDS, 3, &TEXTS)?;
+    let index = opened(alloc, files, &schema, place, byte);
+    let num_fields = schema.num_fields();
+    drop(schema);
+    let mut index = index?;
+    let told = told_after_check(alloc, num_fields, &mut index);
+    drop(index);
+    told
 }
 
 // A place in the postings, its byte, and the damage that it is: a field, a term, and a part of its list.

@@ -1,7 +1,7 @@
 // Each call of each writer of an index fails once.
-use crate::memory_index::{Call, Kind, Leaf, Said, write_calls};
-use ii_base::{CountingWriter, FailingWriter, Fault};
-use ii_indexing::IndexWriters;
+use crate::memory_index::{Call, Kind, Leaf, Said, ready_of};
+use ii_base::{AsciiTokenizer, CountingWriter, FailingWriter, Fault};
+use ii_indexing::{IndexWriters, write_index};
 use std::alloc::Global;
 use std::test::Fail;
 
@@ -29,13 +29,14 @@ fn run(
     alloc: Global,
     failing: (u32, u64),
 ) -> Result<(IndexWriters<FailingWriter>, Result<(), Fault>), Fault> {
+    let (schema, calls) = ready_of(alloc, &FIELDS, 2, &CALLS)?;
     let writers = IndexWriters {
         terms: failing_writer(alloc, 0, failing),
         postings: failing_writer(alloc, 1, failing),
         positions: failing_writer(alloc, 2, failing),
         fieldnorms: failing_writer(alloc, 3, failing),
     };
-    write_calls(alloc, &FIELDS, 2, &CALLS, writers)
+    Ok(write_index(alloc, schema, 2, calls, &AsciiTokenizer, writers))
 }
 
 // Whether a writer has as many failed calls, and wrote the beginning of what another wrote.
@@ -44,15 +45,14 @@ fn is_left(
     failed_calls: u64,
     right: CountingWriter<FailingWriter>,
 ) -> bool {
-    if writer.failed_calls() != failed_calls {
-        return false;
-    }
+    let mut all = writer.failed_calls() == failed_calls;
     let written_bytes = writer.written_bytes();
     let (writer, right) = (writer.finish(), right.finish());
-    if writer.bytes().len() as u64 != written_bytes {
-        return false;
-    }
-    right.bytes().starts_with(writer.bytes())
+    all &= writer.bytes().len() as u64 == written_bytes;
+    all &= right.bytes().starts_with(writer.bytes());
+    drop(writer);
+    drop(right);
+    all
 }
 
 // Whether the writers were handed back, and the one at a place alone has a failed call.

@@ -1,5 +1,5 @@
 // Calls of tables: what is found of them, what files they give, and how they are refused.
-use crate::memory_index::{Call, Key, Kind, Leaf, Said, calls_of, indexed, told, write_calls};
+use crate::memory_index::{Call, Key, Kind, Leaf, Said, calls_of, files_of, indexed, told};
 use ii_base::{Fault, LeafKind, LimitName};
 use ii_docset::DocId;
 use ii_indexing::IndexWriters;
@@ -147,7 +147,9 @@ fn told_of(
 ) -> Result<String, Fault> {
     let calls = calls_of(alloc, table)?;
     let (num_fields, index) = indexed(alloc, kinds, num_docs, calls)?;
-    told(alloc, num_fields, &index, keys)
+    let told = told(alloc, num_fields, &index, keys);
+    drop(index);
+    told
 }
 
 #[test]
@@ -213,8 +215,7 @@ fn are_as(files: IndexWriters<Vec<u8>>, wanted: [(usize, &'static [u8]); 4]) -> 
 fn files_have_their_bytes(rt: HostRuntime) -> Result<(), Fail> {
     for row in &FILES {
         let (kinds, num_docs, table, wanted) = *row;
-        let files = IndexWriters::in_memory(rt.alloc());
-        let (files, answer) = write_calls(rt.alloc(), kinds, num_docs, table, files)?;
+        let (files, answer) = files_of(rt.alloc(), kinds, num_docs, table)?;
         assert!(rt;
             (answer, are_as(files, wanted)) == (Ok(()), true),
             "of {num_docs} documents"
@@ -280,11 +281,12 @@ static ENDS: [(&[Kind], &[Call], Result<(), Fault>); 7] = [
 ];
 
 // Whether nothing was written.
-fn are_untouched(writers: &IndexWriters<Vec<u8>>) -> bool {
-    let mut all = writers.terms.written_bytes() == 0;
-    all &= writers.postings.written_bytes() == 0;
-    all &= writers.positions.written_bytes() == 0;
-    all &= writers.fieldnorms.written_bytes() == 0;
+fn are_untouched(files: IndexWriters<Vec<u8>>) -> bool {
+    let mut all = files.terms.written_bytes() == 0;
+    all &= files.postings.written_bytes() == 0;
+    all &= files.positions.written_bytes() == 0;
+    all &= files.fieldnorms.written_bytes() == 0;
+    drop(files);
     all
 }
 
@@ -292,9 +294,8 @@ fn are_untouched(writers: &IndexWriters<Vec<u8>>) -> bool {
 fn refused_calls_write_nothing(rt: HostRuntime) -> Result<(), Fail> {
     for row in &ENDS {
         let (kinds, table, wanted) = *row;
-        let files = IndexWriters::in_memory(rt.alloc());
-        let (files, answer) = write_calls(rt.alloc(), kinds, 2, table, files)?;
-        assert!(rt; (answer, are_untouched(&files)) == (wanted, wanted.is_err()));
+        let (files, answer) = files_of(rt.alloc(), kinds, 2, table)?;
+        assert!(rt; (answer, are_untouched(files)) == (wanted, wanted.is_err()));
     }
     Ok(())
 }

@@ -12,7 +12,6 @@ use ii_indexing::{IndexCall, IndexWriters, write_index};
 use ii_reader::{OpenIndex, SegmentPostings};
 use nequllpa::index_in_ram;
 use std::alloc::Global;
-use std::io::Write;
 
 /// With counts and positions.
 pub const FULL: IndexRecordOption = IndexRecordOption::WithFreqsAndPositions;
@@ -246,25 +245,38 @@ pub fn ready(
     ensures docs { IfOk result (λ both. num_docs ≤ TERMINATED) }
     ensures calls { IfOk result (λ both. MayAllBeIndexed both.0 num_docs both.1.items) }
 {
-    let schema = schema_of(alloc, kinds)?;
     if num_docs > TERMINATED {
         return Err(Fault::IndexerFailed);
     }
+    let schema = schema_of(alloc, kinds)?;
     let calls = checked(alloc, &schema, num_docs, calls)?;
     Ok((schema, calls))
 }
 
-/// Writes the index of calls, which are checked first.
-pub fn write_calls<W: Write + Drop>(
+/// The same of the calls of a table.
+pub fn ready_of(
     alloc: Global,
     kinds: &[Kind],
     num_docs: DocId,
     table: &[Call],
-    writers: IndexWriters<W>,
-) -> Result<(IndexWriters<W>, Result<(), Fault>), Fault> {
+) -> Result<(Schema, Vec<IndexCall>), Fault>
+    ensures docs { IfOk result (λ both. num_docs ≤ TERMINATED) }
+    ensures calls { IfOk result (λ both. MayAllBeIndexed both.0 num_docs both.1.items) }
+{
     let calls = calls_of(alloc, table)?;
-    let (schema, calls) = ready(alloc, kinds, num_docs, calls)?;
-    Ok(write_index(alloc, schema, num_docs, calls, &AsciiTokenizer, writers))
+    ready(alloc, kinds, num_docs, calls)
+}
+
+/// The files of the index of a table's calls, and how writing them ended.
+pub fn files_of(
+    alloc: Global,
+    kinds: &[Kind],
+    num_docs: DocId,
+    table: &[Call],
+) -> Result<(IndexWriters<Vec<u8>>, Result<(), Fault>), Fault> {
+    let (schema, calls) = ready_of(alloc, kinds, num_docs, table)?;
+    let files = IndexWriters::in_memory(alloc);
+    Ok(write_index(alloc, schema, num_docs, calls, &AsciiTokenizer, files))
 }
 
 /// The index of calls in memory, and how many fields it has.
@@ -297,7 +309,9 @@ pub fn cursor_of(
     }
     let field = Field::from_field_id(field);
     let term = Term::from_field_bytes(alloc, field, bytes)?;
-    index.reader(field).read_postings(&term, FULL)
+    let cursor = index.reader(field).read_postings(&term, FULL);
+    drop(term);
+    cursor
 }
 
 // Adds the document of a cursor with its count and positions, and a space.
@@ -340,7 +354,9 @@ fn push_key(
     requires { num_fields ≡ length index.now.readers }
 {
     if let Some(mut cursor) = cursor_of(alloc, num_fields, index, key)? {
-        push_walked(alloc, text, &mut cursor)?;
+        let walked = push_walked(alloc, text, &mut cursor);
+        drop(cursor);
+        walked?;
     }
     Ok(text.push_str("; ")?)
 }

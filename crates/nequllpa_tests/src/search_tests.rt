@@ -2,7 +2,7 @@
 ghost use Rattle.std.specs.Prelude.{◌≡◌, length, true};
 ghost use Rattle.ii_search.specs.Queries.{has_fields};
 
-use crate::memory_index::{Call, Kind, Said, calls_of, cursor_of, indexed, ready};
+use crate::memory_index::{Call, Kind, Said, calls_of, cursor_of, indexed, ready_of};
 use ii_base::{AsciiTokenizer, Fault, Field, Term};
 use ii_docset::{DocId, DocSet, TERMINATED};
 use ii_reader::{OpenIndex, SegmentPostings};
@@ -26,48 +26,53 @@ static TEXTS: [Call; 7] = [
     (4, 1, Said::Text("x")),
 ];
 
-// Adds the documents of a cursor, each with a comma behind it.
-fn push_documents<D: DocSet>(text: &mut String, cursor: &mut D) -> Result<(), Fault> {
+// The documents of a cursor, each with a comma behind it.
+fn documents<D: DocSet>(alloc: Global, cursor: &mut D) -> Result<String, Fault> {
+    let mut text = String::new(alloc);
     for _ in 0..8 {
         let doc = cursor.doc();
         if doc >= TERMINATED {
-            return Ok(());
+            return Ok(text);
         }
         write!(text, "{doc},")?;
         cursor.advance();
     }
-    Ok(())
+    Ok(text)
 }
 
 // The documents that a query gives in an index, and how many they are.
 fn found_in(alloc: Global, index: &OpenIndex, query: &Query) -> Result<String, Fault>
     requires { has_fields (length index.now.readers) query.now ≡ true }
 {
-    let mut cursor = search(alloc, index, query)?;
-    let mut text = String::new(alloc);
-    push_documents(&mut text, &mut cursor)?;
     let number = count(alloc, index, query)?;
+    let mut cursor = search(alloc, index, query)?;
+    let listed = documents(alloc, &mut cursor);
+    drop(cursor);
+    let mut text = listed?;
     write!(text, "{number} in all")?;
     Ok(text)
 }
 
-// What a cursor over no documents gives, where there is no such field.
+// What a cursor over nothing has.
 fn nothing(alloc: Global) -> Result<String, Fault> {
     let mut cursor: QueryCursor<TermOrPhrase<SegmentPostings>> = QueryCursor::nothing();
-    let mut text = String::from_str(alloc, "no such field")?;
-    push_documents(&mut text, &mut cursor)?;
-    Ok(text)
+    let listed = documents(alloc, &mut cursor);
+    drop(cursor);
+    listed
 }
 
-// The same in the index of the texts, where it has the fields of the query.
+// The documents that a query gives in the index of the texts, and nothing where it lacks a field.
 fn found(alloc: Global, query: &Query) -> Result<String, Fault> {
-    let calls = calls_of(alloc, &TEXTS)?;
-    let (schema, calls) = ready(alloc, &FIELDS, 6, calls)?;
+    let (schema, calls) = ready_of(alloc, &FIELDS, 6, &TEXTS)?;
     if !query.has_fields(&schema) {
+        drop(schema);
+        drop(calls);
         return nothing(alloc);
     }
     let index = index_in_ram(alloc, schema, 6, calls, &AsciiTokenizer)?;
-    found_in(alloc, &index, query)
+    let found = found_in(alloc, &index, query);
+    drop(index);
+    found
 }
 
 // A field and a word of it, or `*` for all documents.
@@ -140,7 +145,7 @@ static QUERIES: [(Asked, Put, &str); 28] = [
     ((1, "a"), Put::All(&[]), "3,1 in all"),
     ((0, "x"), Put::All(&[]), "0 in all"),
     ((1, "x"), Put::All(&[]), "0,4,2 in all"),
-    ((0, "a"), Put::And(&[(2, "a")]), "no such field"),
+    ((0, "a"), Put::And(&[(2, "a")]), ""),
     // both
     ((0, "a"), Put::And(&[(0, "b")]), "0,4,2 in all"),
     ((0, "c"), Put::And(&[(0, "a")]), "0,1,2 in all"),
@@ -182,9 +187,7 @@ fn queries_give_documents(rt: HostRuntime) -> Result<(), Fail> {
 
 fn all(alloc: Global) -> Result<String, Fault> {
     let mut cursor = AllDocs::new(4);
-    let mut text = String::new(alloc);
-    push_documents(&mut text, &mut cursor)?;
-    Ok(text)
+    documents(alloc, &mut cursor)
 }
 
 #[test]
@@ -224,8 +227,14 @@ fn push_counts(text: &mut String, counts: &[(DocId, u32)]) -> Result<(), Fault> 
 fn most_often(alloc: Global, n: usize) -> Result<String, Fault> {
     let calls = calls_of(alloc, &OFTEN)?;
     let (num_fields, index) = indexed(alloc, &FIELDS, 6, calls)?;
-    match cursor_of(alloc, num_fields, &index, &(0, b"a"))? {
-        Some(mut cursor) => top_of(alloc, &mut cursor, n),
+    let cursor = cursor_of(alloc, num_fields, &index, &(0, b"a"));
+    drop(index);
+    match cursor? {
+        Some(mut cursor) => {
+            let top = top_of(alloc, &mut cursor, n);
+            drop(cursor);
+            top
+        }
         None => Ok(String::new(alloc)),
     }
 }

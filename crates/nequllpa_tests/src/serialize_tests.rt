@@ -50,17 +50,23 @@ fn written(alloc: Global, schema: &Schema, copy: Schema) -> Result<Vec<u8>, Faul
         writer(alloc),
         copy,
     );
-    serialize_postings(
+    let serialized = serialize_postings(
         alloc,
         IndexingContext::new(alloc),
         schema,
         &writers,
         &norms,
         &mut serializer,
-    )?;
-    let (terms, _, _, closed) = serializer.close();
+    );
+    drop(writers);
+    drop(norms);
+    let (terms, postings, positions, closed) = serializer.close();
+    drop(postings);
+    drop(positions);
+    let terms = terms.finish();
+    serialized?;
     closed?;
-    Ok(terms.finish())
+    Ok(terms)
 }
 
 fn written_of_fields(alloc: Global) -> Result<Vec<u8>, Fault> {
@@ -78,19 +84,24 @@ fn no_terms_are_serialized(rt: HostRuntime) -> Result<(), Fail> {
 
 // How many tokens the two writers of these fields have once a position of a term was added to the second.
 fn tokens_of_writers(alloc: Global) -> Result<(u64, u64), Fault> {
-    let mut writers = PerFieldPostingsWriter::for_schema(alloc, &text_and_number(alloc)?)?;
     let (text, number) = (Field::from_field_id(0), Field::from_field_id(1));
     let mut term = IndexingTerm::with_capacity(alloc, 8)?;
     term.set_field(number);
     term.set_u64(7)?;
+    let schema = text_and_number(alloc)?;
+    let mut writers = PerFieldPostingsWriter::for_schema(alloc, &schema)?;
+    drop(schema);
     let mut ctx = IndexingContext::new(alloc);
-    writers
+    let added = writers
         .get_for_field_mut(number)
-        .subscribe(3, 0, &term, &mut ctx)?;
-    Ok((
-        writers.get_for_field(text).total_num_tokens(),
-        writers.get_for_field(number).total_num_tokens(),
-    ))
+        .subscribe(3, 0, &term, &mut ctx);
+    drop(ctx);
+    drop(term);
+    let of_text = writers.get_for_field(text).total_num_tokens();
+    let of_number = writers.get_for_field(number).total_num_tokens();
+    drop(writers);
+    added?;
+    Ok((of_text, of_number))
 }
 
 #[test]
