@@ -1,124 +1,113 @@
-// Whole indexes that are checked once, term by term.
-ghost use Rattle.std.specs.Prelude.{◌<◌, length};
+// Files whose terms are all checked once, and then looked up.
+ghost use Rattle.std.specs.Prelude.{◌≡◌, length, IfOk};
 
-use crate::memory_index::{FULL, Index, opened, two_texts, written_texts};
+use crate::memory_index::{Call, Key, Kind, Said, files_of, schema_of, told};
 use bytes::Bytes;
-use ii_base::{Fault, Field, Part, Term};
-use ii_docset::{DocId, DocSet, TERMINATED};
-use ii_reader::{DamagedTerm, InvertedIndexReader, OpenIndex};
+use ii_base::{Fault, Field, Part, Schema};
+use ii_indexing::IndexWriters;
+use ii_reader::{DamagedTerm, OpenIndex, open_index};
 use std::alloc::Global;
 use std::test::Fail;
 
-static TEXTS: [(DocId, u32, &str); 4] = [
-    (0, 0, "a b"),
-    (1, 0, "b"),
-    (2, 0, "a a"),
-    (2, 1, "c c d"),
+static FIELDS: [Kind; 2] = [Kind::Text(true), Kind::Text(false)];
+
+static TEXTS: [Call; 4] = [
+    (0, 0, Said::Text("a b")),
+    (1, 0, Said::Text("b")),
+    (2, 0, Said::Text("a a")),
+    (2, 1, Said::Text("c c d")),
 ];
 
-// The files of three texts in a field, and of one in another.
-fn files(alloc: Global) -> Result<Index, Fault> {
-    written_texts(alloc, two_texts(alloc)?, 3, &TEXTS)
-}
-
-// Bytes of which one is another.
-fn changed(alloc: Global, bytes: &Bytes, place: usize, byte: u8) -> Result<Bytes, Fault> {
-    let mut copy = Vec::from_slice(alloc, bytes.as_slice())?;
-    if let Some(found) = copy.get_mut(place) {
+// Opens files in which a byte of the postings is another.
+fn opened(
+    alloc: Global,
+    files: IndexWriters<Vec<u8>>,
+    schema: &Schema,
+    place: usize,
+    byte: u8,
+) -> Result<OpenIndex, Fault>
+    ensures { IfOk result (λ index. length index.readers ≡ length schema.now) }
+{
+    let IndexWriters {
+        terms,
+        postings,
+        positions,
+        fieldnorms,
+    } = files;
+    let mut postings = postings.finish();
+    if let Some(found) = postings.get_mut(place) {
         *found = byte;
     }
-    Ok(Bytes::from_vec(copy)?)
+    open_index(
+        alloc,
+        Bytes::from_vec(terms.finish())?,
+        Bytes::from_vec(postings)?,
+        Bytes::from_vec(positions.finish())?,
+        Bytes::from_vec(fieldnorms.finish())?,
+        schema,
+    )
 }
 
-// The files where a byte of the postings is another.
-fn changed_files(alloc: Global, place: usize, byte: u8) -> Result<Index, Fault> {
-    let mut files = files(alloc)?;
-    files.postings = changed(alloc, &files.postings, place, byte)?;
-    Ok(files)
+static WORDS: [Key; 4] = [(0, b"a"), (0, b"b"), (0, b"c"), (1, b"c")];
+
+// What a check of an index tells, and what is found where it finds no damage.
+fn told_after_check(
+    alloc: Global,
+    num_fields: usize,
+    index: &mut OpenIndex,
+) -> Result<(Option<(Field, DamagedTerm)>, String), Fault>
+    requires { num_fields ≡ length index.old.readers }
+{
+    let damage = index.check()?;
+    if damage.is_some() {
+        return Ok((damage, String::new(alloc)));
+    }
+    Ok((damage, told(alloc, num_fields, index, &WORDS)?))
 }
 
-// What a check of files tells.
-fn damage(alloc: Global, files: &Index) -> Result<Option<(Field, DamagedTerm)>, Fault> {
-    let mut index = opened(alloc, files)?;
-    index.check()
+// The same of the files of the texts, with another byte.
+fn told_of_files(
+    alloc: Global,
+    place: usize,
+    byte: u8,
+) -> Result<(Option<(Field, DamagedTerm)>, String), Fault> {
+    let schema = schema_of(alloc, &FIELDS)?;
+    let (files, _written) = files_of(alloc, &FIELDS, 3, &TEXTS)?;
+    let index = opened(alloc, files, &schema, place, byte);
+    let num_fields = schema.num_fields();
+    drop(schema);
+    let mut index = index?;
+    let told = told_after_check(alloc, num_fields, &mut index);
+    drop(index);
+    told
 }
 
-// The same of the files with another byte.
-fn damage_by(alloc: Global, place: usize, byte: u8) -> Result<Option<(Field, DamagedTerm)>, Fault> {
-    damage(alloc, &changed_files(alloc, place, byte)?)
-}
-
-// A term of a field.
-fn place(field: u32, ord: u64, part: Part) -> Option<(Field, DamagedTerm)> {
-    Some((Field::from_field_id(field), DamagedTerm { ord, part }))
-}
+// A place in the postings, its byte, and the damage that it is: a field, a term, and a part of its list.
+static DAMAGED: [(usize, u8, u32, u64, Part); 2] = [
+    // of the second field, the count of `d`, which doesn't end
+    (27, 0x01, 1, 1, Part::Frequencies),
+    // of the first field, the documents of `b`, the first of which stands twice
+    (13, 0x80, 0, 1, Part::Documents),
+];
 
 #[test]
 fn the_first_damaged_term_is_told(rt: HostRuntime) -> Result<(), Fail> {
-    let damages = [
-        damage_by(rt.alloc(), 27, 0x01),
-        damage_by(rt.alloc(), 13, 0x80),
-    ];
-    // of the second field, the count of `d`, which doesn't end
-    let last = place(1, 1, Part::Frequencies);
-    // of the first field, the documents of `b`, the first of which stands twice
-    let second = place(0, 1, Part::Documents);
-    assert!(rt; damages == [Ok(last), Ok(second)]);
+    for row in &DAMAGED {
+        let (place, byte, field, ord, part) = *row;
+        let (damage, _) = told_of_files(rt.alloc(), place, byte)?;
+        let wanted = DamagedTerm { ord, part };
+        assert!(rt;
+            damage == Some((Field::from_field_id(field), wanted)),
+            "at {place}"
+        );
+    }
     Ok(())
-}
-
-// The first two documents of a word, after a check that finds nothing.
-fn docs_of(
-    alloc: Global,
-    reader: &InvertedIndexReader,
-    word: &str,
-) -> Result<(DocId, DocId), Fault> {
-    let term = Term::from_field_text(alloc, Field::from_field_id(0), word)?;
-    match reader.read_postings(&term, FULL)? {
-        Some(mut cursor) => Ok((cursor.doc(), cursor.advance())),
-        None => Ok((TERMINATED, TERMINATED)),
-    }
-}
-
-// Those in the files, once they were checked.
-fn checked_docs(alloc: Global, files: &Index, word: &str) -> Result<(DocId, DocId), Fault> {
-    if files.schema.num_fields() == 0 {
-        return Ok((TERMINATED, 0));
-    }
-    let mut index = opened(alloc, files)?;
-    docs_after_check(alloc, &mut index, word)
-}
-
-// Those in an index, once it was checked.
-fn docs_after_check(
-    alloc: Global,
-    index: &mut OpenIndex,
-    word: &str,
-) -> Result<(DocId, DocId), Fault>
-    requires { 0 < length index.old.readers }
-{
-    if index.check()?.is_some() {
-        return Ok((TERMINATED, 0));
-    }
-    docs_of(alloc, index.reader(Field::from_field_id(0)), word)
-}
-
-// Those of three words.
-fn docs_of_three(alloc: Global) -> Result<[(DocId, DocId); 3], Fault> {
-    let files = files(alloc)?;
-    checked_docs_of_three(alloc, &files)
-}
-
-// The same in files.
-fn checked_docs_of_three(alloc: Global, files: &Index) -> Result<[(DocId, DocId); 3], Fault> {
-    let a = checked_docs(alloc, files, "a")?;
-    let b = checked_docs(alloc, files, "b")?;
-    Ok([a, b, checked_docs(alloc, files, "c")?])
 }
 
 #[test]
 fn checked_indexes_are_looked_up(rt: HostRuntime) -> Result<(), Fail> {
-    let docs = docs_of_three(rt.alloc())?;
-    assert!(rt; docs == [(0, 2), (0, 1), (TERMINATED, TERMINATED)]);
+    let (_, told) = told_of_files(rt.alloc(), usize::MAX, 0)?;
+    let found = "0:1:0, 2:2:0,1, ; 0:1:1, 1:1:0, ; ; 2:2:0,1, ; 5 tokens of 2 terms";
+    assert_eq!(rt; told.as_str(), found);
     Ok(())
 }

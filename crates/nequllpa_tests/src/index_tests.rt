@@ -1,346 +1,301 @@
-use crate::memory_index::{
-    Index, found, numbers, push_counts, push_postings, push_told, text_and_number, text_calls,
-    texts, told, two_texts, written, written_texts,
-};
-use bytes::Bytes;
-use ii_base::{Fault, Field, Schema, Term};
-use ii_fieldnorm::{FieldNormReader, FieldNormReaders};
-use ii_indexing::IndexCall;
+// Calls of tables: what is found of them, what files they give, and how they are refused.
+use crate::memory_index::{Call, Key, Kind, Leaf, Said, calls_of, files_of, indexed, told};
+use ii_base::{Fault, LeafKind, LimitName};
+use ii_docset::DocId;
+use ii_indexing::IndexWriters;
 use std::alloc::Global;
 use std::test::Fail;
 
-const NONE: [u8; 4] = [0, 0, 0, 0];
+// Fields, documents, calls, keys, and what is told of them.
+static FOUND: [(&[Kind], DocId, &[Call], &[Key], &str); 11] = [
+    // no calls
+    (
+        &[Kind::Text(false)],
+        0,
+        &[],
+        &[(0, b"a")],
+        "; 0 tokens of 0 terms",
+    ),
+    // fields count their positions apart
+    (
+        &[Kind::Text(true), Kind::Text(false)],
+        1,
+        &[
+            (0, 0, Said::Text("a")),
+            (0, 1, Said::Text("b")),
+            (0, 0, Said::Text("a")),
+        ],
+        &[(0, b"a"), (1, b"b"), (1, b"a")],
+        "0:2:0,2, ; 0:1:0, ; ; 2 tokens of 1 terms",
+    ),
+    // positions begin anew in each document
+    (
+        &[Kind::Text(false)],
+        2,
+        &[
+            (0, 0, Said::Tokens(&[(5, 1, 1)])),
+            (1, 0, Said::Tokens(&[(0, 1, 1)])),
+        ],
+        &[(0, b"a")],
+        "0:1:5, 1:1:0, ; 2 tokens of 1 terms",
+    ),
+    // positions that aren't kept may fall
+    (
+        &[Kind::Counted],
+        1,
+        &[(0, 0, Said::Tokens(&[(5, 1, 1), (4, 1, 1)]))],
+        &[(0, b"a")],
+        "0:2: ; 2 tokens of 1 terms",
+    ),
+    // positions may be equal
+    (
+        &[Kind::Text(false)],
+        1,
+        &[(0, 0, Said::Tokens(&[(5, 1, 1), (5, 1, 1)]))],
+        &[(0, b"a")],
+        "0:2:5,5, ; 2 tokens of 1 terms",
+    ),
+    // long tokens are left out wherever they stand
+    (
+        &[Kind::Text(false)],
+        1,
+        &[(0, 0, Said::Tokens(&[(usize::MAX, 1, 65531)]))],
+        &[],
+        "0 tokens of 0 terms",
+    ),
+    // values of each type
+    (
+        &[Kind::U64, Kind::I64, Kind::Bool, Kind::Ip, Kind::Bytes],
+        1,
+        &[
+            (0, 0, Said::U64(5)),
+            (0, 1, Said::I64(-5)),
+            (0, 2, Said::Bool(true)),
+            (0, 3, Said::Ip(1)),
+            (0, 4, Said::Bytes(b"abc")),
+        ],
+        &[
+            (0, &[0, 0, 0, 0, 0, 0, 0, 5]),
+            (0, &[0, 0, 0, 0, 0, 0, 0, 6]),
+            (1, &[0x7F, 0xFF, 0xFF, 0xFF, 0xFF, 0xFF, 0xFF, 0xFB]),
+            (2, &[0, 0, 0, 0, 0, 0, 0, 1]),
+            (3, &[0, 0, 0, 0, 0, 0, 0, 0, 0, 0, 0, 0, 0, 0, 0, 1]),
+            (4, b"abc"),
+        ],
+        "0:1: ; ; 0:1: ; 0:1: ; 0:1: ; 0:1: ; 1 tokens of 1 terms",
+    ),
+    // JSON fields count the positions of a path apart
+    (
+        &[Kind::Json(false), Kind::Json(false)],
+        1,
+        &[
+            (0, 0, Said::Object(&[("a", Leaf::Text("x"))])),
+            (0, 1, Said::Object(&[("a", Leaf::Text("x"))])),
+            (0, 0, Said::Object(&[("a", Leaf::Text("x"))])),
+        ],
+        &[(0, b"a\0sx"), (1, b"a\0sx")],
+        "0:2:0,2, ; 0:1:0, ; 2 tokens of 1 terms",
+    ),
+    // a date, an earlier one, a great number, and a number under a key with byte 0
+    (
+        &[Kind::Json(false)],
+        1,
+        &[(
+            0,
+            0,
+            Said::Object(&[
+                ("d", Leaf::Date(-1)),
+                ("d", Leaf::Date(-1500000000)),
+                ("u", Leaf::Number(9223372036854775808)),
+                ("c\0", Leaf::Number(3)),
+            ]),
+        )],
+        &[
+            (0, &[0x64, 0, 0x64, 0x80, 0, 0, 0, 0, 0, 0, 0]),
+            (
+                0,
+                &[0x64, 0, 0x64, 0x7F, 0xFF, 0xFF, 0xFF, 0xC4, 0x65, 0x36, 0],
+            ),
+            (0, &[0x75, 0, 0x75, 0x80, 0, 0, 0, 0, 0, 0, 0]),
+        ],
+        "0:1: ; 0:1: ; 0:1: ; 3 tokens of 3 terms",
+    ),
+    // dots are expanded where the field says so
+    (
+        &[Kind::Json(false)],
+        1,
+        &[(0, 0, Said::Object(&[("k8s.node", Leaf::Text("x"))]))],
+        &[(0, b"k8s.node\0sx"), (0, b"k8s\x01node\0sx")],
+        "0:1:0, ; ; 1 tokens of 1 terms",
+    ),
+    (
+        &[Kind::Json(true)],
+        1,
+        &[(0, 0, Said::Object(&[("k8s.node", Leaf::Text("x"))]))],
+        &[(0, b"k8s.node\0sx"), (0, b"k8s\x01node\0sx")],
+        "; 0:1:0, ; 1 tokens of 1 terms",
+    ),
+];
+
+// What is told of keys in the index of calls.
+fn told_of(
+    alloc: Global,
+    kinds: &[Kind],
+    num_docs: DocId,
+    table: &[Call],
+    keys: &[Key],
+) -> Result<String, Fault> {
+    let calls = calls_of(alloc, table)?;
+    let (num_fields, index) = indexed(alloc, kinds, num_docs, calls)?;
+    let told = told(alloc, num_fields, &index, keys);
+    drop(index);
+    told
+}
+
+#[test]
+fn calls_are_found(rt: HostRuntime) -> Result<(), Fail> {
+    for row in &FOUND {
+        let (kinds, num_docs, table, keys, wanted) = *row;
+        let told = told_of(rt.alloc(), kinds, num_docs, table, keys)?;
+        assert_eq!(rt; told.as_str(), wanted);
+    }
+    Ok(())
+}
+
+const NONE: &[u8] = &[0, 0, 0, 0];
 
 // One token, and document 0.
-const FIVE: [u8; 9] = [1, 0, 0, 0, 0, 0, 0, 0, 0x80];
+const FIVE: &[u8] = &[1, 0, 0, 0, 0, 0, 0, 0, 0x80];
 
-// Adds the postings of a number in a field.
-fn push_number(
-    alloc: Global,
-    text: &mut String,
-    index: &Index,
-    field: u32,
-    number: u64,
-) -> Result<(), Fault> {
-    let term = Term::from_field_u64(alloc, Field::from_field_id(field), number)?;
-    push_postings(alloc, text, index, &term)
+// A field, documents, calls, and of the files of terms, postings, positions and norms the lengths and
+// how they begin: a row of no positions is one byte.
+static FILES: [(&[Kind], DocId, &[Call], [(usize, &[u8]); 4]); 3] = [
+    (
+        &[Kind::Text(false)],
+        0,
+        &[],
+        [(4, NONE), (4, NONE), (4, NONE), (4, NONE)],
+    ),
+    (
+        &[Kind::U64],
+        1,
+        &[(0, 0, Said::U64(5))],
+        [(104, &[]), (33, FIVE), (24, &[]), (4, NONE)],
+    ),
+    (
+        &[Kind::Json(false)],
+        1,
+        &[(0, 0, Said::Object(&[("n", Leaf::Number(5))]))],
+        [(107, &[]), (33, FIVE), (25, &[0x80]), (4, NONE)],
+    ),
+];
+
+// Whether bytes are so many and begin so.
+fn is_as(bytes: &[u8], wanted: (usize, &'static [u8])) -> bool {
+    let (len, start) = wanted;
+    bytes.len() == len && bytes.starts_with(start)
 }
 
-// An index of no calls.
-fn empty(alloc: Global) -> Result<Index, Fault> {
-    written(alloc, texts(alloc, false)?, 0, Vec::new(alloc))
-}
-
-// Whether each file is one without bodies.
-fn has_no_bodies(index: &Index) -> bool {
-    let mut none = index.terms.as_slice() == NONE.as_slice();
-    none &= index.postings.as_slice() == NONE.as_slice();
-    none &= index.positions.as_slice() == NONE.as_slice();
-    none &= index.fieldnorms.as_slice() == NONE.as_slice();
-    none
-}
-
-// Whether an index has neither bodies nor terms.
-fn has_nothing_in(alloc: Global, index: &Index) -> Result<bool, Fault> {
-    if !has_no_bodies(index) {
-        return Ok(false);
-    }
-    Ok(told(alloc, index, &[(0, "a")])?.as_str() == "; 0 tokens of 0 terms")
-}
-
-// The same of the index of no calls.
-fn has_nothing(alloc: Global) -> Result<bool, Fault> {
-    has_nothing_in(alloc, &empty(alloc)?)
-}
-
-#[test]
-fn no_calls_give_files_without_bodies(rt: HostRuntime) -> Result<(), Fail> {
-    assert!(rt; has_nothing(rt.alloc())?);
-    Ok(())
-}
-
-// The number 5 in document 0.
-fn five(alloc: Global) -> Result<Index, Fault> {
-    let mut calls = Vec::new(alloc);
-    calls.push(IndexCall::U64(0, Field::from_field_id(0), 5))?;
-    written(alloc, numbers(alloc)?, 1, calls)
-}
-
-// The lengths of the files.
-fn lengths(index: &Index) -> [usize; 4] {
-    let (terms, postings) = (index.terms.len(), index.postings.len());
-    [
+// Whether each file is.
+fn are_as(files: IndexWriters<Vec<u8>>, wanted: [(usize, &'static [u8]); 4]) -> bool {
+    let IndexWriters {
         terms,
         postings,
-        index.positions.len(),
-        index.fieldnorms.len(),
-    ]
-}
-
-// The lengths of its files, and whether its postings begin as they should.
-fn five_written(alloc: Global) -> Result<([usize; 4], bool), Fault> {
-    let index = five(alloc)?;
-    Ok((
-        lengths(&index),
-        index.postings.as_slice().starts_with(&FIVE),
-    ))
+        positions,
+        fieldnorms,
+    } = files;
+    let mut all = is_as(terms.finish().as_slice(), wanted[0]);
+    all &= is_as(postings.finish().as_slice(), wanted[1]);
+    all &= is_as(positions.finish().as_slice(), wanted[2]);
+    all &= is_as(fieldnorms.finish().as_slice(), wanted[3]);
+    all
 }
 
 #[test]
-fn a_number_is_written(rt: HostRuntime) -> Result<(), Fail> {
-    assert!(rt; five_written(rt.alloc())? == ([104, 33, 24, 4], true));
+fn files_have_their_bytes(rt: HostRuntime) -> Result<(), Fail> {
+    for row in &FILES {
+        let (kinds, num_docs, table, wanted) = *row;
+        let (files, answer) = files_of(rt.alloc(), kinds, num_docs, table)?;
+        assert!(rt;
+            (answer, are_as(files, wanted)) == (Ok(()), true),
+            "of {num_docs} documents"
+        );
+    }
     Ok(())
 }
 
-// Adds what is found of 5 and of 6, and how many tokens and terms there are.
-fn push_five(alloc: Global, text: &mut String, index: &Index) -> Result<(), Fault> {
-    for number in [5, 6] {
-        push_number(alloc, text, index, 0, number)?;
-        text.push_str("; ")?;
-    }
-    push_counts(alloc, text, index)
-}
-
-// The same of the number 5 in document 0.
-fn told_of_five(alloc: Global) -> Result<String, Fault> {
-    let index = five(alloc)?;
-    let mut text = String::new(alloc);
-    push_five(alloc, &mut text, &index)?;
-    Ok(text)
-}
-
-#[test]
-fn a_number_is_found(rt: HostRuntime) -> Result<(), Fail> {
-    let told = told_of_five(rt.alloc())?;
-    assert!(rt; told.as_str() == "0:1: ; ; 1 tokens of 1 terms");
-    Ok(())
-}
-
-// Texts of document 0, and a number of document 1.
-fn texts_and_number(alloc: Global) -> Result<Index, Fault> {
-    let mut calls = text_calls(alloc, &THREE)?;
-    calls.push(IndexCall::U64(1, Field::from_field_id(1), 7))?;
-    written(alloc, text_and_number(alloc)?, 2, calls)
-}
-
-static THREE: [(u32, u32, &str); 3] = [(0, 0, "a b"), (0, 0, ""), (0, 0, "a")];
-
-static WORDS: [(u32, &str); 2] = [(0, "a"), (0, "z")];
-
-// Adds what is told of the texts, and found of the number.
-fn push_both(alloc: Global, text: &mut String, index: &Index) -> Result<(), Fault> {
-    push_told(alloc, text, index, &WORDS)?;
-    text.push_str("; ")?;
-    push_number(alloc, text, index, 1, 7)
-}
-
-// The same of both together.
-fn told_of_both(alloc: Global) -> Result<String, Fault> {
-    let index = texts_and_number(alloc)?;
-    let mut text = String::new(alloc);
-    push_both(alloc, &mut text, &index)?;
-    Ok(text)
-}
-
-#[test]
-fn texts_and_numbers_stand_side_by_side(rt: HostRuntime) -> Result<(), Fail> {
-    let told = told_of_both(rt.alloc())?;
-    assert!(rt; told.as_str() == "0:2:0,4, ; ; 3 tokens of 2 terms; 1:1: ");
-    Ok(())
-}
-
-// The norms of a field in a file of norms, if it has some.
-fn norms_of(
-    alloc: Global,
-    fieldnorms: &Bytes,
-    field: u32,
-) -> Result<Option<FieldNormReader>, Fault> {
-    let readers = FieldNormReaders::open(alloc, fieldnorms.clone()?)?;
-    readers.get_field(Field::from_field_id(field))
-}
-
-// The norm of a document in a field, and its id, if there are so many.
-fn norm_of(alloc: Global, index: &Index, field: u32, doc: u32) -> Result<Option<(u32, u8)>, Fault> {
-    match norms_of(alloc, &index.fieldnorms, field)? {
-        Some(norms) => Ok(norm_in(&norms, doc)),
-        None => Ok(None),
-    }
-}
-
-// The same in the norms of a field.
-fn norm_in(norms: &FieldNormReader, doc: u32) -> Option<(u32, u8)> {
-    if doc >= norms.num_docs() {
-        return None;
-    }
-    Some((norms.fieldnorm(doc), norms.fieldnorm_id(doc)))
-}
-
-static NORMED: [(u32, u32, &str); 3] = [
-    (0, 0, "a b a c a d a a."),
-    (0, 0, "d d d d a"),
-    (0, 1, "a"),
+// A field, calls of two documents, and how they are refused.
+static ENDS: [(&[Kind], &[Call], Result<(), Fault>); 7] = [
+    // a float where it is reached, and under a key with byte 0
+    (
+        &[Kind::Json(false)],
+        &[(
+            0,
+            0,
+            Said::Object(&[
+                ("a", Leaf::Number(1)),
+                ("b", Leaf::Float(4607182418800017408)),
+            ]),
+        )],
+        Err(Fault::UnsupportedLeaf(LeafKind::Float)),
+    ),
+    (
+        &[Kind::Json(false)],
+        &[(
+            0,
+            0,
+            Said::Object(&[
+                ("a", Leaf::Number(1)),
+                ("b\0", Leaf::Float(4607182418800017408)),
+            ]),
+        )],
+        Ok(()),
+    ),
+    // a value of many levels
+    (&[Kind::Json(false)], &[(0, 0, Said::Arrays(128))], Ok(())),
+    (
+        &[Kind::Json(false)],
+        &[(0, 0, Said::Arrays(129))],
+        Err(Fault::UnsupportedLeaf(LeafKind::Deep)),
+    ),
+    (
+        &[Kind::Json(false)],
+        &[(0, 0, Said::Arrays(5_000))],
+        Err(Fault::UnsupportedLeaf(LeafKind::Deep)),
+    ),
+    // a token of no length at the last position, after a text
+    (
+        &[Kind::Text(true)],
+        &[
+            (0, 0, Said::Text("a b")),
+            (1, 0, Said::Tokens(&[(4294967295, 0, 1)])),
+        ],
+        Err(Fault::Limit(LimitName::Position)),
+    ),
+    // a position that falls
+    (
+        &[Kind::Text(true)],
+        &[(0, 0, Said::Tokens(&[(5, 1, 1), (4, 1, 1)]))],
+        Err(Fault::DecreasingPosition),
+    ),
 ];
 
-// Two fields of texts in two documents, the first field with norms.
-fn norms_wanted(alloc: Global) -> Result<Index, Fault> {
-    written_texts(alloc, two_texts(alloc)?, 2, &NORMED)
-}
-
-// The norms of three documents in the first field, and of one in the second.
-fn norms_found_in(alloc: Global, index: &Index) -> Result<[Option<(u32, u8)>; 4], Fault> {
-    let zero = norm_of(alloc, index, 0, 0)?;
-    let one = norm_of(alloc, index, 0, 1)?;
-    let two = norm_of(alloc, index, 0, 2)?;
-    Ok([zero, one, two, norm_of(alloc, index, 1, 0)?])
-}
-
-// The same of those texts.
-fn norms_found(alloc: Global) -> Result<[Option<(u32, u8)>; 4], Fault> {
-    norms_found_in(alloc, &norms_wanted(alloc)?)
+// Whether nothing was written.
+fn are_untouched(files: IndexWriters<Vec<u8>>) -> bool {
+    let mut all = files.terms.written_bytes() == 0;
+    all &= files.postings.written_bytes() == 0;
+    all &= files.positions.written_bytes() == 0;
+    all &= files.fieldnorms.written_bytes() == 0;
+    drop(files);
+    all
 }
 
 #[test]
-fn fields_have_the_norms_that_they_want(rt: HostRuntime) -> Result<(), Fail> {
-    let norms = norms_found(rt.alloc())?;
-    assert!(rt; norms == [Some((13, 13)), Some((0, 0)), None, None]);
-    Ok(())
-}
-
-// So many times `e`, and an `a`.
-pub(crate) fn text_of(alloc: Global, count: u32) -> Result<String, Fault> {
-    let mut text = String::new(alloc);
-    for _ in 0..count {
-        text.push_str("e ")?;
+fn refused_calls_write_nothing(rt: HostRuntime) -> Result<(), Fail> {
+    for row in &ENDS {
+        let (kinds, table, wanted) = *row;
+        let (files, answer) = files_of(rt.alloc(), kinds, 2, table)?;
+        assert!(rt; (answer, are_untouched(files)) == (wanted, wanted.is_err()));
     }
-    text.push('a')?;
-    Ok(text)
-}
-
-const DOCS: u32 = 1000;
-
-// Two texts in document 0, `b a` in 1, and in each other one as many `e` as its number, and an `a`.
-fn growing_calls(alloc: Global) -> Result<Vec<IndexCall>, Fault> {
-    let mut calls = text_calls(alloc, &FIRST)?;
-    push_growing(alloc, &mut calls)?;
-    Ok(calls)
-}
-
-static FIRST: [(u32, u32, &str); 3] = [
-    (0, 0, "a b a c a d a a."),
-    (0, 0, "d d d d a"),
-    (1, 0, "b a"),
-];
-
-// Adds the texts from document 2 on.
-fn push_growing(alloc: Global, calls: &mut Vec<IndexCall>) -> Result<(), Fault> {
-    for doc in 2..DOCS {
-        let text = text_of(alloc, doc)?;
-        calls.push(IndexCall::Text(doc, Field::from_field_id(0), text))?;
-    }
-    Ok(())
-}
-
-// Their index, with norms.
-fn growing(alloc: Global) -> Result<Index, Fault> {
-    let schema: Schema = texts(alloc, true)?;
-    let calls = growing_calls(alloc)?;
-    written(alloc, schema, DOCS, calls)
-}
-
-// Where its `a` stand.
-fn wanted_last(alloc: Global) -> Result<String, Fault> {
-    let mut text = String::from_str(alloc, "0:6:0,2,4,6,7,13, 1:1:1, ")?;
-    push_last(&mut text)?;
-    Ok(text)
-}
-
-// Adds those from document 2 on.
-fn push_last(text: &mut String) -> Result<(), Fault> {
-    for doc in 2..DOCS {
-        write!(text, "{doc}:1:{doc}, ")?;
-    }
-    Ok(())
-}
-
-// And its `e`.
-fn wanted_many(alloc: Global) -> Result<String, Fault> {
-    let mut text = String::new(alloc);
-    for doc in 2..DOCS {
-        push_many(&mut text, doc)?;
-    }
-    Ok(text)
-}
-
-// Adds those of a document.
-fn push_many(text: &mut String, doc: u32) -> Result<(), Fault> {
-    write!(text, "{doc}:{doc}:")?;
-    for position in 0..doc {
-        write!(text, "{position},")?;
-    }
-    Ok(text.push(' ')?)
-}
-
-// Whether a word is found as it is wanted.
-fn is_found(alloc: Global, index: &Index, word: &str, want: &String) -> Result<bool, Fault> {
-    Ok(found(alloc, index, 0, word)?.as_str() == want.as_str())
-}
-
-// Whether its `a` are.
-fn last_are_found(alloc: Global, index: &Index) -> Result<bool, Fault> {
-    let wanted = wanted_last(alloc)?;
-    is_found(alloc, index, "a", &wanted)
-}
-
-// Whether its `e` are.
-fn many_are_found(alloc: Global, index: &Index) -> Result<bool, Fault> {
-    let wanted = wanted_many(alloc)?;
-    is_found(alloc, index, "e", &wanted)
-}
-
-// Whether both words are found, and one that isn't there isn't.
-fn are_found(alloc: Global, index: &Index) -> Result<bool, Fault> {
-    if !last_are_found(alloc, index)? || !many_are_found(alloc, index)? {
-        return Ok(false);
-    }
-    is_found(alloc, index, "abcdef", &String::new(alloc))
-}
-
-// Whether the norm of each document from 2 on is that of one token more than its number.
-fn has_growing_norms(alloc: Global, index: &Index) -> Result<bool, Fault> {
-    match norms_of(alloc, &index.fieldnorms, 0)? {
-        Some(norms) => Ok(are_growing(&norms)),
-        None => Ok(false),
-    }
-}
-
-// Whether these norms are such.
-fn are_growing(norms: &FieldNormReader) -> bool {
-    if norms.num_docs() != DOCS {
-        return false;
-    }
-    for doc in 2..DOCS {
-        if norms.fieldnorm_id(doc) != FieldNormReader::fieldnorm_to_id(doc + 1) {
-            return false;
-        }
-    }
-    true
-}
-
-// Whether the words are found, and the norms are right.
-fn is_right_in(alloc: Global, index: &Index) -> Result<bool, Fault> {
-    if !are_found(alloc, index)? {
-        return Ok(false);
-    }
-    has_growing_norms(alloc, index)
-}
-
-// The same of the growing texts.
-fn is_right(alloc: Global) -> Result<bool, Fault> {
-    is_right_in(alloc, &growing(alloc)?)
-}
-
-#[test]
-fn growing_texts_are_found_and_have_their_norms(rt: HostRuntime) -> Result<(), Fail> {
-    assert!(rt; is_right(rt.alloc())?);
     Ok(())
 }

@@ -2,30 +2,22 @@
 #![tactic(auto)]
 
 #[cfg(test)]
-mod bound_tests;
-#[cfg(test)]
 mod call_tests;
 #[cfg(test)]
 mod check_tests;
 #[cfg(test)]
 mod fault_tests;
 #[cfg(test)]
+mod growing_tests;
+#[cfg(test)]
 mod index_tests;
-#[cfg(test)]
-mod indexer_tests;
-#[cfg(test)]
-mod json_tests;
 #[cfg(test)]
 mod memory_index;
 #[cfg(test)]
 mod query_text_tests;
-#[cfg(test)]
-mod ram_tests;
 #[cfg(test)]
 mod search_tests;
 #[cfg(test)]
 mod serialize_tests;
 #[cfg(test)]
 mod term_tests;
-#[cfg(test)]
-mod text_tests;

@@ -1,97 +1,178 @@
-// Indexes in memory: written, opened, and looked up.
+// Indexes in memory, of calls that stand in tables, and what is told of them.
 ghost use Rattle.std.specs.Prelude.{◌≡◌, ◌<◌, ◌≤◌, true, length, IfOk};
 ghost use Rattle.ii_base.specs.declared.doc_id.TheConstants.{TERMINATED};
 ghost use Rattle.ii_definitions.specs.IndexCalls.{MayAllBeIndexed, MayBeIndexed, type_of};
 
-use bytes::Bytes;
 use ii_base::{
-    AsciiTokenizer, CountingWriter, Fault, Field, FieldEntry, IndexRecordOption, Schema, Term,
-    ValueType,
+    AsciiTokenizer, Fault, Field, FieldEntry, IndexRecordOption, JsonValue, Schema, Term, Token,
+    TokenList, ValueType,
 };
 use ii_docset::{DocId, DocSet, Postings, TERMINATED};
 use ii_indexing::{IndexCall, IndexWriters, write_index};
-use ii_reader::{OpenIndex, SegmentPostings, open_index};
+use ii_reader::{OpenIndex, SegmentPostings};
+use nequllpa::index_in_ram;
 use std::alloc::Global;
-use std::io::Write;
 
 /// With counts and positions.
 pub const FULL: IndexRecordOption = IndexRecordOption::WithFreqsAndPositions;
 
-/// A schema, and the files of an index.
-#[derive(Drop)]
-pub struct Index {
-    /// The fields.
-    pub schema: Schema,
-    /// The dictionaries of the fields' keys.
-    pub terms: Bytes,
-    /// Their postings.
-    pub postings: Bytes,
-    /// Their positions.
-    pub positions: Bytes,
-    /// Their norms.
-    pub fieldnorms: Bytes,
+/// What a field takes.
+pub enum Kind {
+    /// Texts with positions, with norms or without.
+    Text(bool),
+    /// Texts with counts alone.
+    Counted,
+    /// JSON values with positions, where dots of keys are expanded or not.
+    Json(bool),
+    /// Values without norms.
+    U64,
+    I64,
+    Bool,
+    Bytes,
+    Ip,
 }
 
-/// A field of texts.
-pub fn text_entry(
-    alloc: Global,
-    option: IndexRecordOption,
-    norms: bool,
-) -> Result<FieldEntry, Fault> {
-    Ok(FieldEntry::text(String::from_str(alloc, "text")?, option, norms))
+/// What stands under a key of a JSON value.
+pub enum Leaf {
+    Text(&'static str),
+    Number(u64),
+    Date(i64),
+    Float(u64),
 }
 
-/// A field of texts with positions, and norms if they are wanted.
-pub fn texts(alloc: Global, norms: bool) -> Result<Schema, Fault> {
+/// A token: its position, how many it covers, and of how many letters `a` it is.
+pub type Place = (usize, usize, usize);
+
+/// What a call has.
+pub enum Said {
+    Text(&'static str),
+    Tokens(&'static [Place]),
+    U64(u64),
+    I64(i64),
+    Bool(bool),
+    Bytes(&'static [u8]),
+    Ip(u128),
+    /// A JSON object of leaves.
+    Object(&'static [(&'static str, Leaf)]),
+    /// Null in so many arrays, one in the other.
+    Arrays(usize),
+}
+
+/// A document, a field, and what is said there.
+pub type Call = (DocId, u32, Said);
+
+/// A key of a field.
+pub type Key = (u32, &'static [u8]);
+
+// A field.
+fn entry_of(alloc: Global, kind: &Kind) -> Result<FieldEntry, Fault> {
+    let name = String::from_str(alloc, "field")?;
+    Ok(match kind {
+        Kind::Text(norms) => FieldEntry::text(name, FULL, *norms),
+        Kind::Counted => FieldEntry::text(name, IndexRecordOption::WithFreqs, false),
+        Kind::Json(expand_dots) => FieldEntry::json(name, FULL, *expand_dots),
+        Kind::U64 => FieldEntry::value(name, ValueType::U64, false),
+        Kind::I64 => FieldEntry::value(name, ValueType::I64, false),
+        Kind::Bool => FieldEntry::value(name, ValueType::Bool, false),
+        Kind::Bytes => FieldEntry::value(name, ValueType::Bytes, false),
+        Kind::Ip => FieldEntry::value(name, ValueType::IpAddr, false),
+    })
+}
+
+/// A schema of fields, each named `field`.
+pub fn schema_of(alloc: Global, kinds: &[Kind]) -> Result<Schema, Fault> {
     let mut entries = Vec::new(alloc);
-    entries.push(text_entry(alloc, FULL, norms)?)?;
+    for kind in kinds {
+        entries.push(entry_of(alloc, kind)?)?;
+    }
     Ok(Schema::new(entries))
 }
 
-/// Two such fields, the first with norms.
-pub fn two_texts(alloc: Global) -> Result<Schema, Fault> {
-    let mut entries = Vec::new(alloc);
-    entries.push(text_entry(alloc, FULL, true)?)?;
-    entries.push(text_entry(alloc, FULL, false)?)?;
-    Ok(Schema::new(entries))
+/// A text so many times, and an `a` behind it.
+pub fn repeated(alloc: Global, text: &str, times: usize) -> Result<String, Fault> {
+    let mut repeated = String::new(alloc);
+    for _ in 0..times {
+        repeated.push_str(text)?;
+    }
+    repeated.push('a')?;
+    Ok(repeated)
 }
 
-/// A text with positions and norms, and a number without.
-pub fn text_and_number(alloc: Global) -> Result<Schema, Fault> {
-    let mut entries = Vec::new(alloc);
-    entries.push(text_entry(alloc, FULL, true)?)?;
-    entries.push(number_entry(alloc)?)?;
-    Ok(Schema::new(entries))
+// A token.
+fn token_at(alloc: Global, place: &Place) -> Result<Token, Fault> {
+    let (position, position_length, len) = *place;
+    Ok(Token {
+        offset_from: 0,
+        offset_to: len,
+        position,
+        text: repeated(alloc, "a", len.saturating_sub(1))?,
+        position_length,
+    })
 }
 
-/// A field of numbers without norms.
-pub fn number_entry(alloc: Global) -> Result<FieldEntry, Fault> {
-    let name = String::from_str(alloc, "number")?;
-    Ok(FieldEntry::value(name, ValueType::U64, false))
+/// A list of tokens.
+pub fn tokens_at(alloc: Global, places: &[Place]) -> Result<TokenList, Fault> {
+    let mut tokens = Vec::new(alloc);
+    for place in places {
+        tokens.push(token_at(alloc, place)?)?;
+    }
+    Ok(TokenList::new(tokens))
 }
 
-/// A number without norms.
-pub fn numbers(alloc: Global) -> Result<Schema, Fault> {
-    let mut entries = Vec::new(alloc);
-    entries.push(number_entry(alloc)?)?;
-    Ok(Schema::new(entries))
+// A leaf under a key.
+fn member_of(alloc: Global, key: &str, leaf: &Leaf) -> Result<(String, JsonValue), Fault> {
+    let key = String::from_str(alloc, key)?;
+    let value = match leaf {
+        Leaf::Text(text) => JsonValue::Str(String::from_str(alloc, text)?),
+        Leaf::Number(number) => JsonValue::U64(*number),
+        Leaf::Date(date) => JsonValue::Date(*date),
+        Leaf::Float(bits) => JsonValue::F64Bits(*bits),
+    };
+    Ok((key, value))
 }
 
-/// A text of a document in a field.
-pub fn text_call(alloc: Global, doc: DocId, field: u32, text: &str) -> Result<IndexCall, Fault> {
-    let text = String::from_str(alloc, text)?;
-    Ok(IndexCall::Text(doc, Field::from_field_id(field), text))
+// An object of leaves.
+fn object_of(alloc: Global, leaves: &[(&'static str, Leaf)]) -> Result<JsonValue, Fault> {
+    let mut members = Vec::new(alloc);
+    for (key, leaf) in leaves {
+        members.push(member_of(alloc, key, leaf)?)?;
+    }
+    Ok(JsonValue::Object(members))
 }
 
-/// Texts, each of a document in a field.
-pub fn text_calls(
-    alloc: Global,
-    texts: &[(DocId, u32, &'static str)],
-) -> Result<Vec<IndexCall>, Fault> {
+// Null in so many arrays.
+fn arrays_of(alloc: Global, number: usize) -> Result<JsonValue, Fault> {
+    let mut value = JsonValue::Null;
+    for _ in 0..number {
+        let mut items = Vec::new(alloc);
+        items.push(value)?;
+        value = JsonValue::Array(items);
+    }
+    Ok(value)
+}
+
+// A call.
+fn call_of(alloc: Global, call: &Call) -> Result<IndexCall, Fault> {
+    let (doc, field, said) = call;
+    let (doc, field) = (*doc, Field::from_field_id(*field));
+    Ok(match said {
+        Said::Text(text) => IndexCall::Text(doc, field, String::from_str(alloc, text)?),
+        Said::Tokens(places) => IndexCall::Tokens(doc, field, tokens_at(alloc, places)?),
+        Said::U64(number) => IndexCall::U64(doc, field, *number),
+        Said::I64(number) => IndexCall::I64(doc, field, *number),
+        Said::Bool(truth) => IndexCall::Bool(doc, field, *truth),
+        Said::Bytes(bytes) => IndexCall::Bytes(doc, field, Vec::from_slice(alloc, bytes)?),
+        Said::Ip(address) => IndexCall::Ip(doc, field, *address),
+        Said::Object(leaves) => IndexCall::Json(doc, field, object_of(alloc, leaves)?),
+        Said::Arrays(number) => IndexCall::Json(doc, field, arrays_of(alloc, *number)?),
+    })
+}
+
+/// The calls of a table.
+pub fn calls_of(alloc: Global, table: &[Call]) -> Result<Vec<IndexCall>, Fault> {
     let mut calls = Vec::new(alloc);
-    for text in texts {
-        let (doc, field, text) = *text;
-        calls.push(text_call(alloc, doc, field, text)?)?;
+    for call in table {
+        calls.push(call_of(alloc, call)?)?;
     }
     Ok(calls)
 }
@@ -129,8 +210,8 @@ fn may_be_indexed(schema: &Schema, num_docs: DocId, call: &IndexCall) -> bool
     entry.value_type() == type_in(call)
 }
 
-/// These calls, where they may be made one after the other.
-pub fn checked(
+// These calls, where they may be made one after the other; `IndexerFailed` else.
+fn checked(
     alloc: Global,
     schema: &Schema,
     num_docs: DocId,
@@ -154,153 +235,99 @@ pub fn checked(
     Ok(checked)
 }
 
-// Indexes calls that may be made.
-fn write_checked<W: Write>(
+/// A schema, and calls that were checked.
+pub fn ready(
     alloc: Global,
-    schema: Schema,
+    kinds: &[Kind],
     num_docs: DocId,
     calls: Vec<IndexCall>,
-    writers: IndexWriters<W>,
-) -> (IndexWriters<W>, Result<(), Fault>)
-    requires docs { num_docs ≤ TERMINATED }
-    requires calls { MayAllBeIndexed schema num_docs calls.items }
+) -> Result<(Schema, Vec<IndexCall>), Fault>
+    ensures docs { IfOk result (λ both. num_docs ≤ TERMINATED) }
+    ensures calls { IfOk result (λ both. MayAllBeIndexed both.0 num_docs both.1.items) }
 {
-    write_index(alloc, schema, num_docs, calls, &AsciiTokenizer, writers)
-}
-
-/// Indexes calls, where they may be made; `IndexerFailed` else.
-pub fn write_to<W: Write + Drop>(
-    alloc: Global,
-    schema: Schema,
-    num_docs: DocId,
-    calls: Vec<IndexCall>,
-    writers: IndexWriters<W>,
-) -> Result<(IndexWriters<W>, Result<(), Fault>), Fault> {
     if num_docs > TERMINATED {
         return Err(Fault::IndexerFailed);
     }
+    let schema = schema_of(alloc, kinds)?;
     let calls = checked(alloc, &schema, num_docs, calls)?;
-    Ok(write_checked(alloc, schema, num_docs, calls, writers))
+    Ok((schema, calls))
 }
 
-/// Writers over memory.
-pub fn writers(alloc: Global) -> IndexWriters<Vec<u8>> {
-    IndexWriters {
-        terms: CountingWriter::wrap(Vec::new(alloc)),
-        postings: CountingWriter::wrap(Vec::new(alloc)),
-        positions: CountingWriter::wrap(Vec::new(alloc)),
-        fieldnorms: CountingWriter::wrap(Vec::new(alloc)),
-    }
-}
-
-/// What they hold is the index of a schema.
-pub fn index_of(schema: Schema, writers: IndexWriters<Vec<u8>>) -> Result<Index, Fault> {
-    let IndexWriters {
-        terms,
-        postings,
-        positions,
-        fieldnorms,
-    } = writers;
-    Ok(Index {
-        schema,
-        terms: Bytes::from_vec(terms.finish())?,
-        postings: Bytes::from_vec(postings.finish())?,
-        positions: Bytes::from_vec(positions.finish())?,
-        fieldnorms: Bytes::from_vec(fieldnorms.finish())?,
-    })
-}
-
-/// The index of calls.
-pub fn written(
+/// The same of the calls of a table.
+pub fn ready_of(
     alloc: Global,
-    schema: Schema,
+    kinds: &[Kind],
+    num_docs: DocId,
+    table: &[Call],
+) -> Result<(Schema, Vec<IndexCall>), Fault>
+    ensures docs { IfOk result (λ both. num_docs ≤ TERMINATED) }
+    ensures calls { IfOk result (λ both. MayAllBeIndexed both.0 num_docs both.1.items) }
+{
+    let calls = calls_of(alloc, table)?;
+    ready(alloc, kinds, num_docs, calls)
+}
+
+/// The files of the index of a table's calls, and how writing them ended.
+pub fn files_of(
+    alloc: Global,
+    kinds: &[Kind],
+    num_docs: DocId,
+    table: &[Call],
+) -> Result<(IndexWriters<Vec<u8>>, Result<(), Fault>), Fault> {
+    let (schema, calls) = ready_of(alloc, kinds, num_docs, table)?;
+    let files = IndexWriters::in_memory(alloc);
+    Ok(write_index(alloc, schema, num_docs, calls, &AsciiTokenizer, files))
+}
+
+/// The index of calls in memory, and how many fields it has.
+pub fn indexed(
+    alloc: Global,
+    kinds: &[Kind],
     num_docs: DocId,
     calls: Vec<IndexCall>,
-) -> Result<Index, Fault> {
-    let copy = schema.clone()?;
-    let (writers, answer) = write_to(alloc, copy, num_docs, calls, writers(alloc))?;
-    answer?;
-    index_of(schema, writers)
-}
-
-/// The index of texts, each of a document in a field.
-pub fn written_texts(
-    alloc: Global,
-    schema: Schema,
-    num_docs: DocId,
-    texts: &[(DocId, u32, &'static str)],
-) -> Result<Index, Fault> {
-    let calls = text_calls(alloc, texts)?;
-    written(alloc, schema, num_docs, calls)
-}
-
-/// An index opened.
-pub fn opened(alloc: Global, index: &Index) -> Result<OpenIndex, Fault>
-    ensures { IfOk result (λ opened. length opened.readers ≡ length index.now.schema) }
+) -> Result<(usize, OpenIndex), Fault>
+    ensures { IfOk result (λ both. both.0 ≡ length both.1.readers) }
 {
-    let terms = index.terms.clone()?;
-    let postings = index.postings.clone()?;
-    let positions = index.positions.clone()?;
-    let fieldnorms = index.fieldnorms.clone()?;
-    open_index(alloc, terms, postings, positions, fieldnorms, &index.schema)
+    let (schema, calls) = ready(alloc, kinds, num_docs, calls)?;
+    let num_fields = schema.num_fields();
+    let index = index_in_ram(alloc, schema, num_docs, calls, &AsciiTokenizer)?;
+    Ok((num_fields, index))
 }
 
-/// A cursor over the postings of a term, if its field has it.
-pub fn term_cursor(
+/// A cursor over the postings under a key, if its field has it.
+pub fn cursor_of(
     alloc: Global,
-    index: &Index,
-    term: &Term,
-    option: IndexRecordOption,
-) -> Result<Option<SegmentPostings>, Fault> {
-    let field = term.field();
-    if field.field_id() as usize >= index.schema.num_fields() {
+    num_fields: usize,
+    index: &OpenIndex,
+    key: &Key,
+) -> Result<Option<SegmentPostings>, Fault>
+    requires { num_fields ≡ length index.now.readers }
+{
+    let (field, bytes) = *key;
+    if field as usize >= num_fields {
         return Ok(None);
     }
-    let opened = opened(alloc, index)?;
-    opened.reader(field).read_postings(term, option)
-}
-
-// How many tokens and terms a field has.
-fn counts(alloc: Global, index: &Index, field: u32) -> Result<(u64, usize), Fault> {
     let field = Field::from_field_id(field);
-    if field.field_id() as usize >= index.schema.num_fields() {
-        return Ok((0, 0));
-    }
-    let opened = opened(alloc, index)?;
-    let reader = opened.reader(field);
-    Ok((reader.total_num_tokens(), reader.terms().num_terms()))
-}
-
-// Adds the positions of the document of a cursor, if it is at one, and a space.
-fn push_positions(
-    alloc: Global,
-    text: &mut String,
-    cursor: &mut SegmentPostings,
-) -> Result<(), Fault> {
-    let mut positions = Vec::new(alloc);
-    if cursor.doc() < TERMINATED {
-        cursor.positions(&mut positions)?;
-    }
-    push_numbers(text, positions.as_slice())
-}
-
-// Adds numbers, and a space.
-fn push_numbers(text: &mut String, numbers: &[u32]) -> Result<(), Fault> {
-    for number in numbers {
-        write!(text, "{number},")?;
-    }
-    Ok(text.push(' ')?)
+    let term = Term::from_field_bytes(alloc, field, bytes)?;
+    let cursor = index.reader(field).read_postings(&term, FULL);
+    drop(term);
+    cursor
 }
 
 // Adds the document of a cursor with its count and positions, and a space.
 fn push_doc(alloc: Global, text: &mut String, cursor: &mut SegmentPostings) -> Result<(), Fault> {
     let doc = cursor.doc();
     if doc >= TERMINATED {
-        return Ok(text.push_str("end ")?);
+        return Ok(());
     }
     let count = cursor.term_freq();
     write!(text, "{doc}:{count}:")?;
-    push_positions(alloc, text, cursor)
+    let mut positions = Vec::new(alloc);
+    cursor.positions(&mut positions)?;
+    for position in positions.as_slice() {
+        write!(text, "{position},")?;
+    }
+    Ok(text.push(' ')?)
 }
 
 // Adds each document of a cursor.
@@ -316,124 +343,49 @@ fn push_walked(
     Ok(())
 }
 
-/// Adds the postings of a term: `DOC:COUNT:POS,POS, ` for each document; nothing where the field lacks it.
-pub fn push_postings(
+// Adds the postings under a key, `DOC:COUNT:POS,POS, ` for each document, and a semicolon.
+fn push_key(
     alloc: Global,
     text: &mut String,
-    index: &Index,
-    term: &Term,
-) -> Result<(), Fault> {
-    match term_cursor(alloc, index, term, FULL)? {
-        Some(mut cursor) => push_walked(alloc, text, &mut cursor),
-        None => Ok(()),
+    num_fields: usize,
+    index: &OpenIndex,
+    key: &Key,
+) -> Result<(), Fault>
+    requires { num_fields ≡ length index.now.readers }
+{
+    if let Some(mut cursor) = cursor_of(alloc, num_fields, index, key)? {
+        let walked = push_walked(alloc, text, &mut cursor);
+        drop(cursor);
+        walked?;
     }
+    Ok(text.push_str("; ")?)
 }
 
-/// The same of a word in a field of texts.
-pub fn push_found(
-    alloc: Global,
-    text: &mut String,
-    index: &Index,
-    field: u32,
-    word: &str,
-) -> Result<(), Fault> {
-    let term = Term::from_field_text(alloc, Field::from_field_id(field), word)?;
-    push_postings(alloc, text, index, &term)
-}
-
-/// What is found of it alone.
-pub fn found(alloc: Global, index: &Index, field: u32, word: &str) -> Result<String, Fault> {
-    let mut text = String::new(alloc);
-    push_found(alloc, &mut text, index, field, word)?;
-    Ok(text)
-}
-
-// Adds the documents that a cursor stands on after each seek to some that ascend.
-fn push_sought(
-    alloc: Global,
-    text: &mut String,
-    cursor: &mut SegmentPostings,
-    targets: &[DocId],
-) -> Result<(), Fault> {
-    for target in targets {
-        if cursor.doc() <= *target && *target <= TERMINATED {
-            let _doc = cursor.seek(*target);
-        }
-        push_doc(alloc, text, cursor)?;
+// Adds how many tokens and terms the first field has.
+fn push_counts(text: &mut String, num_fields: usize, index: &OpenIndex) -> Result<(), Fault>
+    requires { num_fields ≡ length index.now.readers }
+{
+    if num_fields == 0 {
+        return Ok(());
     }
-    Ok(())
-}
-
-/// The same over the postings of a word in field 0.
-pub fn push_found_by_seeks(
-    alloc: Global,
-    text: &mut String,
-    index: &Index,
-    word: &str,
-    targets: &[DocId],
-) -> Result<(), Fault> {
-    let term = Term::from_field_text(alloc, Field::from_field_id(0), word)?;
-    match term_cursor(alloc, index, &term, FULL)? {
-        Some(mut cursor) => push_sought(alloc, text, &mut cursor, targets),
-        None => Ok(()),
-    }
-}
-
-/// Adds how many tokens and terms field 0 has.
-pub fn push_counts(alloc: Global, text: &mut String, index: &Index) -> Result<(), Fault> {
-    let (tokens, terms) = counts(alloc, index, 0)?;
+    let reader = index.reader(Field::from_field_id(0));
+    let (tokens, terms) = (reader.total_num_tokens(), reader.terms().num_terms());
     Ok(write!(text, "{tokens} tokens of {terms} terms")?)
 }
 
-/// Adds what is found of words, each in a field, and how many tokens and terms field 0 has.
-pub fn push_told(
+/// The postings under keys, and how many tokens and terms the first field has.
+pub fn told(
     alloc: Global,
-    text: &mut String,
-    index: &Index,
-    words: &[(u32, &str)],
-) -> Result<(), Fault> {
-    for word in words {
-        let (field, word) = *word;
-        push_found(alloc, text, index, field, word)?;
-        text.push_str("; ")?;
-    }
-    push_counts(alloc, text, index)
-}
-
-/// The same alone.
-pub fn told(alloc: Global, index: &Index, words: &[(u32, &str)]) -> Result<String, Fault> {
+    num_fields: usize,
+    index: &OpenIndex,
+    keys: &[Key],
+) -> Result<String, Fault>
+    requires { num_fields ≡ length index.now.readers }
+{
     let mut text = String::new(alloc);
-    push_told(alloc, &mut text, index, words)?;
+    for key in keys {
+        push_key(alloc, &mut text, num_fields, index, key)?;
+    }
+    push_counts(&mut text, num_fields, index)?;
     Ok(text)
-}
-
-/// The same of texts in one field without norms.
-pub fn told_of_text(
-    alloc: Global,
-    num_docs: DocId,
-    said: &[(DocId, u32, &'static str)],
-    words: &[(u32, &'static str)],
-) -> Result<String, Fault> {
-    let index = written_texts(alloc, texts(alloc, false)?, num_docs, said)?;
-    told(alloc, &index, words)
-}
-
-/// The same of calls.
-pub fn told_of_calls(
-    alloc: Global,
-    schema: Schema,
-    num_docs: DocId,
-    calls: Vec<IndexCall>,
-    words: &[(u32, &'static str)],
-) -> Result<String, Fault> {
-    told(alloc, &written(alloc, schema, num_docs, calls)?, words)
-}
-
-/// Whether nothing was written.
-pub fn are_untouched(writers: &IndexWriters<Vec<u8>>) -> bool {
-    let mut all = writers.terms.written_bytes() == 0;
-    all &= writers.postings.written_bytes() == 0;
-    all &= writers.positions.written_bytes() == 0;
-    all &= writers.fieldnorms.written_bytes() == 0;
-    all
 }

@@ -1,371 +1,209 @@
-// Queries over an index of two fields.
-ghost use Rattle.std.specs.Prelude.{◌≡◌, IfOk, length, true};
+// Queries over an index of two fields, and the documents that have a word most often.
+ghost use Rattle.std.specs.Prelude.{◌≡◌, length, true};
 ghost use Rattle.ii_search.specs.Queries.{has_fields};
 
-use crate::memory_index::{
-    FULL, Index, checked, term_cursor, text_calls, texts, two_texts, written_texts,
-};
-use ii_base::{AsciiTokenizer, Fault, Field, Schema, Term};
+use crate::memory_index::{Call, Kind, Said, calls_of, cursor_of, indexed, ready_of};
+use ii_base::{AsciiTokenizer, Fault, Field, Term};
 use ii_docset::{DocId, DocSet, TERMINATED};
 use ii_reader::{OpenIndex, SegmentPostings};
 use nequllpa::{
-    PhraseTerm, Query, QueryCursor, TermOrPhrase, count, index_in_ram, search, top_by_count,
+    AllDocs, PhraseTerm, Query, QueryCursor, TermOrPhrase, count, index_in_ram, search,
+    top_by_count,
 };
 use std::alloc::Global;
 use std::test::Fail;
 
-// Each a document, a field, and a text: document 5 has none.
-static TEXTS: [(DocId, u32, &str); 7] = [
-    (0, 0, "a b c"),
-    (0, 1, "x"),
-    (1, 0, "a c"),
-    (2, 0, "b"),
-    (3, 1, "a b"),
-    (4, 0, "a b"),
-    (4, 1, "x"),
+static FIELDS: [Kind; 2] = [Kind::Text(true), Kind::Text(false)];
+
+// Document 5 has no text.
+static TEXTS: [Call; 7] = [
+    (0, 0, Said::Text("a b c")),
+    (0, 1, Said::Text("x")),
+    (1, 0, Said::Text("a c")),
+    (2, 0, Said::Text("b")),
+    (3, 1, Said::Text("a b")),
+    (4, 0, Said::Text("a b")),
+    (4, 1, Said::Text("x")),
 ];
 
-// How two queries are put together.
-#[derive(Clone, Copy)]
-enum Pair {
-    And,
-    Or,
-    AndNot,
-}
-
-// The index of the texts.
-fn indexed(alloc: Global, schema: Schema) -> Result<OpenIndex, Fault>
-    ensures { IfOk result (λ index. length index.readers ≡ length schema) }
-{
-    let texts = text_calls(alloc, &TEXTS)?;
-    let calls = checked(alloc, &schema, 6, texts)?;
-    index_in_ram(alloc, schema, 6, calls, &AsciiTokenizer)
-}
-
 // The documents of a cursor, each with a comma behind it.
-fn documents(
-    alloc: Global,
-    cursor: &mut QueryCursor<TermOrPhrase<SegmentPostings>>,
-) -> Result<String, Fault> {
+fn documents<D: DocSet>(alloc: Global, cursor: &mut D) -> Result<String, Fault> {
     let mut text = String::new(alloc);
-    push_documents(&mut text, cursor)?;
-    Ok(text)
-}
-
-// Adds them.
-fn push_documents(
-    text: &mut String,
-    cursor: &mut QueryCursor<TermOrPhrase<SegmentPostings>>,
-) -> Result<(), Fault> {
-    for _ in 0..cursor.size_hint() {
+    for _ in 0..8 {
         let doc = cursor.doc();
         if doc >= TERMINATED {
-            return Ok(());
+            return Ok(text);
         }
         write!(text, "{doc},")?;
         cursor.advance();
     }
-    Ok(())
+    Ok(text)
 }
 
-// A cursor over what a query gives, where the index has its fields.
-fn cursor_of(
-    alloc: Global,
-    query: &Query,
-) -> Result<QueryCursor<TermOrPhrase<SegmentPostings>>, Fault> {
-    let schema = two_texts(alloc)?;
-    if !query.has_fields(&schema) {
-        return Ok(QueryCursor::nothing());
-    }
-    let index = indexed(alloc, schema)?;
-    search(alloc, &index, query)
+// The documents that a query gives in an index, and how many they are.
+fn found_in(alloc: Global, index: &OpenIndex, query: &Query) -> Result<String, Fault>
+    requires { has_fields (length index.now.readers) query.now ≡ true }
+{
+    let number = count(alloc, index, query)?;
+    let mut cursor = search(alloc, index, query)?;
+    let listed = documents(alloc, &mut cursor);
+    drop(cursor);
+    let mut text = listed?;
+    write!(text, "{number} in all")?;
+    Ok(text)
 }
 
-// The documents that a query gives.
+// What a cursor over nothing has.
+fn nothing(alloc: Global) -> Result<String, Fault> {
+    let mut cursor: QueryCursor<TermOrPhrase<SegmentPostings>> = QueryCursor::nothing();
+    let listed = documents(alloc, &mut cursor);
+    drop(cursor);
+    listed
+}
+
+// The documents that a query gives in the index of the texts, and nothing where it lacks a field.
 fn found(alloc: Global, query: &Query) -> Result<String, Fault> {
-    let mut cursor = cursor_of(alloc, query)?;
-    documents(alloc, &mut cursor)
-}
-
-// How many they are.
-fn counted(alloc: Global, query: &Query) -> Result<u32, Fault> {
-    let schema = two_texts(alloc)?;
+    let (schema, calls) = ready_of(alloc, &FIELDS, 6, &TEXTS)?;
     if !query.has_fields(&schema) {
-        return Ok(0);
+        drop(schema);
+        drop(calls);
+        return nothing(alloc);
     }
-    let index = indexed(alloc, schema)?;
-    count(alloc, &index, query)
+    let index = index_in_ram(alloc, schema, 6, calls, &AsciiTokenizer)?;
+    let found = found_in(alloc, &index, query);
+    drop(index);
+    found
 }
 
-// A word in a field.
-fn word(alloc: Global, field: u32, text: &str) -> Result<Query, Fault> {
-    let term = Term::from_field_text(alloc, Field::from_field_id(field), text)?;
-    Ok(Query::Term(term))
+// A field and a word of it, or `*` for all documents.
+type Asked = (u32, &'static str);
+
+// How queries are put together.
+enum Put {
+    // One and all others.
+    All(&'static [Asked]),
+    // One, and one of the others.
+    And(&'static [Asked]),
+    // One, or one of the others.
+    Or(&'static [Asked]),
+    // One, and none of the others.
+    Without(&'static [Asked]),
+    // A phrase of one and another one, which stands so far behind.
+    Phrase(u32, Asked),
 }
 
-fn pair_of(alloc: Global, pair: Pair, first: Query, other: Query) -> Result<Query, Fault> {
-    match pair {
-        Pair::And => Query::and(alloc, first, other),
-        Pair::Or => Query::or(alloc, first, other),
-        Pair::AndNot => Query::and_not(alloc, first, other),
+fn term(alloc: Global, word: &Asked) -> Result<Term, Fault> {
+    Term::from_field_text(alloc, Field::from_field_id(word.0), word.1)
+}
+
+fn word(alloc: Global, word: &Asked) -> Result<Query, Fault> {
+    if word.1 == "*" {
+        return Ok(Query::All(6));
     }
+    Ok(Query::Term(term(alloc, word)?))
 }
 
-// Two words of the first field.
-fn words(alloc: Global, pair: Pair, first: &str, other: &str) -> Result<Query, Fault> {
-    let first = word(alloc, 0, first)?;
-    let other = word(alloc, 0, other)?;
-    pair_of(alloc, pair, first, other)
-}
-
-// Whether a query gives these documents.
-fn gives(alloc: Global, query: &Query, docs: &str) -> Result<bool, Fault> {
-    Ok(found(alloc, query)?.as_str() == docs)
-}
-
-// Whether a word in a field gives these documents.
-fn word_gives(alloc: Global, field: u32, text: &str, docs: &str) -> Result<bool, Fault> {
-    let query = word(alloc, field, text)?;
-    gives(alloc, &query, docs)
-}
-
-// Whether two words of the first field do.
-fn words_give(
-    alloc: Global,
-    pair: Pair,
-    first: &str,
-    other: &str,
-    docs: &str,
-) -> Result<bool, Fault> {
-    let query = words(alloc, pair, first, other)?;
-    gives(alloc, &query, docs)
-}
-
-// Whether two words and a third do, put together from the left.
-fn three_give(
-    alloc: Global,
-    pairs: (Pair, Pair),
-    first: &str,
-    other: &str,
-    last: &str,
-    docs: &str,
-) -> Result<bool, Fault> {
-    let first = words(alloc, pairs.0, first, other)?;
-    let last = word(alloc, 0, last)?;
-    let query = pair_of(alloc, pairs.1, first, last)?;
-    gives(alloc, &query, docs)
-}
-
-// Whether a word of the first field does, put together with no document.
-fn word_and_nothing_give(alloc: Global, pair: Pair, docs: &str) -> Result<bool, Fault> {
-    let first = word(alloc, 0, "a")?;
-    let query = pair_of(alloc, pair, first, Query::Empty)?;
-    gives(alloc, &query, docs)
-}
-
-#[test]
-fn a_word_gives_its_documents(rt: HostRuntime) {
-    let are_right = [
-        word_gives(rt.alloc(), 0, "a", "0,1,4,"),
-        word_gives(rt.alloc(), 0, "b", "0,2,4,"),
-        word_gives(rt.alloc(), 1, "a", "3,"),
-        word_gives(rt.alloc(), 0, "x", ""),
-        word_gives(rt.alloc(), 1, "x", "0,4,"),
-    ];
-    assert!(rt; are_right == [Ok(true); 5]);
-}
-
-#[test]
-fn and_gives_the_documents_of_both(rt: HostRuntime) {
-    let are_right = [
-        words_give(rt.alloc(), Pair::And, "a", "b", "0,4,"),
-        words_give(rt.alloc(), Pair::And, "c", "a", "0,1,"),
-        words_give(rt.alloc(), Pair::And, "a", "z", ""),
-        words_give(rt.alloc(), Pair::And, "b", "b", "0,2,4,"),
-    ];
-    assert!(rt; are_right == [Ok(true); 4]);
-}
-
-#[test]
-fn or_gives_each_document_once(rt: HostRuntime) {
-    let are_right = [
-        words_give(rt.alloc(), Pair::Or, "a", "b", "0,1,2,4,"),
-        words_give(rt.alloc(), Pair::Or, "z", "c", "0,1,"),
-        words_give(rt.alloc(), Pair::Or, "a", "a", "0,1,4,"),
-    ];
-    assert!(rt; are_right == [Ok(true); 3]);
-}
-
-#[test]
-fn and_not_leaves_documents_out(rt: HostRuntime) {
-    let are_right = [
-        words_give(rt.alloc(), Pair::AndNot, "a", "b", "1,"),
-        words_give(rt.alloc(), Pair::AndNot, "b", "a", "2,"),
-        words_give(rt.alloc(), Pair::AndNot, "a", "z", "0,1,4,"),
-        words_give(rt.alloc(), Pair::AndNot, "a", "a", ""),
-    ];
-    assert!(rt; are_right == [Ok(true); 4]);
-}
-
-#[test]
-fn queries_are_nested(rt: HostRuntime) {
-    let are_right = [
-        three_give(rt.alloc(), (Pair::Or, Pair::And), "a", "b", "c", "0,1,"),
-        three_give(rt.alloc(), (Pair::Or, Pair::AndNot), "a", "b", "c", "2,4,"),
-        three_give(rt.alloc(), (Pair::And, Pair::Or), "a", "b", "c", "0,1,4,"),
-        three_give(
-            rt.alloc(),
-            (Pair::AndNot, Pair::Or),
-            "a",
-            "b",
-            "b",
-            "0,1,2,4,",
-        ),
-    ];
-    assert!(rt; are_right == [Ok(true); 4]);
-}
-
-#[test]
-fn no_document_is_put_together(rt: HostRuntime) {
-    let are_right = [
-        word_and_nothing_give(rt.alloc(), Pair::And, ""),
-        word_and_nothing_give(rt.alloc(), Pair::Or, "0,1,4,"),
-        word_and_nothing_give(rt.alloc(), Pair::AndNot, "0,1,4,"),
-    ];
-    assert!(rt; are_right == [Ok(true); 3]);
-}
-
-// A phrase of two words, each of a field, the second one so many positions behind the first.
-fn phrase(
-    alloc: Global,
-    first: (u32, &'static str),
-    distance: u32,
-    other: (u32, &'static str),
-) -> Result<Query, Fault> {
-    let others = second(alloc, distance, other)?;
-    let start = Term::from_field_text(alloc, Field::from_field_id(first.0), first.1)?;
-    Ok(Query::Phrase(start, others))
-}
-
-// The second word as it stands in a phrase.
-fn second(
-    alloc: Global,
-    distance: u32,
-    other: (u32, &'static str),
-) -> Result<Vec<PhraseTerm>, Fault> {
-    let term = Term::from_field_text(alloc, Field::from_field_id(other.0), other.1)?;
-    let mut others = Vec::new(alloc);
-    others.push(PhraseTerm { distance, term })?;
-    Ok(others)
-}
-
-// Whether a phrase gives these documents.
-fn phrase_gives(
-    alloc: Global,
-    first: (u32, &'static str),
-    distance: u32,
-    other: (u32, &'static str),
-    docs: &str,
-) -> Result<bool, Fault> {
-    let query = phrase(alloc, first, distance, other)?;
-    gives(alloc, &query, docs)
-}
-
-#[test]
-fn phrases_give_documents(rt: HostRuntime) {
-    let are_right = [
-        phrase_gives(rt.alloc(), (0, "a"), 1, (0, "b"), "0,4,"),
-        phrase_gives(rt.alloc(), (0, "b"), 1, (0, "a"), ""),
-        phrase_gives(rt.alloc(), (0, "a"), 2, (0, "c"), "0,"),
-        phrase_gives(rt.alloc(), (0, "a"), 0, (1, "x"), "0,4,"),
-    ];
-    assert!(rt; are_right == [Ok(true); 4]);
-}
-
-// Words of the first field.
-fn listed(alloc: Global, texts: &[&'static str]) -> Result<Vec<Query>, Fault> {
+fn words(alloc: Global, listed: &[Asked]) -> Result<Vec<Query>, Fault> {
     let mut queries = Vec::new(alloc);
-    for text in texts {
-        queries.push(word(alloc, 0, text)?)?;
+    for one in listed {
+        queries.push(word(alloc, one)?)?;
     }
     Ok(queries)
 }
 
-// Whether these documents have one of the words.
-fn any_gives(alloc: Global, texts: &[&'static str], docs: &str) -> Result<bool, Fault> {
-    let query = Query::or_any(alloc, listed(alloc, texts)?)?;
-    gives(alloc, &query, docs)
+// One of some words.
+fn any(alloc: Global, listed: &[Asked]) -> Result<Query, Fault> {
+    Query::or_any(alloc, words(alloc, listed)?)
 }
 
-// Whether these have a word and all the others.
-fn all_give(alloc: Global, first: &str, texts: &[&'static str], docs: &str) -> Result<bool, Fault> {
-    let first = word(alloc, 0, first)?;
-    let query = Query::and_all(alloc, first, listed(alloc, texts)?)?;
-    gives(alloc, &query, docs)
+fn phrase(alloc: Global, first: &Asked, distance: u32, other: &Asked) -> Result<Query, Fault> {
+    let (start, term) = (term(alloc, first)?, term(alloc, other)?);
+    let mut others = Vec::new(alloc);
+    others.push(PhraseTerm { distance, term })?;
+    Ok(Query::Phrase(start, others))
 }
+
+// The query of a word and others.
+fn query_of(alloc: Global, first: &Asked, others: &Put) -> Result<Query, Fault> {
+    if let Put::Phrase(distance, other) = others {
+        return phrase(alloc, first, *distance, other);
+    }
+    let one = word(alloc, first)?;
+    match others {
+        Put::All(listed) => Query::and_all(alloc, one, words(alloc, listed)?),
+        Put::And(listed) => Query::and(alloc, one, any(alloc, listed)?),
+        Put::Or(listed) => Query::or(alloc, one, any(alloc, listed)?),
+        Put::Without(listed) => Query::and_not(alloc, one, any(alloc, listed)?),
+        Put::Phrase(_, _) => Ok(one),
+    }
+}
+
+static QUERIES: [(Asked, Put, &str); 28] = [
+    // words
+    ((0, "a"), Put::All(&[]), "0,1,4,3 in all"),
+    ((0, "b"), Put::All(&[]), "0,2,4,3 in all"),
+    ((1, "a"), Put::All(&[]), "3,1 in all"),
+    ((0, "x"), Put::All(&[]), "0 in all"),
+    ((1, "x"), Put::All(&[]), "0,4,2 in all"),
+    ((0, "a"), Put::And(&[(2, "a")]), ""),
+    // both
+    ((0, "a"), Put::And(&[(0, "b")]), "0,4,2 in all"),
+    ((0, "c"), Put::And(&[(0, "a")]), "0,1,2 in all"),
+    ((0, "a"), Put::And(&[(0, "z")]), "0 in all"),
+    ((0, "b"), Put::And(&[(0, "b")]), "0,2,4,3 in all"),
+    ((0, "c"), Put::And(&[(0, "a"), (0, "b")]), "0,1,2 in all"),
+    ((0, "a"), Put::All(&[(0, "b"), (0, "c")]), "0,1 in all"),
+    // one of them
+    ((0, "a"), Put::Or(&[(0, "b")]), "0,1,2,4,4 in all"),
+    ((0, "z"), Put::Or(&[(0, "c")]), "0,1,2 in all"),
+    ((0, "a"), Put::Or(&[(0, "a")]), "0,1,4,3 in all"),
+    ((0, "c"), Put::Or(&[(0, "z"), (0, "b")]), "0,1,2,4,4 in all"),
+    // the first one without the others
+    ((0, "a"), Put::Without(&[(0, "b")]), "1,1 in all"),
+    ((0, "b"), Put::Without(&[(0, "a")]), "2,1 in all"),
+    ((0, "a"), Put::Without(&[(0, "z")]), "0,1,4,3 in all"),
+    ((0, "a"), Put::Without(&[(0, "a")]), "0 in all"),
+    ((0, "*"), Put::Without(&[(0, "a")]), "2,3,5,3 in all"),
+    // no others
+    ((0, "a"), Put::And(&[]), "0 in all"),
+    ((0, "a"), Put::Or(&[]), "0,1,4,3 in all"),
+    ((0, "a"), Put::Without(&[]), "0,1,4,3 in all"),
+    // phrases
+    ((0, "a"), Put::Phrase(1, (0, "b")), "0,4,2 in all"),
+    ((0, "b"), Put::Phrase(1, (0, "a")), "0 in all"),
+    ((0, "a"), Put::Phrase(2, (0, "c")), "0,1 in all"),
+    ((0, "a"), Put::Phrase(0, (1, "x")), "0,4,2 in all"),
+];
 
 #[test]
-fn lists_of_queries_are_put_together(rt: HostRuntime) {
-    let are_right = [
-        any_gives(rt.alloc(), &["c", "z", "b"], "0,1,2,4,"),
-        any_gives(rt.alloc(), &[], ""),
-        all_give(rt.alloc(), "a", &["b", "c"], "0,"),
-        all_give(rt.alloc(), "a", &[], "0,1,4,"),
-    ];
-    assert!(rt; are_right == [Ok(true); 4]);
-}
-
-// How many documents have one of two words, and how many the second one.
-fn counts(alloc: Global) -> Result<(u32, u32), Fault> {
-    let both = words_counted(alloc)?;
-    Ok((both, word_counted(alloc)?))
-}
-
-// How many documents have one of the two words.
-fn words_counted(alloc: Global) -> Result<u32, Fault> {
-    let both = words(alloc, Pair::Or, "a", "b")?;
-    counted(alloc, &both)
-}
-
-// How many have the one.
-fn word_counted(alloc: Global) -> Result<u32, Fault> {
-    let one = word(alloc, 1, "x")?;
-    counted(alloc, &one)
-}
-
-// Whether a schema of two fields has the fields of a query.
-fn asked(alloc: Global, field: u32) -> Result<bool, Fault> {
-    let schema = two_texts(alloc)?;
-    Ok(three_words(alloc, field)?.has_fields(&schema))
-}
-
-// Two words of the first field, and one of a field.
-fn three_words(alloc: Global, field: u32) -> Result<Query, Fault> {
-    let query = words(alloc, Pair::Or, "a", "b")?;
-    let other = word(alloc, field, "a")?;
-    Query::or(alloc, query, other)
-}
-
-#[test]
-fn documents_are_counted(rt: HostRuntime) -> Result<(), Fail> {
-    assert!(rt; counts(rt.alloc())? == (4, 2));
+fn queries_give_documents(rt: HostRuntime) -> Result<(), Fail> {
+    for (first, others, wanted) in &QUERIES {
+        let query = query_of(rt.alloc(), first, others)?;
+        let found = found(rt.alloc(), &query)?;
+        assert_eq!(rt; found.as_str(), *wanted);
+    }
     Ok(())
 }
 
+fn all(alloc: Global) -> Result<String, Fault> {
+    let mut cursor = AllDocs::new(4);
+    documents(alloc, &mut cursor)
+}
+
 #[test]
-fn fields_are_asked_for(rt: HostRuntime) -> Result<(), Fail> {
-    let are_there = [asked(rt.alloc(), 1), asked(rt.alloc(), 2)];
-    assert!(rt; are_there == [Ok(true), Ok(false)]);
+fn all_documents_are_found(rt: HostRuntime) -> Result<(), Fail> {
+    let all = all(rt.alloc())?;
+    assert_eq!(rt; all.as_str(), "0,1,2,3,");
     Ok(())
 }
 
 // A word in four documents, once to three times in each.
-static OFTEN: [(DocId, u32, &str); 5] = [
-    (0, 0, "a b a"),
-    (1, 0, "a"),
-    (2, 0, "a a c a"),
-    (4, 0, "b a a"),
-    (5, 0, "b"),
+static OFTEN: [Call; 5] = [
+    (0, 0, Said::Text("a b a")),
+    (1, 0, Said::Text("a")),
+    (2, 0, Said::Text("a a c a")),
+    (4, 0, Said::Text("b a a")),
+    (5, 0, Said::Text("b")),
 ];
 
 // The documents of a cursor with the greatest counts, each with its count.
@@ -385,29 +223,34 @@ fn push_counts(text: &mut String, counts: &[(DocId, u32)]) -> Result<(), Fault> 
     Ok(())
 }
 
-// The same of a word in an index.
-fn top_of_word(alloc: Global, index: &Index, word: &str, n: usize) -> Result<String, Fault> {
-    let term = Term::from_field_text(alloc, Field::from_field_id(0), word)?;
-    match term_cursor(alloc, index, &term, FULL)? {
-        Some(mut cursor) => top_of(alloc, &mut cursor, n),
+// The documents in which the word occurs most often.
+fn most_often(alloc: Global, n: usize) -> Result<String, Fault> {
+    let calls = calls_of(alloc, &OFTEN)?;
+    let (num_fields, index) = indexed(alloc, &FIELDS, 6, calls)?;
+    let cursor = cursor_of(alloc, num_fields, &index, &(0, b"a"));
+    drop(index);
+    match cursor? {
+        Some(mut cursor) => {
+            let top = top_of(alloc, &mut cursor, n);
+            drop(cursor);
+            top
+        }
         None => Ok(String::new(alloc)),
     }
 }
 
-// Whether these are the documents in which it occurs most often, with their counts.
-fn are_most_often(alloc: Global, n: usize, docs: &str) -> Result<bool, Fault> {
-    let index = written_texts(alloc, texts(alloc, true)?, 6, &OFTEN)?;
-    Ok(top_of_word(alloc, &index, "a", n)?.as_str() == docs)
-}
-
 #[test]
-fn the_most_frequent_are_found(rt: HostRuntime) {
-    let are_right = [
-        are_most_often(rt.alloc(), 0, ""),
-        are_most_often(rt.alloc(), 1, "2:3 "),
+fn the_most_frequent_are_found(rt: HostRuntime) -> Result<(), Fail> {
+    let rows = [
+        (0, ""),
+        (1, "2:3 "),
         // of equal counts the smaller document comes first
-        are_most_often(rt.alloc(), 2, "2:3 0:2 "),
-        are_most_often(rt.alloc(), 9, "2:3 0:2 4:2 1:1 "),
+        (2, "2:3 0:2 "),
+        (9, "2:3 0:2 4:2 1:1 "),
     ];
-    assert!(rt; are_right == [Ok(true); 4]);
+    for (n, docs) in rows {
+        let found = most_often(rt.alloc(), n)?;
+        assert_eq!(rt; found.as_str(), docs);
+    }
+    Ok(())
 }

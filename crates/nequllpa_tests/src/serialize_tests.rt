@@ -1,10 +1,12 @@
-ghost use Rattle.std.specs.Prelude.{◌≡◌, [], IfOk};
+// The writers of the fields of a schema, and what they give where there are no terms.
+ghost use Rattle.std.specs.Prelude.{◌≡◌, [], IfOk, length};
 
 use bytes::Bytes;
-use ii_base::{CountingWriter, Fault, FieldEntry, IndexRecordOption, Schema};
+use ii_base::{CountingWriter, Fault, Field, FieldEntry, IndexRecordOption, Schema, ValueType};
 use ii_fieldnorm::FieldNormReaders;
 use ii_indexing::{
-    IndexingContext, InvertedIndexSerializer, PerFieldPostingsWriter, serialize_postings,
+    IndexingContext, IndexingTerm, InvertedIndexSerializer, PerFieldPostingsWriter, PostingsWriter,
+    serialize_postings,
 };
 use std::alloc::Global;
 use std::test::Fail;
@@ -19,11 +21,15 @@ fn no_norms(alloc: Global) -> Result<FieldNormReaders, Fault>
     FieldNormReaders::open(alloc, Bytes::from_static(&NO_FIELDS))
 }
 
-// A field of texts.
-fn one_field(alloc: Global) -> Result<Schema, Fault> {
+// A field of texts, and one of numbers.
+fn text_and_number(alloc: Global) -> Result<Schema, Fault>
+    ensures { IfOk result (λ schema. length schema ≡ 2) }
+{
     let mut entries = Vec::new(alloc);
     let name = String::from_str(alloc, "text")?;
     entries.push(FieldEntry::text(name, IndexRecordOption::WithFreqs, false))?;
+    let name = String::from_str(alloc, "number")?;
+    entries.push(FieldEntry::value(name, ValueType::U64, false))?;
     Ok(Schema::new(entries))
 }
 
@@ -44,28 +50,62 @@ fn written(alloc: Global, schema: &Schema, copy: Schema) -> Result<Vec<u8>, Faul
         writer(alloc),
         copy,
     );
-    serialize_postings(
+    let serialized = serialize_postings(
         alloc,
         IndexingContext::new(alloc),
         schema,
         &writers,
         &norms,
         &mut serializer,
-    )?;
-    let (terms, _, _, closed) = serializer.close();
+    );
+    drop(writers);
+    drop(norms);
+    let (terms, postings, positions, closed) = serializer.close();
+    drop(postings);
+    drop(positions);
+    let terms = terms.finish();
+    serialized?;
     closed?;
-    Ok(terms.finish())
+    Ok(terms)
 }
 
-fn written_of_one_field(alloc: Global) -> Result<Vec<u8>, Fault> {
-    let schema = one_field(alloc)?;
+fn written_of_fields(alloc: Global) -> Result<Vec<u8>, Fault> {
+    let schema = text_and_number(alloc)?;
     let copy = schema.clone()?;
     written(alloc, &schema, copy)
 }
 
 #[test]
 fn no_terms_are_serialized(rt: HostRuntime) -> Result<(), Fail> {
-    let bytes = written_of_one_field(rt.alloc())?;
+    let bytes = written_of_fields(rt.alloc())?;
     assert!(rt; bytes.as_slice() == NO_FIELDS.as_slice());
+    Ok(())
+}
+
+// How many tokens the two writers of these fields have once a position of a term was added to the second.
+fn tokens_of_writers(alloc: Global) -> Result<(u64, u64), Fault> {
+    let (text, number) = (Field::from_field_id(0), Field::from_field_id(1));
+    let mut term = IndexingTerm::with_capacity(alloc, 8)?;
+    term.set_field(number);
+    term.set_u64(7)?;
+    let schema = text_and_number(alloc)?;
+    let mut writers = PerFieldPostingsWriter::for_schema(alloc, &schema)?;
+    drop(schema);
+    let mut ctx = IndexingContext::new(alloc);
+    let added = writers
+        .get_for_field_mut(number)
+        .subscribe(3, 0, &term, &mut ctx);
+    drop(ctx);
+    drop(term);
+    let of_text = writers.get_for_field(text).total_num_tokens();
+    let of_number = writers.get_for_field(number).total_num_tokens();
+    drop(writers);
+    added?;
+    Ok((of_text, of_number))
+}
+
+#[test]
+fn fields_have_writers(rt: HostRuntime) -> Result<(), Fail> {
+    assert!(rt; tokens_of_writers(rt.alloc())? == (0, 1));
     Ok(())
 }

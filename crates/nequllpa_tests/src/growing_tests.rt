@@ -1,0 +1,205 @@
+// Texts of many words: where they stand, their norms, and the bounds of their blocks.
+ghost use Rattle.std.specs.Prelude.{◌≡◌, length};
+
+use crate::memory_index::{Call, FULL, Key, Kind, Said, calls_of, indexed, repeated, told};
+use ii_base::{Fault, Field, Term};
+use ii_docset::DocId;
+use ii_fieldnorm::FieldNormReader;
+use ii_indexing::IndexCall;
+use ii_reader::OpenIndex;
+use std::alloc::Global;
+use std::test::Fail;
+
+// Fields with norms and without.
+static FIELDS: [Kind; 2] = [Kind::Text(true), Kind::Text(false)];
+
+// Adds so many `e` and an `a` in a document of a field.
+fn push_many(
+    alloc: Global,
+    calls: &mut Vec<IndexCall>,
+    doc: DocId,
+    field: u32,
+    count: u32,
+) -> Result<(), Fault> {
+    let text = repeated(alloc, "e ", count as usize)?;
+    Ok(calls.push(IndexCall::Text(doc, Field::from_field_id(field), text))?)
+}
+
+// This one has no text, and is the last.
+const LAST: DocId = 1000;
+
+const DOCS: u32 = 1001;
+
+static FIRST: [Call; 3] = [
+    (0, 0, Said::Text("a b a c a d a a.")),
+    (0, 0, Said::Text("d d d d a")),
+    (1, 0, Said::Text("b a")),
+];
+
+// These texts, and in each later document as many `e` as its number, and an `a`.
+fn growing_calls(alloc: Global) -> Result<Vec<IndexCall>, Fault> {
+    let mut calls = calls_of(alloc, &FIRST)?;
+    for doc in 2..LAST {
+        push_many(alloc, &mut calls, doc, 0, doc)?;
+    }
+    Ok(calls)
+}
+
+static WORDS: [Key; 3] = [(0, b"a"), (0, b"e"), (0, b"abcdef")];
+
+// Adds the `e` of a document.
+fn push_wanted(text: &mut String, doc: DocId) -> Result<(), Fault> {
+    write!(text, "{doc}:{doc}:")?;
+    for position in 0..doc {
+        write!(text, "{position},")?;
+    }
+    Ok(text.push(' ')?)
+}
+
+// Where these words stand.
+fn wanted(alloc: Global) -> Result<String, Fault> {
+    let mut text = String::from_str(alloc, "0:6:0,2,4,6,7,13, 1:1:1, ")?;
+    for doc in 2..LAST {
+        write!(text, "{doc}:1:{doc}, ")?;
+    }
+    text.push_str("; ")?;
+    for doc in 2..LAST {
+        push_wanted(&mut text, doc)?;
+    }
+    text.push_str("; ; 500512 tokens of 5 terms")?;
+    Ok(text)
+}
+
+// How many words a document has.
+fn length_of(doc: DocId) -> u32 {
+    match doc {
+        0 => 13,
+        1 => 2,
+        LAST => 0,
+        _ => doc.saturating_add(1),
+    }
+}
+
+// Whether each norm is that of so many words.
+fn are_growing(norms: &FieldNormReader) -> bool {
+    if norms.num_docs() != DOCS {
+        return false;
+    }
+    for doc in 0..DOCS {
+        if norms.fieldnorm_id(doc) != FieldNormReader::fieldnorm_to_id(length_of(doc)) {
+            return false;
+        }
+    }
+    (norms.fieldnorm(0), norms.fieldnorm(LAST)) == (13, 0)
+}
+
+// Whether the first field has such norms, and the other one none.
+fn have_norms(index: &OpenIndex) -> Result<bool, Fault> {
+    if index
+        .get_fieldnorms_reader(Field::from_field_id(1))?
+        .is_some()
+    {
+        return Ok(false);
+    }
+    match index.get_fieldnorms_reader(Field::from_field_id(0))? {
+        Some(norms) => {
+            let right = are_growing(&norms);
+            drop(norms);
+            Ok(right)
+        }
+        None => Ok(false),
+    }
+}
+
+// What is told of the words, and whether the norms are right.
+fn told_of_growing(alloc: Global) -> Result<(String, bool), Fault> {
+    let calls = growing_calls(alloc)?;
+    let (num_fields, index) = indexed(alloc, &FIELDS, DOCS, calls)?;
+    let right = have_norms(&index);
+    let told = told(alloc, num_fields, &index, &WORDS);
+    drop(index);
+    Ok((told?, right?))
+}
+
+#[test]
+fn growing_texts_are_found_and_have_their_norms(rt: HostRuntime) -> Result<(), Fail> {
+    let (told, right) = told_of_growing(rt.alloc())?;
+    let wanted = wanted(rt.alloc())?;
+    assert!(rt; (told == wanted, right) == (true, true));
+    Ok(())
+}
+
+const FALLING: u32 = 130;
+
+// In each document of either field as many `e` as there are documents after it, and an `a`.
+fn falling_calls(alloc: Global) -> Result<Vec<IndexCall>, Fault> {
+    let mut calls = Vec::new(alloc);
+    for doc in 0..FALLING {
+        push_many(alloc, &mut calls, doc, 0, FALLING - 1 - doc)?;
+        push_many(alloc, &mut calls, doc, 1, FALLING - 1 - doc)?;
+    }
+    Ok(calls)
+}
+
+static BOUNDED: [Key; 4] = [(0, b"a"), (0, b"e"), (1, b"a"), (1, b"e")];
+
+// What bounds the first block of a word.
+fn bounds_of(
+    alloc: Global,
+    num_fields: usize,
+    index: &OpenIndex,
+    word: &Key,
+) -> Result<Option<(u8, u8)>, Fault>
+    requires { num_fields ≡ length index.now.readers }
+{
+    let (field, bytes) = *word;
+    if field as usize >= num_fields {
+        return Ok(None);
+    }
+    let field = Field::from_field_id(field);
+    let term = Term::from_field_bytes(alloc, field, bytes)?;
+    let blocks = index.reader(field).read_block_postings(&term, FULL);
+    drop(term);
+    match blocks? {
+        Some(blocks) => {
+            let bounds = blocks.block_bounds();
+            drop(blocks);
+            Ok(bounds)
+        }
+        None => Ok(None),
+    }
+}
+
+// What bounds those of the words.
+fn all_bounds(
+    alloc: Global,
+    num_fields: usize,
+    index: &OpenIndex,
+) -> Result<Vec<Option<(u8, u8)>>, Fault>
+    requires { num_fields ≡ length index.now.readers }
+{
+    let mut bounds = Vec::new(alloc);
+    for word in &BOUNDED {
+        bounds.push(bounds_of(alloc, num_fields, index, word)?)?;
+    }
+    Ok(bounds)
+}
+
+// The same in the index of the falling texts.
+fn falling_bounds(alloc: Global) -> Result<Vec<Option<(u8, u8)>>, Fault> {
+    let calls = falling_calls(alloc)?;
+    let (num_fields, index) = indexed(alloc, &FIELDS, FALLING, calls)?;
+    let bounds = all_bounds(alloc, num_fields, &index);
+    drop(index);
+    bounds
+}
+
+// Those of `a` and `e` where the field has norms, and where it has none.
+static BOUNDS: [Option<(u8, u8)>; 4] = [Some((3, 1)), Some((3, 129)), Some((0, 0)), Some((0, 0))];
+
+#[test]
+fn blocks_are_bounded_by_norms_and_counts(rt: HostRuntime) -> Result<(), Fail> {
+    let bounds = falling_bounds(rt.alloc())?;
+    assert!(rt; bounds.as_slice() == BOUNDS.as_slice());
+    Ok(())
+}
