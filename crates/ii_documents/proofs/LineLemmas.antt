@@ -7,7 +7,7 @@ use Rattle.std.specs.Map.{lookup}
 use Rattle.std.specs.BTreeMap.{is_at}
 use Rattle.std.specs.Cmp.Lexicographic.{slice_cmp}
 use Rattle.serde_json.proofs.Views.{view-lookup, view_of_ref}
-use Rattle.serde_json.specs.Data.{Data, Members, item, no_items}
+use Rattle.serde_json.specs.Data.{Data, Items, Members, item, no_items}
 use Rattle.serde_json.specs.Find.{get_member}
 use Rattle.serde_json.specs.View.{members_view, view}
 use Rattle.serde_json.specs.declared.value.Value.{Value}
@@ -18,6 +18,7 @@ use Rattle.ii_definitions.specs.declared.index_call.IndexCall.{IndexCall}
 use Rattle.ii_definitions.proofs.ListLaws.{all_both}
 use Rattle.ii_documents.specs.declared.faults.ValueFault.{ValueFault}
 use Rattle.ii_documents.specs.JsonLines.{Adds, IsOf, Refusal, call_with_content, field_calls, fields_calls, items_calls, unknown_name_in, value_call}
+use Rattle.ii_documents.specs.Steps.{◌>>=◌}
 use Rattle.ii_documents.proofs.AddingLemmas.{both}
 
 abbrev pub Entry : Type 0
@@ -65,6 +66,14 @@ adds_value es doc field old new e d c found indexed is typed pushed =
         each = λ each. subst (AllByRecursion (IsOf es doc)) (sym pushed) (all_both (IsOf es doc) old (c ∷ []) each (record { doc_is = at.0; takes = takes }, tt));
       },
     )
+
+-- the calls of a value, before those of the values behind it
+call_first : (v : Result Call Refusal) (r : Result (List Call) Refusal) → (v >>= λ c. r >>= λ cs. Ok (c ∷ cs)) ≡ both (v >>= λ c. Ok (c ∷ [])) r
+call_first (Ok c) r = refl
+call_first (Err e) r = refl
+
+pub items_first : (doc field : ℕ) (e : SchemaEntry) (d : Data) (ds : Items) → items_calls doc field e (item d ds) ≡ both (items_calls doc field e (item d no_items)) (items_calls doc field e ds)
+items_first doc field e d ds = call_first (value_call doc field e d) (items_calls doc field e ds)
 
 -- the calls of a field, and those of the fields behind it
 pub fields_first : (doc : ℕ) (ms : Members) (field : ℕ) (es : List SchemaEntry) (e : SchemaEntry) (rest : List SchemaEntry) → es ≡ e ∷ rest
