@@ -122,12 +122,9 @@ fn many(alloc: Global, terms: u32) -> Result<JoinedTerms, Fault> {
 }
 
 // What a store of 300 terms answers where the writer's call fails: when it is written, written once more, and
-// given two terms more. Then how many bytes are written, if they are the first of the whole store.
-fn told_at(
-    alloc: Global,
-    k: u64,
-    whole: &[u8],
-) -> Result<([Result<(), Fault>; 4], Option<usize>), Fault> {
+// given two terms more. Then how many bytes are written, or the greatest number where they aren't the first of the
+// whole store.
+fn told_at(alloc: Global, k: u64, whole: &[u8]) -> Result<([Result<(), Fault>; 4], usize), Fault> {
     let mut store = many(alloc, 300)?;
     let mut writer = CountingWriter::wrap(FailingWriter::new(alloc, k));
     let answers = [
@@ -137,8 +134,10 @@ fn told_at(
         store.write(1, 1, 1),
     ];
     let written = writer.finish();
-    let is_front = whole.starts_with(written.bytes());
-    Ok((answers, is_front.then_some(written.bytes().len())))
+    if !whole.starts_with(written.bytes()) {
+        return Ok((answers, usize::MAX));
+    }
+    Ok((answers, written.bytes().len()))
 }
 
 #[test]
@@ -153,7 +152,7 @@ fn stores_end_at_the_call_that_fails(rt: HostRuntime) -> Result<(), Fail> {
             break;
         }
         failed = k;
-        let is_short = written.is_some_and(|len| len < whole.len());
+        let is_short = written < whole.len();
         assert!(rt; (answers, is_short) == (refused, true), "call {k}");
     }
     assert!(rt; 0 < failed && failed < 19);

@@ -106,11 +106,12 @@ fn sought_by_count(
 ) -> Result<[(DocId, u32); 3], LayoutFault> {
     let mut cursor = SegmentPostings::open(doc_freq, bytes, None, FREQS, requested_option)?;
     let _first = sought(&mut cursor, seeks[0].0);
-    let mut found = [(0, 0); 3];
-    for (i, (target, least)) in seeks.into_iter().enumerate() {
-        found[i] = sought_with_freq(&mut cursor, target, least);
-    }
-    Ok(found)
+    let [first, second, third] = seeks;
+    Ok([
+        sought_with_freq(&mut cursor, first.0, first.1),
+        sought_with_freq(&mut cursor, second.0, second.1),
+        sought_with_freq(&mut cursor, third.0, third.1),
+    ])
 }
 
 // Seeks by count over the three blocks, and where they end.
