@@ -1,12 +1,12 @@
-use ascending_terms::AscendingTerms;
+ghost use Rattle.std.specs.Prelude.{◌≡◌, [], false, length};
+ghost use Rattle.ii_termstore.specs.TermInfos.{term_info_from};
+
 use bytes::Bytes;
 use ii_io::{CountingWriter, FailingWriter, Fault, Part};
 use ii_termdict::written::reads_dictionary_back;
-use ii_termdict::{TermDictionary, TermDictionaryWriter, TermInfo};
+use ii_termdict::{TermDictionary, TermDictionaryBuilder, TermDictionaryWriter, TermInfo};
 use std::alloc::Global;
 use std::test::Fail;
-
-mod ascending_terms;
 
 // One key, `a`, in 3 documents with 3 bytes of postings. A function, so that no proof looks inside.
 fn one() -> [u8; 73] {
@@ -37,11 +37,31 @@ fn zeros_but(places: &[(usize, u8)]) -> [u8; 42] {
     bytes
 }
 
+// What is kept of the key.
+fn info() -> TermInfo
+    ensures { result ≡ term_info_from 3 0 3 0 0 }
+{
+    TermInfo {
+        doc_freq: 3,
+        postings_range: 0..3,
+        positions_range: 0..0,
+    }
+}
+
+// Adds it.
+fn insert_one(builder: &mut TermDictionaryBuilder<FailingWriter>) -> Result<(), Fault>
+    requires fresh { (builder.old.keys ≡ []) × (builder.old.infos ≡ []) }
+    ensures whole { builder.new.closed ≡ false → length builder.new.keys ≡ length builder.new.infos }
+{
+    builder.insert_key(b"a")?;
+    builder.insert_value(&info())
+}
+
 // How many bytes of that dictionary are written where a call fails, if no others are, and the answer.
 fn ending(alloc: Global, failing_call: u64) -> (Option<usize>, Result<(), Fault>) {
     let writer = CountingWriter::wrap(FailingWriter::new(alloc, failing_call));
-    let mut builder = AscendingTerms::new(alloc, writer);
-    let term = builder.write(b"a", 3, 3, 0);
+    let mut builder = TermDictionaryBuilder::create(alloc, writer);
+    let term = insert_one(&mut builder);
     let (writer, finished) = builder.finish();
     let (writer, answer) = (writer.finish(), term.and(finished));
     if one().starts_with(writer.bytes()) {
@@ -71,49 +91,11 @@ static NOTHING: [u8; 24] = [0; 24];
 
 #[test]
 fn writes_no_keys(rt: HostRuntime) {
-    let builder = AscendingTerms::new(rt.alloc(), CountingWriter::wrap(Vec::new(rt.alloc())));
+    let writer = CountingWriter::wrap(Vec::new(rt.alloc()));
+    let builder = TermDictionaryBuilder::create(rt.alloc(), writer);
     let (writer, finished) = builder.finish();
     let is_written = writer.finish().as_slice() == NOTHING.as_slice();
     assert!(rt; (is_written, finished) == (true, Ok(())));
-}
-
-// A thousand keys that ascend, and lengths of bytes that join.
-fn write_many(builder: &mut AscendingTerms<Vec<u8>>) -> Result<(), Fault> {
-    for i in 0..1000u32 {
-        builder.write(&(2 * i + 1).to_be_bytes(), i, 7, 21)?;
-    }
-    Ok(())
-}
-
-// Their dictionary.
-fn many(alloc: Global) -> Result<TermDictionary, Fault> {
-    let mut builder = AscendingTerms::new(alloc, CountingWriter::wrap(Vec::new(alloc)));
-    let written = write_many(&mut builder);
-    let (writer, finished) = builder.finish();
-    written.and(finished)?;
-    TermDictionary::open(Bytes::from_vec(writer.finish())?)
-}
-
-// Where the bytes of a term begin, if a key has one that is in so many documents.
-fn start_of(terms: &TermDictionary, key: u32, doc_freq: u32) -> Option<(usize, usize)> {
-    match terms.get(&key.to_be_bytes()) {
-        Some(info) if info.doc_freq == doc_freq => {
-            Some((info.postings_range.start, info.positions_range.start))
-        }
-        _ => None,
-    }
-}
-
-#[test]
-fn looks_a_thousand_keys_up(rt: HostRuntime) -> Result<(), Fail> {
-    let terms = many(rt.alloc())?;
-    for i in 0..1000u32 {
-        // there is nothing under the key below
-        let found = [start_of(&terms, 2 * i, i), start_of(&terms, 2 * i + 1, i)];
-        let start = 7 * i as usize;
-        assert!(rt; found == [None, Some((start, 3 * start))], "term {i}");
-    }
-    Ok(())
 }
 
 // Whether the key stands at place 0, and none at 1.
@@ -138,15 +120,6 @@ static A: [u8; 1] = *b"a";
 // The dictionary of that key.
 fn dictionary(alloc: Global) -> Result<TermDictionary, Fault> {
     TermDictionary::open(Bytes::copy_from_slice(alloc, &one())?)
-}
-
-// What is kept of the key.
-fn info() -> TermInfo {
-    TermInfo {
-        doc_freq: 3,
-        postings_range: 0..3,
-        positions_range: 0..0,
-    }
 }
 
 // Where a stream has a first term: whether it goes on twice after that, whether its key is then still `a`, and

@@ -30,7 +30,7 @@ fn plain_values(entries: &[u32; 128]) -> (Option<[u32; 128]>, Option<[u32; 128]>
         let entry = u64::from(entries[k]);
         let value = next.wrapping_add(entry);
         values = with_value(values, k, value);
-        raised = with_value(raised, k, entry + 1);
+        raised = with_value(raised, k, entry.wrapping_add(1));
         next = value.wrapping_add(1);
         sum = sum.wrapping_add(entry);
     }

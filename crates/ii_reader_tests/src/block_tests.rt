@@ -69,14 +69,12 @@ fn is_so(blocks: &mut BlockSegmentPostings, step: Step) -> bool {
 
 // How many of these answers a block cursor gives, up to the first other one.
 fn answered(blocks: &mut BlockSegmentPostings, steps: &[Step]) -> usize {
-    let mut count = 0;
-    for step in steps {
+    for (i, step) in steps.iter().enumerate() {
         if !is_so(blocks, *step) {
-            break;
+            return i;
         }
-        count += 1;
     }
-    count
+    steps.len()
 }
 
 // A list, what its field records and what is requested, and what a block cursor over it answers.

@@ -399,19 +399,18 @@ fn blocks_reset(
 // Places of a term's postings there, how resets to them end, and the documents of both kinds of cursor.
 type Reset = (usize, usize, (Result<(), Fault>, [DocId; 4]));
 
-// How many of these resets of two cursors over the even documents end so.
-fn resets_met(reader: &InvertedIndexReader, resets: &[Reset]) -> Result<usize, Fault> {
+// Whether each of these resets of two cursors over the even documents ends so.
+fn are_reset(reader: &InvertedIndexReader, resets: &[Reset]) -> Result<bool, Fault> {
     let even = info_at(3, 0, 3);
     let mut cursor = reader.read_postings_from_terminfo(&even, BASIC)?;
     let mut blocks = reader.read_block_postings_from_terminfo(&even, BASIC)?;
-    let mut count = 0;
+    let mut all = true;
     for (start, end, want) in resets {
         let info = info_at(3, *start, *end);
-        if cursor_reset(reader, &info, &mut cursor) == *want {
-            count += usize::from(blocks_reset(reader, &info, &mut blocks) == *want);
-        }
+        all &= cursor_reset(reader, &info, &mut cursor) == *want;
+        all &= blocks_reset(reader, &info, &mut blocks) == *want;
     }
-    Ok(count)
+    Ok(all)
 }
 
 #[test]
@@ -428,6 +427,6 @@ fn cursors_are_reset_in_place(rt: HostRuntime) -> Result<(), Fail> {
         (3, 6, odd),
     ];
     let reader = reader_over(&TWO_TERMS, BASIC)?;
-    assert!(rt; resets_met(&reader, &resets)? == resets.len());
+    assert!(rt; are_reset(&reader, &resets)?);
     Ok(())
 }

@@ -32,7 +32,10 @@ enum Step {
 // Where a seek leaves a cursor, if it may be made.
 pub(crate) fn sought<P: Postings>(cursor: &mut P, target: DocId) -> DocId {
     let doc = cursor.doc();
-    if target > TERMINATED || (doc < TERMINATED && doc > target) {
+    if target > TERMINATED {
+        return doc;
+    }
+    if doc < TERMINATED && doc > target {
         return doc;
     }
     cursor.seek(target)
@@ -72,14 +75,12 @@ fn is_so<P: Postings>(alloc: Global, cursor: &mut P, step: Step) -> bool {
 
 // How many of these answers a cursor gives, up to the first other one.
 fn answered<P: Postings>(alloc: Global, cursor: &mut P, steps: &[Step]) -> usize {
-    let mut count = 0;
-    for step in steps {
+    for (i, step) in steps.iter().enumerate() {
         if !is_so(alloc, cursor, *step) {
-            break;
+            return i;
         }
-        count += 1;
     }
-    count
+    steps.len()
 }
 
 // A list, what its field records and what is requested, and what a cursor over it answers.
@@ -308,8 +309,9 @@ fn from_second_block() -> Result<(bool, DocId, u32), LayoutFault> {
 // The count of a cursor over nothing, whether it says that it has nothing, and where it goes.
 fn of_nothing() -> (u32, [bool; 2], DocId) {
     let mut cursor = SegmentPostings::empty();
+    let count = cursor.term_freq();
     let has_nothing = [is_so_long(&cursor, 0), cursor.is_empty()];
-    (cursor.term_freq(), has_nothing, cursor.advance())
+    (count, has_nothing, cursor.advance())
 }
 
 #[test]

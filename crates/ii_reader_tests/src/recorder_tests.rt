@@ -178,12 +178,21 @@ static SPELLED: [u8; 12] = [
     0x80, 0x81, 0x7A, 0x57, 0x4D, 0x1A, 0x81, 0x7F, 0x7F, 0x7F, 0x7F, 0x8F,
 ];
 
+// The next five numbers of a reader.
+fn first_numbers(numbers: &mut VInt32Reader<'_>) -> [Option<u32>; 5] {
+    [
+        numbers.next(),
+        numbers.next(),
+        numbers.next(),
+        numbers.next(),
+        numbers.next(),
+    ]
+}
+
 #[test]
 fn vints_are_read_one_by_one(rt: HostRuntime) {
-    let mut numbers = VInt32Reader::new(&SPELLED);
-    for want in [Some(0), Some(1), Some(324_234_234), Some(u32::MAX), None] {
-        assert!(rt; numbers.next() == want);
-    }
+    let numbers = [Some(0), Some(1), Some(324_234_234), Some(u32::MAX), None];
+    assert!(rt; first_numbers(&mut VInt32Reader::new(&SPELLED)) == numbers);
 }
 
 // Whether the buffer of bytes is lent empty, and then both; something is left in each.
