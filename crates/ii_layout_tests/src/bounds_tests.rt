@@ -28,26 +28,33 @@ fn add_below(
     Ok(())
 }
 
-// Writes the documents from 0 to 127, each with a count from 1 to 300 and of a number of tokens.
-fn write_block(
+// Writes the documents that norms have, at most 300, each with a count that is the last one and `step` more, the
+// first one from 1 to 300.
+fn write_term(
     alloc: Global,
     mode: IndexRecordOption,
-    (fieldnorm, term_freq): (u32, u32),
+    norms: FieldNormReader,
+    (first, step): (u32, u32),
     output: &mut CountingWriter<Vec<u8>>,
 ) -> Result<(), Fault> {
-    let norms = FieldNormReader::constant(128, fieldnorm);
+    let count = norms.num_docs().min(300);
     let mut serializer = PostingsSerializer::new(alloc, mode, Some(norms));
-    if term_freq == 0 || term_freq > 300 {
+    if first == 0 || first > 300 || step > 1 {
         return Ok(());
     }
-    add_below(&mut serializer, 128, term_freq, 0)?;
-    serializer.close_term(128, output)
+    add_below(&mut serializer, count, first, step)?;
+    serializer.close_term(count, output)
 }
 
 // What is written of them.
-fn block(alloc: Global, mode: IndexRecordOption, doc: (u32, u32)) -> Result<Vec<u8>, Fault> {
+fn written(
+    alloc: Global,
+    mode: IndexRecordOption,
+    norms: FieldNormReader,
+    counts: (u32, u32),
+) -> Result<Vec<u8>, Fault> {
     let mut output = CountingWriter::wrap(Vec::new(alloc));
-    write_block(alloc, mode, doc, &mut output)?;
+    write_term(alloc, mode, norms, counts, &mut output)?;
     Ok(output.finish())
 }
 
@@ -88,8 +95,9 @@ static BLOCKS: [(IndexRecordOption, (u32, u32), &[u8], usize); 5] = [
 
 #[test]
 fn bounds_of_a_block_are_written(rt: HostRuntime) -> Result<(), Fail> {
-    for (mode, doc, begin, len) in &BLOCKS {
-        let bytes = block(rt.alloc(), *mode, *doc)?;
+    for (mode, (fieldnorm, count), begin, len) in &BLOCKS {
+        let norms = FieldNormReader::constant(128, *fieldnorm);
+        let bytes = written(rt.alloc(), *mode, norms, (*count, 0))?;
         assert!(rt;
             bytes.starts_with(begin) && bytes.len() == *len,
             "{len} bytes"
@@ -109,32 +117,15 @@ fn falling_norms(alloc: Global) -> Result<FieldNormReader, Fault> {
     FieldNormReader::open(Bytes::from_vec(ids)?)
 }
 
-// Writes the documents that norms have, at most 300, with the counts 1, 2, 3 and so on.
-fn write_rising(
-    alloc: Global,
-    norms: FieldNormReader,
-    output: &mut CountingWriter<Vec<u8>>,
-) -> Result<(), Fault> {
-    let count = norms.num_docs().min(300);
-    let mut serializer = PostingsSerializer::new(alloc, IndexRecordOption::WithFreqs, Some(norms));
-    add_below(&mut serializer, count, 1, 1)?;
-    serializer.close_term(count, output)
-}
-
-// What is written of them.
-fn rising(alloc: Global) -> Result<Vec<u8>, Fault> {
-    let mut output = CountingWriter::wrap(Vec::new(alloc));
-    write_rising(alloc, falling_norms(alloc)?, &mut output)?;
-    Ok(output.finish())
-}
-
 static BOUNDS: [u8; 17] = [
     0x90, 0x7F, 0, 0, 0, 0x40, 7, 137, 128, 0xFF, 0, 0, 0, 0x40, 8, 73, 0xFF,
 ];
 
 #[test]
 fn bounds_are_those_of_each_block(rt: HostRuntime) -> Result<(), Fail> {
-    let bytes = rising(rt.alloc())?;
+    // the counts 1, 2, 3 and so on
+    let norms = falling_norms(rt.alloc())?;
+    let bytes = written(rt.alloc(), IndexRecordOption::WithFreqs, norms, (1, 1))?;
     assert!(rt; bytes.starts_with(&BOUNDS));
     Ok(())
 }

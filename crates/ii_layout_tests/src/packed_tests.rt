@@ -76,8 +76,19 @@ fn packed(block: &[u32; 128], offset: u32) -> (u8, usize, bool)
     (width, bytes.len(), same)
 }
 
+// Whether 128 threes are packed less one in two bits, and read back with other bytes after them.
+fn threes_are_read_back() -> bool {
+    let threes = [3; 128];
+    let mut encoder = BlockEncoder::default();
+    let (num_bits, bytes) = encoder.compress_block_unsorted(&threes, true);
+    let are_packed = num_bits == 2 && bytes == [0xAA; 32].as_slice();
+    let long = with_others(bytes);
+    let as_they_stand = unsorted_values(&long, 2, false) == Ok((32, [2; 128]));
+    are_packed && as_they_stand && unsorted_values(&long, 2, true) == Ok((32, threes))
+}
+
 #[test]
-fn sorted_blocks_are_read_back(rt: HostRuntime) {
+fn blocks_are_read_back(rt: HostRuntime) {
     let blocks = [
         packed(&stepped(0, 1), 0),
         packed(&stepped(1, 1), 0),
@@ -92,23 +103,7 @@ fn sorted_blocks_are_read_back(rt: HostRuntime) {
         (3, 48, true),
         (3, 48, true),
     ];
-    assert!(rt; blocks == want);
-}
-
-// Whether 128 threes are packed less one in two bits, and read back with other bytes after them.
-fn threes_are_read_back() -> bool {
-    let threes = [3; 128];
-    let mut encoder = BlockEncoder::default();
-    let (num_bits, bytes) = encoder.compress_block_unsorted(&threes, true);
-    let are_packed = num_bits == 2 && bytes == [0xAA; 32].as_slice();
-    let long = with_others(bytes);
-    let as_they_stand = unsorted_values(&long, 2, false) == Ok((32, [2; 128]));
-    are_packed && as_they_stand && unsorted_values(&long, 2, true) == Ok((32, threes))
-}
-
-#[test]
-fn unsorted_blocks_are_read_back(rt: HostRuntime) {
-    assert!(rt; threes_are_read_back());
+    assert!(rt; (blocks, threes_are_read_back()) == (want, true));
 }
 
 // Even numbers from 0 on, and all numbers from 1 on, by strict deltas, and the former by plain ones.

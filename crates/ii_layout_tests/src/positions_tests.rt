@@ -222,26 +222,6 @@ fn is_damaged(alloc: Global, data: &[u8]) -> Result<bool, AllocError> {
     Ok(matches!(opened, Err(LayoutFault::Damaged(Part::Positions))))
 }
 
-#[test]
-fn damaged_blocks_are_told(rt: HostRuntime) -> Result<(), Fail> {
-    // a width above 32, and a block that is cut
-    let rows = [
-        (33, 530, true),
-        (32, 514, false),
-        (32, 513, true),
-        (1, 18, false),
-        (1, 17, true),
-    ];
-    let mut block = [0; 530];
-    block[0] = 0x81;
-    for (width, len, want) in rows {
-        block[1] = width;
-        let block = &block[..len.min(530)];
-        assert!(rt; is_damaged(rt.alloc(), block)? == want, "{len} bytes");
-    }
-    Ok(())
-}
-
 // What is damaged, and what isn't.
 static DAMAGED: [(&[u8], bool); 8] = [
     (&[], true),
@@ -262,10 +242,27 @@ static DAMAGED: [(&[u8], bool); 8] = [
     (&[0x82, 0, 0], false),
 ];
 
+// Widths of a block, of how many bytes with its head, and whether that is damaged: a width above 32, and a block
+// that is cut.
+static BLOCKS: [(u8, usize, bool); 5] = [
+    (33, 530, true),
+    (32, 514, false),
+    (32, 513, true),
+    (1, 18, false),
+    (1, 17, true),
+];
+
 #[test]
 fn damage_is_told(rt: HostRuntime) -> Result<(), Fail> {
     for (i, (data, want)) in DAMAGED.iter().enumerate() {
         assert!(rt; is_damaged(rt.alloc(), data)? == *want, "row {i}");
+    }
+    let mut block = [0; 530];
+    block[0] = 0x81;
+    for (width, len, want) in BLOCKS {
+        block[1] = width;
+        let block = &block[..len.min(530)];
+        assert!(rt; is_damaged(rt.alloc(), block)? == want, "{len} bytes");
     }
     Ok(())
 }
