@@ -35,7 +35,10 @@ pub(crate) fn sought<P: Postings>(cursor: &mut P, target: DocId) -> DocId {
     if target > TERMINATED {
         return doc;
     }
-    if doc < TERMINATED && doc > target {
+    if doc >= TERMINATED {
+        return cursor.seek(target);
+    }
+    if doc > target {
         return doc;
     }
     cursor.seek(target)
