@@ -1,14 +1,12 @@
-ghost use Rattle.std.specs.Prelude.{◌≤◌};
+ghost use Rattle.std.specs.Prelude.{◌≡◌, [], false, length};
+ghost use Rattle.ii_termstore.specs.TermInfos.{term_info_from};
 
-use ascending_terms::AscendingTerms;
 use bytes::Bytes;
 use ii_io::{CountingWriter, FailingWriter, Fault, Part};
 use ii_termdict::written::reads_dictionary_back;
-use ii_termdict::{TermDictionary, TermDictionaryWriter, TermInfo, TermStreamer};
+use ii_termdict::{TermDictionary, TermDictionaryBuilder, TermDictionaryWriter, TermInfo};
 use std::alloc::Global;
 use std::test::Fail;
-
-mod ascending_terms;
 
 // One key, `a`, in 3 documents with 3 bytes of postings. A function, so that no proof looks inside.
 fn one() -> [u8; 73] {
@@ -28,28 +26,44 @@ fn changed(place: usize, byte: u8) -> [u8; 73] {
     bytes
 }
 
-// The key twice, over a store of no terms.
-fn twice() -> [u8; 42] {
+// Zeros with other bytes at some places.
+fn zeros_but(places: &[(usize, u8)]) -> [u8; 42] {
     let mut bytes = [0u8; 42];
-    for (place, byte) in [(0usize, 2u8), (8, 1), (16, 2), (24, 0x61), (25, 0x61)] {
-        if place < bytes.len() {
-            bytes[place] = byte;
+    for (place, byte) in places {
+        if *place < bytes.len() {
+            bytes[*place] = *byte;
         }
     }
     bytes
 }
 
-fn build(alloc: Global, failing_call: u64) -> (FailingWriter, Result<(), Fault>) {
-    let writer = CountingWriter::wrap(FailingWriter::new(alloc, failing_call));
-    let mut builder = AscendingTerms::new(alloc, writer);
-    let term = builder.write(b"a", 3, 3, 0);
-    let (writer, finished) = builder.finish();
-    (writer.finish(), term.and(finished))
+// What is kept of the key.
+fn info() -> TermInfo
+    ensures { result ≡ term_info_from 3 0 3 0 0 }
+{
+    TermInfo {
+        doc_freq: 3,
+        postings_range: 0..3,
+        positions_range: 0..0,
+    }
+}
+
+// Adds it.
+fn insert_one(builder: &mut TermDictionaryBuilder<FailingWriter>) -> Result<(), Fault>
+    requires fresh { (builder.old.keys ≡ []) × (builder.old.infos ≡ []) }
+    ensures whole { builder.new.closed ≡ false → length builder.new.keys ≡ length builder.new.infos }
+{
+    builder.insert_key(b"a")?;
+    builder.insert_value(&info())
 }
 
 // How many bytes of that dictionary are written where a call fails, if no others are, and the answer.
 fn ending(alloc: Global, failing_call: u64) -> (Option<usize>, Result<(), Fault>) {
-    let (writer, answer) = build(alloc, failing_call);
+    let writer = CountingWriter::wrap(FailingWriter::new(alloc, failing_call));
+    let mut builder = TermDictionaryBuilder::create(alloc, writer);
+    let term = insert_one(&mut builder);
+    let (writer, finished) = builder.finish();
+    let (writer, answer) = (writer.finish(), term.and(finished));
     if one().starts_with(writer.bytes()) {
         return (Some(writer.bytes().len()), answer);
     }
@@ -62,195 +76,66 @@ fn writes_one_key(rt: HostRuntime) {
     let mut failed = 0;
     for k in 1..20 {
         let (written, answer) = ending(rt.alloc(), k);
-        assert!(rt; written.is_some(), "call {k}");
-        if written == Some(73) {
-            assert!(rt; answer == Ok(()), "call {k}");
+        let want = if written == Some(73) {
+            Ok(())
         } else {
-            assert!(rt; answer == Err(Fault::Write), "call {k}");
             failed = k;
-        }
+            Err(Fault::Write)
+        };
+        assert!(rt; (written.is_some(), answer) == (true, want), "call {k}");
     }
     assert!(rt; 0 < failed && failed < 19);
-}
-
-// What is written of a dictionary without keys.
-fn built_of_none(alloc: Global) -> (Vec<u8>, Result<(), Fault>) {
-    let builder = AscendingTerms::new(alloc, CountingWriter::wrap(Vec::new(alloc)));
-    let (writer, finished) = builder.finish();
-    (writer.finish(), finished)
 }
 
 static NOTHING: [u8; 24] = [0; 24];
 
 #[test]
 fn writes_no_keys(rt: HostRuntime) {
-    let (bytes, finished) = built_of_none(rt.alloc());
-    assert!(rt; finished == Ok(()));
-    assert!(rt; bytes.as_slice() == NOTHING.as_slice());
-}
-
-// Key `i` of keys that ascend.
-fn numbered(i: u32) -> [u8; 4] {
-    i.to_be_bytes()
-}
-
-// What is kept of term `i`: its ranges join those of the term before.
-fn kept(i: u32) -> TermInfo
-    requires { i ≤ 1000000 }
-{
-    let start = 7 * i as usize;
-    TermInfo {
-        doc_freq: i % 1000,
-        postings_range: start..start + 7,
-        positions_range: 3 * start..3 * start + 21,
-    }
-}
-
-// Adds 100,000 of them, each two above the one before.
-fn write_many(builder: &mut AscendingTerms<Vec<u8>>) -> Result<(), Fault> {
-    for i in 0..100_000u32 {
-        builder.write(&numbered(2 * i + 1), i % 1000, 7, 21)?;
-    }
-    Ok(())
-}
-
-// The bytes of their dictionary.
-fn written_many(alloc: Global) -> Result<Vec<u8>, Fault> {
-    let mut builder = AscendingTerms::new(alloc, CountingWriter::wrap(Vec::new(alloc)));
-    let written = write_many(&mut builder);
+    let writer = CountingWriter::wrap(Vec::new(rt.alloc()));
+    let builder = TermDictionaryBuilder::create(rt.alloc(), writer);
     let (writer, finished) = builder.finish();
-    written.and(finished)?;
-    Ok(writer.finish())
+    let is_written = writer.finish().as_slice() == NOTHING.as_slice();
+    assert!(rt; (is_written, finished) == (true, Ok(())));
 }
 
-fn many(alloc: Global) -> Result<TermDictionary, Fault> {
-    TermDictionary::open(Bytes::from_vec(written_many(alloc)?)?)
-}
-
-// Whether term `i` is found under its key, and nothing under the one below.
-fn is_found(terms: &TermDictionary, i: u32) -> bool
-    requires { i ≤ 1000000 }
-{
-    if terms.get(&numbered(2 * i + 1)) != Some(kept(i)) {
-        return false;
-    }
-    terms.get(&numbered(2 * i)).is_none()
-}
-
-// Whether a stream goes on to term `i`.
-fn goes_on_to(stream: &mut TermStreamer<'_>, i: u32) -> bool
-    requires { i ≤ 1000000 }
-{
-    if !stream.advance() {
-        return false;
-    }
-    if stream.key() != numbered(2 * i + 1).as_slice() {
-        return false;
-    }
-    stream.value() == kept(i)
-}
-
-#[test]
-fn looks_a_hundred_thousand_keys_up(rt: HostRuntime) -> Result<(), Fail> {
-    let terms = many(rt.alloc())?;
-    assert!(rt; terms.num_terms() == 100_000);
-    let mut stream = terms.stream();
-    for i in 0..100_000u32 {
-        let found = (is_found(&terms, i), goes_on_to(&mut stream, i));
-        assert!(rt; found == (true, true), "term {i}");
-    }
-    assert!(rt; !stream.advance());
-    Ok(())
-}
-
-// Whether the key stands at place 0, and none at 1.
-fn has_one_place(terms: &TermDictionary, key: &mut Vec<u8>) -> Result<[bool; 4], Fault> {
+// Whether the key stands at place 0, and none at 1, in a buffer and by itself.
+fn has_one_place(terms: &TermDictionary, key: &mut Vec<u8>) -> Result<[bool; 5], Fault> {
     let first = terms.ord_to_term(0, key)?;
     let is_a = key.as_slice() == A.as_slice();
     let second = terms.ord_to_term(1, key)?;
-    Ok([first, is_a, !second, key.is_empty()])
-}
-
-// The key at a place, if there is one.
-fn key_of(terms: &TermDictionary, ord: u64) -> Option<&[u8]> {
-    if ord < terms.num_terms() as u64 {
-        Some(terms.key(ord))
-    } else {
-        None
-    }
-}
-
-// Whether a stream has one term.
-fn streams_one(terms: &TermDictionary) -> bool {
-    let mut stream = terms.stream();
-    if stream.next().is_none() {
-        return false;
-    }
-    !stream.advance()
+    let is_only = terms.num_terms() == 1 && terms.key(0) == A.as_slice();
+    Ok([first, is_a, !second, key.is_empty(), is_only])
 }
 
 static A: [u8; 1] = *b"a";
-
-static B: [u8; 1] = *b"b";
 
 // The dictionary of that key.
 fn dictionary(alloc: Global) -> Result<TermDictionary, Fault> {
     TermDictionary::open(Bytes::copy_from_slice(alloc, &one())?)
 }
 
-// What is kept of the keys `b`, the empty one and `a`.
-fn looked_up(terms: &TermDictionary) -> [Option<TermInfo>; 3] {
-    let (b, none) = (terms.get(&B), terms.get(&[]));
-    [b, none, terms.get(&A)]
-}
-
-// What is kept of the key.
-fn info() -> TermInfo {
-    TermInfo {
-        doc_freq: 3,
-        postings_range: 0..3,
-        positions_range: 0..0,
+// Where a stream has a first term: whether it goes on twice after that, whether its key is then still `a`, and
+// what is kept of it.
+fn streamed(terms: &TermDictionary) -> Option<([bool; 2], bool, TermInfo)> {
+    let mut stream = terms.stream();
+    if !stream.advance() {
+        return None;
     }
-}
-
-// Whether the key is at place 0, and none at place 1.
-fn has_one_key(terms: &TermDictionary) -> (bool, bool) {
-    let first = key_of(terms, 0) == Some(A.as_slice());
-    (first, key_of(terms, 1).is_none())
+    let goes_on = [stream.advance(), stream.next().is_some()];
+    let is_a = stream.key() == A.as_slice();
+    Some((goes_on, is_a, stream.value()))
 }
 
 #[test]
 fn looks_keys_up(rt: HostRuntime) -> Result<(), Fail> {
     let terms = dictionary(rt.alloc())?;
-    let (places, keys) = (
-        has_one_place(&terms, &mut Vec::new(rt.alloc())),
-        has_one_key(&terms),
-    );
-    assert!(rt; looked_up(&terms) == [None, None, Some(info())]);
-    assert!(rt; (places, keys) == (Ok([true; 4]), (true, true)));
-    assert!(rt; (terms.num_terms(), streams_one(&terms)) == (1, true));
+    let places = has_one_place(&terms, &mut Vec::new(rt.alloc()));
+    assert!(rt; places == Ok([true; 5]));
+    let infos = [terms.get(b"b"), terms.get(&[]), terms.get(&A)];
+    assert!(rt; infos == [None, None, Some(info())]);
+    assert!(rt; streamed(&terms) == Some(([false; 2], true, info())));
     assert!(rt; TermDictionary::empty().num_terms() == 0);
     reads_dictionary_back();
-    Ok(())
-}
-
-// Where a stream has a first term: how it goes on twice after that, whether its key is then still `a`,
-// and what is kept of it.
-fn stream_past_end(terms: &TermDictionary) -> Option<([bool; 2], bool, TermInfo)> {
-    let mut stream = terms.stream();
-    if !stream.advance() {
-        return None;
-    }
-    let second = stream.advance();
-    let third = stream.advance();
-    let is_a = stream.key() == A.as_slice();
-    Some(([second, third], is_a, stream.value()))
-}
-
-#[test]
-fn answers_the_last_term_after_the_end(rt: HostRuntime) -> Result<(), Fail> {
-    let terms = dictionary(rt.alloc())?;
-    assert!(rt; stream_past_end(&terms) == Some(([false, false], true, info())));
     Ok(())
 }
 
@@ -265,49 +150,48 @@ fn opened(alloc: Global, bytes: &[u8]) -> Result<usize, Fault> {
     Ok(terms.num_terms())
 }
 
-// That key over a store of no terms.
-fn without_terms() -> [u8; 33] {
-    let mut bytes = [0u8; 33];
-    for (place, byte) in [(0usize, 1u8), (8, 1), (16, 0x61)] {
-        if place < bytes.len() {
-            bytes[place] = byte;
-        }
-    }
-    bytes
-}
-
 #[test]
 fn refuses_damaged_dictionaries(rt: HostRuntime) {
-    let (keys, store) = (Part::Dictionary, Part::TermStore);
-    for (bytes, part) in [
+    let (keys, store) = (
+        Err(Fault::Damaged(Part::Dictionary)),
+        Err(Fault::Damaged(Part::TermStore)),
+    );
+    // the key twice, and once, over a store of no terms
+    let twice = zeros_but(&[(0, 2), (8, 1), (16, 2), (24, 0x61), (25, 0x61)]);
+    let without_terms = zeros_but(&[(0, 1), (8, 1), (16, 0x61)]);
+    for (bytes, want) in [
         (front(&NOTHING, 7), keys),
         (front(&NOTHING, 23), store),
         (front(&one(), 71), store),
-        (front(&twice(), 42), keys),
-        (front(&without_terms(), 33), keys),
+        (front(&twice, 42), keys),
+        (front(&without_terms, 33), keys),
+        (front(&NOTHING, 24), Ok(0)),
+        (front(&one(), 72), Ok(1)),
     ] {
-        assert!(rt; opened(rt.alloc(), bytes) == Err(Fault::Damaged(part)));
+        assert!(rt; opened(rt.alloc(), bytes) == want);
     }
-    assert!(rt; opened(rt.alloc(), &NOTHING) == Ok(0));
-    assert!(rt; opened(rt.alloc(), front(&one(), 72)) == Ok(1));
 }
 
 #[test]
 fn refuses_hostile_numbers(rt: HostRuntime) {
-    for (place, byte, part) in [
-        (70, 57, Part::TermStore),
-        (69, 33, Part::TermStore),
-        (7, 0x20, Part::Dictionary),
-        (7, 0xFF, Part::Dictionary),
-        (15, 0xFF, Part::Dictionary),
-        (24, 0xFF, Part::TermStore),
-        (32, 0xFF, Part::TermStore),
+    let (keys, store) = (
+        Err(Fault::Damaged(Part::Dictionary)),
+        Err(Fault::Damaged(Part::TermStore)),
+    );
+    for (place, byte, want) in [
+        (70, 57, store),
+        (69, 33, store),
+        (7, 0x20, keys),
+        (7, 0xFF, keys),
+        (15, 0xFF, keys),
+        (24, 0xFF, store),
+        (32, 0xFF, store),
+        (70, 56, Ok(1)),
+        (40, 0x20, Ok(1)),
     ] {
         let answer = opened(rt.alloc(), &changed(place, byte));
-        assert!(rt; answer == Err(Fault::Damaged(part)), "byte {place}");
+        assert!(rt; answer == want, "byte {place}");
     }
-    assert!(rt; opened(rt.alloc(), &changed(70, 56)) == Ok(1));
-    assert!(rt; opened(rt.alloc(), &changed(40, 0x20)) == Ok(1));
 }
 
 // A writer of a dictionary whose only key, `a`, has its value, and what it answers where the writer's
@@ -331,8 +215,9 @@ fn call_on(alloc: Global, failing_call: u64) -> Result<[Result<(), Fault>; 4], F
 #[test]
 fn each_call_can_be_made_after_a_refusal(rt: HostRuntime) -> Result<(), Fail> {
     let closed = Err(Fault::SerializerClosed);
-    assert!(rt; call_on(rt.alloc(), 0)? == [Ok(()), Ok(()), Ok(()), Ok(())]);
-    assert!(rt; call_on(rt.alloc(), 1)? == [Err(Fault::Write), closed, closed, closed]);
-    assert!(rt; call_on(rt.alloc(), 4)? == [Err(Fault::Write), closed, closed, closed]);
+    let refused = [Err(Fault::Write), closed, closed, closed];
+    for (call, want) in [(0, [Ok(()); 4]), (1, refused), (4, refused)] {
+        assert!(rt; call_on(rt.alloc(), call)? == want, "call {call}");
+    }
     Ok(())
 }

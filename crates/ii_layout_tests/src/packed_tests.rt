@@ -30,56 +30,6 @@ pub(crate) fn with_others(bytes: &[u8]) -> [u8; 640] {
     long
 }
 
-// Packs the block, and looks whether it is read back, as it stands and with other bytes after it.
-fn is_read_back(first: u32, step: u32, offset: u32) -> bool
-    requires low { first ≤ 100 }
-    requires forward { 0 < step }
-    requires short { step ≤ 100 }
-    requires after { 0 < offset → offset < first }
-{
-    let block = stepped(first, step);
-    let mut encoder = BlockEncoder::new();
-    let (width, bytes) = encoder.compress_block_sorted(&block, offset);
-    let long = with_others(bytes);
-    let mut decoder = BlockDecoder::default();
-    let mut all = decoder.try_uncompress_block_sorted(bytes, offset, width, true)
-        == Ok(bytes.len());
-    all &= decoder.output_array() == block.as_slice();
-    all &= decoder.try_uncompress_block_sorted(&long, offset, width, true) == Ok(bytes.len());
-    all && decoder.output_array() == block.as_slice()
-}
-
-#[test]
-fn sorted_blocks_are_read_back(rt: HostRuntime) {
-    assert!(rt; is_read_back(0, 7, 0));
-    assert!(rt; is_read_back(1, 7, 0));
-    assert!(rt; is_read_back(11, 7, 10));
-}
-
-// Whether a block is packed in a width as a byte and others, so many in all.
-fn is_packed(block: &[u32; 128], packed: (u8, usize), first: u8, others: u8) -> bool
-    requires { IsStrictlyIncreasing block.now }
-{
-    let mut encoder = BlockEncoder::new();
-    let (width, bytes) = encoder.compress_block_sorted(block, 0);
-    if (width, bytes.len()) != packed {
-        return false;
-    }
-    for (place, byte) in bytes.iter().enumerate() {
-        if *byte != (if place == 0 { first } else { others }) {
-            return false;
-        }
-    }
-    true
-}
-
-#[test]
-fn packs_sorted_blocks(rt: HostRuntime) {
-    assert!(rt; is_packed(&stepped(0, 2), (1, 16), 0xFE, 0xFF));
-    assert!(rt; is_packed(&stepped(1, 1), (1, 16), 1, 0));
-    assert!(rt; is_packed(&stepped(0, 1), (0, 0), 0, 0));
-}
-
 // The values that a decoder holds, and 0 after them.
 fn held(decoder: &BlockDecoder) -> [u32; 128] {
     let mut values = [0; 128];
@@ -91,47 +41,39 @@ fn held(decoder: &BlockDecoder) -> [u32; 128] {
     values
 }
 
-// What is read of bytes as a sorted block: how many they are, and all values.
-pub(crate) fn sorted_values(
-    bytes: &[u8],
-    offset: u32,
-    width: u8,
-    strict_delta: bool,
-) -> Option<(usize, [u32; 128])> {
+// What is read of bytes: how many they are, and all values; or the fault, and how many values are held then.
+pub(crate) type Read = Result<(usize, [u32; 128]), (LayoutFault, usize)>;
+
+// The same as a sorted block.
+pub(crate) fn sorted_values(bytes: &[u8], offset: u32, width: u8, strict_delta: bool) -> Read {
     let mut decoder = BlockDecoder::with_val(7);
     match decoder.try_uncompress_block_sorted(bytes, offset, width, strict_delta) {
-        Ok(used) => Some((used, held(&decoder))),
-        Err(_) => None,
+        Ok(used) => Ok((used, held(&decoder))),
+        Err(fault) => Err((fault, decoder.output_len())),
     }
 }
 
-// The same of an unsorted one.
-pub(crate) fn unsorted_values(
-    bytes: &[u8],
-    width: u8,
-    minus_one: bool,
-) -> Option<(usize, [u32; 128])> {
+// The same as an unsorted one.
+pub(crate) fn unsorted_values(bytes: &[u8], width: u8, minus_one: bool) -> Read {
     let mut decoder = BlockDecoder::with_val(7);
     match decoder.try_uncompress_block_unsorted(bytes, width, minus_one) {
-        Ok(used) => Some((used, held(&decoder))),
-        Err(_) => None,
+        Ok(used) => Ok((used, held(&decoder))),
+        Err(fault) => Err((fault, decoder.output_len())),
     }
 }
 
-#[test]
-fn unpacks_plain_deltas(rt: HostRuntime) {
-    let mut bytes = [0xAAu8; 33];
-    bytes[0] = 0xA8;
-    assert!(rt; sorted_values(&bytes, 0, 2, false) == Some((32, stepped(0, 2))));
-    assert!(rt; sorted_values(&bytes[..31], 0, 2, false) == None);
-}
-
-// Whether a block is packed as it stands in a width, and read back with other bytes after it.
-fn is_read_back_unsorted(block: &[u32; 128], width: u8) -> bool {
+// In what width a block is packed, in how many bytes, and whether it is read back of these and of others after
+// them.
+fn packed(block: &[u32; 128], offset: u32) -> (u8, usize, bool)
+    requires ascending { IsStrictlyIncreasing block.now }
+    requires after { 0 < offset → offset < slice_index block.now 0 }
+{
     let mut encoder = BlockEncoder::new();
-    let (num_bits, bytes) = encoder.compress_block_unsorted(block, false);
-    let found = unsorted_values(&with_others(bytes), num_bits, false);
-    num_bits == width && found == Some((bytes.len(), *block))
+    let (width, bytes) = encoder.compress_block_sorted(block, offset);
+    let read = Ok((bytes.len(), *block));
+    let mut same = sorted_values(bytes, offset, width, true) == read;
+    same &= sorted_values(&with_others(bytes), offset, width, true) == read;
+    (width, bytes.len(), same)
 }
 
 // Whether 128 threes are packed less one in two bits, and read back with other bytes after them.
@@ -141,96 +83,117 @@ fn threes_are_read_back() -> bool {
     let (num_bits, bytes) = encoder.compress_block_unsorted(&threes, true);
     let are_packed = num_bits == 2 && bytes == [0xAA; 32].as_slice();
     let long = with_others(bytes);
-    let as_they_stand = unsorted_values(&long, 2, false) == Some((32, [2; 128]));
-    are_packed && as_they_stand && unsorted_values(&long, 2, true) == Some((32, threes))
+    let as_they_stand = unsorted_values(&long, 2, false) == Ok((32, [2; 128]));
+    are_packed && as_they_stand && unsorted_values(&long, 2, true) == Ok((32, threes))
 }
 
 #[test]
-fn unsorted_blocks_are_read_back(rt: HostRuntime) {
-    let mut block = [0u32; 128];
-    for k in 0..128u32 {
-        block[k as usize] = 11 + 7 * k % 12;
-    }
-    assert!(rt; is_read_back_unsorted(&block, 5));
-    assert!(rt; threes_are_read_back());
+fn blocks_are_read_back(rt: HostRuntime) {
+    let blocks = [
+        packed(&stepped(0, 1), 0),
+        packed(&stepped(1, 1), 0),
+        packed(&stepped(0, 2), 0),
+        packed(&stepped(0, 7), 0),
+        packed(&stepped(11, 7), 10),
+    ];
+    let want = [
+        (0, 0, true),
+        (1, 16, true),
+        (1, 16, true),
+        (3, 48, true),
+        (3, 48, true),
+    ];
+    assert!(rt; (blocks, threes_are_read_back()) == (want, true));
 }
+
+// Even numbers from 0 on, and all numbers from 1 on, by strict deltas, and the former by plain ones.
+static STRICT: [[u8; 16]; 2] = [
+    [
+        0xFE, 0xFF, 0xFF, 0xFF, 0xFF, 0xFF, 0xFF, 0xFF, 0xFF, 0xFF, 0xFF, 0xFF, 0xFF, 0xFF, 0xFF,
+        0xFF,
+    ],
+    [1, 0, 0, 0, 0, 0, 0, 0, 0, 0, 0, 0, 0, 0, 0, 0],
+];
 
 #[test]
-fn refuses_what_is_no_block(rt: HostRuntime) {
-    let bytes = [0xFFu8; 528];
-    assert!(rt; unsorted_values(&bytes, 32, false) == Some((512, [u32::MAX; 128])));
-    assert!(rt; unsorted_values(&bytes, 32, true) == None);
-    assert!(rt; unsorted_values(&bytes, 33, false) == None);
-    assert!(rt; unsorted_values(&bytes[..511], 32, false) == None);
-    assert!(rt; sorted_values(&bytes, u32::MAX, 1, false) == None);
-    assert!(rt; sorted_values(&bytes, u32::MAX, 0, false) == Some((0, [u32::MAX; 128])));
+fn blocks_are_read(rt: HostRuntime) {
+    let mut plain = [0xAAu8; 33];
+    plain[0] = 0xA8;
+    let full = [0xFFu8; 528];
+    let documents = Err((LayoutFault::Damaged(Part::Documents), 0));
+    let sorted = [
+        sorted_values(&STRICT[0], 0, 1, true),
+        sorted_values(&STRICT[1], 0, 1, true),
+        sorted_values(&plain, 0, 2, false),
+        sorted_values(&full, u32::MAX, 0, false),
+        // too few bytes, and values above 32 bits
+        sorted_values(&plain[..31], 0, 2, false),
+        sorted_values(&[0; 15], 0, 1, true),
+        sorted_values(&full, u32::MAX, 1, false),
+    ];
+    let even = Ok((16, stepped(0, 2)));
+    let most = [u32::MAX; 128];
+    assert!(rt; [sorted[0], sorted[1]] == [even, Ok((16, stepped(1, 1)))]);
+    assert!(rt; [sorted[2], sorted[3]] == [Ok((32, stepped(0, 2))), Ok((0, most))]);
+    assert!(rt; [sorted[4], sorted[5], sorted[6]] == [documents; 3]);
+    let frequencies = Err((LayoutFault::Damaged(Part::Frequencies), 0));
+    assert!(rt; unsorted_values(&full, 32, false) == Ok((512, most)));
+    let refused = [
+        unsorted_values(&full, 32, true),
+        unsorted_values(&full, 33, false),
+        unsorted_values(&full[..511], 32, false),
+    ];
+    assert!(rt; refused == [frequencies; 3]);
 }
 
-// The fault of a block that is refused, if nothing is held then.
-fn sorted_fault(bytes: &[u8], width: u8) -> Option<LayoutFault> {
-    let mut decoder = BlockDecoder::with_val(7);
-    match decoder.try_uncompress_block_sorted(bytes, 0, width, true) {
-        Err(fault) if decoder.output_len() == 0 => Some(fault),
-        _ => None,
-    }
-}
-
-// The same of an unsorted one.
-fn unsorted_fault(bytes: &[u8], width: u8) -> Option<LayoutFault> {
-    let mut decoder = BlockDecoder::with_val(7);
-    match decoder.try_uncompress_block_unsorted(bytes, width, false) {
-        Err(fault) if decoder.output_len() == 0 => Some(fault),
-        _ => None,
-    }
-}
-
-#[test]
-fn refused_blocks_leave_nothing(rt: HostRuntime) {
-    let documents = Some(LayoutFault::Damaged(Part::Documents));
-    assert!(rt; sorted_fault(&[0; 15], 1) == documents);
-    let frequencies = Some(LayoutFault::Damaged(Part::Frequencies));
-    assert!(rt; unsorted_fault(&[0xFF; 528], 33) == frequencies);
-}
-
-// A block that may be read is read without a test, as often as it is asked for.
-fn sorted_again(bytes: &[u8], width: u8) -> Option<(usize, [u32; 128])> {
+// What is read again, without a test, of blocks that may be read: a sorted one, and an unsorted one.
+fn read_again(sorted: &[u8], unsorted: &[u8]) -> Option<[(usize, [u32; 128]); 2]> {
     let mut decoder = BlockDecoder::default();
-    let Ok(_) = decoder.try_uncompress_block_sorted(bytes, 0, width, true) else {
+    let Ok(_) = decoder.try_uncompress_block_sorted(sorted, 0, 0, true) else {
         return None;
     };
-    let used = decoder.uncompress_block_sorted(bytes, 0, width, true);
-    Some((used, held(&decoder)))
-}
-
-// The same of an unsorted one.
-fn unsorted_again(bytes: &[u8], width: u8) -> Option<(usize, [u32; 128])> {
-    let mut decoder = BlockDecoder::default();
-    let Ok(_) = decoder.try_uncompress_block_unsorted(bytes, width, true) else {
+    let used = decoder.uncompress_block_sorted(sorted, 0, 0, true);
+    let first = (used, held(&decoder));
+    let Ok(_) = decoder.try_uncompress_block_unsorted(unsorted, 2, true) else {
         return None;
     };
-    let used = decoder.uncompress_block_unsorted(bytes, width, true);
-    Some((used, held(&decoder)))
+    let used = decoder.uncompress_block_unsorted(unsorted, 2, true);
+    Some([first, (used, held(&decoder))])
 }
 
 #[test]
 fn blocks_are_read_again(rt: HostRuntime) {
-    assert!(rt; sorted_again(&[], 0) == Some((0, stepped(0, 1))));
-    assert!(rt; unsorted_again(&[0xAA; 32], 2) == Some((32, [3; 128])));
+    let read = [(0, stepped(0, 1)), (32, [3; 128])];
+    assert!(rt; read_again(&[], &[0xAA; 32]) == Some(read));
 }
 
 #[test]
 fn tells_the_last_value_by_the_sum(rt: HostRuntime) {
     let mut bytes = [0u8; 16];
-    assert!(rt; last_of_sorted_block(&[], 0, 0, true) == Some(127));
-    assert!(rt; last_of_sorted_block(&[], 5, 0, true) == Some(133));
-    assert!(rt; last_of_sorted_block(&[], 5, 0, false) == Some(5));
     bytes[0] = 1;
-    assert!(rt; last_of_sorted_block(&bytes, 0, 1, true) == Some(128));
-    assert!(rt; last_of_sorted_block(&bytes, u32::MAX - 1, 1, false) == Some(u32::MAX));
-    assert!(rt; last_of_sorted_block(&bytes, u32::MAX, 1, false) == None);
-    assert!(rt; last_of_sorted_block(&bytes[..15], 0, 1, true) == None);
-    assert!(rt; last_of_sorted_block(&[0; 600], 0, 33, true) == None);
     let mut plain = [0xAAu8; 40];
     plain[0] = 0xA8;
-    assert!(rt; last_of_sorted_block(&plain, 0, 2, false) == Some(254));
+    let found = [
+        last_of_sorted_block(&[], 0, 0, true),
+        last_of_sorted_block(&[], 5, 0, true),
+        last_of_sorted_block(&[], 5, 0, false),
+        last_of_sorted_block(&bytes, 0, 1, true),
+        last_of_sorted_block(&bytes, u32::MAX - 1, 1, false),
+        last_of_sorted_block(&plain, 0, 2, false),
+        last_of_sorted_block(&bytes, u32::MAX, 1, false),
+        last_of_sorted_block(&bytes[..15], 0, 1, true),
+        last_of_sorted_block(&[0; 600], 0, 33, true),
+    ];
+    let last = [
+        Some(127),
+        Some(133),
+        Some(5),
+        Some(128),
+        Some(u32::MAX),
+        Some(254),
+        None,
+        None,
+        None,
+    ];
+    assert!(rt; found == last);
 }

@@ -53,112 +53,82 @@ fn block(alloc: Global, mode: IndexRecordOption) -> Result<Vec<u8>, Fault> {
     Ok(output.finish())
 }
 
-static BASIC_BLOCK: [u8; 6] = [0x85, 0x7F, 0, 0, 0, 0x40];
+static COUNTS_BEGIN: [u8; 9] = [0x88, 0x7F, 0, 0, 0, 0x40, 2, 0, 0];
+
+// How blocks of each mode begin, and how long they are.
+static BLOCKS: [(IndexRecordOption, &[u8], usize); 3] = [
+    (IndexRecordOption::Basic, &[0x85, 0x7F, 0, 0, 0, 0x40], 6),
+    (
+        IndexRecordOption::WithFreqs,
+        &[0x88, 0x7F, 0, 0, 0, 0x40, 2, 0, 0, 0xAA],
+        41,
+    ),
+    (
+        IndexRecordOption::WithFreqsAndPositions,
+        &[0x8C, 0x7F, 0, 0, 0, 0x40, 2, 0x80, 1, 0, 0, 0, 0, 0xAA],
+        45,
+    ),
+];
 
 #[test]
 fn blocks_are_written(rt: HostRuntime) -> Result<(), Fail> {
-    let bytes = block(rt.alloc(), IndexRecordOption::Basic)?;
-    assert!(rt; bytes.as_slice() == BASIC_BLOCK.as_slice());
+    for (mode, begin, len) in &BLOCKS {
+        let bytes = block(rt.alloc(), *mode)?;
+        assert!(rt;
+            bytes.starts_with(begin) && bytes.len() == *len,
+            "{len} bytes"
+        );
+    }
     reads_documents_back();
     reads_postings_back();
     reads_uncounted_back();
     Ok(())
 }
 
-// Whether bytes begin so, have 0xAA after that, and are so many in all.
-fn is_filled(bytes: &[u8], front: &[u8], len: usize) -> bool {
-    if bytes.len() != len || !bytes.starts_with(front) {
-        return false;
-    }
-    let mut all = true;
-    for byte in bytes.iter().skip(front.len()) {
-        all &= *byte == 0xAA;
-    }
-    all
-}
-
-// Whether such a block is written of 128 documents.
-fn is_block(
-    alloc: Global,
-    mode: IndexRecordOption,
-    front: &[u8],
-    len: usize,
-) -> Result<bool, Fault> {
-    Ok(is_filled(&block(alloc, mode)?, front, len))
-}
-
-static COUNTS_BEGIN: [u8; 9] = [0x88, 0x7F, 0, 0, 0, 0x40, 2, 0, 0];
-
-static POSITIONS_BEGIN: [u8; 13] = [0x8C, 0x7F, 0, 0, 0, 0x40, 2, 0x80, 1, 0, 0, 0, 0];
-
-#[test]
-fn counts_of_a_block_are_written(rt: HostRuntime) {
-    let counts = is_block(rt.alloc(), IndexRecordOption::WithFreqs, &COUNTS_BEGIN, 41);
-    assert!(rt; counts == Ok(true));
-    let mode = IndexRecordOption::WithFreqsAndPositions;
-    assert!(rt; is_block(rt.alloc(), mode, &POSITIONS_BEGIN, 45) == Ok(true));
-}
-
-// How writing 130 documents ends where a call fails, and what is written.
-fn failing(
-    alloc: Global,
-    mode: IndexRecordOption,
-    failing_call: u64,
-) -> (FailingWriter, Result<(), Fault>) {
-    let mut output = CountingWriter::wrap(FailingWriter::new(alloc, failing_call));
-    let answer = write_below(alloc, mode, 130, &mut output);
-    (output.finish(), answer)
-}
-
-// The same, with how many bytes are written, if those are the first of these.
+// How writing 130 documents ends where a call fails, and how many bytes are written, if those are the first of
+// these.
 fn told_of_failing(
     alloc: Global,
     mode: IndexRecordOption,
     failing_call: u64,
     right: &[u8],
 ) -> (Result<(), Fault>, Option<usize>) {
-    let (writer, answer) = failing(alloc, mode, failing_call);
+    let mut output = CountingWriter::wrap(FailingWriter::new(alloc, failing_call));
+    let answer = write_below(alloc, mode, 130, &mut output);
+    let writer = output.finish();
     if !right.starts_with(writer.bytes()) {
         return (answer, None);
     }
     (answer, Some(writer.bytes().len()))
 }
 
-static WRITTEN: [u8; 8] = [0x85, 0x7F, 0, 0, 0, 0x40, 0x81, 0x81];
-
 #[test]
 fn a_failing_writer_is_told(rt: HostRuntime) {
-    let mode = IndexRecordOption::Basic;
-    for (k, written) in [(1, 0), (2, 1), (3, 6)] {
-        let told = told_of_failing(rt.alloc(), mode, k, &WRITTEN);
-        assert!(rt; told == (Err(Fault::Write), Some(written)), "call {k}");
-    }
-    for k in 4..6 {
-        let told = told_of_failing(rt.alloc(), mode, k, &WRITTEN);
-        assert!(rt; told == (Ok(()), Some(8)), "call {k}");
-    }
-}
-
-static COUNTS_END: [u8; 4] = [0x81, 0x81, 0x83, 0x83];
-
-// What is written of them with counts.
-fn written_with_counts() -> [u8; 45] {
-    let mut right = [0xAA; 45];
-    right[..9].copy_from_slice(&COUNTS_BEGIN);
-    right[41..].copy_from_slice(&COUNTS_END);
-    right
-}
-
-#[test]
-fn a_failing_writer_is_told_with_counts(rt: HostRuntime) {
-    let (mode, right) = (IndexRecordOption::WithFreqs, written_with_counts());
-    for (k, written) in [(1, 0), (2, 1), (3, 9), (4, 41), (5, 43)] {
-        let told = told_of_failing(rt.alloc(), mode, k, &right);
-        assert!(rt; told == (Err(Fault::Write), Some(written)), "call {k}");
-    }
-    for k in 6..8 {
-        let told = told_of_failing(rt.alloc(), mode, k, &right);
-        assert!(rt; told == (Ok(()), Some(45)), "call {k}");
+    let mut counted = [0xAA; 45];
+    counted[..9].copy_from_slice(&COUNTS_BEGIN);
+    counted[41..].copy_from_slice(&[0x81, 0x81, 0x83, 0x83]);
+    let rows: [(IndexRecordOption, &[u8], &[usize]); 2] = [
+        (
+            IndexRecordOption::Basic,
+            &[0x85, 0x7F, 0, 0, 0, 0x40, 0x81, 0x81],
+            &[8, 0, 1, 6, 8, 8],
+        ),
+        (
+            IndexRecordOption::WithFreqs,
+            &counted,
+            &[45, 0, 1, 9, 41, 43, 45, 45],
+        ),
+    ];
+    for (mode, right, lens) in rows {
+        for (k, len) in lens.iter().enumerate() {
+            let answer = if *len < right.len() {
+                Err(Fault::Write)
+            } else {
+                Ok(())
+            };
+            let told = told_of_failing(rt.alloc(), mode, k as u64, right);
+            assert!(rt; told == (answer, Some(*len)), "call {k}");
+        }
     }
 }
 
@@ -221,13 +191,6 @@ fn answers_to_sum(alloc: Global) -> Result<[Result<(), Fault>; 2], Fault> {
     Ok([sum, serializer.write_doc(128, 1)])
 }
 
-#[test]
-fn a_sum_of_counts_above_32_bits_is_refused(rt: HostRuntime) -> Result<(), Fail> {
-    let limit = Err(Fault::Limit(LimitName::BlockFrequencySum));
-    assert!(rt; answers_to_sum(rt.alloc())? == [limit, Err(Fault::SerializerClosed)]);
-    Ok(())
-}
-
 // What a field answers to 128 documents with a count each.
 fn answer_to_block(alloc: Global, mode: IndexRecordOption, term_freq: u32) -> Result<(), Fault>
     requires { 0 < term_freq }
@@ -237,11 +200,17 @@ fn answer_to_block(alloc: Global, mode: IndexRecordOption, term_freq: u32) -> Re
 }
 
 #[test]
-fn other_sums_are_taken(rt: HostRuntime) {
+fn a_sum_of_counts_above_32_bits_is_refused(rt: HostRuntime) -> Result<(), Fail> {
+    let limit = Err(Fault::Limit(LimitName::BlockFrequencySum));
+    assert!(rt; answers_to_sum(rt.alloc())? == [limit, Err(Fault::SerializerClosed)]);
+    // one below it, and one in a field without positions
     let mode = IndexRecordOption::WithFreqsAndPositions;
-    assert!(rt; answer_to_block(rt.alloc(), mode, 33_554_431) == Ok(()));
-    let mode = IndexRecordOption::WithFreqs;
-    assert!(rt; answer_to_block(rt.alloc(), mode, 33_554_432) == Ok(()));
+    let other = [
+        answer_to_block(rt.alloc(), mode, 33_554_431),
+        answer_to_block(rt.alloc(), IndexRecordOption::WithFreqs, 33_554_432),
+    ];
+    assert!(rt; other == [Ok(()); 2]);
+    Ok(())
 }
 
 // What is answered to a document, to the end of its term at which the writer fails, and to five calls
@@ -293,12 +262,6 @@ fn write_entry(
     skip.write_blockwand_max(bound.0, bound.1)
 }
 
-// Writes two entries with counts and bounds.
-fn write_bounded(skip: &mut SkipSerializer) -> Result<(), Fault> {
-    write_entry(skip, (1, 2), 3, (13, 3))?;
-    write_entry(skip, (5, 5), 2, (8, 2))
-}
-
 static TWO_ENTRIES: [u8; 10] = [1, 0, 0, 0, 0x42, 5, 0, 0, 0, 0x45];
 
 static BOUNDED_ENTRIES: [u8; 16] = [1, 0, 0, 0, 0x42, 3, 0x0D, 3, 5, 0, 0, 0, 0x45, 2, 8, 2];
@@ -313,7 +276,8 @@ fn written_entries(skip: &mut SkipSerializer) -> Result<(bool, usize, [bool; 2])
     let two = skip.data() == TWO_ENTRIES.as_slice();
     skip.clear();
     let left = skip.data().len();
-    write_bounded(skip)?;
+    write_entry(skip, (1, 2), 3, (13, 3))?;
+    write_entry(skip, (5, 5), 2, (8, 2))?;
     let bounded = skip.data() == BOUNDED_ENTRIES.as_slice();
     skip.clear();
     skip.write_total_term_freq(384)?;
@@ -332,12 +296,15 @@ fn skip_entries_are_written(rt: HostRuntime) -> Result<(), Fail> {
 
 #[test]
 fn widths_and_bounds_have_bytes(rt: HostRuntime) {
-    assert!(rt; encode_block_wand_max_tf(254) == 254);
-    assert!(rt; encode_bitwidth(5, false) == 5);
-    assert!(rt; (encode_bitwidth(2, true), encode_bitwidth(2, false)) == (0x42, 2));
-    assert!(rt; decode_block_wand_max_tf(255) == u32::MAX);
-    assert!(rt; decode_bitwidth(0x45) == (5, true));
-    assert!(rt; decode_bitwidth(0x9F) == (31, false));
+    let widths = [
+        encode_bitwidth(5, false),
+        encode_bitwidth(2, true),
+        encode_bitwidth(2, false),
+    ];
+    assert!(rt; widths == [5, 0x42, 2]);
+    assert!(rt; [decode_bitwidth(0x45), decode_bitwidth(0x9F)] == [(5, true), (31, false)]);
+    let counts = [decode_block_wand_max_tf(254), decode_block_wand_max_tf(255)];
+    assert!(rt; (encode_block_wand_max_tf(254), counts) == (254, [254, u32::MAX]));
 }
 
 // The last document of a block and of the one before it, and where its bytes begin.
@@ -365,38 +332,6 @@ fn read_entries() -> ([(DocId, DocId, usize); 4], [BlockInfo; 4]) {
     )
 }
 
-#[test]
-fn skip_entries_are_read(rt: HostRuntime) {
-    let ([first, second, third, fourth], infos) = read_entries();
-    assert!(rt; (first, second) == ((1, 0, 0), (5, 1, 32)));
-    assert!(rt; (third.0, third.2, fourth.2) == (TERMINATED, 112, usize::MAX));
-    assert!(rt;
-        infos
-            == [
-                BlockInfo::VInt { num_docs: 3 },
-                BlockInfo::default(),
-                BlockInfo::VInt { num_docs: 0 },
-                BlockInfo::VInt { num_docs: 7 }
-            ]
-    );
-    assert!(rt; decode_block_wand_max_tf(254) == 254);
-}
-
-static ONE_ENTRY: [u8; 5] = [1, 0, 0, 0, 0x42];
-
-// The last document of one block, and what stands behind it.
-fn read_full_block() -> (DocId, BlockInfo) {
-    let mut skip = SkipReader::new(&ONE_ENTRY, 128, IndexRecordOption::Basic);
-    let last = skip.last_doc_in_block();
-    skip.advance(&ONE_ENTRY);
-    (last, skip.block_info())
-}
-
-#[test]
-fn no_documents_follow_one_full_block(rt: HostRuntime) {
-    assert!(rt; read_full_block() == (1, BlockInfo::VInt { num_docs: 0 }));
-}
-
 // What two blocks with counts are told as, and what then three ends.
 fn read_counted() -> ([(DocId, DocId, usize); 3], [BlockInfo; 3]) {
     let mut skip = SkipReader::new(&BOUNDED_ENTRIES, 259, IndexRecordOption::WithFreqs);
@@ -412,18 +347,31 @@ fn read_counted() -> ([(DocId, DocId, usize); 3], [BlockInfo; 3]) {
 }
 
 #[test]
+fn skip_entries_are_read(rt: HostRuntime) {
+    let ([first, second, third, fourth], infos) = read_entries();
+    let behind = (third.0, third.2, fourth.2);
+    assert!(rt; [first, second] == [(1, 0, 0), (5, 1, 32)]);
+    assert!(rt; behind == (TERMINATED, 112, usize::MAX));
+    let ends = [
+        BlockInfo::VInt { num_docs: 3 },
+        BlockInfo::default(),
+        BlockInfo::VInt { num_docs: 0 },
+        BlockInfo::VInt { num_docs: 7 },
+    ];
+    assert!(rt; infos == ends);
+}
+
+#[test]
 fn entries_with_counts_are_read(rt: HostRuntime) {
     let ([first, second, third], infos) = read_counted();
-    assert!(rt; (first.0, first.2, second.0, second.2) == (1, 0, 5, 80));
-    assert!(rt; third.2 == 192);
-    assert!(rt;
-        infos
-            == [
-                BlockInfo::VInt { num_docs: 3 },
-                BlockInfo::VInt { num_docs: 0 },
-                BlockInfo::VInt { num_docs: 0 }
-            ]
-    );
+    let places = [first.0, second.0];
+    assert!(rt; (places, [first.2, second.2, third.2]) == ([1, 5], [0, 80, 192]));
+    let ends = [
+        BlockInfo::VInt { num_docs: 3 },
+        BlockInfo::VInt { num_docs: 0 },
+        BlockInfo::VInt { num_docs: 0 },
+    ];
+    assert!(rt; infos == ends);
 }
 
 static LONG_LIST: [u8; 14] = [0x8C, 0x7F, 0, 0, 0, 0x40, 2, 0x80, 1, 0, 0, 0, 0, 0xAA];

@@ -1,5 +1,4 @@
-ghost use Rattle.std.specs.Prelude.{ℕ, ◌≡◌, ◌≤◌, drop, take, Some, IsSome};
-ghost use Rattle.ii_codes.specs.Sums.{DoNotFall};
+ghost use Rattle.std.specs.Prelude.{◌≡◌, ◌≤◌, drop, take, Some, IsSome};
 ghost use Rattle.ii_codes.specs.UnsortedVints.{u32s_until_end};
 ghost use Rattle.ii_io.specs.Vints.{u32s_at};
 
@@ -8,74 +7,68 @@ use ii_codes::vint::{
 };
 use ii_codes::{BlockDecoder, BlockEncoder, VIntDecoder, VIntEncoder};
 use ii_io::{LayoutFault, Part};
-use std::test::Fail;
 
-// 4, 7, 11, 14, ..: each three and a half above the one before it, in whole numbers.
-fn values() -> [u32; 123]
-    ensures { (offset : ℕ) → offset ≤ 4 → DoNotFall offset result }
-{
-    let mut values = [0u32; 123];
-    for k in 0..123u8 {
-        values[usize::from(k)] = 4 + u32::from(k) * 7 / 2;
-    }
-    values
-}
-
-// Writes the values after an offset, reads them back, and looks at the padding.
-fn is_read_back(offset: u32) -> bool
-    requires { offset ≤ 4 }
-{
-    let values = values();
-    let mut encoder = BlockEncoder::new();
-    let bytes = encoder.compress_vint_sorted(&values, offset);
-    let mut decoder = BlockDecoder::default();
-    let used = decoder.try_uncompress_vint_sorted(bytes, offset, 123, 234_234_345);
-    let all = decoder.output_array() == values.as_slice();
-    let padded = decoder.output(123) == 234_234_345 && decoder.output(127) == 234_234_345;
-    bytes.len() <= 154 && used == Ok(bytes.len()) && all && padded
+// The first four values of a decoder, the padding behind those that it holds included, and the last one.
+fn first_four(decoder: &BlockDecoder) -> ([u32; 4], u32) {
+    let first = [
+        decoder.output(0),
+        decoder.output(1),
+        decoder.output(2),
+        decoder.output(3),
+    ];
+    (first, decoder.output(127))
 }
 
 #[test]
 fn encodes_sorted_vints(rt: HostRuntime) {
-    assert!(rt; is_read_back(0));
-    assert!(rt; is_read_back(1));
-    assert!(rt; is_read_back(2));
-    let mut buffer = [0u8; 15];
-    assert!(rt; compress_sorted(&[0, 2, 10], &mut buffer, 0) == [0x80, 0x82, 0x88].as_slice());
+    let written = [0x80, 0x82, 0x88];
+    assert!(rt; compress_sorted(&[0, 2, 10], &mut [0u8; 15], 0) == written.as_slice());
+    let mut encoder = BlockEncoder::new();
+    let bytes = encoder.compress_vint_sorted(&[0, 2, 10], 0);
+    assert!(rt; bytes == written.as_slice());
+    let mut decoder = BlockDecoder::default();
+    let used = decoder.try_uncompress_vint_sorted(bytes, 1, 3, 234_234_345);
+    let padding = 234_234_345;
+    assert!(rt; (used, decoder.output_len()) == (Ok(3), 3));
+    assert!(rt; first_four(&decoder) == ([1, 3, 11, padding], padding));
 }
+
+// Differences of each length, and their sums.
+static DIFFERENCES: [u32; 8] = [
+    127,
+    128,
+    16_383,
+    16_384,
+    2_097_151,
+    2_097_152,
+    268_435_455,
+    268_435_456,
+];
+
+static SUMS: [u32; 8] = [
+    127,
+    255,
+    16_638,
+    33_022,
+    2_130_173,
+    4_227_325,
+    272_662_780,
+    541_098_236,
+];
 
 #[test]
 fn sums_up_vints_of_each_length(rt: HostRuntime) {
-    let differences = [
-        127,
-        128,
-        16_383,
-        16_384,
-        2_097_151,
-        2_097_152,
-        268_435_455,
-        268_435_456,
-    ];
     let mut encoder = BlockEncoder::new();
-    let bytes = encoder.compress_vint_unsorted(&differences);
-    assert!(rt; bytes.len() == 24);
+    let bytes = encoder.compress_vint_unsorted(&DIFFERENCES);
     let mut decoder = BlockDecoder::default();
-    assert!(rt; decoder.try_uncompress_vint_sorted(bytes, 0, 8, 0) == Ok(24));
-    let sums = [
-        127,
-        255,
-        16_638,
-        33_022,
-        2_130_173,
-        4_227_325,
-        272_662_780,
-        541_098_236,
-    ];
-    assert!(rt; decoder.output_array() == sums.as_slice());
-    let refused = decoder.try_uncompress_vint_sorted(bytes, u32::MAX - 541_098_235, 8, 0);
-    assert!(rt; refused == Err(LayoutFault::Damaged(Part::Documents)));
-    assert!(rt; decoder.try_uncompress_vint_sorted(bytes, u32::MAX - 541_098_236, 8, 0) == Ok(24));
-    assert!(rt; decoder.output(7) == u32::MAX);
+    let used = decoder.try_uncompress_vint_sorted(bytes, 0, 8, 0);
+    assert!(rt; (used, bytes.len()) == (Ok(24), 24));
+    assert!(rt; decoder.output_array() == SUMS.as_slice());
+    // up to the greatest number, and past it
+    let most = decoder.try_uncompress_vint_sorted(bytes, u32::MAX - 541_098_236, 8, 0);
+    assert!(rt; (most, decoder.output(7)) == (Ok(24), u32::MAX));
+    let past = decoder.try_uncompress_vint_sorted(bytes, u32::MAX - 541_098_235, 8, 0);
+    assert!(rt; past == Err(LayoutFault::Damaged(Part::Documents)));
 }
 
 #[test]
@@ -83,33 +76,39 @@ fn encodes_unsorted_vints(rt: HostRuntime) {
     let mut encoder = BlockEncoder::new();
     assert!(rt; encoder.compress_vint_unsorted(&[1, 2, 3]) == [0x81, 0x82, 0x83].as_slice());
     let bytes = encoder.compress_vint_unsorted(&[u32::MAX; 128]);
-    assert!(rt; bytes.len() == 640);
     let mut decoder = BlockDecoder::default();
-    assert!(rt; decoder.try_uncompress_vint_unsorted(bytes, 128, 0) == Ok(640));
+    let used = decoder.try_uncompress_vint_unsorted(bytes, 128, 0);
+    assert!(rt; (used, bytes.len()) == (Ok(640), 640));
     assert!(rt; decoder.output_array() == [u32::MAX; 128].as_slice());
-    let refused = decoder.try_uncompress_vint_unsorted(&[0x81, 0x7F], 2, 0);
-    assert!(rt; refused == Err(LayoutFault::Damaged(Part::Frequencies)));
-    assert!(rt; decoder.output_len() == 0);
-    assert!(rt; decoder.try_uncompress_vint_unsorted(&[0x81, 0x7F], 1, 9) == Ok(1));
-    assert!(rt; (decoder.output(0), decoder.output(127)) == (1, 9));
+    let cut = decoder.try_uncompress_vint_unsorted(&[0x81, 0x7F], 2, 0);
+    let refused = Err(LayoutFault::Damaged(Part::Frequencies));
+    assert!(rt; (cut, decoder.output_len()) == (refused, 0));
+    let first = decoder.try_uncompress_vint_unsorted(&[0x81, 0x7F], 1, 9);
+    assert!(rt; (first, first_four(&decoder)) == (Ok(1), ([1, 9, 9, 9], 9)));
 }
+
+// All vints of bytes, at most 128 of them, and how it ends where there are none up to their end.
+static UNTIL_END: [(&[u8], Result<(), LayoutFault>, &[u32]); 4] = [
+    (&[0x83, 0x00, 0x82, 0x80], Ok(()), &[3, 256, 0]),
+    (
+        &[0x83, 0x00],
+        Err(LayoutFault::Damaged(Part::Positions)),
+        &[],
+    ),
+    (&[0x81; 200], Ok(()), &[1; 128]),
+    (&[], Ok(()), &[]),
+];
 
 #[test]
 fn decodes_unsorted_vints_until_the_end(rt: HostRuntime) {
     let mut decoder = BlockDecoder::with_val(5);
-    assert!(rt;
-        decoder.try_uncompress_vint_unsorted_until_end(&[0x83, 0x00, 0x82, 0x80]) == Ok(())
-    );
-    assert!(rt; decoder.output_array() == [3, 256, 0].as_slice());
-    assert!(rt;
-        decoder.try_uncompress_vint_unsorted_until_end(&[0x83, 0x00])
-            == Err(LayoutFault::Damaged(Part::Positions))
-    );
-    assert!(rt; decoder.output_len() == 0);
-    assert!(rt; decoder.try_uncompress_vint_unsorted_until_end(&[0x81; 200]) == Ok(()));
-    assert!(rt; decoder.output_array() == [1; 128].as_slice());
-    assert!(rt; decoder.try_uncompress_vint_unsorted_until_end(&[]) == Ok(()));
-    assert!(rt; decoder.output_len() == 0);
+    for (i, (bytes, want, values)) in UNTIL_END.iter().enumerate() {
+        let answer = decoder.try_uncompress_vint_unsorted_until_end(bytes);
+        assert!(rt;
+            answer == *want && decoder.output_array() == *values,
+            "row {i}"
+        );
+    }
 }
 
 // Reads some vints by a decoder of any type, and answers how many bytes they take.
@@ -129,71 +128,63 @@ fn read_all_by<D: VIntDecoder>(decoder: &mut D, bytes: &[u8])
     decoder.uncompress_vint_unsorted_until_end(bytes);
 }
 
-// Reads sorted vints to fill an array, which some decoder could do too.
-fn sorted_of(bytes: &[u8], offset: u32) -> Option<(usize, [u32; 2])> {
+// 1, 300 and 16384: 300 is 2 * 128 + 44, and 16384 is 128 * 128.
+static THREE_VINTS: [u8; 6] = [0x81, 0x2C, 0x82, 0x00, 0x00, 0x81];
+
+// Two sorted vints, behind 5, and two unsorted ones, with how many bytes they are, and how many there are in all,
+// with the first of them, as arrays are filled with them.
+type Filled = ((usize, [u32; 2]), (usize, [u32; 2]), (usize, [u32; 4]));
+
+fn filled(bytes: &[u8]) -> Option<Filled> {
     let mut decoder = BlockDecoder::default();
-    let Ok(_) = decoder.try_uncompress_vint_sorted(bytes, offset, 2, 0) else {
+    let Ok(_) = decoder.try_uncompress_vint_sorted(bytes, 5, 2, 0) else {
         return None;
     };
-    let mut output = [0; 2];
-    let used = uncompress_sorted(bytes, &mut output, offset);
-    Some((used, output))
-}
-
-// Reads unsorted ones.
-fn unsorted_of(bytes: &[u8]) -> Option<(usize, [u32; 2])> {
-    let mut decoder = BlockDecoder::default();
+    let mut sorted = [0; 2];
+    let sorted_used = uncompress_sorted(bytes, &mut sorted, 5);
     let Ok(_) = decoder.try_uncompress_vint_unsorted(bytes, 2, 0) else {
         return None;
     };
-    let mut output = [0; 2];
-    let used = uncompress_unsorted(bytes, &mut output);
-    Some((used, output))
-}
-
-// Reads as many as there are, at most 128.
-fn all_of(bytes: &[u8]) -> Option<(usize, [u32; 128])> {
-    let mut decoder = BlockDecoder::default();
+    let mut unsorted = [0; 2];
+    let unsorted_used = uncompress_unsorted(bytes, &mut unsorted);
     let Ok(()) = decoder.try_uncompress_vint_unsorted_until_end(bytes) else {
         return None;
     };
-    let mut output = [9; 128];
-    let many = uncompress_unsorted_until_end(bytes, &mut output);
-    Some((many, output))
+    let mut all = [9; 128];
+    let many = uncompress_unsorted_until_end(bytes, &mut all);
+    let first = [all[0], all[1], all[2], all[3]];
+    Some((
+        (sorted_used, sorted),
+        (unsorted_used, unsorted),
+        (many, first),
+    ))
 }
 
 #[test]
-fn arrays_are_filled_with_vints(rt: HostRuntime) -> Result<(), Fail> {
-    let bytes = three_vints();
-    assert!(rt; sorted_of(&bytes, 5) == Some((3, [6, 306])));
-    assert!(rt; unsorted_of(&bytes) == Some((3, [1, 300])));
-    let (many, values) = all_of(&bytes).ok_or("all vints")?;
-    assert!(rt; many == 3);
-    assert!(rt; values.starts_with(&[1, 300, 16384, 9]));
-    Ok(())
+fn arrays_are_filled_with_vints(rt: HostRuntime) {
+    let want = ((3, [6, 306]), (3, [1, 300]), (3, [1, 300, 16384, 9]));
+    assert!(rt; filled(&THREE_VINTS) == Some(want));
 }
 
-// 1, 300 and 16384: 300 is 2 * 128 + 44, and 16384 is 128 * 128.
-fn three_vints() -> [u8; 6] {
-    [0x81, 0x2C, 0x82, 0x00, 0x00, 0x81]
-}
-
-#[test]
-fn decodes_unsorted_vints_by_the_bound(rt: HostRuntime) -> Result<(), Fail> {
-    let bytes = three_vints();
+// The same by a decoder of any type: two vints with how many bytes they are, and all of them.
+fn decoded(bytes: &[u8]) -> Option<((usize, [u32; 4], u32), [u32; 4])> {
     let mut decoder = BlockDecoder::default();
-    let Ok(first) = decoder.try_uncompress_vint_unsorted(&bytes, 2, 9) else {
-        return Err("two vints".into());
+    let Ok(_) = decoder.try_uncompress_vint_unsorted(bytes, 2, 9) else {
+        return None;
     };
-    let used = read_by(&mut decoder, &bytes, 2, 7);
-    assert!(rt; (first, used) == (3, 3));
-    assert!(rt; decoder.output_array() == [1, 300].as_slice());
-    assert!(rt; (decoder.output(2), decoder.output(127)) == (7, 7));
-    let Ok(()) = decoder.try_uncompress_vint_unsorted_until_end(&bytes) else {
-        return Err("all vints".into());
+    let used = read_by(&mut decoder, bytes, 2, 7);
+    let (two, padding) = first_four(&decoder);
+    let Ok(()) = decoder.try_uncompress_vint_unsorted_until_end(bytes) else {
+        return None;
     };
     let mut other = BlockDecoder::default();
-    read_all_by(&mut other, &bytes);
-    assert!(rt; other.output_array() == [1, 300, 16384].as_slice());
-    Ok(())
+    read_all_by(&mut other, bytes);
+    let (all, _) = first_four(&other);
+    Some(((used, two, padding), all))
+}
+
+#[test]
+fn decodes_unsorted_vints_by_the_bound(rt: HostRuntime) {
+    let two = (3, [1, 300, 7, 7], 7);
+    assert!(rt; decoded(&THREE_VINTS) == Some((two, [1, 300, 16384, 0])));
 }

@@ -1,2 +1,1 @@
-mod FirstDocs
 mod RecordedTermLemmas

@@ -1,5 +1,5 @@
 // Bounds of blocks, and seeks by count.
-use crate::position_tests::sought;
+use crate::list_tests::sought;
 use bytes::Bytes;
 use ii_base::{Fault, IndexRecordOption, LayoutFault};
 use ii_docset::{DocId, DocSet, Postings, TERMINATED};
@@ -49,42 +49,19 @@ fn three_blocks(alloc: Global, entries: &'static [u8]) -> Result<Bytes, Fault> {
     Ok(Bytes::from_vec(bytes)?)
 }
 
-// The bounds of the block that a cursor is at; it then goes on.
-fn next_bounds(blocks: &mut BlockSegmentPostings) -> Option<(u8, u8)> {
-    let bounds = blocks.block_bounds();
-    blocks.advance();
-    bounds
-}
-
-// The bounds of the blocks that a cursor over such bytes comes to, and twice behind them.
+// The bounds of the blocks that a cursor over them comes to, and twice behind them.
 fn bounds_of(
-    bytes: Bytes,
+    alloc: Global,
     requested_option: IndexRecordOption,
-) -> Result<[Option<(u8, u8)>; 5], LayoutFault> {
+) -> Result<[Option<(u8, u8)>; 5], Fault> {
+    let bytes = three_blocks(alloc, &BOUNDED)?;
     let mut blocks = BlockSegmentPostings::open(384, bytes, FREQS, requested_option)?;
-    Ok([
-        next_bounds(&mut blocks),
-        next_bounds(&mut blocks),
-        next_bounds(&mut blocks),
-        next_bounds(&mut blocks),
-        next_bounds(&mut blocks),
-    ])
-}
-
-// The true bounds.
-static BOUNDS: [Option<(u8, u8)>; 5] = [Some((20, 1)), Some((20, 5)), Some((20, 9)), None, None];
-
-// Whether these are read.
-fn has_bounds(alloc: Global, requested_option: IndexRecordOption) -> Result<bool, Fault> {
-    Ok(bounds_of(three_blocks(alloc, &BOUNDED)?, requested_option)? == BOUNDS)
-}
-
-#[test]
-fn full_blocks_have_bounds(rt: HostRuntime) -> Result<(), Fail> {
-    // counts need not be read for them
-    let have = [has_bounds(rt.alloc(), FREQS), has_bounds(rt.alloc(), BASIC)];
-    assert!(rt; have == [Ok(true); 2]);
-    Ok(())
+    let mut found = [None; 5];
+    for bounds in &mut found {
+        *bounds = blocks.block_bounds();
+        blocks.advance();
+    }
+    Ok(found)
 }
 
 // A block of documents alone.
@@ -97,7 +74,12 @@ fn bounds_without_counts() -> Result<Option<(u8, u8)>, LayoutFault> {
 }
 
 #[test]
-fn terms_without_counts_have_no_bounds(rt: HostRuntime) -> Result<(), Fail> {
+fn full_blocks_with_counts_have_bounds(rt: HostRuntime) -> Result<(), Fail> {
+    let bounds = [Some((20, 1)), Some((20, 5)), Some((20, 9)), None, None];
+    // counts need not be read for them
+    for option in [FREQS, BASIC] {
+        assert!(rt; bounds_of(rt.alloc(), option)? == bounds);
+    }
     assert!(rt; bounds_without_counts()? == None);
     Ok(())
 }
@@ -115,77 +97,55 @@ fn sought_with_freq(cursor: &mut SegmentPostings, target: DocId, least: u32) -> 
     }
 }
 
-// The same of three seeks.
-fn sought_thrice(cursor: &mut SegmentPostings, seeks: [(DocId, u32); 3]) -> [(DocId, u32); 3] {
-    let [first, second, third] = seeks;
-    [
-        sought_with_freq(cursor, first.0, first.1),
-        sought_with_freq(cursor, second.0, second.1),
-        sought_with_freq(cursor, third.0, third.1),
-    ]
-}
-
-// The same of a new cursor over such bytes.
-fn sought_in(
+// Where seeks by count leave a cursor, the first of them behind a seek to the same document.
+fn sought_by_count(
+    doc_freq: u32,
     bytes: Bytes,
     requested_option: IndexRecordOption,
     seeks: [(DocId, u32); 3],
 ) -> Result<[(DocId, u32); 3], LayoutFault> {
-    let mut cursor = SegmentPostings::open(384, bytes, None, FREQS, requested_option)?;
-    Ok(sought_thrice(&mut cursor, seeks))
-}
-
-// Where seeks by count leave two new cursors over such entries.
-fn sought_twice(alloc: Global, entries: &'static [u8]) -> Result<[[(DocId, u32); 3]; 2], Fault> {
-    let first = [(0, 6), (300, 9), (300, 10)];
-    let other = [(130, 0), (130, 5), (256, 2)];
+    let mut cursor = SegmentPostings::open(doc_freq, bytes, None, FREQS, requested_option)?;
+    let _first = sought(&mut cursor, seeks[0].0);
+    let [first, second, third] = seeks;
     Ok([
-        sought_in(three_blocks(alloc, entries)?, FREQS, first)?,
-        sought_in(three_blocks(alloc, entries)?, FREQS, other)?,
+        sought_with_freq(&mut cursor, first.0, first.1),
+        sought_with_freq(&mut cursor, second.0, second.1),
+        sought_with_freq(&mut cursor, third.0, third.1),
     ])
 }
 
+// Seeks by count over the three blocks, and where they end.
+static SEEKS: [([(DocId, u32); 3], [(DocId, u32); 3]); 3] = [
+    (
+        [(0, 6), (300, 9), (300, 10)],
+        [(300, 9), (300, 9), (TERMINATED, 0)],
+    ),
+    (
+        [(130, 0), (130, 5), (256, 2)],
+        [(130, 5), (130, 5), (300, 9)],
+    ),
+    (
+        [(200, 6), (300, 0), (301, 1)],
+        [(300, 9), (300, 9), (301, 1)],
+    ),
+];
+
 #[test]
 fn seeks_by_count_pass_blocks(rt: HostRuntime) -> Result<(), Fail> {
-    let first = [(300, 9), (300, 9), (TERMINATED, 0)];
-    let want = [first, [(130, 5), (130, 5), (300, 9)]];
-    let sought = [
-        sought_twice(rt.alloc(), &BOUNDED),
-        sought_twice(rt.alloc(), &UNKNOWN),
-        sought_twice(rt.alloc(), &ANY),
-    ];
-    assert!(rt; sought == [Ok(want); 3]);
+    for entries in [&BOUNDED, &UNKNOWN, &ANY] {
+        for (seeks, want) in SEEKS {
+            let bytes = three_blocks(rt.alloc(), entries)?;
+            assert!(rt; sought_by_count(384, bytes, FREQS, seeks)? == want);
+        }
+    }
     Ok(())
-}
-
-// Where three seeks by count leave a cursor that reads no counts.
-fn sought_by_one(alloc: Global) -> Result<[(DocId, u32); 3], Fault> {
-    let bytes = three_blocks(alloc, &BOUNDED)?;
-    Ok(sought_in(bytes, BASIC, [(5, 1), (5, 2), (TERMINATED, 0)])?)
 }
 
 #[test]
 fn seeks_by_count_go_by_one_where_counts_are_not_read(rt: HostRuntime) -> Result<(), Fail> {
-    let by_one = sought_by_one(rt.alloc())?;
+    let bytes = three_blocks(rt.alloc(), &BOUNDED)?;
+    let by_one = sought_by_count(384, bytes, BASIC, [(5, 1), (5, 2), (TERMINATED, 0)])?;
     assert!(rt; by_one == [(5, 1), (TERMINATED, 0), (TERMINATED, 0)]);
-    Ok(())
-}
-
-// Where a seek leaves a cursor, and one by count behind it.
-fn sought_both_ways(cursor: &mut SegmentPostings) -> (DocId, (DocId, u32)) {
-    (sought(cursor, 200), sought_with_freq(cursor, 200, 6))
-}
-
-// The same of a new cursor.
-fn sought_anew(alloc: Global) -> Result<(DocId, (DocId, u32)), Fault> {
-    let bytes = three_blocks(alloc, &BOUNDED)?;
-    let mut cursor = SegmentPostings::open(384, bytes, None, FREQS, FREQS)?;
-    Ok(sought_both_ways(&mut cursor))
-}
-
-#[test]
-fn seeks_by_count_follow_seeks(rt: HostRuntime) -> Result<(), Fail> {
-    assert!(rt; sought_anew(rt.alloc())? == (200, (300, 9)));
     Ok(())
 }
 
@@ -204,20 +164,10 @@ static OFTEN: [u8; 153] = [
     0x57, 0xAE, 0x5C, 0xB9, 0x72, 0xE5, 0xCA, 0x95,
 ];
 
-// A list of them.
-fn often() -> Bytes {
-    Bytes::from_static(&OFTEN)
-}
-
-// Where a seek by count leaves a new cursor over them.
-fn sought_often(least: u32) -> Result<(DocId, u32), LayoutFault> {
-    let mut cursor = SegmentPostings::open(128, often(), None, FREQS, FREQS)?;
-    Ok(sought_with_freq(&mut cursor, 0, least))
-}
-
 #[test]
 fn great_counts_have_no_known_bound(rt: HostRuntime) -> Result<(), Fail> {
-    let sought = [sought_often(301), sought_often(300)];
-    assert!(rt; sought == [Ok((TERMINATED, 0)), Ok((0, 300))]);
+    let seeks = [(0, 300), (0, 301), (TERMINATED, 0)];
+    let sought = sought_by_count(128, Bytes::from_static(&OFTEN), FREQS, seeks)?;
+    assert!(rt; sought == [(0, 300), (TERMINATED, 0), (TERMINATED, 0)]);
     Ok(())
 }

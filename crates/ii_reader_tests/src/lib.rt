@@ -2,11 +2,9 @@
 #![tactic(auto)]
 
 #[cfg(test)]
+mod block_tests;
+#[cfg(test)]
 mod bound_tests;
-#[cfg(test)]
-mod buffer_tests;
-#[cfg(test)]
-mod cursor_tests;
 #[cfg(test)]
 mod index_tests;
 #[cfg(test)]
@@ -14,14 +12,6 @@ mod json_tests;
 #[cfg(test)]
 mod list_tests;
 #[cfg(test)]
-mod position_tests;
-#[cfg(test)]
 mod recorder_tests;
 #[cfg(test)]
-mod refusal_tests;
-#[cfg(test)]
 mod serializer_tests;
-#[cfg(test)]
-mod tests;
-#[cfg(test)]
-mod written_tests;

@@ -1,4 +1,4 @@
-ghost use Rattle.std.specs.Prelude.{◌<◌, ◌≡◌, [], ◌∷◌, true, false, length, IsTrue, IfOk, OnOk};
+ghost use Rattle.std.specs.Prelude.{◌<◌, ◌≡◌, [], ◌∷◌, true, false, length, IsTrue, IfOk, None, OnOk};
 ghost use Rattle.std.specs.List.{AllByRecursion};
 ghost use Rattle.ii_base.specs.Options.{has_freq};
 ghost use Rattle.ii_base.specs.Entries.{are_documents, docs_of};
@@ -11,10 +11,10 @@ ghost use Rattle.ii_recorder.specs.Pushed.{pushed_freqs};
 ghost use Rattle.ii_recorder.specs.Recorded.{entries_of_recorder};
 
 use crate::serializer_tests::texts;
-use ii_base::{CountingWriter, Fault, Field};
+use ii_base::{CountingWriter, DocId, Fault, Field, IndexRecordOption, LimitName};
 use ii_recorder::{
-    BufferLender, DocIdRecorder, InvertedIndexSerializer, Recorder, TermFrequencyRecorder,
-    TfAndPositionRecorder, VInt32Reader,
+    AnyRecorder, BufferLender, DocIdRecorder, InvertedIndexSerializer, Recorder,
+    TermFrequencyRecorder, TfAndPositionRecorder, VInt32Reader,
 };
 use std::alloc::Global;
 use std::io::Write;
@@ -82,8 +82,13 @@ fn write_recorder<R: Recorder, W: Write>(
     field.close()
 }
 
-// The bodies of postings and of positions of a field with one term.
-fn bodies_of<R: Recorder>(alloc: Global, recorder: &R) -> Result<(Vec<u8>, Vec<u8>), Fault>
+// Whether the bodies of postings and of positions of a field with one term begin with these bytes, and how
+// long they are.
+fn told_of<R: Recorder>(
+    alloc: Global,
+    recorder: &R,
+    begins: (&[u8], &[u8]),
+) -> Result<(bool, usize, usize), Fault>
     requires docs { IsTrue (are_documents (docs_of (entries_of_recorder (R.state recorder.now)))) }
     requires counted { IsTrue (has_freq (R.state recorder.now).option) → AllByRecursion (λ n. 0 < n) (pushed_freqs (R.state recorder.now).option (entries_of_recorder (R.state recorder.now))) }
 {
@@ -98,52 +103,74 @@ fn bodies_of<R: Recorder>(alloc: Global, recorder: &R) -> Result<(Vec<u8>, Vec<u
     write_recorder(alloc, recorder, &mut index)?;
     let (_, postings, positions, closed) = index.close();
     closed?;
-    Ok((postings.finish(), positions.finish()))
-}
-
-// Whether both bodies begin with these bytes, and how long they are.
-fn told_of(bodies: &(Vec<u8>, Vec<u8>), begins: (&[u8], &[u8])) -> (bool, usize, usize) {
-    let (postings, positions) = bodies;
-    let (first, second) = begins;
-    let both = postings.starts_with(first) && positions.starts_with(second);
-    (both, postings.len(), positions.len())
-}
-
-// The same of what a recorder gives.
-fn told_of_recorder<R: Recorder>(
-    alloc: Global,
-    recorder: &R,
-    begins: (&[u8], &[u8]),
-) -> Result<(bool, usize, usize), Fault>
-    requires docs { IsTrue (are_documents (docs_of (entries_of_recorder (R.state recorder.now)))) }
-    requires counted { IsTrue (has_freq (R.state recorder.now).option) → AllByRecursion (λ n. 0 < n) (pushed_freqs (R.state recorder.now).option (entries_of_recorder (R.state recorder.now))) }
-{
-    Ok(told_of(&bodies_of(alloc, recorder)?, begins))
-}
-
-// After three tokens, documents by their deltas, and counts; no block of positions, and deltas. Then a
-// table of 24 bytes.
-fn told_of_positions(alloc: Global) -> Result<(bool, usize, usize), Fault> {
-    let postings = [3, 0, 0, 0, 0, 0, 0, 0, 0x80, 0x83, 0x82, 0x81];
-    let positions = [0x80, 0x80, 0x84, 0x81];
-    told_of_recorder(alloc, &two_documents(alloc)?, (&postings, &positions))
-}
-
-fn told_of_counts(alloc: Global) -> Result<(bool, usize, usize), Fault> {
-    let postings = [3, 0, 0, 0, 0, 0, 0, 0, 0x80, 0x83, 0x82, 0x81];
-    told_of_recorder(alloc, &two_counts(alloc)?, (&postings, &[]))
-}
-
-fn told_of_ids(alloc: Global) -> Result<(bool, usize, usize), Fault> {
-    let postings = [3, 0, 0, 0, 0, 0, 0, 0, 0x80, 0x83];
-    told_of_recorder(alloc, &two_ids(alloc)?, (&postings, &[]))
+    let (postings, positions) = (postings.finish(), positions.finish());
+    let both = postings.starts_with(begins.0) && positions.starts_with(begins.1);
+    Ok((both, postings.len(), positions.len()))
 }
 
 #[test]
 fn recorders_are_serialized(rt: HostRuntime) -> Result<(), Fail> {
-    assert!(rt; told_of_positions(rt.alloc())? == (true, 12 + 24, 4 + 24));
-    assert!(rt; told_of_counts(rt.alloc())? == (true, 12 + 24, 1 + 24));
-    assert!(rt; told_of_ids(rt.alloc())? == (true, 10 + 24, 1 + 24));
+    // after three tokens, documents by their deltas, and counts; no block of positions, and deltas; then a
+    // table of 24 bytes
+    let postings = [3, 0, 0, 0, 0, 0, 0, 0, 0x80, 0x83, 0x82, 0x81];
+    let positions = [0x80, 0x80, 0x84, 0x81];
+    let located = two_documents(rt.alloc())?;
+    let located = told_of(rt.alloc(), &located, (&postings, &positions))?;
+    let counted = two_counts(rt.alloc())?;
+    let counted = told_of(rt.alloc(), &counted, (&postings, &[]))?;
+    let ids = two_ids(rt.alloc())?;
+    let ids = told_of(rt.alloc(), &ids, (&postings[..10], &[]))?;
+    let lens = [
+        (true, 12 + 24, 4 + 24),
+        (true, 12 + 24, 1 + 24),
+        (true, 10 + 24, 1 + 24),
+    ];
+    assert!(rt; [located, counted, ids] == lens);
+    Ok(())
+}
+
+// What a recorder without documents answers to a position below the last one and to one that is too large, in
+// document 3, and then of documents 3 and 7.
+type Answers = ([Result<(), Fault>; 2], DocId, Option<u32>);
+
+fn go_on<R: Recorder>(recorder: &mut R) -> Result<Answers, Fault>
+    requires closed { (R.state recorder.old).closed ≡ [] }
+    requires pending { (R.state recorder.old).pending ≡ None }
+{
+    recorder.new_doc(3)?;
+    recorder.record_position(5)?;
+    let falling = recorder.record_position(4);
+    let last = recorder.record_position(u32::MAX);
+    recorder.record_position(5)?;
+    recorder.close_doc()?;
+    recorder.new_doc(7)?;
+    let current = recorder.current_doc();
+    Ok(([falling, last], current, recorder.term_doc_freq()))
+}
+
+// The same of a new recorder, and what it answers before.
+fn answers_of(alloc: Global, option: IndexRecordOption) -> Result<(DocId, bool, Answers), Fault> {
+    let mut recorder = AnyRecorder::new(alloc, option);
+    let (doc, has_term_freq) = (recorder.current_doc(), recorder.has_term_freq());
+    Ok((doc, has_term_freq, go_on(&mut recorder)?))
+}
+
+#[test]
+fn documents_are_recorded(rt: HostRuntime) -> Result<(), Fail> {
+    let refused = [
+        Err(Fault::DecreasingPosition),
+        Err(Fault::Limit(LimitName::Position)),
+    ];
+    let rows = [
+        (IndexRecordOption::Basic, [Ok(()); 2], None),
+        (IndexRecordOption::WithFreqs, [Ok(()); 2], Some(2)),
+        (IndexRecordOption::WithFreqsAndPositions, refused, Some(2)),
+    ];
+    for (option, refusals, count) in rows {
+        let answers = answers_of(rt.alloc(), option)?;
+        let want = (u32::MAX, option.has_freq(), (refusals, 7, count));
+        assert!(rt; answers == want);
+    }
     Ok(())
 }
 
@@ -166,4 +193,24 @@ fn first_numbers(numbers: &mut VInt32Reader<'_>) -> [Option<u32>; 5] {
 fn vints_are_read_one_by_one(rt: HostRuntime) {
     let numbers = [Some(0), Some(1), Some(324_234_234), Some(u32::MAX), None];
     assert!(rt; first_numbers(&mut VInt32Reader::new(&SPELLED)) == numbers);
+}
+
+// Whether the buffer of bytes is lent empty, and then both; something is left in each.
+fn are_lent_empty(lender: &mut BufferLender) -> Result<[bool; 2], Fault> {
+    let bytes = lender.lend_u8();
+    let is_empty = bytes.is_empty();
+    bytes.push(1)?;
+    let (bytes, numbers) = lender.lend_all();
+    let are_empty = bytes.is_empty() && numbers.is_empty();
+    bytes.push(1)?;
+    numbers.push(2)?;
+    Ok([is_empty, are_empty])
+}
+
+#[test]
+fn buffers_are_lent(rt: HostRuntime) -> Result<(), Fail> {
+    let mut lender = BufferLender::new(rt.alloc());
+    let lent = [are_lent_empty(&mut lender), are_lent_empty(&mut lender)];
+    assert!(rt; lent == [Ok([true; 2]); 2]);
+    Ok(())
 }

@@ -1,10 +1,9 @@
-ghost use Rattle.std.specs.Prelude.{◌<◌, ◌≡◌, false, length, IfOk};
+ghost use Rattle.std.specs.Prelude.{◌<◌, ◌≡◌, false, length, IsTrue, IfOk};
 ghost use Rattle.ii_recorder.specs.IndexBodies.{LacksField};
 
-use ii_base::{
-    CountingWriter, FailingWriter, Fault, Field, FieldEntry, IndexRecordOption, Schema, ValueType,
-};
-use ii_recorder::InvertedIndexSerializer;
+use crate::index_tests::numbers;
+use ii_base::{CountingWriter, FailingWriter, Fault, Field, FieldEntry, IndexRecordOption, Schema};
+use ii_recorder::{AnyRecorder, BufferLender, FieldSerializer, InvertedIndexSerializer, Recorder};
 use std::alloc::Global;
 use std::io::Write;
 use std::test::Fail;
@@ -14,16 +13,6 @@ const POSTINGS: [u8; 33] = [
     1, 0, 0, 0, 0, 0, 0, 0, 0x80, 0, 0, 0, 0, 0, 0, 0, 0, 0, 0, 0, 0, 9, 0, 0, 0, 0, 0, 0, 0, 1, 0,
     0, 0,
 ];
-
-// A field of numbers.
-fn numbers(alloc: Global) -> Result<Schema, Fault>
-    ensures { IfOk result (λ schema. 0 < length schema) }
-{
-    let mut entries = Vec::new(alloc);
-    let name = String::from_str(alloc, "number")?;
-    entries.push(FieldEntry::value(name, ValueType::U64, false))?;
-    Ok(Schema::new(entries))
-}
 
 // The number 5 in document 0.
 fn write_five<W: Write>(index: &mut InvertedIndexSerializer<W>) -> Result<(), Fault>
@@ -47,34 +36,14 @@ pub(crate) fn texts(alloc: Global) -> Result<Schema, Fault>
     Ok(Schema::new(entries))
 }
 
-// A term four times in each of 120 documents.
-fn write_often<W: Write>(index: &mut InvertedIndexSerializer<W>) -> Result<(), Fault>
-    requires known { 0 < length index.old.entries }
-    requires lacks { index.old.closed ≡ false → LacksField 0 index.old.bodies }
-{
-    let mut field = index.new_field(Field::from_field_id(0), 480, None)?;
-    field.new_term(b"a", 120, true)?;
-    for doc in 0..120u32 {
-        field.write_doc(doc, 4, &[1, 2, 3, 2])?;
-    }
-    field.close_term()?;
-    field.close()
-}
-
-// Writes it to writers of which one fails at a call.
-fn write_index(
+// Writes it to writers of which one fails at a call: how that ends, whether its postings are these, and how long
+// the files of terms and positions are.
+fn told_of_five(
     alloc: Global,
-    schema: Schema,
     failing_calls: (u64, u64, u64),
-) -> (
-    FailingWriter,
-    FailingWriter,
-    FailingWriter,
-    Result<(), Fault>,
-)
-    requires { 0 < length schema }
-{
+) -> Result<(Result<(), Fault>, bool, [usize; 2]), Fault> {
     let (terms, postings, positions) = failing_calls;
+    let schema = numbers(alloc)?;
     let mut index = InvertedIndexSerializer::open(
         alloc,
         CountingWriter::wrap(FailingWriter::new(alloc, terms)),
@@ -84,81 +53,158 @@ fn write_index(
     );
     let written = write_five(&mut index);
     let (terms, postings, positions, closed) = index.close();
-    let answer = written.and(closed);
-    (
-        terms.finish(),
-        postings.finish(),
-        positions.finish(),
-        answer,
-    )
+    let are_postings = postings.finish().bytes() == POSTINGS.as_slice();
+    let lens = [
+        terms.finish().bytes().len(),
+        positions.finish().bytes().len(),
+    ];
+    Ok((written.and(closed), are_postings, lens))
 }
 
-// Whether the number's postings are these, and how long the files of terms and positions are.
-fn told_of_number(alloc: Global) -> Result<(bool, usize, usize), Fault> {
-    let schema = numbers(alloc)?;
-    let (terms, postings, positions, answer) = write_index(alloc, schema, (0, 0, 0));
-    let is_written = answer == Ok(()) && postings.bytes() == POSTINGS.as_slice();
-    Ok((is_written, terms.bytes().len(), positions.bytes().len()))
+// How it ends where a call fails.
+fn answer_at(alloc: Global, failing_calls: (u64, u64, u64)) -> Result<Result<(), Fault>, Fault> {
+    let (answer, _, _) = told_of_five(alloc, failing_calls)?;
+    Ok(answer)
 }
 
 #[test]
 fn a_number_is_written(rt: HostRuntime) -> Result<(), Fail> {
-    assert!(rt; told_of_number(rt.alloc())? == (true, 104, 24));
+    for calls in [(0, 0, 0), (20, 20, 20)] {
+        assert!(rt; told_of_five(rt.alloc(), calls)? == (Ok(()), true, [104, 24]));
+    }
     Ok(())
-}
-
-// Whether a call that fails is told.
-fn is_told(alloc: Global, failing_calls: (u64, u64, u64)) -> Result<bool, Fault> {
-    let schema = numbers(alloc)?;
-    let (_, _, _, answer) = write_index(alloc, schema, failing_calls);
-    Ok(answer == Err(Fault::Write))
 }
 
 #[test]
 fn a_failing_writer_is_told(rt: HostRuntime) -> Result<(), Fail> {
-    // The writes of a body, its flush, its place, the number of bodies, and a flush.
-    for k in 1..6 {
-        assert!(rt; is_told(rt.alloc(), (k, 0, 0))?, "terms {k}");
+    // the writes of a body, its flush, its place, the number of bodies, and a flush
+    let rows = [
+        (1, 0, 0),
+        (2, 0, 0),
+        (3, 0, 0),
+        (4, 0, 0),
+        (5, 0, 0),
+        (0, 1, 0),
+        (0, 2, 0),
+        (0, 3, 0),
+        (0, 4, 0),
+        (0, 0, 1),
+        (0, 0, 2),
+        (0, 0, 3),
+        (0, 0, 4),
+    ];
+    for (i, calls) in rows.into_iter().enumerate() {
+        assert!(rt;
+            answer_at(rt.alloc(), calls)? == Err(Fault::Write),
+            "row {i}"
+        );
     }
-    for k in 1..5 {
-        assert!(rt; is_told(rt.alloc(), (0, k, 0))?, "postings {k}");
-        assert!(rt; is_told(rt.alloc(), (0, 0, k))?, "positions {k}");
-    }
-    assert!(rt; !is_told(rt.alloc(), (20, 20, 20))?);
     Ok(())
 }
 
-// The positions of that term, if they are written.
-fn often(alloc: Global) -> Result<Vec<u8>, Fault> {
-    let mut index = InvertedIndexSerializer::open(
-        alloc,
-        CountingWriter::wrap(Vec::new(alloc)),
-        CountingWriter::wrap(Vec::new(alloc)),
-        CountingWriter::wrap(Vec::new(alloc)),
-        texts(alloc)?,
-    );
-    let written = write_often(&mut index);
-    let (_, _, positions, closed) = index.close();
-    written.and(closed)?;
-    Ok(positions.finish())
+// Whether each call of a closed field is refused.
+fn is_closed<W: Write>(alloc: Global, field: &mut FieldSerializer<'_, W>) -> bool
+    requires { IsTrue field.old.index.now.closed }
+    ensures same_reference { field.new.index.ghost_name ≡ field.old.index.ghost_name }
+    ensures stays { field.new.index.now ≡ field.old.index.now }
+{
+    let closed = Err(Fault::SerializerClosed);
+    let mut all = field.new_term(b"b", 1, true) == closed;
+    all &= field.new_term_without_freq(b"c") == closed;
+    all &= field.write_doc(0, 0, &[1]) == closed;
+    all &= field.close_term() == closed;
+    let recorder = AnyRecorder::new(alloc, IndexRecordOption::Basic);
+    all & (recorder.serialize(&mut BufferLender::new(alloc), field) == closed)
 }
 
-// Whether they are three blocks and 96 deltas more, and how long they are with the table of the file.
-fn told_of_often(alloc: Global) -> Result<(bool, usize), Fault> {
-    let positions = often(alloc)?;
-    let len = positions.len();
-    if len < 104 {
-        return Ok((false, len));
+// Whether no field can be begun in a closed index.
+fn begins_no_field<W: Write>(index: &mut InvertedIndexSerializer<W>) -> bool
+    requires known { 0 < length index.old.entries }
+    requires closed { IsTrue index.old.closed }
+{
+    match index.new_field(Field::from_field_id(0), 1, None) {
+        Ok(_) => false,
+        Err(fault) => fault == Fault::SerializerClosed,
     }
-    let blocks = positions.starts_with(&[0x83, 2, 2, 2, 0xb9]);
-    Ok((
-        blocks && positions[99..104] == [0xb9, 0x81, 0x82, 0x83, 0x82],
-        len,
+}
+
+// Whether a term that can't be ended closes the field and the index.
+fn term_closes<W: Write>(
+    alloc: Global,
+    index: &mut InvertedIndexSerializer<W>,
+) -> Result<bool, Fault>
+    requires known { 0 < length index.old.entries }
+    requires lacks { index.old.closed ≡ false → LacksField 0 index.old.bodies }
+{
+    let mut field = index.new_field(Field::from_field_id(0), 1, None)?;
+    field.new_term_without_freq(b"a")?;
+    field.write_doc(0, 0, &[1])?;
+    let Err(fault) = field.close_term() else {
+        return Ok(false);
+    };
+    let mut all = fault == Fault::Write;
+    all &= is_closed(alloc, &mut field);
+    let Err(fault) = field.close() else {
+        return Ok(false);
+    };
+    all &= fault == Fault::SerializerClosed;
+    all &= begins_no_field(index);
+    Ok(all)
+}
+
+// Whether a field that can't be begun closes the index.
+fn field_closes<W: Write>(index: &mut InvertedIndexSerializer<W>) -> bool
+    requires known { 0 < length index.old.entries }
+    requires lacks { index.old.closed ≡ false → LacksField 0 index.old.bodies }
+{
+    match index.new_field(Field::from_field_id(0), 1, None) {
+        Ok(_) => return false,
+        Err(fault) => {
+            if fault != Fault::Write {
+                return false;
+            }
+        }
+    }
+    begins_no_field(index)
+}
+
+// An index of texts, of whose writers one fails at a call.
+fn open_texts(
+    alloc: Global,
+    failing_calls: (u64, u64, u64),
+) -> Result<InvertedIndexSerializer<FailingWriter>, Fault>
+    ensures known { IfOk result (λ index. 0 < length index.entries) }
+    ensures lacks { IfOk result (λ index. LacksField 0 index.bodies) }
+{
+    let (terms, postings, positions) = failing_calls;
+    let schema = texts(alloc)?;
+    Ok(InvertedIndexSerializer::open(
+        alloc,
+        CountingWriter::wrap(FailingWriter::new(alloc, terms)),
+        CountingWriter::wrap(FailingWriter::new(alloc, postings)),
+        CountingWriter::wrap(FailingWriter::new(alloc, positions)),
+        schema,
     ))
 }
 
 #[test]
-fn positions_of_a_term_are_written(rt: HostRuntime) -> Result<(), Fail> {
-    assert!(rt; told_of_often(rt.alloc())? == (true, 196 + 24));
+fn a_refused_term_closes(rt: HostRuntime) -> Result<(), Fail> {
+    let alloc = rt.alloc();
+    // The postings' second write is that of a term, the positions' first.
+    for failing_calls in [(0, 2, 0), (0, 0, 1)] {
+        let mut index = open_texts(alloc, failing_calls)?;
+        assert!(rt; term_closes(alloc, &mut index)?);
+        let (_, _, _, closed) = index.close();
+        assert!(rt; closed == Err(Fault::SerializerClosed));
+    }
+    Ok(())
+}
+
+#[test]
+fn a_refused_field_closes(rt: HostRuntime) -> Result<(), Fail> {
+    let mut index = open_texts(rt.alloc(), (0, 1, 0))?;
+    assert!(rt; field_closes(&mut index));
+    let (_, _, _, closed) = index.close();
+    assert!(rt; closed == Err(Fault::SerializerClosed));
     Ok(())
 }

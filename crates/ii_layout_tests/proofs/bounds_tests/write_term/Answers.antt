@@ -1,6 +1,6 @@
 use Rattle.std.proofs.Common.{◌≤◌, arith, rules}
 use Rattle.ii_layout_tests.proofs.RunLemmas.{row_is_documents, row_length}
-use Rattle.ii_layout_tests.proofs.bounds_tests.write_rising.Goals as goal
+use Rattle.ii_layout_tests.proofs.bounds_tests.write_term.Goals as goal
 
 pub close_term-requires-clause-counted : goal.close_term-requires-clause-counted
 close_term-requires-clause-counted c = rw c.in_ok-add_below.ensures (λ _. row_length c.min-count.result)
