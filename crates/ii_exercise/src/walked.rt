@@ -3,7 +3,7 @@ ghost use Rattle.ii_base.specs.Entries.{document};
 
 use bytes::Bytes;
 use ii_base::{Fault, IndexRecordOption};
-use ii_docset::{CursorAnswer, CursorCall, DocId, DocSet, TERMINATED, Walk, walk};
+use ii_docset::{CursorAnswer, CursorCall, DocId, DocSet, TERMINATED, walk};
 use ii_reader::SegmentPostings;
 use std::alloc::Global;
 
@@ -14,6 +14,16 @@ static THREE: [u8; 3] = [0x80, 0x82, 0x88];
 
 // Where a cursor over them stands after so many of the calls.
 const PLACES: [DocId; 7] = [0, 0, 2, 2, 10, 10, TERMINATED];
+
+// What the calls answer.
+const ANSWERS: [CursorAnswer; 6] = [
+    CursorAnswer::Doc(0),
+    CursorAnswer::Doc(2),
+    CursorAnswer::Doc(2),
+    CursorAnswer::Doc(10),
+    CursorAnswer::Doc(10),
+    CursorAnswer::Doc(TERMINATED),
+];
 
 /// A cursor over them.
 pub fn three() -> Result<SegmentPostings, Fault>
@@ -39,32 +49,13 @@ pub fn read_back(alloc: Global) -> Result<String, Fault> {
         CursorCall::Advance,
     ];
     let walked = walk(alloc, &mut cursor, &calls);
-    told(alloc, &walked, cursor.doc())
-}
-
-// What a walk tells that left its cursor at a document.
-fn told(alloc: Global, walked: &Walk, doc: DocId) -> Result<String, Fault> {
-    let mut text = String::new(alloc);
-    let count = walked.answers.len();
-    if !are_of_first(walked.answers.as_slice()) || PLACES.get(count) != Some(&doc) {
-        text.push_str(" stands elsewhere")?;
-    } else if walked.complete {
-        write!(text, " {count} calls to the end")?;
-    } else {
-        text.push_str(" out of memory")?;
+    let answers = walked.answers.as_slice();
+    let place = PLACES.get(answers.len());
+    if !ANSWERS.as_slice().starts_with(answers) || place != Some(&cursor.doc()) {
+        return Ok(String::from_str(alloc, " stands elsewhere")?);
     }
-    Ok(text)
-}
-
-// Whether these are the answers to the first of the calls.
-fn are_of_first(answers: &[CursorAnswer]) -> bool {
-    let want = [
-        CursorAnswer::Doc(0),
-        CursorAnswer::Doc(2),
-        CursorAnswer::Doc(2),
-        CursorAnswer::Doc(10),
-        CursorAnswer::Doc(10),
-        CursorAnswer::Doc(TERMINATED),
-    ];
-    want.as_slice().starts_with(answers)
+    if !walked.complete {
+        return Ok(String::from_str(alloc, " out of memory")?);
+    }
+    Ok(format!(in alloc; " {} calls to the end", answers.len())?)
 }
