@@ -150,9 +150,11 @@ fn are_spelled<T: TextAnalyzer>(
     text: &str,
     spelled: &str,
 ) -> Result<[bool; 2], Fault> {
-    let cut = spell_stream(alloc, &mut analyzer.token_list(alloc, text)?)?.as_str() == spelled;
-    let lent = spell_stream(alloc, &mut analyzer.token_stream(text))?.as_str() == spelled;
-    Ok([cut, lent])
+    let mut tokens = analyzer.token_list(alloc, text)?;
+    let cut = spell_stream(alloc, &mut tokens)?;
+    let mut tokens = analyzer.token_stream(text);
+    let lent = spell_stream(alloc, &mut tokens)?;
+    Ok([cut.as_str() == spelled, lent.as_str() == spelled])
 }
 
 #[test]

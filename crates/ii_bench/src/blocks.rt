@@ -87,8 +87,9 @@ fn print_block(rt: &HostRuntime, what: &str, width: &str, took: Duration) -> Res
 
 // A row of vints, each of the same number, is read as the differences of sorted values.
 fn measure_vints(rt: &HostRuntime, name: &str, difference: u32) -> Result<()> {
+    let differences = [difference; ROW];
     let mut encoder = BlockEncoder::new();
-    let bytes = encoder.compress_vint_unsorted(&[difference; ROW]);
+    let bytes = encoder.compress_vint_unsorted(&differences);
     let mut decoder = BlockDecoder::with_val(0);
     let mut least = Duration::MAX;
     for _ in 0..ROUNDS {

@@ -36,8 +36,8 @@ pub fn measure(rt: &HostRuntime) -> Result<()> {
     let mut bytes = [0; 2];
     for _ in 0..ROUNDS {
         let (took, of_round) = round(rt)?;
-        for (least, took) in least.iter_mut().zip(took.iter()) {
-            *least = *took.min(least);
+        for k in 0..3 {
+            least[k] = least[k].min(took[k]);
         }
         bytes = of_round;
     }

@@ -127,7 +127,8 @@ fn push_postings(
     reader: &InvertedIndexReader,
     term: Result<Term, Fault>,
 ) -> Result<(), Fault> {
-    let Some(mut cursor) = reader.read_postings(&term?, FULL)? else {
+    let term = term?;
+    let Some(mut cursor) = reader.read_postings(&term, FULL)? else {
         return Ok(text.push_str(" not there")?);
     };
     for _ in 0..cursor.doc_freq() {

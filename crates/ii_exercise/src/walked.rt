@@ -15,16 +15,6 @@ static THREE: [u8; 3] = [0x80, 0x82, 0x88];
 // Where a cursor over them stands after so many of the calls.
 const PLACES: [DocId; 7] = [0, 0, 2, 2, 10, 10, TERMINATED];
 
-// What the calls answer.
-const ANSWERS: [CursorAnswer; 6] = [
-    CursorAnswer::Doc(0),
-    CursorAnswer::Doc(2),
-    CursorAnswer::Doc(2),
-    CursorAnswer::Doc(10),
-    CursorAnswer::Doc(10),
-    CursorAnswer::Doc(TERMINATED),
-];
-
 /// A cursor over them.
 pub fn three() -> Result<SegmentPostings, Fault>
     ensures { IfOk result (λ cursor. cursor.rest ≡ document 0 ∷ document 2 ∷ document 10 ∷ []) }
@@ -51,11 +41,24 @@ pub fn read_back(alloc: Global) -> Result<String, Fault> {
     let walked = walk(alloc, &mut cursor, &calls);
     let answers = walked.answers.as_slice();
     let place = PLACES.get(answers.len());
-    if !ANSWERS.as_slice().starts_with(answers) || place != Some(&cursor.doc()) {
+    if !are_of_first(answers) || place != Some(&cursor.doc()) {
         return Ok(String::from_str(alloc, " stands elsewhere")?);
     }
     if !walked.complete {
         return Ok(String::from_str(alloc, " out of memory")?);
     }
     Ok(format!(in alloc; " {} calls to the end", answers.len())?)
+}
+
+// Whether these are the answers to the first of the calls.
+fn are_of_first(answers: &[CursorAnswer]) -> bool {
+    let want = [
+        CursorAnswer::Doc(0),
+        CursorAnswer::Doc(2),
+        CursorAnswer::Doc(2),
+        CursorAnswer::Doc(10),
+        CursorAnswer::Doc(10),
+        CursorAnswer::Doc(TERMINATED),
+    ];
+    want.as_slice().starts_with(answers)
 }

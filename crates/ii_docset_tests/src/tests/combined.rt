@@ -31,8 +31,9 @@ fn cursors_are_combined(rt: HostRuntime) {
 fn asked<D: DocSet>(cursor: &mut D, docs: [DocId; 2]) -> ([SeekDangerResult; 2], DocId) {
     let mut answers = [SeekDangerResult::Found; 2];
     for k in 0..2 {
-        if docs[k] <= TERMINATED {
-            answers[k] = cursor.seek_danger(docs[k]);
+        let doc = docs[k];
+        if doc <= TERMINATED {
+            answers[k] = cursor.seek_danger(doc);
         }
     }
     (answers, cursor.doc())
