@@ -46,115 +46,77 @@ fn gather(text: &mut String, path: &str, leaf: JsonLeaf<'_>) -> Result<(), Fault
     Ok(())
 }
 
-// Gathers the leaves of a value.
-fn visit(
-    alloc: Global,
-    value: &JsonValue,
-    expand_dots: bool,
-    gathered: &mut Gathered,
-) -> Result<(), Fault> {
+// The leaves of a value, the dots of whose keys are expanded.
+fn leaves_of(alloc: Global, value: &JsonValue) -> Result<String, Fault> {
     let mut writer = JsonPathWriter::new(alloc);
-    writer.set_expand_dots(expand_dots);
-    visit_leaves(value, &mut writer, gathered)
-}
-
-// The leaves of a value that is lent.
-fn leaves_in(alloc: Global, value: &JsonValue, expand_dots: bool) -> Result<String, Fault> {
+    writer.set_expand_dots(true);
     let mut gathered = Gathered {
         text: String::new(alloc),
     };
-    visit(alloc, value, expand_dots, &mut gathered)?;
+    visit_leaves(value, &mut writer, &mut gathered)?;
     Ok(gathered.text)
 }
 
-// The leaves of a value.
-fn leaves_of(alloc: Global, value: JsonValue, expand_dots: bool) -> Result<String, Fault> {
-    leaves_in(alloc, &value, expand_dots)
-}
-
-fn pair(alloc: Global, key: &str, value: JsonValue) -> Result<(String, JsonValue), Fault> {
-    Ok((String::from_str(alloc, key)?, value))
+// Adds a member whose value was made.
+fn push(
+    alloc: Global,
+    members: &mut Vec<(String, JsonValue)>,
+    key: &str,
+    value: Result<JsonValue, Fault>,
+) -> Result<(), Fault> {
+    let value = value?;
+    members.push((String::from_str(alloc, key)?, value))?;
+    Ok(())
 }
 
 // An object of one member.
 fn object(alloc: Global, key: &str, value: JsonValue) -> Result<JsonValue, Fault> {
     let mut members = Vec::new(alloc);
-    members.push(pair(alloc, key, value)?)?;
+    push(alloc, &mut members, key, Ok(value))?;
     Ok(JsonValue::Object(members))
 }
 
-fn named(alloc: Global, name: &str) -> Result<JsonValue, Fault> {
-    let name = JsonValue::Str(String::from_str(alloc, name)?);
-    object(alloc, "band_name", name)
-}
-
-// Two bands.
+// A list of two objects.
 fn bands(alloc: Global) -> Result<JsonValue, Fault> {
     let mut bands = Vec::new(alloc);
-    bands.push(named(alloc, "Elliot Smith")?)?;
-    bands.push(named(alloc, "The Who")?)?;
-    object(alloc, "bands", JsonValue::Array(bands))
+    for name in ["Elliot Smith", "The Who"] {
+        let name = JsonValue::Str(String::from_str(alloc, name)?);
+        bands.push(object(alloc, "band_name", name)?)?;
+    }
+    Ok(JsonValue::Array(bands))
 }
 
-static LEAVES_OF_BANDS: &str = "bands\u{1}band_name=Elliot Smith;bands\u{1}band_name=The Who;";
-
-#[test]
-fn elements_keep_their_path(rt: HostRuntime) -> Result<(), Fail> {
-    let leaves = leaves_of(rt.alloc(), bands(rt.alloc())?, false)?;
-    assert!(rt; leaves.as_str() == LEAVES_OF_BANDS);
-    Ok(())
-}
-
-// Adds a member.
-fn push_pair(
-    alloc: Global,
-    members: &mut Vec<(String, JsonValue)>,
-    key: &str,
-    value: JsonValue,
-) -> Result<(), Fault> {
-    members.push(pair(alloc, key, value)?)?;
-    Ok(())
-}
-
-// Adds a key that stands twice, and one that holds byte 0.
-fn push_keys(alloc: Global, members: &mut Vec<(String, JsonValue)>) -> Result<(), Fault> {
-    push_pair(alloc, members, "a", object(alloc, "b", JsonValue::U64(1))?)?;
-    push_pair(alloc, members, "a", JsonValue::U64(2))?;
-    push_pair(alloc, members, "c\0", JsonValue::F64Bits(3))
-}
-
-// An object of these.
-fn keys(alloc: Global) -> Result<JsonValue, Fault> {
+// An object of these, of a key that stands twice, of one that holds byte 0, and of keys with a dot.
+fn all(alloc: Global) -> Result<JsonValue, Fault> {
     let mut members = Vec::new(alloc);
-    push_keys(alloc, &mut members)?;
+    push(alloc, &mut members, "bands", bands(alloc))?;
+    push(
+        alloc,
+        &mut members,
+        "a",
+        object(alloc, "b", JsonValue::U64(1)),
+    )?;
+    push(alloc, &mut members, "a", Ok(JsonValue::U64(2)))?;
+    push(alloc, &mut members, "c\0", Ok(JsonValue::F64Bits(3)))?;
+    push(alloc, &mut members, "k8s.node", Ok(JsonValue::Null))?;
+    push(alloc, &mut members, "k8s.node", Ok(JsonValue::I64(-1)))?;
     Ok(JsonValue::Object(members))
 }
 
-static LEAVES_OF_KEYS: &str = "a\u{1}b=i;a=i;";
+// Elements of a list have its path, and what stands under a key that holds byte 0 is left out.
+static LEAVES: &str = concat!(
+    "bands\u{1}band_name=Elliot Smith;",
+    "bands\u{1}band_name=The Who;",
+    "a\u{1}b=i;",
+    "a=i;",
+    "k8s\u{1}node=i;",
+);
 
 #[test]
-fn keys_that_hold_byte_0_are_left_out(rt: HostRuntime) -> Result<(), Fail> {
-    let leaves = leaves_of(rt.alloc(), keys(rt.alloc())?, false)?;
-    assert!(rt; leaves.as_str() == LEAVES_OF_KEYS);
-    Ok(())
-}
-
-#[test]
-fn leaves_at_the_root_have_no_path(rt: HostRuntime) -> Result<(), Fail> {
-    let leaves = leaves_of(rt.alloc(), JsonValue::Bool(true), false)?;
-    assert!(rt; leaves.as_str() == "=o;");
-    Ok(())
-}
-
-// The leaves of a value under a key with a dot, which is expanded.
-fn leaves_of_node(alloc: Global, value: JsonValue) -> Result<String, Fault> {
-    leaves_of(alloc, object(alloc, "k8s.node", value)?, true)
-}
-
-#[test]
-fn dots_of_keys_are_expanded(rt: HostRuntime) -> Result<(), Fail> {
-    let none = leaves_of_node(rt.alloc(), JsonValue::Null)?;
-    let leaves = leaves_of_node(rt.alloc(), JsonValue::I64(-1))?;
-    assert!(rt; (none.as_str(), leaves.as_str()) == ("", "k8s\u{1}node=i;"));
+fn leaves_have_paths(rt: HostRuntime) -> Result<(), Fail> {
+    let leaves = leaves_of(rt.alloc(), &all(rt.alloc())?)?;
+    assert!(rt; leaves.as_str() == LEAVES);
+    let root = leaves_of(rt.alloc(), &JsonValue::Bool(true))?;
+    assert!(rt; root.as_str() == "=o;");
     Ok(())
 }

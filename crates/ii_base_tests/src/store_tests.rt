@@ -1,7 +1,7 @@
 use ii_store::save::{remove_unused, save};
 use ii_store::{
-    Directory, DirectoryFault, Folder, Kind, LeftIndex, MemoryDirectory, Name, Slot, StoreFault,
-    StoredIndex, load, load_left,
+    Directory, DirectoryFault, Folder, Kind, MemoryDirectory, Name, Slot, StoreFault, StoredIndex,
+    load, load_left,
 };
 use std::alloc::Global;
 use std::fs;
@@ -21,17 +21,10 @@ fn index_of(alloc: Global, number: u8) -> Result<StoredIndex, DirectoryFault> {
 
 // The number of the index that is there, 100 where it isn't whole, 255 where there is none.
 fn found<D: Directory>(alloc: Global, directory: &D) -> u8 {
-    match load(alloc, directory) {
-        Ok(index) => number_of(&index),
-        Err(_) => 255,
-    }
-}
-
-fn number_of(index: &StoredIndex) -> u8 {
-    if index.terms.len() != 3 || index.num_docs > 9 {
-        return 100;
-    }
-    if index.terms[0] != index.num_docs as u8 {
+    let Ok(index) = load(alloc, directory) else {
+        return 255;
+    };
+    if index.terms.len() != 3 || index.num_docs > 9 || index.terms[0] != index.num_docs as u8 {
         return 100;
     }
     index.terms[0]
@@ -46,27 +39,31 @@ fn found_after_stop(alloc: Global, calls: u64) -> Result<u8, DirectoryFault> {
     Ok(found(alloc, &directory))
 }
 
-fn found_after_stops(alloc: Global) -> Result<Vec<u8>, DirectoryFault> {
-    let mut answers = Vec::new(alloc);
-    for calls in 0..9u64 {
-        answers.push(found_after_stop(alloc, calls)?)?;
-    }
-    Ok(answers)
-}
-
 #[test]
-fn a_stop_leaves_the_old_index_or_the_new_one(rt: HostRuntime) -> Result<(), Fail> {
-    let answers = found_after_stops(rt.alloc()).ok().ok_or("memory")?;
-    assert!(rt; answers.as_slice() == [1, 1, 1, 1, 1, 1, 1, 2, 2].as_slice());
-    Ok(())
+fn a_stop_leaves_the_old_index_or_the_new_one(rt: HostRuntime) {
+    for calls in 0..9u64 {
+        let want = if calls < 7 { 1 } else { 2 };
+        assert!(rt;
+            found_after_stop(rt.alloc(), calls).ok() == Some(want),
+            "{calls} calls"
+        );
+    }
 }
 
-// What is told of an index, one of whose files has these bytes.
-fn told(alloc: Global, name: Name, bytes: &[u8]) -> Result<String, DirectoryFault> {
+// Whether this is told of an index, one of whose files has these bytes, or is taken away.
+fn is_told(
+    alloc: Global,
+    name: Name,
+    bytes: Option<&[u8]>,
+    want: &str,
+) -> Result<bool, DirectoryFault> {
     let mut directory = MemoryDirectory::new(alloc);
     save(alloc, &mut directory, &index_of(alloc, 1)?)?;
-    directory.write(name, bytes)?;
-    told_of(alloc, &directory)
+    match bytes {
+        Some(bytes) => directory.write(name, bytes)?,
+        None => directory.remove(name)?,
+    }
+    Ok(told_of(alloc, &directory)?.as_str() == want)
 }
 
 fn told_of<D: Directory>(alloc: Global, directory: &D) -> Result<String, DirectoryFault> {
@@ -77,44 +74,60 @@ fn told_of<D: Directory>(alloc: Global, directory: &D) -> Result<String, Directo
     }
 }
 
-fn told_of_missing(alloc: Global, name: Name) -> Result<String, DirectoryFault> {
-    let mut directory = MemoryDirectory::new(alloc);
-    save(alloc, &mut directory, &index_of(alloc, 1)?)?;
-    directory.remove(name)?;
-    told_of(alloc, &directory)
-}
+const POSTINGS: Name = Name::File(Slot::First, Kind::Postings);
 
-static OTHER_VERSION: &[u8] = b"nequllpa\x02\x00\x00\x00";
-
-fn all_told(alloc: Global) -> Result<String, DirectoryFault> {
-    let postings = Name::File(Slot::First, Kind::Postings);
-    let none = told_of(alloc, &MemoryDirectory::new(alloc))?;
-    let version = told(alloc, Name::Meta, OTHER_VERSION)?;
-    let cut = told(alloc, Name::Meta, &OTHER_VERSION[..9])?;
-    let missing = told_of_missing(alloc, postings)?;
-    let longer = told(alloc, postings, &OTHER_VERSION[..3])?;
-    let changed = told(alloc, postings, &OTHER_VERSION[..2])?;
-    let unused = told(
-        alloc,
+// Files with other bytes, or none, and what is told then.
+static TOLD: [(Name, Option<&'static [u8]>, &'static str); 6] = [
+    (
+        Name::Meta,
+        Some(b"nequllpa\x02\x00\x00\x00"),
+        "an index of version 2",
+    ),
+    (
+        Name::Meta,
+        Some(b"nequllpa\x02"),
+        "the file meta is damaged",
+    ),
+    (POSTINGS, None, "the file of postings is missing"),
+    (
+        POSTINGS,
+        Some(b"neq"),
+        "the file of postings has another length than meta says",
+    ),
+    (
+        POSTINGS,
+        Some(b"ne"),
+        "the file of postings has another checksum than meta says",
+    ),
+    (
         Name::File(Slot::Second, Kind::Postings),
-        OTHER_VERSION,
-    )?;
-    Ok(format!(in alloc; "{none}; {version}; {cut}; {missing}; {longer}; {changed}; {unused}")?)
-}
+        Some(b"nequllpa\x02\x00\x00\x00"),
+        "found",
+    ),
+];
 
 #[test]
-fn each_fault_has_its_name(rt: HostRuntime) -> Result<(), Fail> {
-    let told = all_told(rt.alloc()).ok().ok_or("memory")?;
-    assert!(rt;
-        told.as_str()
-            == "no index here; an index of version 2; the file meta is damaged; the file of postings is missing; the file of postings has another length than meta says; the file of postings has another checksum than meta says; found"
-    );
-    Ok(())
+fn each_fault_has_its_name(rt: HostRuntime) {
+    for (name, bytes, want) in TOLD {
+        assert!(rt;
+            is_told(rt.alloc(), name, bytes, want).ok() == Some(true),
+            "{want}"
+        );
+    }
 }
 
-// What is left of an index, a line for each file: how many bytes it has, and its fault.
-fn told_left(alloc: Global, left: &LeftIndex) -> Result<String, DirectoryFault> {
-    let mut told = format!(in alloc; "{} documents", left.num_docs)?;
+// Adds what is left of an index: how many bytes each file has, and its fault.
+fn push_left<D: Directory>(
+    alloc: Global,
+    told: &mut String,
+    directory: &D,
+) -> Result<(), DirectoryFault> {
+    let left = match load_left(alloc, directory) {
+        Ok(left) => left,
+        Err(StoreFault::Index(fault)) => return Ok(write!(told, "{fault}\n")?),
+        Err(StoreFault::Directory(fault)) => return Err(fault),
+    };
+    write!(told, "{} documents", left.num_docs)?;
     for number in 0..Kind::COUNT {
         let file = left.file_of(Kind::at(number));
         match file.fault {
@@ -122,42 +135,39 @@ fn told_left(alloc: Global, left: &LeftIndex) -> Result<String, DirectoryFault> 
             None => write!(told, "; {} bytes", file.bytes.len())?,
         }
     }
+    Ok(told.push('\n')?)
+}
+
+// The same of no index, of one, of one whose files of postings, positions and norms were changed, cut and
+// taken away, and of one whose guard was cut.
+fn all_left(alloc: Global) -> Result<String, DirectoryFault> {
+    let mut told = String::new(alloc);
+    let mut directory = MemoryDirectory::new(alloc);
+    push_left(alloc, &mut told, &directory)?;
+    save(alloc, &mut directory, &index_of(alloc, 7)?)?;
+    push_left(alloc, &mut told, &directory)?;
+    directory.write(POSTINGS, b"ne")?;
+    directory.write(Name::File(Slot::First, Kind::Positions), b"neq")?;
+    directory.remove(Name::File(Slot::First, Kind::FieldNorms))?;
+    push_left(alloc, &mut told, &directory)?;
+    directory.write(Name::Meta, b"nequllpa\x02\x00\x00\x00")?;
+    push_left(alloc, &mut told, &directory)?;
     Ok(told)
 }
 
-fn told_left_of<D: Directory>(alloc: Global, directory: &D) -> Result<String, DirectoryFault> {
-    match load_left(alloc, directory) {
-        Ok(left) => told_left(alloc, &left),
-        Err(StoreFault::Index(fault)) => Ok(format!(in alloc; "{fault}")?),
-        Err(StoreFault::Directory(fault)) => Ok(format!(in alloc; "{fault}")?),
-    }
-}
-
-// The same of an index whose files of postings, positions and norms were changed, cut and taken away, and
-// of one whose guard was cut.
-fn all_told_left(alloc: Global) -> Result<String, DirectoryFault> {
-    let mut directory = MemoryDirectory::new(alloc);
-    save(alloc, &mut directory, &index_of(alloc, 7)?)?;
-    let whole = told_left_of(alloc, &directory)?;
-    directory.write(Name::File(Slot::First, Kind::Postings), &OTHER_VERSION[..2])?;
-    directory.write(
-        Name::File(Slot::First, Kind::Positions),
-        &OTHER_VERSION[..3],
-    )?;
-    directory.remove(Name::File(Slot::First, Kind::FieldNorms))?;
-    let changed = told_left_of(alloc, &directory)?;
-    directory.write(Name::Meta, OTHER_VERSION)?;
-    let version = told_left_of(alloc, &directory)?;
-    Ok(format!(in alloc; "{whole}\n{changed}\n{version}")?)
-}
+static LEFT: &str = concat!(
+    "no index here\n",
+    "7 documents; 2 bytes; 3 bytes; 2 bytes; 0 bytes; 1 bytes\n",
+    "7 documents; 2 bytes; 3 bytes; 2 bytes, the file of postings has another checksum than meta says",
+    "; 3 bytes, the file of positions has another length than meta says",
+    "; 0 bytes, the file of field norms is missing\n",
+    "an index of version 2\n",
+);
 
 #[test]
 fn files_are_left_with_their_faults(rt: HostRuntime) -> Result<(), Fail> {
-    let told = all_told_left(rt.alloc()).ok().ok_or("memory")?;
-    assert!(rt;
-        told.as_str()
-            == "7 documents; 2 bytes; 3 bytes; 2 bytes; 0 bytes; 1 bytes\n7 documents; 2 bytes; 3 bytes; 2 bytes, the file of postings has another checksum than meta says; 3 bytes, the file of positions has another length than meta says; 0 bytes, the file of field norms is missing\nan index of version 2"
-    );
+    let told = all_left(rt.alloc()).ok().ok_or("memory")?;
+    assert!(rt; told.as_str() == LEFT);
     Ok(())
 }
 

@@ -1,7 +1,6 @@
-use crate::table::{Measured, ROUNDS, print_numbered, print_parts};
+use crate::table::{ROUNDS, print_row};
 use anyhow::Result;
 use ii_codes::{BlockDecoder, BlockEncoder, VIntEncoder};
-use std::io;
 use std::time::{Duration, Instant};
 
 /// How many blocks are packed or unpacked in a round.
@@ -10,10 +9,19 @@ const BLOCKS: u32 = 20_000;
 /// How many vints a row has, the most that end a list.
 const ROW: usize = 127;
 
+static WIDTHS: [(u32, &str); 6] = [
+    (1, "1"),
+    (4, "4"),
+    (7, "7"),
+    (12, "12"),
+    (20, "20"),
+    (32, "32"),
+];
+
 /// Prints what blocks of six widths take, and rows of vints of one byte and of two.
 pub fn measure(rt: &HostRuntime) -> Result<()> {
-    for width in [1u32, 4, 7, 12, 20, 32] {
-        measure_width(rt, width)?;
+    for (width, name) in WIDTHS {
+        measure_width(rt, width, name)?;
     }
     measure_vints(rt, "one byte", 100)?;
     measure_vints(rt, "two bytes", 10_000)
@@ -31,82 +39,50 @@ fn entries(width: u32) -> [u32; 128] {
     entries
 }
 
-// A block is packed, unpacked, and unpacked as sorted values.
-fn measure_width(rt: &HostRuntime, width: u32) -> Result<()> {
+// A block is packed, and then unpacked from its bytes with others after them, as it stands in a list.
+fn measure_width(rt: &HostRuntime, width: u32, name: &str) -> Result<()> {
     let block = entries(width);
     let mut encoder = BlockEncoder::new();
-    let packing = pack(rt, &mut encoder, &block)?;
-    print_width(rt, "packing, width ", width, &packing)?;
-    let (num_bits, packed) = encoder.compress_block_unsorted(&block, false);
-    measure_unpacking(rt, width, &followed(packed), num_bits)
-}
-
-fn measure_unpacking(rt: &HostRuntime, width: u32, bytes: &[u8], num_bits: u8) -> Result<()> {
-    let unsorted = unpack(rt, bytes, num_bits)?;
-    print_width(rt, "unpacking, width ", width, &unsorted)?;
-    let sorted = unpack_sorted(rt, bytes, num_bits)?;
-    print_width(rt, "unpacking sorted values, width ", width, &sorted)
-}
-
-fn print_width(rt: &HostRuntime, what: &str, width: u32, measured: &Measured) -> Result<()> {
-    let number = u64::from(width);
-    Ok(print_numbered(rt, what, number, [": a block", "", ""], measured)?)
-}
-
-// Bytes of a block and bytes after it, as it stands in a list.
-fn followed(packed: &[u8]) -> [u8; 640] {
-    let mut bytes = [0u8; 640];
-    for (byte, from) in bytes.iter_mut().zip(packed.iter()) {
-        *byte = *from;
-    }
-    bytes
-}
-
-// What so many rounds over blocks took at least.
-fn of_blocks(took: Duration) -> Measured {
-    Measured {
-        took,
-        items: u64::from(BLOCKS),
-        bytes: 512 * u64::from(BLOCKS),
-    }
-}
-
-fn pack(rt: &HostRuntime, encoder: &mut BlockEncoder, block: &[u32; 128]) -> io::Result<Measured> {
     let mut least = Duration::MAX;
     for _ in 0..ROUNDS {
         let start = Instant::now(rt)?;
         for _ in 0..BLOCKS {
-            let _packed = encoder.compress_block_unsorted(block, false);
+            let _packed = encoder.compress_block_unsorted(&block, false);
         }
         least = least.min(start.elapsed(rt)?);
     }
-    Ok(of_blocks(least))
+    print_block(rt, "packing, width ", name, least)?;
+    let mut bytes = [0u8; 640];
+    let (num_bits, packed) = encoder.compress_block_unsorted(&block, false);
+    for (byte, from) in bytes.iter_mut().zip(packed.iter()) {
+        *byte = *from;
+    }
+    measure_unpacking(rt, name, &bytes, num_bits)
 }
 
-fn unpack(rt: &HostRuntime, bytes: &[u8], num_bits: u8) -> io::Result<Measured> {
+// The block is unpacked, and unpacked as sorted values.
+fn measure_unpacking(rt: &HostRuntime, name: &str, bytes: &[u8], num_bits: u8) -> Result<()> {
     let mut decoder = BlockDecoder::with_val(0);
-    let mut least = Duration::MAX;
+    let (mut unsorted, mut sorted) = (Duration::MAX, Duration::MAX);
     for _ in 0..ROUNDS {
         let start = Instant::now(rt)?;
         for _ in 0..BLOCKS {
             let _size = decoder.try_uncompress_block_unsorted(bytes, num_bits, false);
         }
-        least = least.min(start.elapsed(rt)?);
-    }
-    Ok(of_blocks(least))
-}
-
-fn unpack_sorted(rt: &HostRuntime, bytes: &[u8], num_bits: u8) -> io::Result<Measured> {
-    let mut decoder = BlockDecoder::with_val(0);
-    let mut least = Duration::MAX;
-    for _ in 0..ROUNDS {
+        unsorted = unsorted.min(start.elapsed(rt)?);
         let start = Instant::now(rt)?;
         for _ in 0..BLOCKS {
             let _size = decoder.try_uncompress_block_sorted(bytes, 1000, num_bits, true);
         }
-        least = least.min(start.elapsed(rt)?);
+        sorted = sorted.min(start.elapsed(rt)?);
     }
-    Ok(of_blocks(least))
+    print_block(rt, "unpacking, width ", name, unsorted)?;
+    print_block(rt, "unpacking sorted values, width ", name, sorted)
+}
+
+fn print_block(rt: &HostRuntime, what: &str, width: &str, took: Duration) -> Result<()> {
+    let blocks = u64::from(BLOCKS);
+    Ok(print_row(rt, [what, width, ": a block"], took, blocks, 512 * blocks)?)
 }
 
 // A row of vints, each of the same number, is read as the differences of sorted values.
@@ -114,11 +90,6 @@ fn measure_vints(rt: &HostRuntime, name: &str, difference: u32) -> Result<()> {
     let differences = [difference; ROW];
     let mut encoder = BlockEncoder::new();
     let bytes = encoder.compress_vint_unsorted(&differences);
-    let measured = read_vints(rt, bytes)?;
-    Ok(print_parts(rt, ["sorted vints of ", name, ": a value"], &measured)?)
-}
-
-fn read_vints(rt: &HostRuntime, bytes: &[u8]) -> io::Result<Measured> {
     let mut decoder = BlockDecoder::with_val(0);
     let mut least = Duration::MAX;
     for _ in 0..ROUNDS {
@@ -129,9 +100,11 @@ fn read_vints(rt: &HostRuntime, bytes: &[u8]) -> io::Result<Measured> {
         least = least.min(start.elapsed(rt)?);
     }
     let items = ROW as u64 * u64::from(BLOCKS);
-    Ok(Measured {
-        took: least,
+    Ok(print_row(
+        rt,
+        ["sorted vints of ", name, ": a value"],
+        least,
         items,
-        bytes: 4 * items,
-    })
+        4 * items,
+    )?)
 }

@@ -1,4 +1,4 @@
-use crate::table::{Measured, ROUNDS, print_numbered, since};
+use crate::table::{ROUNDS, print_row, since};
 use anyhow::Result;
 use bytes::Bytes;
 use ii_base::{CompositeFile, Fault, IndexRecordOption, write_u32_vint};
@@ -8,9 +8,7 @@ use std::alloc::Global;
 use std::time::{Duration, Instant};
 
 /// How many entries the smaller bytes have, and the greater ones.
-const FEW: u32 = 5_000;
-
-const MANY: u32 = 40_000;
+const COUNTS: [(u32, &str); 2] = [(5_000, "5,000"), (40_000, "40,000")];
 
 /// The formats, each with the bytes that cost most for their number.
 #[derive(Clone, Copy)]
@@ -27,72 +25,52 @@ enum Format {
     Store,
 }
 
+const FORMATS: [(Format, &str); 5] = [
+    (Format::Documents, " blocks of documents of width 0: a byte"),
+    (Format::Counts, " blocks of counts of width 0: a byte"),
+    (Format::Positions, " blocks of positions of width 0: a byte"),
+    (Format::Composite, " fields of one body: a byte"),
+    (Format::Store, " blocks of terms of the same bits: a byte"),
+];
+
 /// Prints what it takes to open bytes that cost the most for their number, so many of them and eight times
 /// as many.
 pub fn measure(rt: &HostRuntime) -> Result<()> {
-    measure_format(rt, "documents of width 0", Format::Documents)?;
-    measure_format(rt, "counts of width 0", Format::Counts)?;
-    measure_format(rt, "positions of width 0", Format::Positions)?;
-    measure_format(rt, "fields of one body", Format::Composite)?;
-    measure_format(rt, "terms of the same bits", Format::Store)
-}
-
-fn measure_format(rt: &HostRuntime, name: &str, format: Format) -> Result<()> {
-    for count in [FEW, MANY] {
-        let measured = measure_count(rt, format, count)?;
-        let after = [" bytes, ", name, ": a byte"];
-        print_numbered(rt, "opening ", measured.bytes, after, &measured)?;
+    for (format, name) in FORMATS {
+        for (count, number) in COUNTS {
+            measure_count(rt, format, count, ["opening ", number, name])?;
+        }
     }
     Ok(())
 }
 
-fn measure_count(rt: &HostRuntime, format: Format, count: u32) -> Result<Measured> {
-    let costly = Costly::made(rt.alloc(), format, count)?;
-    open(rt, format, &costly)
-}
-
-/// Bytes, those of positions, and how many documents or terms they have.
-#[derive(Drop)]
-struct Costly {
-    bytes: Bytes,
-    positions: Bytes,
-    count: u32,
-}
-
-impl Costly {
-    fn made(alloc: Global, format: Format, count: u32) -> Result<Costly, Fault> {
-        let bytes = bytes_of(alloc, format, count)?;
-        Ok(Costly {
-            bytes,
-            positions: positions_of(alloc, format, count)?,
-            count: count.saturating_mul(128),
-        })
+fn measure_count(rt: &HostRuntime, format: Format, count: u32, name: [&str; 3]) -> Result<()> {
+    let bytes = bytes_of(rt.alloc(), format, count)?;
+    let positions = widths(rt.alloc(), count)?;
+    let mut least = Duration::MAX;
+    for _ in 0..ROUNDS {
+        let (bytes, positions) = (bytes.clone()?, positions.clone()?);
+        let start = Instant::now(rt);
+        open_once(rt.alloc(), format, bytes, positions, count)?;
+        least = least.min(since(rt, start)?);
     }
+    let mut len = bytes.len() as u64;
+    if matches!(format, Format::Positions) {
+        len = len.saturating_add(positions.len() as u64);
+    }
+    Ok(print_row(rt, name, least, len, len)?)
 }
 
 fn bytes_of(alloc: Global, format: Format, count: u32) -> Result<Bytes, Fault> {
     let mut bytes = Vec::new(alloc);
-    push_bytes(&mut bytes, format, count)?;
-    Ok(Bytes::from_vec(bytes)?)
-}
-
-fn push_bytes(bytes: &mut Vec<u8>, format: Format, count: u32) -> Result<(), Fault> {
     match format {
-        Format::Documents => push_blocks(bytes, count, 5, &[]),
-        Format::Counts => push_blocks(bytes, count, 8, &[0; 3]),
-        Format::Positions => push_blocks(bytes, count, 12, &[0, 128, 0, 0, 0, 0, 0]),
-        Format::Composite => push_fields(bytes, count),
-        Format::Store => push_metas(bytes, count),
+        Format::Documents => push_blocks(&mut bytes, count, 5, &[])?,
+        Format::Counts => push_blocks(&mut bytes, count, 8, &[0; 3])?,
+        Format::Positions => push_blocks(&mut bytes, count, 12, &[0, 128, 0, 0, 0, 0, 0])?,
+        Format::Composite => push_fields(&mut bytes, count)?,
+        Format::Store => push_metas(&mut bytes, count)?,
     }
-}
-
-// The bytes of positions, none where a format has none.
-fn positions_of(alloc: Global, format: Format, count: u32) -> Result<Bytes, Fault> {
-    let mut positions = Vec::new(alloc);
-    if matches!(format, Format::Positions) {
-        push_widths(&mut positions, count)?;
-    }
-    Ok(Bytes::from_vec(positions)?)
+    Ok(Bytes::from_vec(bytes)?)
 }
 
 // Skip entries of full blocks without gaps, of so many bytes each, with these behind its code.
@@ -108,23 +86,13 @@ fn push_blocks(bytes: &mut Vec<u8>, count: u32, size: u32, rest: &[u8]) -> Resul
     Ok(())
 }
 
-// Blocks of positions of width 0.
-fn push_widths(bytes: &mut Vec<u8>, count: u32) -> Result<(), Fault> {
-    write_u32_vint(count, bytes)?;
-    for _ in 0..count {
-        bytes.push(0)?;
-    }
-    Ok(())
-}
-
 // A table of fields whose bodies are empty.
 fn push_fields(bytes: &mut Vec<u8>, count: u32) -> Result<(), Fault> {
     for id in 0..count {
         bytes.extend_from_slice(&id.to_le_bytes())?;
         bytes.extend_from_slice(&[0; 16])?;
     }
-    bytes.extend_from_slice(&count.to_le_bytes())?;
-    Ok(())
+    Ok(bytes.extend_from_slice(&count.to_le_bytes())?)
 }
 
 // Metas of blocks of 256 terms with numbers of 7 bits, and the bits of one block, all of them 0.
@@ -135,25 +103,17 @@ fn push_metas(bytes: &mut Vec<u8>, count: u32) -> Result<(), Fault> {
         bytes.extend_from_slice(&[0; 36])?;
         bytes.extend_from_slice(&[7; 3])?;
     }
-    bytes.extend_from_slice(&[0; 672])?;
-    Ok(())
+    Ok(bytes.extend_from_slice(&[0; 672])?)
 }
 
-// What opening takes at least.
-fn open(rt: &HostRuntime, format: Format, costly: &Costly) -> Result<Measured> {
-    let mut least = Duration::MAX;
-    for _ in 0..ROUNDS {
-        let (bytes, positions) = (costly.bytes.clone()?, costly.positions.clone()?);
-        let start = Instant::now(rt);
-        open_once(rt.alloc(), format, bytes, positions, costly.count)?;
-        least = least.min(since(rt, start)?);
+// The bytes of blocks of positions of width 0.
+fn widths(alloc: Global, count: u32) -> Result<Bytes, Fault> {
+    let mut widths = Vec::new(alloc);
+    write_u32_vint(count, &mut widths)?;
+    for _ in 0..count {
+        widths.push(0)?;
     }
-    let len = costly.bytes.as_slice().len() + costly.positions.as_slice().len();
-    Ok(Measured {
-        took: least,
-        items: len as u64,
-        bytes: len as u64,
-    })
+    Ok(Bytes::from_vec(widths)?)
 }
 
 fn open_once(
@@ -163,16 +123,16 @@ fn open_once(
     positions: Bytes,
     count: u32,
 ) -> Result<(), Fault> {
-    match format {
-        Format::Composite => open_fields(alloc, bytes),
-        Format::Store => open_store(bytes),
-        Format::Documents => open_list(count, bytes, None, IndexRecordOption::Basic),
-        Format::Counts => open_list(count, bytes, None, IndexRecordOption::WithFreqs),
-        Format::Positions => {
-            let option = IndexRecordOption::WithFreqsAndPositions;
-            open_list(count, bytes, Some(positions), option)
-        }
-    }
+    let docs = count.saturating_mul(128);
+    let option = match format {
+        Format::Composite => return open_fields(alloc, bytes),
+        Format::Store => return open_store(bytes),
+        Format::Documents => IndexRecordOption::Basic,
+        Format::Counts => IndexRecordOption::WithFreqs,
+        Format::Positions => IndexRecordOption::WithFreqsAndPositions,
+    };
+    let _cursor = SegmentPostings::open(docs, bytes, Some(positions), option, option)?;
+    Ok(())
 }
 
 fn open_fields(alloc: Global, bytes: Bytes) -> Result<(), Fault> {
@@ -182,15 +142,5 @@ fn open_fields(alloc: Global, bytes: Bytes) -> Result<(), Fault> {
 
 fn open_store(bytes: Bytes) -> Result<(), Fault> {
     let _store = TermInfoStore::open(bytes)?;
-    Ok(())
-}
-
-fn open_list(
-    count: u32,
-    bytes: Bytes,
-    positions: Option<Bytes>,
-    option: IndexRecordOption,
-) -> Result<(), Fault> {
-    let _cursor = SegmentPostings::open(count, bytes, positions, option, option)?;
     Ok(())
 }

@@ -2,7 +2,7 @@ ghost use Rattle.std.specs.Prelude.{◌≡◌, ◌<◌, length, IfOk};
 ghost use Rattle.ii_base.specs.declared.schema.value_type.ValueType.TheVariants.{Str};
 ghost use Rattle.ii_definitions.specs.IndexCalls.{Takes};
 
-use crate::table::{Measured, print_row, since};
+use crate::table::{print_row, since};
 use anyhow::Result;
 use bytes::Bytes;
 use ii_base::{AsciiTokenizer, Field, FieldEntry, IndexRecordOption, Schema, Term};
@@ -11,6 +11,8 @@ use ii_io::{CountingWriter, Fault};
 use ii_reader::{InvertedIndexReader, OpenIndex, SegmentPostings, open_index};
 use std::alloc::Global;
 use std::time::{Duration, Instant};
+
+const FULL: IndexRecordOption = IndexRecordOption::WithFreqsAndPositions;
 
 /// How many documents are indexed, and how many words each one's text has.
 const DOCS: u32 = 10_000;
@@ -30,90 +32,89 @@ const ROUNDS: u32 = 3;
 
 /// Prints what it takes to index a million words, to open the files, and to look words up.
 pub fn measure(rt: &HostRuntime) -> Result<()> {
-    let mut least = round(rt)?;
-    for _ in 1..ROUNDS {
-        let figures = round(rt)?;
-        least.indexing = least.indexing.min(figures.indexing);
-        least.opening = least.opening.min(figures.opening);
-        least.looking = least.looking.min(figures.looking);
+    let mut least = [Duration::MAX; 3];
+    let mut bytes = [0; 2];
+    for _ in 0..ROUNDS {
+        let (took, of_round) = round(rt)?;
+        for k in 0..3 {
+            least[k] = least[k].min(took[k]);
+        }
+        bytes = of_round;
     }
+    let [indexing, opening, looking] = least;
+    let [text_bytes, file_bytes] = bytes;
     let tokens = u64::from(DOCS) * u64::from(WORDS);
-    let indexing = of(least.indexing, tokens, least.text_bytes);
-    print_row(rt, "indexing and writing: a word", &indexing)?;
-    let opening = of(least.opening, TERMS, least.file_bytes);
-    print_row(rt, "opening an index: a term", &opening)?;
-    let looking = of(least.looking, LOOK_UPS, 6 * LOOK_UPS);
-    print_row(rt, "looking a word up, with positions", &looking)?;
-    Ok(())
-}
-
-fn of(took: Duration, items: u64, bytes: u64) -> Measured {
-    Measured { took, items, bytes }
-}
-
-// What a round took, and how many bytes its texts and its files have.
-#[derive(Clone, Copy)]
-struct Figures {
-    indexing: Duration,
-    opening: Duration,
-    looking: Duration,
-    text_bytes: u64,
-    file_bytes: u64,
-}
-
-fn round(rt: &HostRuntime) -> Result<Figures> {
-    let (texts, text_bytes) = texts(rt.alloc(), TERMS)?;
-    let (files, indexing) = index_once(rt, texts)?;
-    let file_bytes = files.len();
-    let (opening, looking) = open_and_look_up(rt, files)?;
-    Ok(Figures {
+    print(
+        rt,
+        "indexing and writing: a word",
         indexing,
-        opening,
-        looking,
+        tokens,
         text_bytes,
-        file_bytes,
-    })
+    )?;
+    print(rt, "opening an index: a term", opening, TERMS, file_bytes)?;
+    print(
+        rt,
+        "looking a word up, with positions",
+        looking,
+        LOOK_UPS,
+        6 * LOOK_UPS,
+    )
 }
 
-// What it takes to index texts, and their files.
-fn index_once(rt: &HostRuntime, texts: Vec<String>) -> Result<(Files, Duration)> {
+fn print(rt: &HostRuntime, name: &str, took: Duration, items: u64, bytes: u64) -> Result<()> {
+    Ok(print_row(rt, [name, "", ""], took, items, bytes)?)
+}
+
+// What it takes to index texts, to open their files and to look words up, and how many bytes the texts and
+// the files have.
+fn round(rt: &HostRuntime) -> Result<([Duration; 3], [u64; 2])> {
+    let (texts, text_bytes) = texts(rt.alloc(), TERMS)?;
     let start = Instant::now(rt);
     let files = written(rt.alloc(), indexed(rt.alloc(), texts)?)?;
-    let took = since(rt, start)?;
-    Ok((files, took))
+    let indexing = since(rt, start)?;
+    let file_bytes = files.len();
+    let (opening, looking) = open_and_look_up(rt, files)?;
+    Ok(([indexing, opening, looking], [text_bytes, file_bytes]))
 }
 
-// What it takes to open files, and to look words up.
 fn open_and_look_up(rt: &HostRuntime, files: Files) -> Result<(Duration, Duration)> {
     let start = Instant::now(rt);
     let index = opened(rt.alloc(), files)?;
     let opening = since(rt, start)?;
-    Ok((opening, look_up(rt, &index)?))
+    Ok((opening, look_up(rt, index.reader(Field::from_field_id(0)))?))
 }
 
-// Numbers that look drawn at random.
-#[derive(Clone, Copy)]
-struct Drawn(u64);
-
-impl Drawn {
-    fn next(&mut self) -> u64 {
-        self.0 = self
-            .0
-            .wrapping_mul(6_364_136_223_846_793_005)
-            .wrapping_add(1_442_695_040_888_963_407);
-        (self.0 >> 33) % TERMS
+// What it takes to look words up.
+fn look_up(rt: &HostRuntime, reader: &InvertedIndexReader) -> Result<Duration> {
+    let mut state = 7;
+    let mut terms = Vec::new(rt.alloc());
+    for _ in 0..LOOK_UPS {
+        terms.push(word_term(rt.alloc(), drawn(&mut state))?)?;
     }
+    let start = Instant::now(rt);
+    for term in terms.as_slice() {
+        let _cursor = reader.read_postings(term, FULL)?;
+    }
+    Ok(since(rt, start)?)
+}
+
+// The next of numbers that look drawn at random.
+fn drawn(state: &mut u64) -> u64 {
+    *state = state
+        .wrapping_mul(6_364_136_223_846_793_005)
+        .wrapping_add(1_442_695_040_888_963_407);
+    (*state >> 33) % TERMS
 }
 
 // The texts, of so many different words, and how many bytes they have.
 fn texts(alloc: Global, terms: u64) -> Result<(Vec<String>, u64)>
     requires { 0 < terms }
 {
-    let mut drawn = Drawn(1);
+    let mut state = 1;
     let mut texts = Vec::new(alloc);
     let mut bytes = 0u64;
     for _ in 0..DOCS {
-        let text = text(alloc, &mut drawn, terms)?;
+        let text = text(alloc, &mut state, terms)?;
         bytes = bytes.saturating_add(text.len() as u64);
         texts.push(text)?;
     }
@@ -121,12 +122,12 @@ fn texts(alloc: Global, terms: u64) -> Result<(Vec<String>, u64)>
 }
 
 // A text of words that are drawn.
-fn text(alloc: Global, drawn: &mut Drawn, terms: u64) -> Result<String>
+fn text(alloc: Global, state: &mut u64, terms: u64) -> Result<String>
     requires { 0 < terms }
 {
     let mut text = String::new(alloc);
     for _ in 0..WORDS {
-        write!(text, "w{} ", drawn.next() % terms)?;
+        write!(text, "w{} ", drawn(state) % terms)?;
     }
     Ok(text)
 }
@@ -137,8 +138,7 @@ fn schema(alloc: Global) -> Result<Schema, Fault>
 {
     let mut entries = Vec::new(alloc);
     let name = String::from_str(alloc, "text")?;
-    let option = IndexRecordOption::WithFreqsAndPositions;
-    entries.push(FieldEntry::text(name, option, true))?;
+    entries.push(FieldEntry::text(name, FULL, true))?;
     Ok(Schema::new(entries))
 }
 
@@ -214,32 +214,6 @@ fn opened(alloc: Global, files: Files) -> Result<OpenIndex, Fault>
     open_index(alloc, terms, postings, positions, fieldnorms, &schema)
 }
 
-// What it takes to look words up.
-fn look_up(rt: &HostRuntime, index: &OpenIndex) -> Result<Duration>
-    requires { 0 < length index.now.readers }
-{
-    let terms = terms(rt.alloc())?;
-    look_up_all(rt, index.reader(Field::from_field_id(0)), &terms)
-}
-
-// The same of these terms.
-fn look_up_all(rt: &HostRuntime, reader: &InvertedIndexReader, terms: &[Term]) -> Result<Duration> {
-    let start = Instant::now(rt);
-    for term in terms {
-        let _cursor = reader.read_postings(term, IndexRecordOption::WithFreqsAndPositions)?;
-    }
-    Ok(since(rt, start)?)
-}
-
-fn terms(alloc: Global) -> Result<Vec<Term>> {
-    let mut drawn = Drawn(7);
-    let mut terms = Vec::new(alloc);
-    for _ in 0..LOOK_UPS {
-        terms.push(word_term(alloc, drawn.next())?)?;
-    }
-    Ok(terms)
-}
-
 /// The term of a word.
 pub fn word_term(alloc: Global, number: u64) -> Result<Term> {
     let mut word = String::new(alloc);
@@ -262,5 +236,5 @@ pub fn read_word(index: &OpenIndex, term: &Term) -> Result<Option<SegmentPosting
     requires { 0 < length index.now.readers }
 {
     let reader = index.reader(Field::from_field_id(0));
-    Ok(reader.read_postings(term, IndexRecordOption::WithFreqsAndPositions)?)
+    Ok(reader.read_postings(term, FULL)?)
 }

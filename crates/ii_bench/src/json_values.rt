@@ -3,7 +3,7 @@ ghost use Rattle.ii_base.specs.declared.schema.value_type.ValueType.TheVariants.
 ghost use Rattle.ii_definitions.specs.IndexCalls.{Takes};
 
 use crate::indexes::written;
-use crate::table::{Measured, ROUNDS, print_memory, print_row, since};
+use crate::table::{ROUNDS, print_row, since};
 use anyhow::Result;
 use ii_base::{AsciiTokenizer, Field, FieldEntry, IndexRecordOption, JsonValue, Schema};
 use ii_indexing::{IndexCall, Indexer};
@@ -35,27 +35,15 @@ pub fn measure(rt: &HostRuntime) -> Result<()> {
     let mut least = Duration::MAX;
     let mut file_bytes = 0;
     for _ in 0..ROUNDS {
-        let (took, bytes) = index_once(rt)?;
-        least = least.min(took);
-        file_bytes = bytes;
+        let start = Instant::now(rt);
+        let files = written(rt.alloc(), indexed(rt.alloc())?)?;
+        least = least.min(since(rt, start)?);
+        file_bytes = files.len();
     }
-    let measured = Measured {
-        took: least,
-        items: u64::from(DOCS),
-        bytes: file_bytes,
-    };
-    print_row(
-        rt,
-        "indexing and writing JSON: a value of five leaves",
-        &measured,
-    )?;
-    let memory = peak_memory(rt)?.saturating_sub(before);
-    print_memory(
-        rt,
-        "memory for it at most: a value",
-        memory / u64::from(DOCS),
-    )?;
-    Ok(())
+    let memory = peak_memory(rt)?.saturating_sub(before) / u64::from(DOCS);
+    let row = "indexing and writing JSON: a value of five leaves";
+    print_row(rt, [row, "", ""], least, u64::from(DOCS), file_bytes)?;
+    Ok(println!(rt; "| memory for it at most: a value | {memory} bytes | |")?)
 }
 
 // How many bytes of memory the program had at most so far, or 0 where the system doesn't tell.
@@ -93,36 +81,42 @@ fn indexed(alloc: Global) -> Result<Indexer> {
     Ok(indexer)
 }
 
-// What it takes once, and how many bytes are written.
-fn index_once(rt: &HostRuntime) -> Result<(Duration, u64)> {
-    let start = Instant::now(rt);
-    let files = written(rt.alloc(), indexed(rt.alloc())?)?;
-    Ok((since(rt, start)?, files.len()))
-}
-
 // A value of five leaves: two texts of two words, and three numbers.
 fn value(alloc: Global, doc: u32) -> Result<JsonValue> {
+    let number = u64::from(doc);
+    let (title, author) = (number % 5_000, number % 300);
     let mut leaves = Vec::new(alloc);
-    push_leaves(alloc, &mut leaves, doc)?;
+    push(alloc, &mut leaves, TITLE, text(alloc, title))?;
+    push(alloc, &mut leaves, AUTHOR, text(alloc, author))?;
+    push(
+        alloc,
+        &mut leaves,
+        VISITS,
+        Ok(JsonValue::U64(number % 1_000)),
+    )?;
+    push(alloc, &mut leaves, CHANGE, Ok(JsonValue::I64(-7)))?;
+    push(
+        alloc,
+        &mut leaves,
+        PUBLIC,
+        Ok(JsonValue::Bool(doc % 2 == 0)),
+    )?;
     let mut members = Vec::new(alloc);
-    members.push(member(alloc, OUTER, JsonValue::Object(leaves))?)?;
+    push(alloc, &mut members, OUTER, Ok(JsonValue::Object(leaves)))?;
     Ok(JsonValue::Object(members))
 }
 
-fn push_leaves(alloc: Global, leaves: &mut Vec<(String, JsonValue)>, doc: u32) -> Result<()> {
-    let number = u64::from(doc);
-    leaves.push(text_at(alloc, TITLE, number % 5_000)?)?;
-    leaves.push(text_at(alloc, AUTHOR, number % 300)?)?;
-    leaves.push(member(alloc, VISITS, JsonValue::U64(number % 1_000))?)?;
-    leaves.push(member(alloc, CHANGE, JsonValue::I64(-7))?)?;
-    Ok(leaves.push(member(alloc, PUBLIC, JsonValue::Bool(doc % 2 == 0))?)?)
+fn text(alloc: Global, number: u64) -> Result<JsonValue, Fault> {
+    Ok(JsonValue::Str(format!(in alloc; "w{number} v{}", number / 2)?))
 }
 
-fn member(alloc: Global, key: &str, value: JsonValue) -> Result<(String, JsonValue)> {
-    Ok((String::from_str(alloc, key)?, value))
-}
-
-fn text_at(alloc: Global, key: &str, number: u64) -> Result<(String, JsonValue)> {
-    let text = format!(in alloc; "w{number} v{}", number / 2)?;
-    member(alloc, key, JsonValue::Str(text))
+// Adds a member whose value was made.
+fn push(
+    alloc: Global,
+    members: &mut Vec<(String, JsonValue)>,
+    key: &str,
+    value: Result<JsonValue, Fault>,
+) -> Result<(), Fault> {
+    let value = value?;
+    Ok(members.push((String::from_str(alloc, key)?, value))?)
 }

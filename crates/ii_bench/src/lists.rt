@@ -2,7 +2,7 @@ ghost use Rattle.std.specs.Prelude.{◌≡◌, ◌<◌, ℕ};
 ghost use Rattle.ii_base.specs.Entries.{are_documents};
 ghost use Rattle.ii_layout.specs.Bounds.{Covers};
 
-use crate::table::{Measured, ROUNDS, print_parts, print_row, since};
+use crate::table::{ROUNDS, print_row, since};
 use anyhow::Result;
 use bytes::Bytes;
 use ii_base::{CountingWriter, Fault, IndexRecordOption};
@@ -15,22 +15,17 @@ use std::time::{Duration, Instant};
 
 const BASIC: IndexRecordOption = IndexRecordOption::Basic;
 
+const FREQS: IndexRecordOption = IndexRecordOption::WithFreqs;
+
 /// How many documents a list has.
 const DOCS: u32 = 1_000_000;
 
-/// Prints what it takes to write, open and walk lists of a million documents, of three densities.
+/// Prints what it takes to write and walk lists of a million documents, of three densities.
 pub fn measure(rt: &HostRuntime) -> Result<()> {
     measure_density(rt, "1", 1)?;
     measure_counts(rt)?;
     measure_density(rt, "1/15", 29)?;
     measure_density(rt, "1/1000", 1999)
-}
-
-fn measure_density(rt: &HostRuntime, density: &str, spread: u32) -> Result<()>
-    requires { 0 < spread }
-{
-    let docs = documents(rt.alloc(), spread, DOCS)?;
-    measure_list(rt, density, &docs)
 }
 
 /// So many documents of a list, each by a random number below `spread` and 1 above the one before it.
@@ -51,130 +46,76 @@ pub fn documents(alloc: Global, spread: u32, count: u32) -> Result<Vec<DocId>, A
     Ok(docs)
 }
 
-// What so many rounds over all documents took at least.
-fn of_documents(took: Duration) -> Measured {
-    Measured {
-        took,
-        items: u64::from(DOCS),
-        bytes: 4 * u64::from(DOCS),
-    }
+fn print(rt: &HostRuntime, name: [&str; 3], took: Duration) -> Result<()> {
+    Ok(print_row(rt, name, took, u64::from(DOCS), 4 * u64::from(DOCS))?)
 }
 
-fn measure_list(rt: &HostRuntime, density: &str, docs: &[DocId]) -> Result<()> {
-    let writing = write(rt, docs, BASIC)?;
-    print_density(rt, "writing, density ", density, &writing)?;
-    let bytes = written(rt.alloc(), docs, BASIC)?;
-    measure_reading(rt, density, &bytes)
+fn measure_density(rt: &HostRuntime, density: &str, spread: u32) -> Result<()>
+    requires { 0 < spread }
+{
+    let docs = documents(rt.alloc(), spread, DOCS)?;
+    let writing = write(rt, &docs, BASIC)?;
+    let walking = walk(rt, &written(rt.alloc(), &docs, BASIC)?)?;
+    print(rt, ["writing, density ", density, ": a document"], writing)?;
+    print(rt, ["walking, density ", density, ": a document"], walking)
 }
 
-fn measure_reading(rt: &HostRuntime, density: &str, bytes: &Bytes) -> Result<()> {
-    let opening = open(rt, bytes)?;
-    print_density(rt, "opening, density ", density, &opening)?;
-    let walking = walk(rt, bytes)?;
-    print_density(rt, "walking, density ", density, &walking)
-}
-
-fn print_density(rt: &HostRuntime, what: &str, density: &str, measured: &Measured) -> Result<()> {
-    Ok(print_parts(rt, [what, density, ": a document"], measured)?)
-}
-
-fn write(rt: &HostRuntime, docs: &[DocId], record_option: IndexRecordOption) -> Result<Measured> {
-    let mut least = Duration::MAX;
-    for _ in 0..ROUNDS {
-        least = least.min(write_once(rt, docs, record_option)?);
-    }
-    Ok(of_documents(least))
-}
-
-fn write_once(
-    rt: &HostRuntime,
-    docs: &[DocId],
-    record_option: IndexRecordOption,
-) -> Result<Duration> {
-    let start = Instant::now(rt);
-    let _bytes = written(rt.alloc(), docs, record_option)?;
-    Ok(since(rt, start)?)
-}
-
-// Writes documents with their counts, without norms and with them.
+// Documents are written with their counts, without norms and with them.
 fn measure_counts(rt: &HostRuntime) -> Result<()> {
     let docs = documents(rt.alloc(), 1, DOCS)?;
-    measure_both_counts(rt, &docs)
+    let plain = write(rt, &docs, FREQS)?;
+    let normed = write_with_norms(rt, &docs)?;
+    print(
+        rt,
+        ["writing with counts, density ", "1", ": a document"],
+        plain,
+    )?;
+    print(rt, ["the same with norms", "", ""], normed)
 }
 
-fn measure_both_counts(rt: &HostRuntime, docs: &[DocId]) -> Result<()> {
-    let plain = write(rt, docs, IndexRecordOption::WithFreqs)?;
-    print_row(rt, "writing with counts, density 1: a document", &plain)?;
-    let normed = write_with_norms(rt, docs)?;
-    print_row(rt, "the same with norms", &normed)?;
-    Ok(())
+fn write(rt: &HostRuntime, docs: &[DocId], record_option: IndexRecordOption) -> Result<Duration> {
+    let mut least = Duration::MAX;
+    for _ in 0..ROUNDS {
+        let start = Instant::now(rt);
+        let _bytes = written(rt.alloc(), docs, record_option)?;
+        least = least.min(since(rt, start)?);
+    }
+    Ok(least)
 }
 
 // A norm id for each document below their number.
-fn norm_ids(alloc: Global) -> Result<Vec<u8>, AllocError> {
+fn norm_ids(alloc: Global) -> Result<Bytes, AllocError> {
     let mut ids = Vec::new(alloc);
     for doc in 0..DOCS {
         ids.push((doc % 97) as u8)?;
     }
-    Ok(ids)
+    Ok(Bytes::from_vec(ids)?)
 }
 
-fn write_with_norms(rt: &HostRuntime, docs: &[DocId]) -> Result<Measured> {
-    let ids = Bytes::from_vec(norm_ids(rt.alloc())?)?;
-    write_normed(rt, docs, &ids)
-}
-
-fn write_normed(rt: &HostRuntime, docs: &[DocId], ids: &Bytes) -> Result<Measured> {
+fn write_with_norms(rt: &HostRuntime, docs: &[DocId]) -> Result<Duration> {
+    let ids = norm_ids(rt.alloc())?;
     let mut least = Duration::MAX;
     for _ in 0..ROUNDS {
         let norms = FieldNormReader::open(ids.clone()?)?;
-        least = least.min(write_normed_once(rt, docs, norms)?);
+        let limit = norms.num_docs();
+        let start = Instant::now(rt);
+        let _bytes = written_by(rt.alloc(), docs, FREQS, Some(norms), limit)?;
+        least = least.min(since(rt, start)?);
     }
-    Ok(of_documents(least))
+    Ok(least)
 }
 
-fn write_normed_once(rt: &HostRuntime, docs: &[DocId], norms: FieldNormReader) -> Result<Duration> {
-    let limit = norms.num_docs();
-    let start = Instant::now(rt);
-    let _bytes = written_by(
-        rt.alloc(),
-        docs,
-        IndexRecordOption::WithFreqs,
-        Some(norms),
-        limit,
-    )?;
-    Ok(since(rt, start)?)
-}
-
-fn open(rt: &HostRuntime, bytes: &Bytes) -> Result<Measured> {
+fn walk(rt: &HostRuntime, bytes: &Bytes) -> Result<Duration> {
     let mut least = Duration::MAX;
     for _ in 0..ROUNDS {
-        least = least.min(open_once(rt, bytes.clone()?)?);
+        let mut cursor = SegmentPostings::open(DOCS, bytes.clone()?, None, BASIC, BASIC)?;
+        let start = Instant::now(rt);
+        for _ in 0..DOCS {
+            let _doc = cursor.advance();
+        }
+        least = least.min(since(rt, start)?);
     }
-    Ok(of_documents(least))
-}
-
-fn open_once(rt: &HostRuntime, bytes: Bytes) -> Result<Duration> {
-    let start = Instant::now(rt);
-    let _cursor = SegmentPostings::open(DOCS, bytes, None, BASIC, BASIC)?;
-    Ok(since(rt, start)?)
-}
-
-fn walk(rt: &HostRuntime, bytes: &Bytes) -> Result<Measured> {
-    let mut least = Duration::MAX;
-    for _ in 0..ROUNDS {
-        least = least.min(walk_once(rt, bytes.clone()?)?);
-    }
-    Ok(of_documents(least))
-}
-
-fn walk_once(rt: &HostRuntime, bytes: Bytes) -> Result<Duration> {
-    let mut cursor = SegmentPostings::open(DOCS, bytes, None, BASIC, BASIC)?;
-    let start = Instant::now(rt);
-    for _ in 0..DOCS {
-        let _doc = cursor.advance();
-    }
-    Ok(since(rt, start)?)
+    Ok(least)
 }
 
 /// The bytes of documents that ascend, each with a count of 1 where counts are recorded.

@@ -2,10 +2,8 @@
 //! How long that is no contract says.
 #![tactic(auto)]
 
-mod ascending_terms;
 mod blocks;
 mod costly;
-mod dictionaries;
 mod indexes;
 mod json_values;
 mod known_lists;
@@ -21,14 +19,14 @@ fn main(rt: HostRuntime) -> Result<()> {
         println!(rt; "an argument, whatever it is, begins the measuring")?;
         return Ok(());
     }
-    table::print_head(&rt)?;
+    println!(rt; "| what | ns | MB/s |")?;
+    println!(rt; "|---|--:|--:|")?;
     // first, while the program has little memory of its own
     json_values::measure(&rt)?;
     blocks::measure(&rt)?;
     lists::measure(&rt)?;
     known_lists::measure(&rt)?;
     queries::measure(&rt)?;
-    dictionaries::measure(&rt)?;
     costly::measure(&rt)?;
     indexes::measure(&rt)
 }

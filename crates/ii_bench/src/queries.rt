@@ -2,7 +2,7 @@ ghost use Rattle.std.specs.Prelude.{◌<◌, length};
 
 use crate::indexes::{opened_words, read_word, word_term};
 use crate::lists::{documents, written};
-use crate::table::{Measured, ROUNDS, print_row, since};
+use crate::table::{ROUNDS, print_row, since};
 use anyhow::Result;
 use bytes::Bytes;
 use ii_base::{IndexRecordOption, Term};
@@ -19,164 +19,90 @@ const FREQUENT: u32 = 1_000_000;
 
 const RARE: u32 = 10_000;
 
-/// A list of documents, as it is written, and how many they are.
-#[derive(Drop)]
-struct List {
-    bytes: Bytes,
-    doc_freq: u32,
+// A list of documents, as it is written.
+fn list(rt: &HostRuntime, spread: u32, doc_freq: u32) -> Result<Bytes>
+    requires { 0 < spread }
+{
+    let docs = documents(rt.alloc(), spread, doc_freq)?;
+    Ok(written(rt.alloc(), &docs, BASIC)?)
 }
 
-impl List {
-    fn new(rt: &HostRuntime, spread: u32, doc_freq: u32) -> Result<List>
-        requires { 0 < spread }
-    {
-        let docs = documents(rt.alloc(), spread, doc_freq)?;
-        let bytes = written(rt.alloc(), &docs, BASIC)?;
-        Ok(List { bytes, doc_freq })
-    }
-
-    fn open(&self) -> Result<SegmentPostings> {
-        let bytes = self.bytes.clone()?;
-        Ok(SegmentPostings::open(self.doc_freq, bytes, None, BASIC, BASIC)?)
-    }
+fn open(list: &Bytes, doc_freq: u32) -> Result<SegmentPostings> {
+    Ok(SegmentPostings::open(doc_freq, list.clone()?, None, BASIC, BASIC)?)
 }
 
 /// Prints what it takes to go over the documents of queries, beside loops by hand over the same cursors.
 pub fn measure(rt: &HostRuntime) -> Result<()> {
-    let frequent = List::new(rt, 29, FREQUENT)?;
-    measure_rare(rt, &frequent)?;
-    measure_frequent(rt, &frequent)?;
-    measure_phrase(rt)
-}
-
-fn measure_rare(rt: &HostRuntime, frequent: &List) -> Result<()> {
-    let rare = List::new(rt, 2999, RARE)?;
-    measure_both(rt, frequent, &rare)
-}
-
-fn measure_both(rt: &HostRuntime, frequent: &List, rare: &List) -> Result<()> {
-    let took = of(both(rt, frequent, rare)?, RARE);
-    print_row(
-        rt,
-        "a frequent and a rare term: a document of the rare one",
-        &took,
-    )?;
-    let took = of(both_by_hand(rt, frequent, rare)?, RARE);
-    print_row(rt, "the same by a loop of seeks", &took)?;
-    Ok(())
-}
-
-fn measure_frequent(rt: &HostRuntime, frequent: &List) -> Result<()> {
-    let other = List::new(rt, 31, FREQUENT)?;
-    measure_either(rt, frequent, &other)
-}
-
-fn measure_either(rt: &HostRuntime, first: &List, other: &List) -> Result<()> {
-    let row = "one of two frequent terms: a document of either, all counted";
-    print_row(rt, row, &of(either(rt, first, other)?, 2 * FREQUENT))?;
-    let took = of(either_in_turn(rt, first, other)?, 2 * FREQUENT);
-    print_row(
-        rt,
-        "the same, asked for one document after the other",
-        &took,
-    )?;
-    let took = of(either_by_hand(rt, first, other)?, 2 * FREQUENT);
-    print_row(rt, "the same by a loop that merges", &took)?;
-    Ok(())
-}
-
-fn measure_phrase(rt: &HostRuntime) -> Result<()> {
+    let frequent = list(rt, 29, FREQUENT)?;
+    measure_both(rt, &frequent)?;
+    measure_either(rt, &frequent)?;
     let index = opened_words(rt.alloc())?;
-    let took = phrase(rt, &index)?;
-    print_row(
-        rt,
-        "a phrase of two frequent words: a document of the first",
-        &took,
-    )?;
-    Ok(())
+    measure_phrase(rt, &index)
 }
 
-fn of(took: Duration, docs: u32) -> Measured {
-    Measured {
-        took,
-        items: u64::from(docs),
-        bytes: 4 * u64::from(docs),
-    }
+fn print(rt: &HostRuntime, name: &str, took: Duration, docs: u32) -> Result<()> {
+    let docs = u64::from(docs);
+    Ok(print_row(rt, [name, "", ""], took, docs, 4 * docs)?)
 }
 
-fn both(rt: &HostRuntime, frequent: &List, rare: &List) -> Result<Duration> {
-    let mut least = Duration::MAX;
+fn measure_both(rt: &HostRuntime, frequent: &Bytes) -> Result<()> {
+    let rare = list(rt, 2999, RARE)?;
+    let (mut least, mut by_hand) = (Duration::MAX, Duration::MAX);
     for _ in 0..ROUNDS {
-        least = least.min(both_once(rt, frequent, rare)?);
+        least = least.min(both_once(rt, frequent, &rare)?);
+        by_hand = by_hand.min(both_by_hand_once(rt, frequent, &rare)?);
     }
-    Ok(least)
+    let row = "a frequent and a rare term: a document of the rare one";
+    print(rt, row, least, RARE)?;
+    print(rt, "the same by a loop of seeks", by_hand, RARE)
 }
 
-fn both_once(rt: &HostRuntime, frequent: &List, rare: &List) -> Result<Duration> {
-    let first = QueryCursor::one(frequent.open()?);
-    let other = QueryCursor::one(rare.open()?);
+fn both_once(rt: &HostRuntime, frequent: &Bytes, rare: &Bytes) -> Result<Duration> {
+    let first = QueryCursor::one(open(frequent, FREQUENT)?);
+    let other = QueryCursor::one(open(rare, RARE)?);
     let start = Instant::now(rt);
     let mut found = QueryCursor::both(rt.alloc(), first, other)?;
     let _count = found.count_including_deleted();
     Ok(since(rt, start)?)
 }
 
-fn both_by_hand(rt: &HostRuntime, frequent: &List, rare: &List) -> Result<Duration> {
-    let mut least = Duration::MAX;
-    for _ in 0..ROUNDS {
-        let mut first = rare.open()?;
-        let mut other = frequent.open()?;
-        least = least.min(both_by_hand_once(rt, &mut first, &mut other)?);
-    }
-    Ok(least)
-}
-
-fn both_by_hand_once(
-    rt: &HostRuntime,
-    first: &mut SegmentPostings,
-    other: &mut SegmentPostings,
-) -> Result<Duration> {
+fn both_by_hand_once(rt: &HostRuntime, frequent: &Bytes, rare: &Bytes) -> Result<Duration> {
+    let mut first = open(rare, RARE)?;
+    let mut other = open(frequent, FREQUENT)?;
     let start = Instant::now(rt);
-    let _docs = intersect(rt.alloc(), first, other)?;
+    let _docs = intersect(rt.alloc(), &mut first, &mut other)?;
     Ok(since(rt, start)?)
 }
 
-fn either(rt: &HostRuntime, first: &List, other: &List) -> Result<Duration> {
-    let mut least = Duration::MAX;
+fn measure_either(rt: &HostRuntime, first: &Bytes) -> Result<()> {
+    let other = list(rt, 31, FREQUENT)?;
+    let (mut least, mut in_turn, mut by_hand) = (Duration::MAX, Duration::MAX, Duration::MAX);
     for _ in 0..ROUNDS {
-        least = least.min(either_once(rt, first, other)?);
+        least = least.min(either_once(rt, first, &other, false)?);
+        in_turn = in_turn.min(either_once(rt, first, &other, true)?);
+        by_hand = by_hand.min(either_by_hand_once(rt, first, &other)?);
     }
-    Ok(least)
+    let row = "one of two frequent terms: a document of either, all counted";
+    print(rt, row, least, 2 * FREQUENT)?;
+    let row = "the same, asked for one document after the other";
+    print(rt, row, in_turn, 2 * FREQUENT)?;
+    print(rt, "the same by a loop that merges", by_hand, 2 * FREQUENT)
 }
 
-fn either_once(rt: &HostRuntime, first: &List, other: &List) -> Result<Duration> {
-    let one = QueryCursor::one(first.open()?);
-    let two = QueryCursor::one(other.open()?);
+fn either_once(rt: &HostRuntime, first: &Bytes, other: &Bytes, in_turn: bool) -> Result<Duration> {
+    let one = QueryCursor::one(open(first, FREQUENT)?);
+    let two = QueryCursor::one(open(other, FREQUENT)?);
     let start = Instant::now(rt);
     let mut found = QueryCursor::either(rt.alloc(), one, two)?;
-    let _count = found.count_including_deleted();
+    let _count = count(&mut found, in_turn);
     Ok(since(rt, start)?)
 }
 
-fn either_in_turn(rt: &HostRuntime, first: &List, other: &List) -> Result<Duration> {
-    let mut least = Duration::MAX;
-    for _ in 0..ROUNDS {
-        least = least.min(either_in_turn_once(rt, first, other)?);
+// How many documents a cursor has left, which is asked for each in turn, or for their number.
+fn count<C: DocSet>(cursor: &mut C, in_turn: bool) -> u32 {
+    if !in_turn {
+        return cursor.count_including_deleted();
     }
-    Ok(least)
-}
-
-fn either_in_turn_once(rt: &HostRuntime, first: &List, other: &List) -> Result<Duration> {
-    let one = QueryCursor::one(first.open()?);
-    let two = QueryCursor::one(other.open()?);
-    let start = Instant::now(rt);
-    let mut found = QueryCursor::either(rt.alloc(), one, two)?;
-    let _count = count_in_turn(&mut found);
-    Ok(since(rt, start)?)
-}
-
-// How many documents a cursor has left.
-fn count_in_turn<C: DocSet>(cursor: &mut C) -> u32 {
     let mut count = 0u32;
     let mut doc = cursor.doc();
     for _ in 0..2 * FREQUENT {
@@ -189,16 +115,12 @@ fn count_in_turn<C: DocSet>(cursor: &mut C) -> u32 {
     count
 }
 
-fn either_by_hand(rt: &HostRuntime, first: &List, other: &List) -> Result<Duration> {
-    let mut least = Duration::MAX;
-    for _ in 0..ROUNDS {
-        let mut first = first.open()?;
-        let mut other = other.open()?;
-        let start = Instant::now(rt);
-        let _count = merge(&mut first, &mut other);
-        least = least.min(since(rt, start)?);
-    }
-    Ok(least)
+fn either_by_hand_once(rt: &HostRuntime, first: &Bytes, other: &Bytes) -> Result<Duration> {
+    let mut first = open(first, FREQUENT)?;
+    let mut other = open(other, FREQUENT)?;
+    let start = Instant::now(rt);
+    let _count = merge(&mut first, &mut other);
+    Ok(since(rt, start)?)
 }
 
 // How many documents one of two cursors has left.
@@ -222,52 +144,33 @@ fn merge(first: &mut SegmentPostings, other: &mut SegmentPostings) -> u32 {
     count
 }
 
-fn phrase(rt: &HostRuntime, index: &OpenIndex) -> Result<Measured>
+fn measure_phrase(rt: &HostRuntime, index: &OpenIndex) -> Result<()>
     requires { 0 < length index.now.readers }
 {
     let (first, other) = (word_term(rt.alloc(), 1)?, word_term(rt.alloc(), 2)?);
-    phrase_of(rt, index, &first, &other)
-}
-
-fn phrase_of(rt: &HostRuntime, index: &OpenIndex, first: &Term, other: &Term) -> Result<Measured>
-    requires { 0 < length index.now.readers }
-{
-    let mut least = Duration::MAX;
-    let mut docs = 0;
+    let (mut least, mut docs) = (Duration::MAX, 0);
     for _ in 0..ROUNDS {
-        let Some(first) = read_word(index, first)? else {
-            return Ok(of(least, docs));
+        let Some(first) = read_word(index, &first)? else {
+            return Ok(());
         };
         docs = first.doc_freq();
-        let Some(others) = other_parts(rt.alloc(), index, other)? else {
-            return Ok(of(least, docs));
-        };
-        least = least.min(phrase_once(rt, first, others)?);
+        let other = read_word(index, &other)?;
+        least = least.min(phrase_once(rt, first, other)?);
     }
-    Ok(of(least, docs))
+    let row = "a phrase of two frequent words: a document of the first";
+    print(rt, row, least, docs)
 }
 
-// The second word as it stands in a phrase, if there is one.
-fn other_parts(
-    alloc: Global,
-    index: &OpenIndex,
-    other: &Term,
-) -> Result<Option<Vec<PhrasePart<SegmentPostings>>>>
-    requires { 0 < length index.now.readers }
-{
-    let Some(other) = read_word(index, other)? else {
-        return Ok(None);
-    };
-    let mut others = Vec::new(alloc);
-    others.push(PhrasePart::new(1, other))?;
-    Ok(Some(others))
-}
-
+// A phrase of a word, and another one if it is there.
 fn phrase_once(
     rt: &HostRuntime,
     first: SegmentPostings,
-    others: Vec<PhrasePart<SegmentPostings>>,
+    other: Option<SegmentPostings>,
 ) -> Result<Duration> {
+    let mut others = Vec::new(rt.alloc());
+    if let Some(other) = other {
+        others.push(PhrasePart::new(1, other))?;
+    }
     let start = Instant::now(rt);
     let mut found = PhraseMatch::new(first, others);
     let _count = found.count_including_deleted();

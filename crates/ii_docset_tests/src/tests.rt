@@ -1,14 +1,14 @@
-ghost use Rattle.std.specs.Prelude.{◌≡◌, ◌≤◌, ◌∷◌, [], length, min};
+ghost use Rattle.std.specs.Prelude.{◌≡◌, ◌∷◌, []};
 ghost use Rattle.ii_docset.specs.Calls.{IsLawful};
-ghost use Rattle.ii_docset.specs.Cursor.{doc_at, from_doc, IsDangerAnswer, IsSound, IsTarget};
+ghost use Rattle.ii_docset.specs.Cursor.{IsSound, IsTarget};
 
 mod combined;
 mod list_postings;
 
 use ii_base::{AliveBitSet, Fault};
 use ii_docset::{
-    COLLECT_BLOCK_BUFFER_LEN, CursorAnswer, CursorCall, DocId, DocSet, Lent, Postings,
-    SeekDangerResult, TERMINATED, Walk, intersect, walk,
+    COLLECT_BLOCK_BUFFER_LEN, CursorAnswer, CursorCall, DocId, DocSet, Lent, Postings, TERMINATED,
+    Walk, intersect, walk,
 };
 use list_postings::{ListPostings, Place};
 use std::alloc::{AllocError, Global};
@@ -62,57 +62,24 @@ impl DocSet for Below {
     }
 }
 
-// What the default bodies answer, called through the bound.
-fn cost_of<D: DocSet>(cursor: &D) -> u64 {
-    cursor.cost()
-}
-
-fn sought<D: DocSet>(cursor: &mut D, target: DocId) -> DocId
-    requires { IsTarget target (D.rest cursor.old) }
-    ensures doc { result ≡ doc_at (D.rest cursor.new) }
-    ensures rest { D.rest cursor.new ≡ from_doc target (D.rest cursor.old) }
+// What the default bodies answer, called through the bound: the cost, and then the first document, the one
+// sought from 7 on, the next, how many are left, where the cursor stands, and how many are left then.
+fn default_answers<D: DocSet>(cursor: &mut D) -> (u64, [u32; 6])
+    requires { IsTarget 7 (D.rest cursor.old) }
 {
-    cursor.seek(target)
-}
-
-fn asked<D: DocSet>(cursor: &mut D, target: DocId) -> SeekDangerResult
-    requires { target ≤ TERMINATED }
-    ensures { IsDangerAnswer result target (D.rest cursor.new) }
-{
-    cursor.seek_danger(target)
-}
-
-fn filled<D: DocSet>(cursor: &mut D, buffer: &mut [DocId; COLLECT_BLOCK_BUFFER_LEN]) -> usize
-    ensures { result ≡ min COLLECT_BLOCK_BUFFER_LEN (length (D.rest cursor.old)) }
-{
-    cursor.fill_buffer(buffer)
-}
-
-fn counted<D: DocSet>(cursor: &mut D) -> u32
-    ensures { result ≡ length (D.rest cursor.old) }
-{
-    cursor.count_including_deleted()
-}
-
-// The cost of the documents below 12, and then: the first one, the one sought from 7 on, the next, how
-// many are left, where the cursor stands, and how many are left then.
-fn default_answers() -> (u64, [u32; 6]) {
-    let mut cursor = Below { next: 0, end: 12 };
-    let cost = cost_of(&cursor);
+    let cost = cursor.cost();
     let first = cursor.doc();
-    let seventh = sought(&mut cursor, 7);
+    let seventh = cursor.seek(7);
     let next = cursor.advance();
-    let rest = counted(&mut cursor);
+    let rest = cursor.count_including_deleted();
     let end = cursor.doc();
-    (
-        cost,
-        [first, seventh, next, rest, end, counted(&mut cursor)],
-    )
+    let left = cursor.count_including_deleted();
+    (cost, [first, seventh, next, rest, end, left])
 }
 
 #[test]
 fn default_bodies_are_called(rt: HostRuntime) {
-    let answers = default_answers();
+    let answers = default_answers(&mut Below { next: 0, end: 12 });
     assert!(rt; answers == (12, [0, 7, 8, 4, TERMINATED, 0]));
 }
 
@@ -134,7 +101,7 @@ fn fill<D: DocSet>(
     cursor: &mut D,
     buffer: &mut [DocId; COLLECT_BLOCK_BUFFER_LEN],
 ) -> (usize, DocId) {
-    let count = filled(cursor, buffer);
+    let count = cursor.fill_buffer(buffer);
     (count, cursor.doc())
 }
 
@@ -171,29 +138,6 @@ fn three() -> ListPostings
     ensures { result ≡ record { doc = 0; term_freq = 1; positions = 3 ∷ [] } ∷ record { doc = 2; term_freq = 1; positions = 1 ∷ [] } ∷ record { doc = 10; term_freq = 2; positions = 4 ∷ 9 ∷ [] } ∷ [] }
 {
     ListPostings::new(&PLACES)
-}
-
-// What they answer of 1, 2 and no document, and where their cursor stands then.
-fn asked_thrice() -> ([SeekDangerResult; 3], DocId) {
-    let mut cursor = three();
-    let one = asked(&mut cursor, 1);
-    let two = asked(&mut cursor, 2);
-    let none = asked(&mut cursor, TERMINATED);
-    ([one, two, none], cursor.doc())
-}
-
-#[test]
-fn documents_are_asked_for(rt: HostRuntime) {
-    let (answers, doc) = asked_thrice();
-    assert!(rt;
-        answers
-            == [
-                SeekDangerResult::SeekLowerBound(2),
-                SeekDangerResult::Found,
-                SeekDangerResult::SeekLowerBound(TERMINATED)
-            ]
-    );
-    assert!(rt; doc == 2);
 }
 
 // Calls of a cursor over them.
@@ -294,24 +238,15 @@ fn documents_are_common(rt: HostRuntime) -> Result<(), Fail> {
 static DELETED: [DocId; 3] = [10, 4, 10];
 
 // Whether documents 0 and 10 are alive where some are deleted, how many of the three are, and where
-// their cursor stands then.
-fn some_living(alloc: Global) -> Result<([bool; 2], u32, DocId), Fault> {
-    let alive = AliveBitSet::from_deleted_docs(alloc, &DELETED, 12)?;
-    let two = [alive.is_alive(0), alive.is_alive(10)];
-    let mut cursor = three();
-    let count = cursor.count(&alive);
-    Ok((two, count, cursor.doc()))
-}
-
-// How many are where none is.
-fn all_living(alloc: Global) -> Result<u32, Fault> {
-    let all = AliveBitSet::full(alloc, 11)?;
-    Ok(three().count(&all))
-}
-
+// their cursor stands then; and how many are where none is deleted.
 #[test]
-fn living_documents_are_counted(rt: HostRuntime) {
-    let some = some_living(rt.alloc());
-    assert!(rt; some == Ok(([true, false], 2, TERMINATED)));
-    assert!(rt; all_living(rt.alloc()) == Ok(3));
+fn living_documents_are_counted(rt: HostRuntime) -> Result<(), Fail> {
+    let alive = AliveBitSet::from_deleted_docs(rt.alloc(), &DELETED, 12)?;
+    let mut cursor = three();
+    let two = [alive.is_alive(0), alive.is_alive(10)];
+    let some = (two, cursor.count(&alive), cursor.doc());
+    assert!(rt; some == ([true, false], 2, TERMINATED));
+    let all = three().count(&AliveBitSet::full(rt.alloc(), 11)?);
+    assert!(rt; all == 3);
+    Ok(())
 }

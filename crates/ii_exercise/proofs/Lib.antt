@@ -1,2 +1,1 @@
-pub mod EvenDocuments
 pub mod ThreeKeys

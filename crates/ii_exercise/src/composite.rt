@@ -1,8 +1,8 @@
-ghost use Rattle.std.specs.Prelude.{◌≡◌, [], false, true, OnErr};
+ghost use Rattle.std.specs.Prelude.{◌≡◌, []};
 
 use bytes::Bytes;
 use ii_io::{CompositeFile, CompositeWrite, CountingWriter, Fault, Field};
-use std::alloc::{AllocError, Global};
+use std::alloc::Global;
 use std::io::Write;
 
 /// A composite file of two bodies is written and opened; then three fields are asked for.
@@ -11,9 +11,12 @@ pub fn read_back(alloc: Global) -> Result<String, Fault> {
     let mut text = String::new(alloc);
     for id in [7, 1, 2] {
         write!(text, " {id} is")?;
-        match file.open_read(Field::from_field_id(id))? {
-            Some(body) => push_bytes(&mut text, body.as_slice())?,
-            None => write!(text, " not there")?,
+        let Some(body) = file.open_read(Field::from_field_id(id))? else {
+            text.push_str(" not there")?;
+            continue;
+        };
+        for byte in body.as_slice() {
+            write!(text, " {byte}")?;
         }
     }
     Ok(text)
@@ -38,38 +41,4 @@ fn write_two<W: Write>(composite: &mut CompositeWrite<W>) -> Result<(), Fault>
     composite
         .for_field(Field::from_field_id(1))?
         .write_all(&[8])
-}
-
-/// A body is begun; how many there are then. Where memory for it is refused, the composite writer has to be
-/// closed, else the answer is nothing.
-pub fn begun(alloc: Global) -> Result<Option<usize>, Fault> {
-    let mut composite = CompositeWrite::wrap(alloc, CountingWriter::wrap(Vec::new(alloc)));
-    let Err(fault) = begin(&mut composite) else {
-        return Ok(Some(1));
-    };
-    let again = begin(&mut composite);
-    let (_unwritten, closed) = composite.close();
-    if again.and(closed) == Err(Fault::SerializerClosed) && closed == again {
-        return Err(fault);
-    }
-    Ok(None)
-}
-
-// Begins the body of field 7.
-fn begin<W: Write>(composite: &mut CompositeWrite<W>) -> Result<(), Fault>
-    requires { composite.old.closed ≡ false → composite.old.starts ≡ [] }
-    ensures { OnErr result (composite.new.closed ≡ true) }
-{
-    match composite.for_field(Field::from_field_id(7)) {
-        Ok(_) => Ok(()),
-        Err(fault) => Err(fault),
-    }
-}
-
-// Adds numbers to a text.
-fn push_bytes(text: &mut String, bytes: &[u8]) -> Result<(), AllocError> {
-    for byte in bytes {
-        write!(text, " {byte}")?;
-    }
-    Ok(())
 }

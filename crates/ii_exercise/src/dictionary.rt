@@ -10,11 +10,7 @@ use std::io::Write;
 /// A dictionary of three keys is built and opened; then each is looked up by its place, and a key
 /// that isn't there.
 pub fn read_back(alloc: Global) -> Result<String, Fault> {
-    told(alloc, &built(alloc)?)
-}
-
-// What a dictionary tells of its keys, and of one that isn't there.
-fn told(alloc: Global, terms: &TermDictionary) -> Result<String, Fault> {
+    let terms = built(alloc)?;
     let mut text = String::new(alloc);
     let mut key = Vec::new(alloc);
     for ord in 0..4 {

@@ -23,47 +23,21 @@ pub fn read_back(alloc: Global) -> Result<String, Fault> {
     Ok(text)
 }
 
-// Adds what is found in each of four fields.
+// Adds what is found in each of four fields, and the paths of the last one with how many terms they have.
 fn push_found(alloc: Global, text: &mut String, index: &OpenIndex) -> Result<(), Fault>
     requires { length index.now.readers ≡ 4 }
 {
+    let (number, bytes) = (Field::from_field_id(1), Field::from_field_id(2));
     let words = index.reader(Field::from_field_id(0));
-    push_word(alloc, text, words, "be")?;
-    push_number(alloc, text, index.reader(Field::from_field_id(1)))?;
-    push_tag(alloc, text, index.reader(Field::from_field_id(2)))?;
-    push_word(alloc, text, words, "question")?;
-    push_json(alloc, text, index.reader(Field::from_field_id(3)))
-}
-
-fn push_word(
-    alloc: Global,
-    text: &mut String,
-    reader: &InvertedIndexReader,
-    of: &str,
-) -> Result<(), Fault> {
-    let term = word(alloc, of)?;
-    push_postings(alloc, text, reader, &term)
-}
-
-fn push_number(
-    alloc: Global,
-    text: &mut String,
-    reader: &InvertedIndexReader,
-) -> Result<(), Fault> {
-    let seven = Term::from_field_u64(alloc, Field::from_field_id(1), 7)?;
-    push_postings(alloc, text, reader, &seven)
-}
-
-fn push_tag(alloc: Global, text: &mut String, reader: &InvertedIndexReader) -> Result<(), Fault> {
-    let tag = Term::from_field_bytes(alloc, Field::from_field_id(2), b"ab")?;
-    push_postings(alloc, text, reader, &tag)
-}
-
-// Adds a word at a path, and the paths of a field with how many terms they have.
-fn push_json(alloc: Global, text: &mut String, reader: &InvertedIndexReader) -> Result<(), Fault> {
-    push_postings(alloc, text, reader, &word_at_path(alloc)?)?;
-    let spaces = reader.list_encoded_json_fields(alloc)?;
-    for space in spaces.as_slice() {
+    push_postings(alloc, text, words, word(alloc, "be"))?;
+    let seven = Term::from_field_u64(alloc, number, 7);
+    push_postings(alloc, text, index.reader(number), seven)?;
+    let tag = Term::from_field_bytes(alloc, bytes, b"ab");
+    push_postings(alloc, text, index.reader(bytes), tag)?;
+    push_postings(alloc, text, words, word(alloc, "question"))?;
+    let values = index.reader(Field::from_field_id(3));
+    push_postings(alloc, text, values, word_at_path(alloc))?;
+    for space in values.list_encoded_json_fields(alloc)?.as_slice() {
         let (len, number) = (space.field_name.len(), space.num_terms);
         write!(text, " {number} at a path of {len}")?;
     }
@@ -146,22 +120,19 @@ pub fn word(alloc: Global, word: &str) -> Result<Term, Fault> {
     Term::from_field_text(alloc, Field::from_field_id(0), word)
 }
 
-// Adds each document of a term with its count and positions.
+// Adds each document of a term that was made, with its count and positions.
 fn push_postings(
     alloc: Global,
     text: &mut String,
     reader: &InvertedIndexReader,
-    term: &Term,
+    term: Result<Term, Fault>,
 ) -> Result<(), Fault> {
-    match reader.read_postings(term, FULL)? {
-        Some(mut cursor) => push_all(alloc, text, &mut cursor),
-        None => Ok(text.push_str(" not there")?),
-    }
-}
-
-fn push_all(alloc: Global, text: &mut String, cursor: &mut SegmentPostings) -> Result<(), Fault> {
+    let term = term?;
+    let Some(mut cursor) = reader.read_postings(&term, FULL)? else {
+        return Ok(text.push_str(" not there")?);
+    };
     for _ in 0..cursor.doc_freq() {
-        push_doc(alloc, text, cursor)?;
+        push_doc(alloc, text, &mut cursor)?;
         let _next = cursor.advance();
     }
     Ok(text.push_str(" ends")?)

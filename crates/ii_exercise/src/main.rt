@@ -10,7 +10,6 @@ mod index;
 mod loaded;
 mod norms;
 mod placed;
-mod postings;
 mod reset;
 mod schema;
 mod walked;
@@ -28,26 +27,13 @@ fn main(rt: HostRuntime) -> ExitCode {
 
 // A line for each part.
 fn report_all(rt: &HostRuntime) -> io::Result<()> {
-    report_fields(rt)?;
-    report_cursors(rt)?;
-    report_terms(rt)
-}
-
-fn report_fields(rt: &HostRuntime) -> io::Result<()> {
     report(rt, "composite", composite::read_back(rt.alloc()))?;
     report(rt, "schema", schema::read_back(rt.alloc()))?;
-    report(rt, "norms", norms::read_back(rt.alloc()))
-}
-
-fn report_cursors(rt: &HostRuntime) -> io::Result<()> {
-    report(rt, "postings", postings::read_back(rt.alloc()))?;
+    report(rt, "norms", norms::read_back(rt.alloc()))?;
     report(rt, "walk", walked::read_back(rt.alloc()))?;
     report(rt, "loaded", loaded::read_back(rt.alloc()))?;
     report(rt, "placed", placed::read_back(rt.alloc()))?;
-    report(rt, "deletes", deletes::read_back(rt.alloc()))
-}
-
-fn report_terms(rt: &HostRuntime) -> io::Result<()> {
+    report(rt, "deletes", deletes::read_back(rt.alloc()))?;
     report(rt, "grown", grown::read_back(rt.alloc()))?;
     report(rt, "dictionary", dictionary::read_back(rt.alloc()))?;
     report(rt, "index", index::read_back(rt.alloc()))?;

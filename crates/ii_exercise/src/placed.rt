@@ -43,12 +43,5 @@ pub fn read_back(alloc: Global) -> Result<String, Fault> {
         return Ok(String::from_str(alloc, " changed")?);
     }
     step?;
-    told(alloc, &added, &filled)
-}
-
-// The numbers of both.
-fn told(alloc: Global, added: &[u32], filled: &[u32]) -> Result<String, Fault> {
-    let mut text = String::new(alloc);
-    write!(text, " {added:?} {filled:?}")?;
-    Ok(text)
+    Ok(format!(in alloc; " {added:?} {filled:?}")?)
 }

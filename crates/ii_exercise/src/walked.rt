@@ -3,7 +3,7 @@ ghost use Rattle.ii_base.specs.Entries.{document};
 
 use bytes::Bytes;
 use ii_base::{Fault, IndexRecordOption};
-use ii_docset::{CursorAnswer, CursorCall, DocId, DocSet, TERMINATED, Walk, walk};
+use ii_docset::{CursorAnswer, CursorCall, DocId, DocSet, TERMINATED, walk};
 use ii_reader::SegmentPostings;
 use std::alloc::Global;
 
@@ -39,21 +39,15 @@ pub fn read_back(alloc: Global) -> Result<String, Fault> {
         CursorCall::Advance,
     ];
     let walked = walk(alloc, &mut cursor, &calls);
-    told(alloc, &walked, cursor.doc())
-}
-
-// What a walk tells that left its cursor at a document.
-fn told(alloc: Global, walked: &Walk, doc: DocId) -> Result<String, Fault> {
-    let mut text = String::new(alloc);
-    let count = walked.answers.len();
-    if !are_of_first(walked.answers.as_slice()) || PLACES.get(count) != Some(&doc) {
-        text.push_str(" stands elsewhere")?;
-    } else if walked.complete {
-        write!(text, " {count} calls to the end")?;
-    } else {
-        text.push_str(" out of memory")?;
+    let answers = walked.answers.as_slice();
+    let place = PLACES.get(answers.len());
+    if !are_of_first(answers) || place != Some(&cursor.doc()) {
+        return Ok(String::from_str(alloc, " stands elsewhere")?);
     }
-    Ok(text)
+    if !walked.complete {
+        return Ok(String::from_str(alloc, " out of memory")?);
+    }
+    Ok(format!(in alloc; " {} calls to the end", answers.len())?)
 }
 
 // Whether these are the answers to the first of the calls.

@@ -1,5 +1,5 @@
 use bytes::Bytes;
-use ii_base::{Fault, IndexRecordOption, LayoutFault, Part};
+use ii_base::{Fault, IndexRecordOption, Part};
 use ii_docset::{DocSet, Postings, TERMINATED};
 use ii_reader::{BlockSegmentPostings, SegmentPostings};
 use ii_slow_reader::{Damage, Listed, Mode, read_list};
@@ -34,8 +34,8 @@ pub fn option_of(mode: Mode) -> IndexRecordOption {
     }
 }
 
-/// Whether a part is the one that the slow reader names.
-pub fn is_part(part: Part, damage: Damage) -> bool {
+/// Whether a fault names the part that the slow reader names.
+pub fn names(fault: Fault, damage: Damage) -> bool {
     let want = match damage {
         Damage::Skip => Part::Skip,
         Damage::Documents => Part::Documents,
@@ -47,13 +47,7 @@ pub fn is_part(part: Part, damage: Damage) -> bool {
         Damage::TokenCount => Part::TokenCount,
         Damage::Range => Part::Range,
     };
-    part == want
-}
-
-// Whether a fault names this part.
-fn names(fault: LayoutFault, damage: Damage) -> bool {
-    let LayoutFault::Damaged(part) = fault;
-    is_part(part, damage)
+    fault == Fault::Damaged(want)
 }
 
 /// Opens a list for each pair of options.
@@ -66,14 +60,21 @@ pub fn judge_list(
 ) -> Result<(), Fault> {
     for recorded in MODES {
         for requested in MODES {
-            tally.add(agree(alloc, doc_freq, postings, positions, recorded, requested)?);
+            let agrees = same_cursor(alloc, doc_freq, postings, positions, recorded, requested)?
+                && same_blocks(alloc, doc_freq, postings, recorded, requested)?;
+            tally.add(agrees);
         }
     }
     Ok(())
 }
 
-// Whether both readers answer the same.
-fn agree(
+/// Bytes that may be shared.
+pub fn shared(alloc: Global, bytes: &[u8]) -> Result<Bytes, Fault> {
+    Ok(Bytes::from_vec(Vec::from_slice(alloc, bytes)?)?)
+}
+
+// Whether a cursor over documents, counts and positions goes over what the slow reader reads.
+fn same_cursor(
     alloc: Global,
     doc_freq: u32,
     postings: &[u8],
@@ -81,12 +82,7 @@ fn agree(
     recorded: Mode,
     requested: Mode,
 ) -> Result<bool, Fault> {
-    let bytes = Bytes::from_vec(Vec::from_slice(alloc, postings)?)?;
-    let located = Bytes::from_vec(Vec::from_slice(alloc, positions)?)?;
-    let (record, request) = (option_of(recorded), option_of(requested));
-    let blocks = BlockSegmentPostings::open(doc_freq, bytes.clone()?, record, request);
-    let cursor = SegmentPostings::open(doc_freq, bytes, Some(located), record, request);
-    let whole = read_list(
+    let list = read_list(
         alloc,
         doc_freq,
         postings,
@@ -94,19 +90,36 @@ fn agree(
         recorded,
         requested,
     )?;
-    let alone = read_list(alloc, doc_freq, postings, None, recorded, requested)?;
-    Ok(same_cursor(alloc, cursor, &whole)? && same_blocks(blocks, &alone))
+    let located = Some(shared(alloc, positions)?);
+    let bytes = shared(alloc, postings)?;
+    let (record, request) = (option_of(recorded), option_of(requested));
+    match (
+        SegmentPostings::open(doc_freq, bytes, located, record, request),
+        list,
+    ) {
+        (Ok(mut cursor), Ok(list)) => goes_over(alloc, &mut cursor, &list),
+        (Err(fault), Err(damage)) => Ok(names(Fault::from(fault), damage)),
+        _ => Ok(false),
+    }
 }
 
-// Whether a cursor goes over a list.
-fn same_cursor(
+// The same of a cursor over blocks, which has no positions.
+fn same_blocks(
     alloc: Global,
-    cursor: Result<SegmentPostings, LayoutFault>,
-    list: &Result<Listed, Damage>,
+    doc_freq: u32,
+    postings: &[u8],
+    recorded: Mode,
+    requested: Mode,
 ) -> Result<bool, Fault> {
-    match (cursor, list) {
-        (Ok(mut cursor), Ok(list)) => goes_over(alloc, &mut cursor, list),
-        (Err(fault), Err(damage)) => Ok(names(fault, *damage)),
+    let list = read_list(alloc, doc_freq, postings, None, recorded, requested)?;
+    let bytes = shared(alloc, postings)?;
+    let (record, request) = (option_of(recorded), option_of(requested));
+    match (
+        BlockSegmentPostings::open(doc_freq, bytes, record, request),
+        list,
+    ) {
+        (Ok(mut blocks), Ok(list)) => Ok(goes_over_blocks(&mut blocks, &list)),
+        (Err(fault), Err(damage)) => Ok(names(Fault::from(fault), damage)),
         _ => Ok(false),
     }
 }
@@ -123,11 +136,7 @@ pub fn goes_over(
         if u64::from(cursor.doc()) != *doc || cursor.doc() >= TERMINATED {
             return Ok(false);
         }
-        let count = match &list.counts {
-            Some(counts) => counts.as_slice().get(place).copied().unwrap_or(0),
-            None => 1,
-        };
-        if u64::from(cursor.term_freq()) != count {
+        if u64::from(cursor.term_freq()) != count_of(list, place) {
             return Ok(false);
         }
         cursor.positions(&mut found)?;
@@ -136,41 +145,18 @@ pub fn goes_over(
         }
         cursor.advance();
     }
-    Ok(cursor.doc() == TERMINATED && is_used(list, used))
+    Ok(cursor.doc() == TERMINATED && list.positions.len() == used)
 }
 
-// Whether these are the next positions of a list.
+// Whether these are the next positions of a list, of which there are none where they aren't read.
 fn are_next(found: &[u32], list: &Listed, used: &mut usize) -> bool {
-    let Some(positions) = &list.positions else {
-        return found.is_empty();
-    };
     for position in found {
-        if positions.as_slice().get(*used).copied() != Some(u64::from(*position)) {
+        if list.positions.as_slice().get(*used).copied() != Some(u64::from(*position)) {
             return false;
         }
         *used = used.saturating_add(1);
     }
     true
-}
-
-// Whether all positions of a list were met.
-fn is_used(list: &Listed, used: usize) -> bool {
-    match &list.positions {
-        Some(positions) => positions.len() == used,
-        None => true,
-    }
-}
-
-// Whether a block cursor goes over a list.
-fn same_blocks(
-    blocks: Result<BlockSegmentPostings, LayoutFault>,
-    list: &Result<Listed, Damage>,
-) -> bool {
-    match (blocks, list) {
-        (Ok(mut blocks), Ok(list)) => goes_over_blocks(&mut blocks, list),
-        (Err(fault), Err(damage)) => names(fault, *damage),
-        _ => false,
-    }
 }
 
 // Whether the blocks of a cursor have these documents and counts, and then end.
@@ -193,10 +179,10 @@ fn goes_over_blocks(blocks: &mut BlockSegmentPostings, list: &Listed) -> bool {
 
 // The count of a document of a list.
 fn count_of(list: &Listed, place: usize) -> u64 {
-    match &list.counts {
-        Some(counts) => counts.as_slice().get(place).copied().unwrap_or(0),
-        None => 1,
+    if !list.has_counts {
+        return 1;
     }
+    list.counts.as_slice().get(place).copied().unwrap_or(0)
 }
 
 // Whether a block has this document with this count at a place.

@@ -1,7 +1,6 @@
 ghost use Rattle.std.specs.Prelude.{◌≡◌, length, IfOk};
 
-use crate::compare::{MODES, Tally, goes_over, is_part, option_of};
-use bytes::Bytes;
+use crate::compare::{MODES, Tally, goes_over, names, option_of, shared};
 use ii_base::{CompositeFile, Fault, Field, FieldEntry, IndexRecordOption, Schema};
 use ii_fieldnorm::FieldNormReader;
 use ii_reader::{InvertedIndexReader, OpenIndex, open_index};
@@ -12,19 +11,6 @@ use ii_slow_reader::{
 use ii_termdict::TermDictionary;
 use ii_termstore::{TermInfo, TermInfoStore};
 use std::alloc::Global;
-
-// Bytes that may be shared.
-fn shared(alloc: Global, bytes: &[u8]) -> Result<Bytes, Fault> {
-    Ok(Bytes::from_vec(Vec::from_slice(alloc, bytes)?)?)
-}
-
-// Whether a fault names this part.
-fn names(fault: Fault, damage: Damage) -> bool {
-    match fault {
-        Fault::Damaged(part) => is_part(part, damage),
-        _ => false,
-    }
-}
 
 /// Whether a composite file has the same bodies by both readers.
 pub fn same_composite(alloc: Global, bytes: &[u8]) -> Result<bool, Fault> {
@@ -155,11 +141,8 @@ fn same_index(alloc: Global, files: Files<'_>, recorded: Mode) -> Result<bool, F
         shared(alloc, files.norms)?,
         &schema,
     );
-    match (opened, read_index(alloc, files, 1)?) {
-        (Ok(index), Ok(fields)) => match fields.as_slice().first() {
-            Some(field) => same_field(alloc, &index, field, recorded),
-            None => Ok(false),
-        },
+    match (opened, read_index(alloc, files, 0)?) {
+        (Ok(index), Ok(field)) => same_field(alloc, &index, &field, recorded),
         (Err(fault), Err(damage)) => Ok(names(fault, damage)),
         _ => Ok(false),
     }
@@ -205,10 +188,10 @@ fn same_term(
     let list = read_term(alloc, field, entry.info, recorded, requested)?;
     match (
         reader.read_postings_from_terminfo(&info, option_of(requested)),
-        &list,
+        list,
     ) {
-        (Ok(mut cursor), Ok(list)) => goes_over(alloc, &mut cursor, list),
-        (Err(fault), Err(damage)) => Ok(names(fault, *damage)),
+        (Ok(mut cursor), Ok(list)) => goes_over(alloc, &mut cursor, &list),
+        (Err(fault), Err(damage)) => Ok(names(fault, damage)),
         _ => Ok(false),
     }
 }

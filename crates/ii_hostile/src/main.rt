@@ -7,7 +7,6 @@
 mod compare;
 mod files;
 mod mutate;
-mod rows;
 mod subjects;
 
 use anyhow::{Context, Result};

@@ -1,6 +1,6 @@
 use crate::compare::{Tally, judge_list};
 use crate::files::{judge_index, same_composite, same_dictionary, same_store};
-use crate::subjects::{Kind, Subject, subjects};
+use crate::subjects::{Kind, SUBJECTS, Subject};
 use ii_base::Fault;
 use ii_slow_reader::Files;
 use std::alloc::Global;
@@ -53,7 +53,7 @@ fn copied(alloc: Global, subject: &Subject) -> Result<Vec<Vec<u8>>, Fault> {
 /// more than `longest` bytes with each change of one bit.
 pub fn each_change(alloc: Global, longest: u64) -> Result<Tally, Fault> {
     let mut tally = NONE;
-    for subject in subjects(alloc)?.as_slice() {
+    for subject in &SUBJECTS {
         let mut len = 0u64;
         for part in subject.parts.as_slice() {
             len = len.saturating_add(part.len() as u64);
@@ -120,12 +120,11 @@ fn alter(bytes: &mut Vec<u8>, place: usize, change: u8) {
 pub fn at_random(alloc: Global, count: u64, seed: u64) -> Result<Tally, Fault> {
     let mut tally = NONE;
     let mut state = seed | 1;
-    let known = subjects(alloc)?;
     for _ in 0..count {
         let at = next(&mut state)
-            .checked_rem(known.len() as u64)
+            .checked_rem(SUBJECTS.len() as u64)
             .unwrap_or(0);
-        if let Some(subject) = known.as_slice().get(at as usize) {
+        if let Some(subject) = SUBJECTS.get(at as usize) {
             damaged(alloc, subject, &mut state, &mut tally)?;
         }
     }
@@ -139,9 +138,9 @@ fn damaged(
     state: &mut u64,
     tally: &mut Tally,
 ) -> Result<(), Fault> {
-    let mut parts = Vec::new(alloc);
-    for part in subject.parts.as_slice() {
-        parts.push(damage(alloc, part, state)?)?;
+    let mut parts = copied(alloc, subject)?;
+    for part in parts.as_mut_slice() {
+        damage(part, state)?;
     }
     let kind = match subject.kind {
         Kind::List(_) if next(state) % 8 == 0 => Kind::List((next(state) % 400) as u32),
@@ -158,17 +157,16 @@ fn next(state: &mut u64) -> u64 {
     *state
 }
 
-// A copy of a part: at every second time as it is, else with up to four changed bytes, cut, or with a byte
-// more.
-fn damage(alloc: Global, part: &[u8], state: &mut u64) -> Result<Vec<u8>, Fault> {
-    let mut bytes = Vec::from_slice(alloc, part)?;
+// Damages a part: at every second time it stays as it is, else up to four bytes are changed, and it is cut, or
+// has a byte more.
+fn damage(bytes: &mut Vec<u8>, state: &mut u64) -> Result<(), Fault> {
     if next(state) % 2 == 0 {
-        return Ok(bytes);
+        return Ok(());
     }
     for _ in 0..next(state) % 4 {
         let len = (bytes.len() as u64).saturating_add(1);
         let place = next(state).checked_rem(len).unwrap_or(0) as usize;
-        alter(&mut bytes, place, (next(state) % 256) as u8);
+        alter(bytes, place, (next(state) % 256) as u8);
     }
     match next(state) % 8 {
         0 => {
@@ -179,5 +177,5 @@ fn damage(alloc: Global, part: &[u8], state: &mut u64) -> Result<Vec<u8>, Fault>
         1 => bytes.push((next(state) % 256) as u8)?,
         _ => (),
     }
-    Ok(bytes)
+    Ok(())
 }

@@ -13,29 +13,32 @@ pub struct Entry<'a> {
     pub info: Info,
 }
 
+// What is kept of a term before the store is read.
+const NOTHING: Info = Info {
+    docs: 0,
+    postings_start: 0,
+    postings_end: 0,
+    positions_start: 0,
+    positions_end: 0,
+};
+
 /// The terms of a dictionary in order.
 pub fn read_dictionary<'a>(
     alloc: Global,
     bytes: &'a [u8],
 ) -> Result<Result<Vec<Entry<'a>>, Damage>, AllocError> {
-    let mut keys = Vec::new(alloc);
-    let Some(store) = read_keys(bytes, &mut keys)? else {
+    let mut entries = Vec::new(alloc);
+    let Some(store) = read_keys(bytes, &mut entries)? else {
         return Ok(Err(Damage::Dictionary));
     };
     let Some(infos) = read_store(alloc, store)? else {
         return Ok(Err(Damage::TermStore));
     };
-    if infos.len() != keys.len() {
+    if infos.len() != entries.len() {
         return Ok(Err(Damage::Dictionary));
     }
-    let mut entries = Vec::new(alloc);
-    for (place, key) in keys.as_slice().iter().enumerate() {
-        if let Some(info) = infos.as_slice().get(place) {
-            entries.push(Entry {
-                key: *key,
-                info: *info,
-            })?;
-        }
+    for (entry, info) in entries.iter_mut().zip(infos.iter()) {
+        entry.info = *info;
     }
     Ok(Ok(entries))
 }
@@ -43,7 +46,7 @@ pub fn read_dictionary<'a>(
 // Adds the keys, and answers the bytes behind them; nothing where they are damaged.
 fn read_keys<'a>(
     bytes: &'a [u8],
-    keys: &mut Vec<&'a [u8]>,
+    entries: &mut Vec<Entry<'a>>,
 ) -> Result<Option<&'a [u8]>, AllocError> {
     let len = bytes.len() as u64;
     let Some(number) = fixed(bytes, 0, 8) else {
@@ -63,11 +66,19 @@ fn read_keys<'a>(
         else {
             return Ok(None);
         };
-        if keys.as_slice().last().is_some_and(|last| *last >= key) {
+        if !is_last(entries.as_slice(), key) {
             return Ok(None);
         }
-        keys.push(key)?;
+        entries.push(Entry { key, info: NOTHING })?;
         before = end;
     }
     Ok(bytes_in(bytes, base.saturating_add(before), len))
+}
+
+// Whether a key comes after those before it.
+fn is_last(entries: &[Entry<'_>], key: &[u8]) -> bool {
+    match entries.last() {
+        Some(last) => last.key < key,
+        None => true,
+    }
 }

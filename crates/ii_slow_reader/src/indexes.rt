@@ -33,32 +33,20 @@ pub struct FieldFiles<'a> {
     pub norms: Option<&'a [u8]>,
 }
 
-// The tables of the four files.
-#[derive(Drop)]
-struct Tables {
-    terms: Vec<Body>,
-    postings: Vec<Body>,
-    positions: Vec<Body>,
-    norms: Vec<Body>,
-}
-
-/// The fields of an index, whose schema has so many of them.
+/// A field of an index.
 pub fn read_index<'a>(
     alloc: Global,
     files: Files<'a>,
-    fields: u64,
-) -> Result<Result<Vec<FieldFiles<'a>>, Damage>, AllocError> {
-    let Some(tables) = read_tables(alloc, files)? else {
-        return Ok(Err(Damage::Composite));
-    };
-    let mut found = Vec::new(alloc);
-    for field in 0..fields {
-        match read_field(alloc, files, &tables, field)? {
-            Ok(read) => found.push(read)?,
-            Err(damage) => return Ok(Err(damage)),
-        }
+    field: u64,
+) -> Result<Result<FieldFiles<'a>, Damage>, AllocError> {
+    let mut tables = Vec::new(alloc);
+    for bytes in [files.terms, files.postings, files.positions, files.norms] {
+        let Some(bodies) = read_composite(alloc, bytes)? else {
+            return Ok(Err(Damage::Composite));
+        };
+        tables.push(body_of(bodies.as_slice(), field))?;
     }
-    Ok(Ok(found))
+    read_field(alloc, files, tables.as_slice())
 }
 
 /// The list of a term of a field that records so much, as far as it is requested.
@@ -83,62 +71,50 @@ pub fn read_term(
     read_list(alloc, docs, postings, positions, recorded, requested)
 }
 
-fn read_tables(alloc: Global, files: Files<'_>) -> Result<Option<Tables>, AllocError> {
-    let terms = read_composite(alloc, files.terms)?;
-    let postings = read_composite(alloc, files.postings)?;
-    let positions = read_composite(alloc, files.positions)?;
-    let norms = read_composite(alloc, files.norms)?;
-    match (terms, postings, positions, norms) {
-        (Some(terms), Some(postings), Some(positions), Some(norms)) => Ok(Some(Tables {
-            terms,
-            postings,
-            positions,
-            norms,
-        })),
-        _ => Ok(None),
-    }
-}
-
+// Reads a field that has these bodies in the four files.
 fn read_field<'a>(
     alloc: Global,
     files: Files<'a>,
-    tables: &Tables,
-    field: u64,
+    bodies: &[Option<Body>],
 ) -> Result<Result<FieldFiles<'a>, Damage>, AllocError> {
-    let mut read = FieldFiles {
-        tokens: 0,
-        entries: Vec::new(alloc),
-        postings: &[],
-        positions: &[],
-        norms: bytes_of(files.norms, tables.norms.as_slice(), field),
+    let norms = bytes_of(files.norms, bodies, 3);
+    let Some(terms) = bytes_of(files.terms, bodies, 0) else {
+        return Ok(Ok(FieldFiles {
+            tokens: 0,
+            entries: Vec::new(alloc),
+            postings: &[],
+            positions: &[],
+            norms,
+        }));
     };
-    let Some(terms) = bytes_of(files.terms, tables.terms.as_slice(), field) else {
-        return Ok(Ok(read));
-    };
-    let Some(postings) = bytes_of(files.postings, tables.postings.as_slice(), field) else {
-        return Ok(Err(Damage::Composite));
-    };
-    let Some(positions) = bytes_of(files.positions, tables.positions.as_slice(), field) else {
-        return Ok(Err(Damage::Composite));
-    };
-    match read_dictionary(alloc, terms)? {
-        Ok(entries) => read.entries = entries,
-        Err(damage) => return Ok(Err(damage)),
-    }
-    let (Some(tokens), Some(behind)) = (
-        fixed(postings, 0, 8),
-        bytes_in(postings, 8, postings.len() as u64),
+    let (Some(postings), Some(positions)) = (
+        bytes_of(files.postings, bodies, 1),
+        bytes_of(files.positions, bodies, 2),
     ) else {
+        return Ok(Err(Damage::Composite));
+    };
+    let tokens = fixed(postings, 0, 8);
+    let behind = bytes_in(postings, 8, postings.len() as u64);
+    let entries = match read_dictionary(alloc, terms)? {
+        Ok(entries) => entries,
+        Err(damage) => return Ok(Err(damage)),
+    };
+    let (Some(tokens), Some(postings)) = (tokens, behind) else {
         return Ok(Err(Damage::TokenCount));
     };
-    read.tokens = tokens;
-    read.postings = behind;
-    read.positions = positions;
-    Ok(Ok(read))
+    Ok(Ok(FieldFiles {
+        tokens,
+        entries,
+        postings,
+        positions,
+        norms,
+    }))
 }
 
-// The bytes of a field's body, if there is one.
-fn bytes_of<'a>(bytes: &'a [u8], bodies: &[Body], field: u64) -> Option<&'a [u8]> {
-    let body = body_of(bodies, field)?;
-    bytes_in(bytes, body.start, body.end)
+// The bytes of a body in a file, if there is one.
+fn bytes_of<'a>(bytes: &'a [u8], bodies: &[Option<Body>], file: usize) -> Option<&'a [u8]> {
+    match bodies.get(file) {
+        Some(Some(body)) => bytes_in(bytes, body.start, body.end),
+        _ => None,
+    }
 }

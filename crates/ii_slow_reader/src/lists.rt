@@ -46,10 +46,16 @@ pub enum Damage {
 pub struct Listed {
     /// The documents.
     pub docs: Vec<u64>,
-    /// A count for each, or nothing.
-    pub counts: Option<Vec<u64>>,
-    /// Positions, or nothing.
-    pub positions: Option<Vec<u64>>,
+    /// Whether counts are read.
+    pub has_counts: bool,
+    /// A count for each document, where they are read.
+    pub counts: Vec<u64>,
+    /// The positions, where they are read.
+    pub positions: Vec<u64>,
+    // what the skip list says
+    blocks: Vec<Block>,
+    // the deltas of positions
+    deltas: Vec<u64>,
 }
 
 // What the skip list says of a full block: its last document, the widths, whether deltas are strict, the
@@ -87,99 +93,83 @@ pub fn read_list(
 ) -> Result<Result<Listed, Damage>, AllocError> {
     let mut list = Listed {
         docs: Vec::new(alloc),
-        counts: None,
-        positions: None,
+        has_counts: false,
+        counts: Vec::new(alloc),
+        positions: Vec::new(alloc),
+        blocks: Vec::new(alloc),
+        deltas: Vec::new(alloc),
     };
-    let wanted = recorded.has_counts() && requested.has_counts();
-    let (reads_counts, refused) = read_postings(
-        alloc,
-        u64::from(doc_freq),
-        postings,
-        recorded,
-        wanted,
-        &mut list,
-    )?;
-    if let Some(damage) = refused {
-        return Ok(Err(damage));
+    let wanted = (recorded, requested);
+    let damage = read_parts(u64::from(doc_freq), postings, positions, wanted, &mut list)?;
+    match damage {
+        Some(damage) => Ok(Err(damage)),
+        None => Ok(Ok(list)),
     }
-    if let (true, true, Some(bytes)) = (
-        reads_counts && recorded.has_positions(),
-        requested.has_positions(),
-        positions,
-    ) {
-        match read_positions(alloc, bytes, list.counts.as_ref())? {
-            Some(found) => list.positions = Some(found),
-            None => return Ok(Err(Damage::Positions)),
-        }
-    }
-    Ok(Ok(list))
 }
 
-// Reads documents and counts; the answer says whether counts are read, and what is damaged.
-fn read_postings(
-    alloc: Global,
+// Reads what of a list is recorded and requested; the answer says what is damaged.
+fn read_parts(
     doc_freq: u64,
     postings: &[u8],
-    recorded: Mode,
-    wanted: bool,
+    positions: Option<&[u8]>,
+    wanted: (Mode, Mode),
     list: &mut Listed,
-) -> Result<(bool, Option<Damage>), AllocError> {
-    let full = doc_freq / 128;
-    let mut blocks = Vec::new(alloc);
-    let mut start = 0u64;
-    let mut has_counts = recorded.has_counts();
-    if full > 0 {
-        let Some((len, after)) = vint_64(postings, 0) else {
-            return Ok((false, Some(Damage::Skip)));
-        };
-        let left = (postings.len() as u64).saturating_sub(after);
-        if len > left {
-            return Ok((false, Some(Damage::Skip)));
-        }
-        has_counts &= len >= full.saturating_mul(8);
-        start = after.saturating_add(len);
-        if !read_entries(
-            postings,
-            after,
-            len,
-            full,
-            recorded,
-            has_counts,
-            &mut blocks,
-        )? {
-            return Ok((false, Some(Damage::Skip)));
-        }
-    }
-    let Some(mut end) = read_documents(
-        postings,
-        start,
-        blocks.as_slice(),
-        doc_freq % 128,
-        &mut list.docs,
-    )?
-    else {
-        return Ok((false, Some(Damage::Documents)));
+) -> Result<Option<Damage>, AllocError> {
+    let (recorded, requested) = wanted;
+    let (full, others) = (doc_freq / 128, doc_freq % 128);
+    let Some((start, may_count)) = read_skip(postings, full, recorded, &mut list.blocks)? else {
+        return Ok(Some(Damage::Skip));
     };
+    let blocks = list.blocks.as_slice();
+    let Some(end) = read_documents(postings, start, blocks, others, &mut list.docs)? else {
+        return Ok(Some(Damage::Documents));
+    };
+    // without a skip list there are counts where bytes are left
+    let has_counts = may_count && (full > 0 || end < postings.len() as u64);
+    if !has_counts || !requested.has_counts() {
+        return Ok(None);
+    }
+    list.has_counts = true;
+    if !read_counts(postings, start, blocks, &mut list.counts)?
+        || !read_last_counts(postings, end, others, &mut list.counts)?
+    {
+        return Ok(Some(Damage::Frequencies));
+    }
+    let Some(bytes) = positions else {
+        return Ok(None);
+    };
+    if !recorded.has_positions() || !requested.has_positions() {
+        return Ok(None);
+    }
+    let counts = list.counts.as_slice();
+    if !read_positions(bytes, counts, &mut list.deltas, &mut list.positions)? {
+        return Ok(Some(Damage::Positions));
+    }
+    Ok(None)
+}
+
+// Reads the skip list of so many full blocks; answers the place after it, and whether there may be counts, or
+// nothing where it is damaged.
+fn read_skip(
+    postings: &[u8],
+    full: u64,
+    recorded: Mode,
+    blocks: &mut Vec<Block>,
+) -> Result<Option<(u64, bool)>, AllocError> {
     if full == 0 {
-        has_counts &= end < postings.len() as u64;
+        return Ok(Some((0, recorded.has_counts())));
     }
-    if !has_counts || !wanted {
-        return Ok((false, None));
+    let Some((len, after)) = vint_64(postings, 0) else {
+        return Ok(None);
+    };
+    if len > (postings.len() as u64).saturating_sub(after) {
+        return Ok(None);
     }
-    let mut counts = Vec::new(alloc);
-    let whole = read_counts(postings, start, blocks.as_slice(), &mut counts)?;
-    for _ in 0..doc_freq % 128 {
-        let Some((count, after)) = vint_32(postings, end) else {
-            return Ok((true, Some(Damage::Frequencies)));
-        };
-        counts.push(count)?;
-        end = after;
+    let has_counts = recorded.has_counts() && len >= full.saturating_mul(8);
+    if !read_entries(postings, after, len, full, recorded, has_counts, blocks)? {
+        return Ok(None);
     }
-    if !whole {
-        return Ok((true, Some(Damage::Frequencies)));
-    }
-    list.counts = Some(counts);
-    Ok((true, None))
+    Ok(Some((after.saturating_add(len), has_counts)))
 }
 
 // Reads the entries of a skip list; false where they aren't there.
@@ -339,6 +329,24 @@ fn read_counts(
         if block.sum.is_some_and(|told| told != sum) {
             return Ok(false);
         }
+    }
+    Ok(true)
+}
+
+// Reads the counts after those of the blocks; false where they aren't there.
+fn read_last_counts(
+    postings: &[u8],
+    start: u64,
+    others: u64,
+    counts: &mut Vec<u64>,
+) -> Result<bool, AllocError> {
+    let mut at = start;
+    for _ in 0..others {
+        let Some((count, after)) = vint_32(postings, at) else {
+            return Ok(false);
+        };
+        counts.push(count)?;
+        at = after;
     }
     Ok(true)
 }

@@ -1,40 +1,34 @@
 use crate::bits::{entry, fixed};
 use crate::vints::{vint_32, vint_64};
-use std::alloc::{AllocError, Global};
+use std::alloc::AllocError;
 
-/// The positions of documents with these counts; nothing where the bytes don't hold them.
+/// Reads the positions of documents with these counts, after their deltas; false where the bytes don't hold
+/// them.
 pub(crate) fn read_positions(
-    alloc: Global,
     bytes: &[u8],
-    counts: Option<&Vec<u64>>,
-) -> Result<Option<Vec<u64>>, AllocError> {
-    let mut deltas = Vec::new(alloc);
-    if !read_deltas(bytes, &mut deltas)? {
-        return Ok(None);
+    counts: &[u64],
+    deltas: &mut Vec<u64>,
+    positions: &mut Vec<u64>,
+) -> Result<bool, AllocError> {
+    if !read_deltas(bytes, deltas)? {
+        return Ok(false);
     }
-    let mut positions = Vec::new(alloc);
     let mut used = 0usize;
-    if let Some(counts) = counts {
-        for count in counts.as_slice() {
-            let mut position = 0u64;
-            for _ in 0..*count {
-                let Some(delta) = deltas.as_slice().get(used) else {
-                    return Ok(None);
-                };
-                position = position.saturating_add(*delta);
-                if position > u64::from(u32::MAX) {
-                    return Ok(None);
-                }
-                positions.push(position)?;
-                used = used.saturating_add(1);
+    for count in counts {
+        let mut position = 0u64;
+        for _ in 0..*count {
+            let Some(delta) = deltas.as_slice().get(used) else {
+                return Ok(false);
+            };
+            position = position.saturating_add(*delta);
+            if position > u64::from(u32::MAX) {
+                return Ok(false);
             }
+            positions.push(position)?;
+            used = used.saturating_add(1);
         }
     }
-    Ok(if used == deltas.len() {
-        Some(positions)
-    } else {
-        None
-    })
+    Ok(used == deltas.len())
 }
 
 // Reads all deltas; false where the bytes don't hold them.

@@ -53,22 +53,49 @@ pub fn read_store(alloc: Global, bytes: &[u8]) -> Result<Option<Vec<Info>>, Allo
     Ok(Some(found))
 }
 
+// Where the numbers of a meta begin, and how many bytes each has.
+static META: [(u64, u64); 9] = [
+    (0, 8),
+    (8, 4),
+    (12, 8),
+    (20, 4),
+    (24, 8),
+    (32, 4),
+    (36, 1),
+    (37, 1),
+    (38, 1),
+];
+
 // The meta at a place, unless it is damaged.
 fn read_meta(bytes: &[u8], at: u64) -> Option<Meta> {
-    let postings = fixed(bytes, at.saturating_add(12), 8)?;
-    let positions = fixed(bytes, at.saturating_add(24), 8)?;
+    let mut read = [0u64; 9];
+    for k in 0..9 {
+        let (place, size) = META[k];
+        read[k] = fixed(bytes, at.saturating_add(place), size)?;
+    }
+    let [
+        offset,
+        docs,
+        postings,
+        postings_len,
+        positions,
+        positions_len,
+        docs_width,
+        postings_width,
+        positions_width,
+    ] = read;
     let meta = Meta {
-        offset: fixed(bytes, at, 8)?,
+        offset,
         first: Info {
-            docs: fixed(bytes, at.saturating_add(8), 4)?,
+            docs,
             postings_start: postings,
-            postings_end: postings.checked_add(fixed(bytes, at.saturating_add(20), 4)?)?,
+            postings_end: postings.checked_add(postings_len)?,
             positions_start: positions,
-            positions_end: positions.checked_add(fixed(bytes, at.saturating_add(32), 4)?)?,
+            positions_end: positions.checked_add(positions_len)?,
         },
-        docs_width: fixed(bytes, at.saturating_add(36), 1)?,
-        postings_width: fixed(bytes, at.saturating_add(37), 1)?,
-        positions_width: fixed(bytes, at.saturating_add(38), 1)?,
+        docs_width,
+        postings_width,
+        positions_width,
     };
     if meta.docs_width > 32 || meta.postings_width > 56 || meta.positions_width > 56 {
         return None;

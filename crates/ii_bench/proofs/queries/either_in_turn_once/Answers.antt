@@ -1,5 +1,0 @@
-use Rattle.std.proofs.Common.{refl}
-use Rattle.ii_bench.proofs.queries.either_in_turn_once.Goals as goal
-
-pub same-one : goal.same-one
-same-one c = refl
