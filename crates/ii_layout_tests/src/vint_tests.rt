@@ -22,7 +22,8 @@ fn first_four(decoder: &BlockDecoder) -> ([u32; 4], u32) {
 #[test]
 fn encodes_sorted_vints(rt: HostRuntime) {
     let written = [0x80, 0x82, 0x88];
-    assert!(rt; compress_sorted(&[0, 2, 10], &mut [0u8; 15], 0) == written.as_slice());
+    let mut buffer = [0u8; 15];
+    assert!(rt; compress_sorted(&[0, 2, 10], &mut buffer, 0) == written.as_slice());
     let mut encoder = BlockEncoder::new();
     let bytes = encoder.compress_vint_sorted(&[0, 2, 10], 0);
     assert!(rt; bytes == written.as_slice());

@@ -1,4 +1,5 @@
-// Lists as cursors walk over them, opened, loaded and in boxes.
+ghost use Rattle.std.specs.Prelude.{◌≡◌, [], ◌∷◌, IfSome};
+
 use bytes::Bytes;
 use ii_base::{Fault, HasLen, IndexRecordOption, LayoutFault};
 use ii_docset::{DocId, DocSet, Lent, Postings, SeekDangerResult, SeekOnce, TERMINATED};
@@ -269,11 +270,14 @@ fn answered_by_copy(alloc: Global, list: &List) -> Result<([usize; 2], bool), Fa
 }
 
 // How many answers a cursor gives over the list once it is known to open.
-fn answered_known(alloc: Global, list: &List) -> Result<usize, LayoutFault> {
+fn answered_known(alloc: Global, list: &List) -> usize {
     let (recorded, requested) = list.options;
     let postings = Bytes::from_static(list.postings);
     let positions = Some(Bytes::from_static(list.positions));
-    let _checked = SegmentPostings::open(list.doc_freq, postings, positions, recorded, requested)?;
+    let Ok(_) = SegmentPostings::open(list.doc_freq, postings, positions, recorded, requested)
+    else {
+        return 0;
+    };
     let postings = Bytes::from_static(list.postings);
     let positions = Some(Bytes::from_static(list.positions));
     let mut known = SegmentPostings::open_known(
@@ -283,7 +287,7 @@ fn answered_known(alloc: Global, list: &List) -> Result<usize, LayoutFault> {
         recorded,
         requested,
     );
-    Ok(answered(alloc, &mut known, list.steps))
+    answered(alloc, &mut known, list.steps)
 }
 
 #[test]
@@ -294,7 +298,7 @@ fn lists_are_walked(rt: HostRuntime) -> Result<(), Fail> {
             answered_by_copy(rt.alloc(), list)? == ([len; 2], true),
             "list {i}"
         );
-        assert!(rt; answered_known(rt.alloc(), list)? == len, "known list {i}");
+        assert!(rt; answered_known(rt.alloc(), list) == len, "known list {i}");
     }
     Ok(())
 }
@@ -430,5 +434,67 @@ fn cursors_are_lent_and_boxed(rt: HostRuntime) -> Result<(), Fail> {
     let list = &LISTS[0];
     assert!(rt; answered_in_box(rt.alloc(), list)? == list.steps.len());
     assert!(rt; sought_thrice(rt.alloc(), list)? == [2, 10, TERMINATED]);
+    Ok(())
+}
+
+// Document 0, in which a term stands at 0 and 4.
+static TWO_POSTINGS: [u8; 2] = [0x80, 0x82];
+
+static TWO_POSITIONS: [u8; 3] = [0x80, 0x80, 0x84];
+
+// A cursor over it.
+fn two_positions() -> Option<SegmentPostings>
+    ensures { IfSome result (λ cursor. cursor.rest ≡ record { doc = 0; term_freq = 2; positions = 0 ∷ 4 ∷ [] } ∷ []) }
+{
+    let postings = Bytes::from_static(&TWO_POSTINGS);
+    let positions = Some(Bytes::from_static(&TWO_POSITIONS));
+    match SegmentPostings::open(1, postings, positions, FULL, FULL) {
+        Ok(cursor) => Some(cursor),
+        Err(_) => None,
+    }
+}
+
+static SEVEN_AND_TEN_MORE: [u32; 3] = [7, 10, 14];
+
+static ONE_MORE: [u32; 2] = [1, 5];
+
+// Whether the positions of such a cursor are appended, each 10 more.
+fn are_appended(cursor: &mut SegmentPostings, output: &mut Vec<u32>) -> bool
+    requires { cursor.old.rest ≡ record { doc = 0; term_freq = 2; positions = 0 ∷ 4 ∷ [] } ∷ [] }
+    ensures { cursor.new.rest ≡ cursor.old.rest }
+{
+    let appended = cursor.append_positions_with_offset(10, output);
+    appended.is_ok() && output.as_slice() == SEVEN_AND_TEN_MORE.as_slice()
+}
+
+// Whether they are put in place of what was there, each 1 more.
+fn are_put(cursor: &mut SegmentPostings, output: &mut Vec<u32>) -> bool
+    requires { cursor.old.rest ≡ record { doc = 0; term_freq = 2; positions = 0 ∷ 4 ∷ [] } ∷ [] }
+    ensures { cursor.new.rest ≡ cursor.old.rest }
+{
+    let put = cursor.positions_with_offset(1, output);
+    put.is_ok() && output.as_slice() == ONE_MORE.as_slice()
+}
+
+// Whether each of these is so behind a 7, and where the cursor then is.
+fn asked(cursor: &mut SegmentPostings, output: &mut Vec<u32>) -> ([bool; 2], DocId)
+    requires { cursor.old.rest ≡ record { doc = 0; term_freq = 2; positions = 0 ∷ 4 ∷ [] } ∷ [] }
+{
+    let are_told = [are_appended(cursor, output), are_put(cursor, output)];
+    (are_told, cursor.doc())
+}
+
+// The same of a new cursor, if there is one.
+fn asked_of_two(output: &mut Vec<u32>) -> Option<([bool; 2], DocId)> {
+    match two_positions() {
+        Some(mut cursor) => Some(asked(&mut cursor, output)),
+        None => None,
+    }
+}
+
+#[test]
+fn positions_are_appended(rt: HostRuntime) -> Result<(), Fail> {
+    let mut output = Vec::from_slice(rt.alloc(), &[7])?;
+    assert!(rt; asked_of_two(&mut output) == Some(([true; 2], 0)));
     Ok(())
 }
