@@ -356,12 +356,14 @@ fn adds_vints(alloc: Global) -> Result<bool, Fault> {
 }
 
 #[test]
-fn vints_are_written(rt: HostRuntime) {
+fn vints_are_written_and_read(rt: HostRuntime) {
     let mut bytes = [0xFFu8; 12];
     let end = vint::write_u64(5, &mut bytes, 1);
     let five = (end, bytes[0], bytes[1]);
     let end = vint::write_u64(u64::MAX, &mut bytes, 0);
     assert!(rt; (five, end, bytes) == ((2, 0xFF, 0x85), 10, GREATEST_WRITTEN));
+    let read = [vint::read_u64(&bytes), vint::read_u64(&PAST)];
+    assert!(rt; read == [Some((u64::MAX, 10)), None]);
     assert!(rt; adds_vints(rt.alloc()) == Ok(true));
 }
 
