@@ -1,4 +1,4 @@
-ghost use Rattle.std.specs.Prelude.{◌≡◌, []};
+ghost use Rattle.std.specs.Prelude.{◌≡◌, ◌<◌, [], length, OnOk};
 
 use bytes::Bytes;
 use ii_io::composite_file::place::Place;
@@ -12,26 +12,29 @@ use ii_io::{
     HasLen, Part, vint,
 };
 use std::alloc::Global;
-use std::io::{self, Read, Write};
-use std::test::Fail;
+use std::io::{self, Cursor, Read, Write};
 
-// Bodies of the fields 7 and 1 after a byte that was written before.
-static WRITTEN: [u8; 48] = [
-    9, 5, 6, 8, 7, 0, 0, 0, 0, 0, 0, 0, 0, 0, 0, 0, 2, 0, 0, 0, 0, 0, 0, 0, 1, 0, 0, 0, 2, 0, 0, 0,
-    0, 0, 0, 0, 3, 0, 0, 0, 0, 0, 0, 0, 2, 0, 0, 0,
+// A body of the field 7 after a byte that was written before.
+static WRITTEN: [u8; 27] = [
+    9, 5, 6, 7, 0, 0, 0, 0, 0, 0, 0, 0, 0, 0, 0, 2, 0, 0, 0, 0, 0, 0, 0, 1, 0, 0, 0,
 ];
 
-// Two bodies, the first in two writes.
-fn write_two<W: Write>(composite: &mut CompositeWrite<W>) -> Result<(), Fault>
+// Begins a body.
+fn begin_body<W: Write>(composite: &mut CompositeWrite<W>) -> Result<(), Fault>
     requires { composite.old.starts ≡ [] }
+    ensures { OnOk result (0 < length composite.new.starts) }
 {
     composite
         .for_field(Field::from_field_id(7))?
-        .write_all(&[5])?;
-    composite.writer().write_all(&[6])?;
-    composite
-        .for_field(Field::from_field_id(1))?
-        .write_all(&[8])
+        .write_all(&[5])
+}
+
+// One body in two writes.
+fn write_twice<W: Write>(composite: &mut CompositeWrite<W>) -> Result<(), Fault>
+    requires { composite.old.starts ≡ [] }
+{
+    begin_body(composite)?;
+    composite.writer().write_all(&[6])
 }
 
 // Whether all of it is written where this call fails, and what writing it answers.
@@ -39,7 +42,7 @@ fn composite_over(alloc: Global, failing_call: u64) -> (bool, Result<(), Fault>)
     let mut writer = CountingWriter::wrap(FailingWriter::new(alloc, failing_call));
     let before = writer.write_all(&[9]);
     let mut composite = CompositeWrite::wrap(alloc, writer);
-    let written = write_two(&mut composite);
+    let written = write_twice(&mut composite);
     let (writer, closed) = composite.close();
     let is_written = writer.finish().bytes() == WRITTEN.as_slice();
     (is_written, before.and(written).and(closed))
@@ -47,22 +50,77 @@ fn composite_over(alloc: Global, failing_call: u64) -> (bool, Result<(), Fault>)
 
 static NO_BODIES: [u8; 4] = [0; 4];
 
+// The same of a file without bodies, to which no call fails.
+fn no_bodies(alloc: Global) -> (bool, Result<(), Fault>) {
+    let none = CompositeWrite::wrap(alloc, CountingWriter::wrap(Vec::new(alloc)));
+    let (writer, closed) = none.close();
+    let is_written = writer.finish().as_slice() == NO_BODIES.as_slice();
+    (is_written, closed)
+}
+
 #[test]
 fn composites_are_written(rt: HostRuntime) {
-    // The four writes before the table, one for each place, one for their number, and a flush.
-    for k in 0..10 {
+    // The three writes before the table, one for the place, one for the number of places, and a flush.
+    for k in 0..8 {
         let want = match k {
-            0 | 9 => (true, Ok(())),
-            8 => (true, Err(Fault::Write)),
+            0 | 7 => (true, Ok(())),
+            6 => (true, Err(Fault::Write)),
             _ => (false, Err(Fault::Write)),
         };
         assert!(rt; composite_over(rt.alloc(), k) == want, "call {k}");
     }
-    let none = CompositeWrite::wrap(rt.alloc(), CountingWriter::wrap(Vec::new(rt.alloc())));
-    let (writer, answer) = none.close();
-    let is_written = writer.finish().as_slice() == NO_BODIES.as_slice();
-    assert!(rt; (is_written, answer) == (true, Ok(())));
+    assert!(rt; no_bodies(rt.alloc()) == (true, Ok(())));
     reads_composites_back();
+}
+
+// What is written: the five values, two numbers and a place, or so many empty bodies, of which the last has
+// this field, and the others have their number.
+#[derive(Clone, Copy)]
+enum What {
+    Values,
+    Numbers(Place),
+    Bodies(u32, u32),
+}
+
+fn write_numbers<W: Write>(writer: &mut CountingWriter<W>, place: &Place) -> Result<(), Fault> {
+    0x0403_0201_u32.serialize(writer)?;
+    0x0F0E_0D0C_0B0A_0908_u64.serialize(writer)?;
+    place.serialize(writer)
+}
+
+fn write_places<W: Write>(
+    writer: &mut CountingWriter<W>,
+    count: u32,
+    last: u32,
+) -> Result<(), Fault> {
+    for i in 0..count {
+        let place = Place {
+            field: Field::from_field_id(if i < count - 1 { i } else { last }),
+            start: 0,
+            end: 0,
+        };
+        place.serialize(writer)?;
+    }
+    count.serialize(writer)
+}
+
+fn write_values<W: Write>(writer: &mut CountingWriter<W>) -> Result<(), Fault> {
+    for number in NUMBERS {
+        VInt(number).serialize(writer)?;
+    }
+    Ok(())
+}
+
+// The bytes of these, how many were told, and what writing them answers.
+fn written(alloc: Global, what: What) -> (Vec<u8>, u64, Result<(), Fault>) {
+    let mut writer = CountingWriter::wrap(Vec::new(alloc));
+    let answer = match what {
+        What::Values => write_values(&mut writer),
+        What::Numbers(place) => write_numbers(&mut writer, &place),
+        What::Bodies(count, last) => write_places(&mut writer, count, last),
+    };
+    let told = writer.written_bytes();
+    (writer.finish(), told, answer)
 }
 
 // How long the bodies of three fields of a file are, and their bytes.
@@ -80,34 +138,36 @@ fn bodies_of(alloc: Global, bytes: Bytes, fields: [u32; 3]) -> Result<String, Fa
     Ok(told)
 }
 
-// A file of so many empty bodies, of which the last has this field, and the others have their number.
-fn many_bodies(alloc: Global, count: u32, last: u32) -> Result<Bytes, Fault> {
-    let mut writer = CountingWriter::wrap(Vec::new(alloc));
-    for i in 0..count {
-        let place = Place {
-            field: Field::from_field_id(if i < count - 1 { i } else { last }),
-            start: 0,
-            end: 0,
-        };
-        place.serialize(&mut writer)?;
-    }
-    count.serialize(&mut writer)?;
-    Ok(Bytes::from_vec(writer.finish())?)
+// The same of a file of so many empty bodies, of which the last has this field.
+fn many_bodies(alloc: Global, last: u32, fields: [u32; 3]) -> Result<String, Fault> {
+    let (bytes, _, answer) = written(alloc, What::Bodies(1000, last));
+    answer?;
+    bodies_of(alloc, Bytes::from_vec(bytes)?, fields)
+}
+
+// Bodies of the fields 7 and 1.
+static TWO_BODIES: [u8; 47] = [
+    5, 6, 8, 7, 0, 0, 0, 0, 0, 0, 0, 0, 0, 0, 0, 2, 0, 0, 0, 0, 0, 0, 0, 1, 0, 0, 0, 2, 0, 0, 0, 0,
+    0, 0, 0, 3, 0, 0, 0, 0, 0, 0, 0, 2, 0, 0, 0,
+];
+
+// Whether this is told of bodies.
+fn is_told(told: Result<String, Fault>, want: &str) -> Result<bool, Fault> {
+    Ok(told?.as_str() == want)
 }
 
 #[test]
-fn composites_are_read(rt: HostRuntime) -> Result<(), Fail> {
-    let mut bytes = Bytes::from_static(&WRITTEN);
-    bytes.advance(1);
-    let two = bodies_of(rt.alloc(), bytes, [7, 1, 0])?;
-    assert!(rt; two.as_str() == "Some(2) [5, 6]; Some(1) [8]; none; ");
-    let no_bodies = Bytes::from_static(&NO_BODIES);
-    let none = bodies_of(rt.alloc(), no_bodies, [0, 1, 2])?;
-    assert!(rt; none.as_str() == "none; none; none; ");
-    let bytes = many_bodies(rt.alloc(), 1000, 4_000_000_000)?;
-    let many = bodies_of(rt.alloc(), bytes, [998, 999, 4_000_000_000])?;
-    assert!(rt; many.as_str() == "Some(0) []; none; Some(0) []; ");
-    Ok(())
+fn composites_are_read(rt: HostRuntime) {
+    let alloc = rt.alloc();
+    let two = bodies_of(alloc, Bytes::from_static(&TWO_BODIES), [7, 1, 0]);
+    let none = bodies_of(alloc, Bytes::from_static(&NO_BODIES), [0, 1, 2]);
+    let many = many_bodies(alloc, 4_000_000_000, [998, 999, 4_000_000_000]);
+    let found = [
+        is_told(two, "Some(2) [5, 6]; Some(1) [8]; none; "),
+        is_told(none, "none; none; none; "),
+        is_told(many, "Some(0) []; none; Some(0) []; "),
+    ];
+    assert!(rt; found == [Ok(true); 3]);
 }
 
 static DAMAGED: [&'static [u8]; 9] = [
@@ -142,26 +202,13 @@ static DAMAGED: [&'static [u8]; 9] = [
 ];
 
 #[test]
-fn damaged_composites_are_refused(rt: HostRuntime) -> Result<(), Fail> {
-    let damaged = Some(Fault::Damaged(Part::Composite));
+fn damaged_composites_are_refused(rt: HostRuntime) {
+    let damaged = Err(Fault::Damaged(Part::Composite));
     for k in 0..9 {
-        let refused = CompositeFile::open(rt.alloc(), Bytes::from_static(DAMAGED[k])).err();
-        assert!(rt; refused == damaged, "row {k}");
+        let told = bodies_of(rt.alloc(), Bytes::from_static(DAMAGED[k]), [0; 3]);
+        assert!(rt; is_told(told, "") == damaged, "row {k}");
     }
-    let repeated = many_bodies(rt.alloc(), 1000, 17)?;
-    let refused = CompositeFile::open(rt.alloc(), repeated).err();
-    assert!(rt; refused == damaged);
-    Ok(())
-}
-
-// The bytes of a number of 32 bits, one of 64 bits and the place, and how many were told.
-fn written_numbers(alloc: Global, place: &Place) -> Result<(Vec<u8>, u64), Fault> {
-    let mut writer = CountingWriter::wrap(Vec::new(alloc));
-    0x0403_0201_u32.serialize(&mut writer)?;
-    0x0F0E_0D0C_0B0A_0908_u64.serialize(&mut writer)?;
-    place.serialize(&mut writer)?;
-    let told = writer.written_bytes();
-    Ok((writer.finish(), told))
+    assert!(rt; is_told(many_bodies(rt.alloc(), 17, [17; 3]), "") == damaged);
 }
 
 // The two numbers and the place at the front of bytes, and a number behind them.
@@ -180,7 +227,7 @@ fn len_of<T: HasLen>(value: &T) -> (usize, bool) {
 static ONE_TWO: [u8; 2] = [1, 2];
 
 #[test]
-fn numbers_are_written_and_read(rt: HostRuntime) -> Result<(), Fail> {
+fn numbers_are_written_and_read(rt: HostRuntime) {
     let place = Place {
         field: Field::from_field_id(3),
         start: 1,
@@ -190,13 +237,12 @@ fn numbers_are_written_and_read(rt: HostRuntime) -> Result<(), Fail> {
     let within = [place.lies_within(2), place.lies_within(1)];
     let len = len_of(&Bytes::from_static(&ONE_TWO));
     assert!(rt; (place.field.field_id(), within, len) == (3, [true, false], (2, false)));
-    let (bytes, told) = written_numbers(rt.alloc(), &place)?;
+    let (bytes, told, answer) = written(rt.alloc(), What::Numbers(place));
     let found = read_numbers(bytes.as_slice());
     let (small, great) = (0x0403_0201, 0x0F0E_0D0C_0B0A_0908);
     let want = (Some(small), Some(great), Some(place), None);
-    assert!(rt; (sizes, told, found) == ([4, 8, 20], 32, want));
+    assert!(rt; (sizes, told, answer, found) == ([4, 8, 20], 32, Ok(()), want));
     reads_numbers_back();
-    Ok(())
 }
 
 // Reads two bytes at a time, and answers how three calls fail, and what stands in the buffer after the
@@ -241,40 +287,14 @@ fn interrupted_calls_are_not_tried_again(rt: HostRuntime) {
     assert!(rt; answers == ([None, interrupted, None], [[1, 2], [3, 2]]));
 }
 
-// A writer whose first call takes nothing.
-#[derive(Drop)]
-struct TakesNothingOnce {
-    bytes: Vec<u8>,
-    calls: u64,
-}
-
-impl Write for TakesNothingOnce {
-    fn write(&mut self, buf: &[u8]) -> io::Result<usize> {
-        self.calls = self.calls.saturating_add(1);
-        if self.calls == 1 {
-            return Ok(0);
-        }
-        self.bytes.extend_from_slice(buf)?;
-        Ok(buf.len())
-    }
-
-    fn flush(&mut self) -> io::Result<()> {
-        Ok(())
-    }
-}
-
 #[test]
 fn a_write_that_takes_nothing_fails(rt: HostRuntime) {
-    let mut writer = CountingWriter::wrap(TakesNothingOnce {
-        bytes: Vec::new(rt.alloc()),
-        calls: 0,
-    });
-    let refused = (writer.write_all(&ONE_TWO), writer.written_bytes());
-    let written = (writer.write_all(&[3]), writer.written_bytes());
-    let failed = writer.failed_calls();
-    let is_last = writer.finish().bytes.as_slice() == [3].as_slice();
-    assert!(rt; (refused, written) == ((Err(Fault::Write), 0), (Ok(()), 1)));
-    assert!(rt; (failed, is_last) == (1, true));
+    // the second call takes nothing
+    let mut writer = CountingWriter::wrap(Cursor::new([0u8; 1]));
+    let answers = [writer.write_all(&ONE_TWO), writer.write_all(&[3])];
+    let told = (writer.written_bytes(), writer.failed_calls());
+    let bytes = writer.finish().into_inner();
+    assert!(rt; (answers, told, bytes) == ([Err(Fault::Write); 2], (1, 2), [1]));
 }
 
 static NUMBERS: [u64; 5] = [0, 127, 128, 324_234_234, u64::MAX];
@@ -283,14 +303,6 @@ static SPELLED: [u8; 19] = [
     0x80, 0xFF, 0x00, 0x81, 0x7A, 0x57, 0x4D, 0x1A, 0x81, 0x7F, 0x7F, 0x7F, 0x7F, 0x7F, 0x7F, 0x7F,
     0x7F, 0x7F, 0x81,
 ];
-
-fn written_values(alloc: Global, numbers: &[u64]) -> Result<Vec<u8>, Fault> {
-    let mut writer = CountingWriter::wrap(Vec::new(alloc));
-    for number in numbers {
-        VInt(*number).serialize(&mut writer)?;
-    }
-    Ok(writer.finish())
-}
 
 // The six values at the front of bytes, and how many bytes stand behind them.
 fn read_values(bytes: &[u8]) -> ([Option<VInt>; 6], usize) {
@@ -309,20 +321,19 @@ static GREAT: [u8; 10] = [0x7F, 0x7F, 0x7F, 0x7F, 0x7F, 0x7F, 0x7F, 0x7F, 0x7F, 
 static ZERO_GROUPS: [u8; 10] = [0, 0, 0, 0, 0, 0, 0, 0, 0, 0x80];
 
 #[test]
-fn numbers_of_64_bits_are_values(rt: HostRuntime) -> Result<(), Fail> {
-    let bytes = written_values(rt.alloc(), &NUMBERS)?;
+fn numbers_of_64_bits_are_values(rt: HostRuntime) {
+    let (bytes, _, answer) = written(rt.alloc(), What::Values);
     let found = read_values(bytes.as_slice());
     let is_spelled = bytes.as_slice() == SPELLED.as_slice();
     let mut want = [None; 6];
     for i in 0..5 {
         want[i] = Some(VInt(NUMBERS[i]));
     }
-    assert!(rt; (is_spelled, found) == (true, (want, 0)));
+    assert!(rt; (is_spelled, answer, found) == (true, Ok(()), (want, 0)));
     let (zero, _) = read_values(&ZERO_GROUPS);
     let (great, _) = read_values(&GREAT);
     assert!(rt; (zero[0], great[0]) == (Some(VInt(0)), None));
     assert!(rt; read_values(&PAST) == ([None; 6], 11));
-    Ok(())
 }
 
 static GREATEST_WRITTEN: [u8; 12] = [
@@ -335,19 +346,25 @@ static SMALL_SPELLED: [u8; 12] = [
     0x80, 0x81, 0x7A, 0x57, 0x4D, 0x1A, 0x81, 0x7F, 0x7F, 0x7F, 0x7F, 0x8F,
 ];
 
+// Whether vints of 32 bits are added as they are spelled.
+fn adds_vints(alloc: Global) -> Result<bool, Fault> {
+    let mut bytes = Vec::new(alloc);
+    for number in SMALL_NUMBERS {
+        vint::write_u32_vint(number, &mut bytes)?;
+    }
+    Ok(bytes.as_slice() == SMALL_SPELLED.as_slice())
+}
+
 #[test]
-fn vints_are_written(rt: HostRuntime) -> Result<(), Fail> {
+fn vints_are_written_and_read(rt: HostRuntime) {
     let mut bytes = [0xFFu8; 12];
     let end = vint::write_u64(5, &mut bytes, 1);
     let five = (end, bytes[0], bytes[1]);
     let end = vint::write_u64(u64::MAX, &mut bytes, 0);
     assert!(rt; (five, end, bytes) == ((2, 0xFF, 0x85), 10, GREATEST_WRITTEN));
-    let mut bytes = Vec::new(rt.alloc());
-    for number in SMALL_NUMBERS {
-        vint::write_u32_vint(number, &mut bytes)?;
-    }
-    assert!(rt; bytes.as_slice() == SMALL_SPELLED.as_slice());
-    Ok(())
+    let read = [vint::read_u64(&bytes), vint::read_u64(&PAST)];
+    assert!(rt; read == [Some((u64::MAX, 10)), None]);
+    assert!(rt; adds_vints(rt.alloc()) == Ok(true));
 }
 
 // The number of 32 bits at the front, and how many bytes stand behind it.

@@ -6,37 +6,36 @@ use ii_base::{
 use std::alloc::Global;
 use std::test::Fail;
 
-// The segments of a path, each in brackets.
-fn spell(alloc: Global, path: &str) -> Result<String, Fault> {
+// Whether a path has these segments.
+fn is_split(alloc: Global, path: &str, want: &[&'static str]) -> Result<bool, Fault> {
     let segments = split_json_path(alloc, path)?;
-    let mut spelled = String::new(alloc);
-    for segment in segments.as_slice() {
-        write!(spelled, "[{segment}]")?;
+    let mut same = segments.len() == want.len();
+    for (segment, wanted) in segments.iter().zip(want.iter()) {
+        same &= segment.as_str() == *wanted;
     }
-    Ok(spelled)
+    Ok(same)
 }
 
+static SPLIT: [(&'static str, &'static [&'static str]); 9] = [
+    ("titi.toto", &["titi", "toto"]),
+    ("toto.", &["toto", ""]),
+    (".toto", &["", "toto"]),
+    (r"k8s\.container\.name", &["k8s.container.name"]),
+    (r"toto\\titi", &[r"toto\titi"]),
+    (r"toto\titi", &["tototiti"]),
+    (r"toto\", &["toto"]),
+    ("", &[""]),
+    (
+        "caf\u{e9}.\\\u{65e5}\u{672c}",
+        &["caf\u{e9}", "\u{65e5}\u{672c}"],
+    ),
+];
+
 #[test]
-fn paths_are_split(rt: HostRuntime) -> Result<(), Fail> {
-    let rows = [
-        ("titi.toto", "[titi][toto]"),
-        ("toto.", "[toto][]"),
-        (".toto", "[][toto]"),
-        (r"k8s\.container\.name", "[k8s.container.name]"),
-        (r"toto\\titi", r"[toto\titi]"),
-        (r"toto\titi", "[tototiti]"),
-        (r"toto\", "[toto]"),
-        ("", "[]"),
-        (
-            "caf\u{e9}.\\\u{65e5}\u{672c}",
-            "[caf\u{e9}][\u{65e5}\u{672c}]",
-        ),
-    ];
-    for (path, spelled) in rows {
-        let found = spell(rt.alloc(), path)?;
-        assert!(rt; found.as_str() == spelled);
+fn paths_are_split(rt: HostRuntime) {
+    for (path, segments) in SPLIT {
+        assert!(rt; is_split(rt.alloc(), path, segments) == Ok(true), "{path}");
     }
-    Ok(())
 }
 
 // What is done with a path.
@@ -165,35 +164,29 @@ fn values_at_paths_have_terms(rt: HostRuntime) {
     assert!(rt; found == [Ok(true); 5]);
 }
 
-// Adds what leaf a value is, and a line's end.
-fn push_leaf(leaves: &mut String, value: &JsonValue) -> Result<(), Fault> {
+// What leaf a value is: the code of its type and its number, `s` and the length of a text, `!` where it isn't
+// taken, or nothing.
+fn leaf_of(value: &JsonValue) -> Option<(u8, u64)> {
     match value.leaf() {
-        None => write!(leaves, "none\n")?,
-        Some(JsonLeaf::Text(text)) => write!(leaves, "{text}\n")?,
-        Some(JsonLeaf::Value(value_type, number)) => {
-            write!(leaves, "{} {number:x}\n", value_type.to_code() as char)?;
-        }
-        Some(JsonLeaf::Unsupported(kind)) => write!(leaves, "{kind}\n")?,
+        None => None,
+        Some(JsonLeaf::Text(text)) => Some((b's', text.len() as u64)),
+        Some(JsonLeaf::Value(value_type, number)) => Some((value_type.to_code(), number)),
+        Some(JsonLeaf::Unsupported(_)) => Some((b'!', 0)),
     }
-    Ok(())
 }
 
-static LEAVES: &str = "i 8000000000000005
-u 8000000000000000
-i 7ffffffffffffffc
-o 1
-d 8000000000000000
-d 7fffffffc4653600
-none
-float
-pre-tokenized text
-bytes
-facet
-IP address
-Elliot Smith
-none
-none
-";
+static LEAVES: [Option<(u8, u64)>; 10] = [
+    Some((b'i', 0x8000_0000_0000_0005)),
+    Some((b'u', 0x8000_0000_0000_0000)),
+    Some((b'i', 0x7fff_ffff_ffff_fffc)),
+    Some((b'o', 1)),
+    Some((b'd', 0x8000_0000_0000_0000)),
+    Some((b'd', 0x7fff_ffff_c465_3600)),
+    None,
+    Some((b's', 12)),
+    None,
+    None,
+];
 
 #[test]
 fn values_tell_their_leaves(rt: HostRuntime) -> Result<(), Fail> {
@@ -206,19 +199,36 @@ fn values_tell_their_leaves(rt: HostRuntime) -> Result<(), Fail> {
         JsonValue::Date(-1),
         JsonValue::Date(-1_500_000_000),
         JsonValue::Null,
-        JsonValue::F64Bits(0),
-        JsonValue::PreTok,
-        JsonValue::Bytes,
-        JsonValue::Facet,
-        JsonValue::Ip,
         JsonValue::Str(text),
         JsonValue::Object(Vec::new(rt.alloc())),
         JsonValue::Array(Vec::new(rt.alloc())),
     ]?;
-    let mut leaves = String::new(rt.alloc());
-    for value in values.as_slice() {
-        push_leaf(&mut leaves, value)?;
+    for (value, want) in values.iter().zip(LEAVES.iter()) {
+        assert!(rt; leaf_of(value) == *want);
     }
-    assert!(rt; leaves.as_str() == LEAVES);
     Ok(())
+}
+
+// Whether a value isn't taken as a leaf, and its kind is told so.
+fn is_kind(alloc: Global, value: &JsonValue, want: &str) -> Result<bool, Fault> {
+    match value.leaf() {
+        Some(JsonLeaf::Unsupported(kind)) => {
+            let told = format!(in alloc; "{kind}")?;
+            Ok(told.as_str() == want)
+        }
+        _ => Ok(false),
+    }
+}
+
+#[test]
+fn other_values_tell_their_kinds(rt: HostRuntime) {
+    let alloc = rt.alloc();
+    let told = [
+        is_kind(alloc, &JsonValue::F64Bits(0), "float"),
+        is_kind(alloc, &JsonValue::PreTok, "pre-tokenized text"),
+        is_kind(alloc, &JsonValue::Bytes, "bytes"),
+        is_kind(alloc, &JsonValue::Facet, "facet"),
+        is_kind(alloc, &JsonValue::Ip, "IP address"),
+    ];
+    assert!(rt; told == [Ok(true); 5]);
 }

@@ -35,13 +35,18 @@ impl LeafSink for Gathered {
 fn gather(text: &mut String, path: &str, leaf: JsonLeaf<'_>) -> Result<(), Fault>
     ensures only { IfErr result (λ e. e ≡ Fault.OutOfMemory) }
 {
+    let word = match leaf {
+        JsonLeaf::Text(word) => word,
+        JsonLeaf::Value(value_type, _) => match value_type.to_code() {
+            b'i' => "i",
+            b'o' => "o",
+            _ => "?",
+        },
+        JsonLeaf::Unsupported(_) => "!",
+    };
     text.push_str(path)?;
     text.push('=')?;
-    match leaf {
-        JsonLeaf::Text(word) => text.push_str(word)?,
-        JsonLeaf::Value(value_type, _) => text.push(char::from(value_type.to_code()))?,
-        JsonLeaf::Unsupported(_) => text.push('!')?,
-    }
+    text.push_str(word)?;
     text.push(';')?;
     Ok(())
 }

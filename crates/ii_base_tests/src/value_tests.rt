@@ -6,20 +6,47 @@ use ii_json::{
 use std::alloc::Global;
 use std::test::Fail;
 
-// Paths that are made known, each with its unordered id, then their ordered ids, and the paths in order.
-fn spell(alloc: Global, paths: &[&'static str]) -> Result<String, Fault> {
-    let mut known = PathToUnorderedId::new(alloc);
-    let mut spelled = String::new(alloc);
+// Makes paths known, and adds each with its unordered id.
+fn push_ids(
+    known: &mut PathToUnorderedId,
+    paths: &[&'static str],
+    spelled: &mut String,
+) -> Result<(), Fault> {
     for path in paths {
         let id = known.get_or_allocate_unordered_id(*path)?;
         write!(spelled, "{path}{id} ")?;
     }
-    for id in known.unordered_id_to_ordered_id(alloc)?.as_slice() {
+    Ok(())
+}
+
+// Adds the ordered ids of the known paths.
+fn push_ordered(
+    alloc: Global,
+    known: &PathToUnorderedId,
+    spelled: &mut String,
+) -> Result<(), Fault> {
+    let ids = known.unordered_id_to_ordered_id(alloc)?;
+    for id in ids.as_slice() {
         write!(spelled, "{} ", id.path_id())?;
     }
-    for path in known.ordered_id_to_path(alloc)?.as_slice() {
+    Ok(())
+}
+
+// Adds the known paths in their order.
+fn push_paths(alloc: Global, known: &PathToUnorderedId, spelled: &mut String) -> Result<(), Fault> {
+    let paths = known.ordered_id_to_path(alloc)?;
+    for path in paths.as_slice() {
         write!(spelled, "{path} ")?;
     }
+    Ok(())
+}
+
+fn spell(alloc: Global, paths: &[&'static str]) -> Result<String, Fault> {
+    let mut known = PathToUnorderedId::new(alloc);
+    let mut spelled = String::new(alloc);
+    push_ids(&mut known, paths, &mut spelled)?;
+    push_ordered(alloc, &known, &mut spelled)?;
+    push_paths(alloc, &known, &mut spelled)?;
     Ok(spelled)
 }
 

@@ -79,7 +79,8 @@ fn default_answers<D: DocSet>(cursor: &mut D) -> (u64, [u32; 6])
 
 #[test]
 fn default_bodies_are_called(rt: HostRuntime) {
-    let answers = default_answers(&mut Below { next: 0, end: 12 });
+    let mut cursor = Below { next: 0, end: 12 };
+    let answers = default_answers(&mut cursor);
     assert!(rt; answers == (12, [0, 7, 8, 4, TERMINATED, 0]));
 }
 

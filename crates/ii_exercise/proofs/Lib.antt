@@ -1,1 +1,2 @@
+pub mod EvenDocuments
 pub mod ThreeKeys

@@ -1,7 +1,7 @@
 ghost use Rattle.std.specs.Prelude.{IsSome};
 
 use ii_base::{Fault, Field, JsonPathWriter};
-use ii_indexing::{IndexingTerm, PathToUnorderedId, Recorder, TfAndPositionRecorder};
+use ii_indexing::{IndexingTerm, Recorder, TfAndPositionRecorder};
 use std::alloc::Global;
 
 // So long that what it is added to has to grow.
@@ -13,7 +13,6 @@ pub fn read_back(alloc: Global) -> Result<String, Fault> {
     let mut text = String::new(alloc);
     push_path(alloc, &mut text)?;
     push_term(alloc, &mut text)?;
-    push_paths(alloc, &mut text)?;
     push_recorder(alloc, &mut text)?;
     Ok(text)
 }
@@ -57,21 +56,6 @@ fn push_term(alloc: Global, text: &mut String) -> Result<(), Fault> {
     };
     let stays = term.serialized_term() == b"\0\0\0\x01ab".as_slice();
     push(text, "indexed term", step, stays, term.len_bytes())
-}
-
-// How many bytes the known paths have together.
-fn push_paths(alloc: Global, text: &mut String) -> Result<(), Fault> {
-    let mut known = PathToUnorderedId::new(alloc);
-    known.get_or_allocate_unordered_id("a")?;
-    let step = match known.get_or_allocate_unordered_id(LONG) {
-        Ok(_) => Ok(()),
-        Err(fault) => Err(fault),
-    };
-    let mut len = 0usize;
-    for path in known.ordered_id_to_path(alloc)?.as_slice() {
-        len = len.saturating_add(path.len());
-    }
-    push(text, "paths", step, len == 1, len)
 }
 
 // How many positions a document has, each of five bytes. One that was refused for memory is taken once more.

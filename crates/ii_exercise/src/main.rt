@@ -10,6 +10,7 @@ mod index;
 mod loaded;
 mod norms;
 mod placed;
+mod postings;
 mod reset;
 mod schema;
 mod walked;
@@ -30,6 +31,7 @@ fn report_all(rt: &HostRuntime) -> io::Result<()> {
     report(rt, "composite", composite::read_back(rt.alloc()))?;
     report(rt, "schema", schema::read_back(rt.alloc()))?;
     report(rt, "norms", norms::read_back(rt.alloc()))?;
+    report(rt, "postings", postings::read_back(rt.alloc()))?;
     report(rt, "walk", walked::read_back(rt.alloc()))?;
     report(rt, "loaded", loaded::read_back(rt.alloc()))?;
     report(rt, "placed", placed::read_back(rt.alloc()))?;
