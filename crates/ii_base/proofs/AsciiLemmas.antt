@@ -5,7 +5,7 @@ use Rattle.std.specs.Prelude.{IsSome, if◌then◌else◌}
 use Rattle.std.specs.Str.{IsUtf8, IsCharBoundary}
 use Rattle.std.proofs.lemmas.List.{get_or-drop}
 use Rattle.std.proofs.lemmas.List.Sums.{prefix_len-le-length, prefix_len_passes, prefix_len_stops}
-use Rattle.std.proofs.lemmas.Bool.{and_parts, ne_eqb, or_parts, leb-false, not-true}
+use Rattle.std.proofs.lemmas.Bool.{and_parts, eq-eqb, ne_eqb, or_parts, leb-false, not-true}
 use Rattle.std.proofs.lemmas.Str.{IsCharBoundary-after_ascii, IsCharBoundary-start}
 use Rattle.std.proofs.lemmas.List.Folds.{length-prefix_len}
 use Rattle.ii_base.specs.AsciiWords.{begins_run, is_run, is_word_at, is_word_byte, run_at, run_word, words_from}
@@ -76,6 +76,12 @@ words_skip text p i within out =
     let step = range_step text i within in
     rw step (rw out refl)
 
+-- past the end there are none
+pub words_past : (text : List ℕ) (p i : ℕ) → length text ≤ i → words_from text p i ≡ []
+words_past text p i past =
+    let none : length text - i ≡ 0 = omega (arith, past) in
+    rw none refl
+
 -- where one begins, it is the first of them
 pub words_take : (text : List ℕ) (p i : ℕ) → begins_run text i ≡ true → words_from text p i ≡ run_word text p i ∷ words_from text (p + 1) (i + 1)
 words_take text p i begins =
@@ -134,3 +140,7 @@ by_some false x some = absurd (search rules)
 
 pub some_run : {X : Type 0} (text : List ℕ) (start end : ℕ) (x : X) → IsSome (if is_run text start end then Some x else None) → is_run text start end ≡ true
 some_run text start end x some = by_some (is_run text start end) x some
+
+-- what stands between the beginning of a run and its end is a run
+pub is_run_here : (text : List ℕ) (i n : ℕ) → begins_run text i ≡ true → n ≡ length (run_at text i) → is_run text i (i + n) ≡ true
+is_run_here text i n begins len = rw (begins, eq-eqb (i + n) (i + length (run_at text i)) (omega (arith, len))) refl

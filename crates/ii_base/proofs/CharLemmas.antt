@@ -1,5 +1,5 @@
 -- The characters of a path's text and of its segments.
-use Rattle.std.proofs.Common.{◌≡◌, ℕ, ◌≤◌, true, List, [], ◌∷◌, ◌++◌, append_assoc, append-nil, length, take, length-take, refl, sym, ap, arith, ◌∙◌, ⊎_elim}
+use Rattle.std.proofs.Common.{◌≡◌, ℕ, ◌≤◌, true, List, [], ◌∷◌, ◌++◌, append_assoc, append-nil, length, take, take_all, length-take, refl, sym, ap, arith, ◌∙◌, ⊎_elim}
 use lib.Utf8.{encode}
 use Rattle.std.specs.List.{All}
 use Rattle.std.proofs.lemmas.Bool.{cases_lt, ne_eqb}
@@ -23,10 +23,20 @@ expanded_past (x ∷ xs) rest high = rw (ne_eqb x 46 (λ e. omega (arith, e, All
 pub expanded_other : (c : ℕ) (text rest : List ℕ) → text ≡ encode c ++ rest → (c ≡ 46 → ⊥) → segment_bytes true text ≡ encode c ++ segment_bytes true rest
 expanded_other c text rest is other = rw is (⊎_elim (λ low. rw (encode_ascii c low, ne_eqb c 46 other) refl) (λ high. expanded_past (encode c) rest (past_ascii c high)) (cases_lt c 128))
 
+pub expanded_dot : (c : ℕ) (text rest : List ℕ) → text ≡ encode c ++ rest → c ≡ 46 → segment_bytes true text ≡ 1 ∷ segment_bytes true rest
+unfolding encode
+expanded_dot c text rest is dot = rw (is, dot) refl
+
 -- A segment is added to a path: what is written, and what is to come, make up the whole.
 pub record IsExpanding (before segment path rest : List ℕ) : Type 0 where
   pub whole : path ++ segment_bytes true rest ≡ before ++ segment_bytes true segment
   pub front : take (length before) path ≡ before
+
+pub expanding_begun : (before segment rest : List ℕ) → rest ≡ segment → IsExpanding before segment before rest
+expanding_begun before segment rest is = record {
+  whole = rw is refl;
+  front = take_all (length before) before (omega arith);
+}
 
 pub expanding_more : (before segment path text rest piece : List ℕ) → IsExpanding before segment path text → segment_bytes true text ≡ piece ++ segment_bytes true rest → IsExpanding before segment (path ++ piece) rest
 expanding_more before segment path text rest piece is next = record {

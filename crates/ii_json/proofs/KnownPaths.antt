@@ -1,7 +1,7 @@
 -- Known paths: a set's keys, seen as their bytes.
-use Rattle.std.proofs.Common.{◌≡◌, ℕ, ◌+◌, ◌<◌, ◌≤◌, ◌^◌, Bool, true, false, cond, not, ◌||◌, List, [], ◌∷◌, ◌++◌, map, length, take, get_or, Some, None, refl, sym, ap, arith, ◌∙◌, IsTrue}
+use Rattle.std.proofs.Common.{◌≡◌, ℕ, zero, suc, ◌+◌, ◌<◌, ◌≤◌, ◌^◌, Bool, true, false, cond, not, ◌||◌, List, [], ◌∷◌, ◌++◌, map, length, take, get_or, Some, None, refl, sym, ap, arith, ◌∙◌, IsTrue}
 use Rattle.std.specs.Prelude.{bytes_eq, position}
-use Rattle.std.specs.List.{AllByRecursion, IsDistinct, list_any, position_or_len}
+use Rattle.std.specs.List.{AllByRecursion, IsDistinct, list_any, position_or_len, slice_get}
 use Rattle.std.proofs.lemmas.List.{length-map, map-append, map_more}
 use Rattle.indexmap.specs.IndexSet.{insert_key}
 use Rattle.ii_json.specs.Paths.{is_known, path_fault, path_id, with_path}
@@ -69,3 +69,9 @@ not_known known path unknown is = absurd (cc)
 pub one_more : (added : Bool) (old new : ℕ) → new ≡ old + cond added 1 0 → old < 2 ^ 32 → new ≤ 2 ^ 32
 one_more true old new is small = omega (arith, is, small)
 one_more false old new is small = omega (arith, is, small)
+
+-- the bytes of a path at its place
+pub path_at : {K : Type 0} (f : K → List ℕ) (keys : List K) (id : ℕ) (k : K) → Some k ≡ slice_get keys id → f k ≡ get_or (map f keys) id []
+path_at f [] id k found = absurd (cc)
+path_at f (x ∷ xs) zero k found = cc
+path_at f (x ∷ xs) (suc id) k found = path_at f xs id k found

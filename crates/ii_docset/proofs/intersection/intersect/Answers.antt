@@ -1,4 +1,4 @@
-use Rattle.std.proofs.Common.{◌∙◌}
+use Rattle.std.proofs.Common.{◌∙◌, refl}
 use Rattle.ii_docset.proofs.IntersectionLemmas.{asked_for, at_end, found_more, bound_more, bound_target, bound_above, met_all}
 use Rattle.ii_docset.proofs.intersection.intersect.Goals as goal
 
@@ -57,3 +57,23 @@ returns-clause-ok g c = met_all _ _ (g.A.DocSet.rest c.loop-doc.first) (g.B.DocS
 
 pub returns-clause-rest : goal.returns-clause-rest
 returns-clause-rest g c = at_end _ _ c.loop-doc.invariant.here c.loop-doc.invariant.sound c.loop-doc-test.false
+
+pub loop-doc-init : goal.loop-doc-init
+loop-doc-init g c = record {
+  here = c.doc-doc.ensures.doc;
+  sound = c.doc-doc.ensures.sound;
+  met = rw c.new-docs.ensures.items;
+  first_kind = refl;
+  other_kind = refl;
+  first_work = g.met.A.DocSet.went_nowhere _;
+  other_work = g.met.B.DocSet.went_nowhere _;
+}
+
+pub returns-in_err-push-in-Found-clause-other_kind : goal.returns-in_err-push-in-Found-clause-other_kind
+returns-in_err-push-in-Found-clause-other_kind g c = c.seek_danger.ensures.kind ∙ c.loop-doc.invariant.other_kind
+
+pub returns-in_err-push-in-Found-clause-first_work : goal.returns-in_err-push-in-Found-clause-first_work
+returns-in_err-push-in-Found-clause-first_work g c = c.loop-doc.invariant.first_work
+
+pub returns-in_err-push-in-Found-clause-other_work : goal.returns-in_err-push-in-Found-clause-other_work
+returns-in_err-push-in-Found-clause-other_work g c = g.met.B.DocSet.went_on _ _ _ c.loop-doc.invariant.other_work c.seek_danger.ensures.work

@@ -67,3 +67,15 @@ visit_members-returns-in_err-visited-clause-refused g t c =
     λ given before h.
     let is = handed_refused g.S.LeafSink.constant g.S.LeafSink.ready g.S.LeafSink.holds g.S.LeafSink.fault _ _ _ _ _ _ _ l.invariant.1 (member_step _ _ _ xs l.key-index m l.invariant.0 here none at) err.refused given before h in
     rw (p.1, p.2, ← c.deref-key-items.ensures.value) is
+
+pub visit_items-returns-clause-ready : goal.visit_items-returns-clause-ready
+visit_items-returns-clause-ready g t c = c.loop-item.invariant.1.is_ready
+
+pub visit_items-returns-clause-constant : goal.visit_items-returns-clause-constant
+visit_items-returns-clause-constant g t c = c.loop-item.invariant.1.same
+
+pub visit_members-returns-clause-ready : goal.visit_members-returns-clause-ready
+visit_members-returns-clause-ready g t c = c.loop-key.invariant.1.is_ready
+
+pub visit_members-returns-clause-constant : goal.visit_members-returns-clause-constant
+visit_members-returns-clause-constant g t c = c.loop-key.invariant.1.same

@@ -1,4 +1,7 @@
-use Rattle.std.proofs.Common.{◌∙◌, arith, refl}
+use Rattle.std.proofs.Common.{◌≡◌, ◌<◌, ◌∙◌, [], sym, arith, refl}
+use Rattle.ii_base.specs.declared.doc_id.TheConstants.{TERMINATED}
+use Rattle.ii_docset.specs.Cursor.{doc_at}
+use Rattle.ii_docset.proofs.CursorLemmas.{doc_below, length_step, nothing_left}
 use Rattle.ii_docset.proofs.AliveLemmas.{counted_more, covered_more, few_alive}
 use Rattle.ii_docset.proofs.docset.DocSet.count.Goals as goal
 
@@ -23,3 +26,22 @@ loop-doc-preserved g c = record {
   counted = counted_more c.args.alive_bitset.now (g.Self.DocSet.rest c.loop-doc.self) _ c.loop-doc.count c.loop-doc.doc _ _ _ c.loop-doc.invariant.here c.loop-doc-test.true c.is_alive.ensures c.from-count.ensures c.advance-doc.ensures.rest c.loop-doc.invariant.counted;
   few = c.loop-doc.invariant.few;
 }
+
+pub loop-doc-smaller : goal.loop-doc-smaller
+loop-doc-smaller g c =
+    let es = g.Self.DocSet.rest c.loop-doc.self in
+    let here = c.loop-doc.invariant.here in
+    let low : doc_at es < TERMINATED = omega (arith, doc_below es c.loop-doc.invariant.sound.ascending) in
+    rw (c.advance-doc.ensures.rest) (omega (arith, length_step es low))
+
+pub returns : goal.returns
+returns g c =
+    let es = g.Self.DocSet.rest c.loop-doc.self in
+    let here = c.loop-doc.invariant.here in
+    let none : [] ≡ es = nothing_left es c.loop-doc.invariant.sound.ascending (omega arith) in
+    record {
+      count = omega (arith, rw (sym none) at c.loop-doc.invariant.counted);
+      rest = sym none;
+      kind = c.loop-doc.invariant.kind;
+      work = c.loop-doc.invariant.work;
+    }

@@ -1,4 +1,7 @@
-use Rattle.std.proofs.Common.{◌≡◌, ◌+◌, ◌∙◌, length, arith}
+use Rattle.std.proofs.Common.{◌≡◌, ◌+◌, ◌<◌, ◌∙◌, length, refl, rules, arith}
+use Rattle.ii_base.specs.declared.doc_id.TheConstants.{TERMINATED}
+use Rattle.ii_docset.specs.Cursor.{doc_at}
+use Rattle.ii_docset.proofs.CursorLemmas.{doc_below, length_step}
 use Rattle.ii_docset.proofs.BufferLemmas.{filled_more, left_more, more_left, none_left, filled_all, nothing_after, filled_64}
 use Rattle.ii_docset.proofs.docset.DocSet.fill_buffer.Goals as goal
 
@@ -33,3 +36,18 @@ loop-i-preserved g c =
 
 pub returns-clause-filled : goal.returns-clause-filled
 returns-clause-filled g c = filled_64 _ _ _ _ (omega arith) c.loop-i.invariant.more c.loop-i.invariant.size c.loop-i.invariant.filled
+
+pub loop-i-init : goal.loop-i-init
+loop-i-init g c =
+    let all = g.Self.DocSet.rest c.args.self.now in
+    let here = c.doc.ensures.doc in
+    let low : doc_at all < TERMINATED = omega (arith, doc_below all c.doc.ensures.sound.ascending) in
+    record {
+      left = refl;
+      more = omega (arith, length_step all low);
+      sound = c.doc.ensures.sound;
+      filled = refl;
+      size = search rules;
+      kind = refl;
+      work = g.met.Self.DocSet.went_nowhere _;
+    }

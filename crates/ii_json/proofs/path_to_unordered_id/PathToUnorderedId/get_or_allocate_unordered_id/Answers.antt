@@ -17,3 +17,6 @@ insert_new_path-requires c = record { unknown = sym (known_is string_bytes c.arg
 
 pub returns-clause-known : goal.returns-clause-known
 returns-clause-known c = not_known c.args.self.now c.args.path.now (sym (known_is string_bytes c.args.self.now c.self.inside.paths.keys c.self.view_is c.args.path.now) ∙ sym c.in_default.ensures.found)
+
+pub returns-in-Some-clause-distinct : goal.returns-in-Some-clause-distinct
+returns-in-Some-clause-distinct c = rw (← c.self.view_is) (c.self.invariant.1)

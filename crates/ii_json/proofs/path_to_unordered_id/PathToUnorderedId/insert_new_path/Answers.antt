@@ -15,3 +15,12 @@ returns-clause-paths c =
 
 pub returns-clause-distinct : goal.returns-clause-distinct
 returns-clause-distinct c = distinct_mapped bytes_eq string_bytes _ c.insert.ensures.unique
+
+pub returns-then-next_id-clause-distinct : goal.returns-then-next_id-clause-distinct
+returns-then-next_id-clause-distinct c = rw (← c.self.view_is) (c.self.invariant.1)
+
+pub returns-in_err-new_path-clause-distinct : goal.returns-in_err-new_path-clause-distinct
+returns-in_err-new_path-clause-distinct c = rw (← c.self.view_is) (c.self.invariant.1)
+
+pub returns-in_err-insert-clause-distinct : goal.returns-in_err-insert-clause-distinct
+returns-in_err-insert-clause-distinct c = distinct_mapped bytes_eq string_bytes _ c.insert.ensures.unique

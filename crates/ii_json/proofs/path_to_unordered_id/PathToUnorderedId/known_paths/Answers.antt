@@ -1,4 +1,4 @@
-use Rattle.std.proofs.Common.{◌∙◌, ap, sym}
+use Rattle.std.proofs.Common.{◌∙◌, ap}
 use Rattle.std.specs.Prelude.{string_bytes}
 use Rattle.ii_json.proofs.KnownPaths.{more_seen}
 use Rattle.ii_json.proofs.path_to_unordered_id.PathToUnorderedId.known_paths.Goals as goal
