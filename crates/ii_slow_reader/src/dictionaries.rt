@@ -13,40 +13,44 @@ pub struct Entry<'a> {
     pub info: Info,
 }
 
-// What is kept of a term before the store is read.
-const NOTHING: Info = Info {
-    docs: 0,
-    postings_start: 0,
-    postings_end: 0,
-    positions_start: 0,
-    positions_end: 0,
-};
-
 /// The terms of a dictionary in order.
 pub fn read_dictionary<'a>(
     alloc: Global,
     bytes: &'a [u8],
 ) -> Result<Result<Vec<Entry<'a>>, Damage>, AllocError> {
-    let mut entries = Vec::new(alloc);
-    let Some(store) = read_keys(bytes, &mut entries)? else {
+    let mut keys = Vec::new(alloc);
+    let Some(store) = read_keys(bytes, &mut keys)? else {
         return Ok(Err(Damage::Dictionary));
     };
     let Some(infos) = read_store(alloc, store)? else {
         return Ok(Err(Damage::TermStore));
     };
-    if infos.len() != entries.len() {
+    if infos.len() != keys.len() {
         return Ok(Err(Damage::Dictionary));
     }
-    for (entry, info) in entries.iter_mut().zip(infos.iter()) {
-        entry.info = *info;
+    Ok(Ok(entries_of(alloc, keys.as_slice(), infos.as_slice())?))
+}
+
+// The terms of these keys, of which this is kept.
+fn entries_of<'a>(
+    alloc: Global,
+    keys: &[&'a [u8]],
+    infos: &[Info],
+) -> Result<Vec<Entry<'a>>, AllocError> {
+    let mut entries = Vec::new(alloc);
+    for (key, info) in keys.iter().zip(infos.iter()) {
+        entries.push(Entry {
+            key: *key,
+            info: *info,
+        })?;
     }
-    Ok(Ok(entries))
+    Ok(entries)
 }
 
 // Adds the keys, and answers the bytes behind them; nothing where they are damaged.
 fn read_keys<'a>(
     bytes: &'a [u8],
-    entries: &mut Vec<Entry<'a>>,
+    keys: &mut Vec<&'a [u8]>,
 ) -> Result<Option<&'a [u8]>, AllocError> {
     let len = bytes.len() as u64;
     let Some(number) = fixed(bytes, 0, 8) else {
@@ -66,19 +70,19 @@ fn read_keys<'a>(
         else {
             return Ok(None);
         };
-        if !is_last(entries.as_slice(), key) {
+        if !is_last(keys.as_slice(), key) {
             return Ok(None);
         }
-        entries.push(Entry { key, info: NOTHING })?;
+        keys.push(key)?;
         before = end;
     }
     Ok(bytes_in(bytes, base.saturating_add(before), len))
 }
 
 // Whether a key comes after those before it.
-fn is_last(entries: &[Entry<'_>], key: &[u8]) -> bool {
-    match entries.last() {
-        Some(last) => last.key < key,
+fn is_last(keys: &[&[u8]], key: &[u8]) -> bool {
+    match keys.last() {
+        Some(last) => *last < key,
         None => true,
     }
 }
