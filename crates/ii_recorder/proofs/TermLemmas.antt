@@ -1,7 +1,8 @@
 -- What holds of a field's terms after one is ended.
-use Rattle.std.proofs.Common.{◌≡◌, ◌+◌, ◌^◌, ◌<◌, Bool, true, false, [], length, ⊎_elim, refl, ◌∙◌, arith, length-append}
+use Rattle.std.proofs.Common.{◌≡◌, ℕ, ◌+◌, ◌^◌, ◌<◌, Bool, true, false, List, [], ◌∷◌, ◌++◌, length, ⊎_elim, refl, ◌∙◌, arith, length-append}
 use Rattle.ii_layout.specs.Written.{written_postings}
 use Rattle.ii_recorder.specs.Terms.{positions_bytes}
+use Rattle.ii_base.specs.declared.schema.index_record_option.IndexRecordOption.{IndexRecordOption}
 use Rattle.ii_base.specs.Options.{has_positions}
 use Rattle.ii_recorder.specs.OpenTerm.{OpenTermState}
 use Rattle.ii_recorder.specs.FieldTerms.{EndsTerm, FieldTermsState, IsLeft, IsUnrefused, IsWithinLimits}
@@ -31,4 +32,17 @@ ends_unrefused old new h inside ends =
       between = λ _. (rw place (let keys = h.inside inside in omega (arith, length-append old.places.infos)), none);
       plain = λ _. none;
       inside = λ e. absurd (cc);
+    }
+
+-- and after one is begun
+pub begins_unrefused : (old new : FieldTermsState) (key : List ℕ) (skip_info : IndexRecordOption) → IsUnrefused old → old.term_open ≡ false → new.term ≡ record old.term { skip_info = skip_info; docs = []; freqs = [] }
+    → new.places ≡ record old.places { keys = old.places.keys ++ key ∷ [] } → new.term_open ≡ true → IsUnrefused new
+begins_unrefused old new key skip_info h between term place inside =
+    let ended = h.between between in
+    record {
+      term = rw term h.term;
+      places = rw place h.places;
+      between = λ e. absurd (cc);
+      plain = λ _. rw term ended.1;
+      inside = λ _. rw place (let keys = ended.0 in omega (arith, length-append old.places.keys (key ∷ [])));
     }

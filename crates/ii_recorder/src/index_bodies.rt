@@ -21,11 +21,20 @@ use std::io::Write;
 use std::marker::Model;
 
 /// The three composites of an index: terms, postings and positions.
-#[derive(Drop)]
 pub struct IndexBodies<W: Write> {
     terms: CompositeWrite<W>,
     postings: CompositeWrite<W>,
     positions: CompositeWrite<W>,
+}
+
+impl<W: Write + Drop> Drop for IndexBodies<W> {
+    fn drop(self) {
+        let IndexBodies {
+            terms: _,
+            postings: _,
+            positions: _,
+        } = self;
+    }
 }
 
 impl<W: Write> Model for IndexBodies<W> {
@@ -57,7 +66,6 @@ impl<W: Write> IndexBodies<W> {
     }
 
     // Begins the body of a field in each, that of postings by the number of its tokens.
-    #[tactic(auto, using(ii_io::specs::NumberLemmas::length_le_bytes))]
     pub fn begin_field(&mut self, field: Field, total_num_tokens: u64) -> Result<(), Fault>
         requires unclosed { AreUnclosed self.old }
         requires lacks { LacksField field self.old }

@@ -19,12 +19,22 @@ use std::marker::Model;
 
 /// The open term of a field: its documents with their counts, and the deltas of their positions,
 /// until both are written.
-#[derive(Drop)]
 pub struct OpenTerm {
     mode: IndexRecordOption,
     postings: PostingsSerializer,
     positions: PositionWriter,
     doc_freq: u32,
+}
+
+impl Drop for OpenTerm {
+    fn drop(self) {
+        let OpenTerm {
+            mode: _,
+            postings: _,
+            positions: _,
+            doc_freq: _,
+        } = self;
+    }
 }
 
 impl Model for OpenTerm {

@@ -29,7 +29,6 @@ use std::marker::Model;
 /// other, each file to a writer of its own.
 ///
 /// After a refused call it is closed: each further call answers `SerializerClosed`.
-#[derive(Drop)]
 pub struct InvertedIndexSerializer<W: Write> {
     schema: Schema,
     bodies: IndexBodies<W>,
@@ -38,6 +37,21 @@ pub struct InvertedIndexSerializer<W: Write> {
     is_term_open: bool,
     alloc: Global,
     is_closed: bool,
+}
+
+impl<W: Write + Drop> Drop for InvertedIndexSerializer<W> {
+    fn drop(self) {
+        let InvertedIndexSerializer {
+            schema,
+            bodies: _,
+            term: _,
+            places: _,
+            is_term_open: _,
+            alloc: _,
+            is_closed: _,
+        } = self;
+        drop(schema);
+    }
 }
 
 impl<W: Write> Model for InvertedIndexSerializer<W> {
@@ -115,7 +129,7 @@ impl<W: Write> InvertedIndexSerializer<W> {
         ensures only { IfErr result.3 (λ e. (e ≡ Fault.Write) ⊎ (e ≡ Fault.Limit LimitName.Offset) ⊎ (e ≡ Fault.SerializerClosed)) }
     {
         let InvertedIndexSerializer {
-            schema: _,
+            schema,
             bodies,
             term: _,
             places: _,
@@ -123,6 +137,7 @@ impl<W: Write> InvertedIndexSerializer<W> {
             alloc: _,
             is_closed,
         } = self;
+        drop(schema);
         if is_closed {
             let (terms, postings, positions) = bodies.into_writers();
             return (terms, postings, positions, Err(Fault::SerializerClosed));
@@ -135,7 +150,7 @@ impl<W: Write> InvertedIndexSerializer<W> {
         ensures { result ≡ (self.bodies.terms.writer, self.bodies.postings.writer, self.bodies.positions.writer) }
     {
         let InvertedIndexSerializer {
-            schema: _,
+            schema,
             bodies,
             term: _,
             places: _,
@@ -143,6 +158,7 @@ impl<W: Write> InvertedIndexSerializer<W> {
             alloc: _,
             is_closed: _,
         } = self;
+        drop(schema);
         bodies.into_writers()
     }
 

@@ -17,11 +17,20 @@ const OFFSET_LIMIT: usize = 1 << 56;
 
 /// What is kept of the terms of a field, whose postings and positions stand one after the other: the
 /// dictionary, and where the bytes of the last term end.
-#[derive(Drop)]
 pub struct TermPlaces {
     dictionary: TermDictionaryWriter,
     postings_end: usize,
     positions_end: usize,
+}
+
+impl Drop for TermPlaces {
+    fn drop(self) {
+        let TermPlaces {
+            dictionary: _,
+            postings_end: _,
+            positions_end: _,
+        } = self;
+    }
 }
 
 impl Model for TermPlaces {
