@@ -4,7 +4,7 @@ use Rattle.std.proofs.lemmas.Bool.{and_parts, cases_lt, ltb-true}
 use Rattle.std.specs.Prelude.{◌&&◌, nat_le, nat_lt, Option, IsTrue, IsErrOf}
 use Rattle.std.specs.List.{AllByRecursion}
 use Rattle.std.proofs.lemmas.Grind.{flat_map-append}
-use Rattle.std.proofs.lemmas.List.{map-append, take-append-le}
+use Rattle.std.proofs.lemmas.List.{append-nil, map-append, take-append-le}
 use Rattle.std.proofs.Math.Seq.{take-append-add}
 use Rattle.ii_io.specs.declared.faults.Fault.{Fault}
 use Rattle.ii_io.specs.declared.faults.Fault.TheVariants.{SerializerClosed}
@@ -170,6 +170,34 @@ pub record IsPushing (option : IndexRecordOption) (s b : IndexSerializerState) (
   pub done : List Entry
   pub parts : es ≡ done ++ rest
   pub pushed : Pushes option s b done (Ok tt)
+
+-- a serializer that answered that no call was refused
+checked_open : (closed : Bool) (checked : Result (Unit {0}) Fault) → ◌≡◌ {A = Result (Unit {0}) Fault} checked (if closed then Err SerializerClosed else Ok tt) → is_err checked ≡ false → closed ≡ false
+checked_open false checked is went = refl
+checked_open true checked is went = let refused = rw is at went in absurd (cc)
+
+no_deltas : (b : Bool) (ds : List ℕ) → (if b then ds ++ [] else ds) ≡ ds
+no_deltas true ds = append-nil ds
+no_deltas false ds = refl
+
+-- before the first entry
+pub pushing_none : (option : IndexRecordOption) (s : IndexSerializerState) (es : List Entry) (checked : Result (Unit {0}) Fault) → ◌≡◌ {A = Result (Unit {0}) Fault} checked (if s.closed then Err SerializerClosed else Ok tt) → is_err checked ≡ false
+    → IsPushing option s s es es
+pushing_none option s es checked is went =
+    let t = s.field.term in
+    let open_still = checked_open s.closed checked is went in
+    record {
+      done = [];
+      parts = refl;
+      pushed = record {
+        ok = rw (append-nil t.docs, append-nil t.freqs, no_deltas (has_positions t.mode) t.deltas) refl;
+        small = λ large. let none = large.1 in absurd (omega arith);
+        fit = tt;
+        ends = record { entries = refl; bodies = refl; closing = record { closes = record { ok = open_still; err = tt }; refused = λ closed. refl; closed = (λ e. absurd (cc), λ closed. absurd (cc)) } };
+        limit = λ e. absurd (cc);
+        only = tt;
+      };
+    }
 
 pub pushing_may : (option : IndexRecordOption) (s b : IndexSerializerState) (es rest : List Entry) (e : Entry) (more : List Entry) → IsPushing option s b es rest → rest ≡ e ∷ more → MayPush option s es → MayPush option b (e ∷ [])
 pushing_may option s b es rest e more h is may = may_next option s b h.done e more es (h.parts ∙ ap (λ (xs : List Entry). h.done ++ xs) is) may h.pushed

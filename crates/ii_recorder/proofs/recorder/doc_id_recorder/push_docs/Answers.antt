@@ -1,7 +1,7 @@
-use Rattle.std.proofs.Common.{[], map, refl, rules, sym, ap, ◌∙◌}
+use Rattle.std.proofs.Common.{map, refl, sym, ap, ◌∙◌}
 use Rattle.ii_base.specs.Entries.{document}
 use Rattle.ii_base.specs.declared.schema.index_record_option.IndexRecordOption.TheVariants.{Basic}
-use Rattle.ii_recorder.proofs.PushLemmas.{pushing_may, pushing_next, pushing_refused}
+use Rattle.ii_recorder.proofs.PushLemmas.{pushing_may, pushing_next, pushing_none, pushing_refused}
 use Rattle.ii_recorder.proofs.recorder.doc_id_recorder.push_docs.Goals as goal
 
 pub push_doc-pushed-requires : goal.push_doc-pushed-requires
@@ -9,7 +9,7 @@ push_doc-pushed-requires g c =
     pushing_may Basic c.args.serializer.now.index.now c.loop-doc.serializer.index.now (map document c.args.docs.now) (map document c.loop-doc.docs) (document c.in-Some.doc) (map document c.next.new.self) c.loop-doc.invariant.3 (ap (map document) c.in-Some.ensures.steps) c.requires
 
 pub loop-doc-init : goal.loop-doc-init
-loop-doc-init g c = (tt, tt, refl, record { done = []; parts = refl; pushed = record { ok = search rules; small = search rules; fit = tt; ends = search rules; limit = search rules; only = tt } })
+loop-doc-init g c = (tt, tt, refl, pushing_none Basic c.args.serializer.now.index.now (map document c.args.docs.now) c.check_open-checked.result c.check_open-checked.ensures (sym c.is_err.ensures.value ∙ c.if-is_err.false))
 
 pub returns-then-is_err-2-clause-pushes : goal.returns-then-is_err-2-clause-pushes
 returns-then-is_err-2-clause-pushes g c =

@@ -1,9 +1,9 @@
-use Rattle.std.proofs.Common.{◌+◌, arith, sym, ◌∙◌}
+use Rattle.std.proofs.Common.{◌+◌, arith, refl, sym, ◌∙◌}
 use Rattle.ii_base.specs.Entries.{counted}
 use Rattle.ii_base.specs.declared.schema.index_record_option.IndexRecordOption.TheVariants.{WithFreqs}
 use Rattle.ii_recorder.specs.Gathered.{counted_all, counts_in, gathered, none_after, with_count}
 use Rattle.ii_recorder.proofs.GatheredLemmas.{counts_left}
-use Rattle.ii_recorder.proofs.PushLemmas.{pushing_below, pushing_may, pushing_next, pushing_refused}
+use Rattle.ii_recorder.proofs.PushLemmas.{pushing_below, pushing_may, pushing_next, pushing_none, pushing_refused}
 use Rattle.ii_recorder.proofs.recorder.term_frequency_recorder.push_counted_docs.Goals as goal
 
 pub overflow_add-doc : goal.overflow_add-doc
@@ -57,3 +57,7 @@ loop-delta-preserved g c =
     all (counted_all open_freq (gathered with_count (none_after last) c.loop-delta.numbers)) (counted (last + delta) count) (counted_all open_freq (gathered with_count (none_after (last + delta)) c.next_or-term_freq.new.numbers))
     c.push_counted_doc-pushed.result c.loop-delta.invariant.3 left went c.push_counted_doc-pushed.ensures.pushes in
     (tt, tt, c.push_counted_doc-pushed.ensures.same_reference ∙ c.loop-delta.invariant.2, next)
+
+pub loop-delta-init : goal.loop-delta-init
+loop-delta-init g c =
+    (tt, tt, refl, pushing_none WithFreqs c.args.serializer.now.index.now (counted_all c.args.open_freq (counts_in c.args.numbers.now)) c.check_open-checked.result c.check_open-checked.ensures (sym c.is_err.ensures.value ∙ c.if-is_err.false))

@@ -1,9 +1,9 @@
-use Rattle.std.proofs.Common.{◌+◌, ◌<◌, ◌^◌, arith, sym, ◌∙◌}
+use Rattle.std.proofs.Common.{◌+◌, ◌<◌, ◌^◌, arith, refl, sym, ◌∙◌}
 use Rattle.ii_base.specs.Entries.{Entry}
 use Rattle.ii_base.specs.declared.schema.index_record_option.IndexRecordOption.TheVariants.{WithFreqsAndPositions}
 use Rattle.ii_recorder.specs.Gathered.{all_of, behind_positions, first_positions, gathered, located_at, none_after, positions_in, with_number}
 use Rattle.ii_recorder.proofs.GatheredLemmas.{fewer_behind, positions_left}
-use Rattle.ii_recorder.proofs.PushLemmas.{pushing_below, pushing_each, pushing_may, pushing_next, pushing_refused}
+use Rattle.ii_recorder.proofs.PushLemmas.{pushing_below, pushing_each, pushing_may, pushing_next, pushing_none, pushing_refused}
 use Rattle.ii_recorder.proofs.recorder.tf_and_position_recorder.push_located_docs.Goals as goal
 use Rattle.ii_io.specs.CountingWriterLemmas.{on_ok_went}
 
@@ -73,3 +73,7 @@ loop-delta-preserved g c =
     all (all_of (gathered with_number (none_after last) c.loop-delta.numbers)) (located_at (last + delta) (first_positions rest)) (all_of (gathered with_number (none_after (last + delta)) (behind_positions rest)))
     c.push_located_doc-pushed.result c.loop-delta.invariant.3 left went c.push_located_doc-pushed.ensures.pushes in
     (tt, tt, c.push_located_doc-pushed.ensures.same_reference ∙ c.loop-delta.invariant.2, rw behind next)
+
+pub loop-delta-init : goal.loop-delta-init
+loop-delta-init g c =
+    (tt, tt, refl, pushing_none WithFreqsAndPositions c.args.serializer.now.index.now (all_of (positions_in c.args.numbers.now)) c.check_open-checked.result c.check_open-checked.ensures (sym c.is_err.ensures.value ∙ c.if-is_err.false))
