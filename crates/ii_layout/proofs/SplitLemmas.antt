@@ -35,6 +35,16 @@ skip_wide recorded zero bytes rest len skip_info r enough wide = absurd (let som
 skip_wide recorded (suc more) bytes rest len skip_info r enough wide =
     skip_is recorded more bytes rest len skip_info r ∙ (rw (le-leb (entry_size skip_info * suc more) len enough, wide) refl)
 
+-- too few bytes for the entries, or fewer than are told
+pub skip_short : (recorded : IndexRecordOption) (blocks : ℕ) (bytes rest : List ℕ) (len : ℕ) (skip_info : IndexRecordOption) → ReadsLen recorded blocks bytes rest len skip_info → len < entry_size skip_info * blocks → skip_list recorded blocks bytes ≡ None
+skip_short recorded zero bytes rest len skip_info r short = absurd (let some = r.some in omega arith)
+skip_short recorded (suc more) bytes rest len skip_info r short =
+    skip_is recorded more bytes rest len skip_info r ∙ (rw (lt-leb (entry_size skip_info * suc more) len short) refl)
+
+pub skip_cut : (recorded : IndexRecordOption) (blocks : ℕ) (bytes rest : List ℕ) (len : ℕ) → 0 < blocks → Some (len, rest) ≡ u64_at bytes → length rest < len → skip_list recorded blocks bytes ≡ None
+skip_cut recorded zero bytes rest len some read cut = absurd (omega arith)
+skip_cut recorded (suc more) bytes rest len some read cut = rw (← read, lt-leb len (length rest) cut) refl
+
 pub skip_found : (recorded : IndexRecordOption) (blocks : ℕ) (bytes rest : List ℕ) (entries len : ℕ) (skip_info : IndexRecordOption) → ReadsLen recorded blocks bytes rest len skip_info → rest ≡ drop entries bytes
     → entry_size skip_info * blocks ≤ len → list_all (λ (e : SkipEntry). nat_le e.tf_num_bits 32) (entries_at skip_info blocks rest) ≡ true
     → skip_list recorded blocks bytes ≡ Some (skip_list_at skip_info blocks bytes entries (entries + len))

@@ -16,3 +16,8 @@ returns-clause-written g c =
     let head = writes_went _ _ _ c.put_head-head.result c.if-is_err.ensures.value c.put_head-head.ensures in
     let metas = writes_went _ _ _ c.put_metas-metas.result c.if-is_err-2.ensures.value put in
     writes_then _ _ _ _ _ c.put_bits.result (Wrote-trans _ _ _ _ _ head metas) c.put_bits.ensures
+
+pub returns-then-is_err-clause-written : goal.returns-then-is_err-clause-written
+returns-then-is_err-clause-written g c =
+    let refused = c.if-is_err.ensures.value in
+    writes_refused_by _ _ _ _ c.put_head-head.result refused (writes_refused_by _ _ _ _ c.put_head-head.result refused c.put_head-head.ensures)
