@@ -1,12 +1,17 @@
 -- The terms of words and phrases.
-use Rattle.std.proofs.Common.{◌≡◌, ◌∙◌, ℕ, ◌+◌, ◌<◌, Bool, true, false, ◌&&◌, ◌||◌, true≢false, List, [], ◌∷◌, ◌++◌, cond, drop, eqb, get_or, length, nat_lt, Option, None, Some, Result, Ok, Err, inr, refl, sym, ap, arith, subst, add-one}
-use Rattle.std.specs.Prelude.{IfSome, bytes_eq, option_map, position, slice_get, unwrap_or}
+use Rattle.std.proofs.Common.{◌≡◌, ◌∙◌, ℕ, ◌+◌, ◌<◌, ◌≤◌, Bool, true, false, ◌&&◌, ◌||◌, true≢false, List, [], ◌∷◌, ◌++◌, append_assoc, cond, drop, eqb, get_or, length, nat_lt, Option, None, Some, Result, Ok, Err, inl, inr, refl, sym, ap, arith, subst, add-one}
+use Rattle.std.specs.Prelude.{IfErr, IfOk, IfSome, bytes_eq, option_map, position, slice_get, unwrap_or}
 use Rattle.std.specs.List.{AllByRecursion, list_all, position_from, position_or_len}
 use Rattle.std.specs.Result.{result_unwrap_or}
 use Rattle.std.proofs.Math.Seq.{drop-cons}
 use Rattle.std.proofs.lemmas.Bool.{and_parts, eqb-true, lt-ltb, ltb-true}
+use Rattle.std.proofs.lemmas.List.{append-nil, drop_all}
+use Rattle.std.proofs.lemmas.List.Folds.{list_all-append}
 use Rattle.std.proofs.lemmas.List.Sums.{passes_at_first}
 use Rattle.std.proofs.lemmas.Option.{get_or_from_slice_get, slice_get_within}
+use Rattle.ii_io.specs.Faults.{OnlyMemory}
+use Rattle.ii_io.specs.declared.faults.Fault.{Fault}
+use Rattle.ii_io.specs.declared.faults.Fault.TheVariants.{OutOfMemory}
 use Rattle.ii_base.specs.declared.schema.index_record_option.IndexRecordOption.{IndexRecordOption}
 use Rattle.ii_base.specs.Options.{has_positions}
 use Rattle.ii_base.specs.Paths.{has_zero}
@@ -25,7 +30,7 @@ use Rattle.ii_definitions.specs.Tokens.{IndexToken}
 use Rattle.ii_query_grammar.specs.Trees.{Literal, leaf}
 use Rattle.ii_search.specs.declared.query.Query.{Query}
 use Rattle.ii_search.specs.Queries.{has_fields, has_positions_in, keeps_positions, matches}
-use Rattle.ii_search.specs.QueryTexts.{Adds, AddsIn, AddsText, IsPhraseIn, IsWhyRefused, Means, PhraseState, QueryFields, Terms, TextFields, are_in, default_terms, has_one, has_term, is_alone, joined_terms, one_term, path_key, path_value, phrase_kept, phrase_within, refused, stand_after, terms_after, terms_in_field, terms_of, text_terms, typed_terms, words_phrase}
+use Rattle.ii_search.specs.QueryTexts.{Adds, AddsIn, AddsMaybe, AddsText, IsPhraseIn, IsWhyRefused, Means, PhraseState, QueryFields, Terms, TextFields, are_in, default_terms, has_one, has_term, is_alone, joined_terms, one_term, path_key, path_value, phrase_kept, phrase_within, refused, some_default, stand_after, terms_after, terms_in_field, terms_of, text_terms, typed_terms, value_term, words_phrase}
 
 -- Terms of the fields so far were added, and those of the fields that are left come after them.
 pub record IsGathering (q : TextFields) (phrase all fields : List ℕ) (old now : List PhraseState) : Type 0 where
@@ -33,6 +38,55 @@ pub record IsGathering (q : TextFields) (phrase all fields : List ℕ) (old now 
   pub now_is : now ≡ old ++ found
   pub within : are_in q.entries found ≡ true
   pub whole : default_terms q phrase all ≡ joined_terms (Ok found) (default_terms q phrase fields)
+
+nothing_in_front : (found : Terms) → found ≡ joined_terms (Ok []) found
+nothing_in_front (Ok terms) = refl
+nothing_in_front (Err e) = refl
+
+joined_on : (first more : List PhraseState) (found : Terms) → joined_terms (Ok first) (joined_terms (Ok more) found) ≡ joined_terms (Ok (first ++ more)) found
+joined_on first more (Ok terms) = ap (λ (ps : List PhraseState). Ok ps) (sym (append_assoc first more terms))
+joined_on first more (Err e) = refl
+
+-- nothing was added so far
+pub gathers_none : (q : TextFields) (phrase all : List ℕ) (old : List PhraseState) → IsGathering q phrase all all old old
+gathers_none q phrase all old = record { found = []; now_is = sym (append-nil old); within = refl; whole = nothing_in_front (default_terms q phrase all) }
+
+field_at : (all : List ℕ) (i field : ℕ) → i < length all → field ≡ get_or all i field → drop i all ≡ field ∷ drop (i + 1) all
+field_at all i field inside is = drop-cons all i field inside ∙ rw (← is, add-one i) refl
+
+-- the terms of one field more
+pub gathers_more : (q : TextFields) (phrase all : List ℕ) (i field : ℕ) (old now new ts : List PhraseState) → i < length all → field ≡ get_or all i field → IsGathering q phrase all (drop i all) old now
+    → terms_in_field q field [] phrase ≡ Ok ts → new ≡ now ++ ts → are_in q.entries ts ≡ true → IsGathering q phrase all (drop (i + 1) all) old new
+gathers_more q phrase all i field old now new ts inside here g is new_is within =
+    let left = drop (i + 1) all in
+    record {
+      found = g.found ++ ts;
+      now_is = new_is ∙ ap (λ (ps : List PhraseState). ps ++ ts) g.now_is ∙ append_assoc old g.found ts;
+      within = list_all-append (λ (p : PhraseState). phrase_within (length q.entries) p && phrase_kept q.entries p) g.found ts ∙ rw (g.within, within) refl;
+      whole = g.whole ∙ ap (λ (fields : List ℕ). joined_terms (Ok g.found) (default_terms q phrase fields)) (field_at all i field inside here)
+          ∙ ap (λ (terms : Terms). joined_terms (Ok g.found) (joined_terms terms (default_terms q phrase left))) is ∙ joined_on g.found ts (default_terms q phrase left);
+    }
+
+some_defaults : (q : TextFields) (phrase all : List ℕ) (i : ℕ) → i < length all → some_default q phrase all ≡ default_terms q phrase all
+some_defaults q phrase [] i inside = absurd (omega arith)
+some_defaults q phrase (field ∷ fields) i inside = refl
+
+why_joined : (first : List PhraseState) (terms others all : Terms) (e : QueryParserError) → all ≡ joined_terms (Ok first) (joined_terms terms others) → IsWhyRefused (refused terms) e → IsWhyRefused (refused all) e
+why_joined first terms others all e is (inl memory) = inl memory
+why_joined first (Err f) others all e is (inr why) = inr (ap refused is ∙ why)
+why_joined first (Ok ts) others all e is (inr why) = absurd (cc)
+
+-- a field whose terms are refused
+pub gathers_refused : (q : TextFields) (phrase all : List ℕ) (i field : ℕ) (old now : List PhraseState) (e : QueryParserError) → i < length all → field ≡ get_or all i field → IsGathering q phrase all (drop i all) old now
+    → IsWhyRefused (refused (terms_in_field q field [] phrase)) e → IsWhyRefused (refused (some_default q phrase all)) e
+gathers_refused q phrase all i field old now e inside here g why =
+    why_joined g.found (terms_in_field q field [] phrase) (default_terms q phrase (drop (i + 1) all)) (some_default q phrase all) e
+    (some_defaults q phrase all i inside ∙ g.whole ∙ ap (λ (fields : List ℕ). joined_terms (Ok g.found) (default_terms q phrase fields)) (field_at all i field inside here)) why
+
+-- all fields were looked at
+pub gathers_all : (q : TextFields) (phrase all : List ℕ) (i : ℕ) (old now : List PhraseState) → 0 < length all → length all ≤ i → IsGathering q phrase all (drop i all) old now → Adds (some_default q phrase all) q.entries old now (Ok tt)
+gathers_all q phrase all i old now some end g =
+    (g.found, some_defaults q phrase all 0 some ∙ g.whole ∙ ap (λ (fields : List ℕ). joined_terms (Ok g.found) (default_terms q phrase fields)) (drop_all i all end) ∙ ap (λ (ps : List PhraseState). Ok ps) (append-nil g.found), g.now_is, g.within)
 
 typed_same : (analyze : List ℕ → List Word) (entries : List SchemaEntry) (field : ℕ) (keeps expand_dots : Bool) (path phrase : List ℕ) (t : ValueType)
     → typed_terms (record { analyze = analyze; entries = [] }) field keeps expand_dots path phrase t ≡ typed_terms (record { analyze = analyze; entries = entries }) field keeps expand_dots path phrase t
@@ -118,6 +172,17 @@ alone_in field keeps t is = record { first = is; others = tt; kept = or_true kee
 
 ok_is : (a b : List PhraseState) (x : Terms) → x ≡ Ok a → x ≡ Ok b → a ≡ b
 ok_is a b x first other = ap (λ (r : Terms). result_unwrap_or r []) (sym first ∙ other)
+
+-- the term of a value that was read, or the fault of reading it
+pub value_adds : {B : Type 0} (field : ℕ) (keeps : Bool) (key : B → List ℕ) (read : Option B) (error : QueryParserError) (term : Result (Option TermState) Fault) (old new : List PhraseState) (r : Result (Unit {0}) QueryParserError)
+    → IfOk term (λ (t : Option TermState). t ≡ option_map (λ (b : B). record { field = field; value = key b }) read) → OnlyMemory term → IfOk term (λ (t : Option TermState). AddsMaybe t error old new r) → IfErr term (λ (fault : Fault). r ≡ Err (errors.Fault fault))
+    → AddsIn (value_term field error (option_map key read)) field keeps old new r
+value_adds field keeps key None error (Ok t) old new (Ok done) is memory adds refused = absurd (rw is at adds)
+value_adds field keeps key None error (Ok t) old new (Err e) is memory adds refused = inr (ap (λ (x : QueryParserError). Some x) (sym (rw is at adds)))
+value_adds field keeps key (Some b) error (Ok t) old new (Ok done) is memory adds refused = (one_term (record { field = field; value = key b }) ∷ [], refl, (rw is at adds), (alone_in field keeps (record { field = field; value = key b }) refl, tt))
+value_adds field keeps key (Some b) error (Ok t) old new (Err e) is memory adds refused = inl (rw is at adds)
+value_adds field keeps key read error (Err fault) old new (Err e) is memory adds refused = inl (cc)
+value_adds field keeps key read error (Err fault) old new (Ok done) is memory adds refused = absurd (cc)
 
 -- what a text is looked up by is of its field
 text_in : (field : ℕ) (keeps : Bool) (value : Option TermState) (words : Option PhraseState) (ts : List PhraseState) → IfSome value (λ t. t.field ≡ field) → ((p : PhraseState) → words ≡ Some p → IsOfField field p) → text_terms keeps value words ≡ Ok ts

@@ -1,4 +1,4 @@
-ghost use Rattle.std.specs.Prelude.{◌≡◌, ◌==◌, ◌<◌, ◌++◌, [], false, None, length, position, slice_get, IfOk, IfSome};
+ghost use Rattle.std.specs.Prelude.{◌≡◌, ◌==◌, ◌<◌, ◌++◌, [], false, Err, None, length, position, slice_get, IfErr, IfOk, IfSome};
 ghost use Rattle.std.specs.Option.{option_map};
 ghost use Rattle.ii_io.specs.Faults.{OnlyMemory};
 ghost use Rattle.ii_base.specs.Options.{has_positions};
@@ -6,6 +6,7 @@ ghost use Rattle.ii_base.specs.Values.{flipped, number_of_bool, text_key, u64_by
 ghost use Rattle.ii_base.specs.declared.schema.value_type.ValueType.TheVariants as types;
 ghost use Rattle.ii_json.specs.FastValues.{bool_in, i64_in, u64_in};
 ghost use Rattle.ii_query_grammar.specs.Trees.{literal_of};
+ghost use Rattle.ii_search.specs.declared.query_parser_error.QueryParserError.TheVariants as errors;
 ghost use Rattle.ii_search.specs.QueryTexts.{Adds, AddsIn, AddsMaybe, AddsText, CutsAtDot, field_named, has_json_values, named_terms, some_default, terms_in_field, terms_of, typed_terms, words_phrase};
 
 use crate::phrase_words::{PhraseWords, words_phrase};
@@ -173,21 +174,21 @@ impl Place {
     {
         match self.value_type {
             ValueType::Str => self.push_text(alloc, analyzer, phrase, terms),
-            ValueType::U64 => push_term(
+            ValueType::U64 => push_read(
                 alloc,
-                u64_term(alloc, self.field, phrase)?,
+                u64_term(alloc, self.field, phrase),
                 QueryParserError::ExpectedInt,
                 terms,
             ),
-            ValueType::I64 => push_term(
+            ValueType::I64 => push_read(
                 alloc,
-                i64_term(alloc, self.field, phrase)?,
+                i64_term(alloc, self.field, phrase),
                 QueryParserError::ExpectedInt,
                 terms,
             ),
-            ValueType::Bool => push_term(
+            ValueType::Bool => push_read(
                 alloc,
-                bool_term(alloc, self.field, phrase)?,
+                bool_term(alloc, self.field, phrase),
                 QueryParserError::ExpectedBool,
                 terms,
             ),
@@ -310,6 +311,22 @@ fn push_term(
     }
 }
 
+// Adds a term that was made, or tells why there is none.
+fn push_read(
+    alloc: Global,
+    term: Result<Option<Term>, Fault>,
+    error: QueryParserError,
+    terms: &mut Vec<PhraseWords>,
+) -> Result<(), QueryParserError>
+    ensures read { IfOk term (λ t. AddsMaybe t error terms.old.items terms.new.items result) }
+    ensures refused { IfErr term (λ fault. result ≡ Err (errors.Fault fault)) }
+{
+    match term {
+        Ok(term) => push_term(alloc, term, error, terms),
+        Err(fault) => Err(QueryParserError::from(fault)),
+    }
+}
+
 // Adds what a text is looked up by: the term of a value, and the text's words, of which there has to be one.
 fn push_words(
     alloc: Global,
@@ -324,6 +341,7 @@ fn push_words(
         return push_value(alloc, value, terms);
     };
     if !option.has_positions() && !words.is_alone() {
+        drop(value);
         return Err(QueryParserError::FieldDoesNotHavePositionsIndexed);
     }
     if let Some(value) = value {

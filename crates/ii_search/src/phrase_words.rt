@@ -9,10 +9,19 @@ use std::alloc::Global;
 use std::marker::Model;
 
 // A term, and those that follow it in a phrase; a term alone has none.
-#[derive(Drop)]
 pub(crate) struct PhraseWords {
     pub(crate) first: Term,
     pub(crate) others: Vec<PhraseTerm>,
+}
+
+// So that each drop is a call.
+impl Drop for PhraseWords {
+    fn drop(self) {
+        let PhraseWords {
+            first: _,
+            others: _,
+        } = self;
+    }
 }
 
 impl Model for PhraseWords {
@@ -46,7 +55,8 @@ impl PhraseWords {
         ensures first { result.0 ≡ self.first }
         ensures others { result.1.items ≡ self.others }
     {
-        (self.first, self.others)
+        let PhraseWords { first, others } = self;
+        (first, others)
     }
 }
 
@@ -62,14 +72,35 @@ pub(crate) fn words_phrase<A: TextAnalyzer>(
     ensures only { OnlyMemory result }
 {
     let mut tokens = analyzer.token_stream(phrase);
+    let words = stream_phrase(alloc, prefix, &mut tokens);
+    drop(tokens);
+    words
+}
+
+// That of the tokens that are left.
+fn stream_phrase<S: TokenStream>(
+    alloc: Global,
+    prefix: &Term,
+    tokens: &mut S,
+) -> Result<Option<PhraseWords>, Fault>
+    ensures ok { IfOk result (λ words. words ≡ words_phrase prefix.now (S.to_come tokens.old)) }
+    ensures only { OnlyMemory result }
+{
     if !tokens.advance() {
         return Ok(None);
     }
     let position = tokens.token().position;
     let first = word_term(alloc, prefix, tokens.token().text)?;
-    match other_words(alloc, prefix, position, &mut tokens)? {
-        Some(others) => Ok(Some(PhraseWords { first, others })),
-        None => Ok(None),
+    match other_words(alloc, prefix, position, tokens) {
+        Ok(Some(others)) => Ok(Some(PhraseWords { first, others })),
+        Ok(None) => {
+            drop(first);
+            Ok(None)
+        }
+        Err(fault) => {
+            drop(first);
+            Err(fault)
+        }
     }
 }
 

@@ -46,9 +46,10 @@ impl Query {
         ensures positions { IfOk result (λ query. (entries : List SchemaEntry) → keeps_positions entries query ≡ (keeps_positions entries first && keeps_positions entries other)) }
         ensures only { OnlyMemory result }
     {
-        let first = Box::new(alloc, first)?;
-        let other = Box::new(alloc, other)?;
-        Ok(Query::And(first, other))
+        match boxed(alloc, first, other) {
+            Ok((first, other)) => Ok(Query::And(first, other)),
+            Err(fault) => Err(fault),
+        }
     }
 
     /// What one of them wants, or the other one. `OutOfMemory` where there is no room for two boxes.
@@ -58,9 +59,10 @@ impl Query {
         ensures positions { IfOk result (λ query. (entries : List SchemaEntry) → keeps_positions entries query ≡ (keeps_positions entries first && keeps_positions entries other)) }
         ensures only { OnlyMemory result }
     {
-        let first = Box::new(alloc, first)?;
-        let other = Box::new(alloc, other)?;
-        Ok(Query::Or(first, other))
+        match boxed(alloc, first, other) {
+            Ok((first, other)) => Ok(Query::Or(first, other)),
+            Err(fault) => Err(fault),
+        }
     }
 
     /// What the first wants, and not what the other one wants. `OutOfMemory` where there is no room for
@@ -71,9 +73,10 @@ impl Query {
         ensures positions { IfOk result (λ query. (entries : List SchemaEntry) → keeps_positions entries query ≡ (keeps_positions entries first && keeps_positions entries other)) }
         ensures only { OnlyMemory result }
     {
-        let first = Box::new(alloc, first)?;
-        let other = Box::new(alloc, other)?;
-        Ok(Query::AndNot(first, other))
+        match boxed(alloc, first, other) {
+            Ok((first, other)) => Ok(Query::AndNot(first, other)),
+            Err(fault) => Err(fault),
+        }
     }
 
     /// What the first wants and all others want too. `OutOfMemory` where there is no room for two boxes
@@ -147,6 +150,28 @@ impl Query {
             Query::AndNot(first, other) => {
                 first.keeps_positions(schema) && other.keeps_positions(schema)
             }
+        }
+    }
+}
+
+// Two queries, each in a box. Where there is no room, what is left of them is dropped by a call.
+fn boxed(alloc: Global, first: Query, other: Query) -> Result<(Box<Query>, Box<Query>), Fault>
+    ensures first { IfOk result (λ boxes. boxes.0.value ≡ first) }
+    ensures other { IfOk result (λ boxes. boxes.1.value ≡ other) }
+    ensures only { OnlyMemory result }
+{
+    let first = match Box::new(alloc, first) {
+        Ok(first) => first,
+        Err(refused) => {
+            drop(other);
+            return Err(Fault::from(refused));
+        }
+    };
+    match Box::new(alloc, other) {
+        Ok(other) => Ok((first, other)),
+        Err(refused) => {
+            drop(first);
+            Err(Fault::from(refused))
         }
     }
 }

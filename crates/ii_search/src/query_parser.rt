@@ -3,9 +3,9 @@ ghost use Rattle.std.specs.List.{list_all};
 ghost use Rattle.ii_io.specs.Faults.{OnlyMemory};
 ghost use Rattle.ii_base.specs.Schema.{SchemaEntry};
 ghost use Rattle.ii_definitions.specs.Tokens.{IndexToken};
-ghost use Rattle.ii_query_grammar.specs.Trees.{ast_of, leaf, literal_of};
+ghost use Rattle.ii_query_grammar.specs.Trees.{Ast, ast_of, both, either, leaf, literal_of, without};
 ghost use Rattle.ii_search.specs.Queries.{has_fields, keeps_positions, matches};
-ghost use Rattle.ii_search.specs.QueryTexts.{AreQueriesOfTrees, IsQueryOf, IsQueryOfText, has_term, has_words, phrase_kept, phrase_within};
+ghost use Rattle.ii_search.specs.QueryTexts.{AreQueriesOfTrees, IsQueryOf, IsQueryOfText, QueryFields, has_term, has_words, phrase_kept, phrase_within};
 
 use crate::literal::push_literal;
 use crate::phrase_words::PhraseWords;
@@ -64,16 +64,22 @@ pub fn query_of<A: TextAnalyzer>(
             literal_query(alloc, schema, default_fields, analyzer, literal)
         }
         UserInputAst::And(first, other) => {
-            let (first, other) = queries_of(alloc, schema, default_fields, analyzer, first, other)?;
-            Ok(Query::and(alloc, first, other)?)
+            both_of(
+                alloc,
+                queries_of(alloc, schema, default_fields, analyzer, first, other),
+            )
         }
         UserInputAst::Or(first, other) => {
-            let (first, other) = queries_of(alloc, schema, default_fields, analyzer, first, other)?;
-            Ok(Query::or(alloc, first, other)?)
+            either_of(
+                alloc,
+                queries_of(alloc, schema, default_fields, analyzer, first, other),
+            )
         }
         UserInputAst::AndNot(first, other) => {
-            let (first, other) = queries_of(alloc, schema, default_fields, analyzer, first, other)?;
-            Ok(Query::and_not(alloc, first, other)?)
+            first_alone(
+                alloc,
+                queries_of(alloc, schema, default_fields, analyzer, first, other),
+            )
         }
     }
 }
@@ -96,6 +102,48 @@ fn queries_of<A: TextAnalyzer>(
     };
     match query_of(alloc, schema, default_fields, analyzer, other) {
         Ok(other) => Ok((first, other)),
+        Err(error) => {
+            drop(first);
+            Err(error)
+        }
+    }
+}
+
+// The query of a tree that wants both of its parts, by the queries of these.
+fn both_of(
+    alloc: Global,
+    parts: Result<(Query, Query), QueryParserError>,
+) -> Result<Query, QueryParserError>
+    ensures { (q : QueryFields) (first other : Ast) → AreQueriesOfTrees q first other parts → IsQueryOf q (both first other) result }
+{
+    match parts {
+        Ok((first, other)) => Ok(Query::and(alloc, first, other)?),
+        Err(error) => Err(error),
+    }
+}
+
+// That of one that wants either.
+fn either_of(
+    alloc: Global,
+    parts: Result<(Query, Query), QueryParserError>,
+) -> Result<Query, QueryParserError>
+    ensures { (q : QueryFields) (first other : Ast) → AreQueriesOfTrees q first other parts → IsQueryOf q (either first other) result }
+{
+    match parts {
+        Ok((first, other)) => Ok(Query::or(alloc, first, other)?),
+        Err(error) => Err(error),
+    }
+}
+
+// That of one that wants the first, and not the other.
+fn first_alone(
+    alloc: Global,
+    parts: Result<(Query, Query), QueryParserError>,
+) -> Result<Query, QueryParserError>
+    ensures { (q : QueryFields) (first other : Ast) → AreQueriesOfTrees q first other parts → IsQueryOf q (without first other) result }
+{
+    match parts {
+        Ok((first, other)) => Ok(Query::and_not(alloc, first, other)?),
         Err(error) => Err(error),
     }
 }
