@@ -1,5 +1,5 @@
 -- Terms of a field that are written one after the other.
-use Rattle.std.proofs.Common.{Option, Result, Ok, Err, OnOk, zero, suc, ◌+◌, ◌<◌, arith, append-nil, take, map, length, Ordering, Less, get_or, ◌≡◌, ℕ, Bool, List, [], ◌∷◌, ◌++◌, refl, sym, ap, ◌∙◌, subst}
+use Rattle.std.proofs.Common.{Option, Result, Ok, Err, OnErr, OnOk, zero, suc, ◌+◌, ◌<◌, arith, append-nil, take, map, length, Ordering, Less, get_or, ◌≡◌, ℕ, Bool, List, [], ◌∷◌, ◌++◌, refl, sym, ap, ◌∙◌, subst}
 use Rattle.std.specs.Prelude.{if◌then◌else◌, IsTrue, ◌^◌}
 use Rattle.std.specs.List.{AllByRecursion}
 use Rattle.std.specs.List.Sorted.{IsStrictlySortedBy}
@@ -116,3 +116,7 @@ was_told t key r begun counted same is small fit located =
 pub always_on_ok : {X E : Type 0} (r : Result X E) (P : Type 0) → P → OnOk r P
 always_on_ok (Ok x) P p = p
 always_on_ok (Err e) P p = tt
+
+pub always_on_err : {X E : Type 0} (r : Result X E) (P : Type 0) → P → OnErr r P
+always_on_err (Ok x) P p = tt
+always_on_err (Err e) P p = p

@@ -8,6 +8,7 @@ use Rattle.ii_postings_writer.specs.SortedTerms.{written_term}
 use Rattle.ii_recorder.specs.Recorded.{entries_of_recorder}
 use Rattle.ii_recorder.specs.Terms.{WrittenTerm}
 use Rattle.ii_postings_writer.proofs.FaultLemmas.{ended_fault, unless_closed}
+use Rattle.ii_postings_writer.proofs.GrowthLaws.{nothing_grows}
 use Rattle.ii_postings_writer.proofs.SerializeLemmas.{always_on_ok, pushed_writing, term_written, was_told}
 use Rattle.ii_postings_writer.proofs.TermIndexLemmas.{on_ok}
 use Rattle.ii_postings_writer.specs.TermLimits.{HasLargeSum}
@@ -48,3 +49,10 @@ returns-clause-fault g c initial field tokens norms ts writing =
     let small = subst (λ mode. ¬ HasLargeSum (written_term norms mode (record { key = c.args.key.now; recorder = r }))) writing.mode told.small in
     unless_closed c.close_term.result c.serialize.new.serializer.index.now.closed _ _ c.close_term.ensures.ends.closing.closed c.in_ok-serialize.ensures.pushes.ends.closing.closes.ok
     (λ e fault. ended_fault initial c.serialize.new.serializer.index.now field tokens norms ts (option_of c.args.serializer.now.index.now.entries field) c.args.key.now _ e whole kept same small fault) c.close_term.ensures.fault
+
+pub returns-in_err-new_term-clause-grow : goal.returns-in_err-new_term-clause-grow
+returns-in_err-new_term-clause-grow g c = nothing_grows c.args.serializer.now.index.now.bodies c.new_term.new.self.index.now.bodies c.in_err-new_term.ensures.ends.bodies
+
+pub returns-in_err-serialize-clause-grow : goal.returns-in_err-serialize-clause-grow
+returns-in_err-serialize-clause-grow g c =
+    nothing_grows c.args.serializer.now.index.now.bodies c.serialize.new.serializer.index.now.bodies (c.in_err-serialize.ensures.pushes.ends.bodies ∙ c.in_ok-new_term.ensures.ends.bodies)
