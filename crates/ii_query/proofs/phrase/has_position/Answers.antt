@@ -29,3 +29,9 @@ loop-count-preserved g c =
       left = reading_on (λ (p : ℕ). nat_eq p c.args.position) ps l.from l.count l.positions l.invariant.read (sym c.contains.ensures.value ∙ c.if-contains.false) l.invariant.left;
       work = spent_in_turn g.P.Postings.spent g.met.P.Postings.spent_on c.args.cursor.now l.cursor r.new.self l.invariant.work (record { asked = 1; count = r.result; by = r.ensures.work });
     }
+
+pub returns-clause-work : goal.returns-clause-work
+returns-clause-work g c = c.loop-count.invariant.work
+
+pub returns-then-contains-clause-work : goal.returns-then-contains-clause-work
+returns-then-contains-clause-work g c = c.loop-count.invariant.work

@@ -53,3 +53,24 @@ loop-count-init g c =
       first_work = record { asked = 1; count = r.result; by = r.ensures.work };
       other_work = none_went (Spent g.P.Postings.spent) (λ t. spent_nothing g.P.Postings.spent (g.met.P.Postings.spent_moving t t (g.met.P.DocSet.went_nowhere t))) (cursors_in c.args.others.now.items);
     }
+
+pub returns-clause-first_work : goal.returns-clause-first_work
+returns-clause-first_work g c = c.loop-count.invariant.first_work
+
+pub returns-clause-other_work : goal.returns-clause-other_work
+returns-clause-other_work g c = c.loop-count.invariant.other_work
+
+pub returns-clause-same : goal.returns-clause-same
+returns-clause-same g c = c.loop-count.invariant.same
+
+pub returns-clause-rest : goal.returns-clause-rest
+returns-clause-rest g c = c.loop-count.invariant.rest
+
+pub returns-then-stand_from_one-clause-first_work : goal.returns-then-stand_from_one-clause-first_work
+returns-then-stand_from_one-clause-first_work g c = c.loop-count.invariant.first_work
+
+pub returns-then-stand_from_one-clause-same : goal.returns-then-stand_from_one-clause-same
+returns-then-stand_from_one-clause-same g c = c.stand_from_one.ensures.same ∙ c.loop-count.invariant.same
+
+pub returns-then-stand_from_one-clause-rest : goal.returns-then-stand_from_one-clause-rest
+returns-then-stand_from_one-clause-rest g c = c.loop-count.invariant.rest

@@ -26,3 +26,12 @@ loop-start-preserved g c =
       left = next ∙ l.invariant.left;
       work = all_went_on (Spent g.P.Postings.spent) (spent_in_turn g.P.Postings.spent g.met.P.Postings.spent_on) _ _ _ l.invariant.work c.stand_from.ensures.work;
     }
+
+pub returns-clause-work : goal.returns-clause-work
+returns-clause-work g c = c.loop-start.invariant.work
+
+pub returns-clause-same : goal.returns-clause-same
+returns-clause-same g c = c.loop-start.invariant.same
+
+pub returns-then-stand_from-clause-same : goal.returns-then-stand_from-clause-same
+returns-then-stand_from-clause-same g c = c.stand_from.ensures.same ∙ c.loop-start.invariant.same

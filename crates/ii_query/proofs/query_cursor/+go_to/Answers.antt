@@ -201,3 +201,30 @@ meet-returns-then-bound-doc-clause-at g t c =
       sound = l.invariant.sound;
       here = common_at l.first.rest c.go_to-bound.new.self.rest (rw (← here) c.loop-doc-test.true) (sym c.go_to-bound.ensures.doc ∙ c.if-bound-doc.true ∙ here);
     }
+
+pub QueryCursor::go_to-returns-clause-depth : goal.QueryCursor::go_to-returns-clause-depth
+QueryCursor::go_to-returns-clause-depth g t c = c.go_on.ensures.depth
+
+pub QueryCursor::go_to-returns-clause-doc : goal.QueryCursor::go_to-returns-clause-doc
+QueryCursor::go_to-returns-clause-doc g t c = c.go_on.ensures.doc
+
+pub QueryCursor::go_to-returns-clause-rest : goal.QueryCursor::go_to-returns-clause-rest
+QueryCursor::go_to-returns-clause-rest g t c = c.go_on.ensures.rest
+
+pub QueryCursor::go_to-returns-clause-sound : goal.QueryCursor::go_to-returns-clause-sound
+QueryCursor::go_to-returns-clause-sound g t c = c.go_on.ensures.sound
+
+pub QueryCursor::go_to-returns-clause-up_to : goal.QueryCursor::go_to-returns-clause-up_to
+QueryCursor::go_to-returns-clause-up_to g t c = c.go_on.ensures.up_to
+
+pub QueryCursor::go_to-returns-clause-work : goal.QueryCursor::go_to-returns-clause-work
+QueryCursor::go_to-returns-clause-work g t c = c.go_on.ensures.work
+
+pub leave_out-returns-clause-first_work : goal.leave_out-returns-clause-first_work
+leave_out-returns-clause-first_work g t c = c.loop-doc.invariant.first_work
+
+pub leave_out-returns-clause-other_work : goal.leave_out-returns-clause-other_work
+leave_out-returns-clause-other_work g t c = c.loop-doc.invariant.other_work
+
+pub leave_out-returns-then-go_to-doc-clause-first_work : goal.leave_out-returns-then-go_to-doc-clause-first_work
+leave_out-returns-then-go_to-doc-clause-first_work g t c = c.loop-doc.invariant.first_work

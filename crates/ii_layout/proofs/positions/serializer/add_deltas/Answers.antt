@@ -1,4 +1,6 @@
-use Rattle.std.proofs.Common.{◌++◌}
+use Rattle.std.proofs.Common.{ℕ, List, ◌++◌, take_all, sym, ap, ◌∙◌}
+use Rattle.std.proofs.lemmas.List.{append-nil}
+use Rattle.std.proofs.lemmas.Result.{err_from_is_err_and}
 use Rattle.ii_layout.proofs.PositionPacking.{filled_more}
 use Rattle.ii_layout.proofs.positions.serializer.add_deltas.Goals as goal
 
@@ -8,3 +10,14 @@ loop-done-preserved c = (
   filled_more c.loop-done.packed c.loop-done.block c.args.deltas.now c.pack_if_full.new.packed c.pack_if_full.new.block c.fill-done.new.self (c.args.packed.now ++ c.args.block.now) c.loop-done.done c.fill-done.result
       c.loop-done.invariant.1 c.fill-done.ensures.filled c.in_ok-pack_if_full.ensures.ok,
 )
+
+pub loop-done-init : goal.loop-done-init
+loop-done-init c = (c.requires, sym (append-nil (c.args.packed.now ++ c.args.block.now)))
+
+pub returns-clause-ok : goal.returns-clause-ok
+returns-clause-ok c = c.loop-done.invariant.1 ∙ ap (λ (ds : List ℕ). c.args.packed.now ++ c.args.block.now ++ ds) (take_all c.loop-done.done c.args.deltas.now c.loop-done-test.false)
+
+pub returns-in_err-pack_if_full-clause-err : goal.returns-in_err-pack_if_full-clause-err
+returns-in_err-pack_if_full-clause-err c =
+    let p = err_from_is_err_and c.from_residual.result c.from_residual.ensures.1 in
+    rw (p.1) c.in_err-pack_if_full.ensures.err

@@ -1,4 +1,4 @@
-use Rattle.std.proofs.Common.{◌≡◌, ℕ, ◌-◌, List, take, drop, ap, ◌∙◌}
+use Rattle.std.proofs.Common.{◌≡◌, ℕ, ◌-◌, List, take, drop, refl, sym, ap, ◌∙◌}
 use Rattle.ii_layout.proofs.PositionLemmas.{asked_within, asked_there, keeps_other}
 use Rattle.ii_layout.proofs.positions.blocks.PositionBlocks.load.Goals as goal
 
@@ -22,3 +22,15 @@ invariant_of-self c =
     (cut i.widths i.body _ i.bytes c.as_slice-bytes.ensures) (after i.body _ i.bytes c.as_slice-bytes.ensures c.bytes_from-body.ensures)
     (asked_within i.bytes i.anchors _ i.widths i.body i.stride i.block i.place i.rest_len c.args.block c.self.invariant (rw (← c.self.view_is) at c.requires.inside))
     c.walk-place.ensures c.decode.ensures.held
+
+pub returns-clause-deltas : goal.returns-clause-deltas
+returns-clause-deltas c = rw (← c.self.view_is) refl
+
+pub returns-clause-kept : goal.returns-clause-kept
+returns-clause-kept c = rw (← c.self.view_is) (λ same. absurd (c.if-block-self.false (sym same)))
+
+pub returns-clause-rises : goal.returns-clause-rises
+returns-clause-rises c = rw (← c.self.view_is) c.decode.ensures.rises
+
+pub returns-clause-decodes : goal.returns-clause-decodes
+returns-clause-decodes c = rw (← c.self.view_is) c.decode.ensures.decodes
