@@ -59,6 +59,7 @@ impl FinishedFields {
         let mut writers = writers;
         let written = write_norms(&mut writers.fieldnorms, &norms);
         if written.is_err() {
+            drop(copy);
             return (writers, written);
         }
         terms.write(alloc, schema, copy, &readers, writers)

@@ -30,11 +30,20 @@ use std::alloc::Global;
 use std::marker::Model;
 
 /// The terms of all fields of a schema, and the open document of each.
-#[derive(Drop)]
 pub(crate) struct IndexedFields {
     terms: IndexedTerms,
     documents: OpenDocuments,
     paths: OpenPaths,
+}
+
+impl Drop for IndexedFields {
+    fn drop(self) {
+        let IndexedFields {
+            terms: _,
+            documents: _,
+            paths: _,
+        } = self;
+    }
 }
 
 impl Model for IndexedFields {

@@ -28,11 +28,20 @@ use std::io::Write;
 use std::marker::Model;
 
 /// The terms of all fields, with the writer of each field and a term that is used again and again.
-#[derive(Drop)]
 pub(crate) struct IndexedTerms {
     ctx: IndexingContext,
     writers: PerFieldPostingsWriter,
     term: IndexingTerm,
+}
+
+impl Drop for IndexedTerms {
+    fn drop(self) {
+        let IndexedTerms {
+            ctx: _,
+            writers: _,
+            term: _,
+        } = self;
+    }
 }
 
 impl Model for IndexedTerms {
@@ -49,10 +58,18 @@ impl IndexedTerms {
         ensures ok { IfOk result (λ terms. terms ≡ record { terms = []; paths = []; writers = writers_of schema.now }) }
         ensures only { OnlyMemory result }
     {
+        let writers = PerFieldPostingsWriter::for_schema(alloc, schema)?;
+        let term = match IndexingTerm::with_capacity(alloc, 0) {
+            Ok(term) => term,
+            Err(fault) => {
+                drop(writers);
+                return Err(fault);
+            }
+        };
         Ok(IndexedTerms {
             ctx: IndexingContext::new(alloc),
-            writers: PerFieldPostingsWriter::for_schema(alloc, schema)?,
-            term: IndexingTerm::with_capacity(alloc, 0)?,
+            writers,
+            term,
         })
     }
 

@@ -21,7 +21,6 @@ use std::marker::Model;
 ///
 /// Clauses see what it has stored: the postings of each key, the number of tokens of each field, what is
 /// known of the open document of each field, and the norms of those before.
-#[derive(Drop)]
 pub struct Indexer {
     schema: Schema,
     num_docs: DocId,
@@ -29,6 +28,20 @@ pub struct Indexer {
     fields: IndexedFields,
     failed: bool,
     alloc: Global,
+}
+
+impl Drop for Indexer {
+    fn drop(self) {
+        let Indexer {
+            schema,
+            num_docs: _,
+            last_doc: _,
+            fields: _,
+            failed: _,
+            alloc: _,
+        } = self;
+        drop(schema);
+    }
 }
 
 impl Model for Indexer {

@@ -26,10 +26,18 @@ pub(crate) struct OpenDocument {
 }
 
 /// The document that was opened last in each field, and the norms of those before.
-#[derive(Drop)]
 pub(crate) struct OpenDocuments {
     documents: Vec<OpenDocument>,
     norms: FieldNormsWriter,
+}
+
+impl Drop for OpenDocuments {
+    fn drop(self) {
+        let OpenDocuments {
+            documents: _,
+            norms: _,
+        } = self;
+    }
 }
 
 impl Model for OpenDocuments {

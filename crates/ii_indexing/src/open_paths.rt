@@ -63,9 +63,14 @@ impl FieldPaths {
 }
 
 /// The document that was opened last in each field, and its texts path by path.
-#[derive(Drop)]
 pub(crate) struct OpenPaths {
     fields: Vec<FieldPaths>,
+}
+
+impl Drop for OpenPaths {
+    fn drop(self) {
+        let OpenPaths { fields: _ } = self;
+    }
 }
 
 impl Model for OpenPaths {
