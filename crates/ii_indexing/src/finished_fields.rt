@@ -60,9 +60,6 @@ impl FinishedFields {
         let written = write_norms(&mut writers.fieldnorms, &norms);
         if written.is_err() {
             drop(copy);
-            drop(terms);
-            drop(norms);
-            drop(readers);
             return (writers, written);
         }
         terms.write(alloc, schema, copy, &readers, writers)

@@ -58,18 +58,19 @@ impl IndexedTerms {
         ensures ok { IfOk result (λ terms. terms ≡ record { terms = []; paths = []; writers = writers_of schema.now }) }
         ensures only { OnlyMemory result }
     {
-        let term = IndexingTerm::with_capacity(alloc, 0)?;
-        match PerFieldPostingsWriter::for_schema(alloc, schema) {
-            Ok(writers) => Ok(IndexedTerms {
-                ctx: IndexingContext::new(alloc),
-                writers,
-                term,
-            }),
+        let writers = PerFieldPostingsWriter::for_schema(alloc, schema)?;
+        let term = match IndexingTerm::with_capacity(alloc, 0) {
+            Ok(term) => term,
             Err(fault) => {
-                drop(term);
-                Err(fault)
+                drop(writers);
+                return Err(fault);
             }
-        }
+        };
+        Ok(IndexedTerms {
+            ctx: IndexingContext::new(alloc),
+            writers,
+            term,
+        })
     }
 
     // The unordered id of a path, which is known from then on.

@@ -33,13 +33,14 @@ pub struct Indexer {
 impl Drop for Indexer {
     fn drop(self) {
         let Indexer {
-            schema: _,
+            schema,
             num_docs: _,
             last_doc: _,
             fields: _,
             failed: _,
             alloc: _,
         } = self;
+        drop(schema);
     }
 }
 

@@ -1,5 +1,5 @@
 -- What the files of an index have after fields were written.
-use Rattle.std.proofs.Common.{◌≡◌, ◌+◌, ◌<◌, Bool, true, false, List, [], length, Result, Ok, Err, refl, ap, inr, arith}
+use Rattle.std.proofs.Common.{◌≡◌, ◌<◌, Bool, true, false, List, [], length, Result, Ok, Err, refl, ap, inr, arith}
 use Rattle.std.specs.Prelude.{IsTrue}
 use Rattle.ii_io.specs.declared.faults.Fault.{Fault}
 use Rattle.ii_io.specs.CountingWriterLemmas.{grows_not, wrote_grows}

@@ -81,6 +81,12 @@ module _ (norms : Option Norms) (mode : IndexRecordOption) where
       ap (map key_of) (take_more terms k d inside) ∙ map-append key_of (take k terms) (get_or terms k d ∷ []) ∙ ap (λ (ks : List (List ℕ)). ks ++ key_of (get_or terms k d) ∷ []) (sym before) in
       subst AreAscending (take-map key_of (k + 1) terms ∙ all) (ascend_taken (slice_cmp nat_cmp) (k + 1) (map key_of terms) ascending)
 
+-- what holds of each element holds of one
+pub held_at : {A : Type 0} (P : A → Type 0) (xs : List A) (k : ℕ) (d : A) → k < length xs → AllByRecursion P xs → P (get_or xs k d)
+held_at P [] k d inside all = absurd (omega (arith, inside))
+held_at P (x ∷ xs) zero d inside all = all.0
+held_at P (x ∷ xs) (suc k) d inside all = held_at P xs k d (omega (arith, inside)) all.1
+
 pub writable_at : (norms : Option Norms) (terms : List TermOfField) (k : ℕ) (d : TermOfField) → k < length terms → AllByRecursion (IsWritable norms) (map state_of terms) → IsWritable norms (state_of (get_or terms k d))
 writable_at norms [] k d inside all = absurd (omega (arith, inside))
 writable_at norms (t ∷ ts) zero d inside all = all.0

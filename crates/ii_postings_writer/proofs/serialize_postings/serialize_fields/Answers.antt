@@ -1,10 +1,12 @@
-use Rattle.std.proofs.Common.{rules, length, ◌≡◌, ◌<◌, [], ◌∙◌, sym, subst, arith, ℕ}
+use Rattle.std.proofs.Common.{List, map, rules, length, ◌≡◌, ◌<◌, [], ◌∙◌, sym, subst, arith, ℕ}
 use Rattle.std.proofs.lemmas.List.{get_or_default}
 use Rattle.std.proofs.lemmas.Result.{err_from_is_err_and}
 use Rattle.ii_recorder.specs.IndexBodies.{LacksField}
 use Rattle.std.specs.Prelude.{slice_index_or}
 use Rattle.std.specs.List.{AllByRecursion}
-use Rattle.ii_postings_writer.specs.SortedTerms.{IsWritable, norms_in}
+use Rattle.ii_termdict.specs.ReadBack.{AreAscending}
+use Rattle.ii_postings_writer.proofs.SerializeLemmas.{held_at}
+use Rattle.ii_postings_writer.specs.SortedTerms.{IsWritable, SortedTerm, norms_in}
 use Rattle.ii_postings_writer.proofs.FaultLemmas.{IsNextField, all_some, field_fault, no_part}
 use Rattle.ii_postings_writer.proofs.PartLemmas.{lacks_next, next_part}
 use Rattle.ii_postings_writer.specs.FieldParts.{HasFields, first_parts}
@@ -90,3 +92,9 @@ returns-clause-ends g c =
       closed = search rules;
       refused = λ closed. record { same = (w.3 closed).0; none = subst (λ (n : ℕ). first_parts c.args.serializer.now.entries c.args.writers.now c.args.norms.now c.args.terms.now.items n ≡ []) all (w.3 closed).1; only = tt };
     }
+
+pub serialize_if_any-requires-clause-ascending : goal.serialize_if_any-requires-clause-ascending
+serialize_if_any-requires-clause-ascending g c =
+    let low = c.loop-place-test.true in
+    let keys_ascend = λ (ts : List SortedTerm). AreAscending (map (λ (t : SortedTerm). t.key) ts) in
+    subst keys_ascend (sym c.index.ensures) (held_at keys_ascend c.args.terms.now.items c.loop-place.place c.index.result.now (omega (arith, low, c.len-place-end.ensures)) c.requires.ascending)

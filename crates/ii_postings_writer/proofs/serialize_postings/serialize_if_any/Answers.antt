@@ -1,5 +1,5 @@
 use Rattle.ii_fieldnorm.specs.Readers.{Norms}
-use Rattle.std.proofs.Common.{Option, append-nil, rules, sym, ◌∙◌, ◌<◌, length, ◌++◌, List, ℕ, OnOk, map, subst}
+use Rattle.std.proofs.Common.{Option, append-nil, sym, ◌∙◌, ◌<◌, length, ◌++◌, List, ℕ, OnOk, map, subst}
 use Rattle.ii_termdict.specs.ReadBack.{AreAscending}
 use Rattle.ii_postings_writer.proofs.GrowthLaws.{nothing_ends, some_end}
 use Rattle.ii_postings_writer.proofs.PartLemmas.{keys_seen, none_seen, part_wrote, some_seen, tokens_of_writer}
