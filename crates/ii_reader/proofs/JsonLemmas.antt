@@ -1,8 +1,9 @@
 -- Laws of the paths and types of a JSON field's keys.
-use Rattle.std.proofs.Common.{◌≡◌, ◌≢◌, ℕ, zero, suc, ◌+◌, Bool, true, false, List, [], ◌∷◌, ◌++◌, drop, map, nat_eq, Option, None, Some, refl, sym, ap, ◌∙◌, arith, append_assoc}
+use Rattle.std.proofs.Common.{◌≡◌, ◌≢◌, ◌<◌, ◌≤◌, ℕ, zero, suc, ◌+◌, length, Bool, true, false, List, [], ◌∷◌, ◌++◌, drop, map, nat_eq, Option, None, Some, refl, sym, ap, ◌∙◌, arith, append_assoc}
 use Rattle.std.specs.Prelude.{MatchOption, bytes_eq, slice_get}
 use Rattle.std.specs.Option.{option_map}
 use Rattle.std.proofs.lemmas.Bool.{and_parts, eqb-true, ne_eqb}
+use Rattle.std.proofs.lemmas.List.{drop_all}
 use Rattle.std.proofs.lemmas.Slice.Eq.{bytes_eq-Decides}
 use Rattle.ii_io.specs.Steps.{◌>>=◌}
 use Rattle.ii_base.specs.ValueTypes.{code_of}
@@ -35,6 +36,12 @@ pub entry_at : (entries : List TermEntry) (n : ℕ) (key : List ℕ) (info : Ter
 entry_at [] n key info first second = absurd (cc)
 entry_at ((k, i) ∷ es) zero key info first second = cc
 entry_at (e ∷ es) (suc n) key info first second = entry_at es n key info first second
+
+-- there is one before the end
+pub none_past : (entries : List TermEntry) (n : ℕ) → n < length entries → slice_get (map (λ (e : TermEntry). e.0) entries) n ≡ None → ⊥
+none_past [] n low none = absurd (omega (arith, low))
+none_past (e ∷ es) zero low none = absurd (cc)
+none_past (e ∷ es) (suc n) low none = none_past es n (omega (arith, low)) none
 
 pub label_is : (s t : FieldSpaceState) → is_same_label s t ≡ true → (s.field_name ≡ t.field_name) × (code_of s.field_type ≡ code_of t.field_type)
 label_is s t same =
@@ -109,6 +116,11 @@ module _ (entries : List TermEntry) (first : FieldSpaceState) (n : ℕ) (fields 
   -- a key without a type
   pub listed_none : (here : drop n entries ≡ (key, info) ∷ drop (suc n) entries) → type_in key ≡ None → spaces_of (drop 1 entries) ≡ None
   listed_none here typed = none_of (spaces_of (drop 1 entries)) (with_space first) (let l = listing.listed in rw (here, typed) at l)
+
+-- no term is left
+pub listed_all : (entries : List TermEntry) (first : FieldSpaceState) (n : ℕ) (fields : List FieldSpaceState) (current : FieldSpaceState) → IsListing entries first n fields current → length entries ≤ n
+    → option_map (with_space first) (spaces_of (drop 1 entries)) ≡ Some (fields ++ current ∷ [])
+listed_all entries first n fields current listing past = let l = listing.listed in sym (rw (drop_all n entries past) at l)
 
 -- the first term of all
 pub first_listed : (entries : List TermEntry) (key : List ℕ) (info : TermInfo) (value_type : ValueType) → slice_get (map (λ (e : TermEntry). e.0) entries) 0 ≡ Some key → slice_get (map (λ (e : TermEntry). e.1) entries) 0 ≡ Some info → type_in key ≡ Some value_type

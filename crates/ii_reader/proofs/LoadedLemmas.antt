@@ -1,16 +1,17 @@
 -- Laws of lists that are loaded into memory.
-use Rattle.std.proofs.Common.{◌≡◌, ℕ, zero, suc, ◌+◌, ◌-◌, ◌<◌, ◌≤◌, ◌^◌, Bool, true, false, List, [], ◌∷◌, ◌++◌, length, take, drop, map, get_or, set, nat_lt, refl, sym, ap, ◌∙◌, arith, length-drop, length-append, append-nil, append_assoc}
+use Rattle.std.proofs.Common.{◌≡◌, ℕ, zero, suc, ◌+◌, ◌-◌, ◌<◌, ◌≤◌, ◌^◌, Bool, true, false, List, [], ◌∷◌, ◌++◌, length, take, drop, map, get_or, set, nat_lt, refl, sym, ap, ◌∙◌, arith, inl, inr, length-drop, length-append, append-nil, append_assoc}
 use Rattle.std.specs.List.{All}
 use Rattle.std.proofs.Math.Seq.{drop-cons, drop-append_seam, drop-length}
 use Rattle.std.proofs.lemmas.Bool.{ltb-true, ltb-false}
 use Rattle.std.proofs.lemmas.List.{get_or-drop, drop-drop, drop-append-le, take-append-le, get_or_append_left, get_or-append_right, length-map, nil_from_length, length-take-le, take_all, take_more_set, drop-set-lt, get_or_default}
 use Rattle.std.proofs.lemmas.List.Elements.{All-drop, All-map}
 use Rattle.std.proofs.lemmas.List.Sums.{sum_by-cons}
+use Rattle.ii_io.specs.declared.faults.Fault.{Fault}
 use Rattle.ii_base.specs.declared.doc_id.TheConstants.{TERMINATED}
 use Rattle.ii_base.specs.Entries.{Entry}
 use Rattle.ii_docset.specs.Cursor.{total_freq, doc_at, positions_at, term_freq_at, IsAscending, FitsU32, IsSound}
 use Rattle.ii_docset.proofs.CursorLemmas.{IsSound_drop, length_below, length_step, nothing_left}
-use Rattle.ii_reader.specs.LoadedPostings.{AreOffsets, IsEndOf, IsHeld, loaded, loaded_entry, num_positions, entry_between, entries_held}
+use Rattle.ii_reader.specs.LoadedPostings.{AreOffsets, IsEndOf, IsHeld, IsLoadFault, loaded, loaded_entry, num_positions, entry_between, entries_held}
 
 -- the current entry of a list in memory, and those after it
 pub held_at : (docs offsets positions : List ℕ) (c : ℕ) → c < length docs
@@ -150,6 +151,22 @@ end_cases all n false test =
     let none : length (drop n all) ≡ 0 = omega arith in
     let place : length all ≡ length all - length (drop n all) = omega arith in
     nil_from_length (drop n all) none ∙ sym (drop-length all) ∙ ap (λ (k : ℕ). drop k all) place
+
+pub whole_end : (all : List Entry) → IsEndOf all all
+whole_end all = end_cases all 0 (nat_lt 0 (length all)) refl
+
+-- what is left is an end of the list
+pub loading_end : (all rest : List Entry) (docs offsets positions : List ℕ) → IsLoading all rest docs offsets positions → IsEndOf all rest
+loading_end all rest docs offsets positions l = rw l.passed (end_cases all (length docs) (nat_lt (length docs) (length all)) refl)
+
+current_few : (es : List Entry) → length (positions_at es) ≤ num_positions es
+current_few [] = omega arith
+current_few (e ∷ es) = let first = sum_by-cons (λ (x : Entry). length x.positions) e es in omega arith
+
+-- why the positions of the current document weren't loaded
+pub loading_refused : (all rest : List Entry) (docs offsets positions : List ℕ) (fault : Fault) → IsLoading all rest docs offsets positions → IsLoadFault (length positions + length (positions_at rest)) fault → IsLoadFault (num_positions all) fault
+loading_refused all rest docs offsets positions fault l (inl memory) = inl memory
+loading_refused all rest docs offsets positions fault l (inr (is, many)) = inr (is, let few = current_few rest in let total = l.total in omega arith)
 
 -- what is loaded of a sound list is sound
 loaded_ascending : (es : List Entry) → IsAscending es → (doc_at (loaded es) ≡ doc_at es) × IsAscending (loaded es)

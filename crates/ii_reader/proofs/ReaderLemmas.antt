@@ -1,6 +1,6 @@
 -- Reading a term of a file.
 use Rattle.std.proofs.Common.{not, inl, ◌∙◌, ◌/◌, ◌%◌, ◌&&◌, ◌≡◌, ◌≤◌, ℕ, inr, Bool, true, false, List, Option, None, Some, nat_le, Ok, Err, length, drop, refl, sym, ap, [], ◌∷◌}
-use Rattle.std.specs.Prelude.{Result, ok_or, unwrap_or, filter}
+use Rattle.std.specs.Prelude.{◌↔◌, IsErrOf, Result, ok_or, unwrap_or, filter}
 use Rattle.ii_io.specs.declared.faults.Fault.{Fault}
 use Rattle.ii_io.specs.declared.faults.LayoutFault.{LayoutFault}
 use Rattle.ii_io.specs.declared.faults.LayoutFault.TheVariants as layout
@@ -25,7 +25,7 @@ use Rattle.std.specs.Result.{result_unwrap_or}
 use Rattle.ii_base.specs.Entries.{Entry}
 use Rattle.ii_termstore.specs.declared.term_info.TermInfo.{TermInfo}
 use Rattle.ii_definitions.specs.Files.{HoldsTerm, bytes_in}
-use Rattle.ii_io.specs.declared.faults.Fault.TheVariants.{OutOfMemory}
+use Rattle.ii_io.specs.declared.faults.Fault.TheVariants.{Damaged, OutOfMemory}
 use Rattle.std.proofs.lemmas.Bool.{le-leb}
 use Rattle.ii_reader.specs.InvertedIndexReader.{InvertedIndexReaderState, IsRefusal, given_if, ranges_lie, reads_positions, term_of_file}
 use Rattle.std.proofs.Math.Bool.{or-true}
@@ -102,6 +102,10 @@ none_listed option field key requested ts none = rw (none_found (is_at field key
 -- the first part that fails, as a fault
 pub refused_by : {A : Type 0} (found : Result A Part) (fault : LayoutFault) → found ≡ Err (part_of fault) → IsRefusal found (as_fault fault)
 refused_by found (layout.Damaged part) is = inr (part, refl, is)
+
+-- and no such fault is that of ranges that lie in the bodies
+pub no_range : {A T : Type 0} (lie : Bool) (found : Result A Part) (fault : LayoutFault) → lie ≡ true → found ≡ Err (part_of fault) → (found ≡ Err Range → ⊥) → IsErrOf {T = T} {E = Fault} (Err (as_fault fault)) (Damaged Range) ↔ (lie ≡ false)
+no_range lie found (layout.Damaged part) there is other = (λ same. absurd (other (let part_is : part ≡ Range = cc in is ∙ ap Err part_is)), λ gone. absurd (cc))
 
 -- the list of a term whose ranges lie in the bodies, from the bytes that are handed over
 pub file_list : (reader : InvertedIndexReaderState) (requested : IndexRecordOption) (info : TermInfo) (found : Result (List Entry) Part) → ranges_lie reader requested info ≡ true

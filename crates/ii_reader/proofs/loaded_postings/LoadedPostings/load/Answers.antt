@@ -1,6 +1,7 @@
 use Rattle.std.proofs.Common.{◌+◌, ap, ◌∙◌, drop, refl, rules}
+use Rattle.std.proofs.lemmas.Result.{err_from_is_err_and}
 use Rattle.ii_docset.specs.Cursor.{term_freq_at}
-use Rattle.ii_reader.proofs.LoadedLemmas.{at_least_none, loaded_more, loaded_none, loaded_one, loaded_part, loaded_refused, whole_loaded}
+use Rattle.ii_reader.proofs.LoadedLemmas.{at_least_none, loaded_more, loaded_none, loaded_one, loaded_part, loaded_refused, loading_end, loading_refused, whole_end, whole_loaded}
 use Rattle.ii_reader.proofs.loaded_postings.LoadedPostings.load.Goals as goal
 
 pub returns-in_err-push-clause-work : goal.returns-in_err-push-clause-work
@@ -74,3 +75,32 @@ returns-clause-few g c = let l = c.loop-doc in (whole_loaded (g.P.DocSet.rest c.
 
 pub returns-clause-rest : goal.returns-clause-rest
 returns-clause-rest g c = let l = c.loop-doc in (whole_loaded (g.P.DocSet.rest c.args.source.now) (g.P.DocSet.rest l.source) l.doc_ids.items l.position_offsets.items l.positions.items l.doc l.invariant.here c.loop-doc-test.false c.doc-doc.ensures.sound l.invariant.sound l.invariant.loading).ended
+
+pub returns-in_err-push-clause-on_its_way : goal.returns-in_err-push-clause-on_its_way
+returns-in_err-push-clause-on_its_way g c = whole_end (g.P.DocSet.rest c.args.source.now)
+
+pub returns-in_err-push-2-clause-on_its_way : goal.returns-in_err-push-2-clause-on_its_way
+returns-in_err-push-2-clause-on_its_way g c =
+    let l = c.loop-doc in
+    loading_end (g.P.DocSet.rest c.args.source.now) (g.P.DocSet.rest l.source) l.doc_ids.items l.position_offsets.items l.positions.items l.invariant.loading
+
+pub returns-in_err-end-clause-on_its_way : goal.returns-in_err-end-clause-on_its_way
+returns-in_err-end-clause-on_its_way g c =
+    let l = c.loop-doc in
+    rw c.in_err-end.ensures.rest (loading_end (g.P.DocSet.rest c.args.source.now) (g.P.DocSet.rest l.source) l.doc_ids.items l.position_offsets.items l.positions.items l.invariant.loading)
+
+pub returns-in_err-push-3-clause-on_its_way : goal.returns-in_err-push-3-clause-on_its_way
+returns-in_err-push-3-clause-on_its_way g c =
+    let l = c.loop-doc in
+    rw c.in_ok-end.ensures.rest (loading_end (g.P.DocSet.rest c.args.source.now) (g.P.DocSet.rest l.source) l.doc_ids.items l.position_offsets.items l.positions.items l.invariant.loading)
+
+pub returns-clause-on_its_way : goal.returns-clause-on_its_way
+returns-clause-on_its_way g c =
+    let l = c.loop-doc in
+    loading_end (g.P.DocSet.rest c.args.source.now) (g.P.DocSet.rest l.source) l.doc_ids.items l.position_offsets.items l.positions.items l.invariant.loading
+
+pub returns-in_err-end-clause-err : goal.returns-in_err-end-clause-err
+returns-in_err-end-clause-err g c =
+    let l = c.loop-doc in
+    let p = err_from_is_err_and c.from_residual-in_err-end.result c.from_residual-in_err-end.ensures.1 in
+    rw (p.1, p.2) (loading_refused (g.P.DocSet.rest c.args.source.now) (g.P.DocSet.rest l.source) l.doc_ids.items l.position_offsets.items l.positions.items _ l.invariant.loading c.in_err-end.ensures.err)
