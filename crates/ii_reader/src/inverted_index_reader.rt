@@ -337,7 +337,6 @@ impl InvertedIndexReader {
     /// Puts the postings of a term of which this is kept in place of those of a cursor, as far as they
     /// are requested. See `read_postings` for the faults; the cursor is then over no documents, and can
     /// be reset again.
-    #[tactic(auto, using(crate::proofs::ReaderLemmas::list_no_range, crate::proofs::ReaderLemmas::refused_by, crate::proofs::ReaderLemmas::file_list))]
     pub fn reset_postings_from_terminfo(
         &self,
         term_info: &TermInfo,
