@@ -1,15 +1,20 @@
 -- Laws of the block that a cursor holds.
-use Rattle.std.proofs.Common.{◌≡◌, ℕ, zero, suc, ◌+◌, ◌-◌, ◌*◌, ◌/◌, ◌<◌, ◌≤◌, Bool, true, false, List, length, take, drop, get_or, min, nat_lt, Option, Some, None, is_some, refl, sym, ap, ◌∙◌, arith, length-take, length-drop}
+use Rattle.std.proofs.Common.{◌≡◌, ℕ, zero, suc, ◌+◌, ◌-◌, ◌*◌, ◌/◌, ◌<◌, ◌≤◌, Bool, true, false, List, [], length, take, drop, get_or, min, nat_lt, Option, Some, None, Ok, is_some, refl, sym, ap, ◌∙◌, arith, length-take, length-drop}
 use Rattle.std.specs.Option.{IsSome}
 use Rattle.std.proofs.lemmas.Bool.{ltb-true, ltb-false}
 use Rattle.std.proofs.lemmas.List.{nil_from_length, get_or-take, get_or-drop, get_or-replicate, get_or_past, get_or_default}
+use Rattle.ii_base.specs.declared.schema.index_record_option.IndexRecordOption.{IndexRecordOption}
 use Rattle.ii_base.specs.declared.doc_id.TheConstants.{TERMINATED}
 use Rattle.ii_codes.specs.BlockDecoder.{BlockDecoderState, decodes_of}
 use Rattle.ii_layout.specs.Written.{block_of}
+use Rattle.ii_layout.specs.Postings.{Postings, postings}
+use Rattle.ii_layout.specs.TermList.{docs_and_freqs}
 use Rattle.ii_layout.specs.SkipReader.{SkipReaderState}
+use Rattle.ii_check.specs.declared.freq_reading_option.FreqReadingOption.{FreqReadingOption}
+use Rattle.ii_check.specs.FreqReading.{freq_reading, freq_reading_of}
 use Rattle.ii_check.specs.CheckedPostings.{AreReadFreqs, AreLastFreqs, CheckedPostingsState, HasDocuments, HoldsBlock, HoldsFreqs, IsAtBlock, LoadsBlock, LoadsFreqs, new_decoder}
-use Rattle.ii_reader.specs.Bounds.{bounds_of}
-use Rattle.ii_reader.specs.BlockSegmentPostings.{BlockSegmentPostingsState, GoesTo, IsLazy, IsLoaded, doc_in_block, first_decodes, freqs_of_block, freq_in_block}
+use Rattle.ii_reader.specs.Bounds.{bounds_of, bounds_read}
+use Rattle.ii_reader.specs.BlockSegmentPostings.{AreEntries, BlockSegmentPostingsState, GoesTo, IsLazy, IsLoaded, doc_in_block, first_decodes, freqs_of_block, freq_in_block}
 
 -- an entry of a block that a decoder holds, and what stands after the block
 pub entry_held : (values : List ℕ) (block padding idx : ℕ) (decoder : BlockDecoderState) → HoldsBlock values block padding decoder → idx < length (block_of values block) → get_or decoder.output idx 0 ≡ get_or (block_of values block) idx 0
@@ -134,6 +139,29 @@ first_loaded p skip docs freqs has at first loads =
     let freq_count = freq_decodes_first p.postings.freqs p.doc_freq freqs has.freqs loads.freqs_are in
     let freq_most = first_most p.postings.freqs p.doc_freq in
     record { has = has; at = at; docs_held = rw first loads.docs_are.holds; freqs_held = rw first (freqs_first p.postings.freqs freqs loads.freqs_are); doc_decodes = omega arith; freq_decodes = omega arith }
+
+-- a cursor over no documents
+pub none_loaded : (p : CheckedPostingsState) (skip : SkipReaderState) (docs freqs : BlockDecoderState) → HasDocuments p → p.postings.docs ≡ [] → p.postings.freqs ≡ None → IsAtBlock p skip → skip.block ≡ 0 → docs ≡ new_decoder TERMINATED → freqs ≡ new_decoder 1
+    → IsLoaded p skip docs freqs
+none_loaded p skip docs freqs has no_docs no_freqs at first docs_are freqs_are =
+    let count = ap (λ (d : BlockDecoderState). d.decodes) docs_are in
+    let freq_count = ap (λ (d : BlockDecoderState). d.decodes) freqs_are in
+    record { has = has; at = at; docs_held = rw (no_docs, first, docs_are) (record { many = refl; held = refl; filled = refl }); freqs_held = rw no_freqs freqs_are; doc_decodes = omega arith; freq_decodes = omega arith }
+
+-- what the bytes of a term give, by its postings
+pub docs_opened : (recorded requested : IndexRecordOption) (n : ℕ) (bytes : List ℕ) (p : Postings) → postings recorded requested n bytes ≡ Ok p → docs_and_freqs recorded requested n bytes ≡ Ok (p.docs, p.freqs)
+docs_opened recorded requested n bytes p opened = rw opened refl
+
+pub reading_opened : (recorded requested : IndexRecordOption) (n : ℕ) (bytes : List ℕ) (p : Postings) (reading : FreqReadingOption) → postings recorded requested n bytes ≡ Ok p → reading ≡ freq_reading_of requested p
+    → (freq_reading recorded requested n bytes ≡ Ok reading) × (bounds_read recorded requested n bytes ≡ Ok (bounds_of p.skip))
+reading_opened recorded requested n bytes p reading opened is = (rw (opened, is) refl, rw opened refl)
+
+pub entries_opened : (p : CheckedPostingsState) (n : ℕ) → HasDocuments p → p.doc_freq ≡ n → AreEntries n p.postings.docs p.postings.freqs
+entries_opened p n has is = record { many = has.many ∙ is; ascending = has.ascending; freqs_are = rw is at has.freqs }
+
+-- the skip entries that are read for the first block
+pub entries_first : (p : CheckedPostingsState) (skip : SkipReaderState) (n : ℕ) → IsAtBlock p skip → skip.block ≡ 0 → p.doc_freq ≡ n → skip.entries_read ≡ min 1 (n / 128)
+entries_first p skip n at first is = ap (λ (r : SkipReaderState). r.entries_read) at.reader ∙ rw (first, is) refl
 
 -- a cursor that went on to the next block, or stayed at the empty one
 pub record Moves (p : CheckedPostingsState) (skip skip' : SkipReaderState) (docs docs' freqs freqs' : BlockDecoderState) : Type 0 where

@@ -1,5 +1,5 @@
 -- Laws of the positions of a cursor.
-use Rattle.std.proofs.Common.{◌≡◌, ℕ, zero, suc, ◌+◌, ◌*◌, ◌/◌, ◌^◌, ◌<◌, ◌≤◌, Bool, true, false, List, [], ◌∷◌, length, take, drop, map, get_or, eqb, Option, Some, None, is_some, Ok, subst, refl, sym, ap, ◌∙◌, arith, length-take, length-drop}
+use Rattle.std.proofs.Common.{◌≡◌, ℕ, zero, suc, ◌+◌, ◌*◌, ◌/◌, ◌^◌, ◌<◌, ◌≤◌, Bool, true, false, List, [], ◌∷◌, length, take, drop, map, get_or, eqb, Option, Some, None, is_some, Ok, Err, subst, refl, sym, ap, ◌∙◌, arith, length-take, length-drop}
 use Rattle.std.specs.List.{All, sum, list_all}
 use Rattle.std.specs.Option.{IsSome, option_map}
 use Rattle.std.proofs.lemmas.Bool.{lt-ltb, eqb-true}
@@ -7,6 +7,7 @@ use Rattle.std.proofs.lemmas.List.{drop-drop, get_or-take, length-map}
 use Rattle.std.proofs.lemmas.List.Elements.{All-head, All-tail}
 use Rattle.std.proofs.lemmas.List.Sums.{sum_by-cons, sum_by_more, sum_by-take-le}
 use Rattle.ii_io.specs.StepLemmas.{needs-some, step-some, some-same}
+use Rattle.ii_io.specs.declared.faults.Part.{Part}
 use Rattle.ii_base.specs.declared.schema.index_record_option.IndexRecordOption.{IndexRecordOption}
 use Rattle.ii_base.specs.Options.{downgrade, has_positions}
 use Rattle.ii_base.specs.declared.doc_id.TheConstants.{TERMINATED}
@@ -260,6 +261,10 @@ pub list_opened : (recorded requested : IndexRecordOption) (doc_freq block : ℕ
     → deltas_if (has_positions (downgrade recorded requested)) freqs positions ≡ Some deltas → block ≡ 0 → term_list recorded requested doc_freq bytes positions ≡ Ok (drop (128 * block + 0) (list_of docs freqs deltas))
 list_opened recorded requested doc_freq block bytes docs freqs positions deltas read found first =
     rw (read, found) (ap Ok (sym (ap (λ (n : ℕ). drop (128 * n + 0) (list_of docs freqs deltas)) first)))
+
+-- no list was opened whose documents or counts are refused
+pub list_refused : (recorded requested : IndexRecordOption) (doc_freq : ℕ) (bytes : List ℕ) (positions : Option (List ℕ)) (part : Part) → docs_and_freqs recorded requested doc_freq bytes ≡ Err part → term_list recorded requested doc_freq bytes positions ≡ Err part
+list_refused recorded requested doc_freq bytes positions part refused = rw refused refl
 
 -- no deltas are read where no bytes are given
 pub none_given : (t : Bool) (freqs positions : Option (List ℕ)) → is_some positions ≡ false → deltas_if t freqs positions ≡ Some None

@@ -181,11 +181,20 @@ fn open_norms(alloc: Global, fieldnorms: Bytes) -> Result<FieldNormReaders, Faul
 }
 
 // The three files of an index, whose tables were read.
-#[derive(Drop)]
 struct IndexFiles {
     terms: CompositeFile,
     postings: CompositeFile,
     positions: CompositeFile,
+}
+
+impl Drop for IndexFiles {
+    fn drop(self) {
+        let IndexFiles {
+            terms: _,
+            postings: _,
+            positions: _,
+        } = self;
+    }
 }
 
 impl Model for IndexFiles {

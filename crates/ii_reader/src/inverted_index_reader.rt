@@ -189,7 +189,6 @@ impl InvertedIndexReader {
 
     /// A cursor over the postings of a term of which this is kept, as far as they are requested. See
     /// `read_postings` for the faults.
-    #[tactic(auto, using(crate::proofs::ReaderLemmas::list_no_range, crate::proofs::ReaderLemmas::refused_by, crate::proofs::ReaderLemmas::file_list))]
     pub fn read_postings_from_terminfo(
         &self,
         term_info: &TermInfo,
@@ -218,7 +217,7 @@ impl InvertedIndexReader {
     /// A cursor over the postings of a term of which this is kept and which is known to open, as far as
     /// they are requested. Its lists aren't looked at whole (`SegmentPostings::open_known`).
     /// `OutOfMemory` where the files' buffer can't be shared once more.
-    #[tactic(auto, using(crate::proofs::KnownLemmas::ranges_known, crate::proofs::KnownLemmas::list_known, crate::proofs::ReaderLemmas::file_list))]
+    #[tactic(auto, using(crate::proofs::KnownLemmas::ranges_known, crate::proofs::KnownLemmas::list_known))]
     pub fn read_known_postings_from_terminfo(
         &self,
         term_info: &TermInfo,
@@ -338,7 +337,6 @@ impl InvertedIndexReader {
     /// Puts the postings of a term of which this is kept in place of those of a cursor, as far as they
     /// are requested. See `read_postings` for the faults; the cursor is then over no documents, and can
     /// be reset again.
-    #[tactic(auto, using(crate::proofs::ReaderLemmas::list_no_range, crate::proofs::ReaderLemmas::refused_by, crate::proofs::ReaderLemmas::file_list))]
     pub fn reset_postings_from_terminfo(
         &self,
         term_info: &TermInfo,

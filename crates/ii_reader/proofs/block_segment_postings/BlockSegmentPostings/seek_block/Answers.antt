@@ -1,7 +1,7 @@
-use Rattle.std.proofs.Common.{◌<◌, arith}
+use Rattle.std.proofs.Common.{◌<◌, refl, arith}
 use Rattle.ii_reader.specs.BlockSegmentPostings.{doc_in_block}
 use Rattle.ii_reader.proofs.BlockLemmas.{GoesOn, on_loaded, on_goes}
-use Rattle.ii_reader.proofs.SeekLemmas.{goes_on, seeks_here}
+use Rattle.ii_reader.proofs.SeekLemmas.{entries_are, goes_on, seeks_here}
 use Rattle.ii_reader.proofs.block_segment_postings.BlockSegmentPostings.seek_block.Goals as goal
 
 pub returns-then-target-doc-clause-seeks : goal.returns-then-target-doc-clause-seeks
@@ -31,3 +31,15 @@ returns-clause-goes c =
     record { was = c.self.invariant; at = c.seek.ensures.at; later = goes_on c.args.target s.checked.postings.docs s.skip.block c.seek.new.skip.block high c.requires c.seek.ensures.seeks; loads = c.load_block.ensures }
     in
     rw (← c.self.view_is) (on_goes s.checked s.skip c.seek.new.skip s.doc_decoder c.load_block.new.doc_decoder s.freq_decoder c.load_block.new.freq_decoder goes)
+
+pub returns-clause-seeks : goal.returns-clause-seeks
+returns-clause-seeks c = rw (← c.self.view_is) c.seek.ensures.seeks
+
+pub returns-clause-entries : goal.returns-clause-entries
+returns-clause-entries c = entries_are c.self.inside.checked c.self.invariant.has
+
+pub returns-then-target-doc-clause-entries : goal.returns-then-target-doc-clause-entries
+returns-then-target-doc-clause-entries c = rw (← c.self.view_is) (entries_are c.self.inside.checked c.self.invariant.has)
+
+pub returns-then-target-doc-clause-goes : goal.returns-then-target-doc-clause-goes
+returns-then-target-doc-clause-goes c = record { recorded = refl; requested = refl; docs = refl; freqs = refl; freq_reading = refl; bounds = refl; block = refl; doc_decodes = omega arith; freq_decodes = omega arith }

@@ -1,5 +1,5 @@
 use Rattle.std.proofs.Common.{rules, ◌<◌, ◌≤◌, None, length}
-use Rattle.ii_reader.proofs.DamageLemmas.{checking_ends, checking_next, checking_stops, open_exactly, passed_on}
+use Rattle.ii_reader.proofs.DamageLemmas.{checking_ends, checking_first, checking_next, checking_stops, open_exactly, passed_on}
 use Rattle.ii_reader.proofs.inverted_index_reader.InvertedIndexReader.first_damaged_term.Goals as goal
 
 pub returns-in-Err-Damaged-clause-found : goal.returns-in-Err-Damaged-clause-found
@@ -25,3 +25,6 @@ returns-clause-opens c =
     let l = c.loop-ord in
     let past : length c.args.self.now.terms ≤ l.ord = search rules in
     open_exactly c.args.self.now None (rw c.terms.ensures at c.stream-terms.ensures.ascending) (checking_ends c.args.self.now l.terms l.ord past l.invariant)
+
+pub loop-ord-init : goal.loop-ord-init
+loop-ord-init c = checking_first c.args.self.now c.stream-terms.result (rw c.terms.ensures at c.stream-terms.ensures.terms)

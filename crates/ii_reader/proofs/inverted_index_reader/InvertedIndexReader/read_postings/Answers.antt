@@ -12,3 +12,14 @@ pub returns-in-Err-read_postings_from_terminfo-clause-holds :
     goal.returns-in-Err-read_postings_from_terminfo-clause-holds
 returns-in-Err-read_postings_from_terminfo-clause-holds c = λ field tokens held.
     c.in-Err-read_postings_from_terminfo.ensures.holds field c.args.term.now.value tokens (c.in-Some.ensures.holds field tokens held)
+
+pub returns-in-Err-clause-range : goal.returns-in-Err-clause-range
+returns-in-Err-clause-range c =
+    let memory = c.in-Err.ensures.only in
+    let lie = c.in-Err.ensures.lie in
+    rw (← c.in-Some.ensures.value) (λ damaged. absurd (cc), λ gone. absurd (cc))
+
+pub returns-in-Ok-clause-range : goal.returns-in-Ok-clause-range
+returns-in-Ok-clause-range c =
+    let lie = c.in-Ok.ensures.lie in
+    rw (← c.in-Some.ensures.value) (λ damaged. absurd (cc), λ gone. absurd (cc))

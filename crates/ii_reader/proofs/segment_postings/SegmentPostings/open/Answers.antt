@@ -3,7 +3,7 @@ use Rattle.ii_base.specs.Options.{downgrade, has_positions}
 use Rattle.ii_check.specs.Positions.{deltas_read}
 use Rattle.ii_reader.proofs.BoundLemmas.{trusted_read}
 use Rattle.ii_reader.proofs.CursorLemmas.{length_opened}
-use Rattle.ii_reader.proofs.PositionLemmas.{fits_found, list_opened, none_given}
+use Rattle.ii_reader.proofs.PositionLemmas.{fits_found, list_opened, list_refused, none_given}
 use Rattle.ii_reader.proofs.segment_postings.SegmentPostings.open.Goals as goal
 
 pub returns-then-is_none-clause-ok : goal.returns-then-is_none-clause-ok
@@ -47,3 +47,11 @@ pub returns-clause-reading : goal.returns-clause-reading
 returns-clause-reading c =
     let told = rw c.empty_by-block_cursor.ensures at c.in_default.ensures.reading in
     (told.0, trusted_read c.args.record_option c.args.requested_option c.args.doc_freq c.args.postings c.fill.new.self.freq_reading c.fill.new.self.bounds told.0 told.1)
+
+pub invariant_of-result : goal.invariant_of-result
+invariant_of-result c =
+    let read = c.freq_reading_option-reading.ensures.read in
+    (omega arith, c.docs-docs.ensures.entries, rw c.freq_reading_option-reading.ensures.option at read, c.docs-docs.ensures.lazy.within, tt)
+
+pub returns-in-Err-clause-err : goal.returns-in-Err-clause-err
+returns-in-Err-clause-err c = list_refused c.args.record_option c.args.requested_option c.args.doc_freq c.args.postings c.args.positions _ (rw c.empty_by-block_cursor.ensures at c.in-Err.ensures.err)

@@ -59,3 +59,8 @@ pub returns-clause-reading : goal.returns-clause-reading
 returns-clause-reading c =
     let told = rw c.empty_by-block_cursor.ensures at c.fill_known.ensures.reading in
     (told.0, trusted_read c.args.record_option c.args.requested_option c.args.doc_freq c.args.postings c.fill_known.new.self.freq_reading c.fill_known.new.self.bounds told.0 told.1)
+
+pub invariant_of-result : goal.invariant_of-result
+invariant_of-result c =
+    let read = c.freq_reading_option-reading.ensures.read in
+    (omega arith, c.docs-docs.ensures.entries, rw c.freq_reading_option-reading.ensures.option at read, c.docs-docs.ensures.lazy.within, tt)
