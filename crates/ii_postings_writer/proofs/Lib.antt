@@ -3,6 +3,7 @@ pub mod ByFieldLemmas
 pub mod ByteKeys
 pub mod ContextFaults
 pub mod FaultLemmas
+pub mod FieldEndings
 pub mod GrowthLaws
 pub mod HeldBodies
 pub mod HeldFields

@@ -23,6 +23,7 @@ use Rattle.ii_recorder.specs.Pushed.{FillTooLarge, HaveDeltas, pushed_freqs, wit
 use Rattle.ii_recorder.specs.Recorded.{RecorderState, entries_of_recorder}
 use Rattle.ii_recorder.specs.Terms.{WrittenTerm}
 use Rattle.ii_postings_writer.specs.SortedTerms.{IsTold, IsWritable, state_of, written_term}
+use Rattle.ii_postings_writer.specs.TermLimits.{HasLargeSum}
 use Rattle.ii_fieldnorm.specs.Readers.{Norms}
 use Rattle.ii_layout.proofs.BoundLemmas.{all_push}
 
@@ -112,6 +113,13 @@ was_told t key r begun counted same is small fit located =
       fit = fit;
       located = located;
     }
+
+-- and what is too large
+pub was_large : (t : OpenTermState) (key : List ℕ) (r : RecorderState) (begun : OpenTermState) (counted : Bool) (norms : Option Norms) → counted ≡ has_freq r.option → begun ≡ begun_term counted t
+    → FillTooLarge begun.skip_info begun.freqs (pushed_freqs r.option (entries_of_recorder r)) → HasLargeSum (written_term norms t.mode (record { key = key; recorder = r }))
+was_large t key r begun counted norms same is large =
+    let here = subst (λ (u : OpenTermState). FillTooLarge u.skip_info u.freqs (pushed_freqs r.option (entries_of_recorder r))) is large in
+    subst (λ (c : Bool). FillTooLarge (if c then t.mode else Basic) [] (pushed_freqs r.option (entries_of_recorder r))) same here
 
 pub always_on_ok : {X E : Type 0} (r : Result X E) (P : Type 0) → P → OnOk r P
 always_on_ok (Ok x) P p = p

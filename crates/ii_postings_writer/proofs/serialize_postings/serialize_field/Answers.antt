@@ -1,10 +1,11 @@
-use Rattle.std.proofs.Common.{rules, get_or, take, drop, suc, inr, Err, length, List, ◌≤◌, ◌++◌, ◌∷◌, [], ◌∙◌, ap, sym, subst}
+use Rattle.std.proofs.Common.{rules, get_or, refl, take, drop, suc, inr, Err, length, List, ◌≤◌, ◌++◌, ◌∷◌, [], ◌∙◌, ap, sym, subst}
 use Rattle.std.proofs.lemmas.List.{take_all}
 use Rattle.std.proofs.lemmas.Result.{err_from_is_err_and}
 use Rattle.ii_definitions.specs.Fields.{option_of}
 use Rattle.ii_termdict.specs.ReadBack.{AreAscending}
-use Rattle.ii_recorder.specs.IndexSerializer.{IsWriting}
+use Rattle.ii_recorder.specs.IndexSerializer.{EndsWriting, IsWriting}
 use Rattle.ii_recorder.specs.Terms.{WrittenTerm}
+use Rattle.ii_postings_writer.proofs.FieldEndings.{ends_after}
 use Rattle.ii_postings_writer.proofs.FaultLemmas.{begun_fault, closed_fault, split_written, term_of_part, unless_closed, written_within}
 use Rattle.ii_postings_writer.proofs.SerializeLemmas.{all_written, always_on_ok, next_above, next_written, one_more_told, writable_at}
 use Rattle.ii_postings_writer.specs.SortedTerms.{IsTold, IsWritable, state_of, written_term}
@@ -105,4 +106,21 @@ returns-clause-grow g c =
     let now = c.loop-place.serializer.index.now.bodies in
     let begun = bodies_grow c.args.serializer.now.bodies now c.args.field _ c.loop-place.invariant.0.bodies in
     let all = AllGrow-trans c.args.serializer.now.bodies now c.close.new.self.0.bodies begun c.close.ensures.grow in
+    search (rules, all)
+
+pub loop-place-init : goal.loop-place-init
+loop-place-init g c = (c.in_ok-serializer.ensures.begins, c.in_ok-serializer.ensures.open, c.in_ok-serializer.ensures.between, c.in_ok-serializer.ensures.entries, refl, tt)
+
+pub returns-clause-ends : goal.returns-clause-ends
+returns-clause-ends g c =
+    let w = c.loop-place.invariant in
+    let all = ends_after c.args.serializer.now c.loop-place.serializer.index.now c.close.new.self.0 c.close.result c.args.field _ (λ closed. (let is = c.in_ok-serializer.ensures.closed.1 closed in absurd (cc))) w.1 w.3 w.0.bodies c.close.ensures.ends in
+    search (rules, all)
+
+pub returns-in_err-serialize_one_term-clause-ends : goal.returns-in_err-serialize_one_term-clause-ends
+returns-in_err-serialize_one_term-clause-ends g c =
+    let p = err_from_is_err_and c.from_residual-in_err-serialize_one_term.result c.from_residual-in_err-serialize_one_term.ensures.1 in
+    let w = c.loop-place.invariant in
+    let all : EndsWriting c.args.serializer.now c.serialize_one_term.new.serializer.index.now c.from_residual-in_err-serialize_one_term.result =
+    rw (p.1, p.2) (ends_after c.args.serializer.now c.loop-place.serializer.index.now c.serialize_one_term.new.serializer.index.now (Err c.in_err-serialize_one_term.field-0.0) c.args.field _ (λ closed. (let is = c.in_ok-serializer.ensures.closed.1 closed in absurd (cc))) w.1 w.3 w.0.bodies c.in_err-serialize_one_term.ensures.ends) in
     search (rules, all)

@@ -1,4 +1,5 @@
 use Rattle.std.proofs.Common.{◌∙◌}
+use Rattle.std.proofs.lemmas.List.{take_all}
 use Rattle.ii_postings_writer.specs.SortedTerms.{kept_state}
 use Rattle.ii_postings_writer.proofs.ByFieldLemmas.{added, got_at, kept_at, known_at, none_at_first}
 use Rattle.ii_postings_writer.proofs.sorted_terms.by_field.Goals as goal
@@ -19,3 +20,6 @@ pub loop-place-preserved : goal.loop-place-preserved
 loop-place-preserved c =
     added kept_state c.args.flags.now c.args.paths.now c.args.num_fields c.args.terms.now c.loop-place.place c.index-terms-place.result c.loop-place.fields.items c.add_term.new.fields.items
     (got_at c.args.terms.now c.loop-place.place c.index-terms-place.result c.loop-place-test.true c.index-terms-place.is) c.requires.known c.loop-place.invariant c.in_ok-add_term.ensures.ok
+
+pub returns-clause-ok : goal.returns-clause-ok
+returns-clause-ok c = rw (take_all c.loop-place.place c.args.terms.now c.loop-place-test.false) at c.loop-place.invariant
