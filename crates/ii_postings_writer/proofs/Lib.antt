@@ -4,6 +4,7 @@ pub mod ByteKeys
 pub mod ContextFaults
 pub mod FaultLemmas
 pub mod FieldEndings
+pub mod FieldLists
 pub mod GrowthLaws
 pub mod HeldBodies
 pub mod HeldFields
