@@ -11,8 +11,9 @@ use Rattle.ii_recorder.specs.Endings.{CountsOnce, EndsUnlessClosed}
 use Rattle.ii_recorder.specs.IndexBodies.{AddsBodies, AllGrow, CountsFailures, IndexBodiesState, failed_calls}
 use Rattle.ii_recorder.specs.Terms.{FieldBodies}
 use Rattle.ii_recorder.specs.IndexSerializer.{EndsInMemory, EndsWriting, IndexSerializerState}
+use Rattle.ii_postings_writer.specs.FieldParts.{FieldPart, HasFields}
 use Rattle.ii_postings_writer.specs.SortedTerms.{SortedTerm}
-use Rattle.ii_postings_writer.specs.WriteFaults.{EndsParts, IsFaultBy}
+use Rattle.ii_postings_writer.specs.WriteFaults.{ClosesOrStays, EndsParts, IsFaultBy}
 use Rattle.ii_postings_writer.proofs.PartLemmas.{part_of}
 
 -- some norms are too long, or memory wasn't enough: short ones leave the latter
@@ -148,3 +149,9 @@ pub push_fault : {A B C : Type 0} (e : Fault) → ¬ (e ≡ SerializerClosed) �
 push_fault e apart large (inl memory) = inl memory
 push_fault e apart large (inr (inl closed)) = absurd (apart closed)
 push_fault e apart large (inr (inr sum)) = inr (inr (inl (sum, large sum)))
+
+-- a field that was refused after others that were written
+pub stays_between : (old mid new : IndexSerializerState) (fs : List FieldPart) (e : Fault) → HasFields old.entries old.bodies mid.bodies fs → mid.closed ≡ old.closed → IsTrue new.closed ⊎ ((e ≡ OutOfMemory) × (new ≡ mid)) → ClosesOrStays old new e
+stays_between old mid new fs e fields closed (inl closes) = inl closes
+stays_between old mid new fs e fields closed (inr stays) =
+    inr (stays.0, record { fs = fs; fields = subst (λ (s : IndexSerializerState). HasFields old.entries old.bodies s.bodies fs) (sym stays.1) fields; closed = ap (λ (s : IndexSerializerState). s.closed) stays.1 ∙ closed })

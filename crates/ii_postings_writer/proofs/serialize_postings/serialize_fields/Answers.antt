@@ -5,6 +5,7 @@ use Rattle.ii_recorder.specs.IndexBodies.{LacksField}
 use Rattle.std.specs.Prelude.{slice_index_or}
 use Rattle.std.specs.List.{AllByRecursion}
 use Rattle.ii_postings_writer.specs.SortedTerms.{IsWritable, norms_in}
+use Rattle.ii_postings_writer.proofs.FieldEndings.{stays_between}
 use Rattle.ii_postings_writer.proofs.FaultLemmas.{IsNextField, all_some, field_fault, no_part}
 use Rattle.ii_postings_writer.proofs.PartLemmas.{lacks_next, next_part}
 use Rattle.ii_postings_writer.specs.FieldParts.{HasFields, first_parts}
@@ -90,3 +91,10 @@ returns-clause-ends g c =
       closed = search rules;
       refused = λ closed. record { same = (w.3 closed).0; none = subst (λ (n : ℕ). first_parts c.args.serializer.now.entries c.args.writers.now c.args.norms.now c.args.terms.now.items n ≡ []) all (w.3 closed).1; only = tt };
     }
+
+pub returns-in_err-serialize_if_any-clause-err : goal.returns-in_err-serialize_if_any-clause-err
+returns-in_err-serialize_if_any-clause-err g c =
+    let p = err_from_is_err_and c.from_residual.result c.from_residual.ensures.1 in
+    let w = c.loop-place.invariant in
+    rw (p.1, p.2) (stays_between c.args.serializer.now c.loop-place.serializer c.serialize_if_any.new.serializer
+    (first_parts c.args.serializer.now.entries c.args.writers.now c.args.norms.now c.args.terms.now.items c.loop-place.place) c.in_err-serialize_if_any.field-0.0 w.0 w.1 c.in_err-serialize_if_any.ensures.err)
