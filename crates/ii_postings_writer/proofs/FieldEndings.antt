@@ -14,6 +14,8 @@ use Rattle.ii_recorder.specs.IndexSerializer.{EndsInMemory, EndsWriting, IndexSe
 use Rattle.ii_postings_writer.specs.FieldParts.{FieldPart, HasFields}
 use Rattle.ii_postings_writer.specs.SortedTerms.{SortedTerm}
 use Rattle.ii_postings_writer.specs.WriteFaults.{ClosesOrStays, EndsParts, IsFaultBy}
+use Rattle.ii_recorder.proofs.GrowthLemmas.{AllGrow-trans}
+use Rattle.ii_postings_writer.proofs.GrowthLaws.{fields_grow}
 use Rattle.ii_postings_writer.proofs.PartLemmas.{part_of}
 
 -- some norms are too long, or memory wasn't enough: short ones leave the latter
@@ -155,3 +157,25 @@ pub stays_between : (old mid new : IndexSerializerState) (fs : List FieldPart) (
 stays_between old mid new fs e fields closed (inl closes) = inl closes
 stays_between old mid new fs e fields closed (inr stays) =
     inr (stays.0, record { fs = fs; fields = subst (λ (s : IndexSerializerState). HasFields old.entries old.bodies s.bodies fs) (sym stays.1) fields; closed = ap (λ (s : IndexSerializerState). s.closed) stays.1 ∙ closed })
+
+-- and how that ends
+pub ends_between : {P : Type 0} (parts : List P) (ts : List SortedTerm) (old mid new : IndexSerializerState) (fs : List FieldPart) (e : Fault) → HasFields old.entries old.bodies mid.bodies fs → mid.closed ≡ old.closed → mid.entries ≡ old.entries
+    → (IsTrue old.closed → mid ≡ old) → 0 < length parts → EndsParts ts mid new (Err e) → EndsParts parts old new (Err e)
+ends_between parts ts old mid new fs e fields closed entries kept some ends =
+    let terms = fields.terms.writer.failed_calls in
+    let postings = fields.postings.writer.failed_calls in
+    let positions = fields.positions.writer.failed_calls in
+    let none : failed_calls mid.bodies ≡ failed_calls old.bodies = omega (arith, terms, postings, positions) in
+    record {
+      entries = ends.entries ∙ entries;
+      closes = tt;
+      failures = record {
+        once = subst (λ (n : ℕ). CountsOnce {A = Unit {0}} n (failed_calls new.bodies) (Err e)) none ends.failures.once;
+        terms_kept = omega (arith, ends.failures.terms_kept, terms);
+        postings_kept = omega (arith, ends.failures.postings_kept, postings);
+        positions_kept = omega (arith, ends.failures.positions_kept, positions);
+      };
+      grow = AllGrow-trans old.bodies mid.bodies new.bodies (fields_grow old.entries old.bodies mid.bodies fs fields) ends.grow;
+      closed = λ is. (sym closed ∙ (ends.closed is).0, some);
+      refused = λ was. (let stays = ends.refused (closed ∙ was) in record { same = stays.same ∙ kept was; none = tt; only = stays.only });
+    }

@@ -203,7 +203,7 @@ fn serialize_fields<W: Write>(
     let mut buffer_lender = BufferLender::new(alloc);
     for place in 0..terms.len() {
         let field = Field::from_field_id(place as u32);
-        serialize_if_any(
+        let told = serialize_if_any(
             field,
             writers,
             norms,
@@ -211,8 +211,15 @@ fn serialize_fields<W: Write>(
             &mut keys,
             &mut buffer_lender,
             serializer,
-        )?;
+        );
+        let Ok(()) = told else {
+            drop(keys);
+            drop(buffer_lender);
+            return told;
+        };
     }
+    drop(keys);
+    drop(buffer_lender);
     Ok(())
 }
 
