@@ -3,6 +3,8 @@ pub mod ByFieldLemmas
 pub mod ByteKeys
 pub mod ContextFaults
 pub mod FaultLemmas
+pub mod FieldEndings
+pub mod FieldLists
 pub mod GrowthLaws
 pub mod HeldBodies
 pub mod HeldFields

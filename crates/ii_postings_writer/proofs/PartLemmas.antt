@@ -1,5 +1,5 @@
 -- Fields that are written one after the other.
-use Rattle.std.proofs.Common.{Option, nat_eq, append-nil, zero-add, Result, Ok, Err, OnOk, ◌≡◌, ℕ, zero, suc, ◌+◌, ◌-◌, ◌≤◌, ◌<◌, true, false, List, [], ◌∷◌, ◌++◌, length, map, refl, sym, ap, ◌∙◌, subst, arith, Some}
+use Rattle.std.proofs.Common.{Option, nat_eq, append-nil, zero-add, Result, Ok, Err, OnOk, ◌≡◌, ℕ, zero, suc, ◌+◌, ◌-◌, ◌≤◌, ◌<◌, false, List, [], ◌∷◌, ◌++◌, length, map, refl, sym, ap, ◌∙◌, subst, arith, Some}
 use Rattle.std.specs.Prelude.{◌^◌, slice_get, slice_index_or}
 use Rattle.std.specs.List.{AllByRecursion, flat_map, range_with_len}
 use Rattle.std.proofs.lemmas.Bool.{ne_eqb}
@@ -64,15 +64,8 @@ pub part_wrote : {A E : Type 0} (result : Result A E) (entries : List SchemaEntr
 part_wrote (Ok x) entries initial old new fs p has some adds holds told within = rw (some_part entries p.field p.tokens p.norms p.terms some) (part_added entries initial old new fs p has adds (record { terms = holds; told = told; within = within }))
 part_wrote (Err e) entries initial old new fs p has some adds holds told within = tt
 
-pub some_seen : (terms : List TermOfField) → false ≡ nat_eq (length terms) 0 → 0 < length (map state_of terms)
-some_seen [] some = absurd (cc)
-some_seen (t ∷ ts) some = omega arith
-
-pub none_seen : (terms : List TermOfField) → true ≡ nat_eq (length terms) 0 → map state_of terms ≡ []
-none_seen [] none = refl
-none_seen (t ∷ ts) none =
-    let some : nat_eq (length (t ∷ ts)) 0 ≡ false = ne_eqb (length (t ∷ ts)) 0 (λ is. absurd (omega (arith, is))) in
-    absurd (cc)
+pub some_seen : (terms : List TermOfField) → 0 < length terms → 0 < length (map state_of terms)
+some_seen terms some = omega (arith, some, length-map terms state_of)
 
 -- a field above all that have bodies has none
 no_start : (body : FieldPart → Body) → ((p : FieldPart) → (body p).field ≡ p.field) → (n start : ℕ) (fs : List FieldPart) → AllByRecursion (λ (p : FieldPart). p.field < n) fs → has_start n (starts_from start (map body fs)) ≡ false

@@ -1,5 +1,5 @@
 -- Terms of a field that are written one after the other.
-use Rattle.std.proofs.Common.{Option, Result, Ok, Err, OnErr, OnOk, zero, suc, ◌+◌, ◌<◌, arith, append-nil, take, map, length, Ordering, Less, get_or, ◌≡◌, ℕ, Bool, List, [], ◌∷◌, ◌++◌, refl, sym, ap, ◌∙◌, subst}
+use Rattle.std.proofs.Common.{Option, Result, Ok, Err, OnOk, zero, suc, ◌+◌, ◌<◌, arith, append-nil, take, map, length, Ordering, Less, get_or, ◌≡◌, ℕ, Bool, List, [], ◌∷◌, ◌++◌, refl, sym, ap, ◌∙◌, subst}
 use Rattle.std.specs.Prelude.{if◌then◌else◌, IsTrue, ◌^◌}
 use Rattle.std.specs.List.{AllByRecursion}
 use Rattle.std.specs.List.Sorted.{IsStrictlySortedBy}
@@ -23,6 +23,7 @@ use Rattle.ii_recorder.specs.Pushed.{FillTooLarge, HaveDeltas, pushed_freqs, wit
 use Rattle.ii_recorder.specs.Recorded.{RecorderState, entries_of_recorder}
 use Rattle.ii_recorder.specs.Terms.{WrittenTerm}
 use Rattle.ii_postings_writer.specs.SortedTerms.{IsTold, IsWritable, state_of, written_term}
+use Rattle.ii_postings_writer.specs.TermLimits.{HasLargeSum}
 use Rattle.ii_fieldnorm.specs.Readers.{Norms}
 use Rattle.ii_layout.proofs.BoundLemmas.{all_push}
 
@@ -81,12 +82,6 @@ module _ (norms : Option Norms) (mode : IndexRecordOption) where
       ap (map key_of) (take_more terms k d inside) ∙ map-append key_of (take k terms) (get_or terms k d ∷ []) ∙ ap (λ (ks : List (List ℕ)). ks ++ key_of (get_or terms k d) ∷ []) (sym before) in
       subst AreAscending (take-map key_of (k + 1) terms ∙ all) (ascend_taken (slice_cmp nat_cmp) (k + 1) (map key_of terms) ascending)
 
--- what holds of each element holds of one
-pub held_at : {A : Type 0} (P : A → Type 0) (xs : List A) (k : ℕ) (d : A) → k < length xs → AllByRecursion P xs → P (get_or xs k d)
-held_at P [] k d inside all = absurd (omega (arith, inside))
-held_at P (x ∷ xs) zero d inside all = all.0
-held_at P (x ∷ xs) (suc k) d inside all = held_at P xs k d (omega (arith, inside)) all.1
-
 pub writable_at : (norms : Option Norms) (terms : List TermOfField) (k : ℕ) (d : TermOfField) → k < length terms → AllByRecursion (IsWritable norms) (map state_of terms) → IsWritable norms (state_of (get_or terms k d))
 writable_at norms [] k d inside all = absurd (omega (arith, inside))
 writable_at norms (t ∷ ts) zero d inside all = all.0
@@ -119,10 +114,13 @@ was_told t key r begun counted same is small fit located =
       located = located;
     }
 
+-- and what is too large
+pub was_large : (t : OpenTermState) (key : List ℕ) (r : RecorderState) (begun : OpenTermState) (counted : Bool) (norms : Option Norms) → counted ≡ has_freq r.option → begun ≡ begun_term counted t
+    → FillTooLarge begun.skip_info begun.freqs (pushed_freqs r.option (entries_of_recorder r)) → HasLargeSum (written_term norms t.mode (record { key = key; recorder = r }))
+was_large t key r begun counted norms same is large =
+    let here = subst (λ (u : OpenTermState). FillTooLarge u.skip_info u.freqs (pushed_freqs r.option (entries_of_recorder r))) is large in
+    subst (λ (c : Bool). FillTooLarge (if c then t.mode else Basic) [] (pushed_freqs r.option (entries_of_recorder r))) same here
+
 pub always_on_ok : {X E : Type 0} (r : Result X E) (P : Type 0) → P → OnOk r P
 always_on_ok (Ok x) P p = p
 always_on_ok (Err e) P p = tt
-
-pub always_on_err : {X E : Type 0} (r : Result X E) (P : Type 0) → P → OnErr r P
-always_on_err (Ok x) P p = tt
-always_on_err (Err e) P p = p

@@ -1,7 +1,8 @@
 -- Terms of JSON fields hold the id of a path while they are indexed; in a dictionary the path stands in its place.
-use Rattle.std.specs.Prelude.{◌≡◌, bytes_eq, ℕ, ◌<◌, ◌^◌, ◌+◌, ◌&&◌, Bool, true, false, List, [], ◌++◌, if◌then◌else◌, drop, length, map, nat_le, slice_index_or, take, Option, None, Some, is_some, MatchOption, MatchResult, Result, ◌⊎◌, ⊤}
+use Rattle.std.specs.Prelude.{◌≡◌, bytes_eq, ℕ, ◌<◌, ◌≤◌, ◌^◌, ◌+◌, ◌&&◌, Bool, true, false, List, [], ◌++◌, if◌then◌else◌, drop, length, map, nat_le, slice_index_or, take, Option, None, Some, is_some, MatchOption, MatchResult, Result, ◌⊎◌, ⊤}
 use Rattle.std.specs.Cmp.Lexicographic.{slice_cmp}
-use Rattle.std.specs.List.{AllByRecursion, IsDistinct}
+use Rattle.std.specs.List.{AllByRecursion, IsDistinct, range_with_len}
+use Rattle.std.specs.List.Sorted.{IsPermutation}
 use Rattle.std.specs.Option.{option_map_or}
 use Rattle.std.specs.Ordering.{nat_cmp, ordering_then}
 use Rattle.std.specs.declared.cmp.Ordering.{Ordering}
@@ -13,7 +14,7 @@ use Rattle.ii_base.specs.Schema.{SchemaEntry}
 use Rattle.ii_base.specs.Values.{json_key}
 use Rattle.ii_definitions.specs.JsonKeys.{is_json, path_in}
 use Rattle.ii_definitions.specs.Tokens.{IndexToken}
-use Rattle.ii_json.specs.Paths.{is_known, path_id}
+use Rattle.ii_json.specs.Paths.{AreDistinct, is_known, path_id}
 use Rattle.ii_recorder.specs.Recorded.{RecorderState}
 use Rattle.ii_definitions.specs.Fields.{option_of}
 use Rattle.ii_definitions.specs.Postings.{field_count, kind_of, tokens_at}
@@ -23,7 +24,7 @@ use Rattle.ii_postings_writer.specs.IndexingContext.{TermIndex, recorder_of}
 use Rattle.ii_postings_writer.specs.IndexingTerm.{field_bytes, field_in}
 use Rattle.ii_postings_writer.specs.PostingsWriter.{PostingsWriterState}
 use Rattle.ii_postings_writer.specs.Records.{Records}
-use Rattle.ii_postings_writer.specs.SortedTerms.{AllMayBeWritten}
+use Rattle.ii_postings_writer.specs.SortedTerms.{AllMayBeWritten, SortedTerm, terms_in}
 
 -- which fields of a schema hold JSON values
 abbrev pub json_fields : List SchemaEntry → List Bool
@@ -147,3 +148,13 @@ pub record HaveHeldTokens (entries : List SchemaEntry) (paths : List (List ℕ))
 -- P holds, unless a call lacked memory.
 abbrev pub HaveUnlessMemory : {T : Type 0} → Type 0 → Result T Fault → Type 0
 HaveUnlessMemory P result = MatchResult result (λ _. P) (λ e. (e ≡ OutOfMemory) ⊎ P)
+
+-- The terms of each field of a schema, from those of a context in the order of their keys.
+pub record AreFieldTerms (entries : List SchemaEntry) (paths : List (List ℕ)) (terms : TermIndex) (fields : List (List SortedTerm)) : Type 0 where
+  pub sorted : TermIndex
+  pub distinct : AreDistinct paths
+  pub few_paths : length paths ≤ 2 ^ 32
+  pub few_fields : length entries < 2 ^ 32
+  pub moved : IsPermutation terms sorted
+  pub in_order : AreSorted (json_fields entries) paths sorted
+  pub are : fields ≡ map (λ (field : ℕ). terms_in field (resolved_terms (json_fields entries) paths sorted)) (range_with_len 0 (length entries))

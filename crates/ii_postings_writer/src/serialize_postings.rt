@@ -11,9 +11,10 @@ ghost use Rattle.ii_recorder.specs.HeldTerms.{HoldsTerms};
 ghost use Rattle.ii_postings_writer.specs.FieldParts.{AreShortNorms, FieldPart, HasFields, WroteContext, first_parts, parts_of, tokens_in};
 ghost use Rattle.ii_definitions.specs.Tokens.{IndexToken};
 ghost use Rattle.ii_definitions.specs.JsonKeys.{is_json};
+ghost use Rattle.ii_io.specs.Composite.{Body};
 ghost use Rattle.ii_io.specs.Faults.{OnlyMemory};
 ghost use Rattle.ii_postings_writer.specs.HeldBodies.{HaveTokens, WroteTokens};
-ghost use Rattle.ii_postings_writer.specs.ResolvedTerms.{HaveHeldTokens, HaveUnlessMemory, MayWriteTerms, json_fields, resolved_terms};
+ghost use Rattle.ii_postings_writer.specs.ResolvedTerms.{AreFieldTerms, HaveHeldTokens, HaveUnlessMemory, MayWriteTerms, json_fields, resolved_terms};
 ghost use Rattle.ii_postings_writer.specs.SortedTerms.{IsTold, IsWritable, norms_in, state_of, written_term};
 ghost use Rattle.ii_postings_writer.specs.TermLimits.{AreWithin};
 ghost use Rattle.ii_postings_writer.specs.WriteFaults.{ClosesOrStays, EndsParts, IsContextFault, IsPartFault, IsPartsFault, IsTermFaultAfter};
@@ -202,7 +203,7 @@ fn serialize_fields<W: Write>(
     let mut buffer_lender = BufferLender::new(alloc);
     for place in 0..terms.len() {
         let field = Field::from_field_id(place as u32);
-        serialize_if_any(
+        let told = serialize_if_any(
             field,
             writers,
             norms,
@@ -210,8 +211,15 @@ fn serialize_fields<W: Write>(
             &mut keys,
             &mut buffer_lender,
             serializer,
-        )?;
+        );
+        let Ok(()) = told else {
+            drop(keys);
+            drop(buffer_lender);
+            return told;
+        };
     }
+    drop(keys);
+    drop(buffer_lender);
     Ok(())
 }
 
@@ -232,6 +240,27 @@ fn holds_json(entry: &FieldEntry) -> bool
     ensures { result ≡ is_json entry.now.value_type }
 {
     entry.value_type().to_code() == ValueType::Json.to_code()
+}
+
+// The terms of each field of a context, by their keys.
+fn field_terms<'a>(
+    alloc: Global,
+    ctx: &'a IndexingContext,
+    schema: &Schema,
+) -> Result<Vec<FieldTerms<'a>>, Fault>
+    requires terms { (norms : List Body) × MayWriteTerms schema.now norms ctx.now.path_to_unordered_id ctx.now.term_index }
+    ensures ok { IfOk result (λ terms. AreFieldTerms schema.now ctx.entry.now.path_to_unordered_id ctx.entry.now.term_index terms.items) }
+    ensures only { OnlyMemory result }
+{
+    let flags = json_fields(alloc, schema)?;
+    let ranks = ctx.path_to_unordered_id.unordered_id_to_ordered_id(alloc)?;
+    let sorted = ctx.term_index.sorted(alloc, &flags, &ranks)?;
+    sorted.by_field(
+        alloc,
+        &flags,
+        &ctx.path_to_unordered_id,
+        schema.num_fields(),
+    )
 }
 
 /// Writes the terms of a context, the fields that have some in ascending order, with the numbers of
@@ -270,21 +299,15 @@ pub fn serialize_postings<W: Write>(
 {
     reads_entries_back();
     reads_uncounted_term_back();
-    let flags = json_fields(alloc, schema)?;
-    let ranks = ctx.path_to_unordered_id.unordered_id_to_ordered_id(alloc)?;
-    let sorted = ctx.term_index.sorted(alloc, &flags, &ranks)?;
-    let terms = sorted.by_field(
-        alloc,
-        &flags,
-        &ctx.path_to_unordered_id,
-        schema.num_fields(),
-    )?;
-    drop(sorted);
-    serialize_fields(
+    let terms = field_terms(alloc, &ctx, schema)?;
+    let told = serialize_fields(
         alloc,
         per_field_postings_writers,
         fieldnorm_readers,
         &terms,
         serializer,
-    )
+    );
+    drop(terms);
+    drop(ctx);
+    told
 }

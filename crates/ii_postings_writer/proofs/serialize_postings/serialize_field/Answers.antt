@@ -1,13 +1,11 @@
-use Rattle.std.proofs.Common.{OnOk, map, rules, get_or, take, drop, suc, inr, Err, length, List, ◌≤◌, ◌++◌, ◌∷◌, [], ◌∙◌, ap, sym, subst}
+use Rattle.std.proofs.Common.{rules, get_or, refl, take, drop, suc, inr, Err, length, List, ◌≤◌, ◌++◌, ◌∷◌, [], ◌∙◌, ap, sym, subst}
 use Rattle.std.proofs.lemmas.List.{take_all}
 use Rattle.std.proofs.lemmas.Result.{err_from_is_err_and}
 use Rattle.ii_definitions.specs.Fields.{option_of}
 use Rattle.ii_termdict.specs.ReadBack.{AreAscending}
-use Rattle.ii_recorder.specs.IndexSerializer.{IsWriting}
-use Rattle.std.specs.List.{AllByRecursion}
-use Rattle.ii_recorder.specs.HeldTerms.{HoldsTerms}
-use Rattle.ii_recorder.specs.IndexBodies.{AddsBodies}
-use Rattle.ii_recorder.specs.Terms.{WrittenTerm, field_bodies}
+use Rattle.ii_recorder.specs.IndexSerializer.{EndsWriting, IsWriting}
+use Rattle.ii_recorder.specs.Terms.{WrittenTerm}
+use Rattle.ii_postings_writer.proofs.FieldEndings.{ends_after}
 use Rattle.ii_postings_writer.proofs.FaultLemmas.{begun_fault, closed_fault, split_written, term_of_part, unless_closed, written_within}
 use Rattle.ii_postings_writer.proofs.SerializeLemmas.{all_written, always_on_ok, next_above, next_written, one_more_told, writable_at}
 use Rattle.ii_postings_writer.specs.SortedTerms.{IsTold, IsWritable, state_of, written_term}
@@ -110,38 +108,19 @@ returns-clause-grow g c =
     let all = AllGrow-trans c.args.serializer.now.bodies now c.close.new.self.0.bodies begun c.close.ensures.grow in
     search (rules, all)
 
-pub returns-clause-wrote : goal.returns-clause-wrote
-returns-clause-wrote g c =
-    let w = c.loop-place.invariant in
-    let terms = c.args.terms.now in
-    let initial = c.args.serializer.now.bodies in
-    let tokens = c.args.total_num_tokens in
-    let mode = option_of c.args.serializer.now.entries c.args.field in
-    let norms = c.args.fieldnorm_reader in
-    let many : length terms ≤ c.loop-place.place = search rules in
-    let all = take_all c.loop-place.place terms many in
-    let whole = subst (λ ts. IsWriting initial c.loop-place.serializer.index.now c.args.field tokens norms (all_written norms mode ts) []) all w.0 in
-    let kept = w.0.mode ∙ ap (λ es. option_of es c.args.field) w.3 in
-    let wrote = subst (λ m. OnOk c.close.result (AddsBodies initial c.close.new.self.0.bodies c.args.field (field_bodies m tokens (all_written norms mode terms)))) kept (c.close.ensures.wrote initial c.args.field tokens norms (all_written norms mode terms) w.2 whole) in
-    search (rules, wrote)
+pub loop-place-init : goal.loop-place-init
+loop-place-init g c = (c.in_ok-serializer.ensures.begins, c.in_ok-serializer.ensures.open, c.in_ok-serializer.ensures.between, c.in_ok-serializer.ensures.entries, refl, tt)
 
-pub returns-clause-holds : goal.returns-clause-holds
-returns-clause-holds g c =
+pub returns-clause-ends : goal.returns-clause-ends
+returns-clause-ends g c =
     let w = c.loop-place.invariant in
-    let terms = c.args.terms.now in
-    let initial = c.args.serializer.now.bodies in
-    let tokens = c.args.total_num_tokens in
-    let mode = option_of c.args.serializer.now.entries c.args.field in
-    let norms = c.args.fieldnorm_reader in
-    let many : length terms ≤ c.loop-place.place = search rules in
-    let all = take_all c.loop-place.place terms many in
-    let whole = subst (λ ts. IsWriting initial c.loop-place.serializer.index.now c.args.field tokens norms (all_written norms mode ts) []) all w.0 in
-    let kept = w.0.mode ∙ ap (λ es. option_of es c.args.field) w.3 in
-    subst (λ m. OnOk c.close.result (HoldsTerms m tokens (field_bodies m tokens (all_written norms mode terms)) (all_written norms mode terms))) kept (c.close.ensures.holds initial c.args.field tokens norms (all_written norms mode terms) w.2 whole)
+    let all = ends_after c.args.serializer.now c.loop-place.serializer.index.now c.close.new.self.0 c.close.result c.args.field _ (λ closed. (let is = c.in_ok-serializer.ensures.closed.1 closed in absurd (cc))) w.1 w.3 w.0.bodies c.close.ensures.ends in
+    search (rules, all)
 
-pub returns-clause-told : goal.returns-clause-told
-returns-clause-told g c =
-    let terms = c.args.terms.now in
-    let many : length terms ≤ c.loop-place.place = search rules in
-    let all = take_all c.loop-place.place terms many in
-    always_on_ok c.close.result _ (subst (λ ts. AllByRecursion (IsTold (option_of c.args.serializer.now.entries c.args.field)) (map state_of ts)) all c.loop-place.invariant.5)
+pub returns-in_err-serialize_one_term-clause-ends : goal.returns-in_err-serialize_one_term-clause-ends
+returns-in_err-serialize_one_term-clause-ends g c =
+    let p = err_from_is_err_and c.from_residual-in_err-serialize_one_term.result c.from_residual-in_err-serialize_one_term.ensures.1 in
+    let w = c.loop-place.invariant in
+    let all : EndsWriting c.args.serializer.now c.serialize_one_term.new.serializer.index.now c.from_residual-in_err-serialize_one_term.result =
+    rw (p.1, p.2) (ends_after c.args.serializer.now c.loop-place.serializer.index.now c.serialize_one_term.new.serializer.index.now (Err c.in_err-serialize_one_term.field-0.0) c.args.field _ (λ closed. (let is = c.in_ok-serializer.ensures.closed.1 closed in absurd (cc))) w.1 w.3 w.0.bodies c.in_err-serialize_one_term.ensures.ends) in
+    search (rules, all)

@@ -1,29 +1,25 @@
-use Rattle.std.proofs.Common.{List, map, rules, length, ◌≡◌, ◌<◌, [], ◌∙◌, sym, subst, arith, ℕ}
+use Rattle.std.proofs.Common.{rules, length, ◌≡◌, ◌<◌, [], ◌∙◌, sym, subst, arith, ℕ}
 use Rattle.std.proofs.lemmas.List.{get_or_default}
-use Rattle.std.proofs.lemmas.Result.{err_from_is_err_and}
 use Rattle.ii_recorder.specs.IndexBodies.{LacksField}
 use Rattle.std.specs.Prelude.{slice_index_or}
 use Rattle.std.specs.List.{AllByRecursion}
-use Rattle.ii_termdict.specs.ReadBack.{AreAscending}
-use Rattle.ii_postings_writer.proofs.SerializeLemmas.{held_at}
-use Rattle.ii_postings_writer.specs.SortedTerms.{IsWritable, SortedTerm, norms_in}
+use Rattle.ii_postings_writer.specs.SortedTerms.{IsWritable, norms_in}
+use Rattle.ii_postings_writer.proofs.FieldEndings.{ends_between, stays_between}
 use Rattle.ii_postings_writer.proofs.FaultLemmas.{IsNextField, all_some, field_fault, no_part}
 use Rattle.ii_postings_writer.proofs.PartLemmas.{lacks_next, next_part}
 use Rattle.ii_postings_writer.specs.FieldParts.{HasFields, first_parts}
-use Rattle.ii_recorder.proofs.GrowthLemmas.{AllGrow-trans}
-use Rattle.ii_postings_writer.proofs.GrowthLaws.{fields_grow}
 use Rattle.ii_postings_writer.proofs.serialize_postings.serialize_fields.Goals as goal
 
-pub serialize_if_any-requires-clause-lacks : goal.serialize_if_any-requires-clause-lacks
-serialize_if_any-requires-clause-lacks g c _ =
+pub serialize_if_any-told-requires-clause-lacks : goal.serialize_if_any-told-requires-clause-lacks
+serialize_if_any-told-requires-clause-lacks g c _ =
     let few = c.requires.few in
     let low = c.loop-place-test.true in
     subst (λ (field : ℕ). LacksField field c.loop-place.serializer.bodies) (sym c.from_field_id-field.ensures)
     (lacks_next c.args.serializer.now.entries c.args.writers.now c.args.norms.now c.args.terms.now.items c.loop-place.place c.args.serializer.now.bodies c.loop-place.serializer.bodies
     (omega (arith, few, low, c.len-place-end.ensures)) c.loop-place.invariant.0)
 
-pub serialize_if_any-requires-clause-writable : goal.serialize_if_any-requires-clause-writable
-serialize_if_any-requires-clause-writable g c =
+pub serialize_if_any-told-requires-clause-writable : goal.serialize_if_any-told-requires-clause-writable
+serialize_if_any-told-requires-clause-writable g c =
     let low = c.loop-place-test.true in
     let inside : c.loop-place.place < length c.args.terms.now.items = omega (arith, low, c.len-place-end.ensures) in
     let at = c.index.ensures ∙ get_or_default c.args.terms.now.items c.loop-place.place c.index.result.now [] inside in
@@ -36,49 +32,16 @@ loop-place-preserved g c =
     let low = c.loop-place-test.true in
     let at = c.index.ensures ∙ get_or_default c.args.terms.now.items c.loop-place.place c.index.result.now [] (omega (arith, low, c.len-place-end.ensures)) in
     let fs = first_parts c.args.serializer.now.entries c.args.writers.now c.args.norms.now c.args.terms.now.items c.loop-place.place in
-    let wrote = c.in_ok-serialize_if_any.ensures.wrote c.args.serializer.now.bodies fs (subst (λ es. HasFields es c.args.serializer.now.bodies c.loop-place.serializer.bodies fs) (sym w.2) w.0) in (
-      next_part c.args.serializer.now.entries c.loop-place.serializer.entries c.args.writers.now c.args.norms.now c.args.terms.now.items c.loop-place.place c.from_field_id-field.result c.index.result.now c.args.serializer.now.bodies c.serialize_if_any.new.serializer.bodies
+    let wrote = c.in-Ok.ensures.wrote c.args.serializer.now.bodies fs (subst (λ es. HasFields es c.args.serializer.now.bodies c.loop-place.serializer.bodies fs) (sym w.2) w.0) in (
+      next_part c.args.serializer.now.entries c.loop-place.serializer.entries c.args.writers.now c.args.norms.now c.args.terms.now.items c.loop-place.place c.from_field_id-field.result c.index.result.now c.args.serializer.now.bodies c.serialize_if_any-told.new.serializer.bodies
           w.2 c.from_field_id-field.ensures at wrote,
-      c.in_ok-serialize_if_any.ensures.ends.closes ∙ w.1,
-      c.serialize_if_any.ensures.ends.entries ∙ w.2,
+      c.in-Ok.ensures.ends.closes ∙ w.1,
+      c.serialize_if_any-told.ensures.ends.entries ∙ w.2,
       λ closed.
           (let before = w.3 closed in
-          let stays = c.in_ok-serialize_if_any.ensures.ends.refused (w.1 ∙ closed) in
+          let stays = c.in-Ok.ensures.ends.refused (w.1 ∙ closed) in
           (stays.same ∙ before.0, no_part c.args.serializer.now.entries c.args.writers.now c.args.norms.now c.args.terms.now.items c.loop-place.place c.index.result.now at stays.none before.1)),
     )
-
-pub returns-in_err-serialize_if_any-clause-fault : goal.returns-in_err-serialize_if_any-clause-fault
-returns-in_err-serialize_if_any-clause-fault g c =
-    let p = err_from_is_err_and c.from_residual.result c.from_residual.ensures.1 in
-    let w = c.loop-place.invariant in
-    let low = c.loop-place-test.true in
-    let inside : c.loop-place.place < length c.args.terms.now.items = omega (arith, low, c.len-place-end.ensures) in
-    let at = c.index.ensures ∙ get_or_default c.args.terms.now.items c.loop-place.place c.index.result.now [] inside in
-    let next : IsNextField c.args.serializer.now.entries c.loop-place.serializer.entries c.args.terms.now.items c.loop-place.place c.from_field_id-field.result c.index.result.now = record { schema = w.2; number = c.from_field_id-field.ensures; at = at; some = c.in_err-serialize_if_any.ensures.some; low = inside } in
-    rw (p.1, p.2) (field_fault c.args.serializer.now.entries c.loop-place.serializer.entries c.args.writers.now c.args.norms.now c.args.terms.now.items c.loop-place.place c.from_field_id-field.result c.index.result.now next
-    c.args.serializer.now.bodies c.loop-place.serializer.bodies c.in_err-serialize_if_any.field-0.0 w.0 c.in_err-serialize_if_any.ensures.fault)
-
-pub returns-in_err-serialize_if_any-clause-ends : goal.returns-in_err-serialize_if_any-clause-ends
-returns-in_err-serialize_if_any-clause-ends g c =
-    let p = err_from_is_err_and c.from_residual.result c.from_residual.ensures.1 in
-    let w = c.loop-place.invariant in
-    let low = c.loop-place-test.true in
-    let inside : c.loop-place.place < length c.args.terms.now.items = omega (arith, low, c.len-place-end.ensures) in
-    let at = c.index.ensures ∙ get_or_default c.args.terms.now.items c.loop-place.place c.index.result.now [] inside in
-    let next : IsNextField c.args.serializer.now.entries c.loop-place.serializer.entries c.args.terms.now.items c.loop-place.place c.from_field_id-field.result c.index.result.now = record { schema = w.2; number = c.from_field_id-field.ensures; at = at; some = c.in_err-serialize_if_any.ensures.some; low = inside } in
-    let now = c.loop-place.serializer.bodies in
-    let ends = c.in_err-serialize_if_any.ensures.ends in
-    record {
-      entries = ends.entries ∙ w.2;
-      closes = rw p.1 tt;
-      failures = search rules;
-      grow = AllGrow-trans c.args.serializer.now.bodies now c.serialize_if_any.new.serializer.bodies (fields_grow c.args.serializer.now.entries c.args.serializer.now.bodies now _ w.0) ends.grow;
-      closed = λ is. (
-        sym w.1 ∙ (ends.closed (rw (← p.2) (sym p.1 ∙ is))).0,
-        all_some c.args.serializer.now.entries c.loop-place.serializer.entries c.args.writers.now c.args.norms.now c.args.terms.now.items c.loop-place.place c.from_field_id-field.result c.index.result.now next,
-      );
-      refused = λ closed. (let stays = ends.refused (w.1 ∙ closed) in record { same = stays.same ∙ (w.3 closed).0; none = rw p.1 tt; only = rw (p.1, p.2) stays.only });
-    }
 
 pub returns-clause-ends : goal.returns-clause-ends
 returns-clause-ends g c =
@@ -93,8 +56,30 @@ returns-clause-ends g c =
       refused = λ closed. record { same = (w.3 closed).0; none = subst (λ (n : ℕ). first_parts c.args.serializer.now.entries c.args.writers.now c.args.norms.now c.args.terms.now.items n ≡ []) all (w.3 closed).1; only = tt };
     }
 
-pub serialize_if_any-requires-clause-ascending : goal.serialize_if_any-requires-clause-ascending
-serialize_if_any-requires-clause-ascending g c =
+pub returns-in_default-clause-fault : goal.returns-in_default-clause-fault
+returns-in_default-clause-fault g c =
+    let w = c.loop-place.invariant in
     let low = c.loop-place-test.true in
-    let keys_ascend = λ (ts : List SortedTerm). AreAscending (map (λ (t : SortedTerm). t.key) ts) in
-    subst keys_ascend (sym c.index.ensures) (held_at keys_ascend c.args.terms.now.items c.loop-place.place c.index.result.now (omega (arith, low, c.len-place-end.ensures)) c.requires.ascending)
+    let inside : c.loop-place.place < length c.args.terms.now.items = omega (arith, low, c.len-place-end.ensures) in
+    let at = c.index.ensures ∙ get_or_default c.args.terms.now.items c.loop-place.place c.index.result.now [] inside in
+    let next : IsNextField c.args.serializer.now.entries c.loop-place.serializer.entries c.args.terms.now.items c.loop-place.place c.from_field_id-field.result c.index.result.now = record { schema = w.2; number = c.from_field_id-field.ensures; at = at; some = c.in_default.ensures.some; low = inside } in
+    rw c.in_default.is (field_fault c.args.serializer.now.entries c.loop-place.serializer.entries c.args.writers.now c.args.norms.now c.args.terms.now.items c.loop-place.place c.from_field_id-field.result c.index.result.now next
+    c.args.serializer.now.bodies c.loop-place.serializer.bodies c.in_default.field-0 w.0 c.in_default.ensures.fault)
+
+pub returns-in_default-clause-ends : goal.returns-in_default-clause-ends
+returns-in_default-clause-ends g c =
+    let w = c.loop-place.invariant in
+    let low = c.loop-place-test.true in
+    let inside : c.loop-place.place < length c.args.terms.now.items = omega (arith, low, c.len-place-end.ensures) in
+    let at = c.index.ensures ∙ get_or_default c.args.terms.now.items c.loop-place.place c.index.result.now [] inside in
+    let next : IsNextField c.args.serializer.now.entries c.loop-place.serializer.entries c.args.terms.now.items c.loop-place.place c.from_field_id-field.result c.index.result.now = record { schema = w.2; number = c.from_field_id-field.ensures; at = at; some = c.in_default.ensures.some; low = inside } in
+    let entries = c.args.serializer.now.entries in
+    let parts = first_parts entries c.args.writers.now c.args.norms.now c.args.terms.now.items in
+    rw c.in_default.is (ends_between (parts (length c.args.terms.now.items)) c.index.result.now c.args.serializer.now c.loop-place.serializer c.serialize_if_any-told.new.serializer (parts c.loop-place.place) c.in_default.field-0 w.0 w.1 w.2 (λ closed. (w.3 closed).0)
+    (all_some entries c.loop-place.serializer.entries c.args.writers.now c.args.norms.now c.args.terms.now.items c.loop-place.place c.from_field_id-field.result c.index.result.now next) c.in_default.ensures.ends)
+
+pub returns-in_default-clause-err : goal.returns-in_default-clause-err
+returns-in_default-clause-err g c =
+    let w = c.loop-place.invariant in
+    rw c.in_default.is (stays_between c.args.serializer.now c.loop-place.serializer c.serialize_if_any-told.new.serializer
+    (first_parts c.args.serializer.now.entries c.args.writers.now c.args.norms.now c.args.terms.now.items c.loop-place.place) c.in_default.field-0 w.0 w.1 c.in_default.ensures.err)

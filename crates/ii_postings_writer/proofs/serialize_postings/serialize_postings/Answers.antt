@@ -1,243 +1,82 @@
-use Rattle.std.proofs.Common.{◌≡◌, [], ◌∙◌, ap, sym, subst, length, map, Bool, List, ℕ, arith}
-use Rattle.std.specs.Prelude.{slice_index_or}
-use Rattle.std.specs.List.{AllByRecursion, range_with_len}
-use Rattle.std.proofs.lemmas.List.{length-map}
-use Rattle.std.proofs.lemmas.Result.{IfErr-weaker}
-use Rattle.std.proofs.lemmas.List.FromFn.{length-map-range_with_len}
-use Rattle.ii_recorder.specs.Recorded.{RecorderState}
-use Rattle.ii_termdict.specs.ReadBack.{AreAscending}
+use Rattle.std.proofs.Common.{[], inl, inr, length, ap, refl, arith}
+use Rattle.std.proofs.lemmas.Result.{err_from_is_err_and}
+use Rattle.ii_postings_writer.proofs.FieldEndings.{refused_before}
+use Rattle.ii_postings_writer.proofs.FieldLists.{ascend, count, ends_context, fault_of, had, writable, written, wrote_all, wrote_it}
+use Rattle.ii_postings_writer.proofs.HeldBodies.{wrote_tokens}
+use Rattle.ii_postings_writer.proofs.ResolvedParts.{have_unless}
 use Rattle.ii_postings_writer.specs.ResolvedTerms.{json_fields, resolved_terms}
-use Rattle.ii_postings_writer.specs.SortedTerms.{IsTermBelow, IsWritable, MayBeWritten, SortedTerm, norms_in, terms_in}
-use Rattle.ii_postings_writer.proofs.ContextFaults.{context_fault, no_terms, some_terms}
-use Rattle.ii_postings_writer.proofs.TermIndexLemmas.{on_ok}
-use Rattle.ii_postings_writer.proofs.PartLemmas.{AreLists, wrote_context, wrote_terms}
-use Rattle.ii_postings_writer.proofs.HeldBodies.{IsWritten, wrote_tokens}
-use Rattle.ii_postings_writer.proofs.ResolvedParts.{had_resolved, have_resolved, have_unless, may_be_under_keys, no_resolved, fields_below, resolve, same_keys, sorted_by, whole_keys}
-use Rattle.ii_postings_writer.proofs.SortedLemmas.{all_writable, fields_known, lists_ascend}
 use Rattle.ii_postings_writer.proofs.serialize_postings.serialize_postings.Goals as goal
 
-pub by_field-requires : goal.by_field-requires
-by_field-requires g c =
-    let flags = json_fields c.args.schema.now in
-    let paths = c.args.ctx.path_to_unordered_id in
-    let old = c.args.ctx.term_index in
-    let new = c.in_ok-sorted.sorted in
-    let unlike = c.unordered_id_to_ordered_id.ensures.distinct in
-    let few = c.unordered_id_to_ordered_id.ensures.few in
-    let clean = c.requires.terms.clean in
-    let moved = c.in_ok-sorted.ensures.moved in
-    let sorted = sorted_by flags paths old new c.deref.result.now c.deref-2.result.now unlike clean (c.deref.ensures.value ∙ c.in_ok-flags.ensures.ok) (c.deref-2.ensures.value ∙ c.in_ok-ranks.ensures.ranks) c.requires.terms.ids c.in_ok-sorted.ensures.sorted in
-    record { known = subst (λ (n : ℕ). AllByRecursion (IsTermBelow n) new) (sym c.num_fields.ensures.value) (fields_below flags paths unlike clean few old new moved sorted (length c.args.schema.now) c.args.fieldnorm_readers.now c.requires.terms.may) }
+pub field_terms-requires : goal.field_terms-requires
+field_terms-requires g c = record { terms = (c.args.fieldnorm_readers.now, c.requires.terms) }
 
-pub serialize_fields-requires-clause-known : goal.serialize_fields-requires-clause-known
-serialize_fields-requires-clause-known g c =
-    let paths = c.args.ctx.path_to_unordered_id in
-    let lists = ap length c.in_ok-terms.ensures.ok ∙ length-map-range_with_len (λ (field : ℕ). terms_in field (resolved_terms c.deref-3.result.now paths c.in_ok-sorted.sorted)) 0 c.num_fields.result in
-    omega (arith, lists, c.num_fields.ensures.value, ap length c.requires.schema)
+pub serialize_fields-told-requires-clause-known : goal.serialize_fields-told-requires-clause-known
+serialize_fields-told-requires-clause-known g c =
+    omega (arith, count c.args.serializer.now c.args.schema.now c.requires.schema c.args.fieldnorm_readers.now c.args.ctx.path_to_unordered_id c.args.ctx.term_index c.in_ok-terms.terms.items c.requires.terms c.in_ok-terms.ensures.ok)
 
-pub serialize_fields-requires-clause-few : goal.serialize_fields-requires-clause-few
-serialize_fields-requires-clause-few g c =
-    let paths = c.args.ctx.path_to_unordered_id in
-    let lists = ap length c.in_ok-terms.ensures.ok ∙ length-map-range_with_len (λ (field : ℕ). terms_in field (resolved_terms c.deref-3.result.now paths c.in_ok-sorted.sorted)) 0 c.num_fields.result in
-    omega (arith, lists, c.num_fields.ensures.bound)
+pub serialize_fields-told-requires-clause-few : goal.serialize_fields-told-requires-clause-few
+serialize_fields-told-requires-clause-few g c =
+    omega (arith, count c.args.serializer.now c.args.schema.now c.requires.schema c.args.fieldnorm_readers.now c.args.ctx.path_to_unordered_id c.args.ctx.term_index c.in_ok-terms.terms.items c.requires.terms c.in_ok-terms.ensures.ok, ap length c.requires.schema, c.in_ok-terms.ensures.ok.few_fields)
 
-pub serialize_fields-requires-clause-writers : goal.serialize_fields-requires-clause-writers
-serialize_fields-requires-clause-writers g c =
-    let paths = c.args.ctx.path_to_unordered_id in
-    let lists = ap length c.in_ok-terms.ensures.ok ∙ length-map-range_with_len (λ (field : ℕ). terms_in field (resolved_terms c.deref-3.result.now paths c.in_ok-sorted.sorted)) 0 c.num_fields.result in
-    omega (arith, lists, c.num_fields.ensures.value, c.requires.writers)
+pub serialize_fields-told-requires-clause-writers : goal.serialize_fields-told-requires-clause-writers
+serialize_fields-told-requires-clause-writers g c =
+    omega (arith, count c.args.serializer.now c.args.schema.now c.requires.schema c.args.fieldnorm_readers.now c.args.ctx.path_to_unordered_id c.args.ctx.term_index c.in_ok-terms.terms.items c.requires.terms c.in_ok-terms.ensures.ok, ap length c.requires.schema, c.requires.writers)
 
-pub serialize_fields-requires-clause-ascending : goal.serialize_fields-requires-clause-ascending
-serialize_fields-requires-clause-ascending g c =
-    let flags = json_fields c.args.schema.now in
-    let paths = c.args.ctx.path_to_unordered_id in
-    let old = c.args.ctx.term_index in
-    let new = c.in_ok-sorted.sorted in
-    let unlike = c.unordered_id_to_ordered_id.ensures.distinct in
-    let few = c.unordered_id_to_ordered_id.ensures.few in
-    let clean = c.requires.terms.clean in
-    let moved = c.in_ok-sorted.ensures.moved in
-    let sorted = sorted_by flags paths old new c.deref.result.now c.deref-2.result.now unlike clean (c.deref.ensures.value ∙ c.in_ok-flags.ensures.ok) (c.deref-2.ensures.value ∙ c.in_ok-ranks.ensures.ranks) c.requires.terms.ids c.in_ok-sorted.ensures.sorted in
-    let keyed = resolved_terms flags paths new in
-    let many = c.num_fields.result in
-    let are = c.in_ok-terms.ensures.ok ∙ ap (λ (fs : List Bool). map (λ (field : ℕ). terms_in field (resolved_terms fs paths new)) (range_with_len 0 many)) (c.deref-3.ensures.value ∙ c.in_ok-flags.ensures.ok) in
-    subst (AllByRecursion (λ (ts : List SortedTerm). AreAscending (map (λ (t : SortedTerm). t.key) ts))) (sym are) (lists_ascend 0 many keyed (whole_keys flags paths unlike clean few old new moved sorted) sorted.ascending)
+pub serialize_fields-told-requires-clause-ascending : goal.serialize_fields-told-requires-clause-ascending
+serialize_fields-told-requires-clause-ascending g c =
+    ascend c.args.serializer.now c.args.schema.now c.requires.schema c.args.fieldnorm_readers.now c.args.ctx.path_to_unordered_id c.args.ctx.term_index c.in_ok-terms.terms.items c.requires.terms c.in_ok-terms.ensures.ok
 
-pub serialize_fields-requires-clause-writable : goal.serialize_fields-requires-clause-writable
-serialize_fields-requires-clause-writable g c field inside =
-    let flags = json_fields c.args.schema.now in
-    let paths = c.args.ctx.path_to_unordered_id in
-    let old = c.args.ctx.term_index in
-    let new = c.in_ok-sorted.sorted in
-    let unlike = c.unordered_id_to_ordered_id.ensures.distinct in
-    let few = c.unordered_id_to_ordered_id.ensures.few in
-    let clean = c.requires.terms.clean in
-    let moved = c.in_ok-sorted.ensures.moved in
-    let sorted = sorted_by flags paths old new c.deref.result.now c.deref-2.result.now unlike clean (c.deref.ensures.value ∙ c.in_ok-flags.ensures.ok) (c.deref-2.ensures.value ∙ c.in_ok-ranks.ensures.ranks) c.requires.terms.ids c.in_ok-sorted.ensures.sorted in
-    let keyed = resolved_terms flags paths new in
-    let many = c.num_fields.result in
-    let are = c.in_ok-terms.ensures.ok ∙ ap (λ (fs : List Bool). map (λ (field : ℕ). terms_in field (resolved_terms fs paths new)) (range_with_len 0 many)) (c.deref-3.ensures.value ∙ c.in_ok-flags.ensures.ok) in
-    let readers = c.args.fieldnorm_readers.now in
-    let count : length c.in_ok-terms.terms.items ≡ many = ap length are ∙ length-map-range_with_len (λ (f : ℕ). terms_in f keyed) 0 many in
-    subst (λ (lists : List (List SortedTerm)). AllByRecursion (IsWritable (norms_in readers field)) (slice_index_or lists field [])) (sym are)
-    (all_writable (length c.args.schema.now) many field readers keyed (may_be_under_keys flags paths unlike clean few old new moved sorted (length c.args.schema.now) readers c.requires.terms.may) (omega (arith, count, inside)))
+pub serialize_fields-told-requires-clause-writable : goal.serialize_fields-told-requires-clause-writable
+serialize_fields-told-requires-clause-writable g c =
+    writable c.args.serializer.now c.args.schema.now c.requires.schema c.args.fieldnorm_readers.now c.args.ctx.path_to_unordered_id c.args.ctx.term_index c.in_ok-terms.terms.items c.requires.terms c.in_ok-terms.ensures.ok
 
 pub returns-clause-wrote : goal.returns-clause-wrote
 returns-clause-wrote g c =
-    let flags = json_fields c.args.schema.now in
-    let paths = c.args.ctx.path_to_unordered_id in
-    let old = c.args.ctx.term_index in
-    let new = c.in_ok-sorted.sorted in
-    let unlike = c.unordered_id_to_ordered_id.ensures.distinct in
-    let few = c.unordered_id_to_ordered_id.ensures.few in
-    let clean = c.requires.terms.clean in
-    let moved = c.in_ok-sorted.ensures.moved in
-    let sorted = sorted_by flags paths old new c.deref.result.now c.deref-2.result.now unlike clean (c.deref.ensures.value ∙ c.in_ok-flags.ensures.ok) (c.deref-2.ensures.value ∙ c.in_ok-ranks.ensures.ranks) c.requires.terms.ids c.in_ok-sorted.ensures.sorted in
-    let keyed = resolved_terms flags paths new in
-    let many = c.num_fields.result in
-    let are = c.in_ok-terms.ensures.ok ∙ ap (λ (fs : List Bool). map (λ (field : ℕ). terms_in field (resolved_terms fs paths new)) (range_with_len 0 many)) (c.deref-3.ensures.value ∙ c.in_ok-flags.ensures.ok) in
-    let terms = resolved_terms flags paths old in
-    let first = c.args.serializer.now in
-    let last = c.serialize_fields.new.serializer in
-    let writers = c.args.per_field_postings_writers.now in
-    let fields = c.in_ok-terms.terms.items in
-    let lists : AreLists (length first.entries) terms keyed fields = record {
-      same = same_keys flags paths unlike clean few old new moved sorted;
-      ascending = sorted.ascending;
-      whole = whole_keys flags paths unlike clean few old new moved sorted;
-      are = are ∙ ap (λ (m : ℕ). map (λ (field : ℕ). terms_in field keyed) (range_with_len 0 m)) (c.num_fields.ensures.value ∙ ap length c.requires.schema);
-    } in
-    wrote_context c.serialize_fields.result first last writers c.args.fieldnorm_readers.now terms keyed (wrote_terms c.serialize_fields.result first last writers c.args.fieldnorm_readers.now terms keyed fields lists c.serialize_fields.ensures.wrote)
+    wrote_it c.args.serializer.now c.args.schema.now c.requires.schema c.args.fieldnorm_readers.now c.args.ctx.path_to_unordered_id c.args.ctx.term_index c.in_ok-terms.terms.items c.requires.terms c.in_ok-terms.ensures.ok c.args.per_field_postings_writers.now
+    c.serialize_fields-told.result c.serialize_fields-told.new.serializer c.serialize_fields-told.ensures.wrote
 
 pub returns-clause-holds : goal.returns-clause-holds
 returns-clause-holds g c ts has =
-    let flags = json_fields c.args.schema.now in
+    let first = c.args.serializer.now in
+    let schema = c.args.schema.now in
+    let readers = c.args.fieldnorm_readers.now in
     let paths = c.args.ctx.path_to_unordered_id in
     let old = c.args.ctx.term_index in
-    let new = c.in_ok-sorted.sorted in
-    let unlike = c.unordered_id_to_ordered_id.ensures.distinct in
-    let few = c.unordered_id_to_ordered_id.ensures.few in
-    let clean = c.requires.terms.clean in
-    let moved = c.in_ok-sorted.ensures.moved in
-    let sorted = sorted_by flags paths old new c.deref.result.now c.deref-2.result.now unlike clean (c.deref.ensures.value ∙ c.in_ok-flags.ensures.ok) (c.deref-2.ensures.value ∙ c.in_ok-ranks.ensures.ranks) c.requires.terms.ids c.in_ok-sorted.ensures.sorted in
-    let keyed = resolved_terms flags paths new in
-    let many = c.num_fields.result in
-    let are = c.in_ok-terms.ensures.ok ∙ ap (λ (fs : List Bool). map (λ (field : ℕ). terms_in field (resolved_terms fs paths new)) (range_with_len 0 many)) (c.deref-3.ensures.value ∙ c.in_ok-flags.ensures.ok) in
-    let terms = resolved_terms flags paths old in
-    let first = c.args.serializer.now in
-    let last = c.serialize_fields.new.serializer in
-    let writers = c.args.per_field_postings_writers.now in
     let fields = c.in_ok-terms.terms.items in
-    let lists : AreLists (length first.entries) terms keyed fields = record {
-      same = same_keys flags paths unlike clean few old new moved sorted;
-      ascending = sorted.ascending;
-      whole = whole_keys flags paths unlike clean few old new moved sorted;
-      are = are ∙ ap (λ (m : ℕ). map (λ (field : ℕ). terms_in field keyed) (range_with_len 0 m)) (c.num_fields.ensures.value ∙ ap length c.requires.schema);
-    } in
-    let may = subst (λ (n : ℕ). AllByRecursion (λ (t : List ℕ × RecorderState). MayBeWritten n c.args.fieldnorm_readers.now t.0 t.1) keyed) (ap length c.requires.schema) (may_be_under_keys flags paths unlike clean few old new moved sorted (length c.args.schema.now) c.args.fieldnorm_readers.now c.requires.terms.may) in
-    let written : IsWritten first.entries writers c.args.fieldnorm_readers.now keyed ts = record {
-      few = omega (arith, c.num_fields.ensures.value, c.num_fields.ensures.bound, ap length c.requires.schema);
-      whole = lists.whole;
-      ascending = sorted.ascending;
-      may = may;
-      tokens = have_resolved flags paths unlike clean few old new moved sorted first.entries writers ts (ap json_fields (sym c.requires.schema)) has;
-    } in
-    wrote_tokens c.serialize_fields.result c.reads_entries_back.ensures c.reads_uncounted_term_back.ensures first last writers c.args.fieldnorm_readers.now terms keyed ts written
-    (wrote_terms c.serialize_fields.result first last writers c.args.fieldnorm_readers.now terms keyed fields lists c.serialize_fields.ensures.wrote)
+    let are = c.in_ok-terms.ensures.ok in
+    let writers = c.args.per_field_postings_writers.now in
+    let last = c.serialize_fields-told.new.serializer in
+    let result = c.serialize_fields-told.result in
+    wrote_tokens result c.reads_entries_back.ensures c.reads_uncounted_term_back.ensures first last writers readers (resolved_terms (json_fields schema) paths old) (resolved_terms (json_fields schema) paths are.sorted) ts
+    (written first schema c.requires.schema readers paths old fields c.requires.terms are writers ts has)
+    (wrote_all first schema c.requires.schema readers paths old fields c.requires.terms are writers result last c.serialize_fields-told.ensures.wrote)
 
 pub returns-clause-tokens : goal.returns-clause-tokens
 returns-clause-tokens g c ts has =
-    let flags = json_fields c.args.schema.now in
-    let paths = c.args.ctx.path_to_unordered_id in
-    let old = c.args.ctx.term_index in
-    let new = c.in_ok-sorted.sorted in
-    let unlike = c.unordered_id_to_ordered_id.ensures.distinct in
-    let few = c.unordered_id_to_ordered_id.ensures.few in
-    let clean = c.requires.terms.clean in
-    let moved = c.in_ok-sorted.ensures.moved in
-    let sorted = sorted_by flags paths old new c.deref.result.now c.deref-2.result.now unlike clean (c.deref.ensures.value ∙ c.in_ok-flags.ensures.ok) (c.deref-2.ensures.value ∙ c.in_ok-ranks.ensures.ranks) c.requires.terms.ids c.in_ok-sorted.ensures.sorted in
-    let keyed = resolved_terms flags paths new in
-    let many = c.num_fields.result in
-    let are = c.in_ok-terms.ensures.ok ∙ ap (λ (fs : List Bool). map (λ (field : ℕ). terms_in field (resolved_terms fs paths new)) (range_with_len 0 many)) (c.deref-3.ensures.value ∙ c.in_ok-flags.ensures.ok) in
-    let terms = resolved_terms flags paths old in
-    let first = c.args.serializer.now in
-    let last = c.serialize_fields.new.serializer in
-    let writers = c.args.per_field_postings_writers.now in
-    let fields = c.in_ok-terms.terms.items in
-    let lists : AreLists (length first.entries) terms keyed fields = record {
-      same = same_keys flags paths unlike clean few old new moved sorted;
-      ascending = sorted.ascending;
-      whole = whole_keys flags paths unlike clean few old new moved sorted;
-      are = are ∙ ap (λ (m : ℕ). map (λ (field : ℕ). terms_in field keyed) (range_with_len 0 m)) (c.num_fields.ensures.value ∙ ap length c.requires.schema);
-    } in
-    have_unless _ c.serialize_fields.result (had_resolved flags paths unlike clean few old new moved sorted first.entries writers ts (ap json_fields (sym c.requires.schema)) has)
+    have_unless _ c.serialize_fields-told.result
+    (had c.args.serializer.now c.args.schema.now c.requires.schema c.args.fieldnorm_readers.now c.args.ctx.path_to_unordered_id c.args.ctx.term_index c.in_ok-terms.terms.items c.requires.terms c.in_ok-terms.ensures.ok c.args.per_field_postings_writers.now ts has)
 
 pub returns-clause-fault : goal.returns-clause-fault
 returns-clause-fault g c =
-    let flags = json_fields c.args.schema.now in
-    let paths = c.args.ctx.path_to_unordered_id in
-    let old = c.args.ctx.term_index in
-    let new = c.in_ok-sorted.sorted in
-    let unlike = c.unordered_id_to_ordered_id.ensures.distinct in
-    let few = c.unordered_id_to_ordered_id.ensures.few in
-    let clean = c.requires.terms.clean in
-    let moved = c.in_ok-sorted.ensures.moved in
-    let sorted = sorted_by flags paths old new c.deref.result.now c.deref-2.result.now unlike clean (c.deref.ensures.value ∙ c.in_ok-flags.ensures.ok) (c.deref-2.ensures.value ∙ c.in_ok-ranks.ensures.ranks) c.requires.terms.ids c.in_ok-sorted.ensures.sorted in
-    let keyed = resolved_terms flags paths new in
-    let many = c.num_fields.result in
-    let are = c.in_ok-terms.ensures.ok ∙ ap (λ (fs : List Bool). map (λ (field : ℕ). terms_in field (resolved_terms fs paths new)) (range_with_len 0 many)) (c.deref-3.ensures.value ∙ c.in_ok-flags.ensures.ok) in
-    let terms = resolved_terms flags paths old in
-    let first = c.args.serializer.now in
-    let last = c.serialize_fields.new.serializer in
-    let writers = c.args.per_field_postings_writers.now in
-    let fields = c.in_ok-terms.terms.items in
-    let lists : AreLists (length first.entries) terms keyed fields = record {
-      same = same_keys flags paths unlike clean few old new moved sorted;
-      ascending = sorted.ascending;
-      whole = whole_keys flags paths unlike clean few old new moved sorted;
-      are = are ∙ ap (λ (m : ℕ). map (λ (field : ℕ). terms_in field keyed) (range_with_len 0 m)) (c.num_fields.ensures.value ∙ ap length c.requires.schema);
-    } in
-    IfErr-weaker c.serialize_fields.result _ _ (λ e fault. context_fault first writers c.args.fieldnorm_readers.now terms keyed fields e lists fault) c.serialize_fields.ensures.fault
+    fault_of c.args.serializer.now c.args.schema.now c.requires.schema c.args.fieldnorm_readers.now c.args.ctx.path_to_unordered_id c.args.ctx.term_index c.in_ok-terms.terms.items c.requires.terms c.in_ok-terms.ensures.ok c.args.per_field_postings_writers.now
+    c.serialize_fields-told.result c.serialize_fields-told.new.serializer c.serialize_fields-told.ensures.fault
 
 pub returns-clause-ends : goal.returns-clause-ends
 returns-clause-ends g c =
-    let flags = json_fields c.args.schema.now in
-    let paths = c.args.ctx.path_to_unordered_id in
-    let old = c.args.ctx.term_index in
-    let new = c.in_ok-sorted.sorted in
-    let unlike = c.unordered_id_to_ordered_id.ensures.distinct in
-    let few = c.unordered_id_to_ordered_id.ensures.few in
-    let clean = c.requires.terms.clean in
-    let moved = c.in_ok-sorted.ensures.moved in
-    let sorted = sorted_by flags paths old new c.deref.result.now c.deref-2.result.now unlike clean (c.deref.ensures.value ∙ c.in_ok-flags.ensures.ok) (c.deref-2.ensures.value ∙ c.in_ok-ranks.ensures.ranks) c.requires.terms.ids c.in_ok-sorted.ensures.sorted in
-    let keyed = resolved_terms flags paths new in
-    let many = c.num_fields.result in
-    let are = c.in_ok-terms.ensures.ok ∙ ap (λ (fs : List Bool). map (λ (field : ℕ). terms_in field (resolved_terms fs paths new)) (range_with_len 0 many)) (c.deref-3.ensures.value ∙ c.in_ok-flags.ensures.ok) in
-    let terms = resolved_terms flags paths old in
-    let first = c.args.serializer.now in
-    let last = c.serialize_fields.new.serializer in
-    let writers = c.args.per_field_postings_writers.now in
-    let fields = c.in_ok-terms.terms.items in
-    let lists : AreLists (length first.entries) terms keyed fields = record {
-      same = same_keys flags paths unlike clean few old new moved sorted;
-      ascending = sorted.ascending;
-      whole = whole_keys flags paths unlike clean few old new moved sorted;
-      are = are ∙ ap (λ (m : ℕ). map (λ (field : ℕ). terms_in field keyed) (range_with_len 0 m)) (c.num_fields.ensures.value ∙ ap length c.requires.schema);
-    } in
-    let may = subst (λ (n : ℕ). AllByRecursion (λ (t : List ℕ × RecorderState). MayBeWritten n c.args.fieldnorm_readers.now t.0 t.1) keyed) (ap length c.requires.schema) (may_be_under_keys flags paths unlike clean few old new moved sorted (length c.args.schema.now) c.args.fieldnorm_readers.now c.requires.terms.may) in
-    let ends = c.serialize_fields.ensures.ends in
-    let none = no_terms first.entries writers c.args.fieldnorm_readers.now (length first.entries) terms keyed fields lists (fields_known (length first.entries) c.args.fieldnorm_readers.now keyed may) in
-    record {
-      entries = ends.entries;
-      closes = ends.closes;
-      failures = ends.failures;
-      grow = ends.grow;
-      closed = λ is. (let closed = ends.closed is in (closed.0, omega (arith, some_terms first.entries writers c.args.fieldnorm_readers.now (length first.entries) terms keyed fields lists closed.1, length-map old (resolve flags paths))));
-      refused = λ closed.
-          (let stays = ends.refused closed in
-          record {
-            same = stays.same;
-            none = on_ok c.serialize_fields.result _ _ (λ empty. no_resolved flags paths old (none empty)) stays.none;
-            only = stays.only;
-          });
-    }
+    ends_context c.args.serializer.now c.args.schema.now c.requires.schema c.args.fieldnorm_readers.now c.args.ctx.path_to_unordered_id c.args.ctx.term_index c.in_ok-terms.terms.items c.requires.terms c.in_ok-terms.ensures.ok c.args.per_field_postings_writers.now
+    c.serialize_fields-told.result c.serialize_fields-told.new.serializer c.serialize_fields-told.ensures.ends
+
+pub returns-in_err-terms-clause-ends : goal.returns-in_err-terms-clause-ends
+returns-in_err-terms-clause-ends g c =
+    let p = err_from_is_err_and c.from_residual.result c.from_residual.ensures.1 in
+    rw (p.1, p.2) (refused_before c.args.ctx.term_index c.args.serializer.now c.args.serializer.now c.in_err-terms.field-0.0 c.in_err-terms.ensures.only)
+
+pub returns-in_err-terms-clause-err : goal.returns-in_err-terms-clause-err
+returns-in_err-terms-clause-err g c =
+    let p = err_from_is_err_and c.from_residual.result c.from_residual.ensures.1 in
+    rw (p.1, p.2) (inr (c.in_err-terms.ensures.only, record { fs = []; fields = c.requires.fresh; closed = refl }))
+
+pub returns-in_err-terms-clause-fault : goal.returns-in_err-terms-clause-fault
+returns-in_err-terms-clause-fault g c =
+    let p = err_from_is_err_and c.from_residual.result c.from_residual.ensures.1 in
+    rw (p.1, p.2) (inl c.in_err-terms.ensures.only)

@@ -1,5 +1,5 @@
-use Rattle.std.proofs.lemmas.List.{replicate_more}
 use Rattle.std.proofs.Common.{[]}
+use Rattle.std.proofs.lemmas.List.{replicate_more}
 use Rattle.ii_postings_writer.proofs.sorted_terms.no_terms.Goals as goal
 
 pub loop-field-preserved : goal.loop-field-preserved
