@@ -125,7 +125,10 @@ fn find_parts(
     };
     match find(alloc, index, other) {
         Ok(other) => Ok((first, other)),
-        Err(fault) => Err(fault),
+        Err(fault) => {
+            drop(first);
+            Err(fault)
+        }
     }
 }
 
@@ -164,7 +167,10 @@ fn find_phrase(
     };
     match phrase_parts(alloc, index, others) {
         Ok(others) => Ok(QueryCursor::one(TermOrPhrase::Phrase(PhraseMatch::new(first, others)))),
-        Err(fault) => Err(fault),
+        Err(fault) => {
+            drop(first);
+            Err(fault)
+        }
     }
 }
 

@@ -1,6 +1,7 @@
 //! Looking into every list of the files of an index, whatever they hold.
 use crate::faults::AnswerFault;
 use crate::keys::push_key;
+use bytes::Bytes;
 use ii_base::{Field, FieldEntry, Part, Schema};
 use ii_damage::{OpenedField, StrayTerm, Walk, WalkedFiles};
 use ii_fieldnorm::{FieldNormReader, fieldnorm_to_id};
@@ -78,11 +79,24 @@ pub fn check<W: Write>(
 ) -> Result<Checked, AnswerFault> {
     let num_docs = stored.num_docs;
     let files = WalkedFiles::open(alloc, stored)?;
+    let checked = check_files(alloc, out, schema, &files, num_docs);
+    drop(files);
+    checked
+}
+
+// Walks those of files that are open.
+fn check_files<W: Write>(
+    alloc: Global,
+    out: &mut W,
+    schema: &Schema,
+    files: &WalkedFiles,
+    num_docs: u32,
+) -> Result<Checked, AnswerFault> {
     let mut checked = Checked::nothing();
-    check_tables(out, &files, &mut checked)?;
+    check_tables(out, files, &mut checked)?;
     for (field, entry) in schema.fields() {
         let walked = WalkedField {
-            files: &files,
+            files,
             field,
             entry,
             num_docs,
@@ -142,15 +156,49 @@ impl WalkedField<'_> {
                 return self.tell(out, checked, kind, None, Damage::Part(part), place);
             }
         };
+        let told = self.check_lists(alloc, out, checked, &reader);
+        drop(reader);
+        told
+    }
+
+    // Walks the lists that a reader has.
+    fn check_lists<W: Write>(
+        &self,
+        alloc: Global,
+        out: &mut W,
+        checked: &mut Checked,
+        reader: &InvertedIndexReader,
+    ) -> Result<(), AnswerFault> {
         let mut walk = Walk::new(alloc, self.num_docs)?;
-        let damaged = walk.walk_terms(alloc, &reader)?;
-        checked.add(reader.terms().num_terms(), &walk);
-        self.tell_terms(alloc, out, checked, &reader, &damaged, &walk.strays)?;
+        let told = match walk.walk_terms(alloc, reader) {
+            Ok(damaged) => {
+                let told = self.tell_walk(alloc, out, checked, reader, &damaged, &walk);
+                drop(damaged);
+                told
+            }
+            Err(fault) => Err(AnswerFault::from(fault)),
+        };
+        drop(walk);
+        told
+    }
+
+    // Tells what was wrong with lists that were walked, and compares the norms with them.
+    fn tell_walk<W: Write>(
+        &self,
+        alloc: Global,
+        out: &mut W,
+        checked: &mut Checked,
+        reader: &InvertedIndexReader,
+        damaged: &[DamagedTerm],
+        walk: &Walk,
+    ) -> Result<(), AnswerFault> {
+        checked.add(reader.terms().num_terms(), walk);
+        self.tell_terms(alloc, out, checked, reader, damaged, &walk.strays)?;
         if !damaged.is_empty() || !walk.strays.is_empty() || !self.is_walked() {
             return Ok(());
         }
-        self.check_tokens(out, checked, &reader, walk.tokens)?;
-        self.check_norms(out, checked, &reader, &walk.counts)
+        self.check_tokens(out, checked, reader, walk.tokens)?;
+        self.check_norms(out, checked, reader, &walk.counts)
     }
 
     // Whether no table hides lists of the field.
@@ -266,10 +314,7 @@ impl WalkedField<'_> {
         let body = file.place(self.field);
         let damage = match file.body(self.field)? {
             None => Some(Damage::NoNorms),
-            Some(ids) => match FieldNormReader::open(ids) {
-                Ok(norms) => first_damage(&norms, counts, reader.record_option().has_freq()),
-                Err(_) => Some(Damage::Part(Part::FieldNorms)),
-            },
+            Some(ids) => norms_damage(ids, counts, reader.record_option().has_freq()),
         };
         let Some(damage) = damage else {
             return Ok(());
@@ -304,6 +349,18 @@ impl WalkedField<'_> {
 // A range of bytes that begins at a place.
 fn within(start: u64, range: &Range<usize>) -> Range<u64> {
     start.saturating_add(range.start as u64)..start.saturating_add(range.end as u64)
+}
+
+// What is wrong with these bytes as the norms of a field whose documents have these numbers of tokens.
+fn norms_damage(ids: Bytes, counts: &Vec<u32>, is_counted: bool) -> Option<Damage> {
+    match FieldNormReader::open(ids) {
+        Ok(norms) => {
+            let damage = first_damage(&norms, counts, is_counted);
+            drop(norms);
+            damage
+        }
+        Err(_) => Some(Damage::Part(Part::FieldNorms)),
+    }
 }
 
 // What is wrong with the norms of a field whose documents have these numbers of tokens.

@@ -80,7 +80,9 @@ pub fn first_docs(
         Ok(cursor) => cursor,
         Err(fault) => return Err(fault),
     };
-    match take_docs(alloc, &mut cursor, limit) {
+    let docs = take_docs(alloc, &mut cursor, limit);
+    drop(cursor);
+    match docs {
         Ok(docs) => Ok(docs),
         Err(fault) => Err(fault),
     }
@@ -215,7 +217,9 @@ fn places_of_term(
         Ok(cursor) => cursor,
         Err(fault) => return Err(fault),
     };
-    match places_in(alloc, &mut cursor, docs) {
+    let positions = places_in(alloc, &mut cursor, docs);
+    drop(cursor);
+    match positions {
         Ok(positions) => Ok(TermPlaces { positions }),
         Err(fault) => Err(fault),
     }

@@ -6,6 +6,8 @@ use crate::keys::push_key;
 use crate::opened::Opened;
 use ii_base::{Fault, Field, IndexRecordOption};
 use ii_docset::{DocId, DocSet, TERMINATED};
+use ii_reader::InvertedIndexReader;
+use ii_termdict::TermInfo;
 use std::alloc::Global;
 
 // The name of the field whose values are ids.
@@ -74,10 +76,23 @@ fn fill_ids(
         };
         text.clear();
         push_key(&mut text, value_type, key)?;
-        let mut cursor = reader.read_postings_from_terminfo(&info, IndexRecordOption::Basic)?;
-        ids.put(&mut cursor, docs, text.as_str())?;
+        put_term(reader, &info, docs, text.as_str(), ids)?;
     }
     Ok(())
+}
+
+// Puts a term beside the documents that have it.
+fn put_term(
+    reader: &InvertedIndexReader,
+    info: &TermInfo,
+    docs: &[DocId],
+    text: &str,
+    ids: &mut Ids,
+) -> Result<(), Fault> {
+    let mut cursor = reader.read_postings_from_terminfo(info, IndexRecordOption::Basic)?;
+    let put = ids.put(&mut cursor, docs, text);
+    drop(cursor);
+    put
 }
 
 impl Ids {

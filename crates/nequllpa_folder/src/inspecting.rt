@@ -8,7 +8,7 @@ use crate::keys::{push_key, push_path};
 use crate::opened::Opened;
 use ii_base::{Field, FieldEntry, IndexRecordOption, Term, ValueType};
 use ii_docset::{DocSet, Postings, TERMINATED};
-use ii_reader::{InvertedIndexReader, SegmentPostings};
+use ii_reader::{InvertedIndexFieldSpace, InvertedIndexReader, SegmentPostings};
 use ii_search::{Query, count};
 use std::alloc::Global;
 use std::io::Write;
@@ -90,10 +90,26 @@ fn write_top<W: Write>(
 ) -> Result<(), AnswerFault>
     requires { field < length opened.now.schema }
 {
-    let value_type = opened.entry(field).value_type();
-    let dictionary = opened.reader(field).terms();
     let mut ranks = chosen(alloc, opened, field, prefix)?;
     ranks.sort_unstable();
+    let written = write_ranks(alloc, out, opened, field, &ranks, top);
+    drop(ranks);
+    written
+}
+
+// Writes the first terms of these.
+fn write_ranks<W: Write>(
+    alloc: Global,
+    out: &mut W,
+    opened: &Opened,
+    field: Field,
+    ranks: &[(u32, u64)],
+    top: usize,
+) -> Result<(), AnswerFault>
+    requires { field < length opened.now.schema }
+{
+    let value_type = opened.entry(field).value_type();
+    let dictionary = opened.reader(field).terms();
     let mut text = String::new(alloc);
     for (others, ord) in ranks.iter().take(top) {
         if *ord >= dictionary.num_terms() as u64 {
@@ -147,15 +163,30 @@ pub fn write_postings<W: Write>(
     let Some(mut cursor) = reader.read_postings(term, requested)? else {
         return Ok(false);
     };
+    let written = write_all_postings(alloc, out, &mut cursor, requested);
+    drop(cursor);
+    match written {
+        Ok(()) => Ok(true),
+        Err(fault) => Err(fault),
+    }
+}
+
+// Writes the documents that a cursor has left.
+fn write_all_postings<W: Write>(
+    alloc: Global,
+    out: &mut W,
+    cursor: &mut SegmentPostings,
+    requested: IndexRecordOption,
+) -> Result<(), AnswerFault> {
     let mut positions = Vec::new(alloc);
     for _ in 0..cursor.doc_freq() {
         if cursor.doc() >= TERMINATED {
-            return Ok(true);
+            return Ok(());
         }
-        write_posting(out, &mut cursor, requested, &mut positions)?;
+        write_posting(out, cursor, requested, &mut positions)?;
         cursor.advance();
     }
-    Ok(true)
+    Ok(())
 }
 
 // What is read of a term.
@@ -231,18 +262,28 @@ fn write_settings<W: Write>(out: &mut W, entry: &FieldEntry) -> Result<(), Answe
         write!(out, " not indexed")?;
         return Ok(());
     }
-    match entry.index_record_option() {
-        IndexRecordOption::Basic => write!(out, " basic")?,
-        IndexRecordOption::WithFreqs => write!(out, " freq")?,
-        IndexRecordOption::WithFreqsAndPositions => write!(out, " position")?,
-    }
-    if entry.has_fieldnorms() {
-        write!(out, " fieldnorms")?;
-    }
-    if entry.expands_dots() {
-        write!(out, " expand_dots")?;
-    }
+    let option = option_name(entry.index_record_option());
+    let norms = if entry.has_fieldnorms() {
+        " fieldnorms"
+    } else {
+        ""
+    };
+    let dots = if entry.expands_dots() {
+        " expand_dots"
+    } else {
+        ""
+    };
+    write!(out, " {option}{norms}{dots}")?;
     Ok(())
+}
+
+// The name of what is recorded in a schema's text.
+fn option_name(option: IndexRecordOption) -> &'static str {
+    match option {
+        IndexRecordOption::Basic => "basic",
+        IndexRecordOption::WithFreqs => "freq",
+        IndexRecordOption::WithFreqsAndPositions => "position",
+    }
 }
 
 // Writes a line for each path and type of a JSON field.
@@ -252,8 +293,19 @@ fn write_paths<W: Write>(
     reader: &InvertedIndexReader,
 ) -> Result<(), AnswerFault> {
     let spaces = reader.list_encoded_json_fields(alloc)?;
+    let written = write_spaces(alloc, out, &spaces);
+    drop(spaces);
+    written
+}
+
+// Writes a line for each of these.
+fn write_spaces<W: Write>(
+    alloc: Global,
+    out: &mut W,
+    spaces: &[InvertedIndexFieldSpace],
+) -> Result<(), AnswerFault> {
     let mut text = String::new(alloc);
-    for space in &spaces {
+    for space in spaces {
         text.clear();
         push_path(&mut text, space.field_name.as_slice())?;
         writeln!(

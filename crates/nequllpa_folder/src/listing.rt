@@ -7,7 +7,7 @@ use crate::finding::{FoundPlaces, TermPlaces, find_places, first_docs, wanted_te
 use crate::ids::{Ids, ids_of};
 use crate::keys::push_key;
 use crate::opened::Opened;
-use ii_base::Term;
+use ii_base::{Fault, Term};
 use ii_docset::DocId;
 use ii_search::Query;
 use serde_json::Value;
@@ -41,20 +41,73 @@ pub fn write_listing<W: Write>(
 ) -> Result<bool, AnswerFault>
     requires { has_fields (length opened.now.schema) query.now ≡ true }
 {
-    let found = if how.with_positions {
-        find_places(alloc, opened.index(), query, how.limit)?
-    } else {
-        FoundPlaces {
-            docs: first_docs(alloc, opened.index(), query, how.limit)?,
+    let found = found_of(alloc, opened, query, how)?;
+    let any = !found.docs.is_empty();
+    let written = write_found(alloc, out, opened, query, how, &found);
+    drop(found);
+    match written {
+        Ok(()) => Ok(any),
+        Err(fault) => Err(fault),
+    }
+}
+
+// The documents that match, with where the terms stand in them if that is written.
+fn found_of(
+    alloc: Global,
+    opened: &Opened,
+    query: &Query,
+    how: Listing,
+) -> Result<FoundPlaces, Fault>
+    requires { has_fields (length opened.now.schema) query.now ≡ true }
+{
+    if how.with_positions {
+        return find_places(alloc, opened.index(), query, how.limit);
+    }
+    match first_docs(alloc, opened.index(), query, how.limit) {
+        Ok(docs) => Ok(FoundPlaces {
+            docs,
             places: Vec::new(alloc),
-        }
-    };
+        }),
+        Err(fault) => Err(fault),
+    }
+}
+
+// Writes the documents that were found.
+fn write_found<W: Write>(
+    alloc: Global,
+    out: &mut W,
+    opened: &Opened,
+    query: &Query,
+    how: Listing,
+    found: &FoundPlaces,
+) -> Result<(), AnswerFault> {
     let texts = texts_of(alloc, opened, query)?;
     let ids = if how.by_id {
-        ids_of(alloc, opened, &found.docs)?
+        ids_of(alloc, opened, &found.docs)
     } else {
-        Ids::none(alloc)
+        Ok(Ids::none(alloc))
     };
+    let written = match ids {
+        Ok(ids) => {
+            let written = write_rows(alloc, out, how, found, &texts, &ids);
+            drop(ids);
+            written
+        }
+        Err(fault) => Err(fault),
+    };
+    drop(texts);
+    written
+}
+
+// Writes a line for each document.
+fn write_rows<W: Write>(
+    alloc: Global,
+    out: &mut W,
+    how: Listing,
+    found: &FoundPlaces,
+    texts: &[TermText],
+    ids: &Ids,
+) -> Result<(), AnswerFault> {
     for (place, doc) in found.docs.iter().enumerate() {
         let row = Row {
             doc: *doc,
@@ -62,12 +115,12 @@ pub fn write_listing<W: Write>(
             place,
         };
         if how.as_json {
-            row.write_json(alloc, out, &texts, &found.places, how.with_positions)?;
+            row.write_json(alloc, out, texts, &found.places, how.with_positions)?;
         } else {
-            row.write_words(out, &texts, &found.places)?;
+            row.write_words(out, texts, &found.places)?;
         }
     }
-    Ok(!found.docs.is_empty())
+    Ok(())
 }
 
 // A term of a query, as text.
@@ -128,10 +181,7 @@ impl Row<'_> {
         }
         for (text, term) in texts.iter().zip(places) {
             if let Some(positions) = positions_at(term, self.place) {
-                write!(out, "\t{}:{}", text.field, text.term)?;
-                for position in positions {
-                    write!(out, " {}", *position)?;
-                }
+                write_term_words(out, text, positions)?;
             }
         }
         writeln!(out)?;
@@ -149,7 +199,7 @@ impl Row<'_> {
     ) -> Result<(), AnswerFault> {
         write!(out, "{{\"doc\":{}", self.doc)?;
         if let Some(id) = self.id {
-            write!(out, ",\"id\":{}", quoted(alloc, id)?)?;
+            write_id(alloc, out, id)?;
         }
         if with_positions {
             write!(out, ",\"terms\":[")?;
@@ -177,19 +227,65 @@ impl Row<'_> {
                 write!(out, ",")?;
             }
             is_first = false;
-            let field = quoted(alloc, text.field.as_str())?;
-            let name = quoted(alloc, text.term.as_str())?;
-            write!(out, "{{\"field\":{field},\"term\":{name},\"positions\":[")?;
-            for (i, position) in positions.iter().enumerate() {
-                if i > 0 {
-                    write!(out, ",")?;
-                }
-                write!(out, "{}", *position)?;
-            }
-            write!(out, "]}}")?;
+            write_term_json(alloc, out, text, positions)?;
         }
         Ok(())
     }
+}
+
+// Writes a term and its positions as words.
+fn write_term_words<W: Write>(
+    out: &mut W,
+    text: &TermText,
+    positions: &[u32],
+) -> Result<(), AnswerFault> {
+    write!(out, "\t{}:{}", text.field, text.term)?;
+    for position in positions {
+        write!(out, " {}", *position)?;
+    }
+    Ok(())
+}
+
+// Writes an id as a member of a JSON object.
+fn write_id<W: Write>(alloc: Global, out: &mut W, id: &str) -> Result<(), AnswerFault> {
+    let id = quoted(alloc, id)?;
+    let written = write!(out, ",\"id\":{id}");
+    drop(id);
+    Ok(written?)
+}
+
+// Writes a term and its positions as a JSON object.
+fn write_term_json<W: Write>(
+    alloc: Global,
+    out: &mut W,
+    text: &TermText,
+    positions: &[u32],
+) -> Result<(), AnswerFault> {
+    write_names(alloc, out, text)?;
+    for (i, position) in positions.iter().enumerate() {
+        if i > 0 {
+            write!(out, ",")?;
+        }
+        write!(out, "{}", *position)?;
+    }
+    write!(out, "]}}")?;
+    Ok(())
+}
+
+// Writes what stands in such an object in front of the positions.
+fn write_names<W: Write>(alloc: Global, out: &mut W, text: &TermText) -> Result<(), AnswerFault> {
+    let field = quoted(alloc, text.field.as_str())?;
+    let name = match quoted(alloc, text.term.as_str()) {
+        Ok(name) => name,
+        Err(fault) => {
+            drop(field);
+            return Err(fault);
+        }
+    };
+    let written = write!(out, "{{\"field\":{field},\"term\":{name},\"positions\":[");
+    drop(name);
+    drop(field);
+    Ok(written?)
 }
 
 // The positions of a term in the document at a place, if it has the term.

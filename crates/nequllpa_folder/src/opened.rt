@@ -68,7 +68,10 @@ impl Opened {
                 index,
                 num_docs,
             }),
-            Err(fault) => Err(OpenFault::Files(fault)),
+            Err(fault) => {
+                drop(schema);
+                Err(OpenFault::Files(fault))
+            }
         }
     }
 

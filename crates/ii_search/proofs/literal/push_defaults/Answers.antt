@@ -1,4 +1,4 @@
-use Rattle.std.proofs.Common.{◌<◌, ◌+◌, arith, length, rules}
+use Rattle.std.proofs.Common.{◌<◌, length, rules}
 use Rattle.ii_search.specs.QueryTexts.{TextFields}
 use Rattle.ii_search.proofs.TermLemmas.{gathers_all, gathers_more, gathers_none, gathers_refused}
 use Rattle.ii_search.proofs.literal.push_defaults.Goals as goal
