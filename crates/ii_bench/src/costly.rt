@@ -45,20 +45,44 @@ pub fn measure(rt: &HostRuntime) -> Result<()> {
 }
 
 fn measure_count(rt: &HostRuntime, format: Format, count: u32, name: [&str; 3]) -> Result<()> {
-    let bytes = bytes_of(rt.alloc(), format, count)?;
-    let positions = widths(rt.alloc(), count)?;
-    let mut least = Duration::MAX;
-    for _ in 0..ROUNDS {
-        let (bytes, positions) = (bytes.clone()?, positions.clone()?);
-        let start = Instant::now(rt);
-        open_once(rt.alloc(), format, bytes, positions, count)?;
-        least = least.min(since(rt, start)?);
-    }
+    let (bytes, positions) = subject(rt.alloc(), format, count)?;
+    let least = least_of(rt, format, count, &bytes, &positions);
     let mut len = bytes.len() as u64;
     if matches!(format, Format::Positions) {
         len = len.saturating_add(positions.len() as u64);
     }
-    Ok(print_row(rt, name, least, len, len)?)
+    drop(bytes);
+    drop(positions);
+    Ok(print_row(rt, name, least?, len, len)?)
+}
+
+// The bytes of a format, and those of positions.
+fn subject(alloc: Global, format: Format, count: u32) -> Result<(Bytes, Bytes), Fault> {
+    let bytes = bytes_of(alloc, format, count)?;
+    match widths(alloc, count) {
+        Ok(positions) => Ok((bytes, positions)),
+        Err(fault) => {
+            drop(bytes);
+            Err(fault)
+        }
+    }
+}
+
+// The least time of some rounds.
+fn least_of(
+    rt: &HostRuntime,
+    format: Format,
+    count: u32,
+    bytes: &Bytes,
+    positions: &Bytes,
+) -> Result<Duration> {
+    let mut least = Duration::MAX;
+    for _ in 0..ROUNDS {
+        let start = Instant::now(rt);
+        open_once(rt.alloc(), format, count, bytes, positions)?;
+        least = least.min(since(rt, start)?);
+    }
+    Ok(least)
 }
 
 fn bytes_of(alloc: Global, format: Format, count: u32) -> Result<Bytes, Fault> {
@@ -119,28 +143,45 @@ fn widths(alloc: Global, count: u32) -> Result<Bytes, Fault> {
 fn open_once(
     alloc: Global,
     format: Format,
-    bytes: Bytes,
-    positions: Bytes,
     count: u32,
+    bytes: &Bytes,
+    positions: &Bytes,
 ) -> Result<(), Fault> {
-    let docs = count.saturating_mul(128);
     let option = match format {
-        Format::Composite => return open_fields(alloc, bytes),
-        Format::Store => return open_store(bytes),
+        Format::Composite => return open_fields(alloc, bytes.clone()?),
+        Format::Store => return open_store(bytes.clone()?),
         Format::Documents => IndexRecordOption::Basic,
         Format::Counts => IndexRecordOption::WithFreqs,
         Format::Positions => IndexRecordOption::WithFreqsAndPositions,
     };
-    let _cursor = SegmentPostings::open(docs, bytes, Some(positions), option, option)?;
-    Ok(())
+    open_list(count.saturating_mul(128), option, bytes.clone()?, positions)
+}
+
+fn open_list(
+    docs: u32,
+    option: IndexRecordOption,
+    bytes: Bytes,
+    positions: &Bytes,
+) -> Result<(), Fault> {
+    match positions.clone() {
+        Ok(positions) => {
+            let cursor = SegmentPostings::open(docs, bytes, Some(positions), option, option)?;
+            drop(cursor);
+            Ok(())
+        }
+        Err(refused) => {
+            drop(bytes);
+            Err(refused.into())
+        }
+    }
 }
 
 fn open_fields(alloc: Global, bytes: Bytes) -> Result<(), Fault> {
-    let _file = CompositeFile::open(alloc, bytes)?;
+    drop(CompositeFile::open(alloc, bytes)?);
     Ok(())
 }
 
 fn open_store(bytes: Bytes) -> Result<(), Fault> {
-    let _store = TermInfoStore::open(bytes)?;
+    drop(TermInfoStore::open(bytes)?);
     Ok(())
 }
