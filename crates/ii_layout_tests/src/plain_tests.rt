@@ -59,10 +59,11 @@ fn are_read(bytes: &[u8], entries: &[u32; 128], width: u8, size: usize) -> bool 
 
 // The values that are read of so many bytes, if they are read.
 fn read_of(read: Read, size: usize) -> Option<[u32; 128]> {
-    match read {
-        Ok((used, values)) if used == size => Some(values),
-        _ => None,
-    }
+    let Ok(read) = read else {
+        return None;
+    };
+    let values = read.1;
+    if read.0 == size { Some(values) } else { None }
 }
 
 // Whether entries of a width, the last of them the largest, are packed and read as bit by bit, with no
