@@ -79,11 +79,14 @@ fn entry_of(alloc: Global, kind: &Kind) -> Result<FieldEntry, Fault> {
     })
 }
 
-/// A schema of fields, each named `field`.
+/// A schema of fields, each named `field`: a hundred at most, or `IndexerFailed`.
 pub fn schema_of(alloc: Global, kinds: &[Kind]) -> Result<Schema, Fault> {
     let mut entries = Vec::new(alloc);
     for kind in kinds {
         entries.push(entry_of(alloc, kind)?)?;
+    }
+    if entries.len() > 100 {
+        return Err(Fault::IndexerFailed);
     }
     Ok(Schema::new(entries))
 }
