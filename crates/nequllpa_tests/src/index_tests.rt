@@ -169,24 +169,24 @@ const FIVE: &[u8] = &[1, 0, 0, 0, 0, 0, 0, 0, 0x80];
 
 // A field, documents, calls, and of the files of terms, postings, positions and norms the lengths and
 // how they begin: a row of no positions is one byte.
-static FILES: [(&[Kind], DocId, &[Call], [(usize, &[u8]); 4]); 3] = [
+static FILES: [(&[Kind], DocId, &[Call], &[(usize, &[u8])]); 3] = [
     (
         &[Kind::Text(false)],
         0,
         &[],
-        [(4, NONE), (4, NONE), (4, NONE), (4, NONE)],
+        &[(4, NONE), (4, NONE), (4, NONE), (4, NONE)],
     ),
     (
         &[Kind::U64],
         1,
         &[(0, 0, Said::U64(5))],
-        [(104, &[]), (33, FIVE), (24, &[]), (4, NONE)],
+        &[(104, &[]), (33, FIVE), (24, &[]), (4, NONE)],
     ),
     (
         &[Kind::Json(false)],
         1,
         &[(0, 0, Said::Object(&[("n", Leaf::Number(5))]))],
-        [(107, &[]), (33, FIVE), (25, &[0x80]), (4, NONE)],
+        &[(107, &[]), (33, FIVE), (25, &[0x80]), (4, NONE)],
     ),
 ];
 
@@ -197,17 +197,21 @@ fn is_as(bytes: &[u8], wanted: (usize, &'static [u8])) -> bool {
 }
 
 // Whether each file is.
-fn are_as(files: IndexWriters<Vec<u8>>, wanted: [(usize, &'static [u8]); 4]) -> bool {
+fn are_as(files: IndexWriters<Vec<u8>>, wanted: &[(usize, &'static [u8])]) -> bool {
+    let [of_terms, of_postings, of_positions, of_norms] = wanted else {
+        drop(files);
+        return false;
+    };
     let IndexWriters {
         terms,
         postings,
         positions,
         fieldnorms,
     } = files;
-    let mut all = is_as(terms.finish().as_slice(), wanted[0]);
-    all &= is_as(postings.finish().as_slice(), wanted[1]);
-    all &= is_as(positions.finish().as_slice(), wanted[2]);
-    all &= is_as(fieldnorms.finish().as_slice(), wanted[3]);
+    let mut all = is_as(terms.finish().as_slice(), *of_terms);
+    all &= is_as(postings.finish().as_slice(), *of_postings);
+    all &= is_as(positions.finish().as_slice(), *of_positions);
+    all &= is_as(fieldnorms.finish().as_slice(), *of_norms);
     all
 }
 
