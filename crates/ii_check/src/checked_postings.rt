@@ -26,7 +26,6 @@ use std::marker::Model;
 /// The bytes of a term that were found to hold its postings, so that each block can be read at its
 /// place without a refusal. Clauses see how many documents the term is in, what the bytes give, and
 /// whether counts are read.
-#[derive(Drop)]
 pub struct CheckedPostings {
     bytes: Bytes,
     record_option: IndexRecordOption,
@@ -34,6 +33,20 @@ pub struct CheckedPostings {
     doc_freq: u32,
     places: SkipPlaces,
     freq_reading_option: FreqReadingOption,
+}
+
+// So that each drop is a call.
+impl Drop for CheckedPostings {
+    fn drop(self) {
+        let CheckedPostings {
+            bytes: _,
+            record_option: _,
+            requested_option: _,
+            doc_freq: _,
+            places: _,
+            freq_reading_option: _,
+        } = self;
+    }
 }
 
 impl Model for CheckedPostings {

@@ -13,10 +13,16 @@ use std::alloc::Global;
 use std::ops::Range;
 
 /// A file of an index as it is, and the bodies of its fields if its table is whole.
-#[derive(Drop)]
 pub struct FieldBodies {
     bytes: Bytes,
     bodies: Option<CompositeFile>,
+}
+
+// So that each drop is a call.
+impl Drop for FieldBodies {
+    fn drop(self) {
+        let FieldBodies { bytes: _, bodies: _ } = self;
+    }
 }
 
 impl FieldBodies {

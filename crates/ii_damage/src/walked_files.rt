@@ -14,12 +14,23 @@ use ii_termdict::TermDictionary;
 use std::alloc::Global;
 
 /// The files of an index, each as it is.
-#[derive(Drop)]
 pub struct WalkedFiles {
     terms: FieldBodies,
     postings: FieldBodies,
     positions: FieldBodies,
     fieldnorms: FieldBodies,
+}
+
+// So that each drop is a call.
+impl Drop for WalkedFiles {
+    fn drop(self) {
+        let WalkedFiles {
+            terms: _,
+            postings: _,
+            positions: _,
+            fieldnorms: _,
+        } = self;
+    }
 }
 
 /// What a field gives.

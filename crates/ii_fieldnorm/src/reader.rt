@@ -81,9 +81,15 @@ enum ReaderImplEnum {
 ///
 /// A norm stands for the number of tokens of a document in the field. It is the number of its id, so
 /// it is never above the number of tokens.
-#[derive(Drop)]
 pub struct FieldNormReader {
     norms: ReaderImplEnum,
+}
+
+// So that each drop is a call.
+impl Drop for FieldNormReader {
+    fn drop(self) {
+        let FieldNormReader { norms: _ } = self;
+    }
 }
 
 impl Model for FieldNormReader {

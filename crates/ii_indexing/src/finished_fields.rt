@@ -17,12 +17,23 @@ use std::marker::Model;
 
 /// What was indexed of all calls: the terms, and the file of norms, opened. The schema is here once
 /// more.
-#[derive(Drop)]
 pub(crate) struct FinishedFields {
     pub(crate) schema: Schema,
     pub(crate) terms: IndexedTerms,
     pub(crate) norms: Bytes,
     pub(crate) readers: FieldNormReaders,
+}
+
+// So that each drop is a call.
+impl Drop for FinishedFields {
+    fn drop(self) {
+        let FinishedFields {
+            schema: _,
+            terms: _,
+            norms: _,
+            readers: _,
+        } = self;
+    }
 }
 
 impl FinishedFields {

@@ -36,6 +36,7 @@ pub(crate) struct IndexedFields {
     paths: OpenPaths,
 }
 
+// So that each drop is a call.
 impl Drop for IndexedFields {
     fn drop(self) {
         let IndexedFields {

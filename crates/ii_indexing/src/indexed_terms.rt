@@ -34,6 +34,7 @@ pub(crate) struct IndexedTerms {
     term: IndexingTerm,
 }
 
+// So that each drop is a call.
 impl Drop for IndexedTerms {
     fn drop(self) {
         let IndexedTerms {

@@ -30,6 +30,7 @@ pub struct Indexer {
     alloc: Global,
 }
 
+// So that each drop is a call.
 impl Drop for Indexer {
     fn drop(self) {
         let Indexer {

@@ -31,6 +31,7 @@ pub(crate) struct OpenDocuments {
     norms: FieldNormsWriter,
 }
 
+// So that each drop is a call.
 impl Drop for OpenDocuments {
     fn drop(self) {
         let OpenDocuments {

@@ -67,6 +67,7 @@ pub(crate) struct OpenPaths {
     fields: Vec<FieldPaths>,
 }
 
+// So that each drop is a call.
 impl Drop for OpenPaths {
     fn drop(self) {
         let OpenPaths { fields: _ } = self;

@@ -1,5 +1,5 @@
 -- Faults and their numbers.
-use Rattle.std.specs.Prelude.{◌≡◌, ℕ, IfErr, Result}
+use Rattle.std.specs.Prelude.{◌≡◌, ◌⊎◌, ℕ, IfErr, Result}
 use Rattle.ii_io.specs.declared.faults.Fault.{Fault}
 use Rattle.ii_io.specs.declared.faults.Fault.TheVariants.{OutOfMemory, Write, SerializerClosed, IndexerFailed, UnsupportedLeaf, DecreasingPosition, Limit}
 use Rattle.ii_io.specs.declared.faults.Fault as fault
@@ -35,3 +35,7 @@ memory_fault (fault.TheVariants.Damaged part) = fault.TheVariants.Damaged part
 -- A call is refused for want of memory alone.
 abbrev pub OnlyMemory : {A : Type 0} → Result A Fault → Type 0
 OnlyMemory result = IfErr result (λ e. e ≡ OutOfMemory)
+
+-- A call is refused for want of memory, or since an earlier call was.
+abbrev pub OnlyMemoryOrClosed : {A : Type 0} → Result A Fault → Type 0
+OnlyMemoryOrClosed result = IfErr result (λ e. (e ≡ OutOfMemory) ⊎ (e ≡ SerializerClosed))

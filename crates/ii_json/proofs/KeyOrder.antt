@@ -34,7 +34,7 @@ keys_by_paths (h ∷ p) (g ∷ q) x y p_none q_none =
     by Greater rest = refl
 
 -- paths of equal bytes are one
-same_path : (p q : List ℕ) → slice_cmp nat_cmp p q ≡ Equal → p ≡ q
+pub same_path : (p q : List ℕ) → slice_cmp nat_cmp p q ≡ Equal → p ≡ q
 same_path [] [] is = refl
 same_path [] (g ∷ q) is = absurd (cc)
 same_path (h ∷ p) [] is = absurd (cc)

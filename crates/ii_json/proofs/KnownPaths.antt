@@ -38,7 +38,8 @@ place_unknown p (l ∷ ls) none = by_case (p l) refl none (place_unknown p ls)
     by_case true is whole rest = absurd (cc)
     by_case false is whole rest = rw is (omega (arith, rest whole))
 
-some_if : (t : Bool) (n i : ℕ) → Some i ≡ cond t (Some n) None → (t ≡ true) × (i ≡ n)
+-- what a number under a condition says
+pub some_if : (t : Bool) (n i : ℕ) → Some i ≡ cond t (Some n) None → (t ≡ true) × (i ≡ n)
 some_if true n i e = (refl, cc)
 some_if false n i e = absurd (cc)
 

@@ -1,7 +1,7 @@
 mod CleanPaths
 mod DottedLemmas
 pub mod KeyOrder
-mod KnownPaths
+pub mod KnownPaths
 pub mod LeafVisitLemmas
 mod NumberLeaves
 pub mod ParseLemmas

@@ -1,7 +1,8 @@
 -- What a serializer of skip entries has: their bytes, and whether an earlier call was refused.
-use Rattle.std.specs.Prelude.{◌≡◌, ℕ, ◌++◌, ◌↔◌, ◌⊎◌, Bool, false, true, List, Result, IsTrue, OnOk, OnErr, IfErr, IsErrOf}
+use Rattle.std.specs.Prelude.{◌≡◌, ℕ, ◌++◌, ◌↔◌, Bool, false, true, List, Result, IsTrue, OnOk, OnErr, IsErrOf}
 use Rattle.ii_io.specs.declared.faults.Fault.{Fault}
-use Rattle.ii_io.specs.declared.faults.Fault.TheVariants.{OutOfMemory, SerializerClosed}
+use Rattle.ii_io.specs.declared.faults.Fault.TheVariants.{SerializerClosed}
+use Rattle.ii_io.specs.Faults.{OnlyMemoryOrClosed}
 
 pub record SkipSerializerState : Type 0 where
   pub bytes : List ℕ
@@ -12,4 +13,4 @@ pub record Adds (old new : SkipSerializerState) (bytes : List ℕ) (result : Res
   pub ok : OnOk result (new ≡ record { bytes = old.bytes ++ bytes; closed = false })
   pub err : OnErr result (new ≡ record old { closed = true })
   pub closed : IsErrOf result SerializerClosed ↔ IsTrue old.closed
-  pub only : IfErr result (λ e. (e ≡ OutOfMemory) ⊎ (e ≡ SerializerClosed))
+  pub only : OnlyMemoryOrClosed result

@@ -4,10 +4,9 @@ use Rattle.std.proofs.Common.{Ordering, Less, Equal, Greater}
 use Rattle.std.specs.Prelude.{bytes_eq, if◌then◌else◌, nat_le, slice_index_or}
 use Rattle.std.specs.Cmp.Lexicographic.{slice_cmp}
 use Rattle.std.specs.List.{AllByRecursion, IsDistinct}
-use Rattle.std.specs.Ordering.{is_eq, nat_cmp, ordering_then}
+use Rattle.std.specs.Ordering.{nat_cmp, ordering_then}
 use Rattle.std.proofs.lemmas.Cmp.{nat_list_eq_equiv}
 use Rattle.std.proofs.lemmas.List.{drop-drop, get_or-map, get_or_default}
-use Rattle.std.proofs.lemmas.Map.Text.{is_eq-slice_cmp}
 use Rattle.std.proofs.lemmas.Slice.Eq.{bytes_eq-Decides}
 use Rattle.ii_base.specs.Paths.{has_zero}
 use Rattle.ii_base.specs.Values.{json_key}
@@ -15,7 +14,7 @@ use Rattle.ii_definitions.specs.JsonKeys.{path_in}
 use Rattle.ii_definitions.proofs.KeyLaws.{path_of_key}
 use Rattle.ii_json.specs.PathRank.{path_rank, path_ranks}
 use Rattle.ii_json.specs.Paths.{AreDistinct, is_known, path_id}
-use Rattle.ii_json.proofs.KeyOrder.{ranked_as_keys}
+use Rattle.ii_json.proofs.KeyOrder.{ranked_as_keys, same_path}
 use Rattle.ii_postings_writer.specs.IndexingTerm.{field_bytes, field_in}
 use Rattle.ii_postings_writer.specs.ResolvedTerms.{AreClean, HoldsId, IsHeldTerm, behind_id, behind_path, front_of, held_cmp, held_key, held_value, is_json_field, key_with, path_id_in, rank_of, resolved, value_place}
 use Rattle.ii_postings_writer.proofs.SortedLemmas.{field_of_bytes, bytes_same}
@@ -174,9 +173,6 @@ cmp_fronts (a ∷ f) (b ∷ g) x y same = by (nat_cmp a b) (cmp_fronts f g x y (
     by Equal h = h
     by Greater h = refl
 
-same_bytes : (xs ys : List ℕ) → slice_cmp nat_cmp xs ys ≡ Equal → xs ≡ ys
-same_bytes xs ys is = (bytes_eq-Decides xs ys).0 (sym (is_eq-slice_cmp xs ys) ∙ ap is_eq is)
-
 contains_at : (paths : List (List ℕ)) (i : ℕ) → i < length paths → Contains paths (slice_index_or paths i [])
 contains_at paths i within = (i, within, get_or_default paths i (slice_index_or paths i []) [] within)
 
@@ -230,7 +226,7 @@ module _ (flags : List Bool) (paths : List (List ℕ)) (clean : AreClean paths) 
 
       same_fields : slice_cmp nat_cmp (front_of a) (front_of b) ≡ Equal → hs.field ≡ ht.field
       same_fields is =
-          let fronts : field_bytes hs.field ≡ field_bytes ht.field = sym (front_is hs.field hs.value) ∙ same_bytes (front_of a) (front_of b) is ∙ front_is ht.field ht.value in
+          let fronts : field_bytes hs.field ≡ field_bytes ht.field = sym (front_is hs.field hs.value) ∙ same_path (front_of a) (front_of b) is ∙ front_is ht.field ht.value in
           sym (field_of_bytes hs.field [] hs.small) ∙ ap (λ (f : List ℕ). field_in (f ++ [])) fronts ∙ field_of_bytes ht.field [] ht.small
 
       equal : hs.field ≡ ht.field → ordering_then ranked valued ≡ keyed

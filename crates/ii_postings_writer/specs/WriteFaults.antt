@@ -1,10 +1,11 @@
 -- Why the terms of an index can't be written, and what a refusal leaves.
-use Rattle.std.specs.Prelude.{◌≡◌, ℕ, ◌<◌, ◌⊎◌, IsErrOf, IsTrue, List, [], ◌∷◌, ◌++◌, length, map, Result, OnOk, IfErr}
+use Rattle.std.specs.Prelude.{◌≡◌, ℕ, ◌<◌, ◌⊎◌, IsErrOf, IsTrue, List, [], ◌∷◌, ◌++◌, length, map, Result, OnOk}
 use Rattle.std.specs.List.{AllByRecursion, range_with_len}
 use Rattle.ii_io.specs.declared.faults.Fault.{Fault}
 use Rattle.ii_io.specs.declared.faults.Fault.TheVariants.{Limit, OutOfMemory, SerializerClosed, Write}
 use Rattle.ii_io.specs.declared.faults.LimitName.TheVariants as limit
 use Rattle.ii_io.specs.Composite.{Body, bodies_bytes}
+use Rattle.ii_io.specs.Faults.{OnlyMemoryOrClosed}
 use Rattle.ii_base.specs.Schema.{SchemaEntry}
 use Rattle.ii_base.specs.declared.schema.index_record_option.IndexRecordOption.{IndexRecordOption}
 use Rattle.ii_definitions.specs.Fields.{option_of}
@@ -89,7 +90,7 @@ IsTokensFault entries initial ts fault =
 pub record StaysClosed (nothing : Type 0) (old new : IndexSerializerState) (result : Result (Unit {0}) Fault) : Type 0 where
   pub same : new ≡ old
   pub none : OnOk result nothing
-  pub only : IfErr result (λ e. (e ≡ OutOfMemory) ⊎ (e ≡ SerializerClosed))
+  pub only : OnlyMemoryOrClosed result
 
 -- How a call ends that writes parts, if there are some, each as a whole: the entries stay, a refusal by a writer is counted once, and what was written is kept.
 pub record EndsParts {P : Type 0} (parts : List P) (old new : IndexSerializerState) (result : Result (Unit {0}) Fault) : Type 0 where

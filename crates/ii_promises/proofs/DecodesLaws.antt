@@ -7,23 +7,20 @@ use Rattle.ii_query.specs.declared.term_or_phrase.TermOrPhrase.TheVariants.{Term
 use Rattle.ii_reader.specs.SegmentPostings.{SegmentPostingsState, SpentLazily, WentLazily}
 use Rattle.ii_search.specs.Decodes.{DecodesFew, EachDecodesFew}
 use Rattle.ii_search.specs.DecodesLaws.{all_went}
+use Rattle.ii_postings_writer.proofs.SortedLemmas.{all_mapped}
 use Rattle.ii_promises.specs.Decodes.{HasDecodedFew, HaveDecodedFew}
-
-all_so : {T : Type 0} (P Q : T → Type 0) → ((t : T) → P t → Q t) → (ts : List T) → AllByRecursion P ts → AllByRecursion Q ts
-all_so P Q so [] all = tt
-all_so P Q so (t ∷ ts) all = (so t all.0, all_so P Q so ts all.1)
 
 told : (t : TermOrPhrase SegmentPostingsState) → EachDecodesFew t → HaveDecodedFew t
 told (Term cursor) few = (few.doc_decodes, few.freq_decodes)
-told (Phrase cursor) few = all_so DecodesFew HasDecodedFew (λ s f. (f.doc_decodes, f.freq_decodes)) cursor.cursors few
+told (Phrase cursor) few = all_mapped DecodesFew HasDecodedFew (λ s f. (f.doc_decodes, f.freq_decodes)) cursor.cursors few
 
 asked : (t : TermOrPhrase SegmentPostingsState) → HaveDecodedFew t → EachDecodesFew t
 asked (Term cursor) few = record { doc_decodes = few.0; freq_decodes = few.1 }
-asked (Phrase cursor) few = all_so HasDecodedFew DecodesFew (λ s f. record { doc_decodes = f.0; freq_decodes = f.1 }) cursor.cursors few
+asked (Phrase cursor) few = all_mapped HasDecodedFew DecodesFew (λ s f. record { doc_decodes = f.0; freq_decodes = f.1 }) cursor.cursors few
 
 pub few_are_told : (ts : List (TermOrPhrase SegmentPostingsState)) → AllByRecursion EachDecodesFew ts → AllByRecursion HaveDecodedFew ts
-few_are_told ts few = all_so EachDecodesFew HaveDecodedFew told ts few
+few_are_told ts few = all_mapped EachDecodesFew HaveDecodedFew told ts few
 
 -- they stay few where the cursors go on
 pub few_go_on : (ts us : List (TermOrPhrase SegmentPostingsState)) → AllZip (WentOn WentLazily SpentLazily) ts us → AllByRecursion HaveDecodedFew ts → AllByRecursion HaveDecodedFew us
-few_go_on ts us went few = few_are_told us (all_went ts us went (all_so HaveDecodedFew EachDecodesFew asked ts few))
+few_go_on ts us went few = few_are_told us (all_went ts us went (all_mapped HaveDecodedFew EachDecodesFew asked ts few))

@@ -1,5 +1,6 @@
 -- What is read is in the grammar.
 use Rattle.std.proofs.Common.{◌≡◌, ◌∙◌, ℕ, List, [], ◌∷◌, ◌++◌, ◌⊎◌, inl, inr, append_assoc, append-nil, Option, None, Some, Result, Ok, Err, refl, sym, ap, subst}
+use Rattle.std.proofs.lemmas.Option.{same_Some}
 use Rattle.ii_query_grammar.specs.declared.parse_error.Wanted.{Wanted}
 use Rattle.ii_query_grammar.specs.Grammar.{Spells, all, alone, and, and_not, beside, chain, clauses, excluded, in_parentheses, nothing, one, or, part, query, token, wanted, wants}
 use Rattle.ii_query_grammar.specs.Lexemes.{Lexeme, Token, and_word, broken, closing, literal, minus, opening, or_word}
@@ -73,13 +74,10 @@ put_stands w e behind_minus t done ls (js, at, done_is, is) spells =
 none_is_no_some : {A : Type 0} (x : A) → None ≡ Some x → ⊥
 none_is_no_some x same = absurd (cc)
 
-some_is : {A : Type 0} (x y : A) → Some x ≡ Some y → x ≡ y
-some_is x y same = cc
-
 -- an AND behind lexemes
 and_stands : (w e : Option Ast) (p : PlaceState) (done : List Token) (at : ℕ) (g : GroupState) → StandsAt w e p done → and_at w e p ≡ Some g → Stands g (done ++ token at and_word ∷ [])
 and_stands w e begins done at g is put = absurd (none_is_no_some g put)
-and_stands w e (chained c) done at g is put = subst (λ (h : GroupState). Stands h (done ++ token at and_word ∷ [])) (some_is _ g put) (done, at, refl, is)
+and_stands w e (chained c) done at g is put = subst (λ (h : GroupState). Stands h (done ++ token at and_word ∷ [])) (same_Some put) (done, at, refl, is)
 and_stands w e (behind_and c) done at g is put = absurd (none_is_no_some g put)
 and_stands w e (behind_and_minus c) done at g is put = absurd (none_is_no_some g put)
 and_stands w e behind_or done at g is put = absurd (none_is_no_some g put)
@@ -88,7 +86,7 @@ and_stands w e behind_minus done at g is put = absurd (none_is_no_some g put)
 -- an OR behind lexemes
 or_stands : (w e : Option Ast) (p : PlaceState) (done : List Token) (at : ℕ) (g : GroupState) → StandsAt w e p done → or_at w e p ≡ Some g → Stands g (done ++ token at or_word ∷ [])
 or_stands w e begins done at g is put = absurd (none_is_no_some g put)
-or_stands w e (chained c) done at g is put = subst (λ (h : GroupState). Stands h (done ++ token at or_word ∷ [])) (some_is _ g put) (joined_by_or w c, done, at, refl, refl, chain_wants w e c done is)
+or_stands w e (chained c) done at g is put = subst (λ (h : GroupState). Stands h (done ++ token at or_word ∷ [])) (same_Some put) (joined_by_or w c, done, at, refl, refl, chain_wants w e c done is)
 or_stands w e (behind_and c) done at g is put = absurd (none_is_no_some g put)
 or_stands w e (behind_and_minus c) done at g is put = absurd (none_is_no_some g put)
 or_stands w e behind_or done at g is put = absurd (none_is_no_some g put)
@@ -96,10 +94,10 @@ or_stands w e behind_minus done at g is put = absurd (none_is_no_some g put)
 
 -- a minus behind lexemes
 minus_stands : (w e : Option Ast) (p : PlaceState) (done : List Token) (at : ℕ) (g : GroupState) → StandsAt w e p done → minus_at w e p ≡ Some g → Stands g (done ++ token at minus ∷ [])
-minus_stands w e begins done at g is put = subst (λ (h : GroupState). Stands h (done ++ token at minus ∷ [])) (some_is _ g put) (done, at, refl, is)
-minus_stands w e (chained c) done at g is put = subst (λ (h : GroupState). Stands h (done ++ token at minus ∷ [])) (some_is _ g put) (done, at, refl, chain_clauses w e c done is)
+minus_stands w e begins done at g is put = subst (λ (h : GroupState). Stands h (done ++ token at minus ∷ [])) (same_Some put) (done, at, refl, is)
+minus_stands w e (chained c) done at g is put = subst (λ (h : GroupState). Stands h (done ++ token at minus ∷ [])) (same_Some put) (done, at, refl, chain_clauses w e c done is)
 minus_stands w e (behind_and c) done at g (ls, place, done_is, is) put =
-    subst (λ (h : GroupState). Stands h (done ++ token at minus ∷ [])) (some_is _ g put)
+    subst (λ (h : GroupState). Stands h (done ++ token at minus ∷ [])) (same_Some put)
     (ls, place, at, ap (λ (l : List Token). l ++ token at minus ∷ []) done_is ∙ moved ls (token place and_word) (token at minus ∷ []), is)
 minus_stands w e (behind_and_minus c) done at g is put = absurd (none_is_no_some g put)
 minus_stands w e behind_or done at g is put = absurd (none_is_no_some g put)

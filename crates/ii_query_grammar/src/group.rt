@@ -25,6 +25,7 @@ pub(crate) struct Group {
     place: Place,
 }
 
+// So that each drop is a call.
 impl Drop for Group {
     fn drop(self) {
         let Group {

@@ -24,12 +24,23 @@ use std::marker::Model;
 /// A cursor over the blocks of a term's postings, of which it holds one, decoded: block b has the
 /// documents from the 128 * b-th on, at most 128, and their counts where these are read. After the
 /// last block, which has fewer than 128, comes an empty one.
-#[derive(Drop)]
 pub struct BlockSegmentPostings {
     checked: CheckedPostings,
     skip: SkipReader,
     doc_decoder: BlockDecoder,
     freq_decoder: BlockDecoder,
+}
+
+// So that each drop is a call.
+impl Drop for BlockSegmentPostings {
+    fn drop(self) {
+        let BlockSegmentPostings {
+            checked: _,
+            skip: _,
+            doc_decoder: _,
+            freq_decoder: _,
+        } = self;
+    }
 }
 
 impl Model for BlockSegmentPostings {

@@ -25,10 +25,16 @@ use std::marker::Model;
 
 /// The readers of the fields of a schema and their norms, over the files of an index. Clauses see the
 /// readers in the order of the fields.
-#[derive(Drop)]
 pub struct OpenIndex {
     readers: Vec<InvertedIndexReader>,
     fieldnorms: FieldNormReaders,
+}
+
+// So that each drop is a call.
+impl Drop for OpenIndex {
+    fn drop(self) {
+        let OpenIndex { readers: _, fieldnorms: _ } = self;
+    }
 }
 
 impl Model for OpenIndex {
@@ -187,6 +193,7 @@ struct IndexFiles {
     positions: CompositeFile,
 }
 
+// So that each drop is a call.
 impl Drop for IndexFiles {
     fn drop(self) {
         let IndexFiles {

@@ -20,7 +20,6 @@ use std::marker::Model;
 use std::ops::Range;
 
 /// The terms of a field, and where their postings and positions are.
-#[derive(Drop)]
 pub struct InvertedIndexReader {
     terms: TermDictionary,
     postings: Bytes,
@@ -29,6 +28,20 @@ pub struct InvertedIndexReader {
     num_tokens: u64,
     // whether each term is known to open
     is_known: bool,
+}
+
+// So that each drop is a call.
+impl Drop for InvertedIndexReader {
+    fn drop(self) {
+        let InvertedIndexReader {
+            terms: _,
+            postings: _,
+            positions: _,
+            option: _,
+            num_tokens: _,
+            is_known: _,
+        } = self;
+    }
 }
 
 impl Model for InvertedIndexReader {

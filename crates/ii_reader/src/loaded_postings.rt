@@ -11,12 +11,23 @@ use std::marker::Model;
 
 /// A cursor over a list that is held in memory, for terms in few documents: the documents, and their
 /// positions one after the other.
-#[derive(Drop)]
 pub struct LoadedPostings {
     doc_ids: Vec<DocId>,
     position_offsets: Vec<u32>,
     positions: Vec<u32>,
     cursor: usize,
+}
+
+// So that each drop is a call.
+impl Drop for LoadedPostings {
+    fn drop(self) {
+        let LoadedPostings {
+            doc_ids: _,
+            position_offsets: _,
+            positions: _,
+            cursor: _,
+        } = self;
+    }
 }
 
 impl Model for LoadedPostings {

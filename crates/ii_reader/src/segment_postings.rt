@@ -22,11 +22,21 @@ use ii_layout::PositionReader;
 use std::marker::Model;
 
 /// A cursor over the postings of a term, which holds one decoded block.
-#[derive(Drop)]
 pub struct SegmentPostings {
     block_cursor: BlockSegmentPostings,
     cur: usize,
     position_reader: Option<PositionReader>,
+}
+
+// So that each drop is a call.
+impl Drop for SegmentPostings {
+    fn drop(self) {
+        let SegmentPostings {
+            block_cursor: _,
+            cur: _,
+            position_reader: _,
+        } = self;
+    }
 }
 
 impl Model for SegmentPostings {

@@ -11,6 +11,7 @@ use Rattle.ii_io.specs.declared.faults.Fault.TheVariants.{SerializerClosed}
 use Rattle.ii_base.specs.declared.schema.index_record_option.IndexRecordOption.{IndexRecordOption}
 use Rattle.ii_base.specs.Options.{has_freq, has_positions}
 use Rattle.ii_base.specs.declared.doc_id.TheConstants.{TERMINATED}
+use Rattle.ii_definitions.proofs.ListLaws.{all_both}
 use Rattle.ii_fieldnorm.specs.Readers.{Norms}
 use Rattle.ii_layout.specs.Bounds.{Covers}
 use Rattle.ii_codes.specs.Sums.{differences}
@@ -48,10 +49,6 @@ small_both skip_info old xs ys first others h = ⊎_elim (λ (earlier : h.0 < le
     let place : h.0 + 1 ≡ length xs + (h.0 - length xs + 1) = omega arith in
     let large = rw (place, take-append-add xs ys (h.0 - length xs + 1), ← append_assoc old xs (take (h.0 - length xs + 1) ys)) at h.2 in
     others (h.0 - length xs, omega (arith, h.1, length-append xs ys), large)) (cases_lt h.0 (length xs))
-
-all_both : (P : ℕ → Type 0) (xs ys : List ℕ) → AllByRecursion P xs → AllByRecursion P ys → AllByRecursion P (xs ++ ys)
-all_both P [] ys h k = k
-all_both P (x ∷ xs) ys h k = (h.0, all_both P xs ys h.1 k)
 
 -- how a call ends after one that went well
 ends_then : (a b c : IndexSerializerState) (result : Result (Unit {0}) Fault) → EndsInMemory {A = Unit {0}} a b (Ok tt) → EndsInMemory b c result → EndsInMemory a c result

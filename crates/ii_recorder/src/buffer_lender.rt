@@ -3,10 +3,16 @@ ghost use Rattle.std.specs.Prelude.{◌≡◌, []};
 use std::alloc::Global;
 
 /// Two buffers that are lent again and again, so that they grow once. They are empty when they are lent.
-#[derive(Drop)]
 pub struct BufferLender {
     buffer_u8: Vec<u8>,
     buffer_u32: Vec<u32>,
+}
+
+// So that each drop is a call.
+impl Drop for BufferLender {
+    fn drop(self) {
+        let BufferLender { buffer_u8: _, buffer_u32: _ } = self;
+    }
 }
 
 impl BufferLender {

@@ -3,6 +3,7 @@ ghost use Rattle.std.specs.Borrow.{sem, RestsIfErr};
 ghost use Rattle.ii_base.specs.declared.schema.index_record_option.IndexRecordOption.TheVariants.{Basic};
 ghost use Rattle.ii_base.specs.Options.{has_freq, has_positions};
 ghost use Rattle.ii_io.specs.CountingWriter.{IsFull};
+ghost use Rattle.ii_io.specs.Faults.{OnlyMemoryOrClosed};
 ghost use Rattle.ii_base.specs.Entries.{are_documents};
 ghost use Rattle.ii_fieldnorm.specs.Readers.{Norms};
 ghost use Rattle.ii_layout.specs.Bounds.{Covers};
@@ -85,7 +86,7 @@ impl<'a, W: Write> FieldSerializer<'a, W> {
 
         // How it ends, and by which fault it is refused.
         ensures ends { EndsInMemory self.old.index.now self.new.index.now result }
-        ensures only { IfErr result (λ e. (e ≡ Fault.OutOfMemory) ⊎ (e ≡ Fault.SerializerClosed)) }
+        ensures only { OnlyMemoryOrClosed result }
     {
         self.index.new_term(term, term_doc_freq, record_term_freq)
     }
@@ -105,7 +106,7 @@ impl<'a, W: Write> FieldSerializer<'a, W> {
 
         // How it ends, and by which fault it is refused.
         ensures ends { EndsInMemory self.old.index.now self.new.index.now result }
-        ensures only { IfErr result (λ e. (e ≡ Fault.OutOfMemory) ⊎ (e ≡ Fault.SerializerClosed)) }
+        ensures only { OnlyMemoryOrClosed result }
     {
         self.new_term(term, 0, false)
     }

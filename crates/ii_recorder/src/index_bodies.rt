@@ -27,6 +27,7 @@ pub struct IndexBodies<W: Write> {
     positions: CompositeWrite<W>,
 }
 
+// So that each drop is a call.
 impl<W: Write + Drop> Drop for IndexBodies<W> {
     fn drop(self) {
         let IndexBodies {

@@ -26,6 +26,7 @@ pub struct OpenTerm {
     doc_freq: u32,
 }
 
+// So that each drop is a call.
 impl Drop for OpenTerm {
     fn drop(self) {
         let OpenTerm {

@@ -4,6 +4,7 @@ ghost use Rattle.ii_base.specs.Options.{has_freq, has_positions};
 ghost use Rattle.ii_io.specs.CountingWriter.{CountingWriterState, Grows, IsFull};
 ghost use Rattle.ii_io.specs.Composite.{Body, fit_fields};
 ghost use Rattle.ii_io.specs.CompositeWrite.{HasBodies, WroteComposite};
+ghost use Rattle.ii_io.specs.Faults.{OnlyMemoryOrClosed};
 ghost use Rattle.ii_base.specs.Entries.{are_documents};
 ghost use Rattle.ii_fieldnorm.specs.Readers.{Norms};
 ghost use Rattle.ii_layout.specs.Bounds.{Covers};
@@ -39,6 +40,7 @@ pub struct InvertedIndexSerializer<W: Write> {
     is_closed: bool,
 }
 
+// So that each drop is a call.
 impl<W: Write + Drop> Drop for InvertedIndexSerializer<W> {
     fn drop(self) {
         let InvertedIndexSerializer {
@@ -212,7 +214,7 @@ impl<W: Write> InvertedIndexSerializer<W> {
 
         // How it ends, and by which fault it is refused.
         ensures ends { EndsInMemory self.old self.new result }
-        ensures only { IfErr result (λ e. (e ≡ Fault.OutOfMemory) ⊎ (e ≡ Fault.SerializerClosed)) }
+        ensures only { OnlyMemoryOrClosed result }
     {
         if self.is_closed {
             return Err(Fault::SerializerClosed);

@@ -1,6 +1,7 @@
 ghost use Rattle.std.specs.Prelude.{◌≡◌, ◌+◌, ◌^◌, ◌<◌, ◌≤◌, ◌↔◌, ◌⊎◌, [], ◌∷◌, ◌++◌, true, false, length, Ok, OnOk, OnErr, IfOk, IfErr, IsErrOf, IsTrue};
 ghost use Rattle.std.specs.List.{zip};
 ghost use Rattle.ii_io.specs.CountingWriter.{WritesUnlessClosed, Closes};
+ghost use Rattle.ii_io.specs.Faults.{OnlyMemoryOrClosed};
 ghost use Rattle.ii_termdict.specs.Dictionary.{dictionary};
 ghost use Rattle.ii_termdict.specs.ReadBack.{AreAscending};
 ghost use Rattle.ii_termdict.specs.Written.{written_dictionary};
@@ -23,6 +24,7 @@ pub struct TermPlaces {
     positions_end: usize,
 }
 
+// So that each drop is a call.
 impl Drop for TermPlaces {
     fn drop(self) {
         let TermPlaces {
@@ -69,7 +71,7 @@ impl TermPlaces {
         ensures ok { OnOk result (self.new ≡ record self.old { keys = self.old.keys ++ key.now ∷ [] }) }
         ensures err { OnErr result (self.new ≡ record self.old { closed = true }) }
         ensures closed { IsErrOf result Fault.SerializerClosed ↔ IsTrue self.old.closed }
-        ensures only { IfErr result (λ e. (e ≡ Fault.OutOfMemory) ⊎ (e ≡ Fault.SerializerClosed)) }
+        ensures only { OnlyMemoryOrClosed result }
     {
         self.dictionary.insert_key(key)
     }

@@ -8,7 +8,7 @@ use Rattle.std.proofs.lemmas.Bool.{and_parts, eqb-true, lt-ltb, ltb-true}
 use Rattle.std.proofs.lemmas.List.{append-nil, drop_all}
 use Rattle.std.proofs.lemmas.List.Folds.{list_all-append}
 use Rattle.std.proofs.lemmas.List.Sums.{passes_at_first}
-use Rattle.std.proofs.lemmas.Option.{get_or_from_slice_get, slice_get_within}
+use Rattle.std.proofs.lemmas.Option.{get_or_from_slice_get, same_Some, slice_get_within}
 use Rattle.ii_io.specs.Faults.{OnlyMemory}
 use Rattle.ii_io.specs.declared.faults.Fault.{Fault}
 use Rattle.ii_base.specs.declared.schema.index_record_option.IndexRecordOption.{IndexRecordOption}
@@ -151,15 +151,12 @@ after_fields prefix first (w ∷ ws) = (refl, after_fields prefix first ws)
 abbrev pub IsOfField : ℕ → PhraseState → Type 0
 IsOfField field p = (p.first.field ≡ field) × AllByRecursion (λ (o : PhraseTerm). o.term.field ≡ field) p.others
 
-some_is : {A : Type 0} (a b : A) → Some a ≡ Some b → a ≡ b
-some_is a b same = ap (λ (o : Option _). unwrap_or o a) same
-
 words_field : (prefix : TermState) (ws : List Word) (p : PhraseState) → words_phrase prefix ws ≡ Some p → IsOfField prefix.field p
 words_field prefix [] p is = absurd (cc)
 words_field prefix (w ∷ ws) p is = by (stand_after w.position ws) refl is
   where
     by : (b : Bool) → stand_after w.position ws ≡ b → words_phrase prefix (w ∷ ws) ≡ Some p → IsOfField prefix.field p
-    by true after is = subst (IsOfField prefix.field) (some_is _ p (rw after at is)) (refl, after_fields prefix w.position ws)
+    by true after is = subst (IsOfField prefix.field) (same_Some (rw after at is)) (refl, after_fields prefix w.position ws)
     by false after is = absurd (let none = rw after at is in cc)
 
 or_true : (b : Bool) → (b || true) ≡ true
@@ -239,7 +236,8 @@ pub named_later : (entries : List SchemaEntry) (name : List ℕ) (i : ℕ) (e : 
     → position_from (λ (x : SchemaEntry). bytes_eq x.name name) i (drop i entries) ≡ position_from (λ (x : SchemaEntry). bytes_eq x.name name) (i + 1) (drop (i + 1) entries)
 named_later entries name i e here is = ap (position_from (λ (x : SchemaEntry). bytes_eq x.name name) i) (entry_at entries i e here) ∙ rw is refl
 
-some_if : (t : Bool) (n i : ℕ) → cond t (Some n) None ≡ Some i → (t ≡ true) × (n ≡ i)
+-- what a number under a condition says
+pub some_if : (t : Bool) (n i : ℕ) → cond t (Some n) None ≡ Some i → (t ≡ true) × (n ≡ i)
 some_if true n i e = (refl, cc)
 some_if false n i e = absurd (cc)
 

@@ -3,6 +3,7 @@ use Rattle.std.proofs.Common.{◌≡◌, ◌∙◌, ℕ, ◌-◌, Bool, true, fa
 use Rattle.std.specs.Prelude.{slice_get}
 use Rattle.ii_base.specs.Terms.{TermState}
 use Rattle.ii_base.specs.Words.{Word}
+use Rattle.ii_json.proofs.KnownPaths.{some_if}
 use Rattle.ii_search.specs.declared.query.PhraseTerm.{PhraseTerm}
 use Rattle.ii_search.specs.QueryTexts.{stand_after, terms_after, word_term}
 
@@ -10,10 +11,6 @@ use Rattle.ii_search.specs.QueryTexts.{stand_after, terms_after, word_term}
 pub record IsTaking (prefix : TermState) (first : ℕ) (all left : List Word) (others : List PhraseTerm) : Type 0 where
   pub passed : stand_after first all ≡ stand_after first left
   pub terms : others ++ terms_after prefix first left ≡ terms_after prefix first all
-
-some_if : (t : Bool) (n i : ℕ) → Some i ≡ cond t (Some n) None → (t ≡ true) × (i ≡ n)
-some_if true n i is = (refl, cc)
-some_if false n i is = absurd (cc)
 
 -- one word more
 pub takes_more : (prefix : TermState) (first distance : ℕ) (all left later : List Word) (others more : List PhraseTerm) (w : Word) (t : TermState) → IsTaking prefix first all left others → slice_get left 0 ≡ Some w → later ≡ drop 1 left

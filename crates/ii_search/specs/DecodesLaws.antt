@@ -1,5 +1,5 @@
 -- Cursors that have decoded few blocks go on.
-use Rattle.std.proofs.Common.{List, [], ◌∷◌, ◌++◌, arith}
+use Rattle.std.proofs.Common.{List, [], ◌∷◌, arith}
 use Rattle.std.specs.List.{AllByRecursion, AllZip}
 use Rattle.ii_query.specs.Phrase.{Spent}
 use Rattle.ii_query.specs.TermOrPhrase.{WentOn}
@@ -44,8 +44,3 @@ each_went (Phrase a) (Term b) went few = elim went [ ]
 -- moves of the cursor of a query
 pub all_went : (xs ys : List (TermOrPhrase SegmentPostingsState)) → AllZip (WentOn WentLazily SpentLazily) xs ys → AllByRecursion EachDecodesFew xs → AllByRecursion EachDecodesFew ys
 all_went xs ys went all = all_kept (WentOn WentLazily SpentLazily) EachDecodesFew each_went xs ys went all
-
--- those of two parts
-pub all_both : {T : Type 0} (P : T → Type 0) (xs ys : List T) → AllByRecursion P xs → AllByRecursion P ys → AllByRecursion P (xs ++ ys)
-all_both P [] ys all others = others
-all_both P (x ∷ xs) ys all others = (all.0, all_both P xs ys all.1 others)

@@ -1,11 +1,10 @@
 -- A guard says what it was made of.
 use Rattle.std.proofs.Common.{◌≡◌, ◌<◌, ◌^◌, ℕ, suc, ◌+◌, List, ◌++◌, length, take, drop, Some, Ok, true, refl, sym, ap, ◌∙◌, append_assoc, arith}
-use Rattle.std.specs.Prelude.{bytes_eq}
 use Rattle.std.specs.Int.{w32, w64, to_le_bytes}
 use Rattle.std.proofs.Math.Seq.{drop-append_seam, take-append_seam}
 use Rattle.std.proofs.lemmas.List.{drop-drop, length-append}
 use Rattle.std.proofs.lemmas.Nat.{from_le_bytes-to_le_bytes_4}
-use Rattle.std.proofs.lemmas.Slice.Eq.{bytes_eq-Decides}
+use Rattle.std.proofs.lemmas.Cmp.{nat_list_eq_equiv}
 use Rattle.sha2.specs.Sha256.{sha256}
 use Rattle.sha2.proofs.Facts256.{length-sha256}
 use Rattle.ii_store.specs.declared.name.Kind.{Kind}
@@ -21,9 +20,6 @@ drop_seam n a b len = rw (sym len) (drop-append_seam a b)
 take_seam : (n : ℕ) (a b : List ℕ) → length a ≡ n → take n (a ++ b) ≡ a
 take_seam n a b len = rw (sym len) (take-append_seam a b)
 
-pub same_bytes : (bytes : List ℕ) → bytes_eq bytes bytes ≡ true
-same_bytes bytes = (bytes_eq-Decides bytes bytes).1 refl
-
 length_entry : (bytes : List ℕ) → length (entry bytes) ≡ 40
 unfolding entry
 length_entry bytes = ap (λ n. suc (suc (suc (suc (suc (suc (suc (suc n)))))))) (length-sha256 bytes)
@@ -31,7 +27,7 @@ length_entry bytes = ap (λ n. suc (suc (suc (suc (suc (suc (suc (suc n)))))))) 
 -- a file is as its entry says
 file_given : (kind : Kind) (bytes more : List ℕ) → file_in kind (entry bytes ++ more) (Some bytes) ≡ Ok bytes
 unfolding file_in entry
-file_given kind bytes more = rw (take_seam 32 (sha256 bytes) more (length-sha256 bytes), same_bytes (to_le_bytes w64 (length bytes)), same_bytes (sha256 bytes)) refl
+file_given kind bytes more = rw (take_seam 32 (sha256 bytes) more (length-sha256 bytes), nat_list_eq_equiv.refl (to_le_bytes w64 (length bytes)), nat_list_eq_equiv.refl (sha256 bytes)) refl
 
 -- a guard from left to right
 abbrev parts : Slot → Index → List ℕ → List ℕ
@@ -119,7 +115,7 @@ slot_of_guard slot i = ap (λ meta. slot_in meta) (guard_is slot i) ∙ named sl
 
 version_of_guard : (slot : Slot) (i : Index) → version_in (guard slot i) ≡ Ok 1
 unfolding version_in
-version_of_guard slot i = rw (length_guard slot i, front_8 slot i, same_bytes format, version_at_8 slot i) refl
+version_of_guard slot i = rw (length_guard slot i, front_8 slot i, nat_list_eq_equiv.refl format, version_at_8 slot i) refl
 
 checksum_of : (slot : Slot) (i : Index) → drop 217 (guard slot i) ≡ sha256 (guarded slot i)
 unfolding guard
@@ -134,7 +130,7 @@ unfolding whole_num_docs_in
 whole_of_guard slot i small =
     let end : drop 217 (guard slot i) ≡ sha256 (guarded slot i) = checksum_of slot i in
     let front : take 217 (guard slot i) ≡ guarded slot i = guarded_of slot i in
-    rw (length_guard slot i, end, front, same_bytes (sha256 (guarded slot i)), docs_at_13 slot i, from_le_bytes-to_le_bytes_4 i.num_docs small) refl
+    rw (length_guard slot i, end, front, nat_list_eq_equiv.refl (sha256 (guarded slot i)), docs_at_13 slot i, from_le_bytes-to_le_bytes_4 i.num_docs small) refl
 
 docs_of_guard : (slot : Slot) (i : Index) → i.num_docs < 2 ^ 32 → num_docs_in (guard slot i) ≡ Ok i.num_docs
 unfolding num_docs_in

@@ -16,27 +16,24 @@ unfolding after
 after_last files [] last = refl
 after_last files (change ∷ changes) last = after_last (changed change files) changes last
 
-same_number : (n : ℕ) → (n == n) ≡ true
-same_number n = eq-eqb n n refl
-
 other_number : (name other : Name) → IsOther name other → (name_number name == name_number other) ≡ false
 other_number name other differ = ne_eqb (name_number name) (name_number other) (λ same. differ (sym same))
 
 put_changes : (name : Name) (bytes : Vec ℕ Global) (files : Files) → IsPut name (Some bytes.items) files (changed (Put name bytes) files)
 put_changes name bytes files = record {
-  there = rw (same_number (name_number name)) refl;
+  there = rw (eq-eqb (name_number name) (name_number name) refl) refl;
   elsewhere = λ other differ. rw (other_number name other differ) refl;
 }
 
 removed_changes : (name : Name) (files : Files) → IsPut name None files (changed (Removed name) files)
 removed_changes name files = record {
-  there = rw (same_number (name_number name)) refl;
+  there = rw (eq-eqb (name_number name) (name_number name) refl) refl;
   elsewhere = λ other differ. rw (other_number name other differ) refl;
 }
 
 renamed_changes : (from to : Name) (files : Files) → IsRenamed from to files (changed (Renamed from to) files)
 renamed_changes from to files = record {
-  there = rw (same_number (name_number to)) refl;
+  there = rw (eq-eqb (name_number to) (name_number to) refl) refl;
   elsewhere = λ other not_from not_to. rw (other_number to other not_to, other_number from other not_from) refl;
 }
 

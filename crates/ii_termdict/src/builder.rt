@@ -1,6 +1,7 @@
-ghost use Rattle.std.specs.Prelude.{◌≡◌, ◌+◌, ◌↔◌, ◌⊎◌, [], ◌∷◌, ◌++◌, true, false, length, Ok, OnOk, OnErr, IfErr, IsErrOf, IsTrue};
+ghost use Rattle.std.specs.Prelude.{◌≡◌, ◌+◌, ◌↔◌, [], ◌∷◌, ◌++◌, true, false, length, Ok, OnOk, OnErr, IsErrOf, IsTrue};
 ghost use Rattle.std.specs.List.{zip};
 ghost use Rattle.ii_io.specs.CountingWriter.{WritesUnlessClosed};
+ghost use Rattle.ii_io.specs.Faults.{OnlyMemoryOrClosed};
 ghost use Rattle.ii_termstore.specs.TermInfos.{HasLengths};
 ghost use Rattle.ii_termstore.specs.ReadBack.{AreJoined};
 ghost use Rattle.ii_termdict.specs.Dictionary.{dictionary};
@@ -51,7 +52,7 @@ impl<W: Write> TermDictionaryBuilder<W> {
         ensures ok { OnOk result (self.new ≡ record self.old { keys = self.old.keys ++ key.now ∷ [] }) }
         ensures err { OnErr result (self.new ≡ record self.old { closed = true }) }
         ensures closed { IsErrOf result Fault.SerializerClosed ↔ IsTrue self.old.closed }
-        ensures only { IfErr result (λ e. (e ≡ Fault.OutOfMemory) ⊎ (e ≡ Fault.SerializerClosed)) }
+        ensures only { OnlyMemoryOrClosed result }
     {
         self.terms.insert_key(key)
     }
@@ -67,7 +68,7 @@ impl<W: Write> TermDictionaryBuilder<W> {
         ensures ok { OnOk result (self.new ≡ record self.old { infos = self.old.infos ++ term_info.now ∷ [] }) }
         ensures err { OnErr result (self.new ≡ record self.old { closed = true }) }
         ensures closed { IsErrOf result Fault.SerializerClosed ↔ IsTrue self.old.closed }
-        ensures only { IfErr result (λ e. (e ≡ Fault.OutOfMemory) ⊎ (e ≡ Fault.SerializerClosed)) }
+        ensures only { OnlyMemoryOrClosed result }
     {
         self.terms.insert_value(term_info)
     }

@@ -13,9 +13,15 @@ use std::marker::Model;
 
 /// Keys in order, each with what is kept of its term, over bytes that were checked whole. Clauses see
 /// the list of pairs.
-#[derive(Drop)]
 pub struct TermDictionary {
     bytes: Bytes,
+}
+
+// So that each drop is a call.
+impl Drop for TermDictionary {
+    fn drop(self) {
+        let TermDictionary { bytes: _ } = self;
+    }
 }
 
 impl Model for TermDictionary {

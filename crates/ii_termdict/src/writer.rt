@@ -1,7 +1,7 @@
-ghost use Rattle.std.specs.Prelude.{◌≡◌, ◌+◌, ◌<◌, ◌↔◌, ◌⊎◌, ◌^◌, List, [], ◌∷◌, ◌++◌, true, false, length, Some, Ok, OnOk, OnErr, IfErr, IsErrOf, IsTrue};
+ghost use Rattle.std.specs.Prelude.{◌≡◌, ◌+◌, ◌<◌, ◌↔◌, ◌^◌, List, [], ◌∷◌, ◌++◌, true, false, length, Some, Ok, OnOk, OnErr, IsErrOf, IsTrue};
 ghost use Rattle.std.specs.List.{flat_map, zip};
 ghost use Rattle.ii_io.specs.CountingWriter.{Writes, WritesUnlessClosed, Closes};
-ghost use Rattle.ii_io.specs.Faults.{OnlyMemory};
+ghost use Rattle.ii_io.specs.Faults.{OnlyMemory, OnlyMemoryOrClosed};
 ghost use Rattle.ii_io.specs.Numbers.{le_bytes};
 ghost use Rattle.ii_termstore.specs.TermInfos.{HasLengths};
 ghost use Rattle.ii_termstore.specs.TermStore.{term_store};
@@ -67,7 +67,7 @@ impl TermDictionaryWriter {
         ensures ok { OnOk result (self.new ≡ record self.old { keys = self.old.keys ++ key.now ∷ [] }) }
         ensures err { OnErr result (self.new ≡ record self.old { closed = true }) }
         ensures closed { IsErrOf result Fault.SerializerClosed ↔ IsTrue self.old.closed }
-        ensures only { IfErr result (λ e. (e ≡ Fault.OutOfMemory) ⊎ (e ≡ Fault.SerializerClosed)) }
+        ensures only { OnlyMemoryOrClosed result }
     {
         if self.is_closed {
             return Err(Fault::SerializerClosed);
@@ -88,7 +88,7 @@ impl TermDictionaryWriter {
         ensures ok { OnOk result (self.new ≡ record self.old { infos = self.old.infos ++ term_info.now ∷ [] }) }
         ensures err { OnErr result (self.new ≡ record self.old { closed = true }) }
         ensures closed { IsErrOf result Fault.SerializerClosed ↔ IsTrue self.old.closed }
-        ensures only { IfErr result (λ e. (e ≡ Fault.OutOfMemory) ⊎ (e ≡ Fault.SerializerClosed)) }
+        ensures only { OnlyMemoryOrClosed result }
     {
         if self.is_closed {
             return Err(Fault::SerializerClosed);

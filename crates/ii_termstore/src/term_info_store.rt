@@ -23,9 +23,15 @@ pub use store_writer::TermInfoStoreWriter;
 pub const BLOCK_LEN: usize = 256;
 
 /// A list of term infos, over bytes that were checked whole. Clauses see the list.
-#[derive(Drop)]
 pub struct TermInfoStore {
     bytes: Bytes,
+}
+
+// So that each drop is a call.
+impl Drop for TermInfoStore {
+    fn drop(self) {
+        let TermInfoStore { bytes: _ } = self;
+    }
 }
 
 impl Model for TermInfoStore {

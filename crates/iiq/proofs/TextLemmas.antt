@@ -9,7 +9,8 @@ use Rattle.std.specs.Option.{IfSome, option_copied}
 use Rattle.std.specs.Borrow.{Bor}
 use Rattle.std.specs.Str.{IsUtf8}
 use Rattle.iiq.specs.Words.{AreTexts, parts, parts_left}
-use Rattle.iiq.proofs.WordLemmas.{parts_at, parts_whole, some_if, utf8_behind}
+use Rattle.ii_search.proofs.TermLemmas.{some_if}
+use Rattle.iiq.proofs.WordLemmas.{parts_at, parts_whole, utf8_behind}
 
 -- what stands before a separator that is ASCII
 text_before : (c : ℕ) (text : List ℕ) (i : ℕ) → Some i ≡ position (λ b. eqb b c) text → c < 128 → IsUtf8 text → IsUtf8 (take i text)

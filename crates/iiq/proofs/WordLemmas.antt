@@ -13,11 +13,8 @@ use Rattle.std.specs.Result.{result_ok, OkIff}
 use Rattle.std.specs.Char.{is_ascii_digit}
 use Rattle.std.specs.Str.{all_ascii_digits, IsUtf8}
 use Rattle.ii_io.specs.Steps.{◌>>=◌, needs}
+use Rattle.ii_search.proofs.TermLemmas.{some_if}
 use Rattle.iiq.specs.Words.{parts, parts_left, number_on, number_below, signed_number}
-
-pub some_if : (t : Bool) (n i : ℕ) → cond t (Some n) None ≡ Some i → (t ≡ true) × (n ≡ i)
-some_if true n i e = (refl, cc)
-some_if false n i e = absurd (cc)
 
 none_if : (t : Bool) (n : ℕ) → cond t (Some n) None ≡ None → t ≡ false
 none_if true n e = absurd (cc)

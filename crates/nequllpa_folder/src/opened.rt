@@ -22,12 +22,22 @@ use ii_store::StoredIndex;
 use std::alloc::Global;
 
 /// An index that is open: its schema, and a reader for each field.
-#[derive(Drop)]
 pub struct Opened {
     schema: Schema,
     index: OpenIndex,
     num_docs: u32,
     ghost many: { length index.readers ≡ length schema },
+}
+
+// So that each drop is a call.
+impl Drop for Opened {
+    fn drop(self) {
+        let Opened {
+            schema: _,
+            index: _,
+            num_docs: _,
+        } = self;
+    }
 }
 
 impl Opened {
@@ -139,12 +149,23 @@ pub fn schema_of(alloc: Global, bytes: &[u8]) -> Result<Schema, OpenFault>
 }
 
 // The files of an index.
-#[derive(Drop)]
 struct Files {
     terms: Vec<u8>,
     postings: Vec<u8>,
     positions: Vec<u8>,
     fieldnorms: Vec<u8>,
+}
+
+// So that each drop is a call.
+impl Drop for Files {
+    fn drop(self) {
+        let Files {
+            terms: _,
+            postings: _,
+            positions: _,
+            fieldnorms: _,
+        } = self;
+    }
 }
 
 impl Files {

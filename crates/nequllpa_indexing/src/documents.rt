@@ -18,11 +18,21 @@ use std::marker::Model;
 /// Documents that are to be indexed, as the index calls of their lines.
 ///
 /// Clauses see the schema, how many documents there are, and the calls.
-#[derive(Drop)]
 pub struct Documents {
     schema: Schema,
     num_docs: DocId,
     calls: Vec<IndexCall>,
+}
+
+// So that each drop is a call.
+impl Drop for Documents {
+    fn drop(self) {
+        let Documents {
+            schema: _,
+            num_docs: _,
+            calls: _,
+        } = self;
+    }
 }
 
 impl Model for Documents {

@@ -18,10 +18,16 @@ use std::marker::Model;
 ///
 /// The bodies stay in the buffer that the file was opened from, and are shared with those who read
 /// them.
-#[derive(Drop)]
 pub struct CompositeFile {
     bytes: Bytes,
     places: Vec<Place>,
+}
+
+// So that each drop is a call.
+impl Drop for CompositeFile {
+    fn drop(self) {
+        let CompositeFile { bytes: _, places: _ } = self;
+    }
 }
 
 impl Model for CompositeFile {

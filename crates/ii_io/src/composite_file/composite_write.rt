@@ -1,10 +1,11 @@
-ghost use Rattle.std.specs.Prelude.{◌≡◌, ◌<◌, ◌⊎◌, ◌↔◌, ◌+◌, ◌-◌, ◌*◌, ◌^◌, List, [], ◌∷◌, ◌++◌, true, false, length, Some, IsTrue, IfOk, OnOk, OnErr, IfErr, IsErrOf, slice_get};
+ghost use Rattle.std.specs.Prelude.{◌≡◌, ◌<◌, ◌↔◌, ◌+◌, ◌-◌, ◌*◌, ◌^◌, List, [], ◌∷◌, ◌++◌, true, false, length, Some, IsTrue, IfOk, OnOk, OnErr, IsErrOf, slice_get};
 ghost use Rattle.std.specs.Borrow.{sem};
 ghost use Rattle.ii_io.specs.CountingWriter.{CountingWriterState, Writes, WritesUnlessClosed, IsFull};
 ghost use Rattle.std.specs.List.{flat_map};
 ghost use Rattle.ii_io.specs.Composite.{Body, fit_fields, place_bytes, table_bytes};
 ghost use Rattle.ii_io.specs.CompositeWrite.{has_start, places_of, places_until, next_start, HasBodies, WroteComposite};
 ghost use Rattle.ii_io.specs.Lending.{LendsForField, LendsWriter};
+ghost use Rattle.ii_io.specs.Faults.{OnlyMemoryOrClosed};
 
 use super::place::{BodyStart, Place};
 use crate::counting_writer::CountingWriter;
@@ -66,7 +67,7 @@ impl<W: Write> CompositeWrite<W> {
         ensures* lends { sem 𝓛 (LendsForField W.row W.Write self.entry field result) }
         ensures value { IfOk result (λ writer. writer.now ≡ self.old.writer) }
         ensures closed { IsErrOf result Fault.SerializerClosed ↔ IsTrue self.old.closed }
-        ensures only { IfErr result (λ e. (e ≡ Fault.OutOfMemory) ⊎ (e ≡ Fault.SerializerClosed)) }
+        ensures only { OnlyMemoryOrClosed result }
     {
         self.begin_body(field)?;
         Ok(&mut self.writer)
@@ -89,7 +90,7 @@ impl<W: Write> CompositeWrite<W> {
             ≡ record self.old { starts = self.old.starts ++ next_start self.old field ∷ [] }) }
         ensures err { OnErr result (self.new ≡ record self.old { closed = true }) }
         ensures closed { IsErrOf result Fault.SerializerClosed ↔ IsTrue self.old.closed }
-        ensures only { IfErr result (λ e. (e ≡ Fault.OutOfMemory) ⊎ (e ≡ Fault.SerializerClosed)) }
+        ensures only { OnlyMemoryOrClosed result }
     {
         if self.is_closed {
             return Err(Fault::SerializerClosed);

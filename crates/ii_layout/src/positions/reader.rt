@@ -16,9 +16,15 @@ use std::marker::Model;
 ///
 /// It keeps the bytes, where 64 blocks begin, and the block that was decoded last: a part that lies
 /// in that block is read without decoding.
-#[derive(Drop)]
 pub struct PositionReader {
     blocks: PositionBlocks,
+}
+
+// So that each drop is a call.
+impl Drop for PositionReader {
+    fn drop(self) {
+        let PositionReader { blocks: _ } = self;
+    }
 }
 
 impl Model for PositionReader {

@@ -1,6 +1,6 @@
-ghost use Rattle.std.specs.Prelude.{◌≡◌, ◌-◌, ◌<◌, ◌≤◌, ◌↔◌, ◌⊎◌, ◌==◌, [], ◌∷◌, ◌++◌, length, take, min, false, true, IsTrue, Some, OnOk, OnErr, IfErr, IsErrOf};
+ghost use Rattle.std.specs.Prelude.{◌≡◌, ◌-◌, ◌<◌, ◌≤◌, ◌↔◌, ◌==◌, [], ◌∷◌, ◌++◌, length, take, min, false, true, IsTrue, Some, OnOk, OnErr, IsErrOf};
 ghost use Rattle.ii_io.specs.CountingWriter.{Writes, WritesUnlessClosed};
-ghost use Rattle.ii_io.specs.Faults.{OnlyMemory};
+ghost use Rattle.ii_io.specs.Faults.{OnlyMemory, OnlyMemoryOrClosed};
 ghost use Rattle.ii_io.specs.Vints.{vint_u64};
 ghost use Rattle.ii_codes.specs.Blocks.{unsorted_width, unsorted_bytes};
 ghost use Rattle.ii_layout.specs.Positions.{position_deltas, written_positions};
@@ -285,7 +285,7 @@ impl PositionWriter {
         ensures ok { OnOk result (self.new ≡ record { deltas = self.old.deltas ++ positions_delta.now; closed = false }) }
         ensures err { OnErr result (self.new ≡ record { deltas = []; closed = true }) }
         ensures closed { IsErrOf result Fault.SerializerClosed ↔ IsTrue self.old.closed }
-        ensures only { IfErr result (λ e. (e ≡ Fault.OutOfMemory) ⊎ (e ≡ Fault.SerializerClosed)) }
+        ensures only { OnlyMemoryOrClosed result }
     {
         if self.is_closed {
             return Err(Fault::SerializerClosed);
@@ -364,7 +364,7 @@ impl<W: Write> PositionSerializer<W> {
         ensures ok { OnOk result (self.new ≡ record self.old { deltas = self.old.deltas ++ positions_delta.now; closed = false }) }
         ensures err { OnErr result (self.new ≡ record self.old { deltas = []; closed = true }) }
         ensures closed { IsErrOf result Fault.SerializerClosed ↔ IsTrue self.old.closed }
-        ensures only { IfErr result (λ e. (e ≡ Fault.OutOfMemory) ⊎ (e ≡ Fault.SerializerClosed)) }
+        ensures only { OnlyMemoryOrClosed result }
     {
         self.positions.write_positions_delta(positions_delta)
     }
