@@ -21,7 +21,10 @@ pub struct FieldBodies {
 // So that each drop is a call.
 impl Drop for FieldBodies {
     fn drop(self) {
-        let FieldBodies { bytes: _, bodies: _ } = self;
+        let FieldBodies {
+            bytes: _,
+            bodies: _,
+        } = self;
     }
 }
 

@@ -33,7 +33,10 @@ pub struct OpenIndex {
 // So that each drop is a call.
 impl Drop for OpenIndex {
     fn drop(self) {
-        let OpenIndex { readers: _, fieldnorms: _ } = self;
+        let OpenIndex {
+            readers: _,
+            fieldnorms: _,
+        } = self;
     }
 }
 

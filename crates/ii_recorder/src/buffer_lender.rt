@@ -11,7 +11,10 @@ pub struct BufferLender {
 // So that each drop is a call.
 impl Drop for BufferLender {
     fn drop(self) {
-        let BufferLender { buffer_u8: _, buffer_u32: _ } = self;
+        let BufferLender {
+            buffer_u8: _,
+            buffer_u32: _,
+        } = self;
     }
 }
 

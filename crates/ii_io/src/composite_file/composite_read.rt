@@ -26,7 +26,10 @@ pub struct CompositeFile {
 // So that each drop is a call.
 impl Drop for CompositeFile {
     fn drop(self) {
-        let CompositeFile { bytes: _, places: _ } = self;
+        let CompositeFile {
+            bytes: _,
+            places: _,
+        } = self;
     }
 }
 
