@@ -133,7 +133,7 @@ pub text_known : (entries : List SchemaEntry) (ts : List IndexToken) (s : Indexe
     → StoresTokens entries s ts → slice_get s.writers field ≡ Some w
     → (w.option ≡ option_of entries field) × HasTokens (held_kept_at entries) (text_at doc field held words) s.terms w (map (held_token (json_fields entries) s.paths) ts)
 text_known entries ts s doc field held prefix words w takes h found =
-    let is : w ≡ writer_in entries field (field_count field ts) = same_Some (sym found ∙ h.counted field takes.known) in
+    let is : w ≡ writer_in entries field (field_count field ts) = same_Some _ _ (sym found ∙ h.counted field takes.known) in
     let option : w.option ≡ kept_in entries field = ap (λ (v : PostingsWriterState). v.option) is in
     let flags = json_fields entries in (
       option ∙ takes.option,
@@ -169,7 +169,7 @@ text_stored entries ts s doc field held prefix words begin w terms after takes h
     let new = f known.1 in
     let all : map (held_token flags s.paths) ts ++ map (word_token q begin) ws ≡ map (held_token flags s.paths) (ts ++ us)
     = ap (λ (vs : List IndexToken). map (held_token flags s.paths) ts ++ vs) (sym (words_held entries s.paths h.known_paths p q refl refl takes begin ws)) ∙ sym (map-append (held_token flags s.paths) ts us) in
-    let is : w ≡ writer_in entries field (field_count field ts) = same_Some (sym found ∙ h.counted field takes.known) in
+    let is : w ≡ writer_in entries field (field_count field ts) = same_Some _ _ (sym found ∙ h.counted field takes.known) in
     let made : after ≡ tokens_counted (length ws) (writer_in entries field (field_count field ts)) = counted ∙ ap (tokens_counted (length ws)) is in
     let many = sym (ap (λ (v : PostingsWriterState). v.total_num_tokens) made) ∙ new.counted ∙ ap (field_count field) all ∙ count_held flags s.paths field (ts ++ us) in
     tokens_stored entries field s terms after ts us takes.known h (record {
@@ -189,7 +189,7 @@ pub value_stored : (entries : List SchemaEntry) (ts : List IndexToken) (s : Inde
 value_stored entries ts s doc field held key w terms after takes h found counted f =
     let flags = json_fields entries in
     let t = value_token (value_at doc field key) in
-    let is : w ≡ writer_in entries field (field_count field ts) = same_Some (sym found ∙ h.counted field takes.known) in
+    let is : w ≡ writer_in entries field (field_count field ts) = same_Some _ _ (sym found ∙ h.counted field takes.known) in
     let option : w.value_option ≡ Basic = ap (λ (v : PostingsWriterState). v.value_option) is ∙ takes.option in
     let token : value_token (value_at doc field held) ≡ held_token flags s.paths t = ap (λ (k : List ℕ). record t { key = k }) (sym takes.holds) in
     let all : map (held_token flags s.paths) ts ++ value_token (value_at doc field held) ∷ [] ≡ map (held_token flags s.paths) (ts ++ t ∷ [])
@@ -207,7 +207,7 @@ pub value_refused : {T : Type 0} (entries : List SchemaEntry) (ts : List IndexTo
     → field < 4294967296 → TakesValue entries s.paths field held key → StoresTokens entries s ts → slice_get s.writers field ≡ Some w
     → IsRefusedBy (subscribe_fault w.value_option w.total_num_tokens doc 0 (field_bytes field ++ held) s.terms) result → IsRefusedBy (value_fault field ts) result
 value_refused {T} entries ts s doc field held key w result low takes h found refused =
-    let is : w ≡ writer_in entries field (field_count field ts) = same_Some (sym found ∙ h.counted field takes.known) in
+    let is : w ≡ writer_in entries field (field_count field ts) = same_Some _ _ (sym found ∙ h.counted field takes.known) in
     let option : w.value_option ≡ Basic = ap (λ (v : PostingsWriterState). v.value_option) is ∙ takes.option in
     let many : w.total_num_tokens ≡ field_count field ts = ap (λ (v : PostingsWriterState). v.total_num_tokens) is in
     let bytes = field_bytes field ++ held in

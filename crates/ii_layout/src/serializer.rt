@@ -380,12 +380,23 @@ fn append_doc(
 /// Writes the postings of one term after the other.
 ///
 /// After a refused call it is closed: each further call answers `SerializerClosed`.
-#[derive(Drop)]
 pub struct PostingsSerializer {
     mode: IndexRecordOption,
     blocks: PackedBlocks,
     block: Block,
     is_closed: bool,
+}
+
+// So that each drop is a call.
+impl Drop for PostingsSerializer {
+    fn drop(self) {
+        let PostingsSerializer {
+            mode: _,
+            blocks: _,
+            block: _,
+            is_closed: _,
+        } = self;
+    }
 }
 
 impl Model for PostingsSerializer {

@@ -1,5 +1,5 @@
 -- What the cursors of a query have decoded, as it was told and as it is promised.
-use Rattle.std.proofs.Common.{List, [], ◌∷◌}
+use Rattle.std.proofs.Common.{List}
 use Rattle.std.specs.List.{AllByRecursion, AllZip}
 use Rattle.ii_query.specs.TermOrPhrase.{WentOn}
 use Rattle.ii_query.specs.declared.term_or_phrase.TermOrPhrase.{TermOrPhrase}

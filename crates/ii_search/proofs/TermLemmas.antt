@@ -1,6 +1,6 @@
 -- The terms of words and phrases.
 use Rattle.std.proofs.Common.{◌≡◌, ◌∙◌, ℕ, ◌+◌, ◌<◌, ◌≤◌, Bool, true, false, ◌&&◌, ◌||◌, true≢false, List, [], ◌∷◌, ◌++◌, append_assoc, cond, drop, eqb, get_or, length, nat_lt, Option, None, Some, Result, Ok, Err, inl, inr, refl, sym, ap, arith, subst, add-one}
-use Rattle.std.specs.Prelude.{IfErr, IfOk, IfSome, bytes_eq, option_map, position, slice_get, unwrap_or}
+use Rattle.std.specs.Prelude.{IfErr, IfOk, IfSome, bytes_eq, option_map, position, slice_get}
 use Rattle.std.specs.List.{AllByRecursion, list_all, position_from, position_or_len}
 use Rattle.std.specs.Result.{result_unwrap_or}
 use Rattle.std.proofs.Math.Seq.{drop-cons}
@@ -156,7 +156,7 @@ words_field prefix [] p is = absurd (cc)
 words_field prefix (w ∷ ws) p is = by (stand_after w.position ws) refl is
   where
     by : (b : Bool) → stand_after w.position ws ≡ b → words_phrase prefix (w ∷ ws) ≡ Some p → IsOfField prefix.field p
-    by true after is = subst (IsOfField prefix.field) (same_Some (rw after at is)) (refl, after_fields prefix w.position ws)
+    by true after is = subst (IsOfField prefix.field) (same_Some _ p (rw after at is)) (refl, after_fields prefix w.position ws)
     by false after is = absurd (let none = rw after at is in cc)
 
 or_true : (b : Bool) → (b || true) ≡ true

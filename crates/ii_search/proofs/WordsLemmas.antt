@@ -1,5 +1,5 @@
 -- The tokens of a text, taken one after the other.
-use Rattle.std.proofs.Common.{◌≡◌, ◌∙◌, ℕ, ◌-◌, Bool, true, false, ◌&&◌, List, [], ◌∷◌, ◌++◌, append_assoc, cond, drop, nat_le, nat_lt, Some, None, refl}
+use Rattle.std.proofs.Common.{◌≡◌, ◌∙◌, ℕ, ◌-◌, ◌&&◌, List, [], ◌∷◌, ◌++◌, append_assoc, cond, drop, nat_le, nat_lt, Some, None, refl}
 use Rattle.std.specs.Prelude.{slice_get}
 use Rattle.ii_base.specs.Terms.{TermState}
 use Rattle.ii_base.specs.Words.{Word}

@@ -1,5 +1,5 @@
 -- What one change more makes of a directory in memory.
-use Rattle.std.proofs.Common.{◌≡◌, ◌⊎◌, inl, inr, ⊎_elim, ℕ, ◌==◌, false, true, List, [], ◌∷◌, ◌++◌, length, take, Option, None, Some, Vec, Result, Ok, Err, OnOk, OnErr, IfOk, refl, sym, ap, ◌∙◌, arith}
+use Rattle.std.proofs.Common.{◌≡◌, ◌⊎◌, inl, inr, ⊎_elim, ℕ, ◌==◌, false, List, [], ◌∷◌, ◌++◌, length, take, Option, None, Some, Vec, Result, Ok, Err, OnOk, OnErr, IfOk, refl, sym, ap, ◌∙◌, arith}
 use Rattle.std.proofs.lemmas.Bool.{cases_lt, ne_eqb, eq-eqb}
 use Rattle.std.proofs.lemmas.List.{length-append, take-append-le}
 use Rattle.std.specs.declared.alloc.Global.{Global}

@@ -23,12 +23,23 @@ use std::marker::Model;
 /// It keeps the bytes of the keys, 8 bytes more for each, and of the terms what `TermInfoStoreWriter`
 /// does. It is closed by the first call that is refused, and answers `SerializerClosed` from then on;
 /// of a closed one nothing is asked.
-#[derive(Drop)]
 pub struct TermDictionaryWriter {
     key_bytes: Vec<u8>,
     ends: Vec<u64>,
     term_infos: TermInfoStoreWriter,
     is_closed: bool,
+}
+
+// So that each drop is a call.
+impl Drop for TermDictionaryWriter {
+    fn drop(self) {
+        let TermDictionaryWriter {
+            key_bytes: _,
+            ends: _,
+            term_infos: _,
+            is_closed: _,
+        } = self;
+    }
 }
 
 impl Model for TermDictionaryWriter {

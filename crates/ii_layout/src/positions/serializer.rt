@@ -246,11 +246,21 @@ fn pack_if_full(packed: &mut PackedDeltas, block: &mut DeltaBlock) -> Result<(),
 /// deltas of the open term, and whether an earlier call was refused.
 ///
 /// After a refused call it is closed: each further call answers `SerializerClosed`.
-#[derive(Drop)]
 pub struct PositionWriter {
     packed: PackedDeltas,
     block: DeltaBlock,
     is_closed: bool,
+}
+
+// So that each drop is a call.
+impl Drop for PositionWriter {
+    fn drop(self) {
+        let PositionWriter {
+            packed: _,
+            block: _,
+            is_closed: _,
+        } = self;
+    }
 }
 
 impl Model for PositionWriter {

@@ -19,11 +19,21 @@ use std::marker::Model;
 
 /// Gathers term infos, and writes them as a store. It keeps a full block of 256 terms as its bytes.
 /// Clauses see the terms, and whether an earlier call was refused.
-#[derive(Drop)]
 pub struct TermInfoStoreWriter {
     blocks: GatheredBlocks,
     given: GivenTerms,
     is_closed: bool,
+}
+
+// So that each drop is a call.
+impl Drop for TermInfoStoreWriter {
+    fn drop(self) {
+        let TermInfoStoreWriter {
+            blocks: _,
+            given: _,
+            is_closed: _,
+        } = self;
+    }
 }
 
 impl Model for TermInfoStoreWriter {
