@@ -1,4 +1,4 @@
-use crate::table::{ROUNDS, print_row, since};
+use crate::table::{ROUNDS, print_row};
 use anyhow::Result;
 use bytes::Bytes;
 use ii_base::{CompositeFile, Fault, IndexRecordOption, write_u32_vint};
@@ -78,9 +78,9 @@ fn least_of(
 ) -> Result<Duration> {
     let mut least = Duration::MAX;
     for _ in 0..ROUNDS {
-        let start = Instant::now(rt);
+        let start = Instant::now(rt)?;
         open_once(rt.alloc(), format, count, bytes, positions)?;
-        least = least.min(since(rt, start)?);
+        least = least.min(start.elapsed(rt)?);
     }
     Ok(least)
 }

@@ -2,7 +2,7 @@ ghost use Rattle.std.specs.Prelude.{◌≡◌, ◌<◌, length, IfOk};
 ghost use Rattle.ii_base.specs.declared.schema.value_type.ValueType.TheVariants.{Str};
 ghost use Rattle.ii_definitions.specs.IndexCalls.{Takes};
 
-use crate::table::{print_row, since};
+use crate::table::print_row;
 use anyhow::Result;
 use bytes::Bytes;
 use ii_base::{AsciiTokenizer, Field, FieldEntry, IndexRecordOption, Schema, Term};
@@ -69,18 +69,18 @@ fn print(rt: &HostRuntime, name: &str, took: Duration, items: u64, bytes: u64) -
 // the files have.
 fn round(rt: &HostRuntime) -> Result<([Duration; 3], [u64; 2])> {
     let (texts, text_bytes) = texts(rt.alloc(), TERMS)?;
-    let start = Instant::now(rt);
+    let start = Instant::now(rt)?;
     let files = written(rt.alloc(), indexed(rt.alloc(), texts)?)?;
-    let indexing = since(rt, start)?;
+    let indexing = start.elapsed(rt)?;
     let file_bytes = files.len();
     let (opening, looking) = open_and_look_up(rt, files)?;
     Ok(([indexing, opening, looking], [text_bytes, file_bytes]))
 }
 
 fn open_and_look_up(rt: &HostRuntime, files: Files) -> Result<(Duration, Duration)> {
-    let start = Instant::now(rt);
-    let index = opened(rt.alloc(), files)?;
-    let opening = since(rt, start)?;
+    let start = Instant::now(rt)?;
+    let index = files.opened(rt.alloc())?;
+    let opening = start.elapsed(rt)?;
     Ok((opening, look_up(rt, index.reader(Field::from_field_id(0)))?))
 }
 
@@ -91,11 +91,11 @@ fn look_up(rt: &HostRuntime, reader: &InvertedIndexReader) -> Result<Duration> {
     for _ in 0..LOOK_UPS {
         terms.push(word_term(rt.alloc(), drawn(&mut state))?)?;
     }
-    let start = Instant::now(rt);
+    let start = Instant::now(rt)?;
     for term in terms.as_slice() {
         let _cursor = reader.read_postings(term, FULL)?;
     }
-    Ok(since(rt, start)?)
+    Ok(start.elapsed(rt)?)
 }
 
 // The next of numbers that look drawn at random.
@@ -143,12 +143,23 @@ fn schema(alloc: Global) -> Result<Schema, Fault>
 }
 
 /// The four files, in memory.
-#[derive(Drop)]
 pub struct Files {
     terms: Bytes,
     postings: Bytes,
     positions: Bytes,
     fieldnorms: Bytes,
+}
+
+// So that each drop is a call.
+impl Drop for Files {
+    fn drop(self) {
+        let Files {
+            terms: _,
+            postings: _,
+            positions: _,
+            fieldnorms: _,
+        } = self;
+    }
 }
 
 impl Files {
@@ -160,6 +171,19 @@ impl Files {
             .saturating_add(postings)
             .saturating_add(self.positions.len() as u64)
             .saturating_add(self.fieldnorms.len() as u64)
+    }
+
+    fn opened(self, alloc: Global) -> Result<OpenIndex, Fault>
+        ensures { IfOk result (λ index. 0 < length index.readers) }
+    {
+        let schema = schema(alloc)?;
+        let Files {
+            terms,
+            postings,
+            positions,
+            fieldnorms,
+        } = self;
+        open_index(alloc, terms, postings, positions, fieldnorms, &schema)
     }
 }
 
@@ -201,19 +225,6 @@ fn indexed(alloc: Global, texts: Vec<String>) -> Result<Indexer, Fault> {
     Ok(indexer)
 }
 
-fn opened(alloc: Global, files: Files) -> Result<OpenIndex, Fault>
-    ensures { IfOk result (λ index. 0 < length index.readers) }
-{
-    let schema = schema(alloc)?;
-    let Files {
-        terms,
-        postings,
-        positions,
-        fieldnorms,
-    } = files;
-    open_index(alloc, terms, postings, positions, fieldnorms, &schema)
-}
-
 /// The term of a word.
 pub fn word_term(alloc: Global, number: u64) -> Result<Term> {
     let mut word = String::new(alloc);
@@ -228,7 +239,7 @@ pub fn opened_words(alloc: Global) -> Result<OpenIndex>
 {
     let (texts, _) = texts(alloc, FREQUENT_TERMS)?;
     let files = written(alloc, indexed(alloc, texts)?)?;
-    Ok(opened(alloc, files)?)
+    Ok(files.opened(alloc)?)
 }
 
 /// A cursor over the postings of a word, with positions.

@@ -3,7 +3,7 @@ ghost use Rattle.ii_base.specs.declared.schema.value_type.ValueType.TheVariants.
 ghost use Rattle.ii_definitions.specs.IndexCalls.{Takes};
 
 use crate::indexes::written;
-use crate::table::{ROUNDS, print_row, since};
+use crate::table::{ROUNDS, print_row};
 use anyhow::Result;
 use ii_base::{AsciiTokenizer, Field, FieldEntry, IndexRecordOption, JsonValue, Schema};
 use ii_indexing::{IndexCall, Indexer};
@@ -35,9 +35,9 @@ pub fn measure(rt: &HostRuntime) -> Result<()> {
     let mut least = Duration::MAX;
     let mut file_bytes = 0;
     for _ in 0..ROUNDS {
-        let start = Instant::now(rt);
+        let start = Instant::now(rt)?;
         let files = written(rt.alloc(), indexed(rt.alloc())?)?;
-        least = least.min(since(rt, start)?);
+        least = least.min(start.elapsed(rt)?);
         file_bytes = files.len();
     }
     let memory = peak_memory(rt)?.saturating_sub(before) / u64::from(DOCS);

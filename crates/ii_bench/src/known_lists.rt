@@ -1,5 +1,5 @@
 use crate::lists::{documents, written};
-use crate::table::{ROUNDS, print_row, since};
+use crate::table::{ROUNDS, print_row};
 use anyhow::Result;
 use bytes::Bytes;
 use ii_base::{CountingWriter, Fault, IndexRecordOption};
@@ -89,10 +89,10 @@ fn open_twice(
 ) -> Result<(Duration, Duration)> {
     let (postings, positions) = (list.postings.clone()?, Some(list.positions.clone()?));
     let (again, again_positions) = (list.postings.clone()?, Some(list.positions.clone()?));
-    let start = Instant::now(rt);
+    let start = Instant::now(rt)?;
     let _cursor = SegmentPostings::open(list.doc_freq, postings, positions, POSITIONS, option)?;
-    let checking = since(rt, start)?;
-    let start = Instant::now(rt);
+    let checking = start.elapsed(rt)?;
+    let start = Instant::now(rt)?;
     let _cursor = SegmentPostings::open_known(
         list.doc_freq,
         again,
@@ -100,5 +100,5 @@ fn open_twice(
         POSITIONS,
         option,
     );
-    Ok((checking, since(rt, start)?))
+    Ok((checking, start.elapsed(rt)?))
 }

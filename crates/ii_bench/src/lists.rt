@@ -2,7 +2,7 @@ ghost use Rattle.std.specs.Prelude.{◌≡◌, ◌<◌, ℕ};
 ghost use Rattle.ii_base.specs.Entries.{are_documents};
 ghost use Rattle.ii_layout.specs.Bounds.{Covers};
 
-use crate::table::{ROUNDS, print_row, since};
+use crate::table::{ROUNDS, print_row};
 use anyhow::Result;
 use bytes::Bytes;
 use ii_base::{CountingWriter, Fault, IndexRecordOption};
@@ -54,8 +54,12 @@ fn measure_density(rt: &HostRuntime, density: &str, spread: u32) -> Result<()>
     requires { 0 < spread }
 {
     let docs = documents(rt.alloc(), spread, DOCS)?;
-    let writing = write(rt, &docs, BASIC)?;
-    let walking = walk(rt, &written(rt.alloc(), &docs, BASIC)?)?;
+    print_density(rt, density, &docs)
+}
+
+fn print_density(rt: &HostRuntime, density: &str, docs: &[DocId]) -> Result<()> {
+    let writing = write(rt, docs, BASIC)?;
+    let walking = walk(rt, &written(rt.alloc(), docs, BASIC)?)?;
     print(rt, ["writing, density ", density, ": a document"], writing)?;
     print(rt, ["walking, density ", density, ": a document"], walking)
 }
@@ -63,8 +67,15 @@ fn measure_density(rt: &HostRuntime, density: &str, spread: u32) -> Result<()>
 // Documents are written with their counts, without norms and with them.
 fn measure_counts(rt: &HostRuntime) -> Result<()> {
     let docs = documents(rt.alloc(), 1, DOCS)?;
-    let plain = write(rt, &docs, FREQS)?;
-    let normed = write_with_norms(rt, &docs)?;
+    print_counts(rt, &docs)
+}
+
+fn print_counts(rt: &HostRuntime, docs: &[DocId]) -> Result<()> {
+    let plain = write(rt, docs, FREQS)?;
+    let ids = norm_ids(rt.alloc())?;
+    let normed = write_with_norms(rt, docs, &ids);
+    drop(ids);
+    let normed = normed?;
     print(
         rt,
         ["writing with counts, density ", "1", ": a document"],
@@ -76,9 +87,9 @@ fn measure_counts(rt: &HostRuntime) -> Result<()> {
 fn write(rt: &HostRuntime, docs: &[DocId], record_option: IndexRecordOption) -> Result<Duration> {
     let mut least = Duration::MAX;
     for _ in 0..ROUNDS {
-        let start = Instant::now(rt);
+        let start = Instant::now(rt)?;
         let _bytes = written(rt.alloc(), docs, record_option)?;
-        least = least.min(since(rt, start)?);
+        least = least.min(start.elapsed(rt)?);
     }
     Ok(least)
 }
@@ -92,15 +103,14 @@ fn norm_ids(alloc: Global) -> Result<Bytes, AllocError> {
     Ok(Bytes::from_vec(ids)?)
 }
 
-fn write_with_norms(rt: &HostRuntime, docs: &[DocId]) -> Result<Duration> {
-    let ids = norm_ids(rt.alloc())?;
+fn write_with_norms(rt: &HostRuntime, docs: &[DocId], ids: &Bytes) -> Result<Duration> {
     let mut least = Duration::MAX;
     for _ in 0..ROUNDS {
         let norms = FieldNormReader::open(ids.clone()?)?;
         let limit = norms.num_docs();
-        let start = Instant::now(rt);
+        let start = Instant::now(rt)?;
         let _bytes = written_by(rt.alloc(), docs, FREQS, Some(norms), limit)?;
-        least = least.min(since(rt, start)?);
+        least = least.min(start.elapsed(rt)?);
     }
     Ok(least)
 }
@@ -109,11 +119,11 @@ fn walk(rt: &HostRuntime, bytes: &Bytes) -> Result<Duration> {
     let mut least = Duration::MAX;
     for _ in 0..ROUNDS {
         let mut cursor = SegmentPostings::open(DOCS, bytes.clone()?, None, BASIC, BASIC)?;
-        let start = Instant::now(rt);
+        let start = Instant::now(rt)?;
         for _ in 0..DOCS {
             let _doc = cursor.advance();
         }
-        least = least.min(since(rt, start)?);
+        least = least.min(start.elapsed(rt)?);
     }
     Ok(least)
 }

@@ -2,7 +2,7 @@ ghost use Rattle.std.specs.Prelude.{◌<◌, length};
 
 use crate::indexes::{opened_words, read_word, word_term};
 use crate::lists::{documents, written};
-use crate::table::{ROUNDS, print_row, since};
+use crate::table::{ROUNDS, print_row};
 use anyhow::Result;
 use bytes::Bytes;
 use ii_base::{IndexRecordOption, Term};
@@ -33,11 +33,17 @@ fn open(list: &Bytes, doc_freq: u32) -> Result<SegmentPostings> {
 
 /// Prints what it takes to go over the documents of queries, beside loops by hand over the same cursors.
 pub fn measure(rt: &HostRuntime) -> Result<()> {
-    let frequent = list(rt, 29, FREQUENT)?;
-    measure_both(rt, &frequent)?;
-    measure_either(rt, &frequent)?;
+    measure_terms(rt)?;
     let index = opened_words(rt.alloc())?;
     measure_phrase(rt, &index)
+}
+
+fn measure_terms(rt: &HostRuntime) -> Result<()> {
+    let frequent = list(rt, 29, FREQUENT)?;
+    match measure_both(rt, &frequent) {
+        Ok(()) => measure_either(rt, &frequent),
+        Err(fault) => Err(fault),
+    }
 }
 
 fn print(rt: &HostRuntime, name: &str, took: Duration, docs: u32) -> Result<()> {
@@ -47,10 +53,14 @@ fn print(rt: &HostRuntime, name: &str, took: Duration, docs: u32) -> Result<()> 
 
 fn measure_both(rt: &HostRuntime, frequent: &Bytes) -> Result<()> {
     let rare = list(rt, 2999, RARE)?;
+    print_both(rt, frequent, &rare)
+}
+
+fn print_both(rt: &HostRuntime, frequent: &Bytes, rare: &Bytes) -> Result<()> {
     let (mut least, mut by_hand) = (Duration::MAX, Duration::MAX);
     for _ in 0..ROUNDS {
-        least = least.min(both_once(rt, frequent, &rare)?);
-        by_hand = by_hand.min(both_by_hand_once(rt, frequent, &rare)?);
+        least = least.min(both_once(rt, frequent, rare)?);
+        by_hand = by_hand.min(both_by_hand_once(rt, frequent, rare)?);
     }
     let row = "a frequent and a rare term: a document of the rare one";
     print(rt, row, least, RARE)?;
@@ -60,27 +70,31 @@ fn measure_both(rt: &HostRuntime, frequent: &Bytes) -> Result<()> {
 fn both_once(rt: &HostRuntime, frequent: &Bytes, rare: &Bytes) -> Result<Duration> {
     let first = QueryCursor::one(open(frequent, FREQUENT)?);
     let other = QueryCursor::one(open(rare, RARE)?);
-    let start = Instant::now(rt);
+    let start = Instant::now(rt)?;
     let mut found = QueryCursor::both(rt.alloc(), first, other)?;
     let _count = found.count_including_deleted();
-    Ok(since(rt, start)?)
+    Ok(start.elapsed(rt)?)
 }
 
 fn both_by_hand_once(rt: &HostRuntime, frequent: &Bytes, rare: &Bytes) -> Result<Duration> {
     let mut first = open(rare, RARE)?;
     let mut other = open(frequent, FREQUENT)?;
-    let start = Instant::now(rt);
+    let start = Instant::now(rt)?;
     let _docs = intersect(rt.alloc(), &mut first, &mut other)?;
-    Ok(since(rt, start)?)
+    Ok(start.elapsed(rt)?)
 }
 
 fn measure_either(rt: &HostRuntime, first: &Bytes) -> Result<()> {
     let other = list(rt, 31, FREQUENT)?;
+    print_either(rt, first, &other)
+}
+
+fn print_either(rt: &HostRuntime, first: &Bytes, other: &Bytes) -> Result<()> {
     let (mut least, mut in_turn, mut by_hand) = (Duration::MAX, Duration::MAX, Duration::MAX);
     for _ in 0..ROUNDS {
-        least = least.min(either_once(rt, first, &other, false)?);
-        in_turn = in_turn.min(either_once(rt, first, &other, true)?);
-        by_hand = by_hand.min(either_by_hand_once(rt, first, &other)?);
+        least = least.min(either_once(rt, first, other, false)?);
+        in_turn = in_turn.min(either_once(rt, first, other, true)?);
+        by_hand = by_hand.min(either_by_hand_once(rt, first, other)?);
     }
     let row = "one of two frequent terms: a document of either, all counted";
     print(rt, row, least, 2 * FREQUENT)?;
@@ -92,10 +106,10 @@ fn measure_either(rt: &HostRuntime, first: &Bytes) -> Result<()> {
 fn either_once(rt: &HostRuntime, first: &Bytes, other: &Bytes, in_turn: bool) -> Result<Duration> {
     let one = QueryCursor::one(open(first, FREQUENT)?);
     let two = QueryCursor::one(open(other, FREQUENT)?);
-    let start = Instant::now(rt);
+    let start = Instant::now(rt)?;
     let mut found = QueryCursor::either(rt.alloc(), one, two)?;
     let _count = count(&mut found, in_turn);
-    Ok(since(rt, start)?)
+    Ok(start.elapsed(rt)?)
 }
 
 // How many documents a cursor has left, which is asked for each in turn, or for their number.
@@ -118,9 +132,9 @@ fn count<C: DocSet>(cursor: &mut C, in_turn: bool) -> u32 {
 fn either_by_hand_once(rt: &HostRuntime, first: &Bytes, other: &Bytes) -> Result<Duration> {
     let mut first = open(first, FREQUENT)?;
     let mut other = open(other, FREQUENT)?;
-    let start = Instant::now(rt);
+    let start = Instant::now(rt)?;
     let _count = merge(&mut first, &mut other);
-    Ok(since(rt, start)?)
+    Ok(start.elapsed(rt)?)
 }
 
 // How many documents one of two cursors has left.
@@ -148,13 +162,19 @@ fn measure_phrase(rt: &HostRuntime, index: &OpenIndex) -> Result<()>
     requires { 0 < length index.now.readers }
 {
     let (first, other) = (word_term(rt.alloc(), 1)?, word_term(rt.alloc(), 2)?);
+    print_phrase(rt, index, &first, &other)
+}
+
+fn print_phrase(rt: &HostRuntime, index: &OpenIndex, first: &Term, other: &Term) -> Result<()>
+    requires { 0 < length index.now.readers }
+{
     let (mut least, mut docs) = (Duration::MAX, 0);
     for _ in 0..ROUNDS {
-        let Some(first) = read_word(index, &first)? else {
+        let Some(first) = read_word(index, first)? else {
             return Ok(());
         };
         docs = first.doc_freq();
-        let other = read_word(index, &other)?;
+        let other = read_word(index, other)?;
         least = least.min(phrase_once(rt, first, other)?);
     }
     let row = "a phrase of two frequent words: a document of the first";
@@ -171,8 +191,8 @@ fn phrase_once(
     if let Some(other) = other {
         others.push(PhrasePart::new(1, other))?;
     }
-    let start = Instant::now(rt);
+    let start = Instant::now(rt)?;
     let mut found = PhraseMatch::new(first, others);
     let _count = found.count_including_deleted();
-    Ok(since(rt, start)?)
+    Ok(start.elapsed(rt)?)
 }

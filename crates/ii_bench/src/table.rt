@@ -1,13 +1,8 @@
 use std::io;
-use std::time::{Duration, Instant};
+use std::time::Duration;
 
 /// How often each thing is measured; the least time counts, since other programs only add to it.
 pub const ROUNDS: u32 = 7;
-
-/// What has passed since a call of the clock.
-pub fn since(rt: &HostRuntime, start: io::Result<Instant>) -> io::Result<Duration> {
-    start?.elapsed(rt)
-}
 
 /// A row, its name in parts: nanoseconds an item, in hundredths, and megabytes a second.
 pub fn print_row(

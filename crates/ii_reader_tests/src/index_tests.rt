@@ -90,44 +90,98 @@ fn damage_of(alloc: Global, files: Files) -> Option<Part> {
     }
 }
 
+// The file that a letter names: those of the index of the number 5, a body of 7 bytes, or none; by a capital
+// letter it is cut.
+fn named(letter: u8) -> &'static [u8] {
+    match letter {
+        b't' => &TERMS,
+        b'T' => &TERMS[..103],
+        b'p' => &POSTINGS,
+        b'P' => &POSTINGS[..3],
+        b'q' => &POSITIONS,
+        b'Q' => &POSITIONS[..20],
+        b's' => &SHORT,
+        b'N' => &NONE[..3],
+        _ => &NONE,
+    }
+}
+
+// Four files by their letters, and the part of them that is damaged.
+struct Row {
+    letters: [u8; 4],
+    part: Option<Part>,
+}
+
+static DAMAGED: [Row; 13] = [
+    Row {
+        letters: *b"tpqn",
+        part: None,
+    },
+    // tables that are cut, also that of norms
+    Row {
+        letters: *b"Tpqn",
+        part: Some(Part::Composite),
+    },
+    Row {
+        letters: *b"tPqn",
+        part: Some(Part::Composite),
+    },
+    Row {
+        letters: *b"tpQn",
+        part: Some(Part::Composite),
+    },
+    Row {
+        letters: *b"tpqN",
+        part: Some(Part::Composite),
+    },
+    Row {
+        letters: *b"spqN",
+        part: Some(Part::Composite),
+    },
+    // bodies that are missing
+    Row {
+        letters: *b"tnqn",
+        part: Some(Part::Composite),
+    },
+    Row {
+        letters: *b"tpnn",
+        part: Some(Part::Composite),
+    },
+    // the dictionary comes before the number of tokens, and a missing body before both
+    Row {
+        letters: *b"tsqn",
+        part: Some(Part::TokenCount),
+    },
+    Row {
+        letters: *b"ssqn",
+        part: Some(Part::Dictionary),
+    },
+    Row {
+        letters: *b"ssnn",
+        part: Some(Part::Composite),
+    },
+    // a field that the file of terms lacks has no terms
+    Row {
+        letters: *b"npqn",
+        part: None,
+    },
+    Row {
+        letters: *b"nnnn",
+        part: None,
+    },
+];
+
 #[test]
 fn damaged_files_are_told(rt: HostRuntime) -> Result<(), Fail> {
-    let rows: [(Files, Option<Part>); 13] = [
-        (five(), None),
-        // tables that are cut, also that of norms
-        (
-            [&TERMS[..103], &POSTINGS, &POSITIONS, &NONE],
-            Some(Part::Composite),
-        ),
-        (
-            [&TERMS, &POSTINGS[..3], &POSITIONS, &NONE],
-            Some(Part::Composite),
-        ),
-        (
-            [&TERMS, &POSTINGS, &POSITIONS[..20], &NONE],
-            Some(Part::Composite),
-        ),
-        (
-            [&TERMS, &POSTINGS, &POSITIONS, &NONE[..3]],
-            Some(Part::Composite),
-        ),
-        (
-            [&SHORT, &POSTINGS, &POSITIONS, &NONE[..3]],
-            Some(Part::Composite),
-        ),
-        // bodies that are missing
-        ([&TERMS, &NONE, &POSITIONS, &NONE], Some(Part::Composite)),
-        ([&TERMS, &POSTINGS, &NONE, &NONE], Some(Part::Composite)),
-        // the dictionary comes before the number of tokens, and a missing body before both
-        ([&TERMS, &SHORT, &POSITIONS, &NONE], Some(Part::TokenCount)),
-        ([&SHORT, &SHORT, &POSITIONS, &NONE], Some(Part::Dictionary)),
-        ([&SHORT, &SHORT, &NONE, &NONE], Some(Part::Composite)),
-        // a field that the file of terms lacks has no terms
-        ([&NONE, &POSTINGS, &POSITIONS, &NONE], None),
-        ([&NONE; 4], None),
-    ];
-    for (i, (files, part)) in rows.into_iter().enumerate() {
-        assert!(rt; damage_of(rt.alloc(), files) == part, "files {i}");
+    for row in &DAMAGED {
+        let [terms, postings, positions, fieldnorms] = row.letters;
+        let files = [
+            named(terms),
+            named(postings),
+            named(positions),
+            named(fieldnorms),
+        ];
+        assert!(rt; damage_of(rt.alloc(), files) == row.part);
     }
     Ok(())
 }

@@ -17,10 +17,23 @@ pub fn answer_check(rt: &HostRuntime, path: &str) -> anyhow::Result<ExitCode> {
             return Ok(ExitCode::from(refuse_path(rt, path, fault)?));
         }
     };
-    let changed = print_changed(rt, path, &left)?;
-    match schema_left(rt, path, &left)? {
-        Ok(schema) => check_lists(rt, path, &schema, left, changed),
+    match look_at(rt, path, &left)? {
+        Ok((schema, changed)) => check_lists(rt, path, &schema, left, changed),
         Err(status) => Ok(ExitCode::from(status)),
+    }
+}
+
+// A line for each file that isn't as it was saved. Answers the schema that is left and how many files these are,
+// or the status where no schema is left.
+fn look_at(
+    rt: &HostRuntime,
+    path: &str,
+    left: &LeftIndex,
+) -> anyhow::Result<Result<(Schema, u64), u8>> {
+    let changed = print_changed(rt, path, left)?;
+    match schema_left(rt, path, left)? {
+        Ok(schema) => Ok(Ok((schema, changed))),
+        Err(status) => Ok(Err(status)),
     }
 }
 

@@ -1,5 +1,5 @@
 //! How an index is made of files of JSON lines.
-use crate::commands::{NO, refuse, refuse_path};
+use crate::commands::{NO, REFUSED, refuse, refuse_path};
 use clap::ArgMatches;
 use ii_base::Schema;
 use ii_documents::LineFault;
@@ -36,7 +36,7 @@ pub fn answer_index(
     given: &ArgMatches<'_>,
 ) -> anyhow::Result<ExitCode> {
     let Some(schema_path) = given.get_str("schema") else {
-        return Ok(ExitCode::from(2));
+        return Ok(ExitCode::from(REFUSED));
     };
     let text = match fs::read(rt, schema_path) {
         Ok(text) => text,
@@ -147,7 +147,7 @@ impl Intake {
                 if fault.is_memory() {
                     return Ok(Err(refuse_path(rt, name, fault)?));
                 }
-                self.refuse_line(rt, name, number, fault)
+                self.refuse_line(rt, name, number, &fault)
             }
         }
     }
@@ -158,9 +158,9 @@ impl Intake {
         rt: &HostRuntime,
         name: &str,
         number: u64,
-        fault: InputFault,
+        fault: &InputFault,
     ) -> anyhow::Result<Result<(), u8>> {
-        match self.wrong_field(&fault) {
+        match self.wrong_field(fault) {
             Some(field) => eprintln!(rt; "{name}:{number}: {field}: {fault}")?,
             None => eprintln!(rt; "{name}:{number}: {fault}")?,
         }
