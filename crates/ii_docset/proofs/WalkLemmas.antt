@@ -1,6 +1,7 @@
 -- Laws of calls that are made one after the other.
-use Rattle.std.proofs.Common.{◌≡◌, ℕ, zero, suc, ◌+◌, ◌<◌, ◌≤◌, Bool, List, [], ◌∷◌, ◌++◌, length, take, drop, map, get_or, refl, sym, ap, ◌∙◌, arith}
-use Rattle.std.proofs.lemmas.List.{append-nil, append_assoc, drop_all, drop_more, length-append, map-append, take_at, take_more}
+use Rattle.std.proofs.Common.{◌≡◌, ℕ, zero, suc, ◌+◌, ◌<◌, ◌≤◌, Bool, false, List, [], ◌∷◌, ◌++◌, length, take, drop, map, get_or, refl, sym, ap, ◌∙◌, arith}
+use Rattle.std.specs.Prelude.{IsTrue}
+use Rattle.std.proofs.lemmas.List.{append-nil, append_assoc, drop_all, drop_more, length-append, length-map, map-append, take_at, take_more}
 use Rattle.ii_docset.specs.declared.calls.CursorAnswer.{CursorAnswer}
 use Rattle.ii_docset.specs.declared.calls.CursorCall.{CursorCall}
 use Rattle.ii_docset.specs.Calls.{IsLawful, answer_of, answer_to, answers_to, asked_by, count_asked, counts_asked, num_asked, rest_after, rest_after_call}
@@ -61,6 +62,16 @@ pub told_all : (calls : List CursorCall) (one : Bool) (es : List Entry) (i : ℕ
 told_all calls one es i answers here w ended =
     let none = drop_all i calls ended in
     sym (append-nil (map answer_of answers)) ∙ (rw none at w.told)
+
+-- the rest that so many answers leave
+pub left_after : (calls : List CursorCall) (one : Bool) (es : List Entry) (i : ℕ) (answers : List CursorAnswer) (here : List Entry)
+    → IsWalking calls one es i answers here → here ≡ rest_after (take (length (map answer_of answers)) calls) es
+left_after calls one es i answers here w = w.rest_is ∙ ap (λ (n : ℕ). rest_after (take n calls) es) (sym (length-map answers answer_of ∙ w.many))
+
+-- while a call is left not all are answered
+pub not_all : (calls : List CursorCall) (i : ℕ) (answers : List CursorAnswer) → length answers ≡ i → i < length calls
+    → (IsTrue false → length (map answer_of answers) ≡ length calls) × (length (map answer_of answers) ≡ length calls → IsTrue false)
+not_all calls i answers many within = ((λ no. absurd (cc)), (λ all. absurd (omega (arith, all, length-map answers answer_of, many, within))))
 
 -- what one call more asks for
 asked_push : (calls : List CursorCall) (call : CursorCall) → num_asked (calls ++ call ∷ []) ≡ num_asked calls + asked_by call

@@ -1,6 +1,6 @@
 use Rattle.std.proofs.Common.{◌+◌, List, [], ◌∷◌, ◌++◌, ap, ◌∙◌, arith, rules}
 use Rattle.ii_docset.specs.declared.calls.CursorAnswer.{CursorAnswer}
-use Rattle.ii_docset.proofs.WalkLemmas.{asked_part, counts_part, spent_next, told_all, told_first, walks_on}
+use Rattle.ii_docset.proofs.WalkLemmas.{asked_part, counts_part, left_after, not_all, spent_next, told_all, told_first, walks_on}
 use Rattle.ii_docset.proofs.walking.walk.Goals as goal
 
 pub loop-call-preserved : goal.loop-call-preserved
@@ -35,3 +35,19 @@ returns-clause-answers g c _ = told_all c.args.calls.now _ _ c.loop-call.call-in
 
 pub returns-clause-beginning : goal.returns-clause-beginning
 returns-clause-beginning g c = told_first c.args.calls.now _ _ c.loop-call.call-index c.loop-call.answers.items _ c.loop-call.invariant.0
+
+pub returns-in_default-clause-left : goal.returns-in_default-clause-left
+returns-in_default-clause-left g c = rw c.reserve.ensures.items (left_after c.args.calls.now _ _ c.loop-call.call-index c.loop-call.answers.items _ c.loop-call.invariant.0)
+
+pub returns-in_default-make_call-clause-left : goal.returns-in_default-make_call-clause-left
+returns-in_default-make_call-clause-left g c =
+    rw (c.reserve.ensures.items, c.in_default-make_call.ensures.stays) (left_after c.args.calls.now _ _ c.loop-call.call-index c.loop-call.answers.items _ c.loop-call.invariant.0)
+
+pub returns-clause-left : goal.returns-clause-left
+returns-clause-left g c = left_after c.args.calls.now _ _ c.loop-call.call-index c.loop-call.answers.items _ c.loop-call.invariant.0
+
+pub returns-in_default-clause-complete : goal.returns-in_default-clause-complete
+returns-in_default-clause-complete g c = rw c.reserve.ensures.items (not_all c.args.calls.now c.loop-call.call-index c.loop-call.answers.items c.loop-call.invariant.0.many (search rules))
+
+pub returns-in_default-make_call-clause-complete : goal.returns-in_default-make_call-clause-complete
+returns-in_default-make_call-clause-complete g c = rw c.reserve.ensures.items (not_all c.args.calls.now c.loop-call.call-index c.loop-call.answers.items c.loop-call.invariant.0.many (search rules))
