@@ -1,3 +1,4 @@
+pub mod Faults
 pub mod Finding
 pub mod Positions
 pub mod Stored

@@ -1,3 +1,6 @@
+ghost use Rattle.std.specs.Prelude.{◌↔◌, IsTrue};
+ghost use Rattle.nequllpa_folder.specs.Faults.{LacksMemoryToAnswer, LacksMemoryToOpen};
+
 use hex::FromHexError;
 use ii_base::Fault;
 use ii_schema_text::SchemaFault;
@@ -32,7 +35,9 @@ pub enum OpenFault {
 
 impl AnswerFault {
     /// Whether no memory was found.
-    pub fn is_memory(&self) -> bool {
+    pub fn is_memory(&self) -> bool
+        ensures { IsTrue result ↔ LacksMemoryToAnswer self.now }
+    {
         match self {
             AnswerFault::Index(fault) => fault.is_memory(),
             AnswerFault::Output(_) => false,
@@ -42,7 +47,9 @@ impl AnswerFault {
 
 impl OpenFault {
     /// Whether no memory was found.
-    pub fn is_memory(&self) -> bool {
+    pub fn is_memory(&self) -> bool
+        ensures { IsTrue result ↔ LacksMemoryToOpen self.now }
+    {
         match self {
             OpenFault::SchemaBytes => false,
             OpenFault::Schema(fault) => matches!(fault, SchemaFault::OutOfMemory),

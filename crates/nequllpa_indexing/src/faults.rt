@@ -1,3 +1,7 @@
+ghost use Rattle.std.specs.Prelude.{◌≡◌, ◌↔◌, IsTrue};
+ghost use Rattle.ii_documents.specs.declared.faults.LineFault.TheVariants.{OutOfMemory};
+ghost use Rattle.nequllpa_indexing.specs.declared.faults.InputFault.TheVariants.{Line};
+
 use ii_documents::LineFault;
 use thiserror::Error;
 
@@ -14,7 +18,9 @@ pub enum InputFault {
 
 impl InputFault {
     /// Whether no memory was found.
-    pub fn is_memory(&self) -> bool {
+    pub fn is_memory(&self) -> bool
+        ensures { IsTrue result ↔ (self.now ≡ Line OutOfMemory) }
+    {
         matches!(self, InputFault::Line(LineFault::OutOfMemory))
     }
 }

@@ -1,0 +1,19 @@
+-- Which faults are for want of memory.
+use Rattle.std.specs.Prelude.{◌≡◌}
+use Rattle.ii_io.specs.declared.faults.Fault.TheVariants.{OutOfMemory}
+use Rattle.ii_schema_text.specs.declared.faults.SchemaFault.TheVariants as schema
+use Rattle.nequllpa_folder.specs.declared.faults.AnswerFault.{AnswerFault}
+use Rattle.nequllpa_folder.specs.declared.faults.AnswerFault.TheVariants.{Index, Output}
+use Rattle.nequllpa_folder.specs.declared.faults.OpenFault.{OpenFault}
+use Rattle.nequllpa_folder.specs.declared.faults.OpenFault.TheVariants.{Files, Schema, SchemaBytes}
+
+-- a command had no memory for its answer
+abbrev pub LacksMemoryToAnswer : AnswerFault → Type 0
+LacksMemoryToAnswer (Index fault) = fault ≡ OutOfMemory
+LacksMemoryToAnswer (Output kind) = ⊥
+
+-- there was no memory to open an index
+abbrev pub LacksMemoryToOpen : OpenFault → Type 0
+LacksMemoryToOpen SchemaBytes = ⊥
+LacksMemoryToOpen (Schema fault) = fault ≡ schema.OutOfMemory
+LacksMemoryToOpen (Files fault) = fault ≡ OutOfMemory
