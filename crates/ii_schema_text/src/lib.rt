@@ -9,4 +9,4 @@ pub mod schema_text;
 pub mod settings;
 
 pub use faults::{FieldKey, SchemaFault};
-pub use schema_text::read_schema;
+pub use schema_text::{field_name_at, read_schema};

@@ -36,6 +36,35 @@ pub fn read_schema(alloc: Global, text: &str) -> Result<Schema, SchemaFault>
     }
 }
 
+/// Returns the name in the table `[[field]]` of a number, counted from 0, if the text has such a table and
+/// its name is a text: for messages about a schema that `read_schema` refused.
+///
+/// # Errors
+///
+/// `NotToml` if the text isn't TOML; `OutOfMemory`.
+pub fn field_name_at(
+    alloc: Global,
+    text: &str,
+    number: usize,
+) -> Result<Option<String>, SchemaFault> {
+    let table = match toml::table_from_str(alloc, text) {
+        Ok(table) => table,
+        Err(error) => return Err(SchemaFault::of_toml(error)),
+    };
+    match name_at(&table, number) {
+        Some(name) => Ok(Some(String::from_str(alloc, name)?)),
+        None => Ok(None),
+    }
+}
+
+// The name in the table of a field.
+fn name_at(table: &Table, number: usize) -> Option<&str> {
+    match fields_of(table)?.get(number)?.get("name") {
+        Some(name) => name.as_str(),
+        None => None,
+    }
+}
+
 // The schema that a table says.
 #[tactic(auto, unfolding(crate::specs::SchemaText::table_schema))]
 fn schema_of(alloc: Global, table: &Table) -> Result<Schema, SchemaFault>

@@ -25,15 +25,16 @@ impl<'a, R: Files + AllocGlobal> Folder<'a, R> {
         Folder { rt, path }
     }
 
-    /// Returns the first file with a name of an index that the folder has, in the order of the names'
-    /// numbers, and nothing if it has none.
+    /// Returns a file with a name of an index that the folder has although it has neither `meta` nor
+    /// `meta.new`: what is left of an index whose `meta` is missing, or a file of someone else. A first save
+    /// that was stopped leaves `meta.new` (`begin_first_save`), so its files are none of these.
     ///
     /// # Errors
     ///
-    /// `Refused` if the system doesn't tell of a file; `OutOfMemory`.
-    pub fn first_file(&self) -> Result<Option<Name>, DirectoryFault> {
-        if self.has(Name::Meta)? {
-            return Ok(Some(Name::Meta));
+    /// `Refused` if the system can't say whether a file exists; `OutOfMemory`.
+    pub fn orphan(&self) -> Result<Option<Name>, DirectoryFault> {
+        if self.has(Name::Meta)? || self.has(Name::NewMeta)? {
+            return Ok(None);
         }
         for slot in [Slot::First, Slot::Second] {
             for number in 0..Kind::COUNT {
@@ -44,6 +45,19 @@ impl<'a, R: Files + AllocGlobal> Folder<'a, R> {
             }
         }
         Ok(None)
+    }
+
+    /// Writes an empty `meta.new` if there is no `meta`, so that the files of a first save that is stopped
+    /// are known as such (`orphan`). `save` puts the new `meta` in its place.
+    ///
+    /// # Errors
+    ///
+    /// `Refused` if the system refuses; `OutOfMemory`.
+    pub fn begin_first_save(&mut self) -> Result<(), DirectoryFault> {
+        if self.has(Name::Meta)? {
+            return Ok(());
+        }
+        self.write(Name::NewMeta, &[])
     }
 
     // Whether the folder has a file.

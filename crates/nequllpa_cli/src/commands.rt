@@ -1,124 +1,23 @@
-//! What the commands answer.
+//! What the commands other than `index`, `search` and `check` answer, and what all of them share.
 ghost use Rattle.std.specs.Prelude.{◌<◌, IfOk, length};
 
 use clap::ArgMatches;
-use ii_base::{AsciiTokenizer, Field, Term, ValueType};
-use ii_search::{Query, parse_query};
+use ii_base::{Field, Term};
 use ii_store::{Folder, IndexFault, Kind, StoreFault, StoredIndex, load};
 use nequllpa_folder::{
-    AnswerFault, Listing, Opened, TermChoice, term_of, write_count, write_fields, write_listing,
-    write_postings, write_stats, write_terms,
+    AnswerFault, Opened, TermChoice, term_of, write_fields, write_postings, write_stats,
+    write_terms,
 };
 use std::fmt::Display;
-use std::io::{self, BufWriter, Write};
+use std::io::{self, BufWriter, ErrorKind, Write};
 use std::process::ExitCode;
 
-/// The answer is "no", or something is damaged.
+/// What the program is called in its messages.
+pub const PROGRAM: &str = "nequllpa";
+/// The status where the answer is "no", or something is damaged.
 pub const NO: u8 = 1;
-/// The words of the command are wrong, or the system refused.
+/// The status where the words of the command are wrong, or the system refused.
 pub const REFUSED: u8 = 2;
-
-/// Prints the documents that match a query.
-pub fn answer_search(
-    rt: &HostRuntime,
-    path: &str,
-    given: &ArgMatches<'_>,
-) -> anyhow::Result<ExitCode> {
-    let limit = match number_given(rt, given, "limit")? {
-        Ok(limit) => limit.unwrap_or(u32::MAX),
-        Err(status) => return Ok(ExitCode::from(status)),
-    };
-    match opened_at(rt, path)? {
-        Ok(opened) => search(rt, path, &opened, given, limit),
-        Err(status) => Ok(ExitCode::from(status)),
-    }
-}
-
-// Prints the documents of an open index that match a query, so many at most.
-fn search(
-    rt: &HostRuntime,
-    path: &str,
-    opened: &Opened,
-    given: &ArgMatches<'_>,
-    limit: u32,
-) -> anyhow::Result<ExitCode> {
-    match query_given(rt, opened, given)? {
-        Ok(query) => print_found(rt, path, opened, &query, given, limit),
-        Err(status) => Ok(ExitCode::from(status)),
-    }
-}
-
-// Prints what a query finds.
-fn print_found(
-    rt: &HostRuntime,
-    path: &str,
-    opened: &Opened,
-    query: &Query,
-    given: &ArgMatches<'_>,
-    limit: u32,
-) -> anyhow::Result<ExitCode> {
-    if !query.has_fields(opened.schema()) {
-        return Ok(ExitCode::from(REFUSED));
-    }
-    let mut out = BufWriter::new(rt.alloc(), io::writer(rt))?;
-    let found = if given.get_flag("count") {
-        write_count(rt.alloc(), &mut out, opened, query)
-    } else {
-        let how = Listing {
-            limit,
-            as_json: given.get_flag("json"),
-            with_positions: given.get_flag("positions"),
-            by_id: given.get_flag("ids"),
-        };
-        write_listing(rt.alloc(), &mut out, opened, query, how)
-    };
-    out.flush()?;
-    ended(rt, path, found)
-}
-
-// The query of a text.
-fn query_given(
-    rt: &HostRuntime,
-    opened: &Opened,
-    given: &ArgMatches<'_>,
-) -> anyhow::Result<Result<Query, u8>> {
-    let Some(text) = given.get_str("QUERY") else {
-        return Ok(Err(REFUSED));
-    };
-    let fields = match default_fields(rt, opened, given)? {
-        Ok(fields) => fields,
-        Err(status) => return Ok(Err(status)),
-    };
-    match parse_query(rt.alloc(), opened.schema(), &fields, &AsciiTokenizer, text) {
-        Ok(query) => Ok(Ok(query)),
-        Err(error) => Ok(Err(refuse_path(rt, text, error)?)),
-    }
-}
-
-// The fields that a word without the name of a field is looked up in: those that are given, or all indexed
-// fields of texts.
-fn default_fields(
-    rt: &HostRuntime,
-    opened: &Opened,
-    given: &ArgMatches<'_>,
-) -> anyhow::Result<Result<Vec<Field>, u8>> {
-    let mut fields = Vec::new(rt.alloc());
-    let Some(names) = given.get_strs("field") else {
-        for (field, entry) in opened.schema().fields() {
-            if entry.is_indexed() && entry.value_type() == ValueType::Str {
-                fields.push(field)?;
-            }
-        }
-        return Ok(Ok(fields));
-    };
-    for name in names {
-        match field_named(rt, opened, name)? {
-            Ok(field) => fields.push(field)?,
-            Err(status) => return Ok(Err(status)),
-        }
-    }
-    Ok(Ok(fields))
-}
 
 /// Prints the terms of a field.
 pub fn answer_terms(
@@ -208,7 +107,7 @@ fn print_list(
     ended(rt, path, written)
 }
 
-/// Tells of the fields.
+/// Prints the fields.
 pub fn answer_fields(rt: &HostRuntime, path: &str) -> anyhow::Result<ExitCode> {
     match opened_at(rt, path)? {
         Ok(opened) => print_fields(rt, path, &opened),
@@ -216,7 +115,7 @@ pub fn answer_fields(rt: &HostRuntime, path: &str) -> anyhow::Result<ExitCode> {
     }
 }
 
-// Tells of the fields of an open index.
+// Prints the fields of an open index.
 fn print_fields(rt: &HostRuntime, path: &str, opened: &Opened) -> anyhow::Result<ExitCode> {
     let mut out = BufWriter::new(rt.alloc(), io::writer(rt))?;
     let written = write_fields(rt.alloc(), &mut out, opened);
@@ -224,7 +123,7 @@ fn print_fields(rt: &HostRuntime, path: &str, opened: &Opened) -> anyhow::Result
     ended(rt, path, written.map(|()| true))
 }
 
-/// Tells how many documents an index has, how long its files are, and what its lists take.
+/// Prints how many documents an index has, how long its files are, and what its lists take.
 pub fn answer_stats(rt: &HostRuntime, path: &str) -> anyhow::Result<ExitCode> {
     let stored = match loaded_at(rt, path)? {
         Ok(stored) => stored,
@@ -237,7 +136,7 @@ pub fn answer_stats(rt: &HostRuntime, path: &str) -> anyhow::Result<ExitCode> {
     }
 }
 
-// Tells what the lists of an open index take.
+// Prints what the lists of an open index take.
 fn print_stats(rt: &HostRuntime, path: &str, opened: &Opened) -> anyhow::Result<ExitCode> {
     let mut out = BufWriter::new(rt.alloc(), io::writer(rt))?;
     let written = write_stats(&mut out, opened);
@@ -245,7 +144,7 @@ fn print_stats(rt: &HostRuntime, path: &str, opened: &Opened) -> anyhow::Result<
     ended(rt, path, written.map(|()| true))
 }
 
-// The documents, and the bytes of each file.
+// Prints the number of documents and the bytes of each file.
 fn print_files(rt: &HostRuntime, index: &StoredIndex) -> anyhow::Result<()> {
     println!(rt; "{:>12} documents", index.num_docs)?;
     for number in 0..Kind::COUNT {
@@ -264,22 +163,40 @@ fn loaded_at(rt: &HostRuntime, path: &str) -> anyhow::Result<Result<StoredIndex,
     }
 }
 
-/// Prints why a folder has no index, tells on standard error what to do, and gives the status.
+/// Prints why a folder has no index, and on standard error what to do, and returns the status.
 pub fn tell_no_index(rt: &HostRuntime, path: &str, fault: IndexFault) -> anyhow::Result<u8> {
+    if fault == IndexFault::NoIndex {
+        return tell_none(rt, path);
+    }
     println!(rt; "{path}: {fault}")?;
     match fault {
-        IndexFault::NoIndex => eprintln!(rt; "nequllpa: the command index makes one")?,
         IndexFault::OtherVersion(_) => {
-            eprintln!(rt; "nequllpa: index the lines again by this program")?
+            eprintln!(rt; "{PROGRAM}: index the lines again by this program")?
         }
-        IndexFault::DamagedMeta
-        | IndexFault::Missing(_)
-        | IndexFault::WrongLength(_)
-        | IndexFault::WrongChecksum(_) => eprintln!(rt;
-            "nequllpa: the command check tells what is damaged; index the lines again, or take the folder from a copy"
+        _ => eprintln!(rt;
+            "{PROGRAM}: the command check prints what is damaged; index the lines again, or restore the folder from a copy"
         )?,
     }
     Ok(NO)
+}
+
+// The same of a folder without `meta`: it has files of an index, or none.
+fn tell_none(rt: &HostRuntime, path: &str) -> anyhow::Result<u8> {
+    match Folder::new(rt, path).orphan() {
+        Ok(Some(name)) => {
+            println!(rt; "{path}: an index whose meta is missing: there is {}", name.as_str())?;
+            eprintln!(rt;
+                "{PROGRAM}: restore meta from a copy, or index the lines again with --force"
+            )?;
+            Ok(NO)
+        }
+        Ok(None) => {
+            println!(rt; "{path}: no index here")?;
+            eprintln!(rt; "{PROGRAM}: the command index makes one")?;
+            Ok(NO)
+        }
+        Err(fault) => refuse_path(rt, path, fault),
+    }
 }
 
 // The index of these bytes, or the status where they aren't one.
@@ -295,14 +212,14 @@ fn opened_of(
                 return Ok(Err(refuse_path(rt, path, fault)?));
             }
             println!(rt; "{path}: {fault}")?;
-            eprintln!(rt; "nequllpa: the command check tells what is damaged")?;
+            eprintln!(rt; "{PROGRAM}: the command check prints what is damaged")?;
             Ok(Err(NO))
         }
     }
 }
 
-// The index of a folder, open, or the status where there is none.
-fn opened_at(rt: &HostRuntime, path: &str) -> anyhow::Result<Result<Opened, u8>> {
+/// Opens the index of a folder, or returns the status where there is none.
+pub fn opened_at(rt: &HostRuntime, path: &str) -> anyhow::Result<Result<Opened, u8>> {
     match loaded_at(rt, path)? {
         Ok(stored) => opened_of(rt, path, stored),
         Err(status) => Ok(Err(status)),
@@ -323,14 +240,14 @@ fn field_given(
     }
 }
 
-// The field of a name.
-fn field_named(rt: &HostRuntime, opened: &Opened, name: &str) -> anyhow::Result<Result<Field, u8>>
+/// Returns the field of a name, or the status where there is none.
+pub fn field_named(rt: &HostRuntime, opened: &Opened, name: &str) -> anyhow::Result<Result<Field, u8>>
     ensures { IfOk result (λ field. IfOk field (λ f. f < length opened.now.schema)) }
 {
     match opened.field_named(name) {
         Some(field) => Ok(Ok(field)),
         None => {
-            eprintln!(rt; "nequllpa: no field {name}; the command fields lists them")?;
+            eprintln!(rt; "{PROGRAM}: no field {name}; the command fields lists them")?;
             Ok(Err(REFUSED))
         }
     }
@@ -350,15 +267,15 @@ fn term_given(
         Ok(Some(term)) => Ok(Ok(term)),
         Ok(None) => {
             let name = entry.name();
-            eprintln!(rt; "nequllpa: {text} is no term of {name}; the command terms shows some")?;
+            eprintln!(rt; "{PROGRAM}: {text} is no term of {name}; the command terms prints the terms")?;
             Ok(Err(REFUSED))
         }
         Err(fault) => Ok(Err(refuse(rt, fault)?)),
     }
 }
 
-// The number behind an option, if it is given.
-fn number_given(
+/// Returns the number after an option, if it is given, or the status where it is no number.
+pub fn number_given(
     rt: &HostRuntime,
     given: &ArgMatches<'_>,
     option: &str,
@@ -369,13 +286,13 @@ fn number_given(
     match text.parse::<u32>() {
         Ok(number) => Ok(Ok(Some(number))),
         Err(_) => {
-            eprintln!(rt; "nequllpa: --{option} {text}: not a number below 4294967296")?;
+            eprintln!(rt; "{PROGRAM}: --{option} {text}: expected a whole number from 0 to {}", u32::MAX)?;
             Ok(Err(REFUSED))
         }
     }
 }
 
-// The status of an answer, which is "yes", "no", or none because of a fault.
+/// Returns the status of an answer, which is "yes", "no", or none because of a fault.
 pub fn ended(
     rt: &HostRuntime,
     path: &str,
@@ -397,18 +314,27 @@ pub fn ended(
     }
 }
 
-/// Tells on standard error why there is no answer, and gives the status.
+/// Prints on standard error why there is no answer, and returns the status.
 pub fn refuse<F: Display + Drop>(rt: &HostRuntime, fault: F) -> anyhow::Result<u8> {
-    eprintln!(rt; "nequllpa: {fault}")?;
+    eprintln!(rt; "{PROGRAM}: {fault}")?;
     Ok(REFUSED)
 }
 
-/// The same of a file or a folder.
+/// The same of a file, a folder or a query.
 pub fn refuse_path<F: Display + Drop>(
     rt: &HostRuntime,
     path: &str,
     fault: F,
 ) -> anyhow::Result<u8> {
-    eprintln!(rt; "nequllpa: {path}: {fault}")?;
+    eprintln!(rt; "{PROGRAM}: {path}: {fault}")?;
     Ok(REFUSED)
+}
+
+/// The same of a file that can't be opened or read.
+pub fn refuse_file(rt: &HostRuntime, path: &str, kind: ErrorKind) -> anyhow::Result<u8> {
+    if kind == ErrorKind::NotFound {
+        eprintln!(rt; "{PROGRAM}: no such file: {path}")?;
+        return Ok(REFUSED);
+    }
+    refuse_path(rt, path, kind)
 }

@@ -1,22 +1,29 @@
 //! How an index is made of files of JSON lines.
-use crate::commands::{NO, REFUSED, refuse, refuse_path};
+use crate::commands::{NO, PROGRAM, REFUSED, refuse, refuse_file, refuse_path};
 use clap::ArgMatches;
-use ii_base::Schema;
-use ii_documents::LineFault;
-use ii_schema_text::read_schema;
+use ii_base::{Field, Schema, ValueType};
+use ii_documents::{LineFault, ValueFault};
+use ii_schema_text::{SchemaFault, field_name_at, read_schema};
 use ii_store::save::{remove_unused, save};
-use ii_store::{DirectoryFault, Folder, StoredIndex};
+use ii_store::{DirectoryFault, Folder, FolderLock, StoredIndex};
 use nequllpa_indexing::{Documents, InputFault, add_line, store};
+use serde_json::Error as JsonError;
 use std::fs;
 use std::io::{BufRead, BufReader, Input};
 use std::process::ExitCode;
 use std::time::Instant;
 
-// After so many bytes of input it is told how far it came.
+// Progress is printed each time this many bytes of input were read.
 const STEP: u64 = 16 << 20;
 
-// Indexing takes up to about so many bytes of memory for each byte of input: its lines, and then the index.
+// How many bytes of memory indexing takes for each byte of input, about: its lines, and then the index.
 const MEMORY_MULTIPLE: u32 = 5;
+
+// The file name that stands for standard input.
+const STANDARD_INPUT: &str = "-";
+
+// What an editor may write at the beginning of a file in UTF-8.
+const BYTE_ORDER_MARK: &[u8] = &[0xef, 0xbb, 0xbf];
 
 // What is done while input is read.
 #[derive(Drop)]
@@ -25,7 +32,7 @@ struct Intake {
     skips_bad: bool,
     bad_lines: u64,
     bytes: u64,
-    told: u64,
+    reported: u64,
     begun: Instant,
 }
 
@@ -40,31 +47,105 @@ pub fn answer_index(
     };
     let text = match fs::read(rt, schema_path) {
         Ok(text) => text,
-        Err(e) => return Ok(ExitCode::from(refuse_path(rt, schema_path, e.kind())?)),
+        Err(e) => return Ok(ExitCode::from(refuse_file(rt, schema_path, e.kind())?)),
     };
     let schema = match schema_of(rt, schema_path, text.as_slice())? {
         Ok(schema) => schema,
+        Err(status) => return Ok(ExitCode::from(status)),
+    };
+    let target = match target_of(rt, path, given.get_flag("force"))? {
+        Ok(target) => target,
         Err(status) => return Ok(ExitCode::from(status)),
     };
     let mut intake = begun(rt, given, schema)?;
     if let Err(status) = take_inputs(rt, given, &mut intake)? {
         return Ok(ExitCode::from(status));
     }
-    save_index(rt, path, intake, text)
+    save_index(rt, target, intake, text)
 }
 
-// Nothing is read yet; it is told how much memory it takes.
+// The folder that an index is saved in, with its lock if it exists.
+#[derive(Drop)]
+struct Target<'a> {
+    path: &'a str,
+    replaces_orphans: bool,
+    lock: Option<FolderLock>,
+}
+
+// The folder of a path, locked before any input is read if it exists, or the status where it can't be taken.
+fn target_of<'a>(
+    rt: &HostRuntime,
+    path: &'a str,
+    replaces_orphans: bool,
+) -> anyhow::Result<Result<Target<'a>, u8>> {
+    let target = Target {
+        path,
+        replaces_orphans,
+        lock: None,
+    };
+    match fs::exists(rt, path) {
+        Ok(true) => target.locked(rt),
+        Ok(false) => Ok(Ok(target)),
+        Err(e) => Ok(Err(refuse_path(rt, path, e.kind())?)),
+    }
+}
+
+impl<'a> Target<'a> {
+    // Takes the lock of the folder, unless it has it, or gives the status where another program holds it, or
+    // where files would be lost.
+    fn locked(self, rt: &HostRuntime) -> anyhow::Result<Result<Target<'a>, u8>> {
+        if self.lock.is_some() {
+            return Ok(Ok(self));
+        }
+        let path = self.path;
+        let lock = match FolderLock::try_lock(rt, path) {
+            Ok(Some(lock)) => lock,
+            Ok(None) => {
+                eprintln!(rt; "{PROGRAM}: another program writes to {path}")?;
+                return Ok(Err(REFUSED));
+            }
+            Err(fault) => return Ok(Err(refuse_path(rt, path, fault)?)),
+        };
+        if !self.replaces_orphans {
+            if let Err(status) = refuse_orphan(rt, path)? {
+                return Ok(Err(status));
+            }
+        }
+        Ok(Ok(Target {
+            path,
+            replaces_orphans: self.replaces_orphans,
+            lock: Some(lock),
+        }))
+    }
+}
+
+// Gives the status where a folder without `meta` has a file with a name of an index.
+fn refuse_orphan(rt: &HostRuntime, path: &str) -> anyhow::Result<Result<(), u8>> {
+    match Folder::new(rt, path).orphan() {
+        Ok(None) => Ok(Ok(())),
+        Ok(Some(name)) => {
+            let name = name.as_str();
+            eprintln!(rt;
+                "{PROGRAM}: {path}: there is {name}, and no meta: a file of an index whose meta is missing, or a file of yours; --force replaces the files of an index"
+            )?;
+            Ok(Err(REFUSED))
+        }
+        Err(fault) => Ok(Err(refuse_path(rt, path, fault)?)),
+    }
+}
+
+// Nothing is read yet; prints how much memory indexing takes.
 fn begun(rt: &HostRuntime, given: &ArgMatches<'_>, schema: Schema) -> anyhow::Result<Intake> {
     let begun = Instant::now(rt)?;
     eprintln!(rt;
-        "nequllpa: this takes up to about {MEMORY_MULTIPLE} bytes of memory for each byte of input"
+        "{PROGRAM}: this takes up to about {MEMORY_MULTIPLE} bytes of memory for each byte of input"
     )?;
     Ok(Intake {
         documents: Documents::new(rt.alloc(), schema),
         skips_bad: given.get_flag("skip-bad"),
         bad_lines: 0,
         bytes: 0,
-        told: 0,
+        reported: 0,
         begun,
     })
 }
@@ -76,7 +157,28 @@ fn schema_of(rt: &HostRuntime, path: &str, text: &[u8]) -> anyhow::Result<Result
     };
     match read_schema(rt.alloc(), text) {
         Ok(schema) => Ok(Ok(schema)),
-        Err(fault) => Ok(Err(refuse_path(rt, path, fault)?)),
+        Err(fault) => Ok(Err(refuse_schema(rt, path, text, fault)?)),
+    }
+}
+
+// Prints why a text is no schema, with the name of the field that is wrong if it has one.
+fn refuse_schema(
+    rt: &HostRuntime,
+    path: &str,
+    text: &str,
+    fault: SchemaFault,
+) -> anyhow::Result<u8> {
+    let number = match &fault {
+        SchemaFault::UnknownFieldKey(number, _) => *number,
+        SchemaFault::WrongKey(number, _) => *number,
+        _ => return refuse_path(rt, path, fault),
+    };
+    match field_name_at(rt.alloc(), text, number)? {
+        Some(name) => {
+            eprintln!(rt; "{PROGRAM}: {path}: {fault} (the field {name})")?;
+            Ok(REFUSED)
+        }
+        None => refuse_path(rt, path, fault),
     }
 }
 
@@ -87,20 +189,36 @@ fn take_inputs(
     intake: &mut Intake,
 ) -> anyhow::Result<Result<(), u8>> {
     let Some(files) = given.get_strs("FILE") else {
-        let mut reader = BufReader::new(rt.alloc(), rt.reader())?;
-        return take_lines(rt, "-", &mut reader, intake);
+        return take_standard_input(rt, intake);
     };
     for file in files {
-        let opened = match fs::open(rt, *file) {
-            Ok(opened) => opened,
-            Err(e) => return Ok(Err(refuse_path(rt, file, e.kind())?)),
-        };
-        let mut reader = BufReader::new(rt.alloc(), opened)?;
-        if let Err(status) = take_lines(rt, file, &mut reader, intake)? {
+        if let Err(status) = take_file(rt, file, intake)? {
             return Ok(Err(status));
         }
     }
     Ok(Ok(()))
+}
+
+// Takes the lines of a file, or of standard input under its name.
+fn take_file(
+    rt: &HostRuntime,
+    file: &str,
+    intake: &mut Intake,
+) -> anyhow::Result<Result<(), u8>> {
+    if file == STANDARD_INPUT {
+        return take_standard_input(rt, intake);
+    }
+    let opened = match fs::open(rt, file) {
+        Ok(opened) => opened,
+        Err(e) => return Ok(Err(refuse_file(rt, file, e.kind())?)),
+    };
+    let mut reader = BufReader::new(rt.alloc(), opened)?;
+    take_lines(rt, file, &mut reader, intake)
+}
+
+fn take_standard_input(rt: &HostRuntime, intake: &mut Intake) -> anyhow::Result<Result<(), u8>> {
+    let mut reader = BufReader::new(rt.alloc(), rt.reader())?;
+    take_lines(rt, STANDARD_INPUT, &mut reader, intake)
 }
 
 // Takes the lines of an input.
@@ -115,7 +233,7 @@ fn take_lines<R: BufRead>(
         line.clear();
         let len = match reader.read_until(b'\n', &mut line) {
             Ok(len) => len,
-            Err(e) => return Ok(Err(refuse_path(rt, name, e.kind())?)),
+            Err(e) => return Ok(Err(refuse_file(rt, name, e.kind())?)),
         };
         if len == 0 {
             return Ok(Ok(()));
@@ -137,9 +255,9 @@ impl Intake {
         line: &[u8],
     ) -> anyhow::Result<Result<(), u8>> {
         self.bytes = self.bytes.saturating_add(line.len() as u64);
-        if self.bytes.saturating_sub(self.told) >= STEP {
-            self.told = self.bytes;
-            self.tell(rt)?;
+        if self.bytes.saturating_sub(self.reported) >= STEP {
+            self.reported = self.bytes;
+            self.report(rt)?;
         }
         match add_line(rt.alloc(), &mut self.documents, line) {
             Ok(_) => Ok(Ok(())),
@@ -147,50 +265,78 @@ impl Intake {
                 if fault.is_memory() {
                     return Ok(Err(refuse_path(rt, name, fault)?));
                 }
-                self.refuse_line(rt, name, number, &fault)
+                self.refuse_line(rt, name, number, line, &fault)
             }
         }
     }
 
-    // Tells of a line that is no document, and goes on where it may be left out.
+    // Prints why a line is no document, and continues if it may be left out.
     fn refuse_line(
         &mut self,
         rt: &HostRuntime,
         name: &str,
         number: u64,
+        line: &[u8],
         fault: &InputFault,
     ) -> anyhow::Result<Result<(), u8>> {
-        match self.wrong_field(fault) {
-            Some(field) => eprintln!(rt; "{name}:{number}: {field}: {fault}")?,
-            None => eprintln!(rt; "{name}:{number}: {fault}")?,
+        match fault {
+            InputFault::Line(LineFault::NotJson(error)) => {
+                tell_not_json(rt, name, number, line, error)?
+            }
+            InputFault::Line(LineFault::WrongValue(field, reason)) => {
+                self.tell_value(rt, name, number, *field, *reason)?
+            }
+            _ => eprintln!(rt; "{name}:{number}: {fault}")?,
         }
         self.bad_lines = self.bad_lines.saturating_add(1);
         if self.skips_bad {
             return Ok(Ok(()));
         }
-        eprintln!(rt; "nequllpa: nothing is indexed; --skip-bad leaves bad lines out")?;
+        eprintln!(rt; "{PROGRAM}: nothing is indexed; --skip-bad leaves bad lines out")?;
         Ok(Err(NO))
     }
 
-    // The name of the field whose value is wrong.
-    fn wrong_field(&self, fault: &InputFault) -> Option<&str> {
-        let InputFault::Line(LineFault::WrongValue(field, _)) = fault else {
-            return None;
-        };
+    // Prints that a value isn't one of its field, and what was expected of a number.
+    fn tell_value(
+        &self,
+        rt: &HostRuntime,
+        name: &str,
+        number: u64,
+        field: Field,
+        reason: ValueFault,
+    ) -> anyhow::Result<()> {
         let schema = self.documents.schema();
         if field.field_id() as usize >= schema.num_fields() {
-            return None;
+            eprintln!(rt; "{name}:{number}: {reason}")?;
+            return Ok(());
         }
-        Some(schema.get_field_entry(*field).name())
+        let entry = schema.get_field_entry(field);
+        let field = entry.name();
+        if reason != ValueFault::OutOfRange {
+            eprintln!(rt; "{name}:{number}: {field}: {reason}")?;
+            return Ok(());
+        }
+        if entry.value_type() == ValueType::I64 {
+            eprintln!(rt;
+                "{name}:{number}: {field}: {reason}: expected a whole number from {} to {}; -0, a fraction or an exponent is none",
+                i64::MIN, i64::MAX
+            )?;
+            return Ok(());
+        }
+        eprintln!(rt;
+            "{name}:{number}: {field}: {reason}: expected a whole number from 0 to {}; a fraction or an exponent is none",
+            u64::MAX
+        )?;
+        Ok(())
     }
 
-    // Tells how far it came.
-    fn tell(&self, rt: &HostRuntime) -> anyhow::Result<()> {
+    // Prints the progress.
+    fn report(&self, rt: &HostRuntime) -> anyhow::Result<()> {
         let millis = self.begun.elapsed(rt)?.as_millis().max(1);
         let num_docs = self.documents.num_docs();
         let rate = self.bytes as u128 / millis;
         eprintln!(rt;
-            "nequllpa: {num_docs} documents, {} MB, {}.{} MB/s",
+            "{PROGRAM}: {num_docs} documents, {} MB, {}.{} MB/s",
             self.bytes / 1_000_000,
             rate / 1000,
             rate % 1000 / 100
@@ -199,10 +345,40 @@ impl Intake {
     }
 }
 
+// Prints that a line isn't JSON, and where. The parser counts lines within the line.
+fn tell_not_json(
+    rt: &HostRuntime,
+    name: &str,
+    number: u64,
+    line: &[u8],
+    error: &JsonError,
+) -> anyhow::Result<()> {
+    if line.starts_with(BYTE_ORDER_MARK) {
+        eprintln!(rt;
+            "{name}:{number}: not JSON: the line begins with a byte order mark; save the file without one"
+        )?;
+        return Ok(());
+    }
+    let text = format!(in rt.alloc(); "{error}")?;
+    let place = format!(in rt.alloc(); " at line {} column {}", error.line(), error.column())?;
+    let reason = match text.as_str().strip_suffix(place.as_str()) {
+        Some(reason) => reason,
+        None => text.as_str(),
+    };
+    if reason.contains("recursion limit") {
+        eprintln!(rt;
+            "{name}:{number}: not read: arrays and objects are nested more than 127 levels deep"
+        )?;
+        return Ok(());
+    }
+    eprintln!(rt; "{name}:{number}: not JSON: {reason} at byte {}", error.column())?;
+    Ok(())
+}
+
 // Makes the index of the documents and saves it.
 fn save_index(
     rt: &HostRuntime,
-    path: &str,
+    target: Target<'_>,
     intake: Intake,
     schema: Vec<u8>,
 ) -> anyhow::Result<ExitCode> {
@@ -211,36 +387,47 @@ fn save_index(
         skips_bad: _,
         bad_lines,
         bytes: _,
-        told: _,
+        reported: _,
         begun: _,
     } = intake;
     let stored = match store(rt.alloc(), documents, schema) {
         Ok(stored) => stored,
         Err(fault) => return Ok(ExitCode::from(refuse(rt, fault)?)),
     };
-    if let Err(status) = save_at(rt, path, &stored)? {
+    if let Err(status) = save_at(rt, target, &stored)? {
         return Ok(ExitCode::from(status));
     }
     tell_indexed(rt, stored.num_docs, bad_lines)?;
     Ok(ExitCode::SUCCESS)
 }
 
-// Saves an index in a folder, which is made if it isn't there, or gives the status.
-fn save_at(rt: &HostRuntime, path: &str, stored: &StoredIndex) -> anyhow::Result<Result<(), u8>> {
+// Saves an index in a folder, which is made if it doesn't exist, or gives the status.
+fn save_at(
+    rt: &HostRuntime,
+    target: Target<'_>,
+    stored: &StoredIndex,
+) -> anyhow::Result<Result<(), u8>> {
+    let path = target.path;
     if let Err(e) = fs::create_dir_all(rt, path) {
         return Ok(Err(refuse_path(rt, path, e.kind())?));
     }
-    let Err(fault) = put(rt, path, stored) else {
+    let target = match target.locked(rt)? {
+        Ok(target) => target,
+        Err(status) => return Ok(Err(status)),
+    };
+    let saved = put(rt, path, stored);
+    drop(target);
+    let Err(fault) = saved else {
         return Ok(Ok(()));
     };
     let status = refuse_path(rt, path, fault)?;
     eprintln!(rt;
-        "nequllpa: the folder has a whole index still, if it had one; make room, or let it be written, and index again"
+        "{PROGRAM}: the folder still has its complete index, if it had one; free some space, or make the folder writable, and index again"
     )?;
     Ok(Err(status))
 }
 
-// Tells how many documents were indexed, and how many lines were left out.
+// Prints how many documents were indexed, and how many lines were left out.
 fn tell_indexed(rt: &HostRuntime, num_docs: u32, bad_lines: u64) -> anyhow::Result<()> {
     if bad_lines > 0 {
         println!(rt; "{num_docs} documents indexed, {bad_lines} lines left out")?;
@@ -253,6 +440,7 @@ fn tell_indexed(rt: &HostRuntime, num_docs: u32, bad_lines: u64) -> anyhow::Resu
 // Saves an index, and removes the files of the one before.
 fn put(rt: &HostRuntime, path: &str, stored: &StoredIndex) -> Result<(), DirectoryFault> {
     let mut folder = Folder::new(rt, path);
+    folder.begin_first_save()?;
     save(rt.alloc(), &mut folder, stored)?;
     remove_unused(rt.alloc(), &mut folder)
 }

@@ -1,26 +1,56 @@
-//! A program over an index of JSON lines in a folder: it makes one, searches it and looks into it.
+//! A program over an index of JSON lines in a folder: it makes one, searches it and inspects it.
 #![tactic(auto)]
 
 mod checking;
 mod commands;
 mod indexing;
+mod searching;
 mod usage;
 
 use checking::answer_check;
 use clap::ArgMatches;
 use commands::{
-    REFUSED, answer_fields, answer_postings, answer_search, answer_stats, answer_terms,
+    PROGRAM, REFUSED, answer_fields, answer_postings, answer_stats, answer_terms, refuse,
 };
 use indexing::answer_index;
+use searching::answer_search;
+use std::io;
 use std::process::ExitCode;
 
-fn main(rt: HostRuntime) -> anyhow::Result<ExitCode> {
-    let words: Vec<String> = std::env::args(&rt)?.collect(rt.alloc())?;
-    answer(&rt, words.as_slice())
+fn main(rt: HostRuntime) -> ExitCode {
+    match answer(&rt) {
+        Ok(status) => status,
+        Err(error) => {
+            // Where standard error fails too, the status alone is left.
+            let _ = eprintln!(&rt; "{PROGRAM}: {error}");
+            ExitCode::from(REFUSED)
+        }
+    }
 }
 
 // Answers the words that the program is given.
-fn answer(rt: &HostRuntime, words: &[String]) -> anyhow::Result<ExitCode> {
+fn answer(rt: &HostRuntime) -> anyhow::Result<ExitCode> {
+    let args = match std::env::args(rt) {
+        Ok(args) => args,
+        Err(error) => {
+            if error.kind() == io::ErrorKind::InvalidData {
+                return Ok(ExitCode::from(refuse(
+                    rt,
+                    "an argument is not UTF-8",
+                )?));
+            }
+            return Err(error.into());
+        }
+    };
+    let mut words = vec![in rt.alloc(); String::from_str(rt.alloc(), PROGRAM)?]?;
+    for word in args.skip(1) {
+        words.push(word)?;
+    }
+    answer_words(rt, words.as_slice())
+}
+
+// Answers the words of a command line, of which the first one is the program's name.
+fn answer_words(rt: &HostRuntime, words: &[String]) -> anyhow::Result<ExitCode> {
     match usage::command(rt.alloc())?.try_get_matches_from(words) {
         Ok(matches) => answer_command(rt, &matches),
         Err(error) => {

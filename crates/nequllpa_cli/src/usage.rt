@@ -5,7 +5,7 @@ use std::alloc::{AllocError, Global};
 // How a word of a command is given.
 #[derive(Clone, Copy)]
 enum Given {
-    // It stands at its place.
+    // It is given at its place.
     Word,
     // The same; it may begin with `-` and a digit.
     WordOrNumber,
@@ -32,7 +32,7 @@ struct Word {
 struct Usage {
     name: &'static str,
     about: &'static str,
-    // what it is given behind its folder
+    // what it is given after its folder
     words: &'static [Word],
 }
 
@@ -45,12 +45,12 @@ static FOLDER: Word = Word {
 static USAGES: [Usage; 7] = [
     Usage {
         name: "index",
-        about: "Indexes JSON lines: the folder then has the index of these, in place of the one that it had. Takes 3 to 5 bytes of memory for each byte of input",
+        about: "Indexes JSON lines: the index replaces the one that the folder had. Takes 3 to 5 bytes of memory for each byte of input, up to 16 for numbers that all differ",
         words: &[
             Word {
                 name: "FILE",
                 given: Given::Words,
-                help: "Files of JSON lines, an object on each line; standard input where there is none",
+                help: "Files of JSON lines, an object on each line; - is standard input, which is read if no file is given",
             },
             Word {
                 name: "schema",
@@ -60,7 +60,12 @@ static USAGES: [Usage; 7] = [
             Word {
                 name: "skip-bad",
                 given: Given::Flag,
-                help: "Leaves lines out that are no documents, tells of each, and counts them",
+                help: "Leaves out lines that are no documents, prints why for each, and counts them",
+            },
+            Word {
+                name: "force",
+                given: Given::Flag,
+                help: "Replaces files with names of an index in a folder that has no meta",
             },
         ],
     },
@@ -71,7 +76,7 @@ static USAGES: [Usage; 7] = [
             Word {
                 name: "QUERY",
                 given: Given::Word,
-                help: "Words, also behind the name of a field and a colon, with AND, OR, - and parentheses: sea AND -title:\"new\"",
+                help: "Words, also after the name of a field and a colon, with AND, OR, NOT or -, and parentheses: sea AND -title:\"new\"",
             },
             Word {
                 name: "field",
@@ -81,33 +86,33 @@ static USAGES: [Usage; 7] = [
             Word {
                 name: "limit",
                 given: Given::Value("N"),
-                help: "Prints so many documents at most",
+                help: "Prints at most N documents; the status is that of all documents that match",
             },
             Word {
                 name: "count",
                 given: Given::Flag,
-                help: "Prints how many documents there are, alone",
+                help: "Prints only the number of documents",
             },
             Word {
                 name: "positions",
                 given: Given::Flag,
-                help: "Prints behind each document the terms of the query that stand in it, each with its positions: parted by tabs, as FIELD:TERM P P",
+                help: "Prints after each document the terms of the query that occur in it, each with its positions: separated by tabs, as FIELD:TERM P P",
             },
             Word {
                 name: "ids",
                 given: Given::Flag,
-                help: "Prints the value of the field id, where the schema has one, in place of the number of a document",
+                help: "Prints the value of the field id in place of the number of a document, - if it has none; refused for texts of several words",
             },
             Word {
                 name: "json",
                 given: Given::Flag,
-                help: "Prints an object of JSON for each document: doc, its number; with --ids id; with --positions terms, each with field, term and positions",
+                help: "Prints a JSON object for each document: doc, its number; with --ids id; with --positions terms, each with field, term and positions; with --count one object with count",
             },
         ],
     },
     Usage {
         name: "terms",
-        about: "Prints the terms of a field in order, each behind the number of its documents",
+        about: "Prints the terms of a field in order, each after the number of its documents",
         words: &[
             Word {
                 name: "FIELD",
@@ -117,7 +122,7 @@ static USAGES: [Usage; 7] = [
             Word {
                 name: "prefix",
                 given: Given::Value("P"),
-                help: "Prints terms alone that begin so",
+                help: "Prints only the terms that begin with P",
             },
             Word {
                 name: "top",
@@ -149,17 +154,17 @@ static USAGES: [Usage; 7] = [
     },
     Usage {
         name: "fields",
-        about: "Tells of each field its number, name, type, what it records, its terms and tokens; of a JSON field also its paths and types",
+        about: "Prints for each field its number, name, type, what it records, its terms and tokens; for a JSON field also its paths and types",
         words: &[],
     },
     Usage {
         name: "check",
-        about: "Looks whether each file is as it was saved, walks every list of every term, and compares the norms with the counts; prints for each damage the file, the field, the term, the part and the range of its bytes; status 1 where something is damaged",
+        about: "Checks that each file is as it was saved, walks every list of every term, and compares the norms with the counts; prints for each damage the file, the field, the term, the part and the range of its bytes; status 1 if something is damaged",
         words: &[],
     },
     Usage {
         name: "stats",
-        about: "Tells how many documents there are, the bytes of each file, and of each field what its lists take",
+        about: "Prints how many documents there are, the bytes of each file, and for each field what its lists take",
         words: &[],
     },
 ];
@@ -168,7 +173,7 @@ static USAGES: [Usage; 7] = [
 pub fn command<'a>(alloc: Global) -> Result<Command<'a>, AllocError> {
     let mut command = Command::new(alloc, "nequllpa")
         .about(
-            "Indexes JSON lines into a folder, searches the index and looks into it. Status 0: done; 1: no document, no such term, a bad line, no index, or a damaged one; 2: usage or the system",
+            "Indexes JSON lines into a folder, searches the index and inspects it. Status 0: done; 1: no document, no such term, a bad line, no index, or a damaged one; 2: usage or the system",
         )
         .subcommand_required(true)
         .arg_required_else_help(true);

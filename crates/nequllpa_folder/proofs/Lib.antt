@@ -1,3 +1,4 @@
 mod FindingLemmas
 mod QueryLemmas
 mod StoredLaws
+mod WantedLemmas

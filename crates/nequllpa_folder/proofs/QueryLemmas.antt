@@ -16,12 +16,12 @@ use Rattle.ii_docset.specs.Cursor.{IsAscending, IsSound}
 use Rattle.ii_reader.specs.InvertedIndexReader.{IsRefusal}
 use Rattle.ii_reader.specs.OpenIndex.{OpenIndexState, all_or_first}
 use Rattle.ii_reader.proofs.IndexLemmas.{in_front, in_front_of_none, one_more}
-use Rattle.ii_search.specs.declared.query.PhraseTerm.{PhraseTerm}
-use Rattle.ii_search.specs.declared.query.Query.{Query, Empty, All, Term, Phrase, And', Or', AndNot'}
+use Rattle.ii_query_parser.specs.declared.query.PhraseTerm.{PhraseTerm}
+use Rattle.ii_query_parser.specs.declared.query.Query.{Query}
 use Rattle.ii_search.specs.Found.{docs_of_term, found_in}
-use Rattle.ii_search.specs.Queries.{has_fields}
+use Rattle.ii_query_parser.specs.Queries.{QueryTree, QueryTrees, all_below, any_of, each_of, has_fields, hold_for_all, holds_for_all, is_within, no_tree, nothing, one_phrase, one_term, phrase_is_within, tree, tree_of, without}
 use Rattle.nequllpa_folder.specs.declared.finding.TermPlaces.{TermPlaces}
-use Rattle.nequllpa_folder.specs.Finding.{first_docs, found_places, places_view, term_places, wanted_terms}
+use Rattle.nequllpa_folder.specs.Finding.{first_docs, found_places, places_view, term_places, tree_terms, trees_terms, wanted_terms}
 use Rattle.nequllpa_folder.proofs.FindingLemmas.{docs_ascend}
 use Rattle.nequllpa_folder.specs.Positions.{positions_in_doc}
 
@@ -59,20 +59,25 @@ fields_of n (o ∷ os) = ap (λ (b : Bool). nat_lt o.term.field n && b) (fields_
 both : (n : ℕ) (first other : List TermState) → list_all (λ (t : TermState). nat_lt t.field n) first ≡ true → list_all (λ (t : TermState). nat_lt t.field n) other ≡ true → list_all (λ (t : TermState). nat_lt t.field n) (first ++ other) ≡ true
 both n first other a b = rw (list_all-append (λ (t : TermState). nat_lt t.field n) first other, a, b) refl
 
+mutual
+  tree_fields : (n : ℕ) (q : QueryTree) → holds_for_all (is_within n) (phrase_is_within n) q ≡ true → list_all (λ (t : TermState). nat_lt t.field n) (tree_terms q) ≡ true
+  tree_fields n nothing fields = refl
+  tree_fields n (all_below m) fields = refl
+  tree_fields n (one_term term) fields = rw fields refl
+  tree_fields n (one_phrase first others) fields = rw (← fields_of n others) fields
+  tree_fields n (each_of qs) fields = trees_fields n qs fields
+  tree_fields n (any_of qs) fields = trees_fields n qs fields
+  tree_fields n (without first other) fields =
+      tree_fields n first (and_parts (holds_for_all (is_within n) (phrase_is_within n) first) (holds_for_all (is_within n) (phrase_is_within n) other) fields).0
+
+  trees_fields : (n : ℕ) (qs : QueryTrees) → hold_for_all (is_within n) (phrase_is_within n) qs ≡ true → list_all (λ (t : TermState). nat_lt t.field n) (trees_terms qs) ≡ true
+  trees_fields n no_tree fields = refl
+  trees_fields n (tree q qs) fields =
+      let h = and_parts (holds_for_all (is_within n) (phrase_is_within n) q) (hold_for_all (is_within n) (phrase_is_within n) qs) fields in
+      both n (tree_terms q) (trees_terms qs) (tree_fields n q h.0) (trees_fields n qs h.1)
+
 pub wanted_fields : (n : ℕ) (query : Query) → has_fields n query ≡ true → list_all (λ (t : TermState). nat_lt t.field n) (wanted_terms query) ≡ true
-wanted_fields n Empty fields = refl
-wanted_fields n (All m) fields = refl
-wanted_fields n (Term term) fields = rw fields refl
-wanted_fields n (Phrase first others) fields = rw (← fields_of n others.items) fields
-wanted_fields n (And' p first q other) fields =
-    let h = and_parts (has_fields n first) (has_fields n other) fields in
-    both n (wanted_terms first) (wanted_terms other) (wanted_fields n first h.0) (wanted_fields n other h.1)
-wanted_fields n (Or' p first q other) fields =
-    let h = and_parts (has_fields n first) (has_fields n other) fields in
-    both n (wanted_terms first) (wanted_terms other) (wanted_fields n first h.0) (wanted_fields n other h.1)
-wanted_fields n (AndNot' p first q other) fields =
-    let h = and_parts (has_fields n first) (has_fields n other) fields in
-    wanted_fields n first h.0
+wanted_fields n query fields = tree_fields n (tree_of query) fields
 
 pub wanted_known : (n : ℕ) (query : Query) (terms : List TermState) → has_fields n query ≡ true → terms ≡ wanted_terms query → list_all (λ (t : TermState). nat_lt t.field n) terms ≡ true
 wanted_known n query terms fields wanted = rw wanted (wanted_fields n query fields)

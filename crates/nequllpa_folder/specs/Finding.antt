@@ -7,22 +7,32 @@ use Rattle.ii_base.specs.Entries.{Entry, docs_of}
 use Rattle.ii_base.specs.Terms.{TermState}
 use Rattle.ii_base.specs.declared.schema.index_record_option.IndexRecordOption.TheVariants.{WithFreqsAndPositions}
 use Rattle.ii_reader.specs.OpenIndex.{OpenIndexState, all_or_first}
-use Rattle.ii_search.specs.declared.query.PhraseTerm.{PhraseTerm}
-use Rattle.ii_search.specs.declared.query.Query.{Query, Empty, All, Term, Phrase, And', Or', AndNot'}
+use Rattle.ii_query_parser.specs.declared.query.PhraseTerm.{PhraseTerm}
+use Rattle.ii_query_parser.specs.declared.query.Query.{Query}
+use Rattle.ii_query_parser.specs.Queries.{QueryTree, QueryTrees, all_below, any_of, each_of, no_tree, nothing, one_phrase, one_term, tree, tree_of, without}
 use Rattle.ii_search.specs.Found.{docs_of_term, found_in}
 use Rattle.nequllpa_folder.specs.Positions.{positions_in_doc}
 use Rattle.nequllpa_folder.specs.declared.finding.FoundPlaces.{FoundPlaces}
 use Rattle.nequllpa_folder.specs.declared.finding.TermPlaces.{TermPlaces}
 
--- the terms that a query wants, in its order; those behind a "not" are none of them
+-- The terms that a query wants, in its order. Those that it excludes are not among them.
+abbrev mutual
+  pub tree_terms : QueryTree → List TermState
+  tree_terms nothing = []
+  tree_terms (all_below n) = []
+  tree_terms (one_term term) = term ∷ []
+  tree_terms (one_phrase first others) = first ∷ map (λ (o : PhraseTerm). o.term) others
+  tree_terms (each_of qs) = trees_terms qs
+  tree_terms (any_of qs) = trees_terms qs
+  tree_terms (without first other) = tree_terms first
+
+  pub trees_terms : QueryTrees → List TermState
+  trees_terms no_tree = []
+  trees_terms (tree q qs) = tree_terms q ++ trees_terms qs
+
+-- the terms that a query wants
 abbrev pub wanted_terms : Query → List TermState
-wanted_terms Empty = []
-wanted_terms (All n) = []
-wanted_terms (Term term) = term ∷ []
-wanted_terms (Phrase first others) = first ∷ map (λ (o : PhraseTerm). o.term) others.items
-wanted_terms (And' p first q other) = wanted_terms first ++ wanted_terms other
-wanted_terms (Or' p first q other) = wanted_terms first ++ wanted_terms other
-wanted_terms (AndNot' p first q other) = wanted_terms first
+wanted_terms query = tree_terms (tree_of query)
 
 -- where a term stands in each of some documents, or the first part of its list that fails
 abbrev pub term_places : OpenIndexState → List ℕ → TermState → Result (List (Option (List ℕ))) Part

@@ -1,5 +1,5 @@
 //! Which documents match a query, and where in them its terms stand.
-ghost use Rattle.std.specs.Prelude.{◌≡◌, ◌<◌, ◌++◌, IfErr, IfOk, Ok, OnOk, length, map, nat_lt, take, true};
+ghost use Rattle.std.specs.Prelude.{◌≡◌, ◌<◌, ◌++◌, IfErr, IfOk, Ok, OnOk, flat_map, length, map, nat_lt, take, true};
 ghost use Rattle.std.specs.List.{list_all};
 ghost use Rattle.std.specs.Option.{option_map};
 ghost use Rattle.ii_base.specs.declared.schema.index_record_option.IndexRecordOption.TheVariants.{WithFreqsAndPositions};
@@ -9,7 +9,7 @@ ghost use Rattle.ii_io.specs.Faults.{OnlyMemory};
 ghost use Rattle.ii_reader.specs.InvertedIndexReader.{IsRefusal};
 ghost use Rattle.ii_reader.specs.OpenIndex.{all_or_first};
 ghost use Rattle.ii_search.specs.Found.{docs_of_term};
-ghost use Rattle.ii_search.specs.Queries.{has_fields};
+ghost use Rattle.ii_query_parser.specs.Queries.{has_fields};
 ghost use Rattle.nequllpa_folder.specs.Finding.{first_docs, found_places, found_view, places_view, term_places, wanted_terms};
 ghost use Rattle.nequllpa_folder.specs.Positions.{positions_in_doc};
 
@@ -118,6 +118,8 @@ pub fn wanted_terms<'q>(alloc: Global, query: &'q Query) -> Result<Vec<&'q Term>
 }
 
 // Adds the terms that a query wants.
+#[cycle(push_terms)]
+#[tactic(auto, using(crate::proofs::WantedLemmas::wanted_of_nothing, crate::proofs::WantedLemmas::wanted_of_all, crate::proofs::WantedLemmas::wanted_of_term, crate::proofs::WantedLemmas::wanted_of_phrase, crate::proofs::WantedLemmas::wanted_of_and, crate::proofs::WantedLemmas::wanted_of_or, crate::proofs::WantedLemmas::wanted_of_and_not))]
 fn push_terms<'q>(query: &'q Query, terms: &mut Vec<&'q Term>) -> Result<(), Fault>
     ensures wanted { OnOk result (map (λ t. t.now) terms.new.items ≡ map (λ t. t.now) terms.old.items ++ wanted_terms query.now) }
     ensures only { OnlyMemory result }
@@ -130,19 +132,25 @@ fn push_terms<'q>(query: &'q Query, terms: &mut Vec<&'q Term>) -> Result<(), Fau
             terms.push(first)?;
             push_others(others, terms)
         }
-        Query::And(first, other) => {
-            push_terms(first, terms)?;
-            push_terms(other, terms)
-        }
-        Query::Or(first, other) => {
-            push_terms(first, terms)?;
-            push_terms(other, terms)
-        }
+        Query::And(queries) => push_all_terms(queries, terms),
+        Query::Or(queries) => push_all_terms(queries, terms),
         Query::AndNot(first, _) => push_terms(first, terms),
     }
 }
 
-// Adds the terms of a phrase behind the first one.
+// Adds the terms that some queries want.
+#[cycle(push_terms)]
+fn push_all_terms<'q>(queries: &'q Vec<Query>, terms: &mut Vec<&'q Term>) -> Result<(), Fault>
+    ensures wanted { OnOk result (map (λ t. t.now) terms.new.items ≡ map (λ t. t.now) terms.old.items ++ flat_map wanted_terms queries.now.items) }
+    ensures only { OnlyMemory result }
+{
+    for query in queries {
+        push_terms(query, terms)?;
+    }
+    Ok(())
+}
+
+// Adds the terms of a phrase after the first one.
 fn push_others<'q>(others: &'q [PhraseTerm], terms: &mut Vec<&'q Term>) -> Result<(), Fault>
     ensures wanted { OnOk result (map (λ t. t.now) terms.new.items ≡ map (λ t. t.now) terms.old.items ++ map (λ o. o.term) others.now) }
     ensures only { OnlyMemory result }

@@ -1,17 +1,89 @@
-//! What a field named `id` has of documents.
-ghost use Rattle.std.specs.Prelude.{◌<◌, length};
+//! The values of a field named `id` of documents.
+ghost use Rattle.std.specs.Prelude.{◌≡◌, ◌<◌, IfOk, Ok, length};
 
 use crate::faults::AnswerFault;
 use crate::keys::push_key;
 use crate::opened::Opened;
-use ii_base::{Fault, Field, IndexRecordOption};
+use ii_base::{Fault, Field, IndexRecordOption, ValueType};
 use ii_docset::{DocId, DocSet, TERMINATED};
+use ii_fieldnorm::FieldNormReader;
 use ii_reader::InvertedIndexReader;
 use ii_termdict::TermInfo;
 use std::alloc::Global;
+use thiserror::Error;
 
 // The name of the field whose values are ids.
 const ID_FIELD: &str = "id";
+
+/// Why documents can't be printed by the values of a field `id`.
+#[derive(Clone, Copy, Debug, PartialEq, Eq, Error)]
+pub enum NoIds {
+    /// The schema has no indexed field of that name.
+    #[error("--ids: the schema has no indexed field id")]
+    NoField,
+    /// The field has JSON values.
+    #[error("--ids: the field id has JSON values, and a document may have several terms")]
+    JsonValues,
+    /// The field has texts, and no norms that count their words.
+    #[error(
+        "--ids: the field id has texts without fieldnorms, so their number of words is not known"
+    )]
+    NoNorms,
+    /// The field has a text of several words, of which no single one is the id.
+    #[error(
+        "--ids: document {0} has an id of several words, which are indexed one by one; index ids as u64 or as one word"
+    )]
+    SeveralWords(DocId),
+}
+
+/// Returns the field `id`, or why documents can't be printed by its values: an index keeps the words of a
+/// text and not the text, so each document may have one word at most.
+///
+/// # Errors
+///
+/// `Damaged` if the field's norms don't open; `OutOfMemory`.
+pub fn id_field(opened: &Opened) -> Result<Result<Field, NoIds>, Fault>
+    ensures { IfOk result (λ found. IfOk found (λ field. field < length opened.now.schema)) }
+{
+    let Some(field) = opened.field_named(ID_FIELD) else {
+        return Ok(Err(NoIds::NoField));
+    };
+    let entry = opened.entry(field);
+    if !entry.is_indexed() {
+        return Ok(Err(NoIds::NoField));
+    }
+    match entry.value_type() {
+        ValueType::Json => Ok(Err(NoIds::JsonValues)),
+        ValueType::Str => match first_of_several(opened, field)? {
+            Ok(None) => Ok(Ok(field)),
+            Ok(Some(doc)) => Ok(Err(NoIds::SeveralWords(doc))),
+            Err(reason) => Ok(Err(reason)),
+        },
+        _ => Ok(Ok(field)),
+    }
+}
+
+// The first document with several words in a field of texts.
+fn first_of_several(opened: &Opened, field: Field) -> Result<Result<Option<DocId>, NoIds>, Fault> {
+    match opened.index().get_fieldnorms_reader(field)? {
+        Some(norms) => {
+            let first = first_above_one(&norms);
+            drop(norms);
+            Ok(Ok(first))
+        }
+        None => Ok(Err(NoIds::NoNorms)),
+    }
+}
+
+// The first document whose norm is above that of one token.
+fn first_above_one(norms: &FieldNormReader) -> Option<DocId> {
+    for doc in 0..norms.num_docs() {
+        if norms.fieldnorm_id(doc) > 1 {
+            return Some(doc);
+        }
+    }
+    None
+}
 
 /// The ids of some documents.
 #[derive(Drop)]
@@ -21,14 +93,14 @@ pub struct Ids {
 }
 
 impl Ids {
-    /// None has an id.
+    /// Returns the ids where no document has one.
     pub fn none(alloc: Global) -> Ids {
         Ids {
             texts: Vec::new(alloc),
         }
     }
 
-    /// That of the document at a place, if it has one.
+    /// Returns the id of the document at a place, if it has one.
     pub fn at(&self, place: usize) -> Option<&str> {
         match self.texts.get(place) {
             Some(text) => {
@@ -42,13 +114,17 @@ impl Ids {
     }
 }
 
-/// The ids of documents, which ascend: of each the first term, in the order of the keys, that the field
-/// `id` has of it. None has one where the schema hasn't such a field.
-pub fn ids_of(alloc: Global, opened: &Opened, docs: &[DocId]) -> Result<Ids, AnswerFault> {
+/// Returns the ids of documents, which ascend: of each the first term, in the order of the keys, that the
+/// field has of it. Terms are opened until each document has its id.
+pub fn ids_of(
+    alloc: Global,
+    opened: &Opened,
+    field: Field,
+    docs: &[DocId],
+) -> Result<Ids, AnswerFault>
+    requires { field < length opened.now.schema }
+{
     let mut ids = Ids::none(alloc);
-    let Some(field) = opened.field_named(ID_FIELD) else {
-        return Ok(ids);
-    };
     for _ in docs {
         ids.texts.push(String::new(alloc))?;
     }
@@ -56,7 +132,7 @@ pub fn ids_of(alloc: Global, opened: &Opened, docs: &[DocId]) -> Result<Ids, Ans
     Ok(ids)
 }
 
-// Puts the terms of a field beside the documents that have them.
+// Fills in the terms of a field for the documents that have them.
 fn fill_ids(
     alloc: Global,
     opened: &Opened,
@@ -70,25 +146,29 @@ fn fill_ids(
     let reader = opened.reader(field);
     let mut terms = reader.terms().stream();
     let mut text = String::new(alloc);
+    let mut missing = docs.len();
     for _ in 0..reader.terms().num_terms() {
+        if missing == 0 {
+            return Ok(());
+        }
         let Some((key, info)) = terms.next() else {
             return Ok(());
         };
         text.clear();
         push_key(&mut text, value_type, key)?;
-        put_term(reader, &info, docs, text.as_str(), ids)?;
+        missing = missing.saturating_sub(put_term(reader, &info, docs, text.as_str(), ids)?);
     }
     Ok(())
 }
 
-// Puts a term beside the documents that have it.
+// Fills in a term for the documents that have it, and returns how many had no id before.
 fn put_term(
     reader: &InvertedIndexReader,
     info: &TermInfo,
     docs: &[DocId],
     text: &str,
     ids: &mut Ids,
-) -> Result<(), Fault> {
+) -> Result<usize, Fault> {
     let mut cursor = reader.read_postings_from_terminfo(info, IndexRecordOption::Basic)?;
     let put = ids.put(&mut cursor, docs, text);
     drop(cursor);
@@ -96,26 +176,34 @@ fn put_term(
 }
 
 impl Ids {
-    // Puts a text beside those of some documents that a cursor has, and that have none yet.
-    fn put<C: DocSet>(&mut self, cursor: &mut C, docs: &[DocId], text: &str) -> Result<(), Fault> {
+    // Fills in a text for those of some documents that a cursor has and that have none yet, and returns how
+    // many these are.
+    fn put<C: DocSet>(
+        &mut self,
+        cursor: &mut C,
+        docs: &[DocId],
+        text: &str,
+    ) -> Result<usize, Fault> {
+        let mut count = 0usize;
         for (doc, id) in docs.iter().zip(self.texts.iter_mut()) {
             if cursor.doc() >= TERMINATED {
-                return Ok(());
+                return Ok(count);
             }
             if *doc < cursor.doc() {
                 continue;
             }
-            while_below(cursor, *doc);
+            go_to(cursor, *doc);
             if cursor.doc() == *doc && id.is_empty() {
                 id.push_str(text)?;
+                count = count.saturating_add(1);
             }
         }
-        Ok(())
+        Ok(count)
     }
 }
 
 // Goes to the first document that isn't below another.
-fn while_below<C: DocSet>(cursor: &mut C, doc: DocId) {
+fn go_to<C: DocSet>(cursor: &mut C, doc: DocId) {
     if doc < TERMINATED {
         cursor.seek_danger(doc);
     }

@@ -1,7 +1,7 @@
 //! What an index holds, as text.
 ghost use Rattle.std.specs.Prelude.{◌≡◌, ◌<◌, length, true};
 ghost use Rattle.ii_docset.specs.Cursor.{IsCurrent};
-ghost use Rattle.ii_search.specs.Queries.{has_fields};
+ghost use Rattle.ii_query_parser.specs.Queries.{has_fields};
 
 use crate::faults::AnswerFault;
 use crate::keys::{push_key, push_path};
@@ -13,17 +13,30 @@ use ii_search::{Query, count};
 use std::alloc::Global;
 use std::io::Write;
 
-/// Writes how many documents match a query, and answers whether any does.
+/// How the number of the documents that match is written.
+#[derive(Clone, Copy, Debug, PartialEq, Eq)]
+pub enum CountFormat {
+    /// As the number alone.
+    Number,
+    /// As a JSON object with `count`.
+    Json,
+}
+
+/// Writes how many documents match a query, and returns whether any does.
 pub fn write_count<W: Write>(
     alloc: Global,
     out: &mut W,
     opened: &Opened,
     query: &Query,
+    format: CountFormat,
 ) -> Result<bool, AnswerFault>
     requires { has_fields (length opened.now.schema) query.now ≡ true }
 {
     let many = count(alloc, opened.index(), query)?;
-    writeln!(out, "{many}")?;
+    match format {
+        CountFormat::Number => writeln!(out, "{many}")?,
+        CountFormat::Json => writeln!(out, "{{\"count\":{many}}}")?,
+    }
     Ok(many > 0)
 }
 

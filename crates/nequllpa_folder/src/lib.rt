@@ -15,7 +15,10 @@ pub mod stats;
 pub use checking::{Checked, Damage, check};
 pub use faults::{AnswerFault, OpenFault};
 pub use finding::{FoundPlaces, TermPlaces, find_places, first_docs, wanted_terms};
-pub use inspecting::{TermChoice, write_count, write_fields, write_postings, write_terms};
+pub use ids::{NoIds, id_field};
+pub use inspecting::{
+    CountFormat, TermChoice, write_count, write_fields, write_postings, write_terms,
+};
 pub use keys::{push_key, term_of};
 pub use listing::{Listing, write_listing};
 pub use opened::{Opened, schema_of};

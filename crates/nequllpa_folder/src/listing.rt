@@ -1,15 +1,15 @@
 //! How the documents that a search finds are written, with where the terms of the query stand in them.
 ghost use Rattle.std.specs.Prelude.{◌≡◌, ◌<◌, length, true};
-ghost use Rattle.ii_search.specs.Queries.{has_fields};
+ghost use Rattle.ii_query_parser.specs.Queries.{has_fields};
 
 use crate::faults::AnswerFault;
 use crate::finding::{FoundPlaces, TermPlaces, find_places, first_docs, wanted_terms};
 use crate::ids::{Ids, ids_of};
 use crate::keys::push_key;
 use crate::opened::Opened;
-use ii_base::{Fault, Term};
+use ii_base::{Fault, Field, Term};
 use ii_docset::DocId;
-use ii_search::Query;
+use ii_search::{Query, count};
 use serde_json::Value;
 use std::alloc::Global;
 use std::io::Write;
@@ -17,21 +17,23 @@ use std::io::Write;
 /// How the documents that are found are written, each on a line.
 #[derive(Clone, Copy, Debug)]
 pub struct Listing {
-    /// So many at most.
+    /// How many documents are written at most.
     pub limit: u32,
-    /// As JSON objects, else as words.
+    /// Whether they are JSON objects, else words.
     pub as_json: bool,
-    /// With the positions of the terms that the query wants.
+    /// Whether the positions of the terms that the query wants are written.
     pub with_positions: bool,
-    /// With what the field `id` has of them, where the schema has such a field.
-    pub by_id: bool,
+    /// The field whose value is written in place of a document's number.
+    pub ids: Option<Field>,
 }
 
-/// Writes the documents that match a query, each on a line, and answers whether there are any.
+/// Writes the documents that match a query, each on a line, and returns whether any document matches, also
+/// if none is written because the limit is 0.
 ///
-/// In words a line has the number of the document, or its id in its place, and then, behind a tab each, the
-/// terms that stand in it: field, colon, term and the positions. In JSON it is an object with `doc`, `id`
-/// where there is one, and `terms`, each with `field`, `term` and `positions`.
+/// In words a line has the number of the document, or in its place its id, `-` if it has none. Then, after a
+/// tab each, the terms that occur in it: field, colon, term and the positions. In JSON it is an object with
+/// `doc`, with `id` (a text, or null) if ids are asked for, and with `terms`, each with `field`, `term` and
+/// `positions`.
 pub fn write_listing<W: Write>(
     alloc: Global,
     out: &mut W,
@@ -41,6 +43,9 @@ pub fn write_listing<W: Write>(
 ) -> Result<bool, AnswerFault>
     requires { has_fields (length opened.now.schema) query.now ≡ true }
 {
+    if how.limit == 0 {
+        return Ok(count(alloc, opened.index(), query)? > 0);
+    }
     let found = found_of(alloc, opened, query, how)?;
     let any = !found.docs.is_empty();
     let written = write_found(alloc, out, opened, query, how, &found);
@@ -82,11 +87,7 @@ fn write_found<W: Write>(
     found: &FoundPlaces,
 ) -> Result<(), AnswerFault> {
     let texts = texts_of(alloc, opened, query)?;
-    let ids = if how.by_id {
-        ids_of(alloc, opened, &found.docs)
-    } else {
-        Ok(Ids::none(alloc))
-    };
+    let ids = ids_in(alloc, opened, how, &found.docs);
     let written = match ids {
         Ok(ids) => {
             let written = write_rows(alloc, out, how, found, &texts, &ids);
@@ -97,6 +98,24 @@ fn write_found<W: Write>(
     };
     drop(texts);
     written
+}
+
+// The ids of documents, if they are asked for.
+fn ids_in(
+    alloc: Global,
+    opened: &Opened,
+    how: Listing,
+    docs: &[DocId],
+) -> Result<Ids, AnswerFault> {
+    match how.ids {
+        Some(field) => {
+            if field.field_id() as usize >= opened.schema().num_fields() {
+                return Ok(Ids::none(alloc));
+            }
+            ids_of(alloc, opened, field, docs)
+        }
+        None => Ok(Ids::none(alloc)),
+    }
 }
 
 // Writes a line for each document.
@@ -115,9 +134,9 @@ fn write_rows<W: Write>(
             place,
         };
         if how.as_json {
-            row.write_json(alloc, out, texts, &found.places, how.with_positions)?;
+            row.write_json(alloc, out, texts, &found.places, how)?;
         } else {
-            row.write_words(out, texts, &found.places)?;
+            row.write_words(out, texts, &found.places, how)?;
         }
     }
     Ok(())
@@ -174,10 +193,12 @@ impl Row<'_> {
         out: &mut W,
         texts: &[TermText],
         places: &[TermPlaces],
+        how: Listing,
     ) -> Result<(), AnswerFault> {
-        match self.id {
-            Some(id) => write!(out, "{id}")?,
-            None => write!(out, "{}", self.doc)?,
+        if how.ids.is_none() {
+            write!(out, "{}", self.doc)?;
+        } else {
+            write!(out, "{}", self.id.unwrap_or("-"))?;
         }
         for (text, term) in texts.iter().zip(places) {
             if let Some(positions) = positions_at(term, self.place) {
@@ -195,13 +216,13 @@ impl Row<'_> {
         out: &mut W,
         texts: &[TermText],
         places: &[TermPlaces],
-        with_positions: bool,
+        how: Listing,
     ) -> Result<(), AnswerFault> {
         write!(out, "{{\"doc\":{}", self.doc)?;
-        if let Some(id) = self.id {
-            write_id(alloc, out, id)?;
+        if how.ids.is_some() {
+            write_id(alloc, out, self.id)?;
         }
-        if with_positions {
+        if how.with_positions {
             write!(out, ",\"terms\":[")?;
             self.write_terms(alloc, out, texts, places)?;
             write!(out, "]")?;
@@ -247,7 +268,11 @@ fn write_term_words<W: Write>(
 }
 
 // Writes an id as a member of a JSON object.
-fn write_id<W: Write>(alloc: Global, out: &mut W, id: &str) -> Result<(), AnswerFault> {
+fn write_id<W: Write>(alloc: Global, out: &mut W, id: Option<&str>) -> Result<(), AnswerFault> {
+    let Some(id) = id else {
+        write!(out, ",\"id\":null")?;
+        return Ok(());
+    };
     let id = quoted(alloc, id)?;
     let written = write!(out, ",\"id\":{id}");
     drop(id);

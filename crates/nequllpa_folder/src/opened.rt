@@ -8,7 +8,7 @@ ghost use Rattle.ii_definitions.specs.Tokens.{IndexToken};
 ghost use Rattle.ii_reader.specs.InvertedIndexReader.{IsRefusal};
 ghost use Rattle.ii_reader.specs.OpenIndex.{IndexHolds, index_of_files};
 ghost use Rattle.ii_schema_text.specs.SchemaText.{text_schema};
-ghost use Rattle.ii_search.specs.QueryTexts.{field_named};
+ghost use Rattle.ii_query_parser.specs.QueryTexts.{field_named};
 ghost use Rattle.ii_store.specs.Index.{view};
 ghost use Rattle.nequllpa_folder.specs.Stored.{HoldsTokens, IsOpenRefusal, IsSchemaRefusal, readers_of};
 

@@ -1,6 +1,6 @@
 // Queries over an index of two fields, and the documents that have a word most often.
 ghost use Rattle.std.specs.Prelude.{◌≡◌, length, true};
-ghost use Rattle.ii_search.specs.Queries.{has_fields};
+ghost use Rattle.ii_query_parser.specs.Queries.{has_fields};
 
 use crate::memory_index::{Call, Kind, Said, calls_of, cursor_of, indexed, ready_of};
 use ii_base::{AsciiTokenizer, Fault, Field, Term};
@@ -113,7 +113,7 @@ fn words(alloc: Global, listed: &[Asked]) -> Result<Vec<Query>, Fault> {
 
 // One of some words.
 fn any(alloc: Global, listed: &[Asked]) -> Result<Query, Fault> {
-    Query::or_any(alloc, words(alloc, listed)?)
+    Ok(Query::or_any(words(alloc, listed)?))
 }
 
 fn phrase(alloc: Global, first: &Asked, distance: u32, other: &Asked) -> Result<Query, Fault> {
@@ -130,7 +130,7 @@ fn query_of(alloc: Global, first: &Asked, others: &Put) -> Result<Query, Fault> 
     }
     let one = word(alloc, first)?;
     match others {
-        Put::All(listed) => Query::and_all(alloc, one, words(alloc, listed)?),
+        Put::All(listed) => Query::and_all(one, words(alloc, listed)?),
         Put::And(listed) => Query::and(alloc, one, any(alloc, listed)?),
         Put::Or(listed) => Query::or(alloc, one, any(alloc, listed)?),
         Put::Without(listed) => Query::and_not(alloc, one, any(alloc, listed)?),

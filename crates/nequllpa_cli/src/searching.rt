@@ -1,0 +1,156 @@
+//! How a query is answered.
+ghost use Rattle.std.specs.Prelude.{◌≡◌, true, length};
+ghost use Rattle.ii_query_parser.specs.Queries.{has_fields};
+
+use crate::commands::{REFUSED, ended, field_named, number_given, opened_at, refuse, refuse_path};
+use clap::ArgMatches;
+use ii_base::{AsciiTokenizer, Field, ValueType};
+use ii_search::{Query, parse_query};
+use nequllpa_folder::{CountFormat, Listing, Opened, id_field, write_count, write_listing};
+use std::io::{self, BufWriter, Write};
+use std::process::ExitCode;
+
+/// Prints the documents that match a query.
+pub fn answer_search(
+    rt: &HostRuntime,
+    path: &str,
+    given: &ArgMatches<'_>,
+) -> anyhow::Result<ExitCode> {
+    let limit = match number_given(rt, given, "limit")? {
+        Ok(limit) => limit.unwrap_or(u32::MAX),
+        Err(status) => return Ok(ExitCode::from(status)),
+    };
+    match opened_at(rt, path)? {
+        Ok(opened) => search(rt, path, &opened, given, limit),
+        Err(status) => Ok(ExitCode::from(status)),
+    }
+}
+
+// Prints the documents of an open index that match a query, at most `limit`.
+fn search(
+    rt: &HostRuntime,
+    path: &str,
+    opened: &Opened,
+    given: &ArgMatches<'_>,
+    limit: u32,
+) -> anyhow::Result<ExitCode> {
+    let query = match query_given(rt, opened, given)? {
+        Ok(query) => query,
+        Err(status) => return Ok(ExitCode::from(status)),
+    };
+    if !query.has_fields(opened.schema()) {
+        return Ok(ExitCode::from(REFUSED));
+    }
+    let as_json = given.get_flag("json");
+    if given.get_flag("count") {
+        let format = if as_json {
+            CountFormat::Json
+        } else {
+            CountFormat::Number
+        };
+        return print_count(rt, path, opened, &query, format);
+    }
+    let ids = match ids_given(rt, opened, given)? {
+        Ok(ids) => ids,
+        Err(status) => return Ok(ExitCode::from(status)),
+    };
+    let how = Listing {
+        limit,
+        as_json,
+        with_positions: given.get_flag("positions"),
+        ids,
+    };
+    print_found(rt, path, opened, &query, how)
+}
+
+// Prints how many documents match a query.
+fn print_count(
+    rt: &HostRuntime,
+    path: &str,
+    opened: &Opened,
+    query: &Query,
+    format: CountFormat,
+) -> anyhow::Result<ExitCode>
+    requires { has_fields (length opened.now.schema) query.now ≡ true }
+{
+    let mut out = BufWriter::new(rt.alloc(), io::writer(rt))?;
+    let written = write_count(rt.alloc(), &mut out, opened, query, format);
+    out.flush()?;
+    ended(rt, path, written)
+}
+
+// Prints the documents that match a query.
+fn print_found(
+    rt: &HostRuntime,
+    path: &str,
+    opened: &Opened,
+    query: &Query,
+    how: Listing,
+) -> anyhow::Result<ExitCode>
+    requires { has_fields (length opened.now.schema) query.now ≡ true }
+{
+    let mut out = BufWriter::new(rt.alloc(), io::writer(rt))?;
+    let written = write_listing(rt.alloc(), &mut out, opened, query, how);
+    out.flush()?;
+    ended(rt, path, written)
+}
+
+// The field whose values are printed in place of numbers, if they are, or the status if it has no such values.
+fn ids_given(
+    rt: &HostRuntime,
+    opened: &Opened,
+    given: &ArgMatches<'_>,
+) -> anyhow::Result<Result<Option<Field>, u8>> {
+    if !given.get_flag("ids") {
+        return Ok(Ok(None));
+    }
+    match id_field(opened) {
+        Ok(Ok(field)) => Ok(Ok(Some(field))),
+        Ok(Err(reason)) => Ok(Err(refuse(rt, reason)?)),
+        Err(fault) => Ok(Err(refuse(rt, fault)?)),
+    }
+}
+
+// The query of a text.
+fn query_given(
+    rt: &HostRuntime,
+    opened: &Opened,
+    given: &ArgMatches<'_>,
+) -> anyhow::Result<Result<Query, u8>> {
+    let Some(text) = given.get_str("QUERY") else {
+        return Ok(Err(REFUSED));
+    };
+    let fields = match default_fields(rt, opened, given)? {
+        Ok(fields) => fields,
+        Err(status) => return Ok(Err(status)),
+    };
+    match parse_query(rt.alloc(), opened.schema(), &fields, &AsciiTokenizer, text) {
+        Ok(query) => Ok(Ok(query)),
+        Err(error) => Ok(Err(refuse_path(rt, text, error)?)),
+    }
+}
+
+// The fields in which a word without the name of a field is looked up: those that are given, or all
+// indexed fields of texts.
+fn default_fields(
+    rt: &HostRuntime,
+    opened: &Opened,
+    given: &ArgMatches<'_>,
+) -> anyhow::Result<Result<Vec<Field>, u8>> {
+    let mut fields = Vec::new(rt.alloc());
+    let Some(names) = given.get_strs("field") else {
+        for (field, entry) in opened.schema().fields() {
+            if entry.is_indexed() && entry.value_type() == ValueType::Str {
+                fields.push(field)?;
+            }
+        }
+        return Ok(Ok(fields));
+    };
+    for name in names {
+        match field_named(rt, opened, name)? {
+            Ok(field) => fields.push(field)?,
+            Err(status) => return Ok(Err(status)),
+        }
+    }
+    Ok(Ok(fields))
+}

@@ -1,0 +1,187 @@
+#!/usr/bin/env python3
+"""The program `nequllpa` stopped at each of its calls of the system, and two programs that write to one folder: the folder has the
+index that was there or the new one, and a second writer is refused at once."""
+import json
+import os
+import shutil
+import signal
+import subprocess
+import sys
+import tempfile
+import time
+
+sys.dont_write_bytecode = True
+HERE = os.path.dirname(os.path.abspath(__file__))
+sys.path.insert(0, os.path.dirname(HERE))
+import refusing
+
+PROGRAM = 'nequllpa_cli'
+SCHEMA = '[[field]]\nname = "body"\ntype = "text"\n'
+
+
+class Failed(Exception):
+    """What isn't as it has to be."""
+
+
+class Folder:
+    """A folder that programs write to."""
+
+    def __init__(self, room, program, library):
+        self.room, self.program, self.library, self.stops = room, program, library, 0
+        for name, texts in (('old.jsonl', ['the old sea']), ('new.jsonl', ['a new sea', 'the bird'])):
+            with open(self.path(name), 'w', encoding='utf-8') as file:
+                file.write(''.join(json.dumps({'body': text}) + '\n' for text in texts))
+        with open(self.path('schema.toml'), 'w', encoding='utf-8') as file:
+            file.write(SCHEMA)
+
+    def path(self, name):
+        return os.path.join(self.room, name)
+
+    def run(self, *words, **variables):
+        """Runs the program; returns how it ended, and the letters of its calls."""
+        told = self.path('told')
+        with open(told, 'wb') as sink:
+            os.dup2(sink.fileno(), 3)
+            done = subprocess.run([self.program, *words], stdin=subprocess.DEVNULL, capture_output=True, text=True, cwd=self.room, timeout=60,
+                                  pass_fds=(3,), env={'LD_PRELOAD': self.library, **{name: str(value) for name, value in variables.items()}})
+        with open(told, encoding='ascii') as calls:
+            return done, calls.read()
+
+    def index(self, lines, **variables):
+        return self.run('index', 'index', '--schema', 'schema.toml', lines, **variables)
+
+    def wants(self, done, status, said):
+        if done.returncode != status or said not in done.stdout + done.stderr:
+            raise Failed(f'status {done.returncode}, {done.stdout!r}, {done.stderr!r}; wanted {status} and {said!r}')
+
+    def holds(self, *answers):
+        """The folder opens with one of these numbers of documents, each file whole, and all in it fits; or has no index, where None is given."""
+        done, _ = self.run('check', 'index')
+        if None in answers and done.returncode == 1 and 'no index here' in done.stdout:
+            return
+        for answer in answers:
+            if answer is not None and done.returncode == 0 and done.stdout.startswith(f'{answer} documents; each file is as it was saved\n'):
+                return
+        raise Failed(f'check: status {done.returncode}, {done.stdout!r}; wanted one of {answers}')
+
+
+def stopped_everywhere(folder, old):
+    """The program stopped before each of its calls, over a folder with the old index or with none: how many calls these are."""
+    for stop in range(1, 1000):
+        shutil.rmtree(folder.path('index'), ignore_errors=True)
+        if old is not None:
+            folder.wants(folder.index('old.jsonl')[0], 0, '1 documents indexed')
+        done, calls = folder.index('new.jsonl', STOP_AT=stop)
+        if done.returncode == 0:
+            folder.holds(2)
+            return calls
+        if done.returncode != -signal.SIGKILL:
+            raise Failed(f'stopped at {stop}: status {done.returncode}, {done.stderr!r}')
+        folder.holds(old, 2)
+        # what was left is no hindrance, and the lock fell with its process
+        folder.wants(folder.index('new.jsonl')[0], 0, '2 documents indexed')
+        folder.holds(2)
+        folder.stops += 1
+    raise Failed('the program makes no end of calls')
+
+
+def in_order(calls):
+    """The order of the calls of one save: lock, then each file made, written and flushed with the folder, then the rename, flushed too."""
+    if calls.count('r') != 1 or not calls[calls.index('r') + 1:].startswith('s'):
+        raise Failed(f'the calls {calls}: one rename, and the folder flushed after it')
+    before = calls[:calls.index('r')].split('o')[1:]
+    for number, file in enumerate(before):
+        made = file.replace('w', '')
+        if made.startswith('l') or made == '' and number == 0:
+            continue
+        if not made.startswith('ss'):
+            raise Failed(f'the calls {calls}: each file is flushed when it is written, and the folder after it')
+
+
+def two_writers(folder, count):
+    """One program paused before each of its calls, once it has the lock: the other one is refused at once. Then one is killed."""
+    refused = 0
+    for pause in range(1, count + 1):
+        shutil.rmtree(folder.path('index'), ignore_errors=True)
+        folder.wants(folder.index('old.jsonl')[0], 0, '1 documents indexed')
+        with open(os.devnull, 'wb') as sink:
+            first = subprocess.Popen([folder.program, 'index', 'index', '--schema', 'schema.toml', 'new.jsonl'], cwd=folder.room, stdin=subprocess.DEVNULL,
+                                     stdout=sink, stderr=sink, env={'LD_PRELOAD': folder.library, 'PAUSE_AT': str(pause)})
+        wait_paused(first)
+        begun = time.time()
+        second, _ = folder.index('old.jsonl')
+        if time.time() - begun > 20:
+            raise Failed('the second writer waited')
+        if second.returncode == 2:
+            folder.wants(second, 2, 'nequllpa: another program writes to index')
+            refused += 1
+        else:
+            folder.wants(second, 0, '1 documents indexed')
+        if pause % 2:
+            first.kill()
+        else:
+            first.send_signal(signal.SIGCONT)
+        first.wait()
+        folder.holds(1, 2)
+        folder.wants(folder.index('new.jsonl')[0], 0, '2 documents indexed')
+        folder.holds(2)
+    if refused < count - 3:
+        raise Failed(f'{refused} of {count} second writers were refused')
+    return refused
+
+
+def wait_paused(process):
+    """Waits until a process stops, or ends."""
+    for _ in range(4000):
+        with open(f'/proc/{process.pid}/stat', encoding='ascii') as stat:
+            if stat.read().rsplit(')', 1)[1].split()[0] in 'TZ':
+                return
+        time.sleep(0.005)
+    raise Failed('the first writer did not stop')
+
+
+def orphans(folder):
+    """Files with names of an index in a folder without meta: named, never removed without --force."""
+    index = folder.path('index')
+    shutil.rmtree(index, ignore_errors=True)
+    os.mkdir(index)
+    with open(os.path.join(index, 'term.0'), 'w', encoding='ascii') as file:
+        file.write('my own')
+    folder.wants(folder.index('new.jsonl')[0], 2, 'there is term.0, and no meta')
+    with open(os.path.join(index, 'term.0'), encoding='ascii') as file:
+        if file.read() != 'my own':
+            raise Failed('a file of the user was changed')
+    shutil.rmtree(index)
+    folder.wants(folder.index('new.jsonl')[0], 0, '2 documents indexed')
+    os.remove(os.path.join(index, 'meta'))
+    folder.wants(folder.run('search', 'index', 'sea')[0], 1, 'index: an index whose meta is missing: there is schema.0')
+    before = sorted(os.listdir(index))
+    folder.wants(folder.index('old.jsonl')[0], 2, 'no meta')
+    if sorted(os.listdir(index)) != before:
+        raise Failed('files of an index whose meta is missing were changed')
+    folder.wants(folder.run('index', 'index', '--force', '--schema', 'schema.toml', 'old.jsonl')[0], 0, '1 documents indexed')
+    folder.holds(1)
+
+
+def main():
+    if 'NEQULLPA' not in os.environ and not refusing.build(PROGRAM):
+        print('tests/folder: the program was not built')
+        return 1
+    program = os.environ.get('NEQULLPA', refusing.programs.program_of(PROGRAM))
+    os.dup2(2, 3)
+    with tempfile.TemporaryDirectory() as room:
+        folder = Folder(room, program, refusing.shim(room, 'folder/stop.c'))
+        try:
+            calls = stopped_everywhere(folder, 1)
+            in_order(calls)
+            in_order(stopped_everywhere(folder, None))
+            refused = two_writers(folder, len(calls))
+            orphans(folder)
+        except Failed as why:
+            print(f'tests/folder: {why}')
+            return 1
+    print(f'tests/folder: stopped at {folder.stops} calls of the system, {refused} second writers refused; the calls of a save are {calls}')
+    return 0
+
+
+sys.exit(main())
