@@ -2,7 +2,7 @@
 use crate::faults::AnswerFault;
 use crate::keys::push_key;
 use bytes::Bytes;
-use ii_base::{Field, FieldEntry, Part, Schema};
+use ii_base::{Field, FieldEntry, Part, Schema, ValueType};
 use ii_damage::{OpenedField, StrayTerm, Walk, WalkedFiles};
 use ii_fieldnorm::{FieldNormReader, fieldnorm_to_id};
 use ii_reader::{DamagedTerm, InvertedIndexReader};
@@ -53,8 +53,8 @@ pub enum Damage {
     /// A document that the index doesn't have.
     #[error("document {0} is none of the index")]
     Document(u32),
-    /// The field tells another number of tokens than its terms have.
-    #[error("the field tells {0} tokens, and its terms have {1}")]
+    /// The field counts another number of tokens than its terms have.
+    #[error("the field counts {0} tokens, but its terms have {1}")]
     Tokens(u64, u64),
     /// There are no norms of a field that keeps them.
     #[error("no field norms")]
@@ -281,7 +281,7 @@ impl WalkedField<'_> {
         }
     }
 
-    // Compares the number of tokens that the field tells with those that were walked.
+    // Compares the number of tokens that the field counts with those that were walked.
     fn check_tokens<W: Write>(
         &self,
         out: &mut W,
@@ -289,14 +289,38 @@ impl WalkedField<'_> {
         reader: &InvertedIndexReader,
         tokens: u64,
     ) -> Result<(), AnswerFault> {
-        let told = reader.total_num_tokens();
-        if !reader.record_option().has_freq() || told == tokens {
+        let counted = reader.total_num_tokens();
+        if !reader.record_option().has_freq() || self.fits(reader, counted, tokens) {
             return Ok(());
         }
         let start = self.files.file(Kind::Postings).place(self.field).start;
         let place = start..start.saturating_add(TOKEN_COUNT_SIZE);
-        let damage = Damage::Tokens(told, tokens);
+        let damage = Damage::Tokens(counted, tokens);
         self.tell(out, checked, Kind::Postings, None, damage, place)
+    }
+
+    // Whether a field may have this many tokens, of which its lists have some: all of them, unless it has keys
+    // of values, whose lists have their documents alone.
+    fn fits(&self, reader: &InvertedIndexReader, counted: u64, tokens: u64) -> bool {
+        if counted == tokens {
+            return true;
+        }
+        counted > tokens && self.has_values(reader)
+    }
+
+    // Whether a field has keys of values that are no texts.
+    fn has_values(&self, reader: &InvertedIndexReader) -> bool {
+        let value_type = self.entry.value_type();
+        let mut terms = reader.terms().stream();
+        for _ord in 0..reader.terms().num_terms() {
+            let Some((key, _)) = terms.next() else {
+                return false;
+            };
+            if !is_text_key(value_type, key) {
+                return true;
+            }
+        }
+        false
     }
 
     // Compares the norms with the numbers of tokens that were walked.
@@ -344,6 +368,22 @@ impl WalkedField<'_> {
         writeln!(out, ": {damage}, bytes {}..{}", place.start, place.end)?;
         Ok(())
     }
+}
+
+// Whether a key of a field with values of a type is that of a text. In a JSON field the letter after the path
+// names the type.
+fn is_text_key(value_type: ValueType, key: &[u8]) -> bool {
+    if value_type != ValueType::Json {
+        return value_type == ValueType::Str;
+    }
+    let Some(place) = key.iter().position(|byte| *byte == 0) else {
+        return false;
+    };
+    let (_, rest) = key.split_at(place);
+    let [_, letter, ..] = rest else {
+        return false;
+    };
+    *letter == ValueType::Str.to_code()
 }
 
 // A range of bytes that begins at a place.
