@@ -1,320 +1,644 @@
 -- What is spelled is read again.
-use Rattle.std.proofs.Common.{◌≡◌, ◌∙◌, ℕ, zero, suc, ◌+◌, ◌-◌, ◌≤◌, Bool, true, false, ◌||◌, ◌==◌, not, List, [], ◌∷◌, ◌++◌, append_assoc, append-nil, cond, length, nat_lt, Option, None, Some, Ok, refl, sym, ap, subst, arith}
-use Rattle.std.specs.Prelude.{bytes_eq, codes}
-use Rattle.std.specs.List.{list_all, take_while}
-use Rattle.std.proofs.lemmas.Bool.{and_parts, eqb-true, not-true, or_parts}
+use Rattle.std.proofs.Common.{◌≡◌, ◌∙◌, ℕ, zero, suc, ◌-◌, ◌≤◌, Bool, true, false, ◌&&◌, ◌||◌, ◌==◌, not, List, [], ◌∷◌, ◌++◌, append_assoc, append-nil, cond, drop, take, length, Option, None, Some, option_map, Ok, refl, sym, ap, subst, arith}
+use Rattle.std.specs.Prelude.{bytes_eq, codes, slice_index}
+use Rattle.std.specs.List.{take_while}
+use Rattle.std.proofs.lemmas.Bool.{and_parts, eqb-true, not-true}
+use Rattle.std.proofs.lemmas.List.{drop_at, take_at}
+use Rattle.std.proofs.lemmas.List.Sums.{take_while-cons}
+use Rattle.std.proofs.lemmas.Slice.Eq.{bytes_eq-Decides}
+use Rattle.ii_query_grammar.specs.declared.cut.Stop.{Stop}
+use Rattle.ii_query_grammar.specs.declared.cut.Stop.TheVariants as stops
+use Rattle.ii_query_grammar.specs.declared.parse_error.Feature.{Feature}
 use Rattle.ii_query_grammar.specs.declared.user_input_ast.Delimiter.{Delimiter}
 use Rattle.ii_query_grammar.specs.declared.user_input_ast.Delimiter.TheVariants as delimiters
-use Rattle.ii_query_grammar.specs.Grammar.{Kind, Spells, all, alone, and, and_not, beside, chain, in_parentheses, nothing, one, or, part, query, token, wanted}
-use Rattle.ii_query_grammar.specs.Lexemes.{Front, Token, and_word, begins, behind, closing, ended_phrase, front_at, front_with, is_empty, is_phrase_byte, is_query_word_byte, is_space, literal, literal_with, minus, one_more, opening, or_word, phrase_front, tokens, value_front, word_front, word_lexeme}
-use Rattle.ii_query_grammar.specs.Parsed.{parsed}
-use Rattle.ii_query_grammar.specs.Spelling.{delimited, field_text, has_spelling, is_literal, is_no_operator, is_plain_word, is_value, is_word, literal_text, may_stand_alone, num_lexemes, num_parentheses, part_text, spelled}
-use Rattle.ii_query_grammar.specs.Trees.{Ast, Literal, both, either, leaf, without}
+use Rattle.ii_query_grammar.specs.Grammar.{Kind, Spells, all, alone, and, and_not, chain, in_parentheses, next_to, nothing, one, or, part, query, token, wanted, wants}
+use Rattle.ii_query_grammar.specs.Lexemes.{Front, Lexeme, Token, after_spaces, and_word, before_stop, begins, closing, ended_phrase, ends_word, feature_after, feature_in_front, first_feature_of, from_stop, front_at, front_with, is_empty, is_escape, is_space, is_special, lexemes, literal, literal_with, minus, one_more, opening, or_word, phrase_front, place_of, stops_at, unescaped, unless_feature, value_front, value_word, word_front, word_lexeme, word_or_name}
+use Rattle.ii_query_grammar.specs.Parsed.{ChainState, chain_tree, parsed}
+use Rattle.ii_query_grammar.specs.Spelling.{are_several, delimited, escaped, field_text, has_spelling, have_spelling, is_literal, is_no_operator, is_value, is_writable, is_writable_word, literal_text, may_be_alone, nesting, part_nesting, part_text, parts_nesting, parts_text, spelled, word_text}
+use Rattle.ii_query_grammar.specs.Trees.{Ast, Asts, Literal, all_of, and_asts, any_of, asts_from, leaf, no_asts, without}
 use Rattle.ii_query_grammar.proofs.CompleteLemmas.{reads_query}
-use Rattle.ii_query_grammar.proofs.CutLemmas.{left, left_space, stops, taken}
+use Rattle.ii_query_grammar.proofs.CutLemmas.{escaped_case, place_case}
+use Rattle.ii_query_grammar.proofs.LexerLemmas.{lexemes_step}
+
+-- How what ends a word or a phrase and what is escaped in it fit together.
+record AreTogether (end quoting : Stop) : Type 0 where
+  never : (b : ℕ) → stops_at end b true ≡ false
+  backslash : (f : Bool) → stops_at end 92 f ≡ false
+  plain : (b : ℕ) (a f : Bool) → stops_at quoting b a ≡ false → stops_at end b f ≡ false
+  special : (b : ℕ) (a : Bool) → stops_at quoting b a ≡ true → is_special b ≡ true
+
+and_false : (a : Bool) → (a && false) ≡ false
+and_false true = refl
+and_false false = refl
+
+or_more : (a b c d e f g h : Bool) → a ≡ true → (a || b || c || d || e || f || g || h) ≡ true
+or_more a b c d e f g h is = rw is refl
+
+ends_special : (b : ℕ) → ends_word b ≡ true → is_special b ≡ true
+ends_special b is = or_more (ends_word b) (b == 45) (b == 43) (b == 47) (b == 60) (b == 62) (b == 93) (b == 125) is
+
+-- a test that is true of what isn't special is false
+not_special : (p s q : Bool) → (p ≡ true → s ≡ true) → (s && (p || q)) ≡ false → p ≡ false
+not_special true true q is h = absurd (cc)
+not_special true false q is h = absurd (let one = is refl in cc)
+not_special false s q is h = refl
+
+left_false : (p q : Bool) → p ≡ false → (p && q) ≡ false
+left_false p q is = rw is refl
+
+words : AreTogether stops.WordEnd stops.WordEscape
+words = record {
+  never = λ b. and_false (ends_word b);
+  backslash = λ f. refl;
+  plain = λ b a f h. left_false (ends_word b) (not f) (not_special (ends_word b) (is_special b) a (ends_special b) h);
+  special = λ b a h. (and_parts (is_special b) (ends_word b || a) h).0;
+}
+
+quote_special : (b : ℕ) → (b == 34) ≡ true → is_special b ≡ true
+quote_special b is = rw (eqb-true b 34 is) refl
+
+phrases : AreTogether stops.PhraseEnd stops.PhraseEscape
+phrases = record {
+  never = λ b. and_false (b == 34);
+  backslash = λ f. refl;
+  plain = λ b a f h. left_false (b == 34) (not f) (not_special (b == 34) (is_special b) a (quote_special b) h);
+  special = λ b a h. (and_parts (is_special b) (b == 34 || a) h).0;
+}
+
+-- a test that tells two bytes apart
+differs : (p : ℕ → Bool) (b c : ℕ) → p b ≡ false → p c ≡ true → (b == c) ≡ false
+differs p b c no_b is_c = by (b == c) refl
+  where
+    by : (same : Bool) → (b == c) ≡ same → same ≡ false
+    by true is = absurd (let all = ap p (eqb-true b c is) in cc)
+    by false is = refl
+
+-- a special byte is no backslash
+special_differs : (b : ℕ) → is_special b ≡ true → (b == 92) ≡ false
+special_differs b is = by (b == 92) refl
+  where
+    by : (same : Bool) → (b == 92) ≡ same → same ≡ false
+    by true same = absurd (let all = ap is_special (eqb-true b 92 same) in cc)
+    by false same = refl
+
+-- whether a text ends after a backslash, by whether one comes before it
+abbrev ends_after : Bool → List ℕ → Bool
+ends_after f [] = f
+ends_after f (b ∷ bs) = ends_after (b == 92) bs
+
+last_is : (f : Bool) (b : ℕ) (bs : List ℕ) → ends_after f (b ∷ bs) ≡ (slice_index (b ∷ bs) (length bs) == 92)
+last_is f b [] = refl
+last_is f b (c ∷ cs) = last_is (b == 92) c cs
+
+writable : (text : List ℕ) → is_writable text ≡ true → ends_after false text ≡ false
+writable [] is = refl
+writable (b ∷ bs) is =
+    let less : length (b ∷ bs) - 1 ≡ length bs = omega arith in
+    last_is false b bs ∙ ap (λ (n : ℕ). slice_index (b ∷ bs) n == 92) (sym less) ∙ not-true (slice_index (b ∷ bs) (length (b ∷ bs) - 1) == 92) is
+
+-- an escaped text ends where the text after it begins
+ends_there : (end quoting : Stop) → AreTogether end quoting → (f a : Bool) (text rest : List ℕ) → ends_after f text ≡ false → place_of end false rest ≡ 0
+    → place_of end f (escaped quoting a text ++ rest) ≡ length (escaped quoting a text)
+ends_there end quoting are f a [] rest last stop = ap (λ (g : Bool). place_of end g rest) last ∙ stop
+ends_there end quoting are f a (b ∷ bs) rest last stop = by (stops_at quoting b a) refl (λ (g h : Bool) (same : ends_after g bs ≡ false). ends_there end quoting are g h bs rest same stop)
+  where
+    by : (here : Bool) → stops_at quoting b a ≡ here → ((g h : Bool) → ends_after g bs ≡ false → place_of end g (escaped quoting h bs ++ rest) ≡ length (escaped quoting h bs))
+        → place_of end f (escaped quoting a (b ∷ bs) ++ rest) ≡ length (escaped quoting a (b ∷ bs))
+    by true is later =
+        let others = escaped quoting false bs in
+        rw (escaped_case quoting a b bs true is)
+        (place_case end f 92 (b ∷ (others ++ rest)) false (are.backslash f)
+        ∙ ap suc (place_case end true b (others ++ rest) false (are.never b) ∙ ap suc (later (b == 92) false last)))
+    by false is later =
+        let others = escaped quoting (b == 92) bs in
+        rw (escaped_case quoting a b bs false is)
+        (place_case end f b (others ++ rest) false (are.plain b a f is) ∙ ap suc (later (b == 92) (b == 92) last))
+
+-- its first byte, after a backslash that isn't one of an quoting, isn't special
+no_escape : (quoting : Stop) (b : ℕ) (bs : List ℕ) → ((c : ℕ) → is_special c ≡ true → stops_at quoting c true ≡ true) → is_escape b (escaped quoting (b == 92) bs) ≡ false
+no_escape quoting b [] each = refl
+no_escape quoting b (c ∷ cs) each = by (b == 92) (is_special c) refl refl
+  where
+    by : (after special : Bool) → (b == 92) ≡ after → is_special c ≡ special → is_escape b (escaped quoting (b == 92) (c ∷ cs)) ≡ false
+    by false special is kind = first (escaped quoting (b == 92) (c ∷ cs))
+      where
+        first : (text : List ℕ) → is_escape b text ≡ false
+        first [] = refl
+        first (d ∷ ds) = ap (λ (x : Bool). is_special d && x) is ∙ and_false (is_special d)
+    by true true is kind =
+        let here : stops_at quoting c (b == 92) ≡ true = ap (stops_at quoting c) is ∙ each c kind in
+        ap (is_escape b) (escaped_case quoting (b == 92) c cs true here)
+    by true false is kind = plain (stops_at quoting c (b == 92)) refl
+      where
+        plain : (here : Bool) → stops_at quoting c (b == 92) ≡ here → is_escape b (escaped quoting (b == 92) (c ∷ cs)) ≡ false
+        plain true here = ap (is_escape b) (escaped_case quoting (b == 92) c cs true here)
+        plain false here = ap (is_escape b) (escaped_case quoting (b == 92) c cs false here) ∙ left_false (is_special c) (b == 92) kind
+
+unescaped_case : (b : ℕ) (bs : List ℕ) (here : Bool) → is_escape b bs ≡ here → unescaped (b ∷ bs) ≡ cond here (unescaped bs) (b ∷ unescaped bs)
+unescaped_case b bs here is = ap (λ (h : Bool). cond h (unescaped bs) (b ∷ unescaped bs)) is
+
+special_no_escape : (b : ℕ) (bs : List ℕ) → is_special b ≡ true → is_escape b bs ≡ false
+special_no_escape b [] is = refl
+special_no_escape b (c ∷ cs) is = ap (λ (x : Bool). is_special c && x) (special_differs b is) ∙ and_false (is_special c)
+
+-- an escaped text stands for the text
+unescapes : (end quoting : Stop) → AreTogether end quoting → ((c : ℕ) → is_special c ≡ true → stops_at quoting c true ≡ true) → (a : Bool) (text : List ℕ) → unescaped (escaped quoting a text) ≡ text
+unescapes end quoting are each a [] = refl
+unescapes end quoting are each a (b ∷ bs) = by (stops_at quoting b a) refl (λ (h : Bool). unescapes end quoting are each h bs)
+  where
+    by : (here : Bool) → stops_at quoting b a ≡ here → ((h : Bool) → unescaped (escaped quoting h bs) ≡ bs) → unescaped (escaped quoting a (b ∷ bs)) ≡ b ∷ bs
+    by true is later =
+        let kind = are.special b a is in
+        let others = escaped quoting false bs in
+        ap unescaped (escaped_case quoting a b bs true is)
+        ∙ unescaped_case 92 (b ∷ others) true (rw kind refl)
+        ∙ unescaped_case b others false (special_no_escape b others kind)
+        ∙ ap (λ (l : List ℕ). b ∷ l) (later false)
+    by false is later =
+        let others = escaped quoting (b == 92) bs in
+        ap unescaped (escaped_case quoting a b bs false is)
+        ∙ unescaped_case b others false (no_escape quoting b bs each)
+        ∙ ap (λ (l : List ℕ). b ∷ l) (later (b == 92))
+
+or_true : (a : Bool) → (a || true) ≡ true
+or_true true = refl
+or_true false = refl
+
+both_true : (p q : Bool) → p ≡ true → q ≡ true → (p && q) ≡ true
+both_true p q h i = rw (h, i) refl
+
+word_unescapes : (text : List ℕ) → unescaped (word_text text) ≡ text
+word_unescapes text = unescapes stops.WordEnd stops.WordEscape words (λ c is. both_true (is_special c) (ends_word c || true) is (or_true (ends_word c))) true text
+
+phrase_unescapes : (text : List ℕ) → unescaped (escaped stops.PhraseEscape false text) ≡ text
+phrase_unescapes text = unescapes stops.PhraseEnd stops.PhraseEscape phrases (λ c is. both_true (is_special c) (c == 34 || true) is (or_true (c == 34))) false text
+
+-- A word begins with a byte that isn't special.
+record IsPlain (text : List ℕ) : Type 0 where
+  first : ℕ
+  others : List ℕ
+  text_is : text ≡ first ∷ others
+  plain : is_special first ≡ false
+
+is_plain : (text : List ℕ) → is_empty text ≡ false → IsPlain (word_text text)
+is_plain [] some = absurd (cc)
+is_plain (b ∷ bs) some = by (is_special b) refl
+  where
+    by : (special : Bool) → is_special b ≡ special → IsPlain (word_text (b ∷ bs))
+    by true is = record {
+      first = 92;
+      others = b ∷ escaped stops.WordEscape false bs;
+      text_is = escaped_case stops.WordEscape true b bs true (both_true (is_special b) (ends_word b || true) is (or_true (ends_word b)));
+      plain = refl;
+    }
+    by false is = record {
+      first = b;
+      others = escaped stops.WordEscape (b == 92) bs;
+      text_is = escaped_case stops.WordEscape true b bs false (left_false (is_special b) (ends_word b || true) is);
+      plain = is;
+    }
+
+-- five tests that fail
+all_fail : (p q r s o : Bool) (a b c d e f : Front) → p ≡ false → q ≡ false → r ≡ false → s ≡ false → o ≡ false → cond p a (cond q b (cond r c (cond s d (cond o e f)))) ≡ f
+all_fail p q r s o a b c d e f h i j k l = rw (h, i, j, k, l) refl
+
+four_fail : (p q r s : Bool) → p ≡ false → q ≡ false → r ≡ false → s ≡ false → (p || q || r || s) ≡ false
+four_fail p q r s h i j k = rw (h, i, j, k) refl
+
+abbrev feature_by : Bool → Bool → Bool → Feature → Feature → Option Feature
+feature_by p q r first other = cond p (Some first) (cond (q || r) (Some other) None)
+
+no_feature : (p q r : Bool) (first other : Feature) → p ≡ false → q ≡ false → r ≡ false → feature_by p q r first other ≡ None
+no_feature p q r first other h i j = rw (h, i, j) refl
+
+-- what a byte that isn't special doesn't begin
+no_space : (b : ℕ) → is_special b ≡ false → is_space b ≡ false
+no_space b is = four_fail (b == 32) (b == 9) (b == 10) (b == 13) (differs is_special b 32 is refl) (differs is_special b 9 is refl) (differs is_special b 10 is refl) (differs is_special b 13 is refl)
+
+first_none : (b : ℕ) → is_special b ≡ false → first_feature_of b ≡ None
+first_none b is = no_feature (b == 47) (b == 60) (b == 62) _ _ (differs is_special b 47 is refl) (differs is_special b 60 is refl) (differs is_special b 62 is refl)
+
+plain_front : (size at b : ℕ) (bs : List ℕ) → is_special b ≡ false → front_at size at (b ∷ bs) ≡ word_front size at (b ∷ bs)
+plain_front size at b bs is =
+    all_fail (b == 40) (b == 41) (b == 45) (b == 43) (b == 34) _ _ _ _ _ _
+    (differs is_special b 40 is refl) (differs is_special b 41 is refl) (differs is_special b 45 is refl) (differs is_special b 43 is refl) (differs is_special b 34 is refl)
+
+-- A text may come after a word.
+record MayFollow (rest : List ℕ) : Type 0 where
+  stop : place_of stops.WordEnd false rest ≡ 0
+  feature : feature_after rest ≡ None
+
+unless_none : (o : Option Feature) (at : ℕ) (f : Front) → o ≡ None → unless_feature o at f ≡ f
+unless_none o at f is = rw is refl
+
+-- Where a word ends.
+record IsCut (text word rest : List ℕ) : Type 0 where
+  before : before_stop stops.WordEnd text ≡ word
+  after : from_stop stops.WordEnd text ≡ rest
+
+is_cut : (text rest : List ℕ) → is_writable text ≡ true → MayFollow rest → IsCut (word_text text ++ rest) (word_text text) rest
+is_cut text rest may follows =
+    let place = ends_there stops.WordEnd stops.WordEscape words false true text rest (writable text may) follows.stop in
+    record {
+      before = ap (λ (n : ℕ). take n (word_text text ++ rest)) place ∙ take_at (word_text text) rest _ refl;
+      after = ap (λ (n : ℕ). drop n (word_text text ++ rest)) place ∙ drop_at (word_text text) rest _ refl;
+    }
+
+front_of_plain : (size at : ℕ) (text word rest : List ℕ) (b : ℕ) (bs : List ℕ) → text ≡ b ∷ bs → is_special b ≡ false → IsCut text word rest → feature_after rest ≡ None → front_at size at text ≡ word_or_name size at word rest
+front_of_plain size at text word rest b bs is plain cut none =
+    ap (front_at size at) is ∙ plain_front size at b bs plain ∙ ap (word_front size at) (sym is)
+    ∙ unless_none (feature_in_front text) at _ (ap feature_in_front is ∙ first_none b plain)
+    ∙ unless_none (feature_after (from_stop stops.WordEnd text)) _ _ (ap feature_after cut.after ∙ none)
+    ∙ ap (λ (w : List ℕ). word_or_name size at w (from_stop stops.WordEnd text)) cut.before
+    ∙ ap (word_or_name size at word) cut.after
+
+some_in_word : (text : List ℕ) → is_empty text ≡ false → is_empty (word_text text) ≡ false
+some_in_word text some = let p = is_plain text some in ap is_empty p.text_is
+
+after_plain : (text rest : List ℕ) → (p : IsPlain text) → text ++ rest ≡ p.first ∷ (p.others ++ rest)
+after_plain text rest p = ap (λ (l : List ℕ). l ++ rest) p.text_is
+
+-- a word in front
+front_of_word : (size at : ℕ) (text rest : List ℕ) → is_writable_word text ≡ true → MayFollow rest → front_at size at (word_text text ++ rest) ≡ word_or_name size at (word_text text) rest
+front_of_word size at text rest is follows =
+    let parts = and_parts (not (is_empty text)) (is_writable text) is in
+    let p = is_plain text (not-true (is_empty text) parts.0) in
+    front_of_plain size at (word_text text ++ rest) (word_text text) rest p.first (p.others ++ rest) (after_plain (word_text text) rest p) p.plain (is_cut text rest parts.1 follows) follows.feature
+
+-- a word that is written as an operator is one
+same_word : (text word : List ℕ) → unescaped word ≡ word → bytes_eq word word ≡ true → bytes_eq text word ≡ false → bytes_eq (word_text text) word ≡ false
+same_word text word same itself differs = by (bytes_eq (word_text text) word) refl
+  where
+    by : (here : Bool) → bytes_eq (word_text text) word ≡ here → here ≡ false
+    by false is = refl
+    by true is =
+        let all : text ≡ word = sym (word_unescapes text) ∙ ap unescaped ((bytes_eq-Decides (word_text text) word).0 is) ∙ same in
+        sym itself ∙ ap (λ (l : List ℕ). bytes_eq l word) (sym all) ∙ differs
+
+three_fail : (p q r : Bool) (a b c d : Lexeme) → p ≡ false → q ≡ false → r ≡ false → cond p a (cond q b (cond r c d)) ≡ d
+three_fail p q r a b c d h i j = rw (h, i, j) refl
+
+-- a word that is searched for
+word_literal : (word : List ℕ) → is_no_operator word ≡ true → word_lexeme (word_text word) ≡ literal (record { field_name = None; phrase = word; delimiter = delimiters.None })
+word_literal word h =
+    let last = and_parts (not (bytes_eq word (codes "AND")) && not (bytes_eq word (codes "OR"))) (not (bytes_eq word (codes "NOT"))) h in
+    let parts = and_parts (not (bytes_eq word (codes "AND"))) (not (bytes_eq word (codes "OR"))) last.0 in
+    three_fail (bytes_eq (word_text word) (codes "AND")) (bytes_eq (word_text word) (codes "OR")) (bytes_eq (word_text word) (codes "NOT")) _ _ _ _
+    (same_word word (codes "AND") refl refl (not-true (bytes_eq word (codes "AND")) parts.0))
+    (same_word word (codes "OR") refl refl (not-true (bytes_eq word (codes "OR")) parts.1))
+    (same_word word (codes "NOT") refl refl (not-true (bytes_eq word (codes "NOT")) last.1))
+    ∙ ap (λ (p : List ℕ). literal (record { field_name = None; phrase = p; delimiter = delimiters.None })) (word_unescapes word)
+
+begins_not : (b c : ℕ) (bs : List ℕ) → is_special b ≡ false → is_special c ≡ true → begins c (b ∷ bs) ≡ false
+begins_not b c bs is kind = differs is_special b c is kind
+
+-- a phrase after its first quote
+quoted_front : (size at : ℕ) (field : Option (List ℕ)) (phrase rest : List ℕ) → is_writable phrase ≡ true
+    → phrase_front size at field (escaped stops.PhraseEscape false phrase ++ 34 ∷ rest) ≡ front_with at (literal (record { field_name = option_map unescaped field; phrase = phrase; delimiter = delimiters.DoubleQuotes })) rest
+quoted_front size at field phrase rest may =
+    let text = escaped stops.PhraseEscape false phrase in
+    let place = ends_there stops.PhraseEnd stops.PhraseEscape phrases false false phrase (34 ∷ rest) (writable phrase may) refl in
+    let before : before_stop stops.PhraseEnd (text ++ 34 ∷ rest) ≡ text = ap (λ (n : ℕ). take n (text ++ 34 ∷ rest)) place ∙ take_at text (34 ∷ rest) _ refl in
+    let after : from_stop stops.PhraseEnd (text ++ 34 ∷ rest) ≡ 34 ∷ rest = ap (λ (n : ℕ). drop n (text ++ 34 ∷ rest)) place ∙ drop_at text (34 ∷ rest) _ refl in
+    ap (λ (p : List ℕ). ended_phrase size at field p (from_stop stops.PhraseEnd (text ++ 34 ∷ rest))) before
+    ∙ ap (ended_phrase size at field text) after
+    ∙ ap (λ (p : List ℕ). front_with at (literal (record { field_name = option_map unescaped field; phrase = p; delimiter = delimiters.DoubleQuotes })) rest) (phrase_unescapes phrase)
+
+two_fail : (p q : Bool) (a b c : Front) → p ≡ false → q ≡ false → cond p a (cond q b c) ≡ c
+two_fail p q a b c h i = rw (h, i) refl
+
+one_fails : (p : Bool) (a b : Front) → p ≡ false → cond p a b ≡ b
+one_fails p a b h = rw h refl
+
+-- a word after a name
+plain_value : (size at : ℕ) (name text word rest : List ℕ) (b : ℕ) (bs : List ℕ) → text ≡ b ∷ bs → is_special b ≡ false → IsCut text word rest → feature_after rest ≡ None → is_empty word ≡ false
+    → value_front size at name text ≡ front_with at (literal_with (Some name) word delimiters.None) rest
+plain_value size at name text word rest b bs is plain cut none some =
+    one_fails (begins 34 text) _ _ (ap (begins 34) is ∙ begins_not b 34 bs plain refl)
+    ∙ unless_none (feature_in_front text) _ _ (ap feature_in_front is ∙ first_none b plain)
+    ∙ unless_none (feature_after (from_stop stops.WordEnd text)) _ _ (ap feature_after cut.after ∙ none)
+    ∙ ap (λ (w : List ℕ). value_word size at name w (from_stop stops.WordEnd text)) cut.before
+    ∙ ap (value_word size at name word) cut.after
+    ∙ one_fails (is_empty word) _ _ some
+
+-- a word or a phrase after a name
+named_value : (size at : ℕ) (name : List ℕ) (delimiter : Delimiter) (phrase rest : List ℕ) → is_value delimiter phrase ≡ true → MayFollow rest
+    → value_front size at name (delimited delimiter phrase ++ rest) ≡ front_with at (literal (record { field_name = Some (unescaped name); phrase = phrase; delimiter = delimiter })) rest
+named_value size at name delimiters.None phrase rest h follows =
+    let parts = and_parts (not (is_empty phrase)) (is_writable phrase) h in
+    let some = not-true (is_empty phrase) parts.0 in
+    let p = is_plain phrase some in
+    plain_value size at name (word_text phrase ++ rest) (word_text phrase) rest p.first (p.others ++ rest) (after_plain (word_text phrase) rest p) p.plain (is_cut phrase rest parts.1 follows) follows.feature (some_in_word phrase some)
+    ∙ ap (λ (w : List ℕ). front_with at (literal (record { field_name = Some (unescaped name); phrase = w; delimiter = delimiters.None })) rest) (word_unescapes phrase)
+named_value size at name delimiters.DoubleQuotes phrase rest h follows =
+    ap (phrase_front size at (Some name)) (append_assoc (escaped stops.PhraseEscape false phrase) (34 ∷ []) rest) ∙ quoted_front size at (Some name) phrase rest h
 
 -- whether what is spelled may end before this: nothing, a space or a parenthesis that closes
 abbrev ends : List ℕ → Bool
 ends [] = true
 ends (b ∷ bs) = b == 32 || b == 41
 
-ends_by : (b c : ℕ) (bs : List ℕ) → b ≡ c → not (is_query_word_byte c) ≡ true → (c == 58) ≡ false → (stops is_query_word_byte (b ∷ bs) ≡ true) × (begins 58 (b ∷ bs) ≡ false)
-ends_by b c bs is stop other = (ap (λ (d : ℕ). not (is_query_word_byte d)) is ∙ stop, ap (λ (d : ℕ). d == 58) is ∙ other)
+follows_by : (b c : ℕ) (bs : List ℕ) → b ≡ c → MayFollow (c ∷ bs) → MayFollow (b ∷ bs)
+follows_by b c bs is follows = subst (λ (d : ℕ). MayFollow (d ∷ bs)) (sym is) follows
 
-ends_either : (b : ℕ) (bs : List ℕ) (space : Bool) → (b == 32) ≡ space → (space || b == 41) ≡ true → (stops is_query_word_byte (b ∷ bs) ≡ true) × (begins 58 (b ∷ bs) ≡ false)
-ends_either b bs true is h = ends_by b 32 bs (eqb-true b 32 is) refl refl
-ends_either b bs false is h = ends_by b 41 bs (eqb-true b 41 h) refl refl
+begins_by : (b c : ℕ) (bs : List ℕ) → b ≡ c → (c == 58) ≡ false → begins 58 (b ∷ bs) ≡ false
+begins_by b c bs is other = ap (λ (d : ℕ). d == 58) is ∙ other
+
+ends_either : (b : ℕ) (bs : List ℕ) (space : Bool) → (b == 32) ≡ space → (space || b == 41) ≡ true → MayFollow (b ∷ bs) × (begins 58 (b ∷ bs) ≡ false)
+ends_either b bs true is h = (follows_by b 32 bs (eqb-true b 32 is) (record { stop = refl; feature = refl }), begins_by b 32 bs (eqb-true b 32 is) refl)
+ends_either b bs false is h = (follows_by b 41 bs (eqb-true b 41 h) (record { stop = refl; feature = refl }), begins_by b 41 bs (eqb-true b 41 h) refl)
 
 -- a word ends there, and is no name
-word_ends : (rest : List ℕ) → ends rest ≡ true → (stops is_query_word_byte rest ≡ true) × (begins 58 rest ≡ false)
-word_ends [] h = (refl, refl)
+word_ends : (rest : List ℕ) → ends rest ≡ true → MayFollow rest × (begins 58 rest ≡ false)
+word_ends [] h = (record { stop = refl; feature = refl }, refl)
 word_ends (b ∷ bs) h = ends_either b bs (b == 32) refl h
 
--- What a byte of words is not.
-record IsPlain (b : ℕ) : Type 0 where
-  no_space : is_space b ≡ false
-  no_quote : (b == 34) ≡ false
-  no_opening : (b == 40) ≡ false
-  no_closing : (b == 41) ≡ false
+no_spaces : (b : ℕ) (bs : List ℕ) → is_space b ≡ false → after_spaces (b ∷ bs) ≡ b ∷ bs
+no_spaces b bs is =
+    let none : take_while is_space (b ∷ bs) ≡ [] = take_while-cons is_space b bs ∙ rw is refl in
+    ap (λ (l : List ℕ). drop (length l) (b ∷ bs)) none
 
-is_plain : (b : ℕ) → is_query_word_byte b ≡ true → IsPlain b
-is_plain b h =
-    let colon = or_parts (is_space b || b == 34 || b == 40 || b == 41) (b == 58) (not-true _ h) in
-    let closing = or_parts (is_space b || b == 34 || b == 40) (b == 41) colon.0 in
-    let opening = or_parts (is_space b || b == 34) (b == 40) closing.0 in
-    let quote = or_parts (is_space b) (b == 34) opening.0 in
-    record { no_space = quote.0; no_quote = quote.1; no_opening = opening.1; no_closing = closing.1 }
-
--- four tests that fail
-all_fail : (p q r s : Bool) (a b c d e : Front) → p ≡ false → q ≡ false → r ≡ false → s ≡ false → cond p a (cond q b (cond r c (cond s d e))) ≡ e
-all_fail p q r s a b c d e h i j k = rw (h, i, j, k) refl
-
-both_fail : (p q : Bool) (a b c : Front) → p ≡ false → q ≡ false → cond p a (cond q b c) ≡ c
-both_fail p q a b c h i = rw (h, i) refl
-
--- a word that begins without a minus
-plain_front : (size at b : ℕ) (bs rest : List ℕ) → is_plain_word (b ∷ bs) ≡ true → stops is_query_word_byte rest ≡ true → front_at size at ((b ∷ bs) ++ rest) ≡ word_front size at (b ∷ bs) rest
-plain_front size at b bs rest h stop =
-    let word = and_parts (is_word (b ∷ bs)) (not (b == 45)) h in
-    let bytes = and_parts (nat_lt 0 (length (b ∷ bs))) (list_all is_query_word_byte (b ∷ bs)) word.0 in
-    let plain = is_plain b (and_parts (is_query_word_byte b) (list_all is_query_word_byte bs) bytes.1).0 in
-    all_fail (b == 40) (b == 41) (b == 45) (b == 34) _ _ _ _ _ plain.no_opening plain.no_closing (not-true (b == 45) word.1) plain.no_quote
-    ∙ ap (λ (w : List ℕ). word_front size at w (behind is_query_word_byte ((b ∷ bs) ++ rest))) (taken is_query_word_byte (b ∷ bs) rest bytes.1 stop)
-    ∙ ap (word_front size at (b ∷ bs)) (left is_query_word_byte (b ∷ bs) rest bytes.1 stop)
-
--- a word that is searched for
-word_literal : (word : List ℕ) → is_no_operator word ≡ true → word_lexeme word ≡ literal_with None word delimiters.None
-word_literal word h =
-    let parts = and_parts (not (bytes_eq word (codes "AND"))) (not (bytes_eq word (codes "OR"))) h in
-    rw (not-true (bytes_eq word (codes "AND")) parts.0, not-true (bytes_eq word (codes "OR")) parts.1) refl
-
--- a phrase behind its first quote
-quoted_front : (size at : ℕ) (field : Option (List ℕ)) (phrase rest : List ℕ) → list_all is_phrase_byte phrase ≡ true → phrase_front size at field (phrase ++ 34 ∷ rest) ≡ front_with at (literal_with field phrase delimiters.DoubleQuotes) rest
-quoted_front size at field phrase rest h =
-    ap (λ (p : List ℕ). ended_phrase size at field p (behind is_phrase_byte (phrase ++ 34 ∷ rest))) (taken is_phrase_byte phrase (34 ∷ rest) h refl)
-    ∙ ap (ended_phrase size at field phrase) (left is_phrase_byte phrase (34 ∷ rest) h refl)
-
--- a word or a phrase behind a name
-named_value : (size at : ℕ) (name : List ℕ) (delimiter : Delimiter) (phrase rest : List ℕ) → is_value delimiter phrase ≡ true → stops is_query_word_byte rest ≡ true
-    → value_front size at name (delimited delimiter phrase ++ rest) ≡ front_with at (literal_with (Some name) phrase delimiter) rest
-named_value size at name delimiters.None [] rest h stop = absurd (cc)
-named_value size at name delimiters.None (b ∷ bs) rest h stop =
-    let bytes = and_parts (nat_lt 0 (length (b ∷ bs))) (list_all is_query_word_byte (b ∷ bs)) h in
-    let plain = is_plain b (and_parts (is_query_word_byte b) (list_all is_query_word_byte bs) bytes.1).0 in
-    let word = taken is_query_word_byte (b ∷ bs) rest bytes.1 stop in
-    both_fail (b == 34) (is_empty (take_while is_query_word_byte ((b ∷ bs) ++ rest))) _ _ _ plain.no_quote (ap is_empty word)
-    ∙ ap (λ (w : List ℕ). front_with at (literal_with (Some name) w delimiters.None) (behind is_query_word_byte ((b ∷ bs) ++ rest))) word
-    ∙ ap (front_with at (literal_with (Some name) (b ∷ bs) delimiters.None)) (left is_query_word_byte (b ∷ bs) rest bytes.1 stop)
-named_value size at name delimiters.DoubleQuotes phrase rest h stop =
-    ap (phrase_front size at (Some name)) (append_assoc phrase (34 ∷ []) rest) ∙ quoted_front size at (Some name) phrase rest h
-
--- Lexemes of a text: this one, and those of the rest.
+-- Lexemes of a text: this one, and those of the text after it.
 record Begins (size : ℕ) (text : List ℕ) (l : Literal) (rest : List ℕ) : Type 0 where
-  no_space : stops is_space text ≡ true
+  no_space_first : after_spaces text ≡ text
   some : is_empty text ≡ false
   front_is : (at : ℕ) → front_at size at text ≡ front_with at (literal l) rest
 
-begins_alone : (size : ℕ) (delimiter : Delimiter) (phrase rest : List ℕ) → may_stand_alone delimiter phrase ≡ true → ends rest ≡ true
+plain_text : (text rest : List ℕ) → is_empty text ≡ false → (after_spaces (word_text text ++ rest) ≡ word_text text ++ rest) × (is_empty (word_text text ++ rest) ≡ false)
+plain_text text rest some =
+    let p = is_plain text some in
+    let is = after_plain (word_text text) rest p in
+    (ap after_spaces is ∙ no_spaces p.first (p.others ++ rest) (no_space p.first p.plain) ∙ sym is, ap is_empty is)
+
+begins_alone : (size : ℕ) (delimiter : Delimiter) (phrase rest : List ℕ) → may_be_alone delimiter phrase ≡ true → ends rest ≡ true
     → Begins size (delimited delimiter phrase ++ rest) (record { field_name = None; phrase = phrase; delimiter = delimiter }) rest
-begins_alone size delimiters.None [] rest h end = absurd (cc)
-begins_alone size delimiters.None (b ∷ bs) rest h end =
-    let parts = and_parts (is_plain_word (b ∷ bs)) (is_no_operator (b ∷ bs)) h in
-    let word = and_parts (is_word (b ∷ bs)) (not (b == 45)) parts.0 in
-    let bytes = and_parts (nat_lt 0 (length (b ∷ bs))) (list_all is_query_word_byte (b ∷ bs)) word.0 in
-    let plain = is_plain b (and_parts (is_query_word_byte b) (list_all is_query_word_byte bs) bytes.1).0 in
-    let stop = word_ends rest end in
+begins_alone size delimiters.None phrase rest h end =
+    let parts = and_parts (is_writable_word phrase) (is_no_operator phrase) h in
+    let some = not-true (is_empty phrase) (and_parts (not (is_empty phrase)) (is_writable phrase) parts.0).0 in
+    let follows = word_ends rest end in
+    let text = plain_text phrase rest some in
     record {
-      no_space = rw (plain.no_space) refl;
-      some = refl;
-      front_is = λ at. plain_front size at b bs rest parts.0 stop.0 ∙ rw (stop.1, word_literal (b ∷ bs) parts.1) refl;
+      no_space_first = text.0;
+      some = text.1;
+      front_is = λ at.
+          front_of_word size at phrase rest parts.0 follows.0
+          ∙ two_fail (is_empty (word_text phrase)) (begins 58 rest) _ _ _ (some_in_word phrase some) follows.1
+          ∙ ap (λ (l : Lexeme). front_with at l rest) (word_literal phrase parts.1);
     }
 begins_alone size delimiters.DoubleQuotes phrase rest h end = record {
-  no_space = refl;
+  no_space_first = refl;
   some = refl;
-  front_is = λ at. ap (phrase_front size at None) (append_assoc phrase (34 ∷ []) rest) ∙ quoted_front size at None phrase rest h;
+  front_is = λ at. ap (phrase_front size at None) (append_assoc (escaped stops.PhraseEscape false phrase) (34 ∷ []) rest) ∙ quoted_front size at None phrase rest h;
 }
 
-begins_named : (size : ℕ) (name : List ℕ) (delimiter : Delimiter) (phrase rest : List ℕ) → is_plain_word name ≡ true → is_value delimiter phrase ≡ true → ends rest ≡ true
-    → Begins size (name ++ 58 ∷ (delimited delimiter phrase ++ rest)) (record { field_name = Some name; phrase = phrase; delimiter = delimiter }) rest
-begins_named size [] delimiter phrase rest h value end = absurd (cc)
-begins_named size (b ∷ bs) delimiter phrase rest h value end =
-    let word = and_parts (is_word (b ∷ bs)) (not (b == 45)) h in
-    let bytes = and_parts (nat_lt 0 (length (b ∷ bs))) (list_all is_query_word_byte (b ∷ bs)) word.0 in
-    let plain = is_plain b (and_parts (is_query_word_byte b) (list_all is_query_word_byte bs) bytes.1).0 in
+begins_named : (size : ℕ) (name : List ℕ) (delimiter : Delimiter) (phrase rest : List ℕ) → is_writable_word name ≡ true → is_value delimiter phrase ≡ true → ends rest ≡ true
+    → Begins size (word_text name ++ 58 ∷ (delimited delimiter phrase ++ rest)) (record { field_name = Some name; phrase = phrase; delimiter = delimiter }) rest
+begins_named size name delimiter phrase rest h value end =
+    let some = not-true (is_empty name) (and_parts (not (is_empty name)) (is_writable name) h).0 in
+    let after = delimited delimiter phrase ++ rest in
+    let text = plain_text name (58 ∷ after) some in
     record {
-      no_space = rw (plain.no_space) refl;
-      some = refl;
-      front_is = λ at. plain_front size at b bs (58 ∷ (delimited delimiter phrase ++ rest)) h refl ∙ named_value size at (b ∷ bs) delimiter phrase rest value (word_ends rest end).0;
+      no_space_first = text.0;
+      some = text.1;
+      front_is = λ at.
+          front_of_word size at name (58 ∷ after) h (record { stop = refl; feature = refl })
+          ∙ one_fails (is_empty (word_text name)) _ _ (some_in_word name some)
+          ∙ named_value size at (word_text name) delimiter phrase rest value (word_ends rest end).0
+          ∙ ap (λ (n : List ℕ). front_with at (literal (record { field_name = Some n; phrase = phrase; delimiter = delimiter })) rest) (word_unescapes name);
     }
 
 begins_by_field : (size : ℕ) (field : Option (List ℕ)) (delimiter : Delimiter) (phrase rest : List ℕ) → is_literal field delimiter phrase ≡ true → ends rest ≡ true
     → Begins size ((field_text field ++ delimited delimiter phrase) ++ rest) (record { field_name = field; phrase = phrase; delimiter = delimiter }) rest
 begins_by_field size None delimiter phrase rest h end = begins_alone size delimiter phrase rest h end
 begins_by_field size (Some name) delimiter phrase rest h end =
-    let parts = and_parts (is_plain_word name) (is_value delimiter phrase) h in
+    let parts = and_parts (is_writable_word name) (is_value delimiter phrase) h in
     subst (λ (text : List ℕ). Begins size text (record { field_name = Some name; phrase = phrase; delimiter = delimiter }) rest)
-    (sym (ap (λ (text : List ℕ). text ++ rest) (append_assoc name (58 ∷ []) (delimited delimiter phrase)) ∙ append_assoc name (58 ∷ delimited delimiter phrase) rest))
+    (sym (ap (λ (text : List ℕ). text ++ rest) (append_assoc (word_text name) (58 ∷ []) (delimited delimiter phrase)) ∙ append_assoc (word_text name) (58 ∷ delimited delimiter phrase) rest))
     (begins_named size name delimiter phrase rest parts.0 parts.1 end)
 
 begins_literal : (size : ℕ) (l : Literal) (rest : List ℕ) → is_literal l.field_name l.delimiter l.phrase ≡ true → ends rest ≡ true → Begins size (literal_text l ++ rest) l rest
 begins_literal size l rest h end = begins_by_field size l.field_name l.delimiter l.phrase rest h end
 
 -- the first lexeme of a text
-tokens_begin : (n size : ℕ) (text : List ℕ) (l : Literal) (rest : List ℕ) → Begins size text l rest → tokens (suc n) size text ≡ token (size - length text) (literal l) ∷ tokens n size rest
-unfolding tokens
-tokens_begin n size text l rest is =
-    ap (one_more (tokens n size) size) (left is_space [] text refl is.no_space)
+lexemes_begin : (size : ℕ) (text : List ℕ) (l : Literal) (rest : List ℕ) → Begins size text l rest → lexemes size text ≡ token (size - length text) (literal l) ∷ lexemes size rest
+lexemes_begin size text l rest is =
+    lexemes_step size text ∙ ap (one_more (lexemes size) size) is.no_space_first
     ∙ rw (is.some, is.front_is (size - length text)) refl
 
 -- a space in front makes no difference
-tokens_space : (n size : ℕ) (text : List ℕ) → tokens n size (32 ∷ text) ≡ tokens n size text
-unfolding tokens
-tokens_space zero size text = rw (left_space text) refl
-tokens_space (suc n) size text = rw (left_space text) refl
+lexemes_space : (size : ℕ) (text : List ℕ) → lexemes size (32 ∷ text) ≡ lexemes size text
+lexemes_space size text =
+    let same : after_spaces (32 ∷ text) ≡ after_spaces text = ap (λ (l : List ℕ). drop (length l) (32 ∷ text)) (take_while-cons is_space 32 text) in
+    lexemes_step size (32 ∷ text) ∙ ap (one_more (lexemes size) size) same ∙ sym (lexemes_step size text)
 
--- an empty text has none
-tokens_none : (n size : ℕ) → tokens n size [] ≡ []
-unfolding tokens
-tokens_none zero size = refl
-tokens_none (suc n) size = refl
+lexemes_opening : (size : ℕ) (rest : List ℕ) → lexemes size (40 ∷ rest) ≡ token (size - length (40 ∷ rest)) opening ∷ lexemes size rest
+lexemes_opening size rest = lexemes_step size (40 ∷ rest)
 
-tokens_opening : (n size : ℕ) (rest : List ℕ) → tokens (suc n) size (40 ∷ rest) ≡ token (size - length (40 ∷ rest)) opening ∷ tokens n size rest
-unfolding tokens
-tokens_opening n size rest = refl
+lexemes_closing : (size : ℕ) (rest : List ℕ) → lexemes size (41 ∷ rest) ≡ token (size - length (41 ∷ rest)) closing ∷ lexemes size rest
+lexemes_closing size rest = lexemes_step size (41 ∷ rest)
 
-tokens_closing : (n size : ℕ) (rest : List ℕ) → tokens (suc n) size (41 ∷ rest) ≡ token (size - length (41 ∷ rest)) closing ∷ tokens n size rest
-unfolding tokens
-tokens_closing n size rest = refl
+lexemes_minus : (size : ℕ) (rest : List ℕ) → lexemes size (32 ∷ 45 ∷ rest) ≡ token (size - length (45 ∷ rest)) minus ∷ lexemes size rest
+lexemes_minus size rest = lexemes_step size (32 ∷ 45 ∷ rest)
 
-tokens_minus : (n size : ℕ) (rest : List ℕ) → tokens (suc n) size (32 ∷ 45 ∷ rest) ≡ token (size - length (45 ∷ rest)) minus ∷ tokens n size rest
-unfolding tokens
-tokens_minus n size rest = refl
+lexemes_and : (size : ℕ) (rest : List ℕ) → lexemes size (32 ∷ 65 ∷ 78 ∷ 68 ∷ 32 ∷ rest) ≡ token (size - length (65 ∷ 78 ∷ 68 ∷ 32 ∷ rest)) and_word ∷ lexemes size (32 ∷ rest)
+lexemes_and size rest = lexemes_step size (32 ∷ 65 ∷ 78 ∷ 68 ∷ 32 ∷ rest)
 
-tokens_and : (n size : ℕ) (rest : List ℕ) → tokens (suc n) size (32 ∷ 65 ∷ 78 ∷ 68 ∷ 32 ∷ rest) ≡ token (size - length (65 ∷ 78 ∷ 68 ∷ 32 ∷ rest)) and_word ∷ tokens n size (32 ∷ rest)
-unfolding tokens
-tokens_and n size rest = refl
+lexemes_or : (size : ℕ) (rest : List ℕ) → lexemes size (32 ∷ 79 ∷ 82 ∷ 32 ∷ rest) ≡ token (size - length (79 ∷ 82 ∷ 32 ∷ rest)) or_word ∷ lexemes size (32 ∷ rest)
+lexemes_or size rest = lexemes_step size (32 ∷ 79 ∷ 82 ∷ 32 ∷ rest)
 
-tokens_or : (n size : ℕ) (rest : List ℕ) → tokens (suc n) size (32 ∷ 79 ∷ 82 ∷ 32 ∷ rest) ≡ token (size - length (79 ∷ 82 ∷ 32 ∷ rest)) or_word ∷ tokens n size (32 ∷ rest)
-unfolding tokens
-tokens_or n size rest = refl
-
--- Lexemes are this together, and those of the rest come after them.
-record Gets (k : Kind) (m size : ℕ) (text : List ℕ) (n : ℕ) (rest : List ℕ) : Type 0 where
+-- Lexemes are this together, and those of the text after them follow.
+record Gets (more : ℕ) (k : Kind) (size : ℕ) (text rest : List ℕ) : Type 0 where
   ts : List Token
-  spells : Spells k ts
-  is : tokens m size text ≡ ts ++ tokens n size rest
+  spells : Spells more k ts
+  is : lexemes size text ≡ ts ++ lexemes size rest
 
--- So it is for a text, with so many lexemes more, wherever it may end.
-abbrev Lexed : Kind → (ℕ → ℕ) → List ℕ → Type 0
-Lexed k more text = (n size : ℕ) (rest : List ℕ) → ends rest ≡ true → Gets k (more n) size (text ++ rest) n rest
+-- So it is for a text, wherever it may end.
+abbrev Lexed : ℕ → Kind → List ℕ → Type 0
+Lexed more k text = (size : ℕ) (rest : List ℕ) → ends rest ≡ true → Gets more k size (text ++ rest) rest
 
-lexed_leaf : (l : Literal) → is_literal l.field_name l.delimiter l.phrase ≡ true → Lexed (part (leaf l)) (λ (n : ℕ). suc n) (literal_text l)
-lexed_leaf l h = λ n size rest end. record {
+lexed_leaf : (more : ℕ) (l : Literal) → is_literal l.field_name l.delimiter l.phrase ≡ true → Lexed more (part (leaf l)) (literal_text l)
+lexed_leaf more l h = λ size rest end. record {
   ts = token (size - length (literal_text l ++ rest)) (literal l) ∷ [];
   spells = alone (size - length (literal_text l ++ rest)) l;
-  is = tokens_begin n size (literal_text l ++ rest) l rest (begins_literal size l rest h end);
+  is = lexemes_begin size (literal_text l ++ rest) l rest (begins_literal size l rest h end);
 }
 
-lexed_parentheses : (t : Ast) (more : ℕ → ℕ) (text : List ℕ) → Lexed (query t) more text → Lexed (part t) (λ (n : ℕ). suc (more (suc n))) (40 ∷ text ++ 41 ∷ [])
-lexed_parentheses t more text inner = λ n size rest end.
-    let inside = inner (suc n) size (41 ∷ rest) refl in
+lexed_parentheses : (more : ℕ) (t : Ast) (text : List ℕ) → Lexed more (query t) text → Lexed (suc more) (part t) (40 ∷ text ++ 41 ∷ [])
+lexed_parentheses more t text inner = λ size rest end.
+    let inside = inner size (41 ∷ rest) refl in
     let first = size - length (40 ∷ ((text ++ 41 ∷ []) ++ rest)) in
     let last = size - length (41 ∷ rest) in
     record {
       ts = token first opening ∷ (inside.ts ++ token last closing ∷ []);
       spells = in_parentheses first last inside.spells;
-      is = tokens_opening (more (suc n)) size ((text ++ 41 ∷ []) ++ rest)
+      is = lexemes_opening size ((text ++ 41 ∷ []) ++ rest)
           ∙ ap (λ (l : List Token). token first opening ∷ l)
-          (ap (tokens (more (suc n)) size) (append_assoc text (41 ∷ []) rest) ∙ inside.is
-          ∙ ap (λ (l : List Token). inside.ts ++ l) (tokens_closing n size rest)
-          ∙ sym (append_assoc inside.ts (token last closing ∷ []) (tokens n size rest)));
+          (ap (lexemes size) (append_assoc text (41 ∷ []) rest) ∙ inside.is
+          ∙ ap (λ (l : List Token). inside.ts ++ l) (lexemes_closing size rest)
+          ∙ sym (append_assoc inside.ts (token last closing ∷ []) (lexemes size rest)));
     }
 
--- a text between two others
-between : (a b c d : List ℕ) → ((a ++ b) ++ c) ++ d ≡ a ++ (b ++ (c ++ d))
-between a b c d = ap (λ (l : List ℕ). l ++ d) (append_assoc a b c) ∙ append_assoc a (b ++ c) d ∙ ap (λ (l : List ℕ). a ++ l) (append_assoc b c d)
+-- two texts with one between them, and a text after them
+between : (a s b rest : List ℕ) → (a ++ s ++ b) ++ rest ≡ a ++ (s ++ (b ++ rest))
+between a s b rest = ap (λ (l : List ℕ). l ++ rest) (append_assoc a s b) ∙ append_assoc a (s ++ b) rest ∙ ap (λ (l : List ℕ). a ++ l) (append_assoc s b rest)
 
-lexed_both : (s t : Ast) (f g : ℕ → ℕ) (a b : List ℕ) → Lexed (part s) f a → Lexed (part t) g b → Lexed (chain (both s t)) (λ (n : ℕ). f (suc (g n))) (a ++ codes " AND " ++ b)
-lexed_both s t f g a b first other = λ n size rest end.
-    let later = other n size rest end in
-    let front = first (suc (g n)) size (codes " AND " ++ (b ++ rest)) refl in
-    let at = size - length (65 ∷ 78 ∷ 68 ∷ 32 ∷ (b ++ rest)) in
-    record {
-      ts = front.ts ++ token at and_word ∷ later.ts;
-      spells = and at (one front.spells) later.spells;
-      is = ap (tokens (f (suc (g n))) size) (between a (codes " AND ") b rest) ∙ front.is
-          ∙ ap (λ (l : List Token). front.ts ++ l) (tokens_and (g n) size (b ++ rest) ∙ ap (λ (l : List Token). token at and_word ∷ l) (tokens_space (g n) size (b ++ rest) ∙ later.is))
-          ∙ sym (append_assoc front.ts (token at and_word ∷ later.ts) (tokens n size rest));
-    }
+-- a chain alone is a query
+chain_query : (more : ℕ) (c : ChainState) (ts : List Token) → Spells more (chain c) ts → Spells more (query (chain_tree c)) ts
+chain_query more c ts spells = all (wanted (next_to nothing spells)) refl
 
-lexed_without : (s t : Ast) (f g : ℕ → ℕ) (a b : List ℕ) → Lexed (part s) f a → Lexed (part t) g b → Lexed (chain (without s t)) (λ (n : ℕ). f (suc (suc (g n)))) (a ++ codes " AND -" ++ b)
-lexed_without s t f g a b first other = λ n size rest end.
-    let later = other n size rest end in
-    let front = first (suc (suc (g n))) size (codes " AND -" ++ (b ++ rest)) refl in
+lexed_without : (more : ℕ) (s t : Ast) (a b : List ℕ) → Lexed more (part s) a → Lexed more (part t) b → Lexed more (query (without s t)) (a ++ codes " AND -" ++ b)
+lexed_without more s t a b first other = λ size rest end.
+    let later = other size rest end in
+    let front = first size (codes " AND -" ++ (b ++ rest)) refl in
     let at = size - length (65 ∷ 78 ∷ 68 ∷ 32 ∷ 45 ∷ (b ++ rest)) in
     let next = size - length (45 ∷ (b ++ rest)) in
     record {
       ts = front.ts ++ token at and_word ∷ token next minus ∷ later.ts;
-      spells = and_not at next (one front.spells) later.spells;
-      is = ap (tokens (f (suc (suc (g n)))) size) (between a (codes " AND -") b rest) ∙ front.is
-          ∙ ap (λ (l : List Token). front.ts ++ l) (tokens_and (suc (g n)) size (45 ∷ (b ++ rest)) ∙ ap (λ (l : List Token). token at and_word ∷ l) (tokens_minus (g n) size (b ++ rest) ∙ ap (λ (l : List Token). token next minus ∷ l) later.is))
-          ∙ sym (append_assoc front.ts (token at and_word ∷ token next minus ∷ later.ts) (tokens n size rest));
+      spells = chain_query more _ _ (and_not at next (one front.spells) later.spells);
+      is = ap (lexemes size) (between a (codes " AND -") b rest) ∙ front.is
+          ∙ ap (λ (l : List Token). front.ts ++ l) (lexemes_and size (45 ∷ (b ++ rest)) ∙ ap (λ (l : List Token). token at and_word ∷ l) (lexemes_minus size (b ++ rest) ∙ ap (λ (l : List Token). token next minus ∷ l) later.is))
+          ∙ sym (append_assoc front.ts (token at and_word ∷ token next minus ∷ later.ts) (lexemes size rest));
     }
 
--- a chain alone is a query
-chain_query : (t : Ast) (ts : List Token) → Spells (chain t) ts → Spells (query t) ts
-chain_query t ts spells = all (wanted (beside nothing spells)) refl
+-- the parts of a tree as a list
+abbrev list_of : Asts → List Ast
+list_of no_asts = []
+list_of (and_asts t ts) = t ∷ list_of ts
 
-lexed_either : (s t : Ast) (f g : ℕ → ℕ) (a b : List ℕ) → Lexed (part s) f a → Lexed (part t) g b → Lexed (query (either s t)) (λ (n : ℕ). f (suc (g n))) (a ++ codes " OR " ++ b)
-lexed_either s t f g a b first other = λ n size rest end.
-    let later = other n size rest end in
-    let front = first (suc (g n)) size (codes " OR " ++ (b ++ rest)) refl in
-    let at = size - length (79 ∷ 82 ∷ 32 ∷ (b ++ rest)) in
+same_asts : (ts : Asts) → asts_from (list_of ts) ≡ ts
+same_asts no_asts = refl
+same_asts (and_asts t ts) = ap (λ (us : Asts). and_asts t us) (same_asts ts)
+
+-- Each part is read from its text.
+abbrev AllLexed : ℕ → Asts → Type 0
+AllLexed more no_asts = Unit {0}
+AllLexed more (and_asts t ts) = Lexed more (part t) (part_text t) × AllLexed more ts
+
+-- a text may end before further parts
+ends_before : (s : List ℕ) (ts : Asts) (rest : List ℕ) → ends rest ≡ true → ends (parts_text (32 ∷ s) (32 ∷ s) ts ++ rest) ≡ true
+ends_before s no_asts rest end = end
+ends_before s (and_asts t ts) rest end = refl
+
+-- a part after a separator, and those after it
+after_part : (s a b rest : List ℕ) → (s ++ a ++ b) ++ rest ≡ s ++ (a ++ (b ++ rest))
+after_part s a b rest = between s a b rest
+
+-- Lexemes that continue others are this together with them.
+record Continues (more : ℕ) (k : Kind) (ks : List Token) (size : ℕ) (text rest : List ℕ) : Type 0 where
+  ts : List Token
+  spells : Spells more k (ks ++ ts)
+  is : lexemes size text ≡ ts ++ lexemes size rest
+
+abbrev and_chain : List Ast → ChainState
+and_chain ws = record { wanted = ws; excluded = [] }
+
+and_tail : (more : ℕ) (ts : Asts) → AllLexed more ts → (ws : List Ast) (ks : List Token) → Spells more (chain (and_chain ws)) ks → (size : ℕ) (rest : List ℕ) → ends rest ≡ true
+    → Continues more (chain (and_chain (ws ++ list_of ts))) ks size (parts_text (codes " AND ") (codes " AND ") ts ++ rest) rest
+and_tail more no_asts each ws ks spells = λ size rest end. record {
+  ts = [];
+  spells = subst (λ (l : List Token). Spells more (chain (and_chain (ws ++ []))) l) (sym (append-nil ks)) (subst (λ (l : List Ast). Spells more (chain (and_chain l)) ks) (sym (append-nil ws)) spells);
+  is = refl;
+}
+and_tail more (and_asts t ts) (lexed, each) ws ks spells = λ size rest end.
+    let tail = parts_text (codes " AND ") (codes " AND ") ts in
+    let at = size - length (65 ∷ 78 ∷ 68 ∷ 32 ∷ (part_text t ++ (tail ++ rest))) in
+    let here = lexed size (tail ++ rest) (ends_before (65 ∷ 78 ∷ 68 ∷ 32 ∷ []) ts rest end) in
+    let later = and_tail more ts each (ws ++ t ∷ []) (ks ++ token at and_word ∷ here.ts) (and at spells here.spells) size rest end in
     record {
-      ts = front.ts ++ token at or_word ∷ later.ts;
-      spells = all (wanted (or at (beside nothing (one front.spells)) (one later.spells))) refl;
-      is = ap (tokens (f (suc (g n))) size) (between a (codes " OR ") b rest) ∙ front.is
-          ∙ ap (λ (l : List Token). front.ts ++ l) (tokens_or (g n) size (b ++ rest) ∙ ap (λ (l : List Token). token at or_word ∷ l) (tokens_space (g n) size (b ++ rest) ∙ later.is))
-          ∙ sym (append_assoc front.ts (token at or_word ∷ later.ts) (tokens n size rest));
+      ts = token at and_word ∷ (here.ts ++ later.ts);
+      spells = subst (λ (l : List Token). Spells more (chain (and_chain (ws ++ t ∷ list_of ts))) l) (append_assoc ks (token at and_word ∷ here.ts) later.ts)
+          (subst (λ (l : List Ast). Spells more (chain (and_chain l)) ((ks ++ token at and_word ∷ here.ts) ++ later.ts)) (append_assoc ws (t ∷ []) (list_of ts)) later.spells);
+      is = ap (lexemes size) (after_part (codes " AND ") (part_text t) tail rest)
+          ∙ lexemes_and size (part_text t ++ (tail ++ rest))
+          ∙ ap (λ (l : List Token). token at and_word ∷ l) (lexemes_space size (part_text t ++ (tail ++ rest)) ∙ here.is ∙ ap (λ (l : List Token). here.ts ++ l) later.is ∙ sym (append_assoc here.ts later.ts (lexemes size rest)));
     }
 
--- a chain's lexemes are those of a query
-as_query : (t : Ast) (f : ℕ → ℕ) (a : List ℕ) → Lexed (chain t) f a → Lexed (query t) f a
-as_query t f a lexed = λ n size rest end. let got = lexed n size rest end in record { ts = got.ts; spells = chain_query t got.ts got.spells; is = got.is }
+or_tail : (more : ℕ) (ts : Asts) → AllLexed more ts → (ws : List Ast) (ks : List Token) → Spells more (wants ws []) ks → (size : ℕ) (rest : List ℕ) → ends rest ≡ true
+    → Continues more (wants (ws ++ list_of ts) []) ks size (parts_text (codes " OR ") (codes " OR ") ts ++ rest) rest
+or_tail more no_asts each ws ks spells = λ size rest end. record {
+  ts = [];
+  spells = subst (λ (l : List Token). Spells more (wants (ws ++ []) []) l) (sym (append-nil ks)) (subst (λ (l : List Ast). Spells more (wants l []) ks) (sym (append-nil ws)) spells);
+  is = refl;
+}
+or_tail more (and_asts t ts) (lexed, each) ws ks spells = λ size rest end.
+    let tail = parts_text (codes " OR ") (codes " OR ") ts in
+    let at = size - length (79 ∷ 82 ∷ 32 ∷ (part_text t ++ (tail ++ rest))) in
+    let here = lexed size (tail ++ rest) (ends_before (79 ∷ 82 ∷ 32 ∷ []) ts rest end) in
+    let later = or_tail more ts each (ws ++ t ∷ []) (ks ++ token at or_word ∷ here.ts) (or at spells (one here.spells)) size rest end in
+    record {
+      ts = token at or_word ∷ (here.ts ++ later.ts);
+      spells = subst (λ (l : List Token). Spells more (wants (ws ++ t ∷ list_of ts) []) l) (append_assoc ks (token at or_word ∷ here.ts) later.ts)
+          (subst (λ (l : List Ast). Spells more (wants l []) ((ks ++ token at or_word ∷ here.ts) ++ later.ts)) (append_assoc ws (t ∷ []) (list_of ts)) later.spells);
+      is = ap (lexemes size) (after_part (codes " OR ") (part_text t) tail rest)
+          ∙ lexemes_or size (part_text t ++ (tail ++ rest))
+          ∙ ap (λ (l : List Token). token at or_word ∷ l) (lexemes_space size (part_text t ++ (tail ++ rest)) ∙ here.is ∙ ap (λ (l : List Token). here.ts ++ l) later.is ∙ sym (append_assoc here.ts later.ts (lexemes size rest)));
+    }
 
--- how many lexemes may be read, where so many may be read after a part, and after a tree
-abbrev part_needs : Ast → (ℕ → ℕ) → ℕ → ℕ
-part_needs (leaf l) f n = f n
-part_needs (both s t) f n = suc (f (suc n))
-part_needs (either s t) f n = suc (f (suc n))
-part_needs (without s t) f n = suc (f (suc n))
+lexed_all : (more : ℕ) (ts : Asts) → are_several ts ≡ true → AllLexed more ts → Lexed more (query (all_of ts)) (parts_text [] (codes " AND ") ts)
+lexed_all more no_asts several each = absurd (cc)
+lexed_all more (and_asts t no_asts) several each = absurd (cc)
+lexed_all more (and_asts t (and_asts u ts)) several (lexed, each) = λ size rest end.
+    let us = and_asts u ts in
+    let tail = parts_text (codes " AND ") (codes " AND ") us in
+    let here = lexed size (tail ++ rest) (ends_before (65 ∷ 78 ∷ 68 ∷ 32 ∷ []) us rest end) in
+    let later = and_tail more us each (t ∷ []) here.ts (one here.spells) size rest end in
+    record {
+      ts = here.ts ++ later.ts;
+      spells = subst (λ (vs : Asts). Spells more (query (all_of (and_asts t (and_asts u vs)))) (here.ts ++ later.ts)) (same_asts ts) (chain_query more _ _ later.spells);
+      is = ap (lexemes size) (append_assoc (part_text t) tail rest) ∙ here.is ∙ ap (λ (l : List Token). here.ts ++ l) later.is ∙ sym (append_assoc here.ts later.ts (lexemes size rest));
+    }
 
-abbrev needs : Ast → ℕ → ℕ
-needs (leaf l) n = suc n
-needs (both s t) n = part_needs s (needs s) (suc (part_needs t (needs t) n))
-needs (either s t) n = part_needs s (needs s) (suc (part_needs t (needs t) n))
-needs (without s t) n = part_needs s (needs s) (suc (suc (part_needs t (needs t) n)))
+wants_query : (more : ℕ) (t u : Ast) (us : List Ast) (ts : List Token) → Spells more (wants (t ∷ u ∷ us) []) ts → Spells more (query (any_of (asts_from (t ∷ u ∷ us)))) ts
+wants_query more t u us ts spells = all (wanted spells) refl
 
-lexed_part : (t : Ast) → has_spelling t ≡ true → Lexed (query t) (needs t) (spelled t) → Lexed (part t) (part_needs t (needs t)) (part_text t)
-lexed_part (leaf l) h lexed = lexed_leaf l h
-lexed_part (both s t) h lexed = lexed_parentheses (both s t) (needs (both s t)) (spelled (both s t)) lexed
-lexed_part (either s t) h lexed = lexed_parentheses (either s t) (needs (either s t)) (spelled (either s t)) lexed
-lexed_part (without s t) h lexed = lexed_parentheses (without s t) (needs (without s t)) (spelled (without s t)) lexed
+lexed_any : (more : ℕ) (ts : Asts) → are_several ts ≡ true → AllLexed more ts → Lexed more (query (any_of ts)) (parts_text [] (codes " OR ") ts)
+lexed_any more no_asts several each = absurd (cc)
+lexed_any more (and_asts t no_asts) several each = absurd (cc)
+lexed_any more (and_asts t (and_asts u ts)) several (lexed, each) = λ size rest end.
+    let us = and_asts u ts in
+    let tail = parts_text (codes " OR ") (codes " OR ") us in
+    let here = lexed size (tail ++ rest) (ends_before (79 ∷ 82 ∷ 32 ∷ []) us rest end) in
+    let later = or_tail more us each (t ∷ []) here.ts (next_to nothing (one here.spells)) size rest end in
+    record {
+      ts = here.ts ++ later.ts;
+      spells = subst (λ (vs : Asts). Spells more (query (any_of (and_asts t (and_asts u vs)))) (here.ts ++ later.ts)) (same_asts ts) (wants_query more t u (list_of ts) _ later.spells);
+      is = ap (lexemes size) (append_assoc (part_text t) tail rest) ∙ here.is ∙ ap (λ (l : List Token). here.ts ++ l) later.is ∙ sym (append_assoc here.ts later.ts (lexemes size rest));
+    }
 
-lexed_query : (t : Ast) → has_spelling t ≡ true → Lexed (query t) (needs t) (spelled t)
-lexed_query (leaf l) h = as_query (leaf l) (needs (leaf l)) (spelled (leaf l)) (λ n size rest end. let got = lexed_leaf l h n size rest end in record { ts = got.ts; spells = one got.spells; is = got.is })
-lexed_query (both s t) h =
-    let parts = and_parts (has_spelling s) (has_spelling t) h in
-    as_query (both s t) (needs (both s t)) (spelled (both s t))
-    (lexed_both s t (part_needs s (needs s)) (part_needs t (needs t)) (part_text s) (part_text t) (lexed_part s parts.0 (lexed_query s parts.0)) (lexed_part t parts.1 (lexed_query t parts.1)))
-lexed_query (either s t) h =
-    let parts = and_parts (has_spelling s) (has_spelling t) h in
-    lexed_either s t (part_needs s (needs s)) (part_needs t (needs t)) (part_text s) (part_text t) (lexed_part s parts.0 (lexed_query s parts.0)) (lexed_part t parts.1 (lexed_query t parts.1))
-lexed_query (without s t) h =
-    let parts = and_parts (has_spelling s) (has_spelling t) h in
-    as_query (without s t) (needs (without s t)) (spelled (without s t))
-    (lexed_without s t (part_needs s (needs s)) (part_needs t (needs t)) (part_text s) (part_text t) (lexed_part s parts.0 (lexed_query s parts.0)) (lexed_part t parts.1 (lexed_query t parts.1)))
+-- a tree in parentheses, by the room for them
+in_room : (more n : ℕ) (t : Ast) (text : List ℕ) → suc n ≤ more → ((m : ℕ) → n ≤ m → Lexed m (query t) text) → Lexed more (part t) (40 ∷ text ++ 41 ∷ [])
+in_room zero n t text few lexed = absurd (omega (arith, few))
+in_room (suc m) n t text few lexed = lexed_parentheses m t text (lexed m (omega (arith, few)))
 
-part_counts : (t : Ast) (n : ℕ) → ((m : ℕ) → needs t m ≡ num_lexemes t + m) → part_needs t (needs t) n ≡ num_parentheses t + num_lexemes t + n
-part_counts (leaf l) n count = omega (arith, count n)
-part_counts (both s t) n count = omega (arith, count (suc n))
-part_counts (either s t) n count = omega (arith, count (suc n))
-part_counts (without s t) n count = omega (arith, count (suc n))
+-- a tree as a part
+as_part : (more : ℕ) (t : Ast) → has_spelling t ≡ true → part_nesting t ≤ more → ((m : ℕ) → nesting t ≤ m → Lexed m (query t) (spelled t)) → Lexed more (part t) (part_text t)
+as_part more (leaf l) h few lexed = lexed_leaf more l h
+as_part more (all_of ts) h few lexed = in_room more (nesting (all_of ts)) (all_of ts) (spelled (all_of ts)) few lexed
+as_part more (any_of ts) h few lexed = in_room more (nesting (any_of ts)) (any_of ts) (spelled (any_of ts)) few lexed
+as_part more (without s t) h few lexed = in_room more (nesting (without s t)) (without s t) (spelled (without s t)) few lexed
 
-counts : (t : Ast) (n : ℕ) → needs t n ≡ num_lexemes t + n
-counts (leaf l) n = omega arith
-counts (both s t) n = omega (arith, part_counts s (suc (part_needs t (needs t) n)) (counts s), part_counts t n (counts t))
-counts (either s t) n = omega (arith, part_counts s (suc (part_needs t (needs t) n)) (counts s), part_counts t n (counts t))
-counts (without s t) n = omega (arith, part_counts s (suc (suc (part_needs t (needs t) n))) (counts s), part_counts t n (counts t))
+mutual
+  lexed_query : (t : Ast) → has_spelling t ≡ true → (more : ℕ) → nesting t ≤ more → Lexed more (query t) (spelled t)
+  lexed_query (leaf l) h = λ more few size rest end. let got = lexed_leaf more l h size rest end in record { ts = got.ts; spells = chain_query more _ _ (one got.spells); is = got.is }
+  lexed_query (all_of ts) h = λ more few. let parts = and_parts (are_several ts) (have_spelling ts) h in lexed_all more ts parts.0 (lexed_parts ts parts.1 more few)
+  lexed_query (any_of ts) h = λ more few. let parts = and_parts (are_several ts) (have_spelling ts) h in lexed_any more ts parts.0 (lexed_parts ts parts.1 more few)
+  lexed_query (without s t) h = λ more few.
+      let parts = and_parts (has_spelling s) (has_spelling t) h in
+      lexed_without more s t (part_text s) (part_text t)
+      (as_part more s parts.0 (omega (arith, few)) (lexed_query s parts.0))
+      (as_part more t parts.1 (omega (arith, few)) (lexed_query t parts.1))
 
--- a tree that has a spelling of so many lexemes is read from it
-pub reads_spelled : (limit : ℕ) (t : Ast) → has_spelling t ≡ true → num_lexemes t ≤ limit → parsed limit (spelled t) ≡ Ok t
+  lexed_parts : (ts : Asts) → have_spelling ts ≡ true → (more : ℕ) → parts_nesting ts ≤ more → AllLexed more ts
+  lexed_parts no_asts h = λ more few. tt
+  lexed_parts (and_asts t ts) h = λ more few.
+      let parts = and_parts (has_spelling t) (have_spelling ts) h in
+      (as_part more t parts.0 (omega (arith, few)) (lexed_query t parts.0), lexed_parts ts parts.1 more (omega (arith, few)))
+
+-- a tree that can be written is read from its text
+pub reads_spelled : (limit : ℕ) (t : Ast) → has_spelling t ≡ true → nesting t ≤ limit → parsed limit (spelled t) ≡ Ok t
 reads_spelled limit t h few =
     let size = length (spelled t) in
-    let more = limit - num_lexemes t in
-    let got = lexed_query t h more size [] refl in
-    let all_of : needs t more ≡ limit = omega (arith, counts t more, few) in
-    let same : got.ts ≡ tokens limit size (spelled t) =
-    sym (append-nil got.ts) ∙ ap (λ (l : List Token). got.ts ++ l) (sym (tokens_none more size)) ∙ sym got.is
-    ∙ ap (tokens (needs t more) size) (append-nil (spelled t)) ∙ ap (λ (n : ℕ). tokens n size (spelled t)) all_of in
-    reads_query size t (tokens limit size (spelled t)) (subst (λ (l : List Token). Spells (query t) l) same got.spells)
+    let got = lexed_query t h limit few size [] refl in
+    let same : got.ts ≡ lexemes size (spelled t) =
+    sym (append-nil got.ts) ∙ ap (λ (l : List Token). got.ts ++ l) (sym (lexemes_step size [])) ∙ sym got.is ∙ ap (lexemes size) (append-nil (spelled t)) in
+    reads_query limit size t (lexemes size (spelled t)) (subst (λ (l : List Token). Spells limit (query t) l) same got.spells)

@@ -1,13 +1,17 @@
 -- The definitions on texts whose trees are known.
-use Rattle.std.proofs.Common.{◌≡◌, ℕ, List, [], None, Some, Result, Ok, Err, refl}
+use Rattle.std.proofs.Common.{◌≡◌, ℕ, List, [], ◌∷◌, None, Some, Result, Ok, Err, refl}
 use Rattle.std.specs.Prelude.{codes}
-use Rattle.ii_query_grammar.specs.declared.parse_error.Wanted.{Wanted}
-use Rattle.ii_query_grammar.specs.declared.parse_error.Wanted.TheVariants.{Closing, End, Included, Operand, Quote, Shorter, Value}
+use Rattle.ii_query_grammar.specs.declared.parse_error.Expected.{Expected}
+use Rattle.ii_query_grammar.specs.declared.parse_error.Expected.TheVariants.{Closing, End, Excluded, Included, LessNesting, Operand, Query, Quote, Value}
+use Rattle.ii_query_grammar.specs.declared.parse_error.Feature.{Feature}
+use Rattle.ii_query_grammar.specs.declared.parse_error.Feature.TheVariants.{Boosts, Comparisons, Fuzzy, Ranges, RegularExpressions, RequiredClauses, Wildcards}
+use Rattle.ii_query_grammar.specs.declared.parse_error.ParseError.{ParseError}
+use Rattle.ii_query_grammar.specs.declared.parse_error.ParseError.TheVariants.{Syntax, Unsupported}
 use Rattle.ii_query_grammar.specs.declared.user_input_ast.Delimiter.TheVariants as delimiters
 use Rattle.ii_query_grammar.specs.Lexemes.{tokens}
-use Rattle.ii_query_grammar.specs.Parsed.{SyntaxError, parsed}
+use Rattle.ii_query_grammar.specs.Parsed.{parsed}
 use Rattle.ii_query_grammar.specs.Spelling.{spelled}
-use Rattle.ii_query_grammar.specs.Trees.{Ast, both, either, leaf, without}
+use Rattle.ii_query_grammar.specs.Trees.{Ast, all_of, any_of, asts_from, leaf, without}
 
 abbrev word : List ℕ → Ast
 word text = leaf (record { field_name = None; phrase = text; delimiter = delimiters.None })
@@ -15,11 +19,32 @@ word text = leaf (record { field_name = None; phrase = text; delimiter = delimit
 abbrev in_field : List ℕ → List ℕ → Ast
 in_field name text = leaf (record { field_name = Some name; phrase = text; delimiter = delimiters.None })
 
-abbrev tree : Ast → Result Ast SyntaxError
-tree ast = Ok ast
+abbrev phrase : List ℕ → Ast
+phrase text = leaf (record { field_name = None; phrase = text; delimiter = delimiters.DoubleQuotes })
 
-abbrev refused : Wanted → ℕ → Result Ast SyntaxError
-refused wanted at = Err (record { wanted = wanted; at = at })
+abbrev all : List Ast → Ast
+all ts = all_of (asts_from ts)
+
+abbrev any : List Ast → Ast
+any ts = any_of (asts_from ts)
+
+abbrev a : Ast
+a = word (codes "a")
+
+abbrev b : Ast
+b = word (codes "b")
+
+abbrev c : Ast
+c = word (codes "c")
+
+abbrev tree : Ast → Result Ast ParseError
+tree t = Ok t
+
+abbrev syntax_error : Expected → ℕ → Result Ast ParseError
+syntax_error expected at = Err (Syntax expected at)
+
+abbrev unsupported : Feature → ℕ → Result Ast ParseError
+unsupported feature at = Err (Unsupported feature at)
 
 abbrev phrase_row : parsed 9 (codes "body:\"new york\"") ≡ tree (leaf (record { field_name = Some (codes "body"); phrase = codes "new york"; delimiter = delimiters.DoubleQuotes }))
 unfolding tokens
@@ -29,53 +54,147 @@ abbrev path_row : parsed 9 (codes "attr.color:red") ≡ tree (in_field (codes "a
 unfolding tokens
 path_row = refl
 
-abbrev signed_row : parsed 9 (codes "price:-7") ≡ tree (in_field (codes "price") (codes "-7"))
+abbrev signed_row : parsed 9 (codes "price:-7 price:+7") ≡ tree (any (in_field (codes "price") (codes "-7") ∷ in_field (codes "price") (codes "+7") ∷ []))
 unfolding tokens
 signed_row = refl
 
-abbrev tighter_row : parsed 9 (codes "a OR b AND c") ≡ tree (either (word (codes "a")) (both (word (codes "b")) (word (codes "c"))))
+abbrev row_row : parsed 0 (codes "a b  c a") ≡ tree (any (a ∷ b ∷ c ∷ a ∷ []))
+unfolding tokens
+row_row = refl
+
+abbrev chain_row : parsed 0 (codes "a AND b AND -c AND a AND -b") ≡ tree (without (all (a ∷ b ∷ a ∷ [])) (any (c ∷ b ∷ [])))
+unfolding tokens
+chain_row = refl
+
+abbrev tighter_row : parsed 0 (codes "a OR b AND c") ≡ tree (any (a ∷ all (b ∷ c ∷ []) ∷ []))
 unfolding tokens
 tighter_row = refl
 
-abbrev excluded_row : parsed 9 (codes " a -b  c") ≡ tree (without (either (word (codes "a")) (word (codes "c"))) (word (codes "b")))
+abbrev excluded_row : parsed 0 (codes " a -b  c -a") ≡ tree (without (any (a ∷ c ∷ [])) (any (b ∷ a ∷ [])))
 unfolding tokens
 excluded_row = refl
 
-abbrev nested_row : parsed 9 (codes "(a b) AND -c") ≡ tree (without (either (word (codes "a")) (word (codes "b"))) (word (codes "c")))
+abbrev nested_row : parsed 1 (codes "(a b) AND -c") ≡ tree (without (any (a ∷ b ∷ [])) c)
 unfolding tokens
 nested_row = refl
 
-abbrev excluded_alone : parsed 9 (codes "-c") ≡ refused Included 2
+abbrev not_row : parsed 0 (codes "NOT b a") ≡ tree (without a b)
+unfolding tokens
+not_row = refl
+
+abbrev and_not_row : parsed 0 (codes "a AND NOT b") ≡ tree (without a b)
+unfolding tokens
+and_not_row = refl
+
+abbrev quoted_not_row : parsed 0 (codes "a \"NOT\"") ≡ tree (any (a ∷ phrase (codes "NOT") ∷ []))
+unfolding tokens
+quoted_not_row = refl
+
+abbrev inner_row : parsed 0 (codes "a-b'/.@#=]}<") ≡ tree (word (codes "a-b'/.@#=]}<"))
+unfolding tokens
+inner_row = refl
+
+abbrev escaped_row : parsed 0 (codes "\\-new\\ york\\* na\\:me:\\<x") ≡ tree (any (word (codes "-new york*") ∷ in_field (codes "na:me") (codes "<x") ∷ []))
+unfolding tokens
+escaped_row = refl
+
+abbrev kept_row : parsed 0 (codes "leaf.a\\.b:x\\y\\\\z") ≡ tree (in_field (codes "leaf.a\\.b") (codes "x\\y\\\\z"))
+unfolding tokens
+kept_row = refl
+
+abbrev quoted_row : parsed 0 (codes "\"se* \\\"a\\\" [x\"") ≡ tree (phrase (codes "se* \"a\" [x"))
+unfolding tokens
+quoted_row = refl
+
+abbrev wildcard_row : parsed 9 (codes "se*") ≡ unsupported Wildcards 2
+unfolding tokens
+wildcard_row = refl
+
+abbrev any_word_row : parsed 9 (codes "a *") ≡ unsupported Wildcards 2
+unfolding tokens
+any_word_row = refl
+
+abbrev question_row : parsed 9 (codes "text:s?a") ≡ unsupported Wildcards 6
+unfolding tokens
+question_row = refl
+
+abbrev fuzzy_row : parsed 9 (codes "sea~1") ≡ unsupported Fuzzy 3
+unfolding tokens
+fuzzy_row = refl
+
+abbrev slop_row : parsed 9 (codes "\"a b\"~2") ≡ unsupported Fuzzy 5
+unfolding tokens
+slop_row = refl
+
+abbrev boost_row : parsed 9 (codes "(a b)^2") ≡ unsupported Boosts 5
+unfolding tokens
+boost_row = refl
+
+abbrev range_row : parsed 9 (codes "num:[1 TO 5]") ≡ unsupported Ranges 4
+unfolding tokens
+range_row = refl
+
+abbrev open_range_row : parsed 9 (codes "{1 TO 5}") ≡ unsupported Ranges 0
+unfolding tokens
+open_range_row = refl
+
+abbrev comparison_row : parsed 9 (codes "num:>=5") ≡ unsupported Comparisons 4
+unfolding tokens
+comparison_row = refl
+
+abbrev regular_row : parsed 9 (codes "/se.a/") ≡ unsupported RegularExpressions 0
+unfolding tokens
+regular_row = refl
+
+abbrev required_row : parsed 9 (codes "a +b") ≡ unsupported RequiredClauses 2
+unfolding tokens
+required_row = refl
+
+abbrev excluded_alone : parsed 9 (codes "-c") ≡ syntax_error Included 2
 unfolding tokens
 excluded_alone = refl
 
-abbrev nothing_row : parsed 9 [] ≡ refused Included 0
+abbrev nothing_row : parsed 9 [] ≡ syntax_error Query 0
 unfolding tokens
 nothing_row = refl
 
-abbrev operand_row : parsed 9 (codes "a AND OR b") ≡ refused Operand 6
+abbrev not_alone_row : parsed 9 (codes "NOT") ≡ syntax_error Excluded 3
+unfolding tokens
+not_alone_row = refl
+
+abbrev operand_row : parsed 9 (codes "a AND OR b") ≡ syntax_error Operand 6
 unfolding tokens
 operand_row = refl
 
-abbrev value_row : parsed 9 (codes "a: b") ≡ refused Value 2
+abbrev value_row : parsed 9 (codes "a: b") ≡ syntax_error Value 2
 unfolding tokens
 value_row = refl
 
-abbrev quote_row : parsed 9 (codes "a \"bc") ≡ refused Quote 5
+abbrev quote_row : parsed 9 (codes "a \"bc\\\"") ≡ syntax_error Quote 7
 unfolding tokens
 quote_row = refl
 
-abbrev closing_row : parsed 9 (codes "(a (b)") ≡ refused Closing 6
+abbrev closing_row : parsed 9 (codes "(a (b)") ≡ syntax_error Closing 6
 unfolding tokens
 closing_row = refl
 
-abbrev end_row : parsed 9 (codes "a )b") ≡ refused End 2
+abbrev end_row : parsed 9 (codes "a )b") ≡ syntax_error End 2
 unfolding tokens
 end_row = refl
 
-abbrev shorter_row : parsed 3 (codes "a b c d") ≡ refused Shorter 6
+abbrev nesting_row : parsed 2 (codes "(a (b (c)))") ≡ syntax_error LessNesting 6
 unfolding tokens
-shorter_row = refl
+nesting_row = refl
 
-abbrev spelled_row : spelled (without (either (word (codes "a")) (in_field (codes "t") (codes "b"))) (word (codes "c"))) ≡ codes "(a OR t:b) AND -c"
+abbrev apart_row : parsed 1 (codes "(a) (b)") ≡ tree (any (a ∷ b ∷ []))
+unfolding tokens
+apart_row = refl
+
+abbrev spelled_row : spelled (without (any (a ∷ in_field (codes "t") (codes "b") ∷ c ∷ [])) c) ≡ codes "(a OR t:b OR c) AND -c"
 spelled_row = refl
+
+abbrev spelled_chain_row : spelled (all (a ∷ any (b ∷ c ∷ []) ∷ [])) ≡ codes "a AND (b OR c)"
+spelled_chain_row = refl
+
+abbrev spelled_escapes_row : spelled (any (phrase (codes "new \"york\" a\\*") ∷ in_field (codes "na:me") (codes "-a-b*\\.c") ∷ [])) ≡ codes "\"new \\\"york\\\" a\\\\*\" OR na\\:me:\\-a-b\\*\\.c"
+spelled_escapes_row = refl

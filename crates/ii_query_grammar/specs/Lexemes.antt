@@ -1,18 +1,23 @@
 -- The words, phrases, signs and parentheses of a text.
-use Rattle.std.specs.Prelude.{◌≡◌, ℕ, zero, suc, ◌-◌, Bool, true, false, ◌||◌, ◌==◌, not, List, [], ◌∷◌, Option, None, Some, bytes_eq, codes, drop, if◌then◌else◌, length, take_while}
+use Rattle.std.specs.Prelude.{◌≡◌, ℕ, zero, suc, ◌-◌, Bool, true, false, ◌&&◌, ◌||◌, ◌==◌, not, List, [], ◌∷◌, Option, None, Some, option_map, bytes_eq, codes, drop, take, if◌then◌else◌, length, take_while}
+use Rattle.ii_query_grammar.specs.declared.cut.Stop.{Stop}
+use Rattle.ii_query_grammar.specs.declared.cut.Stop.TheVariants as stops
 use Rattle.ii_query_grammar.specs.declared.lexeme.Lexeme.{Lexeme as SeenLexeme}
 use Rattle.ii_query_grammar.specs.declared.lexeme.Lexeme.TheVariants as seen
 use Rattle.ii_query_grammar.specs.declared.lexeme.LiteralView.{LiteralView}
 use Rattle.ii_query_grammar.specs.declared.lexeme.Token.{Token as SeenToken}
-use Rattle.ii_query_grammar.specs.declared.parse_error.Wanted.{Wanted}
-use Rattle.ii_query_grammar.specs.declared.parse_error.Wanted.TheVariants.{Operand, Quote, Shorter, Value}
+use Rattle.ii_query_grammar.specs.declared.parse_error.Feature.{Feature}
+use Rattle.ii_query_grammar.specs.declared.parse_error.Feature.TheVariants as features
+use Rattle.ii_query_grammar.specs.declared.parse_error.ParseError.{ParseError}
+use Rattle.ii_query_grammar.specs.declared.parse_error.ParseError.TheVariants.{Syntax, Unsupported}
+use Rattle.ii_query_grammar.specs.declared.parse_error.Expected.TheVariants as expected
 use Rattle.ii_query_grammar.specs.declared.user_input_ast.Delimiter.{Delimiter}
 use Rattle.ii_query_grammar.specs.declared.user_input_ast.Delimiter.TheVariants as delimiters
 use Rattle.ii_query_grammar.specs.Trees.{Literal}
 use Rattle.std.specs.Borrow.{Bor}
 use Rattle.std.specs.Option.{option_copied}
 
--- A lexeme; a broken one tells what was wanted in its place.
+-- A lexeme; a broken one holds the error that is found in its place.
 pub data Lexeme : Type 0 where
   literal : Literal → Lexeme
   opening : Lexeme
@@ -20,14 +25,14 @@ pub data Lexeme : Type 0 where
   minus : Lexeme
   and_word : Lexeme
   or_word : Lexeme
-  broken : Wanted → Lexeme
+  broken : ParseError → Lexeme
 
--- a lexeme, and the byte at which it begins or was wanted
+-- a lexeme, and the byte at which it begins
 pub record Token : Type 0 where
   pub at : ℕ
   pub lexeme : Lexeme
 
--- the token that begins a text, and what comes after it
+-- the token that begins a text, and the text after it
 pub record Front : Type 0 where
   pub token : Token
   pub rest : List ℕ
@@ -36,17 +41,49 @@ pub record Front : Type 0 where
 abbrev pub is_space : ℕ → Bool
 is_space b = b == 32 || b == 9 || b == 10 || b == 13
 
--- what words are made of: all but spaces, quotes, parentheses and colons
-abbrev pub is_query_word_byte : ℕ → Bool
-is_query_word_byte b = not (is_space b || b == 34 || b == 40 || b == 41 || b == 58)
+-- what ends a word: a space, `"`, `(`, `)`, `:`, and the operators `*`, `?`, `~`, `^`, `[` and `{`
+abbrev pub ends_word : ℕ → Bool
+ends_word b = is_space b || b == 34 || b == 40 || b == 41 || b == 58 || b == 42 || b == 63 || b == 126 || b == 94 || b == 91 || b == 123
 
--- what stands between quotes
-abbrev pub is_phrase_byte : ℕ → Bool
-is_phrase_byte b = not (b == 34)
+-- what a backslash makes literal: what ends a word, and `-`, `+`, `/`, `<`, `>`, `]` and `}`
+abbrev pub is_special : ℕ → Bool
+is_special b = ends_word b || b == 45 || b == 43 || b == 47 || b == 60 || b == 62 || b == 93 || b == 125
 
--- what comes after the bytes in front that pass a test
-abbrev pub behind : (ℕ → Bool) → List ℕ → List ℕ
-behind test text = drop (length (take_while test text)) text
+-- whether a byte is the one that is looked for, by whether a backslash comes before it: one that ends a word or a phrase;
+-- one that a backslash makes literal; one that has to be escaped in a word or in a phrase
+abbrev pub stops_at : Stop → ℕ → Bool → Bool
+stops_at stops.WordEnd b escaped = ends_word b && not escaped
+stops_at stops.PhraseEnd b escaped = b == 34 && not escaped
+stops_at stops.Escaped b escaped = is_special b && escaped
+stops_at stops.WordEscape b escaped = is_special b && (ends_word b || escaped)
+stops_at stops.PhraseEscape b escaped = is_special b && (b == 34 || escaped)
+
+-- how many bytes come before the first such one, if there is one, by whether a backslash comes before the text
+abbrev pub place_of : Stop → Bool → List ℕ → ℕ
+place_of stop escaped [] = 0
+place_of stop escaped (b ∷ bs) = if stops_at stop b escaped then 0 else suc (place_of stop (b == 92) bs)
+
+-- whether a byte is a backslash that makes the next byte literal
+abbrev pub is_escape : ℕ → List ℕ → Bool
+is_escape b [] = false
+is_escape b (c ∷ cs) = is_special c && b == 92
+
+-- the text that a word or a phrase stands for: each backslash before a special byte is left out
+abbrev pub unescaped : List ℕ → List ℕ
+unescaped [] = []
+unescaped (b ∷ bs) = if is_escape b bs then unescaped bs else b ∷ unescaped bs
+
+-- what comes after the spaces in front
+abbrev pub after_spaces : List ℕ → List ℕ
+after_spaces text = drop (length (take_while is_space text)) text
+
+-- the word, or the phrase, in front
+abbrev pub before_stop : Stop → List ℕ → List ℕ
+before_stop stop text = take (place_of stop false text) text
+
+-- what comes after it
+abbrev pub from_stop : Stop → List ℕ → List ℕ
+from_stop stop text = drop (place_of stop false text) text
 
 -- whether a text is empty
 abbrev pub is_empty : List ℕ → Bool
@@ -58,78 +95,125 @@ abbrev pub begins : ℕ → List ℕ → Bool
 begins c [] = false
 begins c (b ∷ bs) = b == c
 
--- a lexeme at a place, with what comes after it
+-- the feature that a byte asks for wherever it is in a word
+abbrev pub feature_of : ℕ → Option Feature
+feature_of b =
+    if b == 42 || b == 63 then Some features.Wildcards
+    else if b == 126 then Some features.Fuzzy
+    else if b == 94 then Some features.Boosts
+    else if b == 91 || b == 123 then Some features.Ranges
+    else None
+
+-- the feature that a byte asks for at the beginning of a word
+abbrev pub first_feature_of : ℕ → Option Feature
+first_feature_of b =
+    if b == 47 then Some features.RegularExpressions
+    else if b == 60 || b == 62 then Some features.Comparisons
+    else None
+
+-- the feature that the first byte of what comes after a word asks for
+abbrev pub feature_after : List ℕ → Option Feature
+feature_after [] = None
+feature_after (b ∷ bs) = feature_of b
+
+-- the feature that the first byte of a word asks for
+abbrev pub feature_in_front : List ℕ → Option Feature
+feature_in_front [] = None
+feature_in_front (b ∷ bs) = first_feature_of b
+
+-- a lexeme at a byte, with what comes after it
 abbrev pub front_with : ℕ → Lexeme → List ℕ → Front
 front_with at lexeme rest = record { token = record { at = at; lexeme = lexeme }; rest = rest }
 
--- something else was wanted at a place; nothing is read after it
-abbrev pub broken_front : ℕ → Wanted → Front
-broken_front at wanted = front_with at (broken wanted) []
+-- an error at a byte; nothing is read after it
+abbrev pub broken_front : ℕ → ParseError → Front
+broken_front at error = front_with at (broken error) []
 
--- a word or a phrase
+-- what a text begins with, unless it asks for a feature at this byte
+abbrev pub unless_feature : Option Feature → ℕ → Front → Front
+unless_feature None at front = front
+unless_feature (Some feature) at front = broken_front at (Unsupported feature at)
+
+-- a word or a phrase, by its text in the query
 abbrev pub literal_with : Option (List ℕ) → List ℕ → Delimiter → Lexeme
-literal_with field phrase delimiter = literal (record { field_name = field; phrase = phrase; delimiter = delimiter })
+literal_with field phrase delimiter = literal (record { field_name = option_map unescaped field; phrase = unescaped phrase; delimiter = delimiter })
 
--- a phrase, by what stands from its end on: a quote, or nothing
+-- a phrase, by the text from its end on: a quote, or nothing
 abbrev pub ended_phrase : ℕ → ℕ → Option (List ℕ) → List ℕ → List ℕ → Front
-ended_phrase size at field phrase rest = if begins 34 rest then front_with at (literal_with field phrase delimiters.DoubleQuotes) (drop 1 rest) else broken_front size Quote
+ended_phrase size at field phrase rest = if begins 34 rest then front_with at (literal_with field phrase delimiters.DoubleQuotes) (drop 1 rest) else broken_front size (Syntax expected.Quote size)
 
--- a phrase, by what stands behind its first quote
+-- a phrase, by the text after its first quote
 abbrev pub phrase_front : ℕ → ℕ → Option (List ℕ) → List ℕ → Front
-phrase_front size at field text = ended_phrase size at field (take_while is_phrase_byte text) (behind is_phrase_byte text)
+phrase_front size at field text = ended_phrase size at field (before_stop stops.PhraseEnd text) (from_stop stops.PhraseEnd text)
 
--- what stands behind the name of a field and its colon: a phrase or a word
+-- a word after the name of a field, by the word and what comes after it
+abbrev pub value_word : ℕ → ℕ → List ℕ → List ℕ → List ℕ → Front
+value_word size at name word rest =
+    if is_empty word then broken_front (size - length rest) (Syntax expected.Value (size - length rest))
+    else front_with at (literal_with (Some name) word delimiters.None) rest
+
+-- what comes after the name of a field and its colon: a phrase or a word
 abbrev pub value_front : ℕ → ℕ → List ℕ → List ℕ → Front
 value_front size at name text =
     if begins 34 text then phrase_front size at (Some name) (drop 1 text)
-    else if is_empty (take_while is_query_word_byte text) then broken_front (size - length text) Value
-    else front_with at (literal_with (Some name) (take_while is_query_word_byte text) delimiters.None) (behind is_query_word_byte text)
+    else unless_feature (feature_in_front text) (size - length text)
+    (unless_feature (feature_after (from_stop stops.WordEnd text)) (size - length (from_stop stops.WordEnd text))
+    (value_word size at name (before_stop stops.WordEnd text) (from_stop stops.WordEnd text)))
 
--- what a word is by itself: one of the two that join others, or a word that is searched for
+-- what a word is by itself: an operator, or a word to search for
 abbrev pub word_lexeme : List ℕ → Lexeme
 word_lexeme word =
     if bytes_eq word (codes "AND") then and_word
     else if bytes_eq word (codes "OR") then or_word
+    else if bytes_eq word (codes "NOT") then minus
     else literal_with None word delimiters.None
 
--- a word, by what stands behind it: it is the name of a field where a colon does
-abbrev pub word_front : ℕ → ℕ → List ℕ → List ℕ → Front
-word_front size at word rest =
-    if is_empty word then broken_front at Operand
+-- a word, by what comes after it: it is the name of a field if that is a colon
+abbrev pub word_or_name : ℕ → ℕ → List ℕ → List ℕ → Front
+word_or_name size at word rest =
+    if is_empty word then broken_front at (Syntax expected.Operand at)
     else if begins 58 rest then value_front size at word (drop 1 rest)
     else front_with at (word_lexeme word) rest
 
--- the lexeme that begins a text
+-- a word in front
+abbrev pub word_front : ℕ → ℕ → List ℕ → Front
+word_front size at text =
+    unless_feature (feature_in_front text) at
+    (unless_feature (feature_after (from_stop stops.WordEnd text)) (size - length (from_stop stops.WordEnd text))
+    (word_or_name size at (before_stop stops.WordEnd text) (from_stop stops.WordEnd text)))
+
+-- the lexeme that begins a text at a byte
 abbrev pub front_at : ℕ → ℕ → List ℕ → Front
 front_at size at text =
     if begins 40 text then front_with at opening (drop 1 text)
     else if begins 41 text then front_with at closing (drop 1 text)
     else if begins 45 text then front_with at minus (drop 1 text)
+    else if begins 43 text then broken_front at (Unsupported features.RequiredClauses at)
     else if begins 34 text then phrase_front size at None (drop 1 text)
-    else word_front size at (take_while is_query_word_byte text) (behind is_query_word_byte text)
+    else word_front size at text
 
--- so it is for a text that is the end of one of so many bytes
+-- the same for the end of a text with this many bytes
 abbrev pub front : ℕ → List ℕ → Front
 front size text = front_at size (size - length text) text
 
--- no more lexemes are read: nothing may be left
-abbrev pub no_more : ℕ → List ℕ → List Token
-no_more size text = if is_empty text then [] else record { at = size - length text; lexeme = broken Shorter } ∷ []
-
--- the first lexeme, and those of the rest
+-- the first lexeme, and those of the text after it
 abbrev pub one_more : (List ℕ → List Token) → ℕ → List ℕ → List Token
 one_more others size text = if is_empty text then [] else (front size text).token ∷ others (front size text).rest
 
--- the lexemes of a text that is the end of one of so many bytes, and no more than so many
+-- the first lexemes of a text that is the end of one with this many bytes: at most this many of them
 unfoldable pub tokens : ℕ → ℕ → List ℕ → List Token
-tokens zero size text = no_more size (behind is_space text)
-tokens (suc n) size text = one_more (λ rest. tokens n size rest) size (behind is_space text)
+tokens zero size text = []
+tokens (suc n) size text = one_more (λ rest. tokens n size rest) size (after_spaces text)
 
--- what the program's word or phrase tells
+-- the lexemes of a text, of which each takes a byte at least
+abbrev pub lexemes : ℕ → List ℕ → List Token
+lexemes size text = tokens (length text) size text
+
+-- the literal that the program's word or phrase stands for
 abbrev pub literal_seen : LiteralView → Literal
-literal_seen l = record { field_name = option_copied l.field_name; phrase = l.phrase.now; delimiter = l.delimiter }
+literal_seen l = record { field_name = option_map unescaped (option_copied l.field_name); phrase = unescaped l.phrase.now; delimiter = l.delimiter }
 
--- what the program's lexeme tells
+-- the lexeme that the program's lexeme stands for
 abbrev pub lexeme_seen : SeenLexeme → Lexeme
 lexeme_seen (seen.Literal l) = literal (literal_seen l)
 lexeme_seen seen.Opening = opening
@@ -137,9 +221,9 @@ lexeme_seen seen.Closing = closing
 lexeme_seen seen.Minus = minus
 lexeme_seen seen.And = and_word
 lexeme_seen seen.Or = or_word
-lexeme_seen (seen.Broken wanted) = broken wanted
+lexeme_seen (seen.Broken error) = broken error
 
--- the program's lexeme at its place
+-- the program's lexeme at its byte
 abbrev pub token_seen : SeenToken → Token
 token_seen t = record { at = t.at; lexeme = lexeme_seen t.lexeme }
 

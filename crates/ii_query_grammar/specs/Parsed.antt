@@ -1,192 +1,242 @@
 -- How lexemes are read as a tree.
-use Rattle.std.specs.Prelude.{◌≡◌, ℕ, List, [], ◌∷◌, Option, None, Some, Result, Ok, Err, IfErr, length, map, option_map, reverse, ⊤}
+use Rattle.std.specs.Prelude.{◌≡◌, ℕ, List, [], ◌∷◌, ◌++◌, Option, None, Some, Result, Ok, Err, IfErr, if◌then◌else◌, length, map, nat_lt, reverse, ⊤, Vec}
+use Rattle.std.specs.declared.alloc.Global.{Global}
+use Rattle.ii_query_grammar.specs.declared.group.Chain.{Chain}
 use Rattle.ii_query_grammar.specs.declared.group.Group.{Group}
 use Rattle.ii_query_grammar.specs.declared.group.Place.{Place}
 use Rattle.ii_query_grammar.specs.declared.group.Place.TheVariants as places
+use Rattle.ii_query_grammar.specs.declared.parse_error.Expected.{Expected}
+use Rattle.ii_query_grammar.specs.declared.parse_error.Expected.TheVariants.{Closing, End, Excluded, Included, LessNesting, Operand, Query}
 use Rattle.ii_query_grammar.specs.declared.parse_error.ParseError.{ParseError}
-use Rattle.ii_query_grammar.specs.declared.parse_error.ParseError.TheVariants.{OutOfMemory, Syntax}
-use Rattle.ii_query_grammar.specs.declared.parse_error.Wanted.{Wanted}
-use Rattle.ii_query_grammar.specs.declared.parse_error.Wanted.TheVariants.{Closing, End, Included, Operand}
+use Rattle.ii_query_grammar.specs.declared.parse_error.ParseError.TheVariants.{OutOfMemory, Syntax, Unsupported}
 use Rattle.ii_query_grammar.specs.declared.user_input_ast.UserInputAst.{UserInputAst}
-use Rattle.ii_query_grammar.specs.Lexemes.{Lexeme, Token, and_word, broken, closing, literal, minus, opening, or_word, tokens}
-use Rattle.ii_query_grammar.specs.Trees.{Ast, ast_of, both, either, leaf, without}
+use Rattle.ii_query_grammar.specs.Lexemes.{Lexeme, Token, and_word, broken, closing, lexemes, literal, minus, opening, or_word}
+use Rattle.ii_query_grammar.specs.Trees.{Ast, all_of, any_of, ast_of, asts_from, leaf, without}
 
--- Where a group stands: at the beginning or behind an excluded part; behind a chain of parts that are joined by AND;
--- behind the AND, or the AND and the minus, that goes on with a chain; behind an OR; behind the minus of an excluded part.
+-- parts that AND joins: those that have to match, and those that must not
+pub record ChainState : Type 0 where
+  pub wanted : List Ast
+  pub excluded : List Ast
+
+-- The place in a group: at the beginning or after an excluded part; after a chain; after an AND, or an AND and a minus, that
+-- continues a chain; after an OR; after the minus of an excluded part.
 pub data PlaceState : Type 0 where
   begins : PlaceState
-  chained : Ast → PlaceState
-  behind_and : Ast → PlaceState
-  behind_and_minus : Ast → PlaceState
-  behind_or : PlaceState
-  behind_minus : PlaceState
+  chained : ChainState → PlaceState
+  after_and : ChainState → PlaceState
+  after_and_minus : ChainState → PlaceState
+  after_or : PlaceState
+  after_minus : PlaceState
 
--- A group: what its chains want before the one at hand, what it excludes, and where it stands.
+-- A group: the trees of its chains before the current one, its excluded parts, and the place in it.
 pub record GroupState : Type 0 where
-  pub wanted : Option Ast
-  pub excluded : Option Ast
+  pub wanted : List Ast
+  pub excluded : List Ast
   pub place : PlaceState
 
--- Something else was wanted at a byte.
-pub record SyntaxError : Type 0 where
-  pub wanted : Wanted
-  pub at : ℕ
-
--- a group in which nothing stands yet
+-- a group without a part
 abbrev pub empty : GroupState
-empty = record { wanted = None; excluded = None; place = begins }
+empty = record { wanted = []; excluded = []; place = begins }
 
--- what was wanted or excluded, or else this too
-abbrev pub joined_by_or : Option Ast → Ast → Ast
-joined_by_or None ast = ast
-joined_by_or (Some first) ast = either first ast
+-- the tree that matches what all trees match: a single one itself
+abbrev pub all_tree : List Ast → Ast
+all_tree [] = all_of (asts_from [])
+all_tree (t ∷ []) = t
+all_tree (t ∷ u ∷ ts) = all_of (asts_from (t ∷ u ∷ ts))
 
--- a group with one part more, by where it stands
-abbrev pub put_at : Option Ast → Option Ast → PlaceState → Ast → GroupState
-put_at wanted excluded begins ast = record { wanted = wanted; excluded = excluded; place = chained ast }
-put_at wanted excluded (chained chain) ast = record { wanted = Some (joined_by_or wanted chain); excluded = excluded; place = chained ast }
-put_at wanted excluded (behind_and chain) ast = record { wanted = wanted; excluded = excluded; place = chained (both chain ast) }
-put_at wanted excluded (behind_and_minus chain) ast = record { wanted = wanted; excluded = excluded; place = chained (without chain ast) }
-put_at wanted excluded behind_or ast = record { wanted = wanted; excluded = excluded; place = chained ast }
-put_at wanted excluded behind_minus ast = record { wanted = wanted; excluded = Some (joined_by_or excluded ast); place = begins }
+-- the tree that matches what one of the trees matches: a single one itself
+abbrev pub any_tree : List Ast → Ast
+any_tree [] = any_of (asts_from [])
+any_tree (t ∷ []) = t
+any_tree (t ∷ u ∷ ts) = any_of (asts_from (t ∷ u ∷ ts))
 
--- a group with one part more
+-- a tree without what the excluded ones match
+abbrev pub without_any : Ast → List Ast → Ast
+without_any t [] = t
+without_any t (e ∷ es) = without t (any_tree (e ∷ es))
+
+-- the tree of a chain
+abbrev pub chain_tree : ChainState → Ast
+chain_tree c = without_any (all_tree c.wanted) c.excluded
+
+-- a chain of one part
+abbrev pub chain_of : Ast → ChainState
+chain_of t = record { wanted = t ∷ []; excluded = [] }
+
+-- a chain with one more wanted part
+abbrev pub chain_and : ChainState → Ast → ChainState
+chain_and c t = record { wanted = c.wanted ++ t ∷ []; excluded = c.excluded }
+
+-- a chain with one more excluded part
+abbrev pub chain_and_not : ChainState → Ast → ChainState
+chain_and_not c t = record { wanted = c.wanted; excluded = c.excluded ++ t ∷ [] }
+
+-- the trees of chains with one more
+abbrev pub with_chain_tree : List Ast → ChainState → List Ast
+with_chain_tree ts c = ts ++ chain_tree c ∷ []
+
+-- a group with one more part, by the place in it
+abbrev pub put_at : List Ast → List Ast → PlaceState → Ast → GroupState
+put_at wanted excluded begins t = record { wanted = wanted; excluded = excluded; place = chained (chain_of t) }
+put_at wanted excluded (chained c) t = record { wanted = with_chain_tree wanted c; excluded = excluded; place = chained (chain_of t) }
+put_at wanted excluded (after_and c) t = record { wanted = wanted; excluded = excluded; place = chained (chain_and c t) }
+put_at wanted excluded (after_and_minus c) t = record { wanted = wanted; excluded = excluded; place = chained (chain_and_not c t) }
+put_at wanted excluded after_or t = record { wanted = wanted; excluded = excluded; place = chained (chain_of t) }
+put_at wanted excluded after_minus t = record { wanted = wanted; excluded = excluded ++ t ∷ []; place = begins }
+
+-- a group with one more part
 abbrev pub put : GroupState → Ast → GroupState
-put g ast = put_at g.wanted g.excluded g.place ast
+put g t = put_at g.wanted g.excluded g.place t
 
--- a group behind an AND, which stands behind a chain, by where it stood
-abbrev pub and_at : Option Ast → Option Ast → PlaceState → Option GroupState
+-- a group after an AND, which may only come after a chain
+abbrev pub and_at : List Ast → List Ast → PlaceState → Option GroupState
 and_at wanted excluded begins = None
-and_at wanted excluded (chained chain) = Some (record { wanted = wanted; excluded = excluded; place = behind_and chain })
-and_at wanted excluded (behind_and chain) = None
-and_at wanted excluded (behind_and_minus chain) = None
-and_at wanted excluded behind_or = None
-and_at wanted excluded behind_minus = None
+and_at wanted excluded (chained c) = Some (record { wanted = wanted; excluded = excluded; place = after_and c })
+and_at wanted excluded (after_and c) = None
+and_at wanted excluded (after_and_minus c) = None
+and_at wanted excluded after_or = None
+and_at wanted excluded after_minus = None
 
--- a group behind an AND, if one may stand there
+-- a group after an AND, if one may come here
 abbrev pub put_and : GroupState → Option GroupState
 put_and g = and_at g.wanted g.excluded g.place
 
--- a group behind an OR, which stands behind a chain, by where it stood
-abbrev pub or_at : Option Ast → Option Ast → PlaceState → Option GroupState
+-- a group after an OR, which may only come after a chain
+abbrev pub or_at : List Ast → List Ast → PlaceState → Option GroupState
 or_at wanted excluded begins = None
-or_at wanted excluded (chained chain) = Some (record { wanted = Some (joined_by_or wanted chain); excluded = excluded; place = behind_or })
-or_at wanted excluded (behind_and chain) = None
-or_at wanted excluded (behind_and_minus chain) = None
-or_at wanted excluded behind_or = None
-or_at wanted excluded behind_minus = None
+or_at wanted excluded (chained c) = Some (record { wanted = with_chain_tree wanted c; excluded = excluded; place = after_or })
+or_at wanted excluded (after_and c) = None
+or_at wanted excluded (after_and_minus c) = None
+or_at wanted excluded after_or = None
+or_at wanted excluded after_minus = None
 
--- a group behind an OR, if one may stand there
+-- a group after an OR, if one may come here
 abbrev pub put_or : GroupState → Option GroupState
 put_or g = or_at g.wanted g.excluded g.place
 
--- a group behind a minus, which stands where a part may, but for one behind OR, or behind an AND
-abbrev pub minus_at : Option Ast → Option Ast → PlaceState → Option GroupState
-minus_at wanted excluded begins = Some (record { wanted = wanted; excluded = excluded; place = behind_minus })
-minus_at wanted excluded (chained chain) = Some (record { wanted = Some (joined_by_or wanted chain); excluded = excluded; place = behind_minus })
-minus_at wanted excluded (behind_and chain) = Some (record { wanted = wanted; excluded = excluded; place = behind_and_minus chain })
-minus_at wanted excluded (behind_and_minus chain) = None
-minus_at wanted excluded behind_or = None
-minus_at wanted excluded behind_minus = None
+-- a group after a minus, which may come where a part may, but not after an OR, and after an AND
+abbrev pub minus_at : List Ast → List Ast → PlaceState → Option GroupState
+minus_at wanted excluded begins = Some (record { wanted = wanted; excluded = excluded; place = after_minus })
+minus_at wanted excluded (chained c) = Some (record { wanted = with_chain_tree wanted c; excluded = excluded; place = after_minus })
+minus_at wanted excluded (after_and c) = Some (record { wanted = wanted; excluded = excluded; place = after_and_minus c })
+minus_at wanted excluded (after_and_minus c) = None
+minus_at wanted excluded after_or = None
+minus_at wanted excluded after_minus = None
 
--- a group behind a minus, if one may stand there
+-- a group after a minus, if one may come here
 abbrev pub put_minus : GroupState → Option GroupState
 put_minus g = minus_at g.wanted g.excluded g.place
 
 -- what is wanted without what is excluded; something has to be wanted
-abbrev pub whole : Option Ast → Option Ast → Result Ast Wanted
-whole None excluded = Err Included
-whole (Some wanted) None = Ok wanted
-whole (Some wanted) (Some excluded) = Ok (without wanted excluded)
+abbrev pub whole : List Ast → List Ast → Result Ast Expected
+whole [] [] = Err Query
+whole [] (e ∷ es) = Err Included
+whole (t ∷ ts) excluded = Ok (without_any (any_tree (t ∷ ts)) excluded)
 
--- the tree of a group that ends, by where it stands
-abbrev pub whole_at : Option Ast → Option Ast → PlaceState → Result Ast Wanted
+-- the tree of a group that ends, by the place in it
+abbrev pub whole_at : List Ast → List Ast → PlaceState → Result Ast Expected
 whole_at wanted excluded begins = whole wanted excluded
-whole_at wanted excluded (chained chain) = whole (Some (joined_by_or wanted chain)) excluded
-whole_at wanted excluded (behind_and chain) = Err Operand
-whole_at wanted excluded (behind_and_minus chain) = Err Operand
-whole_at wanted excluded behind_or = Err Operand
-whole_at wanted excluded behind_minus = Err Operand
+whole_at wanted excluded (chained c) = whole (with_chain_tree wanted c) excluded
+whole_at wanted excluded (after_and c) = Err Operand
+whole_at wanted excluded (after_and_minus c) = Err Excluded
+whole_at wanted excluded after_or = Err Operand
+whole_at wanted excluded after_minus = Err Excluded
 
--- the tree of a group that ends, or what was wanted
-abbrev pub whole_of : GroupState → Result Ast Wanted
+-- the tree of a group that ends, or what is expected
+abbrev pub whole_of : GroupState → Result Ast Expected
 whole_of g = whole_at g.wanted g.excluded g.place
 
--- how reading goes on from open groups, the innermost first, and the one at hand
+-- how reading continues from open groups, the innermost first, and the current one
 abbrev pub Reading : Type 0
-Reading = List GroupState → GroupState → Result Ast SyntaxError
+Reading = List GroupState → GroupState → Result Ast ParseError
 
--- it goes on where the sign may stand
-abbrev pub read_sign : Reading → List GroupState → ℕ → Option GroupState → Result Ast SyntaxError
-read_sign others opened at None = Err (record { wanted = Operand; at = at })
+-- it continues if the sign may come here
+abbrev pub read_sign : Reading → List GroupState → ℕ → Option GroupState → Result Ast ParseError
+read_sign others opened at None = Err (Syntax Operand at)
 read_sign others opened at (Some group) = others opened group
 
--- it goes on with the group's tree in the one around it
-abbrev pub read_closing : Reading → List GroupState → ℕ → Result Ast Wanted → Result Ast SyntaxError
-read_closing others opened at (Err wanted) = Err (record { wanted = wanted; at = at })
-read_closing others [] at (Ok ast) = Err (record { wanted = End; at = at })
-read_closing others (group ∷ opened) at (Ok ast) = others opened (put group ast)
+-- it continues with an empty group if one more may be open
+abbrev pub read_opening : ℕ → Reading → List GroupState → GroupState → ℕ → Result Ast ParseError
+read_opening limit others opened group at = if nat_lt (length opened) limit then others (group ∷ opened) empty else Err (Syntax LessNesting at)
+
+-- it continues with the group's tree in the one around it
+abbrev pub read_closing : Reading → List GroupState → ℕ → Result Ast Expected → Result Ast ParseError
+read_closing others opened at (Err expected) = Err (Syntax expected at)
+read_closing others [] at (Ok t) = Err (Syntax End at)
+read_closing others (group ∷ opened) at (Ok t) = others opened (put group t)
 
 -- one lexeme, and the others
-abbrev pub read_one : Reading → List GroupState → GroupState → ℕ → Lexeme → Result Ast SyntaxError
-read_one others opened group at (literal l) = others opened (put group (leaf l))
-read_one others opened group at opening = others (group ∷ opened) empty
-read_one others opened group at closing = read_closing others opened at (whole_of group)
-read_one others opened group at minus = read_sign others opened at (put_minus group)
-read_one others opened group at and_word = read_sign others opened at (put_and group)
-read_one others opened group at or_word = read_sign others opened at (put_or group)
-read_one others opened group at (broken wanted) = Err (record { wanted = wanted; at = at })
+abbrev pub read_one : ℕ → Reading → List GroupState → GroupState → ℕ → Lexeme → Result Ast ParseError
+read_one limit others opened group at (literal l) = others opened (put group (leaf l))
+read_one limit others opened group at opening = read_opening limit others opened group at
+read_one limit others opened group at closing = read_closing others opened at (whole_of group)
+read_one limit others opened group at minus = read_sign others opened at (put_minus group)
+read_one limit others opened group at and_word = read_sign others opened at (put_and group)
+read_one limit others opened group at or_word = read_sign others opened at (put_or group)
+read_one limit others opened group at (broken error) = Err error
 
--- at the end of a text of so many bytes no group may be open
-abbrev pub read_end : ℕ → List GroupState → Result Ast Wanted → Result Ast SyntaxError
-read_end size opened (Err wanted) = Err (record { wanted = wanted; at = size })
-read_end size [] (Ok ast) = Ok ast
-read_end size (group ∷ opened) (Ok ast) = Err (record { wanted = Closing; at = size })
+-- at the end of a text of this many bytes no group may be open
+abbrev pub read_end : ℕ → List GroupState → Result Ast Expected → Result Ast ParseError
+read_end size opened (Err expected) = Err (Syntax expected size)
+read_end size [] (Ok t) = Ok t
+read_end size (group ∷ opened) (Ok t) = Err (Syntax Closing size)
 
--- the tree of the lexemes of a text of so many bytes, behind open groups and the one at hand
-abbrev pub read : ℕ → List GroupState → GroupState → List Token → Result Ast SyntaxError
-read size opened group [] = read_end size opened (whole_of group)
-read size opened group (t ∷ ts) = read_one (λ outer inner. read size outer inner ts) opened group t.at t.lexeme
+-- the tree of the lexemes of a text of this many bytes, after open groups and the current one
+abbrev pub read : ℕ → ℕ → List GroupState → GroupState → List Token → Result Ast ParseError
+read limit size opened group [] = read_end size opened (whole_of group)
+read limit size opened group (t ∷ ts) = read_one limit (λ outer inner. read limit size outer inner ts) opened group t.at t.lexeme
 
--- the tree of a text that has no more lexemes than so many
-abbrev pub parsed : ℕ → List ℕ → Result Ast SyntaxError
-parsed limit text = read (length text) [] empty (tokens limit (length text) text)
+-- the tree of a text, of whose parentheses at most this many may be open at once
+abbrev pub parsed : ℕ → List ℕ → Result Ast ParseError
+parsed limit text = read limit (length text) [] empty (lexemes (length text) text)
 
--- A text was read as it is to be, unless memory ran out.
-abbrev pub IsReadAs : Result UserInputAst ParseError → Result Ast SyntaxError → Type 0
+-- A text was read as it is to be, unless an allocation failed.
+abbrev pub IsReadAs : Result UserInputAst ParseError → Result Ast ParseError → Type 0
 IsReadAs (Ok ast) read = read ≡ Ok (ast_of ast)
-IsReadAs (Err (Syntax wanted at)) read = read ≡ Err (record { wanted = wanted; at = at })
+IsReadAs (Err (Syntax expected at)) read = read ≡ Err (Syntax expected at)
+IsReadAs (Err (Unsupported feature at)) read = read ≡ Err (Unsupported feature at)
 IsReadAs (Err OutOfMemory) read = ⊤
 
--- A call is refused for want of memory alone.
+-- A call fails only if an allocation does.
 abbrev pub OnlyMemoryRefuses : {A : Type 0} → Result A ParseError → Type 0
 OnlyMemoryRefuses result = IfErr result (λ e. e ≡ OutOfMemory)
 
--- what the program's place stands for
-abbrev pub place_of : Place → PlaceState
-place_of places.Begins = begins
-place_of (places.Chained chain) = chained (ast_of chain)
-place_of (places.BehindAnd chain) = behind_and (ast_of chain)
-place_of (places.BehindAndMinus chain) = behind_and_minus (ast_of chain)
-place_of places.BehindOr = behind_or
-place_of places.BehindMinus = behind_minus
+-- the chain that the program's chain stands for
+abbrev pub chain_state : Chain → ChainState
+chain_state c = record { wanted = map ast_of c.wanted.items; excluded = map ast_of c.excluded.items }
 
--- what the program's group stands for
+-- the place that the program's place stands for
+abbrev pub place_state : Place → PlaceState
+place_state places.Begins = begins
+place_state (places.Chained c) = chained (chain_state c)
+place_state (places.AfterAnd c) = after_and (chain_state c)
+place_state (places.AfterAndMinus c) = after_and_minus (chain_state c)
+place_state places.AfterOr = after_or
+place_state places.AfterMinus = after_minus
+
+-- the group that the program's group stands for
 abbrev pub group_of : Group → GroupState
-group_of g = record { wanted = option_map ast_of g.wanted; excluded = option_map ast_of g.excluded; place = place_of g.place }
+group_of g = record { wanted = map ast_of g.wanted.items; excluded = map ast_of g.excluded.items; place = place_state g.place }
 
 -- the program's list of open groups has the innermost last
 abbrev pub stack_of : List Group → List GroupState
 stack_of groups = reverse (map group_of groups)
 
--- Open groups and the one at hand went on over a lexeme, or it was refused.
-abbrev pub GoesOn : Result Group ParseError → List GroupState → (Reading → Result Ast SyntaxError) → Type 0
+-- Reading continued over a lexeme with open groups and a current one, or it failed.
+abbrev pub GoesOn : Result Group ParseError → List GroupState → (Reading → Result Ast ParseError) → Type 0
 GoesOn (Ok group) opened read_on = (others : Reading) → read_on others ≡ others opened (group_of group)
-GoesOn (Err (Syntax wanted at)) opened read_on = (others : Reading) → read_on others ≡ Err (record { wanted = wanted; at = at })
+GoesOn (Err (Syntax expected at)) opened read_on = (others : Reading) → read_on others ≡ Err (Syntax expected at)
+GoesOn (Err (Unsupported feature at)) opened read_on = (others : Reading) → read_on others ≡ Err (Unsupported feature at)
 GoesOn (Err OutOfMemory) opened read_on = ⊤
 
--- A group's tree, or what was wanted at a byte, unless memory ran out.
-abbrev pub IsWhole : ℕ → Result Ast Wanted → Result UserInputAst ParseError → Type 0
+-- A group's tree, or what is expected at a byte, unless an allocation failed.
+abbrev pub IsWhole : ℕ → Result Ast Expected → Result UserInputAst ParseError → Type 0
 IsWhole at whole (Ok ast) = whole ≡ Ok (ast_of ast)
-IsWhole at whole (Err (Syntax wanted place)) = (whole ≡ Err wanted) × (place ≡ at)
+IsWhole at whole (Err (Syntax expected place)) = (whole ≡ Err expected) × (place ≡ at)
+IsWhole at whole (Err (Unsupported feature place)) = ⊥
 IsWhole at whole (Err OutOfMemory) = ⊤
+
+-- A list has a single element, or it has none or several and stays as it is.
+abbrev pub IsSingle : List UserInputAst → Result UserInputAst (Vec UserInputAst Global) → Type 0
+IsSingle trees (Ok t) = trees ≡ t ∷ []
+IsSingle trees (Err others) = (others.items ≡ trees) × (length trees ≡ 1 → ⊥)

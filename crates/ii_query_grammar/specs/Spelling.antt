@@ -1,91 +1,130 @@
 -- Trees as texts.
-use Rattle.std.specs.Prelude.{ℕ, ◌+◌, Bool, ◌&&◌, not, ◌==◌, List, [], ◌∷◌, ◌++◌, Option, None, Some, bytes_eq, codes, length, nat_lt, slice_index}
-use Rattle.std.specs.List.{list_all}
+use Rattle.std.specs.Prelude.{ℕ, suc, ◌-◌, Bool, true, false, ◌&&◌, not, ◌==◌, List, [], ◌∷◌, ◌++◌, Option, None, Some, bytes_eq, codes, if◌then◌else◌, length, max, slice_index}
+use Rattle.ii_query_grammar.specs.declared.cut.Stop.{Stop}
+use Rattle.ii_query_grammar.specs.declared.cut.Stop.TheVariants as stops
 use Rattle.ii_query_grammar.specs.declared.user_input_ast.Delimiter.{Delimiter}
 use Rattle.ii_query_grammar.specs.declared.user_input_ast.Delimiter.TheVariants as delimiters
-use Rattle.ii_query_grammar.specs.Trees.{Ast, Literal, both, either, leaf, without}
-use Rattle.ii_query_grammar.specs.Lexemes.{is_phrase_byte, is_query_word_byte}
+use Rattle.ii_query_grammar.specs.Lexemes.{is_empty, stops_at}
+use Rattle.ii_query_grammar.specs.Trees.{Ast, Asts, Literal, all_of, and_asts, any_of, leaf, no_asts, without}
 
--- a phrase, in quotes where it stands in these
+-- a text with a backslash before each byte that has to be escaped, by whether a backslash comes before the text
+abbrev pub escaped : Stop → Bool → List ℕ → List ℕ
+escaped stop after [] = []
+escaped stop after (b ∷ bs) = if stops_at stop b after then 92 ∷ b ∷ escaped stop false bs else b ∷ escaped stop (b == 92) bs
+
+-- a text as a word: its first byte is escaped if it is special at all
+abbrev pub word_text : List ℕ → List ℕ
+word_text text = escaped stops.WordEscape true text
+
+-- a text between quotes
+abbrev pub quoted : List ℕ → List ℕ
+quoted text = 34 ∷ escaped stops.PhraseEscape false text ++ 34 ∷ []
+
+-- a phrase by its delimiter
 abbrev pub delimited : Delimiter → List ℕ → List ℕ
-delimited delimiters.None phrase = phrase
-delimited delimiters.DoubleQuotes phrase = 34 ∷ phrase ++ 34 ∷ []
+delimited delimiters.None phrase = word_text phrase
+delimited delimiters.DoubleQuotes phrase = quoted phrase
 
--- the text of a word or a phrase alone
+-- the text of a word or a phrase without the name of its field
 abbrev pub phrase_text : Literal → List ℕ
 phrase_text l = delimited l.delimiter l.phrase
 
 -- the name of a field and a colon, if there is one
 abbrev pub field_text : Option (List ℕ) → List ℕ
 field_text None = []
-field_text (Some name) = name ++ 58 ∷ []
+field_text (Some name) = word_text name ++ 58 ∷ []
 
--- the text of a word or a phrase, behind the name of its field
+-- the text of a word or a phrase, after the name of its field
 abbrev pub literal_text : Literal → List ℕ
 literal_text l = field_text l.field_name ++ phrase_text l
 
--- a text as that of a part: of a word or a phrase as it is, any other tree in parentheses
+-- a text as that of a part: that of a word or a phrase as it is, that of any other tree in parentheses
 abbrev pub text_as_part : Ast → List ℕ → List ℕ
 text_as_part (leaf l) text = text
-text_as_part (both first other) text = 40 ∷ text ++ 41 ∷ []
-text_as_part (either first other) text = 40 ∷ text ++ 41 ∷ []
+text_as_part (all_of ts) text = 40 ∷ text ++ 41 ∷ []
+text_as_part (any_of ts) text = 40 ∷ text ++ 41 ∷ []
 text_as_part (without first other) text = 40 ∷ text ++ 41 ∷ []
 
--- the text of a tree
-abbrev pub spelled : Ast → List ℕ
-spelled (leaf l) = literal_text l
-spelled (both first other) = text_as_part first (spelled first) ++ codes " AND " ++ text_as_part other (spelled other)
-spelled (either first other) = text_as_part first (spelled first) ++ codes " OR " ++ text_as_part other (spelled other)
-spelled (without first other) = text_as_part first (spelled first) ++ codes " AND -" ++ text_as_part other (spelled other)
+-- The text of a tree; of trees, each as a part, with a text before the first and one before each of the others.
+abbrev mutual
+  pub spelled : Ast → List ℕ
+  spelled (leaf l) = literal_text l
+  spelled (all_of ts) = parts_text [] (codes " AND ") ts
+  spelled (any_of ts) = parts_text [] (codes " OR ") ts
+  spelled (without first other) = text_as_part first (spelled first) ++ codes " AND -" ++ text_as_part other (spelled other)
+
+  pub parts_text : List ℕ → List ℕ → Asts → List ℕ
+  parts_text before between no_asts = []
+  parts_text before between (and_asts t ts) = before ++ text_as_part t (spelled t) ++ parts_text between between ts
 
 -- the text of a tree as a part
 abbrev pub part_text : Ast → List ℕ
 part_text t = text_as_part t (spelled t)
 
--- whether this is a word: bytes of words, one or more
-abbrev pub is_word : List ℕ → Bool
-is_word text = nat_lt 0 (length text) && list_all is_query_word_byte text
+-- whether a text can be written between quotes: it does not end with a backslash
+abbrev pub is_writable : List ℕ → Bool
+is_writable text = not (slice_index text (length text - 1) == 92)
 
--- whether this is a word that begins without a minus
-abbrev pub is_plain_word : List ℕ → Bool
-is_plain_word text = is_word text && not (slice_index text 0 == 45)
+-- whether a text can be written as a word: it is not empty either
+abbrev pub is_writable_word : List ℕ → Bool
+is_writable_word text = not (is_empty text) && is_writable text
 
--- whether a word is none of the two that join others
+-- whether a word is none of the operators
 abbrev pub is_no_operator : List ℕ → Bool
-is_no_operator text = not (bytes_eq text (codes "AND")) && not (bytes_eq text (codes "OR"))
+is_no_operator text = not (bytes_eq text (codes "AND")) && not (bytes_eq text (codes "OR")) && not (bytes_eq text (codes "NOT"))
 
--- whether a phrase can stand behind the name of a field
+-- whether a phrase can be written after the name of a field
 abbrev pub is_value : Delimiter → List ℕ → Bool
-is_value delimiters.None phrase = is_word phrase
-is_value delimiters.DoubleQuotes phrase = list_all is_phrase_byte phrase
+is_value delimiters.None phrase = is_writable_word phrase
+is_value delimiters.DoubleQuotes phrase = is_writable phrase
 
--- whether a phrase can stand alone
-abbrev pub may_stand_alone : Delimiter → List ℕ → Bool
-may_stand_alone delimiters.None phrase = is_plain_word phrase && is_no_operator phrase
-may_stand_alone delimiters.DoubleQuotes phrase = list_all is_phrase_byte phrase
+-- whether a phrase can be written alone
+abbrev pub may_be_alone : Delimiter → List ℕ → Bool
+may_be_alone delimiters.None phrase = is_writable_word phrase && is_no_operator phrase
+may_be_alone delimiters.DoubleQuotes phrase = is_writable phrase
 
 -- whether a word or a phrase can be written
 abbrev pub is_literal : Option (List ℕ) → Delimiter → List ℕ → Bool
-is_literal None delimiter phrase = may_stand_alone delimiter phrase
-is_literal (Some name) delimiter phrase = is_plain_word name && is_value delimiter phrase
+is_literal None delimiter phrase = may_be_alone delimiter phrase
+is_literal (Some name) delimiter phrase = is_writable_word name && is_value delimiter phrase
 
--- whether each word and phrase of a tree can be written
-abbrev pub has_spelling : Ast → Bool
-has_spelling (leaf l) = is_literal l.field_name l.delimiter l.phrase
-has_spelling (both first other) = has_spelling first && has_spelling other
-has_spelling (either first other) = has_spelling first && has_spelling other
-has_spelling (without first other) = has_spelling first && has_spelling other
+-- whether there are two trees or more
+abbrev pub are_several : Asts → Bool
+are_several no_asts = false
+are_several (and_asts t no_asts) = false
+are_several (and_asts t (and_asts u ts)) = true
 
--- how many parentheses a part takes
-abbrev pub num_parentheses : Ast → ℕ
-num_parentheses (leaf l) = 0
-num_parentheses (both first other) = 2
-num_parentheses (either first other) = 2
-num_parentheses (without first other) = 2
+-- whether each word and phrase of a tree can be written, and each list of parts has two or more
+abbrev mutual
+  pub has_spelling : Ast → Bool
+  has_spelling (leaf l) = is_literal l.field_name l.delimiter l.phrase
+  has_spelling (all_of ts) = are_several ts && have_spelling ts
+  has_spelling (any_of ts) = are_several ts && have_spelling ts
+  has_spelling (without first other) = has_spelling first && has_spelling other
 
--- how many words, phrases, signs and parentheses the text of a tree has
-abbrev pub num_lexemes : Ast → ℕ
-num_lexemes (leaf l) = 1
-num_lexemes (both first other) = num_parentheses first + num_lexemes first + 1 + num_parentheses other + num_lexemes other
-num_lexemes (either first other) = num_parentheses first + num_lexemes first + 1 + num_parentheses other + num_lexemes other
-num_lexemes (without first other) = num_parentheses first + num_lexemes first + 2 + num_parentheses other + num_lexemes other
+  pub have_spelling : Asts → Bool
+  have_spelling no_asts = true
+  have_spelling (and_asts t ts) = has_spelling t && have_spelling ts
+
+-- how many parentheses are open at once where a tree is a part
+abbrev pub nesting_as_part : Ast → ℕ → ℕ
+nesting_as_part (leaf l) n = 0
+nesting_as_part (all_of ts) n = suc n
+nesting_as_part (any_of ts) n = suc n
+nesting_as_part (without first other) n = suc n
+
+-- how many parentheses are open at once in the text of a tree
+abbrev mutual
+  pub nesting : Ast → ℕ
+  nesting (leaf l) = 0
+  nesting (all_of ts) = parts_nesting ts
+  nesting (any_of ts) = parts_nesting ts
+  nesting (without first other) = max (nesting_as_part first (nesting first)) (nesting_as_part other (nesting other))
+
+  pub parts_nesting : Asts → ℕ
+  parts_nesting no_asts = 0
+  parts_nesting (and_asts t ts) = max (nesting_as_part t (nesting t)) (parts_nesting ts)
+
+-- the same of a tree as a part
+abbrev pub part_nesting : Ast → ℕ
+part_nesting t = nesting_as_part t (nesting t)

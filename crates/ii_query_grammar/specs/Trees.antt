@@ -1,29 +1,45 @@
 -- Syntax trees of queries.
-use Rattle.std.specs.Prelude.{ℕ, List, Option, option_map, string_bytes}
+use Rattle.std.specs.Prelude.{ℕ, List, [], ◌∷◌, Option, option_map, string_bytes}
 use Rattle.ii_query_grammar.specs.declared.user_input_ast.Delimiter.{Delimiter}
-use Rattle.ii_query_grammar.specs.declared.user_input_ast.UserInputAst.{UserInputAst, Leaf, And', Or', AndNot'}
+use Rattle.ii_query_grammar.specs.declared.user_input_ast.UserInputAst.{UserInputAst, fold-UserInputAst}
+use Rattle.ii_query_grammar.specs.declared.user_input_ast.UserInputAst.TheOpen.{UserInputAst-F}
 use Rattle.ii_query_grammar.specs.declared.user_input_ast.UserInputLiteral.{UserInputLiteral}
 
--- a word or a phrase: the name of its field, if it has one, what it says, and what stands round it
+-- a word or a phrase: the name of its field, if it has one, its text, and its delimiter
 pub record Literal : Type 0 where
   pub field_name : Option (List ℕ)
   pub phrase : List ℕ
   pub delimiter : Delimiter
 
--- A tree: a word or a phrase; what both want; what either wants; what the first wants and the other doesn't.
-pub data Ast : Type 0 where
-  leaf : Literal → Ast
-  both : Ast → Ast → Ast
-  either : Ast → Ast → Ast
-  without : Ast → Ast → Ast
+-- A tree: a word or a phrase; what all of its parts match; what one of them matches; what the first part matches and the
+-- other one doesn't.
+mutual
+  pub data Ast : Type 0 where
+    leaf : Literal → Ast
+    all_of : Asts → Ast
+    any_of : Asts → Ast
+    without : Ast → Ast → Ast
 
--- what the program's record says
+  pub data Asts : Type 0 where
+    no_asts : Asts
+    and_asts : Ast → Asts → Asts
+
+-- the parts of a tree, from a list
+abbrev pub asts_from : List Ast → Asts
+asts_from [] = no_asts
+asts_from (t ∷ ts) = and_asts t (asts_from ts)
+
+-- the literal that the program's record holds
 abbrev pub literal_of : UserInputLiteral → Literal
 literal_of l = record { field_name = option_map (λ name. string_bytes name) l.field_name; phrase = string_bytes l.phrase; delimiter = l.delimiter }
 
+-- one level of the program's value, with the trees of its parts
+abbrev pub ast_step : UserInputAst-F Ast → Ast
+ast_step (UserInputAst-F.Leaf l) = leaf (literal_of l)
+ast_step (UserInputAst-F.And v) = all_of (asts_from v.items)
+ast_step (UserInputAst-F.Or v) = any_of (asts_from v.items)
+ast_step (UserInputAst-F.AndNot first other) = without first.value other.value
+
 -- the tree that the program's value is
 abbrev pub ast_of : UserInputAst → Ast
-ast_of (Leaf literal) = leaf (literal_of literal)
-ast_of (And' p first q other) = both (ast_of first) (ast_of other)
-ast_of (Or' p first q other) = either (ast_of first) (ast_of other)
-ast_of (AndNot' p first q other) = without (ast_of first) (ast_of other)
+ast_of = fold-UserInputAst Ast ast_step

@@ -1,33 +1,69 @@
-ghost use Rattle.std.specs.Prelude.{◌≡◌, ◌<◌, ◌≤◌, drop, false, true, length, take_while, IfSome, MatchOption};
-ghost use Rattle.ii_query_grammar.specs.Lexemes.{Strips, begins, behind, is_empty, is_phrase_byte, is_query_word_byte, is_space};
+ghost use Rattle.std.specs.Prelude.{◌≡◌, ◌<◌, ◌≤◌, ℕ, drop, take, false, true, length, take_while, IfSome, MatchOption};
+ghost use Rattle.ii_query_grammar.specs.Lexemes.{Strips, after_spaces, before_stop, begins, ends_word, from_stop, is_empty, is_space, is_special, place_of, stops_at};
 
-/// What comes after the spaces in front.
-pub(crate) fn behind_spaces(text: &str) -> &str
-    ensures rest { result.now ≡ behind is_space text.now }
+/// Which byte is looked for.
+#[derive(Clone, Copy)]
+pub(crate) enum Stop {
+    /// One that ends a word.
+    WordEnd,
+    /// The quote that ends a phrase.
+    PhraseEnd,
+    /// One that the backslash before it makes literal.
+    Escaped,
+    /// One that has to be escaped in a word.
+    WordEscape,
+    /// One that has to be escaped in a phrase.
+    PhraseEscape,
+}
+
+impl Stop {
+    // Whether a byte is the one, by whether a backslash comes before it.
+    fn is_at(self, byte: u8, escaped: bool) -> bool
+        ensures { result ≡ stops_at self byte escaped }
+    {
+        match self {
+            Stop::WordEnd => ends_word(byte) && !escaped,
+            Stop::PhraseEnd => byte == b'"' && !escaped,
+            Stop::Escaped => is_special(byte) && escaped,
+            Stop::WordEscape => is_special(byte) && (ends_word(byte) || escaped),
+            Stop::PhraseEscape => is_special(byte) && (byte == b'"' || escaped),
+        }
+    }
+
+    /// How many bytes come before the first such one, if there is one. `escaped` says whether a backslash comes
+    /// before the text.
+    pub(crate) fn place_in(self, text: &[u8], escaped: bool) -> usize
+        ensures { result ≡ place_of self escaped text.now }
+    {
+        let mut after_backslash = escaped;
+        for (place, byte) in text.iter().enumerate() {
+            if self.is_at(*byte, after_backslash) {
+                return place;
+            }
+            after_backslash = *byte == b'\\';
+        }
+        text.len()
+    }
+}
+
+/// The text after the spaces in front.
+pub(crate) fn after_spaces(text: &str) -> &str
+    ensures rest { result.now ≡ after_spaces text.now }
     ensures shorter { length result.now ≤ length text.now }
 {
     text.split_at(spaces_len(text.as_bytes())).1
 }
 
-/// The word in front, and what comes after it.
-pub(crate) fn cut_word(text: &str) -> (&str, &str)
-    ensures word { result.0.now ≡ take_while is_query_word_byte text.now }
-    ensures rest { result.1.now ≡ behind is_query_word_byte text.now }
+/// The word or the phrase in front, and the text after it.
+pub(crate) fn cut_at(text: &str, stop: Stop) -> (&str, &str)
+    ensures word { result.0.now ≡ before_stop stop text.now }
+    ensures rest { result.1.now ≡ from_stop stop text.now }
     ensures shorter { length result.1.now ≤ length text.now }
 {
-    text.split_at(word_len(text.as_bytes()))
+    text.split_at(stop.place_in(text.as_bytes(), false))
 }
 
-/// What comes before the first quote, and the text from there on.
-pub(crate) fn cut_phrase(text: &str) -> (&str, &str)
-    ensures phrase { result.0.now ≡ take_while is_phrase_byte text.now }
-    ensures rest { result.1.now ≡ behind is_phrase_byte text.now }
-    ensures shorter { length result.1.now ≤ length text.now }
-{
-    text.split_at(phrase_len(text.as_bytes()))
-}
-
-/// What comes after a byte that is a character of its own, if the text begins with it.
+/// The text after a byte that is a character, if the text begins with it.
 pub(crate) fn strip(text: &str, byte: u8) -> Option<&str>
     requires { byte < 128 }
     ensures cases { MatchOption result (begins byte text.now ≡ false) (Strips byte text.now) }
@@ -50,25 +86,11 @@ pub(crate) fn is_nothing(text: &str) -> bool
     text.is_empty()
 }
 
-// How many bytes of spaces stand in front.
+// How many bytes of spaces come first.
 fn spaces_len(text: &[u8]) -> usize
     ensures { result ≡ length (take_while is_space text.now) }
 {
     text.iter().take_while(|b| is_space(**b)).count()
-}
-
-// How many bytes the word in front has.
-fn word_len(text: &[u8]) -> usize
-    ensures { result ≡ length (take_while is_query_word_byte text.now) }
-{
-    text.iter().take_while(|b| is_query_word_byte(**b)).count()
-}
-
-// How many bytes stand before the first quote.
-fn phrase_len(text: &[u8]) -> usize
-    ensures { result ≡ length (take_while is_phrase_byte text.now) }
-{
-    text.iter().take_while(|b| is_phrase_byte(**b)).count()
 }
 
 fn is_space(byte: u8) -> bool
@@ -77,17 +99,18 @@ fn is_space(byte: u8) -> bool
     matches!(byte, b' ' | b'\t' | b'\n' | b'\r')
 }
 
-fn is_query_word_byte(byte: u8) -> bool
-    ensures { result ≡ is_query_word_byte byte }
+fn ends_word(byte: u8) -> bool
+    ensures { result ≡ ends_word byte }
 {
-    !matches!(
-        byte,
-        b' ' | b'\t' | b'\n' | b'\r' | b'"' | b'(' | b')' | b':'
-    )
+    is_space(byte)
+        || matches!(
+            byte,
+            b'"' | b'(' | b')' | b':' | b'*' | b'?' | b'~' | b'^' | b'[' | b'{'
+        )
 }
 
-fn is_phrase_byte(byte: u8) -> bool
-    ensures { result ≡ is_phrase_byte byte }
+fn is_special(byte: u8) -> bool
+    ensures { result ≡ is_special byte }
 {
-    byte != b'"'
+    ends_word(byte) || matches!(byte, b'-' | b'+' | b'/' | b'<' | b'>' | b']' | b'}')
 }

@@ -1,27 +1,34 @@
-ghost use Rattle.std.specs.Prelude.{◌≡◌, IfOk};
+ghost use Rattle.std.specs.Prelude.{◌≡◌, ◌++◌, ◌∷◌, [], IfOk, List, map};
 ghost use Rattle.std.specs.Option.{option_map};
-ghost use Rattle.ii_query_grammar.specs.Parsed.{IsWhole, OnlyMemoryRefuses, chained, empty, group_of, joined_by_or, put, put_and, put_minus, put_or, whole, whole_of};
+ghost use Rattle.ii_query_grammar.specs.Parsed.{ChainState, IsSingle, IsWhole, OnlyMemoryRefuses, all_tree, any_tree, chain_and, chain_and_not, chain_of, chain_state, chain_tree, chained, empty, group_of, put, put_and, put_minus, put_or, whole, whole_of, with_chain_tree, without_any};
 ghost use Rattle.ii_query_grammar.specs.Trees.{ast_of};
 
-use crate::parse_error::{ParseError, Wanted};
+use crate::parse_error::{Expected, ParseError};
 use crate::user_input_ast::UserInputAst;
 use std::alloc::Global;
 
-/// Where a group stands.
+/// Parts that AND joins: those that have to match, and those that must not.
+#[derive(Drop)]
+struct Chain {
+    wanted: Vec<UserInputAst>,
+    excluded: Vec<UserInputAst>,
+}
+
+/// The place in a group.
 #[derive(Drop)]
 enum Place {
     Begins,
-    Chained(UserInputAst),
-    BehindAnd(UserInputAst),
-    BehindAndMinus(UserInputAst),
-    BehindOr,
-    BehindMinus,
+    Chained(Chain),
+    AfterAnd(Chain),
+    AfterAndMinus(Chain),
+    AfterOr,
+    AfterMinus,
 }
 
-/// What was read of a query, or of a part of one in parentheses.
+/// The part of a query that was read, or of one in parentheses.
 pub(crate) struct Group {
-    wanted: Option<UserInputAst>,
-    excluded: Option<UserInputAst>,
+    wanted: Vec<UserInputAst>,
+    excluded: Vec<UserInputAst>,
     place: Place,
 }
 
@@ -36,19 +43,65 @@ impl Drop for Group {
     }
 }
 
+impl Chain {
+    // A chain of one part.
+    fn new(alloc: Global, ast: UserInputAst) -> Result<Chain, ParseError>
+        ensures chain { IfOk result (λ chain. chain_state chain ≡ chain_of (ast_of ast)) }
+        ensures only { OnlyMemoryRefuses result }
+    {
+        let mut wanted = Vec::new(alloc);
+        wanted.push(ast)?;
+        Ok(Chain {
+            wanted,
+            excluded: Vec::new(alloc),
+        })
+    }
+
+    // The chain with one more wanted part.
+    fn and(self, ast: UserInputAst) -> Result<Chain, ParseError>
+        ensures chain { IfOk result (λ chain. chain_state chain ≡ chain_and (chain_state self) (ast_of ast)) }
+        ensures only { OnlyMemoryRefuses result }
+    {
+        Ok(Chain {
+            wanted: pushed(self.wanted, ast)?,
+            excluded: self.excluded,
+        })
+    }
+
+    // The chain with one more excluded part.
+    fn and_not(self, ast: UserInputAst) -> Result<Chain, ParseError>
+        ensures chain { IfOk result (λ chain. chain_state chain ≡ chain_and_not (chain_state self) (ast_of ast)) }
+        ensures only { OnlyMemoryRefuses result }
+    {
+        Ok(Chain {
+            excluded: pushed(self.excluded, ast)?,
+            wanted: self.wanted,
+        })
+    }
+
+    // The tree of the chain.
+    fn into_tree(self, alloc: Global) -> Result<UserInputAst, ParseError>
+        ensures tree { IfOk result (λ ast. ast_of ast ≡ chain_tree (chain_state self)) }
+        ensures only { OnlyMemoryRefuses result }
+    {
+        let Chain { wanted, excluded } = self;
+        without_any(alloc, all_tree(wanted), excluded)
+    }
+}
+
 impl Group {
-    /// A group in which nothing stands yet.
-    pub(crate) fn new() -> Group
+    /// A group without a part.
+    pub(crate) fn new(alloc: Global) -> Group
         ensures { group_of result ≡ empty }
     {
         Group {
-            wanted: None,
-            excluded: None,
+            wanted: Vec::new(alloc),
+            excluded: Vec::new(alloc),
             place: Place::Begins,
         }
     }
 
-    /// The group with one part more. `OutOfMemory` where there is no room for two boxes.
+    /// The group with one more part. Fails only with `OutOfMemory`.
     pub(crate) fn put(self, alloc: Global, ast: UserInputAst) -> Result<Group, ParseError>
         ensures put { IfOk result (λ group. group_of group ≡ put (group_of self) (ast_of ast)) }
         ensures only { OnlyMemoryRefuses result }
@@ -59,38 +112,35 @@ impl Group {
             place,
         } = self;
         match place {
-            Place::Begins => Ok(Group::behind_part(wanted, excluded, ast)),
+            Place::Begins | Place::AfterOr => {
+                let chain = Chain::new(alloc, ast)?;
+                Ok(Group::chained(wanted, excluded, chain))
+            }
             Place::Chained(chain) => {
-                let wanted = joined_by_or(alloc, wanted, chain)?;
-                Ok(Group::behind_part(Some(wanted), excluded, ast))
+                let wanted = with_chain_tree(alloc, wanted, chain)?;
+                let chain = Chain::new(alloc, ast)?;
+                Ok(Group::chained(wanted, excluded, chain))
             }
-            Place::BehindAnd(chain) => {
-                let chain = UserInputAst::and(alloc, chain, ast)?;
-                Ok(Group::behind_part(wanted, excluded, chain))
-            }
-            Place::BehindAndMinus(chain) => {
-                let chain = UserInputAst::and_not(alloc, chain, ast)?;
-                Ok(Group::behind_part(wanted, excluded, chain))
-            }
-            Place::BehindOr => Ok(Group::behind_part(wanted, excluded, ast)),
-            Place::BehindMinus => {
-                let excluded = joined_by_or(alloc, excluded, ast)?;
+            Place::AfterAnd(chain) => Ok(Group::chained(wanted, excluded, chain.and(ast)?)),
+            Place::AfterAndMinus(chain) => Ok(Group::chained(
+                wanted,
+                excluded,
+                chain.and_not(ast)?,
+            )),
+            Place::AfterMinus => {
+                let excluded = pushed(excluded, ast)?;
                 Ok(Group {
                     wanted,
-                    excluded: Some(excluded),
+                    excluded,
                     place: Place::Begins,
                 })
             }
         }
     }
 
-    // A group behind a chain.
-    fn behind_part(
-        wanted: Option<UserInputAst>,
-        excluded: Option<UserInputAst>,
-        chain: UserInputAst,
-    ) -> Group
-        ensures { group_of result ≡ record { wanted = option_map ast_of wanted; excluded = option_map ast_of excluded; place = chained (ast_of chain) } }
+    // A group after a chain.
+    fn chained(wanted: Vec<UserInputAst>, excluded: Vec<UserInputAst>, chain: Chain) -> Group
+        ensures { group_of result ≡ record { wanted = map ast_of wanted.items; excluded = map ast_of excluded.items; place = chained (chain_state chain) } }
     {
         Group {
             wanted,
@@ -99,7 +149,7 @@ impl Group {
         }
     }
 
-    /// The group behind an AND, if one may stand there.
+    /// The group after an AND, if one may come here.
     pub(crate) fn put_and(self) -> Option<Group>
         ensures { option_map group_of result ≡ put_and (group_of self) }
     {
@@ -114,12 +164,12 @@ impl Group {
         Some(Group {
             wanted,
             excluded,
-            place: Place::BehindAnd(chain),
+            place: Place::AfterAnd(chain),
         })
     }
 
-    /// The group behind an OR, if one may stand there: `None` in the `Ok` where none may. `OutOfMemory`
-    /// where there is no room for two boxes.
+    /// The group after an OR, if one may come here: `None` in the `Ok` where none may. Fails only with
+    /// `OutOfMemory`.
     pub(crate) fn put_or(self, alloc: Global) -> Result<Option<Group>, ParseError>
         ensures put { IfOk result (λ group. option_map group_of group ≡ put_or (group_of self)) }
         ensures only { OnlyMemoryRefuses result }
@@ -132,16 +182,16 @@ impl Group {
         let Place::Chained(chain) = place else {
             return Ok(None);
         };
-        let wanted = joined_by_or(alloc, wanted, chain)?;
+        let wanted = with_chain_tree(alloc, wanted, chain)?;
         Ok(Some(Group {
-            wanted: Some(wanted),
+            wanted,
             excluded,
-            place: Place::BehindOr,
+            place: Place::AfterOr,
         }))
     }
 
-    /// The group behind a minus, if one may stand there: `None` in the `Ok` where none may. `OutOfMemory`
-    /// where there is no room for two boxes.
+    /// The group after a minus, if one may come here: `None` in the `Ok` where none may. Fails only with
+    /// `OutOfMemory`.
     pub(crate) fn put_minus(self, alloc: Global) -> Result<Option<Group>, ParseError>
         ensures put { IfOk result (λ group. option_map group_of group ≡ put_minus (group_of self)) }
         ensures only { OnlyMemoryRefuses result }
@@ -155,27 +205,26 @@ impl Group {
             Place::Begins => Ok(Some(Group {
                 wanted,
                 excluded,
-                place: Place::BehindMinus,
+                place: Place::AfterMinus,
             })),
             Place::Chained(chain) => {
-                let wanted = joined_by_or(alloc, wanted, chain)?;
+                let wanted = with_chain_tree(alloc, wanted, chain)?;
                 Ok(Some(Group {
-                    wanted: Some(wanted),
+                    wanted,
                     excluded,
-                    place: Place::BehindMinus,
+                    place: Place::AfterMinus,
                 }))
             }
-            Place::BehindAnd(chain) => Ok(Some(Group {
+            Place::AfterAnd(chain) => Ok(Some(Group {
                 wanted,
                 excluded,
-                place: Place::BehindAndMinus(chain),
+                place: Place::AfterAndMinus(chain),
             })),
-            Place::BehindAndMinus(_) | Place::BehindOr | Place::BehindMinus => Ok(None),
+            Place::AfterAndMinus(_) | Place::AfterOr | Place::AfterMinus => Ok(None),
         }
     }
 
-    /// The tree of the group, if it may end here; else what was wanted at `at`. `OutOfMemory` where there is
-    /// no room for four boxes.
+    /// The tree of the group, if it may end here; otherwise `Syntax` with what is expected at `at`.
     pub(crate) fn whole(self, alloc: Global, at: usize) -> Result<UserInputAst, ParseError>
         ensures { IsWhole at (whole_of (group_of self)) result }
     {
@@ -187,10 +236,13 @@ impl Group {
         match place {
             Place::Begins => whole(alloc, wanted, excluded, at),
             Place::Chained(chain) => {
-                let wanted = joined_by_or(alloc, wanted, chain)?;
-                whole(alloc, Some(wanted), excluded, at)
+                let wanted = with_chain_tree(alloc, wanted, chain)?;
+                whole(alloc, wanted, excluded, at)
             }
-            _ => Err(ParseError::Syntax(Wanted::Operand, at)),
+            Place::AfterAnd(_) | Place::AfterOr => Err(ParseError::Syntax(Expected::Operand, at)),
+            Place::AfterAndMinus(_) | Place::AfterMinus => {
+                Err(ParseError::Syntax(Expected::Excluded, at))
+            }
         }
     }
 }
@@ -198,32 +250,89 @@ impl Group {
 // What is wanted without what is excluded; something has to be wanted.
 fn whole(
     alloc: Global,
-    wanted: Option<UserInputAst>,
-    excluded: Option<UserInputAst>,
+    wanted: Vec<UserInputAst>,
+    excluded: Vec<UserInputAst>,
     at: usize,
 ) -> Result<UserInputAst, ParseError>
-    ensures { IsWhole at (whole (option_map ast_of wanted) (option_map ast_of excluded)) result }
+    ensures { IsWhole at (whole (map ast_of wanted.items) (map ast_of excluded.items)) result }
 {
-    let Some(wanted) = wanted else {
-        return Err(ParseError::Syntax(Wanted::Included, at));
-    };
-    match excluded {
-        None => Ok(wanted),
-        Some(excluded) => UserInputAst::and_not(alloc, wanted, excluded),
+    if !wanted.is_empty() {
+        return without_any(alloc, any_tree(wanted), excluded);
+    }
+    if excluded.is_empty() {
+        return Err(ParseError::Syntax(Expected::Query, at));
+    }
+    Err(ParseError::Syntax(Expected::Included, at))
+}
+
+// The tree that matches what all trees match: a single one itself.
+fn all_tree(trees: Vec<UserInputAst>) -> UserInputAst
+    ensures { ast_of result ≡ all_tree (map ast_of trees.items) }
+{
+    match single(trees) {
+        Ok(ast) => ast,
+        Err(trees) => UserInputAst::And(trees),
     }
 }
 
-// What was wanted or excluded, or else this too.
-fn joined_by_or(
+// The tree that matches what one of the trees matches: a single one itself.
+fn any_tree(trees: Vec<UserInputAst>) -> UserInputAst
+    ensures { ast_of result ≡ any_tree (map ast_of trees.items) }
+{
+    match single(trees) {
+        Ok(ast) => ast,
+        Err(trees) => UserInputAst::Or(trees),
+    }
+}
+
+// The only element of a list, or else the list.
+fn single(mut trees: Vec<UserInputAst>) -> Result<UserInputAst, Vec<UserInputAst>>
+    ensures { IsSingle trees.items result }
+{
+    if trees.len() != 1 {
+        return Err(trees);
+    }
+    match trees.pop() {
+        Some(ast) => Ok(ast),
+        None => Err(trees),
+    }
+}
+
+// A tree without what the excluded ones match. Fails only with `OutOfMemory`.
+fn without_any(
     alloc: Global,
-    first: Option<UserInputAst>,
     ast: UserInputAst,
+    excluded: Vec<UserInputAst>,
 ) -> Result<UserInputAst, ParseError>
-    ensures joined { IfOk result (λ all. ast_of all ≡ joined_by_or (option_map ast_of first) (ast_of ast)) }
+    ensures tree { IfOk result (λ both. ast_of both ≡ without_any (ast_of ast) (map ast_of excluded.items)) }
     ensures only { OnlyMemoryRefuses result }
 {
-    match first {
-        None => Ok(ast),
-        Some(first) => UserInputAst::or(alloc, first, ast),
+    if excluded.is_empty() {
+        return Ok(ast);
     }
+    let first = Box::new(alloc, ast)?;
+    let other = Box::new(alloc, any_tree(excluded))?;
+    Ok(UserInputAst::AndNot(first, other))
+}
+
+// The trees of chains with one more. Fails only with `OutOfMemory`.
+fn with_chain_tree(
+    alloc: Global,
+    trees: Vec<UserInputAst>,
+    chain: Chain,
+) -> Result<Vec<UserInputAst>, ParseError>
+    ensures trees { IfOk result (λ all. map ast_of all.items ≡ with_chain_tree (map ast_of trees.items) (chain_state chain)) }
+    ensures only { OnlyMemoryRefuses result }
+{
+    let ast = chain.into_tree(alloc)?;
+    pushed(trees, ast)
+}
+
+// A list with one more tree. Fails only with `OutOfMemory`.
+fn pushed(mut trees: Vec<UserInputAst>, ast: UserInputAst) -> Result<Vec<UserInputAst>, ParseError>
+    ensures pushed { IfOk result (λ all. map ast_of all.items ≡ map ast_of trees.items ++ ast_of ast ∷ []) }
+    ensures only { OnlyMemoryRefuses result }
+{
+    trees.push(ast)?;
+    Ok(trees)
 }

@@ -1,7 +1,7 @@
-use crate::parse_error::Wanted;
+use crate::parse_error::ParseError;
 use crate::user_input_ast::Delimiter;
 
-// A word or a phrase of a text.
+// A word or a phrase as the text writes it, with its escapes.
 #[derive(Clone, Copy)]
 pub(crate) struct LiteralView<'a> {
     pub(crate) field_name: Option<&'a str>,
@@ -9,7 +9,7 @@ pub(crate) struct LiteralView<'a> {
     pub(crate) delimiter: Delimiter,
 }
 
-// What a text is made of; a broken one tells what was wanted in its place.
+// What a text consists of; a broken one holds the error that is found in its place.
 #[derive(Clone, Copy)]
 pub(crate) enum Lexeme<'a> {
     Literal(LiteralView<'a>),
@@ -18,10 +18,10 @@ pub(crate) enum Lexeme<'a> {
     Minus,
     And,
     Or,
-    Broken(Wanted),
+    Broken(ParseError),
 }
 
-// A lexeme, and the byte at which it begins or was wanted.
+// A lexeme, and the byte at which it begins.
 #[derive(Clone, Copy)]
 pub(crate) struct Token<'a> {
     pub(crate) at: usize,

@@ -1,41 +1,40 @@
 ghost use Rattle.std.specs.Prelude.{◌≡◌, ◌∷◌, ◌<◌, ◌≤◌, [], length, drop, false, true, MatchOption};
 ghost use Rattle.std.specs.Option.{option_copied};
-ghost use Rattle.ii_query_grammar.specs.Lexemes.{IsFront, broken, front, literal_with, phrase_front, token_seen, tokens, value_front, word_front, word_lexeme, lexeme_seen, is_empty};
+ghost use Rattle.ii_query_grammar.specs.declared.parse_error.ParseError.TheVariants.{Syntax, Unsupported};
+ghost use Rattle.ii_query_grammar.specs.Lexemes.{IsFront, broken, feature_after, feature_in_front, feature_of, first_feature_of, front, front_at, lexeme_seen, lexemes, literal_with, phrase_front, token_seen, unless_feature, value_front, value_word, word_front, word_lexeme, word_or_name, is_empty};
 
-use crate::cut::{behind_spaces, cut_phrase, cut_word, is_nothing, strip};
+use crate::cut::{Stop, after_spaces, cut_at, is_nothing, strip};
 use crate::lexeme::{Lexeme, LiteralView, Token};
-use crate::parse_error::Wanted;
+use crate::parse_error::{Expected, Feature, ParseError};
 use crate::user_input_ast::Delimiter;
 use std::marker::Model;
 
-/// The words, phrases, signs and parentheses of a text, one after the other: how many bytes it had, how many
-/// of these it may still have, and what is left of it.
+/// The words, phrases, signs and parentheses of a text, one after the other: the number of its bytes, and
+/// the text that is left.
 #[derive(Drop)]
 pub(crate) struct Lexer<'a> {
     size: usize,
-    more: usize,
     rest: &'a str,
 }
 
 impl<'a> Model for Lexer<'a> {
     ghost use Rattle.std.specs.Prelude.{List, ◌≤◌, length};
-    ghost use Rattle.ii_query_grammar.specs.Lexemes.{Token as TokenState, tokens};
+    ghost use Rattle.ii_query_grammar.specs.Lexemes.{Token as TokenState, lexemes};
 
     ghost Value = { List TokenState };
 
-    ghost view = { λ l. tokens l.more l.size l.rest.now };
+    ghost view = { λ l. lexemes l.size l.rest.now };
 
     ghost invariant = { λ l. length l.rest.now ≤ l.size };
 }
 
 impl<'a> Lexer<'a> {
-    /// The lexemes of a text, and no more than so many.
-    pub(crate) fn new(text: &'a str, limit: usize) -> Lexer<'a>
-        ensures { result ≡ tokens limit (length text.now) text.now }
+    /// The lexemes of a text.
+    pub(crate) fn new(text: &'a str) -> Lexer<'a>
+        ensures { result ≡ lexemes (length text.now) text.now }
     {
         Lexer {
             size: text.len(),
-            more: limit,
             rest: text,
         }
     }
@@ -44,22 +43,17 @@ impl<'a> Lexer<'a> {
     pub(crate) fn next(&mut self) -> Option<Token<'a>>
         ensures { MatchOption result (self.old ≡ []) (λ token. self.old ≡ token_seen token ∷ self.new) }
     {
-        let text = behind_spaces(self.rest);
+        let text = after_spaces(self.rest);
         if is_nothing(text) {
             return None;
         }
-        if self.more == 0 {
-            self.rest = "";
-            return Some(broken(self.size - text.len(), Wanted::Shorter));
-        }
         let (token, rest) = front(self.size, text);
-        self.more -= 1;
         self.rest = rest;
         Some(token)
     }
 }
 
-// The lexeme that begins a text, the end of one of so many bytes, and what comes after it.
+// The lexeme that begins a text, the end of one with this many bytes, and the text after it.
 fn front(size: usize, text: &str) -> (Token<'_>, &str)
     requires { length text.now ≤ size }
     ensures front { IsFront (front size text.now) (token_seen result.0) result.1.now }
@@ -75,21 +69,39 @@ fn front(size: usize, text: &str) -> (Token<'_>, &str)
     if let Some(rest) = strip(text, b'-') {
         return (sign(at, Lexeme::Minus), rest);
     }
+    if strip(text, b'+').is_some() {
+        return (unsupported(at, Feature::RequiredClauses), "");
+    }
     if let Some(rest) = strip(text, b'"') {
         return phrase(size, at, None, rest);
     }
-    let (word, rest) = cut_word(text);
+    word(size, at, text)
+}
+
+// The lexeme of a word in front, and the text after it.
+fn word(size: usize, at: usize, text: &str) -> (Token<'_>, &str)
+    requires { length text.now ≤ size }
+    ensures front { IsFront (word_front size at text.now) (token_seen result.0) result.1.now }
+    ensures shorter { length result.1.now ≤ size }
+{
+    if let Some(feature) = feature_in_front(text.as_bytes()) {
+        return (unsupported(at, feature), "");
+    }
+    let (word, rest) = cut_at(text, Stop::WordEnd);
+    if let Some(feature) = feature_after(rest.as_bytes()) {
+        return (unsupported(size - rest.len(), feature), "");
+    }
     word_or_name(size, at, word, rest)
 }
 
-// A word, by what stands behind it: it is the name of a field where a colon does.
+// A word, by the text after it: it is the name of a field if that begins with a colon.
 fn word_or_name<'a>(size: usize, at: usize, word: &'a str, rest: &'a str) -> (Token<'a>, &'a str)
     requires { length rest.now ≤ size }
-    ensures front { IsFront (word_front size at word.now rest.now) (token_seen result.0) result.1.now }
+    ensures front { IsFront (word_or_name size at word.now rest.now) (token_seen result.0) result.1.now }
     ensures shorter { length result.1.now ≤ size }
 {
     if is_nothing(word) {
-        return (broken(at, Wanted::Operand), "");
+        return (syntax_error(at, Expected::Operand), "");
     }
     if let Some(text) = strip(rest, b':') {
         return value(size, at, word, text);
@@ -97,7 +109,7 @@ fn word_or_name<'a>(size: usize, at: usize, word: &'a str, rest: &'a str) -> (To
     (sign(at, word_lexeme(word)), rest)
 }
 
-// What stands behind the name of a field and its colon: a phrase or a word.
+// The text after the name of a field and its colon: a phrase or a word.
 fn value<'a>(size: usize, at: usize, name: &'a str, text: &'a str) -> (Token<'a>, &'a str)
     requires { length text.now ≤ size }
     ensures front { IsFront (value_front size at name.now text.now) (token_seen result.0) result.1.now }
@@ -106,14 +118,35 @@ fn value<'a>(size: usize, at: usize, name: &'a str, text: &'a str) -> (Token<'a>
     if let Some(rest) = strip(text, b'"') {
         return phrase(size, at, Some(name), rest);
     }
-    let (word, rest) = cut_word(text);
+    if let Some(feature) = feature_in_front(text.as_bytes()) {
+        return (unsupported(size - text.len(), feature), "");
+    }
+    let (word, rest) = cut_at(text, Stop::WordEnd);
+    if let Some(feature) = feature_after(rest.as_bytes()) {
+        return (unsupported(size - rest.len(), feature), "");
+    }
+    value_word(size, at, name, word, rest)
+}
+
+// A word after the name of a field.
+fn value_word<'a>(
+    size: usize,
+    at: usize,
+    name: &'a str,
+    word: &'a str,
+    rest: &'a str,
+) -> (Token<'a>, &'a str)
+    requires { length rest.now ≤ size }
+    ensures front { IsFront (value_word size at name.now word.now rest.now) (token_seen result.0) result.1.now }
+    ensures shorter { length result.1.now ≤ size }
+{
     if is_nothing(word) {
-        return (broken(size - text.len(), Wanted::Value), "");
+        return (syntax_error(size - rest.len(), Expected::Value), "");
     }
     (literal(at, Some(name), word, Delimiter::None), rest)
 }
 
-// A phrase, by what stands behind its first quote.
+// A phrase, by the text after its first quote.
 fn phrase<'a>(
     size: usize,
     at: usize,
@@ -124,17 +157,17 @@ fn phrase<'a>(
     ensures front { IsFront (phrase_front size at (option_copied field_name.entry) text.now) (token_seen result.0) result.1.now }
     ensures shorter { length result.1.now ≤ size }
 {
-    let (phrase, rest) = cut_phrase(text);
+    let (phrase, rest) = cut_at(text, Stop::PhraseEnd);
     if let Some(rest) = strip(rest, b'"') {
         return (
             literal(at, field_name, phrase, Delimiter::DoubleQuotes),
             rest,
         );
     }
-    (broken(size, Wanted::Quote), "")
+    (syntax_error(size, Expected::Quote), "")
 }
 
-// What a word is by itself: one of the two that join others, or a word that is searched for.
+// What a word is by itself: an operator, or a word to search for.
 fn word_lexeme(word: &str) -> Lexeme<'_>
     ensures { lexeme_seen result ≡ word_lexeme word.now }
 {
@@ -144,6 +177,9 @@ fn word_lexeme(word: &str) -> Lexeme<'_>
     if word == "OR" {
         return Lexeme::Or;
     }
+    if word == "NOT" {
+        return Lexeme::Minus;
+    }
     Lexeme::Literal(LiteralView {
         field_name: None,
         phrase: word,
@@ -151,7 +187,43 @@ fn word_lexeme(word: &str) -> Lexeme<'_>
     })
 }
 
-// A word or a phrase at a place.
+// The feature that the first byte of a word asks for.
+fn feature_in_front(text: &[u8]) -> Option<Feature>
+    ensures { result ≡ feature_in_front text.now }
+{
+    first_feature_of(*text.first()?)
+}
+
+// The feature that the first byte after a word asks for.
+fn feature_after(text: &[u8]) -> Option<Feature>
+    ensures { result ≡ feature_after text.now }
+{
+    feature_of(*text.first()?)
+}
+
+fn first_feature_of(byte: u8) -> Option<Feature>
+    ensures { result ≡ first_feature_of byte }
+{
+    match byte {
+        b'/' => Some(Feature::RegularExpressions),
+        b'<' | b'>' => Some(Feature::Comparisons),
+        _ => None,
+    }
+}
+
+fn feature_of(byte: u8) -> Option<Feature>
+    ensures { result ≡ feature_of byte }
+{
+    match byte {
+        b'*' | b'?' => Some(Feature::Wildcards),
+        b'~' => Some(Feature::Fuzzy),
+        b'^' => Some(Feature::Boosts),
+        b'[' | b'{' => Some(Feature::Ranges),
+        _ => None,
+    }
+}
+
+// A word or a phrase at a byte.
 fn literal<'a>(
     at: usize,
     field_name: Option<&'a str>,
@@ -168,17 +240,25 @@ fn literal<'a>(
     Token { at, lexeme }
 }
 
-// Another lexeme at a place.
+// Another lexeme at a byte.
 fn sign<'a>(at: usize, lexeme: Lexeme<'a>) -> Token<'a>
     ensures { token_seen result ≡ record { at = at; lexeme = lexeme_seen lexeme.entry } }
 {
     Token { at, lexeme }
 }
 
-// Something else was wanted at a place.
-fn broken<'a>(at: usize, wanted: Wanted) -> Token<'a>
-    ensures { token_seen result ≡ record { at = at; lexeme = broken wanted } }
+// The grammar expects something else at a byte.
+fn syntax_error<'a>(at: usize, expected: Expected) -> Token<'a>
+    ensures { token_seen result ≡ record { at = at; lexeme = broken (Syntax expected at) } }
 {
-    let lexeme = Lexeme::Broken(wanted);
+    let lexeme = Lexeme::Broken(ParseError::Syntax(expected, at));
+    Token { at, lexeme }
+}
+
+// A feature that is not supported is asked for at a byte.
+fn unsupported<'a>(at: usize, feature: Feature) -> Token<'a>
+    ensures { token_seen result ≡ record { at = at; lexeme = broken (Unsupported feature at) } }
+{
+    let lexeme = Lexeme::Broken(ParseError::Unsupported(feature, at));
     Token { at, lexeme }
 }

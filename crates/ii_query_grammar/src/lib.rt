@@ -2,6 +2,7 @@
 #![tactic(auto)]
 
 mod cut;
+mod escapes;
 mod group;
 pub mod laws;
 mod lexeme;
@@ -10,6 +11,7 @@ pub mod parse_error;
 pub mod query_grammar;
 pub mod user_input_ast;
 
-pub use parse_error::{ParseError, Wanted};
-pub use query_grammar::{MAX_LEXEMES, parse};
+pub use escapes::{can_name, spell_name};
+pub use parse_error::{Expected, Feature, ParseError};
+pub use query_grammar::{MAX_NESTING, parse};
 pub use user_input_ast::{Delimiter, UserInputAst, UserInputLiteral};

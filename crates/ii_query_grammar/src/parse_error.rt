@@ -2,54 +2,121 @@ use std::alloc::{AllocError, AllocFailed};
 use std::fmt;
 use thiserror::Error;
 
-/// What was wanted where the text of a query goes wrong.
+/// What the grammar expects at the byte where a query goes wrong.
 #[derive(Clone, Copy, Debug, PartialEq, Eq)]
-pub enum Wanted {
-    /// A word, a phrase or a parenthesis that opens.
-    Operand,
-    /// A word, a phrase or a parenthesis without a minus: a query of excluded ones alone matches nothing.
+pub enum Expected {
+    /// Something to search for: the query, or one in parentheses, is empty.
+    Query,
+    /// A part that is not excluded: a query of excluded parts alone matches nothing.
     Included,
-    /// A word or a phrase behind the name of a field and its colon.
+    /// A word, a phrase or an opening parenthesis.
+    Operand,
+    /// The part to exclude, after a minus or `NOT`.
+    Excluded,
+    /// A word or a phrase, after the name of a field and a colon.
     Value,
     /// The quote that ends a phrase.
     Quote,
     /// The parenthesis that closes an open one.
     Closing,
-    /// The end of the text, in place of a parenthesis that closes none.
+    /// The end of the query, in place of a parenthesis that closes none.
     End,
-    /// The end of the text, since a query has no more words, phrases, signs and parentheses than
-    /// `MAX_LEXEMES`.
-    Shorter,
+    /// A part without parentheses: `MAX_NESTING` of them are open.
+    LessNesting,
 }
 
-impl Wanted {
-    // What it is called.
-    fn name(self) -> &'static str {
+impl Expected {
+    // The message, without its place.
+    fn message(self) -> &'static str {
         match self {
-            Wanted::Operand => "a word, a phrase or an opening parenthesis",
-            Wanted::Included => "something that is not excluded",
-            Wanted::Value => "a word or a phrase behind the colon",
-            Wanted::Quote => "a closing quote",
-            Wanted::Closing => "a closing parenthesis",
-            Wanted::End => "the end of the query",
-            Wanted::Shorter => "a shorter query",
+            Expected::Query => "the query is empty: write a word to search for",
+            Expected::Included => {
+                "something must be searched for that is not excluded: add a word without a minus"
+            }
+            Expected::Operand => "expected a word, a phrase or an opening parenthesis",
+            Expected::Excluded => {
+                "expected a word, a phrase or an opening parenthesis to exclude; put NOT or the minus in quotes to search for it"
+            }
+            Expected::Value => "expected a word or a phrase after the colon",
+            Expected::Quote => "expected a closing quote",
+            Expected::Closing => "expected a closing parenthesis",
+            Expected::End => "expected the end of the query: this parenthesis closes none",
+            Expected::LessNesting => "expected at most 128 open parentheses",
         }
     }
 }
 
-impl fmt::Display for Wanted {
+impl fmt::Display for Expected {
     fn fmt<W: fmt::Write>(&self, f: &mut fmt::Formatter<W>) -> fmt::Result {
-        f.write_str(self.name())
+        f.write_str(self.message())
     }
 }
 
-/// Why a text wasn't read as a query.
+/// A feature of other query languages that this one does not support.
+#[derive(Clone, Copy, Debug, PartialEq, Eq)]
+pub enum Feature {
+    /// `se*`, `s?a`.
+    Wildcards,
+    /// `sea~1`, and `"a b"~2` for a phrase with slop.
+    Fuzzy,
+    /// `sea^2`.
+    Boosts,
+    /// `[a TO b]`, `{a TO b}`.
+    Ranges,
+    /// `>7`, `<=7`.
+    Comparisons,
+    /// `/se.*/`.
+    RegularExpressions,
+    /// `+sea`.
+    RequiredClauses,
+}
+
+impl Feature {
+    // The message, without its place.
+    fn message(self) -> &'static str {
+        match self {
+            Feature::Wildcards => {
+                "prefixes and wildcards (se*, s?a) are not supported; put the word in quotes to search for it as it is"
+            }
+            Feature::Fuzzy => {
+                "fuzzy words and phrases with slop (sea~1, \"new york\"~2) are not supported; put the word in quotes to search for it as it is"
+            }
+            Feature::Boosts => {
+                "boosts (sea^2) are not supported; put the word in quotes to search for it as it is"
+            }
+            Feature::Ranges => {
+                "ranges ([a TO b], {a TO b}) are not supported; put the word in quotes to search for it as it is"
+            }
+            Feature::Comparisons => {
+                "comparisons (>7, <=7) are not supported; put the word in quotes to search for it as it is"
+            }
+            Feature::RegularExpressions => {
+                "regular expressions (/se.*/) are not supported; put the word in quotes to search for it as it is"
+            }
+            Feature::RequiredClauses => {
+                "required clauses (+sea) are not supported; join the words that must all match with AND"
+            }
+        }
+    }
+}
+
+impl fmt::Display for Feature {
+    fn fmt<W: fmt::Write>(&self, f: &mut fmt::Formatter<W>) -> fmt::Result {
+        f.write_str(self.message())
+    }
+}
+
+/// Why a text was not read as a query.
 #[derive(Clone, Copy, Debug, PartialEq, Eq, Error)]
 pub enum ParseError {
-    /// This was wanted at this byte of the text, which is its length where the text ends too early.
-    #[error("{0} was wanted at byte {1}")]
-    Syntax(Wanted, usize),
-    /// A growth found no memory.
+    /// The grammar expects something else at this byte, which is the text's length where the text ends too
+    /// early.
+    #[error("at byte {1}: {0}")]
+    Syntax(Expected, usize),
+    /// The text asks at this byte for a feature that is not supported.
+    #[error("at byte {1}: {0}")]
+    Unsupported(Feature, usize),
+    /// An allocation failed.
     #[error("out of memory")]
     OutOfMemory,
 }

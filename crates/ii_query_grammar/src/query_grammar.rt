@@ -1,38 +1,46 @@
 ghost use Rattle.std.specs.Prelude.{◌≡◌, ◌∷◌, IfOk, List, Option, string_bytes};
 ghost use Rattle.std.specs.Option.{option_copied, option_map};
-ghost use Rattle.ii_query_grammar.specs.Lexemes.{literal_seen, token_seen};
-ghost use Rattle.ii_query_grammar.specs.Parsed.{GoesOn, GroupState, IsReadAs, OnlyMemoryRefuses, empty, group_of, parsed, put, read_closing, read_end, read_one, read_sign, stack_of, whole_of};
+ghost use Rattle.ii_query_grammar.specs.Lexemes.{literal_seen, token_seen, unescaped};
+ghost use Rattle.ii_query_grammar.specs.Parsed.{GoesOn, GroupState, IsReadAs, OnlyMemoryRefuses, empty, group_of, parsed, put, read_closing, read_end, read_one, read_opening, read_sign, stack_of, whole_of};
 ghost use Rattle.ii_query_grammar.specs.Trees.{ast_of, leaf};
 
+use crate::escapes::unescape;
 use crate::group::Group;
 use crate::lexeme::{Lexeme, LiteralView, Token};
 use crate::lexer::Lexer;
-use crate::parse_error::{ParseError, Wanted};
+use crate::parse_error::{Expected, ParseError};
 use crate::user_input_ast::{UserInputAst, UserInputLiteral};
 use std::alloc::Global;
 
-/// How many words, phrases, signs and parentheses the text of a query may have. So no more parts of a tree
-/// stand in one another than these, and no more parentheses are open.
-pub const MAX_LEXEMES: usize = 128;
+/// How many parentheses of a query may be open at once. Nothing else bounds a query: a chain or a row of any
+/// number of words is one list, so the depth of a tree, and of each recursion over it, depends on the
+/// parentheses alone.
+pub const MAX_NESTING: usize = 128;
 
-/// The tree that a text is by the grammar:
+/// Returns the tree of a text by the grammar:
 ///
-/// - A word is a run of characters other than spaces, double quotes, parentheses and colons, and begins
-///   without a minus. A phrase stands between double quotes. Before each of both may stand the name of a
-///   field, a word too, and a colon; the word behind it may begin with a minus.
-/// - A part is one of these, or a query in parentheses.
-/// - `a AND b` wants both, and `a AND -b` the first without the other.
-/// - `a OR b` and `a b` want one of the two; AND binds tighter.
-/// - `-b` beside other parts excludes it from all that they want. Something has to be wanted.
+/// - A word is a run of characters without spaces, double quotes, parentheses and colons. A phrase is a text
+///   between double quotes. The name of a field, a word too, and a colon may come before each of them.
+/// - A part is a word, a phrase, or a query in parentheses, of which at most `MAX_NESTING` may be open at
+///   once.
+/// - `a AND b` matches what both match, and `a AND -b` what the first matches and the other doesn't.
+/// - `a OR b` and `a b` match what one of the two matches; AND binds tighter.
+/// - `-b` next to other parts excludes `b` from all that they match. Something has to be wanted.
+/// - `NOT b` is `-b`; the words `AND`, `OR` and `NOT` are searched for in quotes.
+/// - In a word and between quotes, a backslash makes a space, `"`, `(`, `)`, `:`, `*`, `?`, `~`, `^`, `[`, `]`,
+///   `{`, `}`, `-`, `+`, `/`, `<` or `>` after it literal, and is left out. Any other backslash is part of the
+///   text.
+/// - `Unsupported` at a `*`, `?`, `~`, `^`, `[` or `{` in a word, a `/`, `<` or `>` at its beginning, and a `+`
+///   at the beginning of a part.
 ///
-/// `Syntax` by what was wanted where the text first goes wrong, `OutOfMemory` where there is no room for
-/// the tree.
+/// Returns `Syntax` with what the grammar expects, or `Unsupported`, at the first byte where the text goes
+/// wrong, and `OutOfMemory` if an allocation fails.
 pub fn parse(alloc: Global, text: &str) -> Result<UserInputAst, ParseError>
-    ensures { IsReadAs result (parsed MAX_LEXEMES text.now) }
+    ensures { IsReadAs result (parsed MAX_NESTING text.now) }
 {
-    let mut lexer = Lexer::new(text, MAX_LEXEMES);
+    let mut lexer = Lexer::new(text);
     let mut opened = Vec::new(alloc);
-    let mut group = Group::new();
+    let mut group = Group::new(alloc);
     while let Some(token) = lexer.next() {
         group = match read_one(alloc, &mut opened, group, token) {
             Ok(group) => group,
@@ -42,28 +50,28 @@ pub fn parse(alloc: Global, text: &str) -> Result<UserInputAst, ParseError>
     read_end(alloc, &opened, group, text.len())
 }
 
-// The group at hand after one lexeme more, with the groups that are open.
+// The current group after one more lexeme, with the groups that are open.
 fn read_one(
     alloc: Global,
     opened: &mut Vec<Group>,
     group: Group,
     token: Token<'_>,
 ) -> Result<Group, ParseError>
-    ensures { GoesOn result (stack_of opened.new.items) (λ others. read_one others (stack_of opened.old.items) (group_of group) token.entry.at (token_seen token.entry).lexeme) }
+    ensures { GoesOn result (stack_of opened.new.items) (λ others. read_one MAX_NESTING others (stack_of opened.old.items) (group_of group) token.entry.at (token_seen token.entry).lexeme) }
 {
     let at = token.at;
     match token.lexeme {
         Lexeme::Literal(literal) => put_leaf(alloc, group, literal),
-        Lexeme::Opening => open(opened, group),
+        Lexeme::Opening => open(alloc, opened, group, at),
         Lexeme::Closing => close(alloc, opened, group, at),
-        Lexeme::Minus => behind_sign(group.put_minus(alloc), at),
-        Lexeme::And => behind_sign(Ok(group.put_and()), at),
-        Lexeme::Or => behind_sign(group.put_or(alloc), at),
-        Lexeme::Broken(wanted) => Err(ParseError::Syntax(wanted, at)),
+        Lexeme::Minus => after_sign(group.put_minus(alloc), at),
+        Lexeme::And => after_sign(Ok(group.put_and()), at),
+        Lexeme::Or => after_sign(group.put_or(alloc), at),
+        Lexeme::Broken(error) => Err(error),
     }
 }
 
-// A group with a word or a phrase more. `OutOfMemory` where there is no room for it.
+// A group with one more word or phrase. Fails only with `OutOfMemory`.
 fn put_leaf(alloc: Global, group: Group, literal: LiteralView<'_>) -> Result<Group, ParseError>
     ensures put { IfOk result (λ g. group_of g ≡ put (group_of group) (leaf (literal_seen literal.entry))) }
     ensures only { OnlyMemoryRefuses result }
@@ -72,12 +80,20 @@ fn put_leaf(alloc: Global, group: Group, literal: LiteralView<'_>) -> Result<Gro
     group.put(alloc, ast)
 }
 
-// A group within the one at hand.
-fn open(opened: &mut Vec<Group>, group: Group) -> Result<Group, ParseError>
-    ensures { GoesOn result (stack_of opened.new.items) (λ others. others (group_of group ∷ stack_of opened.old.items) empty) }
+// A group within the current one, if one more may be open.
+fn open(
+    alloc: Global,
+    opened: &mut Vec<Group>,
+    group: Group,
+    at: usize,
+) -> Result<Group, ParseError>
+    ensures { GoesOn result (stack_of opened.new.items) (λ others. read_opening MAX_NESTING others (stack_of opened.old.items) (group_of group) at) }
 {
+    if opened.len() >= MAX_NESTING {
+        return Err(ParseError::Syntax(Expected::LessNesting, at));
+    }
     opened.push(group)?;
-    Ok(Group::new())
+    Ok(Group::new(alloc))
 }
 
 // The group around one that is closed.
@@ -95,29 +111,29 @@ fn close(
     };
     match opened.pop() {
         Some(outer) => outer.put(alloc, ast),
-        None => Err(ParseError::Syntax(Wanted::End, at)),
+        None => Err(ParseError::Syntax(Expected::End, at)),
     }
 }
 
-// A group behind a sign, if it may stand there.
-fn behind_sign(group: Result<Option<Group>, ParseError>, at: usize) -> Result<Group, ParseError>
-    ensures { (opened : List GroupState) (behind : Option GroupState) → IfOk group (λ g. option_map group_of g ≡ behind) → OnlyMemoryRefuses group
-        → GoesOn result opened (λ others. read_sign others opened at behind) }
+// A group after a sign, if it may come here.
+fn after_sign(group: Result<Option<Group>, ParseError>, at: usize) -> Result<Group, ParseError>
+    ensures { (opened : List GroupState) (after : Option GroupState) → IfOk group (λ g. option_map group_of g ≡ after) → OnlyMemoryRefuses group
+        → GoesOn result opened (λ others. read_sign others opened at after) }
 {
     match group {
         Ok(Some(group)) => Ok(group),
-        Ok(None) => Err(ParseError::Syntax(Wanted::Operand, at)),
+        Ok(None) => Err(ParseError::Syntax(Expected::Operand, at)),
         Err(error) => Err(error),
     }
 }
 
-// A word or a phrase as a tree. `OutOfMemory` where there is no room for it.
+// A word or a phrase as a tree. Fails only with `OutOfMemory`.
 fn leaf(alloc: Global, literal: LiteralView<'_>) -> Result<UserInputAst, ParseError>
     ensures ok { IfOk result (λ ast. ast_of ast ≡ leaf (literal_seen literal.entry)) }
     ensures only { OnlyMemoryRefuses result }
 {
     let field_name = name_of(alloc, literal.field_name)?;
-    let phrase = String::from_str(alloc, literal.phrase)?;
+    let phrase = unescape(alloc, literal.phrase)?;
     Ok(UserInputAst::Leaf(UserInputLiteral {
         field_name,
         phrase,
@@ -125,18 +141,18 @@ fn leaf(alloc: Global, literal: LiteralView<'_>) -> Result<UserInputAst, ParseEr
     }))
 }
 
-// The name of a field, if there is one. `OutOfMemory` where there is no room for it.
+// The name of a field, if there is one. Fails only with `OutOfMemory`.
 fn name_of(alloc: Global, name: Option<&str>) -> Result<Option<String>, ParseError>
-    ensures ok { IfOk result (λ found. option_map (λ text. string_bytes text) found ≡ option_copied name.entry) }
+    ensures ok { IfOk result (λ found. option_map (λ text. string_bytes text) found ≡ option_map unescaped (option_copied name.entry)) }
     ensures only { OnlyMemoryRefuses result }
 {
     match name {
-        Some(text) => Ok(Some(String::from_str(alloc, text)?)),
+        Some(text) => Ok(Some(unescape(alloc, text)?)),
         None => Ok(None),
     }
 }
 
-// The tree where a text of so many bytes ends: no group may be open.
+// The tree at the end of a text with this many bytes: no group may be open.
 fn read_end(
     alloc: Global,
     opened: &Vec<Group>,
@@ -152,5 +168,5 @@ fn read_end(
     if opened.as_slice().is_empty() {
         return Ok(ast);
     }
-    Err(ParseError::Syntax(Wanted::Closing, size))
+    Err(ParseError::Syntax(Expected::Closing, size))
 }

@@ -1,28 +1,28 @@
-ghost use Rattle.std.specs.Prelude.{◌≡◌, ◌++◌, IfOk, OnOk, string_bytes};
-ghost use Rattle.ii_query_grammar.specs.Parsed.{OnlyMemoryRefuses};
-ghost use Rattle.ii_query_grammar.specs.Spelling.{literal_text, part_text, phrase_text, spelled};
-ghost use Rattle.ii_query_grammar.specs.Trees.{ast_of, both, either, literal_of, without};
+ghost use Rattle.std.specs.Prelude.{◌≡◌, ◌++◌, [], IfOk, OnOk, false, map, string_bytes, true};
+ghost use Rattle.ii_query_grammar.specs.Spelling.{literal_text, part_text, parts_text, phrase_text, spelled};
+ghost use Rattle.ii_query_grammar.specs.Trees.{ast_of, asts_from, literal_of};
 
-use crate::parse_error::ParseError;
+use crate::cut::Stop;
+use crate::escapes::push_escaped;
 use std::alloc::{AllocError, Global};
 
-/// What stands round a word or a phrase.
+/// The characters around a word or a phrase.
 #[derive(Clone, Copy, Debug, PartialEq, Eq)]
 pub enum Delimiter {
     /// Double quotes.
     DoubleQuotes,
-    /// Nothing.
+    /// None.
     None,
 }
 
-/// A word or a phrase that is searched for.
+/// A word or a phrase to search for.
 #[derive(Drop)]
 pub struct UserInputLiteral {
-    /// The name of the field, which stands before a colon; none where the default fields are meant.
+    /// The name of the field, which a query writes before a colon; none for the default fields.
     pub field_name: Option<String>,
-    /// The word, or the text between quotes.
+    /// The word, or the text between quotes, without escapes.
     pub phrase: String,
-    /// Whether it stands in quotes.
+    /// Whether it is in quotes.
     pub delimiter: Delimiter,
 }
 
@@ -31,11 +31,11 @@ pub struct UserInputLiteral {
 pub enum UserInputAst {
     /// A word or a phrase.
     Leaf(UserInputLiteral),
-    /// What both want.
-    And(Box<UserInputAst>, Box<UserInputAst>),
-    /// What one of them wants, or the other one.
-    Or(Box<UserInputAst>, Box<UserInputAst>),
-    /// What the first one wants, and not what the other one wants.
+    /// Matches what all parts match.
+    And(Vec<UserInputAst>),
+    /// Matches what at least one part matches.
+    Or(Vec<UserInputAst>),
+    /// Matches what the first part matches and the other one doesn't.
     AndNot(Box<UserInputAst>, Box<UserInputAst>),
 }
 
@@ -45,22 +45,23 @@ impl UserInputLiteral {
         ensures { OnOk result (string_bytes text.new ≡ string_bytes text.old ++ literal_text (literal_of self.now)) }
     {
         if let Some(name) = &self.field_name {
-            text.push_str(name.as_str())?;
+            push_escaped(Stop::WordEscape, true, name.as_str(), text)?;
             text.push_str(":")?;
             return self.spell_phrase(text);
         }
         self.spell_phrase(text)
     }
 
-    // Adds its phrase, in quotes where it stands in these.
+    // Adds its phrase, in quotes where it has these.
     fn spell_phrase(&self, text: &mut String) -> Result<(), AllocError>
         ensures { OnOk result (string_bytes text.new ≡ string_bytes text.old ++ phrase_text (literal_of self.now)) }
     {
+        let phrase = self.phrase.as_str();
         match self.delimiter {
-            Delimiter::None => text.push_str(self.phrase.as_str()),
+            Delimiter::None => push_escaped(Stop::WordEscape, true, phrase, text),
             Delimiter::DoubleQuotes => {
                 text.push_str("\"")?;
-                text.push_str(self.phrase.as_str())?;
+                push_escaped(Stop::PhraseEscape, false, phrase, text)?;
                 text.push_str("\"")
             }
         }
@@ -68,50 +69,7 @@ impl UserInputLiteral {
 }
 
 impl UserInputAst {
-    /// What both want. `OutOfMemory` where there is no room for two boxes.
-    pub fn and(
-        alloc: Global,
-        first: UserInputAst,
-        other: UserInputAst,
-    ) -> Result<UserInputAst, ParseError>
-        ensures ok { IfOk result (λ ast. ast_of ast ≡ both (ast_of first) (ast_of other)) }
-        ensures only { OnlyMemoryRefuses result }
-    {
-        let first = Box::new(alloc, first)?;
-        let other = Box::new(alloc, other)?;
-        Ok(UserInputAst::And(first, other))
-    }
-
-    /// What one of them wants, or the other one. `OutOfMemory` where there is no room for two boxes.
-    pub fn or(
-        alloc: Global,
-        first: UserInputAst,
-        other: UserInputAst,
-    ) -> Result<UserInputAst, ParseError>
-        ensures ok { IfOk result (λ ast. ast_of ast ≡ either (ast_of first) (ast_of other)) }
-        ensures only { OnlyMemoryRefuses result }
-    {
-        let first = Box::new(alloc, first)?;
-        let other = Box::new(alloc, other)?;
-        Ok(UserInputAst::Or(first, other))
-    }
-
-    /// What the first one wants, and not what the other one wants. `OutOfMemory` where there is no room
-    /// for two boxes.
-    pub fn and_not(
-        alloc: Global,
-        first: UserInputAst,
-        other: UserInputAst,
-    ) -> Result<UserInputAst, ParseError>
-        ensures ok { IfOk result (λ ast. ast_of ast ≡ without (ast_of first) (ast_of other)) }
-        ensures only { OnlyMemoryRefuses result }
-    {
-        let first = Box::new(alloc, first)?;
-        let other = Box::new(alloc, other)?;
-        Ok(UserInputAst::AndNot(first, other))
-    }
-
-    /// The tree as text, each part of more than one word or phrase in parentheses.
+    /// Returns the tree as text, each part that is not a word or a phrase in parentheses.
     pub fn spell(&self, alloc: Global) -> Result<String, AllocError>
         ensures { IfOk result (λ text. string_bytes text ≡ spelled (ast_of self.now)) }
     {
@@ -127,16 +85,8 @@ impl UserInputAst {
     {
         match self {
             UserInputAst::Leaf(literal) => literal.spell_into(text),
-            UserInputAst::And(first, other) => {
-                first.spell_part(text)?;
-                text.push_str(" AND ")?;
-                other.spell_part(text)
-            }
-            UserInputAst::Or(first, other) => {
-                first.spell_part(text)?;
-                text.push_str(" OR ")?;
-                other.spell_part(text)
-            }
+            UserInputAst::And(parts) => spell_parts(parts, " AND ", text),
+            UserInputAst::Or(parts) => spell_parts(parts, " OR ", text),
             UserInputAst::AndNot(first, other) => {
                 first.spell_part(text)?;
                 text.push_str(" AND -")?;
@@ -157,4 +107,22 @@ impl UserInputAst {
         self.spell_into(text)?;
         text.push_str(")")
     }
+}
+
+// Adds the texts of parts, with one between each two.
+#[cycle(spell)]
+fn spell_parts(
+    parts: &Vec<UserInputAst>,
+    between: &str,
+    text: &mut String,
+) -> Result<(), AllocError>
+    ensures { OnOk result (string_bytes text.new ≡ string_bytes text.old ++ parts_text [] between.now (asts_from (map ast_of parts.now.items))) }
+{
+    let mut before = "";
+    for part in parts {
+        text.push_str(before)?;
+        part.spell_part(text)?;
+        before = between;
+    }
+    Ok(())
 }
