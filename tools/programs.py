@@ -3,8 +3,10 @@ one is made."""
 import hashlib
 import os
 import re
+import shutil
 import subprocess
 import sys
+import tempfile
 import threading
 import time
 
@@ -80,6 +82,82 @@ def write_down(name, sources):
     if os.access(program_of(name), os.X_OK) and sources == sum_of_sources(name):
         with open(mark_of(name), 'w', encoding='utf-8') as mark:
             mark.write(sources)
+
+
+def unproved_of(name):
+    """Where the unproved program of these sources is kept."""
+    return program_of(name) + '.unproved'
+
+
+def has_unproved(name):
+    """Whether an unproved program of exactly these sources is kept."""
+    try:
+        with open(unproved_of(name) + '.sources', encoding='utf-8') as mark:
+            return os.access(unproved_of(name), os.X_OK) and mark.read() == sum_of_sources(name)
+    except OSError:
+        return False
+
+
+def keep_unproved(folder, kept, ended):
+    """Keeps the program that `rt try` makes in a folder of its own, which it removes: a hard link, made while the program runs."""
+    while not ended.wait(0.0005):
+        for made in glob_programs(folder):
+            try:
+                os.link(made, kept)
+                return
+            except OSError:
+                pass
+
+
+def glob_programs(folder):
+    """The programs that `rt try` has made in a folder so far."""
+    found = []
+    try:
+        for room in os.scandir(folder):
+            found += [os.path.join(part.path, 'program') for part in os.scandir(room.path) if part.name.startswith('rattle-native')]
+    except OSError:
+        pass
+    return found
+
+
+def make_unproved(name, words, given):
+    """Compiles the sources without proving them, by the kit's unproved run of these words and this input, and keeps the program.
+    Returns whether it is kept; what the kit says is printed if it isn't."""
+    sources = sum_of_sources(name)
+    out = os.path.dirname(program_of(name))
+    os.makedirs(out, exist_ok=True)
+    with tempfile.TemporaryDirectory(dir=out, prefix='unproved-') as folder:
+        kept, ended = os.path.join(folder, 'kept'), threading.Event()
+        rooms = os.path.join(folder, 'rooms')
+        os.makedirs(rooms)
+        keeper = threading.Thread(target=keep_unproved, args=(rooms, kept, ended))
+        keeper.start()
+        run = subprocess.run(['rt', 'try', *(['--', *words] if words else [])], cwd=os.path.dirname(out), input=given,
+                             env=dict(os.environ, TMPDIR=rooms), stdout=subprocess.PIPE, stderr=subprocess.PIPE)
+        ended.set()
+        keeper.join()
+        if not os.path.exists(kept) or b'\nrun=ended ' not in b'\n' + run.stderr:
+            sys.stderr.buffer.write(run.stderr[-2000:])
+            return False
+        os.replace(kept, unproved_of(name))
+    with open(unproved_of(name) + '.sources', 'w', encoding='utf-8') as mark:
+        mark.write(sources)
+    return True
+
+
+def run_unproved(program, name, words, first_words=(), first_input=b''):
+    """Answers by the unproved program, which is made first if it isn't kept, in the place of this process. `program` is what the
+    user calls it. Returns a status only if there is no such program."""
+    if not has_unproved(name):
+        print(f'{program}: compiling the sources without proving them, about a minute; kept until they change', file=sys.stderr, flush=True)
+        if not make_unproved(name, first_words, first_input):
+            print(f'{program}: the sources could not be run', file=sys.stderr)
+            return 2
+    print(f'{program}: this answer is unproved; ./{program} --prove proves and builds the program', file=sys.stderr, flush=True)
+    toolchain = os.path.join(os.path.dirname(os.path.dirname(os.path.realpath(shutil.which('rt')))), 'toolchain', 'lib')
+    loader = os.path.join(toolchain, 'ld-linux-x86-64.so.2')
+    os.execv(loader, [loader, '--inhibit-cache', '--library-path', toolchain, unproved_of(name), *words])
+    return 2
 
 
 def at_once():

@@ -8,9 +8,9 @@ use Rattle.ii_docset.specs.Cursor.{IsAscending, IsSound}
 use Rattle.ii_docset.specs.Intersection.{has_doc}
 use Rattle.ii_query.specs.Combined.{QueryCursorState}
 use Rattle.ii_definitions.specs.Tokens.{IndexToken}
-use Rattle.ii_search.specs.declared.query.Query.{Query}
+use Rattle.ii_query_parser.specs.declared.query.Query.{Query}
 use Rattle.ii_search.specs.Found.{GivesMatches}
-use Rattle.ii_search.specs.Queries.{has_fields, matches}
+use Rattle.ii_query_parser.specs.Queries.{has_fields, matches}
 use Rattle.ii_indexing.specs.RamFiles.{IsRamFault}
 
 -- the documents that match

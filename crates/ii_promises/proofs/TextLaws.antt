@@ -5,10 +5,10 @@ use Rattle.ii_io.specs.declared.faults.Fault.TheVariants.{OutOfMemory}
 use Rattle.ii_docset.specs.Intersection.{has_doc}
 use Rattle.ii_query.specs.Combined.{QueryCursorState}
 use Rattle.ii_definitions.specs.Tokens.{IndexToken}
-use Rattle.ii_search.specs.QueryTexts.{MeansText, QueryFields, text_matches, text_refusal}
-use Rattle.ii_search.specs.declared.query.Query.{Query}
-use Rattle.ii_search.specs.declared.query_parser_error.QueryParserError.{QueryParserError}
-use Rattle.ii_search.specs.declared.query_parser_error.QueryParserError.TheVariants as errors
+use Rattle.ii_query_parser.specs.QueryTexts.{MeansText, QueryFields, text_matches, text_refusal}
+use Rattle.ii_query_parser.specs.declared.query.Query.{Query}
+use Rattle.ii_query_parser.specs.declared.query_parser_error.QueryParserError.{QueryParserError}
+use Rattle.ii_query_parser.specs.declared.query_parser_error.QueryParserError.TheVariants as errors
 use Rattle.ii_promises.specs.Texts.{GivesOrTells}
 
 pub text_found : {T : Type 0} (q : QueryFields) (text : List ℕ) (query : Query) (ts : List IndexToken) (r : Result (QueryCursorState T) QueryParserError) → MeansText q text query → GivesOrTells query ts r

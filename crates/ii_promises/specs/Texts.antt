@@ -3,9 +3,9 @@ use Rattle.std.specs.Prelude.{◌≡◌, List, Result, Ok, Err}
 use Rattle.ii_io.specs.declared.faults.Fault.TheVariants.{OutOfMemory}
 use Rattle.ii_query.specs.Combined.{QueryCursorState}
 use Rattle.ii_definitions.specs.Tokens.{IndexToken}
-use Rattle.ii_search.specs.declared.query.Query.{Query}
-use Rattle.ii_search.specs.declared.query_parser_error.QueryParserError.{QueryParserError}
-use Rattle.ii_search.specs.declared.query_parser_error.QueryParserError.TheVariants as errors
+use Rattle.ii_query_parser.specs.declared.query.Query.{Query}
+use Rattle.ii_query_parser.specs.declared.query_parser_error.QueryParserError.{QueryParserError}
+use Rattle.ii_query_parser.specs.declared.query_parser_error.QueryParserError.TheVariants as errors
 use Rattle.ii_search.specs.Found.{AreMatches}
 
 -- A cursor has exactly the documents that match; it is refused for memory alone.

@@ -9,7 +9,7 @@ ghost use Rattle.ii_definitions.specs.Norms.{HoldNorms};
 ghost use Rattle.ii_definitions.specs.Tokens.{IndexToken, tokens_of};
 ghost use Rattle.ii_definitions.specs.IndexCalls.{MayAllBeIndexed, call_of};
 ghost use Rattle.ii_indexing.specs.Refusals.{calls_fault};
-ghost use Rattle.ii_search.specs.Queries.{has_fields, keeps_positions, matches};
+ghost use Rattle.ii_query_parser.specs.Queries.{has_fields, keeps_positions, matches};
 ghost use Rattle.ii_indexing.specs.RamFiles.{IsRamFault};
 ghost use Rattle.ii_promises.specs.Decodes.{HaveDecodedFew};
 

@@ -5,8 +5,8 @@ ghost use Rattle.ii_docset.specs.Cursor.{IsAscending};
 ghost use Rattle.ii_docset.specs.Intersection.{has_doc};
 ghost use Rattle.ii_definitions.specs.Tokens.{IndexToken};
 ghost use Rattle.ii_reader.specs.OpenIndex.{IndexHolds};
-ghost use Rattle.ii_search.specs.Queries.{has_fields, keeps_positions};
-ghost use Rattle.ii_search.specs.QueryTexts.{text_matches, text_refusal};
+ghost use Rattle.ii_query_parser.specs.Queries.{has_fields, keeps_positions};
+ghost use Rattle.ii_query_parser.specs.QueryTexts.{text_matches, text_refusal};
 ghost use Rattle.ii_promises.specs.Texts.{GivesOrTells};
 
 use nequllpa::{

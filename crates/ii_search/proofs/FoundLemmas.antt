@@ -33,10 +33,10 @@ use Rattle.ii_definitions.proofs.GroupedLaws.{none_occurs}
 use Rattle.ii_reader.specs.InvertedIndexReader.{InvertedIndexReaderState, IsRefusal}
 use Rattle.ii_reader.specs.OpenIndex.{FieldReaderHolds, IndexHolds, OpenIndexState}
 use Rattle.ii_reader.proofs.ReaderLemmas.{list_held}
-use Rattle.ii_search.specs.declared.query.PhraseTerm.{PhraseTerm}
-use Rattle.ii_search.specs.declared.query.Query.{Query, Empty, All, Term, Phrase, And', Or', AndNot'}
+use Rattle.ii_query_parser.specs.declared.query.PhraseTerm.{PhraseTerm}
+use Rattle.ii_query_parser.specs.declared.query.Query.{Query, Empty, All, Term, Phrase, And', Or', AndNot'}
 use Rattle.ii_search.specs.Found.{AreMatches, combined, docs_kept, docs_under, found_in, phrase_of, phrase_parts_of, with_part}
-use Rattle.ii_search.specs.Queries.{are_of_texts, follow, has_fields, has_phrase, has_positions_in, is_text_key, is_token_of, keeps_positions, matches}
+use Rattle.ii_query_parser.specs.Queries.{are_of_texts, follow, has_fields, has_phrase, has_positions_in, is_text_key, is_token_of, keeps_positions, matches}
 
 -- a token in front of entries
 with_has : (t : IndexToken) (es : List Entry) (doc : ℕ) → has_doc (with_token t es) doc ≡ (nat_eq t.doc doc || has_doc es doc)

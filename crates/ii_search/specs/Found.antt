@@ -17,9 +17,9 @@ use Rattle.ii_termstore.specs.declared.term_info.TermInfo.{TermInfo}
 use Rattle.ii_definitions.specs.Tokens.{IndexToken}
 use Rattle.ii_reader.specs.InvertedIndexReader.{InvertedIndexReaderState, term_of_file}
 use Rattle.ii_reader.specs.OpenIndex.{OpenIndexState}
-use Rattle.ii_search.specs.declared.query.PhraseTerm.{PhraseTerm}
-use Rattle.ii_search.specs.declared.query.Query.{Query, Empty, All, Term, Phrase, And', Or', AndNot'}
-use Rattle.ii_search.specs.Queries.{matches}
+use Rattle.ii_query_parser.specs.declared.query.PhraseTerm.{PhraseTerm}
+use Rattle.ii_query_parser.specs.declared.query.Query.{Query, Empty, All, Term, Phrase, And', Or', AndNot'}
+use Rattle.ii_query_parser.specs.Queries.{matches}
 
 -- the documents of a term of which this is kept, with what is requested, or the first part that fails; none where nothing is kept of it
 abbrev pub docs_kept : IndexRecordOption → InvertedIndexReaderState → Option TermInfo → Result (List Entry) Part

@@ -10,9 +10,9 @@ ghost use Rattle.ii_reader.specs.OpenIndex.{IndexHolds};
 ghost use Rattle.ii_query.specs.Phrase.{cursors_in, parts_in};
 ghost use Rattle.ii_search.specs.Decodes.{DecodesFew, EachDecodesFew};
 ghost use Rattle.ii_search.specs.Found.{GivesCount, GivesMatches, combined, docs_of_term, found_in, phrase_of, phrase_parts_of};
-ghost use Rattle.ii_search.specs.Queries.{has_fields, keeps_positions};
+ghost use Rattle.ii_query_parser.specs.Queries.{has_fields, keeps_positions};
 
-use crate::query::{PhraseTerm, Query};
+use ii_query_parser::{PhraseTerm, Query};
 use ii_base::{Fault, IndexRecordOption, Term};
 use ii_docset::DocSet;
 use ii_query::{PhraseMatch, PhrasePart, QueryCursor, TermOrPhrase};

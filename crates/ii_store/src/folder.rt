@@ -1,7 +1,7 @@
 //! A folder of the system.
 use crate::directory::Directory;
 use crate::faults::DirectoryFault;
-use crate::name::Name;
+use crate::name::{Kind, Name, Slot};
 use std::alloc::Global;
 use std::fs::{self, OpenFile};
 use std::io::{self, Write};
@@ -23,6 +23,33 @@ impl<'a, R: Files + AllocGlobal> Folder<'a, R> {
     /// The folder at a path, which has to be there.
     pub fn new(rt: &'a R, path: &'a str) -> Self {
         Folder { rt, path }
+    }
+
+    /// Returns the first file with a name of an index that the folder has, in the order of the names'
+    /// numbers, and nothing if it has none.
+    ///
+    /// # Errors
+    ///
+    /// `Refused` if the system doesn't tell of a file; `OutOfMemory`.
+    pub fn first_file(&self) -> Result<Option<Name>, DirectoryFault> {
+        if self.has(Name::Meta)? {
+            return Ok(Some(Name::Meta));
+        }
+        for slot in [Slot::First, Slot::Second] {
+            for number in 0..Kind::COUNT {
+                let name = Name::File(slot, Kind::at(number));
+                if self.has(name)? {
+                    return Ok(Some(name));
+                }
+            }
+        }
+        Ok(None)
+    }
+
+    // Whether the folder has a file.
+    fn has(&self, name: Name) -> Result<bool, DirectoryFault> {
+        let path = self.path_of(name)?;
+        told(fs::exists(self.rt, path.as_str()))
     }
 
     // The path of a file.

@@ -8,11 +8,11 @@ use Rattle.ii_base.specs.Schema.{SchemaEntry}
 use Rattle.ii_definitions.specs.Tokens.{IndexToken}
 use Rattle.ii_reader.specs.OpenIndex.{IndexHolds, OpenIndexState}
 use Rattle.ii_search.specs.Found.{GivesMatches}
-use Rattle.ii_search.specs.Queries.{has_fields, keeps_positions}
-use Rattle.ii_search.specs.QueryTexts.{IsWhyRefused, MeansText, text_refusal}
-use Rattle.ii_search.specs.declared.query.Query.{Query as QueryOf}
-use Rattle.ii_search.specs.declared.query_parser_error.QueryParserError.{QueryParserError}
-use Rattle.ii_search.specs.declared.query_parser_error.QueryParserError.TheVariants as errors
+use Rattle.ii_query_parser.specs.Queries.{has_fields, keeps_positions}
+use Rattle.ii_query_parser.specs.QueryTexts.{IsWhyRefused, MeansText, text_refusal}
+use Rattle.ii_query_parser.specs.declared.query.Query.{Query as QueryOf}
+use Rattle.ii_query_parser.specs.declared.query_parser_error.QueryParserError.{QueryParserError}
+use Rattle.ii_query_parser.specs.declared.query_parser_error.QueryParserError.TheVariants as errors
 use Rattle.iiq.specs.declared.session.Session.{Session as SessionKept}
 use Rattle.iiq.specs.Commands.{asked, text_search}
 use Rattle.iiq.specs.Known.{Answers, FindsDocs, IsOpen, IsQuery, Knows}

@@ -9,7 +9,7 @@ use Rattle.std.specs.Option.{IfSome, option_copied}
 use Rattle.std.specs.Borrow.{Bor}
 use Rattle.std.specs.Str.{IsUtf8}
 use Rattle.iiq.specs.Words.{AreTexts, parts, parts_left}
-use Rattle.ii_search.proofs.TermLemmas.{some_if}
+use Rattle.ii_query_parser.proofs.TermLemmas.{some_if}
 use Rattle.iiq.proofs.WordLemmas.{parts_at, parts_whole, utf8_behind}
 
 -- what stands before a separator that is ASCII

@@ -13,7 +13,7 @@ use Rattle.std.specs.Result.{result_ok, OkIff}
 use Rattle.std.specs.Char.{is_ascii_digit}
 use Rattle.std.specs.Str.{all_ascii_digits, IsUtf8}
 use Rattle.ii_io.specs.Steps.{◌>>=◌, needs}
-use Rattle.ii_search.proofs.TermLemmas.{some_if}
+use Rattle.ii_query_parser.proofs.TermLemmas.{some_if}
 use Rattle.iiq.specs.Words.{parts, parts_left, number_on, number_below, signed_number}
 
 none_if : (t : Bool) (n : ℕ) → cond t (Some n) None ≡ None → t ≡ false

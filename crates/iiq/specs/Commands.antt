@@ -14,7 +14,7 @@ use Rattle.ii_base.specs.declared.doc_id.TheConstants.{TERMINATED}
 use Rattle.ii_base.specs.Entries.{are_documents}
 use Rattle.ii_definitions.specs.Tokens.{Call, leaves, text, value}
 use Rattle.ii_base.specs.AsciiWords.{ascii_words}
-use Rattle.ii_search.specs.QueryTexts.{QueryFields, text_refusal}
+use Rattle.ii_query_parser.specs.QueryTexts.{QueryFields, text_refusal}
 use Rattle.iiq.specs.Session.{fields}
 use Rattle.iiq.specs.Words.{line_words, number_below, numbers_below, signed_number, truth_of_word, bytes_of_word}
 

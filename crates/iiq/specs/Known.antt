@@ -21,8 +21,8 @@ use Rattle.iiq.specs.declared.leaves.LeafValue.TheVariants.{Null, Signed, Text, 
 use Rattle.iiq.specs.declared.leaves.PathValue.{PathValue}
 use Rattle.iiq.specs.declared.session.Session.{Session as SessionKept}
 use Rattle.ii_search.specs.Found.{AreMatches}
-use Rattle.ii_search.specs.QueryTexts.{MeansText, text_refusal}
-use Rattle.ii_search.specs.declared.query.Query.{Query as QueryOf}
+use Rattle.ii_query_parser.specs.QueryTexts.{MeansText, text_refusal}
+use Rattle.ii_query_parser.specs.declared.query.Query.{Query as QueryOf}
 use Rattle.iiq.specs.Commands.{Command, asked, index_call, leaf_key, leaf_under, look_up, open_list}
 use Rattle.iiq.specs.Output.{AnswersLine, AnswersMaybe, found_text, opened_text, with_ends}
 use Rattle.iiq.specs.Session.{Session, gathering, opened, refused, IsIndexed, fields, kept_with, num_docs_of}

@@ -18,7 +18,7 @@ use Rattle.ii_layout.specs.Written.{written_documents}
 use Rattle.ii_definitions.specs.Fields.{option_of}
 use Rattle.ii_definitions.specs.Postings.{key_postings, occurs}
 use Rattle.ii_definitions.specs.Tokens.{IndexToken}
-use Rattle.ii_search.specs.QueryTexts.{text_matches}
+use Rattle.ii_query_parser.specs.QueryTexts.{text_matches}
 use Rattle.iiq.specs.Words.{lines_of, nothing, written_hex}
 use Rattle.iiq.specs.Commands.{Command, asked, show_ids, open_list, index_call, look_up, search_for, command_of}
 use Rattle.iiq.specs.Session.{Session, gathering, opened, refused, Indexes, fields, kept_with}

@@ -3,7 +3,7 @@ ghost use Rattle.ii_io.specs.Faults.{OnlyMemory, number_of};
 ghost use Rattle.ii_base.specs.declared.doc_id.TheConstants.{TERMINATED};
 ghost use Rattle.ii_definitions.specs.Tokens.{IndexToken};
 ghost use Rattle.ii_definitions.specs.IndexCalls.{MayAllBeIndexed, call_of};
-ghost use Rattle.ii_search.specs.Queries.{has_fields, keeps_positions};
+ghost use Rattle.ii_query_parser.specs.Queries.{has_fields, keeps_positions};
 ghost use Rattle.iiq.specs.Known.{FindsDocs, GivesIndex, IsCall, IsOpen, IsQuery, IsSession, Keeps, Knows};
 ghost use Rattle.iiq.specs.Output.{key_text, look_up_text, term_text};
 ghost use Rattle.iiq.specs.Session.{Session as SessionState, gathering, opened, Indexes, fields, num_docs_of};

@@ -1,6 +1,6 @@
 use Rattle.std.proofs.Common.{◌+◌, ◌*◌}
 use Rattle.std.specs.Prelude.{max}
-use Rattle.ii_search.specs.declared.query.Query.{size-Query}
+use Rattle.ii_query_parser.specs.declared.query.Query.{size-Query}
 use Rattle.ii_search.proofs.searching.+find.Given as goal
 
 abbrev pub decreases-find : goal.decreases-find

@@ -1,6 +1,6 @@
 use Rattle.iiq.proofs.SearchLemmas.{answers_search}
 use Rattle.iiq.specs.Commands.{asked}
-use Rattle.ii_search.specs.QueryTexts.{MeansText}
+use Rattle.ii_query_parser.specs.QueryTexts.{MeansText}
 use Rattle.iiq.proofs.replies.search_reply.Goals as goal
 
 pub returns : goal.returns

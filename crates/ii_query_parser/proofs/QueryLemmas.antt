@@ -1,0 +1,106 @@
+-- The trees of queries, one equation for each variant, and what these mean.
+use Rattle.std.proofs.Common.{◌≡◌, ◌∙◌, ℕ, Bool, true, false, ◌&&◌, ◌||◌, List, [], ◌∷◌, Vec, Box, Global, not, sym, ap, refl}
+use Rattle.std.specs.List.{list_all, list_any}
+use Rattle.ii_base.specs.Schema.{SchemaEntry}
+use Rattle.ii_base.specs.Terms.{TermState}
+use Rattle.ii_definitions.specs.Tokens.{IndexToken}
+use Rattle.ii_query_parser.specs.declared.query.PhraseTerm.{PhraseTerm}
+use Rattle.ii_query_parser.specs.declared.query.Query.{Query}
+use Rattle.ii_query_parser.specs.declared.query.Query.TheOpen.{Query-F}
+use Rattle.ii_query_parser.specs.declared.query.Query.TheFolds.{fold-roll-Query}
+use Rattle.ii_query_parser.specs.declared.query.Query.TheVariants.{Empty, All, Term, Phrase, And, Or, AndNot, rolls-Empty, rolls-All, rolls-Term, rolls-Phrase, rolls-And, rolls-Or, rolls-AndNot}
+use Rattle.ii_query_parser.specs.Queries.{QueryTree, all_below, all_match, any_matches, any_of, each_of, has_fields, has_tree, hold_for_all, holds_for_all, is_within, keeps_positions, matches, nothing, one_phrase, one_term, phrase_has_positions, phrase_is_within, tree_matches, tree_of, tree_step, trees_of, without}
+
+pub nothing_tree : tree_of Empty ≡ nothing
+nothing_tree = ap tree_of (sym rolls-Empty) ∙ fold-roll-Query QueryTree tree_step Query-F.Empty
+
+pub all_tree : (n : ℕ) → tree_of (All n) ≡ all_below n
+all_tree n = ap tree_of (sym (rolls-All n)) ∙ fold-roll-Query QueryTree tree_step (Query-F.All n)
+
+pub term_tree : (term : TermState) → tree_of (Term term) ≡ one_term term
+term_tree term = ap tree_of (sym (rolls-Term term)) ∙ fold-roll-Query QueryTree tree_step (Query-F.Term term)
+
+pub phrase_tree : (first : TermState) (others : Vec PhraseTerm Global) → tree_of (Phrase first others) ≡ one_phrase first others.items
+phrase_tree first others = ap tree_of (sym (rolls-Phrase first others)) ∙ fold-roll-Query QueryTree tree_step (Query-F.Phrase first others)
+
+pub and_tree : (qs : Vec Query Global) → tree_of (And qs) ≡ each_of (trees_of qs.items)
+and_tree qs = ap tree_of (sym (rolls-And qs)) ∙ fold-roll-Query QueryTree tree_step (Query-F.And qs)
+
+pub or_tree : (qs : Vec Query Global) → tree_of (Or qs) ≡ any_of (trees_of qs.items)
+or_tree qs = ap tree_of (sym (rolls-Or qs)) ∙ fold-roll-Query QueryTree tree_step (Query-F.Or qs)
+
+pub and_not_tree : (first other : Box Query Global) → tree_of (AndNot first other) ≡ without (tree_of first.value) (tree_of other.value)
+and_not_tree first other = ap tree_of (sym (rolls-AndNot first other)) ∙ fold-roll-Query QueryTree tree_step (Query-F.AndNot first other)
+
+-- what holds of each of some queries
+pub all_matched : (qs : List Query) (ts : List IndexToken) (doc : ℕ) → all_match (trees_of qs) ts doc ≡ list_all (λ (q : Query). matches q ts doc) qs
+all_matched [] ts doc = refl
+all_matched (q ∷ qs) ts doc = ap (λ (b : Bool). matches q ts doc && b) (all_matched qs ts doc)
+
+pub any_matched : (qs : List Query) (ts : List IndexToken) (doc : ℕ) → any_matches (trees_of qs) ts doc ≡ list_any (λ (q : Query). matches q ts doc) qs
+any_matched [] ts doc = refl
+any_matched (q ∷ qs) ts doc = ap (λ (b : Bool). matches q ts doc || b) (any_matched qs ts doc)
+
+pub held_for_all : (of_term : TermState → Bool) (of_phrase : TermState → List PhraseTerm → Bool) (qs : List Query)
+    → hold_for_all of_term of_phrase (trees_of qs) ≡ list_all (λ (q : Query). holds_for_all of_term of_phrase (tree_of q)) qs
+held_for_all of_term of_phrase [] = refl
+held_for_all of_term of_phrase (q ∷ qs) = ap (λ (b : Bool). holds_for_all of_term of_phrase (tree_of q) && b) (held_for_all of_term of_phrase qs)
+
+-- whether the fields are those of a schema, for each variant
+pub nothing_fields : (n : ℕ) → has_fields n Empty ≡ true
+nothing_fields n = ap (holds_for_all (is_within n) (phrase_is_within n)) nothing_tree
+
+pub all_fields : (n m : ℕ) → has_fields n (All m) ≡ true
+all_fields n m = ap (holds_for_all (is_within n) (phrase_is_within n)) (all_tree m)
+
+pub term_fields : (n : ℕ) (term : TermState) → has_fields n (Term term) ≡ is_within n term
+term_fields n term = ap (holds_for_all (is_within n) (phrase_is_within n)) (term_tree term)
+
+pub phrase_fields : (n : ℕ) (first : TermState) (others : Vec PhraseTerm Global) → has_fields n (Phrase first others) ≡ phrase_is_within n first others.items
+phrase_fields n first others = ap (holds_for_all (is_within n) (phrase_is_within n)) (phrase_tree first others)
+
+pub and_fields : (n : ℕ) (qs : Vec Query Global) → has_fields n (And qs) ≡ list_all (has_fields n) qs.items
+and_fields n qs = ap (holds_for_all (is_within n) (phrase_is_within n)) (and_tree qs) ∙ held_for_all (is_within n) (phrase_is_within n) qs.items
+
+pub or_fields : (n : ℕ) (qs : Vec Query Global) → has_fields n (Or qs) ≡ list_all (has_fields n) qs.items
+or_fields n qs = ap (holds_for_all (is_within n) (phrase_is_within n)) (or_tree qs) ∙ held_for_all (is_within n) (phrase_is_within n) qs.items
+
+pub and_not_fields : (n : ℕ) (first other : Box Query Global) → has_fields n (AndNot first other) ≡ (has_fields n first.value && has_fields n other.value)
+and_not_fields n first other = ap (holds_for_all (is_within n) (phrase_is_within n)) (and_not_tree first other)
+
+-- whether the fields of phrases keep positions, for each variant
+pub nothing_positions : (entries : List SchemaEntry) → keeps_positions entries Empty ≡ true
+nothing_positions entries = ap (holds_for_all (λ (t : TermState). true) (phrase_has_positions entries)) nothing_tree
+
+pub all_positions : (entries : List SchemaEntry) (m : ℕ) → keeps_positions entries (All m) ≡ true
+all_positions entries m = ap (holds_for_all (λ (t : TermState). true) (phrase_has_positions entries)) (all_tree m)
+
+pub term_positions : (entries : List SchemaEntry) (term : TermState) → keeps_positions entries (Term term) ≡ true
+term_positions entries term = ap (holds_for_all (λ (t : TermState). true) (phrase_has_positions entries)) (term_tree term)
+
+pub phrase_positions : (entries : List SchemaEntry) (first : TermState) (others : Vec PhraseTerm Global)
+    → keeps_positions entries (Phrase first others) ≡ phrase_has_positions entries first others.items
+phrase_positions entries first others = ap (holds_for_all (λ (t : TermState). true) (phrase_has_positions entries)) (phrase_tree first others)
+
+pub and_positions : (entries : List SchemaEntry) (qs : Vec Query Global) → keeps_positions entries (And qs) ≡ list_all (keeps_positions entries) qs.items
+and_positions entries qs = ap (holds_for_all (λ (t : TermState). true) (phrase_has_positions entries)) (and_tree qs) ∙ held_for_all (λ (t : TermState). true) (phrase_has_positions entries) qs.items
+
+pub or_positions : (entries : List SchemaEntry) (qs : Vec Query Global) → keeps_positions entries (Or qs) ≡ list_all (keeps_positions entries) qs.items
+or_positions entries qs = ap (holds_for_all (λ (t : TermState). true) (phrase_has_positions entries)) (or_tree qs) ∙ held_for_all (λ (t : TermState). true) (phrase_has_positions entries) qs.items
+
+pub and_not_positions : (entries : List SchemaEntry) (first other : Box Query Global)
+    → keeps_positions entries (AndNot first other) ≡ (keeps_positions entries first.value && keeps_positions entries other.value)
+and_not_positions entries first other = ap (holds_for_all (λ (t : TermState). true) (phrase_has_positions entries)) (and_not_tree first other)
+
+-- whether a document matches, for each variant
+pub nothing_matches : (ts : List IndexToken) (doc : ℕ) → matches Empty ts doc ≡ false
+nothing_matches ts doc = ap (λ (t : QueryTree). tree_matches t ts doc) nothing_tree
+
+pub or_matches : (qs : Vec Query Global) (ts : List IndexToken) (doc : ℕ) → matches (Or qs) ts doc ≡ list_any (λ (q : Query). matches q ts doc) qs.items
+or_matches qs ts doc = ap (λ (t : QueryTree). tree_matches t ts doc) (or_tree qs) ∙ any_matched qs.items ts doc
+
+pub and_matches : (qs : Vec Query Global) (ts : List IndexToken) (doc : ℕ) → matches (And qs) ts doc ≡ (has_tree (trees_of qs.items) && list_all (λ (q : Query). matches q ts doc) qs.items)
+and_matches qs ts doc = ap (λ (t : QueryTree). tree_matches t ts doc) (and_tree qs) ∙ ap (λ (b : Bool). has_tree (trees_of qs.items) && b) (all_matched qs.items ts doc)
+
+pub and_not_matches : (first other : Box Query Global) (ts : List IndexToken) (doc : ℕ) → matches (AndNot first other) ts doc ≡ (matches first.value ts doc && not (matches other.value ts doc))
+and_not_matches first other ts doc = ap (λ (t : QueryTree). tree_matches t ts doc) (and_not_tree first other)

@@ -1,0 +1,269 @@
+-- The terms of words and phrases.
+use Rattle.std.proofs.Common.{◌≡◌, ◌∙◌, ℕ, ◌+◌, ◌<◌, ◌≤◌, Bool, true, false, ◌&&◌, ◌||◌, true≢false, List, [], ◌∷◌, ◌++◌, append_assoc, cond, drop, eqb, get_or, length, nat_lt, Option, None, Some, Result, Ok, Err, inl, inr, refl, sym, ap, arith, subst, add-one}
+use Rattle.std.specs.Prelude.{IfErr, IfOk, IfSome, bytes_eq, option_map, position, slice_get}
+use Rattle.std.specs.List.{AllByRecursion, list_all, position_from, position_or_len}
+use Rattle.std.specs.Result.{result_unwrap_or}
+use Rattle.std.proofs.Math.Seq.{drop-cons}
+use Rattle.std.proofs.lemmas.Bool.{and_parts, eqb-true, lt-ltb, ltb-true}
+use Rattle.std.proofs.lemmas.List.{append-nil, drop_all}
+use Rattle.std.proofs.lemmas.List.Folds.{list_all-append}
+use Rattle.std.proofs.lemmas.List.Sums.{passes_at_first}
+use Rattle.std.proofs.lemmas.Option.{get_or_from_slice_get, same_Some, slice_get_within}
+use Rattle.ii_io.specs.Faults.{OnlyMemory}
+use Rattle.ii_io.specs.declared.faults.Fault.{Fault}
+use Rattle.ii_base.specs.declared.schema.index_record_option.IndexRecordOption.{IndexRecordOption}
+use Rattle.ii_base.specs.Options.{has_positions}
+use Rattle.ii_base.specs.Paths.{has_zero}
+use Rattle.ii_base.specs.Schema.{SchemaEntry}
+use Rattle.ii_base.specs.Terms.{TermState}
+use Rattle.ii_base.specs.Values.{text_key}
+use Rattle.ii_base.specs.Words.{Word}
+use Rattle.ii_base.specs.declared.schema.value_type.ValueType.{ValueType}
+use Rattle.ii_base.specs.declared.schema.value_type.ValueType.TheVariants as types
+use Rattle.ii_json.specs.FastValues.{fast_value_in, with_value}
+use Rattle.ii_definitions.specs.Fields.{option_of}
+use Rattle.ii_query_parser.specs.declared.query.PhraseTerm.{PhraseTerm}
+use Rattle.ii_query_parser.specs.declared.query_parser_error.QueryParserError.{QueryParserError}
+use Rattle.ii_query_parser.specs.declared.query_parser_error.QueryParserError.TheVariants as errors
+use Rattle.ii_definitions.specs.Tokens.{IndexToken}
+use Rattle.ii_query_grammar.specs.Trees.{Literal, leaf}
+use Rattle.ii_query_parser.specs.declared.query.Query.{Query}
+use Rattle.ii_query_parser.specs.Queries.{has_fields, has_positions_in, keeps_positions, matches}
+use Rattle.ii_query_parser.specs.QueryTexts.{Adds, AddsIn, AddsMaybe, AddsText, IsPhraseIn, IsWhyRefused, Means, PhraseState, QueryFields, Terms, TextFields, are_in, default_terms, has_one, has_term, is_alone, joined_terms, one_term, path_key, path_value, phrase_kept, phrase_within, refused, some_default, stand_after, terms_after, terms_in_field, terms_of, text_terms, typed_terms, value_term, words_phrase}
+
+-- Terms of the fields so far were added, and those of the fields that are left come after them.
+pub record IsGathering (q : TextFields) (phrase all fields : List ℕ) (old now : List PhraseState) : Type 0 where
+  pub found : List PhraseState
+  pub now_is : now ≡ old ++ found
+  pub within : are_in q.entries found ≡ true
+  pub whole : default_terms q phrase all ≡ joined_terms (Ok found) (default_terms q phrase fields)
+
+nothing_in_front : (found : Terms) → found ≡ joined_terms (Ok []) found
+nothing_in_front (Ok terms) = refl
+nothing_in_front (Err e) = refl
+
+joined_on : (first more : List PhraseState) (found : Terms) → joined_terms (Ok first) (joined_terms (Ok more) found) ≡ joined_terms (Ok (first ++ more)) found
+joined_on first more (Ok terms) = ap (λ (ps : List PhraseState). Ok ps) (sym (append_assoc first more terms))
+joined_on first more (Err e) = refl
+
+-- nothing was added so far
+pub gathers_none : (q : TextFields) (phrase all : List ℕ) (old : List PhraseState) → IsGathering q phrase all all old old
+gathers_none q phrase all old = record { found = []; now_is = sym (append-nil old); within = refl; whole = nothing_in_front (default_terms q phrase all) }
+
+field_at : (all : List ℕ) (i field : ℕ) → i < length all → field ≡ get_or all i field → drop i all ≡ field ∷ drop (i + 1) all
+field_at all i field inside is = drop-cons all i field inside ∙ rw (← is, add-one i) refl
+
+-- the terms of one field more
+pub gathers_more : (q : TextFields) (phrase all : List ℕ) (i field : ℕ) (old now new ts : List PhraseState) → i < length all → field ≡ get_or all i field → IsGathering q phrase all (drop i all) old now
+    → terms_in_field q field [] phrase ≡ Ok ts → new ≡ now ++ ts → are_in q.entries ts ≡ true → IsGathering q phrase all (drop (i + 1) all) old new
+gathers_more q phrase all i field old now new ts inside here g is new_is within =
+    let left = drop (i + 1) all in
+    record {
+      found = g.found ++ ts;
+      now_is = new_is ∙ ap (λ (ps : List PhraseState). ps ++ ts) g.now_is ∙ append_assoc old g.found ts;
+      within = list_all-append (λ (p : PhraseState). phrase_within (length q.entries) p && phrase_kept q.entries p) g.found ts ∙ rw (g.within, within) refl;
+      whole = g.whole ∙ ap (λ (fields : List ℕ). joined_terms (Ok g.found) (default_terms q phrase fields)) (field_at all i field inside here)
+          ∙ ap (λ (terms : Terms). joined_terms (Ok g.found) (joined_terms terms (default_terms q phrase left))) is ∙ joined_on g.found ts (default_terms q phrase left);
+    }
+
+some_defaults : (q : TextFields) (phrase all : List ℕ) (i : ℕ) → i < length all → some_default q phrase all ≡ default_terms q phrase all
+some_defaults q phrase [] i inside = absurd (omega arith)
+some_defaults q phrase (field ∷ fields) i inside = refl
+
+why_joined : (first : List PhraseState) (terms others all : Terms) (e : QueryParserError) → all ≡ joined_terms (Ok first) (joined_terms terms others) → IsWhyRefused (refused terms) e → IsWhyRefused (refused all) e
+why_joined first terms others all e is (inl memory) = inl memory
+why_joined first (Err f) others all e is (inr why) = inr (ap refused is ∙ why)
+why_joined first (Ok ts) others all e is (inr why) = absurd (cc)
+
+-- a field whose terms are refused
+pub gathers_refused : (q : TextFields) (phrase all : List ℕ) (i field : ℕ) (old now : List PhraseState) (e : QueryParserError) → i < length all → field ≡ get_or all i field → IsGathering q phrase all (drop i all) old now
+    → IsWhyRefused (refused (terms_in_field q field [] phrase)) e → IsWhyRefused (refused (some_default q phrase all)) e
+gathers_refused q phrase all i field old now e inside here g why =
+    why_joined g.found (terms_in_field q field [] phrase) (default_terms q phrase (drop (i + 1) all)) (some_default q phrase all) e
+    (some_defaults q phrase all i inside ∙ g.whole ∙ ap (λ (fields : List ℕ). joined_terms (Ok g.found) (default_terms q phrase fields)) (field_at all i field inside here)) why
+
+-- all fields were looked at
+pub gathers_all : (q : TextFields) (phrase all : List ℕ) (i : ℕ) (old now : List PhraseState) → 0 < length all → length all ≤ i → IsGathering q phrase all (drop i all) old now → Adds (some_default q phrase all) q.entries old now (Ok tt)
+gathers_all q phrase all i old now some end g =
+    (g.found, some_defaults q phrase all 0 some ∙ g.whole ∙ ap (λ (fields : List ℕ). joined_terms (Ok g.found) (default_terms q phrase fields)) (drop_all i all end) ∙ ap (λ (ps : List PhraseState). Ok ps) (append-nil g.found), g.now_is, g.within)
+
+typed_same : (analyze : List ℕ → List Word) (entries : List SchemaEntry) (field : ℕ) (keeps expand_dots : Bool) (path phrase : List ℕ) (t : ValueType)
+    → typed_terms (record { analyze = analyze; entries = [] }) field keeps expand_dots path phrase t ≡ typed_terms (record { analyze = analyze; entries = entries }) field keeps expand_dots path phrase t
+typed_same analyze entries field keeps expand_dots path phrase types.Str = refl
+typed_same analyze entries field keeps expand_dots path phrase types.U64 = refl
+typed_same analyze entries field keeps expand_dots path phrase types.I64 = refl
+typed_same analyze entries field keeps expand_dots path phrase types.Bool = refl
+typed_same analyze entries field keeps expand_dots path phrase types.Date = refl
+typed_same analyze entries field keeps expand_dots path phrase types.Bytes = refl
+typed_same analyze entries field keeps expand_dots path phrase types.IpAddr = refl
+typed_same analyze entries field keeps expand_dots path phrase types.Json = refl
+
+-- terms of a field that is there
+others_within : (n field : ℕ) (os : List PhraseTerm) → field < n → AllByRecursion (λ (o : PhraseTerm). o.term.field ≡ field) os → list_all (λ (o : PhraseTerm). nat_lt o.term.field n) os ≡ true
+others_within n field [] inside all = refl
+others_within n field (o ∷ os) inside all = let here = all.0 in rw (lt-ltb o.term.field n (omega (arith, here, inside))) (others_within n field os inside all.1)
+
+-- and of one that keeps positions
+kept_in : (entries : List SchemaEntry) (field : ℕ) (e : SchemaEntry) (t : TermState) → slice_get entries field ≡ Some e → t.field ≡ field → has_positions e.option ≡ true → has_positions_in entries t ≡ true
+kept_in entries field e t here is keeps = ap (λ (f : ℕ). has_positions (option_of entries f)) is ∙ rw here keeps
+
+others_kept : (entries : List SchemaEntry) (field : ℕ) (e : SchemaEntry) (os : List PhraseTerm) → slice_get entries field ≡ Some e → has_positions e.option ≡ true → AllByRecursion (λ (o : PhraseTerm). o.term.field ≡ field) os
+    → list_all (λ (o : PhraseTerm). has_positions_in entries o.term) os ≡ true
+others_kept entries field e [] here keeps all = refl
+others_kept entries field e (o ∷ os) here keeps all = rw (kept_in entries field e o.term here all.0 keeps) (others_kept entries field e os here keeps all.1)
+
+phrase_in : (entries : List SchemaEntry) (field : ℕ) (e : SchemaEntry) (p : PhraseState) → slice_get entries field ≡ Some e → IsPhraseIn field (has_positions e.option) p → (phrase_within (length entries) p && phrase_kept entries p) ≡ true
+phrase_in entries field e p here is =
+    let inside = slice_get_within entries field e here in
+    let first = is.first in
+    let within : phrase_within (length entries) p ≡ true = rw (lt-ltb p.first.field (length entries) (omega (arith, first, inside))) (others_within (length entries) field p.others inside is.others) in
+    rw within (kept (has_positions e.option) refl (is_alone p) refl is.kept)
+  where
+    kept : (k : Bool) → has_positions e.option ≡ k → (a : Bool) → is_alone p ≡ a → (has_positions e.option || is_alone p) ≡ true → phrase_kept entries p ≡ true
+    kept k keeps true alone either = rw alone refl
+    kept true keeps false alone either = rw (alone, kept_in entries field e p.first here is.first keeps) (others_kept entries field e p.others here keeps is.others)
+    kept false keeps false alone either = absurd (true≢false (sym (rw (keeps, alone) at either)))
+
+within_by : (entries : List SchemaEntry) (field : ℕ) (e : SchemaEntry) (ts : List PhraseState) → slice_get entries field ≡ Some e → AllByRecursion (IsPhraseIn field (has_positions e.option)) ts → are_in entries ts ≡ true
+within_by entries field e [] here all = refl
+within_by entries field e (t ∷ ts) here all = rw (phrase_in entries field e t here all.0) (within_by entries field e ts here all.1)
+
+adds_by : (terms : Terms) (entries : List SchemaEntry) (field : ℕ) (e : SchemaEntry) (old new : List PhraseState) (r : Result (Unit {0}) QueryParserError) → slice_get entries field ≡ Some e → AddsIn terms field (has_positions e.option) old new r → Adds terms entries old new r
+adds_by terms entries field e old new (Ok done) here (ts, terms_is, new_is, all) = (ts, terms_is, new_is, within_by entries field e ts here all)
+adds_by terms entries field e old new (Err error) here why = why
+
+-- the terms of a field that is indexed
+pub entry_adds : (analyze : List ℕ → List Word) (entries : List SchemaEntry) (field : ℕ) (path phrase : List ℕ) (e : SchemaEntry) (t : ValueType) (option : IndexRecordOption) (expand_dots : Bool) (old new : List PhraseState) (r : Result (Unit {0}) QueryParserError)
+    → slice_get entries field ≡ Some e → e.is_indexed ≡ true → t ≡ e.value_type → option ≡ e.option → expand_dots ≡ e.expands_dots
+    → AddsIn (typed_terms (record { analyze = analyze; entries = [] }) field (has_positions option) expand_dots path phrase t) field (has_positions option) old new r
+    → Adds (terms_in_field (record { analyze = analyze; entries = entries }) field path phrase) entries old new r
+entry_adds analyze entries field path phrase e t option expand_dots old new r here indexed type_is option_is dots_is adds =
+    subst (λ (terms : Terms). Adds terms entries old new r)
+    (typed_same analyze entries field (has_positions e.option) expand_dots path phrase t
+    ∙ rw (type_is, dots_is, here, indexed) refl)
+    (adds_by _ entries field e old new r here (subst (λ (o : IndexRecordOption). AddsIn (typed_terms (record { analyze = analyze; entries = [] }) field (has_positions o) expand_dots path phrase t) field (has_positions o) old new r) option_is adds))
+
+after_fields : (prefix : TermState) (first : ℕ) (ws : List Word) → AllByRecursion (λ (o : PhraseTerm). o.term.field ≡ prefix.field) (terms_after prefix first ws)
+after_fields prefix first [] = tt
+after_fields prefix first (w ∷ ws) = (refl, after_fields prefix first ws)
+
+-- The terms of a phrase are of a field.
+abbrev pub IsOfField : ℕ → PhraseState → Type 0
+IsOfField field p = (p.first.field ≡ field) × AllByRecursion (λ (o : PhraseTerm). o.term.field ≡ field) p.others
+
+words_field : (prefix : TermState) (ws : List Word) (p : PhraseState) → words_phrase prefix ws ≡ Some p → IsOfField prefix.field p
+words_field prefix [] p is = absurd (cc)
+words_field prefix (w ∷ ws) p is = by (stand_after w.position ws) refl is
+  where
+    by : (b : Bool) → stand_after w.position ws ≡ b → words_phrase prefix (w ∷ ws) ≡ Some p → IsOfField prefix.field p
+    by true after is = subst (IsOfField prefix.field) (same_Some _ p (rw after at is)) (refl, after_fields prefix w.position ws)
+    by false after is = absurd (let none = rw after at is in cc)
+
+or_true : (b : Bool) → (b || true) ≡ true
+or_true true = refl
+or_true false = refl
+
+alone_in : (field : ℕ) (keeps : Bool) (t : TermState) → t.field ≡ field → IsPhraseIn field keeps (one_term t)
+alone_in field keeps t is = record { first = is; others = tt; kept = or_true keeps }
+
+ok_is : (a b : List PhraseState) (x : Terms) → x ≡ Ok a → x ≡ Ok b → a ≡ b
+ok_is a b x first other = ap (λ (r : Terms). result_unwrap_or r []) (sym first ∙ other)
+
+-- the term of a value that was read, or the fault of reading it
+pub value_adds : {B : Type 0} (field : ℕ) (keeps : Bool) (key : B → List ℕ) (read : Option B) (error : QueryParserError) (term : Result (Option TermState) Fault) (old new : List PhraseState) (r : Result (Unit {0}) QueryParserError)
+    → IfOk term (λ (t : Option TermState). t ≡ option_map (λ (b : B). record { field = field; value = key b }) read) → OnlyMemory term → IfOk term (λ (t : Option TermState). AddsMaybe t error old new r) → IfErr term (λ (fault : Fault). r ≡ Err (errors.Fault fault))
+    → AddsIn (value_term field error (option_map key read)) field keeps old new r
+value_adds field keeps key None error (Ok t) old new (Ok done) is memory adds refused = absurd (rw is at adds)
+value_adds field keeps key None error (Ok t) old new (Err e) is memory adds refused = inr (ap (λ (x : QueryParserError). Some x) (sym (rw is at adds)))
+value_adds field keeps key (Some b) error (Ok t) old new (Ok done) is memory adds refused = (one_term (record { field = field; value = key b }) ∷ [], refl, (rw is at adds), (alone_in field keeps (record { field = field; value = key b }) refl, tt))
+value_adds field keeps key (Some b) error (Ok t) old new (Err e) is memory adds refused = inl (rw is at adds)
+value_adds field keeps key read error (Err fault) old new (Err e) is memory adds refused = inl (cc)
+value_adds field keeps key read error (Err fault) old new (Ok done) is memory adds refused = absurd (cc)
+
+-- what a text is looked up by is of its field
+text_in : (field : ℕ) (keeps : Bool) (value : Option TermState) (words : Option PhraseState) (ts : List PhraseState) → IfSome value (λ t. t.field ≡ field) → ((p : PhraseState) → words ≡ Some p → IsOfField field p) → text_terms keeps value words ≡ Ok ts
+    → AllByRecursion (IsPhraseIn field keeps) ts
+text_in field keeps None None ts of_value of_words is = absurd (cc)
+text_in field keeps (Some v) None ts of_value of_words is = subst (AllByRecursion (IsPhraseIn field keeps)) (ok_is _ ts _ refl is) (alone_in field keeps v of_value, tt)
+text_in field keeps value (Some p) ts of_value of_words is = by (keeps || is_alone p) refl (of_words p refl) value of_value is
+  where
+    by : (b : Bool) → (keeps || is_alone p) ≡ b → IsOfField field p → (v : Option TermState) → IfSome v (λ t. t.field ≡ field) → text_terms keeps v (Some p) ≡ Ok ts → AllByRecursion (IsPhraseIn field keeps) ts
+    by true kept of_field None of_v is = subst (AllByRecursion (IsPhraseIn field keeps)) (ok_is _ ts _ refl (rw kept at is)) (record { first = of_field.0; others = of_field.1; kept = kept }, tt)
+    by true kept of_field (Some v) of_v is = subst (AllByRecursion (IsPhraseIn field keeps)) (ok_is _ ts _ refl (rw kept at is)) (alone_in field keeps v of_v, (record { first = of_field.0; others = of_field.1; kept = kept }, tt))
+    by false kept of_field v of_v is = absurd (let none = rw kept at is in cc)
+
+text_adds : (field : ℕ) (keeps : Bool) (value : Option TermState) (words : Option PhraseState) (old new : List PhraseState) (r : Result (Unit {0}) QueryParserError) → IfSome value (λ t. t.field ≡ field) → ((p : PhraseState) → words ≡ Some p → IsOfField field p)
+    → AddsText keeps value words old new r → AddsIn (text_terms keeps value words) field keeps old new r
+text_adds field keeps value words old new (Ok done) of_value of_words (ts, is, new_is) = (ts, is, new_is, text_in field keeps value words ts of_value of_words is)
+text_adds field keeps value words old new (Err e) of_value of_words why = why
+
+-- the terms of a text in a field of texts
+pub str_adds : (q : TextFields) (field : ℕ) (keeps expand_dots : Bool) (path phrase : List ℕ) (old new : List PhraseState) (r : Result (Unit {0}) QueryParserError)
+    → AddsText keeps None (words_phrase (record { field = field; value = [] }) (q.analyze phrase)) old new r → AddsIn (typed_terms q field keeps expand_dots path phrase types.Str) field keeps old new r
+str_adds q field keeps expand_dots path phrase old new r adds = text_adds field keeps None _ old new r tt (words_field (record { field = field; value = [] }) (q.analyze phrase)) adds
+
+value_field : (field : ℕ) (key : List ℕ) (o : Option (List ℕ)) → IfSome (option_map (λ (v : List ℕ). record { field = field; value = key ++ v }) o) (λ (t : TermState). t.field ≡ field)
+value_field field key None = tt
+value_field field key (Some v) = refl
+
+-- the terms at a path
+pub json_adds : (q : TextFields) (field : ℕ) (keeps expand_dots : Bool) (path phrase : List ℕ) (start prefix : TermState) (value : Option TermState) (words : Option PhraseState) (old new : List PhraseState) (r : Result (Unit {0}) QueryParserError)
+    → has_zero path ≡ false → start ≡ record { field = field; value = path_key expand_dots path } → value ≡ option_map (with_value start) (fast_value_in phrase) → prefix ≡ record { field = start.field; value = start.value ++ text_key [] }
+    → words ≡ words_phrase prefix (q.analyze phrase) → AddsText keeps value words old new r → AddsIn (typed_terms q field keeps expand_dots path phrase types.Json) field keeps old new r
+json_adds q field keeps expand_dots path phrase start prefix value words old new r no_zero start_is value_is prefix_is words_are adds =
+    let at : TermState = record { field = field; value = path_key expand_dots path ++ text_key [] } in
+    let prefix_at : prefix ≡ at = rw (prefix_is, start_is) refl in
+    let value_at : value ≡ path_value field expand_dots path phrase = rw (value_is, start_is) refl in
+    let words_at : words ≡ words_phrase at (q.analyze phrase) = words_are ∙ ap (λ (t : TermState). words_phrase t (q.analyze phrase)) prefix_at in
+    let all = text_adds field keeps (path_value field expand_dots path phrase) (words_phrase at (q.analyze phrase)) old new r (value_field field (path_key expand_dots path) (fast_value_in phrase)) (words_field at (q.analyze phrase))
+    (subst (λ (v : Option TermState). AddsText keeps v (words_phrase at (q.analyze phrase)) old new r) value_at (subst (λ (w : Option PhraseState). AddsText keeps value w old new r) words_at adds)) in
+    rw no_zero all
+
+-- a path that holds byte 0
+pub zero_refused : (q : TextFields) (field : ℕ) (keeps expand_dots : Bool) (path phrase : List ℕ) → has_zero path ≡ true → IsWhyRefused (refused (typed_terms q field keeps expand_dots path phrase types.Json)) errors.UnsupportedPath
+zero_refused q field keeps expand_dots path phrase has = inr (rw has refl)
+
+entry_at : (entries : List SchemaEntry) (i : ℕ) (e : SchemaEntry) → slice_get entries i ≡ Some e → drop i entries ≡ e ∷ drop (i + 1) entries
+entry_at entries i e here =
+    drop-cons entries i e (slice_get_within entries i e here) ∙ rw (get_or_from_slice_get entries i e e here, add-one) refl
+
+-- the field of a name is here, or later
+pub named_here : (entries : List SchemaEntry) (name : List ℕ) (i : ℕ) (e : SchemaEntry) → slice_get entries i ≡ Some e → bytes_eq e.name name ≡ true
+    → position_from (λ (x : SchemaEntry). bytes_eq x.name name) i (drop i entries) ≡ Some i
+named_here entries name i e here is = ap (position_from (λ (x : SchemaEntry). bytes_eq x.name name) i) (entry_at entries i e here) ∙ rw is refl
+
+pub named_later : (entries : List SchemaEntry) (name : List ℕ) (i : ℕ) (e : SchemaEntry) → slice_get entries i ≡ Some e → bytes_eq e.name name ≡ false
+    → position_from (λ (x : SchemaEntry). bytes_eq x.name name) i (drop i entries) ≡ position_from (λ (x : SchemaEntry). bytes_eq x.name name) (i + 1) (drop (i + 1) entries)
+named_later entries name i e here is = ap (position_from (λ (x : SchemaEntry). bytes_eq x.name name) i) (entry_at entries i e here) ∙ rw is refl
+
+-- what a number under a condition says
+pub some_if : (t : Bool) (n i : ℕ) → cond t (Some n) None ≡ Some i → (t ≡ true) × (n ≡ i)
+some_if true n i e = (refl, cc)
+some_if false n i e = absurd (cc)
+
+-- where the first dot of a name stands
+pub dot_at : (name : List ℕ) (i : ℕ) → position (λ b. eqb b 46) name ≡ Some i → (i < length name) × (get_or name i 0 ≡ 46)
+dot_at name i is =
+    let found = some_if (nat_lt (position_or_len (λ b. eqb b 46) name) (length name)) (position_or_len (λ b. eqb b 46) name) i is in
+    let inside = ltb-true (position_or_len (λ b. eqb b 46) name) (length name) found.0 in
+    (rw found.1 at inside, eqb-true (get_or name i 0) 46 (rw found.1 at (passes_at_first (λ b. eqb b 46) name 0 inside)))
+
+all_split : (f g : PhraseState → Bool) (ps : List PhraseState) → list_all (λ (p : PhraseState). f p && g p) ps ≡ true → (list_all f ps ≡ true) × (list_all g ps ≡ true)
+all_split f g [] all = (refl, refl)
+all_split f g (p ∷ ps) all =
+    let parts = and_parts (f p && g p) (list_all (λ (x : PhraseState). f x && g x) ps) all in
+    let here = and_parts (f p) (g p) parts.0 in
+    let later = all_split f g ps parts.1 in
+    (rw here.0 later.0, rw here.1 later.1)
+
+-- what a word or a phrase means
+pub leaf_means : (q : QueryFields) (l : Literal) (query : Query) (terms : List PhraseState) → Adds (terms_of q l) q.texts.entries [] terms (Ok tt) → ((ts : List IndexToken) (doc : ℕ) → matches query ts doc ≡ has_term ts doc terms)
+    → ((n : ℕ) → has_fields n query ≡ list_all (phrase_within n) terms) → ((entries : List SchemaEntry) → keeps_positions entries query ≡ list_all (phrase_kept entries) terms) → Means q (leaf l) query
+leaf_means q l query terms (ts, is, new_is, within) means fields positions =
+    let all = all_split (phrase_within (length q.texts.entries)) (phrase_kept q.texts.entries) ts within in
+    record {
+      taken = ap refused is;
+      exact = λ tokens doc. means tokens doc ∙ ap (has_term tokens doc) new_is ∙ sym (ap (has_one tokens doc) is);
+      fields = fields (length q.texts.entries) ∙ ap (list_all (phrase_within (length q.texts.entries))) new_is ∙ all.0;
+      positions = positions q.texts.entries ∙ ap (list_all (phrase_kept q.texts.entries)) new_is ∙ all.1;
+    }

@@ -1,0 +1,3 @@
+pub mod ParserErrors
+pub mod Queries
+pub mod QueryTexts

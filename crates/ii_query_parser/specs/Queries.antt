@@ -1,0 +1,143 @@
+-- What a query means, by the tokens of an index.
+use Rattle.std.specs.Prelude.{ℕ, ◌+◌, Bool, true, false, ◌&&◌, ◌||◌, ◌==◌, not, List, [], ◌∷◌, map, min, nat_lt}
+use Rattle.std.specs.List.{list_all, list_any}
+use Rattle.ii_base.specs.Options.{has_positions}
+use Rattle.ii_base.specs.Schema.{SchemaEntry}
+use Rattle.ii_base.specs.Terms.{TermState}
+use Rattle.ii_base.specs.declared.doc_id.TheConstants.{TERMINATED}
+use Rattle.ii_definitions.specs.Fields.{option_of}
+use Rattle.ii_definitions.specs.Postings.{is_at, tokens_at}
+use Rattle.ii_definitions.specs.Tokens.{IndexToken}
+use Rattle.ii_query_parser.specs.declared.query.Query.{Query, fold-Query}
+use Rattle.ii_query_parser.specs.declared.query.Query.TheOpen.{Query-F}
+use Rattle.ii_query_parser.specs.declared.query.PhraseTerm.{PhraseTerm}
+
+-- whether a token of a document has the field and the key of a term
+abbrev pub is_token_of : TermState → ℕ → IndexToken → Bool
+is_token_of term doc t = (t.doc == doc) && is_at term.field term.value t
+
+-- whether the tokens of a key are of texts, so that each has a position: so many say so whose first one is
+abbrev pub are_of_texts : List IndexToken → Bool
+are_of_texts [] = false
+are_of_texts (t ∷ ts) = t.of_text
+
+-- whether the tokens with the field and the key of a term are of texts
+abbrev pub is_text_key : TermState → List IndexToken → Bool
+is_text_key term ts = are_of_texts (tokens_at term.field term.value ts)
+
+-- whether a token of a document, of a text, has the field and the key of a term at a position
+abbrev pub stands_at : List IndexToken → ℕ → TermState → ℕ → Bool
+stands_at ts doc term position = is_text_key term ts && list_any (λ (t : IndexToken). is_token_of term doc t && (t.position == position)) ts
+
+-- whether each other term of a phrase stands in a document at its distance from a place
+abbrev pub follow : List IndexToken → ℕ → List PhraseTerm → ℕ → Bool
+follow ts doc others start = list_all (λ (o : PhraseTerm). stands_at ts doc o.term (start + o.distance)) others
+
+-- whether a document has a phrase: a token of its first term, from which each other term stands at its distance
+abbrev pub has_phrase : List IndexToken → ℕ → TermState → List PhraseTerm → Bool
+has_phrase ts doc first others = is_text_key first ts && list_any (λ (t : IndexToken). is_token_of first doc t && follow ts doc others t.position) ts
+
+-- What a query is made of: none; all documents below a number; a term; a phrase; what each of some queries matches, or any of them; what one matches and another one doesn't.
+mutual
+  pub data QueryTree : Type 0 where
+    nothing : QueryTree
+    all_below : ℕ → QueryTree
+    one_term : TermState → QueryTree
+    one_phrase : TermState → List PhraseTerm → QueryTree
+    each_of : QueryTrees → QueryTree
+    any_of : QueryTrees → QueryTree
+    without : QueryTree → QueryTree → QueryTree
+
+  pub data QueryTrees : Type 0 where
+    no_tree : QueryTrees
+    tree : QueryTree → QueryTrees → QueryTrees
+
+-- the trees of a list
+abbrev pub trees_from : List QueryTree → QueryTrees
+trees_from [] = no_tree
+trees_from (t ∷ ts) = tree t (trees_from ts)
+
+-- one layer of a program's query, the queries in it as trees
+abbrev pub tree_step : Query-F QueryTree → QueryTree
+tree_step Query-F.Empty = nothing
+tree_step (Query-F.All n) = all_below n
+tree_step (Query-F.Term term) = one_term term
+tree_step (Query-F.Phrase first others) = one_phrase first others.items
+tree_step (Query-F.And queries) = each_of (trees_from queries.items)
+tree_step (Query-F.Or queries) = any_of (trees_from queries.items)
+tree_step (Query-F.AndNot first other) = without first.value other.value
+
+-- the tree of a program's query
+abbrev pub tree_of : Query → QueryTree
+tree_of = fold-Query QueryTree tree_step
+
+-- the trees of queries
+abbrev pub trees_of : List Query → QueryTrees
+trees_of queries = trees_from (map tree_of queries)
+
+-- whether there is a tree
+abbrev pub has_tree : QueryTrees → Bool
+has_tree no_tree = false
+has_tree (tree t ts) = true
+
+-- Whether a document matches: it is below a number, has a token with the term's field and key, has the phrase, or matches as the parts say.
+abbrev mutual
+  pub tree_matches : QueryTree → List IndexToken → ℕ → Bool
+  tree_matches nothing ts doc = false
+  tree_matches (all_below n) ts doc = nat_lt doc (min n TERMINATED)
+  tree_matches (one_term term) ts doc = list_any (is_token_of term doc) ts
+  tree_matches (one_phrase first others) ts doc = has_phrase ts doc first others
+  tree_matches (each_of qs) ts doc = has_tree qs && all_match qs ts doc
+  tree_matches (any_of qs) ts doc = any_matches qs ts doc
+  tree_matches (without first other) ts doc = tree_matches first ts doc && not (tree_matches other ts doc)
+
+  pub all_match : QueryTrees → List IndexToken → ℕ → Bool
+  all_match no_tree ts doc = true
+  all_match (tree q qs) ts doc = tree_matches q ts doc && all_match qs ts doc
+
+  pub any_matches : QueryTrees → List IndexToken → ℕ → Bool
+  any_matches no_tree ts doc = false
+  any_matches (tree q qs) ts doc = tree_matches q ts doc || any_matches qs ts doc
+
+-- whether a document matches a query
+abbrev pub matches : Query → List IndexToken → ℕ → Bool
+matches query ts doc = tree_matches (tree_of query) ts doc
+
+-- Whether a test of terms and of phrases holds for all of a query.
+abbrev mutual
+  pub holds_for_all : (TermState → Bool) → (TermState → List PhraseTerm → Bool) → QueryTree → Bool
+  holds_for_all of_term of_phrase nothing = true
+  holds_for_all of_term of_phrase (all_below n) = true
+  holds_for_all of_term of_phrase (one_term term) = of_term term
+  holds_for_all of_term of_phrase (one_phrase first others) = of_phrase first others
+  holds_for_all of_term of_phrase (each_of qs) = hold_for_all of_term of_phrase qs
+  holds_for_all of_term of_phrase (any_of qs) = hold_for_all of_term of_phrase qs
+  holds_for_all of_term of_phrase (without first other) = holds_for_all of_term of_phrase first && holds_for_all of_term of_phrase other
+
+  pub hold_for_all : (TermState → Bool) → (TermState → List PhraseTerm → Bool) → QueryTrees → Bool
+  hold_for_all of_term of_phrase no_tree = true
+  hold_for_all of_term of_phrase (tree q qs) = holds_for_all of_term of_phrase q && hold_for_all of_term of_phrase qs
+
+-- whether the field of a term is one of the first n
+abbrev pub is_within : ℕ → TermState → Bool
+is_within n term = nat_lt term.field n
+
+-- whether the fields of the terms of a phrase are
+abbrev pub phrase_is_within : ℕ → TermState → List PhraseTerm → Bool
+phrase_is_within n first others = nat_lt first.field n && list_all (λ (o : PhraseTerm). nat_lt o.term.field n) others
+
+-- whether the field of each term is one of the first n
+abbrev pub has_fields : ℕ → Query → Bool
+has_fields n query = holds_for_all (is_within n) (phrase_is_within n) (tree_of query)
+
+-- whether a field of a schema keeps positions
+abbrev pub has_positions_in : List SchemaEntry → TermState → Bool
+has_positions_in entries term = has_positions (option_of entries term.field)
+
+-- whether the fields of the terms of a phrase do
+abbrev pub phrase_has_positions : List SchemaEntry → TermState → List PhraseTerm → Bool
+phrase_has_positions entries first others = has_positions_in entries first && list_all (λ (o : PhraseTerm). has_positions_in entries o.term) others
+
+-- whether the fields of all phrases keep positions
+abbrev pub keeps_positions : List SchemaEntry → Query → Bool
+keeps_positions entries query = holds_for_all (λ (t : TermState). true) (phrase_has_positions entries) (tree_of query)

@@ -1,0 +1,289 @@
+-- What the text of a query means, by the fields of a schema.
+use Rattle.std.specs.Prelude.{◌≡◌, ◌⊎◌, ℕ, Bool, true, false, ◌&&◌, ◌||◌, ◌==◌, ◌+◌, ◌-◌, not, List, [], ◌∷◌, ◌++◌, Option, None, Some, Result, Ok, Err, bytes_eq, drop, if◌then◌else◌, length, map, nat_eq, nat_le, nat_lt, option_map, position, slice_get, take}
+use Rattle.std.specs.Borrow.{Bor}
+use Rattle.std.specs.List.{AllByRecursion, list_all, list_any, position_from}
+use Rattle.std.specs.Option.{option_or, option_to_list}
+use Rattle.ii_io.specs.declared.faults.Fault.TheVariants.{OutOfMemory}
+use Rattle.ii_base.specs.Options.{has_positions}
+use Rattle.ii_base.specs.Paths.{has_zero, path_bytes, segments_of}
+use Rattle.ii_base.specs.Schema.{SchemaEntry}
+use Rattle.ii_base.specs.Terms.{TermState}
+use Rattle.ii_base.specs.Values.{flipped, number_of_bool, text_key, u64_bytes}
+use Rattle.ii_base.specs.Words.{Word}
+use Rattle.ii_base.specs.declared.schema.value_type.ValueType.{ValueType}
+use Rattle.ii_base.specs.declared.schema.value_type.ValueType.TheVariants as types
+use Rattle.ii_json.specs.FastValues.{bool_in, fast_value_in, i64_in, u64_in}
+use Rattle.ii_definitions.specs.JsonKeys.{is_json}
+use Rattle.ii_definitions.specs.Tokens.{IndexToken}
+use Rattle.ii_query_grammar.specs.Parsed.{SyntaxError, parsed}
+use Rattle.ii_query_grammar.specs.Trees.{Ast, Literal, both, either, leaf, without}
+use Rattle.ii_query_grammar.specs.declared.query_grammar.TheConstants.{MAX_LEXEMES}
+use Rattle.ii_query_parser.specs.Queries.{has_fields, has_phrase, has_positions_in, is_token_of, keeps_positions, matches}
+use Rattle.ii_query_parser.specs.declared.query.PhraseTerm.{PhraseTerm}
+use Rattle.ii_query_parser.specs.declared.query.Query.{Query}
+use Rattle.ii_query_parser.specs.declared.query_parser_error.QueryParserError.{QueryParserError}
+use Rattle.ii_query_parser.specs.declared.query_parser_error.QueryParserError.TheVariants as errors
+
+-- What words are looked up by: an analyzer, and the fields of a schema.
+pub record TextFields : Type 0 where
+  pub analyze : List ℕ → List Word
+  pub entries : List SchemaEntry
+
+-- Those, and the fields that are meant where none is named.
+pub record QueryFields : Type 0 where
+  pub texts : TextFields
+  pub defaults : List ℕ
+
+-- A term, and those that follow it in a phrase; a term alone has none.
+pub record PhraseState : Type 0 where
+  pub first : TermState
+  pub others : List PhraseTerm
+
+-- a term alone
+abbrev pub one_term : TermState → PhraseState
+one_term t = record { first = t; others = [] }
+
+-- whether no term follows the first
+abbrev pub is_alone : PhraseState → Bool
+is_alone p = nat_eq (length p.others) 0
+
+-- the terms and phrases of a word or a phrase, of which a document has to have one, or why it has none
+abbrev pub Terms : Type 0
+Terms = Result (List PhraseState) QueryParserError
+
+-- the term of a word behind a prefix
+abbrev pub word_term : TermState → List ℕ → TermState
+word_term prefix word = record { field = prefix.field; value = prefix.value ++ word }
+
+-- whether words stand at a place or after it, less than 2^32 positions
+abbrev pub stand_after : ℕ → List Word → Bool
+stand_after first ws = list_all (λ (w : Word). nat_le first w.position && nat_lt (w.position - first) 4294967296) ws
+
+-- words behind a prefix, each with how far it stands after a place
+abbrev pub terms_after : TermState → ℕ → List Word → List PhraseTerm
+terms_after prefix first ws = map (λ (w : Word). record { distance = w.position - first; term = word_term prefix w.text }) ws
+
+-- the phrase of words behind a prefix: the first one, and the others, none of which stands before it
+abbrev pub words_phrase : TermState → List Word → Option PhraseState
+words_phrase prefix [] = None
+words_phrase prefix (w ∷ ws) = if stand_after w.position ws then Some (record { first = word_term prefix w.text; others = terms_after prefix w.position ws }) else None
+
+-- the term of a value in a field, if there is one
+abbrev pub value_term : ℕ → QueryParserError → Option (List ℕ) → Terms
+value_term field error None = Err error
+value_term field error (Some key) = Ok (one_term (record { field = field; value = key }) ∷ [])
+
+-- what a text is looked up by: the term of a value, if there is one, and its words; several words want positions
+abbrev pub text_terms : Bool → Option TermState → Option PhraseState → Terms
+text_terms keeps None None = Err errors.UnsupportedPhrase
+text_terms keeps (Some value) None = Ok (one_term value ∷ [])
+text_terms keeps value (Some words) =
+    if keeps || is_alone words then Ok (map one_term (option_to_list value) ++ words ∷ []) else Err errors.FieldDoesNotHavePositionsIndexed
+
+-- the bytes of a path and their end
+abbrev pub path_key : Bool → List ℕ → List ℕ
+path_key expand_dots path = path_bytes expand_dots (segments_of path) ++ 0 ∷ []
+
+-- the value that a text is taken for at a path, if it is taken for one
+abbrev pub path_value : ℕ → Bool → List ℕ → List ℕ → Option TermState
+path_value field expand_dots path phrase = option_map (λ value. record { field = field; value = path_key expand_dots path ++ value }) (fast_value_in phrase)
+
+-- the terms of a text in a field, by what the field keeps and by the type of its values
+abbrev pub typed_terms : TextFields → ℕ → Bool → Bool → List ℕ → List ℕ → ValueType → Terms
+typed_terms q field keeps expand_dots path phrase types.Str = text_terms keeps None (words_phrase (record { field = field; value = [] }) (q.analyze phrase))
+typed_terms q field keeps expand_dots path phrase types.U64 = value_term field errors.ExpectedInt (option_map u64_bytes (u64_in phrase))
+typed_terms q field keeps expand_dots path phrase types.I64 = value_term field errors.ExpectedInt (option_map (λ n. u64_bytes (flipped n)) (i64_in phrase))
+typed_terms q field keeps expand_dots path phrase types.Bool = value_term field errors.ExpectedBool (option_map (λ b. u64_bytes (number_of_bool b)) (bool_in phrase))
+typed_terms q field keeps expand_dots path phrase types.Date = Err errors.UnsupportedType
+typed_terms q field keeps expand_dots path phrase types.Bytes = Err errors.UnsupportedType
+typed_terms q field keeps expand_dots path phrase types.IpAddr = Err errors.UnsupportedType
+typed_terms q field keeps expand_dots path phrase types.Json =
+    if has_zero path then Err errors.UnsupportedPath
+    else text_terms keeps (path_value field expand_dots path phrase) (words_phrase (record { field = field; value = path_key expand_dots path ++ text_key [] }) (q.analyze phrase))
+
+-- those of an entry of the schema, if it is indexed
+abbrev pub entry_terms : TextFields → ℕ → List ℕ → List ℕ → Option SchemaEntry → Terms
+entry_terms q field path phrase None = Err errors.FieldDoesNotExist
+entry_terms q field path phrase (Some e) = if e.is_indexed then typed_terms q field (has_positions e.option) e.expands_dots path phrase e.value_type else Err errors.FieldNotIndexed
+
+-- the terms of a text in a field of the schema, at a path where it has JSON values
+abbrev pub terms_in_field : TextFields → ℕ → List ℕ → List ℕ → Terms
+terms_in_field q field path phrase = entry_terms q field path phrase (slice_get q.entries field)
+
+-- the field of a name, the first that has it
+abbrev pub field_named : List SchemaEntry → List ℕ → Option ℕ
+field_named entries name = position_from (λ (e : SchemaEntry). bytes_eq e.name name) 0 entries
+
+-- whether a field has JSON values
+abbrev pub has_json_values : Option SchemaEntry → Bool
+has_json_values None = false
+has_json_values (Some e) = is_json e.value_type
+
+-- the terms at a path in a field of JSON values
+abbrev pub path_terms : TextFields → List ℕ → List ℕ → Option ℕ → Terms
+path_terms q path phrase None = Err errors.FieldDoesNotExist
+path_terms q path phrase (Some field) = if has_json_values (slice_get q.entries field) then terms_in_field q field path phrase else Err errors.FieldDoesNotExist
+
+-- those of a name that is cut at its first dot, if it has one
+abbrev pub dotted_terms : TextFields → List ℕ → List ℕ → Option ℕ → Terms
+dotted_terms q name phrase None = Err errors.FieldDoesNotExist
+dotted_terms q name phrase (Some i) = path_terms q (drop (i + 1) name) phrase (field_named q.entries (take i name))
+
+-- those of a name: that of a field, or of one of JSON values and a path behind a dot
+abbrev pub named_terms : TextFields → List ℕ → List ℕ → Option ℕ → Terms
+named_terms q name phrase (Some field) = terms_in_field q field [] phrase
+named_terms q name phrase None = dotted_terms q name phrase (position (λ b. b == 46) name)
+
+-- two lists of terms together, or the first refusal
+abbrev pub joined_terms : Terms → Terms → Terms
+joined_terms (Err e) other = Err e
+joined_terms (Ok ts) (Err e) = Err e
+joined_terms (Ok ts) (Ok us) = Ok (ts ++ us)
+
+-- the terms of a text in each of some fields
+abbrev pub default_terms : TextFields → List ℕ → List ℕ → Terms
+default_terms q phrase [] = Ok []
+default_terms q phrase (field ∷ fields) = joined_terms (terms_in_field q field [] phrase) (default_terms q phrase fields)
+
+-- those of the fields that are meant, where there is one
+abbrev pub some_default : TextFields → List ℕ → List ℕ → Terms
+some_default q phrase [] = Err errors.NoDefaultFieldDeclared
+some_default q phrase (field ∷ fields) = default_terms q phrase (field ∷ fields)
+
+-- the terms of a word or a phrase
+abbrev pub literal_terms : TextFields → List ℕ → Option (List ℕ) → List ℕ → Terms
+literal_terms q defaults None phrase = some_default q phrase defaults
+literal_terms q defaults (Some name) phrase = named_terms q name phrase (field_named q.entries name)
+
+-- those of a word or a phrase of a tree
+abbrev pub terms_of : QueryFields → Literal → Terms
+terms_of q l = literal_terms q.texts q.defaults l.field_name l.phrase
+
+-- whether a document has a term, or the phrase where others follow it
+abbrev pub has_words : List IndexToken → ℕ → TermState → List PhraseTerm → Bool
+has_words ts doc first [] = list_any (is_token_of first doc) ts
+has_words ts doc first (o ∷ os) = has_phrase ts doc first (o ∷ os)
+
+-- whether a document has one of these terms and phrases
+abbrev pub has_term : List IndexToken → ℕ → List PhraseState → Bool
+has_term ts doc terms = list_any (λ (p : PhraseState). has_words ts doc p.first p.others) terms
+
+-- whether a document has what a word or a phrase means
+abbrev pub has_one : List IndexToken → ℕ → Terms → Bool
+has_one ts doc (Err e) = false
+has_one ts doc (Ok terms) = has_term ts doc terms
+
+-- whether a document matches the tree of a text
+abbrev pub ast_matches : QueryFields → Ast → List IndexToken → ℕ → Bool
+ast_matches q (leaf l) ts doc = has_one ts doc (terms_of q l)
+ast_matches q (both first other) ts doc = ast_matches q first ts doc && ast_matches q other ts doc
+ast_matches q (either first other) ts doc = ast_matches q first ts doc || ast_matches q other ts doc
+ast_matches q (without first other) ts doc = ast_matches q first ts doc && not (ast_matches q other ts doc)
+
+-- why a word or a phrase is refused
+abbrev pub refused : Terms → Option QueryParserError
+refused (Err e) = Some e
+refused (Ok terms) = None
+
+-- why a tree is refused: the first refusal of its words and phrases
+abbrev pub ast_refusal : QueryFields → Ast → Option QueryParserError
+ast_refusal q (leaf l) = refused (terms_of q l)
+ast_refusal q (both first other) = option_or (ast_refusal q first) (ast_refusal q other)
+ast_refusal q (either first other) = option_or (ast_refusal q first) (ast_refusal q other)
+ast_refusal q (without first other) = option_or (ast_refusal q first) (ast_refusal q other)
+
+-- A query means what a tree does, which is refused for nothing.
+pub record Means (q : QueryFields) (ast : Ast) (query : Query) : Type 0 where
+  pub taken : ast_refusal q ast ≡ None
+  pub exact : (ts : List IndexToken) (doc : ℕ) → matches query ts doc ≡ ast_matches q ast ts doc
+  pub fields : has_fields (length q.texts.entries) query ≡ true
+  pub positions : keeps_positions q.texts.entries query ≡ true
+
+-- Memory was missing, or this is why.
+abbrev pub IsWhyRefused : Option QueryParserError → QueryParserError → Type 0
+IsWhyRefused refusal e = (e ≡ errors.Fault OutOfMemory) ⊎ (refusal ≡ Some e)
+
+-- A query means what a tree does, or it is refused.
+abbrev pub IsQueryOf : QueryFields → Ast → Result Query QueryParserError → Type 0
+IsQueryOf q ast (Ok query) = Means q ast query
+IsQueryOf q ast (Err e) = IsWhyRefused (ast_refusal q ast) e
+
+-- why the tree of a text is refused, or why it has none
+abbrev pub read_refusal : QueryFields → Result Ast SyntaxError → Option QueryParserError
+read_refusal q (Ok ast) = ast_refusal q ast
+read_refusal q (Err e) = Some (errors.SyntaxError e.wanted e.at)
+
+-- why a text is refused
+abbrev pub text_refusal : QueryFields → List ℕ → Option QueryParserError
+text_refusal q text = read_refusal q (parsed MAX_LEXEMES text)
+
+-- whether a document matches the tree of a text, if it has one
+abbrev pub read_matches : QueryFields → Result Ast SyntaxError → List IndexToken → ℕ → Bool
+read_matches q (Ok ast) ts doc = ast_matches q ast ts doc
+read_matches q (Err e) ts doc = false
+
+-- whether a document matches a text
+abbrev pub text_matches : QueryFields → List ℕ → List IndexToken → ℕ → Bool
+text_matches q text ts doc = read_matches q (parsed MAX_LEXEMES text) ts doc
+
+-- A query means what a text does.
+pub record MeansText (q : QueryFields) (text : List ℕ) (query : Query) : Type 0 where
+  pub taken : text_refusal q text ≡ None
+  pub exact : (ts : List IndexToken) (doc : ℕ) → matches query ts doc ≡ text_matches q text ts doc
+  pub fields : has_fields (length q.texts.entries) query ≡ true
+  pub positions : keeps_positions q.texts.entries query ≡ true
+
+-- A query means what a text does, or it is refused.
+abbrev pub IsQueryOfText : QueryFields → List ℕ → Result Query QueryParserError → Type 0
+IsQueryOfText q text (Ok query) = MeansText q text query
+IsQueryOfText q text (Err e) = IsWhyRefused (text_refusal q text) e
+
+-- whether the fields of a phrase are among so many
+abbrev pub phrase_within : ℕ → PhraseState → Bool
+phrase_within n p = nat_lt p.first.field n && list_all (λ (o : PhraseTerm). nat_lt o.term.field n) p.others
+
+-- whether they keep positions, where several terms need them
+abbrev pub phrase_kept : List SchemaEntry → PhraseState → Bool
+phrase_kept entries p = is_alone p || (has_positions_in entries p.first && list_all (λ (o : PhraseTerm). has_positions_in entries o.term) p.others)
+
+-- the fields of terms and phrases are those of a schema, and keep positions where they are needed
+abbrev pub are_in : List SchemaEntry → List PhraseState → Bool
+are_in entries terms = list_all (λ (p : PhraseState). phrase_within (length entries) p && phrase_kept entries p) terms
+
+-- The terms of a phrase are of a field, which keeps positions where they are needed.
+pub record IsPhraseIn (field : ℕ) (keeps : Bool) (p : PhraseState) : Type 0 where
+  pub first : p.first.field ≡ field
+  pub others : AllByRecursion (λ (o : PhraseTerm). o.term.field ≡ field) p.others
+  pub kept : (keeps || is_alone p) ≡ true
+
+-- Terms were added, or they are refused.
+abbrev pub Adds : Terms → List SchemaEntry → List PhraseState → List PhraseState → Result (Unit {0}) QueryParserError → Type 0
+Adds terms entries old new (Ok done) = (ts : List PhraseState) × (terms ≡ Ok ts) × (new ≡ old ++ ts) × (are_in entries ts ≡ true)
+Adds terms entries old new (Err e) = IsWhyRefused (refused terms) e
+
+-- Terms of a field were added, or they are refused.
+abbrev pub AddsIn : Terms → ℕ → Bool → List PhraseState → List PhraseState → Result (Unit {0}) QueryParserError → Type 0
+AddsIn terms field keeps old new (Ok done) = (ts : List PhraseState) × (terms ≡ Ok ts) × (new ≡ old ++ ts) × AllByRecursion (IsPhraseIn field keeps) ts
+AddsIn terms field keeps old new (Err e) = IsWhyRefused (refused terms) e
+
+-- A term was added, or there is none.
+abbrev pub AddsMaybe : Option TermState → QueryParserError → List PhraseState → List PhraseState → Result (Unit {0}) QueryParserError → Type 0
+AddsMaybe None error old new (Ok done) = ⊥
+AddsMaybe (Some term) error old new (Ok done) = new ≡ old ++ one_term term ∷ []
+AddsMaybe None error old new (Err e) = e ≡ error
+AddsMaybe (Some term) error old new (Err e) = e ≡ errors.Fault OutOfMemory
+
+-- What a text is looked up by was added, or it is refused.
+abbrev pub AddsText : Bool → Option TermState → Option PhraseState → List PhraseState → List PhraseState → Result (Unit {0}) QueryParserError → Type 0
+AddsText keeps value words old new (Ok done) = (ts : List PhraseState) × (text_terms keeps value words ≡ Ok ts) × (new ≡ old ++ ts)
+AddsText keeps value words old new (Err e) = IsWhyRefused (refused (text_terms keeps value words)) e
+
+-- A name was cut at its first dot, or has none.
+abbrev pub CutsAtDot : List ℕ → Option (Bor (List ℕ) × Bor (List ℕ)) → Type 0
+CutsAtDot name None = position (λ b. b == 46) name ≡ None
+CutsAtDot name (Some parts) = (i : ℕ) × (position (λ b. b == 46) name ≡ Some i) × (parts.0.now ≡ take i name) × (parts.1.now ≡ drop (i + 1) name)
+
+-- The queries of two trees, or the first refusal.
+abbrev pub AreQueriesOfTrees : QueryFields → Ast → Ast → Result (Query × Query) QueryParserError → Type 0
+AreQueriesOfTrees q first other (Ok parts) = Means q first parts.0 × Means q other parts.1
+AreQueriesOfTrees q first other (Err e) = IsWhyRefused (option_or (ast_refusal q first) (ast_refusal q other)) e

@@ -1,0 +1,16 @@
+//! Queries over the fields of a schema, and the parser of their texts.
+#![tactic(auto)]
+
+pub mod literal;
+mod phrase_words;
+pub mod query;
+pub mod query_parser;
+pub mod query_parser_error;
+
+pub use ii_query_grammar::{
+    Delimiter, MAX_LEXEMES, ParseError, UserInputAst, UserInputLiteral, Wanted, parse,
+};
+pub use literal::field_named;
+pub use query::{PhraseTerm, Query};
+pub use query_parser::{parse_query, query_of};
+pub use query_parser_error::QueryParserError;

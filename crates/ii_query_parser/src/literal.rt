@@ -1,0 +1,362 @@
+ghost use Rattle.std.specs.Prelude.{◌≡◌, ◌==◌, ◌<◌, ◌++◌, [], false, Err, None, length, position, slice_get, IfErr, IfOk, IfSome};
+ghost use Rattle.std.specs.Option.{option_map};
+ghost use Rattle.ii_io.specs.Faults.{OnlyMemory};
+ghost use Rattle.ii_base.specs.Options.{has_positions};
+ghost use Rattle.ii_base.specs.Values.{flipped, number_of_bool, text_key, u64_bytes};
+ghost use Rattle.ii_base.specs.declared.schema.value_type.ValueType.TheVariants as types;
+ghost use Rattle.ii_json.specs.FastValues.{bool_in, i64_in, u64_in};
+ghost use Rattle.ii_query_grammar.specs.Trees.{literal_of};
+ghost use Rattle.ii_query_parser.specs.declared.query_parser_error.QueryParserError.TheVariants as errors;
+ghost use Rattle.ii_query_parser.specs.QueryTexts.{Adds, AddsIn, AddsMaybe, AddsText, CutsAtDot, field_named, has_json_values, named_terms, some_default, terms_in_field, terms_of, typed_terms, words_phrase};
+
+use crate::phrase_words::{PhraseWords, words_phrase};
+use crate::query_parser_error::QueryParserError;
+use ii_base::{Fault, Field, IndexRecordOption, Schema, Term, TextAnalyzer, ValueType};
+use ii_json::convert_to_fast_value_and_append_to_json_term;
+use ii_query_grammar::UserInputLiteral;
+use std::alloc::Global;
+
+/// Adds the terms of a word or a phrase, of which a document has to have one.
+pub(crate) fn push_literal<A: TextAnalyzer>(
+    alloc: Global,
+    schema: &Schema,
+    default_fields: &[Field],
+    analyzer: &A,
+    literal: &UserInputLiteral,
+    terms: &mut Vec<PhraseWords>,
+) -> Result<(), QueryParserError>
+    ensures { Adds (terms_of (record { texts = record { analyze = A.words analyzer.now; entries = schema.now }; defaults = default_fields.now }) (literal_of literal.now)) schema.now terms.old.items terms.new.items result }
+{
+    let phrase = literal.phrase.as_str();
+    match &literal.field_name {
+        None => push_defaults(alloc, schema, default_fields, analyzer, phrase, terms),
+        Some(name) => push_named(alloc, schema, analyzer, name.as_str(), phrase, terms),
+    }
+}
+
+// Adds those of a text in each of the fields that are meant.
+fn push_defaults<A: TextAnalyzer>(
+    alloc: Global,
+    schema: &Schema,
+    default_fields: &[Field],
+    analyzer: &A,
+    phrase: &str,
+    terms: &mut Vec<PhraseWords>,
+) -> Result<(), QueryParserError>
+    ensures { Adds (some_default (record { analyze = A.words analyzer.now; entries = schema.now }) phrase.now default_fields.now) schema.now terms.old.items terms.new.items result }
+{
+    if default_fields.is_empty() {
+        return Err(QueryParserError::NoDefaultFieldDeclared);
+    }
+    for field in default_fields {
+        match push_in_field(alloc, schema, analyzer, *field, "", phrase, terms) {
+            Ok(()) => {}
+            Err(error) => return Err(error),
+        }
+    }
+    Ok(())
+}
+
+// Adds those of a text behind a name: that of a field, or of one of JSON values and a path behind a dot.
+fn push_named<A: TextAnalyzer>(
+    alloc: Global,
+    schema: &Schema,
+    analyzer: &A,
+    name: &str,
+    phrase: &str,
+    terms: &mut Vec<PhraseWords>,
+) -> Result<(), QueryParserError>
+    ensures { Adds (named_terms (record { analyze = A.words analyzer.now; entries = schema.now }) name.now phrase.now (field_named schema.now name.now)) schema.now terms.old.items terms.new.items result }
+{
+    if let Some(field) = field_named(schema, name) {
+        return push_in_field(alloc, schema, analyzer, field, "", phrase, terms);
+    }
+    let Some((name, path)) = cut_at_dot(name) else {
+        return Err(QueryParserError::FieldDoesNotExist);
+    };
+    let Some(field) = field_named(schema, name) else {
+        return Err(QueryParserError::FieldDoesNotExist);
+    };
+    if !has_json(schema, field) {
+        return Err(QueryParserError::FieldDoesNotExist);
+    }
+    push_in_field(alloc, schema, analyzer, field, path, phrase, terms)
+}
+
+/// The field of a name, the first that has it.
+pub fn field_named(schema: &Schema, name: &str) -> Option<Field>
+    ensures named { result ≡ field_named schema.now name.now }
+    ensures inside { IfSome result (λ field. field < length schema.now) }
+{
+    for id in 0..schema.num_fields() as u32 {
+        let field = Field::from_field_id(id);
+        if schema.get_field_entry(field).name() == name {
+            return Some(field);
+        }
+    }
+    None
+}
+
+// Whether a field of the schema has JSON values.
+fn has_json(schema: &Schema, field: Field) -> bool
+    ensures { result ≡ has_json_values (slice_get schema.now field) }
+{
+    if field.field_id() as usize >= schema.num_fields() {
+        return false;
+    }
+    schema.get_field_entry(field).value_type() == ValueType::Json
+}
+
+// What stands before the first dot of a name, and what stands behind it, if it has one.
+fn cut_at_dot(name: &str) -> Option<(&str, &str)>
+    ensures { CutsAtDot name.now result }
+{
+    let Some(place) = dot_in(name.as_bytes()) else {
+        return None;
+    };
+    Some((name.split_at(place).0, name.split_at(place + 1).1))
+}
+
+fn dot_in(name: &[u8]) -> Option<usize>
+    ensures { result ≡ position (λ b. b == 46) name.now }
+{
+    name.iter().position(|b| *b == b'.')
+}
+
+// Adds those of a text in a field, at a path of its JSON values where it has these.
+fn push_in_field<A: TextAnalyzer>(
+    alloc: Global,
+    schema: &Schema,
+    analyzer: &A,
+    field: Field,
+    path: &str,
+    phrase: &str,
+    terms: &mut Vec<PhraseWords>,
+) -> Result<(), QueryParserError>
+    ensures { Adds (terms_in_field (record { analyze = A.words analyzer.now; entries = schema.now }) field path.now phrase.now) schema.now terms.old.items terms.new.items result }
+{
+    if field.field_id() as usize >= schema.num_fields() {
+        return Err(QueryParserError::FieldDoesNotExist);
+    }
+    let entry = schema.get_field_entry(field);
+    if !entry.is_indexed() {
+        return Err(QueryParserError::FieldNotIndexed);
+    }
+    let place = Place {
+        field,
+        value_type: entry.value_type(),
+        option: entry.index_record_option(),
+        expand_dots: entry.expands_dots(),
+    };
+    place.push_terms(alloc, analyzer, path, phrase, terms)
+}
+
+// A field in which a text is looked up.
+#[derive(Clone, Copy)]
+struct Place {
+    field: Field,
+    value_type: ValueType,
+    option: IndexRecordOption,
+    expand_dots: bool,
+}
+
+impl Place {
+    // Adds the terms of a text, by the type of the field's values.
+    fn push_terms<A: TextAnalyzer>(
+        self,
+        alloc: Global,
+        analyzer: &A,
+        path: &str,
+        phrase: &str,
+        terms: &mut Vec<PhraseWords>,
+    ) -> Result<(), QueryParserError>
+        ensures { AddsIn (typed_terms (record { analyze = A.words analyzer.now; entries = [] }) self.field (has_positions self.option) self.expand_dots path.now phrase.now self.value_type) self.field (has_positions self.option) terms.old.items terms.new.items result }
+    {
+        match self.value_type {
+            ValueType::Str => self.push_text(alloc, analyzer, phrase, terms),
+            ValueType::U64 => push_read(
+                alloc,
+                u64_term(alloc, self.field, phrase),
+                QueryParserError::ExpectedInt,
+                terms,
+            ),
+            ValueType::I64 => push_read(
+                alloc,
+                i64_term(alloc, self.field, phrase),
+                QueryParserError::ExpectedInt,
+                terms,
+            ),
+            ValueType::Bool => push_read(
+                alloc,
+                bool_term(alloc, self.field, phrase),
+                QueryParserError::ExpectedBool,
+                terms,
+            ),
+            ValueType::Json => self.push_json(alloc, analyzer, path, phrase, terms),
+            ValueType::Date | ValueType::Bytes | ValueType::IpAddr => Err(
+                QueryParserError::UnsupportedType,
+            ),
+        }
+    }
+
+    // Adds the token of a text, or the phrase of several.
+    fn push_text<A: TextAnalyzer>(
+        self,
+        alloc: Global,
+        analyzer: &A,
+        phrase: &str,
+        terms: &mut Vec<PhraseWords>,
+    ) -> Result<(), QueryParserError>
+        ensures { AddsText (has_positions self.option) None (words_phrase (record { field = self.field; value = [] }) (A.words analyzer.now phrase.now)) terms.old.items terms.new.items result }
+    {
+        let prefix = Term::from_field_bytes(alloc, self.field, &[])?;
+        let words = words_phrase(alloc, analyzer, &prefix, phrase)?;
+        push_words(alloc, self.option, None, words, terms)
+    }
+
+    // Adds those of a text at a path of JSON values: the value that it is taken for, and its tokens.
+    fn push_json<A: TextAnalyzer>(
+        self,
+        alloc: Global,
+        analyzer: &A,
+        path: &str,
+        phrase: &str,
+        terms: &mut Vec<PhraseWords>,
+    ) -> Result<(), QueryParserError>
+        ensures { AddsIn (typed_terms (record { analyze = A.words analyzer.now; entries = [] }) self.field (has_positions self.option) self.expand_dots path.now phrase.now types.Json) self.field (has_positions self.option) terms.old.items terms.new.items result }
+    {
+        if path.as_bytes().contains(&0) {
+            return Err(QueryParserError::UnsupportedPath);
+        }
+        let start = Term::from_field_json_path(alloc, self.field, path, self.expand_dots)?;
+        let value = convert_to_fast_value_and_append_to_json_term(alloc, &start, phrase)?;
+        let prefix = text_prefix(start)?;
+        let words = words_phrase(alloc, analyzer, &prefix, phrase)?;
+        push_words(alloc, self.option, value, words, terms)
+    }
+}
+
+// What stands before the words of texts at a path.
+fn text_prefix(path: Term) -> Result<Term, Fault>
+    ensures ok { IfOk result (λ prefix. prefix ≡ record { field = path.field; value = path.value ++ text_key [] }) }
+    ensures only { OnlyMemory result }
+{
+    let mut prefix = path;
+    prefix.append_type_and_str("")?;
+    Ok(prefix)
+}
+
+// The term of a number or a truth value that a text is taken for, if it is one.
+fn u64_term(alloc: Global, field: Field, phrase: &str) -> Result<Option<Term>, Fault>
+    ensures ok { IfOk result (λ term. term ≡ option_map (λ n. record { field = field; value = u64_bytes n }) (u64_in phrase.now)) }
+    ensures only { OnlyMemory result }
+{
+    match u64_in(phrase) {
+        Some(number) => Ok(Some(Term::from_field_u64(alloc, field, number)?)),
+        None => Ok(None),
+    }
+}
+
+fn i64_term(alloc: Global, field: Field, phrase: &str) -> Result<Option<Term>, Fault>
+    ensures ok { IfOk result (λ term. term ≡ option_map (λ n. record { field = field; value = u64_bytes (flipped n) }) (i64_in phrase.now)) }
+    ensures only { OnlyMemory result }
+{
+    match i64_in(phrase) {
+        Some(number) => Ok(Some(Term::from_field_i64(alloc, field, number)?)),
+        None => Ok(None),
+    }
+}
+
+fn bool_term(alloc: Global, field: Field, phrase: &str) -> Result<Option<Term>, Fault>
+    ensures ok { IfOk result (λ term. term ≡ option_map (λ b. record { field = field; value = u64_bytes (number_of_bool b) }) (bool_in phrase.now)) }
+    ensures only { OnlyMemory result }
+{
+    match bool_in(phrase) {
+        Some(value) => Ok(Some(Term::from_field_bool(alloc, field, value)?)),
+        None => Ok(None),
+    }
+}
+
+// What Rust's `parse` takes a text for, at each of three types.
+fn u64_in(text: &str) -> Option<u64>
+    ensures { result ≡ u64_in text.now }
+{
+    text.parse().ok()
+}
+
+fn i64_in(text: &str) -> Option<i64>
+    ensures { result ≡ i64_in text.now }
+{
+    text.parse().ok()
+}
+
+fn bool_in(text: &str) -> Option<bool>
+    ensures { result ≡ bool_in text.now }
+{
+    text.parse().ok()
+}
+
+// Adds a term, or tells why there is none.
+fn push_term(
+    alloc: Global,
+    term: Option<Term>,
+    error: QueryParserError,
+    terms: &mut Vec<PhraseWords>,
+) -> Result<(), QueryParserError>
+    ensures { AddsMaybe term error terms.old.items terms.new.items result }
+{
+    match term {
+        Some(term) => Ok(terms.push(PhraseWords::one(alloc, term))?),
+        None => Err(error),
+    }
+}
+
+// Adds a term that was made, or tells why there is none.
+fn push_read(
+    alloc: Global,
+    term: Result<Option<Term>, Fault>,
+    error: QueryParserError,
+    terms: &mut Vec<PhraseWords>,
+) -> Result<(), QueryParserError>
+    ensures read { IfOk term (λ t. AddsMaybe t error terms.old.items terms.new.items result) }
+    ensures refused { IfErr term (λ fault. result ≡ Err (errors.Fault fault)) }
+{
+    match term {
+        Ok(term) => push_term(alloc, term, error, terms),
+        Err(fault) => Err(QueryParserError::from(fault)),
+    }
+}
+
+// Adds what a text is looked up by: the term of a value, and the text's words, of which there has to be one.
+fn push_words(
+    alloc: Global,
+    option: IndexRecordOption,
+    value: Option<Term>,
+    words: Option<PhraseWords>,
+    terms: &mut Vec<PhraseWords>,
+) -> Result<(), QueryParserError>
+    ensures { AddsText (has_positions option) value words terms.old.items terms.new.items result }
+{
+    let Some(words) = words else {
+        return push_value(alloc, value, terms);
+    };
+    if !option.has_positions() && !words.is_alone() {
+        drop(value);
+        return Err(QueryParserError::FieldDoesNotHavePositionsIndexed);
+    }
+    if let Some(value) = value {
+        terms.push(PhraseWords::one(alloc, value))?;
+    }
+    Ok(terms.push(words)?)
+}
+
+// Adds the term of a value alone, if there is one.
+fn push_value(
+    alloc: Global,
+    value: Option<Term>,
+    terms: &mut Vec<PhraseWords>,
+) -> Result<(), QueryParserError>
+    ensures { AddsText false value None terms.old.items terms.new.items result }
+{
+    push_term(alloc, value, QueryParserError::UnsupportedPhrase, terms)
+}

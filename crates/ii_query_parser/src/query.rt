@@ -1,0 +1,268 @@
+ghost use Rattle.std.specs.Prelude.{◌≡◌, ◌&&◌, ◌||◌, ◌∷◌, [], ℕ, List, IfOk, length, nat_lt, not};
+ghost use Rattle.std.specs.List.{list_all, list_any};
+ghost use Rattle.ii_io.specs.Faults.{OnlyMemory};
+ghost use Rattle.ii_base.specs.Schema.{SchemaEntry};
+ghost use Rattle.ii_definitions.specs.Tokens.{IndexToken};
+ghost use Rattle.ii_query_parser.specs.Queries.{any_of, each_of, has_fields, has_positions_in, keeps_positions, matches, no_tree, tree, tree_of, trees_of, without};
+
+use ii_base::{DocId, Fault, Schema, Term};
+use std::alloc::Global;
+
+/// A term of a phrase after the first one.
+#[derive(Drop)]
+pub struct PhraseTerm {
+    /// How many positions after the first term it occurs.
+    pub distance: u32,
+    /// The term.
+    pub term: Term,
+}
+
+/// A query: which documents of an index are searched for.
+///
+/// A boolean query holds any number of clauses in a list, so the depth of a query is its nesting alone.
+#[derive(Drop)]
+pub enum Query {
+    /// Matches no document.
+    Empty,
+    /// Matches each document below a number: all documents of an index that has that many. No document is
+    /// `TERMINATED` or above.
+    All(DocId),
+    /// Matches the documents with a token of the term's field whose key is the term's value.
+    Term(Term),
+    /// Matches the documents with a phrase: a token of its first term in a text, from whose position each
+    /// other term occurs at its distance. The fields of the terms keep positions.
+    Phrase(Term, Vec<PhraseTerm>),
+    /// Matches the documents that each of the queries matches; no document where there are no queries.
+    And(Vec<Query>),
+    /// Matches the documents that at least one of the queries matches.
+    Or(Vec<Query>),
+    /// Matches the documents that the first query matches and the other one doesn't.
+    AndNot(Box<Query>, Box<Query>),
+}
+
+impl Query {
+    /// Returns the query that matches what both match.
+    ///
+    /// # Errors
+    ///
+    /// `OutOfMemory` if there is no memory for a list of two.
+    #[tactic(auto, using(crate::proofs::QueryLemmas::and_tree))]
+    pub fn and(alloc: Global, first: Query, other: Query) -> Result<Query, Fault>
+        ensures tree { IfOk result (λ query. tree_of query ≡ each_of (tree (tree_of first) (tree (tree_of other) no_tree))) }
+        ensures matches { IfOk result (λ query. (ts : List IndexToken) (doc : ℕ) → matches query ts doc ≡ (matches first ts doc && matches other ts doc)) }
+        ensures fields { IfOk result (λ query. (n : ℕ) → has_fields n query ≡ (has_fields n first && has_fields n other)) }
+        ensures positions { IfOk result (λ query. (entries : List SchemaEntry) → keeps_positions entries query ≡ (keeps_positions entries first && keeps_positions entries other)) }
+        ensures only { OnlyMemory result }
+    {
+        match pair(alloc, first, other) {
+            Ok(queries) => Ok(Query::And(queries)),
+            Err(fault) => Err(fault),
+        }
+    }
+
+    /// Returns the query that matches what at least one of two matches.
+    ///
+    /// # Errors
+    ///
+    /// `OutOfMemory` if there is no memory for a list of two.
+    #[tactic(auto, using(crate::proofs::QueryLemmas::or_tree))]
+    pub fn or(alloc: Global, first: Query, other: Query) -> Result<Query, Fault>
+        ensures tree { IfOk result (λ query. tree_of query ≡ any_of (tree (tree_of first) (tree (tree_of other) no_tree))) }
+        ensures matches { IfOk result (λ query. (ts : List IndexToken) (doc : ℕ) → matches query ts doc ≡ (matches first ts doc || matches other ts doc)) }
+        ensures fields { IfOk result (λ query. (n : ℕ) → has_fields n query ≡ (has_fields n first && has_fields n other)) }
+        ensures positions { IfOk result (λ query. (entries : List SchemaEntry) → keeps_positions entries query ≡ (keeps_positions entries first && keeps_positions entries other)) }
+        ensures only { OnlyMemory result }
+    {
+        match pair(alloc, first, other) {
+            Ok(queries) => Ok(Query::Or(queries)),
+            Err(fault) => Err(fault),
+        }
+    }
+
+    /// Returns the query that matches what the first matches and the other one doesn't.
+    ///
+    /// # Errors
+    ///
+    /// `OutOfMemory` if there is no memory for two boxes.
+    #[tactic(auto, using(crate::proofs::QueryLemmas::and_not_tree))]
+    pub fn and_not(alloc: Global, first: Query, other: Query) -> Result<Query, Fault>
+        ensures tree { IfOk result (λ query. tree_of query ≡ without (tree_of first) (tree_of other)) }
+        ensures matches { IfOk result (λ query. (ts : List IndexToken) (doc : ℕ) → matches query ts doc ≡ (matches first ts doc && not (matches other ts doc))) }
+        ensures fields { IfOk result (λ query. (n : ℕ) → has_fields n query ≡ (has_fields n first && has_fields n other)) }
+        ensures positions { IfOk result (λ query. (entries : List SchemaEntry) → keeps_positions entries query ≡ (keeps_positions entries first && keeps_positions entries other)) }
+        ensures only { OnlyMemory result }
+    {
+        match boxed(alloc, first, other) {
+            Ok((first, other)) => Ok(Query::AndNot(first, other)),
+            Err(fault) => Err(fault),
+        }
+    }
+
+    /// Returns the query that matches what the first and all others match.
+    ///
+    /// # Errors
+    ///
+    /// `OutOfMemory` if there is no memory for one more query in the list.
+    #[tactic(auto, using(crate::proofs::QueryLemmas::and_tree, crate::proofs::QueryLemmas::all_matched, crate::proofs::QueryLemmas::held_for_all))]
+    pub fn and_all(first: Query, others: Vec<Query>) -> Result<Query, Fault>
+        ensures tree { IfOk result (λ query. tree_of query ≡ each_of (tree (tree_of first) (trees_of others.items))) }
+        ensures matches { IfOk result (λ query. (ts : List IndexToken) (doc : ℕ) → matches query ts doc ≡ (matches first ts doc && list_all (λ q. matches q ts doc) others.items)) }
+        ensures fields { IfOk result (λ query. (n : ℕ) → has_fields n query ≡ (has_fields n first && list_all (has_fields n) others.items)) }
+        ensures positions { IfOk result (λ query. (entries : List SchemaEntry) → keeps_positions entries query ≡ (keeps_positions entries first && list_all (keeps_positions entries) others.items)) }
+        ensures only { OnlyMemory result }
+    {
+        let mut queries = others;
+        match queries.insert(0, first) {
+            Ok(()) => Ok(Query::And(queries)),
+            Err(refused) => Err(Fault::from(refused)),
+        }
+    }
+
+    /// Returns the query that matches what at least one of some queries matches; no document where there
+    /// are none.
+    #[tactic(auto, using(crate::proofs::QueryLemmas::or_tree, crate::proofs::QueryLemmas::or_matches, crate::proofs::QueryLemmas::or_fields, crate::proofs::QueryLemmas::or_positions))]
+    pub fn or_any(queries: Vec<Query>) -> Query
+        ensures tree { tree_of result ≡ any_of (trees_of queries.items) }
+        ensures matches { (ts : List IndexToken) (doc : ℕ) → matches result ts doc ≡ list_any (λ q. matches q ts doc) queries.items }
+        ensures fields { (n : ℕ) → has_fields n result ≡ list_all (has_fields n) queries.items }
+        ensures positions { (entries : List SchemaEntry) → keeps_positions entries result ≡ list_all (keeps_positions entries) queries.items }
+    {
+        Query::Or(queries)
+    }
+
+    /// Returns whether the field of each term is a field of the schema.
+    #[cycle(has_fields)]
+    #[tactic(auto, using(crate::proofs::QueryLemmas::nothing_fields, crate::proofs::QueryLemmas::all_fields, crate::proofs::QueryLemmas::term_fields, crate::proofs::QueryLemmas::phrase_fields, crate::proofs::QueryLemmas::and_fields, crate::proofs::QueryLemmas::or_fields, crate::proofs::QueryLemmas::and_not_fields))]
+    pub fn has_fields(&self, schema: &Schema) -> bool
+        ensures { result ≡ has_fields (length schema.now) self.now }
+    {
+        match self {
+            Query::Empty => true,
+            Query::All(_) => true,
+            Query::Term(term) => is_in(term, schema),
+            Query::Phrase(first, others) => is_in(first, schema) && are_in(others, schema),
+            Query::And(queries) => have_fields(queries, schema),
+            Query::Or(queries) => have_fields(queries, schema),
+            Query::AndNot(first, other) => first.has_fields(schema) && other.has_fields(schema),
+        }
+    }
+
+    /// Returns whether the fields of all phrases keep positions.
+    #[cycle(keeps_positions)]
+    #[tactic(auto, using(crate::proofs::QueryLemmas::nothing_positions, crate::proofs::QueryLemmas::all_positions, crate::proofs::QueryLemmas::term_positions, crate::proofs::QueryLemmas::phrase_positions, crate::proofs::QueryLemmas::and_positions, crate::proofs::QueryLemmas::or_positions, crate::proofs::QueryLemmas::and_not_positions))]
+    pub fn keeps_positions(&self, schema: &Schema) -> bool
+        ensures { result ≡ keeps_positions schema.now self.now }
+    {
+        match self {
+            Query::Empty => true,
+            Query::All(_) => true,
+            Query::Term(_) => true,
+            Query::Phrase(first, others) => {
+                has_positions_in(first, schema) && have_positions_in(others, schema)
+            }
+            Query::And(queries) => keep_positions(queries, schema),
+            Query::Or(queries) => keep_positions(queries, schema),
+            Query::AndNot(first, other) => {
+                first.keeps_positions(schema) && other.keeps_positions(schema)
+            }
+        }
+    }
+}
+
+// Whether the terms of all queries are of fields of the schema.
+#[cycle(has_fields)]
+fn have_fields(queries: &Vec<Query>, schema: &Schema) -> bool
+    ensures { result ≡ list_all (has_fields (length schema.now)) queries.now.items }
+{
+    for query in queries {
+        if !query.has_fields(schema) {
+            return false;
+        }
+    }
+    true
+}
+
+// Whether the fields of the phrases of all queries keep positions.
+#[cycle(keeps_positions)]
+fn keep_positions(queries: &Vec<Query>, schema: &Schema) -> bool
+    ensures { result ≡ list_all (keeps_positions schema.now) queries.now.items }
+{
+    for query in queries {
+        if !query.keeps_positions(schema) {
+            return false;
+        }
+    }
+    true
+}
+
+// A list of two queries.
+fn pair(alloc: Global, first: Query, other: Query) -> Result<Vec<Query>, Fault>
+    ensures pair { IfOk result (λ queries. queries.items ≡ first ∷ other ∷ []) }
+    ensures only { OnlyMemory result }
+{
+    Ok(vec![in alloc; first, other]?)
+}
+
+// Two queries, each in a box.
+fn boxed(alloc: Global, first: Query, other: Query) -> Result<(Box<Query>, Box<Query>), Fault>
+    ensures first { IfOk result (λ boxes. boxes.0.value ≡ first) }
+    ensures other { IfOk result (λ boxes. boxes.1.value ≡ other) }
+    ensures only { OnlyMemory result }
+{
+    let first = match Box::new(alloc, first) {
+        Ok(first) => first,
+        Err(refused) => {
+            drop(other);
+            return Err(Fault::from(refused));
+        }
+    };
+    match Box::new(alloc, other) {
+        Ok(other) => Ok((first, other)),
+        Err(refused) => {
+            drop(first);
+            Err(Fault::from(refused))
+        }
+    }
+}
+
+// Whether a term's field is one of the schema's.
+fn is_in(term: &Term, schema: &Schema) -> bool
+    ensures { result ≡ nat_lt term.now.field (length schema.now) }
+{
+    (term.field().field_id() as usize) < schema.num_fields()
+}
+
+fn are_in(others: &[PhraseTerm], schema: &Schema) -> bool
+    ensures { result ≡ list_all (λ o. nat_lt o.term.field (length schema.now)) others.now }
+{
+    for other in others {
+        if !is_in(&other.term, schema) {
+            return false;
+        }
+    }
+    true
+}
+
+// Whether a term's field keeps positions.
+fn has_positions_in(term: &Term, schema: &Schema) -> bool
+    ensures { result ≡ has_positions_in schema.now term.now }
+{
+    if !is_in(term, schema) {
+        return false;
+    }
+    schema
+        .get_field_entry(term.field())
+        .index_record_option()
+        .has_positions()
+}
+
+fn have_positions_in(others: &[PhraseTerm], schema: &Schema) -> bool
+    ensures { result ≡ list_all (λ o. has_positions_in schema.now o.term) others.now }
+{
+    for other in others {
+        if !has_positions_in(&other.term, schema) {
+            return false;
+        }
+    }
+    true
+}
