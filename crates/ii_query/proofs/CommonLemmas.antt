@@ -35,7 +35,7 @@ behind e f es fs up also same alike d = elim (eqb_tells e.doc d) [
 ]
 
 -- ascending lists that have the same documents
-same_docs : (es fs : List Entry) → IsAscending es → IsAscending fs → ((d : ℕ) → has_doc es d ≡ has_doc fs d) → docs_of es ≡ docs_of fs
+pub same_docs : (es fs : List Entry) → IsAscending es → IsAscending fs → ((d : ℕ) → has_doc es d ≡ has_doc fs d) → docs_of es ≡ docs_of fs
 same_docs [] [] up also alike = refl
 same_docs [] (f ∷ fs) up also alike = absurd (let wrong : false ≡ true = alike f.doc ∙ has_first f fs in cc)
 same_docs (e ∷ es) [] up also alike = absurd (let wrong : true ≡ false = sym (has_first e es) ∙ alike e.doc in cc)
@@ -49,7 +49,7 @@ docs_again : (docs : List ℕ) → docs_of (map document docs) ≡ docs
 docs_again [] = refl
 docs_again (d ∷ ds) = ap (λ (more : List ℕ). d ∷ more) (docs_again ds)
 
-picked_again : (holds : ℕ → Bool) (es : List Entry) → map document (docs_of (picked holds es)) ≡ picked holds es
+pub picked_again : (holds : ℕ → Bool) (es : List Entry) → map document (docs_of (picked holds es)) ≡ picked holds es
 picked_again holds es = ap (map document) (docs_again (filter holds (docs_of es)))
 
 pub common_swaps : (es fs : List Entry) → IsSound es → IsSound fs → common es fs ≡ common fs es

@@ -1,7 +1,9 @@
 pub mod AllLemmas
 pub mod CommonLemmas
 pub mod MatchLaws
+pub mod MeetLemmas
 pub mod NestedLemmas
+pub mod PartsLemmas
 pub mod PhraseLemmas
 pub mod PhraseSteps
 pub mod PickedLemmas

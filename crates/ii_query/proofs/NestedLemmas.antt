@@ -5,7 +5,7 @@ use Rattle.std.proofs.lemmas.Bool.Decides.{leb_tells}
 use Rattle.ii_base.specs.declared.doc_id.TheConstants.{TERMINATED}
 use Rattle.ii_base.specs.Entries.{Entry}
 use Rattle.ii_docset.specs.Cursor.{doc_at, IsAscending, IsSound}
-use Rattle.ii_docset.proofs.CursorLemmas.{nothing_left}
+use Rattle.ii_docset.proofs.CursorLemmas.{doc_below, nothing_left}
 use Rattle.ii_query.specs.Combined.{StandsAt, either}
 use Rattle.ii_query.proofs.UnionLemmas.{either_at_most, either_sound, first_is_least, other_is_least}
 
@@ -31,3 +31,7 @@ either_ended es fs doc first other here end =
 pub next_above : (es : List Entry) (doc : ℕ) → IsAscending es → doc ≡ doc_at es → doc < TERMINATED → doc < doc_at (drop 1 es)
 next_above [] doc ascend here low = low
 next_above (e ∷ es) doc ascend here low = let next = ascend.0 in omega (arith, here, next)
+
+-- a current document is at most the end
+pub stands_low : (doc : ℕ) (es : List Entry) → StandsAt doc es → doc ≤ TERMINATED
+stands_low doc es at = let here = at.here in let below = doc_below es at.sound.ascending in omega (arith, here, below)

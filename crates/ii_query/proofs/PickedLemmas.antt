@@ -68,7 +68,7 @@ common_at (e ∷ es) [] low same = absurd (omega (arith, low, same))
 common_at (e ∷ es) (f ∷ fs) low same = rw (eq-eqb f.doc e.doc same) refl
 
 -- what holds of all documents from a least one on is picked alike
-picked_alike : (holds alike : ℕ → Bool) (least : ℕ) (es : List Entry) → IsAscending es → least ≤ doc_at es → ((d : ℕ) → least ≤ d → holds d ≡ alike d) → filter holds (docs_of es) ≡ filter alike (docs_of es)
+pub picked_alike : (holds alike : ℕ → Bool) (least : ℕ) (es : List Entry) → IsAscending es → least ≤ doc_at es → ((d : ℕ) → least ≤ d → holds d ≡ alike d) → filter holds (docs_of es) ≡ filter alike (docs_of es)
 picked_alike holds alike least [] ascend low same = refl
 picked_alike holds alike least (e ∷ es) ascend low same =
     let next = ascend.0 in

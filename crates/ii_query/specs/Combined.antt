@@ -1,7 +1,8 @@
 -- The documents of cursors that are combined.
-use Rattle.std.specs.Prelude.{◌≡◌, ℕ, Bool, if◌then◌else◌, List, [], ◌∷◌, filter, map, nat_le, not}
-use Rattle.std.specs.List.{range_with_len}
+use Rattle.std.specs.Prelude.{◌≡◌, ℕ, ◌<◌, ◌≤◌, Bool, true, false, if◌then◌else◌, List, [], ◌∷◌, filter, map, nat_le, not}
+use Rattle.std.specs.List.{list_all, range_with_len}
 use Rattle.ii_base.specs.Entries.{Entry, docs_of, document}
+use Rattle.ii_base.specs.declared.doc_id.TheConstants.{TERMINATED}
 use Rattle.ii_docset.specs.Cursor.{doc_at, IsSound}
 use Rattle.ii_docset.specs.Intersection.{has_doc}
 
@@ -46,6 +47,20 @@ put_all (d ∷ ds) docs = put_in d (put_all ds docs)
 abbrev pub either : List Entry → List Entry → List Entry
 either es fs = map document (put_all (docs_of es) (docs_of fs))
 
+-- whether each of some lists has a document
+abbrev pub all_have : List (List Entry) → ℕ → Bool
+all_have lists doc = list_all (λ (es : List Entry). has_doc es doc) lists
+
+-- the documents of the first list that all others have; no list has no documents
+abbrev pub intersection_of : List (List Entry) → List Entry
+intersection_of [] = []
+intersection_of (es ∷ others) = picked (all_have others) es
+
+-- the documents that one of some lists has
+abbrev pub union_of : List (List Entry) → List Entry
+union_of [] = []
+union_of (es ∷ others) = either es (union_of others)
+
 -- What is picked of a list begins with its first document, or neither has one.
 pub record IsAtFirst (es combined : List Entry) : Type 0 where
   pub sound : IsSound es
@@ -55,3 +70,10 @@ pub record IsAtFirst (es combined : List Entry) : Type 0 where
 pub record StandsAt (doc : ℕ) (es : List Entry) : Type 0 where
   pub sound : IsSound es
   pub here : doc ≡ doc_at es
+
+-- Lists were sought to a document: it is answered where they all have it, else a greater one, below which no document is in all.
+pub record SeekAnswer (doc bound : ℕ) (lists : List (List Entry)) : Type 0 where
+  pub low : doc ≤ bound
+  pub up_to : bound ≤ TERMINATED
+  pub met : bound ≡ doc → all_have lists doc ≡ true
+  pub none : (d : ℕ) → doc ≤ d → d < bound → all_have lists d ≡ false

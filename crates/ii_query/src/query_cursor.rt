@@ -1,9 +1,9 @@
-ghost use Rattle.std.specs.Prelude.{◌≡◌, ◌≤◌, ◌<◌, ◌+◌, ◌++◌, ◌⊎◌, [], ◌∷◌, IfOk, drop, length, min};
-ghost use Rattle.std.specs.List.{AllZip};
+ghost use Rattle.std.specs.Prelude.{◌≡◌, ◌≤◌, ◌<◌, ◌+◌, ◌++◌, [], ◌∷◌, IfOk, IsPermutation, List, length, min};
+ghost use Rattle.std.specs.List.{AllByRecursion, AllZip};
 ghost use Rattle.ii_io.specs.Faults.{OnlyMemory};
 ghost use Rattle.ii_docset.specs.Cursor.{doc_at, from_doc, IsSound};
-ghost use Rattle.ii_query.specs.Combined.{IsAtFirst, StandsAt, all_from, common, either, without};
-ghost use Rattle.ii_query.specs.QueryCursor.{cursors_of, depth_of, rest_of};
+ghost use Rattle.ii_query.specs.Combined.{IsAtFirst, QueryCursorState, SeekAnswer, StandsAt, all_from, intersection_of, union_of, without};
+ghost use Rattle.ii_query.specs.QueryCursor.{KeptFrom, WentTo, cursors_of, cursors_under, depth_of, depth_over, rest_of, rests};
 
 use crate::all_docs::AllDocs;
 use ii_base::Fault;
@@ -11,9 +11,9 @@ use ii_docset::{DocId, DocSet, TERMINATED};
 use std::alloc::Global;
 use std::marker::Model;
 
-/// A cursor over the documents that a query matches, in ascending order. How it is nested is known when the
-/// program runs: it is over no documents, over those of one cursor, over all below a number, or over those
-/// that two such cursors both have, either has, or the first has and the other one hasn't.
+/// A cursor over the documents that a query matches, in ascending order. Its form is known when the program
+/// runs: it goes over no documents, over those of one cursor, over all below a number, or over an
+/// intersection, a union or a difference of such cursors.
 #[cycle(query_cursor)]
 #[derive(Drop)]
 pub struct QueryCursor<T: DocSet> {
@@ -28,8 +28,9 @@ enum QueryParts<T: DocSet> {
     Nothing,
     One(T),
     All(AllDocs),
-    Both(Box<QueryCursor<T>>, Box<QueryCursor<T>>),
-    Either(Box<QueryCursor<T>>, Box<QueryCursor<T>>),
+    // the first cursor leads, and the others are sought to its documents
+    Intersection(Box<QueryCursor<T>>, Vec<QueryCursor<T>>),
+    Union(Vec<QueryCursor<T>>),
     Without(Box<QueryCursor<T>>, Box<QueryCursor<T>>),
 }
 
@@ -49,7 +50,7 @@ impl<T: DocSet> Model for QueryCursor<T> {
     ghost use Rattle.ii_query.specs.QueryCursorLemmas.{part_depth};
     ghost use Rattle.std.proofs.Common.{arith};
 
-    ghost size_decreases = { λ c h. Prim.grind (arith) };
+    ghost size_decreases = { λ c h. Prim.grind (arith, part_depth) };
 }
 
 impl<T: DocSet> QueryCursor<T> {
@@ -89,45 +90,41 @@ impl<T: DocSet> QueryCursor<T> {
         }
     }
 
-    /// The documents that both have. The one leads that goes over fewer documents, by its hint.
-    /// `OutOfMemory` where there is no room for two boxes.
-    #[tactic(auto, using(crate::proofs::CommonLemmas::common_swaps))]
-    pub fn both(
+    /// Returns a cursor over the documents that all cursors have; without cursors, over none. The cursor
+    /// with the least hint leads. Fails only with `OutOfMemory`.
+    pub fn intersection(
         alloc: Global,
-        first: QueryCursor<T>,
-        other: QueryCursor<T>,
+        cursors: Vec<QueryCursor<T>>,
     ) -> Result<QueryCursor<T>, Fault>
-        ensures rest { IfOk result (λ cursor. cursor.rest ≡ common first.rest other.rest) }
-        ensures work { IfOk result (λ cursor. AllZip T.went (first.cursors ++ other.cursors) cursor.cursors ⊎ AllZip T.went (other.cursors ++ first.cursors) cursor.cursors) }
+        ensures rest { IfOk result (λ cursor. cursor.rest ≡ intersection_of (rests cursors.items)) }
+        ensures work { IfOk result (λ cursor. (order : List (QueryCursorState T)) × IsPermutation cursors.items order × AllZip T.went (cursors_under order) cursor.cursors) }
         ensures only { OnlyMemory result }
     {
-        // that documents ascend, for the proof
-        let _first = first.current();
-        let _other = other.current();
-        if other.bound() < first.bound() {
-            lead(alloc, other, first)
-        } else {
-            lead(alloc, first, other)
+        if cursors.is_empty() {
+            return Ok(QueryCursor::nothing());
         }
-    }
-
-    /// The documents that either has, each once. `OutOfMemory` where there is no room for two boxes.
-    pub fn either(
-        alloc: Global,
-        first: QueryCursor<T>,
-        other: QueryCursor<T>,
-    ) -> Result<QueryCursor<T>, Fault>
-        ensures rest { IfOk result (λ cursor. cursor.rest ≡ either first.rest other.rest) }
-        ensures cursors { IfOk result (λ cursor. cursor.cursors ≡ first.cursors ++ other.cursors) }
-        ensures only { OnlyMemory result }
-    {
-        let doc = first.current().min(other.current());
-        let first = Box::new(alloc, first)?;
-        let other = Box::new(alloc, other)?;
+        let at = rarest(&cursors);
+        let mut others = cursors;
+        let leader = others.swap_remove(at);
+        let mut leader = Box::new(alloc, leader)?;
+        let doc = meet(&mut leader, &mut others);
         Ok(QueryCursor {
-            parts: QueryParts::Either(first, other),
+            parts: QueryParts::Intersection(leader, others),
             doc,
         })
+    }
+
+    /// Returns a cursor over the documents that one of the cursors has, each once; without cursors, over
+    /// none.
+    pub fn union(cursors: Vec<QueryCursor<T>>) -> QueryCursor<T>
+        ensures rest { result.rest ≡ union_of (rests cursors.items) }
+        ensures cursors { result.cursors ≡ cursors_under cursors.items }
+    {
+        let doc = least_doc(&cursors);
+        QueryCursor {
+            parts: QueryParts::Union(cursors),
+            doc,
+        }
     }
 
     /// The documents that the first has and the other one hasn't. `OutOfMemory` where there is no room
@@ -161,19 +158,21 @@ impl<T: DocSet> QueryCursor<T> {
     }
 
     // How many documents there may be.
+    #[cycle(bound)]
     fn bound(&self) -> u32 {
         match &self.parts {
             QueryParts::Nothing => 0,
             QueryParts::One(cursor) => cursor.size_hint(),
             QueryParts::All(docs) => docs.size_hint(),
-            QueryParts::Both(first, _) => first.bound(),
-            QueryParts::Either(first, other) => first.bound().saturating_add(other.bound()),
+            QueryParts::Intersection(leader, _) => leader.bound(),
+            QueryParts::Union(parts) => bound_over(parts),
             QueryParts::Without(first, _) => first.bound(),
         }
     }
 
     // Drops the documents below a target, which may lie below the current one.
     #[cycle(go_to)]
+    #[inline(always)]
     fn go_to(&mut self, target: DocId) -> DocId
         requires { target ≤ TERMINATED }
         ensures doc { result ≡ doc_at self.new.rest }
@@ -218,25 +217,6 @@ impl<T: DocSet> QueryCursor<T> {
         next
     }
 
-    // Drops a document, below which the current one isn't.
-    #[inline(always)]
-    fn pass(&mut self, doc: DocId, passed: DocId) -> DocId
-        requires here { doc ≡ doc_at self.old.rest }
-        requires least { passed ≤ doc }
-        requires low { passed < TERMINATED }
-        ensures doc { result ≡ doc_at self.new.rest }
-        ensures rest { self.new.rest ≡ from_doc (passed + 1) self.old.rest }
-        ensures sound { IsSound self.new.rest }
-        ensures work { AllZip T.went self.old.cursors self.new.cursors }
-    {
-        // that documents ascend, for the proof
-        let _doc = self.current();
-        if doc != passed {
-            return doc;
-        }
-        self.go_on(passed, passed + 1)
-    }
-
     // How many documents are left, which are then dropped one after the other.
     fn count_each(&mut self) -> u32
         ensures count { result ≡ length self.old.rest }
@@ -277,14 +257,12 @@ fn move_to<T: DocSet>(parts: &mut QueryParts<T>, doc: DocId, target: DocId) -> D
         QueryParts::All(docs) => {
             return go_above(docs, doc, target);
         }
-        QueryParts::Both(first, other) => {
-            first.go_to(target);
-            return meet(first, other);
+        QueryParts::Intersection(leader, others) => {
+            leader.go_to(target);
+            return meet(leader, others);
         }
-        QueryParts::Either(first, other) => {
-            let one = first.go_to(target);
-            let two = other.go_to(target);
-            return one.min(two);
+        QueryParts::Union(parts) => {
+            return go_to_each(parts, target);
         }
         QueryParts::Without(first, other) => {
             first.go_to(target);
@@ -311,43 +289,97 @@ fn go_above<T: DocSet>(cursor: &mut T, doc: DocId, target: DocId) -> DocId
     cursor.seek(target)
 }
 
-// The documents that both have, of which the first one leads.
-fn lead<T: DocSet>(
-    alloc: Global,
-    first: QueryCursor<T>,
-    other: QueryCursor<T>,
-) -> Result<QueryCursor<T>, Fault>
-    ensures rest { IfOk result (λ cursor. cursor.rest ≡ common first.rest other.rest) }
-    ensures work { IfOk result (λ cursor. AllZip T.went (first.cursors ++ other.cursors) cursor.cursors) }
-    ensures only { OnlyMemory result }
+// The place of the cursor with the least hint.
+fn rarest<T: DocSet>(cursors: &Vec<QueryCursor<T>>) -> usize
+    requires { 0 < length cursors.now.items }
+    ensures inside { result < length cursors.now.items }
+    ensures sound { AllByRecursion (λ c. IsSound c.rest) cursors.now.items }
 {
-    let mut first = Box::new(alloc, first)?;
-    let mut other = Box::new(alloc, other)?;
-    let doc = meet(&mut first, &mut other);
-    Ok(QueryCursor {
-        parts: QueryParts::Both(first, other),
-        doc,
-    })
+    let mut at = 0;
+    let mut least = u32::MAX;
+    for i in 0..cursors.len() {
+        let cursor = &cursors[i];
+        // that documents ascend, for the proof
+        let _doc = cursor.current();
+        let bound = cursor.bound();
+        if bound < least {
+            at = i;
+            least = bound;
+        }
+    }
+    at
 }
 
-// Goes on to the next document that both have, which may be the current one.
-#[cycle(go_to)]
-fn meet<T: DocSet>(first: &mut QueryCursor<T>, other: &mut QueryCursor<T>) -> DocId
-    ensures doc { result ≡ doc_at first.new.rest }
-    ensures at { IsAtFirst first.new.rest (common first.new.rest other.new.rest) }
-    ensures rest { common first.new.rest other.new.rest ≡ common first.old.rest other.old.rest }
-    ensures up_to { result ≤ TERMINATED }
-    ensures depth { (first.new.depth ≡ first.old.depth) × (other.new.depth ≡ other.old.depth) }
-    ensures first_work { AllZip T.went first.old.cursors first.new.cursors }
-    ensures other_work { AllZip T.went other.old.cursors other.new.cursors }
+// How many documents there may be in a union.
+#[cycle(bound)]
+fn bound_over<T: DocSet>(parts: &Vec<QueryCursor<T>>) -> u32 {
+    let mut bound = 0u32;
+    for i in 0..parts.len() {
+        bound = bound.saturating_add(parts[i].bound());
+    }
+    bound
+}
+
+// The least of the current documents.
+fn least_doc<T: DocSet>(parts: &Vec<QueryCursor<T>>) -> DocId
+    ensures at { StandsAt result (union_of (rests parts.now.items)) }
 {
-    let mut doc = first.current();
+    let mut least = TERMINATED;
+    for i in 0..parts.len() {
+        least = least.min(parts[i].current());
+    }
+    least
+}
+
+// Drops the documents below a target from each part of a union. Returns the least document that is left.
+#[cycle(go_to)]
+#[inline(always)]
+fn go_to_each<T: DocSet>(parts: &mut Vec<QueryCursor<T>>, target: DocId) -> DocId
+    requires { target ≤ TERMINATED }
+    ensures at { StandsAt result (union_of (rests parts.new.items)) }
+    ensures went { AllZip (WentTo T.went target) parts.old.items parts.new.items }
+{
+    let mut least = TERMINATED;
+    for i in 0..parts.len() {
+        let doc = parts[i].go_to(target);
+        least = least.min(doc);
+    }
+    least
+}
+
+// Goes on to the next document that all have, which may be the current one.
+#[cycle(go_to)]
+fn meet<T: DocSet>(leader: &mut QueryCursor<T>, others: &mut Vec<QueryCursor<T>>) -> DocId
+    ensures at { StandsAt result (intersection_of (rests (leader.new ∷ others.new.items))) }
+    ensures rest { intersection_of (rests (leader.new ∷ others.new.items)) ≡ intersection_of (rests (leader.old ∷ others.old.items)) }
+    ensures depth { depth_over (leader.new ∷ others.new.items) ≡ depth_over (leader.old ∷ others.old.items) }
+    ensures work { AllZip T.went (cursors_under (leader.old ∷ others.old.items)) (cursors_under (leader.new ∷ others.new.items)) }
+{
+    let mut doc = leader.current();
     while doc < TERMINATED {
-        let bound = other.go_to(doc);
+        let bound = seek_others(others, doc);
         if bound == doc {
             return doc;
         }
-        doc = first.go_to(bound);
+        doc = leader.go_to(bound);
+    }
+    doc
+}
+
+// Seeks the other cursors of an intersection to a document. Returns it where they all have it, else a greater
+// one, below which no document is in all.
+#[cycle(go_to)]
+#[inline(always)]
+fn seek_others<T: DocSet>(others: &mut Vec<QueryCursor<T>>, doc: DocId) -> DocId
+    requires { doc < TERMINATED }
+    ensures answer { SeekAnswer doc result (rests others.new.items) }
+    ensures kept { AllZip (KeptFrom T.went doc) others.old.items others.new.items }
+{
+    for i in 0..others.len() {
+        let bound = others[i].go_to(doc);
+        if bound != doc {
+            return bound;
+        }
     }
     doc
 }
@@ -373,43 +405,17 @@ fn leave_out<T: DocSet>(first: &mut QueryCursor<T>, other: &mut QueryCursor<T>) 
     doc
 }
 
-// Drops the first document that either has.
-#[inline(always)]
-fn pass_either<T: DocSet>(
-    first: &mut QueryCursor<T>,
-    other: &mut QueryCursor<T>,
-    doc: DocId,
-) -> DocId
-    requires here { doc ≡ doc_at (either first.old.rest other.old.rest) }
-    requires low { doc < TERMINATED }
-    ensures at { StandsAt result (either first.new.rest other.new.rest) }
-    ensures rest { either first.new.rest other.new.rest ≡ drop 1 (either first.old.rest other.old.rest) }
-    ensures first_work { AllZip T.went first.old.cursors first.new.cursors }
-    ensures other_work { AllZip T.went other.old.cursors other.new.cursors }
-{
-    let one = first.current();
-    let two = other.current();
-    let one = first.pass(one, doc);
-    let two = other.pass(two, doc);
-    one.min(two)
-}
-
-// How many documents either has. All are then dropped.
-fn count_either<T: DocSet>(first: &mut QueryCursor<T>, other: &mut QueryCursor<T>) -> u32
-    ensures count { result ≡ length (either first.old.rest other.old.rest) }
-    ensures first { first.new.rest ≡ [] }
-    ensures other { other.new.rest ≡ [] }
-    ensures first_work { AllZip T.went first.old.cursors first.new.cursors }
-    ensures other_work { AllZip T.went other.old.cursors other.new.cursors }
+// How many documents a union has. All are then dropped.
+fn count_union<T: DocSet>(parts: &mut Vec<QueryCursor<T>>) -> u32
+    ensures count { result ≡ length (union_of (rests parts.old.items)) }
+    ensures rest { union_of (rests parts.new.items) ≡ [] }
+    ensures depth { depth_over parts.new.items ≡ depth_over parts.old.items }
+    ensures work { AllZip T.went (cursors_under parts.old.items) (cursors_under parts.new.items) }
 {
     let mut count = 0;
-    let mut one = first.current();
-    let mut two = other.current();
-    let mut doc = one.min(two);
+    let mut doc = least_doc(parts);
     while doc < TERMINATED {
-        one = first.pass(one, doc);
-        two = other.pass(two, doc);
-        doc = one.min(two);
+        doc = go_to_each(parts, doc + 1);
         count += 1;
     }
     count
@@ -433,8 +439,8 @@ impl<T: DocSet> DocSet for QueryCursor<T> {
         if doc >= TERMINATED {
             return doc;
         }
-        if let QueryParts::Either(first, other) = &mut self.parts {
-            let next = pass_either(first, other, doc);
+        if let QueryParts::Union(parts) = &mut self.parts {
+            let next = go_to_each(parts, doc + 1);
             self.doc = next;
             return next;
         }
@@ -454,8 +460,8 @@ impl<T: DocSet> DocSet for QueryCursor<T> {
     }
 
     fn count_including_deleted(&mut self) -> u32 {
-        if let QueryParts::Either(first, other) = &mut self.parts {
-            let count = count_either(first, other);
+        if let QueryParts::Union(parts) = &mut self.parts {
+            let count = count_union(parts);
             self.doc = TERMINATED;
             return count;
         }
