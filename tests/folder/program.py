@@ -47,7 +47,8 @@ class User:
 
     def run(self, *words, given=b'', before=None):
         self.runs += 1
-        return subprocess.run([self.program, *map(str, words)], input=given, stdout=subprocess.PIPE, stderr=subprocess.PIPE,
+        words = [word if isinstance(word, bytes) else str(word) for word in words]
+        return subprocess.run([self.program, *words], input=given, stdout=subprocess.PIPE, stderr=subprocess.PIPE,
                               cwd=self.folder, preexec_fn=before, timeout=600)
 
     def wants(self, words, status, out=None, err=None, given=b'', before=None):
@@ -165,10 +166,26 @@ def ids(user):
     schema = user.write('ids.toml', IDS)
     docs = [{'id': 70, 'body': 'old "sea"'}, {'body': 'the sea'}, {'id': [9, 5], 'body': 'sea, old sea'}]
     user.wants(['index', 'ids', '--schema', schema], 0, '3 documents indexed\n', 'bytes of memory for each byte of input', given=lines(docs).encode())
-    user.wants(['search', 'ids', 'sea', '--ids'], 0, '70\n1\n5\n')
+    user.wants(['search', 'ids', 'sea', '--ids'], 0, '70\n-\n5\n')
     user.wants(['search', 'ids', 'sea -the', '--ids', '--positions'], 0, '70\tbody:sea 1\n5\tbody:sea 0 2\n')
-    user.wants(['search', 'ids', 'sea', '--ids', '--json', '--limit', 2], 0, '{"doc":0,"id":"70"}\n{"doc":1}\n')
-    user.wants(['search', 'folder', 'nosuchword', '--ids'], 1, '')
+    user.wants(['search', 'ids', 'sea', '--ids', '--json', '--limit', 2], 0, '{"doc":0,"id":"70"}\n{"doc":1,"id":null}\n')
+    user.wants(['search', 'folder', 'nosuchword', '--ids'], 2, '', '--ids: the schema has no indexed field id')
+    for settings, values, status, out, err in (
+            ('"text"', ['doc12', 'b', 'a'], 0, 'doc12\nb\na\n', ''),
+            ('"text"', ['doc-12', 'b', 'a'], 2, '', '--ids: document 0 has an id of several words'),
+            ('"text"', ['b', ['c', 'd'], 'a'], 2, '', '--ids: document 1 has an id of several words'),
+            ('"text"\nfieldnorms = false', ['c', 'b', 'a'], 2, '', '--ids: the field id has texts without fieldnorms'),
+            ('"json"', ['c', 'b', 'a'], 2, '', '--ids: the field id has JSON values'),
+            ('"u64"\nindexed = false', [1, 2, 3], 2, '', '--ids: the schema has no indexed field id'),
+            ('"bool"', [True, False, None], 0, 'true\nfalse\n-\n', '')):
+        schema = user.write('ids.toml', IDS.replace('"u64"', settings, 1))
+        docs = [{'id': value, 'body': 'sea'} for value in values]
+        user.wants(['index', 'ids', '--schema', schema], 0, '3 documents indexed\n', given=lines(docs).encode())
+        user.wants(['search', 'ids', 'sea', '--ids'], status, out, err)
+    user.write('ids.toml', IDS)
+    user.wants(['search', 'folder', 'the', '--field', 'body', '--limit', 0], 0, '')
+    user.wants(['search', 'folder', 'nosuchword', '--limit', 0], 1, '')
+    user.wants(['search', 'folder', 'nosuchword', '--count', '--json'], 1, '{"count":0}\n')
 
 
 def values(user, docs):
@@ -213,15 +230,19 @@ def values(user, docs):
 
 BAD_LINES = (
     ('[1, 2]', 'not an object'),
-    ('{"body": "a"', 'not JSON'),
+    ('{"body": "a"', 'not JSON, at byte '),
+    ('{"body": "a" 5}', 'not JSON, at byte 14'),
+    (b'\xef\xbb\xbf{"body": "a"}', 'not JSON: the line begins with a byte order mark'),
+    ('{"about": ' + '[' * 130 + ']' * 130 + '}', 'not read: arrays and objects are nested more than 127 levels deep'),
     ('{"body": "a", "other": 1}', 'unknown key other'),
     ('{"body": 5}', 'body: not of the type of the field'),
     ('{"body": ["a", null]}', 'body: not of the type of the field'),
-    ('{"number": -1}', 'number: a number out of range'),
+    ('{"number": -1}', 'number: a number out of range: expected a whole number from 0 to 18446744073709551615; a fraction or an exponent is none'),
     ('{"number": 1.5}', 'number: a number out of range'),
     ('{"number": 18446744073709551616}', 'number: a number out of range'),
     ('{"number": "1"}', 'number: not of the type of the field'),
     ('{"change": 9223372036854775808}', 'change: a number out of range'),
+    ('{"change": -0}', 'change: a number out of range: expected a whole number from -9223372036854775808 to 9223372036854775807; -0, a fraction or an exponent is none'),
     ('{"is_long": 0}', 'is_long: not of the type of the field'),
     ('{"mark": "abc"}', 'mark: not pairs of hexadecimal digits'),
     ('{"mark": "xy"}', 'mark: not pairs of hexadecimal digits'),
@@ -239,14 +260,14 @@ BAD_SCHEMAS = (
     ('[[field]]\ntype = "text"', 'field 0: name'),
     ('[[field]]\nname = ""\ntype = "text"', 'field 0: name'),
     ('[[field]]\nname = "a"\ntype = "text"\n[[field]]\nname = "a"\ntype = "u64"', 'field 1: name'),
-    ('[[field]]\nname = "a"', 'field 0: type'),
+    ('[[field]]\nname = "a"', 'field 0: type: one of text, u64, i64, bool, bytes, ip_addr, json (the field a)'),
     ('[[field]]\nname = "a"\ntype = "float"', 'field 0: type'),
     ('[[field]]\nname = "a"\ntype = "text"\nrecord = "all"', 'field 0: record'),
     ('[[field]]\nname = "a"\ntype = "u64"\nrecord = "freq"', 'field 0: record'),
     ('[[field]]\nname = "a"\ntype = "json"\nfieldnorms = true', 'field 0: fieldnorms'),
     ('[[field]]\nname = "a"\ntype = "text"\nexpand_dots = true', 'field 0: expand_dots'),
     ('[[field]]\nname = "a"\ntype = "text"\nindexed = 1', 'field 0: indexed'),
-    ('[[field]]\nname = "a"\ntype = "text"\nstored = true', 'field 0: unknown key stored'),
+    ('[[field]]\nname = "a"\ntype = "text"\nstored = true', 'field 0: unknown key stored (the field a)'),
 )
 
 
@@ -258,19 +279,27 @@ def refusals(user, docs):
         user.write('bad.jsonl', b'{"body": "one"}\n' + line + b'\n')
         user.wants(['index', 'folder', '--schema', schema, 'bad.jsonl'], 1, '', f'bad.jsonl:2: {reason}')
     bad = b''.join((line if isinstance(line, bytes) else line.encode()) + b'\n' for line, _ in BAD_LINES)
-    user.wants(['index', 'some', '--schema', schema, '--skip-bad', '-'], 2, '', '-: ')
+    user.wants(['index', 'some', '--schema', schema, 'bad.jsonl', '-'], 1, '', '-:1: not an object', given=b'[1]\n')
+    user.write('one.jsonl', '{"body": "one"}\n')
+    user.wants(['index', 'some', '--schema', schema, 'one.jsonl', '-', 'one.jsonl'], 0, '3 documents indexed\n', given=b'{"body": "two"}\n')
+    user.wants(['search', 'some', 'two'], 0, '1\n')
     user.wants(['index', 'some', '--schema', schema, '--skip-bad'], 0, f'2 documents indexed, {len(BAD_LINES)} lines left out\n',
                f'-:{len(BAD_LINES) + 1}: not UTF-8', given=b'{"body": "one"}\n' + bad + b'{"body": null, "number": [1, 2]}\n')
     user.wants(['search', 'some', 'number:2'], 0, '1\n')
     for text, reason in BAD_SCHEMAS:
         user.write('bad.toml', text)
         user.wants(['index', 'folder', '--schema', 'bad.toml', 'a.jsonl'], 2, '', f'nequllpa: bad.toml: {reason}')
-    for words, reason in ((['index', 'folder', 'a.jsonl'], '--schema'), (['index', 'folder', '--schema', 'none.toml'], 'none.toml'),
-                          (['index', 'folder', '--schema', schema, 'none.jsonl'], 'none.jsonl'), (['postings', 'folder', 'nofield', 'a'], 'no field nofield'),
+    for words, reason in ((['index', 'folder', 'a.jsonl'], '--schema'), (['index', 'folder', '--schema', 'none.toml'], 'no such file: none.toml'),
+                          (['index', 'folder', '--schema', schema, 'none.jsonl'], 'no such file: none.jsonl'), (['postings', 'folder', 'nofield', 'a'], 'no field nofield'),
                           (['postings', 'folder', 'number', 'x'], 'x is no term of number'), (['search', 'folder', 'number:x'], 'number:x: a number was expected'),
-                          (['search', 'folder', 'a AND'], 'a AND: '), (['search', 'folder', 'nofield:a'], 'no such field'), (['search', 'folder', 'a', '--field', 'nofield'], 'no field nofield'), (['terms', 'folder', 'body', '--top', 'x'], '--top x'),
-                          (['about', 'file.name'], ''), ([], 'Usage')):
+                          (['search', 'folder', 'a AND'], 'a AND: '), (['search', 'folder', 'nofield:a'], 'no such field'), (['search', 'folder', 'a', '--field', 'nofield'], 'no field nofield'), (['terms', 'folder', 'body', '--top', 'x'], '--top x: expected a whole number from 0 to 4294967295'),
+                          (['about', 'file.name'], ''), ([], 'Usage: nequllpa')):
         user.wants(words, 2, '', reason)
+    user.wants(['search', 'folder', b'\xff'], 2, '', 'nequllpa: an argument is not UTF-8')
+    with open('/dev/full', 'wb') as full:
+        done = subprocess.run([user.program, 'terms', 'folder', 'body'], stdout=full, stderr=subprocess.PIPE, cwd=user.folder, timeout=600)
+    if done.returncode != 2 or b'nequllpa: ' not in done.stderr:
+        raise Failed(f'terms to a full output: status {done.returncode}, {done.stderr!r}')
     user.wants(['check', 'nowhere'], 1, 'nowhere: no index here\n', 'the command index makes one')
     user.wants(['search', 'nowhere', 'word'], 1, 'nowhere: no index here\n', 'the command index makes one')
     user.wants(['check', '.'], 1, '.: no index here\n')
@@ -283,6 +312,8 @@ def damages(user, chosen, places):
     """Each file cut, changed and taken away at many places: `check` names it each time, and tells which bytes it has."""
     whole, damaged_places, located = user.path('folder'), 0, 0
     for name in sorted(os.listdir(whole)):
+        if name == 'lock':
+            continue
         kind = FILES.get(name.split('.')[0])
         with open(os.path.join(whole, name), 'rb') as file:
             text = file.read()
@@ -304,10 +335,10 @@ def damages(user, chosen, places):
         user.wants(['check', 'folder'], 1)
         os.remove(os.path.join(whole, name))
         told = user.wants(['check', 'folder'], 1)
-        if not told.startswith(f'folder: the file of {kind} is missing\n' if kind else 'folder: no index here\n'):
+        if not told.startswith(f'folder: the file of {kind} is missing\n' if kind else 'folder: an index whose meta is missing: there is schema.0\n'):
             raise Failed(f'{name} taken away: {told!r}')
         if kind:
-            user.wants(['search', 'folder', 'word'], 1, f'folder: the file of {kind} is missing\n', 'the command check tells what is damaged')
+            user.wants(['search', 'folder', 'word'], 1, f'folder: the file of {kind} is missing\n', 'the command check prints what is damaged')
         with open(os.path.join(whole, name), 'wb') as file:
             file.write(text)
     user.wants(['check', 'folder'], 0)

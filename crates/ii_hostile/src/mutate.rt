@@ -115,11 +115,18 @@ fn alter(bytes: &mut Vec<u8>, place: usize, change: u8) {
     }
 }
 
+// The state that a seed begins with, another one for each seed but the largest. None is 0, where the states would stay.
+fn first_state(seed: u64) -> u64 {
+    seed.wrapping_add(1)
+        .wrapping_mul(0x9e37_79b9_7f4a_7c15)
+        .max(1)
+}
+
 /// So many subjects, each with parts that were changed in up to four bytes, cut or prolonged, a list with
 /// another number of documents at times.
 pub fn at_random(alloc: Global, count: u64, seed: u64) -> Result<Tally, Fault> {
     let mut tally = NONE;
-    let mut state = seed | 1;
+    let mut state = first_state(seed);
     for _ in 0..count {
         let at = next(&mut state)
             .checked_rem(SUBJECTS.len() as u64)

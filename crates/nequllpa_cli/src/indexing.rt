@@ -22,6 +22,9 @@ const MEMORY_MULTIPLE: u32 = 5;
 // The file name that stands for standard input.
 const STANDARD_INPUT: &str = "-";
 
+// How deep arrays and objects may be nested in a line: the limit of the parser.
+const MOST_NESTING: u32 = 127;
+
 // What an editor may write at the beginning of a file in UTF-8.
 const BYTE_ORDER_MARK: &[u8] = &[0xef, 0xbb, 0xbf];
 
@@ -345,7 +348,7 @@ impl Intake {
     }
 }
 
-// Prints that a line isn't JSON, and where. The parser counts lines within the line.
+// Prints why a line isn't read as JSON, and where.
 fn tell_not_json(
     rt: &HostRuntime,
     name: &str,
@@ -357,22 +360,39 @@ fn tell_not_json(
         eprintln!(rt;
             "{name}:{number}: not JSON: the line begins with a byte order mark; save the file without one"
         )?;
-        return Ok(());
-    }
-    let text = format!(in rt.alloc(); "{error}")?;
-    let place = format!(in rt.alloc(); " at line {} column {}", error.line(), error.column())?;
-    let reason = match text.as_str().strip_suffix(place.as_str()) {
-        Some(reason) => reason,
-        None => text.as_str(),
-    };
-    if reason.contains("recursion limit") {
+    } else if nesting(line) > MOST_NESTING {
         eprintln!(rt;
-            "{name}:{number}: not read: arrays and objects are nested more than 127 levels deep"
+            "{name}:{number}: not read: arrays and objects are nested more than {MOST_NESTING} levels deep"
         )?;
-        return Ok(());
+    } else {
+        eprintln!(rt; "{name}:{number}: not JSON, at byte {}", error.column())?;
     }
-    eprintln!(rt; "{name}:{number}: not JSON: {reason} at byte {}", error.column())?;
     Ok(())
+}
+
+// How deep arrays and objects are nested in a line at most. Brackets in texts don't count.
+fn nesting(line: &[u8]) -> u32 {
+    let mut depth = 0u32;
+    let mut most = 0u32;
+    let mut in_text = false;
+    let mut is_escaped = false;
+    for byte in line {
+        if in_text {
+            in_text = is_escaped || *byte != b'"';
+            is_escaped = *byte == b'\\' && !is_escaped;
+            continue;
+        }
+        match *byte {
+            b'"' => in_text = true,
+            b'[' | b'{' => {
+                depth = depth.saturating_add(1);
+                most = most.max(depth);
+            }
+            b']' | b'}' => depth = depth.saturating_sub(1),
+            _ => {}
+        }
+    }
+    most
 }
 
 // Makes the index of the documents and saves it.

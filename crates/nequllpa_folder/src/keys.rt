@@ -1,13 +1,13 @@
-//! Keys of terms as texts: what is printed of a key is what a term is asked for by.
+//! Keys of terms as texts: what is printed of a key is read back as that key.
 use crate::faults::not_hex;
 use ii_base::{Fault, Field, FieldEntry, Term, ValueType};
 use ii_documents::address_of;
 use std::alloc::{AllocError, Global};
 use std::net::Ipv6Addr;
 
-/// Adds the text of a key of a field: a text as it stands, a number in decimal, `true` or `false`, bytes
-/// in hexadecimal, an address; of a JSON field the path, the letter of the type, and the value. A key that
-/// isn't one of the type is told as bytes behind `0x`.
+/// Adds the text of a key of a field: a word as it is, a number in decimal, `true` or `false`, bytes in
+/// hexadecimal, an address; in a JSON field the path, the letter of the type, and the value. A key that
+/// isn't one of the type is written as bytes after `0x`.
 pub fn push_key(text: &mut String, value_type: ValueType, key: &[u8]) -> Result<(), AllocError> {
     match value_type {
         ValueType::Str => push_text(text, key),
@@ -114,7 +114,8 @@ fn push_key_in_json(
     }
 }
 
-// The segments of a path, parted by dots. A backslash stands before a dot or a backslash in a segment.
+/// Adds the segments of a path, separated by dots. A backslash is written before a dot, a backslash or a
+/// space in a segment.
 pub(crate) fn push_path(text: &mut String, path: &[u8]) -> Result<(), AllocError> {
     let Ok(path) = std::str::from_utf8(path) else {
         return push_bytes(text, path);
@@ -124,10 +125,7 @@ pub(crate) fn push_path(text: &mut String, path: &[u8]) -> Result<(), AllocError
             text.push('.')?;
             continue;
         }
-        if c == '.' {
-            text.push('\\')?;
-        }
-        if c == '\\' {
+        if matches!(c, '.' | '\\' | ' ') {
             text.push('\\')?;
         }
         text.push(c)?;
@@ -217,7 +215,7 @@ fn json_term(
     entry: &FieldEntry,
     text: &str,
 ) -> Result<Option<Term>, Fault> {
-    let Some((path, rest)) = text.split_once(' ') else {
+    let Some((path, rest)) = cut_path(text) else {
         return Ok(None);
     };
     let Some((letter, value)) = rest.split_once(' ') else {
@@ -233,7 +231,19 @@ fn json_term(
     Ok(None)
 }
 
-// Adds a value to the term of a path, and answers whether it is one.
+// The path in front of the first space without a backslash before it, and the text after that space.
+fn cut_path(text: &str) -> Option<(&str, &str)> {
+    let mut is_kept = false;
+    for (place, c) in text.char_indices() {
+        if c == ' ' && !is_kept {
+            return Some((text.get(..place)?, text.get(place + 1..)?));
+        }
+        is_kept = c == '\\' && !is_kept;
+    }
+    None
+}
+
+// Adds a value to the term of a path, and returns whether it is one.
 fn append_value(term: &mut Term, letter: &str, value: &str) -> Result<bool, Fault> {
     if letter == "s" {
         term.append_type_and_str(value)?;

@@ -1,0 +1,80 @@
+#!/usr/bin/env python3
+"""The program `nequllpa` on wide and deep input: 1,000 fields, queries of 10,000 words, and parentheses in one another, on a small stack."""
+import json
+import os
+import resource
+import subprocess
+import sys
+import tempfile
+import time
+
+sys.dont_write_bytecode = True
+HERE = os.path.dirname(os.path.abspath(__file__))
+sys.path.insert(0, os.path.join(os.path.dirname(os.path.dirname(HERE)), 'tools'))
+import programs
+
+PROGRAM = 'nequllpa_cli'
+FIELDS = 1_000
+WORDS = 10_000
+NESTING = 128
+# The stack that the program has, in bytes: a search of so many words took 36 kB for each of them once.
+STACK = 1 << 20
+
+
+class Failed(Exception):
+    """What isn't as it has to be."""
+
+
+def small_stack():
+    resource.setrlimit(resource.RLIMIT_STACK, (STACK, STACK))
+
+
+def wants(program, room, words, status, out, err='', given=b''):
+    done = subprocess.run([program, *words], input=given, stdout=subprocess.PIPE, stderr=subprocess.PIPE, cwd=room, timeout=110, preexec_fn=small_stack)
+    if done.returncode != status or done.stdout.decode() != out or err not in done.stderr.decode():
+        raise Failed(f'{[word[:60] for word in words]}: status {done.returncode}, {done.stdout[-200:]!r}, {done.stderr[-300:]!r}; wanted {status}, {out!r}, {err!r}')
+
+
+def queries(program, room):
+    """Queries of many words over many fields."""
+    row = [f'w{number}' for number in range(WORDS)]
+    for query, found in (
+            (' '.join(row), [0, 1, 2]),
+            (' OR '.join(row), [0, 1, 2]),
+            (' AND '.join(['f0:common'] * WORDS), [0, 1]),
+            (' AND '.join(f'f{number % FIELDS}:common' for number in range(FIELDS)), [0]),
+            ('common' + ' AND -none' * WORDS, [0, 1, 2]),
+            ('common ' + ' '.join(f'-{word}' for word in row[10:]), [0, 1]),
+            ('f0:"' + ' '.join(['common'] * 20) + '"', []),
+            ('(' * NESTING + 'common' + ')' * NESTING, [0, 1, 2]),
+            ('(' * NESTING + 'common' + ' none)' * NESTING, [0, 1, 2]),
+            ('common AND -(none OR (' * (NESTING // 2) + 'none' + '))' * (NESTING // 2), [0, 1, 2])):
+        wants(program, room, ['search', 'folder', query], 0 if found else 1, ''.join(f'{doc}\n' for doc in found))
+    wants(program, room, ['search', 'folder', '(' * (NESTING + 1) + 'common' + ')' * (NESTING + 1)], 2, '', f'at byte {NESTING}')
+    wants(program, room, ['search', 'folder', 'common', '--positions', '--limit', '1', '--field', 'f1'], 0, '0\tf1:common 0\n')
+
+
+def main():
+    if 'NEQULLPA' not in os.environ and not programs.build(PROGRAM):
+        print('tests/folder: the program was not built')
+        return 1
+    program, begun = os.environ.get('NEQULLPA', programs.program_of(PROGRAM)), time.time()
+    with tempfile.TemporaryDirectory() as room:
+        with open(os.path.join(room, 'schema.toml'), 'w', encoding='utf-8') as file:
+            file.write(''.join(f'[[field]]\nname = "f{number}"\ntype = "text"\n\n' for number in range(FIELDS)))
+        docs = [{f'f{number}': 'common' for number in range(FIELDS)}, {'f0': 'common w1'}, {'f5': 'w2 common w9999'}]
+        try:
+            given = ''.join(json.dumps(doc) + '\n' for doc in docs).encode()
+            wants(program, room, ['index', 'folder', '--schema', 'schema.toml'], 0, '3 documents indexed\n', given=given)
+            docs[0]['f7'] = 'common w3'
+            given = ''.join(json.dumps(doc) + '\n' for doc in docs).encode()
+            wants(program, room, ['index', 'folder', '--schema', 'schema.toml'], 0, '3 documents indexed\n', given=given)
+            queries(program, room)
+        except Failed as why:
+            print(f'tests/folder: {why}')
+            return 1
+    print(f'tests/folder: {FIELDS} fields, queries of {WORDS} words and {NESTING} parentheses in one another, on a stack of {STACK >> 20} MiB, in {time.time() - begun:.0f} s')
+    return 0
+
+
+sys.exit(main())

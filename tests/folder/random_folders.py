@@ -1,0 +1,328 @@
+#!/usr/bin/env python3
+"""The program `nequllpa` over random folders: random schemas and lines of every type, some with lists of several blocks. `check` has to
+find no damage, and `terms`, `postings`, `fields` and `search` have to answer what a plain reading of the lines gives.
+
+    random_folders.py              50 folders, as the gate runs it
+    random_folders.py N SEED       N others"""
+import ipaddress
+import json
+import os
+import random
+import shutil
+import subprocess
+import sys
+import tempfile
+
+sys.dont_write_bytecode = True
+HERE = os.path.dirname(os.path.abspath(__file__))
+sys.path.insert(0, HERE)
+sys.path.insert(0, os.path.join(os.path.dirname(os.path.dirname(HERE)), 'tools'))
+import programs
+import texts
+
+PROGRAM = 'nequllpa_cli'
+WORDS = ['sea', 'old', 'The', 'the', 'bird', 'x1', '42', 'naïve', '老人', 'a', 'new', 'york', 'of', 'man', 'true', '7', 'co', 'op', '-3', 'it’s']
+KEYS = ['a', 'b', 'a.b', 'x y', 'back\\slash', 'quo"te', 'sizes', '', 'a:b', 'Ünï', '(p)', 'dot.', '.dot']
+NAMES = ['body', 'title', 'n', 'change', 'flag', 'mark', 'addr', 'j', 'about', 'some field', 'a.b', 'x:y', 'AND', '-minus', 'id']
+MARKS = [' ', '. ', ', ', ' - ', '! ', '\n', '  ', '_', '"']
+NUMBERS = [0, 1, 2, 7, 255, 256, 2 ** 31, 2 ** 63 - 1]
+
+
+class Failed(Exception):
+    """What isn't as it has to be."""
+
+
+def random_schema(chosen):
+    """Fields of a schema, of random types and settings."""
+    fields = []
+    for name in chosen.sample(NAMES, chosen.randint(1, 6)):
+        field = {'name': name, 'type': chosen.choice(['text', 'text', 'u64', 'i64', 'bool', 'bytes', 'ip_addr', 'json', 'json'])}
+        if chosen.random() < 0.1:
+            field['indexed'] = False
+        else:
+            if field['type'] in ('text', 'json') and chosen.random() < 0.6:
+                field['record'] = chosen.choice(['basic', 'freq', 'position'])
+            if field['type'] != 'json' and chosen.random() < 0.4:
+                field['fieldnorms'] = chosen.random() < 0.5
+            if field['type'] == 'json' and chosen.random() < 0.4:
+                field['expand_dots'] = chosen.random() < 0.7
+        fields.append(field)
+    return fields
+
+
+def schema_text(fields):
+    """The schema in TOML."""
+    told = lambda value: json.dumps(value, ensure_ascii=False)
+    return '\n'.join('[[field]]\n' + ''.join(f'{key} = {told(value)}\n' for key, value in field.items()) for field in fields)
+
+
+def random_text(chosen):
+    return ''.join(chosen.choice(WORDS) + chosen.choice(MARKS) for _ in range(chosen.randint(0, 12)))
+
+
+def random_json(chosen, depth):
+    """A JSON value without fractions."""
+    kind = chosen.randint(0, 7 if depth else 5)
+    if kind == 0:
+        return None
+    if kind == 1:
+        return chosen.random() < 0.5
+    if kind == 2:
+        return chosen.choice(NUMBERS + [-number for number in NUMBERS] + [2 ** 63, 2 ** 64 - 1])
+    if kind in (3, 4, 5):
+        return random_text(chosen)
+    if kind == 6:
+        same = random_json(chosen, depth - 1)
+        return [same if chosen.random() < 0.5 else random_json(chosen, depth - 1) for _ in range(chosen.randint(0, 4))]
+    return {chosen.choice(KEYS): random_json(chosen, depth - 1) for _ in range(chosen.randint(0, 4))}
+
+
+def random_value(chosen, field):
+    """A value of a field."""
+    kind = field['type']
+    if kind == 'text':
+        return random_text(chosen)
+    if kind == 'u64':
+        return chosen.choice(NUMBERS + [2 ** 63, 2 ** 64 - 1])
+    if kind == 'i64':
+        return chosen.choice(NUMBERS + [-number for number in NUMBERS if number])
+    if kind == 'bool':
+        return chosen.random() < 0.5
+    if kind == 'bytes':
+        return chosen.choice(['', '00', 'ff00', 'ABcd', '6162'])
+    if kind == 'ip_addr':
+        return chosen.choice(['10.0.0.1', '::1', '2001:db8::2', '255.255.255.255', '::ffff:1.2.3.4'])
+    return random_json(chosen, 3)
+
+
+def random_line(chosen, fields):
+    """A document: of some fields a value, several, or null."""
+    made = {}
+    for field in fields:
+        how = chosen.random()
+        if field['type'] == 'json' or field.get('indexed') is False and how < 0.9:
+            if how < 0.8:
+                made[field['name']] = random_value(chosen, field)
+        elif how < 0.55:
+            made[field['name']] = random_value(chosen, field)
+        elif how < 0.75:
+            made[field['name']] = [random_value(chosen, field) for _ in range(chosen.randint(0, 3))]
+        elif how < 0.85:
+            made[field['name']] = None
+    return made
+
+
+def number_key(number):
+    return number.to_bytes(8, 'big')
+
+
+def signed_key(number):
+    return (number + 2 ** 63).to_bytes(8, 'big')
+
+
+def leaves(value, path, expands):
+    """The leaves of a JSON value with their paths, members in the order of the bytes of their keys."""
+    if isinstance(value, dict):
+        for key in sorted(value, key=str.encode):
+            if '\0' not in key:
+                name = key.replace('.', '\1') if expands else key
+                yield from leaves(value[key], path + [name], expands)
+    elif isinstance(value, list):
+        for item in value:
+            yield from leaves(item, path, expands)
+    elif value is not None:
+        yield '\1'.join(path), value
+
+
+def spelled_path(path):
+    """A path as `terms` prints it."""
+    return ''.join('.' if c == '\1' else '\\' + c if c in '.\\ ' else c for c in path)
+
+
+class Field:
+    """What a plain reading finds of a field: for each key its text, and each document with its positions or None; and the tokens."""
+
+    def __init__(self, setting):
+        self.setting, self.lists, self.texts, self.tokens, self.counts = setting, {}, {}, 0, {}
+        self.kind = setting['type']
+
+    def put(self, key, text, doc, position):
+        self.texts[key] = text
+        self.lists.setdefault(key, {}).setdefault(doc, []).append(position)
+        self.tokens += 1
+        self.counts[doc] = self.counts.get(doc, 0) + 1
+
+    def put_words(self, doc, prefix, spelled, value, begin):
+        """The words of a text at a place; where the next text at the same path begins."""
+        words = texts.words_of(value)
+        for place, word in enumerate(words):
+            self.put(prefix + word.encode(), spelled + word, doc, begin + place)
+        return begin + len(words) + 1
+
+    def add(self, doc, value):
+        """Adds the value that a document has under the field's name."""
+        if self.setting.get('indexed') is False or value is None:
+            return
+        if self.kind == 'json':
+            self.add_json(doc, value)
+            return
+        begin = 0
+        for one in value if isinstance(value, list) else [value]:
+            if self.kind == 'text':
+                begin = self.put_words(doc, b'', '', one, begin)
+            else:
+                self.put(*self.key_of(one), doc, None)
+
+    def key_of(self, value):
+        if self.kind == 'u64':
+            return number_key(value), str(value)
+        if self.kind == 'i64':
+            return signed_key(value), str(value)
+        if self.kind == 'bool':
+            return number_key(int(value)), 'true' if value else 'false'
+        if self.kind == 'bytes':
+            return bytes.fromhex(value), value.lower()
+        address = ipaddress.ip_address(value)
+        if address.version == 6 and address.ipv4_mapped:
+            address = address.ipv4_mapped
+        key = address.packed if address.version == 6 else b'\0' * 10 + b'\xff\xff' + address.packed
+        return key, str(address)
+
+    def add_json(self, doc, value):
+        begins = {}
+        for path, leaf in leaves(value, [], self.setting.get('expand_dots', False)):
+            prefix, spelled = path.encode() + b'\0', spelled_path(path)
+            if isinstance(leaf, bool):
+                self.put(prefix + b'o' + number_key(int(leaf)), f'{spelled} o {"true" if leaf else "false"}', doc, None)
+            elif isinstance(leaf, int) and leaf < 2 ** 63:
+                self.put(prefix + b'i' + signed_key(leaf), f'{spelled} i {leaf}', doc, None)
+            elif isinstance(leaf, int):
+                self.put(prefix + b'u' + number_key(leaf), f'{spelled} u {leaf}', doc, None)
+            else:
+                begins[path] = self.put_words(doc, prefix + b's', f'{spelled} s ', leaf, begins.get(path, 0))
+
+    def records(self):
+        return self.setting.get('record', 'position') if self.kind in ('text', 'json') else 'basic'
+
+    def postings(self, key, with_positions):
+        """What `postings` prints of a term."""
+        told = ''
+        for doc, positions in sorted(self.lists[key].items()):
+            is_value = positions[0] is None
+            row = [doc]
+            if self.records() != 'basic':
+                row.append(1 if is_value else len(positions))
+                if with_positions and self.records() == 'position' and not is_value:
+                    row += positions
+            told += ' '.join(map(str, row)) + '\n'
+        return told
+
+
+class Reader:
+    """A folder that the program has made, beside a plain reading of its lines."""
+
+    def __init__(self, program, room, fields, lines):
+        self.program, self.room, self.lines, self.runs = program, room, lines, 0
+        self.fields = [Field(field) for field in fields]
+        for doc, line in enumerate(lines):
+            for field in self.fields:
+                field.add(doc, line.get(field.setting['name']))
+
+    def run(self, *words, given=b''):
+        self.runs += 1
+        done = subprocess.run([self.program, *words], input=given, stdout=subprocess.PIPE, stderr=subprocess.PIPE, cwd=self.room, timeout=600)
+        return done.returncode, done.stdout.decode(), done.stderr.decode()
+
+    def wants(self, words, status, out, given=b''):
+        got, said, err = self.run(*words, given=given)
+        if got != status or said != out:
+            raise Failed(f'{words}: status {got}, {said[-400:]!r}, {err[-300:]!r}; wanted {status}, {out[-400:]!r}')
+
+    def indexes(self, fields):
+        with open(os.path.join(self.room, 'schema.toml'), 'w', encoding='utf-8') as file:
+            file.write(schema_text(fields))
+        text = ''.join(json.dumps(line, ensure_ascii=False) + '\n' for line in self.lines)
+        self.wants(['index', 'folder', '--schema', 'schema.toml'], 0, f'{len(self.lines)} documents indexed\n', text.encode())
+        status, told, err = self.run('check', 'folder')
+        if status != 0 or not told.endswith('\n0 damages\n'):
+            raise Failed(f'check: status {status}, {told!r}, {err!r}')
+
+    def looks(self, chosen):
+        """Fields, terms and postings."""
+        status, told, err = self.run('fields', 'folder')
+        rows = [row for row in told.splitlines() if not row.startswith('  ')]
+        for number, (field, row) in enumerate(zip(self.fields, rows, strict=True)):
+            name = field.setting['name']
+            if not row.startswith(f'{number} {name} {field.kind} ') or not row.endswith(f': {len(field.lists)} terms, {field.tokens} tokens'):
+                raise Failed(f'fields: {row!r}; wanted {len(field.lists)} terms, {field.tokens} tokens of {name}')
+            keys = sorted(field.lists)
+            self.wants(['terms', 'folder', '--', name], 0, ''.join(f'{len(field.lists[key])} {field.texts[key]}\n' for key in keys))
+            for key in chosen.sample(keys, min(6, len(keys))):
+                self.wants(['postings', 'folder', '--', name, field.texts[key]], 0, field.postings(key, False))
+                self.wants(['postings', 'folder', '--positions', '--', name, field.texts[key]], 0, field.postings(key, True))
+
+    def docs_of(self, field, word):
+        """The documents with a word in a field of texts."""
+        return set(field.lists.get(word.encode(), {}))
+
+    def searches(self, chosen):
+        """Words, pairs of words and numbers, by a filter of the documents."""
+        text_fields = [field for field in self.fields if field.kind == 'text' and field.setting.get('indexed') is not False]
+        everywhere = lambda word: set().union(*(self.docs_of(field, word) for field in text_fields))
+        plain = [word for word in WORDS if texts.words_of(word) == [word]]
+        for _ in range(8):
+            one, two = chosen.choice(plain), chosen.choice(plain)
+            if text_fields:
+                a, b = everywhere(one), everywhere(two)
+                for query, found in ((one, a), (f'{one} {two}', a | b), (f'{one} AND {two}', a & b), (f'{one} NOT {two}', a - b), (f'({one} OR {two}) AND -{two}', a - b)):
+                    self.finds(query, found)
+        for field in self.fields:
+            name = field.setting['name']
+            if not field.lists or not name.isalnum() or name == 'AND':
+                continue
+            key = chosen.choice(sorted(field.lists))
+            if field.kind in ('u64', 'i64', 'bool'):
+                self.finds(f'{name}:"{field.texts[key]}"', set(field.lists[key]))
+            elif field.kind == 'text' and field.records() == 'position':
+                self.phrase(chosen, field, name)
+
+    def phrase(self, chosen, field, name):
+        """A phrase of two words in a field."""
+        one, two = chosen.choice(sorted(field.lists)), chosen.choice(sorted(field.lists))
+        found = {doc for doc, places in field.lists[one].items() if any(place + 1 in field.lists[two].get(doc, ()) for place in places)}
+        self.finds(f'{name}:"{one.decode()} {two.decode()}"', found)
+
+    def finds(self, query, found):
+        self.wants(['search', 'folder', '--', query], 0 if found else 1, ''.join(f'{doc}\n' for doc in sorted(found)))
+        self.wants(['search', 'folder', '--count', '--', query], 0 if found else 1, f'{len(found)}\n')
+
+
+def one_folder(program, room, chosen, is_large):
+    fields = random_schema(chosen)
+    lines = [random_line(chosen, fields) for _ in range(chosen.randint(300, 900) if is_large else chosen.randint(0, 30))]
+    reader = Reader(program, room, fields, lines)
+    reader.indexes(fields)
+    reader.looks(chosen)
+    reader.searches(chosen)
+    return reader.runs
+
+
+def main():
+    many, seed = (int(sys.argv[1]), int(sys.argv[2])) if len(sys.argv) > 2 else (50, 1)
+    if 'NEQULLPA' not in os.environ and not programs.build(PROGRAM):
+        print('tests/folder: the program was not built')
+        return 1
+    program, runs = os.environ.get('NEQULLPA', programs.program_of(PROGRAM)), 0
+    for number in range(many):
+        with tempfile.TemporaryDirectory() as room:
+            try:
+                runs += one_folder(program, room, random.Random(seed * 1_000_003 + number), number % 8 == 0)
+            except Failed as why:
+                shutil.copytree(room, '/tmp/nequllpa-failed', dirs_exist_ok=True)
+                print(f'tests/folder: random folder {number} of seed {seed}, kept in /tmp/nequllpa-failed: {why}')
+                return 1
+    print(f'tests/folder: {many} random folders, {runs} runs of nequllpa')
+    return 0
+
+
+sys.exit(main())
