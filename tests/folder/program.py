@@ -357,7 +357,7 @@ def places_of_damage(user):
     start = text.index(bird + sea)
     for place, byte, said in ((0, 0x00, f', field body, term bird: damaged frequencies, bytes {start}..{start + 6}'),
                               (7, 0x80, f', field body, term sea: damaged documents, bytes {start + 6}..{start + 12}'),
-                              (8, 0x82, f', field body, term sea: document 3 is none of the index, bytes {start + 6}..{start + 12}'),
+                              (8, 0x82, f', field body, term sea: document 3 is not in the index, bytes {start + 6}..{start + 12}'),
                               (-8, 13, f', field body: the field counts 13 tokens, but its terms have 12, bytes {start - 8}..{start}'),
                               (len(text) - start - 1, 0xff, f': damaged composite file, bytes 0..{len(text)}')):
         changed = bytearray(text)

@@ -1,2 +1,11 @@
-mod LocatedLemmas
-mod TableLemmas
+pub mod KeptLaws
+pub mod KeyLemmas
+pub mod ListedLemmas
+pub mod NormLemmas
+pub mod PlaceLemmas
+pub mod SoundFields
+pub mod SoundIndex
+pub mod SumLaws
+pub mod TableLemmas
+pub mod TableLists
+pub mod WalkedLemmas

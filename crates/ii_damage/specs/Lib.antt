@@ -1,2 +1,5 @@
 pub mod Bodies
-pub mod Located
+pub mod Damages
+pub mod Fits
+pub mod Opened
+pub mod Walked

@@ -1,18 +1,20 @@
-//! A file of an index, whatever it holds: the bodies of its fields, and where in it they lie.
-ghost use Rattle.std.specs.Prelude.{◌≡◌, ◌-◌, ◌==◌, IfOk, List, Some, drop, length};
+//! A file of an index, whatever it holds: the bodies of its fields, and where in it they are.
+ghost use Rattle.std.specs.Prelude.{◌≡◌, ◌-◌, ◌==◌, IfOk, List, Some, drop, is_some, length};
 ghost use Rattle.std.specs.List.{find};
 ghost use Rattle.ii_io.specs.declared.composite_file.place.Place.{Place};
 ghost use Rattle.ii_io.specs.Composite.{composite, places_at, table_of};
 ghost use Rattle.ii_io.specs.Faults.{OnlyMemory};
 ghost use Rattle.ii_damage.specs.Bodies.{body_in};
+ghost use Rattle.ii_damage.specs.Damages.{all_bytes, bytes_of_field};
 
+use crate::damage::ByteRange;
 use bytes::Bytes;
 use ii_io::composite_file::place::Place;
 use ii_io::{BinarySerializable, CompositeFile, Fault, Field};
 use std::alloc::Global;
-use std::ops::Range;
+use std::marker::Model;
 
-/// A file of an index as it is, and the bodies of its fields if its table is whole.
+/// A file of an index as it is, and the bodies of its fields if its table is valid. Its model is the bytes.
 pub struct FieldBodies {
     bytes: Bytes,
     bodies: Option<CompositeFile>,
@@ -28,11 +30,21 @@ impl Drop for FieldBodies {
     }
 }
 
+impl Model for FieldBodies {
+    ghost use Rattle.std.specs.Prelude.{◌≡◌, ℕ, List};
+    ghost use Rattle.ii_io.specs.Composite.{composite};
+
+    ghost Value = { List ℕ };
+
+    ghost view = { λ f. f.bytes };
+
+    ghost invariant = { λ f. f.bodies ≡ composite f.bytes };
+}
+
 impl FieldBodies {
-    /// The bodies of any bytes. `OutOfMemory` alone is a fault.
+    /// Opens any bytes. Fails only with `OutOfMemory`.
     pub fn open(alloc: Global, bytes: Vec<u8>) -> Result<FieldBodies, Fault>
-        ensures bodies { IfOk result (λ f. f.bodies ≡ composite bytes.items) }
-        ensures bytes { IfOk result (λ f. f.bytes ≡ bytes.items) }
+        ensures bytes { IfOk result (λ f. f ≡ bytes.items) }
         ensures only { OnlyMemory result }
     {
         let bytes = Bytes::from_vec(bytes)?;
@@ -54,20 +66,17 @@ impl FieldBodies {
         }
     }
 
-    /// How many bytes the file has.
-    pub fn len(&self) -> usize {
-        self.bytes.len()
-    }
-
-    /// Whether its table is whole.
-    pub fn is_whole(&self) -> bool {
+    /// Returns whether its table is valid.
+    pub fn is_whole(&self) -> bool
+        ensures { result ≡ is_some (table_of self.now) }
+    {
         self.bodies.is_some()
     }
 
-    /// The body of a field; nothing where the file has none, or its table is damaged. `OutOfMemory` where
-    /// the file's buffer can't be shared once more.
+    /// Returns the body of a field, or `None` where the file has none or its table is damaged. Fails only
+    /// with `OutOfMemory`, where the file's buffer can't be shared once more.
     pub fn body(&self, field: Field) -> Result<Option<Bytes>, Fault>
-        ensures body { IfOk result (λ body. body ≡ body_in field self.now.bodies) }
+        ensures body { IfOk result (λ body. body ≡ body_in field (composite self.now)) }
         ensures only { OnlyMemory result }
     {
         match &self.bodies {
@@ -76,12 +85,29 @@ impl FieldBodies {
         }
     }
 
-    /// Where the body of a field lies in the file: from a byte to before another. All of the file where it
-    /// has no such body.
-    pub fn place(&self, field: Field) -> Range<u64> {
+    /// Returns all bytes of the file.
+    pub fn all(&self) -> ByteRange
+        ensures { result ≡ all_bytes self.now }
+    {
+        ByteRange {
+            start: 0,
+            end: self.bytes.len() as u64,
+        }
+    }
+
+    /// Returns where the body of a field is in the file: all of the file where it has no such body.
+    pub fn place(&self, field: Field) -> ByteRange
+        ensures { result ≡ bytes_of_field field self.now }
+    {
+        if !self.is_whole() {
+            return self.all();
+        }
         match place_of(self.bytes.as_slice(), field) {
-            Some(place) => place.start..place.end,
-            None => 0..self.bytes.len() as u64,
+            Some(place) => ByteRange {
+                start: place.start,
+                end: place.end,
+            },
+            None => self.all(),
         }
     }
 }
@@ -111,7 +137,7 @@ fn footer_of(file: &[u8]) -> &[u8]
     footer
 }
 
-// The first place of a field among so many at the front of a table.
+// The first place of a field among the first `count` of a table.
 #[tactic(auto, using(crate::proofs::TableLemmas::seeking_first, crate::proofs::TableLemmas::seeking_short, crate::proofs::TableLemmas::seeking_here, crate::proofs::TableLemmas::seeking_on, crate::proofs::TableLemmas::seeking_ended))]
 fn place_in(table: &[u8], count: u32, field: Field) -> Option<Place>
     ensures { (places : List Place) → places_at count table.now ≡ Some places → result ≡ find (λ (p : Place). p.field == field) places }

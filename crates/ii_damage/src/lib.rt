@@ -1,11 +1,17 @@
-//! Where the files of an index are damaged, whatever they hold: each field read on its own, and each list
-//! of it walked.
+//! Finding what is damaged in the files of an index, whatever they hold: each field is read on its own, and
+//! each of its lists walked.
 #![tactic(auto)]
 
+pub mod checking;
+mod counts;
+pub mod damage;
 pub mod field_bodies;
+mod keys;
 pub mod walked_files;
 pub mod walking;
 
+pub use checking::{Totals, find_damages};
+pub use damage::{ByteRange, Damage, FieldPlaces, FoundDamage};
 pub use field_bodies::FieldBodies;
 pub use walked_files::{OpenedField, WalkedFiles};
-pub use walking::{StrayTerm, Walk};
+pub use walking::Walk;

@@ -1,20 +1,26 @@
 //! The files of an index, whatever they hold, opened field by field.
-ghost use Rattle.std.specs.Prelude.{IfOk};
+ghost use Rattle.std.specs.Prelude.{◌≡◌, IfOk};
 ghost use Rattle.ii_io.specs.Faults.{OnlyMemory};
-ghost use Rattle.ii_reader.specs.OpenIndex.{reader_if, reader_of_bodies};
-ghost use Rattle.ii_damage.specs.Bodies.{body_in};
-ghost use Rattle.ii_damage.specs.Located.{Opens};
+ghost use Rattle.ii_store.specs.Index.{view};
+ghost use Rattle.ii_damage.specs.Damages.{field_reader, file_of, files_of, places_of, reader_in};
+ghost use Rattle.ii_damage.specs.Opened.{Opens};
 
+use crate::damage::FieldPlaces;
 use crate::field_bodies::FieldBodies;
 use bytes::Bytes;
-use ii_base::{Fault, Field, IndexRecordOption, Part};
+use ii_base::{DocId, Fault, Field, IndexRecordOption, Part};
 use ii_reader::InvertedIndexReader;
 use ii_store::{Kind, StoredIndex};
 use ii_termdict::TermDictionary;
 use std::alloc::Global;
+use std::marker::Model;
+
+// How many bytes the number of a field's tokens takes, before all lists.
+const TOKEN_COUNT_SIZE: u64 = 8;
 
 /// The files of an index, each as it is.
 pub struct WalkedFiles {
+    num_docs: DocId,
     terms: FieldBodies,
     postings: FieldBodies,
     positions: FieldBodies,
@@ -25,6 +31,7 @@ pub struct WalkedFiles {
 impl Drop for WalkedFiles {
     fn drop(self) {
         let WalkedFiles {
+            num_docs: _,
             terms: _,
             postings: _,
             positions: _,
@@ -33,20 +40,37 @@ impl Drop for WalkedFiles {
     }
 }
 
-/// What a field gives.
+impl Model for WalkedFiles {
+    ghost use Rattle.ii_damage.specs.Damages.{IndexFiles};
+
+    ghost Value = { IndexFiles };
+
+    ghost view = { λ f. record {
+      num_docs = f.num_docs;
+      terms = f.terms;
+      postings = f.postings;
+      positions = f.positions;
+      fieldnorms = f.fieldnorms;
+    } };
+}
+
+/// What the bodies of a field give.
 #[derive(Drop)]
 pub enum OpenedField {
-    /// Its reader.
+    /// The reader of the field.
     Reader(InvertedIndexReader),
-    /// The file that is damaged, and the first part of it that is.
+    /// The file that is damaged, and its first damaged part.
     Damaged(Kind, Part),
 }
 
 impl WalkedFiles {
-    /// The files of an index. `OutOfMemory` alone is a fault.
-    pub fn open(alloc: Global, stored: StoredIndex) -> Result<WalkedFiles, Fault> {
+    /// Opens the files of an index. Fails only with `OutOfMemory`.
+    pub fn open(alloc: Global, stored: StoredIndex) -> Result<WalkedFiles, Fault>
+        ensures files { IfOk result (λ files. files ≡ files_of (view stored)) }
+        ensures only { OnlyMemory result }
+    {
         let StoredIndex {
-            num_docs: _,
+            num_docs,
             schema: _,
             terms,
             postings,
@@ -54,6 +78,7 @@ impl WalkedFiles {
             fieldnorms,
         } = stored;
         Ok(WalkedFiles {
+            num_docs,
             terms: FieldBodies::open(alloc, terms)?,
             postings: FieldBodies::open(alloc, postings)?,
             positions: FieldBodies::open(alloc, positions)?,
@@ -61,8 +86,17 @@ impl WalkedFiles {
         })
     }
 
-    /// The file of one kind that has bodies; that of terms for the schema, which has none.
-    pub fn file(&self, kind: Kind) -> &FieldBodies {
+    /// Returns the number of documents.
+    pub fn num_docs(&self) -> DocId
+        ensures { result ≡ self.now.num_docs }
+    {
+        self.num_docs
+    }
+
+    /// Returns the file of a kind that has bodies; that of the terms for the schema, which has none.
+    pub fn file(&self, kind: Kind) -> &FieldBodies
+        ensures { result.now ≡ file_of self.now kind }
+    {
         match kind {
             Kind::Schema | Kind::Terms => &self.terms,
             Kind::Postings => &self.postings,
@@ -71,10 +105,23 @@ impl WalkedFiles {
         }
     }
 
-    /// The reader of a field, or the first part of its bodies that is damaged. `OutOfMemory` alone is a
-    /// fault.
+    /// Returns where the terms, the lists and the positions of a field are.
+    pub fn places(&self, field: Field) -> FieldPlaces
+        ensures { result ≡ places_of self.now field }
+    {
+        let postings = self.postings.place(field);
+        FieldPlaces {
+            field,
+            terms: self.terms.place(field),
+            lists: postings.start.saturating_add(TOKEN_COUNT_SIZE),
+            positions: self.positions.place(field).start,
+        }
+    }
+
+    /// Returns the reader of a field, or the file that is damaged and its first damaged part. Fails only
+    /// with `OutOfMemory`.
     pub fn open_field(&self, field: Field, option: IndexRecordOption) -> Result<OpenedField, Fault>
-        ensures opened { IfOk result (Opens (reader_if option (body_in field self.now.terms.bodies) (body_in field self.now.postings.bodies) (body_in field self.now.positions.bodies))) }
+        ensures opened { IfOk result (Opens (field_reader self.now field option)) }
         ensures only { OnlyMemory result }
     {
         let Some(terms) = self.terms.body(field)? else {
@@ -90,14 +137,14 @@ impl WalkedFiles {
     }
 }
 
-// The reader of the three bodies of a field, or the first part that is damaged.
+// The reader of the three bodies of a field, or the file that is damaged and its first damaged part.
 fn open_bodies(
     terms: Bytes,
     postings: Bytes,
     positions: Bytes,
     option: IndexRecordOption,
 ) -> OpenedField
-    ensures { Opens (reader_of_bodies option terms postings positions) result }
+    ensures { Opens (reader_in option (Some terms) (Some postings) (Some positions)) result }
 {
     let terms = match TermDictionary::open(terms) {
         Ok(terms) => terms,

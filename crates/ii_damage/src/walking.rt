@@ -1,143 +1,193 @@
 //! Walking every list of a field.
-ghost use Rattle.std.specs.Prelude.{◌≡◌, ◌++◌, IfOk, OnOk};
+ghost use Rattle.std.specs.Prelude.{◌≡◌, ◌++◌, ◌∷◌, ◌&&◌, [], ℕ, IfOk, List, OnOk, drop, filter, length, min, nat_le, if◌then◌else◌, slice_get, nat_lt};
+ghost use Rattle.std.specs.List.{filter_map};
+ghost use Rattle.std.specs.Option.{option_map, option_or, option_to_list};
 ghost use Rattle.ii_docset.specs.Cursor.{IsCurrent};
 ghost use Rattle.ii_io.specs.Faults.{OnlyMemory};
-ghost use Rattle.ii_reader.specs.Damage.{damaged_terms};
+ghost use Rattle.ii_base.specs.Entries.{Entry};
 ghost use Rattle.ii_reader.specs.InvertedIndexReader.{term_of_file};
-ghost use Rattle.ii_damage.specs.Located.{damages_at};
+ghost use Rattle.ii_damage.specs.Damages.{entries_read, field_entries, list_damage, of_term, stray_in, term_damages, u32_max};
+ghost use Rattle.ii_damage.specs.Walked.{HasWalked, raised};
 
-use ii_base::{Fault, IndexRecordOption};
-use ii_docset::{DocSet, Postings, TERMINATED};
-use ii_reader::{DamagedTerm, InvertedIndexReader, SegmentPostings};
+use crate::damage::{Damage, FieldPlaces, FoundDamage};
+use ii_base::{DocId, Fault, TERMINATED};
+use ii_docset::{DocSet, Postings};
+use ii_reader::{InvertedIndexReader, SegmentPostings};
 use ii_termdict::TermInfo;
 use std::alloc::{AllocError, Global};
 
-/// A term whose list has a document that is none of the index.
-#[derive(Clone, Copy, Debug, PartialEq, Eq)]
-pub struct StrayTerm {
-    /// Its place in the order of the keys.
-    pub ord: u64,
-    /// The document.
-    pub doc: u32,
-}
-
-/// What is known of the documents of a field, from the lists that were walked.
+/// What the lists of a field that were walked have.
 #[derive(Drop)]
 pub struct Walk {
-    /// How many tokens each document has.
+    /// The tokens of each document, at most `u32::MAX`.
     pub counts: Vec<u32>,
-    /// How many all of them have.
-    pub tokens: u64,
-    /// How many documents the lists have, of all terms.
+    /// The tokens of all documents, at most `u128::MAX`.
+    pub tokens: u128,
+    /// The documents of all lists, at most `u64::MAX`.
     pub postings: u64,
-    /// How many positions.
+    /// The positions of all lists, at most `u64::MAX`.
     pub positions: u64,
-    /// The terms with a document that is none of the index, each with the first one.
-    pub strays: Vec<StrayTerm>,
-    // the positions of the last document
-    last: Vec<u32>,
 }
 
 impl Walk {
-    /// No list was walked yet, in an index of so many documents.
-    pub fn new(alloc: Global, num_docs: u32) -> Result<Walk, AllocError> {
+    /// Creates a walk of no list, in an index of `num_docs` documents.
+    #[tactic(auto, using(crate::proofs::WalkedLemmas::none_walked))]
+    pub fn new(alloc: Global, num_docs: DocId) -> Result<Walk, AllocError>
+        ensures { IfOk result (HasWalked num_docs []) }
+    {
         Ok(Walk {
             counts: vec![in alloc; 0u32; num_docs as usize]?,
             tokens: 0,
             postings: 0,
             positions: 0,
-            strays: Vec::new(alloc),
-            last: Vec::new(alloc),
         })
     }
 
-    /// Walks the lists of all terms of a field, with counts and positions, and answers which are damaged, in
-    /// the order of their keys; of the others all documents are walked. `OutOfMemory` alone is a fault.
-    #[tactic(auto, using(crate::proofs::LocatedLemmas::locating_first, crate::proofs::LocatedLemmas::locating_next, crate::proofs::LocatedLemmas::locating_short, crate::proofs::LocatedLemmas::locating_all))]
+    /// Walks the lists of all terms of a field, with counts and positions, and returns the damages of the
+    /// terms in the order of their keys. Fails only with `OutOfMemory`.
     pub fn walk_terms(
         &mut self,
         alloc: Global,
         reader: &InvertedIndexReader,
-    ) -> Result<Vec<DamagedTerm>, Fault>
-        ensures damaged { IfOk result (λ damaged. damaged.items ≡ damaged_terms reader.now) }
+        num_docs: DocId,
+        places: &FieldPlaces,
+    ) -> Result<Vec<FoundDamage>, Fault>
+        ensures found { IfOk result (λ found. found.items ≡ term_damages num_docs places.now reader.now) }
+        ensures walked { OnOk result ((n : ℕ) (es : List Entry) → HasWalked n es self.old → HasWalked n (es ++ field_entries reader.now) self.new) }
         ensures only { OnlyMemory result }
     {
-        let option = reader.record_option();
         let mut terms = reader.terms().stream();
-        let mut damaged = Vec::new(alloc);
-        for ord in 0..reader.terms().num_terms() as u64 {
-            let Some((_, info)) = terms.next() else {
-                return Ok(damaged);
+        let mut found = Vec::new(alloc);
+        let mut last = Vec::new(alloc);
+        for _ord in 0..reader.terms().num_terms() {
+            let Some((key, info)) = terms.next() else {
+                return Ok(found);
             };
-            self.walk_term(reader, &info, ord, option, &mut damaged)?;
+            let damage = self.walk_term(reader, &info, num_docs, &mut last)?;
+            push_damage(alloc, &mut found, places, key, &info, damage)?;
         }
-        Ok(damaged)
+        Ok(found)
     }
 
-    // Walks the list of a term that stands at a place, or adds it to the damaged ones.
-    #[tactic(auto, using(crate::proofs::LocatedLemmas::no_damage, crate::proofs::LocatedLemmas::one_damage))]
+    // Walks the list of a term, and returns what is wrong with it.
     fn walk_term(
         &mut self,
         reader: &InvertedIndexReader,
         info: &TermInfo,
-        ord: u64,
-        option: IndexRecordOption,
-        damaged: &mut Vec<DamagedTerm>,
-    ) -> Result<(), Fault>
-        ensures damaged { OnOk result (damaged.new.items ≡ damaged.old.items ++ damages_at ord (term_of_file reader.now option info.now)) }
+        num_docs: DocId,
+        last: &mut Vec<u32>,
+    ) -> Result<Option<Damage>, Fault>
+        ensures damage { IfOk result (λ damage. damage ≡ list_damage num_docs (term_of_file reader.now reader.now.option info.now)) }
+        ensures walked { OnOk result ((n : ℕ) (es : List Entry) → HasWalked n es self.old → HasWalked n (es ++ entries_read (term_of_file reader.now reader.now.option info.now)) self.new) }
         ensures only { OnlyMemory result }
     {
-        match reader.read_postings_from_terminfo(info, option) {
-            Ok(mut cursor) => self.walk_list(ord, &mut cursor, option),
-            Err(Fault::Damaged(part)) => Ok(damaged.push(DamagedTerm { ord, part })?),
+        match reader.read_postings_from_terminfo(info, reader.record_option()) {
+            Ok(mut cursor) => match self.walk_list(&mut cursor, num_docs, last)? {
+                Some(doc) => Ok(Some(Damage::Document(doc))),
+                None => Ok(None),
+            },
+            Err(Fault::Damaged(part)) => Ok(Some(Damage::Part(part))),
             Err(fault) => Err(fault),
         }
     }
 
-    // Walks the list of a term.
+    // Walks a list, and returns its first document that is not in the index.
     fn walk_list(
         &mut self,
-        ord: u64,
         cursor: &mut SegmentPostings,
-        option: IndexRecordOption,
-    ) -> Result<(), Fault>
-        ensures { OnlyMemory result }
+        num_docs: DocId,
+        last: &mut Vec<u32>,
+    ) -> Result<Option<DocId>, Fault>
+        requires { length cursor.old.rest ≡ cursor.old.doc_freq }
+        ensures stray { IfOk result (λ stray. stray ≡ stray_in num_docs cursor.old.rest) }
+        ensures walked { OnOk result ((n : ℕ) (es : List Entry) → HasWalked n es self.old → HasWalked n (es ++ cursor.old.rest) self.new) }
+        ensures only { OnlyMemory result }
     {
+        let mut stray = None;
         for _i in 0..cursor.doc_freq() {
             let doc = cursor.doc();
             if doc >= TERMINATED {
-                return Ok(());
+                return Ok(stray);
             }
-            if !self.walk_posting(cursor, option)? {
-                return Ok(self.strays.push(StrayTerm { ord, doc })?);
-            }
+            stray = first_stray(stray, doc, num_docs);
+            self.walk_posting(cursor, doc, last)?;
             cursor.advance();
         }
-        Ok(())
+        Ok(stray)
     }
 
-    // Counts the current document, and answers whether the index has it.
+    // Counts the current document.
     fn walk_posting(
         &mut self,
         cursor: &mut SegmentPostings,
-        option: IndexRecordOption,
-    ) -> Result<bool, Fault>
+        doc: DocId,
+        last: &mut Vec<u32>,
+    ) -> Result<(), Fault>
         requires { IsCurrent cursor.old.rest }
-        ensures { OnlyMemory result }
+        ensures walked { OnOk result ((n : ℕ) (es more : List Entry) (e : Entry) → cursor.old.rest ≡ e ∷ more → doc ≡ e.doc → HasWalked n es self.old → HasWalked n (es ++ e ∷ []) self.new) }
+        ensures rest { OnOk result (cursor.new.rest ≡ cursor.old.rest) }
+        ensures doc_freq { OnOk result (cursor.new.doc_freq ≡ cursor.old.doc_freq) }
+        ensures only { OnlyMemory result }
     {
-        let doc = cursor.doc();
-        self.postings = self.postings.saturating_add(1);
         let freq = cursor.term_freq();
-        let Some(count) = self.counts.get_mut(doc as usize) else {
-            return Ok(false);
-        };
-        *count = (*count).saturating_add(freq);
-        self.tokens = self.tokens.saturating_add(u64::from(freq));
-        if !option.has_positions() {
-            return Ok(true);
-        }
-        cursor.positions(&mut self.last)?;
-        self.positions = self.positions.saturating_add(self.last.len() as u64);
-        Ok(true)
+        cursor.positions(last)?;
+        self.add(doc, freq, last.len());
+        Ok(())
     }
+
+    // Counts a document of a list, which has the term so often, at so many positions.
+    #[tactic(auto, using(crate::proofs::WalkedLemmas::one_walked))]
+    fn add(&mut self, doc: DocId, term_freq: u32, num_positions: usize)
+        ensures { (n : ℕ) (es : List Entry) (e : Entry) → doc ≡ e.doc → term_freq ≡ e.term_freq → num_positions ≡ length e.positions → HasWalked n es self.old → HasWalked n (es ++ e ∷ []) self.new }
+    {
+        self.postings = self.postings.saturating_add(1);
+        self.positions = self.positions.saturating_add(num_positions as u64);
+        self.tokens = self.tokens.saturating_add(u128::from(term_freq));
+        add_count(self.counts.as_mut_slice(), doc, term_freq);
+    }
+}
+
+// Adds to the count of a document, if the index has it.
+fn add_count(counts: &mut [u32], doc: DocId, term_freq: u32)
+    ensures length { length counts.new ≡ length counts.old }
+    ensures counts { (d : ℕ) → slice_get counts.new d ≡ option_map (raised doc term_freq d) (slice_get counts.old d) }
+{
+    let doc = doc as usize;
+    if doc >= counts.len() {
+        return;
+    }
+    counts[doc] = counts[doc].saturating_add(term_freq);
+}
+
+// The first document that is not in the index, if one was found or this is one.
+fn first_stray(stray: Option<DocId>, doc: DocId, num_docs: DocId) -> Option<DocId>
+    ensures { result ≡ option_or stray (if nat_le num_docs doc then Some doc else None) }
+{
+    if stray.is_some() {
+        return stray;
+    }
+    if num_docs <= doc {
+        return Some(doc);
+    }
+    None
+}
+
+// Adds the damage of a term, if it has one.
+fn push_damage(
+    alloc: Global,
+    found: &mut Vec<FoundDamage>,
+    places: &FieldPlaces,
+    key: &[u8],
+    info: &TermInfo,
+    damage: Option<Damage>,
+) -> Result<(), Fault>
+    ensures found { OnOk result (found.new.items ≡ found.old.items ++ option_to_list (option_map (of_term places.now key.now info.now) damage)) }
+    ensures only { OnlyMemory result }
+{
+    let Some(damage) = damage else {
+        return Ok(());
+    };
+    let made = FoundDamage::of_term(alloc, places, key, info, damage)?;
+    found.push(made)?;
+    Ok(())
 }

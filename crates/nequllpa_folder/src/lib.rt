@@ -12,7 +12,7 @@ pub mod listing;
 pub mod opened;
 pub mod stats;
 
-pub use checking::{Checked, Damage, check};
+pub use checking::{Checked, check};
 pub use faults::{AnswerFault, OpenFault};
 pub use finding::{FoundPlaces, TermPlaces, find_places, first_docs, wanted_terms};
 pub use ids::{NoIds, id_field};

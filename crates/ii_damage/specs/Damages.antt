@@ -1,0 +1,273 @@
+-- The damages of the files of an index, in the order in which a check reports them.
+use Rattle.std.specs.Prelude.{ℕ, ◌+◌, ◌-◌, ◌^◌, Bool, ◌&&◌, not, if◌then◌else◌, List, [], ◌∷◌, ◌++◌, length, min, nat_le, ◌==◌, get_or, is_some, Option, None, Some, Result, Ok, Err, ok_or}
+use Rattle.std.specs.List.{enumerate_from, filter_map, find, flat_map, list_all, range_with_len, sum_by}
+use Rattle.std.specs.Option.{option_map, option_to_list}
+use Rattle.ii_io.specs.declared.composite_file.place.Place.{Place}
+use Rattle.ii_io.specs.declared.faults.Part.{Part}
+use Rattle.ii_io.specs.declared.faults.Part.TheVariants as parts
+use Rattle.ii_io.specs.Composite.{composite, table_of}
+use Rattle.ii_base.specs.declared.schema.index_record_option.IndexRecordOption.{IndexRecordOption}
+use Rattle.ii_base.specs.declared.schema.value_type.ValueType.{ValueType}
+use Rattle.ii_base.specs.declared.schema.value_type.ValueType.TheVariants.{Str}
+use Rattle.ii_base.specs.Entries.{Entry}
+use Rattle.ii_base.specs.Options.{has_freq}
+use Rattle.ii_base.specs.Schema.{SchemaEntry, keeps_norms}
+use Rattle.ii_base.specs.ValueTypes.{code_of}
+use Rattle.ii_fieldnorm.specs.Norms.{id_of_norm}
+use Rattle.ii_termstore.specs.declared.term_info.TermInfo.{TermInfo}
+use Rattle.ii_termdict.specs.Dictionary.{TermEntry, dictionary}
+use Rattle.ii_definitions.specs.JsonKeys.{type_under}
+use Rattle.ii_reader.specs.InvertedIndexReader.{InvertedIndexReaderState, reader_of_none, reader_over, term_of_file}
+use Rattle.ii_store.specs.declared.name.Kind.{Kind}
+use Rattle.ii_store.specs.declared.name.Kind.TheVariants.{Schema, Terms, Postings, Positions, FieldNorms}
+use Rattle.ii_store.specs.Index.{Index}
+use Rattle.ii_damage.specs.Bodies.{body_in}
+use Rattle.ii_damage.specs.declared.damage.ByteRange.{ByteRange}
+use Rattle.ii_damage.specs.declared.damage.Damage.{Damage}
+use Rattle.ii_damage.specs.declared.damage.Damage.TheVariants as damages
+use Rattle.ii_damage.specs.declared.damage.FieldPlaces.{FieldPlaces}
+
+-- the files of an index whose fields are checked, and how many documents it has
+pub record IndexFiles : Type 0 where
+  pub num_docs : ℕ
+  pub terms : List ℕ
+  pub postings : List ℕ
+  pub positions : List ℕ
+  pub fieldnorms : List ℕ
+
+-- those of a stored index
+abbrev pub files_of : Index → IndexFiles
+files_of i = record { num_docs = i.num_docs; terms = i.terms; postings = i.postings; positions = i.positions; fieldnorms = i.fieldnorms }
+
+-- the file of a kind; the schema has no bodies, and stands for the terms
+abbrev pub file_of : IndexFiles → Kind → List ℕ
+file_of files Schema = files.terms
+file_of files Terms = files.terms
+file_of files Postings = files.postings
+file_of files Positions = files.positions
+file_of files FieldNorms = files.fieldnorms
+
+-- a damage: the file, the field and the key of the term, as far as it is one of a field or a term, and the bytes that it concerns
+pub record FoundDamageState : Type 0 where
+  pub kind : Kind
+  pub field : Option ℕ
+  pub key : Option (List ℕ)
+  pub damage : Damage
+  pub bytes : ByteRange
+
+-- the greatest numbers of 32, 64 and 128 bits, at which sums end
+abbrev pub u32_max : ℕ
+u32_max = 2 ^ 32 - 1
+
+abbrev pub u64_max : ℕ
+u64_max = 2 ^ 64 - 1
+
+abbrev pub u128_max : ℕ
+u128_max = 2 ^ 128 - 1
+
+-- all bytes of a file
+abbrev pub all_bytes : List ℕ → ByteRange
+all_bytes file = record { start = 0; end = length file }
+
+-- the place of a field in the table of a file
+abbrev pub place_for : ℕ → Option (List Place) → Option Place
+place_for field None = None
+place_for field (Some places) = find (λ (p : Place). p.field == field) places
+
+-- the bytes at a place, or all of the file
+abbrev pub bytes_at : List ℕ → Option Place → ByteRange
+bytes_at file None = all_bytes file
+bytes_at file (Some p) = record { start = p.start; end = p.end }
+
+-- the bytes of the body of a field, or all of the file where it has no such body
+abbrev pub bytes_of_field : ℕ → List ℕ → ByteRange
+bytes_of_field field file = bytes_at file (place_for field (table_of file))
+
+-- a range of bytes after the first bytes of a file
+abbrev pub shifted : ℕ → ℕ → ℕ → ByteRange
+shifted start first last = record { start = min (start + first) u64_max; end = min (start + last) u64_max }
+
+-- where the terms, the lists and the positions of a field are: the lists follow the number of tokens, of 8 bytes
+abbrev pub places_of : IndexFiles → ℕ → FieldPlaces
+places_of files field = record {
+  field = field;
+  terms = bytes_of_field field files.terms;
+  lists = min ((bytes_of_field field files.postings).start + 8) u64_max;
+  positions = (bytes_of_field field files.positions).start;
+}
+
+-- the damage of a file with no valid table
+abbrev pub table_damage : IndexFiles → Kind → Option FoundDamageState
+table_damage files kind =
+    if is_some (table_of (file_of files kind)) then None
+    else Some (record { kind = kind; field = None; key = None; damage = damages.Part parts.Composite; bytes = all_bytes (file_of files kind) })
+
+-- the damages of the tables
+abbrev pub table_damages : IndexFiles → List FoundDamageState
+table_damages files = filter_map (table_damage files) (Terms ∷ Postings ∷ Positions ∷ FieldNorms ∷ [])
+
+-- what the dictionary of a field gives, or the file that is damaged and its first damaged part
+abbrev pub reader_with : IndexRecordOption → List ℕ → List ℕ → Result (List TermEntry) Part → Result InvertedIndexReaderState (Kind × Part)
+reader_with option postings positions (Err part) = Err (Terms, part)
+reader_with option postings positions (Ok entries) = ok_or (reader_over entries postings positions option) (Postings, parts.TokenCount)
+
+-- the reader of a field's bodies, or the file that is damaged and its first damaged part
+abbrev pub reader_in : IndexRecordOption → Option (List ℕ) → Option (List ℕ) → Option (List ℕ) → Result InvertedIndexReaderState (Kind × Part)
+reader_in option None postings positions = Ok (reader_of_none option)
+reader_in option (Some terms) None positions = Err (Postings, parts.Composite)
+reader_in option (Some terms) (Some postings) None = Err (Positions, parts.Composite)
+reader_in option (Some terms) (Some postings) (Some positions) = reader_with option postings positions (dictionary terms)
+
+-- the reader of a field of files
+abbrev pub field_reader : IndexFiles → ℕ → IndexRecordOption → Result InvertedIndexReaderState (Kind × Part)
+field_reader files field option = reader_in option (body_in field (composite files.terms)) (body_in field (composite files.postings)) (body_in field (composite files.positions))
+
+-- a damage of a field
+abbrev pub of_field : ℕ → Kind → Damage → ByteRange → FoundDamageState
+of_field field kind damage bytes = record { kind = kind; field = Some field; key = None; damage = damage; bytes = bytes }
+
+-- the damage of a field whose bodies don't open; that of a table is reported once, for the file
+abbrev pub unopened : IndexFiles → ℕ → Kind × Part → List FoundDamageState
+unopened files field (kind, part) =
+    if is_some (table_of (file_of files kind)) then of_field field kind (damages.Part part) (bytes_of_field field (file_of files kind)) ∷ [] else []
+
+-- the first document of a list that is not in an index with so many documents
+abbrev pub stray_in : ℕ → List Entry → Option ℕ
+stray_in num_docs es = option_map (λ (e : Entry). e.doc) (find (λ (e : Entry). nat_le num_docs e.doc) es)
+
+-- what is wrong with the list of a term
+abbrev pub list_damage : ℕ → Result (List Entry) Part → Option Damage
+list_damage num_docs (Err part) = Some (damages.Part part)
+list_damage num_docs (Ok es) = option_map damages.Document (stray_in num_docs es)
+
+-- the file and the bytes that a damage of a term concerns: its positions, its documents and counts, or, where these are outside of the body, the terms of the field
+abbrev pub bytes_of_damage : FieldPlaces → TermInfo → Damage → Kind × ByteRange
+bytes_of_damage places info (damages.Part parts.Range) = (Terms, places.terms)
+bytes_of_damage places info (damages.Part parts.Positions) = (Positions, shifted places.positions info.positions_range.start info.positions_range.end)
+bytes_of_damage places info _ = (Postings, shifted places.lists info.postings_range.start info.postings_range.end)
+
+-- a damage of a term
+abbrev pub of_term : FieldPlaces → List ℕ → TermInfo → Damage → FoundDamageState
+of_term places key info damage = record {
+  kind = (bytes_of_damage places info damage).0;
+  field = Some places.field;
+  key = Some key;
+  damage = damage;
+  bytes = (bytes_of_damage places info damage).1;
+}
+
+-- the damage of a term of the dictionary, if it has one
+abbrev pub term_damage : ℕ → FieldPlaces → InvertedIndexReaderState → TermEntry → Option FoundDamageState
+term_damage num_docs places reader e = option_map (of_term places e.0 e.1) (list_damage num_docs (term_of_file reader reader.option e.1))
+
+-- the damages of the terms of a field, in the order of their keys
+abbrev pub term_damages : ℕ → FieldPlaces → InvertedIndexReaderState → List FoundDamageState
+term_damages num_docs places reader = filter_map (term_damage num_docs places reader) reader.terms
+
+-- the entries of a list that opens
+abbrev pub entries_read : Result (List Entry) Part → List Entry
+entries_read (Ok es) = es
+entries_read (Err part) = []
+
+-- the entries of the list of a term
+abbrev pub term_entries : InvertedIndexReaderState → TermEntry → List Entry
+term_entries reader e = entries_read (term_of_file reader reader.option e.1)
+
+-- the entries of all lists of a field that open
+abbrev pub field_entries : InvertedIndexReaderState → List Entry
+field_entries reader = flat_map (term_entries reader) reader.terms
+
+-- the counts of the documents that pass a test, together
+abbrev pub freqs_where : (ℕ → Bool) → List Entry → ℕ
+freqs_where test es = sum_by (λ (e : Entry). if test e.doc then e.term_freq else 0) es
+
+-- how many tokens entries have, all of them and those of a document
+abbrev pub tokens_in : List Entry → ℕ
+tokens_in es = freqs_where (λ _. Bool.true) es
+
+abbrev pub tokens_of_doc : ℕ → List Entry → ℕ
+tokens_of_doc doc es = freqs_where (λ d. d == doc) es
+
+-- whether a key is that of a text
+abbrev pub is_text_key : ValueType → List ℕ → Bool
+is_text_key value_type key = code_of (type_under value_type key) == code_of Str
+
+-- whether counts are kept of a key: it is that of a text, and the field records counts. Of any other key documents alone are kept
+abbrev pub keeps_counts : SchemaEntry → List ℕ → Bool
+keeps_counts entry key = has_freq entry.option && is_text_key entry.value_type key
+
+-- whether they are kept of each key of a field
+abbrev pub all_keep_counts : SchemaEntry → InvertedIndexReaderState → Bool
+all_keep_counts entry reader = list_all (λ (e : TermEntry). keeps_counts entry e.0) reader.terms
+
+-- whether a field may have so many tokens when its lists have some: as many where counts are kept of each key, and else at least as many
+abbrev pub may_have : Bool → ℕ → ℕ → Bool
+may_have all_kept num_tokens listed = if all_kept then num_tokens == listed else nat_le listed num_tokens
+
+-- the damage of the number of tokens that a field begins with, where its lists have some
+abbrev pub tokens_damage : IndexFiles → ℕ → Bool → ℕ → ℕ → Option FoundDamageState
+tokens_damage files field all_kept num_tokens listed =
+    if may_have all_kept num_tokens listed then None
+    else Some (of_field field Postings (damages.Tokens num_tokens (min listed u128_max)) (shifted (bytes_of_field field files.postings).start 0 8))
+
+-- that of a field, by the entries of its lists
+abbrev pub token_damage : IndexFiles → ℕ → SchemaEntry → InvertedIndexReaderState → Option FoundDamageState
+token_damage files field entry reader = tokens_damage files field (all_keep_counts entry reader) reader.num_tokens (tokens_in (field_entries reader))
+
+-- whether the norm of a document is not that of its number of tokens
+abbrev pub is_other_norm : List ℕ → List Entry → ℕ → Bool
+is_other_norm ids es doc = not (get_or ids doc 0 == id_of_norm (tokens_of_doc doc es))
+
+-- the first document with another norm than that of its number of tokens
+abbrev pub other_norm : ℕ → List ℕ → List Entry → Option ℕ
+other_norm num_docs ids es = find (is_other_norm ids es) (range_with_len 0 num_docs)
+
+-- the damage of the norm of a document
+abbrev pub of_norm : ℕ → ByteRange → List Entry → ℕ → FoundDamageState
+of_norm field body es doc = of_field field FieldNorms (damages.Norm doc (min (tokens_of_doc doc es) u32_max)) (shifted body.start doc (doc + 1))
+
+-- the damage of norms: that they are missing, are too many or too few, or that one isn't that of its document, which is known where counts are kept of each key
+abbrev pub norms_damage : ℕ → ℕ → ByteRange → Bool → List Entry → Option (List ℕ) → Option FoundDamageState
+norms_damage num_docs field body all_kept es None = Some (of_field field FieldNorms damages.NoNorms body)
+norms_damage num_docs field body all_kept es (Some ids) =
+    if not (length ids == num_docs) then Some (of_field field FieldNorms (damages.Norms (length ids)) body)
+    else if all_kept then option_map (of_norm field body es) (other_norm num_docs ids es)
+    else None
+
+-- the damage of the norms of a field that keeps them, in a file with a valid table
+abbrev pub kept_norms_damage : IndexFiles → ℕ → SchemaEntry → Bool → List Entry → Option FoundDamageState
+kept_norms_damage files field entry all_kept es =
+    if keeps_norms entry && is_some (table_of files.fieldnorms)
+    then norms_damage files.num_docs field (bytes_of_field field files.fieldnorms) all_kept es (body_in field (composite files.fieldnorms))
+    else None
+
+-- that of a field, by the entries of its lists
+abbrev pub norm_damage : IndexFiles → ℕ → SchemaEntry → InvertedIndexReaderState → Option FoundDamageState
+norm_damage files field entry reader = kept_norms_damage files field entry (all_keep_counts entry reader) (field_entries reader)
+
+-- the damages of the numbers of tokens of a field, whose lists are all there
+abbrev pub count_damages : IndexFiles → ℕ → SchemaEntry → InvertedIndexReaderState → List FoundDamageState
+count_damages files field entry reader =
+    if is_some (table_of files.terms) then option_to_list (token_damage files field entry reader) ++ option_to_list (norm_damage files field entry reader) else []
+
+-- the first damages, or, where there are none, the others
+abbrev pub or_else : List FoundDamageState → List FoundDamageState → List FoundDamageState
+or_else [] others = others
+or_else (first ∷ more) others = first ∷ more
+
+-- the damages of a field whose bodies open: those of its terms, or, where no term is damaged, those of its numbers of tokens
+abbrev pub reader_damages : IndexFiles → ℕ → SchemaEntry → InvertedIndexReaderState → List FoundDamageState
+reader_damages files field entry reader = or_else (term_damages files.num_docs (places_of files field) reader) (count_damages files field entry reader)
+
+-- the damages of a field, by what its bodies give
+abbrev pub damages_by : IndexFiles → ℕ → SchemaEntry → Result InvertedIndexReaderState (Kind × Part) → List FoundDamageState
+damages_by files field entry (Err found) = unopened files field found
+damages_by files field entry (Ok reader) = reader_damages files field entry reader
+
+-- the damages of a field
+abbrev pub field_damages : IndexFiles → ℕ × SchemaEntry → List FoundDamageState
+field_damages files f = damages_by files f.0 f.1 (field_reader files f.0 f.1.option)
+
+-- the damages of files over a schema: those of the tables, and those of each field in order
+abbrev pub damages_of : List SchemaEntry → IndexFiles → List FoundDamageState
+damages_of entries files = table_damages files ++ flat_map (field_damages files) (enumerate_from 0 entries)

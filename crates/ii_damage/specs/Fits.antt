@@ -1,0 +1,15 @@
+-- Tokens that a schema and a number of documents allow.
+use Rattle.std.specs.Prelude.{◌≡◌, ℕ, ◌<◌, List, IfSome, slice_get}
+use Rattle.std.specs.List.{AllByRecursion}
+use Rattle.ii_base.specs.Schema.{SchemaEntry}
+use Rattle.ii_definitions.specs.Tokens.{IndexToken}
+use Rattle.ii_damage.specs.Damages.{is_text_key}
+
+-- The document of a token is in the index, and its key is that of a text exactly where the token is one of a text.
+pub record Fits (entries : List SchemaEntry) (num_docs : ℕ) (t : IndexToken) : Type 0 where
+  pub below : t.doc < num_docs
+  pub kind : IfSome (slice_get entries t.field) (λ (e : SchemaEntry). t.of_text ≡ is_text_key e.value_type t.key)
+
+-- So it is of each token.
+abbrev pub AllFit : List SchemaEntry → ℕ → List IndexToken → Type 0
+AllFit entries num_docs ts = AllByRecursion (Fits entries num_docs) ts
