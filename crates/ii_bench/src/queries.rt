@@ -68,10 +68,11 @@ fn print_both(rt: &HostRuntime, frequent: &Bytes, rare: &Bytes) -> Result<()> {
 }
 
 fn both_once(rt: &HostRuntime, frequent: &Bytes, rare: &Bytes) -> Result<Duration> {
-    let first = QueryCursor::one(open(frequent, FREQUENT)?);
-    let other = QueryCursor::one(open(rare, RARE)?);
+    let mut cursors = Vec::new(rt.alloc());
+    cursors.push(QueryCursor::one(open(frequent, FREQUENT)?))?;
+    cursors.push(QueryCursor::one(open(rare, RARE)?))?;
     let start = Instant::now(rt)?;
-    let mut found = QueryCursor::both(rt.alloc(), first, other)?;
+    let mut found = QueryCursor::intersection(rt.alloc(), cursors)?;
     let _count = found.count_including_deleted();
     Ok(start.elapsed(rt)?)
 }
@@ -104,10 +105,11 @@ fn print_either(rt: &HostRuntime, first: &Bytes, other: &Bytes) -> Result<()> {
 }
 
 fn either_once(rt: &HostRuntime, first: &Bytes, other: &Bytes, in_turn: bool) -> Result<Duration> {
-    let one = QueryCursor::one(open(first, FREQUENT)?);
-    let two = QueryCursor::one(open(other, FREQUENT)?);
+    let mut cursors = Vec::new(rt.alloc());
+    cursors.push(QueryCursor::one(open(first, FREQUENT)?))?;
+    cursors.push(QueryCursor::one(open(other, FREQUENT)?))?;
     let start = Instant::now(rt)?;
-    let mut found = QueryCursor::either(rt.alloc(), one, two)?;
+    let mut found = QueryCursor::union(cursors);
     let _count = count(&mut found, in_turn);
     Ok(start.elapsed(rt)?)
 }

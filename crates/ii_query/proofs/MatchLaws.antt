@@ -8,11 +8,11 @@ use Rattle.ii_base.specs.declared.doc_id.TheConstants.{TERMINATED}
 use Rattle.ii_base.specs.Entries.{Entry, docs_of, document}
 use Rattle.ii_docset.specs.Cursor.{doc_at, IsAscending, from_doc}
 use Rattle.ii_docset.specs.Intersection.{has_doc}
-use Rattle.ii_query.specs.Combined.{common, either, picked, put_all, put_in, without}
+use Rattle.ii_query.specs.Combined.{all_have, common, either, intersection_of, picked, put_all, put_in, union_of, without}
 use Rattle.ii_docset.proofs.IntersectionLemmas.{has_doc_below}
 
 -- a picked document is in the list, and what picks holds of it
-pub picked_has : (holds : ℕ → Bool) (es : List Entry) (doc : ℕ) → has_doc (picked holds es) doc ≡ (has_doc es doc && holds doc)
+picked_has : (holds : ℕ → Bool) (es : List Entry) (doc : ℕ) → has_doc (picked holds es) doc ≡ (has_doc es doc && holds doc)
 picked_has holds [] doc = refl
 picked_has holds (e ∷ es) doc = elim (eqb_tells e.doc doc) [
   | inl h ↦ here h (picked_has holds es doc) (holds e.doc) refl (ap holds h.1)
@@ -61,6 +61,14 @@ either_has (e ∷ es) fs doc =
     put_has e.doc (put_all (docs_of es) (docs_of fs)) doc
     ∙ ap (λ (b : Bool). nat_eq e.doc doc || b) (either_has es fs doc)
     ∙ sym (or_assoc (nat_eq e.doc doc) (has_doc es doc) (has_doc fs doc))
+
+-- all of some lists have it
+pub intersection_has : (es : List Entry) (others : List (List Entry)) (doc : ℕ) → has_doc (intersection_of (es ∷ others)) doc ≡ all_have (es ∷ others) doc
+intersection_has es others doc = picked_has (all_have others) es doc
+
+-- one of some lists has it
+pub union_has : (es : List Entry) (others : List (List Entry)) (doc : ℕ) → has_doc (union_of (es ∷ others)) doc ≡ (has_doc es doc || has_doc (union_of others) doc)
+union_has es others doc = either_has es (union_of others) doc
 
 -- a list has the document that it begins with from there on
 pub has_found : (es : List Entry) (doc : ℕ) → doc < TERMINATED → doc_at (from_doc doc es) ≡ doc → has_doc es doc ≡ true

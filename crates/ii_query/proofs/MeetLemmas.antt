@@ -15,7 +15,7 @@ use Rattle.ii_docset.proofs.IntersectionLemmas.{doc_at-from_doc, has_doc-from_do
 use Rattle.ii_query.specs.Combined.{QueryCursorState, SeekAnswer, all_have, intersection_of, picked}
 use Rattle.ii_query.specs.QueryCursor.{KeptFrom, WentTo, rests}
 use Rattle.ii_query.proofs.CommonLemmas.{picked_again, same_docs}
-use Rattle.ii_query.proofs.MatchLaws.{picked_has}
+use Rattle.ii_query.proofs.MatchLaws.{intersection_has}
 use Rattle.ii_query.proofs.PartsLemmas.{DoneTo, done_ends, done_next, done_stays, done_weaker, zip_weaker}
 use Rattle.ii_query.proofs.PickedLemmas.{picked_alike, picked_sound}
 
@@ -111,9 +111,6 @@ all_permuted p xs ys shuffled = by (list_all p xs) (list_all p ys) refl refl
     by true b is are = is ∙ sym (list_all-from_AllPass p ys (All-permutation (λ (x : _). p x ≡ true) xs ys shuffled (AllPass-from_list_all p xs is)))
     by false true is are = list_all-from_AllPass p xs (All-permutation (λ (x : _). p x ≡ true) ys xs (IsPermutation-sym xs ys shuffled) (AllPass-from_list_all p ys are)) ∙ sym are
     by false false is are = is ∙ sym are
-
-intersection_has : (es : List Entry) (others : List (List Entry)) (d : ℕ) → has_doc (intersection_of (es ∷ others)) d ≡ all_have (es ∷ others) d
-intersection_has es others d = picked_has (all_have others) es d
 
 to_all : {X : Type 0} (P : X → Type 0) (xs : List X) → AllByRecursion P xs → All P xs
 to_all P [] all k d inside = absurd (omega (arith, inside))

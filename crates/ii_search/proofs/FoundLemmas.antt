@@ -18,10 +18,10 @@ use Rattle.ii_base.specs.declared.doc_id.TheConstants.{TERMINATED}
 use Rattle.ii_docset.specs.Cursor.{IsSound}
 use Rattle.ii_base.specs.Entries.{Entry}
 use Rattle.ii_docset.specs.Intersection.{has_doc}
-use Rattle.ii_query.specs.Combined.{all_from, common, either, without}
+use Rattle.ii_query.specs.Combined.{all_from, all_have, intersection_of, union_of, without}
 use Rattle.ii_query.specs.Phrase.{PhrasePartState, phrase_docs, stand_from}
 use Rattle.ii_query.proofs.AllLemmas.{all_has}
-use Rattle.ii_query.proofs.MatchLaws.{common_has, either_has, without_has}
+use Rattle.ii_query.proofs.MatchLaws.{intersection_has, union_has, without_has}
 use Rattle.ii_query.proofs.PhraseLemmas.{phrase_has}
 use Rattle.ii_termdict.specs.Dictionary.{info_under}
 use Rattle.ii_termstore.specs.declared.term_info.TermInfo.{TermInfo}
@@ -34,9 +34,10 @@ use Rattle.ii_reader.specs.InvertedIndexReader.{InvertedIndexReaderState, IsRefu
 use Rattle.ii_reader.specs.OpenIndex.{FieldReaderHolds, IndexHolds, OpenIndexState}
 use Rattle.ii_reader.proofs.ReaderLemmas.{list_held}
 use Rattle.ii_query_parser.specs.declared.query.PhraseTerm.{PhraseTerm}
-use Rattle.ii_query_parser.specs.declared.query.Query.{Query, Empty, All, Term, Phrase, And', Or', AndNot'}
-use Rattle.ii_search.specs.Found.{AreMatches, combined, docs_kept, docs_under, found_in, phrase_of, phrase_parts_of, with_part}
-use Rattle.ii_query_parser.specs.Queries.{are_of_texts, follow, has_fields, has_phrase, has_positions_in, is_text_key, is_token_of, keeps_positions, matches}
+use Rattle.ii_query_parser.specs.declared.query.Query.{Query}
+use Rattle.ii_search.specs.Found.{AreMatches, combined, combined_lists, docs_kept, docs_under, found_in, lists_found, phrase_of, phrase_parts_of, tree_found, with_list, with_part}
+use Rattle.ii_query_parser.specs.Queries as queries
+use Rattle.ii_query_parser.specs.Queries.{QueryTree, QueryTrees, all_match, any_matches, are_of_texts, follow, has_fields, has_phrase, has_positions_in, has_tree, hold_for_all, holds_for_all, is_text_key, is_token_of, is_within, keeps_positions, matches, phrase_has_positions, phrase_is_within, tree_matches, tree_of}
 
 -- a token in front of entries
 with_has : (t : IndexToken) (es : List Entry) (doc : ℕ) → has_doc (with_token t es) doc ≡ (nat_eq t.doc doc || has_doc es doc)
@@ -96,12 +97,6 @@ gives_under : (entries : List SchemaEntry) (field : ℕ) (key : List ℕ) (ts : 
     → Gives (docs_under Basic key reader) (λ (doc : ℕ). list_any (λ (t : IndexToken). (t.doc == doc) && is_at field key t) ts)
 gives_under entries field key ts None h = absurd h
 gives_under entries field key ts (Some r) h = gives_kept r field key ts (info_under key r.terms) (h.holds.exact key)
-
-gives_common : (a b : Result (List Entry) Part) (p q : ℕ → Bool) → Gives a p → Gives b q → Gives (combined common a b) (λ (doc : ℕ). p doc && q doc)
-gives_common a b p q f g = rw (f.is, g.is) (record { es = common f.es g.es; is = refl; exact = λ doc. common_has f.es g.es doc ∙ rw (f.exact doc, g.exact doc) refl })
-
-gives_either : (a b : Result (List Entry) Part) (p q : ℕ → Bool) → Gives a p → Gives b q → Gives (combined either a b) (λ (doc : ℕ). p doc || q doc)
-gives_either a b p q f g = rw (f.is, g.is) (record { es = either f.es g.es; is = refl; exact = λ doc. either_has f.es g.es doc ∙ rw (f.exact doc, g.exact doc) refl })
 
 gives_without : (a b : Result (List Entry) Part) (p q : ℕ → Bool) → Gives a p → Gives b q → Gives (combined without a b) (λ (doc : ℕ). p doc && not (q doc))
 gives_without a b p q f g = rw (f.is, g.is) (record { es = without f.es g.es; is = refl; exact = λ doc. without_has f.es g.es doc ∙ rw (f.exact doc, g.exact doc) refl })
@@ -233,30 +228,62 @@ gives_phrase ts first others a b f g = rw (f.is, g.is) (record {
 all_below : (n doc : ℕ) → has_doc (all_from 0 n) doc ≡ nat_lt doc n
 all_below n doc = let same : 0 + n ≡ n = omega arith in all_has 0 n doc ∙ rw (le-leb 0 doc (omega arith), same) refl
 
+-- Lists are found, which have together the documents that match queries.
+pub record GivesLists (ts : List IndexToken) (qs : QueryTrees) (found : Result (List (List Entry)) Part) : Type 0 where
+  pub lists : List (List Entry)
+  pub is : found ≡ Ok lists
+  pub all : (doc : ℕ) → all_have lists doc ≡ all_match qs ts doc
+  pub each : (doc : ℕ) → has_doc (intersection_of lists) doc ≡ (has_tree qs && all_match qs ts doc)
+  pub any : (doc : ℕ) → has_doc (union_of lists) doc ≡ any_matches qs ts doc
+
+gives_list : (ts : List IndexToken) (q : QueryTree) (qs : QueryTrees) (first : Result (List Entry) Part) (found : Result (List (List Entry)) Part) → Gives first (tree_matches q ts) → GivesLists ts qs found → GivesLists ts (queries.tree q qs) (with_list first found)
+gives_list ts q qs first found f g =
+    let all : (doc : ℕ) → all_have (f.es ∷ g.lists) doc ≡ (tree_matches q ts doc && all_match qs ts doc) = λ doc. rw (f.exact doc, g.all doc) refl in
+    rw (f.is, g.is) (record {
+      lists = f.es ∷ g.lists;
+      is = refl;
+      all = all;
+      each = λ doc. intersection_has f.es g.lists doc ∙ all doc;
+      any = λ doc. union_has f.es g.lists doc ∙ rw (f.exact doc, g.any doc) refl;
+    })
+
+gives_each : (ts : List IndexToken) (qs : QueryTrees) (found : Result (List (List Entry)) Part) → GivesLists ts qs found → Gives (combined_lists intersection_of found) (tree_matches (queries.each_of qs) ts)
+gives_each ts qs found g = rw (g.is) (record { es = intersection_of g.lists; is = refl; exact = g.each })
+
+gives_any : (ts : List IndexToken) (qs : QueryTrees) (found : Result (List (List Entry)) Part) → GivesLists ts qs found → Gives (combined_lists union_of found) (tree_matches (queries.any_of qs) ts)
+gives_any ts qs found g = rw (g.is) (record { es = union_of g.lists; is = refl; exact = g.any })
+
 -- an index that holds tokens gives the documents that match
+mutual
+  gives_tree : (entries : List SchemaEntry) (n : ℕ) (index : OpenIndexState) (ts : List IndexToken) (q : QueryTree) → IndexHolds entries n index ts
+      → holds_for_all (is_within (length entries)) (phrase_is_within (length entries)) q ≡ true → holds_for_all (λ (t : TermState). true) (phrase_has_positions entries) q ≡ true → Gives (tree_found index q) (tree_matches q ts)
+  gives_tree entries n index ts queries.nothing holds fields keeps = record { es = []; is = refl; exact = λ doc. refl }
+  gives_tree entries n index ts (queries.all_below m) holds fields keeps = record { es = all_from 0 (min m TERMINATED); is = refl; exact = λ doc. all_below (min m TERMINATED) doc }
+  gives_tree entries n index ts (queries.one_term term) holds fields keeps =
+      gives_under entries term.field term.value ts (slice_get index.readers term.field) (holds.readers term.field (ltb-true term.field (length entries) fields))
+  gives_tree entries n index ts (queries.one_phrase first others) holds fields keeps =
+      let h = and_parts (nat_lt first.field (length entries)) _ fields in
+      let k = and_parts (has_positions_in entries first) _ keeps in
+      gives_phrase ts first others _ _ (positions_under entries first ts (slice_get index.readers first.field) k.0 (holds.readers first.field (ltb-true first.field (length entries) h.0)))
+      (gives_parts entries n index ts others holds h.1 k.1)
+  gives_tree entries n index ts (queries.each_of qs) holds fields keeps = gives_each ts qs _ (gives_lists entries n index ts qs holds fields keeps)
+  gives_tree entries n index ts (queries.any_of qs) holds fields keeps = gives_any ts qs _ (gives_lists entries n index ts qs holds fields keeps)
+  gives_tree entries n index ts (queries.without first other) holds fields keeps =
+      let h = and_parts (holds_for_all (is_within (length entries)) (phrase_is_within (length entries)) first) _ fields in
+      let k = and_parts (holds_for_all (λ (t : TermState). true) (phrase_has_positions entries) first) _ keeps in
+      gives_without _ _ _ _ (gives_tree entries n index ts first holds h.0 k.0) (gives_tree entries n index ts other holds h.1 k.1)
+
+  gives_lists : (entries : List SchemaEntry) (n : ℕ) (index : OpenIndexState) (ts : List IndexToken) (qs : QueryTrees) → IndexHolds entries n index ts
+      → hold_for_all (is_within (length entries)) (phrase_is_within (length entries)) qs ≡ true → hold_for_all (λ (t : TermState). true) (phrase_has_positions entries) qs ≡ true → GivesLists ts qs (lists_found index qs)
+  gives_lists entries n index ts queries.no_tree holds fields keeps = record { lists = []; is = refl; all = λ doc. refl; each = λ doc. refl; any = λ doc. refl }
+  gives_lists entries n index ts (queries.tree q qs) holds fields keeps =
+      let h = and_parts (holds_for_all (is_within (length entries)) (phrase_is_within (length entries)) q) _ fields in
+      let k = and_parts (holds_for_all (λ (t : TermState). true) (phrase_has_positions entries) q) _ keeps in
+      gives_list ts q qs _ _ (gives_tree entries n index ts q holds h.0 k.0) (gives_lists entries n index ts qs holds h.1 k.1)
+
 pub gives_matches : (entries : List SchemaEntry) (n : ℕ) (index : OpenIndexState) (ts : List IndexToken) (query : Query) → IndexHolds entries n index ts
     → has_fields (length entries) query ≡ true → keeps_positions entries query ≡ true → Gives (found_in index query) (matches query ts)
-gives_matches entries n index ts Empty holds fields keeps = record { es = []; is = refl; exact = λ doc. refl }
-gives_matches entries n index ts (All m) holds fields keeps = record { es = all_from 0 (min m TERMINATED); is = refl; exact = λ doc. all_below (min m TERMINATED) doc }
-gives_matches entries n index ts (Term term) holds fields keeps =
-    gives_under entries term.field term.value ts (slice_get index.readers term.field) (holds.readers term.field (ltb-true term.field (length entries) fields))
-gives_matches entries n index ts (Phrase first others) holds fields keeps =
-    let h = and_parts (nat_lt first.field (length entries)) _ fields in
-    let k = and_parts (has_positions_in entries first) _ keeps in
-    gives_phrase ts first others.items _ _ (positions_under entries first ts (slice_get index.readers first.field) k.0 (holds.readers first.field (ltb-true first.field (length entries) h.0)))
-    (gives_parts entries n index ts others.items holds h.1 k.1)
-gives_matches entries n index ts (And' p first q other) holds fields keeps =
-    let h = and_parts (has_fields (length entries) first) (has_fields (length entries) other) fields in
-    let k = and_parts (keeps_positions entries first) (keeps_positions entries other) keeps in
-    gives_common _ _ _ _ (gives_matches entries n index ts first holds h.0 k.0) (gives_matches entries n index ts other holds h.1 k.1)
-gives_matches entries n index ts (Or' p first q other) holds fields keeps =
-    let h = and_parts (has_fields (length entries) first) (has_fields (length entries) other) fields in
-    let k = and_parts (keeps_positions entries first) (keeps_positions entries other) keeps in
-    gives_either _ _ _ _ (gives_matches entries n index ts first holds h.0 k.0) (gives_matches entries n index ts other holds h.1 k.1)
-gives_matches entries n index ts (AndNot' p first q other) holds fields keeps =
-    let h = and_parts (has_fields (length entries) first) (has_fields (length entries) other) fields in
-    let k = and_parts (keeps_positions entries first) (keeps_positions entries other) keeps in
-    gives_without _ _ _ _ (gives_matches entries n index ts first holds h.0 k.0) (gives_matches entries n index ts other holds h.1 k.1)
+gives_matches entries n index ts query holds fields keeps = gives_tree entries n index ts (tree_of query) holds fields keeps
 
 -- so what is found are the documents that match
 pub found_match : (entries : List SchemaEntry) (n : ℕ) (index : OpenIndexState) (ts : List IndexToken) (query : Query) (rest : List Entry) → IndexHolds entries n index ts

@@ -1,5 +1,6 @@
 pub mod DecodesLemmas
 pub mod FoundLemmas
 pub mod PartLemmas
+pub mod QueryLemmas
 pub mod SameDocs
 pub mod TopLemmas

@@ -10,7 +10,7 @@ use Rattle.ii_base.specs.declared.doc_id.TheConstants.{TERMINATED}
 use Rattle.ii_docset.specs.Cursor.{IsAscending}
 use Rattle.ii_base.specs.Entries.{Entry}
 use Rattle.ii_docset.specs.Intersection.{has_doc}
-use Rattle.ii_query.specs.Combined.{QueryCursorState, all_from, common, either, without}
+use Rattle.ii_query.specs.Combined.{QueryCursorState, all_from, intersection_of, union_of, without}
 use Rattle.ii_query.specs.Phrase.{PhrasePartState, phrase_docs}
 use Rattle.ii_termdict.specs.Dictionary.{info_under}
 use Rattle.ii_termstore.specs.declared.term_info.TermInfo.{TermInfo}
@@ -18,8 +18,9 @@ use Rattle.ii_definitions.specs.Tokens.{IndexToken}
 use Rattle.ii_reader.specs.InvertedIndexReader.{InvertedIndexReaderState, term_of_file}
 use Rattle.ii_reader.specs.OpenIndex.{OpenIndexState}
 use Rattle.ii_query_parser.specs.declared.query.PhraseTerm.{PhraseTerm}
-use Rattle.ii_query_parser.specs.declared.query.Query.{Query, Empty, All, Term, Phrase, And', Or', AndNot'}
-use Rattle.ii_query_parser.specs.Queries.{matches}
+use Rattle.ii_query_parser.specs.declared.query.Query.{Query}
+use Rattle.ii_query_parser.specs.Queries as queries
+use Rattle.ii_query_parser.specs.Queries.{QueryTree, QueryTrees, matches, tree_of}
 
 -- the documents of a term of which this is kept, with what is requested, or the first part that fails; none where nothing is kept of it
 abbrev pub docs_kept : IndexRecordOption → InvertedIndexReaderState → Option TermInfo → Result (List Entry) Part
@@ -58,15 +59,35 @@ combined by (Err part) other = Err part
 combined by (Ok es) (Err part) = Err part
 combined by (Ok es) (Ok fs) = Ok (by es fs)
 
--- what a query gives over the lists that an index has, or the first part that fails
+-- one list more, or the first part that fails
+abbrev pub with_list : Result (List Entry) Part → Result (List (List Entry)) Part → Result (List (List Entry)) Part
+with_list (Err part) others = Err part
+with_list (Ok es) (Err part) = Err part
+with_list (Ok es) (Ok others) = Ok (es ∷ others)
+
+-- lists that are combined, or the part that failed
+abbrev pub combined_lists : (List (List Entry) → List Entry) → Result (List (List Entry)) Part → Result (List Entry) Part
+combined_lists by (Err part) = Err part
+combined_lists by (Ok lists) = Ok (by lists)
+
+-- What a query gives over the lists that an index has, or the first part that fails, in the order of the query.
+abbrev mutual
+  pub tree_found : OpenIndexState → QueryTree → Result (List Entry) Part
+  tree_found index queries.nothing = Ok []
+  tree_found index (queries.all_below n) = Ok (all_from 0 (min n TERMINATED))
+  tree_found index (queries.one_term term) = docs_of_term Basic index term
+  tree_found index (queries.one_phrase first others) = phrase_of (docs_of_term WithFreqsAndPositions index first) (phrase_parts_of index others)
+  tree_found index (queries.each_of qs) = combined_lists intersection_of (lists_found index qs)
+  tree_found index (queries.any_of qs) = combined_lists union_of (lists_found index qs)
+  tree_found index (queries.without first other) = combined without (tree_found index first) (tree_found index other)
+
+  pub lists_found : OpenIndexState → QueryTrees → Result (List (List Entry)) Part
+  lists_found index queries.no_tree = Ok []
+  lists_found index (queries.tree q qs) = with_list (tree_found index q) (lists_found index qs)
+
+-- what a program's query gives
 abbrev pub found_in : OpenIndexState → Query → Result (List Entry) Part
-found_in index Empty = Ok []
-found_in index (All n) = Ok (all_from 0 (min n TERMINATED))
-found_in index (Term term) = docs_of_term Basic index term
-found_in index (Phrase first others) = phrase_of (docs_of_term WithFreqsAndPositions index first) (phrase_parts_of index others.items)
-found_in index (And' p first q other) = combined common (found_in index first) (found_in index other)
-found_in index (Or' p first q other) = combined either (found_in index first) (found_in index other)
-found_in index (AndNot' p first q other) = combined without (found_in index first) (found_in index other)
+found_in index query = tree_found index (tree_of query)
 
 -- Entries are of exactly the documents that match a query, in ascending order.
 pub record AreMatches (query : Query) (ts : List IndexToken) (es : List Entry) : Type 0 where

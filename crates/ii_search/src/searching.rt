@@ -8,9 +8,10 @@ ghost use Rattle.ii_definitions.specs.Tokens.{IndexToken};
 ghost use Rattle.ii_reader.specs.InvertedIndexReader.{IsRefusal};
 ghost use Rattle.ii_reader.specs.OpenIndex.{IndexHolds};
 ghost use Rattle.ii_query.specs.Phrase.{cursors_in, parts_in};
+ghost use Rattle.ii_query.specs.QueryCursor.{cursors_under, rests};
 ghost use Rattle.ii_search.specs.Decodes.{DecodesFew, EachDecodesFew};
-ghost use Rattle.ii_search.specs.Found.{GivesCount, GivesMatches, combined, docs_of_term, found_in, phrase_of, phrase_parts_of};
-ghost use Rattle.ii_query_parser.specs.Queries.{has_fields, keeps_positions};
+ghost use Rattle.ii_search.specs.Found.{GivesCount, GivesMatches, docs_of_term, found_in, lists_found, phrase_of, phrase_parts_of};
+ghost use Rattle.ii_query_parser.specs.Queries.{has_fields, keeps_positions, trees_of};
 
 use ii_query_parser::{PhraseTerm, Query};
 use ii_base::{Fault, IndexRecordOption, Term};
@@ -65,8 +66,9 @@ pub fn count(alloc: Global, index: &OpenIndex, query: &Query) -> Result<u32, Fau
     }
 }
 
-// A cursor over what a query gives.
+// A cursor over what a query gives. It calls itself once for each level of nesting.
 #[cycle(find)]
+#[tactic(auto, using(crate::proofs::QueryLemmas::nothing_found, crate::proofs::QueryLemmas::all_found, crate::proofs::QueryLemmas::term_found, crate::proofs::QueryLemmas::phrase_found, ii_query_parser::proofs::QueryLemmas::term_fields, ii_query_parser::proofs::QueryLemmas::phrase_fields, crate::proofs::QueryLemmas::and_has_fields, crate::proofs::QueryLemmas::or_has_fields, ii_query_parser::proofs::QueryLemmas::and_not_fields))]
 fn find(
     alloc: Global,
     index: &OpenIndex,
@@ -82,54 +84,51 @@ fn find(
         Query::All(num_docs) => Ok(QueryCursor::all(*num_docs)),
         Query::Term(term) => find_term(index, term),
         Query::Phrase(first, others) => find_phrase(alloc, index, first, others),
-        Query::And(first, other) => match find_parts(alloc, index, first, other) {
-            Ok((first, other)) => QueryCursor::both(alloc, first, other),
+        Query::And(queries) => match find_each(alloc, index, queries) {
+            Ok(cursors) => QueryCursor::intersection(alloc, cursors),
             Err(fault) => Err(fault),
         },
-        Query::Or(first, other) => match find_parts(alloc, index, first, other) {
-            Ok((first, other)) => QueryCursor::either(alloc, first, other),
+        Query::Or(queries) => match find_each(alloc, index, queries) {
+            Ok(cursors) => Ok(QueryCursor::union(cursors)),
             Err(fault) => Err(fault),
         },
-        Query::AndNot(first, other) => match find_parts(alloc, index, first, other) {
-            Ok((first, other)) => QueryCursor::without(alloc, first, other),
-            Err(fault) => Err(fault),
-        },
+        Query::AndNot(first, other) => {
+            let first = match find(alloc, index, first) {
+                Ok(first) => first,
+                Err(fault) => return Err(fault),
+            };
+            match find(alloc, index, other) {
+                Ok(other) => QueryCursor::without(alloc, first, other),
+                Err(fault) => {
+                    drop(first);
+                    Err(fault)
+                }
+            }
+        }
     }
 }
 
-// Cursors over what two queries give.
+// Cursors over what each of some queries gives.
 #[cycle(find)]
-fn find_parts(
+fn find_each(
     alloc: Global,
     index: &OpenIndex,
-    first: &Query,
-    other: &Query,
-) -> Result<
-    (
-        QueryCursor<TermOrPhrase<SegmentPostings>>,
-        QueryCursor<TermOrPhrase<SegmentPostings>>,
-    ),
-    Fault,
->
-    requires first { has_fields (length index.now.readers) first.now ≡ true }
-    requires other { has_fields (length index.now.readers) other.now ≡ true }
-    ensures first { IfOk result (λ parts. found_in index.now first.now ≡ Ok parts.0.rest) }
-    ensures other { IfOk result (λ parts. found_in index.now other.now ≡ Ok parts.1.rest) }
-    ensures first_lazy { IfOk result (λ parts. AllByRecursion EachDecodesFew parts.0.cursors) }
-    ensures other_lazy { IfOk result (λ parts. AllByRecursion EachDecodesFew parts.1.cursors) }
-    ensures refused { IfErr result (λ fault. (by : List Entry → List Entry → List Entry) → IsRefusal (combined by (found_in index.now first.now) (found_in index.now other.now)) fault) }
+    queries: &Vec<Query>,
+) -> Result<Vec<QueryCursor<TermOrPhrase<SegmentPostings>>>, Fault>
+    requires fields { list_all (has_fields (length index.now.readers)) queries.now.items ≡ true }
+    ensures listed { IfOk result (λ cursors. lists_found index.now (trees_of queries.now.items) ≡ Ok (rests cursors.items)) }
+    ensures lazy { IfOk result (λ cursors. AllByRecursion EachDecodesFew (cursors_under cursors.items)) }
+    ensures refused { IfErr result (IsRefusal (lists_found index.now (trees_of queries.now.items))) }
 {
-    let first = match find(alloc, index, first) {
-        Ok(first) => first,
-        Err(fault) => return Err(fault),
-    };
-    match find(alloc, index, other) {
-        Ok(other) => Ok((first, other)),
-        Err(fault) => {
-            drop(first);
-            Err(fault)
-        }
+    let mut cursors = Vec::new(alloc);
+    for query in queries {
+        let cursor = match find(alloc, index, query) {
+            Ok(cursor) => cursor,
+            Err(fault) => return Err(fault),
+        };
+        cursors.push(cursor)?;
     }
+    Ok(cursors)
 }
 
 // A cursor over the documents of a term.

@@ -1,35 +1,45 @@
-use Rattle.ii_query.specs.Combined.{common, either, without}
-use Rattle.ii_search.specs.Found.{found_in}
-use Rattle.ii_search.proofs.DecodesLemmas.{combined_rest, few_beside, few_either_way}
+use Rattle.std.proofs.Common.{◌≡◌, ◌∙◌, ◌<◌, ◌+◌, List, ap, drop, get_or, length, rules, sym, true}
+use Rattle.std.specs.List.{list_all}
+use Rattle.ii_query.specs.Combined.{intersection_of, union_of}
+use Rattle.ii_query.specs.QueryCursor.{rests}
+use Rattle.ii_search.proofs.DecodesLemmas.{few_beside}
+use Rattle.ii_search.proofs.QueryLemmas.{and_deep, and_has_fields, few_meet, few_pushed, finding_next, finding_refused, or_deep, or_has_fields, query_at, rests_pushed}
 use Rattle.ii_search.proofs.searching.+find.Goals as goal
 
-pub find-returns-in-Err-clause-refused : goal.find-returns-in-Err-clause-refused
-find-returns-in-Err-clause-refused t c = rw (c.in-And.is, ← c.deref-in-And.ensures, ← c.deref-in-And-2.ensures) (c.in-Err.ensures.refused common)
+pub find-find_each-requires : goal.find-find_each-requires
+find-find_each-requires t c =
+    let deep = and_deep c.args.query.now c.in-And.queries c.in-And.is in
+    let fields = and_has_fields (length c.args.index.now.readers) c.args.query.now c.in-And.queries c.in-And.is c.requires.fields in
+    search (rules, deep, fields)
 
-pub find-returns-in-Err-find_parts-clause-refused : goal.find-returns-in-Err-find_parts-clause-refused
-find-returns-in-Err-find_parts-clause-refused t c = rw (c.in-Or.is, ← c.deref-in-Or.ensures, ← c.deref-in-Or-2.ensures) (c.in-Err-find_parts.ensures.refused either)
-
-pub find-returns-in-Err-find_parts-2-clause-refused : goal.find-returns-in-Err-find_parts-2-clause-refused
-find-returns-in-Err-find_parts-2-clause-refused t c = rw (c.in-AndNot.is, ← c.deref-in-AndNot.ensures, ← c.deref-in-AndNot-2.ensures) (c.in-Err-find_parts-2.ensures.refused without)
+pub find-find_each-requires-in-Or : goal.find-find_each-requires-in-Or
+find-find_each-requires-in-Or t c =
+    let deep = or_deep c.args.query.now c.in-Or.queries c.in-Or.is in
+    let fields = or_has_fields (length c.args.index.now.readers) c.args.query.now c.in-Or.queries c.in-Or.is c.requires.fields in
+    search (rules, deep, fields)
 
 pub find-returns-in-Ok-clause-lazy : goal.find-returns-in-Ok-clause-lazy
-find-returns-in-Ok-clause-lazy t c = few_either_way c.in-Ok.first.cursors c.in-Ok.other.cursors c.both.result c.in-Ok.ensures.first_lazy c.in-Ok.ensures.other_lazy c.both.ensures.work
+find-returns-in-Ok-clause-lazy t c = few_meet c.in-Ok.cursors.items c.intersection.result c.in-Ok.ensures.lazy c.intersection.ensures.work
 
-pub find-returns-in-Ok-find_parts-2-clause-lazy : goal.find-returns-in-Ok-find_parts-2-clause-lazy
-find-returns-in-Ok-find_parts-2-clause-lazy t c =
-    few_beside c.in-Ok-find_parts-2.first.cursors c.in-Ok-find_parts-2.other.cursors c.without.result c.in-Ok-find_parts-2.ensures.first_lazy c.in-Ok-find_parts-2.ensures.other_lazy c.without.ensures.work
+pub find-returns-in-Ok-find-2-clause-lazy : goal.find-returns-in-Ok-find-2-clause-lazy
+find-returns-in-Ok-find-2-clause-lazy t c = few_beside c.in-Ok-find.first.cursors c.in-Ok-find-2.other.cursors c.without.result c.in-Ok-find.ensures.lazy c.in-Ok-find-2.ensures.lazy c.without.ensures.work
 
-pub find-returns-in-Ok-clause-listed : goal.find-returns-in-Ok-clause-listed
-find-returns-in-Ok-clause-listed t c =
-    rw (c.in-And.is, ← c.deref-in-And.ensures, ← c.deref-in-And-2.ensures)
-    (combined_rest common (found_in c.args.index.now c.deref-in-And.result.now) (found_in c.args.index.now c.deref-in-And-2.result.now) c.in-Ok.first.rest c.in-Ok.other.rest c.both.result c.in-Ok.ensures.first c.in-Ok.ensures.other c.both.ensures.rest)
+pub find_each-returns-in-Err-clause-refused : goal.find_each-returns-in-Err-clause-refused
+find_each-returns-in-Err-clause-refused t c =
+    let l = c.loop-query in
+    let all = c.args.queries.now.items in
+    let inside : l.query-index < length all = search rules in
+    let is : c.query-item.result ≡ get_or all l.query-index c.query-item.result = search rules in
+    finding_refused c.args.index.now all (drop l.query-index all) (drop (l.query-index + 1) all) (rests l.cursors.items) c.query-item.result c.in-Err.fault l.invariant.finding (query_at all l.query-index c.query-item.result inside is) c.in-Err.ensures.refused
 
-pub find-returns-in-Ok-find_parts-clause-listed : goal.find-returns-in-Ok-find_parts-clause-listed
-find-returns-in-Ok-find_parts-clause-listed t c =
-    rw (c.in-Or.is, ← c.deref-in-Or.ensures, ← c.deref-in-Or-2.ensures)
-    (combined_rest either (found_in c.args.index.now c.deref-in-Or.result.now) (found_in c.args.index.now c.deref-in-Or-2.result.now) c.in-Ok-find_parts.first.rest c.in-Ok-find_parts.other.rest c.either.result c.in-Ok-find_parts.ensures.first c.in-Ok-find_parts.ensures.other c.either.ensures.rest)
-
-pub find-returns-in-Ok-find_parts-2-clause-listed : goal.find-returns-in-Ok-find_parts-2-clause-listed
-find-returns-in-Ok-find_parts-2-clause-listed t c =
-    rw (c.in-AndNot.is, ← c.deref-in-AndNot.ensures, ← c.deref-in-AndNot-2.ensures)
-    (combined_rest without (found_in c.args.index.now c.deref-in-AndNot.result.now) (found_in c.args.index.now c.deref-in-AndNot-2.result.now) c.in-Ok-find_parts-2.first.rest c.in-Ok-find_parts-2.other.rest c.without.result c.in-Ok-find_parts-2.ensures.first c.in-Ok-find_parts-2.ensures.other c.without.ensures.rest)
+pub find_each-loop-query-preserved : goal.find_each-loop-query-preserved
+find_each-loop-query-preserved t c =
+    let l = c.loop-query in
+    let all = c.args.queries.now.items in
+    let inside : l.query-index < length all = search rules in
+    let is : c.query-item.result ≡ get_or all l.query-index c.query-item.result = search rules in
+    record {
+      finding = finding_next c.args.index.now all (drop l.query-index all) (drop (l.query-index + 1) all) (rests l.cursors.items) (rests c.push.new.self.items) c.query-item.result c.in-Ok.cursor.rest l.invariant.finding (query_at all l.query-index c.query-item.result inside is)
+          c.in-Ok.ensures.listed (ap rests c.in_ok-push.ensures.items ∙ rests_pushed l.cursors.items c.in-Ok.cursor);
+      lazy = rw (c.in_ok-push.ensures.items) (few_pushed _ l.cursors.items c.in-Ok.cursor l.invariant.lazy c.in-Ok.ensures.lazy);
+    }

@@ -1,10 +1,12 @@
-use Rattle.std.proofs.Common.{◌+◌, ◌*◌}
-use Rattle.std.specs.Prelude.{max}
-use Rattle.ii_query_parser.specs.declared.query.Query.{size-Query}
+use Rattle.std.proofs.Common.{drop}
+use Rattle.std.specs.List.{AllByRecursion}
+use Rattle.ii_query.specs.QueryCursor.{cursors_under, rests}
+use Rattle.ii_search.specs.Decodes.{EachDecodesFew}
+use Rattle.ii_search.proofs.QueryLemmas.{IsFinding}
 use Rattle.ii_search.proofs.searching.+find.Given as goal
 
-abbrev pub decreases-find : goal.decreases-find
-decreases-find l = 2 * size-Query l.query.now
-
-abbrev pub decreases-find_parts : goal.decreases-find_parts
-decreases-find_parts l = 2 * max (size-Query l.first.now) (size-Query l.other.now) + 1
+abbrev pub invariant-find_each-loop-query : goal.invariant-find_each-loop-query
+invariant-find_each-loop-query l = record {
+  finding : IsFinding l.index l.queries.items (drop l.query-index l.queries.items) (rests l.cursors.items);
+  lazy : AllByRecursion EachDecodesFew (cursors_under l.cursors.items);
+}
