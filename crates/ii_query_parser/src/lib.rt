@@ -8,7 +8,8 @@ pub mod query_parser;
 pub mod query_parser_error;
 
 pub use ii_query_grammar::{
-    Delimiter, MAX_LEXEMES, ParseError, UserInputAst, UserInputLiteral, Wanted, parse,
+    Delimiter, Expected, Feature, MAX_NESTING, ParseError, UserInputAst, UserInputLiteral,
+    can_name, parse, spell_name,
 };
 pub use literal::field_named;
 pub use query::{PhraseTerm, Query};

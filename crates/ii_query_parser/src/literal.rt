@@ -7,7 +7,7 @@ ghost use Rattle.ii_base.specs.declared.schema.value_type.ValueType.TheVariants 
 ghost use Rattle.ii_json.specs.FastValues.{bool_in, i64_in, u64_in};
 ghost use Rattle.ii_query_grammar.specs.Trees.{literal_of};
 ghost use Rattle.ii_query_parser.specs.declared.query_parser_error.QueryParserError.TheVariants as errors;
-ghost use Rattle.ii_query_parser.specs.QueryTexts.{Adds, AddsIn, AddsMaybe, AddsText, CutsAtDot, field_named, has_json_values, named_terms, some_default, terms_in_field, terms_of, typed_terms, words_phrase};
+ghost use Rattle.ii_query_parser.specs.QueryTexts.{Adds, AddsIn, AddsOrKeeps, AddsMaybe, AddsText, CutsAtDot, field_named, has_json_values, left_out, named_terms, some_default, terms_in_field, terms_of, typed_terms, words_phrase};
 
 use crate::phrase_words::{PhraseWords, words_phrase};
 use crate::query_parser_error::QueryParserError;
@@ -34,7 +34,8 @@ pub(crate) fn push_literal<A: TextAnalyzer>(
     }
 }
 
-// Adds those of a text in each of the fields that are meant.
+// Adds those of a text in each default field, except those that keep no positions where it is a phrase:
+// they are left out, unless there is no other one.
 fn push_defaults<A: TextAnalyzer>(
     alloc: Global,
     schema: &Schema,
@@ -48,13 +49,35 @@ fn push_defaults<A: TextAnalyzer>(
     if default_fields.is_empty() {
         return Err(QueryParserError::NoDefaultFieldDeclared);
     }
+    let before = terms.len();
     for field in default_fields {
-        match push_in_field(alloc, schema, analyzer, *field, "", phrase, terms) {
+        match push_default(alloc, schema, analyzer, *field, phrase, terms) {
             Ok(()) => {}
             Err(error) => return Err(error),
         }
     }
+    if terms.len() == before {
+        return Err(QueryParserError::FieldDoesNotHavePositionsIndexed(default_fields[0]));
+    }
     Ok(())
+}
+
+// Adds those of a text in a default field, if it isn't left out.
+fn push_default<A: TextAnalyzer>(
+    alloc: Global,
+    schema: &Schema,
+    analyzer: &A,
+    field: Field,
+    phrase: &str,
+    terms: &mut Vec<PhraseWords>,
+) -> Result<(), QueryParserError>
+    ensures { AddsOrKeeps (left_out (terms_in_field (record { analyze = A.words analyzer.now; entries = schema.now }) field [] phrase.now)) schema.now terms.old.items terms.new.items result }
+{
+    match push_in_field(alloc, schema, analyzer, field, "", phrase, terms) {
+        Ok(()) => Ok(()),
+        Err(QueryParserError::FieldDoesNotHavePositionsIndexed(_)) => Ok(()),
+        Err(error) => Err(error),
+    }
 }
 
 // Adds those of a text behind a name: that of a field, or of one of JSON values and a path behind a dot.
@@ -66,7 +89,7 @@ fn push_named<A: TextAnalyzer>(
     phrase: &str,
     terms: &mut Vec<PhraseWords>,
 ) -> Result<(), QueryParserError>
-    ensures { Adds (named_terms (record { analyze = A.words analyzer.now; entries = schema.now }) name.now phrase.now (field_named schema.now name.now)) schema.now terms.old.items terms.new.items result }
+    ensures { AddsOrKeeps (named_terms (record { analyze = A.words analyzer.now; entries = schema.now }) name.now phrase.now (field_named schema.now name.now)) schema.now terms.old.items terms.new.items result }
 {
     if let Some(field) = field_named(schema, name) {
         return push_in_field(alloc, schema, analyzer, field, "", phrase, terms);
@@ -133,14 +156,14 @@ fn push_in_field<A: TextAnalyzer>(
     phrase: &str,
     terms: &mut Vec<PhraseWords>,
 ) -> Result<(), QueryParserError>
-    ensures { Adds (terms_in_field (record { analyze = A.words analyzer.now; entries = schema.now }) field path.now phrase.now) schema.now terms.old.items terms.new.items result }
+    ensures { AddsOrKeeps (terms_in_field (record { analyze = A.words analyzer.now; entries = schema.now }) field path.now phrase.now) schema.now terms.old.items terms.new.items result }
 {
     if field.field_id() as usize >= schema.num_fields() {
         return Err(QueryParserError::FieldDoesNotExist);
     }
     let entry = schema.get_field_entry(field);
     if !entry.is_indexed() {
-        return Err(QueryParserError::FieldNotIndexed);
+        return Err(QueryParserError::FieldNotIndexed(field));
     }
     let place = Place {
         field,
@@ -177,25 +200,25 @@ impl Place {
             ValueType::U64 => push_read(
                 alloc,
                 u64_term(alloc, self.field, phrase),
-                QueryParserError::ExpectedInt,
+                QueryParserError::ExpectedInt(self.field),
                 terms,
             ),
             ValueType::I64 => push_read(
                 alloc,
                 i64_term(alloc, self.field, phrase),
-                QueryParserError::ExpectedInt,
+                QueryParserError::ExpectedInt(self.field),
                 terms,
             ),
             ValueType::Bool => push_read(
                 alloc,
                 bool_term(alloc, self.field, phrase),
-                QueryParserError::ExpectedBool,
+                QueryParserError::ExpectedBool(self.field),
                 terms,
             ),
             ValueType::Json => self.push_json(alloc, analyzer, path, phrase, terms),
-            ValueType::Date | ValueType::Bytes | ValueType::IpAddr => Err(
-                QueryParserError::UnsupportedType,
-            ),
+            ValueType::Date | ValueType::Bytes | ValueType::IpAddr => {
+                Err(QueryParserError::UnsupportedType(self.field))
+            }
         }
     }
 
@@ -207,11 +230,11 @@ impl Place {
         phrase: &str,
         terms: &mut Vec<PhraseWords>,
     ) -> Result<(), QueryParserError>
-        ensures { AddsText (has_positions self.option) None (words_phrase (record { field = self.field; value = [] }) (A.words analyzer.now phrase.now)) terms.old.items terms.new.items result }
+        ensures { AddsText self.field (has_positions self.option) None (words_phrase (record { field = self.field; value = [] }) (A.words analyzer.now phrase.now)) terms.old.items terms.new.items result }
     {
         let prefix = Term::from_field_bytes(alloc, self.field, &[])?;
         let words = words_phrase(alloc, analyzer, &prefix, phrase)?;
-        push_words(alloc, self.option, None, words, terms)
+        self.push_words(alloc, None, words, terms)
     }
 
     // Adds those of a text at a path of JSON values: the value that it is taken for, and its tokens.
@@ -226,17 +249,58 @@ impl Place {
         ensures { AddsIn (typed_terms (record { analyze = A.words analyzer.now; entries = [] }) self.field (has_positions self.option) self.expand_dots path.now phrase.now types.Json) self.field (has_positions self.option) terms.old.items terms.new.items result }
     {
         if path.as_bytes().contains(&0) {
-            return Err(QueryParserError::UnsupportedPath);
+            return Err(QueryParserError::UnsupportedPath(self.field));
         }
         let start = Term::from_field_json_path(alloc, self.field, path, self.expand_dots)?;
         let value = convert_to_fast_value_and_append_to_json_term(alloc, &start, phrase)?;
         let prefix = text_prefix(start)?;
         let words = words_phrase(alloc, analyzer, &prefix, phrase)?;
-        push_words(alloc, self.option, value, words, terms)
+        self.push_words(alloc, value, words, terms)
+    }
+
+    // Adds what a text is looked up by: the term of a value, and the text's words, of which there has to be
+    // one.
+    fn push_words(
+        self,
+        alloc: Global,
+        value: Option<Term>,
+        words: Option<PhraseWords>,
+        terms: &mut Vec<PhraseWords>,
+    ) -> Result<(), QueryParserError>
+        ensures { AddsText self.field (has_positions self.option) value words terms.old.items terms.new.items result }
+    {
+        let Some(words) = words else {
+            return self.push_value(alloc, value, terms);
+        };
+        if !self.option.has_positions() && !words.is_alone() {
+            drop(value);
+            return Err(QueryParserError::FieldDoesNotHavePositionsIndexed(self.field));
+        }
+        if let Some(value) = value {
+            terms.push(PhraseWords::one(alloc, value))?;
+        }
+        Ok(terms.push(words)?)
+    }
+
+    // Adds the term of a value alone, if there is one.
+    fn push_value(
+        self,
+        alloc: Global,
+        value: Option<Term>,
+        terms: &mut Vec<PhraseWords>,
+    ) -> Result<(), QueryParserError>
+        ensures { AddsText self.field (has_positions self.option) value None terms.old.items terms.new.items result }
+    {
+        push_term(
+            alloc,
+            value,
+            QueryParserError::UnsupportedPhrase(self.field),
+            terms,
+        )
     }
 }
 
-// What stands before the words of texts at a path.
+// The prefix of the words of texts at a path.
 fn text_prefix(path: Term) -> Result<Term, Fault>
     ensures ok { IfOk result (λ prefix. prefix ≡ record { field = path.field; value = path.value ++ text_key [] }) }
     ensures only { OnlyMemory result }
@@ -325,38 +389,4 @@ fn push_read(
         Ok(term) => push_term(alloc, term, error, terms),
         Err(fault) => Err(QueryParserError::from(fault)),
     }
-}
-
-// Adds what a text is looked up by: the term of a value, and the text's words, of which there has to be one.
-fn push_words(
-    alloc: Global,
-    option: IndexRecordOption,
-    value: Option<Term>,
-    words: Option<PhraseWords>,
-    terms: &mut Vec<PhraseWords>,
-) -> Result<(), QueryParserError>
-    ensures { AddsText (has_positions option) value words terms.old.items terms.new.items result }
-{
-    let Some(words) = words else {
-        return push_value(alloc, value, terms);
-    };
-    if !option.has_positions() && !words.is_alone() {
-        drop(value);
-        return Err(QueryParserError::FieldDoesNotHavePositionsIndexed);
-    }
-    if let Some(value) = value {
-        terms.push(PhraseWords::one(alloc, value))?;
-    }
-    Ok(terms.push(words)?)
-}
-
-// Adds the term of a value alone, if there is one.
-fn push_value(
-    alloc: Global,
-    value: Option<Term>,
-    terms: &mut Vec<PhraseWords>,
-) -> Result<(), QueryParserError>
-    ensures { AddsText false value None terms.old.items terms.new.items result }
-{
-    push_term(alloc, value, QueryParserError::UnsupportedPhrase, terms)
 }
