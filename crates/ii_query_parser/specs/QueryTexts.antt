@@ -27,12 +27,12 @@ use Rattle.ii_query_parser.specs.declared.query.Query.{Query}
 use Rattle.ii_query_parser.specs.declared.query_parser_error.QueryParserError.{QueryParserError}
 use Rattle.ii_query_parser.specs.declared.query_parser_error.QueryParserError.TheVariants as errors
 
--- What words are looked up by: an analyzer, and the fields of a schema.
+-- An analyzer and the fields of a schema, by which words are looked up.
 pub record TextFields : Type 0 where
   pub analyze : List ℕ → List Word
   pub entries : List SchemaEntry
 
--- Those, and the fields that are meant where none is named.
+-- An analyzer and the fields of a schema, and the default fields: those of a literal that names none.
 pub record QueryFields : Type 0 where
   pub texts : TextFields
   pub defaults : List ℕ
@@ -50,23 +50,23 @@ one_term t = record { first = t; others = [] }
 abbrev pub is_alone : PhraseState → Bool
 is_alone p = nat_eq (length p.others) 0
 
--- the terms and phrases of a word or a phrase, of which a document has to have one, or why it has none
+-- the terms and phrases of a literal, of which a document has to have one, or the error of the literal
 abbrev pub Terms : Type 0
 Terms = Result (List PhraseState) QueryParserError
 
--- the term of a word behind a prefix
+-- the term of a word after a prefix
 abbrev pub word_term : TermState → List ℕ → TermState
 word_term prefix word = record { field = prefix.field; value = prefix.value ++ word }
 
--- whether words stand at a place or after it, less than 2^32 positions
+-- whether words are at a position or less than 2^32 positions after it
 abbrev pub stand_after : ℕ → List Word → Bool
 stand_after first ws = list_all (λ (w : Word). nat_le first w.position && nat_lt (w.position - first) 4294967296) ws
 
--- words behind a prefix, each with how far it stands after a place
+-- the terms of words after a prefix, each with its distance from a position
 abbrev pub terms_after : TermState → ℕ → List Word → List PhraseTerm
 terms_after prefix first ws = map (λ (w : Word). record { distance = w.position - first; term = word_term prefix w.text }) ws
 
--- the phrase of words behind a prefix: the first one, and the others, none of which stands before it
+-- the phrase of words after a prefix: the first one, and the others, none of which comes before it
 abbrev pub words_phrase : TermState → List Word → Option PhraseState
 words_phrase prefix [] = None
 words_phrase prefix (w ∷ ws) = if stand_after w.position ws then Some (record { first = word_term prefix w.text; others = terms_after prefix w.position ws }) else None
@@ -104,7 +104,7 @@ typed_terms q field keeps expand_dots path phrase types.Json =
     if has_zero path then Err (errors.UnsupportedPath field)
     else text_terms field keeps (path_value field expand_dots path phrase) (words_phrase (record { field = field; value = path_key expand_dots path ++ text_key [] }) (q.analyze phrase))
 
--- those of an entry of the schema, if it is indexed
+-- the terms of a text in an entry of the schema, if it is indexed
 abbrev pub entry_terms : TextFields → ℕ → List ℕ → List ℕ → Option SchemaEntry → Terms
 entry_terms q field path phrase None = Err errors.FieldDoesNotExist
 entry_terms q field path phrase (Some e) = if e.is_indexed then typed_terms q field (has_positions e.option) e.expands_dots path phrase e.value_type else Err (errors.FieldNotIndexed field)
@@ -113,7 +113,7 @@ entry_terms q field path phrase (Some e) = if e.is_indexed then typed_terms q fi
 abbrev pub terms_in_field : TextFields → ℕ → List ℕ → List ℕ → Terms
 terms_in_field q field path phrase = entry_terms q field path phrase (slice_get q.entries field)
 
--- the field of a name, the first that has it
+-- the first field with a name
 abbrev pub field_named : List SchemaEntry → List ℕ → Option ℕ
 field_named entries name = position_from (λ (e : SchemaEntry). bytes_eq e.name name) 0 entries
 
@@ -127,17 +127,17 @@ abbrev pub path_terms : TextFields → List ℕ → List ℕ → Option ℕ → 
 path_terms q path phrase None = Err errors.FieldDoesNotExist
 path_terms q path phrase (Some field) = if has_json_values (slice_get q.entries field) then terms_in_field q field path phrase else Err errors.FieldDoesNotExist
 
--- those of a name that is cut at its first dot, if it has one
+-- the terms of a text after a name that is cut at its first dot, if it has one
 abbrev pub dotted_terms : TextFields → List ℕ → List ℕ → Option ℕ → Terms
 dotted_terms q name phrase None = Err errors.FieldDoesNotExist
 dotted_terms q name phrase (Some i) = path_terms q (drop (i + 1) name) phrase (field_named q.entries (take i name))
 
--- those of a name: that of a field, or of one of JSON values and a path behind a dot
+-- the terms of a text after a name: that of a field, or that of one of JSON values and a path after a dot
 abbrev pub named_terms : TextFields → List ℕ → List ℕ → Option ℕ → Terms
 named_terms q name phrase (Some field) = terms_in_field q field [] phrase
 named_terms q name phrase None = dotted_terms q name phrase (position (λ b. b == 46) name)
 
--- two lists of terms together, or the first refusal
+-- two lists of terms together, or the first error
 abbrev pub joined_terms : Terms → Terms → Terms
 joined_terms (Err e) other = Err e
 joined_terms (Ok ts) (Err e) = Err e
@@ -184,7 +184,7 @@ abbrev pub literal_terms : TextFields → List ℕ → Option (List ℕ) → Lis
 literal_terms q defaults None phrase = some_default q phrase defaults
 literal_terms q defaults (Some name) phrase = named_terms q name phrase (field_named q.entries name)
 
--- those of a word or a phrase of a tree
+-- the terms of a literal of a tree
 abbrev pub terms_of : QueryFields → Literal → Terms
 terms_of q l = literal_terms q.texts q.defaults l.field_name l.phrase
 
@@ -223,7 +223,7 @@ abbrev mutual
   any_matches q no_asts ts doc = false
   any_matches q (and_asts a us) ts doc = ast_matches q a ts doc || any_matches q us ts doc
 
--- why a word or a phrase is refused
+-- the error of a literal, if it has one
 abbrev pub refused : Terms → Option QueryParserError
 refused (Err e) = Some e
 refused (Ok terms) = None
@@ -240,14 +240,14 @@ abbrev mutual
   asts_refusal q no_asts = None
   asts_refusal q (and_asts a us) = option_or (ast_refusal q a) (asts_refusal q us)
 
--- A query means what a tree does, which is refused for nothing.
+-- A query means what a tree does, and the tree has no error.
 pub record Means (q : QueryFields) (ast : Ast) (query : Query) : Type 0 where
   pub taken : ast_refusal q ast ≡ None
   pub exact : (ts : List IndexToken) (doc : ℕ) → matches query ts doc ≡ ast_matches q ast ts doc
   pub fields : has_fields (length q.texts.entries) query ≡ true
   pub positions : keeps_positions q.texts.entries query ≡ true
 
--- Memory was missing, or this is why.
+-- An allocation failed, or this is the error.
 abbrev pub IsWhyRefused : Option QueryParserError → QueryParserError → Type 0
 IsWhyRefused refusal e = (e ≡ errors.Fault OutOfMemory) ⊎ (refusal ≡ Some e)
 
@@ -255,17 +255,17 @@ IsWhyRefused refusal e = (e ≡ errors.Fault OutOfMemory) ⊎ (refusal ≡ Some 
 abbrev pub IsRefusedAs : Option QueryParserError → List PhraseState → List PhraseState → QueryParserError → Type 0
 IsRefusedAs refusal old new e = (e ≡ errors.Fault OutOfMemory) ⊎ ((refusal ≡ Some e) × (new ≡ old))
 
--- A query means what a tree does, or it is refused.
+-- A query means what a tree does, or the tree has this error.
 abbrev pub IsQueryOf : QueryFields → Ast → Result Query QueryParserError → Type 0
 IsQueryOf q ast (Ok query) = Means q ast query
 IsQueryOf q ast (Err e) = IsWhyRefused (ast_refusal q ast) e
 
--- why the tree of a text is refused, or why it has none
+-- the error of the tree of a text, or the error of the text if it has no tree
 abbrev pub read_refusal : QueryFields → Result Ast ParseError → Option QueryParserError
 read_refusal q (Ok ast) = ast_refusal q ast
 read_refusal q (Err e) = Some (as_parser_error e)
 
--- why a text is refused
+-- the error of a text
 abbrev pub text_refusal : QueryFields → List ℕ → Option QueryParserError
 text_refusal q text = read_refusal q (parsed MAX_NESTING text)
 
@@ -285,16 +285,16 @@ pub record MeansText (q : QueryFields) (text : List ℕ) (query : Query) : Type 
   pub fields : has_fields (length q.texts.entries) query ≡ true
   pub positions : keeps_positions q.texts.entries query ≡ true
 
--- A query means what a text does, or it is refused.
+-- A query means what a text does, or the text has this error.
 abbrev pub IsQueryOfText : QueryFields → List ℕ → Result Query QueryParserError → Type 0
 IsQueryOfText q text (Ok query) = MeansText q text query
 IsQueryOfText q text (Err e) = IsWhyRefused (text_refusal q text) e
 
--- whether the fields of a phrase are among so many
+-- whether the fields of a phrase are among the first n
 abbrev pub phrase_within : ℕ → PhraseState → Bool
 phrase_within n p = nat_lt p.first.field n && list_all (λ (o : PhraseTerm). nat_lt o.term.field n) p.others
 
--- whether they keep positions, where several terms need them
+-- whether the fields of a phrase keep positions, if it has several terms
 abbrev pub phrase_kept : List SchemaEntry → PhraseState → Bool
 phrase_kept entries p = is_alone p || (has_positions_in entries p.first && list_all (λ (o : PhraseTerm). has_positions_in entries o.term) p.others)
 
@@ -318,19 +318,19 @@ abbrev pub AddsOrKeeps : Terms → List SchemaEntry → List PhraseState → Lis
 AddsOrKeeps terms entries old new (Ok done) = Adds terms entries old new (Ok done)
 AddsOrKeeps terms entries old new (Err e) = IsRefusedAs (refused terms) old new e
 
--- Terms of a field were added, or they are refused.
+-- Terms of a field were added, or this is the error, and the terms are unchanged unless an allocation failed.
 abbrev pub AddsIn : Terms → ℕ → Bool → List PhraseState → List PhraseState → Result (Unit {0}) QueryParserError → Type 0
 AddsIn terms field keeps old new (Ok done) = (ts : List PhraseState) × (terms ≡ Ok ts) × (new ≡ old ++ ts) × AllByRecursion (IsPhraseIn field keeps) ts
 AddsIn terms field keeps old new (Err e) = IsRefusedAs (refused terms) old new e
 
--- A term was added, or there is none.
+-- A term was added, or there is none, and this is the error.
 abbrev pub AddsMaybe : Option TermState → QueryParserError → List PhraseState → List PhraseState → Result (Unit {0}) QueryParserError → Type 0
 AddsMaybe None error old new (Ok done) = ⊥
 AddsMaybe (Some term) error old new (Ok done) = new ≡ old ++ one_term term ∷ []
 AddsMaybe None error old new (Err e) = (e ≡ error) × (new ≡ old)
 AddsMaybe (Some term) error old new (Err e) = e ≡ errors.Fault OutOfMemory
 
--- What a text is looked up by was added, or it is refused.
+-- The terms that a text is looked up by were added, or this is the error, and the terms are unchanged unless an allocation failed.
 abbrev pub AddsText : ℕ → Bool → Option TermState → Option PhraseState → List PhraseState → List PhraseState → Result (Unit {0}) QueryParserError → Type 0
 AddsText field keeps value words old new (Ok done) = (ts : List PhraseState) × (text_terms field keeps value words ≡ Ok ts) × (new ≡ old ++ ts)
 AddsText field keeps value words old new (Err e) = IsRefusedAs (refused (text_terms field keeps value words)) old new e
@@ -357,3 +357,35 @@ pub record HasPushed (old new : List Query) (words : PhraseState) : Type 0 where
   pub found : (ts : List IndexToken) (doc : ℕ) → list_any (λ (q : Query). matches q ts doc) new ≡ (list_any (λ (q : Query). matches q ts doc) old || has_words ts doc words.first words.others)
   pub within : (n : ℕ) → list_all (has_fields n) new ≡ (list_all (has_fields n) old && phrase_within n words)
   pub kept : (entries : List SchemaEntry) → list_all (keeps_positions entries) new ≡ (list_all (keeps_positions entries) old && phrase_kept entries words)
+
+-- whether a field has JSON values, if there is one
+abbrev pub names_json : List SchemaEntry → Option ℕ → Bool
+names_json entries None = false
+names_json entries (Some field) = has_json_values (slice_get entries field)
+
+-- whether a name is that of a field of JSON values and a path after its first dot, which is at this place
+abbrev pub names_path : List SchemaEntry → List ℕ → Option ℕ → Bool
+names_path entries name None = false
+names_path entries name (Some i) = names_json entries (field_named entries (take i name))
+
+-- whether a name is that of a field, or of one of JSON values and a path after a dot
+abbrev pub names_field : List SchemaEntry → List ℕ → Option ℕ → Bool
+names_field entries name (Some field) = true
+names_field entries name None = names_path entries name (position (λ b. b == 46) name)
+
+-- the name of a literal that is neither
+abbrev pub unknown_name : List SchemaEntry → Option (List ℕ) → Option (List ℕ)
+unknown_name entries None = None
+unknown_name entries (Some name) = if names_field entries name (field_named entries name) then None else Some name
+
+-- the first name in a tree that is neither
+abbrev mutual
+  pub unknown_in : List SchemaEntry → Ast → Option (List ℕ)
+  unknown_in entries (leaf l) = unknown_name entries l.field_name
+  unknown_in entries (all_of us) = unknown_among entries us
+  unknown_in entries (any_of us) = unknown_among entries us
+  unknown_in entries (without first other) = option_or (unknown_in entries first) (unknown_in entries other)
+
+  pub unknown_among : List SchemaEntry → Asts → Option (List ℕ)
+  unknown_among entries no_asts = None
+  unknown_among entries (and_asts a us) = option_or (unknown_in entries a) (unknown_among entries us)

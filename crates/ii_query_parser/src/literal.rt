@@ -16,7 +16,7 @@ use ii_json::convert_to_fast_value_and_append_to_json_term;
 use ii_query_grammar::UserInputLiteral;
 use std::alloc::Global;
 
-/// Adds the terms of a word or a phrase, of which a document has to have one.
+/// Adds the terms and phrases of a literal: a document matches if it has one of them.
 pub(crate) fn push_literal<A: TextAnalyzer>(
     alloc: Global,
     schema: &Schema,
@@ -34,8 +34,8 @@ pub(crate) fn push_literal<A: TextAnalyzer>(
     }
 }
 
-// Adds those of a text in each default field, except those that keep no positions where it is a phrase:
-// they are left out, unless there is no other one.
+// Adds the terms of a text in each default field. A field that keeps no positions is left out of a phrase of
+// several words, unless no field is left.
 fn push_defaults<A: TextAnalyzer>(
     alloc: Global,
     schema: &Schema,
@@ -62,7 +62,7 @@ fn push_defaults<A: TextAnalyzer>(
     Ok(())
 }
 
-// Adds those of a text in a default field, if it isn't left out.
+// Adds the terms of a text in a default field, unless it is left out.
 fn push_default<A: TextAnalyzer>(
     alloc: Global,
     schema: &Schema,
@@ -80,7 +80,8 @@ fn push_default<A: TextAnalyzer>(
     }
 }
 
-// Adds those of a text behind a name: that of a field, or of one of JSON values and a path behind a dot.
+// Adds the terms of a text after a name: that of a field, or that of one of JSON values and a path after a
+// dot.
 fn push_named<A: TextAnalyzer>(
     alloc: Global,
     schema: &Schema,
@@ -106,7 +107,7 @@ fn push_named<A: TextAnalyzer>(
     push_in_field(alloc, schema, analyzer, field, path, phrase, terms)
 }
 
-/// The field of a name, the first that has it.
+/// Returns the first field with this name.
 pub fn field_named(schema: &Schema, name: &str) -> Option<Field>
     ensures named { result ≡ field_named schema.now name.now }
     ensures inside { IfSome result (λ field. field < length schema.now) }
@@ -121,7 +122,7 @@ pub fn field_named(schema: &Schema, name: &str) -> Option<Field>
 }
 
 // Whether a field of the schema has JSON values.
-fn has_json(schema: &Schema, field: Field) -> bool
+pub(crate) fn has_json(schema: &Schema, field: Field) -> bool
     ensures { result ≡ has_json_values (slice_get schema.now field) }
 {
     if field.field_id() as usize >= schema.num_fields() {
@@ -130,8 +131,8 @@ fn has_json(schema: &Schema, field: Field) -> bool
     schema.get_field_entry(field).value_type() == ValueType::Json
 }
 
-// What stands before the first dot of a name, and what stands behind it, if it has one.
-fn cut_at_dot(name: &str) -> Option<(&str, &str)>
+// The text before the first dot of a name and the text after it, if it has one.
+pub(crate) fn cut_at_dot(name: &str) -> Option<(&str, &str)>
     ensures { CutsAtDot name.now result }
 {
     let Some(place) = dot_in(name.as_bytes()) else {
@@ -146,7 +147,7 @@ fn dot_in(name: &[u8]) -> Option<usize>
     name.iter().position(|b| *b == b'.')
 }
 
-// Adds those of a text in a field, at a path of its JSON values where it has these.
+// Adds the terms of a text in a field, at a path if it has JSON values.
 fn push_in_field<A: TextAnalyzer>(
     alloc: Global,
     schema: &Schema,
@@ -237,7 +238,7 @@ impl Place {
         self.push_words(alloc, None, words, terms)
     }
 
-    // Adds those of a text at a path of JSON values: the value that it is taken for, and its tokens.
+    // Adds the terms of a text at a path of JSON values: the value that it is taken for, and its tokens.
     fn push_json<A: TextAnalyzer>(
         self,
         alloc: Global,
@@ -258,8 +259,8 @@ impl Place {
         self.push_words(alloc, value, words, terms)
     }
 
-    // Adds what a text is looked up by: the term of a value, and the text's words, of which there has to be
-    // one.
+    // Adds the terms that a text is looked up by: that of a value, and the text's words. There has to be one
+    // of them.
     fn push_words(
         self,
         alloc: Global,
@@ -282,7 +283,7 @@ impl Place {
         Ok(terms.push(words)?)
     }
 
-    // Adds the term of a value alone, if there is one.
+    // Adds the term of a value, or returns an error if there is none.
     fn push_value(
         self,
         alloc: Global,
@@ -341,7 +342,7 @@ fn bool_term(alloc: Global, field: Field, phrase: &str) -> Result<Option<Term>, 
     }
 }
 
-// What Rust's `parse` takes a text for, at each of three types.
+// The value that Rust's `parse` makes of a text, for each of three types.
 fn u64_in(text: &str) -> Option<u64>
     ensures { result ≡ u64_in text.now }
 {
@@ -360,7 +361,7 @@ fn bool_in(text: &str) -> Option<bool>
     text.parse().ok()
 }
 
-// Adds a term, or tells why there is none.
+// Adds a term, or returns this error if there is none.
 fn push_term(
     alloc: Global,
     term: Option<Term>,
@@ -375,7 +376,7 @@ fn push_term(
     }
 }
 
-// Adds a term that was made, or tells why there is none.
+// Adds a term that was read, or returns the error.
 fn push_read(
     alloc: Global,
     term: Result<Option<Term>, Fault>,
