@@ -5,7 +5,7 @@ use Rattle.std.specs.List.{AllByRecursion, list_all, position_from, position_or_
 use Rattle.std.specs.Result.{result_unwrap_or}
 use Rattle.std.proofs.Math.Seq.{drop-cons}
 use Rattle.std.proofs.lemmas.Bool.{and_parts, eqb-true, lt-ltb, ltb-true}
-use Rattle.std.proofs.lemmas.List.{append-nil, drop_all}
+use Rattle.std.proofs.lemmas.List.{append-nil, drop_all, length-append}
 use Rattle.std.proofs.lemmas.List.Folds.{list_all-append}
 use Rattle.std.proofs.lemmas.List.Sums.{passes_at_first}
 use Rattle.std.proofs.lemmas.Option.{get_or_from_slice_get, same_Some, slice_get_within}
@@ -29,7 +29,7 @@ use Rattle.ii_definitions.specs.Tokens.{IndexToken}
 use Rattle.ii_query_grammar.specs.Trees.{Literal, leaf}
 use Rattle.ii_query_parser.specs.declared.query.Query.{Query}
 use Rattle.ii_query_parser.specs.Queries.{has_fields, has_positions_in, keeps_positions, matches}
-use Rattle.ii_query_parser.specs.QueryTexts.{Adds, AddsIn, AddsMaybe, AddsText, IsPhraseIn, IsWhyRefused, Means, PhraseState, QueryFields, Terms, TextFields, are_in, default_terms, has_one, has_term, is_alone, joined_terms, one_term, path_key, path_value, phrase_kept, phrase_within, refused, some_default, stand_after, terms_after, terms_in_field, terms_of, text_terms, typed_terms, value_term, words_phrase}
+use Rattle.ii_query_parser.specs.QueryTexts.{Adds, AddsIn, AddsMaybe, AddsOrKeeps, AddsText, IsPhraseIn, IsRefusedAs, IsWhyRefused, Means, PhraseState, QueryFields, Terms, TextFields, are_in, default_terms, has_one, has_term, is_alone, joined_terms, left_out, needs_positions, one_term, path_key, path_value, phrase_kept, phrase_within, refused, some_default, some_left, stand_after, terms_after, terms_in_field, terms_of, text_terms, typed_terms, value_term, words_phrase}
 
 -- Terms of the fields so far were added, and those of the fields that are left come after them.
 pub record IsGathering (q : TextFields) (phrase all fields : List ℕ) (old now : List PhraseState) : Type 0 where
@@ -55,7 +55,7 @@ field_at all i field inside is = drop-cons all i field inside ∙ rw (← is, ad
 
 -- the terms of one field more
 pub gathers_more : (q : TextFields) (phrase all : List ℕ) (i field : ℕ) (old now new ts : List PhraseState) → i < length all → field ≡ get_or all i field → IsGathering q phrase all (drop i all) old now
-    → terms_in_field q field [] phrase ≡ Ok ts → new ≡ now ++ ts → are_in q.entries ts ≡ true → IsGathering q phrase all (drop (i + 1) all) old new
+    → left_out (terms_in_field q field [] phrase) ≡ Ok ts → new ≡ now ++ ts → are_in q.entries ts ≡ true → IsGathering q phrase all (drop (i + 1) all) old new
 gathers_more q phrase all i field old now new ts inside here g is new_is within =
     let left = drop (i + 1) all in
     record {
@@ -66,7 +66,8 @@ gathers_more q phrase all i field old now new ts inside here g is new_is within 
           ∙ ap (λ (terms : Terms). joined_terms (Ok g.found) (joined_terms terms (default_terms q phrase left))) is ∙ joined_on g.found ts (default_terms q phrase left);
     }
 
-some_defaults : (q : TextFields) (phrase all : List ℕ) (i : ℕ) → i < length all → some_default q phrase all ≡ default_terms q phrase all
+-- the first error of the default fields
+some_defaults : (q : TextFields) (phrase all : List ℕ) (i : ℕ) → i < length all → some_default q phrase all ≡ some_left (get_or all 0 0) (default_terms q phrase all)
 some_defaults q phrase [] i inside = absurd (omega arith)
 some_defaults q phrase (field ∷ fields) i inside = refl
 
@@ -75,17 +76,75 @@ why_joined first terms others all e is (inl memory) = inl memory
 why_joined first (Err f) others all e is (inr why) = inr (ap refused is ∙ why)
 why_joined first (Ok ts) others all e is (inr why) = absurd (cc)
 
+why_left : (field : ℕ) (terms : Terms) (e : QueryParserError) → IsWhyRefused (refused terms) e → IsWhyRefused (refused (some_left field terms)) e
+why_left field terms e (inl memory) = inl memory
+why_left field (Err f) e (inr why) = inr why
+why_left field (Ok ts) e (inr why) = absurd (cc)
+
+why_of : (refusal : Option QueryParserError) (old new : List PhraseState) (e : QueryParserError) → IsRefusedAs refusal old new e → IsWhyRefused refusal e
+why_of refusal old new e (inl memory) = inl memory
+why_of refusal old new e (inr why) = inr why.0
+
+pub adds_of : (terms : Terms) (entries : List SchemaEntry) (old new : List PhraseState) (r : Result (Unit {0}) QueryParserError) → AddsOrKeeps terms entries old new r → Adds terms entries old new r
+adds_of terms entries old new (Ok done) adds = adds
+adds_of terms entries old new (Err e) why = why_of (refused terms) old new e why
+
 -- a field whose terms are refused
-pub gathers_refused : (q : TextFields) (phrase all : List ℕ) (i field : ℕ) (old now : List PhraseState) (e : QueryParserError) → i < length all → field ≡ get_or all i field → IsGathering q phrase all (drop i all) old now
-    → IsWhyRefused (refused (terms_in_field q field [] phrase)) e → IsWhyRefused (refused (some_default q phrase all)) e
-gathers_refused q phrase all i field old now e inside here g why =
-    why_joined g.found (terms_in_field q field [] phrase) (default_terms q phrase (drop (i + 1) all)) (some_default q phrase all) e
-    (some_defaults q phrase all i inside ∙ g.whole ∙ ap (λ (fields : List ℕ). joined_terms (Ok g.found) (default_terms q phrase fields)) (field_at all i field inside here)) why
+pub gathers_refused : (q : TextFields) (phrase all : List ℕ) (i field : ℕ) (old now new : List PhraseState) (e : QueryParserError) → i < length all → field ≡ get_or all i field → IsGathering q phrase all (drop i all) old now
+    → IsRefusedAs (refused (left_out (terms_in_field q field [] phrase))) now new e → IsWhyRefused (refused (some_default q phrase all)) e
+gathers_refused q phrase all i field old now new e inside here g why =
+    subst (λ (terms : Terms). IsWhyRefused (refused terms) e) (sym (some_defaults q phrase all i inside))
+    (why_left (get_or all 0 0) (default_terms q phrase all) e
+    (why_joined g.found (left_out (terms_in_field q field [] phrase)) (default_terms q phrase (drop (i + 1) all)) (default_terms q phrase all) e
+    (g.whole ∙ ap (λ (fields : List ℕ). joined_terms (Ok g.found) (default_terms q phrase fields)) (field_at all i field inside here)) (why_of _ now new e why)))
+
+gathered : (q : TextFields) (phrase all : List ℕ) (i : ℕ) (old now : List PhraseState) → length all ≤ i → (g : IsGathering q phrase all (drop i all) old now) → default_terms q phrase all ≡ Ok g.found
+gathered q phrase all i old now end g =
+    g.whole ∙ ap (λ (fields : List ℕ). joined_terms (Ok g.found) (default_terms q phrase fields)) (drop_all i all end) ∙ ap (λ (ps : List PhraseState). Ok ps) (append-nil g.found)
+
+left_some : (field : ℕ) (found old now : List PhraseState) → now ≡ old ++ found → (length now ≡ length old → ⊥) → some_left field (Ok found) ≡ Ok found
+left_some field [] old now is more = absurd (more (ap (λ (ps : List PhraseState). length ps) (is ∙ append-nil old)))
+left_some field (t ∷ ts) old now is more = refl
 
 -- all fields were looked at
-pub gathers_all : (q : TextFields) (phrase all : List ℕ) (i : ℕ) (old now : List PhraseState) → 0 < length all → length all ≤ i → IsGathering q phrase all (drop i all) old now → Adds (some_default q phrase all) q.entries old now (Ok tt)
-gathers_all q phrase all i old now some end g =
-    (g.found, some_defaults q phrase all 0 some ∙ g.whole ∙ ap (λ (fields : List ℕ). joined_terms (Ok g.found) (default_terms q phrase fields)) (drop_all i all end) ∙ ap (λ (ps : List PhraseState). Ok ps) (append-nil g.found), g.now_is, g.within)
+pub gathers_all : (q : TextFields) (phrase all : List ℕ) (i : ℕ) (old now : List PhraseState) → 0 < length all → length all ≤ i → (length now ≡ length old → ⊥) → IsGathering q phrase all (drop i all) old now → Adds (some_default q phrase all) q.entries old now (Ok tt)
+gathers_all q phrase all i old now some end more g =
+    (g.found, some_defaults q phrase all 0 some ∙ ap (some_left (get_or all 0 0)) (gathered q phrase all i old now end g) ∙ left_some (get_or all 0 0) g.found old now g.now_is more, g.now_is, g.within)
+
+none_found : (found old now : List PhraseState) → now ≡ old ++ found → length now ≡ length old → found ≡ []
+none_found [] old now is same = refl
+none_found (t ∷ ts) old now is same = absurd (omega (arith, same, ap (λ (ps : List PhraseState). length ps) is, length-append old (t ∷ ts)))
+
+-- all of them are left out
+pub gathers_nothing : (q : TextFields) (phrase all : List ℕ) (i first : ℕ) (old now : List PhraseState) → 0 < length all → length all ≤ i → length now ≡ length old → first ≡ get_or all 0 0 → IsGathering q phrase all (drop i all) old now
+    → IsWhyRefused (refused (some_default q phrase all)) (errors.FieldDoesNotHavePositionsIndexed first)
+gathers_nothing q phrase all i first old now some end same first_is g =
+    let none = none_found g.found old now g.now_is same in
+    let all_left = some_defaults q phrase all 0 some ∙ ap (some_left (get_or all 0 0)) (gathered q phrase all i old now end g ∙ ap (λ (ps : List PhraseState). Ok ps) none) in
+    let why : refused (some_default q phrase all) ≡ Some (errors.FieldDoesNotHavePositionsIndexed first) = ap refused all_left ∙ ap (λ (f : ℕ). Some (errors.FieldDoesNotHavePositionsIndexed f)) (sym first_is) in
+    inr why
+
+left_error : (entries : List SchemaEntry) (terms : Terms) (old new : List PhraseState) (e : QueryParserError) (needs : Bool) → needs_positions e ≡ needs → needs ≡ false → IsRefusedAs (refused terms) old new e → IsRefusedAs (refused (left_out terms)) old new e
+left_error entries terms old new e needs is other (inl memory) = inl memory
+left_error entries (Ok ts) old new e needs is other (inr why) = absurd (let none = why.0 in cc)
+left_error entries (Err f) old new e needs is other (inr why) =
+    let same : f ≡ e = let some = why.0 in cc in
+    inr (ap (λ (g : QueryParserError). refused (left_out (Err g))) same ∙ ap (λ (b : Bool). refused (cond b (Ok []) (Err e))) (is ∙ other), why.1)
+
+-- the terms of a default field that is not left out
+pub left_stays : (terms : Terms) (entries : List SchemaEntry) (old new : List PhraseState) → AddsOrKeeps terms entries old new (Ok tt) → AddsOrKeeps (left_out terms) entries old new (Ok tt)
+left_stays terms entries old new (ts, is, new_is, within) = (ts, ap left_out is, new_is, within)
+
+pub left_stays_refused : (terms : Terms) (entries : List SchemaEntry) (old new : List PhraseState) (e : QueryParserError) → needs_positions e ≡ false → IsRefusedAs (refused terms) old new e → IsRefusedAs (refused (left_out terms)) old new e
+left_stays_refused terms entries old new e is why = left_error entries terms old new e false is refl why
+
+-- a default field that is left out
+pub left_none : (terms : Terms) (entries : List SchemaEntry) (field : ℕ) (old new : List PhraseState) → IsRefusedAs (refused terms) old new (errors.FieldDoesNotHavePositionsIndexed field) → AddsOrKeeps (left_out terms) entries old new (Ok tt)
+left_none terms entries field old new (inl memory) = absurd (cc)
+left_none (Ok ts) entries field old new (inr why) = absurd (let none = why.0 in cc)
+left_none (Err f) entries field old new (inr why) =
+    let same : f ≡ errors.FieldDoesNotHavePositionsIndexed field = let some = why.0 in cc in
+    ([], ap (λ (g : QueryParserError). left_out (Err g)) same, why.1 ∙ sym (append-nil old), refl)
 
 typed_same : (analyze : List ℕ → List Word) (entries : List SchemaEntry) (field : ℕ) (keeps expand_dots : Bool) (path phrase : List ℕ) (t : ValueType)
     → typed_terms (record { analyze = analyze; entries = [] }) field keeps expand_dots path phrase t ≡ typed_terms (record { analyze = analyze; entries = entries }) field keeps expand_dots path phrase t
@@ -128,7 +187,7 @@ within_by : (entries : List SchemaEntry) (field : ℕ) (e : SchemaEntry) (ts : L
 within_by entries field e [] here all = refl
 within_by entries field e (t ∷ ts) here all = rw (phrase_in entries field e t here all.0) (within_by entries field e ts here all.1)
 
-adds_by : (terms : Terms) (entries : List SchemaEntry) (field : ℕ) (e : SchemaEntry) (old new : List PhraseState) (r : Result (Unit {0}) QueryParserError) → slice_get entries field ≡ Some e → AddsIn terms field (has_positions e.option) old new r → Adds terms entries old new r
+adds_by : (terms : Terms) (entries : List SchemaEntry) (field : ℕ) (e : SchemaEntry) (old new : List PhraseState) (r : Result (Unit {0}) QueryParserError) → slice_get entries field ≡ Some e → AddsIn terms field (has_positions e.option) old new r → AddsOrKeeps terms entries old new r
 adds_by terms entries field e old new (Ok done) here (ts, terms_is, new_is, all) = (ts, terms_is, new_is, within_by entries field e ts here all)
 adds_by terms entries field e old new (Err error) here why = why
 
@@ -136,9 +195,9 @@ adds_by terms entries field e old new (Err error) here why = why
 pub entry_adds : (analyze : List ℕ → List Word) (entries : List SchemaEntry) (field : ℕ) (path phrase : List ℕ) (e : SchemaEntry) (t : ValueType) (option : IndexRecordOption) (expand_dots : Bool) (old new : List PhraseState) (r : Result (Unit {0}) QueryParserError)
     → slice_get entries field ≡ Some e → e.is_indexed ≡ true → t ≡ e.value_type → option ≡ e.option → expand_dots ≡ e.expands_dots
     → AddsIn (typed_terms (record { analyze = analyze; entries = [] }) field (has_positions option) expand_dots path phrase t) field (has_positions option) old new r
-    → Adds (terms_in_field (record { analyze = analyze; entries = entries }) field path phrase) entries old new r
+    → AddsOrKeeps (terms_in_field (record { analyze = analyze; entries = entries }) field path phrase) entries old new r
 entry_adds analyze entries field path phrase e t option expand_dots old new r here indexed type_is option_is dots_is adds =
-    subst (λ (terms : Terms). Adds terms entries old new r)
+    subst (λ (terms : Terms). AddsOrKeeps terms entries old new r)
     (typed_same analyze entries field (has_positions e.option) expand_dots path phrase t
     ∙ rw (type_is, dots_is, here, indexed) refl)
     (adds_by _ entries field e old new r here (subst (λ (o : IndexRecordOption). AddsIn (typed_terms (record { analyze = analyze; entries = [] }) field (has_positions o) expand_dots path phrase t) field (has_positions o) old new r) option_is adds))
@@ -174,32 +233,32 @@ pub value_adds : {B : Type 0} (field : ℕ) (keeps : Bool) (key : B → List ℕ
     → IfOk term (λ (t : Option TermState). t ≡ option_map (λ (b : B). record { field = field; value = key b }) read) → OnlyMemory term → IfOk term (λ (t : Option TermState). AddsMaybe t error old new r) → IfErr term (λ (fault : Fault). r ≡ Err (errors.Fault fault))
     → AddsIn (value_term field error (option_map key read)) field keeps old new r
 value_adds field keeps key None error (Ok t) old new (Ok done) is memory adds refused = absurd (rw is at adds)
-value_adds field keeps key None error (Ok t) old new (Err e) is memory adds refused = inr (ap (λ (x : QueryParserError). Some x) (sym (rw is at adds)))
+value_adds field keeps key None error (Ok t) old new (Err e) is memory adds refused = let told = rw is at adds in inr (ap (λ (x : QueryParserError). Some x) (sym told.0), told.1)
 value_adds field keeps key (Some b) error (Ok t) old new (Ok done) is memory adds refused = (one_term (record { field = field; value = key b }) ∷ [], refl, (rw is at adds), (alone_in field keeps (record { field = field; value = key b }) refl, tt))
 value_adds field keeps key (Some b) error (Ok t) old new (Err e) is memory adds refused = inl (rw is at adds)
 value_adds field keeps key read error (Err fault) old new (Err e) is memory adds refused = inl (cc)
 value_adds field keeps key read error (Err fault) old new (Ok done) is memory adds refused = absurd (cc)
 
 -- what a text is looked up by is of its field
-text_in : (field : ℕ) (keeps : Bool) (value : Option TermState) (words : Option PhraseState) (ts : List PhraseState) → IfSome value (λ t. t.field ≡ field) → ((p : PhraseState) → words ≡ Some p → IsOfField field p) → text_terms keeps value words ≡ Ok ts
+text_in : (field : ℕ) (keeps : Bool) (value : Option TermState) (words : Option PhraseState) (ts : List PhraseState) → IfSome value (λ t. t.field ≡ field) → ((p : PhraseState) → words ≡ Some p → IsOfField field p) → text_terms field keeps value words ≡ Ok ts
     → AllByRecursion (IsPhraseIn field keeps) ts
 text_in field keeps None None ts of_value of_words is = absurd (cc)
 text_in field keeps (Some v) None ts of_value of_words is = subst (AllByRecursion (IsPhraseIn field keeps)) (ok_is _ ts _ refl is) (alone_in field keeps v of_value, tt)
 text_in field keeps value (Some p) ts of_value of_words is = by (keeps || is_alone p) refl (of_words p refl) value of_value is
   where
-    by : (b : Bool) → (keeps || is_alone p) ≡ b → IsOfField field p → (v : Option TermState) → IfSome v (λ t. t.field ≡ field) → text_terms keeps v (Some p) ≡ Ok ts → AllByRecursion (IsPhraseIn field keeps) ts
+    by : (b : Bool) → (keeps || is_alone p) ≡ b → IsOfField field p → (v : Option TermState) → IfSome v (λ t. t.field ≡ field) → text_terms field keeps v (Some p) ≡ Ok ts → AllByRecursion (IsPhraseIn field keeps) ts
     by true kept of_field None of_v is = subst (AllByRecursion (IsPhraseIn field keeps)) (ok_is _ ts _ refl (rw kept at is)) (record { first = of_field.0; others = of_field.1; kept = kept }, tt)
     by true kept of_field (Some v) of_v is = subst (AllByRecursion (IsPhraseIn field keeps)) (ok_is _ ts _ refl (rw kept at is)) (alone_in field keeps v of_v, (record { first = of_field.0; others = of_field.1; kept = kept }, tt))
     by false kept of_field v of_v is = absurd (let none = rw kept at is in cc)
 
 text_adds : (field : ℕ) (keeps : Bool) (value : Option TermState) (words : Option PhraseState) (old new : List PhraseState) (r : Result (Unit {0}) QueryParserError) → IfSome value (λ t. t.field ≡ field) → ((p : PhraseState) → words ≡ Some p → IsOfField field p)
-    → AddsText keeps value words old new r → AddsIn (text_terms keeps value words) field keeps old new r
+    → AddsText field keeps value words old new r → AddsIn (text_terms field keeps value words) field keeps old new r
 text_adds field keeps value words old new (Ok done) of_value of_words (ts, is, new_is) = (ts, is, new_is, text_in field keeps value words ts of_value of_words is)
 text_adds field keeps value words old new (Err e) of_value of_words why = why
 
 -- the terms of a text in a field of texts
 pub str_adds : (q : TextFields) (field : ℕ) (keeps expand_dots : Bool) (path phrase : List ℕ) (old new : List PhraseState) (r : Result (Unit {0}) QueryParserError)
-    → AddsText keeps None (words_phrase (record { field = field; value = [] }) (q.analyze phrase)) old new r → AddsIn (typed_terms q field keeps expand_dots path phrase types.Str) field keeps old new r
+    → AddsText field keeps None (words_phrase (record { field = field; value = [] }) (q.analyze phrase)) old new r → AddsIn (typed_terms q field keeps expand_dots path phrase types.Str) field keeps old new r
 str_adds q field keeps expand_dots path phrase old new r adds = text_adds field keeps None _ old new r tt (words_field (record { field = field; value = [] }) (q.analyze phrase)) adds
 
 value_field : (field : ℕ) (key : List ℕ) (o : Option (List ℕ)) → IfSome (option_map (λ (v : List ℕ). record { field = field; value = key ++ v }) o) (λ (t : TermState). t.field ≡ field)
@@ -209,19 +268,19 @@ value_field field key (Some v) = refl
 -- the terms at a path
 pub json_adds : (q : TextFields) (field : ℕ) (keeps expand_dots : Bool) (path phrase : List ℕ) (start prefix : TermState) (value : Option TermState) (words : Option PhraseState) (old new : List PhraseState) (r : Result (Unit {0}) QueryParserError)
     → has_zero path ≡ false → start ≡ record { field = field; value = path_key expand_dots path } → value ≡ option_map (with_value start) (fast_value_in phrase) → prefix ≡ record { field = start.field; value = start.value ++ text_key [] }
-    → words ≡ words_phrase prefix (q.analyze phrase) → AddsText keeps value words old new r → AddsIn (typed_terms q field keeps expand_dots path phrase types.Json) field keeps old new r
+    → words ≡ words_phrase prefix (q.analyze phrase) → AddsText field keeps value words old new r → AddsIn (typed_terms q field keeps expand_dots path phrase types.Json) field keeps old new r
 json_adds q field keeps expand_dots path phrase start prefix value words old new r no_zero start_is value_is prefix_is words_are adds =
     let at : TermState = record { field = field; value = path_key expand_dots path ++ text_key [] } in
     let prefix_at : prefix ≡ at = rw (prefix_is, start_is) refl in
     let value_at : value ≡ path_value field expand_dots path phrase = rw (value_is, start_is) refl in
     let words_at : words ≡ words_phrase at (q.analyze phrase) = words_are ∙ ap (λ (t : TermState). words_phrase t (q.analyze phrase)) prefix_at in
     let all = text_adds field keeps (path_value field expand_dots path phrase) (words_phrase at (q.analyze phrase)) old new r (value_field field (path_key expand_dots path) (fast_value_in phrase)) (words_field at (q.analyze phrase))
-    (subst (λ (v : Option TermState). AddsText keeps v (words_phrase at (q.analyze phrase)) old new r) value_at (subst (λ (w : Option PhraseState). AddsText keeps value w old new r) words_at adds)) in
+    (subst (λ (v : Option TermState). AddsText field keeps v (words_phrase at (q.analyze phrase)) old new r) value_at (subst (λ (w : Option PhraseState). AddsText field keeps value w old new r) words_at adds)) in
     rw no_zero all
 
--- a path that holds byte 0
-pub zero_refused : (q : TextFields) (field : ℕ) (keeps expand_dots : Bool) (path phrase : List ℕ) → has_zero path ≡ true → IsWhyRefused (refused (typed_terms q field keeps expand_dots path phrase types.Json)) errors.UnsupportedPath
-zero_refused q field keeps expand_dots path phrase has = inr (rw has refl)
+-- a path that has byte 0 in it
+pub zero_refused : (q : TextFields) (field : ℕ) (keeps expand_dots : Bool) (path phrase : List ℕ) (terms : List PhraseState) → has_zero path ≡ true → IsRefusedAs (refused (typed_terms q field keeps expand_dots path phrase types.Json)) terms terms (errors.UnsupportedPath field)
+zero_refused q field keeps expand_dots path phrase terms has = inr (rw has refl, refl)
 
 entry_at : (entries : List SchemaEntry) (i : ℕ) (e : SchemaEntry) → slice_get entries i ≡ Some e → drop i entries ≡ e ∷ drop (i + 1) entries
 entry_at entries i e here =

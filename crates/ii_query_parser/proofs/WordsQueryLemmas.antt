@@ -1,30 +1,138 @@
--- A query, or a term or a phrase.
-use Rattle.std.proofs.Common.{◌≡◌, ◌∙◌, ℕ, Bool, ◌&&◌, ◌||◌, List, Result, Ok, Err, ap}
-use Rattle.std.proofs.Math.Bool.{and_assoc, or_assoc}
-use Rattle.std.specs.Prelude.{IfOk}
+-- The queries of words and phrases in a list, and those of trees.
+use Rattle.std.proofs.Common.{◌≡◌, ◌∙◌, ℕ, Bool, true, ◌&&◌, ◌||◌, List, [], ◌∷◌, ◌++◌, append_assoc, length, map, Option, None, Vec, Global, inl, inr, refl, sym, ap, subst}
+use Rattle.std.proofs.Math.Bool.{and-true, and_assoc, or-false, or_assoc}
+use Rattle.std.proofs.lemmas.List.{append-nil}
+use Rattle.std.proofs.lemmas.List.Folds.{list_all-append, list_any-append}
+use Rattle.std.specs.List.{list_all, list_any}
+use Rattle.std.specs.Option.{option_or}
 use Rattle.ii_base.specs.Schema.{SchemaEntry}
 use Rattle.ii_definitions.specs.Tokens.{IndexToken}
+use Rattle.ii_query_grammar.specs.Trees.{Asts, all_of, and_asts, any_of, ast_of, asts_from, no_asts}
+use Rattle.ii_query_grammar.specs.declared.user_input_ast.UserInputAst.{UserInputAst}
 use Rattle.ii_query_parser.specs.declared.query.Query.{Query}
-use Rattle.ii_query_parser.specs.Queries.{has_fields, keeps_positions, matches}
+use Rattle.ii_query_parser.specs.declared.query.Query.TheVariants.{And, Or}
+use Rattle.ii_query_parser.specs.declared.query_parser_error.QueryParserError.{QueryParserError}
+use Rattle.ii_query_parser.specs.Queries.{has_fields, has_tree, keeps_positions, matches, trees_of}
+use Rattle.ii_query_parser.specs.QueryTexts.{HasPushed, IsWhyRefused, MeanEach, Means, PhraseState, QueryFields, all_match, any_matches, are_some, ast_refusal, asts_refusal, has_term, has_words, phrase_kept, phrase_within}
+use Rattle.ii_query_parser.proofs.QueryLemmas.{and_fields, and_matches, and_positions, or_fields, or_matches, or_positions}
 
-pub or_matches : {E : Type 0} (r : Result Query E) (first other : Query) (has : List IndexToken → ℕ → Bool) → IfOk r (λ (both : Query). (ts : List IndexToken) (doc : ℕ) → matches both ts doc ≡ (matches first ts doc || matches other ts doc))
-    → ((ts : List IndexToken) (doc : ℕ) → matches other ts doc ≡ has ts doc) → IfOk r (λ (both : Query). (ts : List IndexToken) (doc : ℕ) → matches both ts doc ≡ (matches first ts doc || has ts doc))
-or_matches (Ok both) first other has both_is other_is = λ ts doc. both_is ts doc ∙ ap (λ (b : Bool). matches first ts doc || b) (other_is ts doc)
-or_matches (Err e) first other has both_is other_is = tt
+-- a query at the end of a list
+pub pushed_any : (old new : List Query) (query : Query) (test : Query → Bool) (has : Bool) → new ≡ old ++ query ∷ [] → test query ≡ has → list_any test new ≡ (list_any test old || has)
+pushed_any old new query test has is same = ap (list_any test) is ∙ list_any-append test old (query ∷ []) ∙ ap (λ (b : Bool). list_any test old || b) (or-false (test query) ∙ same)
 
-pub or_fields : {E : Type 0} (r : Result Query E) (first other : Query) (has : ℕ → Bool) → IfOk r (λ (both : Query). (n : ℕ) → has_fields n both ≡ (has_fields n first && has_fields n other))
-    → ((n : ℕ) → has_fields n other ≡ has n) → IfOk r (λ (both : Query). (n : ℕ) → has_fields n both ≡ (has_fields n first && has n))
-or_fields (Ok both) first other has both_is other_is = λ n. both_is n ∙ ap (λ (b : Bool). has_fields n first && b) (other_is n)
-or_fields (Err e) first other has both_is other_is = tt
+pub pushed_all : (old new : List Query) (query : Query) (test : Query → Bool) (has : Bool) → new ≡ old ++ query ∷ [] → test query ≡ has → list_all test new ≡ (list_all test old && has)
+pushed_all old new query test has is same = ap (list_all test) is ∙ list_all-append test old (query ∷ []) ∙ ap (λ (b : Bool). list_all test old && b) (and-true (test query) ∙ same)
 
-pub or_positions : {E : Type 0} (r : Result Query E) (first other : Query) (has : List SchemaEntry → Bool) → IfOk r (λ (both : Query). (entries : List SchemaEntry) → keeps_positions entries both ≡ (keeps_positions entries first && keeps_positions entries other))
-    → ((entries : List SchemaEntry) → keeps_positions entries other ≡ has entries) → IfOk r (λ (both : Query). (entries : List SchemaEntry) → keeps_positions entries both ≡ (keeps_positions entries first && has entries))
-or_positions (Ok both) first other has both_is other_is = λ entries. both_is entries ∙ ap (λ (b : Bool). keeps_positions entries first && b) (other_is entries)
-or_positions (Err e) first other has both_is other_is = tt
+pub pushes : (old new : List Query) (query : Query) (words : PhraseState) → new ≡ old ++ query ∷ [] → ((ts : List IndexToken) (doc : ℕ) → matches query ts doc ≡ has_words ts doc words.first words.others)
+    → ((n : ℕ) → has_fields n query ≡ phrase_within n words) → ((entries : List SchemaEntry) → keeps_positions entries query ≡ phrase_kept entries words) → HasPushed old new words
+pushes old new query words is means fields positions = record {
+  found = λ ts doc. pushed_any old new query (λ (q : Query). matches q ts doc) (has_words ts doc words.first words.others) is (means ts doc);
+  within = λ n. pushed_all old new query (has_fields n) (phrase_within n words) is (fields n);
+  kept = λ entries. pushed_all old new query (keeps_positions entries) (phrase_kept entries words) is (positions entries);
+}
 
--- one query more of several
-pub and_on : (a q r all whole : Bool) → whole ≡ (a && q) → (a && (q && r)) ≡ all → (whole && r) ≡ all
+-- The queries of some terms and phrases, and the others, are those of all.
+pub record IsCollecting (queries : List Query) (left all : List PhraseState) : Type 0 where
+  pub found : (ts : List IndexToken) (doc : ℕ) → (list_any (λ (q : Query). matches q ts doc) queries || has_term ts doc left) ≡ has_term ts doc all
+  pub within : (n : ℕ) → (list_all (has_fields n) queries && list_all (phrase_within n) left) ≡ list_all (phrase_within n) all
+  pub kept : (entries : List SchemaEntry) → (list_all (keeps_positions entries) queries && list_all (phrase_kept entries) left) ≡ list_all (phrase_kept entries) all
+
+pub collects_none : (all : List PhraseState) → IsCollecting [] all all
+collects_none all = record { found = λ ts doc. refl; within = λ n. refl; kept = λ entries. refl }
+
+or_on : (a q r all whole : Bool) → whole ≡ (a || q) → (a || (q || r)) ≡ all → (whole || r) ≡ all
+or_on a q r all whole is left = ap (λ (b : Bool). b || r) is ∙ or_assoc a q r ∙ left
+
+and_on : (a q r all whole : Bool) → whole ≡ (a && q) → (a && (q && r)) ≡ all → (whole && r) ≡ all
 and_on a q r all whole is left = ap (λ (b : Bool). b && r) is ∙ and_assoc a q r ∙ left
 
-pub or_on : (a q r all whole : Bool) → whole ≡ (a || q) → (a || (q || r)) ≡ all → (whole || r) ≡ all
-or_on a q r all whole is left = ap (λ (b : Bool). b || r) is ∙ or_assoc a q r ∙ left
+pub collects_more : (old new : List Query) (words : PhraseState) (left here all : List PhraseState) → here ≡ words ∷ left → HasPushed old new words → IsCollecting old here all → IsCollecting new left all
+collects_more old new words left here all is pushed i = record {
+  found = λ ts doc. or_on (list_any (λ (q : Query). matches q ts doc) old) (has_words ts doc words.first words.others) (has_term ts doc left) (has_term ts doc all) _ (pushed.found ts doc) (ap (λ (ps : List PhraseState). list_any (λ (q : Query). matches q ts doc) old || has_term ts doc ps) (sym is) ∙ i.found ts doc);
+  within = λ n. and_on (list_all (has_fields n) old) (phrase_within n words) (list_all (phrase_within n) left) (list_all (phrase_within n) all) _ (pushed.within n) (ap (λ (ps : List PhraseState). list_all (has_fields n) old && list_all (phrase_within n) ps) (sym is) ∙ i.within n);
+  kept = λ entries. and_on (list_all (keeps_positions entries) old) (phrase_kept entries words) (list_all (phrase_kept entries) left) (list_all (phrase_kept entries) all) _ (pushed.kept entries) (ap (λ (ps : List PhraseState). list_all (keeps_positions entries) old && list_all (phrase_kept entries) ps) (sym is) ∙ i.kept entries);
+}
+
+pub collected_any : (queries : List Query) (all : List PhraseState) → IsCollecting queries [] all → (ts : List IndexToken) (doc : ℕ) → list_any (λ (q : Query). matches q ts doc) queries ≡ has_term ts doc all
+collected_any queries all i ts doc = sym (or-false (list_any (λ (q : Query). matches q ts doc) queries)) ∙ i.found ts doc
+
+pub collected_within : (queries : List Query) (all : List PhraseState) → IsCollecting queries [] all → (n : ℕ) → list_all (has_fields n) queries ≡ list_all (phrase_within n) all
+collected_within queries all i n = sym (and-true (list_all (has_fields n) queries)) ∙ i.within n
+
+pub collected_kept : (queries : List Query) (all : List PhraseState) → IsCollecting queries [] all → (entries : List SchemaEntry) → list_all (keeps_positions entries) queries ≡ list_all (phrase_kept entries) all
+collected_kept queries all i entries = sym (and-true (list_all (keeps_positions entries) queries)) ∙ i.kept entries
+
+-- What holds of each of some queries.
+record EachMeans (q : QueryFields) (us : Asts) (queries : List Query) : Type 0 where
+  taken : asts_refusal q us ≡ None
+  some : (has_tree (trees_of queries)) ≡ are_some us
+  each : (ts : List IndexToken) (doc : ℕ) → list_all (λ (x : Query). matches x ts doc) queries ≡ all_match q us ts doc
+  any : (ts : List IndexToken) (doc : ℕ) → list_any (λ (x : Query). matches x ts doc) queries ≡ any_matches q us ts doc
+  fields : list_all (has_fields (length q.texts.entries)) queries ≡ true
+  positions : list_all (keeps_positions q.texts.entries) queries ≡ true
+
+each_means : (q : QueryFields) (us : Asts) (queries : List Query) → MeanEach q us queries → EachMeans q us queries
+each_means q no_asts [] mean = record { taken = refl; some = refl; each = λ ts doc. refl; any = λ ts doc. refl; fields = refl; positions = refl }
+each_means q no_asts (x ∷ xs) mean = absurd mean
+each_means q (and_asts a us) [] mean = absurd mean
+each_means q (and_asts a us) (x ∷ xs) (here, mean) =
+    let later = each_means q us xs mean in
+    record {
+      taken = rw (here.taken, later.taken) refl;
+      some = refl;
+      each = λ ts doc. rw (here.exact ts doc, later.each ts doc) refl;
+      any = λ ts doc. rw (here.exact ts doc, later.any ts doc) refl;
+      fields = rw (here.fields, later.fields) refl;
+      positions = rw (here.positions, later.positions) refl;
+    }
+
+-- the query that matches what all match
+pub and_means : (q : QueryFields) (us : Asts) (queries : Vec Query Global) → MeanEach q us queries.items → Means q (all_of us) (And queries)
+and_means q us queries mean =
+    let all = each_means q us queries.items mean in
+    record {
+      taken = all.taken;
+      exact = λ ts doc. and_matches queries ts doc ∙ ap (λ (b : Bool). b && list_all (λ (x : Query). matches x ts doc) queries.items) all.some ∙ ap (λ (b : Bool). are_some us && b) (all.each ts doc);
+      fields = and_fields (length q.texts.entries) queries ∙ all.fields;
+      positions = and_positions q.texts.entries queries ∙ all.positions;
+    }
+
+-- the query that matches what one of them matches
+pub or_means : (q : QueryFields) (us : Asts) (queries : Vec Query Global) → MeanEach q us queries.items → Means q (any_of us) (Or queries)
+or_means q us queries mean =
+    let all = each_means q us queries.items mean in
+    record {
+      taken = all.taken;
+      exact = λ ts doc. or_matches queries ts doc ∙ all.any ts doc;
+      fields = or_fields (length q.texts.entries) queries ∙ all.fields;
+      positions = or_positions q.texts.entries queries ∙ all.positions;
+    }
+
+-- the trees of parts
+abbrev pub trees_in : List UserInputAst → Asts
+trees_in parts = asts_from (map ast_of parts)
+
+-- Queries of the first parts, to which those of the parts that are left can be added; no part so far has an error.
+pub record IsReading (q : QueryFields) (parts left : List UserInputAst) (queries : List Query) : Type 0 where
+  pub taken : asts_refusal q (trees_in parts) ≡ asts_refusal q (trees_in left)
+  pub mean : (others : List Query) → MeanEach q (trees_in left) others → MeanEach q (trees_in parts) (queries ++ others)
+
+pub reads_none : (q : QueryFields) (parts : List UserInputAst) → IsReading q parts parts []
+reads_none q parts = record { taken = refl; mean = λ others means. means }
+
+pub reads_more : (q : QueryFields) (parts left here : List UserInputAst) (part : UserInputAst) (old new : List Query) (query : Query) → here ≡ part ∷ left → Means q (ast_of part) query → new ≡ old ++ query ∷ [] → IsReading q parts here old → IsReading q parts left new
+reads_more q parts left here part old new query is means new_is i = record {
+  taken = i.taken ∙ ap (λ (ps : List UserInputAst). asts_refusal q (trees_in ps)) is ∙ ap (λ (r : Option QueryParserError). option_or r (asts_refusal q (trees_in left))) means.taken;
+  mean = λ others mean.
+      subst (λ (xs : List Query). MeanEach q (trees_in parts) xs) (sym (append_assoc old (query ∷ []) others) ∙ ap (λ (xs : List Query). xs ++ others) (sym new_is))
+      (i.mean (query ∷ others) (subst (λ (ps : List UserInputAst). MeanEach q (trees_in ps) (query ∷ others)) (sym is) (means, mean)));
+}
+
+pub reads_all : (q : QueryFields) (parts left : List UserInputAst) (queries : List Query) → left ≡ [] → IsReading q parts left queries → MeanEach q (trees_in parts) queries
+reads_all q parts left queries is i =
+    subst (λ (xs : List Query). MeanEach q (trees_in parts) xs) (append-nil queries) (i.mean [] (subst (λ (ps : List UserInputAst). MeanEach q (trees_in ps) []) (sym is) tt))
+
+pub reads_refused : (q : QueryFields) (parts left here : List UserInputAst) (part : UserInputAst) (queries : List Query) (e : QueryParserError) → here ≡ part ∷ left → IsReading q parts here queries → IsWhyRefused (ast_refusal q (ast_of part)) e → IsWhyRefused (asts_refusal q (trees_in parts)) e
+reads_refused q parts left here part queries e is i (inl memory) = inl memory
+reads_refused q parts left here part queries e is i (inr why) =
+    inr (i.taken ∙ ap (λ (ps : List UserInputAst). asts_refusal q (trees_in ps)) is ∙ ap (λ (r : Option QueryParserError). option_or r (asts_refusal q (trees_in left))) why)

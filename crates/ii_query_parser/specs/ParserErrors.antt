@@ -1,11 +1,28 @@
--- Why a text wasn't taken as a query.
+-- Why a text was not taken as a query.
+use Rattle.std.specs.Prelude.{ℕ, Option, None, Some}
 use Rattle.ii_io.specs.declared.faults.Fault.TheVariants as faults
 use Rattle.ii_query_grammar.specs.declared.parse_error.ParseError.{ParseError}
-use Rattle.ii_query_grammar.specs.declared.parse_error.ParseError.TheVariants.{OutOfMemory, Syntax}
+use Rattle.ii_query_grammar.specs.declared.parse_error.ParseError.TheVariants.{OutOfMemory, Syntax, Unsupported}
 use Rattle.ii_query_parser.specs.declared.query_parser_error.QueryParserError.{QueryParserError}
 use Rattle.ii_query_parser.specs.declared.query_parser_error.QueryParserError.TheVariants as errors
 
--- the error of a text that isn't read
+-- the error of a text that is not read
 abbrev pub as_parser_error : ParseError → QueryParserError
-as_parser_error (Syntax wanted at) = errors.SyntaxError wanted at
+as_parser_error (Syntax expected at) = errors.SyntaxError expected at
+as_parser_error (Unsupported feature at) = errors.Unsupported feature at
 as_parser_error OutOfMemory = errors.Fault faults.OutOfMemory
+
+-- the field of a schema that an error concerns, if there is one
+abbrev pub field_of : QueryParserError → Option ℕ
+field_of (errors.SyntaxError expected at) = None
+field_of (errors.Unsupported feature at) = None
+field_of errors.FieldDoesNotExist = None
+field_of (errors.FieldNotIndexed field) = Some field
+field_of errors.NoDefaultFieldDeclared = None
+field_of (errors.ExpectedInt field) = Some field
+field_of (errors.ExpectedBool field) = Some field
+field_of (errors.UnsupportedPhrase field) = Some field
+field_of (errors.FieldDoesNotHavePositionsIndexed field) = Some field
+field_of (errors.UnsupportedPath field) = Some field
+field_of (errors.UnsupportedType field) = Some field
+field_of (errors.Fault fault) = None

@@ -16,7 +16,7 @@ use Rattle.ii_query_parser.specs.declared.query.PhraseTerm.{PhraseTerm}
 abbrev pub is_token_of : TermState → ℕ → IndexToken → Bool
 is_token_of term doc t = (t.doc == doc) && is_at term.field term.value t
 
--- whether the tokens of a key are of texts, so that each has a position: so many say so whose first one is
+-- whether the tokens of a key are of texts, so that each has a position: whether the first one is
 abbrev pub are_of_texts : List IndexToken → Bool
 are_of_texts [] = false
 are_of_texts (t ∷ ts) = t.of_text
@@ -29,11 +29,11 @@ is_text_key term ts = are_of_texts (tokens_at term.field term.value ts)
 abbrev pub stands_at : List IndexToken → ℕ → TermState → ℕ → Bool
 stands_at ts doc term position = is_text_key term ts && list_any (λ (t : IndexToken). is_token_of term doc t && (t.position == position)) ts
 
--- whether each other term of a phrase stands in a document at its distance from a place
+-- whether each other term of a phrase occurs in a document at its distance from a position
 abbrev pub follow : List IndexToken → ℕ → List PhraseTerm → ℕ → Bool
 follow ts doc others start = list_all (λ (o : PhraseTerm). stands_at ts doc o.term (start + o.distance)) others
 
--- whether a document has a phrase: a token of its first term, from which each other term stands at its distance
+-- whether a document has a phrase: a token of its first term, from which each other term occurs at its distance
 abbrev pub has_phrase : List IndexToken → ℕ → TermState → List PhraseTerm → Bool
 has_phrase ts doc first others = is_text_key first ts && list_any (λ (t : IndexToken). is_token_of first doc t && follow ts doc others t.position) ts
 

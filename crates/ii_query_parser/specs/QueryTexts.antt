@@ -1,8 +1,9 @@
 -- What the text of a query means, by the fields of a schema.
-use Rattle.std.specs.Prelude.{◌≡◌, ◌⊎◌, ℕ, Bool, true, false, ◌&&◌, ◌||◌, ◌==◌, ◌+◌, ◌-◌, not, List, [], ◌∷◌, ◌++◌, Option, None, Some, Result, Ok, Err, bytes_eq, drop, if◌then◌else◌, length, map, nat_eq, nat_le, nat_lt, option_map, position, slice_get, take}
+use Rattle.std.specs.Prelude.{◌≡◌, ◌⊎◌, ℕ, Bool, true, false, ◌&&◌, ◌||◌, ◌==◌, ◌+◌, ◌-◌, not, List, [], ◌∷◌, ◌++◌, Option, None, Some, Result, Ok, Err, bytes_eq, drop, if◌then◌else◌, length, map, nat_eq, nat_le, nat_lt, option_map, position, slice_get, take, Vec}
 use Rattle.std.specs.Borrow.{Bor}
 use Rattle.std.specs.List.{AllByRecursion, list_all, list_any, position_from}
 use Rattle.std.specs.Option.{option_or, option_to_list}
+use Rattle.std.specs.declared.alloc.Global.{Global}
 use Rattle.ii_io.specs.declared.faults.Fault.TheVariants.{OutOfMemory}
 use Rattle.ii_base.specs.Options.{has_positions}
 use Rattle.ii_base.specs.Paths.{has_zero, path_bytes, segments_of}
@@ -15,21 +16,23 @@ use Rattle.ii_base.specs.declared.schema.value_type.ValueType.TheVariants as typ
 use Rattle.ii_json.specs.FastValues.{bool_in, fast_value_in, i64_in, u64_in}
 use Rattle.ii_definitions.specs.JsonKeys.{is_json}
 use Rattle.ii_definitions.specs.Tokens.{IndexToken}
-use Rattle.ii_query_grammar.specs.Parsed.{SyntaxError, parsed}
-use Rattle.ii_query_grammar.specs.Trees.{Ast, Literal, both, either, leaf, without}
-use Rattle.ii_query_grammar.specs.declared.query_grammar.TheConstants.{MAX_LEXEMES}
+use Rattle.ii_query_grammar.specs.Parsed.{parsed}
+use Rattle.ii_query_grammar.specs.Trees.{Ast, Asts, Literal, all_of, and_asts, any_of, leaf, no_asts, without}
+use Rattle.ii_query_grammar.specs.declared.parse_error.ParseError.{ParseError}
+use Rattle.ii_query_grammar.specs.declared.query_grammar.TheConstants.{MAX_NESTING}
 use Rattle.ii_query_parser.specs.Queries.{has_fields, has_phrase, has_positions_in, is_token_of, keeps_positions, matches}
+use Rattle.ii_query_parser.specs.ParserErrors.{as_parser_error}
 use Rattle.ii_query_parser.specs.declared.query.PhraseTerm.{PhraseTerm}
 use Rattle.ii_query_parser.specs.declared.query.Query.{Query}
 use Rattle.ii_query_parser.specs.declared.query_parser_error.QueryParserError.{QueryParserError}
 use Rattle.ii_query_parser.specs.declared.query_parser_error.QueryParserError.TheVariants as errors
 
--- What words are looked up by: an analyzer, and the fields of a schema.
+-- An analyzer and the fields of a schema, by which words are looked up.
 pub record TextFields : Type 0 where
   pub analyze : List ℕ → List Word
   pub entries : List SchemaEntry
 
--- Those, and the fields that are meant where none is named.
+-- An analyzer and the fields of a schema, and the default fields: those of a literal that names none.
 pub record QueryFields : Type 0 where
   pub texts : TextFields
   pub defaults : List ℕ
@@ -47,23 +50,23 @@ one_term t = record { first = t; others = [] }
 abbrev pub is_alone : PhraseState → Bool
 is_alone p = nat_eq (length p.others) 0
 
--- the terms and phrases of a word or a phrase, of which a document has to have one, or why it has none
+-- the terms and phrases of a literal, of which a document has to have one, or the error of the literal
 abbrev pub Terms : Type 0
 Terms = Result (List PhraseState) QueryParserError
 
--- the term of a word behind a prefix
+-- the term of a word after a prefix
 abbrev pub word_term : TermState → List ℕ → TermState
 word_term prefix word = record { field = prefix.field; value = prefix.value ++ word }
 
--- whether words stand at a place or after it, less than 2^32 positions
+-- whether words are at a position or less than 2^32 positions after it
 abbrev pub stand_after : ℕ → List Word → Bool
 stand_after first ws = list_all (λ (w : Word). nat_le first w.position && nat_lt (w.position - first) 4294967296) ws
 
--- words behind a prefix, each with how far it stands after a place
+-- the terms of words after a prefix, each with its distance from a position
 abbrev pub terms_after : TermState → ℕ → List Word → List PhraseTerm
 terms_after prefix first ws = map (λ (w : Word). record { distance = w.position - first; term = word_term prefix w.text }) ws
 
--- the phrase of words behind a prefix: the first one, and the others, none of which stands before it
+-- the phrase of words after a prefix: the first one, and the others, none of which comes before it
 abbrev pub words_phrase : TermState → List Word → Option PhraseState
 words_phrase prefix [] = None
 words_phrase prefix (w ∷ ws) = if stand_after w.position ws then Some (record { first = word_term prefix w.text; others = terms_after prefix w.position ws }) else None
@@ -73,12 +76,12 @@ abbrev pub value_term : ℕ → QueryParserError → Option (List ℕ) → Terms
 value_term field error None = Err error
 value_term field error (Some key) = Ok (one_term (record { field = field; value = key }) ∷ [])
 
--- what a text is looked up by: the term of a value, if there is one, and its words; several words want positions
-abbrev pub text_terms : Bool → Option TermState → Option PhraseState → Terms
-text_terms keeps None None = Err errors.UnsupportedPhrase
-text_terms keeps (Some value) None = Ok (one_term value ∷ [])
-text_terms keeps value (Some words) =
-    if keeps || is_alone words then Ok (map one_term (option_to_list value) ++ words ∷ []) else Err errors.FieldDoesNotHavePositionsIndexed
+-- the terms that a text is looked up by in a field: that of a value, if there is one, and its words; several words need positions
+abbrev pub text_terms : ℕ → Bool → Option TermState → Option PhraseState → Terms
+text_terms field keeps None None = Err (errors.UnsupportedPhrase field)
+text_terms field keeps (Some value) None = Ok (one_term value ∷ [])
+text_terms field keeps value (Some words) =
+    if keeps || is_alone words then Ok (map one_term (option_to_list value) ++ words ∷ []) else Err (errors.FieldDoesNotHavePositionsIndexed field)
 
 -- the bytes of a path and their end
 abbrev pub path_key : Bool → List ℕ → List ℕ
@@ -90,27 +93,27 @@ path_value field expand_dots path phrase = option_map (λ value. record { field 
 
 -- the terms of a text in a field, by what the field keeps and by the type of its values
 abbrev pub typed_terms : TextFields → ℕ → Bool → Bool → List ℕ → List ℕ → ValueType → Terms
-typed_terms q field keeps expand_dots path phrase types.Str = text_terms keeps None (words_phrase (record { field = field; value = [] }) (q.analyze phrase))
-typed_terms q field keeps expand_dots path phrase types.U64 = value_term field errors.ExpectedInt (option_map u64_bytes (u64_in phrase))
-typed_terms q field keeps expand_dots path phrase types.I64 = value_term field errors.ExpectedInt (option_map (λ n. u64_bytes (flipped n)) (i64_in phrase))
-typed_terms q field keeps expand_dots path phrase types.Bool = value_term field errors.ExpectedBool (option_map (λ b. u64_bytes (number_of_bool b)) (bool_in phrase))
-typed_terms q field keeps expand_dots path phrase types.Date = Err errors.UnsupportedType
-typed_terms q field keeps expand_dots path phrase types.Bytes = Err errors.UnsupportedType
-typed_terms q field keeps expand_dots path phrase types.IpAddr = Err errors.UnsupportedType
+typed_terms q field keeps expand_dots path phrase types.Str = text_terms field keeps None (words_phrase (record { field = field; value = [] }) (q.analyze phrase))
+typed_terms q field keeps expand_dots path phrase types.U64 = value_term field (errors.ExpectedInt field) (option_map u64_bytes (u64_in phrase))
+typed_terms q field keeps expand_dots path phrase types.I64 = value_term field (errors.ExpectedInt field) (option_map (λ n. u64_bytes (flipped n)) (i64_in phrase))
+typed_terms q field keeps expand_dots path phrase types.Bool = value_term field (errors.ExpectedBool field) (option_map (λ b. u64_bytes (number_of_bool b)) (bool_in phrase))
+typed_terms q field keeps expand_dots path phrase types.Date = Err (errors.UnsupportedType field)
+typed_terms q field keeps expand_dots path phrase types.Bytes = Err (errors.UnsupportedType field)
+typed_terms q field keeps expand_dots path phrase types.IpAddr = Err (errors.UnsupportedType field)
 typed_terms q field keeps expand_dots path phrase types.Json =
-    if has_zero path then Err errors.UnsupportedPath
-    else text_terms keeps (path_value field expand_dots path phrase) (words_phrase (record { field = field; value = path_key expand_dots path ++ text_key [] }) (q.analyze phrase))
+    if has_zero path then Err (errors.UnsupportedPath field)
+    else text_terms field keeps (path_value field expand_dots path phrase) (words_phrase (record { field = field; value = path_key expand_dots path ++ text_key [] }) (q.analyze phrase))
 
--- those of an entry of the schema, if it is indexed
+-- the terms of a text in an entry of the schema, if it is indexed
 abbrev pub entry_terms : TextFields → ℕ → List ℕ → List ℕ → Option SchemaEntry → Terms
 entry_terms q field path phrase None = Err errors.FieldDoesNotExist
-entry_terms q field path phrase (Some e) = if e.is_indexed then typed_terms q field (has_positions e.option) e.expands_dots path phrase e.value_type else Err errors.FieldNotIndexed
+entry_terms q field path phrase (Some e) = if e.is_indexed then typed_terms q field (has_positions e.option) e.expands_dots path phrase e.value_type else Err (errors.FieldNotIndexed field)
 
 -- the terms of a text in a field of the schema, at a path where it has JSON values
 abbrev pub terms_in_field : TextFields → ℕ → List ℕ → List ℕ → Terms
 terms_in_field q field path phrase = entry_terms q field path phrase (slice_get q.entries field)
 
--- the field of a name, the first that has it
+-- the first field with a name
 abbrev pub field_named : List SchemaEntry → List ℕ → Option ℕ
 field_named entries name = position_from (λ (e : SchemaEntry). bytes_eq e.name name) 0 entries
 
@@ -124,38 +127,64 @@ abbrev pub path_terms : TextFields → List ℕ → List ℕ → Option ℕ → 
 path_terms q path phrase None = Err errors.FieldDoesNotExist
 path_terms q path phrase (Some field) = if has_json_values (slice_get q.entries field) then terms_in_field q field path phrase else Err errors.FieldDoesNotExist
 
--- those of a name that is cut at its first dot, if it has one
+-- the terms of a text after a name that is cut at its first dot, if it has one
 abbrev pub dotted_terms : TextFields → List ℕ → List ℕ → Option ℕ → Terms
 dotted_terms q name phrase None = Err errors.FieldDoesNotExist
 dotted_terms q name phrase (Some i) = path_terms q (drop (i + 1) name) phrase (field_named q.entries (take i name))
 
--- those of a name: that of a field, or of one of JSON values and a path behind a dot
+-- the terms of a text after a name: that of a field, or that of one of JSON values and a path after a dot
 abbrev pub named_terms : TextFields → List ℕ → List ℕ → Option ℕ → Terms
 named_terms q name phrase (Some field) = terms_in_field q field [] phrase
 named_terms q name phrase None = dotted_terms q name phrase (position (λ b. b == 46) name)
 
--- two lists of terms together, or the first refusal
+-- two lists of terms together, or the first error
 abbrev pub joined_terms : Terms → Terms → Terms
 joined_terms (Err e) other = Err e
 joined_terms (Ok ts) (Err e) = Err e
 joined_terms (Ok ts) (Ok us) = Ok (ts ++ us)
 
--- the terms of a text in each of some fields
+-- whether an error is that of a phrase in a field without positions
+abbrev pub needs_positions : QueryParserError → Bool
+needs_positions (errors.FieldDoesNotHavePositionsIndexed field) = true
+needs_positions (errors.SyntaxError expected at) = false
+needs_positions (errors.Unsupported feature at) = false
+needs_positions errors.FieldDoesNotExist = false
+needs_positions (errors.FieldNotIndexed field) = false
+needs_positions errors.NoDefaultFieldDeclared = false
+needs_positions (errors.ExpectedInt field) = false
+needs_positions (errors.ExpectedBool field) = false
+needs_positions (errors.UnsupportedPhrase field) = false
+needs_positions (errors.UnsupportedPath field) = false
+needs_positions (errors.UnsupportedType field) = false
+needs_positions (errors.Fault fault) = false
+
+-- the terms in a default field: none where it is left out, since a phrase needs positions and the field keeps none
+abbrev pub left_out : Terms → Terms
+left_out (Ok terms) = Ok terms
+left_out (Err e) = if needs_positions e then Ok [] else Err e
+
+-- the terms of a text in each default field, except those that are left out
 abbrev pub default_terms : TextFields → List ℕ → List ℕ → Terms
 default_terms q phrase [] = Ok []
-default_terms q phrase (field ∷ fields) = joined_terms (terms_in_field q field [] phrase) (default_terms q phrase fields)
+default_terms q phrase (field ∷ fields) = joined_terms (left_out (terms_in_field q field [] phrase)) (default_terms q phrase fields)
 
--- those of the fields that are meant, where there is one
+-- the terms in the default fields, where not all of them are left out
+abbrev pub some_left : ℕ → Terms → Terms
+some_left field (Err e) = Err e
+some_left field (Ok []) = Err (errors.FieldDoesNotHavePositionsIndexed field)
+some_left field (Ok (t ∷ ts)) = Ok (t ∷ ts)
+
+-- the terms of a text in the default fields, of which there has to be one
 abbrev pub some_default : TextFields → List ℕ → List ℕ → Terms
 some_default q phrase [] = Err errors.NoDefaultFieldDeclared
-some_default q phrase (field ∷ fields) = default_terms q phrase (field ∷ fields)
+some_default q phrase (field ∷ fields) = some_left field (default_terms q phrase (field ∷ fields))
 
 -- the terms of a word or a phrase
 abbrev pub literal_terms : TextFields → List ℕ → Option (List ℕ) → List ℕ → Terms
 literal_terms q defaults None phrase = some_default q phrase defaults
 literal_terms q defaults (Some name) phrase = named_terms q name phrase (field_named q.entries name)
 
--- those of a word or a phrase of a tree
+-- the terms of a literal of a tree
 abbrev pub terms_of : QueryFields → Literal → Terms
 terms_of q l = literal_terms q.texts q.defaults l.field_name l.phrase
 
@@ -173,58 +202,81 @@ abbrev pub has_one : List IndexToken → ℕ → Terms → Bool
 has_one ts doc (Err e) = false
 has_one ts doc (Ok terms) = has_term ts doc terms
 
--- whether a document matches the tree of a text
-abbrev pub ast_matches : QueryFields → Ast → List IndexToken → ℕ → Bool
-ast_matches q (leaf l) ts doc = has_one ts doc (terms_of q l)
-ast_matches q (both first other) ts doc = ast_matches q first ts doc && ast_matches q other ts doc
-ast_matches q (either first other) ts doc = ast_matches q first ts doc || ast_matches q other ts doc
-ast_matches q (without first other) ts doc = ast_matches q first ts doc && not (ast_matches q other ts doc)
+-- whether there is a tree
+abbrev pub are_some : Asts → Bool
+are_some no_asts = false
+are_some (and_asts t ts) = true
 
--- why a word or a phrase is refused
+-- Whether a document matches the tree of a text; whether it matches each of some trees, of which there has to be one; or any of them.
+abbrev mutual
+  pub ast_matches : QueryFields → Ast → List IndexToken → ℕ → Bool
+  ast_matches q (leaf l) ts doc = has_one ts doc (terms_of q l)
+  ast_matches q (all_of us) ts doc = are_some us && all_match q us ts doc
+  ast_matches q (any_of us) ts doc = any_matches q us ts doc
+  ast_matches q (without first other) ts doc = ast_matches q first ts doc && not (ast_matches q other ts doc)
+
+  pub all_match : QueryFields → Asts → List IndexToken → ℕ → Bool
+  all_match q no_asts ts doc = true
+  all_match q (and_asts a us) ts doc = ast_matches q a ts doc && all_match q us ts doc
+
+  pub any_matches : QueryFields → Asts → List IndexToken → ℕ → Bool
+  any_matches q no_asts ts doc = false
+  any_matches q (and_asts a us) ts doc = ast_matches q a ts doc || any_matches q us ts doc
+
+-- the error of a literal, if it has one
 abbrev pub refused : Terms → Option QueryParserError
 refused (Err e) = Some e
 refused (Ok terms) = None
 
--- why a tree is refused: the first refusal of its words and phrases
-abbrev pub ast_refusal : QueryFields → Ast → Option QueryParserError
-ast_refusal q (leaf l) = refused (terms_of q l)
-ast_refusal q (both first other) = option_or (ast_refusal q first) (ast_refusal q other)
-ast_refusal q (either first other) = option_or (ast_refusal q first) (ast_refusal q other)
-ast_refusal q (without first other) = option_or (ast_refusal q first) (ast_refusal q other)
+-- the error of a tree: that of its first word or phrase that has one
+abbrev mutual
+  pub ast_refusal : QueryFields → Ast → Option QueryParserError
+  ast_refusal q (leaf l) = refused (terms_of q l)
+  ast_refusal q (all_of us) = asts_refusal q us
+  ast_refusal q (any_of us) = asts_refusal q us
+  ast_refusal q (without first other) = option_or (ast_refusal q first) (ast_refusal q other)
 
--- A query means what a tree does, which is refused for nothing.
+  pub asts_refusal : QueryFields → Asts → Option QueryParserError
+  asts_refusal q no_asts = None
+  asts_refusal q (and_asts a us) = option_or (ast_refusal q a) (asts_refusal q us)
+
+-- A query means what a tree does, and the tree has no error.
 pub record Means (q : QueryFields) (ast : Ast) (query : Query) : Type 0 where
   pub taken : ast_refusal q ast ≡ None
   pub exact : (ts : List IndexToken) (doc : ℕ) → matches query ts doc ≡ ast_matches q ast ts doc
   pub fields : has_fields (length q.texts.entries) query ≡ true
   pub positions : keeps_positions q.texts.entries query ≡ true
 
--- Memory was missing, or this is why.
+-- An allocation failed, or this is the error.
 abbrev pub IsWhyRefused : Option QueryParserError → QueryParserError → Type 0
 IsWhyRefused refusal e = (e ≡ errors.Fault OutOfMemory) ⊎ (refusal ≡ Some e)
 
--- A query means what a tree does, or it is refused.
+-- An allocation failed, or this is the error, and the terms are unchanged.
+abbrev pub IsRefusedAs : Option QueryParserError → List PhraseState → List PhraseState → QueryParserError → Type 0
+IsRefusedAs refusal old new e = (e ≡ errors.Fault OutOfMemory) ⊎ ((refusal ≡ Some e) × (new ≡ old))
+
+-- A query means what a tree does, or the tree has this error.
 abbrev pub IsQueryOf : QueryFields → Ast → Result Query QueryParserError → Type 0
 IsQueryOf q ast (Ok query) = Means q ast query
 IsQueryOf q ast (Err e) = IsWhyRefused (ast_refusal q ast) e
 
--- why the tree of a text is refused, or why it has none
-abbrev pub read_refusal : QueryFields → Result Ast SyntaxError → Option QueryParserError
+-- the error of the tree of a text, or the error of the text if it has no tree
+abbrev pub read_refusal : QueryFields → Result Ast ParseError → Option QueryParserError
 read_refusal q (Ok ast) = ast_refusal q ast
-read_refusal q (Err e) = Some (errors.SyntaxError e.wanted e.at)
+read_refusal q (Err e) = Some (as_parser_error e)
 
--- why a text is refused
+-- the error of a text
 abbrev pub text_refusal : QueryFields → List ℕ → Option QueryParserError
-text_refusal q text = read_refusal q (parsed MAX_LEXEMES text)
+text_refusal q text = read_refusal q (parsed MAX_NESTING text)
 
 -- whether a document matches the tree of a text, if it has one
-abbrev pub read_matches : QueryFields → Result Ast SyntaxError → List IndexToken → ℕ → Bool
+abbrev pub read_matches : QueryFields → Result Ast ParseError → List IndexToken → ℕ → Bool
 read_matches q (Ok ast) ts doc = ast_matches q ast ts doc
 read_matches q (Err e) ts doc = false
 
 -- whether a document matches a text
 abbrev pub text_matches : QueryFields → List ℕ → List IndexToken → ℕ → Bool
-text_matches q text ts doc = read_matches q (parsed MAX_LEXEMES text) ts doc
+text_matches q text ts doc = read_matches q (parsed MAX_NESTING text) ts doc
 
 -- A query means what a text does.
 pub record MeansText (q : QueryFields) (text : List ℕ) (query : Query) : Type 0 where
@@ -233,16 +285,16 @@ pub record MeansText (q : QueryFields) (text : List ℕ) (query : Query) : Type 
   pub fields : has_fields (length q.texts.entries) query ≡ true
   pub positions : keeps_positions q.texts.entries query ≡ true
 
--- A query means what a text does, or it is refused.
+-- A query means what a text does, or the text has this error.
 abbrev pub IsQueryOfText : QueryFields → List ℕ → Result Query QueryParserError → Type 0
 IsQueryOfText q text (Ok query) = MeansText q text query
 IsQueryOfText q text (Err e) = IsWhyRefused (text_refusal q text) e
 
--- whether the fields of a phrase are among so many
+-- whether the fields of a phrase are among the first n
 abbrev pub phrase_within : ℕ → PhraseState → Bool
 phrase_within n p = nat_lt p.first.field n && list_all (λ (o : PhraseTerm). nat_lt o.term.field n) p.others
 
--- whether they keep positions, where several terms need them
+-- whether the fields of a phrase keep positions, if it has several terms
 abbrev pub phrase_kept : List SchemaEntry → PhraseState → Bool
 phrase_kept entries p = is_alone p || (has_positions_in entries p.first && list_all (λ (o : PhraseTerm). has_positions_in entries o.term) p.others)
 
@@ -256,34 +308,84 @@ pub record IsPhraseIn (field : ℕ) (keeps : Bool) (p : PhraseState) : Type 0 wh
   pub others : AllByRecursion (λ (o : PhraseTerm). o.term.field ≡ field) p.others
   pub kept : (keeps || is_alone p) ≡ true
 
--- Terms were added, or they are refused.
+-- Terms were added, or this is the error.
 abbrev pub Adds : Terms → List SchemaEntry → List PhraseState → List PhraseState → Result (Unit {0}) QueryParserError → Type 0
 Adds terms entries old new (Ok done) = (ts : List PhraseState) × (terms ≡ Ok ts) × (new ≡ old ++ ts) × (are_in entries ts ≡ true)
 Adds terms entries old new (Err e) = IsWhyRefused (refused terms) e
 
--- Terms of a field were added, or they are refused.
+-- Terms were added, or this is the error, and the terms are unchanged unless an allocation failed.
+abbrev pub AddsOrKeeps : Terms → List SchemaEntry → List PhraseState → List PhraseState → Result (Unit {0}) QueryParserError → Type 0
+AddsOrKeeps terms entries old new (Ok done) = Adds terms entries old new (Ok done)
+AddsOrKeeps terms entries old new (Err e) = IsRefusedAs (refused terms) old new e
+
+-- Terms of a field were added, or this is the error, and the terms are unchanged unless an allocation failed.
 abbrev pub AddsIn : Terms → ℕ → Bool → List PhraseState → List PhraseState → Result (Unit {0}) QueryParserError → Type 0
 AddsIn terms field keeps old new (Ok done) = (ts : List PhraseState) × (terms ≡ Ok ts) × (new ≡ old ++ ts) × AllByRecursion (IsPhraseIn field keeps) ts
-AddsIn terms field keeps old new (Err e) = IsWhyRefused (refused terms) e
+AddsIn terms field keeps old new (Err e) = IsRefusedAs (refused terms) old new e
 
--- A term was added, or there is none.
+-- A term was added, or there is none, and this is the error.
 abbrev pub AddsMaybe : Option TermState → QueryParserError → List PhraseState → List PhraseState → Result (Unit {0}) QueryParserError → Type 0
 AddsMaybe None error old new (Ok done) = ⊥
 AddsMaybe (Some term) error old new (Ok done) = new ≡ old ++ one_term term ∷ []
-AddsMaybe None error old new (Err e) = e ≡ error
+AddsMaybe None error old new (Err e) = (e ≡ error) × (new ≡ old)
 AddsMaybe (Some term) error old new (Err e) = e ≡ errors.Fault OutOfMemory
 
--- What a text is looked up by was added, or it is refused.
-abbrev pub AddsText : Bool → Option TermState → Option PhraseState → List PhraseState → List PhraseState → Result (Unit {0}) QueryParserError → Type 0
-AddsText keeps value words old new (Ok done) = (ts : List PhraseState) × (text_terms keeps value words ≡ Ok ts) × (new ≡ old ++ ts)
-AddsText keeps value words old new (Err e) = IsWhyRefused (refused (text_terms keeps value words)) e
+-- The terms that a text is looked up by were added, or this is the error, and the terms are unchanged unless an allocation failed.
+abbrev pub AddsText : ℕ → Bool → Option TermState → Option PhraseState → List PhraseState → List PhraseState → Result (Unit {0}) QueryParserError → Type 0
+AddsText field keeps value words old new (Ok done) = (ts : List PhraseState) × (text_terms field keeps value words ≡ Ok ts) × (new ≡ old ++ ts)
+AddsText field keeps value words old new (Err e) = IsRefusedAs (refused (text_terms field keeps value words)) old new e
 
 -- A name was cut at its first dot, or has none.
 abbrev pub CutsAtDot : List ℕ → Option (Bor (List ℕ) × Bor (List ℕ)) → Type 0
 CutsAtDot name None = position (λ b. b == 46) name ≡ None
 CutsAtDot name (Some parts) = (i : ℕ) × (position (λ b. b == 46) name ≡ Some i) × (parts.0.now ≡ take i name) × (parts.1.now ≡ drop (i + 1) name)
 
--- The queries of two trees, or the first refusal.
-abbrev pub AreQueriesOfTrees : QueryFields → Ast → Ast → Result (Query × Query) QueryParserError → Type 0
-AreQueriesOfTrees q first other (Ok parts) = Means q first parts.0 × Means q other parts.1
-AreQueriesOfTrees q first other (Err e) = IsWhyRefused (option_or (ast_refusal q first) (ast_refusal q other)) e
+-- Queries mean what trees do, one by one.
+abbrev pub MeanEach : QueryFields → Asts → List Query → Type 0
+MeanEach q no_asts [] = Unit {0}
+MeanEach q no_asts (query ∷ queries) = ⊥
+MeanEach q (and_asts a us) [] = ⊥
+MeanEach q (and_asts a us) (query ∷ queries) = Means q a query × MeanEach q us queries
+
+-- The queries of trees, or the first error.
+abbrev pub AreQueriesOf : QueryFields → Asts → Result (Vec Query Global) QueryParserError → Type 0
+AreQueriesOf q us (Ok queries) = MeanEach q us queries.items
+AreQueriesOf q us (Err e) = IsWhyRefused (asts_refusal q us) e
+
+-- The query of a term or a phrase was added to a list.
+pub record HasPushed (old new : List Query) (words : PhraseState) : Type 0 where
+  pub found : (ts : List IndexToken) (doc : ℕ) → list_any (λ (q : Query). matches q ts doc) new ≡ (list_any (λ (q : Query). matches q ts doc) old || has_words ts doc words.first words.others)
+  pub within : (n : ℕ) → list_all (has_fields n) new ≡ (list_all (has_fields n) old && phrase_within n words)
+  pub kept : (entries : List SchemaEntry) → list_all (keeps_positions entries) new ≡ (list_all (keeps_positions entries) old && phrase_kept entries words)
+
+-- whether a field has JSON values, if there is one
+abbrev pub names_json : List SchemaEntry → Option ℕ → Bool
+names_json entries None = false
+names_json entries (Some field) = has_json_values (slice_get entries field)
+
+-- whether a name is that of a field of JSON values and a path after its first dot, which is at this place
+abbrev pub names_path : List SchemaEntry → List ℕ → Option ℕ → Bool
+names_path entries name None = false
+names_path entries name (Some i) = names_json entries (field_named entries (take i name))
+
+-- whether a name is that of a field, or of one of JSON values and a path after a dot
+abbrev pub names_field : List SchemaEntry → List ℕ → Option ℕ → Bool
+names_field entries name (Some field) = true
+names_field entries name None = names_path entries name (position (λ b. b == 46) name)
+
+-- the name of a literal that is neither
+abbrev pub unknown_name : List SchemaEntry → Option (List ℕ) → Option (List ℕ)
+unknown_name entries None = None
+unknown_name entries (Some name) = if names_field entries name (field_named entries name) then None else Some name
+
+-- the first name in a tree that is neither
+abbrev mutual
+  pub unknown_in : List SchemaEntry → Ast → Option (List ℕ)
+  unknown_in entries (leaf l) = unknown_name entries l.field_name
+  unknown_in entries (all_of us) = unknown_among entries us
+  unknown_in entries (any_of us) = unknown_among entries us
+  unknown_in entries (without first other) = option_or (unknown_in entries first) (unknown_in entries other)
+
+  pub unknown_among : List SchemaEntry → Asts → Option (List ℕ)
+  unknown_among entries no_asts = None
+  unknown_among entries (and_asts a us) = option_or (unknown_in entries a) (unknown_among entries us)

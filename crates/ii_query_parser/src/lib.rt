@@ -6,11 +6,14 @@ mod phrase_words;
 pub mod query;
 pub mod query_parser;
 pub mod query_parser_error;
+mod unknown_field;
 
 pub use ii_query_grammar::{
-    Delimiter, MAX_LEXEMES, ParseError, UserInputAst, UserInputLiteral, Wanted, parse,
+    Delimiter, Expected, Feature, MAX_NESTING, ParseError, UserInputAst, UserInputLiteral,
+    can_name, parse, spell_name,
 };
 pub use literal::field_named;
 pub use query::{PhraseTerm, Query};
 pub use query_parser::{parse_query, query_of};
 pub use query_parser_error::QueryParserError;
+pub use unknown_field::unknown_field_name;

@@ -7,7 +7,7 @@ ghost use Rattle.ii_base.specs.declared.schema.value_type.ValueType.TheVariants 
 ghost use Rattle.ii_json.specs.FastValues.{bool_in, i64_in, u64_in};
 ghost use Rattle.ii_query_grammar.specs.Trees.{literal_of};
 ghost use Rattle.ii_query_parser.specs.declared.query_parser_error.QueryParserError.TheVariants as errors;
-ghost use Rattle.ii_query_parser.specs.QueryTexts.{Adds, AddsIn, AddsMaybe, AddsText, CutsAtDot, field_named, has_json_values, named_terms, some_default, terms_in_field, terms_of, typed_terms, words_phrase};
+ghost use Rattle.ii_query_parser.specs.QueryTexts.{Adds, AddsIn, AddsOrKeeps, AddsMaybe, AddsText, CutsAtDot, field_named, has_json_values, left_out, named_terms, some_default, terms_in_field, terms_of, typed_terms, words_phrase};
 
 use crate::phrase_words::{PhraseWords, words_phrase};
 use crate::query_parser_error::QueryParserError;
@@ -16,7 +16,7 @@ use ii_json::convert_to_fast_value_and_append_to_json_term;
 use ii_query_grammar::UserInputLiteral;
 use std::alloc::Global;
 
-/// Adds the terms of a word or a phrase, of which a document has to have one.
+/// Adds the terms and phrases of a literal: a document matches if it has one of them.
 pub(crate) fn push_literal<A: TextAnalyzer>(
     alloc: Global,
     schema: &Schema,
@@ -34,7 +34,8 @@ pub(crate) fn push_literal<A: TextAnalyzer>(
     }
 }
 
-// Adds those of a text in each of the fields that are meant.
+// Adds the terms of a text in each default field. A field that keeps no positions is left out of a phrase of
+// several words, unless no field is left.
 fn push_defaults<A: TextAnalyzer>(
     alloc: Global,
     schema: &Schema,
@@ -48,16 +49,39 @@ fn push_defaults<A: TextAnalyzer>(
     if default_fields.is_empty() {
         return Err(QueryParserError::NoDefaultFieldDeclared);
     }
+    let before = terms.len();
     for field in default_fields {
-        match push_in_field(alloc, schema, analyzer, *field, "", phrase, terms) {
+        match push_default(alloc, schema, analyzer, *field, phrase, terms) {
             Ok(()) => {}
             Err(error) => return Err(error),
         }
     }
+    if terms.len() == before {
+        return Err(QueryParserError::FieldDoesNotHavePositionsIndexed(default_fields[0]));
+    }
     Ok(())
 }
 
-// Adds those of a text behind a name: that of a field, or of one of JSON values and a path behind a dot.
+// Adds the terms of a text in a default field, unless it is left out.
+fn push_default<A: TextAnalyzer>(
+    alloc: Global,
+    schema: &Schema,
+    analyzer: &A,
+    field: Field,
+    phrase: &str,
+    terms: &mut Vec<PhraseWords>,
+) -> Result<(), QueryParserError>
+    ensures { AddsOrKeeps (left_out (terms_in_field (record { analyze = A.words analyzer.now; entries = schema.now }) field [] phrase.now)) schema.now terms.old.items terms.new.items result }
+{
+    match push_in_field(alloc, schema, analyzer, field, "", phrase, terms) {
+        Ok(()) => Ok(()),
+        Err(QueryParserError::FieldDoesNotHavePositionsIndexed(_)) => Ok(()),
+        Err(error) => Err(error),
+    }
+}
+
+// Adds the terms of a text after a name: that of a field, or that of one of JSON values and a path after a
+// dot.
 fn push_named<A: TextAnalyzer>(
     alloc: Global,
     schema: &Schema,
@@ -66,7 +90,7 @@ fn push_named<A: TextAnalyzer>(
     phrase: &str,
     terms: &mut Vec<PhraseWords>,
 ) -> Result<(), QueryParserError>
-    ensures { Adds (named_terms (record { analyze = A.words analyzer.now; entries = schema.now }) name.now phrase.now (field_named schema.now name.now)) schema.now terms.old.items terms.new.items result }
+    ensures { AddsOrKeeps (named_terms (record { analyze = A.words analyzer.now; entries = schema.now }) name.now phrase.now (field_named schema.now name.now)) schema.now terms.old.items terms.new.items result }
 {
     if let Some(field) = field_named(schema, name) {
         return push_in_field(alloc, schema, analyzer, field, "", phrase, terms);
@@ -83,7 +107,7 @@ fn push_named<A: TextAnalyzer>(
     push_in_field(alloc, schema, analyzer, field, path, phrase, terms)
 }
 
-/// The field of a name, the first that has it.
+/// Returns the first field with this name.
 pub fn field_named(schema: &Schema, name: &str) -> Option<Field>
     ensures named { result ≡ field_named schema.now name.now }
     ensures inside { IfSome result (λ field. field < length schema.now) }
@@ -98,7 +122,7 @@ pub fn field_named(schema: &Schema, name: &str) -> Option<Field>
 }
 
 // Whether a field of the schema has JSON values.
-fn has_json(schema: &Schema, field: Field) -> bool
+pub(crate) fn has_json(schema: &Schema, field: Field) -> bool
     ensures { result ≡ has_json_values (slice_get schema.now field) }
 {
     if field.field_id() as usize >= schema.num_fields() {
@@ -107,8 +131,8 @@ fn has_json(schema: &Schema, field: Field) -> bool
     schema.get_field_entry(field).value_type() == ValueType::Json
 }
 
-// What stands before the first dot of a name, and what stands behind it, if it has one.
-fn cut_at_dot(name: &str) -> Option<(&str, &str)>
+// The text before the first dot of a name and the text after it, if it has one.
+pub(crate) fn cut_at_dot(name: &str) -> Option<(&str, &str)>
     ensures { CutsAtDot name.now result }
 {
     let Some(place) = dot_in(name.as_bytes()) else {
@@ -123,7 +147,7 @@ fn dot_in(name: &[u8]) -> Option<usize>
     name.iter().position(|b| *b == b'.')
 }
 
-// Adds those of a text in a field, at a path of its JSON values where it has these.
+// Adds the terms of a text in a field, at a path if it has JSON values.
 fn push_in_field<A: TextAnalyzer>(
     alloc: Global,
     schema: &Schema,
@@ -133,14 +157,14 @@ fn push_in_field<A: TextAnalyzer>(
     phrase: &str,
     terms: &mut Vec<PhraseWords>,
 ) -> Result<(), QueryParserError>
-    ensures { Adds (terms_in_field (record { analyze = A.words analyzer.now; entries = schema.now }) field path.now phrase.now) schema.now terms.old.items terms.new.items result }
+    ensures { AddsOrKeeps (terms_in_field (record { analyze = A.words analyzer.now; entries = schema.now }) field path.now phrase.now) schema.now terms.old.items terms.new.items result }
 {
     if field.field_id() as usize >= schema.num_fields() {
         return Err(QueryParserError::FieldDoesNotExist);
     }
     let entry = schema.get_field_entry(field);
     if !entry.is_indexed() {
-        return Err(QueryParserError::FieldNotIndexed);
+        return Err(QueryParserError::FieldNotIndexed(field));
     }
     let place = Place {
         field,
@@ -177,25 +201,25 @@ impl Place {
             ValueType::U64 => push_read(
                 alloc,
                 u64_term(alloc, self.field, phrase),
-                QueryParserError::ExpectedInt,
+                QueryParserError::ExpectedInt(self.field),
                 terms,
             ),
             ValueType::I64 => push_read(
                 alloc,
                 i64_term(alloc, self.field, phrase),
-                QueryParserError::ExpectedInt,
+                QueryParserError::ExpectedInt(self.field),
                 terms,
             ),
             ValueType::Bool => push_read(
                 alloc,
                 bool_term(alloc, self.field, phrase),
-                QueryParserError::ExpectedBool,
+                QueryParserError::ExpectedBool(self.field),
                 terms,
             ),
             ValueType::Json => self.push_json(alloc, analyzer, path, phrase, terms),
-            ValueType::Date | ValueType::Bytes | ValueType::IpAddr => Err(
-                QueryParserError::UnsupportedType,
-            ),
+            ValueType::Date | ValueType::Bytes | ValueType::IpAddr => {
+                Err(QueryParserError::UnsupportedType(self.field))
+            }
         }
     }
 
@@ -207,14 +231,14 @@ impl Place {
         phrase: &str,
         terms: &mut Vec<PhraseWords>,
     ) -> Result<(), QueryParserError>
-        ensures { AddsText (has_positions self.option) None (words_phrase (record { field = self.field; value = [] }) (A.words analyzer.now phrase.now)) terms.old.items terms.new.items result }
+        ensures { AddsText self.field (has_positions self.option) None (words_phrase (record { field = self.field; value = [] }) (A.words analyzer.now phrase.now)) terms.old.items terms.new.items result }
     {
         let prefix = Term::from_field_bytes(alloc, self.field, &[])?;
         let words = words_phrase(alloc, analyzer, &prefix, phrase)?;
-        push_words(alloc, self.option, None, words, terms)
+        self.push_words(alloc, None, words, terms)
     }
 
-    // Adds those of a text at a path of JSON values: the value that it is taken for, and its tokens.
+    // Adds the terms of a text at a path of JSON values: the value that it is taken for, and its tokens.
     fn push_json<A: TextAnalyzer>(
         self,
         alloc: Global,
@@ -226,17 +250,58 @@ impl Place {
         ensures { AddsIn (typed_terms (record { analyze = A.words analyzer.now; entries = [] }) self.field (has_positions self.option) self.expand_dots path.now phrase.now types.Json) self.field (has_positions self.option) terms.old.items terms.new.items result }
     {
         if path.as_bytes().contains(&0) {
-            return Err(QueryParserError::UnsupportedPath);
+            return Err(QueryParserError::UnsupportedPath(self.field));
         }
         let start = Term::from_field_json_path(alloc, self.field, path, self.expand_dots)?;
         let value = convert_to_fast_value_and_append_to_json_term(alloc, &start, phrase)?;
         let prefix = text_prefix(start)?;
         let words = words_phrase(alloc, analyzer, &prefix, phrase)?;
-        push_words(alloc, self.option, value, words, terms)
+        self.push_words(alloc, value, words, terms)
+    }
+
+    // Adds the terms that a text is looked up by: that of a value, and the text's words. There has to be one
+    // of them.
+    fn push_words(
+        self,
+        alloc: Global,
+        value: Option<Term>,
+        words: Option<PhraseWords>,
+        terms: &mut Vec<PhraseWords>,
+    ) -> Result<(), QueryParserError>
+        ensures { AddsText self.field (has_positions self.option) value words terms.old.items terms.new.items result }
+    {
+        let Some(words) = words else {
+            return self.push_value(alloc, value, terms);
+        };
+        if !self.option.has_positions() && !words.is_alone() {
+            drop(value);
+            return Err(QueryParserError::FieldDoesNotHavePositionsIndexed(self.field));
+        }
+        if let Some(value) = value {
+            terms.push(PhraseWords::one(alloc, value))?;
+        }
+        Ok(terms.push(words)?)
+    }
+
+    // Adds the term of a value, or returns an error if there is none.
+    fn push_value(
+        self,
+        alloc: Global,
+        value: Option<Term>,
+        terms: &mut Vec<PhraseWords>,
+    ) -> Result<(), QueryParserError>
+        ensures { AddsText self.field (has_positions self.option) value None terms.old.items terms.new.items result }
+    {
+        push_term(
+            alloc,
+            value,
+            QueryParserError::UnsupportedPhrase(self.field),
+            terms,
+        )
     }
 }
 
-// What stands before the words of texts at a path.
+// The prefix of the words of texts at a path.
 fn text_prefix(path: Term) -> Result<Term, Fault>
     ensures ok { IfOk result (λ prefix. prefix ≡ record { field = path.field; value = path.value ++ text_key [] }) }
     ensures only { OnlyMemory result }
@@ -277,7 +342,7 @@ fn bool_term(alloc: Global, field: Field, phrase: &str) -> Result<Option<Term>, 
     }
 }
 
-// What Rust's `parse` takes a text for, at each of three types.
+// The value that Rust's `parse` makes of a text, for each of three types.
 fn u64_in(text: &str) -> Option<u64>
     ensures { result ≡ u64_in text.now }
 {
@@ -296,7 +361,7 @@ fn bool_in(text: &str) -> Option<bool>
     text.parse().ok()
 }
 
-// Adds a term, or tells why there is none.
+// Adds a term, or returns this error if there is none.
 fn push_term(
     alloc: Global,
     term: Option<Term>,
@@ -311,7 +376,7 @@ fn push_term(
     }
 }
 
-// Adds a term that was made, or tells why there is none.
+// Adds a term that was read, or returns the error.
 fn push_read(
     alloc: Global,
     term: Result<Option<Term>, Fault>,
@@ -325,38 +390,4 @@ fn push_read(
         Ok(term) => push_term(alloc, term, error, terms),
         Err(fault) => Err(QueryParserError::from(fault)),
     }
-}
-
-// Adds what a text is looked up by: the term of a value, and the text's words, of which there has to be one.
-fn push_words(
-    alloc: Global,
-    option: IndexRecordOption,
-    value: Option<Term>,
-    words: Option<PhraseWords>,
-    terms: &mut Vec<PhraseWords>,
-) -> Result<(), QueryParserError>
-    ensures { AddsText (has_positions option) value words terms.old.items terms.new.items result }
-{
-    let Some(words) = words else {
-        return push_value(alloc, value, terms);
-    };
-    if !option.has_positions() && !words.is_alone() {
-        drop(value);
-        return Err(QueryParserError::FieldDoesNotHavePositionsIndexed);
-    }
-    if let Some(value) = value {
-        terms.push(PhraseWords::one(alloc, value))?;
-    }
-    Ok(terms.push(words)?)
-}
-
-// Adds the term of a value alone, if there is one.
-fn push_value(
-    alloc: Global,
-    value: Option<Term>,
-    terms: &mut Vec<PhraseWords>,
-) -> Result<(), QueryParserError>
-    ensures { AddsText false value None terms.old.items terms.new.items result }
-{
-    push_term(alloc, value, QueryParserError::UnsupportedPhrase, terms)
 }

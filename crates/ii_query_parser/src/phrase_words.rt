@@ -60,8 +60,8 @@ impl PhraseWords {
     }
 }
 
-/// The phrase of a text's tokens behind a prefix, if there is one: the first token, and the others, none of
-/// which stands before it, or 2^32 positions and more behind it.
+/// Returns the phrase of a text's tokens, each after a prefix, if there is one: the first token, and the
+/// others, none of which comes before it, or 2^32 positions or more after it.
 pub(crate) fn words_phrase<A: TextAnalyzer>(
     alloc: Global,
     analyzer: &A,
@@ -77,7 +77,7 @@ pub(crate) fn words_phrase<A: TextAnalyzer>(
     words
 }
 
-// That of the tokens that are left.
+// The phrase of the remaining tokens.
 fn stream_phrase<S: TokenStream>(
     alloc: Global,
     prefix: &Term,
@@ -104,7 +104,7 @@ fn stream_phrase<S: TokenStream>(
     }
 }
 
-// The terms of the tokens that are left, each with how far it stands after a position.
+// The terms of the remaining tokens, each with its distance from a position.
 fn other_words<S: TokenStream>(
     alloc: Global,
     prefix: &Term,
@@ -127,7 +127,7 @@ fn other_words<S: TokenStream>(
     Ok(Some(others))
 }
 
-// How far a position lies after another one, if it does, and in 32 bits.
+// The distance of a position from one before it, if it fits 32 bits.
 fn distance(first: usize, position: usize) -> Option<u32>
     ensures { result ≡ (if nat_le first position && nat_lt (position - first) 4294967296 then Some (position - first) else None) }
 {
@@ -137,7 +137,7 @@ fn distance(first: usize, position: usize) -> Option<u32>
     u32::try_from(position - first).ok()
 }
 
-// The term of a word behind a prefix.
+// The term of a word after a prefix.
 fn word_term(alloc: Global, prefix: &Term, word: &str) -> Result<Term, Fault>
     ensures ok { IfOk result (λ term. term ≡ word_term prefix.now word.now) }
     ensures only { OnlyMemory result }

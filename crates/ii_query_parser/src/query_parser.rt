@@ -1,11 +1,11 @@
-ghost use Rattle.std.specs.Prelude.{◌≡◌, ◌&&◌, ◌||◌, ℕ, List, IfOk};
-ghost use Rattle.std.specs.List.{list_all};
+ghost use Rattle.std.specs.Prelude.{◌≡◌, ℕ, List, IfOk, OnOk, map};
+ghost use Rattle.std.specs.List.{list_all, list_any};
 ghost use Rattle.ii_io.specs.Faults.{OnlyMemory};
 ghost use Rattle.ii_base.specs.Schema.{SchemaEntry};
 ghost use Rattle.ii_definitions.specs.Tokens.{IndexToken};
-ghost use Rattle.ii_query_grammar.specs.Trees.{Ast, ast_of, both, either, leaf, literal_of, without};
+ghost use Rattle.ii_query_grammar.specs.Trees.{Ast, Asts, all_of, any_of, ast_of, asts_from, leaf, literal_of, without};
 ghost use Rattle.ii_query_parser.specs.Queries.{has_fields, keeps_positions, matches};
-ghost use Rattle.ii_query_parser.specs.QueryTexts.{AreQueriesOfTrees, IsQueryOf, IsQueryOfText, QueryFields, has_term, has_words, phrase_kept, phrase_within};
+ghost use Rattle.ii_query_parser.specs.QueryTexts.{AreQueriesOf, HasPushed, IsQueryOf, IsQueryOfText, QueryFields, has_term, has_words, phrase_kept, phrase_within};
 
 use crate::literal::push_literal;
 use crate::phrase_words::PhraseWords;
@@ -15,11 +15,16 @@ use ii_base::{Fault, Field, Schema, TextAnalyzer};
 use ii_query_grammar::{UserInputAst, UserInputLiteral, parse};
 use std::alloc::Global;
 
-/// The query that a text is (`ii_query_grammar::parse`) over the fields of a schema. A word or a phrase
-/// without the name of a field is one of any of `default_fields`, which are fields of the schema. See
-/// `query_of` for what each is.
+/// Returns the query of a text (`ii_query_grammar::parse`) over the fields of a schema. A word or a phrase
+/// that names no field is looked up in all `default_fields`, which are fields of the schema. A default field
+/// that keeps no positions is left out of a phrase of several words, unless no default field is left; `Schema`
+/// says which fields keep positions (`FieldEntry::index_record_option`). See `query_of` for the meaning of a
+/// word or a phrase.
 ///
-/// `SyntaxError` where the text isn't one; else the first refusal of its words and phrases.
+/// # Errors
+///
+/// `SyntaxError` or `Unsupported` with the first byte at which the text is not a query; otherwise the error of
+/// its first word or phrase that has one.
 pub fn parse_query<A: TextAnalyzer>(
     alloc: Global,
     schema: &Schema,
@@ -35,20 +40,22 @@ pub fn parse_query<A: TextAnalyzer>(
     }
 }
 
-/// The query of a tree. Of its words and phrases:
+/// Returns the query of a tree. Its words and phrases mean this:
 ///
-/// - The name of a field is that of one of the schema, or that of one of JSON values, a dot, and a path into
-///   these: the name ends at the first dot then.
+/// - The name of a field is that of a field of the schema, or that of one of JSON values, a dot, and a path into
+///   these: the name ends at the first dot then. `FieldDoesNotExist` if it is neither.
 /// - A text in a field of texts is the token that the analyzer makes of it, or the phrase of several, each at
-///   its position. `UnsupportedPhrase` where it makes none, or one that stands before the first, or 2^32
-///   positions and more behind it; `FieldDoesNotHavePositionsIndexed` where the field keeps no positions, and
-///   there are several.
-/// - In a field of numbers or truth values it is the value that Rust's `parse` takes it for; `ExpectedInt` or
-///   `ExpectedBool` where it is none.
-/// - At a path of JSON values it is either: the value that it is taken for, as a signed number, an unsigned one
-///   or a truth value, or its token or phrase as in a field of texts; `UnsupportedPhrase` where it is neither.
+///   its position. `UnsupportedPhrase` if it makes none, or one before the first, or 2^32 positions or more
+///   after it; `FieldDoesNotHavePositionsIndexed` if there are several and the field keeps no positions.
+/// - In a field of numbers or truth values it is the value that Rust's `parse` makes of it; `ExpectedInt` or
+///   `ExpectedBool` if it makes none.
+/// - At a path of JSON values it is either of them: the value that it is taken for, as a signed number, an
+///   unsigned one or a truth value, or its token or phrase as in a field of texts; `UnsupportedPhrase` if it is
+///   neither.
 ///
-/// `OutOfMemory` in a `Fault` where there is no room for the query.
+/// # Errors
+///
+/// The error of the first word or phrase that has one, or `OutOfMemory` in a `Fault` if an allocation fails.
 #[cycle(query_of)]
 pub fn query_of<A: TextAnalyzer>(
     alloc: Global,
@@ -63,88 +70,73 @@ pub fn query_of<A: TextAnalyzer>(
         UserInputAst::Leaf(literal) => {
             literal_query(alloc, schema, default_fields, analyzer, literal)
         }
-        UserInputAst::And(first, other) => {
-            both_of(
-                alloc,
-                queries_of(alloc, schema, default_fields, analyzer, first, other),
-            )
+        UserInputAst::And(parts) => {
+            and_query(queries_of(alloc, schema, default_fields, analyzer, parts))
         }
-        UserInputAst::Or(first, other) => {
-            either_of(
-                alloc,
-                queries_of(alloc, schema, default_fields, analyzer, first, other),
-            )
+        UserInputAst::Or(parts) => {
+            or_query(queries_of(alloc, schema, default_fields, analyzer, parts))
         }
         UserInputAst::AndNot(first, other) => {
-            first_alone(
-                alloc,
-                queries_of(alloc, schema, default_fields, analyzer, first, other),
-            )
+            let first = query_of(alloc, schema, default_fields, analyzer, first);
+            let other = query_of(alloc, schema, default_fields, analyzer, other);
+            and_not_query(alloc, first, other)
         }
     }
 }
 
-// The queries of two trees.
+// The queries of trees.
 #[cycle(query_of)]
 fn queries_of<A: TextAnalyzer>(
     alloc: Global,
     schema: &Schema,
     default_fields: &[Field],
     analyzer: &A,
-    first: &UserInputAst,
-    other: &UserInputAst,
-) -> Result<(Query, Query), QueryParserError>
-    ensures { AreQueriesOfTrees (record { texts = record { analyze = A.words analyzer.now; entries = schema.now }; defaults = default_fields.now }) (ast_of first.now) (ast_of other.now) result }
+    parts: &Vec<UserInputAst>,
+) -> Result<Vec<Query>, QueryParserError>
+    ensures { AreQueriesOf (record { texts = record { analyze = A.words analyzer.now; entries = schema.now }; defaults = default_fields.now }) (asts_from (map ast_of parts.now.items)) result }
 {
-    let first = match query_of(alloc, schema, default_fields, analyzer, first) {
-        Ok(first) => first,
-        Err(error) => return Err(error),
-    };
-    match query_of(alloc, schema, default_fields, analyzer, other) {
-        Ok(other) => Ok((first, other)),
-        Err(error) => {
-            drop(first);
-            Err(error)
+    let mut queries = Vec::new(alloc);
+    for part in parts {
+        match query_of(alloc, schema, default_fields, analyzer, part) {
+            Ok(query) => queries.push(query)?,
+            Err(error) => return Err(error),
         }
     }
+    Ok(queries)
 }
 
-// The query of a tree that wants both of its parts, by the queries of these.
-fn both_of(
-    alloc: Global,
-    parts: Result<(Query, Query), QueryParserError>,
-) -> Result<Query, QueryParserError>
-    ensures { (q : QueryFields) (first other : Ast) → AreQueriesOfTrees q first other parts → IsQueryOf q (both first other) result }
+// The query that matches what all parts match, by the queries of these.
+fn and_query(parts: Result<Vec<Query>, QueryParserError>) -> Result<Query, QueryParserError>
+    ensures { (q : QueryFields) (us : Asts) → AreQueriesOf q us parts → IsQueryOf q (all_of us) result }
 {
     match parts {
-        Ok((first, other)) => Ok(Query::and(alloc, first, other)?),
+        Ok(queries) => Ok(Query::And(queries)),
         Err(error) => Err(error),
     }
 }
 
-// That of one that wants either.
-fn either_of(
-    alloc: Global,
-    parts: Result<(Query, Query), QueryParserError>,
-) -> Result<Query, QueryParserError>
-    ensures { (q : QueryFields) (first other : Ast) → AreQueriesOfTrees q first other parts → IsQueryOf q (either first other) result }
+// The query that matches what one of the parts matches.
+fn or_query(parts: Result<Vec<Query>, QueryParserError>) -> Result<Query, QueryParserError>
+    ensures { (q : QueryFields) (us : Asts) → AreQueriesOf q us parts → IsQueryOf q (any_of us) result }
 {
     match parts {
-        Ok((first, other)) => Ok(Query::or(alloc, first, other)?),
+        Ok(queries) => Ok(Query::Or(queries)),
         Err(error) => Err(error),
     }
 }
 
-// That of one that wants the first, and not the other.
-fn first_alone(
+// The query that matches what the first part matches and the other one doesn't.
+fn and_not_query(
     alloc: Global,
-    parts: Result<(Query, Query), QueryParserError>,
+    first: Result<Query, QueryParserError>,
+    other: Result<Query, QueryParserError>,
 ) -> Result<Query, QueryParserError>
-    ensures { (q : QueryFields) (first other : Ast) → AreQueriesOfTrees q first other parts → IsQueryOf q (without first other) result }
+    ensures { (q : QueryFields) (s t : Ast) → IsQueryOf q s first → IsQueryOf q t other → IsQueryOf q (without s t) result }
 {
-    match parts {
-        Ok((first, other)) => Ok(Query::and_not(alloc, first, other)?),
-        Err(error) => Err(error),
+    match (first, other) {
+        (Ok(first), Ok(other)) => Ok(Query::and_not(alloc, first, other)?),
+        (Err(error), _) => Err(error),
+        (Ok(_), Err(error)) => Err(error),
     }
 }
 
@@ -165,33 +157,43 @@ fn literal_query<A: TextAnalyzer>(
     }
 }
 
-// What has one of some terms and phrases.
+// The query that matches what has one of some terms and phrases: a list of them, or a single one itself.
 fn any_of(alloc: Global, terms: Vec<PhraseWords>) -> Result<Query, Fault>
     ensures matches { IfOk result (λ query. (ts : List IndexToken) (doc : ℕ) → matches query ts doc ≡ has_term ts doc terms.items) }
     ensures fields { IfOk result (λ query. (n : ℕ) → has_fields n query ≡ list_all (phrase_within n) terms.items) }
     ensures positions { IfOk result (λ query. (entries : List SchemaEntry) → keeps_positions entries query ≡ list_all (phrase_kept entries) terms.items) }
     ensures only { OnlyMemory result }
 {
-    let mut any = Query::Empty;
+    let mut queries = Vec::new(alloc);
     for words in terms {
-        any = match or_words(alloc, any, words) {
-            Ok(any) => any,
+        match push_words(&mut queries, words) {
+            Ok(()) => {}
             Err(fault) => return Err(fault),
-        };
+        }
     }
-    Ok(any)
+    Ok(single_or_any(queries))
 }
 
-// What a query wants, or a term or a phrase.
-fn or_words(alloc: Global, query: Query, words: PhraseWords) -> Result<Query, Fault>
-    ensures matches { IfOk result (λ both. (ts : List IndexToken) (doc : ℕ) → matches both ts doc ≡ (matches query ts doc || has_words ts doc words.first words.others)) }
-    ensures fields { IfOk result (λ both. (n : ℕ) → has_fields n both ≡ (has_fields n query && phrase_within n words)) }
-    ensures positions { IfOk result (λ both. (entries : List SchemaEntry) → keeps_positions entries both ≡ (keeps_positions entries query && phrase_kept entries words)) }
+// Adds the query of a term or a phrase.
+fn push_words(queries: &mut Vec<Query>, words: PhraseWords) -> Result<(), Fault>
+    ensures pushed { OnOk result (HasPushed queries.old.items queries.new.items words) }
     ensures only { OnlyMemory result }
 {
-    match query {
-        Query::Empty => Ok(words_query(words)),
-        query => Query::or(alloc, query, words_query(words)),
+    Ok(queries.push(words_query(words))?)
+}
+
+// The only query of a list, or the query that matches what one of them matches.
+fn single_or_any(mut queries: Vec<Query>) -> Query
+    ensures matches { (ts : List IndexToken) (doc : ℕ) → matches result ts doc ≡ list_any (λ q. matches q ts doc) queries.items }
+    ensures fields { (n : ℕ) → has_fields n result ≡ list_all (has_fields n) queries.items }
+    ensures positions { (entries : List SchemaEntry) → keeps_positions entries result ≡ list_all (keeps_positions entries) queries.items }
+{
+    if queries.len() != 1 {
+        return Query::or_any(queries);
+    }
+    match queries.pop() {
+        Some(query) => query,
+        None => Query::Empty,
     }
 }
 

@@ -1,45 +1,75 @@
-use ii_base::Fault;
-use ii_query_grammar::{ParseError, Wanted};
+use ii_base::{Fault, Field};
+use ii_query_grammar::{Expected, Feature, ParseError};
 use std::alloc::{AllocError, AllocFailed};
 use thiserror::Error;
 
-/// Why a text wasn't taken as a query.
+/// Why a text was not taken as a query.
+///
+/// An error that concerns a field of the schema holds it (`field`), so that a program can print its name.
 #[derive(Clone, Copy, Debug, PartialEq, Eq, Error)]
 pub enum QueryParserError {
-    /// This was wanted at this byte of the text.
-    #[error("{0} was wanted at byte {1}")]
-    SyntaxError(Wanted, usize),
-    /// The schema has no field of a name, or a path was given into one without JSON values.
-    #[error("no such field")]
+    /// The grammar expects something else at this byte of the text.
+    #[error("at byte {1}: {0}")]
+    SyntaxError(Expected, usize),
+    /// The text asks at this byte for a feature that is not supported.
+    #[error("at byte {1}: {0}")]
+    Unsupported(Feature, usize),
+    /// The schema has no field of a name, or the name has a path and its field has no JSON values.
+    #[error("no field has this name")]
     FieldDoesNotExist,
-    /// A field isn't indexed.
+    /// The field is not indexed.
     #[error("the field is not indexed")]
-    FieldNotIndexed,
-    /// A word or a phrase without the name of a field, where none is meant by that.
-    #[error("no field is named, and none is the default")]
+    FieldNotIndexed(Field),
+    /// A word or a phrase names no field, and there is no default field.
+    #[error("no field is named, and there is no default field")]
     NoDefaultFieldDeclared,
-    /// A text in a field of numbers is no number of its type.
-    #[error("a number was expected")]
-    ExpectedInt,
+    /// A text is not a number of the field's type.
+    #[error("expected a number")]
+    ExpectedInt(Field),
     /// A text in a field of truth values is neither `true` nor `false`.
-    #[error("true or false was expected")]
-    ExpectedBool,
-    /// A text of no token, in a field of texts, or at a path where it is no value either; or tokens that
-    /// stand before the first one, or 2^32 positions and more behind it.
-    #[error("a text with tokens was expected")]
-    UnsupportedPhrase,
-    /// A text of several tokens in a field that doesn't keep positions.
+    #[error("expected true or false")]
+    ExpectedBool(Field),
+    /// A text without tokens, in a field of texts, or at a path where it is no value either; or one with a
+    /// token before its first one, or 2^32 positions or more after it.
+    #[error("expected a text with words")]
+    UnsupportedPhrase(Field),
+    /// A phrase in a field that keeps no positions.
     #[error("the field keeps no positions, which a phrase needs")]
-    FieldDoesNotHavePositionsIndexed,
-    /// A path that holds byte 0.
-    #[error("a path with byte 0")]
-    UnsupportedPath,
+    FieldDoesNotHavePositionsIndexed(Field),
+    /// A path with byte 0 in it.
+    #[error("a path with byte 0 is not supported")]
+    UnsupportedPath(Field),
     /// A field of dates, bytes or addresses.
-    #[error("a field of a type that texts of queries do not have")]
-    UnsupportedType,
-    /// A growth found no memory.
+    #[error("queries of dates, bytes and addresses are not supported")]
+    UnsupportedType(Field),
+    /// An allocation failed.
     #[error("{0}")]
     Fault(Fault),
+}
+
+impl QueryParserError {
+    ghost use Rattle.std.specs.Prelude.{◌≡◌};
+    ghost use Rattle.ii_query_parser.specs.ParserErrors.{field_of};
+
+    /// Returns the field that the error concerns, if it is one of a schema.
+    pub fn field(self) -> Option<Field>
+        ensures { result ≡ field_of self }
+    {
+        match self {
+            QueryParserError::FieldNotIndexed(field)
+            | QueryParserError::ExpectedInt(field)
+            | QueryParserError::ExpectedBool(field)
+            | QueryParserError::UnsupportedPhrase(field)
+            | QueryParserError::FieldDoesNotHavePositionsIndexed(field)
+            | QueryParserError::UnsupportedPath(field)
+            | QueryParserError::UnsupportedType(field) => Some(field),
+            QueryParserError::SyntaxError(..)
+            | QueryParserError::Unsupported(..)
+            | QueryParserError::FieldDoesNotExist
+            | QueryParserError::NoDefaultFieldDeclared
+            | QueryParserError::Fault(_) => None,
+        }
+    }
 }
 
 impl From<Fault> for QueryParserError {
@@ -85,7 +115,8 @@ impl From<ParseError> for QueryParserError {
 
     fn from(error: ParseError) -> QueryParserError {
         match error {
-            ParseError::Syntax(wanted, at) => QueryParserError::SyntaxError(wanted, at),
+            ParseError::Syntax(expected, at) => QueryParserError::SyntaxError(expected, at),
+            ParseError::Unsupported(feature, at) => QueryParserError::Unsupported(feature, at),
             ParseError::OutOfMemory => QueryParserError::from(AllocError),
         }
     }

@@ -7,7 +7,7 @@ use Rattle.ii_query_parser.proofs.literal.Place.push_json.Goals as goal
 pub returns-then-contains : goal.returns-then-contains
 returns-then-contains g c =
     let zero : has_zero c.args.path.now ≡ true = search rules in
-    zero_refused (record { analyze = g.A.TextAnalyzer.words c.args.analyzer.now; entries = [] }) c.args.self.field (has_positions c.args.self.option) c.args.self.expand_dots c.args.path.now c.args.phrase.now zero
+    zero_refused (record { analyze = g.A.TextAnalyzer.words c.args.analyzer.now; entries = [] }) c.args.self.field (has_positions c.args.self.option) c.args.self.expand_dots c.args.path.now c.args.phrase.now c.args.terms.now.items zero
 
 pub returns : goal.returns
 returns g c =

@@ -14,16 +14,16 @@ pub returns-in-U64 : goal.returns-in-U64
 returns-in-U64 g c =
     let term = c.u64_term.ensures in
     let put = c.push_read.ensures in
-    rw c.in-U64.is (value_adds c.args.self.field (has_positions c.args.self.option) u64_bytes (u64_in c.args.phrase.now) errors.ExpectedInt c.u64_term.result c.args.terms.now.items c.push_read.new.terms.items c.push_read.result term.ok term.only put.read put.refused)
+    rw c.in-U64.is (value_adds c.args.self.field (has_positions c.args.self.option) u64_bytes (u64_in c.args.phrase.now) (errors.ExpectedInt c.args.self.field) c.u64_term.result c.args.terms.now.items c.push_read.new.terms.items c.push_read.result term.ok term.only put.read put.refused)
 
 pub returns-in-I64 : goal.returns-in-I64
 returns-in-I64 g c =
     let term = c.i64_term.ensures in
     let put = c.push_read-in-I64.ensures in
-    rw c.in-I64.is (value_adds c.args.self.field (has_positions c.args.self.option) (λ n. u64_bytes (flipped n)) (i64_in c.args.phrase.now) errors.ExpectedInt c.i64_term.result c.args.terms.now.items c.push_read-in-I64.new.terms.items c.push_read-in-I64.result term.ok term.only put.read put.refused)
+    rw c.in-I64.is (value_adds c.args.self.field (has_positions c.args.self.option) (λ n. u64_bytes (flipped n)) (i64_in c.args.phrase.now) (errors.ExpectedInt c.args.self.field) c.i64_term.result c.args.terms.now.items c.push_read-in-I64.new.terms.items c.push_read-in-I64.result term.ok term.only put.read put.refused)
 
 pub returns-in-Bool : goal.returns-in-Bool
 returns-in-Bool g c =
     let term = c.bool_term.ensures in
     let put = c.push_read-in-Bool.ensures in
-    rw c.in-Bool.is (value_adds c.args.self.field (has_positions c.args.self.option) (λ b. u64_bytes (number_of_bool b)) (bool_in c.args.phrase.now) errors.ExpectedBool c.bool_term.result c.args.terms.now.items c.push_read-in-Bool.new.terms.items c.push_read-in-Bool.result term.ok term.only put.read put.refused)
+    rw c.in-Bool.is (value_adds c.args.self.field (has_positions c.args.self.option) (λ b. u64_bytes (number_of_bool b)) (bool_in c.args.phrase.now) (errors.ExpectedBool c.args.self.field) c.bool_term.result c.args.terms.now.items c.push_read-in-Bool.new.terms.items c.push_read-in-Bool.result term.ok term.only put.read put.refused)

@@ -1,0 +1,69 @@
+ghost use Rattle.std.specs.Prelude.{◌≡◌, map};
+ghost use Rattle.std.specs.Option.{option_copied};
+ghost use Rattle.ii_query_grammar.specs.Trees.{ast_of, asts_from, literal_of};
+ghost use Rattle.ii_query_parser.specs.QueryTexts.{field_named, names_field, unknown_among, unknown_in, unknown_name};
+
+use crate::literal::{cut_at_dot, field_named, has_json};
+use ii_base::Schema;
+use ii_query_grammar::{UserInputAst, UserInputLiteral};
+
+/// Returns the first name in a tree that is neither that of a field of the schema nor that of one of JSON values
+/// and a path after a dot: the name that `FieldDoesNotExist` is about.
+#[cycle(unknown_field_name)]
+pub fn unknown_field_name<'a>(schema: &Schema, ast: &'a UserInputAst) -> Option<&'a str>
+    ensures { option_copied result ≡ unknown_in schema.now (ast_of ast.now) }
+{
+    match ast {
+        UserInputAst::Leaf(literal) => unknown_name(schema, literal),
+        UserInputAst::And(parts) => unknown_among(schema, parts),
+        UserInputAst::Or(parts) => unknown_among(schema, parts),
+        UserInputAst::AndNot(first, other) => match unknown_field_name(schema, first) {
+            Some(name) => Some(name),
+            None => unknown_field_name(schema, other),
+        },
+    }
+}
+
+// The first such name in parts.
+#[cycle(unknown_field_name)]
+fn unknown_among<'a>(schema: &Schema, parts: &'a Vec<UserInputAst>) -> Option<&'a str>
+    ensures { option_copied result ≡ unknown_among schema.now (asts_from (map ast_of parts.now.items)) }
+{
+    for part in parts {
+        if let Some(name) = unknown_field_name(schema, part) {
+            return Some(name);
+        }
+    }
+    None
+}
+
+// The name of a word or a phrase, if it has one and this is such a name.
+fn unknown_name<'a>(schema: &Schema, literal: &'a UserInputLiteral) -> Option<&'a str>
+    ensures { option_copied result ≡ unknown_name schema.now (literal_of literal.now).field_name }
+{
+    match &literal.field_name {
+        None => None,
+        Some(name) => {
+            if names_field(schema, name.as_str()) {
+                return None;
+            }
+            Some(name.as_str())
+        }
+    }
+}
+
+// Whether a name is that of a field, or of one of JSON values and a path after a dot.
+fn names_field(schema: &Schema, name: &str) -> bool
+    ensures { result ≡ names_field schema.now name.now (field_named schema.now name.now) }
+{
+    if field_named(schema, name).is_some() {
+        return true;
+    }
+    let Some((name, _path)) = cut_at_dot(name) else {
+        return false;
+    };
+    match field_named(schema, name) {
+        Some(field) => has_json(schema, field),
+        None => false,
+    }
+}
