@@ -1,3 +1,5 @@
+pub mod CallsFit
+pub mod JsonLeaves
 pub mod KeptLaws
 pub mod KeyLemmas
 pub mod ListedLemmas

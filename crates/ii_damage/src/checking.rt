@@ -1,14 +1,17 @@
 //! Looking through all files of an index for what is damaged.
-ghost use Rattle.std.specs.Prelude.{◌≡◌, ◌++◌, ℕ, List, OnOk, IfOk, [], if◌then◌else◌, length};
+ghost use Rattle.std.specs.Prelude.{◌≡◌, ◌++◌, ℕ, List, OnOk, IfOk, [], if◌then◌else◌, length, map};
 ghost use Rattle.std.specs.Option.{option_to_list};
 ghost use Rattle.ii_io.specs.Faults.{OnlyMemory};
 ghost use Rattle.ii_definitions.specs.Fields.{option_of};
 ghost use Rattle.ii_definitions.specs.Files.{HoldTokens};
 ghost use Rattle.ii_definitions.specs.Norms.{HoldNorms};
-ghost use Rattle.ii_definitions.specs.Tokens.{IndexToken};
+ghost use Rattle.ii_definitions.specs.IndexCalls.{MayAllBeIndexed, call_of};
+ghost use Rattle.ii_definitions.specs.Tokens.{IndexToken, tokens_of};
+ghost use Rattle.ii_definitions.specs.declared.index_call.IndexCall.{IndexCall};
+ghost use Rattle.ii_base.specs.Words.{Word};
 ghost use Rattle.ii_store.specs.Index.{view};
 ghost use Rattle.ii_damage.specs.Damages.{count_damages, damages_of, field_damages, field_entries, files_of, reader_damages, table_damage, table_damages, unopened};
-ghost use Rattle.ii_damage.specs.Fits.{AllFit};
+ghost use Rattle.ii_damage.specs.Fits.{AllFit, TokensOfCallsFit};
 ghost use Rattle.ii_damage.specs.Walked.{HasWalked};
 
 use crate::counts::{kept_norms_damage, tokens_damage};
@@ -52,7 +55,8 @@ impl Totals {
 /// document that is not in the index, or, where there are none of these, the number of its tokens and the
 /// norms. Counts in `totals` what was walked. Fails only with `OutOfMemory`.
 ///
-/// Files that hold tokens and their norms have no damages.
+/// Files that hold tokens which fit the schema, and their norms, have no damages, and so it is of the tokens
+/// of all calls that may be indexed: what `write_index` wrote.
 pub fn find_damages(
     alloc: Global,
     schema: &Schema,
@@ -60,8 +64,12 @@ pub fn find_damages(
     totals: &mut Totals,
 ) -> Result<Vec<FoundDamage>, Fault>
     ensures found { IfOk result (λ found. found.items ≡ damages_of schema.now (files_of (view stored))) }
+    // what was written has no damages
     ensures sound { (ts : List IndexToken) → HoldTokens (option_of schema.now) stored.terms.items stored.postings.items stored.positions.items ts
         → HoldNorms schema.now stored.num_docs stored.fieldnorms.items ts → AllFit schema.now stored.num_docs ts → IfOk result (λ found. found.items ≡ []) }
+    ensures written { (words : List ℕ → List Word) (calls : List IndexCall) → MayAllBeIndexed schema.now stored.num_docs calls
+        → HoldTokens (option_of schema.now) stored.terms.items stored.postings.items stored.positions.items (tokens_of words (map (call_of schema.now) calls))
+        → HoldNorms schema.now stored.num_docs stored.fieldnorms.items (tokens_of words (map (call_of schema.now) calls)) → IfOk result (λ found. found.items ≡ []) }
     ensures only { OnlyMemory result }
 {
     let files = WalkedFiles::open(alloc, stored)?;
@@ -237,3 +245,9 @@ fn push_some(found: &mut Vec<FoundDamage>, damage: Option<FoundDamage>) -> Resul
     found.push(damage)?;
     Ok(())
 }
+
+/// States that the tokens of all calls that may be indexed fit the schema.
+#[tactic(auto, using(crate::proofs::CallsFit::calls_fit))]
+pub fn tokens_of_calls_fit()
+    ensures { TokensOfCallsFit }
+{}
