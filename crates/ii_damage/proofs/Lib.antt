@@ -11,3 +11,4 @@ pub mod SumLaws
 pub mod TableLemmas
 pub mod TableLists
 pub mod WalkedLemmas
+mod WorkedRows
