@@ -10,5 +10,6 @@ pub mod SoundIndex
 pub mod SumLaws
 pub mod TableLemmas
 pub mod TableLists
+pub mod TotalsLemmas
 pub mod WalkedLemmas
 mod WorkedRows
