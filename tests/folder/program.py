@@ -345,6 +345,21 @@ def damages(user, chosen, places):
     print(f'tests/folder: {damaged_places} damaged places, each in the file that check names; the lists tell of {located} where')
 
 
+JSON = '''\
+[[field]]
+name = "j"
+type = "json"
+'''
+
+
+def values_twice(user):
+    """A value that is twice in a document, whose list has the document once: nothing is damaged."""
+    user.wants(['index', 'twice', '--schema', user.write('json.toml', JSON)], 0, given=lines([{'j': {'sizes': [40, 40], 'word': 'sea sea'}}]).encode())
+    told = user.wants(['check', 'twice'], 0)
+    if not told.endswith('\n0 damages\n'):
+        raise Failed(f'a value twice in a document: {told!r}')
+
+
 def places_of_damage(user):
     """Damage of one list: its file, field, term and part, and where its bytes lie."""
     docs = [{'body': 'sea ' * 3 + 'bird'}] * 3
@@ -450,6 +465,7 @@ def main():
             refusals(user, docs)
             ids(user)
             damages(user, chosen, 82)
+            values_twice(user)
             places_of_damage(user)
             stopped(user, docs)
             if large:

@@ -1,3 +1,5 @@
+pub mod CallsFit
+pub mod JsonLeaves
 pub mod KeptLaws
 pub mod KeyLemmas
 pub mod ListedLemmas
@@ -8,4 +10,6 @@ pub mod SoundIndex
 pub mod SumLaws
 pub mod TableLemmas
 pub mod TableLists
+pub mod TotalsLemmas
 pub mod WalkedLemmas
+mod WorkedRows

@@ -26,7 +26,7 @@ IsFinding entries files id found = damages_of entries files ≡ found ++ flat_ma
 pub finding_first : (entries : List SchemaEntry) (files : IndexFiles) (found : List FoundDamageState) → found ≡ table_damages files → IsFinding entries files 0 found
 finding_first entries files found is = rw is refl
 
-field_at : (entries : List SchemaEntry) (n id : ℕ) (entry : SchemaEntry) → slice_get entries id ≡ Some entry → drop id (enumerate_from n entries) ≡ (n + id, entry) ∷ drop (suc id) (enumerate_from n entries)
+pub field_at : (entries : List SchemaEntry) (n id : ℕ) (entry : SchemaEntry) → slice_get entries id ≡ Some entry → drop id (enumerate_from n entries) ≡ (n + id, entry) ∷ drop (suc id) (enumerate_from n entries)
 field_at [] n id entry is = absurd (cc)
 field_at (e ∷ es) n zero entry is =
     let same : e ≡ entry = cc in
@@ -46,7 +46,7 @@ finding_next entries files id entry found more at is h =
     ∙ ap (λ (l : List FoundDamageState). found ++ l) (flat_map-cons (field_damages files) (id, entry) (drop (suc id) (enumerate_from 0 entries)))
     ∙ sym (append_assoc found (field_damages files (id, entry)) (flat_map (field_damages files) (drop (suc id) (enumerate_from 0 entries)))))
 
-none_left : (entries : List SchemaEntry) (n id : ℕ) → length entries ≤ id → drop id (enumerate_from n entries) ≡ []
+pub none_left : (entries : List SchemaEntry) (n id : ℕ) → length entries ≤ id → drop id (enumerate_from n entries) ≡ []
 none_left [] n zero end = refl
 none_left [] n (suc id) end = refl
 none_left (e ∷ es) n zero end = absurd (omega (arith, end))

@@ -39,7 +39,7 @@ pub record IndexFiles : Type 0 where
 abbrev pub files_of : Index → IndexFiles
 files_of i = record { num_docs = i.num_docs; terms = i.terms; postings = i.postings; positions = i.positions; fieldnorms = i.fieldnorms }
 
--- the file of a kind; the schema has no bodies, and stands for the terms
+-- the file of a kind; for the schema, which has no bodies, that of the terms
 abbrev pub file_of : IndexFiles → Kind → List ℕ
 file_of files Schema = files.terms
 file_of files Terms = files.terms
@@ -131,7 +131,7 @@ abbrev pub unopened : IndexFiles → ℕ → Kind × Part → List FoundDamageSt
 unopened files field (kind, part) =
     if is_some (table_of (file_of files kind)) then of_field field kind (damages.Part part) (bytes_of_field field (file_of files kind)) ∷ [] else []
 
--- the first document of a list that is not in an index with so many documents
+-- the first document of a list that is not in an index of `num_docs` documents
 abbrev pub stray_in : ℕ → List Entry → Option ℕ
 stray_in num_docs es = option_map (λ (e : Entry). e.doc) (find (λ (e : Entry). nat_le num_docs e.doc) es)
 
@@ -200,11 +200,11 @@ keeps_counts entry key = has_freq entry.option && is_text_key entry.value_type k
 abbrev pub all_keep_counts : SchemaEntry → InvertedIndexReaderState → Bool
 all_keep_counts entry reader = list_all (λ (e : TermEntry). keeps_counts entry e.0) reader.terms
 
--- whether a field may have so many tokens when its lists have some: as many where counts are kept of each key, and else at least as many
+-- whether a field may have `num_tokens` tokens where its lists have `listed`: exactly these where counts are kept of each key, and else at least these
 abbrev pub may_have : Bool → ℕ → ℕ → Bool
 may_have all_kept num_tokens listed = if all_kept then num_tokens == listed else nat_le listed num_tokens
 
--- the damage of the number of tokens that a field begins with, where its lists have some
+-- the damage of the number of tokens that a field begins with, where its lists have `listed`
 abbrev pub tokens_damage : IndexFiles → ℕ → Bool → ℕ → ℕ → Option FoundDamageState
 tokens_damage files field all_kept num_tokens listed =
     if may_have all_kept num_tokens listed then None
@@ -226,7 +226,7 @@ other_norm num_docs ids es = find (is_other_norm ids es) (range_with_len 0 num_d
 abbrev pub of_norm : ℕ → ByteRange → List Entry → ℕ → FoundDamageState
 of_norm field body es doc = of_field field FieldNorms (damages.Norm doc (min (tokens_of_doc doc es) u32_max)) (shifted body.start doc (doc + 1))
 
--- the damage of norms: that they are missing, are too many or too few, or that one isn't that of its document, which is known where counts are kept of each key
+-- the damage of norms: they are missing, their number is not that of documents, or, where counts are kept of each key, one is not that of its document
 abbrev pub norms_damage : ℕ → ℕ → ByteRange → Bool → List Entry → Option (List ℕ) → Option FoundDamageState
 norms_damage num_docs field body all_kept es None = Some (of_field field FieldNorms damages.NoNorms body)
 norms_damage num_docs field body all_kept es (Some ids) =
@@ -245,7 +245,7 @@ kept_norms_damage files field entry all_kept es =
 abbrev pub norm_damage : IndexFiles → ℕ → SchemaEntry → InvertedIndexReaderState → Option FoundDamageState
 norm_damage files field entry reader = kept_norms_damage files field entry (all_keep_counts entry reader) (field_entries reader)
 
--- the damages of the numbers of tokens of a field, whose lists are all there
+-- the damages of the numbers of tokens of a field, if the file of terms has a valid table, so that no list is hidden
 abbrev pub count_damages : IndexFiles → ℕ → SchemaEntry → InvertedIndexReaderState → List FoundDamageState
 count_damages files field entry reader =
     if is_some (table_of files.terms) then option_to_list (token_damage files field entry reader) ++ option_to_list (norm_damage files field entry reader) else []

@@ -1,8 +1,11 @@
 -- Tokens that a schema and a number of documents allow.
-use Rattle.std.specs.Prelude.{◌≡◌, ℕ, ◌<◌, List, IfSome, slice_get}
+use Rattle.std.specs.Prelude.{◌≡◌, ℕ, ◌<◌, List, IfSome, map, slice_get}
 use Rattle.std.specs.List.{AllByRecursion}
 use Rattle.ii_base.specs.Schema.{SchemaEntry}
-use Rattle.ii_definitions.specs.Tokens.{IndexToken}
+use Rattle.ii_base.specs.Words.{Word}
+use Rattle.ii_definitions.specs.IndexCalls.{MayAllBeIndexed, call_of}
+use Rattle.ii_definitions.specs.Tokens.{IndexToken, tokens_of}
+use Rattle.ii_definitions.specs.declared.index_call.IndexCall.{IndexCall}
 use Rattle.ii_damage.specs.Damages.{is_text_key}
 
 -- The document of a token is in the index, and its key is that of a text exactly where the token is one of a text.
@@ -13,3 +16,9 @@ pub record Fits (entries : List SchemaEntry) (num_docs : ℕ) (t : IndexToken) :
 -- So it is of each token.
 abbrev pub AllFit : List SchemaEntry → ℕ → List IndexToken → Type 0
 AllFit entries num_docs ts = AllByRecursion (Fits entries num_docs) ts
+
+-- The tokens of calls that may be made fit, whatever words texts are cut into.
+abbrev pub TokensOfCallsFit : Type 0
+TokensOfCallsFit =
+    (entries : List SchemaEntry) (num_docs : ℕ) (words : List ℕ → List Word) (calls : List IndexCall) → MayAllBeIndexed entries num_docs calls
+    → AllFit entries num_docs (tokens_of words (map (call_of entries) calls))

@@ -9,12 +9,12 @@ use Rattle.ii_damage.specs.Damages.{tokens_in, tokens_of_doc, u32_max, u64_max, 
 abbrev pub positions_in : List Entry → ℕ
 positions_in es = sum_by (λ (e : Entry). length e.positions) es
 
--- Counts are those of the tokens of each of so many documents in these entries, as far as 32 bits go.
+-- Counts are the numbers of tokens that each of `num_docs` documents has in these entries, at most `u32::MAX`.
 pub record HasCounts (num_docs : ℕ) (es : List Entry) (counts : List ℕ) : Type 0 where
   pub many : length counts ≡ num_docs
   pub each : (doc : ℕ) → doc < num_docs → slice_get counts doc ≡ Some (min (tokens_of_doc doc es) u32_max)
 
--- A walk in an index of so many documents has counted these entries.
+-- A walk in an index of `num_docs` documents has counted these entries.
 pub record HasWalked (num_docs : ℕ) (es : List Entry) (w : Walk) : Type 0 where
   pub tokens : w.tokens ≡ min (tokens_in es) u128_max
   pub postings : w.postings ≡ min (length es) u64_max

@@ -1,14 +1,19 @@
 //! Looking through all files of an index for what is damaged.
-ghost use Rattle.std.specs.Prelude.{◌≡◌, ◌++◌, ℕ, List, OnOk, IfOk, [], if◌then◌else◌, length};
+ghost use Rattle.std.specs.Prelude.{◌≡◌, ◌++◌, ℕ, List, OnOk, IfOk, [], if◌then◌else◌, length, map, ◌∷◌};
 ghost use Rattle.std.specs.Option.{option_to_list};
 ghost use Rattle.ii_io.specs.Faults.{OnlyMemory};
 ghost use Rattle.ii_definitions.specs.Fields.{option_of};
 ghost use Rattle.ii_definitions.specs.Files.{HoldTokens};
 ghost use Rattle.ii_definitions.specs.Norms.{HoldNorms};
-ghost use Rattle.ii_definitions.specs.Tokens.{IndexToken};
+ghost use Rattle.ii_definitions.specs.IndexCalls.{MayAllBeIndexed, call_of};
+ghost use Rattle.ii_definitions.specs.Tokens.{IndexToken, tokens_of};
+ghost use Rattle.ii_definitions.specs.declared.index_call.IndexCall.{IndexCall};
+ghost use Rattle.ii_base.specs.Words.{Word};
+ghost use Rattle.ii_reader.specs.InvertedIndexReader.{InvertedIndexReaderState};
 ghost use Rattle.ii_store.specs.Index.{view};
 ghost use Rattle.ii_damage.specs.Damages.{count_damages, damages_of, field_damages, field_entries, files_of, reader_damages, table_damage, table_damages, unopened};
-ghost use Rattle.ii_damage.specs.Fits.{AllFit};
+ghost use Rattle.ii_damage.specs.Fits.{AllFit, TokensOfCallsFit};
+ghost use Rattle.ii_damage.specs.Totals.{AddsTotals, HasTotals, opened_reader, opened_readers};
 ghost use Rattle.ii_damage.specs.Walked.{HasWalked};
 
 use crate::counts::{kept_norms_damage, tokens_damage};
@@ -31,7 +36,9 @@ pub struct Totals {
 
 impl Totals {
     /// Returns the totals before anything is walked.
-    pub fn nothing() -> Totals {
+    pub fn nothing() -> Totals
+        ensures { HasTotals [] result }
+    {
         Totals {
             terms: 0,
             postings: 0,
@@ -40,7 +47,10 @@ impl Totals {
     }
 
     // Counts what was walked of a field.
-    fn add(&mut self, terms: usize, walk: &Walk) {
+    #[tactic(auto, using(crate::proofs::TotalsLemmas::one_total))]
+    fn add(&mut self, terms: usize, walk: &Walk)
+        ensures { (n : ℕ) (rs : List InvertedIndexReaderState) (r : InvertedIndexReaderState) → terms ≡ length r.terms → HasWalked n (field_entries r) walk.now → HasTotals rs self.old → HasTotals (rs ++ r ∷ []) self.new }
+    {
         self.terms = self.terms.saturating_add(terms as u64);
         self.postings = self.postings.saturating_add(walk.postings);
         self.positions = self.positions.saturating_add(walk.positions);
@@ -52,7 +62,8 @@ impl Totals {
 /// document that is not in the index, or, where there are none of these, the number of its tokens and the
 /// norms. Counts in `totals` what was walked. Fails only with `OutOfMemory`.
 ///
-/// Files that hold tokens and their norms have no damages.
+/// Files that hold tokens which fit the schema, and their norms, have no damages, and so it is of the tokens
+/// of all calls that may be indexed: what `write_index` wrote.
 pub fn find_damages(
     alloc: Global,
     schema: &Schema,
@@ -60,8 +71,13 @@ pub fn find_damages(
     totals: &mut Totals,
 ) -> Result<Vec<FoundDamage>, Fault>
     ensures found { IfOk result (λ found. found.items ≡ damages_of schema.now (files_of (view stored))) }
+    ensures totals { OnOk result (HasTotals [] totals.old → HasTotals (opened_readers schema.now (files_of (view stored))) totals.new) }
+    // what was written has no damages
     ensures sound { (ts : List IndexToken) → HoldTokens (option_of schema.now) stored.terms.items stored.postings.items stored.positions.items ts
         → HoldNorms schema.now stored.num_docs stored.fieldnorms.items ts → AllFit schema.now stored.num_docs ts → IfOk result (λ found. found.items ≡ []) }
+    ensures written { (words : List ℕ → List Word) (calls : List IndexCall) → MayAllBeIndexed schema.now stored.num_docs calls
+        → HoldTokens (option_of schema.now) stored.terms.items stored.postings.items stored.positions.items (tokens_of words (map (call_of schema.now) calls))
+        → HoldNorms schema.now stored.num_docs stored.fieldnorms.items (tokens_of words (map (call_of schema.now) calls)) → IfOk result (λ found. found.items ≡ []) }
     ensures only { OnlyMemory result }
 {
     let files = WalkedFiles::open(alloc, stored)?;
@@ -78,6 +94,7 @@ fn damages_of(
     totals: &mut Totals,
 ) -> Result<Vec<FoundDamage>, Fault>
     ensures found { IfOk result (λ found. found.items ≡ damages_of schema.now files.now) }
+    ensures totals { OnOk result (AddsTotals (opened_readers schema.now files.now) totals.old totals.new) }
     ensures only { OnlyMemory result }
 {
     let mut found = table_damages(alloc, files)?;
@@ -108,7 +125,7 @@ fn push_table(found: &mut Vec<FoundDamage>, files: &WalkedFiles, kind: Kind) -> 
     ensures only { OnlyMemory result }
 {
     let file = files.file(kind);
-    if file.is_whole() {
+    if file.has_valid_table() {
         return Ok(());
     }
     let damage = Damage::Part(Part::Composite);
@@ -126,6 +143,7 @@ fn push_field(
     totals: &mut Totals,
 ) -> Result<(), Fault>
     ensures found { OnOk result (found.new.items ≡ found.old.items ++ field_damages files.now (field, entry.now)) }
+    ensures totals { OnOk result (AddsTotals (option_to_list (opened_reader files.now (field, entry.now))) totals.old totals.new) }
     ensures only { OnlyMemory result }
 {
     match files.open_field(field, entry.index_record_option())? {
@@ -152,7 +170,7 @@ fn push_unopened(
     ensures only { OnlyMemory result }
 {
     let file = files.file(kind);
-    if !file.is_whole() {
+    if !file.has_valid_table() {
         return Ok(());
     }
     let place = file.place(field);
@@ -170,6 +188,7 @@ fn reader_damages(
     totals: &mut Totals,
 ) -> Result<Vec<FoundDamage>, Fault>
     ensures found { IfOk result (λ found. found.items ≡ reader_damages files.now field entry.now reader.now) }
+    ensures totals { OnOk result (AddsTotals (reader.now ∷ []) totals.old totals.new) }
     ensures only { OnlyMemory result }
 {
     let mut walk = Walk::new(alloc, files.num_docs())?;
@@ -190,6 +209,7 @@ fn walked_damages(
 ) -> Result<Vec<FoundDamage>, Fault>
     requires { HasWalked files.now.num_docs [] walk.old }
     ensures found { IfOk result (λ found. found.items ≡ reader_damages files.now field entry.now reader.now) }
+    ensures walked { OnOk result (HasWalked files.now.num_docs (field_entries reader.now) walk.new) }
     ensures only { OnlyMemory result }
 {
     let found = walk.walk_terms(alloc, reader, files.num_docs(), &files.places(field))?;
@@ -214,7 +234,7 @@ fn count_damages(
     ensures only { OnlyMemory result }
 {
     let mut found = Vec::new(alloc);
-    if !files.file(Kind::Terms).is_whole() {
+    if !files.file(Kind::Terms).has_valid_table() {
         return Ok(found);
     }
     let all_kept = all_keep_counts(entry, reader);
@@ -237,3 +257,9 @@ fn push_some(found: &mut Vec<FoundDamage>, damage: Option<FoundDamage>) -> Resul
     found.push(damage)?;
     Ok(())
 }
+
+/// States that the tokens of all calls that may be indexed fit the schema.
+#[tactic(auto, using(crate::proofs::CallsFit::calls_fit))]
+pub fn tokens_of_calls_fit()
+    ensures { TokensOfCallsFit }
+{}

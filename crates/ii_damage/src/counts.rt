@@ -61,7 +61,7 @@ pub(crate) fn kept_norms_damage(
     if !keeps_norms(entry) {
         return Ok(None);
     }
-    if !file.is_whole() {
+    if !file.has_valid_table() {
         return Ok(None);
     }
     let body = file.place(field);

@@ -67,7 +67,7 @@ impl FieldBodies {
     }
 
     /// Returns whether its table is valid.
-    pub fn is_whole(&self) -> bool
+    pub fn has_valid_table(&self) -> bool
         ensures { result ≡ is_some (table_of self.now) }
     {
         self.bodies.is_some()
@@ -99,7 +99,7 @@ impl FieldBodies {
     pub fn place(&self, field: Field) -> ByteRange
         ensures { result ≡ bytes_of_field field self.now }
     {
-        if !self.is_whole() {
+        if !self.has_valid_table() {
             return self.all();
         }
         match place_of(self.bytes.as_slice(), field) {

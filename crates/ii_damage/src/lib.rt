@@ -10,7 +10,7 @@ mod keys;
 pub mod walked_files;
 pub mod walking;
 
-pub use checking::{Totals, find_damages};
+pub use checking::{Totals, find_damages, tokens_of_calls_fit};
 pub use damage::{ByteRange, Damage, FieldPlaces, FoundDamage};
 pub use field_bodies::FieldBodies;
 pub use walked_files::{OpenedField, WalkedFiles};

@@ -135,7 +135,7 @@ impl Walk {
         Ok(())
     }
 
-    // Counts a document of a list, which has the term so often, at so many positions.
+    // Counts a document of a list, in which the term occurs `term_freq` times, at `num_positions` positions.
     #[tactic(auto, using(crate::proofs::WalkedLemmas::one_walked))]
     fn add(&mut self, doc: DocId, term_freq: u32, num_positions: usize)
         ensures { (n : ℕ) (es : List Entry) (e : Entry) → doc ≡ e.doc → term_freq ≡ e.term_freq → num_positions ≡ length e.positions → HasWalked n es self.old → HasWalked n (es ++ e ∷ []) self.new }

@@ -1,4 +1,15 @@
 //! Looking through all files of an index for damage, and printing what is found.
+ghost use Rattle.std.specs.Prelude.{◌≡◌, ℕ, IfOk, List, length, map};
+ghost use Rattle.ii_base.specs.Words.{Word};
+ghost use Rattle.ii_definitions.specs.Fields.{option_of};
+ghost use Rattle.ii_definitions.specs.Files.{HoldTokens};
+ghost use Rattle.ii_definitions.specs.IndexCalls.{MayAllBeIndexed, call_of};
+ghost use Rattle.ii_definitions.specs.Norms.{HoldNorms};
+ghost use Rattle.ii_definitions.specs.Tokens.{tokens_of};
+ghost use Rattle.ii_definitions.specs.declared.index_call.IndexCall.{IndexCall};
+ghost use Rattle.ii_damage.specs.Damages.{damages_of, files_of};
+ghost use Rattle.ii_store.specs.Index.{view};
+
 use crate::faults::AnswerFault;
 use crate::keys::push_key;
 use ii_base::{Field, FieldEntry, Schema};
@@ -17,13 +28,18 @@ pub struct Checked {
 }
 
 /// Finds the damages of an index over a schema (`find_damages`), and writes a line for each: its file, field
-/// and term, what is wrong, and the bytes of the file.
+/// and term, what is wrong, and the bytes of the file. What index calls wrote has none.
 pub fn check<W: Write>(
     alloc: Global,
     out: &mut W,
     schema: &Schema,
     stored: StoredIndex,
-) -> Result<Checked, AnswerFault> {
+) -> Result<Checked, AnswerFault>
+    ensures damages { IfOk result (λ checked. checked.damages ≡ length (damages_of schema.now (files_of (view stored)))) }
+    ensures written { (words : List ℕ → List Word) (calls : List IndexCall) → MayAllBeIndexed schema.now stored.num_docs calls
+        → HoldTokens (option_of schema.now) stored.terms.items stored.postings.items stored.positions.items (tokens_of words (map (call_of schema.now) calls))
+        → HoldNorms schema.now stored.num_docs stored.fieldnorms.items (tokens_of words (map (call_of schema.now) calls)) → IfOk result (λ checked. checked.damages ≡ 0) }
+{
     let mut totals = Totals::nothing();
     let found = find_damages(alloc, schema, stored, &mut totals)?;
     let damages = found.len() as u64;
