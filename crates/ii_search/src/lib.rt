@@ -5,9 +5,6 @@ pub mod most_frequent;
 pub mod searching;
 
 pub use ii_query::{QueryCursor, TermOrPhrase};
-pub use ii_query_parser::{
-    Delimiter, MAX_LEXEMES, ParseError, PhraseTerm, Query, QueryParserError, UserInputAst,
-    UserInputLiteral, Wanted, field_named, parse, parse_query, query_of,
-};
+pub use ii_query_parser::{PhraseTerm, Query};
 pub use most_frequent::top_by_count;
 pub use searching::{count, search};

@@ -13,10 +13,10 @@ ghost use Rattle.ii_search.specs.Decodes.{DecodesFew, EachDecodesFew};
 ghost use Rattle.ii_search.specs.Found.{GivesCount, GivesMatches, docs_of_term, found_in, lists_found, phrase_of, phrase_parts_of};
 ghost use Rattle.ii_query_parser.specs.Queries.{has_fields, keeps_positions, trees_of};
 
-use ii_query_parser::{PhraseTerm, Query};
 use ii_base::{Fault, IndexRecordOption, Term};
 use ii_docset::DocSet;
 use ii_query::{PhraseMatch, PhrasePart, QueryCursor, TermOrPhrase};
+use ii_query_parser::{PhraseTerm, Query};
 use ii_reader::{OpenIndex, SegmentPostings};
 use std::alloc::Global;
 

@@ -34,11 +34,12 @@ pub use ii_query::{AllDocs, Exclude, Intersection, PhraseMatch, PhrasePart, Unio
 pub use ii_reader::{BlockSegmentPostings, FreqReadingOption, LoadedPostings, SegmentPostings};
 
 // how an index is searched
-pub use ii_search::{
-    Delimiter, MAX_LEXEMES, ParseError, PhraseTerm, Query, QueryCursor, QueryParserError,
-    TermOrPhrase, UserInputAst, UserInputLiteral, Wanted, count, parse, parse_query, query_of,
-    search, top_by_count,
+pub use ii_query_parser::{
+    Delimiter, Expected, Feature, MAX_NESTING, ParseError, PhraseTerm, Query, QueryParserError,
+    UserInputAst, UserInputLiteral, can_name, parse, parse_query, query_of, spell_name,
+    unknown_field_name,
 };
+pub use ii_search::{QueryCursor, TermOrPhrase, count, search, top_by_count};
 
 // the norms of documents
 pub use ii_fieldnorm::{FieldNormReader, FieldNormReaders, fieldnorm_to_id, id_to_fieldnorm};

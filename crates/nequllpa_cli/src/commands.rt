@@ -184,7 +184,10 @@ pub fn tell_no_index(rt: &HostRuntime, path: &str, fault: IndexFault) -> anyhow:
 fn tell_none(rt: &HostRuntime, path: &str) -> anyhow::Result<u8> {
     match Folder::new(rt, path).orphan() {
         Ok(Some(name)) => {
-            println!(rt; "{path}: an index whose meta is missing: there is {}", name.as_str())?;
+            println!(rt;
+                "{path}: an index whose meta is missing: there is {}",
+                name.as_str()
+            )?;
             eprintln!(rt;
                 "{PROGRAM}: restore meta from a copy, or index the lines again with --force"
             )?;
@@ -241,7 +244,11 @@ fn field_given(
 }
 
 /// Returns the field of a name, or the status where there is none.
-pub fn field_named(rt: &HostRuntime, opened: &Opened, name: &str) -> anyhow::Result<Result<Field, u8>>
+pub fn field_named(
+    rt: &HostRuntime,
+    opened: &Opened,
+    name: &str,
+) -> anyhow::Result<Result<Field, u8>>
     ensures { IfOk result (λ field. IfOk field (λ f. f < length opened.now.schema)) }
 {
     match opened.field_named(name) {
@@ -267,7 +274,9 @@ fn term_given(
         Ok(Some(term)) => Ok(Ok(term)),
         Ok(None) => {
             let name = entry.name();
-            eprintln!(rt; "{PROGRAM}: {text} is no term of {name}; the command terms prints the terms")?;
+            eprintln!(rt;
+                "{PROGRAM}: {text} is no term of {name}; the command terms prints the terms"
+            )?;
             Ok(Err(REFUSED))
         }
         Err(fault) => Ok(Err(refuse(rt, fault)?)),
@@ -286,7 +295,10 @@ pub fn number_given(
     match text.parse::<u32>() {
         Ok(number) => Ok(Ok(Some(number))),
         Err(_) => {
-            eprintln!(rt; "{PROGRAM}: --{option} {text}: expected a whole number from 0 to {}", u32::MAX)?;
+            eprintln!(rt;
+                "{PROGRAM}: --{option} {text}: expected a whole number from 0 to {}",
+                u32::MAX
+            )?;
             Ok(Err(REFUSED))
         }
     }

@@ -203,11 +203,7 @@ fn take_inputs(
 }
 
 // Takes the lines of a file, or of standard input under its name.
-fn take_file(
-    rt: &HostRuntime,
-    file: &str,
-    intake: &mut Intake,
-) -> anyhow::Result<Result<(), u8>> {
+fn take_file(rt: &HostRuntime, file: &str, intake: &mut Intake) -> anyhow::Result<Result<(), u8>> {
     if file == STANDARD_INPUT {
         return take_standard_input(rt, intake);
     }
@@ -322,7 +318,8 @@ impl Intake {
         if entry.value_type() == ValueType::I64 {
             eprintln!(rt;
                 "{name}:{number}: {field}: {reason}: expected a whole number from {} to {}; -0, a fraction or an exponent is none",
-                i64::MIN, i64::MAX
+                i64::MIN,
+                i64::MAX
             )?;
             return Ok(());
         }

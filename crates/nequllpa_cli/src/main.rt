@@ -34,10 +34,7 @@ fn answer(rt: &HostRuntime) -> anyhow::Result<ExitCode> {
         Ok(args) => args,
         Err(error) => {
             if error.kind() == io::ErrorKind::InvalidData {
-                return Ok(ExitCode::from(refuse(
-                    rt,
-                    "an argument is not UTF-8",
-                )?));
+                return Ok(ExitCode::from(refuse(rt, "an argument is not UTF-8")?));
             }
             return Err(error.into());
         }

@@ -25,14 +25,10 @@ pub enum NoIds {
     #[error("--ids: the field id has JSON values, and a document may have several terms")]
     JsonValues,
     /// The field has texts, and no norms that count their words.
-    #[error(
-        "--ids: the field id has texts without fieldnorms, so their number of words is not known"
-    )]
+    #[error("--ids: the field id has texts without fieldnorms, so their number of words is not known")]
     NoNorms,
     /// The field has a text of several words, of which no single one is the id.
-    #[error(
-        "--ids: document {0} has an id of several words, which are indexed one by one; index ids as u64 or as one word"
-    )]
+    #[error("--ids: document {0} has an id of several words, which are indexed one by one; index ids as u64 or as one word")]
     SeveralWords(DocId),
 }
 

@@ -15,9 +15,9 @@ ghost use Rattle.nequllpa_folder.specs.Stored.{HoldsTokens, IsOpenRefusal, IsSch
 use crate::faults::OpenFault;
 use bytes::Bytes;
 use ii_base::{Fault, Field, FieldEntry, Schema};
+use ii_query_parser::field_named;
 use ii_reader::{InvertedIndexReader, OpenIndex, open_index};
 use ii_schema_text::read_schema;
-use ii_search::field_named;
 use ii_store::StoredIndex;
 use std::alloc::Global;
 
