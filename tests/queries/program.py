@@ -108,7 +108,7 @@ def query(index, draw, depth):
     # one that is left out, wherever it stands among those beside one another
     text, docs = part(index, draw, depth)
     texts = [text for text, _ in parts]
-    texts.insert(draw.randrange(len(texts) + 1), '-' + text)
+    texts.insert(draw.randrange(len(texts) + 1), draw.choice(('-', 'NOT ')) + text)
     return ' '.join(texts), found - docs
 
 
@@ -124,18 +124,22 @@ def all_of(index, draw, depth):
     for _ in range(draw.randrange(1, 3)):
         other, docs = part(index, draw, depth)
         if draw.random() < 0.3:
-            text, found = f'{text} AND -{other}', found - docs
+            text, found = f'{text} AND {draw.choice(("-", "NOT "))}{other}', found - docs
         else:
             text, found = f'{text} AND {other}', found & docs
     return text, found
 
 
+def row(index, draw):
+    """A thousand words, phrases and numbers, and the documents that have one of them."""
+    parts = [literal(index, draw) for _ in range(1000)]
+    return draw.choice((' ', ' OR ')).join(text for text, _ in parts), set().union(*(docs for _, docs in parts))
+
+
 def asked(index, draw):
-    """A query of at most a hundred words and signs, and its answer."""
-    while True:
-        text, docs = query(index, draw, draw.randrange(4))
-        if len(re.findall(r'[^ ()]+|[()]', text)) <= 100:
-            return text, ' '.join(map(str, sorted(docs))) or 'none'
+    """A query, and its answer."""
+    text, docs = row(index, draw) if draw.random() < 0.01 else query(index, draw, draw.randrange(5))
+    return text, ' '.join(map(str, sorted(docs))) or 'none'
 
 
 def main():
