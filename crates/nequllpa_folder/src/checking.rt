@@ -8,6 +8,7 @@ ghost use Rattle.ii_definitions.specs.Norms.{HoldNorms};
 ghost use Rattle.ii_definitions.specs.Tokens.{tokens_of};
 ghost use Rattle.ii_definitions.specs.declared.index_call.IndexCall.{IndexCall};
 ghost use Rattle.ii_damage.specs.Damages.{damages_of, files_of};
+ghost use Rattle.ii_damage.specs.Totals.{HasTotals, opened_readers};
 ghost use Rattle.ii_store.specs.Index.{view};
 
 use crate::faults::AnswerFault;
@@ -36,6 +37,7 @@ pub fn check<W: Write>(
     stored: StoredIndex,
 ) -> Result<Checked, AnswerFault>
     ensures damages { IfOk result (λ checked. checked.damages ≡ length (damages_of schema.now (files_of (view stored)))) }
+    ensures totals { IfOk result (λ checked. HasTotals (opened_readers schema.now (files_of (view stored))) (record { terms = checked.terms; postings = checked.postings; positions = checked.positions })) }
     ensures written { (words : List ℕ → List Word) (calls : List IndexCall) → MayAllBeIndexed schema.now stored.num_docs calls
         → HoldTokens (option_of schema.now) stored.terms.items stored.postings.items stored.positions.items (tokens_of words (map (call_of schema.now) calls))
         → HoldNorms schema.now stored.num_docs stored.fieldnorms.items (tokens_of words (map (call_of schema.now) calls)) → IfOk result (λ checked. checked.damages ≡ 0) }
