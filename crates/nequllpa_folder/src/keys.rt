@@ -2,6 +2,7 @@
 use crate::faults::not_hex;
 use ii_base::{Fault, Field, FieldEntry, Term, ValueType};
 use ii_documents::address_of;
+use ii_term_text::cut_at_space;
 use std::alloc::{AllocError, Global};
 use std::net::Ipv6Addr;
 
@@ -114,23 +115,12 @@ fn push_key_in_json(
     }
 }
 
-/// Adds the segments of a path, separated by dots. A backslash is written before a dot, a backslash or a
-/// space in a segment.
+/// Adds a path as text (`ii_term_text::push_path`); bytes that aren't UTF-8 after `0x`.
 pub(crate) fn push_path(text: &mut String, path: &[u8]) -> Result<(), AllocError> {
-    let Ok(path) = std::str::from_utf8(path) else {
-        return push_bytes(text, path);
-    };
-    for c in path.chars() {
-        if c == '\u{1}' {
-            text.push('.')?;
-            continue;
-        }
-        if matches!(c, '.' | '\\' | ' ') {
-            text.push('\\')?;
-        }
-        text.push(c)?;
+    match std::str::from_utf8(path) {
+        Ok(path) => ii_term_text::push_path(text, path),
+        Err(_) => push_bytes(text, path),
     }
-    Ok(())
 }
 
 /// The term of a field that a text asks for, as `push_key` prints it, or nothing where it is none of the
@@ -215,7 +205,7 @@ fn json_term(
     entry: &FieldEntry,
     text: &str,
 ) -> Result<Option<Term>, Fault> {
-    let Some((path, rest)) = cut_path(text) else {
+    let Some((path, rest)) = cut_at_space(text) else {
         return Ok(None);
     };
     let Some((letter, value)) = rest.split_once(' ') else {
@@ -229,18 +219,6 @@ fn json_term(
         return Ok(Some(term));
     }
     Ok(None)
-}
-
-// The path in front of the first space without a backslash before it, and the text after that space.
-fn cut_path(text: &str) -> Option<(&str, &str)> {
-    let mut is_kept = false;
-    for (place, c) in text.char_indices() {
-        if c == ' ' && !is_kept {
-            return Some((text.get(..place)?, text.get(place + 1..)?));
-        }
-        is_kept = c == '\\' && !is_kept;
-    }
-    None
 }
 
 // Adds a value to the term of a path, and returns whether it is one.

@@ -1,0 +1,3 @@
+pub mod CharTexts
+pub mod CutLemmas
+pub mod PathLaws
