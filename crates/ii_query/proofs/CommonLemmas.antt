@@ -1,15 +1,12 @@
 -- What two lists have in common is the same whichever leads.
 use Rattle.std.proofs.Common.{◌≡◌, ◌≢◌, ℕ, ◌<◌, ◌≤◌, Bool, true, false, List, [], ◌∷◌, inl, inr, refl, sym, ap, ◌∙◌, arith}
-use Rattle.std.proofs.Math.Bool.{and_comm}
 use Rattle.std.proofs.lemmas.Bool.{eq-eqb, ne_eqb}
 use Rattle.std.proofs.lemmas.Bool.Decides.{eqb_tells}
 use Rattle.std.specs.Prelude.{filter, map}
 use Rattle.ii_base.specs.Entries.{Entry, docs_of, document}
-use Rattle.ii_docset.specs.Cursor.{doc_at, IsAscending, IsSound}
+use Rattle.ii_docset.specs.Cursor.{doc_at, IsAscending}
 use Rattle.ii_docset.specs.Intersection.{has_doc}
-use Rattle.ii_query.specs.Combined.{common, picked}
-use Rattle.ii_query.proofs.MatchLaws.{common_has}
-use Rattle.ii_query.proofs.PickedLemmas.{picked_sound}
+use Rattle.ii_query.specs.Combined.{picked}
 use Rattle.ii_docset.proofs.IntersectionLemmas.{has_doc_below}
 
 -- a list has its first document
@@ -51,8 +48,3 @@ docs_again (d ∷ ds) = ap (λ (more : List ℕ). d ∷ more) (docs_again ds)
 
 pub picked_again : (holds : ℕ → Bool) (es : List Entry) → map document (docs_of (picked holds es)) ≡ picked holds es
 picked_again holds es = ap (map document) (docs_again (filter holds (docs_of es)))
-
-pub common_swaps : (es fs : List Entry) → IsSound es → IsSound fs → common es fs ≡ common fs es
-common_swaps es fs sound also =
-    let same = same_docs (common es fs) (common fs es) (picked_sound (has_doc fs) es sound).ascending (picked_sound (has_doc es) fs also).ascending (λ d. common_has es fs d ∙ and_comm (has_doc es d) (has_doc fs d) ∙ sym (common_has fs es d)) in
-    sym (picked_again (has_doc fs) es) ∙ ap (map document) same ∙ picked_again (has_doc es) fs

@@ -1,13 +1,13 @@
 -- How the cursors of an intersection meet.
-use Rattle.std.proofs.Common.{◌≡◌, ◌≢◌, ℕ, zero, suc, ◌+◌, ◌<◌, ◌≤◌, ◌&&◌, Bool, true, false, List, [], ◌∷◌, ◌++◌, IsPermutation, add-one, drop, get_or, length, set, inl, inr, refl, sym, ap, subst, ◌∙◌, arith}
-use Rattle.std.specs.Prelude.{filter, map}
+use Rattle.std.proofs.Common.{◌≡◌, ◌≢◌, ℕ, zero, suc, ◌+◌, ◌<◌, ◌≤◌, Bool, true, false, List, [], ◌∷◌, IsPermutation, get_or, length, set, inl, inr, refl, sym, ap, subst, ◌∙◌, arith}
+use Rattle.std.specs.Prelude.{map}
 use Rattle.std.specs.List.{All, AllByRecursion, AllZip, list_all}
 use Rattle.std.proofs.lemmas.Bool.{and_right, eq-eqb}
 use Rattle.std.proofs.lemmas.Bool.Decides.{leb_tells}
 use Rattle.std.proofs.lemmas.List.Sorted.{All-permutation, IsPermutation-map, IsPermutation-sym, length_permutation}
 use Rattle.std.proofs.lemmas.List.Sums.{AllPass-from_list_all, list_all-from_AllPass}
 use Rattle.ii_base.specs.declared.doc_id.TheConstants.{TERMINATED}
-use Rattle.ii_base.specs.Entries.{Entry, docs_of, document}
+use Rattle.ii_base.specs.Entries.{Entry, document}
 use Rattle.ii_docset.specs.Cursor.{IsAscending, IsSound, doc_at, from_doc}
 use Rattle.ii_docset.specs.Intersection.{has_doc}
 use Rattle.ii_docset.proofs.CursorLemmas.{doc_below}

@@ -1,11 +1,10 @@
 -- What calls do to cursors, one after the other.
-use Rattle.std.proofs.Common.{◌≡◌, ℕ, zero, suc, ◌+◌, ◌<◌, ◌≤◌, max, min, List, [], ◌∷◌, ◌++◌, add-one, drop, get_or, length, set, refl, sym, ap, subst, ◌∙◌, arith}
+use Rattle.std.proofs.Common.{◌≡◌, ℕ, zero, suc, ◌+◌, ◌<◌, ◌≤◌, min, List, [], ◌∷◌, add-one, drop, get_or, length, set, refl, sym, ap, subst, ◌∙◌, arith}
 use Rattle.std.specs.List.{AllByRecursion, AllZip}
 use Rattle.ii_base.specs.declared.doc_id.TheConstants.{TERMINATED}
-use Rattle.ii_base.specs.Entries.{Entry}
 use Rattle.ii_docset.specs.Cursor.{IsSound, doc_at, from_doc}
-use Rattle.ii_query.specs.Combined.{QueryCursorState, StandsAt, either, union_of}
-use Rattle.ii_query.specs.QueryCursor.{KeptFrom, WentTo, cursors_under, depth_over, rests}
+use Rattle.ii_query.specs.Combined.{QueryCursorState, StandsAt, union_of}
+use Rattle.ii_query.specs.QueryCursor.{WentTo, cursors_under, depth_over, rests}
 use Rattle.ii_query.specs.WorkLaws.{none_went}
 use Rattle.ii_query.proofs.NestedLemmas.{either_at}
 use Rattle.ii_query.proofs.UnionLemmas.{either_from, next_from}

@@ -303,8 +303,3 @@ memory_alone entries n index ts query fault holds fields keeps (inr (part, is, e
   where
     ok_is_no_err : (es : List Entry) (part : Part) → Ok es ≡ Err part → ⊥
     ok_is_no_err es part same = absurd (cc)
-
--- the first of two lists is refused, or the other one
-pub first_refused : (by : List Entry → List Entry → List Entry) (a b : Result (List Entry) Part) (fault : Fault) → IsRefusal a fault → IsRefusal (combined by a b) fault
-first_refused by a b fault (inl memory) = inl memory
-first_refused by a b fault (inr (part, is, err)) = inr (part, is, rw err refl)

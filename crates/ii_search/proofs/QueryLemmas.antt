@@ -1,5 +1,5 @@
 -- What each variant of a query gives, and queries one after the other.
-use Rattle.std.proofs.Common.{◌≡◌, ◌∙◌, ℕ, ◌+◌, ◌<◌, ◌≤◌, Bool, true, ◌&&◌, List, [], ◌∷◌, ◌++◌, Box, Global, Vec, append-nil, append_assoc, add-one, drop, get_or, length, min, Result, Ok, Err, inl, inr, refl, sym, ap, arith}
+use Rattle.std.proofs.Common.{◌≡◌, ◌∙◌, ℕ, ◌+◌, ◌<◌, ◌≤◌, true, List, [], ◌∷◌, ◌++◌, Global, Vec, append_assoc, add-one, drop, get_or, length, Result, Ok, Err, inl, inr, refl, sym, ap, arith}
 use Rattle.std.specs.Prelude.{IfOk, IsPermutation}
 use Rattle.std.specs.List.{AllByRecursion, AllZip, list_all}
 use Rattle.std.proofs.Math.Seq.{drop-cons}
@@ -7,49 +7,24 @@ use Rattle.std.proofs.lemmas.Bool.{and_parts}
 use Rattle.ii_io.specs.declared.faults.Fault.{Fault}
 use Rattle.ii_io.specs.declared.faults.Part.{Part}
 use Rattle.ii_base.specs.Entries.{Entry}
-use Rattle.ii_base.specs.Terms.{TermState}
-use Rattle.ii_base.specs.declared.doc_id.TheConstants.{TERMINATED}
-use Rattle.ii_base.specs.declared.schema.index_record_option.IndexRecordOption.TheVariants.{Basic, WithFreqsAndPositions}
-use Rattle.ii_query.specs.Combined.{QueryCursorState, all_from, intersection_of, union_of, without}
+use Rattle.ii_query.specs.Combined.{QueryCursorState}
 use Rattle.ii_query.specs.QueryCursor.{cursors_under, rests}
 use Rattle.ii_query.specs.TermOrPhrase.{WentOn}
 use Rattle.ii_query.specs.declared.term_or_phrase.TermOrPhrase.{TermOrPhrase}
 use Rattle.ii_query.proofs.MeetLemmas.{each_permuted}
-use Rattle.ii_query_parser.specs.declared.query.PhraseTerm.{PhraseTerm}
 use denote.Param.Weighed.{most}
 use Rattle.ii_query_parser.specs.declared.query.Query.{Query, size-Query}
 use Rattle.ii_query_parser.specs.declared.query.Query.TheViews.{sized-And, sized-Or}
-use Rattle.ii_query_parser.specs.declared.query.Query.TheVariants.{Empty, All, Term, Phrase, And, Or, AndNot}
-use Rattle.ii_query_parser.specs.Queries.{has_fields, tree_of, trees_of}
-use Rattle.ii_query_parser.proofs.QueryLemmas.{all_tree, and_fields, and_not_tree, and_tree, nothing_tree, or_fields, or_tree, phrase_tree, term_tree}
+use Rattle.ii_query_parser.specs.declared.query.Query.TheVariants.{And, Or}
+use Rattle.ii_query_parser.specs.Queries.{has_fields, trees_of}
+use Rattle.ii_query_parser.proofs.QueryLemmas.{and_fields, or_fields}
 use Rattle.ii_reader.specs.InvertedIndexReader.{IsRefusal}
 use Rattle.ii_reader.specs.OpenIndex.{OpenIndexState}
 use Rattle.ii_reader.specs.SegmentPostings.{SegmentPostingsState, SpentLazily, WentLazily}
 use Rattle.ii_definitions.proofs.ListLaws.{all_both}
 use Rattle.ii_search.specs.Decodes.{EachDecodesFew}
 use Rattle.ii_search.specs.DecodesLaws.{all_went}
-use Rattle.ii_search.specs.Found.{combined, combined_lists, docs_of_term, found_in, lists_found, phrase_of, phrase_parts_of, tree_found, with_list}
-
-pub nothing_found : (index : OpenIndexState) → found_in index Empty ≡ Ok []
-nothing_found index = ap (tree_found index) nothing_tree
-
-pub all_found : (index : OpenIndexState) (n : ℕ) → found_in index (All n) ≡ Ok (all_from 0 (min n TERMINATED))
-all_found index n = ap (tree_found index) (all_tree n)
-
-pub term_found : (index : OpenIndexState) (term : TermState) → found_in index (Term term) ≡ docs_of_term Basic index term
-term_found index term = ap (tree_found index) (term_tree term)
-
-pub phrase_found : (index : OpenIndexState) (first : TermState) (others : Vec PhraseTerm Global) → found_in index (Phrase first others) ≡ phrase_of (docs_of_term WithFreqsAndPositions index first) (phrase_parts_of index others.items)
-phrase_found index first others = ap (tree_found index) (phrase_tree first others)
-
-pub and_found : (index : OpenIndexState) (qs : Vec Query Global) → found_in index (And qs) ≡ combined_lists intersection_of (lists_found index (trees_of qs.items))
-and_found index qs = ap (tree_found index) (and_tree qs)
-
-pub or_found : (index : OpenIndexState) (qs : Vec Query Global) → found_in index (Or qs) ≡ combined_lists union_of (lists_found index (trees_of qs.items))
-or_found index qs = ap (tree_found index) (or_tree qs)
-
-pub and_not_found : (index : OpenIndexState) (first other : Box Query Global) → found_in index (AndNot first other) ≡ combined without (found_in index first.value) (found_in index other.value)
-and_not_found index first other = ap (tree_found index) (and_not_tree first other)
+use Rattle.ii_search.specs.Found.{found_in, lists_found, with_list}
 
 -- the fields of the parts of a query
 pub and_has_fields : (n : ℕ) (query : Query) (qs : Vec Query Global) → query ≡ And qs → has_fields n query ≡ true → list_all (has_fields n) qs.items ≡ true
@@ -75,13 +50,6 @@ pub record IsFinding (index : OpenIndexState) (all left : List Query) (lists : L
   pub listed : lists_found index (trees_of all) ≡ lists_before lists (lists_found index (trees_of left))
   pub fields : list_all (has_fields (length index.readers)) left ≡ true
 
-none_before : (found : Result (List (List Entry)) Part) → found ≡ lists_before [] found
-none_before (Ok lists) = refl
-none_before (Err part) = refl
-
-pub finding_first : (index : OpenIndexState) (all : List Query) → list_all (has_fields (length index.readers)) all ≡ true → IsFinding index all all []
-finding_first index all fields = record { listed = none_before (lists_found index (trees_of all)); fields = fields }
-
 -- a place among the queries
 pub query_at : (all : List Query) (i : ℕ) (q : Query) → i < length all → q ≡ get_or all i q → drop i all ≡ q ∷ drop (i + 1) all
 query_at all i q inside is = drop-cons all i q inside ∙ rw (← is, add-one i) refl
@@ -89,10 +57,6 @@ query_at all i q inside is = drop-cons all i q inside ∙ rw (← is, add-one i)
 one_more : (es : List Entry) (lists : List (List Entry)) (found : Result (List (List Entry)) Part) → lists_before lists (with_list (Ok es) found) ≡ lists_before (lists ++ es ∷ []) found
 one_more es lists (Ok others) = ap (λ (ls : List (List Entry)). Ok ls) (sym (append_assoc lists (es ∷ []) others))
 one_more es lists (Err part) = refl
-
--- the field of the next query's terms
-pub finding_fields : (index : OpenIndexState) (all left others : List Query) (lists : List (List Entry)) (q : Query) → IsFinding index all left lists → left ≡ q ∷ others → has_fields (length index.readers) q ≡ true
-finding_fields index all left others lists q f is = (and_parts (has_fields (length index.readers) q) (list_all (has_fields (length index.readers)) others) (rw is at f.fields)).0
 
 -- one query more
 pub finding_next : (index : OpenIndexState) (all left others : List Query) (lists more : List (List Entry)) (q : Query) (es : List Entry) → IsFinding index all left lists → left ≡ q ∷ others → found_in index q ≡ Ok es → more ≡ lists ++ es ∷ [] → IsFinding index all others more
@@ -109,10 +73,6 @@ pub finding_refused : (index : OpenIndexState) (all left others : List Query) (l
 finding_refused index all left others lists q fault f is (inl memory) = inl memory
 finding_refused index all left others lists q fault f is (inr (part, why, err)) =
     inr (part, why, f.listed ∙ ap (λ (qs : List Query). lists_before lists (lists_found index (trees_of qs))) is ∙ ap (λ (r : Result (List Entry) Part). lists_before lists (with_list r (lists_found index (trees_of others)))) err)
-
--- all queries are found
-pub finding_ends : (index : OpenIndexState) (all : List Query) (lists : List (List Entry)) → IsFinding index all [] lists → lists_found index (trees_of all) ≡ Ok lists
-finding_ends index all lists f = f.listed ∙ ap (λ (ls : List (List Entry)). Ok ls) (append-nil lists)
 
 -- one cursor more
 pub rests_pushed : {T : Type 0} (cs : List (QueryCursorState T)) (c : QueryCursorState T) → rests (cs ++ c ∷ []) ≡ rests cs ++ c.rest ∷ []
@@ -145,14 +105,3 @@ pub few_meet : (cs : List (QueryCursorState (TermOrPhrase SegmentPostingsState))
     → IfOk r (λ cursor. (order : List (QueryCursorState (TermOrPhrase SegmentPostingsState))) × IsPermutation cs order × AllZip (WentOn WentLazily SpentLazily) (cursors_under order) cursor.cursors) → IfOk r (λ cursor. AllByRecursion EachDecodesFew cursor.cursors)
 few_meet cs (Ok cursor) few (order, shuffled, went) = all_went (cursors_under order) cursor.cursors went (few_in_order EachDecodesFew cs order shuffled few)
 few_meet cs (Err fault) few work = tt
-
--- what lists give together
-pub lists_rest : {T : Type 0} (by : List (List Entry) → List Entry) (found : Result (List (List Entry)) Part) (lists : List (List Entry)) (r : Result (QueryCursorState T) Fault) → found ≡ Ok lists → IfOk r (λ cursor. cursor.rest ≡ by lists)
-    → IfOk r (λ cursor. combined_lists by found ≡ Ok cursor.rest)
-lists_rest by found lists (Ok cursor) found_is is = rw (found_is) (ap (λ (rest : List Entry). Ok rest) (sym is))
-lists_rest by found lists (Err fault) found_is is = tt
-
--- the first part of lists that fails
-pub lists_refused : (by : List (List Entry) → List Entry) (found : Result (List (List Entry)) Part) (fault : Fault) → IsRefusal found fault → IsRefusal (combined_lists by found) fault
-lists_refused by found fault (inl memory) = inl memory
-lists_refused by found fault (inr (part, is, err)) = inr (part, is, rw err refl)

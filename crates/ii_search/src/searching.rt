@@ -68,7 +68,7 @@ pub fn count(alloc: Global, index: &OpenIndex, query: &Query) -> Result<u32, Fau
 
 // A cursor over what a query gives. It calls itself once for each level of nesting.
 #[cycle(find)]
-#[tactic(auto, using(crate::proofs::QueryLemmas::nothing_found, crate::proofs::QueryLemmas::all_found, crate::proofs::QueryLemmas::term_found, crate::proofs::QueryLemmas::phrase_found, ii_query_parser::proofs::QueryLemmas::term_fields, ii_query_parser::proofs::QueryLemmas::phrase_fields, crate::proofs::QueryLemmas::and_has_fields, crate::proofs::QueryLemmas::or_has_fields, ii_query_parser::proofs::QueryLemmas::and_not_fields))]
+#[tactic(auto, using(ii_query_parser::proofs::QueryLemmas::term_fields, ii_query_parser::proofs::QueryLemmas::phrase_fields, ii_query_parser::proofs::QueryLemmas::and_not_fields))]
 fn find(
     alloc: Global,
     index: &OpenIndex,

@@ -1,4 +1,4 @@
-use Rattle.std.proofs.Common.{◌≡◌, ◌<◌, length, get_or, rules, arith}
+use Rattle.std.proofs.Common.{◌≡◌, ◌<◌, length, get_or, rules}
 use Rattle.ii_query.proofs.PartsLemmas.{depth_inside}
 use Rattle.ii_query.proofs.query_cursor.+bound.Goals as goal
 

@@ -1,18 +1,17 @@
-use Rattle.std.proofs.Common.{◌≡◌, ◌<◌, ◌≤◌, ◌+◌, ◌++◌, ℕ, [], ◌∷◌, List, drop, get_or, length, map, min, refl, rules, subst, sym, ap, ◌∙◌, arith}
-use Rattle.std.specs.Prelude.{max, not, suc}
+use Rattle.std.proofs.Common.{◌≡◌, ◌<◌, ◌≤◌, ◌++◌, ℕ, List, drop, length, min, refl, rules, subst, sym, ap, ◌∙◌, arith}
+use Rattle.std.specs.Prelude.{not}
 use Rattle.std.specs.List.{AllZip}
-use Rattle.ii_base.specs.Entries.{Entry, document}
-use Rattle.ii_base.specs.declared.doc_id.TheConstants.{TERMINATED}
+use Rattle.ii_base.specs.Entries.{Entry}
 use Rattle.ii_docset.specs.Cursor.{doc_at, from_doc}
 use Rattle.ii_docset.specs.Intersection.{has_doc}
 use Rattle.ii_docset.proofs.CursorLemmas.{doc_below, from_doc_here}
 use Rattle.ii_docset.proofs.IntersectionLemmas.{asked_for, at_end, doc_at-from_doc}
-use Rattle.ii_query.specs.Combined.{IsAtFirst, StandsAt, all_have, intersection_of, picked, union_of, without}
-use Rattle.ii_query.specs.QueryCursor.{KeptFrom, WentTo, cursors_under, depth_over, rests}
+use Rattle.ii_query.specs.Combined.{StandsAt, all_have, picked, union_of, without}
+use Rattle.ii_query.specs.QueryCursor.{KeptFrom, WentTo, cursors_under, rests}
 use Rattle.ii_query.proofs.MeetLemmas.{MetAt, all_kept, met_at, picked_first, picked_kept, picked_past, seek_met, seek_missed}
 use Rattle.ii_query.proofs.NestedLemmas.{stands_low}
 use Rattle.ii_query.proofs.PartsLemmas.{DoneTo, depth_stays, done_depth, done_ends, done_long, done_next, least_next, least_to, union_at, union_from, went_sound, work_under}
-use Rattle.ii_query.proofs.PickedLemmas.{picked_at, picked_from, picked_sound, without_asked, without_at, without_found}
+use Rattle.ii_query.proofs.PickedLemmas.{picked_at, picked_from, without_asked, without_at, without_found}
 use Rattle.ii_query.proofs.UnionLemmas.{next_from}
 use Rattle.ii_query.specs.WorkLaws.{all_went_on, none_went}
 use Rattle.ii_query.proofs.WorkLemmas.{all_beside}

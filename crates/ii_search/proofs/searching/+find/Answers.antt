@@ -1,6 +1,4 @@
-use Rattle.std.proofs.Common.{◌≡◌, ◌∙◌, ◌<◌, ◌+◌, List, ap, drop, get_or, length, rules, sym, true}
-use Rattle.std.specs.List.{list_all}
-use Rattle.ii_query.specs.Combined.{intersection_of, union_of}
+use Rattle.std.proofs.Common.{◌≡◌, ◌∙◌, ◌<◌, ◌+◌, ap, drop, get_or, length, rules}
 use Rattle.ii_query.specs.QueryCursor.{rests}
 use Rattle.ii_search.proofs.DecodesLemmas.{few_beside}
 use Rattle.ii_search.proofs.QueryLemmas.{and_deep, and_has_fields, few_meet, few_pushed, finding_next, finding_refused, or_deep, or_has_fields, query_at, rests_pushed}

@@ -1,4 +1,4 @@
-use Rattle.std.proofs.Common.{◌≡◌, ◌∷◌, ◌∙◌, IsPermutation, refl, rules, sym, ap}
+use Rattle.std.proofs.Common.{◌≡◌, ◌∷◌, ◌∙◌, IsPermutation, rules}
 use Rattle.std.specs.List.{AllZip, swap_remove}
 use Rattle.std.proofs.lemmas.List.Sorted.{IsPermutation-swap_remove}
 use Rattle.ii_query.specs.Combined.{intersection_of}
