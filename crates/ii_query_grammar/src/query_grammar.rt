@@ -17,6 +17,9 @@ use std::alloc::Global;
 /// parentheses alone.
 pub const MAX_NESTING: usize = 128;
 
+// The message of `Expected::LessNesting` names it.
+const _: () = prove!(MAX_NESTING == 128);
+
 /// Returns the tree of a text by the grammar:
 ///
 /// - A word is a run of characters without spaces, double quotes, parentheses and colons. A phrase is a text
