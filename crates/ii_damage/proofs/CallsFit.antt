@@ -1,6 +1,6 @@
 -- The tokens of calls that may be made fit the schema.
 use Rattle.std.proofs.Common.{◌≡◌, ◌∙◌, ◌==◌, ◌<◌, ℕ, Bool, true, false, List, [], ◌∷◌, ◌++◌, map, append_assoc, Option, None, Some, refl, sym, ap, subst}
-use Rattle.std.specs.Prelude.{IfSome, filter, slice_get, string_bytes, unwrap_or}
+use Rattle.std.specs.Prelude.{IfSome, slice_get, unwrap_or}
 use Rattle.std.specs.List.{AllByRecursion, flat_map}
 use Rattle.std.proofs.lemmas.List.Concat.{flat_map-cons}
 use Rattle.ii_base.specs.Json.{Leaf, json_leaves, json_of, text_leaf, unsupported, value_leaf}
@@ -13,13 +13,13 @@ use Rattle.ii_base.specs.declared.schema.value_type.ValueType.{ValueType}
 use Rattle.ii_base.specs.declared.schema.value_type.ValueType.TheVariants.{Str, U64, I64, Bool as Truth, Date, Bytes, Json, IpAddr}
 use Rattle.ii_definitions.specs.declared.index_call.IndexCall.{IndexCall}
 use Rattle.ii_definitions.specs.declared.index_call.IndexCall.TheVariants as calls
-use Rattle.ii_definitions.specs.IndexCalls.{MayAllBeIndexed, MayBeIndexed, Takes, call_of, call_with, content_of, doc_of, expands_dots_in, field_of, type_of}
-use Rattle.ii_definitions.specs.JsonKeys.{type_in, type_of_code, type_under}
-use Rattle.ii_definitions.specs.Tokens.{Call, Content, IndexToken, Piece, begin_after, call_pieces, content_pieces, kept_words, leaf_pieces, piece_tokens, piece_tokens_from, pieces_of, tokens_after, tokens_of, value_at, word_token}
+use Rattle.ii_definitions.specs.IndexCalls.{MayAllBeIndexed, MayBeIndexed, call_of, call_with, doc_of, expands_dots_in, field_of, type_of}
+use Rattle.ii_definitions.specs.JsonKeys.{type_of_code, type_under}
+use Rattle.ii_definitions.specs.Tokens.{Piece, begin_after, call_pieces, kept_words, leaf_pieces, piece_tokens, piece_tokens_from, pieces_of, tokens_after, tokens_of, word_token}
 use Rattle.ii_definitions.proofs.KeyLaws.{type_in_key}
 use Rattle.ii_damage.specs.Damages.{is_text_key}
 use Rattle.ii_damage.specs.Fits.{AllFit, Fits}
-use Rattle.ii_damage.proofs.JsonLeaves.{IsCleanLeaf, IsPlainLeaf, clean_leaves}
+use Rattle.ii_damage.proofs.JsonLeaves.{IsCleanLeaf, clean_leaves}
 
 -- Keys with a prefix are those of texts, or the prefix is that of a value.
 abbrev FitsKeys : ValueType → Bool → List ℕ → Type 0

@@ -1,8 +1,8 @@
 -- The leaves of JSON values: their paths have no byte 0, and their values are no texts.
-use Rattle.std.proofs.Common.{◌≡◌, ◌∙◌, ◌==◌, ◌||◌, ℕ, ◌^◌, Bool, true, false, cond, pos, List, [], ◌∷◌, ◌++◌, map, nat_le, nat_lt, append_assoc, Option, None, Some, refl, sym, ap, subst, arith, String}
-use Rattle.std.specs.Prelude.{⊤, if◌then◌else◌, string_bytes, unwrap_or}
+use Rattle.std.proofs.Common.{◌≡◌, ◌∙◌, ◌==◌, ◌||◌, ℕ, ◌^◌, Bool, true, false, pos, List, [], ◌∷◌, ◌++◌, map, nat_le, nat_lt, refl, sym, ap, subst, String}
+use Rattle.std.specs.Prelude.{⊤, if◌then◌else◌}
 use Rattle.std.specs.declared.alloc.Global.{Global}
-use Rattle.std.specs.List.{AllByRecursion, flat_map, list_any}
+use Rattle.std.specs.List.{AllByRecursion}
 use Rattle.std.proofs.lemmas.Bool.{eqb-true}
 use Rattle.std.proofs.lemmas.List.Folds.{list_any-append}
 use Rattle.ii_io.specs.declared.faults.LeafKind.TheVariants as kinds
@@ -14,7 +14,6 @@ use Rattle.ii_base.specs.declared.json_value.JsonValue.{JsonValue, map-JsonValue
 use Rattle.ii_base.specs.declared.json_value.JsonValue.TheOpen.{JsonValue-F}
 use Rattle.ii_base.specs.declared.json_value.JsonValue.TheFolds.{fold-roll-JsonValue, ind-JsonValue}
 use Rattle.ii_base.specs.declared.json_value.TheConstants.{MAX_DEPTH}
-use Rattle.ii_base.specs.declared.schema.value_type.ValueType.{ValueType}
 use Rattle.ii_base.specs.declared.schema.value_type.ValueType.TheVariants as types
 
 -- A leaf is no value with the type of texts.

@@ -1,18 +1,17 @@
 -- Totals of what was walked.
-use Rattle.std.proofs.Common.{◌≡◌, ◌∙◌, ◌+◌, ◌<◌, ◌≤◌, ℕ, suc, List, [], ◌∷◌, ◌++◌, append-nil, append_assoc, drop, length, min, Option, None, Some, Ok, Err, refl, sym, ap, subst, arith, add-one}
+use Rattle.std.proofs.Common.{◌≡◌, ◌∙◌, ◌+◌, ◌≤◌, ℕ, suc, List, [], ◌∷◌, ◌++◌, append-nil, append_assoc, drop, length, min, Option, None, Some, Ok, Err, refl, sym, ap, subst, arith, add-one}
 use Rattle.std.specs.Prelude.{Result, slice_get}
 use Rattle.std.specs.List.{cons_option, enumerate_from, filter_map, sum_by}
 use Rattle.std.specs.Option.{option_to_list}
 use Rattle.std.specs.Result.{OnOk, result_ok}
 use Rattle.std.proofs.lemmas.List.Sums.{sum_by_push}
-use Rattle.std.proofs.lemmas.Result.{on_ok_weaker}
 use Rattle.ii_io.specs.declared.faults.Part.{Part}
 use Rattle.ii_base.specs.Schema.{SchemaEntry}
 use Rattle.ii_reader.specs.InvertedIndexReader.{InvertedIndexReaderState}
 use Rattle.ii_store.specs.declared.name.Kind.{Kind}
 use Rattle.ii_damage.specs.declared.checking.Totals.{Totals}
 use Rattle.ii_damage.specs.declared.walking.Walk.{Walk}
-use Rattle.ii_damage.specs.Damages.{FoundDamageState, IndexFiles, damages_of, field_damages, field_entries, field_reader, u64_max}
+use Rattle.ii_damage.specs.Damages.{FoundDamageState, IndexFiles, field_damages, field_entries, field_reader, u64_max}
 use Rattle.ii_damage.specs.Totals.{AddsTotals, HasTotals, opened_reader, opened_readers}
 use Rattle.ii_damage.specs.Walked.{HasWalked, positions_in}
 use Rattle.ii_damage.proofs.ListedLemmas.{IsFinding, field_at, finding_next, none_left}

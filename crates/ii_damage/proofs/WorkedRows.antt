@@ -1,7 +1,6 @@
 -- Rows of the definitions of damages.
-use Rattle.std.proofs.Common.{◌≡◌, ◌+◌, ◌*◌, ℕ, Bool, true, false, List, [], ◌∷◌, ◌++◌, Option, None, Some, Ok, Err, refl, ap, ◌∙◌}
-use Rattle.std.specs.Prelude.{codes, Result}
-use Rattle.ii_io.specs.declared.faults.Part.{Part}
+use Rattle.std.proofs.Common.{◌≡◌, true, false, List, [], ◌∷◌, None, Some, Ok, Err, refl}
+use Rattle.std.specs.Prelude.{codes}
 use Rattle.ii_io.specs.declared.faults.Part.TheVariants as parts
 use Rattle.ii_base.specs.Entries.{Entry, counted}
 use Rattle.ii_base.specs.Schema.{SchemaEntry}
@@ -11,11 +10,9 @@ use Rattle.ii_base.specs.declared.schema.value_type.ValueType.TheVariants.{I64, 
 use Rattle.ii_definitions.specs.JsonKeys.{type_in}
 use Rattle.ii_store.specs.declared.name.Kind.TheVariants.{Terms, Postings, Positions}
 use Rattle.ii_termstore.specs.declared.term_info.TermInfo.{TermInfo}
-use Rattle.ii_damage.specs.declared.damage.ByteRange.{ByteRange}
-use Rattle.ii_damage.specs.declared.damage.Damage.{Damage}
 use Rattle.ii_damage.specs.declared.damage.Damage.TheVariants as damages
 use Rattle.ii_damage.specs.declared.damage.FieldPlaces.{FieldPlaces}
-use Rattle.ii_damage.specs.Damages.{bytes_of_damage, keeps_counts, list_damage, may_have, stray_in, tokens_in, tokens_of_doc}
+use Rattle.ii_damage.specs.Damages.{bytes_of_damage, keeps_counts, list_damage, may_have, tokens_in, tokens_of_doc}
 
 abbrev json : SchemaEntry
 json = record { name = codes "j"; value_type = Json; option = WithFreqs; is_indexed = true; has_fieldnorms = false; expands_dots = false }
