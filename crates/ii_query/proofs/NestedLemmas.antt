@@ -1,10 +1,10 @@
 -- What is left of cursors that are nested.
-use Rattle.std.proofs.Common.{◌≡◌, ℕ, ◌<◌, ◌≤◌, List, [], ◌∷◌, drop, inl, inr, sym, ◌∙◌, arith}
+use Rattle.std.proofs.Common.{◌≡◌, ℕ, ◌≤◌, List, [], inl, inr, sym, ◌∙◌, arith}
 use Rattle.std.specs.Prelude.{min}
 use Rattle.std.proofs.lemmas.Bool.Decides.{leb_tells}
 use Rattle.ii_base.specs.declared.doc_id.TheConstants.{TERMINATED}
 use Rattle.ii_base.specs.Entries.{Entry}
-use Rattle.ii_docset.specs.Cursor.{doc_at, IsAscending, IsSound}
+use Rattle.ii_docset.specs.Cursor.{doc_at, IsSound}
 use Rattle.ii_docset.proofs.CursorLemmas.{doc_below, nothing_left}
 use Rattle.ii_query.specs.Combined.{StandsAt, either}
 use Rattle.ii_query.proofs.UnionLemmas.{either_at_most, either_sound, first_is_least, other_is_least}
