@@ -109,7 +109,7 @@ fn either_once(rt: &HostRuntime, first: &Bytes, other: &Bytes, in_turn: bool) ->
     cursors.push(QueryCursor::one(open(first, FREQUENT)?))?;
     cursors.push(QueryCursor::one(open(other, FREQUENT)?))?;
     let start = Instant::now(rt)?;
-    let mut found = QueryCursor::union(cursors);
+    let mut found = QueryCursor::union(rt.alloc(), cursors)?;
     let _count = count(&mut found, in_turn);
     Ok(start.elapsed(rt)?)
 }

@@ -1,9 +1,12 @@
 -- What calls do to cursors, one after the other.
 use Rattle.std.proofs.Common.{◌≡◌, ℕ, zero, suc, ◌+◌, ◌<◌, ◌≤◌, min, List, [], ◌∷◌, add-one, drop, get_or, length, set, refl, sym, ap, subst, ◌∙◌, arith}
 use Rattle.std.specs.List.{AllByRecursion, AllZip}
+use Rattle.std.specs.Prelude.{map}
+use Rattle.std.proofs.lemmas.Bool.{le-leb, lt-leb}
 use Rattle.ii_base.specs.declared.doc_id.TheConstants.{TERMINATED}
-use Rattle.ii_docset.specs.Cursor.{IsSound, doc_at, from_doc}
-use Rattle.ii_query.specs.Combined.{QueryCursorState, StandsAt, union_of}
+use Rattle.ii_base.specs.Entries.{Entry, docs_of, document}
+use Rattle.ii_docset.specs.Cursor.{IsAscending, IsSound, doc_at, from_doc}
+use Rattle.ii_query.specs.Combined.{QueryCursorState, StandsAt, either, put_all, put_in, union_of}
 use Rattle.ii_query.specs.QueryCursor.{WentTo, cursors_under, depth_over, rests}
 use Rattle.ii_query.specs.WorkLaws.{none_went}
 use Rattle.ii_query.proofs.NestedLemmas.{either_at}
@@ -161,3 +164,19 @@ union_from went target (o ∷ os) (n ∷ ns) all = rw (all.0.rest, union_from we
 -- the union without its first document
 pub union_next : {T : Type 0} (went : T → T → Type 0) (doc : ℕ) (olds news : List (QueryCursorState T)) → StandsAt doc (union_of (rests olds)) → doc < TERMINATED → AllZip (WentTo went (doc + 1)) olds news → union_of (rests news) ≡ drop 1 (union_of (rests olds))
 union_next went doc olds news at low all = union_from went (doc + 1) olds news all ∙ sym (next_from doc (union_of (rests olds)) at.sound.ascending at.here low)
+
+-- the union of two
+put_none : (es : List Entry) → IsAscending es → put_all (docs_of es) [] ≡ docs_of es
+put_none [] ascend = refl
+put_none (e ∷ es) ascend = ap (put_in e.doc) (put_none es ascend.1) ∙ put_front e.doc es ascend.0
+  where
+    put_front : (doc : ℕ) (es : List Entry) → doc < doc_at es → put_in doc (docs_of es) ≡ doc ∷ docs_of es
+    put_front doc [] low = refl
+    put_front doc (e ∷ es) low = rw (le-leb doc e.doc (omega (arith, low)), lt-leb e.doc doc low) refl
+
+docs_twice : (docs : List ℕ) → docs_of (map document docs) ≡ docs
+docs_twice [] = refl
+docs_twice (d ∷ ds) = ap (λ (more : List ℕ). d ∷ more) (docs_twice ds)
+
+pub union_two : (es fs : List Entry) → IsSound fs → union_of (es ∷ fs ∷ []) ≡ either es fs
+union_two es fs sound = ap (λ (docs : List ℕ). map document (put_all (docs_of es) docs)) (docs_twice (put_all (docs_of fs) []) ∙ put_none fs sound.ascending)

@@ -6,12 +6,12 @@ use Rattle.ii_query.specs.Phrase.{Spent, phrase_docs}
 use Rattle.ii_query.specs.declared.term_or_phrase.TermOrPhrase.{TermOrPhrase}
 use Rattle.ii_query.specs.declared.term_or_phrase.TermOrPhrase.TheVariants.{Term, Phrase}
 
--- what is left, over that of the term's cursor
+-- the remaining documents, given those of a term's cursor
 abbrev pub rest_of : {P : Type 0} → (P → List Entry) → TermOrPhrase P → List Entry
 rest_of rest (Term cursor) = rest cursor
 rest_of rest (Phrase cursor) = phrase_docs cursor.first cursor.others
 
--- what a move of the term's cursor may do, and each of those of a phrase, which asks for positions
+-- what a move may do to the term's cursor, or to each cursor of a phrase, which also reads positions
 abbrev pub WentOn : {P : Type 0} → (P → P → Type 0) → (ℕ → ℕ → P → P → Type 0) → TermOrPhrase P → TermOrPhrase P → Type 0
 WentOn went spent (Term old) (Term new) = went old new
 WentOn went spent (Phrase old) (Phrase new) = AllZip (Spent spent) old.cursors new.cursors

@@ -17,10 +17,10 @@ all_went_on R on (x ∷ xs) [] zs first second = elim first [ ]
 all_went_on R on (x ∷ xs) (y ∷ ys) [] first second = elim second [ ]
 all_went_on R on (x ∷ xs) (y ∷ ys) (z ∷ zs) first second = (on x y z first.0 second.0, all_went_on R on xs ys zs first.1 second.1)
 
--- asked for positions in turn
+-- positions were read twice
 pub spent_in_turn : {P : Type 0} (spent : ℕ → ℕ → P → P → Type 0) → ((k m l n : ℕ) (a b c : P) → spent k m a b → spent l n b c → spent (k + l) (m + n) a c) → (a b c : P) → Spent spent a b → Spent spent b c → Spent spent a c
 spent_in_turn spent on a b c first second = record { asked = first.asked + second.asked; count = first.count + second.count; by = on first.asked first.count second.asked second.count a b c first.by second.by }
 
--- no positions were asked for
+-- no positions were read
 pub spent_nothing : {P : Type 0} (spent : ℕ → ℕ → P → P → Type 0) {a b : P} → spent 0 0 a b → Spent spent a b
 spent_nothing spent by = record { asked = 0; count = 0; by = by }

@@ -12,7 +12,7 @@ pub struct AllDocs {
 }
 
 impl AllDocs {
-    /// All documents below `num_docs`. No document is above those below `TERMINATED`.
+    /// Returns a cursor over all documents below `num_docs`. No document is `TERMINATED` or above.
     pub fn new(num_docs: DocId) -> AllDocs
         ensures next { result.next ≡ 0 }
         ensures end { result.end ≡ min num_docs TERMINATED }

@@ -5,7 +5,7 @@ ghost use Rattle.ii_query.specs.Combined.{IsAtFirst, Parts, without};
 use ii_docset::{DocId, DocSet, SeekDangerResult, TERMINATED};
 use std::marker::Model;
 
-/// A cursor over the documents that one cursor has left and another one hasn't, in ascending order.
+/// A cursor over the remaining documents of one cursor that another cursor doesn't have, in ascending order.
 #[derive(Drop)]
 pub struct Exclude<A: DocSet, B: DocSet> {
     first: A,
@@ -23,7 +23,7 @@ impl<A: DocSet, B: DocSet> Model for Exclude<A, B> {
 }
 
 impl<A: DocSet, B: DocSet> Exclude<A, B> {
-    /// The documents of the first that the other one hasn't.
+    /// Returns a cursor over the documents of `first` that `other` doesn't have.
     pub fn new(first: A, other: B) -> Exclude<A, B>
         ensures rest { without (A.rest result.first) (B.rest result.other) ≡ without (A.rest first) (B.rest other) }
         ensures first_work { A.went first result.first }
@@ -36,7 +36,7 @@ impl<A: DocSet, B: DocSet> Exclude<A, B> {
     }
 }
 
-// Goes on to the next document that the other one hasn't, which may be the current one.
+// Moves to the next document that the other cursor doesn't have, which may be the current one.
 fn pass<A: DocSet, B: DocSet>(first: &mut A, other: &mut B) -> DocId
     ensures doc { result ≡ doc_at (A.rest first.new) }
     ensures at { IsAtFirst (A.rest first.new) (without (A.rest first.new) (B.rest other.new)) }

@@ -5,8 +5,8 @@ ghost use Rattle.ii_query.specs.Combined.{IsAtFirst, Parts, common};
 use ii_docset::{DocId, DocSet, SeekDangerResult, TERMINATED};
 use std::marker::Model;
 
-/// A cursor over the documents that two cursors both have left, in ascending order. The first one leads:
-/// so let it be the one over fewer documents.
+/// A cursor over the remaining documents that two cursors share, in ascending order. The first cursor leads,
+/// so pass the one over fewer documents first.
 #[derive(Drop)]
 pub struct Intersection<A: DocSet, B: DocSet> {
     first: A,
@@ -24,7 +24,7 @@ impl<A: DocSet, B: DocSet> Model for Intersection<A, B> {
 }
 
 impl<A: DocSet, B: DocSet> Intersection<A, B> {
-    /// The documents that both have left.
+    /// Returns a cursor over the documents that both cursors have.
     pub fn new(first: A, other: B) -> Intersection<A, B>
         ensures rest { common (A.rest result.first) (B.rest result.other) ≡ common (A.rest first) (B.rest other) }
         ensures first_work { A.went first result.first }
@@ -37,7 +37,7 @@ impl<A: DocSet, B: DocSet> Intersection<A, B> {
     }
 }
 
-// Goes on to the next document that both have, which may be the current one.
+// Moves to the next document that both cursors have, which may be the current one.
 fn meet<A: DocSet, B: DocSet>(first: &mut A, other: &mut B) -> DocId
     ensures doc { result ≡ doc_at (A.rest first.new) }
     ensures at { IsAtFirst (A.rest first.new) (common (A.rest first.new) (B.rest other.new)) }

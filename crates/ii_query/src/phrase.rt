@@ -10,8 +10,8 @@ use std::marker::Model;
 // How many positions are read at once.
 const POSITIONS_READ: usize = 64;
 
-/// A term of a phrase behind the first one: a cursor over its list, and how many positions it stands after
-/// the first term.
+/// A term of a phrase after the first one: a cursor over its postings, and how many positions after the first
+/// term it occurs.
 #[derive(Drop)]
 pub struct PhrasePart<P: Postings> {
     distance: u32,
@@ -27,7 +27,7 @@ impl<P: Postings> Model for PhrasePart<P> {
 }
 
 impl<P: Postings> PhrasePart<P> {
-    /// A term so many positions after the first one.
+    /// Returns a term that occurs `distance` positions after the first one.
     pub fn new(distance: u32, postings: P) -> PhrasePart<P>
         ensures distance { result.part.distance ≡ distance }
         ensures rest { result.part.rest ≡ P.rest postings }
@@ -36,7 +36,7 @@ impl<P: Postings> PhrasePart<P> {
         PhrasePart { distance, postings }
     }
 
-    // Drops the documents below a target, which may lie below the current one.
+    // Drops the documents below a target, which may be below the current document.
     fn go_to(&mut self, target: DocId) -> DocId
         requires { target ≤ TERMINATED }
         ensures doc { result ≡ doc_at self.new.part.rest }
@@ -49,7 +49,7 @@ impl<P: Postings> PhrasePart<P> {
         go_on_to(&mut self.postings, target)
     }
 
-    // Whether the term stands in the current document at its distance from a place.
+    // Whether the term occurs in the current document at its distance from a position.
     fn stands_from(&mut self, start: u32) -> bool
         requires { IsCurrent self.old.part.rest }
         ensures stands { result ≡ is_among (positions_at self.old.part.rest) (start + self.old.part.distance) }
@@ -65,7 +65,7 @@ impl<P: Postings> PhrasePart<P> {
     }
 }
 
-// Drops the documents of a cursor below a target, which may lie below the current one.
+// Drops the documents of a cursor below a target, which may be below the current document.
 #[tactic(auto, using(ii_docset::proofs::CursorLemmas::doc_below))]
 fn go_on_to<T: DocSet>(cursor: &mut T, target: DocId) -> DocId
     requires { target ≤ TERMINATED }
@@ -82,7 +82,7 @@ fn go_on_to<T: DocSet>(cursor: &mut T, target: DocId) -> DocId
     doc
 }
 
-// Whether a cursor's current document has a position, which is looked for piece by piece.
+// Whether a cursor's current document has a position. Positions are read in pieces.
 fn has_position<P: Postings>(cursor: &mut P, position: u32) -> bool
     requires { IsCurrent (P.rest cursor.old) }
     ensures has { result ≡ is_among (positions_at (P.rest cursor.old)) position }
@@ -103,8 +103,8 @@ fn has_position<P: Postings>(cursor: &mut P, position: u32) -> bool
     false
 }
 
-// Drops the documents of the other terms below one. Answers it where they all have it, else a greater one,
-// below which there is no phrase.
+// Moves the other terms to a document. Returns it if all of them have it, else a greater document, below
+// which there is no phrase.
 fn meet_others<P: Postings>(others: &mut Vec<PhrasePart<P>>, doc: DocId) -> DocId
     requires { doc < TERMINATED }
     ensures meets { MeetsAt doc (parts_in others.old.items) (parts_in others.new.items) result }
@@ -119,7 +119,7 @@ fn meet_others<P: Postings>(others: &mut Vec<PhrasePart<P>>, doc: DocId) -> DocI
     doc
 }
 
-// Whether the other terms stand in their current documents at their distances from a place.
+// Whether the other terms occur in their current documents at their distances from a position.
 fn stand_from<P: Postings>(others: &mut Vec<PhrasePart<P>>, start: u32) -> bool
     requires { AllByRecursion (λ part. IsCurrent part.rest) (parts_in others.old.items) }
     ensures stand { result ≡ stand_here (parts_in others.old.items) start }
@@ -134,7 +134,7 @@ fn stand_from<P: Postings>(others: &mut Vec<PhrasePart<P>>, start: u32) -> bool
     true
 }
 
-// Whether they do from one of some places.
+// Whether they do for at least one of some positions.
 fn stand_from_one<P: Postings>(others: &mut Vec<PhrasePart<P>>, starts: &[u32]) -> bool
     requires { AllByRecursion (λ part. IsCurrent part.rest) (parts_in others.old.items) }
     ensures stand { result ≡ list_any (stand_here (parts_in others.old.items)) starts.now }
@@ -149,8 +149,8 @@ fn stand_from_one<P: Postings>(others: &mut Vec<PhrasePart<P>>, starts: &[u32]) 
     false
 }
 
-// Whether they do from a position of the first term, in whose current document they all are. Positions are
-// read piece by piece.
+// Whether they do for a position of the first term. All terms are at its current document. Positions are
+// read in pieces.
 fn is_phrase<P: Postings>(first: &mut P, others: &mut Vec<PhrasePart<P>>) -> bool
     requires first { IsCurrent (P.rest first.old) }
     requires others { AllByRecursion (λ part. IsCurrent part.rest) (parts_in others.old.items) }
@@ -174,7 +174,8 @@ fn is_phrase<P: Postings>(first: &mut P, others: &mut Vec<PhrasePart<P>>) -> boo
     false
 }
 
-// The current document of the first term where it has the phrase, else a greater one, below which none has.
+// Returns the current document of the first term if it has the phrase, else a greater document, below which
+// no document has it.
 fn candidate<P: Postings>(first: &mut P, others: &mut Vec<PhrasePart<P>>, doc: DocId) -> DocId
     requires low { doc < TERMINATED }
     requires here { doc ≡ doc_at (P.rest first.old) }
@@ -184,7 +185,7 @@ fn candidate<P: Postings>(first: &mut P, others: &mut Vec<PhrasePart<P>>, doc: D
     ensures least { result ≤ doc_at (phrase_docs (P.rest first.old) (parts_in others.new.items)) }
     ensures here { result ≡ doc → doc_at (phrase_docs (P.rest first.old) (parts_in others.new.items)) ≡ doc }
 
-    // What it cost.
+    // what it cost
     ensures first_work { Spent P.spent first.old first.new }
     ensures other_work { AllZip (Spent P.spent) (cursors_in others.old.items) (cursors_in others.new.items) }
 {
@@ -201,7 +202,7 @@ fn candidate<P: Postings>(first: &mut P, others: &mut Vec<PhrasePart<P>>, doc: D
     }
 }
 
-// Goes on to the next document that has the phrase, which may be the current one.
+// Moves to the next document that has the phrase, which may be the current one.
 fn go_to_phrase<P: Postings>(first: &mut P, others: &mut Vec<PhrasePart<P>>) -> DocId
     ensures doc { result ≡ doc_at (P.rest first.new) }
     ensures at { IsAtFirst (P.rest first.new) (phrase_docs (P.rest first.new) (parts_in others.new.items)) }
@@ -220,9 +221,9 @@ fn go_to_phrase<P: Postings>(first: &mut P, others: &mut Vec<PhrasePart<P>>) -> 
     doc
 }
 
-/// A cursor over the documents that have a phrase, in ascending order: those of its first term that have a
-/// position from which each other term stands at its distance. The first one leads: so let it be the one in
-/// the fewest documents. Positions are read piece by piece; memory is never taken.
+/// A cursor over the documents that have a phrase, in ascending order: the documents of its first term in which
+/// each other term occurs at its distance from a position of the first. The first term leads, so pass the
+/// rarest term first. Positions are read in pieces, and no memory is allocated.
 #[derive(Drop)]
 pub struct PhraseMatch<P: Postings> {
     first: P,
@@ -242,7 +243,7 @@ impl<P: Postings> Model for PhraseMatch<P> {
 }
 
 impl<P: Postings> PhraseMatch<P> {
-    /// The documents that have a phrase, by the lists of its terms.
+    /// Returns a cursor over the documents that have the phrase of these terms.
     pub fn new(first: P, others: Vec<PhrasePart<P>>) -> PhraseMatch<P>
         ensures rest { phrase_docs result.first result.others ≡ phrase_docs (P.rest first) (parts_in others.items) }
         ensures work { AllZip (Spent P.spent) (first ∷ cursors_in others.items) result.cursors }

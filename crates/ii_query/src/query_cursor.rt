@@ -1,8 +1,8 @@
-ghost use Rattle.std.specs.Prelude.{◌≡◌, ◌≤◌, ◌<◌, ◌+◌, ◌++◌, [], ◌∷◌, IfOk, IsPermutation, List, length, min};
+ghost use Rattle.std.specs.Prelude.{◌≡◌, ◌≤◌, ◌<◌, ◌+◌, ◌++◌, [], ◌∷◌, IfOk, IsPermutation, List, drop, length, min};
 ghost use Rattle.std.specs.List.{AllByRecursion, AllZip};
 ghost use Rattle.ii_io.specs.Faults.{OnlyMemory};
 ghost use Rattle.ii_docset.specs.Cursor.{doc_at, from_doc, IsSound};
-ghost use Rattle.ii_query.specs.Combined.{IsAtFirst, QueryCursorState, SeekAnswer, StandsAt, all_from, intersection_of, union_of, without};
+ghost use Rattle.ii_query.specs.Combined.{IsAtFirst, QueryCursorState, SeekAnswer, StandsAt, all_from, either, intersection_of, union_of, without};
 ghost use Rattle.ii_query.specs.QueryCursor.{KeptFrom, WentTo, cursors_of, cursors_under, depth_of, depth_over, rest_of, rests};
 
 use crate::all_docs::AllDocs;
@@ -18,7 +18,7 @@ use std::marker::Model;
 #[derive(Drop)]
 pub struct QueryCursor<T: DocSet> {
     parts: QueryParts<T>,
-    // the current document
+    // the current document, or `TERMINATED`
     doc: DocId,
 }
 
@@ -30,6 +30,8 @@ enum QueryParts<T: DocSet> {
     All(AllDocs),
     // the first cursor leads, and the others are sought to its documents
     Intersection(Box<QueryCursor<T>>, Vec<QueryCursor<T>>),
+    // a union of two, kept apart so that no loop goes over the parts
+    Either(Box<QueryCursor<T>>, Box<QueryCursor<T>>),
     Union(Vec<QueryCursor<T>>),
     Without(Box<QueryCursor<T>>, Box<QueryCursor<T>>),
 }
@@ -54,7 +56,7 @@ impl<T: DocSet> Model for QueryCursor<T> {
 }
 
 impl<T: DocSet> QueryCursor<T> {
-    /// A cursor over no documents.
+    /// Returns a cursor over no documents.
     pub fn nothing() -> QueryCursor<T>
         ensures rest { result.rest ≡ [] }
         ensures cursors { result.cursors ≡ [] }
@@ -65,7 +67,7 @@ impl<T: DocSet> QueryCursor<T> {
         }
     }
 
-    /// The documents of one cursor.
+    /// Returns a cursor over the documents of one cursor.
     pub fn one(cursor: T) -> QueryCursor<T>
         ensures rest { result.rest ≡ T.rest cursor }
         ensures cursors { result.cursors ≡ cursor ∷ [] }
@@ -77,7 +79,7 @@ impl<T: DocSet> QueryCursor<T> {
         }
     }
 
-    /// All documents below a number. No document is above those below `TERMINATED`.
+    /// Returns a cursor over all documents below `num_docs`. No document is `TERMINATED` or above.
     pub fn all(num_docs: DocId) -> QueryCursor<T>
         ensures rest { result.rest ≡ all_from 0 (min num_docs TERMINATED) }
         ensures cursors { result.cursors ≡ [] }
@@ -114,21 +116,28 @@ impl<T: DocSet> QueryCursor<T> {
         })
     }
 
-    /// Returns a cursor over the documents that one of the cursors has, each once; without cursors, over
-    /// none.
-    pub fn union(cursors: Vec<QueryCursor<T>>) -> QueryCursor<T>
-        ensures rest { result.rest ≡ union_of (rests cursors.items) }
-        ensures cursors { result.cursors ≡ cursors_under cursors.items }
+    /// Returns a cursor over the documents that at least one of the cursors has, each once; without cursors,
+    /// over none. Fails only with `OutOfMemory`.
+    pub fn union(alloc: Global, cursors: Vec<QueryCursor<T>>) -> Result<QueryCursor<T>, Fault>
+        ensures rest { IfOk result (λ cursor. cursor.rest ≡ union_of (rests cursors.items)) }
+        ensures cursors { IfOk result (λ cursor. cursor.cursors ≡ cursors_under cursors.items) }
+        ensures only { OnlyMemory result }
     {
+        if cursors.len() == 2 {
+            let mut cursors = cursors;
+            let other = cursors.swap_remove(1);
+            let first = cursors.swap_remove(0);
+            return union_of_two(alloc, first, other);
+        }
         let doc = least_doc(&cursors);
-        QueryCursor {
+        Ok(QueryCursor {
             parts: QueryParts::Union(cursors),
             doc,
-        }
+        })
     }
 
-    /// The documents that the first has and the other one hasn't. `OutOfMemory` where there is no room
-    /// for two boxes.
+    /// Returns a cursor over the documents that `first` has and `other` doesn't have. Fails only with
+    /// `OutOfMemory`.
     pub fn without(
         alloc: Global,
         first: QueryCursor<T>,
@@ -157,7 +166,7 @@ impl<T: DocSet> QueryCursor<T> {
         self.doc
     }
 
-    // How many documents there may be.
+    // A hint of how many documents remain.
     #[cycle(bound)]
     fn bound(&self) -> u32 {
         match &self.parts {
@@ -165,12 +174,13 @@ impl<T: DocSet> QueryCursor<T> {
             QueryParts::One(cursor) => cursor.size_hint(),
             QueryParts::All(docs) => docs.size_hint(),
             QueryParts::Intersection(leader, _) => leader.bound(),
+            QueryParts::Either(first, other) => first.bound().saturating_add(other.bound()),
             QueryParts::Union(parts) => bound_over(parts),
             QueryParts::Without(first, _) => first.bound(),
         }
     }
 
-    // Drops the documents below a target, which may lie below the current one.
+    // Drops the documents below a target, which may be below the current document.
     #[cycle(go_to)]
     #[inline(always)]
     fn go_to(&mut self, target: DocId) -> DocId
@@ -189,7 +199,7 @@ impl<T: DocSet> QueryCursor<T> {
         self.go_on(doc, target)
     }
 
-    // Drops the documents below a target, which lies above the current document.
+    // Drops the documents below a target, which is above the current document.
     #[cycle(go_to)]
     #[inline(always)]
     fn go_on(&mut self, doc: DocId, target: DocId) -> DocId
@@ -197,7 +207,7 @@ impl<T: DocSet> QueryCursor<T> {
         requires above { doc < target }
         requires up_to { target ≤ TERMINATED }
 
-        // where it stands then
+        // where it is then
         ensures doc { result ≡ doc_at self.new.rest }
         ensures rest { self.new.rest ≡ from_doc target self.old.rest }
         ensures sound { IsSound self.new.rest }
@@ -217,7 +227,26 @@ impl<T: DocSet> QueryCursor<T> {
         next
     }
 
-    // How many documents are left, which are then dropped one after the other.
+    // Drops a document, if it is the current one. No remaining document is below it.
+    #[inline(always)]
+    fn pass(&mut self, doc: DocId, passed: DocId) -> DocId
+        requires here { doc ≡ doc_at self.old.rest }
+        requires least { passed ≤ doc }
+        requires low { passed < TERMINATED }
+        ensures doc { result ≡ doc_at self.new.rest }
+        ensures rest { self.new.rest ≡ from_doc (passed + 1) self.old.rest }
+        ensures sound { IsSound self.new.rest }
+        ensures work { AllZip T.went self.old.cursors self.new.cursors }
+    {
+        // that documents ascend, for the proof
+        let _doc = self.current();
+        if doc != passed {
+            return doc;
+        }
+        self.go_on(passed, passed + 1)
+    }
+
+    // Counts the remaining documents, and drops them one by one.
     fn count_each(&mut self) -> u32
         ensures count { result ≡ length self.old.rest }
         ensures rest { self.new.rest ≡ [] }
@@ -233,7 +262,7 @@ impl<T: DocSet> QueryCursor<T> {
     }
 }
 
-// Drops the documents of parts below a target, which lies above the current document.
+// Drops the documents of parts below a target, which is above the current document.
 #[cycle(go_to)]
 fn move_to<T: DocSet>(parts: &mut QueryParts<T>, doc: DocId, target: DocId) -> DocId
     requires at { StandsAt doc (rest_of T.rest parts.old) }
@@ -243,7 +272,7 @@ fn move_to<T: DocSet>(parts: &mut QueryParts<T>, doc: DocId, target: DocId) -> D
     ensures rest { rest_of T.rest parts.new ≡ from_doc target (rest_of T.rest parts.old) }
     ensures up_to { result ≤ TERMINATED }
 
-    // What stays, and what it cost.
+    // what stays, and what it cost
     ensures depth { depth_of parts.new ≡ depth_of parts.old }
     ensures work { AllZip T.went (cursors_of parts.old) (cursors_of parts.new) }
 {
@@ -261,6 +290,11 @@ fn move_to<T: DocSet>(parts: &mut QueryParts<T>, doc: DocId, target: DocId) -> D
             leader.go_to(target);
             return meet(leader, others);
         }
+        QueryParts::Either(first, other) => {
+            let one = first.go_to(target);
+            let two = other.go_to(target);
+            return one.min(two);
+        }
         QueryParts::Union(parts) => {
             return go_to_each(parts, target);
         }
@@ -271,7 +305,7 @@ fn move_to<T: DocSet>(parts: &mut QueryParts<T>, doc: DocId, target: DocId) -> D
     }
 }
 
-// Drops the documents of a cursor below a target, which lies above the current document.
+// Drops the documents of a cursor below a target, which is above the current document.
 #[tactic(auto, using(ii_docset::proofs::CursorLemmas::doc_below))]
 #[inline(always)]
 fn go_above<T: DocSet>(cursor: &mut T, doc: DocId, target: DocId) -> DocId
@@ -289,7 +323,7 @@ fn go_above<T: DocSet>(cursor: &mut T, doc: DocId, target: DocId) -> DocId
     cursor.seek(target)
 }
 
-// The place of the cursor with the least hint.
+// Returns the index of the cursor with the least hint.
 fn rarest<T: DocSet>(cursors: &Vec<QueryCursor<T>>) -> usize
     requires { 0 < length cursors.now.items }
     ensures inside { result < length cursors.now.items }
@@ -310,7 +344,7 @@ fn rarest<T: DocSet>(cursors: &Vec<QueryCursor<T>>) -> usize
     at
 }
 
-// How many documents there may be in a union.
+// A hint of how many documents remain in a union.
 #[cycle(bound)]
 fn bound_over<T: DocSet>(parts: &Vec<QueryCursor<T>>) -> u32 {
     let mut bound = 0u32;
@@ -331,7 +365,7 @@ fn least_doc<T: DocSet>(parts: &Vec<QueryCursor<T>>) -> DocId
     least
 }
 
-// Drops the documents below a target from each part of a union. Returns the least document that is left.
+// Drops the documents below a target from each part of a union. Returns the least remaining document.
 #[cycle(go_to)]
 #[inline(always)]
 fn go_to_each<T: DocSet>(parts: &mut Vec<QueryCursor<T>>, target: DocId) -> DocId
@@ -347,7 +381,7 @@ fn go_to_each<T: DocSet>(parts: &mut Vec<QueryCursor<T>>, target: DocId) -> DocI
     least
 }
 
-// Goes on to the next document that all have, which may be the current one.
+// Moves to the next document that all cursors have, which may be the current one.
 #[cycle(go_to)]
 fn meet<T: DocSet>(leader: &mut QueryCursor<T>, others: &mut Vec<QueryCursor<T>>) -> DocId
     ensures at { StandsAt result (intersection_of (rests (leader.new ∷ others.new.items))) }
@@ -366,8 +400,8 @@ fn meet<T: DocSet>(leader: &mut QueryCursor<T>, others: &mut Vec<QueryCursor<T>>
     doc
 }
 
-// Seeks the other cursors of an intersection to a document. Returns it where they all have it, else a greater
-// one, below which no document is in all.
+// Seeks the other cursors of an intersection to a document. Returns it if all of them have it, else a greater
+// document, below which no document is in all of them.
 #[cycle(go_to)]
 #[inline(always)]
 fn seek_others<T: DocSet>(others: &mut Vec<QueryCursor<T>>, doc: DocId) -> DocId
@@ -384,7 +418,7 @@ fn seek_others<T: DocSet>(others: &mut Vec<QueryCursor<T>>, doc: DocId) -> DocId
     doc
 }
 
-// Goes on to the next document that the other one hasn't, which may be the current one.
+// Moves to the next document that the other cursor doesn't have, which may be the current one.
 #[cycle(go_to)]
 fn leave_out<T: DocSet>(first: &mut QueryCursor<T>, other: &mut QueryCursor<T>) -> DocId
     ensures doc { result ≡ doc_at first.new.rest }
@@ -405,7 +439,68 @@ fn leave_out<T: DocSet>(first: &mut QueryCursor<T>, other: &mut QueryCursor<T>) 
     doc
 }
 
-// How many documents a union has. All are then dropped.
+// Returns a cursor over the documents that at least one of two cursors has.
+fn union_of_two<T: DocSet>(
+    alloc: Global,
+    first: QueryCursor<T>,
+    other: QueryCursor<T>,
+) -> Result<QueryCursor<T>, Fault>
+    ensures rest { IfOk result (λ cursor. cursor.rest ≡ union_of (rests (first ∷ other ∷ []))) }
+    ensures cursors { IfOk result (λ cursor. cursor.cursors ≡ cursors_under (first ∷ other ∷ [])) }
+    ensures only { OnlyMemory result }
+{
+    let doc = first.current().min(other.current());
+    let first = Box::new(alloc, first)?;
+    let other = Box::new(alloc, other)?;
+    Ok(QueryCursor {
+        parts: QueryParts::Either(first, other),
+        doc,
+    })
+}
+
+// Drops the first document of a union of two.
+#[inline(always)]
+fn pass_either<T: DocSet>(
+    first: &mut QueryCursor<T>,
+    other: &mut QueryCursor<T>,
+    doc: DocId,
+) -> DocId
+    requires here { doc ≡ doc_at (either first.old.rest other.old.rest) }
+    requires low { doc < TERMINATED }
+    ensures at { StandsAt result (either first.new.rest other.new.rest) }
+    ensures rest { either first.new.rest other.new.rest ≡ drop 1 (either first.old.rest other.old.rest) }
+    ensures first_work { AllZip T.went first.old.cursors first.new.cursors }
+    ensures other_work { AllZip T.went other.old.cursors other.new.cursors }
+{
+    let one = first.current();
+    let two = other.current();
+    let one = first.pass(one, doc);
+    let two = other.pass(two, doc);
+    one.min(two)
+}
+
+// Counts the documents of a union of two, and drops them.
+fn count_either<T: DocSet>(first: &mut QueryCursor<T>, other: &mut QueryCursor<T>) -> u32
+    ensures count { result ≡ length (either first.old.rest other.old.rest) }
+    ensures first { first.new.rest ≡ [] }
+    ensures other { other.new.rest ≡ [] }
+    ensures first_work { AllZip T.went first.old.cursors first.new.cursors }
+    ensures other_work { AllZip T.went other.old.cursors other.new.cursors }
+{
+    let mut count = 0;
+    let mut one = first.current();
+    let mut two = other.current();
+    let mut doc = one.min(two);
+    while doc < TERMINATED {
+        one = first.pass(one, doc);
+        two = other.pass(two, doc);
+        doc = one.min(two);
+        count += 1;
+    }
+    count
+}
+
+// Counts the documents of a union, and drops them.
 fn count_union<T: DocSet>(parts: &mut Vec<QueryCursor<T>>) -> u32
     ensures count { result ≡ length (union_of (rests parts.old.items)) }
     ensures rest { union_of (rests parts.new.items) ≡ [] }
@@ -439,6 +534,11 @@ impl<T: DocSet> DocSet for QueryCursor<T> {
         if doc >= TERMINATED {
             return doc;
         }
+        if let QueryParts::Either(first, other) = &mut self.parts {
+            let next = pass_either(first, other, doc);
+            self.doc = next;
+            return next;
+        }
         if let QueryParts::Union(parts) = &mut self.parts {
             let next = go_to_each(parts, doc + 1);
             self.doc = next;
@@ -460,6 +560,11 @@ impl<T: DocSet> DocSet for QueryCursor<T> {
     }
 
     fn count_including_deleted(&mut self) -> u32 {
+        if let QueryParts::Either(first, other) = &mut self.parts {
+            let count = count_either(first, other);
+            self.doc = TERMINATED;
+            return count;
+        }
         if let QueryParts::Union(parts) = &mut self.parts {
             let count = count_union(parts);
             self.doc = TERMINATED;

@@ -4,9 +4,9 @@ use ii_docset::{DocId, DocSet, Postings};
 /// A cursor over the documents of a term, or of a phrase.
 #[derive(Drop)]
 pub enum TermOrPhrase<P: Postings> {
-    /// Those of a term.
+    /// The documents of a term.
     Term(P),
-    /// Those of a phrase.
+    /// The documents of a phrase.
     Phrase(PhraseMatch<P>),
 }
 

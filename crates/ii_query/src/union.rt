@@ -4,7 +4,7 @@ ghost use Rattle.ii_query.specs.Combined.{either};
 
 use ii_docset::{DocId, DocSet, TERMINATED};
 
-/// A cursor over the documents that one of two cursors has left, each once, in ascending order.
+/// A cursor over the remaining documents of two cursors, each once, in ascending order.
 #[derive(Drop)]
 pub struct Union<A: DocSet, B: DocSet> {
     first: A,
@@ -12,7 +12,7 @@ pub struct Union<A: DocSet, B: DocSet> {
 }
 
 impl<A: DocSet, B: DocSet> Union<A, B> {
-    /// The documents that either has left.
+    /// Returns a cursor over the documents that at least one of the cursors has.
     pub fn new(first: A, other: B) -> Union<A, B>
         ensures first { result.first ≡ first }
         ensures other { result.other ≡ other }
@@ -21,7 +21,7 @@ impl<A: DocSet, B: DocSet> Union<A, B> {
     }
 }
 
-// The least document that one of two cursors has left, or `TERMINATED`.
+// The lesser of two current documents, or `TERMINATED` if both cursors are at the end.
 fn least<A: DocSet, B: DocSet>(first: &A, other: &B) -> DocId
     ensures doc { result ≡ doc_at (either (A.rest first.now) (B.rest other.now)) }
     ensures sound { IsSound (either (A.rest first.now) (B.rest other.now)) }
@@ -33,7 +33,7 @@ fn least<A: DocSet, B: DocSet>(first: &A, other: &B) -> DocId
     if one <= two { one } else { two }
 }
 
-// Drops a document, below which the cursor isn't.
+// Drops a document, if it is the current one. No remaining document is below it.
 fn pass<A: DocSet>(cursor: &mut A, doc: DocId)
     requires low { doc < TERMINATED }
     requires least { doc ≤ doc_at (A.rest cursor.old) }
@@ -45,7 +45,7 @@ fn pass<A: DocSet>(cursor: &mut A, doc: DocId)
     }
 }
 
-// Drops the documents below a target, which may lie below the current one.
+// Drops the documents below a target, which may be below the current document.
 fn go_on<A: DocSet>(cursor: &mut A, target: DocId)
     requires { target ≤ TERMINATED }
     ensures rest { A.rest cursor.new ≡ from_doc target (A.rest cursor.old) }

@@ -1,4 +1,4 @@
--- What a query gives in an index.
+-- The documents of a query in an index.
 use Rattle.std.specs.Prelude.{◌≡◌, ℕ, List, [], ◌∷◌, Option, None, Some, Result, Ok, Err, length, min, slice_get}
 use Rattle.ii_io.specs.declared.faults.Fault.{Fault}
 use Rattle.ii_io.specs.declared.faults.Fault.TheVariants.{OutOfMemory}
@@ -22,7 +22,7 @@ use Rattle.ii_query_parser.specs.declared.query.Query.{Query}
 use Rattle.ii_query_parser.specs.Queries as queries
 use Rattle.ii_query_parser.specs.Queries.{QueryTree, QueryTrees, matches, tree_of}
 
--- the documents of a term of which this is kept, with what is requested, or the first part that fails; none where nothing is kept of it
+-- the documents of a term, given its term info, or the first corrupt part; none if the term is absent
 abbrev pub docs_kept : IndexRecordOption → InvertedIndexReaderState → Option TermInfo → Result (List Entry) Part
 docs_kept requested reader None = Ok []
 docs_kept requested reader (Some info) = term_of_file reader requested info
@@ -32,11 +32,11 @@ abbrev pub docs_under : IndexRecordOption → List ℕ → Option InvertedIndexR
 docs_under requested key None = Ok []
 docs_under requested key (Some reader) = docs_kept requested reader (info_under key reader.terms)
 
--- the documents of a term, with what is requested
+-- the documents of a term, as far as they are requested
 abbrev pub docs_of_term : IndexRecordOption → OpenIndexState → TermState → Result (List Entry) Part
 docs_of_term requested index term = docs_under requested term.value (slice_get index.readers term.field)
 
--- one part of a phrase more, or the first part that fails
+-- one more term of a phrase, or the first corrupt part
 abbrev pub with_part : ℕ → Result (List Entry) Part → Result (List PhrasePartState) Part → Result (List PhrasePartState) Part
 with_part distance (Err part) others = Err part
 with_part distance (Ok es) (Err part) = Err part
@@ -47,30 +47,30 @@ abbrev pub phrase_parts_of : OpenIndexState → List PhraseTerm → Result (List
 phrase_parts_of index [] = Ok []
 phrase_parts_of index (o ∷ os) = with_part o.distance (docs_of_term WithFreqsAndPositions index o.term) (phrase_parts_of index os)
 
--- the documents of a phrase, or the first part that fails
+-- the documents of a phrase, or the first corrupt part
 abbrev pub phrase_of : Result (List Entry) Part → Result (List PhrasePartState) Part → Result (List Entry) Part
 phrase_of (Err part) others = Err part
 phrase_of (Ok es) (Err part) = Err part
 phrase_of (Ok es) (Ok others) = Ok (phrase_docs es others)
 
--- two lists that are combined, or the first part that fails
+-- two lists combined, or the first corrupt part
 abbrev pub combined : (List Entry → List Entry → List Entry) → Result (List Entry) Part → Result (List Entry) Part → Result (List Entry) Part
 combined by (Err part) other = Err part
 combined by (Ok es) (Err part) = Err part
 combined by (Ok es) (Ok fs) = Ok (by es fs)
 
--- one list more, or the first part that fails
+-- one more list, or the first corrupt part
 abbrev pub with_list : Result (List Entry) Part → Result (List (List Entry)) Part → Result (List (List Entry)) Part
 with_list (Err part) others = Err part
 with_list (Ok es) (Err part) = Err part
 with_list (Ok es) (Ok others) = Ok (es ∷ others)
 
--- lists that are combined, or the part that failed
+-- lists combined, or the corrupt part
 abbrev pub combined_lists : (List (List Entry) → List Entry) → Result (List (List Entry)) Part → Result (List Entry) Part
 combined_lists by (Err part) = Err part
 combined_lists by (Ok lists) = Ok (by lists)
 
--- What a query gives over the lists that an index has, or the first part that fails, in the order of the query.
+-- The documents of a query over the postings of an index, or the first corrupt part, in the order of the query.
 abbrev mutual
   pub tree_found : OpenIndexState → QueryTree → Result (List Entry) Part
   tree_found index queries.nothing = Ok []
@@ -85,7 +85,7 @@ abbrev mutual
   lists_found index queries.no_tree = Ok []
   lists_found index (queries.tree q qs) = with_list (tree_found index q) (lists_found index qs)
 
--- what a program's query gives
+-- the documents of a program's query
 abbrev pub found_in : OpenIndexState → Query → Result (List Entry) Part
 found_in index query = tree_found index (tree_of query)
 
@@ -94,12 +94,12 @@ pub record AreMatches (query : Query) (ts : List IndexToken) (es : List Entry) :
   pub ascending : IsAscending es
   pub exact : (doc : ℕ) → has_doc es doc ≡ matches query ts doc
 
--- A cursor has exactly the documents that match; it is refused for memory alone.
+-- A cursor has exactly the documents that match; it fails only with OutOfMemory.
 abbrev pub GivesMatches : {T : Type 0} → Query → List IndexToken → Result (QueryCursorState T) Fault → Type 0
 GivesMatches query ts (Ok cursor) = AreMatches query ts cursor.rest
 GivesMatches query ts (Err fault) = fault ≡ OutOfMemory
 
--- A number is that of the documents that match; it is refused for memory alone.
+-- A number is that of the documents that match; it fails only with OutOfMemory.
 abbrev pub GivesCount : Query → List IndexToken → Result ℕ Fault → Type 0
 GivesCount query ts (Ok n) = (es : List Entry) → AreMatches query ts es → n ≡ length es
 GivesCount query ts (Err fault) = fault ≡ OutOfMemory

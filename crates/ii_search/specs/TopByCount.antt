@@ -3,7 +3,7 @@ use Rattle.std.specs.Prelude.{ℕ, List, [], ◌∷◌, nat_le, take, if◌then�
 use Rattle.std.specs.List.{fold}
 use Rattle.ii_base.specs.Entries.{Entry}
 
--- a document and its count, put behind those that have no smaller one
+-- a document and its count, inserted after those with no smaller count
 abbrev pub placed : ℕ × ℕ → List (ℕ × ℕ) → List (ℕ × ℕ)
 placed e [] = e ∷ []
 placed e (b ∷ bs) = if nat_le e.1 b.1 then b ∷ placed e bs else e ∷ b ∷ bs

@@ -9,10 +9,14 @@ use ii_docset::{DocId, DocSet, Postings, TERMINATED};
 use ii_reader::SegmentPostings;
 use std::alloc::Global;
 
-/// The `n` documents that a cursor has left with the greatest counts, each with its count, where each count
-/// is 1 if counts aren't read: the greatest first, and of equal ones the smaller document. It is found by
-/// seeks by count, so blocks are passed whose bounds say that none of their documents is among them. The
-/// cursor is then at its end. `OutOfMemory` where there is no room for so many.
+/// Returns the `n` remaining documents of a cursor with the greatest counts, each with its count: the greatest
+/// count first, and of equal counts the smaller document. Each count is 1 if counts aren't read. It seeks by
+/// count, so it skips blocks whose bounds rule out that one of their documents is among the `n`. The cursor
+/// is at its end afterwards.
+///
+/// # Errors
+///
+/// `OutOfMemory` if the list of `n` documents can't be allocated.
 pub fn top_by_count(
     alloc: Global,
     cursor: &mut SegmentPostings,
@@ -33,7 +37,7 @@ pub fn top_by_count(
     Ok(best)
 }
 
-// Puts a document behind those that have no smaller count, and leaves the first `n`.
+// Inserts a document after those with no smaller count, and keeps the first `n`.
 fn put(best: &mut Vec<(DocId, u32)>, n: usize, doc: DocId, count: u32) -> Result<(), Fault>
     ensures ok { OnOk result (best.new.items ≡ take n (placed (doc, count) best.old.items)) }
     ensures few { OnOk result (length best.new.items ≤ n) }
@@ -49,7 +53,7 @@ fn put(best: &mut Vec<(DocId, u32)>, n: usize, doc: DocId, count: u32) -> Result
     }
 }
 
-// The place behind those that have no smaller count.
+// Returns the index after the documents with no smaller count.
 fn place_of(best: &[(DocId, u32)], count: u32) -> usize
     ensures place { (doc : ℕ) → placed (doc, count) best.now ≡ insert best.now result (doc, count) }
     ensures within { result ≤ length best.now }
@@ -62,7 +66,7 @@ fn place_of(best: &[(DocId, u32)], count: u32) -> usize
     best.len()
 }
 
-// The count that a document needs to be among the first `n`, of which these are known.
+// Returns the count that a document needs to be among the first `n`, given the best so far.
 fn least_of(best: &[(DocId, u32)], n: usize) -> u32
     ensures few { length best.now < n → result ≡ 0 }
     ensures all { (k : ℕ) → k < length best.now → result ≤ (slice_index_or best.now k (0, 0)).1 + 1 }

@@ -20,13 +20,15 @@ use ii_query_parser::{PhraseTerm, Query};
 use ii_reader::{OpenIndex, SegmentPostings};
 use std::alloc::Global;
 
-/// A cursor over the documents that match a query, in ascending order. Each term's field is one of the
-/// index (`Query::has_fields` tells), and those of phrases keep positions (`Query::keeps_positions`): in
-/// others no phrase is found.
+/// Returns a cursor over the documents that match a query, in ascending order. Each term's field must be a
+/// field of the index (see `Query::has_fields`). Phrases over fields without positions match nothing (see
+/// `Query::keeps_positions`). The stack that a search needs depends on how deep the query is nested, not on how
+/// many clauses it has.
 ///
-/// `Damaged` by the first part of a term's bytes that `InvertedIndexReader::read_postings` refuses, of the
-/// terms in the order of the query; `OutOfMemory` where there is no room for the parts of the cursor, or
-/// the files' buffer can't be shared once more.
+/// # Errors
+///
+/// `Damaged` with the first corrupt part of a term, of the terms in the order of the query; `OutOfMemory` if
+/// the cursor can't be allocated, or the files' buffer can't be shared once more.
 pub fn search(
     alloc: Global,
     index: &OpenIndex,
@@ -51,7 +53,7 @@ pub fn search(
     }
 }
 
-/// How many documents match a query. See `search` for what is asked and for the faults.
+/// Returns how many documents match a query. See `search` for the requirements and the errors.
 pub fn count(alloc: Global, index: &OpenIndex, query: &Query) -> Result<u32, Fault>
     requires fields { has_fields (length index.now.readers) query.now ≡ true }
     ensures listed { IfOk result (λ count. (es : List Entry) × (found_in index.now query.now ≡ Ok es) × (count ≡ length es)) }
@@ -66,7 +68,7 @@ pub fn count(alloc: Global, index: &OpenIndex, query: &Query) -> Result<u32, Fau
     }
 }
 
-// A cursor over what a query gives. It calls itself once for each level of nesting.
+// Returns a cursor over the documents of a query. It recurses once for each level of nesting.
 #[cycle(find)]
 #[tactic(auto, using(ii_query_parser::proofs::QueryLemmas::term_fields, ii_query_parser::proofs::QueryLemmas::phrase_fields, ii_query_parser::proofs::QueryLemmas::and_not_fields))]
 fn find(
@@ -89,7 +91,7 @@ fn find(
             Err(fault) => Err(fault),
         },
         Query::Or(queries) => match find_each(alloc, index, queries) {
-            Ok(cursors) => Ok(QueryCursor::union(cursors)),
+            Ok(cursors) => QueryCursor::union(alloc, cursors),
             Err(fault) => Err(fault),
         },
         Query::AndNot(first, other) => {
@@ -108,7 +110,7 @@ fn find(
     }
 }
 
-// Cursors over what each of some queries gives.
+// Returns a cursor for each query.
 #[cycle(find)]
 fn find_each(
     alloc: Global,
@@ -131,7 +133,7 @@ fn find_each(
     Ok(cursors)
 }
 
-// A cursor over the documents of a term.
+// Returns a cursor over the documents of a term.
 fn find_term(
     index: &OpenIndex,
     term: &Term,
@@ -147,7 +149,7 @@ fn find_term(
     }
 }
 
-// A cursor over the documents of a phrase.
+// Returns a cursor over the documents of a phrase.
 fn find_phrase(
     alloc: Global,
     index: &OpenIndex,
@@ -173,7 +175,7 @@ fn find_phrase(
     }
 }
 
-// Cursors over the documents of the other terms of a phrase.
+// Returns cursors over the documents of the other terms of a phrase.
 fn phrase_parts(
     alloc: Global,
     index: &OpenIndex,
@@ -199,8 +201,8 @@ fn phrase_parts(
     Ok(parts)
 }
 
-// A cursor over the list of a term, as far as it is requested; over no documents where the field hasn't the
-// term.
+// Returns a cursor over the postings of a term, as far as they are requested; over no documents if the field
+// doesn't have the term.
 fn postings_of(
     index: &OpenIndex,
     term: &Term,

@@ -9,10 +9,10 @@ use Rattle.ii_docset.proofs.IntersectionLemmas.{asked_for, at_end, doc_at-from_d
 use Rattle.ii_query.specs.Combined.{StandsAt, all_have, picked, union_of, without}
 use Rattle.ii_query.specs.QueryCursor.{KeptFrom, WentTo, cursors_under, rests}
 use Rattle.ii_query.proofs.MeetLemmas.{MetAt, all_kept, met_at, picked_first, picked_kept, picked_past, seek_met, seek_missed}
-use Rattle.ii_query.proofs.NestedLemmas.{stands_low}
+use Rattle.ii_query.proofs.NestedLemmas.{either_at, stands_low}
 use Rattle.ii_query.proofs.PartsLemmas.{DoneTo, depth_stays, done_depth, done_ends, done_long, done_next, least_next, least_to, union_at, union_from, went_sound, work_under}
 use Rattle.ii_query.proofs.PickedLemmas.{picked_at, picked_from, without_asked, without_at, without_found}
-use Rattle.ii_query.proofs.UnionLemmas.{next_from}
+use Rattle.ii_query.proofs.UnionLemmas.{either_from, next_from}
 use Rattle.ii_query.specs.WorkLaws.{all_went_on, none_went}
 use Rattle.ii_query.proofs.WorkLemmas.{all_beside}
 use Rattle.ii_query.proofs.query_cursor.+go_to.Goals as goal
@@ -332,3 +332,22 @@ leave_out-returns-clause-other_work g t c = c.loop-doc.invariant.other_work
 
 pub leave_out-returns-then-go_to-doc-clause-first_work : goal.leave_out-returns-then-go_to-doc-clause-first_work
 leave_out-returns-then-go_to-doc-clause-first_work g t c = c.loop-doc.invariant.first_work
+
+pub move_to-returns-in-Either-clause-at : goal.move_to-returns-in-Either-clause-at
+move_to-returns-in-Either-clause-at g t c =
+    rw (c.min.ensures) (either_at c.go_to-one.new.self.rest c.go_to-two.new.self.rest c.go_to-one.result c.go_to-two.result c.go_to-one.ensures.sound c.go_to-two.ensures.sound c.go_to-one.ensures.doc c.go_to-two.ensures.doc)
+
+pub move_to-returns-in-Either-clause-rest : goal.move_to-returns-in-Either-clause-rest
+move_to-returns-in-Either-clause-rest g t c =
+    let es = c.in-Either.first.value.rest in
+    let fs = c.in-Either.other.value.rest in
+    let one : c.go_to-one.new.self.rest ≡ from_doc c.args.target es = search rules in
+    let two : c.go_to-two.new.self.rest ≡ from_doc c.args.target fs = search rules in
+    rw (c.in-Either.is, one, two) (either_from c.args.target es fs)
+
+pub move_to-returns-in-Either-clause-work : goal.move_to-returns-in-Either-clause-work
+move_to-returns-in-Either-clause-work g t c =
+    let went = g.T.DocSet.went in
+    let first : AllZip went c.in-Either.first.value.cursors c.go_to-one.new.self.cursors = search rules in
+    let other : AllZip went c.in-Either.other.value.cursors c.go_to-two.new.self.cursors = search rules in
+    rw (c.in-Either.is) (all_beside went c.in-Either.first.value.cursors c.in-Either.other.value.cursors c.go_to-one.new.self.cursors c.go_to-two.new.self.cursors first other)

@@ -5,6 +5,8 @@ use Rattle.ii_query.specs.QueryCursor.{WentTo, rest_of, rests}
 use Rattle.ii_query.proofs.UnionLemmas.{next_from, nothing_next}
 use Rattle.ii_query.specs.WorkLaws.{none_went}
 use Rattle.ii_query.proofs.PartsLemmas.{union_next, work_under}
+use Rattle.std.specs.List.{AllZip}
+use Rattle.ii_query.proofs.WorkLemmas.{all_beside}
 use Rattle.ii_query.proofs.query_cursor.QueryCursorDocSet.advance.Goals as goal
 
 pub returns-then-doc-ge-TERMINATED-clause-rest : goal.returns-then-doc-ge-TERMINATED-clause-rest
@@ -30,3 +32,10 @@ pub returns-in-Union-clause-work : goal.returns-in-Union-clause-work
 returns-in-Union-clause-work g c =
     rw (← c.self.view_is, c.in-Union.is)
     (work_under g.T.DocSet.went (WentTo g.T.DocSet.went (c.current-doc.result + 1)) (λ o n w. w.work) c.in-Union.parts.items c.go_to_each-next.new.parts.items c.go_to_each-next.ensures.went)
+
+pub returns-in-Either-clause-work : goal.returns-in-Either-clause-work
+returns-in-Either-clause-work g c =
+    let first : AllZip g.T.DocSet.went c.in-Either.first.value.cursors c.pass_either-next.new.first.cursors = search rules in
+    let other : AllZip g.T.DocSet.went c.in-Either.other.value.cursors c.pass_either-next.new.other.cursors = search rules in
+    rw (← c.self.view_is, c.in-Either.is)
+    (all_beside g.T.DocSet.went c.in-Either.first.value.cursors c.in-Either.other.value.cursors c.pass_either-next.new.first.cursors c.pass_either-next.new.other.cursors first other)
