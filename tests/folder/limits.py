@@ -29,29 +29,38 @@ def small_stack():
     resource.setrlimit(resource.RLIMIT_STACK, (STACK, STACK))
 
 
-def wants(program, room, words, status, out, err='', given=b''):
-    done = subprocess.run([program, *words], input=given, stdout=subprocess.PIPE, stderr=subprocess.PIPE, cwd=room, timeout=110, preexec_fn=small_stack)
+def wants(program, room, words, status, out, err='', given=b'', before=small_stack):
+    """Runs the program, which has to end so, print this, and write something with this in it on standard error."""
+    told = f'{[word[:60] for word in words]}'
+    try:
+        done = subprocess.run([program, *words], input=given, stdout=subprocess.PIPE, stderr=subprocess.PIPE, cwd=room, timeout=110, preexec_fn=before)
+    except subprocess.TimeoutExpired:
+        raise Failed(f'{told}: no end within 110 seconds') from None
     if done.returncode != status or done.stdout.decode() != out or err not in done.stderr.decode():
-        raise Failed(f'{[word[:60] for word in words]}: status {done.returncode}, {done.stdout[-200:]!r}, {done.stderr[-300:]!r}; wanted {status}, {out!r}, {err!r}')
+        raise Failed(f'{told}: status {done.returncode}, {done.stdout[-200:]!r}, {done.stderr[-300:]!r}; wanted {status}, {out!r}, {err!r}')
 
 
 def queries(program, room):
-    """Queries of many words over many fields."""
+    """Queries of many words in one field, of one word in many fields, and of parentheses in one another."""
     row = [f'w{number}' for number in range(WORDS)]
     for query, found in (
-            (' '.join(row), [0, 1, 2]),
-            (' OR '.join(row), [0, 1, 2]),
-            (' AND '.join(['f0:common'] * WORDS), [0, 1]),
-            (' AND '.join(f'f{number % FIELDS}:common' for number in range(FIELDS)), [0]),
-            ('common' + ' AND -none' * WORDS, [0, 1, 2]),
-            ('common ' + ' '.join(f'-{word}' for word in row[10:]), [0, 1]),
-            ('f0:"' + ' '.join(['common'] * 20) + '"', []),
-            ('(' * NESTING + 'common' + ')' * NESTING, [0, 1, 2]),
-            ('(' * NESTING + 'common' + ' none)' * NESTING, [0, 1, 2]),
-            ('common AND -(none OR (' * (NESTING // 2) + 'none' + '))' * (NESTING // 2), [0, 1, 2])):
-        wants(program, room, ['search', 'folder', query], 0 if found else 1, ''.join(f'{doc}\n' for doc in found))
-    wants(program, room, ['search', 'folder', '(' * (NESTING + 1) + 'common' + ')' * (NESTING + 1)], 2, '', f'at byte {NESTING}')
+            (' '.join(row), [0, 1]),
+            (' OR '.join(row), [0, 1]),
+            (' AND '.join(['common'] * WORDS), [0, 1]),
+            ('common' + ' AND -none' * WORDS, [0, 1]),
+            ('common ' + ' '.join(f'-{word}' for word in row[3:]), [1]),
+            ('"' + ' '.join(['common'] * 20) + '"', [])):
+        wants(program, room, ['search', 'folder', query, '--field', 'f0'], 0 if found else 1, ''.join(f'{doc}\n' for doc in found))
+    wants(program, room, ['search', 'folder', 'common'], 0, '0\n1\n2\n')
+    wants(program, room, ['search', 'folder', ' AND '.join(f'f{number}:common' for number in range(FIELDS))], 0, '0\n')
     wants(program, room, ['search', 'folder', 'common', '--positions', '--limit', '1', '--field', 'f1'], 0, '0\tf1:common 0\n')
+    for query, found in (
+            ('(' * NESTING + 'common' + ')' * NESTING, [0, 1]),
+            ('(' * NESTING + 'common' + ' none)' * NESTING, [0, 1]),
+            ('common AND -(none OR (' * (NESTING // 2) + 'none' + '))' * (NESTING // 2), [0, 1]),
+            ('common w1 AND w3 AND -none AND (' * NESTING + 'w3' + ') -none' * NESTING, [0, 1])):
+        wants(program, room, ['search', 'folder', query, '--field', 'f0'], 0 if found else 1, ''.join(f'{doc}\n' for doc in found), before=None)
+    wants(program, room, ['search', 'folder', '(' * (NESTING + 1) + 'common' + ')' * (NESTING + 1)], 2, '', f'at byte {NESTING}')
 
 
 def main():
@@ -62,11 +71,8 @@ def main():
     with tempfile.TemporaryDirectory() as room:
         with open(os.path.join(room, 'schema.toml'), 'w', encoding='utf-8') as file:
             file.write(''.join(f'[[field]]\nname = "f{number}"\ntype = "text"\n\n' for number in range(FIELDS)))
-        docs = [{f'f{number}': 'common' for number in range(FIELDS)}, {'f0': 'common w1'}, {'f5': 'w2 common w9999'}]
+        docs = [{f'f{number}': 'common w3' if number == 0 else 'common' for number in range(FIELDS)}, {'f0': 'common w1'}, {'f5': 'w2 common w9999'}]
         try:
-            given = ''.join(json.dumps(doc) + '\n' for doc in docs).encode()
-            wants(program, room, ['index', 'folder', '--schema', 'schema.toml'], 0, '3 documents indexed\n', given=given)
-            docs[0]['f7'] = 'common w3'
             given = ''.join(json.dumps(doc) + '\n' for doc in docs).encode()
             wants(program, room, ['index', 'folder', '--schema', 'schema.toml'], 0, '3 documents indexed\n', given=given)
             queries(program, room)

@@ -279,7 +279,7 @@ def refusals(user, docs):
         user.write('bad.jsonl', b'{"body": "one"}\n' + line + b'\n')
         user.wants(['index', 'folder', '--schema', schema, 'bad.jsonl'], 1, '', f'bad.jsonl:2: {reason}')
     bad = b''.join((line if isinstance(line, bytes) else line.encode()) + b'\n' for line, _ in BAD_LINES)
-    user.wants(['index', 'some', '--schema', schema, 'bad.jsonl', '-'], 1, '', '-:1: not an object', given=b'[1]\n')
+    user.wants(['index', 'some', '--schema', schema, '-'], 1, '', '-:1: not an object', given=b'[1]\n')
     user.write('one.jsonl', '{"body": "one"}\n')
     user.wants(['index', 'some', '--schema', schema, 'one.jsonl', '-', 'one.jsonl'], 0, '3 documents indexed\n', given=b'{"body": "two"}\n')
     user.wants(['search', 'some', 'two'], 0, '1\n')
@@ -295,6 +295,12 @@ def refusals(user, docs):
                           (['search', 'folder', 'a AND'], 'a AND: '), (['search', 'folder', 'nofield:a'], 'no such field'), (['search', 'folder', 'a', '--field', 'nofield'], 'no field nofield'), (['terms', 'folder', 'body', '--top', 'x'], '--top x: expected a whole number from 0 to 4294967295'),
                           (['about', 'file.name'], ''), ([], 'Usage: nequllpa')):
         user.wants(words, 2, '', reason)
+    long = 'x' * 65531
+    given = lines([{'body': f'a {long} b'}, {'about': {'k': [long, f'{long} {long}', long[:-1]]}}]).encode()
+    user.wants(['index', 'some', '--schema', schema], 0, '2 documents indexed\n', 'nequllpa: 4 words of more than 65530 bytes are not indexed\n', given=given)
+    user.wants(['search', 'some', 'body:"a b"'], 1, '')
+    user.wants(['postings', 'some', 'body', 'b', '--positions'], 0, '0 1 2\n')
+    user.wants(['postings', 'some', 'about', f'k s {long[:-1]}'], 0, '1 1\n')
     user.wants(['search', 'folder', b'\xff'], 2, '', 'nequllpa: an argument is not UTF-8')
     with open('/dev/full', 'wb') as full:
         done = subprocess.run([user.program, 'terms', 'folder', 'body'], stdout=full, stderr=subprocess.PIPE, cwd=user.folder, timeout=600)

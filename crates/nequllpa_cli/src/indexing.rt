@@ -1,12 +1,12 @@
 //! How an index is made of files of JSON lines.
 use crate::commands::{NO, PROGRAM, REFUSED, refuse, refuse_file, refuse_path};
 use clap::ArgMatches;
-use ii_base::{Field, Schema, ValueType};
+use ii_base::{AsciiTokenizer, Field, Schema, ValueType};
 use ii_documents::{LineFault, ValueFault};
 use ii_schema_text::{SchemaFault, field_name_at, read_schema};
 use ii_store::save::{remove_unused, save};
 use ii_store::{DirectoryFault, Folder, FolderLock, StoredIndex};
-use nequllpa_indexing::{Documents, InputFault, add_line, store};
+use nequllpa_indexing::{Documents, InputFault, MAX_TOKEN_LEN, add_line, store};
 use serde_json::Error as JsonError;
 use std::fs;
 use std::io::{BufRead, BufReader, Input};
@@ -392,6 +392,16 @@ fn nesting(line: &[u8]) -> u32 {
     most
 }
 
+// Prints how many words are not indexed because they are too long, if any are.
+fn tell_long_words(rt: &HostRuntime, count: u64) -> anyhow::Result<()> {
+    if count > 0 {
+        eprintln!(rt;
+            "{PROGRAM}: {count} words of more than {MAX_TOKEN_LEN} bytes are not indexed"
+        )?;
+    }
+    Ok(())
+}
+
 // Makes the index of the documents and saves it.
 fn save_index(
     rt: &HostRuntime,
@@ -407,6 +417,7 @@ fn save_index(
         reported: _,
         begun: _,
     } = intake;
+    tell_long_words(rt, documents.num_long_words(&AsciiTokenizer))?;
     let stored = match store(rt.alloc(), documents, schema) {
         Ok(stored) => stored,
         Err(fault) => return Ok(ExitCode::from(refuse(rt, fault)?)),

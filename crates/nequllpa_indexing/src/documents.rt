@@ -7,6 +7,7 @@ ghost use Rattle.ii_indexing.specs.Refusals.{calls_fault};
 ghost use Rattle.nequllpa_indexing.specs.Documents.{AddsLine, DocumentsState, next_calls};
 ghost use Rattle.ii_documents.specs.JsonLines.{TellsOfLine, told_of_line};
 
+use crate::long_words::count_long_words;
 use ii_base::{Fault, Schema, TextAnalyzer};
 use ii_docset::{DocId, TERMINATED};
 use ii_documents::{LineFault, line_calls};
@@ -94,6 +95,11 @@ impl Documents {
         self.calls.append(&mut calls)?;
         self.num_docs += 1;
         Ok(())
+    }
+
+    /// Returns how many words of the documents are too long to be indexed (`count_long_words`).
+    pub fn num_long_words<A: TextAnalyzer>(&self, analyzer: &A) -> u64 {
+        count_long_words(analyzer, self.calls.as_slice())
     }
 
     /// Writes the files of an index of the documents, whose texts an analyzer cuts, and hands the writers

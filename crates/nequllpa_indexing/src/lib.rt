@@ -3,8 +3,11 @@
 
 pub mod documents;
 pub mod faults;
+pub mod long_words;
 pub mod storing;
 
 pub use documents::Documents;
 pub use faults::InputFault;
+pub use ii_postings_writer::postings_writer::MAX_TOKEN_LEN;
+pub use long_words::count_long_words;
 pub use storing::{add_line, store};

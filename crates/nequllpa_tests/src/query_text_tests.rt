@@ -5,25 +5,44 @@ use nequllpa::{ParseError, parse, parse_query};
 use std::alloc::{AllocError, Global};
 use std::test::Fail;
 
-// The tree of a text as text again, or what was wanted, and where.
+// The tree of a text as text again, or why it has none, and where.
 fn read(alloc: Global, text: &str) -> Result<String, Fault> {
     match parse(alloc, text) {
         Ok(ast) => Ok(ast.spell(alloc)?),
-        Err(ParseError::Syntax(wanted, at)) => Ok(format!(in alloc; "{wanted} at {at}")?),
         Err(ParseError::OutOfMemory) => Err(Fault::from(AllocError)),
+        Err(error) => Ok(format!(in alloc; "{error}")?),
     }
 }
 
-static TREES: [(&str, &str); 9] = [
+static TREES: [(&str, &str); 13] = [
+    ("a NOT b", "a AND -b"),
+    ("new\\ york", "new\\ york"),
+    (
+        "se*",
+        "at byte 2: prefixes and wildcards (se*, s?a) are not supported; put the word in quotes to search for it as it is",
+    ),
+    (
+        "",
+        "at byte 0: the query is empty: write a word to search for",
+    ),
     ("title:hello", "title:hello"),
     ("body:\"new york\"", "body:\"new york\""),
     ("a b AND c", "a OR (b AND c)"),
     ("a -b  c", "(a OR c) AND -b"),
     ("((a) AND -(b OR \"OR\"))", "a AND -(b OR \"OR\")"),
-    ("-c", "something that is not excluded at 2"),
-    ("(a (b)", "a closing parenthesis at 6"),
-    ("a )", "the end of the query at 2"),
-    ("a: b", "a word or a phrase behind the colon at 2"),
+    (
+        "-c",
+        "at byte 2: something must be searched for that is not excluded: add a word without a minus",
+    ),
+    ("(a (b)", "at byte 6: expected a closing parenthesis"),
+    (
+        "a )",
+        "at byte 2: expected the end of the query: this parenthesis closes none",
+    ),
+    (
+        "a: b",
+        "at byte 2: expected a word or a phrase after the colon",
+    ),
 ];
 
 #[test]
@@ -52,9 +71,12 @@ fn refusal(alloc: Global, text: &str) -> Result<String, Fault> {
 fn refused_texts_are_told(rt: HostRuntime) -> Result<(), Fail> {
     let rows = [
         ("field:red", "it is one"),
-        ("color:red", "no such field"),
-        ("field:.", "a text with tokens was expected"),
-        ("a )", "the end of the query was wanted at byte 2"),
+        ("color:red", "no field has this name"),
+        ("field:.", "expected a text with words"),
+        (
+            "a )",
+            "at byte 2: expected the end of the query: this parenthesis closes none",
+        ),
     ];
     for (text, wanted) in rows {
         let told = refusal(rt.alloc(), text)?;
