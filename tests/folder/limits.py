@@ -57,7 +57,7 @@ def queries(program, room):
     for query, found in (
             ('(' * NESTING + 'common' + ')' * NESTING, [0, 1]),
             ('(' * NESTING + 'common' + ' none)' * NESTING, [0, 1]),
-            ('common AND -(none OR (' * (NESTING // 2) + 'none' + '))' * (NESTING // 2), [0, 1]),
+            ('common AND -(none OR (' * (NESTING // 2) + 'none' + '))' * (NESTING // 2), []),
             ('common w1 AND w3 AND -none AND (' * NESTING + 'w3' + ') -none' * NESTING, [0, 1])):
         wants(program, room, ['search', 'folder', query, '--field', 'f0'], 0 if found else 1, ''.join(f'{doc}\n' for doc in found), before=None)
     wants(program, room, ['search', 'folder', '(' * (NESTING + 1) + 'common' + ')' * (NESTING + 1)], 2, '', f'at byte {NESTING}')

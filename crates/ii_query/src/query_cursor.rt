@@ -94,6 +94,7 @@ impl<T: DocSet> QueryCursor<T> {
 
     /// Returns a cursor over the documents that all cursors have; without cursors, over none. The cursor
     /// with the least hint leads. Fails only with `OutOfMemory`.
+    #[inline(never)]
     pub fn intersection(
         alloc: Global,
         cursors: Vec<QueryCursor<T>>,
@@ -118,6 +119,7 @@ impl<T: DocSet> QueryCursor<T> {
 
     /// Returns a cursor over the documents that at least one of the cursors has, each once; without cursors,
     /// over none. Fails only with `OutOfMemory`.
+    #[inline(never)]
     pub fn union(alloc: Global, cursors: Vec<QueryCursor<T>>) -> Result<QueryCursor<T>, Fault>
         ensures rest { IfOk result (λ cursor. cursor.rest ≡ union_of (rests cursors.items)) }
         ensures cursors { IfOk result (λ cursor. cursor.cursors ≡ cursors_under cursors.items) }
@@ -138,6 +140,7 @@ impl<T: DocSet> QueryCursor<T> {
 
     /// Returns a cursor over the documents that `first` has and `other` doesn't have. Fails only with
     /// `OutOfMemory`.
+    #[inline(never)]
     pub fn without(
         alloc: Global,
         first: QueryCursor<T>,

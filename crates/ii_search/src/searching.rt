@@ -8,9 +8,10 @@ ghost use Rattle.ii_definitions.specs.Tokens.{IndexToken};
 ghost use Rattle.ii_reader.specs.InvertedIndexReader.{IsRefusal};
 ghost use Rattle.ii_reader.specs.OpenIndex.{IndexHolds};
 ghost use Rattle.ii_query.specs.Phrase.{cursors_in, parts_in};
+ghost use Rattle.ii_query.specs.Combined.{without};
 ghost use Rattle.ii_query.specs.QueryCursor.{cursors_under, rests};
 ghost use Rattle.ii_search.specs.Decodes.{DecodesFew, EachDecodesFew};
-ghost use Rattle.ii_search.specs.Found.{GivesCount, GivesMatches, docs_of_term, found_in, lists_found, phrase_of, phrase_parts_of};
+ghost use Rattle.ii_search.specs.Found.{GivesCount, GivesMatches, combined, docs_of_term, found_in, lists_found, phrase_of, phrase_parts_of};
 ghost use Rattle.ii_query_parser.specs.Queries.{has_fields, keeps_positions, trees_of};
 
 use ii_base::{Fault, IndexRecordOption, Term};
@@ -94,24 +95,40 @@ fn find(
             Ok(cursors) => QueryCursor::union(alloc, cursors),
             Err(fault) => Err(fault),
         },
-        Query::AndNot(first, other) => {
-            let first = match find(alloc, index, first) {
-                Ok(first) => first,
-                Err(fault) => return Err(fault),
-            };
-            match find(alloc, index, other) {
-                Ok(other) => QueryCursor::without(alloc, first, other),
-                Err(fault) => {
-                    drop(first);
-                    Err(fault)
-                }
-            }
+        Query::AndNot(first, other) => match find(alloc, index, first) {
+            Ok(first) => find_without(alloc, index, first, other),
+            Err(fault) => Err(fault),
+        },
+    }
+}
+
+// A cursor over the documents that a cursor has and a query doesn't give. It is apart from `find`, as are the
+// others that hold a cursor, so that a level of a query takes little of the stack.
+#[cycle(find)]
+#[inline(never)]
+fn find_without(
+    alloc: Global,
+    index: &OpenIndex,
+    first: QueryCursor<TermOrPhrase<SegmentPostings>>,
+    other: &Query,
+) -> Result<QueryCursor<TermOrPhrase<SegmentPostings>>, Fault>
+    requires fields { has_fields (length index.now.readers) other.now ≡ true }
+    ensures listed { IfOk result (λ cursor. combined without (Ok first.rest) (found_in index.now other.now) ≡ Ok cursor.rest) }
+    ensures lazy { AllByRecursion EachDecodesFew first.cursors → IfOk result (λ cursor. AllByRecursion EachDecodesFew cursor.cursors) }
+    ensures refused { IfErr result (IsRefusal (combined without (Ok first.rest) (found_in index.now other.now))) }
+{
+    match find(alloc, index, other) {
+        Ok(other) => QueryCursor::without(alloc, first, other),
+        Err(fault) => {
+            drop(first);
+            Err(fault)
         }
     }
 }
 
 // Returns a cursor for each query.
 #[cycle(find)]
+#[inline(never)]
 fn find_each(
     alloc: Global,
     index: &OpenIndex,
@@ -134,6 +151,7 @@ fn find_each(
 }
 
 // Returns a cursor over the documents of a term.
+#[inline(never)]
 fn find_term(
     index: &OpenIndex,
     term: &Term,
@@ -150,6 +168,7 @@ fn find_term(
 }
 
 // Returns a cursor over the documents of a phrase.
+#[inline(never)]
 fn find_phrase(
     alloc: Global,
     index: &OpenIndex,

@@ -46,9 +46,9 @@ pub fn write_listing<W: Write>(
     if how.limit == 0 {
         return Ok(count(alloc, opened.index(), query)? > 0);
     }
-    let found = found_of(alloc, opened, query, how)?;
+    let found = found_of(alloc, opened, query, &how)?;
     let any = !found.docs.is_empty();
-    let written = write_found(alloc, out, opened, query, how, &found);
+    let written = write_found(alloc, out, opened, query, &how, &found);
     drop(found);
     match written {
         Ok(()) => Ok(any),
@@ -61,7 +61,7 @@ fn found_of(
     alloc: Global,
     opened: &Opened,
     query: &Query,
-    how: Listing,
+    how: &Listing,
 ) -> Result<FoundPlaces, Fault>
     requires { has_fields (length opened.now.schema) query.now ≡ true }
 {
@@ -83,7 +83,7 @@ fn write_found<W: Write>(
     out: &mut W,
     opened: &Opened,
     query: &Query,
-    how: Listing,
+    how: &Listing,
     found: &FoundPlaces,
 ) -> Result<(), AnswerFault> {
     let texts = texts_of(alloc, opened, query)?;
@@ -104,7 +104,7 @@ fn write_found<W: Write>(
 fn ids_in(
     alloc: Global,
     opened: &Opened,
-    how: Listing,
+    how: &Listing,
     docs: &[DocId],
 ) -> Result<Ids, AnswerFault> {
     match how.ids {
@@ -122,7 +122,7 @@ fn ids_in(
 fn write_rows<W: Write>(
     alloc: Global,
     out: &mut W,
-    how: Listing,
+    how: &Listing,
     found: &FoundPlaces,
     texts: &[TermText],
     ids: &Ids,
@@ -193,7 +193,7 @@ impl Row<'_> {
         out: &mut W,
         texts: &[TermText],
         places: &[TermPlaces],
-        how: Listing,
+        how: &Listing,
     ) -> Result<(), AnswerFault> {
         if how.ids.is_none() {
             write!(out, "{}", self.doc)?;
@@ -216,7 +216,7 @@ impl Row<'_> {
         out: &mut W,
         texts: &[TermText],
         places: &[TermPlaces],
-        how: Listing,
+        how: &Listing,
     ) -> Result<(), AnswerFault> {
         write!(out, "{{\"doc\":{}", self.doc)?;
         if how.ids.is_some() {

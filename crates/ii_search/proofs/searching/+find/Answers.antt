@@ -19,8 +19,8 @@ find-find_each-requires-in-Or t c =
 pub find-returns-in-Ok-clause-lazy : goal.find-returns-in-Ok-clause-lazy
 find-returns-in-Ok-clause-lazy t c = few_meet c.in-Ok.cursors.items c.intersection.result c.in-Ok.ensures.lazy c.intersection.ensures.work
 
-pub find-returns-in-Ok-find-2-clause-lazy : goal.find-returns-in-Ok-find-2-clause-lazy
-find-returns-in-Ok-find-2-clause-lazy t c = few_beside c.in-Ok-find.first.cursors c.in-Ok-find-2.other.cursors c.without.result c.in-Ok-find.ensures.lazy c.in-Ok-find-2.ensures.lazy c.without.ensures.work
+pub find_without-returns-in-Ok-clause-lazy : goal.find_without-returns-in-Ok-clause-lazy
+find_without-returns-in-Ok-clause-lazy t c = λ few. few_beside c.args.first.cursors c.in-Ok.other.cursors c.without.result few c.in-Ok.ensures.lazy c.without.ensures.work
 
 pub find_each-returns-in-Err-clause-refused : goal.find_each-returns-in-Err-clause-refused
 find_each-returns-in-Err-clause-refused t c =
