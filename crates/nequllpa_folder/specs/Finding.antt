@@ -3,7 +3,7 @@ use Rattle.std.specs.Prelude.{ℕ, List, [], ◌∷◌, ◌++◌, map, take, Opt
 use Rattle.std.specs.Option.{option_map}
 use Rattle.ii_io.specs.Parts.{◌>>=◌}
 use Rattle.ii_io.specs.declared.faults.Part.{Part}
-use Rattle.ii_base.specs.Entries.{Entry, docs_of}
+use Rattle.ii_base.specs.Entries.{docs_of}
 use Rattle.ii_base.specs.Terms.{TermState}
 use Rattle.ii_base.specs.declared.schema.index_record_option.IndexRecordOption.TheVariants.{WithFreqsAndPositions}
 use Rattle.ii_reader.specs.OpenIndex.{OpenIndexState, all_or_first}
