@@ -5,6 +5,7 @@
 pub mod block_cursors;
 pub mod bounds;
 pub mod cursors;
+pub mod damage;
 pub mod faults;
 pub mod indexing;
 pub mod json_fields;

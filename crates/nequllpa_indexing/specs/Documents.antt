@@ -1,8 +1,10 @@
 -- Documents that are to be indexed, as their calls.
-use Rattle.std.specs.Prelude.{◌≡◌, ◌+◌, ℕ, List, ◌++◌, nat_lt, if◌then◌else◌, Result, Ok, Err}
+use Rattle.std.specs.Prelude.{◌≡◌, ◌+◌, ℕ, List, ◌++◌, map, nat_lt, if◌then◌else◌, Result, Ok, Err}
 use Rattle.ii_base.specs.Schema.{SchemaEntry}
 use Rattle.ii_base.specs.declared.doc_id.TheConstants.{TERMINATED}
+use Rattle.ii_definitions.specs.IndexCalls.{MayAllBeIndexed, call_of}
 use Rattle.ii_definitions.specs.Tokens.{Call}
+use Rattle.ii_definitions.specs.declared.index_call.IndexCall.{IndexCall}
 use Rattle.ii_documents.specs.JsonLines.{Refusal, line_calls, too_many_documents}
 
 pub record DocumentsState : Type 0 where
@@ -21,3 +23,9 @@ with_document s cs = record s { num_docs = s.num_docs + 1; calls = s.calls ++ cs
 -- a line was added as what it says
 abbrev pub AddsLine : DocumentsState → DocumentsState → List ℕ → Type 0
 AddsLine old new line = (cs : List Call) × (next_calls old line ≡ Ok cs) × (new ≡ with_document old cs)
+
+-- Calls are those of index calls that may be made one after the other.
+pub record WereCalls (entries : List SchemaEntry) (num_docs : ℕ) (calls : List Call) : Type 0 where
+  pub made : List IndexCall
+  pub may : MayAllBeIndexed entries num_docs made
+  pub are : calls ≡ map (call_of entries) made

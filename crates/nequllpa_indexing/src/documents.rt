@@ -4,7 +4,7 @@ ghost use Rattle.ii_definitions.specs.Fields.{option_of};
 ghost use Rattle.ii_definitions.specs.Tokens.{tokens_of};
 ghost use Rattle.ii_indexing.specs.IndexFiles.{CountsIndexFailures, FilesGrow, IsIndexFault, WroteIndex};
 ghost use Rattle.ii_indexing.specs.Refusals.{calls_fault};
-ghost use Rattle.nequllpa_indexing.specs.Documents.{AddsLine, DocumentsState, next_calls};
+ghost use Rattle.nequllpa_indexing.specs.Documents.{AddsLine, DocumentsState, WereCalls, next_calls};
 ghost use Rattle.ii_documents.specs.JsonLines.{TellsOfLine, told_of_line};
 
 use crate::long_words::count_long_words;
@@ -72,9 +72,11 @@ impl Documents {
         &self.schema
     }
 
-    /// How many documents there are, at most `TERMINATED`.
+    /// Returns how many documents there are, at most `TERMINATED`. Their calls are those of index calls that may
+    /// be made one after the other.
     pub fn num_docs(&self) -> DocId
-        ensures { result ≡ self.now.num_docs }
+        ensures number { result ≡ self.now.num_docs }
+        ensures calls { WereCalls self.now.schema self.now.num_docs self.now.calls }
     {
         self.num_docs
     }

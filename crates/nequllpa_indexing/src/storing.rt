@@ -8,6 +8,7 @@ ghost use Rattle.ii_definitions.specs.Norms.{HoldNorms};
 ghost use Rattle.ii_definitions.specs.Tokens.{tokens_of};
 ghost use Rattle.ii_indexing.specs.RamFiles.{IsRamFault};
 ghost use Rattle.ii_indexing.specs.Refusals.{calls_fault};
+ghost use Rattle.nequllpa_indexing.specs.Documents.{WereCalls};
 ghost use Rattle.nequllpa_indexing.specs.Inputs.{AddsInput};
 
 use crate::documents::Documents;
@@ -48,6 +49,7 @@ pub fn store(alloc: Global, documents: Documents, schema: Vec<u8>) -> Result<Sto
     ensures says { IfOk result (λ s. (s.num_docs ≡ documents.num_docs) × (s.schema.items ≡ schema.items)) }
     ensures holds { IfOk result (λ s. HoldTokens (option_of documents.schema) s.terms.items s.postings.items s.positions.items (tokens_of ascii_words documents.calls)) }
     ensures norms { IfOk result (λ s. HoldNorms documents.schema documents.num_docs s.fieldnorms.items (tokens_of ascii_words documents.calls)) }
+    ensures calls { IfOk result (λ s. WereCalls documents.schema documents.num_docs documents.calls) }
     ensures refused { IfSome (calls_fault ascii_words (option_of documents.schema) [] documents.calls) (λ fault. (result ≡ Err fault) ⊎ (result ≡ Err Fault.OutOfMemory)) }
     ensures fault { calls_fault ascii_words (option_of documents.schema) [] documents.calls ≡ None
         → IfErr result (λ e. (e ≡ Fault.OutOfMemory) ⊎ IsRamFault documents.schema documents.num_docs (tokens_of ascii_words documents.calls) e) }

@@ -1,0 +1,24 @@
+// What is found damaged.
+ghost use Rattle.std.specs.Prelude.{◌≡◌, [], IfOk};
+
+use ii_base::{Fault, Schema};
+use ii_damage::{FoundDamage, Totals, find_damages};
+use nequllpa_indexing::{Documents, store};
+use std::alloc::Global;
+
+/// No damage is found in the index that was made of lines.
+pub fn indexed_lines_are_not_damaged(
+    alloc: Global,
+    documents: Documents,
+    schema: &Schema,
+    schema_text: Vec<u8>,
+) -> Result<Vec<FoundDamage>, Fault>
+    requires { schema.now ≡ documents.schema }
+    ensures { IfOk result (λ found. found.items ≡ []) }
+{
+    let mut totals = Totals::nothing();
+    match store(alloc, documents, schema_text) {
+        Ok(stored) => find_damages(alloc, schema, stored, &mut totals),
+        Err(fault) => Err(fault),
+    }
+}
