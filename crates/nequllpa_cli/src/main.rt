@@ -4,6 +4,7 @@
 mod checking;
 mod commands;
 mod indexing;
+mod query_texts;
 mod searching;
 mod usage;
 

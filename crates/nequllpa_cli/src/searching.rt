@@ -2,14 +2,11 @@
 ghost use Rattle.std.specs.Prelude.{◌≡◌, true, length};
 ghost use Rattle.ii_query_parser.specs.Queries.{has_fields};
 
-use crate::commands::{
-    PROGRAM, REFUSED, ended, field_named, number_given, opened_at, refuse, refuse_path,
-};
+use crate::commands::{REFUSED, ended, field_named, number_given, opened_at, refuse};
+use crate::query_texts::{refuse_query, tell_left_out};
 use clap::ArgMatches;
-use ii_base::{AsciiTokenizer, Field, TextAnalyzer, TokenStream, ValueType};
-use ii_query_parser::{
-    Query, QueryParserError, UserInputAst, parse, parse_query, unknown_field_name,
-};
+use ii_base::{AsciiTokenizer, Field, ValueType};
+use ii_query_parser::{Query, parse_query};
 use nequllpa_folder::{CountFormat, Listing, Opened, id_field, write_count, write_listing};
 use std::io::{self, BufWriter, Write};
 use std::process::ExitCode;
@@ -135,111 +132,6 @@ fn query_given(
         }
         Err(error) => Ok(Err(refuse_query(rt, opened, text, error)?)),
     }
-}
-
-// Prints why a text is no query, with the name of the field that it concerns, and gives the status.
-fn refuse_query(
-    rt: &HostRuntime,
-    opened: &Opened,
-    text: &str,
-    error: QueryParserError,
-) -> anyhow::Result<u8> {
-    if error == QueryParserError::FieldDoesNotExist {
-        return refuse_name(rt, opened, text, error);
-    }
-    let schema = opened.schema();
-    match error.field() {
-        Some(field) if (field.field_id() as usize) < schema.num_fields() => {
-            let name = schema.get_field_entry(field).name();
-            eprintln!(rt; "{PROGRAM}: {text}: field {name}: {error}")?;
-            Ok(REFUSED)
-        }
-        _ => refuse_path(rt, text, error),
-    }
-}
-
-// The same of a text that names no field of the schema.
-fn refuse_name(
-    rt: &HostRuntime,
-    opened: &Opened,
-    text: &str,
-    error: QueryParserError,
-) -> anyhow::Result<u8> {
-    let Ok(ast) = parse(rt.alloc(), text) else {
-        return refuse_path(rt, text, error);
-    };
-    let status = match unknown_field_name(opened.schema(), &ast) {
-        Some(name) => {
-            eprintln!(rt;
-                "{PROGRAM}: {text}: no field {name}; the command fields lists them. In quotes, or after a backslash, a colon is a character"
-            )?;
-            REFUSED
-        }
-        None => refuse_path(rt, text, error)?,
-    };
-    drop(ast);
-    Ok(status)
-}
-
-// Prints which default fields keep no positions, if the text has a phrase that is looked up in the others alone.
-fn tell_left_out(
-    rt: &HostRuntime,
-    opened: &Opened,
-    fields: &[Field],
-    text: &str,
-) -> anyhow::Result<()> {
-    let schema = opened.schema();
-    let Ok(ast) = parse(rt.alloc(), text) else {
-        return Ok(());
-    };
-    let has_phrase = has_default_phrase(&ast);
-    drop(ast);
-    if !has_phrase {
-        return Ok(());
-    }
-    for field in fields {
-        if (field.field_id() as usize) < schema.num_fields() {
-            let entry = schema.get_field_entry(*field);
-            if !entry.index_record_option().has_positions() {
-                let name = entry.name();
-                eprintln!(rt;
-                    "{PROGRAM}: the field {name} keeps no positions, so the phrase is not looked up in it; a word such as don't is a phrase of two"
-                )?;
-            }
-        }
-    }
-    Ok(())
-}
-
-// Whether a tree has a text of several words without the name of a field.
-#[cycle(has_default_phrase)]
-fn has_default_phrase(ast: &UserInputAst) -> bool {
-    match ast {
-        UserInputAst::Leaf(literal) => {
-            literal.field_name.is_none() && has_words(literal.phrase.as_str())
-        }
-        UserInputAst::And(parts) => have_default_phrase(parts),
-        UserInputAst::Or(parts) => have_default_phrase(parts),
-        UserInputAst::AndNot(first, other) => {
-            has_default_phrase(first) || has_default_phrase(other)
-        }
-    }
-}
-
-#[cycle(has_default_phrase)]
-fn have_default_phrase(parts: &Vec<UserInputAst>) -> bool {
-    for part in parts {
-        if has_default_phrase(part) {
-            return true;
-        }
-    }
-    false
-}
-
-// Whether a text has several words.
-fn has_words(text: &str) -> bool {
-    let mut stream = AsciiTokenizer.token_stream(text);
-    stream.advance() && stream.advance()
 }
 
 // The fields in which a word without the name of a field is looked up: those that are given, or all
