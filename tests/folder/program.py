@@ -291,8 +291,8 @@ def refusals(user, docs):
         user.wants(['index', 'folder', '--schema', 'bad.toml', 'a.jsonl'], 2, '', f'nequllpa: bad.toml: {reason}')
     for words, reason in ((['index', 'folder', 'a.jsonl'], '--schema'), (['index', 'folder', '--schema', 'none.toml'], 'no such file: none.toml'),
                           (['index', 'folder', '--schema', schema, 'none.jsonl'], 'no such file: none.jsonl'), (['postings', 'folder', 'nofield', 'a'], 'no field nofield'),
-                          (['postings', 'folder', 'number', 'x'], 'x is no term of number'), (['search', 'folder', 'number:x'], 'number:x: a number was expected'),
-                          (['search', 'folder', 'a AND'], 'a AND: '), (['search', 'folder', 'nofield:a'], 'no such field'), (['search', 'folder', 'a', '--field', 'nofield'], 'no field nofield'), (['terms', 'folder', 'body', '--top', 'x'], '--top x: expected a whole number from 0 to 4294967295'),
+                          (['postings', 'folder', 'number', 'x'], 'x is no term of number'), (['search', 'folder', 'number:x'], 'number:x: field number: expected a number'),
+                          (['search', 'folder', 'a AND'], 'a AND: '), (['search', 'folder', 'nofield:a'], 'nofield:a: no field nofield'), (['search', 'folder', 'a', '--field', 'nofield'], 'no field nofield'), (['terms', 'folder', 'body', '--top', 'x'], '--top x: expected a whole number from 0 to 4294967295'),
                           (['about', 'file.name'], ''), ([], 'Usage: nequllpa')):
         user.wants(words, 2, '', reason)
     long = 'x' * 65531
@@ -418,7 +418,7 @@ def stopped(user, docs):
         told = user.wants(['check', 'locked'], 0)
         if not told.startswith(f'{len(docs)} documents; '):
             raise Failed(f'after a write with room for {size} bytes: {told!r}')
-        user.wants(['index', 'new', '--schema', schema, 'b.jsonl'], 2, '', 'make room', before=room_for(size))
+        user.wants(['index', 'new', '--schema', schema, 'b.jsonl'], 2, '', 'free some space', before=room_for(size))
         user.wants(['check', 'new'], 1, 'new: no index here\n')
 
 
