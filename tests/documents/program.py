@@ -21,7 +21,7 @@ PRINTS = {
     """./nequllpa search sea '"the sea" NOT bird'""": '1\n',
     './nequllpa check sea': '0 damages\n',
     'rt new crates/mine start_io': None,
-    'rm crates/mine/BUILD.bazel': '',
+    'rm -f crates/mine/BUILD.bazel': '',
     "echo 'mine: nequllpa anyhow' >> crates.txt": '',
     'cd crates/mine && rt try': None,
 }
