@@ -1,5 +1,5 @@
 #!/usr/bin/env python3
-"""Runs the parts that `ii_exercise` puts together with each allocation refused in turn: each line has to be the right
+"""Runs the parts that `ii_allocation_tests` puts together with each allocation refused in turn: each line has to be the right
 one, but for the one that says that memory was refused, or its writer, which is over memory."""
 import os
 import sys

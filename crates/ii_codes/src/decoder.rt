@@ -10,7 +10,7 @@ ghost use Rattle.ii_io.specs.Vints.{u32s_at};
 
 use super::block_search::branchless_binary_search;
 use super::{COMPRESSION_BLOCK_SIZE, packed, vint};
-use ii_io::{LayoutFault, Part, Tally};
+use ii_io::{LayoutFault, Part, GhostCounter};
 use std::alloc::AllocError;
 use std::marker::Model;
 
@@ -19,7 +19,7 @@ use std::marker::Model;
 pub struct BlockDecoder {
     output: [u32; COMPRESSION_BLOCK_SIZE],
     output_len: usize,
-    decodes: Tally,
+    decodes: GhostCounter,
 }
 
 impl Model for BlockDecoder {
@@ -41,7 +41,7 @@ impl BlockDecoder {
         BlockDecoder {
             output: [val; COMPRESSION_BLOCK_SIZE],
             output_len: 0,
-            decodes: Tally::new(),
+            decodes: GhostCounter::new(),
         }
     }
 
@@ -291,7 +291,7 @@ impl BlockDecoder {
 }
 
 // Counts a decode of so many values, if there are any.
-fn count(num_els: usize, decodes: &mut Tally)
+fn count(num_els: usize, decodes: &mut GhostCounter)
     ensures { decodes.new.value ≡ decodes.old.value + decodes_of num_els }
 {
     if num_els > 0 {
@@ -306,7 +306,7 @@ fn read_sorted_row(
     num_els: usize,
     padding: u32,
     output: &mut [u32],
-    decodes: &mut Tally,
+    decodes: &mut GhostCounter,
 ) -> Option<usize>
     requires few { num_els ≤ 128 }
     requires room { length output.old ≡ 128 }
@@ -331,7 +331,7 @@ fn read_unsorted_row(
     num_els: usize,
     padding: u32,
     output: &mut [u32],
-    decodes: &mut Tally,
+    decodes: &mut GhostCounter,
 ) -> Option<usize>
     requires few { num_els ≤ 128 }
     requires room { length output.old ≡ 128 }
@@ -351,7 +351,7 @@ fn read_unsorted_row(
 }
 
 // The same for values until the bytes end, at most 128. Answers how many these are.
-fn read_until_end(compressed_data: &[u8], output: &mut [u32], decodes: &mut Tally) -> Option<usize>
+fn read_until_end(compressed_data: &[u8], output: &mut [u32], decodes: &mut GhostCounter) -> Option<usize>
     requires { length output.old ≡ 128 }
     ensures read { option_map (λ n. take n output.new) result ≡ u32s_until_end 128 compressed_data.now }
     ensures few { IfSome result (λ n. n ≤ 128) }

@@ -11,7 +11,7 @@ ghost use Rattle.ii_codes.specs.Sums.{fit_u32};
 
 use super::{COMPRESSION_BLOCK_SIZE, compressed_block_size};
 use byteorder::{ByteOrder, LittleEndian};
-use ii_io::Tally;
+use ii_io::GhostCounter;
 use lanes::{sorted_narrow, sorted_wide, sum_narrow, sum_wide, unpack_narrow, unpack_wide};
 use pairs::pack_narrow;
 
@@ -558,7 +558,7 @@ pub(crate) fn unpack_sorted(
     width: u8,
     strict: bool,
     output: &mut [u32],
-    decodes: &mut Tally,
+    decodes: &mut GhostCounter,
 ) -> Option<usize>
     requires { length output.old ≡ 128 }
     ensures value { option_map (λ used. (output.new, drop used bytes.now)) result ≡ sorted_block_at strict offset width bytes.now }
@@ -591,7 +591,7 @@ pub(crate) fn unpack_unsorted(
     width: u8,
     minus_one: bool,
     output: &mut [u32],
-    decodes: &mut Tally,
+    decodes: &mut GhostCounter,
 ) -> Option<usize>
     requires { length output.old ≡ 128 }
     ensures value { option_map (λ used. (output.new, drop used bytes.now)) result ≡ unsorted_block_at minus_one width bytes.now }

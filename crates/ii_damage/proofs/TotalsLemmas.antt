@@ -10,7 +10,7 @@ use Rattle.ii_base.specs.Schema.{SchemaEntry}
 use Rattle.ii_reader.specs.InvertedIndexReader.{InvertedIndexReaderState}
 use Rattle.ii_store.specs.declared.name.Kind.{Kind}
 use Rattle.ii_damage.specs.declared.checking.Totals.{Totals}
-use Rattle.ii_damage.specs.declared.walking.Walk.{Walk}
+use Rattle.ii_damage.specs.declared.walking.TermWalk.{TermWalk}
 use Rattle.ii_damage.specs.Damages.{FoundDamageState, IndexFiles, field_damages, field_entries, field_reader, u64_max}
 use Rattle.ii_damage.specs.Totals.{AddsTotals, HasTotals, opened_reader, opened_readers}
 use Rattle.ii_damage.specs.Walked.{HasWalked, positions_in}
@@ -20,7 +20,7 @@ pub no_totals : HasTotals [] (record { terms = 0; postings = 0; positions = 0 })
 no_totals = record { terms = refl; postings = refl; positions = refl }
 
 -- one more reader, whose lists were walked
-pub one_total : (n terms : ℕ) (rs : List InvertedIndexReaderState) (r : InvertedIndexReaderState) (walk : Walk) (old new : Totals) → new.terms ≡ min (old.terms + terms) u64_max → new.postings ≡ min (old.postings + walk.postings) u64_max
+pub one_total : (n terms : ℕ) (rs : List InvertedIndexReaderState) (r : InvertedIndexReaderState) (walk : TermWalk) (old new : Totals) → new.terms ≡ min (old.terms + terms) u64_max → new.postings ≡ min (old.postings + walk.postings) u64_max
     → new.positions ≡ min (old.positions + walk.positions) u64_max → terms ≡ length r.terms → HasWalked n (field_entries r) walk → HasTotals rs old → HasTotals (rs ++ r ∷ []) new
 one_total n terms rs r walk old new t p q is walked h = record {
   terms =

@@ -23,7 +23,7 @@ use Rattle.ii_base.specs.declared.schema.index_record_option.IndexRecordOption.{
 use Rattle.ii_reader.proofs.JsonLemmas.{entry_at, none_past}
 use Rattle.ii_damage.specs.declared.damage.Damage.{Damage}
 use Rattle.ii_damage.specs.declared.damage.FieldPlaces.{FieldPlaces}
-use Rattle.ii_damage.specs.declared.walking.Walk.{Walk}
+use Rattle.ii_damage.specs.declared.walking.TermWalk.{TermWalk}
 use Rattle.ii_damage.specs.Damages.{FoundDamageState, entries_read, field_entries, list_damage, of_term, stray_in, term_damage, term_damages, term_entries, tokens_in, tokens_of_doc, u32_max, u64_max, u128_max}
 use Rattle.ii_damage.specs.Walked.{HasWalked, positions_in, raised}
 
@@ -59,7 +59,7 @@ raised_by es e doc = by_case (e.doc == doc) refl
         rw (other, all, same) refl
 
 -- one more entry is counted
-pub one_walked : (n : ℕ) (es : List Entry) (e : Entry) (old new : Walk) → new.tokens ≡ min (old.tokens + e.term_freq) u128_max → new.postings ≡ min (old.postings + 1) u64_max
+pub one_walked : (n : ℕ) (es : List Entry) (e : Entry) (old new : TermWalk) → new.tokens ≡ min (old.tokens + e.term_freq) u128_max → new.postings ≡ min (old.postings + 1) u64_max
     → new.positions ≡ min (old.positions + length e.positions) u64_max → length new.counts.items ≡ length old.counts.items
     → ((d : ℕ) → slice_get new.counts.items d ≡ option_map (raised e.doc e.term_freq d) (slice_get old.counts.items d)) → HasWalked n es old → HasWalked n (es ++ e ∷ []) new
 one_walked n es e old new tokens postings positions many counts walked = record {
@@ -86,7 +86,7 @@ one_walked n es e old new tokens postings positions many counts walked = record 
     one_longer (x ∷ xs) = let ih = one_longer xs in omega (arith, ih)
 
 -- What a walk of a list knows: the entries so far, in front of those that are left, are the list, and so are the documents that are not in the index.
-pub record IsWalkingList (num_docs doc_freq i : ℕ) (list rest : List Entry) (stray : Option ℕ) (old now : Walk) : Type 0 where
+pub record IsWalkingList (num_docs doc_freq i : ℕ) (list rest : List Entry) (stray : Option ℕ) (old now : TermWalk) : Type 0 where
   pub done : List Entry
   pub whole : list ≡ done ++ rest
   pub found : stray_in num_docs list ≡ option_or stray (stray_in num_docs rest)
@@ -94,11 +94,11 @@ pub record IsWalkingList (num_docs doc_freq i : ℕ) (list rest : List Entry) (s
   pub walked : (n : ℕ) (es : List Entry) → HasWalked n es old → HasWalked n (es ++ done) now
 
 -- A walk of a list counted it, and found its first document that is not in the index.
-pub record WalksList (num_docs : ℕ) (list : List Entry) (stray : Option ℕ) (old now : Walk) : Type 0 where
+pub record WalksList (num_docs : ℕ) (list : List Entry) (stray : Option ℕ) (old now : TermWalk) : Type 0 where
   pub found : stray ≡ stray_in num_docs list
   pub walked : (n : ℕ) (es : List Entry) → HasWalked n es old → HasWalked n (es ++ list) now
 
-pub list_first : (num_docs doc_freq : ℕ) (list : List Entry) (old : Walk) → length list ≡ doc_freq → IsWalkingList num_docs doc_freq 0 list list None old old
+pub list_first : (num_docs doc_freq : ℕ) (list : List Entry) (old : TermWalk) → length list ≡ doc_freq → IsWalkingList num_docs doc_freq 0 list list None old old
 list_first num_docs doc_freq list old many = record {
   done = [];
   whole = refl;
@@ -119,7 +119,7 @@ strays_on num_docs e more stray = by_case (nat_le num_docs e.doc) refl stray
     by_case false is (Some doc) = refl
 
 -- one entry more
-pub list_next : (num_docs doc_freq i doc : ℕ) (list rest left : List Entry) (stray next : Option ℕ) (old now then_now : Walk) → doc ≡ doc_at rest → doc < TERMINATED
+pub list_next : (num_docs doc_freq i doc : ℕ) (list rest left : List Entry) (stray next : Option ℕ) (old now then_now : TermWalk) → doc ≡ doc_at rest → doc < TERMINATED
     → next ≡ option_or stray (if nat_le num_docs doc then Some doc else None)
     → ((n : ℕ) (es more : List Entry) (e : Entry) → rest ≡ e ∷ more → doc ≡ e.doc → HasWalked n es now → HasWalked n (es ++ e ∷ []) then_now)
     → left ≡ drop 1 rest → IsWalkingList num_docs doc_freq i list rest stray old now → IsWalkingList num_docs doc_freq (i + 1) list left next old then_now
@@ -132,7 +132,7 @@ list_next num_docs doc_freq i doc list (e ∷ more) left stray next old now then
   walked = λ n es walked. subst (λ (xs : List Entry). HasWalked n xs then_now) (append_assoc es h.done (e ∷ [])) (counts n (es ++ h.done) more e refl at (h.walked n es walked));
 }
 
-ends : (num_docs doc_freq i : ℕ) (list rest : List Entry) (stray : Option ℕ) (old now : Walk) → rest ≡ [] → IsWalkingList num_docs doc_freq i list rest stray old now → WalksList num_docs list stray old now
+ends : (num_docs doc_freq i : ℕ) (list rest : List Entry) (stray : Option ℕ) (old now : TermWalk) → rest ≡ [] → IsWalkingList num_docs doc_freq i list rest stray old now → WalksList num_docs list stray old now
 ends num_docs doc_freq i list rest stray old now none h =
     let whole : list ≡ h.done = h.whole ∙ ap (λ (xs : List Entry). h.done ++ xs) none ∙ append-nil h.done in
     record {
@@ -145,11 +145,11 @@ ends num_docs doc_freq i list rest stray old now none h =
     last (Some doc) = refl
 
 -- no document is left
-pub list_ends : (num_docs doc_freq i doc : ℕ) (list rest : List Entry) (stray : Option ℕ) (old now : Walk) → doc ≡ doc_at rest → TERMINATED ≤ doc → IsAscending rest
+pub list_ends : (num_docs doc_freq i doc : ℕ) (list rest : List Entry) (stray : Option ℕ) (old now : TermWalk) → doc ≡ doc_at rest → TERMINATED ≤ doc → IsAscending rest
     → IsWalkingList num_docs doc_freq i list rest stray old now → WalksList num_docs list stray old now
 list_ends num_docs doc_freq i doc list rest stray old now at end ascending h = ends num_docs doc_freq i list rest stray old now (sym (nothing_left rest ascending (rw at at end))) h
 
-pub list_over : (num_docs doc_freq i : ℕ) (list rest : List Entry) (stray : Option ℕ) (old now : Walk) → doc_freq ≤ i → IsWalkingList num_docs doc_freq i list rest stray old now → WalksList num_docs list stray old now
+pub list_over : (num_docs doc_freq i : ℕ) (list rest : List Entry) (stray : Option ℕ) (old now : TermWalk) → doc_freq ≤ i → IsWalkingList num_docs doc_freq i list rest stray old now → WalksList num_docs list stray old now
 list_over num_docs doc_freq i list rest stray old now end h = ends num_docs doc_freq i list rest stray old now (none rest (let m = h.many in omega (arith, m, end))) h
   where
     none : (xs : List Entry) → length xs ≡ 0 → xs ≡ []
@@ -157,7 +157,7 @@ list_over num_docs doc_freq i list rest stray old now end h = ends num_docs doc_
     none (x ∷ xs) is = absurd (omega (arith, is))
 
 -- What a walk of the terms of a field knows: the damages and the entries so far, in front of those of the terms that are left, are all.
-pub record IsWalkingTerms (num_docs : ℕ) (places : FieldPlaces) (reader : InvertedIndexReaderState) (terms : TermStreamerState) (ord : ℕ) (found : List FoundDamageState) (old now : Walk) : Type 0 where
+pub record IsWalkingTerms (num_docs : ℕ) (places : FieldPlaces) (reader : InvertedIndexReaderState) (terms : TermStreamerState) (ord : ℕ) (found : List FoundDamageState) (old now : TermWalk) : Type 0 where
   pub terms_are : terms ≡ record { entries = reader.terms; passed = ord }
   pub found_are : term_damages num_docs places reader ≡ found ++ filter_map (term_damage num_docs places reader) (drop ord reader.terms)
   pub done : List Entry
@@ -165,11 +165,11 @@ pub record IsWalkingTerms (num_docs : ℕ) (places : FieldPlaces) (reader : Inve
   pub walked : (n : ℕ) (es : List Entry) → HasWalked n es old → HasWalked n (es ++ done) now
 
 -- A walk of the terms of a field counted the entries of its lists, and found the damages of its terms.
-pub record WalksTerms (num_docs : ℕ) (places : FieldPlaces) (reader : InvertedIndexReaderState) (found : List FoundDamageState) (old now : Walk) : Type 0 where
+pub record WalksTerms (num_docs : ℕ) (places : FieldPlaces) (reader : InvertedIndexReaderState) (found : List FoundDamageState) (old now : TermWalk) : Type 0 where
   pub found_are : found ≡ term_damages num_docs places reader
   pub walked : (n : ℕ) (es : List Entry) → HasWalked n es old → HasWalked n (es ++ field_entries reader) now
 
-pub terms_first : (num_docs : ℕ) (places : FieldPlaces) (reader : InvertedIndexReaderState) (terms : TermStreamerState) (old : Walk) → terms ≡ record { entries = reader.terms; passed = 0 }
+pub terms_first : (num_docs : ℕ) (places : FieldPlaces) (reader : InvertedIndexReaderState) (terms : TermStreamerState) (old : TermWalk) → terms ≡ record { entries = reader.terms; passed = 0 }
     → IsWalkingTerms num_docs places reader terms 0 [] old old
 terms_first num_docs places reader terms old are = record {
   terms_are = are;
@@ -185,7 +185,7 @@ found_on f e es found None is = rw is (ap (λ (l : List FoundDamageState). l ++ 
 found_on f e es found (Some d) is = rw is (sym (append_assoc found (d ∷ []) (filter_map f es)))
 
 -- one term more
-pub terms_next : (num_docs : ℕ) (places : FieldPlaces) (reader : InvertedIndexReaderState) (terms next : TermStreamerState) (ord : ℕ) (key : List ℕ) (info : TermInfo) (found more : List FoundDamageState) (damage : Option Damage) (old now then_now : Walk)
+pub terms_next : (num_docs : ℕ) (places : FieldPlaces) (reader : InvertedIndexReaderState) (terms next : TermStreamerState) (ord : ℕ) (key : List ℕ) (info : TermInfo) (found more : List FoundDamageState) (damage : Option Damage) (old now then_now : TermWalk)
     → ord < length reader.terms → Some key ≡ slice_get (entry_keys terms.entries) terms.passed → Some info ≡ slice_get (entry_infos terms.entries) terms.passed
     → next ≡ record terms { passed = if nat_lt terms.passed (length terms.entries) then terms.passed + 1 else terms.passed }
     → damage ≡ list_damage num_docs (term_of_file reader reader.option info) → more ≡ found ++ option_to_list (option_map (of_term places key info) damage)
@@ -209,7 +209,7 @@ terms_next num_docs places reader terms next ord key info found more damage old 
     }
 
 -- no term is left
-pub terms_over : (num_docs : ℕ) (places : FieldPlaces) (reader : InvertedIndexReaderState) (terms : TermStreamerState) (ord : ℕ) (found : List FoundDamageState) (old now : Walk) → length reader.terms ≤ ord
+pub terms_over : (num_docs : ℕ) (places : FieldPlaces) (reader : InvertedIndexReaderState) (terms : TermStreamerState) (ord : ℕ) (found : List FoundDamageState) (old now : TermWalk) → length reader.terms ≤ ord
     → IsWalkingTerms num_docs places reader terms ord found old now → WalksTerms num_docs places reader found old now
 terms_over num_docs places reader terms ord found old now end h =
     let none = drop-end ord reader.terms end in
@@ -224,14 +224,14 @@ terms_over num_docs places reader terms ord found old now end h =
     drop-end (suc i) (e ∷ es) h = drop-end i es (omega (arith, h))
 
 -- there is a term before the end
-pub terms_short : (num_docs : ℕ) (places : FieldPlaces) (reader : InvertedIndexReaderState) (terms : TermStreamerState) (ord : ℕ) (found : List FoundDamageState) (old now : Walk) → ord < length reader.terms
+pub terms_short : (num_docs : ℕ) (places : FieldPlaces) (reader : InvertedIndexReaderState) (terms : TermStreamerState) (ord : ℕ) (found : List FoundDamageState) (old now : TermWalk) → ord < length reader.terms
     → None ≡ slice_get (entry_keys terms.entries) terms.passed → IsWalkingTerms num_docs places reader terms ord found old now → ⊥
 terms_short num_docs places reader terms ord found old now low none h =
     let there : None ≡ slice_get (entry_keys reader.terms) ord = rw h.terms_are at none in
     none_past reader.terms ord low (sym there)
 
 -- a list that opens is that of its term
-pub walked_by : (reader : InvertedIndexReaderState) (option : IndexRecordOption) (info : TermInfo) (cursor : SegmentPostingsState) (old now : Walk) → option ≡ reader.option → OpensTerm reader option info cursor
+pub walked_by : (reader : InvertedIndexReaderState) (option : IndexRecordOption) (info : TermInfo) (cursor : SegmentPostingsState) (old now : TermWalk) → option ≡ reader.option → OpensTerm reader option info cursor
     → ((n : ℕ) (es : List Entry) → HasWalked n es old → HasWalked n (es ++ cursor.rest) now) → (n : ℕ) (es : List Entry) → HasWalked n es old → HasWalked n (es ++ entries_read (term_of_file reader reader.option info)) now
 walked_by reader option info cursor old now option_is opens counts n es walked =
     let list : term_of_file reader reader.option info ≡ Ok cursor.rest = rw option_is at opens.list in

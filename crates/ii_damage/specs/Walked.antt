@@ -2,7 +2,7 @@
 use Rattle.std.specs.Prelude.{◌≡◌, ℕ, ◌+◌, ◌<◌, ◌==◌, if◌then◌else◌, List, length, min, Some, slice_get}
 use Rattle.std.specs.List.{sum_by}
 use Rattle.ii_base.specs.Entries.{Entry}
-use Rattle.ii_damage.specs.declared.walking.Walk.{Walk}
+use Rattle.ii_damage.specs.declared.walking.TermWalk.{TermWalk}
 use Rattle.ii_damage.specs.Damages.{tokens_in, tokens_of_doc, u32_max, u64_max, u128_max}
 
 -- how many positions entries have
@@ -15,7 +15,7 @@ pub record HasCounts (num_docs : ℕ) (es : List Entry) (counts : List ℕ) : Ty
   pub each : (doc : ℕ) → doc < num_docs → slice_get counts doc ≡ Some (min (tokens_of_doc doc es) u32_max)
 
 -- A walk in an index of `num_docs` documents has counted these entries.
-pub record HasWalked (num_docs : ℕ) (es : List Entry) (w : Walk) : Type 0 where
+pub record HasWalked (num_docs : ℕ) (es : List Entry) (w : TermWalk) : Type 0 where
   pub tokens : w.tokens ≡ min (tokens_in es) u128_max
   pub postings : w.postings ≡ min (length es) u64_max
   pub positions : w.positions ≡ min (positions_in es) u64_max

@@ -20,7 +20,7 @@ use crate::counts::{kept_norms_damage, tokens_damage};
 use crate::damage::{Damage, FoundDamage};
 use crate::keys::all_keep_counts;
 use crate::walked_files::{OpenedField, WalkedFiles};
-use crate::walking::Walk;
+use crate::walking::TermWalk;
 use ii_base::{Fault, Field, FieldEntry, Part, Schema};
 use ii_reader::InvertedIndexReader;
 use ii_store::{Kind, StoredIndex};
@@ -48,7 +48,7 @@ impl Totals {
 
     // Counts what was walked of a field.
     #[tactic(auto, using(crate::proofs::TotalsLemmas::one_total))]
-    fn add(&mut self, terms: usize, walk: &Walk)
+    fn add(&mut self, terms: usize, walk: &TermWalk)
         ensures { (n : ℕ) (rs : List InvertedIndexReaderState) (r : InvertedIndexReaderState) → terms ≡ length r.terms → HasWalked n (field_entries r) walk.now → HasTotals rs self.old → HasTotals (rs ++ r ∷ []) self.new }
     {
         self.terms = self.terms.saturating_add(terms as u64);
@@ -191,7 +191,7 @@ fn reader_damages(
     ensures totals { OnOk result (AddsTotals (reader.now ∷ []) totals.old totals.new) }
     ensures only { OnlyMemory result }
 {
-    let mut walk = Walk::new(alloc, files.num_docs())?;
+    let mut walk = TermWalk::new(alloc, files.num_docs())?;
     let found = walked_damages(alloc, files, field, entry, reader, &mut walk);
     totals.add(reader.terms().num_terms(), &walk);
     drop(walk);
@@ -205,7 +205,7 @@ fn walked_damages(
     field: Field,
     entry: &FieldEntry,
     reader: &InvertedIndexReader,
-    walk: &mut Walk,
+    walk: &mut TermWalk,
 ) -> Result<Vec<FoundDamage>, Fault>
     requires { HasWalked files.now.num_docs [] walk.old }
     ensures found { IfOk result (λ found. found.items ≡ reader_damages files.now field entry.now reader.now) }
@@ -227,7 +227,7 @@ fn count_damages(
     field: Field,
     entry: &FieldEntry,
     reader: &InvertedIndexReader,
-    walk: &Walk,
+    walk: &TermWalk,
 ) -> Result<Vec<FoundDamage>, Fault>
     requires { HasWalked files.now.num_docs (field_entries reader.now) walk.now }
     ensures found { IfOk result (λ found. found.items ≡ count_damages files.now field entry.now reader.now) }

@@ -14,4 +14,4 @@ pub use checking::{Totals, find_damages, tokens_of_calls_fit};
 pub use damage::{ByteRange, Damage, FieldPlaces, FoundDamage};
 pub use field_bodies::FieldBodies;
 pub use walked_files::{OpenedField, WalkedFiles};
-pub use walking::Walk;
+pub use walking::TermWalk;

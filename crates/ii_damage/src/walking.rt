@@ -18,7 +18,7 @@ use std::alloc::{AllocError, Global};
 
 /// What the lists of a field that were walked have.
 #[derive(Drop)]
-pub struct Walk {
+pub struct TermWalk {
     /// The tokens of each document, at most `u32::MAX`.
     pub counts: Vec<u32>,
     /// The tokens of all documents, at most `u128::MAX`.
@@ -29,13 +29,13 @@ pub struct Walk {
     pub positions: u64,
 }
 
-impl Walk {
+impl TermWalk {
     /// Creates a walk of no list, in an index of `num_docs` documents.
     #[tactic(auto, using(crate::proofs::WalkedLemmas::none_walked))]
-    pub fn new(alloc: Global, num_docs: DocId) -> Result<Walk, AllocError>
+    pub fn new(alloc: Global, num_docs: DocId) -> Result<TermWalk, AllocError>
         ensures { IfOk result (HasWalked num_docs []) }
     {
-        Ok(Walk {
+        Ok(TermWalk {
             counts: vec![in alloc; 0u32; num_docs as usize]?,
             tokens: 0,
             postings: 0,

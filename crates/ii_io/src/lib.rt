@@ -9,7 +9,7 @@ pub mod faults;
 pub mod field;
 pub mod has_len;
 pub mod serialize;
-pub mod tally;
+pub mod ghost_counter;
 pub mod vint;
 
 pub use composite_file::composite_read::CompositeFile;
@@ -21,4 +21,4 @@ pub use faults::{Fault, LayoutFault, LeafKind, LimitName, Part};
 pub use field::Field;
 pub use has_len::HasLen;
 pub use serialize::{BinarySerializable, FixedSize};
-pub use tally::Tally;
+pub use ghost_counter::GhostCounter;

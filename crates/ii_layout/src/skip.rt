@@ -9,7 +9,7 @@ ghost use Rattle.ii_layout.specs.Written.{code_of_width};
 use byteorder::{ByteOrder, LittleEndian};
 use ii_base::{DocId, IndexRecordOption, TERMINATED};
 use ii_codes::compressed_block_size;
-use ii_io::{Fault, Tally};
+use ii_io::{Fault, GhostCounter};
 use std::alloc::{AllocError, Global};
 use std::marker::Model;
 
@@ -192,7 +192,7 @@ pub(crate) fn entry_size(skip_info: IndexRecordOption) -> usize
 fn read_entry(
     bytes: &[u8],
     skip_info: IndexRecordOption,
-    entries_read: &mut Tally,
+    entries_read: &mut GhostCounter,
 ) -> (DocId, BlockInfo)
     requires { entry_size skip_info ≤ length bytes.now }
     ensures last_doc { result.0 ≡ (entry_at skip_info bytes.now).last_doc }
@@ -244,7 +244,7 @@ pub(crate) fn read_entry_at(
     skip_data: &[u8],
     skip_info: IndexRecordOption,
     block: u32,
-    entries_read: &mut Tally,
+    entries_read: &mut GhostCounter,
 ) -> (DocId, BlockInfo)
     requires { entry_size skip_info * (block + 1) ≤ length skip_data.now }
     ensures last_doc { result.0 ≡ (entry_at skip_info (drop (entry_size skip_info * block) skip_data.now)).last_doc }
@@ -293,7 +293,7 @@ pub struct SkipReader {
     byte_offset: usize,
     position_offset: u64,
     block_info: BlockInfo,
-    entries_read: Tally,
+    entries_read: GhostCounter,
 }
 
 impl Model for SkipReader {
@@ -334,7 +334,7 @@ impl SkipReader {
             byte_offset: 0,
             position_offset: 0,
             block_info: BlockInfo::VInt { num_docs: doc_freq },
-            entries_read: Tally::new(),
+            entries_read: GhostCounter::new(),
         };
         if doc_freq >= 128 {
             let (last_doc, info) = read_entry(skip_data, skip_info, &mut reader.entries_read);

@@ -6,7 +6,7 @@ ghost use Rattle.ii_layout.specs.SkipList.{SkipEntry, IsSplit, entries_at, entry
 use super::skip::{BlockInfo, entry_size, read_entry_at};
 use ii_base::IndexRecordOption;
 use ii_codes::COMPRESSION_BLOCK_SIZE;
-use ii_io::{Tally, vint};
+use ii_io::{GhostCounter, vint};
 
 /// The greatest width of counts.
 const MAX_TF_NUM_BITS: u8 = 32;
@@ -77,7 +77,7 @@ fn counts_are_narrow(skip_data: &[u8], skip_info: IndexRecordOption, blocks: u32
     requires { entry_size skip_info * blocks ≤ length skip_data.now }
     ensures { result ≡ list_all (λ (e : SkipEntry). nat_le e.tf_num_bits 32) (entries_at skip_info blocks skip_data.now) }
 {
-    let mut entries_read = Tally::new();
+    let mut entries_read = GhostCounter::new();
     for i in 0..blocks {
         let (_, info) = read_entry_at(skip_data, skip_info, i, &mut entries_read);
         if tf_num_bits(info) > MAX_TF_NUM_BITS {

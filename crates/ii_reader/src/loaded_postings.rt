@@ -199,12 +199,12 @@ fn append_with_offset(positions: &[u32], offset: u32, output: &mut Vec<u32>) -> 
     let len = output.len();
     output.extend_from_slice(positions)?;
     let (_, added) = output.as_mut_slice().split_at_mut(len);
-    raise(added, offset);
+    add_offset(added, offset);
     Ok(())
 }
 
 // Adds an offset to each value.
-fn raise(values: &mut [u32], offset: u32)
+fn add_offset(values: &mut [u32], offset: u32)
     requires { All (λ v. v + offset < 2 ^ 32) values.old }
     ensures { values.new ≡ map (λ v. v + offset) values.old }
 {

@@ -576,11 +576,11 @@ fn read_positions(reader: &mut PositionReader, start: u64, offset: u32, output: 
     ensures decodes { reader.new.decodes ≤ reader.old.decodes + length output.old / 128 + 2 }
 {
     reader.read(start, output);
-    sum_up(output, offset);
+    prefix_sum(output, offset);
 }
 
 // Puts in place of each value its sum with those before it and an offset.
-fn sum_up(values: &mut [u32], offset: u32)
+fn prefix_sum(values: &mut [u32], offset: u32)
     requires { IsTrue (fit_u32 (running_sums offset values.old)) }
     ensures { values.new ≡ running_sums offset values.old }
 {

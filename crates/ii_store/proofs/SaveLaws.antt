@@ -6,11 +6,11 @@ use Rattle.ii_store.specs.declared.name.Name.TheVariants.{Meta, NewMeta, File}
 use Rattle.ii_store.specs.declared.name.Slot.{Slot}
 use Rattle.ii_store.specs.declared.name.Slot.TheVariants.{First, Second}
 use Rattle.ii_store.specs.Directory.{Elapses, Elsewhere, Files, IsOther, IsPut, IsRenamed, MayBeRenamed, Same}
-use Rattle.ii_store.specs.Index.{Index, bytes_of_file, guard, index_in, index_of, slot_in, used_slot}
+use Rattle.ii_store.specs.Index.{Index, bytes_of_file, meta_bytes, index_in, index_of, slot_in, used_slot}
 use Rattle.ii_store.specs.Names.{kind_at, kind_number, other_slot}
 use Rattle.ii_store.specs.Save.{HoldsFiles, IsOldOrNew, IsOutside, LeavesOne, LeavesSame}
 use Rattle.std.proofs.Math.Nat.{eq-or-lt_of_le}
-use Rattle.ii_store.proofs.GuardLaws.{index_of_guard, slot_of_guard}
+use Rattle.ii_store.proofs.MetaLaws.{index_of_meta, slot_of_meta}
 
 -- what holds at Ok implies what holds at Ok
 pub at_ok : {T E : Type 0} (P Q : Type 0) (result : Result T E) → (P → Q) → OnOk result P → OnOk result Q
@@ -107,14 +107,14 @@ index_outside a c outside =
 pub index_of_same : (a c : Files) → Same a c → index_of c ≡ index_of a
 index_of_same a c same = index_outside a c (outside_same (other_slot (used_slot (a Meta))) a c same)
 
--- a guard with its files is the index
-pub index_of_new : (slot : Slot) (i : Index) (files : Files) → i.num_docs < 2 ^ 32 → HoldsFiles slot i files → files Meta ≡ Some (guard slot i) → index_of files ≡ Ok i
+-- a meta file with its files is the index
+pub index_of_new : (slot : Slot) (i : Index) (files : Files) → i.num_docs < 2 ^ 32 → HoldsFiles slot i files → files Meta ≡ Some (meta_bytes slot i) → index_of files ≡ Ok i
 unfolding index_of
 index_of_new slot i files small holds at =
     ap (λ meta. index_in meta (λ kind. files (File (used_slot meta) kind))) at
-    ∙ index_in_same (Some (guard slot i)) (λ kind. files (File (slot_in (guard slot i)) kind)) (λ kind. Some (bytes_of_file i kind))
-    (λ kind. ap (λ s. files (File s kind)) (slot_of_guard slot i) ∙ holds kind)
-    ∙ index_of_guard slot i small
+    ∙ index_in_same (Some (meta_bytes slot i)) (λ kind. files (File (slot_in (meta_bytes slot i)) kind)) (λ kind. Some (bytes_of_file i kind))
+    (λ kind. ap (λ s. files (File s kind)) (slot_of_meta slot i) ∙ holds kind)
+    ∙ index_of_meta slot i small
 
 below_next : (n count : ℕ) → n < count + 1 → n ≤ count
 below_next n count lt = omega (arith, lt)
@@ -187,16 +187,16 @@ module _ {D : Type 0} (moment : D → ℕ) (left_since : D → ℕ → Files →
 outside_is_old : (slot : Slot) (a c : Files) → slot ≡ other_slot (used_slot (a Meta)) → IsOutside slot a c → index_of c ≡ index_of a
 outside_is_old slot a c free outside = index_outside a c (subst (λ s. IsOutside s a c) free outside)
 
--- what stands once the new guard is written beside the old one
+-- what stands once the new meta file is written beside the old one
 pub record IsReady (slot : Slot) (i : Index) (old ready : Files) : Type 0 where
   pub free : slot ≡ other_slot (used_slot (old Meta))
   pub small : i.num_docs < 2 ^ 32
   pub outside : IsOutside slot old ready
   pub files : HoldsFiles slot i ready
-  pub meta : ready NewMeta ≡ Some (guard slot i)
+  pub meta : ready NewMeta ≡ Some (meta_bytes slot i)
 
 pub is_ready : (slot : Slot) (i : Index) (old mid ready : Files) → slot ≡ other_slot (used_slot (old Meta)) → i.num_docs < 2 ^ 32 → IsOutside slot old mid → HoldsFiles slot i mid
-    → IsPut NewMeta (Some (guard slot i)) mid ready → IsReady slot i old ready
+    → IsPut NewMeta (Some (meta_bytes slot i)) mid ready → IsReady slot i old ready
 is_ready slot i old mid ready free small outside files put = record {
   free = free;
   small = small;
@@ -254,7 +254,7 @@ module _ {D : Type 0} (moment : D → ℕ) (left_since : D → ℕ → Files →
         meta_time = elapses_then moment left_since old mid ready (IsOldOrNew (index_of (seen old)) i) (Elsewhere NewMeta (seen mid)) files_time second
             (λ c elsewhere. inl (outside_is_old slot (seen old) c free (outside_then slot (seen old) (seen mid) c outside (outside_new_meta slot (seen mid) c elsewhere))))
 
-        -- the new guard was written beside the old one, or in part
+        -- the new meta file was written beside the old one, or in part
         pub meta_leaves : LeavesOne moment left_since seen old ready i
         meta_leaves = leaves_one ready i meta_time
 

@@ -1,4 +1,4 @@
--- What a guard says, and which index the files of a folder are.
+-- What a meta file says, and which index the files of a folder are.
 use Rattle.std.specs.Prelude.{◌≡◌, ℕ, ◌==◌, not, List, [], ◌∷◌, ◌++◌, length, take, drop, bytes_eq, get_or, nat_lt, Option, None, Some, Result, Ok, Err, ⊤, if◌then◌else◌}
 use Rattle.std.specs.Int.{w32, w64, from_le_bytes, to_le_bytes}
 use Rattle.sha2.specs.Sha256.{sha256}
@@ -47,7 +47,7 @@ bytes_of_file i FieldNorms = i.fieldnorms
 unfoldable pub format : List ℕ
 format = 110 ∷ 101 ∷ 113 ∷ 117 ∷ 108 ∷ 108 ∷ 112 ∷ 97 ∷ []
 
--- what a guard says of a file: length and checksum
+-- what a meta file says of a file: length and checksum
 unfoldable pub entry : List ℕ → List ℕ
 entry bytes = to_le_bytes w64 (length bytes) ++ sha256 bytes
 
@@ -55,19 +55,27 @@ entry bytes = to_le_bytes w64 (length bytes) ++ sha256 bytes
 unfoldable pub head : Slot → ℕ → List ℕ
 head slot num_docs = format ++ to_le_bytes w32 1 ++ slot_number slot ∷ to_le_bytes w32 num_docs
 
--- a guard without its checksum
-unfoldable pub guarded : Slot → Index → List ℕ
-guarded slot i = head slot i.num_docs ++ entry i.schema ++ entry i.terms ++ entry i.postings ++ entry i.positions ++ entry i.fieldnorms
+-- where the entry of a file begins in a meta file
+abbrev pub entry_at : Kind → ℕ
+entry_at Schema = 17
+entry_at Terms = 57
+entry_at Postings = 97
+entry_at Positions = 137
+entry_at FieldNorms = 177
 
--- a guard
-unfoldable pub guard : Slot → Index → List ℕ
-guard slot i = guarded slot i ++ sha256 (guarded slot i)
+-- a meta file without its checksum
+unfoldable pub meta_body : Slot → Index → List ℕ
+meta_body slot i = head slot i.num_docs ++ entry i.schema ++ entry i.terms ++ entry i.postings ++ entry i.positions ++ entry i.fieldnorms
 
--- the slot that a guard names
+-- a meta file
+unfoldable pub meta_bytes : Slot → Index → List ℕ
+meta_bytes slot i = meta_body slot i ++ sha256 (meta_body slot i)
+
+-- the slot that a meta file names
 unfoldable pub slot_in : List ℕ → Slot
 slot_in meta = if get_or meta 12 0 == 1 then Second else First
 
--- the slot that is in use; where there is no guard the first one is free
+-- the slot that is in use; where there is no `meta` the first one is free
 abbrev pub used_slot : Option (List ℕ) → Slot
 used_slot None = Second
 used_slot (Some meta) = slot_in meta
@@ -78,21 +86,21 @@ abbrev pub ◌>>=◌ : {A B : Type 0} → Result A IndexFault → (A → Result 
 (Ok x) >>= f = f x
 (Err e) >>= f = Err e
 
--- the version of a guard, of whatever version
+-- the version of a meta file, of whatever version
 unfoldable pub version_in : List ℕ → Result ℕ IndexFault
 version_in meta =
     if nat_lt (length meta) 12 then Err DamagedMeta
     else if not (bytes_eq (take 8 meta) format) then Err DamagedMeta
     else Ok (from_le_bytes w32 (take 4 (drop 8 meta)))
 
--- the number of documents of a guard of this version
+-- the number of documents of a meta file of this version
 unfoldable pub whole_num_docs_in : List ℕ → Result ℕ IndexFault
 whole_num_docs_in meta =
     if not (length meta == 249) then Err DamagedMeta
     else if not (bytes_eq (drop 217 meta) (sha256 (take 217 meta))) then Err DamagedMeta
     else Ok (from_le_bytes w32 (take 4 (drop 13 meta)))
 
--- the number of documents of a guard that is one
+-- the number of documents of a meta file that is one
 unfoldable pub num_docs_in : List ℕ → Result ℕ IndexFault
 num_docs_in meta = do
   version ← version_in meta
@@ -106,18 +114,18 @@ file_in kind entry (Some bytes) =
     else if not (bytes_eq (take 32 (drop 8 entry)) (sha256 bytes)) then Err (WrongChecksum kind)
     else Ok bytes
 
--- the index whose guard this is, with the files of the slot that it names
+-- the index whose meta file this is, with the files of the slot that it names
 unfoldable pub index_at : List ℕ → Option (List ℕ) → Option (List ℕ) → Option (List ℕ) → Option (List ℕ) → Option (List ℕ) → Result Index IndexFault
 index_at meta a b c d e = do
   num_docs ← num_docs_in meta
-  schema ← file_in Schema (drop 17 meta) a
-  terms ← file_in Terms (drop 57 meta) b
-  postings ← file_in Postings (drop 97 meta) c
-  positions ← file_in Positions (drop 137 meta) d
-  fieldnorms ← file_in FieldNorms (drop 177 meta) e
+  schema ← file_in Schema (drop (entry_at Schema) meta) a
+  terms ← file_in Terms (drop (entry_at Terms) meta) b
+  postings ← file_in Postings (drop (entry_at Postings) meta) c
+  positions ← file_in Positions (drop (entry_at Positions) meta) d
+  fieldnorms ← file_in FieldNorms (drop (entry_at FieldNorms) meta) e
   Ok (record { num_docs = num_docs; schema = schema; terms = terms; postings = postings; positions = positions; fieldnorms = fieldnorms })
 
--- the index of a guard and of the files of a slot, where there is a guard
+-- the index of a meta file and of the files of a slot, where there is a meta file
 abbrev pub index_in : Option (List ℕ) → (Kind → Option (List ℕ)) → Result Index IndexFault
 index_in None files = Err NoIndex
 index_in (Some meta) files = index_at meta (files Schema) (files Terms) (files Postings) (files Positions) (files FieldNorms)

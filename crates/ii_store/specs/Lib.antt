@@ -1,7 +1,7 @@
 pub mod Directory
 pub mod Faults
 pub mod Index
-pub mod LeftIndex
+pub mod SalvagedIndex
 pub mod MemoryDirectory
 pub mod Names
 pub mod Save

@@ -17,7 +17,7 @@ abbrev pub slot_number : Slot → ℕ
 slot_number First = 0
 slot_number Second = 1
 
--- the place of a kind among the entries of a guard
+-- the place of a kind among the entries of a meta file
 abbrev pub kind_number : Kind → ℕ
 kind_number Schema = 0
 kind_number Terms = 1

@@ -8,7 +8,7 @@ use Rattle.ii_store.specs.Directory.{Elapses, Files}
 use Rattle.ii_store.specs.Index.{Index, bytes_of_file, index_of}
 use Rattle.ii_store.specs.Names.{other_slot}
 
--- the guard and the files of the other slot are as they were
+-- `meta` and the files of the other slot are as they were
 pub record IsOutside (slot : Slot) (old new : Files) : Type 0 where
   pub meta : new Meta ≡ old Meta
   pub files : (kind : Kind) → new (File (other_slot slot) kind) ≡ old (File (other_slot slot) kind)

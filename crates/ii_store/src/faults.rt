@@ -21,19 +21,19 @@ pub enum DirectoryFault {
 /// Why the files of a directory are no index.
 #[derive(Clone, Copy, Debug, PartialEq, Eq, Error)]
 pub enum IndexFault {
-    /// There is no guard.
+    /// There is no `meta`.
     #[error("no index here")]
     NoIndex,
-    /// The guard is of another version of the format, this one.
+    /// `meta` is of another version of the format, this one.
     #[error("an index of version {0}")]
     OtherVersion(u32),
-    /// The guard isn't one, is cut or was changed.
+    /// `meta` isn't one, is cut or was changed.
     #[error("the file meta is damaged")]
     DamagedMeta,
     /// A file isn't there.
     #[error("the file of {0} is missing")]
     Missing(Kind),
-    /// A file has another length than the guard says.
+    /// A file has another length than `meta` says.
     #[error("the file of {0} has another length than meta says")]
     WrongLength(Kind),
     /// A file has other bytes than those that were written.

@@ -48,7 +48,7 @@ impl<'a, R: Files + AllocGlobal> Folder<'a, R> {
     }
 
     /// Writes an empty `meta.new` if there is no `meta`, so that the files of a first save that is stopped
-    /// are known as such (`orphan`). `save` puts the new `meta` in its place.
+    /// are known as such (`orphan`). `save` puts the new meta file in its place.
     ///
     /// # Errors
     ///

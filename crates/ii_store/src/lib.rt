@@ -1,11 +1,11 @@
-//! An index in a folder: the files of an index beside a guard, `meta`, that has the length and the
+//! An index in a folder: the files of an index beside a meta file, `meta`, that has the length and the
 //! checksum of each. A save that is stopped anywhere leaves the index that was there or the new one.
 #![tactic(auto)]
 
 pub mod directory;
 pub mod faults;
 pub mod folder;
-pub mod left_index;
+pub mod salvage;
 pub mod lock;
 pub mod memory_directory;
 pub mod meta;
@@ -16,7 +16,7 @@ pub mod stored_index;
 pub use directory::Directory;
 pub use faults::{DirectoryFault, IndexFault, StoreFault};
 pub use folder::Folder;
-pub use left_index::{LeftFile, LeftIndex, load_left};
+pub use salvage::{SalvagedFile, SalvagedIndex, salvage};
 pub use lock::FolderLock;
 pub use memory_directory::MemoryDirectory;
 pub use name::{Kind, Name, Slot};

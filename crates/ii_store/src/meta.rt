@@ -1,8 +1,8 @@
-//! The guard of an index: the file `meta`, 249 bytes. docs/FORMATS draws it.
+//! The file `meta` of an index: 249 bytes, drawn in docs/FORMATS.
 ghost use Rattle.std.specs.Prelude.{◌≡◌, ◌≤◌, ◌<◌, ◌^◌, ◌++◌, bytes_eq, length, Err, IfOk, MatchOption, Ok, OnOk, Some};
 ghost use Rattle.std.specs.Int.{w64, to_le_bytes};
 ghost use Rattle.sha2.specs.Sha256.{sha256};
-ghost use Rattle.ii_store.specs.Index.{Index, entry, file_in, guard, guarded, head, index_at, num_docs_in, slot_in, version_in, view, whole_num_docs_in};
+ghost use Rattle.ii_store.specs.Index.{Index, entry, file_in, meta_bytes, meta_body, head, index_at, num_docs_in, slot_in, version_in, view, whole_num_docs_in};
 
 use crate::faults::{DirectoryFault, IndexFault};
 use crate::name::{Kind, Slot};
@@ -13,8 +13,22 @@ use std::alloc::{AllocError, Global};
 /// The version of the format that is written, and the one that is read.
 pub const VERSION: u32 = 1;
 
-// What a guard begins with.
+// The first bytes of a meta file.
 const FORMAT: &[u8] = b"nequllpa";
+
+// Where the parts of a meta file begin: its slot, its number of documents, the entry of each file, and its own checksum.
+const SLOT_AT: usize = 12;
+const NUM_DOCS_AT: usize = 13;
+pub(crate) const SCHEMA_AT: usize = 17;
+pub(crate) const TERMS_AT: usize = 57;
+pub(crate) const POSTINGS_AT: usize = 97;
+pub(crate) const POSITIONS_AT: usize = 137;
+pub(crate) const FIELDNORMS_AT: usize = 177;
+const CHECKSUM_AT: usize = 217;
+
+// The length of a meta file, and of the entry of a file in it.
+const META_LEN: usize = 249;
+const ENTRY_LEN: usize = 40;
 
 // Whether bytes are the checksum of a file.
 fn is_checksum(bytes: &[u8], file: &[u8]) -> bool
@@ -39,27 +53,27 @@ pub(crate) fn fault_by(kind: Kind, entry: &[u8], bytes: &[u8]) -> Option<IndexFa
     if !is_len(&entry[..8], bytes.len()) {
         return Some(IndexFault::WrongLength(kind));
     }
-    if !is_checksum(&entry[8..40], bytes) {
+    if !is_checksum(&entry[8..ENTRY_LEN], bytes) {
         return Some(IndexFault::WrongChecksum(kind));
     }
     None
 }
 
-// The slot that a guard names.
+// The slot that a meta file names.
 #[tactic(auto, unfolding(crate::specs::Index::slot_in))]
 pub(crate) fn slot_named(meta: &[u8]) -> Slot
     ensures { result ≡ slot_in meta.now }
 {
-    if meta.len() <= 12 {
+    if meta.len() <= SLOT_AT {
         return Slot::First;
     }
-    if meta[12] == 1 {
+    if meta[SLOT_AT] == 1 {
         return Slot::Second;
     }
     Slot::First
 }
 
-// The number of documents of a guard that is one.
+// The number of documents of a meta file that is one.
 #[tactic(auto, unfolding(crate::specs::Index::num_docs_in))]
 pub(crate) fn checked_num_docs(meta: &[u8]) -> Result<u32, IndexFault>
     ensures number { result ≡ num_docs_in meta.now }
@@ -72,12 +86,12 @@ pub(crate) fn checked_num_docs(meta: &[u8]) -> Result<u32, IndexFault>
     whole_num_docs(meta)
 }
 
-// The version of a guard, of whatever version.
+// The version of a meta file, of whatever version.
 #[tactic(auto, unfolding(crate::specs::Index::version_in, crate::specs::Index::format))]
 fn version_of(meta: &[u8]) -> Result<u32, IndexFault>
     ensures { result ≡ version_in meta.now }
 {
-    if meta.len() < 12 {
+    if meta.len() < SLOT_AT {
         return Err(IndexFault::DamagedMeta);
     }
     let (front, rest) = meta.split_at(8);
@@ -87,43 +101,43 @@ fn version_of(meta: &[u8]) -> Result<u32, IndexFault>
     Ok(u32::from_le_bytes([rest[0], rest[1], rest[2], rest[3]]))
 }
 
-// The number of documents of a guard of this version.
+// The number of documents of a meta file of this version.
 #[tactic(auto, unfolding(crate::specs::Index::whole_num_docs_in))]
 fn whole_num_docs(meta: &[u8]) -> Result<u32, IndexFault>
     ensures number { result ≡ whole_num_docs_in meta.now }
     ensures len { IfOk result (λ _. length meta.now ≡ 249) }
 {
-    if meta.len() != 249 {
+    if meta.len() != META_LEN {
         return Err(IndexFault::DamagedMeta);
     }
-    let (guarded, checksum) = meta.split_at(217);
-    if !is_checksum(checksum, guarded) {
+    let (body, checksum) = meta.split_at(CHECKSUM_AT);
+    if !is_checksum(checksum, body) {
         return Err(IndexFault::DamagedMeta);
     }
-    let (_, rest) = meta.split_at(13);
+    let (_, rest) = meta.split_at(NUM_DOCS_AT);
     Ok(u32::from_le_bytes([rest[0], rest[1], rest[2], rest[3]]))
 }
 
-// The guard of an index whose files are those of a slot.
-#[tactic(auto, unfolding(crate::specs::Index::guard))]
-pub(crate) fn guard_of(
+// `meta` of an index whose files are those of a slot.
+#[tactic(auto, unfolding(crate::specs::Index::meta_bytes))]
+pub(crate) fn meta_of(
     alloc: Global,
     slot: Slot,
     index: &StoredIndex,
 ) -> Result<Vec<u8>, DirectoryFault>
-    ensures bytes { IfOk result (λ v. v.items ≡ guard slot (view index.now)) }
+    ensures bytes { IfOk result (λ v. v.items ≡ meta_bytes slot (view index.now)) }
     ensures small { OnOk result (index.now.num_docs < 2 ^ 32) }
 {
-    let mut meta = guarded_of(alloc, slot, index)?;
+    let mut meta = meta_body_of(alloc, slot, index)?;
     let checksum = Sha256::digest(meta.as_slice());
     meta.extend_from_slice(&checksum)?;
     Ok(meta)
 }
 
-// A guard without its checksum.
-#[tactic(auto, unfolding(crate::specs::Index::guarded))]
-fn guarded_of(alloc: Global, slot: Slot, index: &StoredIndex) -> Result<Vec<u8>, AllocError>
-    ensures bytes { IfOk result (λ v. v.items ≡ guarded slot (view index.now)) }
+// A meta file without its checksum.
+#[tactic(auto, unfolding(crate::specs::Index::meta_body))]
+fn meta_body_of(alloc: Global, slot: Slot, index: &StoredIndex) -> Result<Vec<u8>, AllocError>
+    ensures bytes { IfOk result (λ v. v.items ≡ meta_body slot (view index.now)) }
     ensures small { OnOk result (index.now.num_docs < 2 ^ 32) }
 {
     let mut meta = Vec::new(alloc);
@@ -147,7 +161,7 @@ fn push_head(meta: &mut Vec<u8>, slot: Slot, num_docs: u32) -> Result<(), AllocE
     meta.extend_from_slice(&num_docs.to_le_bytes())
 }
 
-// Adds what a guard says of a file.
+// Adds what a meta file says of a file.
 #[tactic(auto, unfolding(crate::specs::Index::entry))]
 fn push_entry(meta: &mut Vec<u8>, file: &[u8]) -> Result<(), AllocError>
     ensures { OnOk result (meta.new.items ≡ meta.old.items ++ entry file.now) }
@@ -156,8 +170,8 @@ fn push_entry(meta: &mut Vec<u8>, file: &[u8]) -> Result<(), AllocError>
     meta.extend_from_slice(&Sha256::digest(file))
 }
 
-/// A law: a guard of an index and its files are that index, and the guard names its slot.
-pub fn guard_tells_back()
-    ensures slot { (slot : Slot) (i : Index) → slot_in (guard slot i) ≡ slot }
-    ensures index { (slot : Slot) (i : Index) → i.num_docs < 2 ^ 32 → index_at (guard slot i) (Some i.schema) (Some i.terms) (Some i.postings) (Some i.positions) (Some i.fieldnorms) ≡ Ok i }
+/// A law: a meta file of an index and its files are that index, and `meta` names its slot.
+pub fn meta_is_read_back()
+    ensures slot { (slot : Slot) (i : Index) → slot_in (meta_bytes slot i) ≡ slot }
+    ensures index { (slot : Slot) (i : Index) → i.num_docs < 2 ^ 32 → index_at (meta_bytes slot i) (Some i.schema) (Some i.terms) (Some i.postings) (Some i.positions) (Some i.fieldnorms) ≡ Ok i }
 {}

@@ -4,7 +4,7 @@ ghost use Rattle.ii_store.specs.Names.{kind_at, kind_number, name_number, name_t
 
 use std::fmt;
 
-/// One of two sets of files. The guard names the one that is in use, and a save writes the other.
+/// One of two sets of files. `meta` names the one that is in use, and a save writes the other.
 #[derive(Clone, Copy, Debug, PartialEq, Eq)]
 pub enum Slot {
     First,
@@ -48,9 +48,9 @@ impl fmt::Display for Kind {
 /// A file of a folder.
 #[derive(Clone, Copy, Debug, PartialEq, Eq)]
 pub enum Name {
-    /// The guard.
+    /// `meta`.
     Meta,
-    /// The guard to come, until it takes the place of the other one.
+    /// `meta` to come, until it takes the place of the other one.
     NewMeta,
     /// A file of an index.
     File(Slot, Kind),
@@ -67,7 +67,7 @@ impl Slot {
         }
     }
 
-    /// The byte that names it in a guard, 0 or 1.
+    /// The byte that names it in a meta file, 0 or 1.
     pub fn to_code(self) -> u8
         ensures { result ≡ slot_number self }
     {
@@ -82,7 +82,7 @@ impl Kind {
     /// How many kinds there are.
     pub const COUNT: u8 = 5;
 
-    /// The kind of a number below 5, in the order of the entries of a guard; any number above stands
+    /// The kind of a number below 5, in the order of the entries of a meta file; any number above stands
     /// for the last one.
     pub fn at(number: u8) -> Kind
         ensures { result ≡ kind_at number }

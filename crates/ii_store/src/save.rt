@@ -9,13 +9,13 @@ ghost use Rattle.ii_store.specs.Save.{HoldsFiles, HoldsIndex, IsOutside, LeavesO
 
 use crate::directory::Directory;
 use crate::faults::DirectoryFault;
-use crate::meta::{guard_of, slot_named};
+use crate::meta::{meta_of, slot_named};
 use crate::name::{Kind, Name, Slot};
 use crate::stored_index::StoredIndex;
 use std::alloc::Global;
 
-/// Saves an index: writes its files beside those of the index that is there, and then puts a guard of
-/// them in the place of the other guard. The old files stay until `remove_unused`.
+/// Saves an index: writes its files beside those of the index that is there, and then puts a meta file of
+/// them in the place of the other `meta`. The old files stay until `remove_unused`.
 ///
 /// Wherever it is stopped, and whatever call is refused, the directory holds the index that was there or
 /// the new one; with Ok it holds the new one. After a refusal open the directory anew.
@@ -29,7 +29,7 @@ pub fn save<D: Directory>(
     ensures leaves_one { D.is_known directory.old → LeavesOne D.moment D.left_since D.seen directory.old directory.new (view index.now) }
 {
     let slot = slot_in_use(alloc, directory)?.other();
-    let meta = guard_of(alloc, slot, index)?;
+    let meta = meta_of(alloc, slot, index)?;
     write_files(directory, slot, index)?;
     directory.write(Name::NewMeta, meta.as_slice())?;
     directory.rename(Name::NewMeta, Name::Meta)
@@ -63,7 +63,7 @@ fn write_files<D: Directory>(
     Ok(())
 }
 
-/// Removes the files that the guard doesn't name, which a save or a stop left.
+/// Removes the files that `meta` doesn't name, which a save or a stop left.
 ///
 /// The index that is there stays, wherever this is stopped.
 pub fn remove_unused<D: Directory>(alloc: Global, directory: &mut D) -> Result<(), DirectoryFault>

@@ -5,7 +5,10 @@ ghost use Rattle.ii_store.specs.Index.{AnswersFromFiles, bytes_of_file, file_in,
 
 use crate::directory::Directory;
 use crate::faults::{IndexFault, StoreFault};
-use crate::meta::{checked_num_docs, fault_by, slot_named};
+use crate::meta::{
+    FIELDNORMS_AT, POSITIONS_AT, POSTINGS_AT, SCHEMA_AT, TERMS_AT, checked_num_docs, fault_by,
+    slot_named,
+};
 use crate::name::{Kind, Name, Slot};
 use std::alloc::Global;
 
@@ -39,9 +42,9 @@ impl StoredIndex {
 
 /// The index of a directory: the very bytes that were saved.
 ///
-/// Refused as `NoIndex` where there is no guard, as `OtherVersion` or `DamagedMeta` where it isn't one of
+/// Refused as `NoIndex` where there is no `meta`, as `OtherVersion` or `DamagedMeta` where it isn't one of
 /// this version, and else by the first file, in the order of `Kind`, that is missing or isn't as the
-/// guard says, its length before its checksum.
+/// `meta` says, its length before its checksum.
 #[tactic(auto, unfolding(crate::specs::Index::index_of))]
 pub fn load<D: Directory>(alloc: Global, directory: &D) -> Result<StoredIndex, StoreFault>
     ensures { D.is_known directory.now → AnswersFromFiles view result (index_of (D.seen directory.now)) }
@@ -52,7 +55,7 @@ pub fn load<D: Directory>(alloc: Global, directory: &D) -> Result<StoredIndex, S
     load_by(alloc, directory, meta.as_slice())
 }
 
-// The index of a guard.
+// The index of a meta file.
 #[tactic(auto, unfolding(crate::specs::Index::index_at))]
 fn load_by<D: Directory>(
     alloc: Global,
@@ -63,11 +66,11 @@ fn load_by<D: Directory>(
 {
     let num_docs = checked_num_docs(meta)?;
     let slot = slot_named(meta);
-    let schema = load_file(alloc, directory, slot, Kind::Schema, meta, 17)?;
-    let terms = load_file(alloc, directory, slot, Kind::Terms, meta, 57)?;
-    let postings = load_file(alloc, directory, slot, Kind::Postings, meta, 97)?;
-    let positions = load_file(alloc, directory, slot, Kind::Positions, meta, 137)?;
-    let fieldnorms = load_file(alloc, directory, slot, Kind::FieldNorms, meta, 177)?;
+    let schema = load_file(alloc, directory, slot, Kind::Schema, meta, SCHEMA_AT)?;
+    let terms = load_file(alloc, directory, slot, Kind::Terms, meta, TERMS_AT)?;
+    let postings = load_file(alloc, directory, slot, Kind::Postings, meta, POSTINGS_AT)?;
+    let positions = load_file(alloc, directory, slot, Kind::Positions, meta, POSITIONS_AT)?;
+    let fieldnorms = load_file(alloc, directory, slot, Kind::FieldNorms, meta, FIELDNORMS_AT)?;
     Ok(StoredIndex {
         num_docs,
         schema,
@@ -78,7 +81,7 @@ fn load_by<D: Directory>(
     })
 }
 
-// The bytes of a file that is as its entry says, which stands at a place of the guard.
+// The bytes of a file that agrees with its entry, which begins at `place` of `meta`.
 #[tactic(auto, unfolding(crate::specs::Index::file_in))]
 fn load_file<D: Directory>(
     alloc: Global,

@@ -1,14 +1,14 @@
 //! How the files of a folder are looked through for damage.
 use crate::commands::{NO, ended, refuse_path, tell_no_index};
 use ii_base::Schema;
-use ii_store::{Folder, IndexFault, Kind, LeftFile, LeftIndex, StoreFault, load_left};
+use ii_store::{Folder, IndexFault, Kind, SalvagedFile, SalvagedIndex, StoreFault, salvage};
 use nequllpa_folder::{Checked, check, schema_of};
 use std::io::{self, BufWriter, Write};
 use std::process::ExitCode;
 
 /// Tells whether the files of a folder are an index, each as it was saved, and all that is in them fits.
 pub fn answer_check(rt: &HostRuntime, path: &str) -> anyhow::Result<ExitCode> {
-    let left = match load_left(rt.alloc(), &Folder::new(rt, path)) {
+    let left = match salvage(rt.alloc(), &Folder::new(rt, path)) {
         Ok(left) => left,
         Err(StoreFault::Index(fault)) => {
             return Ok(ExitCode::from(tell_no_index(rt, path, fault)?));
@@ -28,7 +28,7 @@ pub fn answer_check(rt: &HostRuntime, path: &str) -> anyhow::Result<ExitCode> {
 fn look_at(
     rt: &HostRuntime,
     path: &str,
-    left: &LeftIndex,
+    left: &SalvagedIndex,
 ) -> anyhow::Result<Result<(Schema, u64), u8>> {
     let changed = print_changed(rt, path, left)?;
     match schema_left(rt, path, left)? {
@@ -41,7 +41,7 @@ fn look_at(
 fn schema_left(
     rt: &HostRuntime,
     path: &str,
-    left: &LeftIndex,
+    left: &SalvagedIndex,
 ) -> anyhow::Result<Result<Schema, u8>> {
     if left.schema.fault.is_some() {
         println!(rt; "the lists were not looked at, since they can be read by the schema alone")?;
@@ -60,7 +60,7 @@ fn schema_left(
 }
 
 // A line for each file that isn't as it was saved; how many they are.
-fn print_changed(rt: &HostRuntime, path: &str, left: &LeftIndex) -> anyhow::Result<u64> {
+fn print_changed(rt: &HostRuntime, path: &str, left: &SalvagedIndex) -> anyhow::Result<u64> {
     let mut changed = 0u64;
     for number in 0..Kind::COUNT {
         let file = left.file_of(Kind::at(number));
@@ -76,7 +76,7 @@ fn print_changed(rt: &HostRuntime, path: &str, left: &LeftIndex) -> anyhow::Resu
 fn print_fault(
     rt: &HostRuntime,
     path: &str,
-    file: &LeftFile,
+    file: &SalvagedFile,
     fault: IndexFault,
 ) -> anyhow::Result<()> {
     match fault {
@@ -91,7 +91,7 @@ fn check_lists(
     rt: &HostRuntime,
     path: &str,
     schema: &Schema,
-    left: LeftIndex,
+    left: SalvagedIndex,
     changed: u64,
 ) -> anyhow::Result<ExitCode> {
     let num_docs = left.num_docs;

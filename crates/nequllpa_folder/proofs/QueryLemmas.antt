@@ -20,7 +20,7 @@ use Rattle.ii_query_parser.specs.declared.query.PhraseTerm.{PhraseTerm}
 use Rattle.ii_query_parser.specs.declared.query.Query.{Query}
 use Rattle.ii_search.specs.Found.{docs_of_term, found_in}
 use Rattle.ii_query_parser.specs.Queries.{QueryTree, QueryTrees, all_below, any_of, each_of, has_fields, hold_for_all, holds_for_all, is_within, no_tree, nothing, one_phrase, one_term, phrase_is_within, tree, tree_of, without}
-use Rattle.nequllpa_folder.specs.declared.finding.TermPlaces.{TermPlaces}
+use Rattle.nequllpa_folder.specs.declared.finding.TermPositions.{TermPositions}
 use Rattle.nequllpa_folder.specs.Finding.{first_docs, found_places, places_view, term_places, tree_terms, trees_terms, wanted_terms}
 use Rattle.nequllpa_folder.proofs.FindingLemmas.{docs_ascend}
 use Rattle.nequllpa_folder.specs.Positions.{positions_in_doc}
@@ -87,7 +87,7 @@ abbrev pub lent : List (Bor TermState) → List TermState
 lent terms = map (λ (t : Bor TermState). t.now) terms
 
 -- The places of the terms before a place, in front of those of the terms from there on, are all; and the fields of these are those of the index.
-pub record IsPlacingTerms (index : OpenIndexState) (docs : List ℕ) (terms : List (Bor TermState)) (i : ℕ) (places : List TermPlaces) : Type 0 where
+pub record IsPlacingTerms (index : OpenIndexState) (docs : List ℕ) (terms : List (Bor TermState)) (i : ℕ) (places : List TermPositions) : Type 0 where
   pub placed : all_or_first (map (term_places index docs) (lent terms)) ≡ in_front (map places_view places) (all_or_first (map (term_places index docs) (lent (drop i terms))))
   pub fields : list_all (λ (t : TermState). nat_lt t.field (length index.readers)) (lent (drop i terms)) ≡ true
 
@@ -98,12 +98,12 @@ terms_first index docs terms fields = record { placed = in_front_of_none (all_or
 at_place : (terms : List (Bor TermState)) (i : ℕ) (t d : Bor TermState) → i < length terms → t ≡ get_or terms i d → drop i terms ≡ t ∷ drop (i + 1) terms
 at_place terms i t d inside is = drop-cons terms i d inside ∙ rw (is, add-one i) refl
 
-pub terms_field : (index : OpenIndexState) (docs : List ℕ) (terms : List (Bor TermState)) (i : ℕ) (places : List TermPlaces) (t d : Bor TermState) → i < length terms → t ≡ get_or terms i d → IsPlacingTerms index docs terms i places → t.now.field < length index.readers
+pub terms_field : (index : OpenIndexState) (docs : List ℕ) (terms : List (Bor TermState)) (i : ℕ) (places : List TermPositions) (t d : Bor TermState) → i < length terms → t ≡ get_or terms i d → IsPlacingTerms index docs terms i places → t.now.field < length index.readers
 terms_field index docs terms i places t d inside is placing =
     let fields = rw (at_place terms i t d inside is) at placing.fields in
     ltb-true t.now.field (length index.readers) (and_parts (nat_lt t.now.field (length index.readers)) (list_all (λ (u : TermState). nat_lt u.field (length index.readers)) (lent (drop (i + 1) terms))) fields).0
 
-pub terms_next : (index : OpenIndexState) (docs : List ℕ) (terms : List (Bor TermState)) (i : ℕ) (places more : List TermPlaces) (t d : Bor TermState) (place : TermPlaces) → i < length terms → t ≡ get_or terms i d → term_places index docs t.now ≡ Ok (places_view place)
+pub terms_next : (index : OpenIndexState) (docs : List ℕ) (terms : List (Bor TermState)) (i : ℕ) (places more : List TermPositions) (t d : Bor TermState) (place : TermPositions) → i < length terms → t ≡ get_or terms i d → term_places index docs t.now ≡ Ok (places_view place)
     → more ≡ places ++ place ∷ [] → IsPlacingTerms index docs terms i places → IsPlacingTerms index docs terms (i + 1) more
 terms_next index docs terms i places more t d place inside is found more_is placing =
     let left = lent (drop (i + 1) terms) in
@@ -113,7 +113,7 @@ terms_next index docs terms i places more t d place inside is found more_is plac
       fields = (and_parts (nat_lt t.now.field (length index.readers)) (list_all (λ (u : TermState). nat_lt u.field (length index.readers)) left) (rw (at_place terms i t d inside is) at placing.fields)).1;
     }
 
-pub terms_refused : (index : OpenIndexState) (docs : List ℕ) (terms : List (Bor TermState)) (i : ℕ) (places : List TermPlaces) (t d : Bor TermState) (fault : Fault) → i < length terms → t ≡ get_or terms i d → IsRefusal (term_places index docs t.now) fault
+pub terms_refused : (index : OpenIndexState) (docs : List ℕ) (terms : List (Bor TermState)) (i : ℕ) (places : List TermPositions) (t d : Bor TermState) (fault : Fault) → i < length terms → t ≡ get_or terms i d → IsRefusal (term_places index docs t.now) fault
     → IsPlacingTerms index docs terms i places → IsRefusal (all_or_first (map (term_places index docs) (lent terms))) fault
 terms_refused index docs terms i places t d fault inside is (inl memory) placing = inl memory
 terms_refused index docs terms i places t d fault inside is (inr (part, why, err)) placing =
@@ -121,7 +121,7 @@ terms_refused index docs terms i places t d fault inside is (inr (part, why, err
     let e : all_or_first (map (term_places index docs) (lent terms)) ≡ in_front (map places_view places) (all_or_first (term_places index docs t.now ∷ map (term_places index docs) left)) = rw (at_place terms i t d inside is) at placing.placed in
     inr (part, why, e ∙ rw err refl)
 
-pub terms_all : (index : OpenIndexState) (docs : List ℕ) (terms : List (Bor TermState)) (i : ℕ) (places : List TermPlaces) → length terms ≤ i → IsPlacingTerms index docs terms i places → all_or_first (map (term_places index docs) (lent terms)) ≡ Ok (map places_view places)
+pub terms_all : (index : OpenIndexState) (docs : List ℕ) (terms : List (Bor TermState)) (i : ℕ) (places : List TermPositions) → length terms ≤ i → IsPlacingTerms index docs terms i places → all_or_first (map (term_places index docs) (lent terms)) ≡ Ok (map places_view places)
 terms_all index docs terms i places end placing =
     let e : all_or_first (map (term_places index docs) (lent terms)) ≡ in_front (map places_view places) (Ok []) = rw (drop-end i terms end) at placing.placed in
     e ∙ ap (λ (ps : List (List (Option (List ℕ)))). Ok ps) (append-nil (map places_view places))

@@ -13,7 +13,7 @@ use Rattle.ii_query_parser.specs.Queries.{QueryTree, QueryTrees, all_below, any_
 use Rattle.ii_search.specs.Found.{docs_of_term, found_in}
 use Rattle.nequllpa_folder.specs.Positions.{positions_in_doc}
 use Rattle.nequllpa_folder.specs.declared.finding.FoundPlaces.{FoundPlaces}
-use Rattle.nequllpa_folder.specs.declared.finding.TermPlaces.{TermPlaces}
+use Rattle.nequllpa_folder.specs.declared.finding.TermPositions.{TermPositions}
 
 -- The terms that a query wants, in its order. Those that it excludes are not among them.
 abbrev mutual
@@ -59,7 +59,7 @@ found_places index query limit = do
   Ok (record { docs = docs; places = places })
 
 -- the places of a term in memory
-abbrev pub places_view : TermPlaces → List (Option (List ℕ))
+abbrev pub places_view : TermPositions → List (Option (List ℕ))
 places_view p = map (option_map (λ v. v.items)) p.positions.items
 
 -- what was found in memory

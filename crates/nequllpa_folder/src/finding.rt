@@ -21,7 +21,7 @@ use std::alloc::Global;
 
 /// Where a term stands in documents.
 #[derive(Drop)]
-pub struct TermPlaces {
+pub struct TermPositions {
     /// Of each document the positions, in ascending order, as far as the field keeps any; nothing where
     /// the document hasn't the term.
     pub positions: Vec<Option<Vec<u32>>>,
@@ -33,7 +33,7 @@ pub struct FoundPlaces {
     /// The documents, ascending.
     pub docs: Vec<DocId>,
     /// Of each term that the query wants (`wanted_terms`) where it stands in these documents.
-    pub places: Vec<TermPlaces>,
+    pub places: Vec<TermPositions>,
 }
 
 /// The documents that match a query, so many at most, and for each term that the query wants where it
@@ -168,7 +168,7 @@ fn places_of_query(
     index: &OpenIndex,
     query: &Query,
     docs: &[DocId],
-) -> Result<Vec<TermPlaces>, Fault>
+) -> Result<Vec<TermPositions>, Fault>
     requires fields { has_fields (length index.now.readers) query.now ≡ true }
     requires ascending { IsAscending (map document docs.now) }
     ensures found { IfOk result (λ places. all_or_first (map (term_places index.now docs.now) (wanted_terms query.now)) ≡ Ok (map places_view places.items)) }
@@ -191,7 +191,7 @@ fn places_of_terms(
     index: &OpenIndex,
     terms: &[&Term],
     docs: &[DocId],
-) -> Result<Vec<TermPlaces>, Fault>
+) -> Result<Vec<TermPositions>, Fault>
     requires fields { list_all (λ t. nat_lt t.field (length index.now.readers)) (map (λ t. t.now) terms.now) ≡ true }
     requires ascending { IsAscending (map document docs.now) }
     ensures found { IfOk result (λ places. all_or_first (map (term_places index.now docs.now) (map (λ t. t.now) terms.now)) ≡ Ok (map places_view places.items)) }
@@ -215,7 +215,7 @@ fn places_of_term(
     index: &OpenIndex,
     term: &Term,
     docs: &[DocId],
-) -> Result<TermPlaces, Fault>
+) -> Result<TermPositions, Fault>
     requires field { term.now.field < length index.now.readers }
     requires ascending { IsAscending (map document docs.now) }
     ensures found { IfOk result (λ places. term_places index.now docs.now term.now ≡ Ok (places_view places)) }
@@ -228,7 +228,7 @@ fn places_of_term(
     let positions = places_in(alloc, &mut cursor, docs);
     drop(cursor);
     match positions {
-        Ok(positions) => Ok(TermPlaces { positions }),
+        Ok(positions) => Ok(TermPositions { positions }),
         Err(fault) => Err(fault),
     }
 }

@@ -14,7 +14,7 @@ pub mod stats;
 
 pub use checking::{Checked, check};
 pub use faults::{AnswerFault, OpenFault};
-pub use finding::{FoundPlaces, TermPlaces, find_places, first_docs, wanted_terms};
+pub use finding::{FoundPlaces, TermPositions, find_places, first_docs, wanted_terms};
 pub use ids::{NoIds, id_field};
 pub use inspecting::{
     CountFormat, TermChoice, write_count, write_fields, write_postings, write_terms,

@@ -3,7 +3,7 @@ ghost use Rattle.std.specs.Prelude.{◌≡◌, ◌<◌, length, true};
 ghost use Rattle.ii_query_parser.specs.Queries.{has_fields};
 
 use crate::faults::AnswerFault;
-use crate::finding::{FoundPlaces, TermPlaces, find_places, first_docs, wanted_terms};
+use crate::finding::{FoundPlaces, TermPositions, find_places, first_docs, wanted_terms};
 use crate::ids::{Ids, ids_of};
 use crate::keys::push_key;
 use crate::opened::Opened;
@@ -192,7 +192,7 @@ impl Row<'_> {
         &self,
         out: &mut W,
         texts: &[TermText],
-        places: &[TermPlaces],
+        places: &[TermPositions],
         how: &Listing,
     ) -> Result<(), AnswerFault> {
         if how.ids.is_none() {
@@ -215,7 +215,7 @@ impl Row<'_> {
         alloc: Global,
         out: &mut W,
         texts: &[TermText],
-        places: &[TermPlaces],
+        places: &[TermPositions],
         how: &Listing,
     ) -> Result<(), AnswerFault> {
         write!(out, "{{\"doc\":{}", self.doc)?;
@@ -237,7 +237,7 @@ impl Row<'_> {
         alloc: Global,
         out: &mut W,
         texts: &[TermText],
-        places: &[TermPlaces],
+        places: &[TermPositions],
     ) -> Result<(), AnswerFault> {
         let mut is_first = true;
         for (text, term) in texts.iter().zip(places) {
@@ -314,7 +314,7 @@ fn write_names<W: Write>(alloc: Global, out: &mut W, text: &TermText) -> Result<
 }
 
 // The positions of a term in the document at a place, if it has the term.
-fn positions_at(term: &TermPlaces, place: usize) -> Option<&[u32]> {
+fn positions_at(term: &TermPositions, place: usize) -> Option<&[u32]> {
     match term.positions.get(place) {
         Some(Some(positions)) => Some(positions.as_slice()),
         _ => None,

@@ -1,0 +1,188 @@
+use crate::compare::{DifferenceCounts, judge_list};
+use crate::files::{judge_index, same_composite, same_dictionary, same_store};
+use crate::subjects::{Kind, SUBJECTS, Subject};
+use ii_base::Fault;
+use ii_slow_reader::Files;
+use std::alloc::Global;
+
+const NONE: DifferenceCounts = DifferenceCounts {
+    cases: 0,
+    differences: 0,
+};
+
+// A part of bytes that are read together, nothing where there is none.
+fn part_of(parts: &[Vec<u8>], at: usize) -> &[u8] {
+    match parts.get(at) {
+        Some(part) => part.as_slice(),
+        None => &[],
+    }
+}
+
+// Reads bytes both ways.
+fn judge(alloc: Global, kind: Kind, parts: &[Vec<u8>], counts: &mut DifferenceCounts) -> Result<(), Fault> {
+    let (first, second) = (part_of(parts, 0), part_of(parts, 1));
+    match kind {
+        Kind::List(doc_freq) => judge_list(alloc, doc_freq, first, second, counts)?,
+        Kind::Composite => counts.add(same_composite(alloc, first)?),
+        Kind::Store => counts.add(same_store(alloc, first)?),
+        Kind::Dictionary => counts.add(same_dictionary(alloc, first)?),
+        Kind::Index => judge_index(
+            alloc,
+            Files {
+                terms: first,
+                postings: second,
+                positions: part_of(parts, 2),
+                norms: part_of(parts, 3),
+            },
+            counts,
+        )?,
+    }
+    Ok(())
+}
+
+// The parts of a subject, to be changed.
+fn copied(alloc: Global, subject: &Subject) -> Result<Vec<Vec<u8>>, Fault> {
+    let mut parts = Vec::new(alloc);
+    for part in subject.parts.as_slice() {
+        parts.push(Vec::from_slice(alloc, part)?)?;
+    }
+    Ok(parts)
+}
+
+/// Each subject as it is, with each cut of one of its parts, and with each change of one byte; of a subject of
+/// more than `longest` bytes with each change of one bit.
+pub fn each_change(alloc: Global, longest: u64) -> Result<DifferenceCounts, Fault> {
+    let mut counts = NONE;
+    for subject in &SUBJECTS {
+        let mut len = 0u64;
+        for part in subject.parts.as_slice() {
+            len = len.saturating_add(part.len() as u64);
+        }
+        let whole = copied(alloc, subject)?;
+        judge(alloc, subject.kind, whole.as_slice(), &mut counts)?;
+        for at in 0..4 {
+            changed(alloc, subject, at, len <= longest, &mut counts)?;
+            cut(alloc, subject, at, &mut counts)?;
+        }
+    }
+    Ok(counts)
+}
+
+// Each change of a byte of one part, or of a bit.
+fn changed(
+    alloc: Global,
+    subject: &Subject,
+    at: usize,
+    all: bool,
+    counts: &mut DifferenceCounts,
+) -> Result<(), Fault> {
+    let mut parts = copied(alloc, subject)?;
+    for place in 0..part_of(parts.as_slice(), at).len() {
+        for change in 1..=u8::MAX {
+            if all || change.is_power_of_two() {
+                alter_in(&mut parts, at, place, change);
+                judge(alloc, subject.kind, parts.as_slice(), counts)?;
+                alter_in(&mut parts, at, place, change);
+            }
+        }
+    }
+    Ok(())
+}
+
+// Each cut of one part.
+fn cut(alloc: Global, subject: &Subject, at: usize, counts: &mut DifferenceCounts) -> Result<(), Fault> {
+    let mut parts = copied(alloc, subject)?;
+    for _ in 0..part_of(parts.as_slice(), at).len() {
+        if let Some(part) = parts.as_mut_slice().get_mut(at) {
+            let _last = part.pop();
+        }
+        judge(alloc, subject.kind, parts.as_slice(), counts)?;
+    }
+    Ok(())
+}
+
+// Changes the bits of a byte of a part; a second time changes them back.
+fn alter_in(parts: &mut Vec<Vec<u8>>, at: usize, place: usize, change: u8) {
+    if let Some(part) = parts.as_mut_slice().get_mut(at) {
+        alter(part, place, change);
+    }
+}
+
+// Changes the bits of a byte; a second time changes them back.
+fn alter(bytes: &mut Vec<u8>, place: usize, change: u8) {
+    if let Some(byte) = bytes.as_mut_slice().get_mut(place) {
+        *byte ^= change;
+    }
+}
+
+// The state that a seed begins with, another one for each seed but the largest. None is 0, where the states would stay.
+fn first_state(seed: u64) -> u64 {
+    seed.wrapping_add(1)
+        .wrapping_mul(0x9e37_79b9_7f4a_7c15)
+        .max(1)
+}
+
+/// So many subjects, each with parts that were changed in up to four bytes, cut or prolonged, a list with
+/// another number of documents at times.
+pub fn at_random(alloc: Global, count: u64, seed: u64) -> Result<DifferenceCounts, Fault> {
+    let mut counts = NONE;
+    let mut state = first_state(seed);
+    for _ in 0..count {
+        let at = next(&mut state)
+            .checked_rem(SUBJECTS.len() as u64)
+            .unwrap_or(0);
+        if let Some(subject) = SUBJECTS.get(at as usize) {
+            damaged(alloc, subject, &mut state, &mut counts)?;
+        }
+    }
+    Ok(counts)
+}
+
+// A subject with damage.
+fn damaged(
+    alloc: Global,
+    subject: &Subject,
+    state: &mut u64,
+    counts: &mut DifferenceCounts,
+) -> Result<(), Fault> {
+    let mut parts = copied(alloc, subject)?;
+    for part in parts.as_mut_slice() {
+        damage(part, state)?;
+    }
+    let kind = match subject.kind {
+        Kind::List(_) if next(state) % 8 == 0 => Kind::List((next(state) % 400) as u32),
+        kind => kind,
+    };
+    judge(alloc, kind, parts.as_slice(), counts)
+}
+
+// Another random number.
+fn next(state: &mut u64) -> u64 {
+    *state ^= *state << 13;
+    *state ^= *state >> 7;
+    *state ^= *state << 17;
+    *state
+}
+
+// Damages a part: at every second time it stays as it is, else up to four bytes are changed, and it is cut, or
+// has a byte more.
+fn damage(bytes: &mut Vec<u8>, state: &mut u64) -> Result<(), Fault> {
+    if next(state) % 2 == 0 {
+        return Ok(());
+    }
+    for _ in 0..next(state) % 4 {
+        let len = (bytes.len() as u64).saturating_add(1);
+        let place = next(state).checked_rem(len).unwrap_or(0) as usize;
+        alter(bytes, place, (next(state) % 256) as u8);
+    }
+    match next(state) % 8 {
+        0 => {
+            let len = (bytes.len() as u64).saturating_add(1);
+            let end = next(state).checked_rem(len).unwrap_or(0) as usize;
+            bytes.truncate(end);
+        }
+        1 => bytes.push((next(state) % 256) as u8)?,
+        _ => (),
+    }
+    Ok(())
+}

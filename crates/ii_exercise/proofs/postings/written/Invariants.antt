@@ -1,6 +1,0 @@
-use Rattle.std.proofs.Common.{◌≡◌, None}
-use Rattle.ii_exercise.proofs.EvenDocuments.{evens}
-use Rattle.ii_exercise.proofs.postings.written.Given as goal
-
-abbrev pub invariant-loop-i : goal.invariant-loop-i
-invariant-loop-i l = record { docs_are : l.serializer.docs ≡ evens 0 l.i; plain : l.serializer.norms ≡ None }

@@ -1,0 +1,124 @@
+//! What is left of an index whose files may have been cut, changed or taken away.
+ghost use Rattle.std.specs.Prelude.{◌≡◌, ◌≤◌, ◌+◌, IfOk, Some, drop, length};
+ghost use Rattle.ii_store.specs.declared.name.Name.TheVariants.{File};
+ghost use Rattle.ii_store.specs.Index.{AnswersFromFiles, slot_in, view};
+ghost use Rattle.ii_store.specs.SalvagedIndex.{file_of, file_view, salvaged_bytes, salvaged_by, salvaged_in, salvaged, salvaged_view};
+
+use crate::directory::Directory;
+use crate::faults::{DirectoryFault, IndexFault, StoreFault};
+use crate::meta::{
+    FIELDNORMS_AT, POSITIONS_AT, POSTINGS_AT, SCHEMA_AT, TERMS_AT, checked_num_docs, fault_by,
+    slot_named,
+};
+use crate::name::{Kind, Name, Slot};
+use crate::stored_index::StoredIndex;
+use std::alloc::Global;
+
+/// A file as it is.
+#[derive(Debug, Drop)]
+pub struct SalvagedFile {
+    /// All its bytes; none where it is missing.
+    pub bytes: Vec<u8>,
+    /// Why it isn't the file that was saved, if it isn't: `Missing`, `WrongLength` or `WrongChecksum`.
+    pub fault: Option<IndexFault>,
+}
+
+/// The files of an index, as they are, and how many documents there were.
+#[derive(Debug, Drop)]
+pub struct SalvagedIndex {
+    pub num_docs: u32,
+    pub schema: SalvagedFile,
+    pub terms: SalvagedFile,
+    pub postings: SalvagedFile,
+    pub positions: SalvagedFile,
+    pub fieldnorms: SalvagedFile,
+}
+
+impl SalvagedIndex {
+    /// The file of one kind.
+    pub fn file_of(&self, kind: Kind) -> &SalvagedFile
+        ensures { file_view result.now ≡ file_of (salvaged_view self.now) kind }
+    {
+        match kind {
+            Kind::Schema => &self.schema,
+            Kind::Terms => &self.terms,
+            Kind::Postings => &self.postings,
+            Kind::Positions => &self.positions,
+            Kind::FieldNorms => &self.fieldnorms,
+        }
+    }
+
+    /// The files as those of an index, whatever their faults.
+    pub fn into_index(self) -> StoredIndex
+        ensures { view result ≡ salvaged_bytes (salvaged_view self) }
+    {
+        StoredIndex {
+            num_docs: self.num_docs,
+            schema: self.schema.bytes,
+            terms: self.terms.bytes,
+            postings: self.postings.bytes,
+            positions: self.positions.bytes,
+            fieldnorms: self.fieldnorms.bytes,
+        }
+    }
+}
+
+/// What is left of the index of a directory: each file with all its bytes, and its fault where it isn't
+/// the one that was saved.
+///
+/// Refused as `load` is where there is no `meta`, or none of this version; no fault of a file is a refusal.
+#[tactic(auto, unfolding(crate::specs::SalvagedIndex::salvaged))]
+pub fn salvage<D: Directory>(alloc: Global, directory: &D) -> Result<SalvagedIndex, StoreFault>
+    ensures { D.is_known directory.now → AnswersFromFiles salvaged_view result (salvaged (D.seen directory.now)) }
+{
+    let Some(meta) = directory.read(alloc, Name::Meta)? else {
+        return Err(StoreFault::Index(IndexFault::NoIndex));
+    };
+    salvaged_by(alloc, directory, meta.as_slice())
+}
+
+// What is left of the index of a meta file.
+#[tactic(auto, unfolding(crate::specs::SalvagedIndex::salvaged_at))]
+fn salvaged_by<D: Directory>(alloc: Global, directory: &D, meta: &[u8]) -> Result<SalvagedIndex, StoreFault>
+    ensures { D.is_known directory.now → AnswersFromFiles salvaged_view result (salvaged_by (Some meta.now) (λ kind. D.seen directory.now (File (slot_in meta.now) kind))) }
+{
+    let num_docs = checked_num_docs(meta)?;
+    let slot = slot_named(meta);
+    let schema = salvaged_file(alloc, directory, slot, Kind::Schema, meta, SCHEMA_AT)?;
+    let terms = salvaged_file(alloc, directory, slot, Kind::Terms, meta, TERMS_AT)?;
+    let postings = salvaged_file(alloc, directory, slot, Kind::Postings, meta, POSTINGS_AT)?;
+    let positions = salvaged_file(alloc, directory, slot, Kind::Positions, meta, POSITIONS_AT)?;
+    let fieldnorms = salvaged_file(alloc, directory, slot, Kind::FieldNorms, meta, FIELDNORMS_AT)?;
+    Ok(SalvagedIndex {
+        num_docs,
+        schema,
+        terms,
+        postings,
+        positions,
+        fieldnorms,
+    })
+}
+
+// A file as it is, and its fault by its entry, which begins at `place` of `meta`.
+#[tactic(auto, unfolding(crate::specs::SalvagedIndex::salvaged_in, crate::specs::Index::file_in))]
+fn salvaged_file<D: Directory>(
+    alloc: Global,
+    directory: &D,
+    slot: Slot,
+    kind: Kind,
+    meta: &[u8],
+    place: usize,
+) -> Result<SalvagedFile, DirectoryFault>
+    requires { place + 40 ≤ length meta.now }
+    ensures { D.is_known directory.now → IfOk result (λ f. file_view f ≡ salvaged_in kind (drop place meta.now) (D.seen directory.now (File slot kind))) }
+{
+    let Some(bytes) = directory.read(alloc, Name::File(slot, kind))? else {
+        return Ok(SalvagedFile {
+            bytes: Vec::new(alloc),
+            fault: Some(IndexFault::Missing(kind)),
+        });
+    };
+    let (_, entry) = meta.split_at(place);
+    let fault = fault_by(kind, entry, bytes.as_slice());
+    Ok(SalvagedFile { bytes, fault })
+}
