@@ -6,8 +6,8 @@ use Rattle.ii_store.specs.declared.name.Kind.TheVariants.{Schema, Terms, Posting
 use Rattle.ii_store.specs.declared.name.Name.TheVariants.{Meta, File}
 use Rattle.ii_store.specs.declared.faults.IndexFault.{IndexFault}
 use Rattle.ii_store.specs.declared.faults.IndexFault.TheVariants.{NoIndex}
-use Rattle.ii_store.specs.declared.salvage.SalvagedFile.{SalvagedFile}
-use Rattle.ii_store.specs.declared.salvage.SalvagedIndex.{SalvagedIndex}
+use Rattle.ii_store.specs.declared.salvaged_index.SalvagedFile.{SalvagedFile}
+use Rattle.ii_store.specs.declared.salvaged_index.SalvagedIndex.{SalvagedIndex}
 use Rattle.ii_store.specs.Directory.{Files}
 use Rattle.ii_store.specs.Index.{Index, ◌>>=◌, entry_at, file_in, num_docs_in, used_slot}
 

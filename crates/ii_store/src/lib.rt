@@ -5,7 +5,7 @@
 pub mod directory;
 pub mod faults;
 pub mod folder;
-pub mod salvage;
+pub mod salvaged_index;
 pub mod lock;
 pub mod memory_directory;
 pub mod meta;
@@ -16,7 +16,7 @@ pub mod stored_index;
 pub use directory::Directory;
 pub use faults::{DirectoryFault, IndexFault, StoreFault};
 pub use folder::Folder;
-pub use salvage::{SalvagedFile, SalvagedIndex, salvage};
+pub use salvaged_index::{SalvagedFile, SalvagedIndex, salvage};
 pub use lock::FolderLock;
 pub use memory_directory::MemoryDirectory;
 pub use name::{Kind, Name, Slot};
