@@ -17,7 +17,6 @@ PROGRAM = 'nequllpa_cli'
 FIELDS = 1_000
 WORDS = 10_000
 NESTING = 128
-LEVELS = 256
 # The stack that the program has, in bytes: a search of so many words took 36 kB for each of them once.
 STACK = 1 << 20
 
@@ -59,10 +58,9 @@ def queries(program, room):
             ('(' * NESTING + 'common' + ')' * NESTING, [0, 1]),
             ('(' * NESTING + 'common' + ' none)' * NESTING, [0, 1]),
             ('common AND -(none OR (' * (NESTING // 2) + 'none' + '))' * (NESTING // 2), []),
-            ('common w1 AND w3 AND -none AND (' * (NESTING // 2) + 'w3' + ') -none' * (NESTING // 2), [0, 1])):
+            ('common w1 AND w3 AND -none AND (' * NESTING + 'w3' + ') -none' * NESTING, [0, 1]),
+            ('common w9 AND w3 AND -(' * NESTING + 'w3' + ')' * NESTING, [0, 1])):
         wants(program, room, ['search', 'folder', query, '--field', 'f0'], 0 if found else 1, ''.join(f'{doc}\n' for doc in found), before=None)
-    deep = 'common w1 AND w3 AND -none AND (' * NESTING + 'w3' + ') -none' * NESTING
-    wants(program, room, ['search', 'folder', deep, '--field', 'f0'], 2, '', f'more than {LEVELS} operators')
     wants(program, room, ['search', 'folder', '(' * (NESTING + 1) + 'common' + ')' * (NESTING + 1)], 2, '', f'at byte {NESTING}')
 
 

@@ -31,16 +31,16 @@ def refusals(got, right):
 
 
 def main():
-    if not refusing.build('ii_exercise'):
+    if not refusing.build('ii_allocation_tests'):
         print('tests/memory: the parts were not built')
         return 1
-    with open(os.path.join(refusing.TOP, 'crates', 'ii_exercise', 'stdout'), 'rb') as f:
+    with open(os.path.join(refusing.TOP, 'crates', 'ii_allocation_tests', 'stdout'), 'rb') as f:
         right = f.read()
     os.dup2(2, 3)
     with tempfile.TemporaryDirectory() as folder:
         library = refusing.shim(folder)
         for refused in range(1, 100000):
-            done, was_refused = refusing.run('ii_exercise', b'', library, refused, folder)
+            done, was_refused = refusing.run('ii_allocation_tests', b'', library, refused, folder)
             count = refusals(done.stdout, right)
             if done.stderr or done.returncode != 0 or count != (1 if was_refused else 0):
                 print(f'tests/memory: allocation {refused} of the parts refused: status {done.returncode}, {done.stdout!r}')

@@ -173,7 +173,7 @@ fn refuses_damaged_dictionaries(rt: HostRuntime) {
 }
 
 #[test]
-fn refuses_hostile_numbers(rt: HostRuntime) {
+fn refuses_corrupt_numbers(rt: HostRuntime) {
     let (keys, store) = (
         Err(Fault::Damaged(Part::Dictionary)),
         Err(Fault::Damaged(Part::TermStore)),

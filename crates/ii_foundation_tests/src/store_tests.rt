@@ -188,7 +188,7 @@ fn found_in_folder<R: std::rt::Files + AllocGlobal>(
 
 #[test]
 fn a_folder_keeps_the_last_index(rt: HostRuntime) -> Result<(), Fail> {
-    let path = "/tmp/ii_base_tests_folder";
+    let path = "/tmp/ii_foundation_tests_folder";
     let _ = fs::remove_dir_all(&rt, path);
     fs::create_dir(&rt, path)?;
     let answers = found_in_folder(&rt, path);

@@ -8,10 +8,11 @@ ghost use Rattle.ii_definitions.specs.Tokens.{IndexToken};
 ghost use Rattle.ii_reader.specs.InvertedIndexReader.{IsRefusal};
 ghost use Rattle.ii_reader.specs.OpenIndex.{IndexHolds};
 ghost use Rattle.ii_query.specs.Phrase.{cursors_in, parts_in};
-ghost use Rattle.ii_query.specs.Combined.{without};
+ghost use Rattle.ii_io.specs.Faults.{OnlyMemory};
+ghost use Rattle.ii_query.specs.Combined.{intersection_of, union_of, without};
 ghost use Rattle.ii_query.specs.QueryCursor.{cursors_under, rests};
 ghost use Rattle.ii_search.specs.Decodes.{DecodesFew, EachDecodesFew};
-ghost use Rattle.ii_search.specs.Found.{GivesCount, GivesMatches, combined, docs_of_term, found_in, lists_found, phrase_of, phrase_parts_of};
+ghost use Rattle.ii_search.specs.Found.{GivesCount, GivesMatches, combined, combined_lists, docs_of_term, found_in, lists_found, phrase_of, phrase_parts_of};
 ghost use Rattle.ii_query_parser.specs.Queries.{has_fields, keeps_positions, trees_of};
 
 use ii_base::{Fault, IndexRecordOption, Term};
@@ -87,43 +88,109 @@ fn find(
         Query::All(num_docs) => Ok(QueryCursor::all(*num_docs)),
         Query::Term(term) => find_term(index, term),
         Query::Phrase(first, others) => find_phrase(alloc, index, first, others),
-        Query::And(queries) => match find_each(alloc, index, queries) {
-            Ok(cursors) => QueryCursor::intersection(alloc, cursors),
-            Err(fault) => Err(fault),
-        },
-        Query::Or(queries) => match find_each(alloc, index, queries) {
-            Ok(cursors) => QueryCursor::union(alloc, cursors),
-            Err(fault) => Err(fault),
-        },
-        Query::AndNot(first, other) => match find(alloc, index, first) {
+        Query::And(queries) => find_all(alloc, index, queries),
+        Query::Or(queries) => find_any(alloc, index, queries),
+        Query::AndNot(first, other) => match find_boxed(alloc, index, first) {
             Ok(first) => find_without(alloc, index, first, other),
             Err(fault) => Err(fault),
         },
     }
 }
 
-// A cursor over the documents that a cursor has and a query doesn't give. It is apart from `find`, as are the
-// others that hold a cursor, so that a level of a query takes little of the stack.
+// Returns a cursor over the documents that match each of the queries. Each kind of query has a function of its
+// own, so that a level of nesting takes little of the stack.
+#[cycle(find)]
+#[inline(never)]
+fn find_all(
+    alloc: Global,
+    index: &OpenIndex,
+    queries: &Vec<Query>,
+) -> Result<QueryCursor<TermOrPhrase<SegmentPostings>>, Fault>
+    requires fields { list_all (has_fields (length index.now.readers)) queries.now.items ≡ true }
+    ensures listed { IfOk result (λ cursor. combined_lists intersection_of (lists_found index.now (trees_of queries.now.items)) ≡ Ok cursor.rest) }
+    ensures lazy { IfOk result (λ cursor. AllByRecursion EachDecodesFew cursor.cursors) }
+    ensures refused { IfErr result (IsRefusal (combined_lists intersection_of (lists_found index.now (trees_of queries.now.items)))) }
+{
+    match find_each(alloc, index, queries) {
+        Ok(cursors) => QueryCursor::intersection(alloc, cursors),
+        Err(fault) => Err(fault),
+    }
+}
+
+// Returns a cursor over the documents that match one of the queries or more.
+#[cycle(find)]
+#[inline(never)]
+fn find_any(
+    alloc: Global,
+    index: &OpenIndex,
+    queries: &Vec<Query>,
+) -> Result<QueryCursor<TermOrPhrase<SegmentPostings>>, Fault>
+    requires fields { list_all (has_fields (length index.now.readers)) queries.now.items ≡ true }
+    ensures listed { IfOk result (λ cursor. combined_lists union_of (lists_found index.now (trees_of queries.now.items)) ≡ Ok cursor.rest) }
+    ensures lazy { IfOk result (λ cursor. AllByRecursion EachDecodesFew cursor.cursors) }
+    ensures refused { IfErr result (IsRefusal (combined_lists union_of (lists_found index.now (trees_of queries.now.items)))) }
+{
+    match find_each(alloc, index, queries) {
+        Ok(cursors) => QueryCursor::union(alloc, cursors),
+        Err(fault) => Err(fault),
+    }
+}
+
+// Returns the cursor of a query on the heap, which takes less of the stack.
+#[cycle(find)]
+#[inline(never)]
+fn find_boxed(
+    alloc: Global,
+    index: &OpenIndex,
+    query: &Query,
+) -> Result<Box<QueryCursor<TermOrPhrase<SegmentPostings>>>, Fault>
+    requires fields { has_fields (length index.now.readers) query.now ≡ true }
+    ensures listed { IfOk result (λ cursor. found_in index.now query.now ≡ Ok cursor.value.rest) }
+    ensures lazy { IfOk result (λ cursor. AllByRecursion EachDecodesFew cursor.value.cursors) }
+    ensures refused { IfErr result (IsRefusal (found_in index.now query.now)) }
+{
+    match find(alloc, index, query) {
+        Ok(cursor) => Ok(Box::new(alloc, cursor)?),
+        Err(fault) => Err(fault),
+    }
+}
+
+// Returns a cursor over the documents of `first` that don't match `other`.
 #[cycle(find)]
 #[inline(never)]
 fn find_without(
     alloc: Global,
     index: &OpenIndex,
-    first: QueryCursor<TermOrPhrase<SegmentPostings>>,
+    first: Box<QueryCursor<TermOrPhrase<SegmentPostings>>>,
     other: &Query,
 ) -> Result<QueryCursor<TermOrPhrase<SegmentPostings>>, Fault>
     requires fields { has_fields (length index.now.readers) other.now ≡ true }
-    ensures listed { IfOk result (λ cursor. combined without (Ok first.rest) (found_in index.now other.now) ≡ Ok cursor.rest) }
-    ensures lazy { AllByRecursion EachDecodesFew first.cursors → IfOk result (λ cursor. AllByRecursion EachDecodesFew cursor.cursors) }
-    ensures refused { IfErr result (IsRefusal (combined without (Ok first.rest) (found_in index.now other.now))) }
+    ensures listed { IfOk result (λ cursor. combined without (Ok first.value.rest) (found_in index.now other.now) ≡ Ok cursor.rest) }
+    ensures lazy { AllByRecursion EachDecodesFew first.value.cursors → IfOk result (λ cursor. AllByRecursion EachDecodesFew cursor.cursors) }
+    ensures refused { IfErr result (IsRefusal (combined without (Ok first.value.rest) (found_in index.now other.now))) }
 {
-    match find(alloc, index, other) {
-        Ok(other) => QueryCursor::without(alloc, first, other),
+    match find_boxed(alloc, index, other) {
+        Ok(other) => without_of(alloc, first, other),
         Err(fault) => {
             drop(first);
             Err(fault)
         }
     }
+}
+
+// Returns a cursor over the documents of `first` that `other` doesn't have.
+#[inline(never)]
+fn without_of(
+    alloc: Global,
+    first: Box<QueryCursor<TermOrPhrase<SegmentPostings>>>,
+    other: Box<QueryCursor<TermOrPhrase<SegmentPostings>>>,
+) -> Result<QueryCursor<TermOrPhrase<SegmentPostings>>, Fault>
+    ensures rest { IfOk result (λ cursor. cursor.rest ≡ without first.value.rest other.value.rest) }
+    ensures lazy { AllByRecursion EachDecodesFew first.value.cursors → AllByRecursion EachDecodesFew other.value.cursors
+        → IfOk result (λ cursor. AllByRecursion EachDecodesFew cursor.cursors) }
+    ensures only { OnlyMemory result }
+{
+    QueryCursor::without(alloc, Box::into_inner(first), Box::into_inner(other))
 }
 
 // Returns a cursor for each query.

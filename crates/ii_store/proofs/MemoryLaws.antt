@@ -1,4 +1,4 @@
--- What one change more makes of a directory in memory.
+-- The effect of one more change on a directory in memory.
 use Rattle.std.proofs.Common.{◌≡◌, ◌⊎◌, inl, inr, ⊎_elim, ℕ, ◌==◌, false, List, [], ◌∷◌, ◌++◌, length, take, Option, None, Some, Vec, Result, Ok, Err, OnOk, OnErr, IfOk, refl, sym, ap, ◌∙◌, arith}
 use Rattle.std.proofs.lemmas.Bool.{cases_lt, ne_eqb, eq-eqb}
 use Rattle.std.proofs.lemmas.List.{length-append, take-append-le}
@@ -10,7 +10,7 @@ use Rattle.ii_store.specs.Directory.{Elapses, Elsewhere, Files, IsOther, IsPut, 
 use Rattle.ii_store.specs.MemoryDirectory.{MayBePut, WereSince, after, all_taken, changed, files_after}
 use Rattle.ii_store.specs.Names.{name_number}
 
--- the last change is made to what the others leave
+-- the last change applies to what the others leave
 pub after_last : (files : Files) (changes : List Change) (last : Change) → after files (changes ++ last ∷ []) ≡ changed last (after files changes)
 unfolding after
 after_last files [] last = refl
@@ -110,7 +110,7 @@ pub renamed_or_not : {T E : Type 0} (result : Result T E) (from to : Name) (old 
 renamed_or_not result from to old new ok err = ⊎_elim (renamed_elapses from to old new) (none_elapses old new (MayBeRenamed from to (files_after old)))
     (made_or_not (new ≡ old ++ Renamed from to ∷ []) (new ≡ old) result ok err)
 
--- and what is there where it was made
+-- and what it holds if the change was made
 
 pub put_at_ok : {T E : Type 0} (result : Result T E) (name : Name) (bytes : Vec ℕ Global) (old new : List Change) → OnOk result (new ≡ old ++ Put name bytes ∷ [])
     → OnOk result (IsPut name (Some bytes.items) (files_after old) (files_after new))

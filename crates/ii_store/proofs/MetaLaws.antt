@@ -1,4 +1,4 @@
--- A meta file says what it was made of.
+-- A `meta` file describes the index that it was encoded from.
 use Rattle.std.proofs.Common.{◌≡◌, ◌<◌, ◌^◌, ℕ, suc, ◌+◌, List, ◌++◌, length, take, drop, Some, Ok, refl, sym, ap, ◌∙◌, append_assoc, arith}
 use Rattle.std.specs.Int.{w32, w64, to_le_bytes}
 use Rattle.std.proofs.Math.Seq.{drop-append_seam, take-append_seam}
@@ -73,11 +73,11 @@ length_meta : (slot : Slot) (i : Index) → length (meta_bytes slot i) ≡ 249
 unfolding meta_bytes
 length_meta slot i = length-append (meta_body slot i) (sha256 (meta_body slot i)) ∙ omega (arith, length_meta_body slot i, length-sha256 (meta_body slot i))
 
--- what stands after an entry
+-- the bytes after an entry
 next : (n : ℕ) (meta bytes more : List ℕ) → drop n meta ≡ entry bytes ++ more → drop (n + 40) meta ≡ more
 next n meta bytes more at = sym (drop-drop 40 n meta) ∙ ap (drop 40) at ∙ drop_seam 40 (entry bytes) more (length_entry bytes)
 
--- a file that an entry at a place tells of
+-- a file that matches the entry at a place
 file_at : (kind : Kind) (n : ℕ) (meta bytes more : List ℕ) → drop n meta ≡ entry bytes ++ more → file_in kind (drop n meta) (Some bytes) ≡ Ok bytes
 file_at kind n meta bytes more at = rw at (file_given kind bytes more)
 

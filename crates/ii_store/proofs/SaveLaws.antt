@@ -1,4 +1,4 @@
--- What a run of calls of a directory leaves.
+-- What a sequence of directory calls leaves.
 use Rattle.std.proofs.Common.{◌≡◌, inl, inr, ⊎_elim, ◌<◌, ◌≤◌, ◌^◌, ℕ, zero, suc, ◌+◌, List, Option, None, Some, Result, Ok, Err, OnOk, refl, subst, sym, ap, ◌∙◌, arith}
 use Rattle.ii_store.specs.declared.name.Kind.{Kind}
 use Rattle.ii_store.specs.declared.name.Kind.TheVariants.{Schema, Terms, Postings, Positions, FieldNorms}
@@ -187,7 +187,7 @@ module _ {D : Type 0} (moment : D → ℕ) (left_since : D → ℕ → Files →
 outside_is_old : (slot : Slot) (a c : Files) → slot ≡ other_slot (used_slot (a Meta)) → IsOutside slot a c → index_of c ≡ index_of a
 outside_is_old slot a c free outside = index_outside a c (subst (λ s. IsOutside s a c) free outside)
 
--- what stands once the new meta file is written beside the old one
+-- the state once the new `meta` file is written next to the old one
 pub record IsReady (slot : Slot) (i : Index) (old ready : Files) : Type 0 where
   pub free : slot ≡ other_slot (used_slot (old Meta))
   pub small : i.num_docs < 2 ^ 32
@@ -254,11 +254,11 @@ module _ {D : Type 0} (moment : D → ℕ) (left_since : D → ℕ → Files →
         meta_time = elapses_then moment left_since old mid ready (IsOldOrNew (index_of (seen old)) i) (Elsewhere NewMeta (seen mid)) files_time second
             (λ c elsewhere. inl (outside_is_old slot (seen old) c free (outside_then slot (seen old) (seen mid) c outside (outside_new_meta slot (seen mid) c elsewhere))))
 
-        -- the new meta file was written beside the old one, or in part
+        -- the new `meta` file was written next to the old one, completely or in part
         pub meta_leaves : LeavesOne moment left_since seen old ready i
         meta_leaves = leaves_one ready i meta_time
 
-        -- it took the old one's place, or not
+        -- it replaced the old one, or not
         pub rename_leaves : (new : D) → IsReady slot i (seen old) (seen ready)
             → Elapses (moment ready) (moment new) (left_since ready) (left_since new) (MayBeRenamed NewMeta Meta (seen ready)) → LeavesOne moment left_since seen old new i
         rename_leaves new r third = leaves_one new i (elapses_then moment left_since old ready new (IsOldOrNew (index_of (seen old)) i) (MayBeRenamed NewMeta Meta (seen ready)) meta_time third

@@ -1,4 +1,4 @@
--- How the parts of an index are read one after the other.
+-- How the parts of an index are read in sequence.
 use Rattle.std.proofs.Common.{◌≡◌, ℕ, List, Option, drop, Result, Ok, refl}
 use Rattle.ii_store.specs.declared.faults.IndexFault.{IndexFault}
 use Rattle.ii_store.specs.declared.faults.StoreFault.{StoreFault}

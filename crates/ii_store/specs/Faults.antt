@@ -1,13 +1,13 @@
--- Faults of directories and of indexes, as one.
+-- Faults of directories and of indexes, combined.
 use Rattle.ii_store.specs.declared.faults.DirectoryFault.{DirectoryFault}
 use Rattle.ii_store.specs.declared.faults.IndexFault.{IndexFault}
 use Rattle.ii_store.specs.declared.faults.StoreFault.{StoreFault}
 use Rattle.ii_store.specs.declared.faults.StoreFault.TheVariants as faults
 
--- the fault of a directory
+-- a directory fault
 abbrev pub of_directory : DirectoryFault → StoreFault
 of_directory fault = faults.Directory fault
 
--- the fault of files that are no index
+-- an index fault
 abbrev pub of_index : IndexFault → StoreFault
 of_index fault = faults.Index fault

@@ -1,4 +1,4 @@
--- The files of a directory in memory, after the changes that were made to it.
+-- The files of a directory in memory after its changes.
 use Rattle.std.specs.Prelude.{◌≡◌, ◌⊎◌, ◌≤◌, ℕ, ◌==◌, List, [], ◌∷◌, ◌++◌, length, take, None, Some, Vec, if◌then◌else◌}
 use Rattle.std.proofs.Common.{refl, sym, ap, ◌∙◌}
 use Rattle.std.proofs.Math.Nat.{le_refl, le_antisymm}
@@ -10,7 +10,7 @@ use Rattle.ii_store.specs.declared.name.Name.{Name}
 use Rattle.ii_store.specs.Directory.{Files, Same}
 use Rattle.ii_store.specs.Names.{name_number}
 
--- what a change makes of files
+-- the files after a change
 abbrev pub changed : Change → Files → Files
 changed (Put put bytes) files name = if name_number put == name_number name then Some bytes.items else files name
 changed (Removed removed) files name = if name_number removed == name_number name then None else files name
@@ -19,12 +19,12 @@ changed (Renamed from to) files name =
     else if name_number from == name_number name then None
     else files name
 
--- what changes make of files, the first one first
+-- the files after a list of changes, in order
 unfoldable pub after : Files → List Change → Files
 after files [] = files
 after files (change ∷ changes) = after (changed change files) changes
 
--- what changes make of an empty directory
+-- the files after a list of changes to an empty directory
 abbrev pub files_after : List Change → Files
 files_after changes = after (λ _. None) changes
 
@@ -32,11 +32,11 @@ files_after changes = after (λ _. None) changes
 abbrev pub files_of : MemoryDirectory → Files
 files_of d = files_after d.changes.items
 
--- the files were so after the first of the changes, at least t of them
+-- the files were in this state after k changes, for some k of at least t
 abbrev pub WereSince : List Change → ℕ → Files → Type 0
 WereSince changes t c = (k : ℕ) × (t ≤ k) × (k ≤ length changes) × Same (files_after (take k changes)) c
 
--- what a stopped write leaves
+-- what a stopped write may leave
 abbrev pub MayBePut : Name → List Change → List Change → Type 0
 MayBePut name old new = (new ≡ old) ⊎ ((bytes : Vec ℕ Global) × (new ≡ old ++ Put name bytes ∷ []))
 
@@ -44,11 +44,11 @@ pub all_taken : (changes : List Change) → take (length changes) changes ≡ ch
 all_taken [] = refl
 all_taken (change ∷ changes) = ap (λ more. change ∷ more) (all_taken changes)
 
--- this moment is one of those since an earlier one
+-- a stop since an earlier time may be a stop now
 pub counts_now : (changes : List Change) (t : ℕ) → t ≤ length changes → WereSince changes t (files_after changes)
 counts_now changes t le = (length changes, le, le_refl (length changes), λ name. ap (λ all. files_after all name) (sym (all_taken changes)))
 
--- since this moment there is no other
+-- a stop since now leaves the current files
 pub only_now : (changes : List Change) (c : Files) → WereSince changes (length changes) c → Same (files_after changes) c
 only_now changes c since name =
     since.3 name ∙ ap (λ k. files_after (take k changes) name) (le_antisymm since.2 since.1) ∙ ap (λ all. files_after all name) (all_taken changes)

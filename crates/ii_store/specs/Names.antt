@@ -7,7 +7,7 @@ use Rattle.ii_store.specs.declared.name.Kind.TheVariants.{Schema, Terms, Posting
 use Rattle.ii_store.specs.declared.name.Name.{Name}
 use Rattle.ii_store.specs.declared.name.Name.TheVariants.{Meta, NewMeta, File}
 
--- the slot that this one isn't
+-- the other slot
 abbrev pub other_slot : Slot → Slot
 other_slot First = Second
 other_slot Second = First
@@ -17,7 +17,7 @@ abbrev pub slot_number : Slot → ℕ
 slot_number First = 0
 slot_number Second = 1
 
--- the place of a kind among the entries of a meta file
+-- the index of a kind among the entries of a `meta` file
 abbrev pub kind_number : Kind → ℕ
 kind_number Schema = 0
 kind_number Terms = 1
@@ -25,7 +25,7 @@ kind_number Postings = 2
 kind_number Positions = 3
 kind_number FieldNorms = 4
 
--- the kind at a place
+-- the kind at an index
 abbrev pub kind_at : ℕ → Kind
 kind_at zero = Schema
 kind_at (suc zero) = Terms
@@ -33,13 +33,13 @@ kind_at (suc (suc zero)) = Postings
 kind_at (suc (suc (suc zero))) = Positions
 kind_at (suc (suc (suc (suc _)))) = FieldNorms
 
--- a number for each name
+-- the number of a name
 abbrev pub name_number : Name → ℕ
 name_number Meta = 0
 name_number NewMeta = 1
 name_number (File slot kind) = 2 + 5 * slot_number slot + kind_number kind
 
--- how the file of a name is called in a folder
+-- the file name in a folder
 abbrev pub name_text : Name → List ℕ
 name_text Meta = codes "meta"
 name_text NewMeta = codes "meta.new"

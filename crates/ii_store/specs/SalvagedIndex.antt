@@ -1,4 +1,4 @@
--- What is left of an index whose `meta` is whole: its files as they are, and what of them isn't as they were saved.
+-- The remains of an index whose `meta` is valid: its current files, and how they differ from the saved ones.
 use Rattle.std.specs.Prelude.{ℕ, List, [], drop, unwrap_or, Option, None, Some, Result, Ok, Err}
 use Rattle.std.specs.Result.{result_err}
 use Rattle.ii_store.specs.declared.name.Kind.{Kind}
@@ -16,7 +16,7 @@ pub record SalvagedFileState : Type 0 where
   pub bytes : List ℕ
   pub fault : Option IndexFault
 
--- the number of documents of a meta file, and each file of its slot
+-- the number of documents in a `meta` file, and each file of its slot
 pub record SalvagedIndexState : Type 0 where
   pub num_docs : ℕ
   pub schema : SalvagedFileState
@@ -25,11 +25,11 @@ pub record SalvagedIndexState : Type 0 where
   pub positions : SalvagedFileState
   pub fieldnorms : SalvagedFileState
 
--- a file in memory
+-- the model of a file in memory
 abbrev pub file_view : SalvagedFile → SalvagedFileState
 file_view f = record { bytes = f.bytes.items; fault = f.fault }
 
--- what is left of an index, in memory
+-- the model of a salvaged index in memory
 abbrev pub salvaged_view : SalvagedIndex → SalvagedIndexState
 salvaged_view i = record {
   num_docs = i.num_docs;
@@ -48,7 +48,7 @@ file_of i Postings = i.postings
 file_of i Positions = i.positions
 file_of i FieldNorms = i.fieldnorms
 
--- the bytes of all files, as an index
+-- the bytes of all files as an index
 abbrev pub salvaged_bytes : SalvagedIndexState → Index
 salvaged_bytes i = record {
   num_docs = i.num_docs;
@@ -59,11 +59,11 @@ salvaged_bytes i = record {
   fieldnorms = i.fieldnorms.bytes;
 }
 
--- all bytes of a file, none where it is missing, and the fault for which it isn't as an entry of `meta` says
+-- all bytes of a file, none if it is missing, and how it differs from its entry in `meta`
 unfoldable pub salvaged_in : Kind → List ℕ → Option (List ℕ) → SalvagedFileState
 salvaged_in kind entry found = record { bytes = unwrap_or found []; fault = result_err (file_in kind entry found) }
 
--- what is left of the index whose meta file this is, with the files of the slot that it names
+-- the remains of the index that a `meta` file and the files of its slot hold
 unfoldable pub salvaged_at : List ℕ → (Kind → Option (List ℕ)) → Result SalvagedIndexState IndexFault
 salvaged_at meta files = do
   num_docs ← num_docs_in meta
@@ -76,11 +76,11 @@ salvaged_at meta files = do
     fieldnorms = salvaged_in FieldNorms (drop (entry_at FieldNorms) meta) (files FieldNorms);
   })
 
--- what is left of the index of a meta file, where there is one
+-- the remains of the index of a `meta` file, if there is one
 abbrev pub salvaged_by : Option (List ℕ) → (Kind → Option (List ℕ)) → Result SalvagedIndexState IndexFault
 salvaged_by None files = Err NoIndex
 salvaged_by (Some meta) files = salvaged_at meta files
 
--- what is left of the index of a folder, or the fault of its `meta`
+-- the remains of the index of a folder, or the fault of its `meta`
 unfoldable pub salvaged : Files → Result SalvagedIndexState IndexFault
 salvaged files = salvaged_by (files Meta) (λ kind. files (File (used_slot (files Meta)) kind))

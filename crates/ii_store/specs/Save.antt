@@ -8,30 +8,30 @@ use Rattle.ii_store.specs.Directory.{Elapses, Files}
 use Rattle.ii_store.specs.Index.{Index, bytes_of_file, index_of}
 use Rattle.ii_store.specs.Names.{other_slot}
 
--- `meta` and the files of the other slot are as they were
+-- `meta` and the files of the other slot are unchanged
 pub record IsOutside (slot : Slot) (old new : Files) : Type 0 where
   pub meta : new Meta ≡ old Meta
   pub files : (kind : Kind) → new (File (other_slot slot) kind) ≡ old (File (other_slot slot) kind)
 
--- the files of a slot are those of an index
+-- a slot holds the files of an index
 abbrev pub HoldsFiles : Slot → Index → Files → Type 0
 HoldsFiles slot i files = (kind : Kind) → files (File slot kind) ≡ Some (bytes_of_file i kind)
 
--- the files are the index that was there, or the new one
+-- the files hold the old index or the new one
 abbrev pub IsOldOrNew : Result Index IndexFault → Index → Files → Type 0
 IsOldOrNew before i files = (index_of files ≡ before) ⊎ (index_of files ≡ Ok i)
 
--- The files are the new index.
+-- The files hold the new index.
 abbrev pub HoldsIndex : Index → Files → Type 0
 HoldsIndex i files = index_of files ≡ Ok i
 
--- A stop at any moment since old leaves the index that was there or the new one, never half of one.
+-- A stop at any time since old leaves the old index or the new one, never a mixture.
 pub record LeavesOne {D : Type 0} (moment : D → ℕ) (left_since : D → ℕ → Files → Type 0) (seen : D → Files) (old new : D) (i : Index) : Type 0 where
   pub each : (c : Files) → left_since new (moment old) c → IsOldOrNew (index_of (seen old)) i c
-  -- for a run that began earlier
+  -- for a run that started earlier
   pub time : Elapses (moment old) (moment new) (left_since old) (left_since new) (IsOldOrNew (index_of (seen old)) i)
 
--- A stop at any moment since old leaves the index that was there.
+-- A stop at any time since old leaves the old index.
 pub record LeavesSame {D : Type 0} (moment : D → ℕ) (left_since : D → ℕ → Files → Type 0) (seen : D → Files) (old new : D) : Type 0 where
   pub each : (c : Files) → left_since new (moment old) c → index_of c ≡ index_of (seen old)
   pub time : Elapses (moment old) (moment new) (left_since old) (left_since new) (λ c. index_of c ≡ index_of (seen old))

@@ -7,47 +7,47 @@ use std::alloc::{AllocError, AllocFailed};
 use std::io;
 use thiserror::Error;
 
-/// Why a directory refused a call.
+/// Why a directory call failed.
 #[derive(Clone, Copy, Debug, PartialEq, Eq, Error)]
 pub enum DirectoryFault {
-    /// No memory was found.
+    /// Memory could not be allocated.
     #[error("out of memory")]
     OutOfMemory,
-    /// The system refused, or failed.
+    /// The operating system returned an error.
     #[error("the folder refused: {0:?}")]
     Refused(io::ErrorKind),
 }
 
-/// Why the files of a directory are no index.
+/// Why the files of a directory are not a valid index.
 #[derive(Clone, Copy, Debug, PartialEq, Eq, Error)]
 pub enum IndexFault {
     /// There is no `meta`.
     #[error("no index here")]
     NoIndex,
-    /// `meta` is of another version of the format, this one.
+    /// `meta` has this other version of the format.
     #[error("an index of version {0}")]
     OtherVersion(u32),
-    /// `meta` isn't one, is cut or was changed.
+    /// `meta` is not a `meta` file, is truncated or was changed.
     #[error("the file meta is damaged")]
     DamagedMeta,
-    /// A file isn't there.
+    /// A file is missing.
     #[error("the file of {0} is missing")]
     Missing(Kind),
-    /// A file has another length than `meta` says.
+    /// The length of a file differs from its length in `meta`.
     #[error("the file of {0} has another length than meta says")]
     WrongLength(Kind),
-    /// A file has other bytes than those that were written.
+    /// The checksum of a file differs from its checksum in `meta`.
     #[error("the file of {0} has another checksum than meta says")]
     WrongChecksum(Kind),
 }
 
-/// Why an index wasn't loaded.
+/// Why an index could not be loaded.
 #[derive(Clone, Copy, Debug, PartialEq, Eq, Error)]
 pub enum StoreFault {
-    /// The directory refused a call, or there was no memory: of its files nothing is told.
+    /// A directory call or an allocation failed. This says nothing about the files.
     #[error("{0}")]
     Directory(DirectoryFault),
-    /// The files are no index.
+    /// The files are not a valid index.
     #[error("{0}")]
     Index(IndexFault),
 }

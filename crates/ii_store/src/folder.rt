@@ -1,4 +1,4 @@
-//! A folder of the system.
+//! A folder of the file system.
 use crate::directory::Directory;
 use crate::faults::DirectoryFault;
 use crate::name::{Kind, Name, Slot};
@@ -7,12 +7,11 @@ use std::fs::{self, OpenFile};
 use std::io::{self, Write};
 use std::rt::Files;
 
-/// A folder of the system as a directory: each file is flushed when it is written, and the folder after
-/// each file that is written, renamed or removed.
+/// A folder of the file system. It flushes each file after writing it, and the folder after each write,
+/// rename and removal.
 ///
-/// No clause can say what a real file holds, so none says anything of this type: that a folder does as
-/// `Directory` says is trusted, and with it the system's `rename`, which has to leave one of two files,
-/// and its flushing.
+/// No clause can describe the contents of real files, so none does. That a folder behaves as `Directory`
+/// documents is trusted. This includes the system's flushing and its atomic `rename`.
 #[derive(Drop)]
 pub struct Folder<'a, R: Files + AllocGlobal> {
     rt: &'a R,
@@ -20,18 +19,18 @@ pub struct Folder<'a, R: Files + AllocGlobal> {
 }
 
 impl<'a, R: Files + AllocGlobal> Folder<'a, R> {
-    /// The folder at a path, which has to be there.
+    /// Creates a directory over the folder at `path`, which must exist.
     pub fn new(rt: &'a R, path: &'a str) -> Self {
         Folder { rt, path }
     }
 
-    /// Returns a file with a name of an index that the folder has although it has neither `meta` nor
-    /// `meta.new`: what is left of an index whose `meta` is missing, or a file of someone else. A first save
-    /// that was stopped leaves `meta.new` (`begin_first_save`), so its files are none of these.
+    /// Returns an index file in a folder that has neither `meta` nor `meta.new`. Such a file belongs to an
+    /// index whose `meta` is missing, or isn't ours. A stopped first save leaves `meta.new`
+    /// (`begin_first_save`), so its files are not orphans.
     ///
     /// # Errors
     ///
-    /// `Refused` if the system can't say whether a file exists; `OutOfMemory`.
+    /// `Refused` if the system can't report whether a file exists; `OutOfMemory`.
     pub fn orphan(&self) -> Result<Option<Name>, DirectoryFault> {
         if self.has(Name::Meta)? || self.has(Name::NewMeta)? {
             return Ok(None);
@@ -47,12 +46,12 @@ impl<'a, R: Files + AllocGlobal> Folder<'a, R> {
         Ok(None)
     }
 
-    /// Writes an empty `meta.new` if there is no `meta`, so that the files of a first save that is stopped
-    /// are known as such (`orphan`). `save` puts the new meta file in its place.
+    /// Writes an empty `meta.new` if there is no `meta`. It marks the files of a first save that is stopped
+    /// (`orphan`). `save` replaces it.
     ///
     /// # Errors
     ///
-    /// `Refused` if the system refuses; `OutOfMemory`.
+    /// `Refused` if the system returns an error; `OutOfMemory`.
     pub fn begin_first_save(&mut self) -> Result<(), DirectoryFault> {
         if self.has(Name::Meta)? {
             return Ok(());
@@ -60,13 +59,13 @@ impl<'a, R: Files + AllocGlobal> Folder<'a, R> {
         self.write(Name::NewMeta, &[])
     }
 
-    // Whether the folder has a file.
+    // Returns whether the folder has a file.
     fn has(&self, name: Name) -> Result<bool, DirectoryFault> {
         let path = self.path_of(name)?;
         told(fs::exists(self.rt, path.as_str()))
     }
 
-    // The path of a file.
+    // Returns the path of a file.
     fn path_of(&self, name: Name) -> Result<String, DirectoryFault> {
         Ok(format!(in self.rt.alloc(); "{}/{}", self.path, name.as_str())?)
     }
@@ -78,13 +77,13 @@ impl<'a, R: Files + AllocGlobal> Folder<'a, R> {
         file.sync_all()
     }
 
-    // Flushes the folder, so that its names stay.
+    // Flushes the folder, so that changes of its file names persist.
     fn flush(&self) -> io::Result<()> {
         fs::open(self.rt, self.path)?.sync_all()
     }
 }
 
-// What the system answered, as a fault.
+// Converts an I/O error to a `DirectoryFault`.
 fn told<T>(answer: io::Result<T>) -> Result<T, DirectoryFault> {
     match answer {
         Ok(value) => Ok(value),

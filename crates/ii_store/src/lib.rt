@@ -1,5 +1,5 @@
-//! An index in a folder: the files of an index beside a meta file, `meta`, that has the length and the
-//! checksum of each. A save that is stopped anywhere leaves the index that was there or the new one.
+//! An index in a folder: its files, and a `meta` file with the length and checksum of each. A save that is
+//! stopped at any point leaves either the old index or the new one.
 #![tactic(auto)]
 
 pub mod directory;

@@ -1,28 +1,27 @@
-//! The lock of the one program that writes to a folder.
+//! The lock of a folder, which allows one writing program at a time.
 use crate::faults::DirectoryFault;
 use std::fs::{File, Files, OpenOptions, TryLockError};
 use std::io;
 
-/// How the lock's file is called in a folder. It stays there when the lock is released, and is empty.
+/// The name of the lock file in a folder. It is empty, and remains after the lock is released.
 pub const LOCK_FILE: &str = "lock";
 
-/// The lock of a folder. It is released when it is dropped, or when its process ends, however it ends.
+/// The lock of a folder. It is released when it is dropped or when its process ends.
 ///
-/// Two writers at once would each write into the other's slot. `save` promises that a stop leaves the old
-/// index or the new one for a directory that no one else writes to: a program that writes to a `Folder`
-/// holds its lock meanwhile. Readers take no lock.
+/// Two concurrent writers would both write to the unused slot. A program that writes to a `Folder` must
+/// hold its lock, because the guarantees of `save` assume a single writer. Readers take no lock.
 #[derive(Drop)]
 pub struct FolderLock {
     _file: File,
 }
 
 impl FolderLock {
-    /// Locks the folder at a path, which has to exist. Returns nothing, and doesn't wait, if another
-    /// program holds the lock.
+    /// Locks the folder at a path, which must exist. Returns `None` without waiting if another program
+    /// holds the lock.
     ///
     /// # Errors
     ///
-    /// `Refused` if the system doesn't let the lock's file be made or locked; `OutOfMemory`.
+    /// `Refused` if the system can't create or lock the lock file; `OutOfMemory`.
     pub fn try_lock<R: Files<File = File> + AllocGlobal>(
         rt: &R,
         folder: &str,

@@ -1,4 +1,4 @@
-//! A directory in memory, for tests and for those who want no files.
+//! A directory in memory, for tests and for indexes without files.
 ghost use Rattle.std.specs.Prelude.{false, ◌≡◌, ◌++◌, [], ◌∷◌, IfOk, OnErr, OnOk, length};
 ghost use Rattle.ii_store.specs.Directory.{found_bytes};
 ghost use Rattle.ii_store.specs.MemoryDirectory.{MayBePut, files_after, files_of};
@@ -9,22 +9,22 @@ use crate::name::Name;
 use std::alloc::Global;
 use std::io;
 
-/// A change of the files of a directory.
+/// A change to the files of a directory.
 #[derive(Debug, Drop)]
 pub enum Change {
-    /// A file has these bytes, whatever it had.
+    /// Writes these bytes to a file, replacing any old ones.
     Put(Name, Vec<u8>),
-    /// A file is there no more.
+    /// Removes a file.
     Removed(Name),
-    /// A file has the second name, in the place of the one that had it.
+    /// Renames the first file to the second name, replacing any file of that name.
     Renamed(Name, Name),
 }
 
-/// A directory as the list of the changes that were made to it. It keeps each, so that what a stop
-/// might have left can be told.
+/// A directory in memory, stored as the list of all changes made to it. Each possible state after a stop
+/// can be derived from this list.
 ///
-/// It can be told to stop: a write then leaves half of its bytes, another call nothing, and each
-/// change after it is refused.
+/// It can simulate a stop: a write then leaves half of its bytes, and any other call changes nothing. Later
+/// changes fail.
 #[derive(Debug, Drop)]
 pub struct MemoryDirectory {
     alloc: Global,
@@ -34,7 +34,7 @@ pub struct MemoryDirectory {
 }
 
 impl MemoryDirectory {
-    /// A directory with no files.
+    /// Creates an empty directory.
     pub fn new(alloc: Global) -> MemoryDirectory
         ensures { files_of result ≡ files_after [] }
     {
@@ -46,7 +46,7 @@ impl MemoryDirectory {
         }
     }
 
-    /// Lets so many changes through from now on, and stops in the next one. Reads go on.
+    /// Stops the directory after `calls` further changes. Reads still succeed.
     pub fn stop_after(&mut self, calls: u64)
         ensures { self.new ≡ record self.old { calls_left = calls; is_stopped = false } }
     {
@@ -54,7 +54,7 @@ impl MemoryDirectory {
         self.is_stopped = false;
     }
 
-    // Makes a change whole, or stops before it.
+    // Applies a change completely, or stops before it.
     fn change(&mut self, change: Change) -> Result<(), DirectoryFault>
         ensures ok { OnOk result (self.new.changes.items ≡ self.old.changes.items ++ change ∷ []) }
         ensures err { OnErr result (self.new.changes.items ≡ self.old.changes.items) }
@@ -68,7 +68,7 @@ impl MemoryDirectory {
         Ok(())
     }
 
-    // Stops in a write, or is stopped already.
+    // Simulates a stop during a write, or fails if the directory is stopped already.
     fn stop_in_write(&mut self, name: Name, bytes: &[u8]) -> DirectoryFault
         ensures { MayBePut name self.old.changes.items self.new.changes.items }
     {
@@ -86,7 +86,7 @@ impl MemoryDirectory {
     }
 }
 
-// The bytes of a file after some changes.
+// Returns the bytes of a file after these changes.
 fn bytes_after(
     alloc: Global,
     changes: &[Change],

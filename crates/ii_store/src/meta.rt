@@ -1,4 +1,4 @@
-//! The file `meta` of an index: 249 bytes, drawn in docs/FORMATS.
+//! The `meta` file of an index: 249 bytes, as described in docs/FORMATS.
 ghost use Rattle.std.specs.Prelude.{◌≡◌, ◌≤◌, ◌<◌, ◌^◌, ◌++◌, bytes_eq, length, Err, IfOk, MatchOption, Ok, OnOk, Some};
 ghost use Rattle.std.specs.Int.{w64, to_le_bytes};
 ghost use Rattle.sha2.specs.Sha256.{sha256};
@@ -10,13 +10,13 @@ use crate::stored_index::StoredIndex;
 use sha2::{Digest, Sha256};
 use std::alloc::{AllocError, Global};
 
-/// The version of the format that is written, and the one that is read.
+/// The version of the format that is written and read.
 pub const VERSION: u32 = 1;
 
-// The first bytes of a meta file.
+// The first bytes of a `meta` file.
 const FORMAT: &[u8] = b"nequllpa";
 
-// Where the parts of a meta file begin: its slot, its number of documents, the entry of each file, and its own checksum.
+// The offsets in a `meta` file: slot, number of documents, the entry of each file, and its own checksum.
 const SLOT_AT: usize = 12;
 const NUM_DOCS_AT: usize = 13;
 pub(crate) const SCHEMA_AT: usize = 17;
@@ -26,25 +26,25 @@ pub(crate) const POSITIONS_AT: usize = 137;
 pub(crate) const FIELDNORMS_AT: usize = 177;
 const CHECKSUM_AT: usize = 217;
 
-// The length of a meta file, and of the entry of a file in it.
+// The length of a `meta` file, and of an entry in it.
 const META_LEN: usize = 249;
 const ENTRY_LEN: usize = 40;
 
-// Whether bytes are the checksum of a file.
+// Returns whether `bytes` is the checksum of a file.
 fn is_checksum(bytes: &[u8], file: &[u8]) -> bool
     ensures { result ≡ bytes_eq bytes.now (sha256 file.now) }
 {
     bytes == Sha256::digest(file).as_slice()
 }
 
-// Whether bytes are the length of a file.
+// Returns whether `bytes` is the encoded length of a file.
 fn is_len(bytes: &[u8], len: usize) -> bool
     ensures { result ≡ bytes_eq bytes.now (to_le_bytes w64 len) }
 {
     bytes == (len as u64).to_le_bytes().as_slice()
 }
 
-// Why a file isn't as its entry says, if it isn't: its length comes before its checksum.
+// Returns why a file doesn't match its entry, if it doesn't. The length is checked before the checksum.
 #[tactic(auto, unfolding(crate::specs::Index::file_in))]
 pub(crate) fn fault_by(kind: Kind, entry: &[u8], bytes: &[u8]) -> Option<IndexFault>
     requires { 40 ≤ length entry.now }
@@ -59,7 +59,7 @@ pub(crate) fn fault_by(kind: Kind, entry: &[u8], bytes: &[u8]) -> Option<IndexFa
     None
 }
 
-// The slot that a meta file names.
+// Returns the slot that a `meta` file names.
 #[tactic(auto, unfolding(crate::specs::Index::slot_in))]
 pub(crate) fn slot_named(meta: &[u8]) -> Slot
     ensures { result ≡ slot_in meta.now }
@@ -73,7 +73,7 @@ pub(crate) fn slot_named(meta: &[u8]) -> Slot
     Slot::First
 }
 
-// The number of documents of a meta file that is one.
+// Returns the number of documents, if the `meta` file is valid.
 #[tactic(auto, unfolding(crate::specs::Index::num_docs_in))]
 pub(crate) fn checked_num_docs(meta: &[u8]) -> Result<u32, IndexFault>
     ensures number { result ≡ num_docs_in meta.now }
@@ -86,7 +86,7 @@ pub(crate) fn checked_num_docs(meta: &[u8]) -> Result<u32, IndexFault>
     whole_num_docs(meta)
 }
 
-// The version of a meta file, of whatever version.
+// Returns the version of a `meta` file, of any version.
 #[tactic(auto, unfolding(crate::specs::Index::version_in, crate::specs::Index::format))]
 fn version_of(meta: &[u8]) -> Result<u32, IndexFault>
     ensures { result ≡ version_in meta.now }
@@ -101,7 +101,7 @@ fn version_of(meta: &[u8]) -> Result<u32, IndexFault>
     Ok(u32::from_le_bytes([rest[0], rest[1], rest[2], rest[3]]))
 }
 
-// The number of documents of a meta file of this version.
+// Returns the number of documents, if the `meta` file is a complete one of this version.
 #[tactic(auto, unfolding(crate::specs::Index::whole_num_docs_in))]
 fn whole_num_docs(meta: &[u8]) -> Result<u32, IndexFault>
     ensures number { result ≡ whole_num_docs_in meta.now }
@@ -118,7 +118,7 @@ fn whole_num_docs(meta: &[u8]) -> Result<u32, IndexFault>
     Ok(u32::from_le_bytes([rest[0], rest[1], rest[2], rest[3]]))
 }
 
-// `meta` of an index whose files are those of a slot.
+// Encodes the `meta` file of an index in a slot.
 #[tactic(auto, unfolding(crate::specs::Index::meta_bytes))]
 pub(crate) fn meta_of(
     alloc: Global,
@@ -134,7 +134,7 @@ pub(crate) fn meta_of(
     Ok(meta)
 }
 
-// A meta file without its checksum.
+// Encodes a `meta` file without its checksum.
 #[tactic(auto, unfolding(crate::specs::Index::meta_body))]
 fn meta_body_of(alloc: Global, slot: Slot, index: &StoredIndex) -> Result<Vec<u8>, AllocError>
     ensures bytes { IfOk result (λ v. v.items ≡ meta_body slot (view index.now)) }
@@ -150,7 +150,7 @@ fn meta_body_of(alloc: Global, slot: Slot, index: &StoredIndex) -> Result<Vec<u8
     Ok(meta)
 }
 
-// Adds what stands before the entries.
+// Appends everything before the entries.
 #[tactic(auto, unfolding(crate::specs::Index::head, crate::specs::Index::format))]
 fn push_head(meta: &mut Vec<u8>, slot: Slot, num_docs: u32) -> Result<(), AllocError>
     ensures { OnOk result (meta.new.items ≡ meta.old.items ++ head slot num_docs) }
@@ -161,7 +161,7 @@ fn push_head(meta: &mut Vec<u8>, slot: Slot, num_docs: u32) -> Result<(), AllocE
     meta.extend_from_slice(&num_docs.to_le_bytes())
 }
 
-// Adds what a meta file says of a file.
+// Appends the entry of a file.
 #[tactic(auto, unfolding(crate::specs::Index::entry))]
 fn push_entry(meta: &mut Vec<u8>, file: &[u8]) -> Result<(), AllocError>
     ensures { OnOk result (meta.new.items ≡ meta.old.items ++ entry file.now) }
@@ -170,7 +170,7 @@ fn push_entry(meta: &mut Vec<u8>, file: &[u8]) -> Result<(), AllocError>
     meta.extend_from_slice(&Sha256::digest(file))
 }
 
-/// A law: a meta file of an index and its files are that index, and `meta` names its slot.
+/// Law: `meta` and the files of an index are read back as that index, and `meta` names its slot.
 pub fn meta_is_read_back()
     ensures slot { (slot : Slot) (i : Index) → slot_in (meta_bytes slot i) ≡ slot }
     ensures index { (slot : Slot) (i : Index) → i.num_docs < 2 ^ 32 → index_at (meta_bytes slot i) (Some i.schema) (Some i.terms) (Some i.postings) (Some i.positions) (Some i.fieldnorms) ≡ Ok i }

@@ -1,10 +1,10 @@
-//! The files of a folder that holds an index.
+//! The names of the files of an index.
 ghost use Rattle.std.specs.Prelude.{◌≡◌, ◌<◌};
 ghost use Rattle.ii_store.specs.Names.{kind_at, kind_number, name_number, name_text, other_slot, slot_number};
 
 use std::fmt;
 
-/// One of two sets of files. `meta` names the one that is in use, and a save writes the other.
+/// One of two sets of file names. `meta` names the slot in use; a save writes to the other one.
 #[derive(Clone, Copy, Debug, PartialEq, Eq)]
 pub enum Slot {
     First,
@@ -14,20 +14,20 @@ pub enum Slot {
 /// What a file of an index holds.
 #[derive(Clone, Copy, Debug, PartialEq, Eq)]
 pub enum Kind {
-    /// The schema, as its program spells it.
+    /// The schema, as encoded by the calling program.
     Schema,
     /// The dictionaries of the fields.
     Terms,
-    /// The documents and counts of the terms.
+    /// The documents and term frequencies of the terms.
     Postings,
     /// The positions of the terms.
     Positions,
-    /// The norms of the documents.
+    /// The field norms of the documents.
     FieldNorms,
 }
 
 impl Kind {
-    // What it is called.
+    // Returns the display name.
     fn name(self) -> &'static str {
         match self {
             Kind::Schema => "schema",
@@ -45,19 +45,19 @@ impl fmt::Display for Kind {
     }
 }
 
-/// A file of a folder.
+/// The name of a file in the folder of an index.
 #[derive(Clone, Copy, Debug, PartialEq, Eq)]
 pub enum Name {
     /// `meta`.
     Meta,
-    /// `meta` to come, until it takes the place of the other one.
+    /// The next `meta`, until it replaces the current one.
     NewMeta,
     /// A file of an index.
     File(Slot, Kind),
 }
 
 impl Slot {
-    /// The slot that this one isn't.
+    /// Returns the other slot.
     pub fn other(self) -> Slot
         ensures { result ≡ other_slot self }
     {
@@ -67,7 +67,7 @@ impl Slot {
         }
     }
 
-    /// The byte that names it in a meta file, 0 or 1.
+    /// Returns the byte that encodes the slot in a `meta` file, 0 or 1.
     pub fn to_code(self) -> u8
         ensures { result ≡ slot_number self }
     {
@@ -79,11 +79,11 @@ impl Slot {
 }
 
 impl Kind {
-    /// How many kinds there are.
+    /// The number of kinds.
     pub const COUNT: u8 = 5;
 
-    /// The kind of a number below 5, in the order of the entries of a meta file; any number above stands
-    /// for the last one.
+    /// Returns the kind with a number below 5, in the order of the entries of a `meta` file. A greater
+    /// number gives the last kind.
     pub fn at(number: u8) -> Kind
         ensures { result ≡ kind_at number }
     {
@@ -96,7 +96,7 @@ impl Kind {
         }
     }
 
-    /// Its number, below 5.
+    /// Returns the number of the kind, below 5.
     pub fn number(self) -> u8
         ensures number { result ≡ kind_number self }
         ensures bound { result < 5 }
@@ -112,7 +112,7 @@ impl Kind {
 }
 
 impl Name {
-    /// Its number, below 12, which no other name has.
+    /// Returns the number of the name, below 12 and unique.
     pub fn number(self) -> u8
         ensures { result ≡ name_number self }
     {
@@ -123,7 +123,7 @@ impl Name {
         }
     }
 
-    /// How the file is called in a folder.
+    /// Returns the file name in the folder.
     pub fn as_str(self) -> &'static str
         ensures { result.now ≡ name_text self }
     {
@@ -148,7 +148,7 @@ impl Name {
     }
 }
 
-/// A law: files of different names are called differently.
+/// Law: different names have different file names.
 pub fn names_differ()
     ensures differ { (first : Name) (other : Name) → name_text first ≡ name_text other → first ≡ other }
 {}

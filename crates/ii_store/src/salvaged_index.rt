@@ -1,4 +1,4 @@
-//! What is left of an index whose files may have been cut, changed or taken away.
+//! The remains of an index whose files may be truncated, changed or missing.
 ghost use Rattle.std.specs.Prelude.{◌≡◌, ◌≤◌, ◌+◌, IfOk, Some, drop, length};
 ghost use Rattle.ii_store.specs.declared.name.Name.TheVariants.{File};
 ghost use Rattle.ii_store.specs.Index.{AnswersFromFiles, slot_in, view};
@@ -14,16 +14,16 @@ use crate::name::{Kind, Name, Slot};
 use crate::stored_index::StoredIndex;
 use std::alloc::Global;
 
-/// A file as it is.
+/// The current contents of a file.
 #[derive(Debug, Drop)]
 pub struct SalvagedFile {
-    /// All its bytes; none where it is missing.
+    /// All its bytes; empty if it is missing.
     pub bytes: Vec<u8>,
-    /// Why it isn't the file that was saved, if it isn't: `Missing`, `WrongLength` or `WrongChecksum`.
+    /// How it differs from the saved file, if it does: `Missing`, `WrongLength` or `WrongChecksum`.
     pub fault: Option<IndexFault>,
 }
 
-/// The files of an index, as they are, and how many documents there were.
+/// The current files of an index, and its number of documents.
 #[derive(Debug, Drop)]
 pub struct SalvagedIndex {
     pub num_docs: u32,
@@ -35,7 +35,7 @@ pub struct SalvagedIndex {
 }
 
 impl SalvagedIndex {
-    /// The file of one kind.
+    /// Returns the file of one kind.
     pub fn file_of(&self, kind: Kind) -> &SalvagedFile
         ensures { file_view result.now ≡ file_of (salvaged_view self.now) kind }
     {
@@ -48,7 +48,7 @@ impl SalvagedIndex {
         }
     }
 
-    /// The files as those of an index, whatever their faults.
+    /// Returns the files as an index, regardless of their faults.
     pub fn into_index(self) -> StoredIndex
         ensures { view result ≡ salvaged_bytes (salvaged_view self) }
     {
@@ -63,10 +63,11 @@ impl SalvagedIndex {
     }
 }
 
-/// What is left of the index of a directory: each file with all its bytes, and its fault where it isn't
-/// the one that was saved.
+/// Reads the remaining files of an index: the bytes of each, and its fault if it differs from the saved
+/// file.
 ///
-/// Refused as `load` is where there is no `meta`, or none of this version; no fault of a file is a refusal.
+/// Returns the errors of `load` if `meta` is missing, invalid or of another version. Faults of other files
+/// are no errors.
 #[tactic(auto, unfolding(crate::specs::SalvagedIndex::salvaged))]
 pub fn salvage<D: Directory>(alloc: Global, directory: &D) -> Result<SalvagedIndex, StoreFault>
     ensures { D.is_known directory.now → AnswersFromFiles salvaged_view result (salvaged (D.seen directory.now)) }
@@ -77,7 +78,7 @@ pub fn salvage<D: Directory>(alloc: Global, directory: &D) -> Result<SalvagedInd
     salvaged_by(alloc, directory, meta.as_slice())
 }
 
-// What is left of the index of a meta file.
+// Reads the remaining files of the index that a `meta` file describes.
 #[tactic(auto, unfolding(crate::specs::SalvagedIndex::salvaged_at))]
 fn salvaged_by<D: Directory>(alloc: Global, directory: &D, meta: &[u8]) -> Result<SalvagedIndex, StoreFault>
     ensures { D.is_known directory.now → AnswersFromFiles salvaged_view result (salvaged_by (Some meta.now) (λ kind. D.seen directory.now (File (slot_in meta.now) kind))) }
@@ -99,7 +100,7 @@ fn salvaged_by<D: Directory>(alloc: Global, directory: &D, meta: &[u8]) -> Resul
     })
 }
 
-// A file as it is, and its fault by its entry, which begins at `place` of `meta`.
+// Reads a file, and compares it with its entry, which starts at `place` in `meta`.
 #[tactic(auto, unfolding(crate::specs::SalvagedIndex::salvaged_in, crate::specs::Index::file_in))]
 fn salvaged_file<D: Directory>(
     alloc: Global,

@@ -1,4 +1,4 @@
-//! How an index is saved, so that a stop leaves the old one or the new one.
+//! Saves an index so that a stop leaves either the old index or the new one.
 ghost use Rattle.std.specs.Prelude.{◌≡◌, ◌<◌, ◌^◌, IfOk, None, OnOk, ℕ};
 ghost use Rattle.ii_store.specs.declared.name.Kind.{Kind};
 ghost use Rattle.ii_store.specs.declared.name.Name.TheVariants.{File, Meta};
@@ -14,11 +14,11 @@ use crate::name::{Kind, Name, Slot};
 use crate::stored_index::StoredIndex;
 use std::alloc::Global;
 
-/// Saves an index: writes its files beside those of the index that is there, and then puts a meta file of
-/// them in the place of the other `meta`. The old files stay until `remove_unused`.
+/// Saves an index: writes its files next to those of the old index, then atomically replaces `meta`. The
+/// old files remain until `remove_unused`.
 ///
-/// Wherever it is stopped, and whatever call is refused, the directory holds the index that was there or
-/// the new one; with Ok it holds the new one. After a refusal open the directory anew.
+/// After a stop or an error the directory holds either the old index or the new one. After an error, open
+/// the directory again.
 pub fn save<D: Directory>(
     alloc: Global,
     directory: &mut D,
@@ -35,7 +35,7 @@ pub fn save<D: Directory>(
     directory.rename(Name::NewMeta, Name::Meta)
 }
 
-// The slot that is in use, also where its files are damaged.
+// Returns the slot in use, even if its files are damaged.
 fn slot_in_use<D: Directory>(alloc: Global, directory: &D) -> Result<Slot, DirectoryFault>
     ensures { D.is_known directory.now → IfOk result (λ slot. slot ≡ used_slot (D.seen directory.now Meta)) }
 {
@@ -45,7 +45,7 @@ fn slot_in_use<D: Directory>(alloc: Global, directory: &D) -> Result<Slot, Direc
     }
 }
 
-// Writes the files of an index into a slot.
+// Writes the files of an index to a slot.
 fn write_files<D: Directory>(
     directory: &mut D,
     slot: Slot,
@@ -63,9 +63,9 @@ fn write_files<D: Directory>(
     Ok(())
 }
 
-/// Removes the files that `meta` doesn't name, which a save or a stop left.
+/// Removes the files of the slot that `meta` doesn't name, which a save or a stop left.
 ///
-/// The index that is there stays, wherever this is stopped.
+/// A stop at any point leaves the current index as it is.
 pub fn remove_unused<D: Directory>(alloc: Global, directory: &mut D) -> Result<(), DirectoryFault>
     ensures known { D.is_known directory.old → OnOk result (D.is_known directory.new) }
     ensures removed { D.is_known directory.old → OnOk result ((kind : Kind) → D.seen directory.new (File (other_slot (used_slot (D.seen directory.old Meta))) kind) ≡ None) }

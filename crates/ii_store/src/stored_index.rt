@@ -1,4 +1,4 @@
-//! An index as its bytes, and how they are loaded.
+//! The bytes of an index, and how they are loaded.
 ghost use Rattle.std.specs.Prelude.{◌≡◌, ◌≤◌, ◌+◌, Some, drop, length};
 ghost use Rattle.ii_store.specs.declared.name.Name.TheVariants.{File};
 ghost use Rattle.ii_store.specs.Index.{AnswersFromFiles, bytes_of_file, file_in, index_in, index_of, slot_in, view};
@@ -12,13 +12,13 @@ use crate::meta::{
 use crate::name::{Kind, Name, Slot};
 use std::alloc::Global;
 
-/// The files of an index, and how many documents there are.
+/// The files of an index, and its number of documents.
 #[derive(Debug, Drop)]
 pub struct StoredIndex {
     pub num_docs: u32,
-    /// The schema, in the words of the program that keeps the index; it isn't looked at.
+    /// The schema, as encoded by the calling program. It isn't read.
     pub schema: Vec<u8>,
-    /// What `write_index` wrote as terms, postings, positions and norms.
+    /// The output of `write_index`: terms, postings, positions and field norms.
     pub terms: Vec<u8>,
     pub postings: Vec<u8>,
     pub positions: Vec<u8>,
@@ -26,7 +26,7 @@ pub struct StoredIndex {
 }
 
 impl StoredIndex {
-    /// The bytes of one kind.
+    /// Returns the bytes of one kind.
     pub fn bytes_of(&self, kind: Kind) -> &[u8]
         ensures { result.now ≡ bytes_of_file (view self.now) kind }
     {
@@ -40,11 +40,11 @@ impl StoredIndex {
     }
 }
 
-/// The index of a directory: the very bytes that were saved.
+/// Loads the index of a directory: exactly the bytes that were saved.
 ///
-/// Refused as `NoIndex` where there is no `meta`, as `OtherVersion` or `DamagedMeta` where it isn't one of
-/// this version, and else by the first file, in the order of `Kind`, that is missing or isn't as the
-/// `meta` says, its length before its checksum.
+/// Returns `NoIndex` if there is no `meta`, and `OtherVersion` or `DamagedMeta` if it isn't a valid one of
+/// this version. Otherwise returns the first fault of a file, in the order of `Kind`: missing, wrong length
+/// or wrong checksum.
 #[tactic(auto, unfolding(crate::specs::Index::index_of))]
 pub fn load<D: Directory>(alloc: Global, directory: &D) -> Result<StoredIndex, StoreFault>
     ensures { D.is_known directory.now → AnswersFromFiles view result (index_of (D.seen directory.now)) }
@@ -55,7 +55,7 @@ pub fn load<D: Directory>(alloc: Global, directory: &D) -> Result<StoredIndex, S
     load_by(alloc, directory, meta.as_slice())
 }
 
-// The index of a meta file.
+// Loads the index that a `meta` file describes.
 #[tactic(auto, unfolding(crate::specs::Index::index_at))]
 fn load_by<D: Directory>(
     alloc: Global,
@@ -81,7 +81,7 @@ fn load_by<D: Directory>(
     })
 }
 
-// The bytes of a file that agrees with its entry, which begins at `place` of `meta`.
+// Reads a file that matches its entry, which starts at `place` in `meta`.
 #[tactic(auto, unfolding(crate::specs::Index::file_in))]
 fn load_file<D: Directory>(
     alloc: Global,

@@ -3,7 +3,7 @@ ghost use Rattle.std.specs.Prelude.{◌≡◌, true, length};
 ghost use Rattle.ii_query_parser.specs.Queries.{has_fields};
 
 use crate::commands::{REFUSED, ended, field_named, number_given, opened_at, refuse};
-use crate::query_texts::{refuse_deep, refuse_query, tell_left_out};
+use crate::query_texts::{refuse_query, tell_left_out};
 use clap::ArgMatches;
 use ii_base::{AsciiTokenizer, Field, ValueType};
 use ii_query_parser::{Query, parse_query};
@@ -125,9 +125,6 @@ fn query_given(
         Ok(fields) => fields,
         Err(status) => return Ok(Err(status)),
     };
-    if let Some(status) = refuse_deep(rt, text)? {
-        return Ok(Err(status));
-    }
     match parse_query(rt.alloc(), opened.schema(), &fields, &AsciiTokenizer, text) {
         Ok(query) => {
             tell_left_out(rt, opened, &fields, text)?;

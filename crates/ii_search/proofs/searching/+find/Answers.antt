@@ -1,26 +1,22 @@
 use Rattle.std.proofs.Common.{◌≡◌, ◌∙◌, ◌<◌, ◌+◌, ap, drop, get_or, length, rules}
 use Rattle.ii_query.specs.QueryCursor.{rests}
-use Rattle.ii_search.proofs.DecodesLemmas.{few_beside}
 use Rattle.ii_search.proofs.QueryLemmas.{and_deep, and_has_fields, few_meet, few_pushed, finding_next, finding_refused, or_deep, or_has_fields, query_at, rests_pushed}
 use Rattle.ii_search.proofs.searching.+find.Goals as goal
 
-pub find-find_each-requires : goal.find-find_each-requires
-find-find_each-requires t c =
+pub find-find_all-requires : goal.find-find_all-requires
+find-find_all-requires t c =
     let deep = and_deep c.args.query.now c.in-And.queries c.in-And.is in
     let fields = and_has_fields (length c.args.index.now.readers) c.args.query.now c.in-And.queries c.in-And.is c.requires.fields in
     search (rules, deep, fields)
 
-pub find-find_each-requires-in-Or : goal.find-find_each-requires-in-Or
-find-find_each-requires-in-Or t c =
+pub find-find_any-requires : goal.find-find_any-requires
+find-find_any-requires t c =
     let deep = or_deep c.args.query.now c.in-Or.queries c.in-Or.is in
     let fields = or_has_fields (length c.args.index.now.readers) c.args.query.now c.in-Or.queries c.in-Or.is c.requires.fields in
     search (rules, deep, fields)
 
-pub find-returns-in-Ok-clause-lazy : goal.find-returns-in-Ok-clause-lazy
-find-returns-in-Ok-clause-lazy t c = few_meet c.in-Ok.cursors.items c.intersection.result c.in-Ok.ensures.lazy c.intersection.ensures.work
-
-pub find_without-returns-in-Ok-clause-lazy : goal.find_without-returns-in-Ok-clause-lazy
-find_without-returns-in-Ok-clause-lazy t c = λ few. few_beside c.args.first.cursors c.in-Ok.other.cursors c.without.result few c.in-Ok.ensures.lazy c.without.ensures.work
+pub find_all-returns-in-Ok-clause-lazy : goal.find_all-returns-in-Ok-clause-lazy
+find_all-returns-in-Ok-clause-lazy t c = few_meet c.in-Ok.cursors.items c.intersection.result c.in-Ok.ensures.lazy c.intersection.ensures.work
 
 pub find_each-returns-in-Err-clause-refused : goal.find_each-returns-in-Err-clause-refused
 find_each-returns-in-Err-clause-refused t c =
